@@ -1,0 +1,4 @@
+pub mod Ranges
+pub mod Defaults
+pub mod Revision
+pub mod FixedSpec

@@ -1,0 +1,16 @@
+//! Plain data of all layers, and the lines that write it.
+#![tactic(auto)]
+
+mod entry;
+mod event;
+mod items;
+mod log;
+mod revision;
+mod units;
+
+pub use entry::{Counts, Decision, Entry, Mode, Phase, Row};
+pub use event::{Act, Event, Stand, Told};
+pub use items::{Items, Text};
+pub use log::{EntryLog, Memory};
+pub use revision::{Burst, Kind, Slots, Spec};
+pub use units::{Frac, Milli};
