@@ -1,9 +1,10 @@
 -- The average load over a window of seconds.
 use Rattle.std.specs.Prelude.{ℕ, Bool, false, not, ◌+◌, ◌-◌, ◌*◌, ◌/◌, ◌<◌, ◌&&◌, nat_lt, nat_le, List, [], ◌∷◌, Option, None, Some, is_some, unwrap_or, if◌then◌else◌}
-use Rattle.std.specs.List.{filter, list_any, range_with_len, sum_by}
+use Rattle.std.specs.List.{filter, fold, list_any, range_with_len, sum_by}
 use Rattle.std.proofs.Common.{subst, sym, add-one, lit<}
 use Rattle.std.proofs.Math.Nat.{mul-pos, zero-lt-suc}
 use Rattle.kn_event.specs.declared.units.Frac.{Frac}
+use Rattle.kn_scaling.specs.declared.average.SampleRun.{SampleRun}
 
 -- the second that a time in milliseconds lies in
 abbrev pub second_of : ℕ → ℕ
@@ -71,3 +72,10 @@ no_samples s = None
 -- so many seconds from the one given on become samples, each with this load
 unfoldable pub with_run : Samples → ℕ → ℕ → ℕ → Samples
 with_run samples second count load s = if nat_le second s && nat_lt s (second + count) then Some load else samples s
+
+abbrev pub with_sample_run : Samples → SampleRun → Samples
+with_sample_run samples run = with_run samples run.second run.count run.load
+
+-- the samples that these runs make, one after the other
+unfoldable pub samples_of : List SampleRun → Samples
+samples_of runs = fold with_sample_run no_samples runs

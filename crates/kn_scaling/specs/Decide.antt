@@ -7,8 +7,10 @@ use Rattle.kn_event.specs.declared.entry.Decision.{Decision}
 use Rattle.kn_event.specs.declared.revision.Spec.{Spec}
 use Rattle.kn_scaling.specs.Average.{Samples, second_of, window_average}
 use Rattle.kn_scaling.specs.Demand.{desired_counts}
-use Rattle.kn_scaling.specs.Panic.{Judged, is_panicking, undelayed_count}
-use Rattle.kn_scaling.specs.Delay.{Asked, delayed_count}
+use Rattle.kn_scaling.specs.declared.panic.Judged.{Judged}
+use Rattle.kn_scaling.specs.declared.delay.Asked.{Asked}
+use Rattle.kn_scaling.specs.Panic.{is_panicking, undelayed_count}
+use Rattle.kn_scaling.specs.Delay.{delayed_count}
 use Rattle.kn_scaling.specs.Burst.{excess_burst, serving_mode}
 use Rattle.kn_scaling.specs.Zero.{Standing, bounded_count, zero_rule}
 
@@ -51,7 +53,7 @@ ruling spec past time ready stable panic =
     let delayed = delayed_count spec.delay_s (record { second = second_of time; count = undelayed } ∷ map asked_of past.decisions) in
     let excess = excess_burst ready spec.total spec.burst panic in
     let bounded = bounded_count spec past.reached delayed in
-    let wanted = zero_rule spec time ready bounded past.standing in
+    let answer = zero_rule spec time ready bounded past.standing in
     record {
       decision = record {
         stable = stable;
@@ -65,11 +67,11 @@ ruling spec past time ready stable panic =
         delayed = delayed;
         excess = excess;
         bounded = bounded;
-        want = wanted.want;
-        applied = wanted.applied;
-        mode = serving_mode wanted.want excess wanted.phase;
+        want = answer.want;
+        applied = answer.applied;
+        mode = serving_mode answer.want excess answer.phase;
       };
-      phase = wanted.phase;
+      phase = answer.phase;
     }
 
 -- nothing in the panic window

@@ -1,12 +1,8 @@
 -- The delay before fewer pods are asked for. Lists of decisions have the latest first.
 use Rattle.std.specs.Prelude.{ℕ, Bool, ◌-◌, nat_lt, max, List, [], ◌∷◌, map}
 use Rattle.std.specs.List.{filter}
+use Rattle.kn_scaling.specs.declared.delay.Asked.{Asked}
 use Rattle.kn_scaling.specs.Panic.{greatest}
-
--- the second of a decision, and what it asked for before the delay
-pub record Asked : Type 0 where
-  pub second : ℕ
-  pub count : ℕ
 
 -- whether that one lies less than the delay before this second
 abbrev pub is_recent : ℕ → ℕ → Asked → Bool

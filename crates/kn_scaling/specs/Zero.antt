@@ -5,6 +5,7 @@ use Rattle.kn_event.specs.declared.entry.Phase.TheVariants as phase
 use Rattle.kn_event.specs.declared.entry.Mode.{Mode}
 use Rattle.kn_event.specs.declared.entry.Mode.TheVariants as mode
 use Rattle.kn_event.specs.declared.revision.Spec.{Spec}
+use Rattle.kn_scaling.specs.declared.zero.ZeroAnswer.{ZeroAnswer}
 
 -- ---- the bounds
 
@@ -35,12 +36,6 @@ pub record Standing : Type 0 where
   pub mode_since : ℕ
   pub want : ℕ
 
--- the pods that a decision wants, whether it creates or drains for them, and the phase after it
-pub record Wanted : Type 0 where
-  pub want : ℕ
-  pub applied : Bool
-  pub phase : Phase
-
 abbrev pub is_proxy : Mode → Bool
 is_proxy mode.Proxy = true
 is_proxy mode.Serve = false
@@ -56,22 +51,22 @@ may_go spec time standing =
     || (has_lasted standing.phase_since spec.retention_ms time && is_proxy standing.mode && has_lasted standing.mode_since spec.grace_ms time)
 
 -- applied, and then active where a pod is Ready, else activating
-abbrev pub some_pods : ℕ → ℕ → Wanted
+abbrev pub some_pods : ℕ → ℕ → ZeroAnswer
 some_pods ready want = record { want = want; applied = true; phase = if nat_lt 0 ready then phase.Active else phase.Activating }
 
-abbrev pub no_pods : Bool → Wanted
+abbrev pub no_pods : Bool → ZeroAnswer
 no_pods applied = record { want = 0; applied = applied; phase = phase.Inactive }
 
 -- activating: all stays as it was. Active for less than a stable window: one pod. Active for longer: inactive, and the
 -- pods stay for now. Inactive: they go once they may
-abbrev pub zero_rule_in : Phase → Spec → ℕ → ℕ → Standing → Wanted
+abbrev pub zero_rule_in : Phase → Spec → ℕ → ℕ → Standing → ZeroAnswer
 zero_rule_in phase.Activating spec time ready standing = record { want = standing.want; applied = false; phase = phase.Activating }
 zero_rule_in phase.Active spec time ready standing =
     if has_lasted standing.phase_since (1000 * spec.stable_s) time then no_pods false else some_pods ready 1
 zero_rule_in phase.Inactive spec time ready standing = no_pods (may_go spec time standing)
 
 -- a bounded count above 0 is wanted; without scale to zero, one pod is; else it goes by the phase
-unfoldable pub zero_rule : Spec → ℕ → ℕ → ℕ → Standing → Wanted
+unfoldable pub zero_rule : Spec → ℕ → ℕ → ℕ → Standing → ZeroAnswer
 zero_rule spec time ready bounded standing =
     if nat_lt 0 bounded then some_pods ready bounded
     else (if spec.to_zero then zero_rule_in standing.phase spec time ready standing else some_pods ready 1)
