@@ -5,3 +5,4 @@ pub mod Delay
 pub mod Burst
 pub mod Zero
 pub mod Decide
+pub mod Worked

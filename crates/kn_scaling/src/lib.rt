@@ -5,6 +5,7 @@
 mod average;
 mod delay;
 mod panic;
+pub mod rows;
 mod zero;
 
 pub use average::SampleRun;
