@@ -22,10 +22,9 @@ seconds first end = range_with_len first (end - first)
 abbrev pub window : ℕ → ℕ → List ℕ
 window n end = seconds (end - n) end
 
--- the last of the list, or else what is given
-abbrev pub last_second : ℕ → List ℕ → ℕ
-last_second otherwise [] = otherwise
-last_second otherwise (s ∷ ss) = last_second s ss
+abbrev pub last_of : List ℕ → Option ℕ
+last_of [] = None
+last_of (s ∷ ss) = Some (unwrap_or (last_of ss) s)
 
 abbrev pub is_sample : Samples → ℕ → Bool
 is_sample samples s = is_some (samples s)
@@ -44,7 +43,7 @@ is_spell_start samples n s = is_spell_start_by (samples s) samples n s
 
 -- where the counted seconds begin: at the last start of a spell in the window, or with the window where none is in it
 unfoldable pub first_write : Samples → ℕ → ℕ → ℕ
-first_write samples n end = last_second (end - n) (filter (is_spell_start samples n) (window n end))
+first_write samples n end = unwrap_or (last_of (filter (is_spell_start samples n) (window n end))) (end - n)
 
 unfoldable pub window_sum : Samples → ℕ → ℕ → ℕ
 window_sum samples n end = sum_by (λ s. unwrap_or (samples s) 0) (window n end)
@@ -53,29 +52,40 @@ window_sum samples n end = sum_by (λ s. unwrap_or (samples s) 0) (window n end)
 pub milliseconds-above_zero : (n : ℕ) → 0 < 1000 * (n + 1)
 milliseconds-above_zero n = mul-pos (lit< tt) (let P : ℕ → Type 0 = λ m. 0 < m in subst P (sym (add-one n)) (zero-lt-suc n))
 
--- the sum over the milliseconds from the first write up to the last of these samples, that second included
-abbrev pub average_of : Samples → ℕ → ℕ → List ℕ → Option Frac
-average_of samples n end [] = None
-average_of samples n end (s ∷ ss) =
-    let others = last_second s ss - first_write samples n end in
-    Some (record { num = window_sum samples n end; den = 1000 * (others + 1); above_zero = milliseconds-above_zero others })
+-- the last sample of the n seconds before this one
+unfoldable pub last_sample : Samples → ℕ → ℕ → Option ℕ
+last_sample samples n end = last_of (filter (is_sample samples) (window n end))
+
+-- this sum over the milliseconds of one second and so many others
+abbrev pub load_over : ℕ → ℕ → Frac
+load_over sum others = record { num = sum; den = 1000 * (others + 1); above_zero = milliseconds-above_zero others }
+
+-- over the seconds from the first write up to the last sample, that second included
+abbrev pub average_to : Samples → ℕ → ℕ → Option ℕ → Option Frac
+average_to samples n end None = None
+average_to samples n end (Some last) = Some (load_over (window_sum samples n end) (last - first_write samples n end))
 
 -- the average load of the n seconds before this one, never reduced; none where no sample lies in them
 unfoldable pub window_average : Samples → ℕ → ℕ → Option Frac
-window_average samples n end = average_of samples n end (filter (is_sample samples) (window n end))
+window_average samples n end = average_to samples n end (last_sample samples n end)
 
 -- ---- how samples come
 
 abbrev pub no_samples : Samples
 no_samples s = None
 
--- so many seconds from the one given on become samples, each with this load
-unfoldable pub with_run : Samples → ℕ → ℕ → ℕ → Samples
-with_run samples second count load s = if nat_le second s && nat_lt s (second + count) then Some load else samples s
+-- whether the second s is one of so many from the one given on
+abbrev pub is_in_run : ℕ → ℕ → ℕ → Bool
+is_in_run second count s = nat_le second s && nat_lt s (second + count)
 
-abbrev pub with_sample_run : Samples → SampleRun → Samples
-with_sample_run samples run = with_run samples run.second run.count run.load
+-- what a run makes of the load of the second s
+abbrev pub load_after : Option ℕ → SampleRun → ℕ → Option ℕ
+load_after load run s = if is_in_run run.second run.count s then Some run.load else load
+
+-- the seconds of the run become samples, each with its load
+unfoldable pub with_run : Samples → SampleRun → Samples
+with_run samples run s = load_after (samples s) run s
 
 -- the samples that these runs make, one after the other
 unfoldable pub samples_of : List SampleRun → Samples
-samples_of runs = fold with_sample_run no_samples runs
+samples_of runs = fold with_run no_samples runs

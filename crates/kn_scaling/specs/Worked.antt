@@ -8,10 +8,11 @@ use Rattle.kn_event.specs.declared.entry.Mode.TheVariants as mode
 use Rattle.kn_event.specs.declared.revision.Spec.{Spec}
 use Rattle.kn_event.specs.declared.revision.Kind.TheVariants as kind
 use Rattle.kn_event.specs.FixedSpec.{fixed_spec}
+use Rattle.kn_scaling.specs.declared.average.SampleRun.{SampleRun}
 use Rattle.kn_scaling.specs.declared.panic.Judged.{Judged}
 use Rattle.kn_scaling.specs.declared.delay.Asked.{Asked}
 use Rattle.kn_scaling.specs.declared.zero.ZeroAnswer.{ZeroAnswer}
-use Rattle.kn_scaling.specs.Average.{Samples, milliseconds-above_zero, is_any_sample, is_spell_start, first_write, window_sum, window_average, with_run, samples_of}
+use Rattle.kn_scaling.specs.Average.{Samples, load_over, is_any_sample, is_spell_start, first_write, window_sum, last_sample, window_average, with_run, samples_of}
 use Rattle.kn_scaling.specs.Demand.{pods_for, max_scale_up, max_scale_down, count_for, is_over, desired_counts}
 use Rattle.kn_scaling.specs.Panic.{is_panicking, panicking_run, greatest_of_run, undelayed_count}
 use Rattle.kn_scaling.specs.Delay.{recent_count, delayed_count}
@@ -28,15 +29,19 @@ fraction num den above_zero = record { num = num; den = den; above_zero = above_
 
 -- an average as definitions make it: this sum over so many seconds, one at least
 abbrev pub over_seconds : ℕ → ℕ → Frac
-over_seconds sum count = record { num = sum; den = 1000 * (count - 1 + 1); above_zero = milliseconds-above_zero (count - 1) }
+over_seconds sum count = load_over sum (count - 1)
 
 -- numerator and denominator
 abbrev pub numbers_of : Option Frac → Option (ℕ × ℕ)
 numbers_of average = option_map (λ f. (f.num, f.den)) average
 
+-- so many seconds from the one given on, each with this load
+abbrev pub run_of : ℕ → ℕ → ℕ → SampleRun
+run_of second count load = record { second = second; count = count; load = load }
+
 -- samples at single seconds, with their loads
 abbrev pub samples_at : List (ℕ × ℕ) → Samples
-samples_at pairs = samples_of (map (λ p. record { second = p.0; count = 1; load = p.1 }) pairs)
+samples_at pairs = samples_of (map (λ p. run_of p.0 1 p.1) pairs)
 
 -- a decision at this time with its stable and its panic count, and a window of a minute
 abbrev pub judged_at : ℕ → Bool → ℕ → ℕ → Judged
@@ -89,5 +94,5 @@ pods_of r = option_map (λ x. (x.decision.undelayed, x.decision.delayed, x.decis
 
 -- a proof that names this computes a whole decision
 unfoldable pub whole_decision : Type 0
-unfolding fixed_spec is_any_sample is_spell_start first_write window_sum window_average with_run samples_of pods_for max_scale_up max_scale_down count_for is_over desired_counts is_panicking panicking_run greatest_of_run undelayed_count recent_count delayed_count spare_seats excess_burst serving_mode lower_bound bounded_count may_go zero_rule ruling decision_at wake_decision_at
+unfolding fixed_spec is_any_sample is_spell_start first_write window_sum last_sample window_average with_run samples_of pods_for max_scale_up max_scale_down count_for is_over desired_counts is_panicking panicking_run greatest_of_run undelayed_count recent_count delayed_count spare_seats excess_burst serving_mode lower_bound bounded_count may_go zero_rule ruling decision_at wake_decision_at
 whole_decision = ⊤

@@ -8,7 +8,7 @@ mod panic;
 pub mod rows;
 mod zero;
 
-pub use average::SampleRun;
-pub use delay::Asked;
-pub use panic::Judged;
+pub use average::{SampleRun, window_average};
+pub use delay::{Asked, delayed_count, recent_count};
+pub use panic::{Judged, is_panicking, undelayed_count};
 pub use zero::ZeroAnswer;

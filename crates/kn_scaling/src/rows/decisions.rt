@@ -5,14 +5,14 @@ ghost use Rattle.kn_event.specs.declared.entry.Phase.TheVariants.{Activating, Ac
 ghost use Rattle.kn_event.specs.declared.entry.Mode.TheVariants.{Proxy, Serve};
 ghost use Rattle.kn_event.specs.declared.revision.Burst.TheVariants.{Capacity};
 ghost use Rattle.kn_event.specs.Defaults.{milli};
-ghost use Rattle.kn_scaling.specs.Average.{no_samples, with_run};
+ghost use Rattle.kn_scaling.specs.Average.{no_samples, samples_of};
 ghost use Rattle.kn_scaling.specs.Decide.{decision_at, wake_decision_at, no_load, one_request};
-ghost use Rattle.kn_scaling.specs.Worked.{scaled, fraction, over_seconds, samples_at, standing_at, first_past, decided_at, pods_of};
+ghost use Rattle.kn_scaling.specs.Worked.{scaled, fraction, run_of, over_seconds, samples_at, standing_at, first_past, decided_at, pods_of};
 
 /// 75 requests for six seconds at one pod without a limit: a second pod is wanted, and a burst would not fit.
 #[tactic(auto, unfolding(crate::specs::Worked::whole_decision))]
 pub fn scale_up_as_kubectl_prints()
-    ensures { decision_at (scaled 0) (first_past (with_run no_samples 0 6 75000)) 6000 1 ≡ Some (record {
+    ensures { decision_at (scaled 0) (first_past (samples_of (run_of 0 6 75000 ∷ []))) 6000 1 ≡ Some (record {
       decision = record {
         stable = over_seconds 450000 6;
         panic = over_seconds 450000 6;
@@ -36,7 +36,7 @@ pub fn scale_up_as_kubectl_prints()
 /// One request that runs for a thousand million seconds.
 #[tactic(auto, unfolding(crate::specs::Worked::whole_decision))]
 pub fn very_long_pause()
-    ensures { decision_at (scaled 0) (first_past (with_run (with_run no_samples 0 5 0) 5 999999995 1000)) 1000000000000 1 ≡ Some (record {
+    ensures { decision_at (scaled 0) (first_past (samples_of (run_of 0 5 0 ∷ run_of 5 999999995 1000 ∷ []))) 1000000000000 1 ≡ Some (record {
       decision = record {
         stable = over_seconds 60000 60;
         panic = over_seconds 6000 6;
@@ -110,7 +110,7 @@ pub fn scale_from_zero_to_one()
 /// An idle pod: it serves for a stable window of six seconds, and then the revision becomes inactive and keeps it.
 #[tactic(auto, unfolding(crate::specs::Worked::whole_decision))]
 pub fn scale_to_zero_after_a_window()
-    ensures serves { let past = record (first_past (with_run no_samples 1 1 0)) { standing = standing_at Active 1000 Proxy 0 } in
+    ensures serves { let past = record (first_past (samples_of (run_of 1 1 0 ∷ []))) { standing = standing_at Active 1000 Proxy 0 } in
         decision_at (record (scaled 1) { burst = Capacity (milli 0); stable_s = 6; panic_s = 1 }) past 2000 1 ≡ Some (record {
           decision = record {
             stable = over_seconds 0 1;
@@ -130,7 +130,7 @@ pub fn scale_to_zero_after_a_window()
           };
           phase = Active;
         }) }
-    ensures becomes_inactive { let past = record (first_past (with_run no_samples 1 7 0)) { standing = standing_at Active 1000 Serve 2000 } in
+    ensures becomes_inactive { let past = record (first_past (samples_of (run_of 1 7 0 ∷ []))) { standing = standing_at Active 1000 Serve 2000 } in
         decision_at (record (scaled 1) { burst = Capacity (milli 0); stable_s = 6; panic_s = 1 }) past 8000 1 ≡ Some (record {
           decision = record {
             stable = over_seconds 0 6;
@@ -182,9 +182,9 @@ pub fn empty_windows()
 /// for counts, and not what it wanted. Undelayed, delayed, bounded, wanted:
 #[tactic(auto, unfolding(crate::specs::Worked::whole_decision))]
 pub fn delay_in_a_whole_decision()
-    ensures nine_later { let past = record (first_past (with_run no_samples 100 9 0)) { decisions = decided_at 100999 5 (fraction 3 1 (lit< tt)) (fraction 3 1 (lit< tt)) 5 ∷ [] } in
+    ensures nine_later { let past = record (first_past (samples_of (run_of 100 9 0 ∷ []))) { decisions = decided_at 100999 5 (fraction 3 1 (lit< tt)) (fraction 3 1 (lit< tt)) 5 ∷ [] } in
         pods_of (decision_at (record (scaled 1) { delay_s = 10 }) past 109999 5) ≡ Some (2, 5, 5, 5) }
-    ensures ten_later { let past = record (first_past (with_run no_samples 100 9 0)) { decisions = decided_at 100999 5 (fraction 3 1 (lit< tt)) (fraction 3 1 (lit< tt)) 5 ∷ [] } in
+    ensures ten_later { let past = record (first_past (samples_of (run_of 100 9 0 ∷ []))) { decisions = decided_at 100999 5 (fraction 3 1 (lit< tt)) (fraction 3 1 (lit< tt)) 5 ∷ [] } in
         pods_of (decision_at (record (scaled 1) { delay_s = 10 }) past 110000 5) ≡ Some (2, 2, 2, 2) }
 {}
 
@@ -192,8 +192,8 @@ pub fn delay_in_a_whole_decision()
 /// pods at a target of 0.7, from one. Undelayed, delayed, bounded, wanted:
 #[tactic(auto, unfolding(crate::specs::Worked::whole_decision))]
 pub fn panic_in_a_whole_decision()
-    ensures panicking { let past = record (first_past (with_run no_samples 0 90 0)) { decisions = decided_at 60000 1 no_load (fraction 7 1 (lit< tt)) 10 ∷ [] } in
+    ensures panicking { let past = record (first_past (samples_of (run_of 0 90 0 ∷ []))) { decisions = decided_at 60000 1 no_load (fraction 7 1 (lit< tt)) 10 ∷ [] } in
         pods_of (decision_at (scaled 1) past 90000 10) ≡ Some (10, 10, 10, 10) }
-    ensures at_its_end { let past = record (first_past (with_run no_samples 0 130 0)) { decisions = decided_at 60000 1 no_load (fraction 7 1 (lit< tt)) 10 ∷ [] } in
+    ensures at_its_end { let past = record (first_past (samples_of (run_of 0 130 0 ∷ []))) { decisions = decided_at 60000 1 no_load (fraction 7 1 (lit< tt)) 10 ∷ [] } in
         pods_of (decision_at (scaled 1) past 120001 10) ≡ Some (5, 5, 5, 5) }
 {}

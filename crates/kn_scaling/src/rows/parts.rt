@@ -5,13 +5,13 @@ ghost use Rattle.kn_event.specs.declared.entry.Phase.TheVariants.{Activating, Ac
 ghost use Rattle.kn_event.specs.declared.entry.Mode.TheVariants.{Proxy, Serve};
 ghost use Rattle.kn_event.specs.declared.revision.Burst.TheVariants.{Capacity, Unlimited};
 ghost use Rattle.kn_event.specs.Defaults.{milli, scaling_target};
-ghost use Rattle.kn_scaling.specs.Average.{no_samples, with_run, window_average};
+ghost use Rattle.kn_scaling.specs.Average.{no_samples, samples_of, window_average};
 ghost use Rattle.kn_scaling.specs.Demand.{desired_counts};
 ghost use Rattle.kn_scaling.specs.Panic.{is_panicking, undelayed_count};
 ghost use Rattle.kn_scaling.specs.Delay.{delayed_count};
 ghost use Rattle.kn_scaling.specs.Burst.{excess_burst, serving_mode};
 ghost use Rattle.kn_scaling.specs.Zero.{bounded_count, zero_rule};
-ghost use Rattle.kn_scaling.specs.Worked.{scaled, fraction, numbers_of, samples_at, judged_at, asked_at, standing_at, answer};
+ghost use Rattle.kn_scaling.specs.Worked.{scaled, fraction, numbers_of, run_of, samples_at, judged_at, asked_at, standing_at, answer};
 
 /// Two samples and the seconds between them: three seconds apart they are one spell of a window of six.
 #[tactic(auto, unfolding(crate::specs::Worked::whole_decision))]
@@ -37,8 +37,8 @@ pub fn spell_edge()
 pub fn window_length()
     ensures from_the_start { numbers_of (window_average (samples_at ((0, 100) ∷ (1, 100) ∷ [])) 60 2) ≡ Some (200, 2000) }
     ensures without_load { numbers_of (window_average (samples_at ((0, 1000) ∷ (1, 0) ∷ (2, 0) ∷ [])) 6 3) ≡ Some (1000, 3000) }
-    ensures long_run { numbers_of (window_average (with_run no_samples 0 1000000000 500) 6 1000000000) ≡ Some (3000, 6000) }
-    ensures ten_minutes { numbers_of (window_average (with_run no_samples 0 4000000000 1000) 600 4000000000) ≡ Some (600000, 600000) }
+    ensures long_run { numbers_of (window_average (samples_of (run_of 0 1000000000 500 ∷ [])) 6 1000000000) ≡ Some (3000, 6000) }
+    ensures ten_minutes { numbers_of (window_average (samples_of (run_of 0 4000000000 1000 ∷ [])) 600 4000000000) ≡ Some (600000, 600000) }
 {}
 
 /// At containerConcurrency 10 and 70 per cent the target is 7, and 21 requests ask for three pods.
