@@ -1,5 +1,5 @@
 -- The samples of runs, and what one second more adds to what is found in a list of seconds.
-use Rattle.std.proofs.Common.{◌≡◌, refl, sym, ◌∙◌, ap, ◌+◌, ◌-◌, ◌<◌, ◌≤◌, ℕ, suc, zero, Bool, true, false, List, [], ◌∷◌, arith}
+use Rattle.std.proofs.Common.{◌≡◌, refl, ◌∙◌, ap, ◌+◌, ◌-◌, ◌<◌, ◌≤◌, ℕ, suc, zero, Bool, true, false, List, [], ◌∷◌, arith}
 use Rattle.std.specs.Prelude.{Option, None, Some, unwrap_or, if◌then◌else◌}
 use Rattle.std.specs.List.{filter, fold, range_with_len}
 use Rattle.kn_scaling.specs.declared.average.SampleRun.{SampleRun}

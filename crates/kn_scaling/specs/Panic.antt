@@ -36,6 +36,12 @@ greater_count d = max d.counts.stable_count d.counts.panic_count
 unfoldable pub greatest_of_run : List Judged → ℕ
 greatest_of_run ds = greatest (map greater_count (panicking_run ds))
 
+-- the greatest count of a run after a decision with this greater count, where the run had that greatest one before: a
+-- decision that doesn't panic ends it
+abbrev pub greatest_after : Bool → ℕ → ℕ → ℕ
+greatest_after true count before = max count before
+greatest_after false count before = 0
+
 -- what the first of the list asks for: in panic the greatest of all stable and panic counts of its run, so that panic
 -- takes no pod away; else its stable count
 unfoldable pub undelayed_count : List Judged → ℕ

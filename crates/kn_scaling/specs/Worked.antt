@@ -1,5 +1,5 @@
 -- Setups for worked rows.
-use Rattle.std.specs.Prelude.{ℕ, Bool, true, false, ◌+◌, ◌-◌, ◌*◌, ◌<◌, codes, List, [], map, Option, option_map, pos, ⊤}
+use Rattle.std.specs.Prelude.{ℕ, Bool, true, false, ◌-◌, ◌<◌, codes, List, [], map, Option, option_map, pos, ⊤}
 use Rattle.kn_event.specs.declared.units.Frac.{Frac}
 use Rattle.kn_event.specs.declared.entry.Phase.{Phase}
 use Rattle.kn_event.specs.declared.entry.Phase.TheVariants as phase
