@@ -1,0 +1,14 @@
+//! What a scaling decision is: definitions over plain arguments, which say nothing of a trace, and slow functions that
+//! compute them over slices.
+#![tactic(auto)]
+
+mod average;
+mod delay;
+mod panic;
+pub mod rows;
+mod zero;
+
+pub use average::{SampleRun, window_average};
+pub use delay::{Asked, delayed_count, recent_count};
+pub use panic::{Judged, is_panicking, undelayed_count};
+pub use zero::ZeroAnswer;
