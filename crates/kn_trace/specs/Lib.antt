@@ -1,0 +1,10 @@
+pub mod Rows
+pub mod Trace
+pub mod Capacity
+pub mod Choice
+pub mod Settling
+pub mod Load
+pub mod Scale
+pub mod Events
+pub mod Laws
+pub mod Worked

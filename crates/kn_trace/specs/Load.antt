@@ -1,0 +1,62 @@
+-- How many milliseconds of each second the requests took, and which seconds are samples.
+use Rattle.std.specs.Prelude.{ℕ, Bool, false, not, ◌+◌, ◌-◌, ◌*◌, ◌||◌, ◌==◌, nat_lt, min, max, List, Option, None, Some, option_map}
+use Rattle.std.specs.Bool.{then_some}
+use Rattle.std.specs.List.{filter, filter_map, sum_by}
+use Rattle.kn_event.specs.declared.entry.Entry.{Entry}
+use Rattle.kn_scaling.specs.Average.{Samples}
+use Rattle.kn_trace.specs.Rows.{taken_by, ended_by}
+use Rattle.kn_trace.specs.Trace.{Trace, first_of, is_empty, ready_pods}
+
+-- the time that a request was live: from its admission or its being sent straight to a pod, to its end
+pub record Span : Type 0 where
+  pub from : ℕ
+  pub until : Option ℕ
+
+abbrev pub is_some_of : ℕ → Option ℕ → Bool
+is_some_of r None = false
+is_some_of r (Some q) = q == r
+
+-- the time of the entry, where it ends request r
+abbrev pub end_by : ℕ → Entry → Option ℕ
+end_by r e = then_some (is_some_of r (ended_by e.row)) e.time
+
+unfoldable pub end_of : Trace → ℕ → Option ℕ
+end_of c r = first_of (filter_map (end_by r) c)
+
+-- the span of the request that the entry takes in
+abbrev pub span_of : Trace → Entry → Option Span
+span_of c e = option_map (λ r. record { from = e.time; until = end_of c r }) (taken_by e.row)
+
+unfoldable pub spans : Trace → List Span
+spans c = filter_map (span_of c) c
+
+abbrev pub end_within : ℕ → Option ℕ → ℕ
+end_within b None = b
+end_within b (Some t) = min b t
+
+-- the milliseconds that a span has in common with those from a up to b, without b
+abbrev pub overlap : ℕ → ℕ → Span → ℕ
+overlap a b span = end_within b span.until - max a span.from
+
+abbrev pub load_of : List Span → ℕ → ℕ
+load_of all s = sum_by (overlap (1000 * s) (1000 * (s + 1))) all
+
+-- the load of second s: the sum over all requests
+unfoldable pub load_in : Trace → ℕ → ℕ
+load_in c s = load_of (spans c) s
+
+abbrev pub has_ready_pod : Trace → Bool
+has_ready_pod c = not (is_empty (ready_pods c))
+
+abbrev pub entries_before : ℕ → Trace → Trace
+entries_before t c = filter (λ e. nat_lt e.time t) c
+
+-- a second is a sample where it has a load, or a pod is Ready at its end, which is after all entries before the next
+-- second. Before the start there is neither
+abbrev pub sample_of : List Span → Trace → Samples
+sample_of all c s =
+    let load = load_of all s in
+    then_some (nat_lt 0 load || has_ready_pod (entries_before (1000 * (s + 1)) c)) load
+
+unfoldable pub samples : Trace → Samples
+samples c = sample_of (spans c) c
