@@ -93,9 +93,9 @@ waiting c = filter (has_not_begun c) (each_row taken_by c)
 unfoldable pub direct_turn : Trace → ℕ
 direct_turn c = length (each_row turned_by c)
 
--- the pod that a request was assigned or sent straight to
+-- the pod that a request was assigned or sent straight to, in the last such entry
 unfoldable pub pod_of : Trace → ℕ → Option ℕ
-pod_of c r = first_of (each_row (pod_by r) c)
+pod_of c r = last_of (each_row (pod_by r) c)
 
 abbrev pub stand_at : Bool → Option ℕ → Stand
 stand_at begun None = stand.Held
