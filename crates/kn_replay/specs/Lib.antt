@@ -1,0 +1,5 @@
+pub mod Lines
+pub mod Setup
+pub mod Journal
+pub mod Report
+pub mod Words

@@ -1,0 +1,2 @@
+//! `kact replay`: from the bytes of a journal to the bytes of its report.
+#![tactic(auto)]
