@@ -17,6 +17,6 @@ pub use items::{Items, Text};
 pub use line::Line;
 pub use log::{EntryLog, Memory};
 pub use print::entry_line;
-pub use read::read_event;
+pub use read::{read_event, read_number, split_field};
 pub use revision::{Burst, Kind, Slots, Spec};
 pub use units::{Frac, Milli};

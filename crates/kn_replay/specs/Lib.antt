@@ -2,4 +2,5 @@ pub mod Lines
 pub mod Setup
 pub mod Journal
 pub mod Report
+pub mod Tally
 pub mod Words

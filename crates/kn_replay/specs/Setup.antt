@@ -2,9 +2,10 @@
 use Rattle.std.specs.Prelude.{ℕ, Bool, ◌&&◌, nat_le, nat_eq, List, [], ◌∷◌, ◌++◌, drop, length, Option, None, Some, codes, if◌then◌else◌}
 use Rattle.std.specs.Bool.{then_some}
 use Rattle.std.specs.List.{starts_with}
-use Rattle.std.specs.Option.{option_and_then}
+use Rattle.std.specs.Option.{option_map, option_and_then}
 use Rattle.std.specs.Str.{bytes_eq}
 use Rattle.kn_event.specs.declared.revision.Spec.{Spec}
+use Rattle.kn_replay.specs.declared.setup.Numbers.{Numbers}
 use Rattle.kn_event.specs.Fields.{fields}
 use Rattle.kn_event.specs.FixedSpec.{fixed_spec}
 use Rattle.kn_event.specs.Numbers.{number_of}
@@ -14,14 +15,19 @@ use Rattle.kn_event.specs.Ranges.{is_between}
 unfoldable pub named_number : List ℕ → List ℕ → Option ℕ
 named_number name field = if starts_with nat_eq field name then number_of (drop (length name) field) else None
 
--- the numbers of a setup, in their order
-pub record Numbers : Type 0 where
-  pub limit : ℕ
-  pub depth : ℕ
-  pub max : ℕ
-  pub pods : ℕ
-  pub timeout : ℕ
-  pub seed : ℕ
+-- the numbers of these named fields, in this order and no others
+abbrev pub named_numbers : List (List ℕ) → List (List ℕ) → Option (List ℕ)
+named_numbers [] [] = Some []
+named_numbers (name ∷ names) (field ∷ rest) = option_and_then (λ n. option_map (λ more. n ∷ more) (named_numbers names rest)) (named_number name field)
+named_numbers _ _ = None
+
+abbrev pub setup_names : List (List ℕ)
+setup_names = codes "limit=" ∷ codes "depth=" ∷ codes "max=" ∷ codes "pods=" ∷ codes "timeout=" ∷ codes "seed=" ∷ []
+
+abbrev pub numbers_from : List ℕ → Option Numbers
+numbers_from (limit ∷ depth ∷ max ∷ pods ∷ timeout ∷ seed ∷ []) =
+    Some (record { limit = limit; depth = depth; max = max; pods = pods; timeout = timeout; seed = seed })
+numbers_from _ = None
 
 abbrev pub is_in_range : Numbers → Bool
 is_in_range n = nat_le n.limit 1000 && is_between 1 10000 n.depth && is_between 1 1000 n.max && nat_le n.pods 1 && is_between 1 3600 n.timeout
@@ -29,18 +35,9 @@ is_in_range n = nat_le n.limit 1000 && is_between 1 10000 n.depth && is_between 
 abbrev pub spec_of_numbers : Numbers → Spec
 spec_of_numbers n = fixed_spec n.limit n.pods n.timeout (record { depth = n.depth; max = n.max; seed = n.seed })
 
--- each field in its place, with its name
-abbrev pub numbers_of_fields : List ℕ → List ℕ → List ℕ → List ℕ → List ℕ → List ℕ → Option Numbers
-numbers_of_fields limit depth max pods timeout seed =
-    option_and_then (λ l. option_and_then (λ d. option_and_then (λ m. option_and_then (λ p. option_and_then (λ t. option_and_then (λ s.
-      Some (record { limit = l; depth = d; max = m; pods = p; timeout = t; seed = s }))
-      (named_number (codes "seed=") seed)) (named_number (codes "timeout=") timeout)) (named_number (codes "pods=") pods))
-      (named_number (codes "max=") max)) (named_number (codes "depth=") depth)) (named_number (codes "limit=") limit)
-
 abbrev pub setup_of_fields : List (List ℕ) → Option Numbers
-setup_of_fields (word ∷ limit ∷ depth ∷ max ∷ pods ∷ timeout ∷ seed ∷ []) =
-    if bytes_eq word (codes "fixed") then numbers_of_fields limit depth max pods timeout seed else None
-setup_of_fields _ = None
+setup_of_fields [] = None
+setup_of_fields (word ∷ rest) = if bytes_eq word (codes "fixed") then option_and_then numbers_from (named_numbers setup_names rest) else None
 
 abbrev pub spec_in_range : Numbers → Option Spec
 spec_in_range n = then_some (is_in_range n) (spec_of_numbers n)
@@ -61,3 +58,8 @@ start_of_fields _ = None
 -- `start T`, with its time in range
 unfoldable pub start_of : List ℕ → Option ℕ
 start_of line = start_of_fields (fields line)
+
+-- the fields of what follows a space, where one is there
+abbrev pub fields_after : Option (List ℕ) → List (List ℕ)
+fields_after None = []
+fields_after (Some rest) = fields rest

@@ -1,2 +1,5 @@
 //! `kact replay`: from the bytes of a journal to the bytes of its report.
 #![tactic(auto)]
+
+mod report;
+mod setup;

@@ -1,0 +1,44 @@
+//! The setup line of a journal and its start line.
+ghost use Rattle.std.specs.Prelude.{◌≡◌, ◌+◌, ◌≤◌, ◌^◌, ℕ, List, ◌∷◌, IfSome, IfNone, codes, Option, true};
+ghost use Rattle.std.specs.Option.{option_map, option_copied};
+ghost use Rattle.kn_event.specs.Fields.{fields};
+ghost use Rattle.kn_replay.specs.Setup.{named_number, named_numbers, numbers_from, setup_names, is_in_range, setup_of_fields, setup_of, spec_of_numbers, start_of, start_of_fields, fields_after};
+
+use kn_event::{Memory, Slots, Spec, read_number, split_field};
+use std::alloc::Global;
+
+/// The numbers of a setup.
+#[derive(Clone, Copy, Debug, PartialEq, Eq)]
+pub struct Numbers {
+    pub limit: u64,
+    pub depth: u64,
+    pub max: u64,
+    pub pods: u64,
+    /// Seconds.
+    pub timeout: u64,
+    pub seed: u64,
+}
+
+/// The number of a field `NAME=NUMBER`; the name comes with its `=`.
+#[tactic(auto, unfolding(crate::specs::Setup::named_number))]
+fn named_number(name: &[u8], field: &[u8]) -> Option<u64>
+    ensures { result ≡ named_number name.now field.now }
+{
+    if field.starts_with(name) {
+        read_number(&field[name.len()..])
+    } else {
+        None
+    }
+}
+
+/// The next field and what follows it.
+fn next_field(rest: Option<&[u8]>) -> Option<(&[u8], Option<&[u8]>)>
+    ensures none { IfNone result (fields_after (option_copied rest.entry) ≡ List.[]) }
+    ensures some { IfSome result (λ parts. fields_after (option_copied rest.entry) ≡ parts.0.now ∷ fields_after (option_copied parts.1)) }
+{
+    let rest = rest?;
+    match split_field(rest) {
+        Some((field, after)) => Some((field, Some(after))),
+        None => Some((rest, None)),
+    }
+}
