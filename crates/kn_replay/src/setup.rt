@@ -1,5 +1,5 @@
 //! The setup line of a journal and its start line.
-ghost use Rattle.std.specs.Prelude.{◌≡◌, ◌+◌, ◌≤◌, ◌^◌, ℕ, List, ◌∷◌, IfSome, IfNone, codes, Option, true};
+ghost use Rattle.std.specs.Prelude.{◌≡◌, ◌+◌, ◌≤◌, ◌^◌, ℕ, List, ◌∷◌, IfSome, IfNone, codes, Option, None, true};
 ghost use Rattle.std.specs.Option.{option_map, option_copied};
 ghost use Rattle.kn_event.specs.Fields.{fields};
 ghost use Rattle.kn_replay.specs.Setup.{named_number, named_numbers, numbers_from, setup_names, is_in_range, setup_of_fields, setup_of, spec_of_numbers, start_of, start_of_fields, fields_after};
@@ -41,4 +41,17 @@ fn next_field(rest: Option<&[u8]>) -> Option<(&[u8], Option<&[u8]>)>
         Some((field, after)) => Some((field, Some(after))),
         None => Some((rest, None)),
     }
+}
+
+/// The number of the next field, where it is the named one, and what follows it.
+fn next_named<'a>(rest: Option<&'a [u8]>, name: &[u8]) -> Option<(u64, Option<&'a [u8]>)>
+    ensures none { IfNone result ((names : List (List ℕ)) → named_numbers (name.now ∷ names) (fields_after (option_copied rest.entry)) ≡ None) }
+    ensures some {
+        IfSome result (λ parts. (names : List (List ℕ)) →
+            named_numbers (name.now ∷ names) (fields_after (option_copied rest.entry)) ≡ option_map (λ more. parts.0 ∷ more) (named_numbers names (fields_after (option_copied parts.1))))
+    }
+{
+    let (field, after) = next_field(rest)?;
+    let number = named_number(name, field)?;
+    Some((number, after))
 }
