@@ -1,4 +1,5 @@
-//! Readers and writers of std, as standard input, output and error, as sources and sinks. They tell no content.
+//! Readers and writers of std as sources and sinks. They tell the content that std tells of them: of standard
+//! input, output and error none.
 ghost use Rattle.std.specs.Prelude.{◌≡◌, ℕ, None, Some};
 
 use crate::traits::{Failed, Faulty, Sink, Source};
@@ -34,7 +35,7 @@ impl<R: Read> Faulty for ReaderSource<R> {
 }
 
 impl<R: Read> Source for ReaderSource<R> {
-    ghost left = { λ _. None };
+    ghost left = { λ s. R.remaining s.reader };
 
     ghost apart = { λ _. None };
 
@@ -80,17 +81,17 @@ impl<W: Write> Faulty for WriterSink<W> {
 }
 
 impl<W: Write> Sink for WriterSink<W> {
-    ghost held = { λ _. None };
+    ghost held = { λ s. W.contents s.writer };
 
     ghost kept = { λ _. None };
 
     fn write(&mut self, bytes: &[u8]) -> Result<usize, Failed> {
-        if let Ok(n) = self.writer.write(bytes)
-            && (n > 0 || bytes.is_empty())
-        {
-            return Ok(n);
+        match self.writer.write(bytes) {
+            Ok(n) if n > 0 || bytes.is_empty() => Ok(n),
+            Ok(_) | Err(_) => {
+                self.faults = self.faults.saturating_add(1);
+                Err(Failed)
+            }
         }
-        self.faults = self.faults.saturating_add(1);
-        Err(Failed)
     }
 }
