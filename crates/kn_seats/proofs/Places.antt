@@ -1,6 +1,6 @@
 -- What a pod's place among pods whose numbers rise says of looking it up, changing it and removing it.
-use Rattle.std.proofs.Common.{◌≡◌, ℕ, zero, suc, ◌+◌, ◌<◌, ◌≤◌, ◌≢◌, Bool, true, false, not, cond, ◌||◌, List, [], ◌∷◌, ◌++◌, take, drop, set, get_or, length, map, refl, sym, ap, subst, ◌∙◌, arith, nat_eq, Some, None, Option, unwrap_or, Result, Ok, Err}
-use Rattle.std.specs.List.{find, filter, list_any, remove}
+use Rattle.std.proofs.Common.{◌≡◌, ℕ, zero, suc, ◌<◌, ◌≤◌, Bool, true, false, ◌||◌, List, [], ◌∷◌, set, get_or, length, refl, sym, ap, subst, ◌∙◌, arith, nat_eq, Some, Option, unwrap_or, Result, Ok, Err, cond, ◌++◌}
+use Rattle.std.specs.List.{find, remove}
 use Rattle.std.specs.List.Sorted.{IsSearchInRange, IsBinarySearchResult, IsNonDecreasingBy}
 use Rattle.std.specs.Ordering.{nat_cmp, ordering_index}
 use Rattle.std.specs.Prelude.{IsOk}
@@ -119,7 +119,7 @@ module _ (pods : List Pod) (rise : IsAscending pods) (p : ℕ) where
   comparisons_rise : IsNonDecreasingBy (λ pod. ordering_index (nat_cmp pod.number p)) pods
   comparisons_rise = IsNonDecreasingBy-from_default (λ pod. ordering_index (nat_cmp pod.number p)) pods (idle_pod p 0) (λ i j le inside.
       let numbers_rise : (get_or pods i (idle_pod p 0)).number ≤ (get_or pods j (idle_pod p 0)).number =
-          grind (arith, rise i j (idle_pod p 0), λ (same : i ≡ j). ap (λ k. (get_or pods k (idle_pod p 0)).number) same) in
+      grind (arith, rise i j (idle_pod p 0), λ (same : i ≡ j). ap (λ k. (get_or pods k (idle_pod p 0)).number) same) in
       grind (arith, nat_tests))
 
   -- a binary search ends at a pod that is there
@@ -141,3 +141,14 @@ module _ (pods : List Pod) (rise : IsAscending pods) (p : ℕ) where
       let stands : StandsAt p pods n = record { inside = inside; number = λ d. ranked _ p _ (sym (equal d)) } in
       subst (IsPlaceOf p pods) same (the_place p pods n rise stands)
   search_place (Err n) at is inside parted = absurd (cc)
+
+-- the same numbers are there after a change that keeps a pod's number
+number-changed : (x y : Pod) (here : Bool) → y.number ≡ x.number → (cond here y x).number ≡ x.number
+number-changed x y true keeps = keeps
+number-changed x y false keeps = refl
+
+pub has_pod-changed : (q p : ℕ) (by : Pod → Pod) → ((x : Pod) → (by x).number ≡ x.number) → (pods : List Pod) → has_pod q (with_pod_changed p by pods) ≡ has_pod q pods
+has_pod-changed q p by keeps [] = refl
+has_pod-changed q p by keeps (x ∷ xs) =
+    ap (λ n. nat_eq n q || has_pod q (with_pod_changed p by xs)) (number-changed x (by x) (nat_eq x.number p) (keeps x))
+    ∙ ap (λ b. nat_eq x.number q || b) (has_pod-changed q p by keeps xs)

@@ -1,5 +1,5 @@
 -- A request that is taken out of a queue.
-use Rattle.std.proofs.Common.{◌≡◌, ℕ, suc, ◌+◌, ◌<◌, Bool, true, false, not, cond, List, [], ◌∷◌, ◌++◌, take, drop, length, refl, sym, ap, ◌∙◌, arith, nat_eq, nat_lt, Some, None}
+use Rattle.std.proofs.Common.{◌≡◌, ℕ, suc, ◌+◌, ◌<◌, Bool, true, false, not, cond, List, [], ◌∷◌, ◌++◌, take, drop, length, refl, sym, ap, ◌∙◌, arith, nat_eq, nat_lt, Some}
 use Rattle.std.specs.Prelude.{Contains, IsSome}
 use Rattle.std.specs.List.{position, position_or_len, remove}
 use Rattle.std.proofs.lemmas.Bool.Decides.{nat_tests}
@@ -14,7 +14,7 @@ without_request-removes r (q ∷ queued) =
     let n = position_or_len (λ q. nat_eq q r) queued in
     let next : suc n ≡ 1 + n = omega arith in
     let later : q ∷ without_request r queued ≡ remove (q ∷ queued) (1 + n) =
-        ap (λ l. q ∷ l) (without_request-removes r queued) ∙ ap (λ i. remove (q ∷ queued) i) next in
+    ap (λ l. q ∷ l) (without_request-removes r queued) ∙ ap (λ i. remove (q ∷ queued) i) next in
     elim (nat_eq q r) as (λ (b : Bool). cond b queued (q ∷ without_request r queued) ≡ remove (q ∷ queued) (cond (not b) (1 + n) 0)) [ true ↦ refl | false ↦ later ]
 
 -- the parts before it and after it make the queue without it

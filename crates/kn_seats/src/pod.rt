@@ -1,5 +1,5 @@
 //! One pod: who runs there and who is queued.
-ghost use Rattle.std.specs.Prelude.{◌≡◌, ℕ, ◌+◌, ◌-◌, ◌^◌, ◌<◌, [], ◌∷◌, ◌++◌, length, IsTrue, Contains};
+ghost use Rattle.std.specs.Prelude.{◌≡◌, ℕ, ◌+◌, ◌-◌, ◌^◌, ◌<◌, [], ◌∷◌, ◌++◌, drop, length, slice_get, Some, Contains};
 
 use crate::cells::{Cells, first_place, move_first};
 use std::alloc::Global;
@@ -64,8 +64,8 @@ impl Pod {
     pub fn dequeue(&mut self, spare: &mut Cells) -> u64
         requires some { 0 < length self.old.queued }
         requires fits { length spare.old + 1 < 2 ^ 63 }
-        ensures first { self.old.queued ≡ result ∷ self.new.queued }
-        ensures others { self.new ≡ record self.old { queued = self.new.queued } }
+        ensures first { slice_get self.old.queued 0 ≡ Some result }
+        ensures rest { self.new ≡ record self.old { queued = drop 1 self.old.queued } }
         ensures spare { length spare.new ≡ length spare.old + 1 }
     {
         let r = *self.queued.front().unwrap();

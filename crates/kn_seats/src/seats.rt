@@ -1,5 +1,5 @@
 //! The seats at all pods. A pod is found by a binary search over the numbers, which rise.
-ghost use Rattle.std.specs.Prelude.{true, List, ◌≡◌, ℕ, ◌+◌, ◌-◌, ◌<◌, ◌≤◌, [], ◌∷◌, ◌++◌, Some, None, length, IsTrue, IfOk, IfSome, IfNone, Contains, All, is_some, not, ◌&&◌, nat_lt};
+ghost use Rattle.std.specs.Prelude.{true, ◌≡◌, ◌+◌, ◌-◌, ◌<◌, ◌≤◌, [], ◌∷◌, ◌++◌, None, drop, length, slice_get, IsTrue, IfOk, OnSome, IfNone, Contains, All, not, if◌then◌else◌};
 ghost use Rattle.std.specs.Bool.{OnFalse, OnTrue};
 
 use crate::cells::{Cells, spare_cells};
@@ -30,8 +30,8 @@ impl Model for Seats {
     ghost view = { λ s. record { pods = s.pods.items; pod_room = s.pod_room; request_room = s.request_room } };
 
     ghost invariant = { λ s. record {
-        kept : IsKept s.pods.items (length s.spare) s.pod_room s.request_room;
-        reserved : s.pod_room ≤ vec_capacity s.pods;
+      kept : IsKept s.pods.items (length s.spare) s.pod_room s.request_room;
+      reserved : s.pod_room ≤ vec_capacity s.pods;
     } };
 }
 
@@ -64,7 +64,8 @@ impl Seats {
         requires last { All (λ pod. pod.number < p) self.old.pods }
         requires room { length self.old.pods < self.old.pod_room }
         requires limit { limit ≤ 1000 }
-        ensures { self.new ≡ record self.old { pods = self.old.pods ++ idle_pod p limit ∷ [] } }
+        ensures added { self.new ≡ record self.old { pods = self.old.pods ++ idle_pod p limit ∷ [] } }
+        ensures counted { requests_at_all self.new.pods ≡ requests_at_all self.old.pods }
     {
         self.pods.push_reserved(Pod::idle(self.alloc, p, limit));
     }
@@ -73,7 +74,8 @@ impl Seats {
     pub fn set_limit(&mut self, p: u64, n: u64)
         requires there { IsTrue (has_pod p self.old.pods) }
         requires limit { n ≤ 1000 }
-        ensures { self.new ≡ change p (λ pod. record pod { limit = n }) self.old }
+        ensures changed { self.new ≡ change p (λ pod. record pod { limit = n }) self.old }
+        ensures counted { requests_at_all self.new.pods ≡ requests_at_all self.old.pods }
     {
         let place = self.place_of(p);
         self.pods[place].limit = n;
@@ -82,7 +84,8 @@ impl Seats {
     /// Marks a pod as draining.
     pub fn drain(&mut self, p: u64)
         requires there { IsTrue (has_pod p self.old.pods) }
-        ensures { self.new ≡ change p (λ pod. record pod { draining = true }) self.old }
+        ensures changed { self.new ≡ change p (λ pod. record pod { draining = true }) self.old }
+        ensures counted { requests_at_all self.new.pods ≡ requests_at_all self.old.pods }
     {
         let place = self.place_of(p);
         self.pods[place].draining = true;
@@ -93,7 +96,8 @@ impl Seats {
         requires there { IsTrue (has_pod p self.old.pods) }
         requires draining { IsTrue (pod_at p self.old.pods).draining }
         requires none { requests_at (pod_at p self.old.pods) ≡ 0 }
-        ensures { self.new ≡ record self.old { pods = without_pod p self.old.pods } }
+        ensures removed { self.new ≡ record self.old { pods = without_pod p self.old.pods } }
+        ensures counted { requests_at_all self.new.pods ≡ requests_at_all self.old.pods }
     {
         let place = self.place_of(p);
         let _ = self.pods.remove(place);
@@ -105,6 +109,7 @@ impl Seats {
         requires room { requests_at_all self.old.pods < self.old.request_room }
         ensures free { result ≡ has_free_seat (pod_at p self.old.pods) }
         ensures reserved { OnTrue result (self.new ≡ change p (λ pod. record pod { running = pod.running + 1 }) self.old) }
+        ensures counted { OnTrue result (requests_at_all self.new.pods ≡ requests_at_all self.old.pods + 1) }
         ensures refused { OnFalse result (self.new ≡ self.old) }
     {
         let place = self.place_of(p);
@@ -122,6 +127,7 @@ impl Seats {
         requires room { requests_at_all self.old.pods < self.old.request_room }
         ensures not_full { result ≡ not (is_full (pod_at p self.old.pods)) }
         ensures queued { OnTrue result (self.new ≡ change p (λ pod. record pod { queued = pod.queued ++ r ∷ [] }) self.old) }
+        ensures counted { OnTrue result (requests_at_all self.new.pods ≡ requests_at_all self.old.pods + 1) }
         ensures refused { OnFalse result (self.new ≡ self.old) }
     {
         let place = self.place_of(p);
@@ -136,10 +142,11 @@ impl Seats {
     /// Lets the first request that is queued at a pod run, where a seat is free there. Answers the request.
     pub fn promote(&mut self, p: u64) -> Option<u64>
         requires there { IsTrue (has_pod p self.old.pods) }
-        ensures answer { is_some result ≡ (nat_lt 0 (length (pod_at p self.old.pods).queued) && has_free_seat (pod_at p self.old.pods)) }
-        ensures promoted { IfSome result (λ r. (rest : List ℕ) × ((pod_at p self.old.pods).queued ≡ r ∷ rest)
-            × (self.new ≡ change p (λ pod. record pod { queued = rest; running = pod.running + 1 }) self.old)) }
+        ensures answer { result ≡ (if has_free_seat (pod_at p self.old.pods) then slice_get (pod_at p self.old.pods).queued 0 else None) }
+        ensures promoted { OnSome result (self.new ≡
+            change p (λ pod. record pod { queued = drop 1 pod.queued; running = pod.running + 1 }) self.old) }
         ensures refused { IfNone result (self.new ≡ self.old) }
+        ensures counted { requests_at_all self.new.pods ≡ requests_at_all self.old.pods }
     {
         let place = self.place_of(p);
         let pod = &mut self.pods[place];
@@ -155,7 +162,8 @@ impl Seats {
     pub fn unqueue(&mut self, p: u64, r: u64)
         requires there { IsTrue (has_pod p self.old.pods) }
         requires queued { Contains (pod_at p self.old.pods).queued r }
-        ensures { self.new ≡ change p (λ pod. record pod { queued = without_request r pod.queued }) self.old }
+        ensures changed { self.new ≡ change p (λ pod. record pod { queued = without_request r pod.queued }) self.old }
+        ensures counted { requests_at_all self.new.pods + 1 ≡ requests_at_all self.old.pods }
     {
         let place = self.place_of(p);
         self.pods[place].take_out(r, &mut self.spare);
@@ -165,7 +173,8 @@ impl Seats {
     pub fn give_back(&mut self, p: u64)
         requires there { IsTrue (has_pod p self.old.pods) }
         requires running { 0 < (pod_at p self.old.pods).running }
-        ensures { self.new ≡ change p (λ pod. record pod { running = pod.running - 1 }) self.old }
+        ensures changed { self.new ≡ change p (λ pod. record pod { running = pod.running - 1 }) self.old }
+        ensures counted { requests_at_all self.new.pods + 1 ≡ requests_at_all self.old.pods }
     {
         let place = self.place_of(p);
         self.pods[place].running -= 1;
@@ -200,6 +209,8 @@ impl Seats {
         requires { IsTrue (has_pod p self.now.pods) }
         ensures { IsPlaceOf p self.now.pods result }
     {
-        self.pods.binary_search_by_key(&p, |pod| pod.number).unwrap()
+        self.pods
+            .binary_search_by_key(&p, |pod| pod.number)
+            .unwrap()
     }
 }
