@@ -11,6 +11,8 @@ use std::marker::Model;
 /// Pods, and the requests that run and are queued at each. Room for pods and requests is taken once.
 ///
 /// Contracts see the list of the pods in the order of their numbers, and both rooms. A pod limit is at most 1,000.
+/// Each call but `new` and `add` names a pod that is there, and none but `new` takes memory. Each says how many
+/// requests are at pods afterwards, since room left is a condition of `reserve_seat` and `queue_at`.
 #[derive(Drop)]
 pub struct Seats {
     pods: Vec<Pod>,
@@ -158,7 +160,7 @@ impl Seats {
         Some(r)
     }
 
-    /// Takes a request that is queued at a pod out of its queue.
+    /// Takes a request that is queued at a pod out of its queue, the first of them if it stands there twice.
     pub fn unqueue(&mut self, p: u64, r: u64)
         requires there { IsTrue (has_pod p self.old.pods) }
         requires queued { Contains (pod_at p self.old.pods).queued r }
