@@ -1,8 +1,8 @@
 //! The setup line of a journal and its start line.
-ghost use Rattle.std.specs.Prelude.{◌≡◌, ◌+◌, ◌≤◌, ◌^◌, ℕ, List, ◌∷◌, IfSome, IfNone, codes, Option, None, true};
+ghost use Rattle.std.specs.Prelude.{◌≡◌, ◌+◌, ◌≤◌, ◌^◌, ℕ, List, ◌∷◌, IfSome, IfNone, IfOk, codes, Option, None, true};
 ghost use Rattle.std.specs.Option.{option_map, option_copied};
 ghost use Rattle.kn_event.specs.Fields.{fields};
-ghost use Rattle.kn_replay.specs.Setup.{named_number, named_numbers, numbers_from, setup_names, is_in_range, setup_of_fields, setup_of, spec_of_numbers, start_of, start_of_fields, fields_after};
+ghost use Rattle.kn_replay.specs.Setup.{named_number, named_numbers, numbers_from, setup_names, is_in_range, setup_of_fields, setup_of, spec_of_numbers, start_of, start_of_fields, fields_after, time_most};
 
 use kn_event::{Memory, Slots, Spec, read_number, split_field};
 use std::alloc::Global;
@@ -54,4 +54,84 @@ fn next_named<'a>(rest: Option<&'a [u8]>, name: &[u8]) -> Option<(u64, Option<&'
     let (field, after) = next_field(rest)?;
     let number = named_number(name, field)?;
     Some((number, after))
+}
+
+/// The numbers of a setup line, in whatever ranges.
+fn read_numbers(line: &[u8]) -> Option<Numbers>
+    ensures { result ≡ setup_of_fields (fields line.now) }
+{
+    let (word, rest) = next_field(Some(line))?;
+    if word != b"fixed".as_slice() {
+        return None;
+    }
+    let (limit, rest) = next_named(rest, b"limit=")?;
+    let (depth, rest) = next_named(rest, b"depth=")?;
+    let (max, rest) = next_named(rest, b"max=")?;
+    let (pods, rest) = next_named(rest, b"pods=")?;
+    let (timeout, rest) = next_named(rest, b"timeout=")?;
+    let (seed, rest) = next_named(rest, b"seed=")?;
+    if rest.is_some() {
+        return None;
+    }
+    Some(Numbers {
+        limit,
+        depth,
+        max,
+        pods,
+        timeout,
+        seed,
+    })
+}
+
+fn is_in_range(n: &Numbers) -> bool
+    ensures { result ≡ is_in_range n.now }
+{
+    n.limit <= 1000
+        && 1 <= n.depth
+        && n.depth <= 10000
+        && 1 <= n.max
+        && n.max <= 1000
+        && n.pods <= 1
+        && 1 <= n.timeout
+        && n.timeout <= 3600
+}
+
+fn spec_of(alloc: Global, n: &Numbers) -> Result<Spec, Memory>
+    requires { is_in_range n.now ≡ true }
+    ensures { IfOk result (λ spec. spec ≡ spec_of_numbers n.now) }
+{
+    let slots = Slots {
+        depth: n.depth,
+        max: n.max,
+        seed: n.seed,
+    };
+    Spec::fixed(alloc, n.limit, n.pods, n.timeout, slots)
+}
+
+/// The specification of a setup line, none where the line is not one.
+#[tactic(auto, unfolding(crate::specs::Setup::setup_of))]
+pub fn read_setup(alloc: Global, line: &[u8]) -> Result<Option<Spec>, Memory>
+    ensures { IfOk result (λ spec. spec ≡ setup_of line.now) }
+{
+    match read_numbers(line) {
+        Some(n) if is_in_range(&n) => Ok(Some(spec_of(alloc, &n)?)),
+        _ => Ok(None),
+    }
+}
+
+/// The time of a start line, in milliseconds, none where the line is not one.
+#[tactic(auto, unfolding(crate::specs::Setup::start_of))]
+pub fn read_start(line: &[u8]) -> Option<u64>
+    ensures value { result ≡ start_of line.now }
+    ensures most { IfSome result (λ t. t ≤ time_most) }
+{
+    let (word, rest) = next_field(Some(line))?;
+    let (time, rest) = next_field(rest)?;
+    if word != b"start".as_slice() || rest.is_some() {
+        return None;
+    }
+    match read_number(time) {
+        Some(t) if t <= 4398046511104 => Some(t),
+        _ => None,
+    }
 }
