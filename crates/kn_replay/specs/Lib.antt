@@ -3,3 +3,4 @@ pub mod Setup
 pub mod Journal
 pub mod Report
 pub mod Words
+pub mod Reading

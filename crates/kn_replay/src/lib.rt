@@ -1,2 +1,4 @@
 //! `kact replay`: from the bytes of a journal to the bytes of its report.
 #![tactic(auto)]
+
+mod input;
