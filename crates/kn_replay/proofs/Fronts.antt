@@ -1,7 +1,6 @@
 -- The first line of an input, of which some bytes were taken.
 use Rattle.std.proofs.Common.{◌≡◌, ◌≢◌, ◌<◌, ◌+◌, ℕ, zero, suc, Bool, true, false, List, [], ◌∷◌, ◌++◌, length, replicate, length-append, append_assoc, append-nil, refl, sym, ap, ◌∙◌, subst, arith, not}
-use Rattle.std.specs.Prelude.{Option, None, Some, ◌==◌, ⊤}
-use Rattle.std.specs.Io.KnownBytes.{Keeps}
+use Rattle.std.specs.Prelude.{Option, None, Some, ◌==◌, ⊤, Contains, slice_index_or}
 use Rattle.std.proofs.lemmas.List.{replicate_more, length-replicate}
 use Rattle.kn_replay.specs.Lines.{begins_with_lf, without_crs, onto_first, lines_at_lf, lines}
 use Rattle.kn_replay.specs.Reading.{TakesByte, TakesLine, HasLongLine, Counts}
@@ -212,14 +211,16 @@ counts_byte (Some xs) None c n m x h k = absurd h
 counts_byte (Some xs) (Some ys) None n m x h k = absurd k
 counts_byte (Some xs) (Some ys) (Some zs) n m x h k = omega (arith, h, ap length k)
 
-pub counts_end : (a b c : Option (List ℕ)) (n m : ℕ) → Counts a b n m → TakesByte b c None → Counts a c n m
-counts_end None b c n m h k = tt
-counts_end (Some xs) None c n m h k = absurd h
-counts_end (Some xs) (Some ys) None n m h k = absurd k
-counts_end (Some xs) (Some ys) (Some zs) n m h k = omega (arith, h, ap length k.0, ap length k.1)
+-- an LF that was not the first byte is still there
 
-pub counts_stay : (a b c : Option (List ℕ)) (n m : ℕ) → Counts a b n m → Keeps b c → Counts a c n m
-counts_stay None b c n m h k = tt
-counts_stay (Some xs) None c n m h k = absurd h
-counts_stay (Some xs) (Some ys) None n m h k = absurd k
-counts_stay (Some xs) (Some ys) (Some zs) n m h k = omega (arith, h, ap length k)
+pub contains_some : (xs : List ℕ) (x : ℕ) → Contains xs x → 0 < length xs
+contains_some xs x h = omega (arith, h.1)
+
+contains_cons : (b : ℕ) (ys : List ℕ) (k : ℕ) → b ≢ 10 → k < length (b ∷ ys) → slice_index_or (b ∷ ys) k 10 ≡ 10 → Contains ys 10
+contains_cons b ys zero other lt is = absurd (other is)
+contains_cons b ys (suc k) other lt is = (k, omega arith, is)
+
+pub contains_rest : (xs ys : List ℕ) (b : ℕ) → xs ≡ b ∷ ys → b ≢ 10 → Contains xs 10 → Contains ys 10
+contains_rest xs ys b e other h =
+    let at : Contains (b ∷ ys) 10 = subst (λ (m : List ℕ). Contains m 10) e h in
+    contains_cons b ys at.0 other at.1 at.2

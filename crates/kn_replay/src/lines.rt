@@ -1,5 +1,5 @@
 //! The lines of an input, one at a time.
-ghost use Rattle.std.specs.Prelude.{◌≡◌, ◌≢◌, ◌↔◌, ◌⊎◌, ◌+◌, ◌≤◌, ◌<◌, [], ◌∷◌, ◌++◌, length, replicate, IsSome, IsTrue, IfOk, IfSome, MatchOption, OnOk, vec_capacity, vec_len};
+ghost use Rattle.std.specs.Prelude.{◌≡◌, ◌≢◌, ◌↔◌, ◌⊎◌, ◌+◌, ◌≤◌, ◌<◌, [], ◌∷◌, ◌++◌, Contains, length, replicate, IsSome, IsTrue, IfOk, IfSome, MatchOption, OnOk, vec_capacity, vec_len};
 ghost use Rattle.kn_io.specs.Causes.{Rose};
 ghost use Rattle.kn_replay.specs.Lines.{line_most};
 ghost use Rattle.kn_replay.specs.Reading.{Counts, HasLongLine, TakesLine, most_taken, unread};
@@ -76,9 +76,15 @@ pub fn read_line<S: Source>(
     ensures fits { OnOk result (length line.new.items ≤ line_most) }
     ensures long { result ≡ Err NoLine.TooLong → HasLongLine (unread input.old (S.left source.old)) }
     ensures fault { result ≡ Err NoLine.Fault → Rose (S.Faulty.faults source.old) (S.Faulty.faults source.new) ⊎ (input.new.taken ≡ most_taken) }
+
+    // While an LF is ahead, the source is left alone.
+    ensures ready { Contains input.old.ahead 10 → source.new ≡ source.old }
+
+    // Each byte that is gone was counted, however the call ends.
     ensures exact { Counts (unread input.old (S.left source.old)) (unread input.new (S.left source.new)) input.old.taken input.new.taken }
     ensures count { OnOk result (input.old.taken + length line.new.items ≤ input.new.taken) }
     ensures grows { input.old.taken ≤ input.new.taken }
+
     ensures never_falls { S.Faulty.faults source.old ≤ S.Faulty.faults source.new }
     ensures apart { S.apart source.new ≡ S.apart source.old }
     ensures capacity { line_most ≤ vec_capacity line.new }

@@ -1,4 +1,5 @@
 use Rattle.std.proofs.Common.{◌≡◌, ◌+◌, ◌<◌, ◌≤◌, vec_len, vec_capacity}
+use Rattle.std.specs.Prelude.{Contains}
 use Rattle.kn_replay.specs.Lines.{line_most}
 use Rattle.kn_replay.specs.Reading.{Counts, most_taken, unread}
 use Rattle.kn_replay.proofs.Fronts.{TakesFront}
@@ -12,6 +13,7 @@ invariant-loop g l = record {
   turns : l.fn.input.taken + l.counter ≡ l.input.taken;
   bytes : vec_len l.line + l.crs ≡ l.counter;
   most : 0 < l.counter → l.input.taken ≤ most_taken;
+  ready : Contains l.fn.input.ahead 10 → Contains l.input.ahead 10 × (l.source ≡ l.fn.source);
   never_falls : g.S.Faulty.faults l.fn.source ≤ g.S.Faulty.faults l.source;
   apart : g.S.Source.apart l.source ≡ g.S.Source.apart l.fn.source;
   short : vec_len l.line ≤ line_most;
