@@ -109,3 +109,6 @@ pub fn read_line<S: Source>(
     }
     Err(NoLine::Fault)
 }
+
+#[cfg(test)]
+mod tests;

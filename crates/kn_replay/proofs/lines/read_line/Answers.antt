@@ -62,7 +62,7 @@ loop-preserved g c =
     let counted = rw c.in-Ok-Some.field-0-is at c.in-Ok-Some.ensures.taken in
     let not_lf : (c.in-Ok-Some.byte == 10) ≡ false = grind arith in
     let waits : c.in-Ok-Some.byte ≡ 13 → (c.in-Some.waiting ≡ c.loop.crs + 1) × (c.add.new.line.items ≡ c.loop.line.items) =
-        λ is. let now = c.in-Some.ensures.cr is in (cc, now.1) in
+    λ is. let now = c.in-Some.ensures.cr is in (cc, now.1) in
     record {
       taken = front_added whole left rest c.loop.line.items c.add.new.line.items c.loop.crs c.in-Some.waiting c.in-Ok-Some.byte c.loop.invariant.taken byte not_lf waits c.in-Some.ensures.other;
       exact = rw counted (counts_byte whole left rest c.args.input.now.taken c.loop.input.taken c.in-Ok-Some.byte c.loop.invariant.exact byte);
@@ -70,10 +70,10 @@ loop-preserved g c =
       bytes = grind (arith, common_steps);
       most = grind (arith, common_steps);
       ready = λ lf.
-        let before = c.loop.invariant.ready lf in
-        let some = contains_some _ _ before.0 in
-        let front = rw c.in-Ok-Some.field-0-is at (c.in-Ok-Some.ensures.front some) in
-        (contains_rest _ _ _ front (grind arith) before.0, c.next.ensures.ready some ∙ before.1);
+          let before = c.loop.invariant.ready lf in
+          let some = contains_some _ _ before.0 in
+          let front = rw c.in-Ok-Some.field-0-is at (c.in-Ok-Some.ensures.front some) in
+          (contains_rest _ _ _ front (grind arith) before.0, c.next.ensures.ready some ∙ before.1);
       never_falls = grind (arith, common_steps);
       apart = grind (arith, common_steps);
       short = grind (arith, common_steps);
