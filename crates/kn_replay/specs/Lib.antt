@@ -4,3 +4,4 @@ pub mod Journal
 pub mod Report
 pub mod Tally
 pub mod Words
+pub mod Reading
