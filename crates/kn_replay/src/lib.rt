@@ -2,6 +2,7 @@
 #![tactic(auto)]
 
 mod input;
+mod journal;
 mod lines;
 mod report;
 mod setup;

@@ -2,6 +2,7 @@
 ghost use Rattle.std.specs.Prelude.{◌≡◌, ◌+◌, ◌≤◌, ◌^◌, ℕ, List, ◌∷◌, IfSome, IfNone, IfOk, codes, Option, None, true};
 ghost use Rattle.std.specs.Option.{option_map, option_copied};
 ghost use Rattle.kn_event.specs.Fields.{fields};
+ghost use Rattle.kn_core.specs.Plain.{IsSinglePod};
 ghost use Rattle.kn_replay.specs.Setup.{named_number, named_numbers, numbers_from, setup_names, is_in_range, setup_of_fields, setup_of, spec_of_numbers, start_of, start_of_fields, time_of, fields_after, time_most};
 
 use kn_event::{Memory, Slots, Spec, read_number, split_field};
@@ -94,9 +95,11 @@ fn is_in_range(n: &Numbers) -> bool
         && n.timeout <= 3600
 }
 
+#[tactic(auto, unfolding(kn_event::specs::FixedSpec::fixed_spec))]
 fn spec_of(alloc: Global, n: &Numbers) -> Result<Spec, Memory>
     requires { is_in_range n.now ≡ true }
-    ensures { IfOk result (λ spec. spec ≡ spec_of_numbers n.now) }
+    ensures value { IfOk result (λ spec. spec ≡ spec_of_numbers n.now) }
+    ensures kind { IfOk result (λ spec. IsSinglePod spec.kind) }
 {
     let slots = Slots {
         depth: n.depth,
@@ -109,10 +112,14 @@ fn spec_of(alloc: Global, n: &Numbers) -> Result<Spec, Memory>
 /// The specification of a setup line, none where the line is not one.
 #[tactic(auto, unfolding(crate::specs::Setup::setup_of))]
 pub fn read_setup(alloc: Global, line: &[u8]) -> Result<Option<Spec>, Memory>
-    ensures { IfOk result (λ spec. spec ≡ setup_of line.now) }
+    ensures value { IfOk result (λ spec. spec ≡ setup_of line.now) }
+    ensures kind { IfOk result (λ spec. IfSome spec (λ s. IsSinglePod s.kind)) }
 {
     match read_numbers(line) {
-        Some(n) if is_in_range(&n) => Ok(Some(spec_of(alloc, &n)?)),
+        Some(n) if is_in_range(&n) => match spec_of(alloc, &n) {
+            Ok(spec) => Ok(Some(spec)),
+            Err(Memory) => Err(Memory),
+        },
         _ => Ok(None),
     }
 }
