@@ -2,7 +2,7 @@
 ghost use Rattle.std.specs.Prelude.{◌≡◌, ◌≢◌, ◌↔◌, ◌⊎◌, ◌+◌, ◌≤◌, ◌<◌, [], ◌∷◌, ◌++◌, Contains, length, replicate, IsSome, IsTrue, IfOk, IfSome, MatchOption, OnOk, vec_capacity, vec_len};
 ghost use Rattle.kn_io.specs.Causes.{Rose};
 ghost use Rattle.kn_replay.specs.Lines.{line_most};
-ghost use Rattle.kn_replay.specs.Reading.{Counts, HasLongLine, TakesLine, most_taken, unread};
+ghost use Rattle.kn_replay.specs.Reading.{Counts, HasLongLine, TakesLine, TakesPart, most_taken, unread};
 
 use crate::input::Input;
 use kn_io::{Failed, Source};
@@ -77,6 +77,10 @@ pub fn read_line<S: Source>(
     ensures long { result ≡ Err NoLine.TooLong → HasLongLine (unread input.old (S.left source.old)) }
     ensures fault { result ≡ Err NoLine.Fault → Rose (S.Faulty.faults source.old) (S.Faulty.faults source.new) ⊎ (input.new.taken ≡ most_taken) }
 
+    // A fault comes amid a line, where no byte is ahead, or after 2^56 bytes.
+    ensures amid { result ≡ Err NoLine.Fault → TakesPart (unread input.old (S.left source.old)) (unread input.new (S.left source.new)) }
+    ensures spent { result ≡ Err NoLine.Fault → (input.new.ahead ≡ []) ⊎ (input.new.taken ≡ most_taken) }
+
     // While an LF is ahead, the source is left alone.
     ensures ready { Contains input.old.ahead 10 → source.new ≡ source.old }
 
@@ -85,7 +89,7 @@ pub fn read_line<S: Source>(
     ensures count { OnOk result (input.old.taken + length line.new.items ≤ input.new.taken) }
     ensures grows { input.old.taken ≤ input.new.taken }
 
-    ensures never_falls { S.Faulty.faults source.old ≤ S.Faulty.faults source.new }
+    ensures later { S.Faulty.faults source.old ≤ S.Faulty.faults source.new }
     ensures apart { S.apart source.new ≡ S.apart source.old }
     ensures capacity { line_most ≤ vec_capacity line.new }
 {
