@@ -8,7 +8,7 @@ use kn_io::{Failed, Source};
 use std::marker::Model;
 
 /// How many bytes may be taken of one input.
-const MOST_TAKEN: u64 = 1 << 56;
+pub const MOST_TAKEN: u64 = 1 << 56;
 
 /// The bytes that were read ahead of what was taken, and the count of the bytes taken.
 #[derive(Drop)]
