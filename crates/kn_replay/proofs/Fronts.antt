@@ -1,9 +1,11 @@
 -- The first line of an input, of which some bytes were taken.
-use Rattle.std.proofs.Common.{◌≡◌, ◌≢◌, ◌<◌, ◌+◌, ℕ, zero, suc, Bool, true, false, List, [], ◌∷◌, ◌++◌, length, replicate, length-append, append_assoc, append-nil, refl, sym, ap, ◌∙◌, subst, arith, not}
+use Rattle.std.proofs.Common.{◌≡◌, ◌≢◌, ◌<◌, ◌+◌, ℕ, zero, suc, Bool, true, false, List, [], ◌∷◌, ◌++◌, length, replicate, length-append, append_assoc, append-nil, refl, sym, ap, ◌∙◌, subst, arith, not, inl, inr}
 use Rattle.std.specs.Prelude.{Option, None, Some, ◌==◌, ⊤, Contains, slice_index_or}
 use Rattle.std.proofs.lemmas.List.{replicate_more, length-replicate}
+use Rattle.std.proofs.lemmas.List.Elements.{Contains-push_cases}
+use Rattle.std.specs.Io.KnownBytes.{Keeps}
 use Rattle.kn_replay.specs.Lines.{begins_with_lf, without_crs, onto_first, lines_at_lf, lines}
-use Rattle.kn_replay.specs.Reading.{TakesByte, TakesLine, HasLongLine, Counts}
+use Rattle.kn_replay.specs.Reading.{TakesByte, TakesLine, TakesPart, HasLongLine, Counts}
 
 -- these bytes before the first line
 unfoldable pub front : List ℕ → List (List ℕ) → List (List ℕ)
@@ -224,3 +226,28 @@ pub contains_rest : (xs ys : List ℕ) (b : ℕ) → xs ≡ b ∷ ys → b ≢ 1
 contains_rest xs ys b e other h =
     let at : Contains (b ∷ ys) 10 = subst (λ (m : List ℕ). Contains m 10) e h in
     contains_cons b ys at.0 other at.1 at.2
+
+-- no LF was taken
+
+pub part_begin : (a : Option (List ℕ)) → TakesPart a a
+part_begin None = tt
+part_begin (Some xs) = ([], refl, λ h. omega (arith, h.1))
+
+part-byte : (part ys zs : List ℕ) (x : ℕ) → ys ≡ x ∷ zs → part ++ ys ≡ (part ++ x ∷ []) ++ zs
+part-byte part ys zs x e = ap (λ (m : List ℕ). part ++ m) e ∙ sym (append_assoc part (x ∷ []) zs)
+
+no_lf-more : (part : List ℕ) (x : ℕ) → ¬ Contains part 10 → x ≢ 10 → ¬ Contains (part ++ x ∷ []) 10
+no_lf-more part x none other h = elim (Contains-push_cases part x 10 h) [ inl before ↦ none before | inr is ↦ other is ]
+
+pub part_byte : (a b c : Option (List ℕ)) (x : ℕ) → TakesPart a b → TakesByte b c (Some x) → x ≢ 10 → TakesPart a c
+part_byte None b c x h k other = tt
+part_byte (Some xs) None c x h k other = absurd h
+part_byte (Some xs) (Some ys) None x h k other = absurd k
+part_byte (Some xs) (Some ys) (Some zs) x h k other =
+    (h.0 ++ x ∷ [], h.1 ∙ part-byte h.0 ys zs x k, no_lf-more h.0 x h.2 other)
+
+pub part_stay : (a b c : Option (List ℕ)) → TakesPart a b → Keeps b c → TakesPart a c
+part_stay None b c h k = tt
+part_stay (Some xs) None c h k = absurd h
+part_stay (Some xs) (Some ys) None h k = absurd k
+part_stay (Some xs) (Some ys) (Some zs) h k = (h.0, h.1 ∙ ap (λ (m : List ℕ). h.0 ++ m) (sym k), h.2)

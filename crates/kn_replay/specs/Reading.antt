@@ -1,5 +1,5 @@
 -- An input that is taken byte by byte, and line by line. Of a source that does not tell its bytes nothing is said.
-use Rattle.std.specs.Prelude.{◌≡◌, ℕ, ◌+◌, ◌^◌, ◌<◌, Bool, true, false, List, [], ◌∷◌, length, Option, None, Some, ⊤}
+use Rattle.std.specs.Prelude.{◌≡◌, ℕ, ◌+◌, ◌^◌, ◌<◌, Bool, true, false, List, [], ◌∷◌, ◌++◌, Contains, length, Option, None, Some, ⊤}
 use Rattle.std.specs.Io.KnownBytes.{prepend_known}
 use Rattle.kn_replay.specs.Lines.{lines, line_most}
 
@@ -34,6 +34,12 @@ TakesLine None new more line = ⊤
 TakesLine (Some xs) None more line = ⊥
 TakesLine (Some xs) (Some ys) true line = lines xs ≡ line ∷ lines ys
 TakesLine (Some xs) (Some ys) false line = xs ≡ []
+
+-- some first bytes were taken, maybe none, but no LF
+abbrev pub TakesPart : Option (List ℕ) → Option (List ℕ) → Type 0
+TakesPart None new = ⊤
+TakesPart (Some xs) None = ⊥
+TakesPart (Some xs) (Some ys) = (part : List ℕ) × (xs ≡ part ++ ys) × (¬ Contains part 10)
 
 -- the first line is longer than a line may be
 abbrev pub HasLongLine : Option (List ℕ) → Type 0

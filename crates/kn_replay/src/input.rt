@@ -8,7 +8,7 @@ use kn_io::{Failed, Source};
 use std::marker::Model;
 
 /// How many bytes may be taken of one input.
-const MOST_TAKEN: u64 = 1 << 56;
+pub const MOST_TAKEN: u64 = 1 << 56;
 
 /// The bytes that were read ahead of what was taken, and the count of the bytes taken.
 #[derive(Drop)]
@@ -57,9 +57,10 @@ impl Input {
         ensures failed { OnErr result (self.new ≡ self.old) }
         ensures left { OnErr result (Keeps (unread self.old (S.left source.old)) (unread self.new (S.left source.new))) }
         ensures cause { OnErr result (Rose (S.Faulty.faults source.old) (S.Faulty.faults source.new) ⊎ (self.new.taken ≡ most_taken)) }
+        ensures spent { OnErr result ((self.new.ahead ≡ []) ⊎ (self.new.taken ≡ most_taken)) }
         ensures full { self.old.taken ≡ most_taken → IsErr result }
         ensures few { self.new.taken ≤ most_taken }
-        ensures never_falls { S.Faulty.faults source.old ≤ S.Faulty.faults source.new }
+        ensures later { S.Faulty.faults source.old ≤ S.Faulty.faults source.new }
         ensures apart { S.apart source.new ≡ S.apart source.old }
     {
         if self.taken == MOST_TAKEN {

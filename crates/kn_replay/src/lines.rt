@@ -2,9 +2,9 @@
 ghost use Rattle.std.specs.Prelude.{◌≡◌, ◌≢◌, ◌↔◌, ◌⊎◌, ◌+◌, ◌≤◌, ◌<◌, [], ◌∷◌, ◌++◌, Contains, length, replicate, IsSome, IsTrue, IfOk, IfSome, MatchOption, OnOk, vec_capacity, vec_len};
 ghost use Rattle.kn_io.specs.Causes.{Rose};
 ghost use Rattle.kn_replay.specs.Lines.{line_most};
-ghost use Rattle.kn_replay.specs.Reading.{Counts, HasLongLine, TakesLine, most_taken, unread};
+ghost use Rattle.kn_replay.specs.Reading.{Counts, HasLongLine, TakesLine, TakesPart, most_taken, unread};
 
-use crate::input::Input;
+use crate::input::{Input, MOST_TAKEN};
 use kn_io::{Failed, Source};
 
 /// How long a line may be, in bytes without its end.
@@ -13,9 +13,9 @@ const LINE_MOST: usize = 65536;
 /// Why no line was read.
 #[derive(Clone, Copy, Debug, PartialEq, Eq)]
 pub enum NoLine {
-    /// The source failed, or 2^56 bytes were taken.
+    /// The source failed, or 2^56 bytes were taken of it. What was read of the line is lost.
     Fault,
-    /// The line has more than 65,536 bytes without its end.
+    /// The line has more than 65,536 bytes without its end. Some first bytes of it are lost.
     TooLong,
 }
 
@@ -36,8 +36,10 @@ fn add_crs(line: &mut Vec<u8>, crs: u64) -> bool
     true
 }
 
-/// Adds one byte of content, and before it the CRs that came since the one before. A CR itself waits
-/// for what follows it. Says how many CRs wait then, or nothing where the line is too long.
+/// Adds one byte that is no LF to a line behind which this many CRs wait for what follows them.
+///
+/// A CR waits too. Another byte is content, and so are the CRs before it. It answers how many CRs
+/// wait then, or nothing where the line is too long.
 fn add(line: &mut Vec<u8>, crs: u64, byte: u8) -> Option<u64>
     requires room { line_most ≤ vec_capacity line.old }
     requires short { vec_len line.old ≤ line_most }
@@ -77,6 +79,10 @@ pub fn read_line<S: Source>(
     ensures long { result ≡ Err NoLine.TooLong → HasLongLine (unread input.old (S.left source.old)) }
     ensures fault { result ≡ Err NoLine.Fault → Rose (S.Faulty.faults source.old) (S.Faulty.faults source.new) ⊎ (input.new.taken ≡ most_taken) }
 
+    // At a fault no LF was taken, and nothing is ahead unless 2^56 bytes were taken.
+    ensures amid { result ≡ Err NoLine.Fault → TakesPart (unread input.old (S.left source.old)) (unread input.new (S.left source.new)) }
+    ensures spent { result ≡ Err NoLine.Fault → (input.new.ahead ≡ []) ⊎ (input.new.taken ≡ most_taken) }
+
     // While an LF is ahead, the source is left alone.
     ensures ready { Contains input.old.ahead 10 → source.new ≡ source.old }
 
@@ -85,13 +91,13 @@ pub fn read_line<S: Source>(
     ensures count { OnOk result (input.old.taken + length line.new.items ≤ input.new.taken) }
     ensures grows { input.old.taken ≤ input.new.taken }
 
-    ensures never_falls { S.Faulty.faults source.old ≤ S.Faulty.faults source.new }
+    ensures later { S.Faulty.faults source.old ≤ S.Faulty.faults source.new }
     ensures apart { S.apart source.new ≡ S.apart source.old }
     ensures capacity { line_most ≤ vec_capacity line.new }
 {
     line.clear();
     let mut crs = 0;
-    for _ in 0..1u64 << 56 {
+    for _ in 0..MOST_TAKEN {
         match input.next(source) {
             Ok(Some(b'\n')) => return Ok(true),
             Ok(Some(byte)) => match add(line, crs, byte) {
