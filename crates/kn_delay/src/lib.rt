@@ -1,7 +1,7 @@
 //! The delay before fewer pods are asked for, over the list of all decisions.
 #![tactic(auto)]
 
-ghost use Rattle.std.specs.Prelude.{◌≡◌, ◌≤◌, ◌+◌, List, [], ◌∷◌, reverse, IfOk, OnOk, OnErr};
+ghost use Rattle.std.specs.Prelude.{◌≡◌, ◌≤◌, ◌+◌, List, [], ◌∷◌, reverse, IfOk, OnOk, OnErr, IsOk};
 ghost use Rattle.kn_scaling.specs.declared.delay.Asked.{Asked as AskedValue};
 ghost use Rattle.kn_scaling.specs.Delay.{delayed_count};
 ghost use Rattle.kn_delay.specs.Stands.{StandsFor, asked_by};
@@ -47,6 +47,7 @@ impl Delay {
         ensures stands { (earlier : List AskedValue) → StandsFor self.old earlier → StandsFor self.new earlier }
         ensures seconds { self.new.seconds ≡ self.old.seconds }
         ensures kept { self.old.spare ≤ self.new.spare }
+        ensures succeeds { takes ≤ self.old.spare → IsOk result }
         ensures err { OnErr result (self.new ≡ self.old) }
     {
         match self.asked.reserve(takes as usize) {
