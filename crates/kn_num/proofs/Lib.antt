@@ -1,3 +1,4 @@
 pub mod Numbers
 pub mod Durations
 pub mod Quotients
+pub mod Spelling

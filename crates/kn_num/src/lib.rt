@@ -8,7 +8,7 @@ mod quotient;
 
 pub use duration::read_duration_ms;
 pub use error::NumError;
-pub use number::{read_milli, read_whole};
+pub use number::{numbers_are_spelled, read_milli, read_whole};
 pub use quotient::{ceil_div, floor_div};
 
 #[cfg(test)]

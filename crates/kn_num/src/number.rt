@@ -1,6 +1,10 @@
 //! Numbers: digits, then perhaps a point and up to three decimals.
 ghost use Rattle.std.specs.Prelude.{◌≡◌, ◌+◌, ◌-◌, ◌*◌, ◌^◌, ◌<◌, ◌≤◌, min, length, IfOk};
 ghost use Rattle.kn_num.specs.Number.{digit_count, decimal_value, number_at, milli_of, whole_of};
+ghost use Rattle.std.specs.Prelude.{ℕ, List, Ok};
+ghost use Rattle.kn_event.specs.Defaults.{milli};
+ghost use Rattle.kn_event.specs.declared.units.Milli.{Milli};
+ghost use Rattle.kn_num.specs.Spelling.{IsNumber};
 ghost use Rattle.kn_num.specs.Capped.{above, capped};
 
 use crate::error::NumError;
@@ -55,6 +59,16 @@ pub fn read_whole(text: &[u8]) -> Result<u64, NumError>
     }
     Ok(whole)
 }
+
+/// What is read as a number is spelled as one, and what is spelled as one is read, up to 10^9. A text has at most one
+/// value.
+pub fn numbers_are_spelled()
+    ensures read { (text : List ℕ) (value : Milli) → milli_of text ≡ Ok value
+        → IsNumber text value.0 × (value.0 ≤ 1000000000000) }
+    ensures spelled { (text : List ℕ) (thousandths : ℕ) → IsNumber text thousandths
+        → thousandths ≤ 1000000000000 → milli_of text ≡ Ok (milli thousandths) }
+    ensures one { (text : List ℕ) (a : ℕ) (b : ℕ) → IsNumber text a → IsNumber text b → a ≡ b }
+{}
 
 /// The number at the front of this text, whose first byte stands at `place`. One above the greatest stands for all
 /// that is too large.
