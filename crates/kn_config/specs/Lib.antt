@@ -1,0 +1,4 @@
+pub mod Json
+pub mod Keys
+pub mod Values
+pub mod Config
