@@ -34,7 +34,7 @@ pub fn text<'v>(object: &'v Value, name: &str, key: Key) -> Result<Option<&'v st
 }
 
 /// The amount, where it lies in the key's range.
-fn in_range(key: Key, amount: u64) -> Result<u64, KeyError>
+pub fn in_range(key: Key, amount: u64) -> Result<u64, KeyError>
     ensures value { result ≡ in_range key amount }
     ensures range { IfOk result (λ amount. IsInRange key amount) }
 {

@@ -1,0 +1,4 @@
+pub mod Members
+pub mod Annotations
+pub mod Amounts
+pub mod Revision
