@@ -2,7 +2,6 @@ use super::*;
 use kn_config::{Config, Key};
 use kn_event::{Burst, Frac, Kind, Milli, Slots, Spec};
 use kn_num::NumError;
-use std::process::Abort;
 
 const SLOTS: Slots = Slots {
     depth: 10_000,
@@ -168,51 +167,77 @@ fn each_annotation(rt: HostRuntime) {
     let config = Config::read(rt.alloc(), b"{}").expect(&rt, "the default configuration");
     match resolve(rt.alloc(), &config, HELLO.as_bytes(), SLOTS) {
         Ok(spec) => {
-            assert_eq!(rt; spec.kind, Kind::Kpa);
-            assert_eq!(rt; spec.namespace.bytes(), b"default".as_slice());
-            assert_eq!(rt; spec.name.bytes(), b"hello-00001".as_slice());
-            assert_eq!(rt; spec.cc, 20);
-            assert_eq!(rt; spec.panic_threshold, Milli(150_000));
-            assert_eq!(rt; spec.up, Milli(1_000_000));
-            assert_eq!(rt; spec.down, Milli(2_000));
-            assert_eq!(rt; spec.activation, 3);
-            assert_eq!(rt; spec.delay_s, 90);
-            assert_eq!(rt; spec.burst, Burst::Unlimited);
-            assert_eq!(rt; spec.min, 2);
-            assert_eq!(rt; spec.max, 5);
-            assert_eq!(rt; spec.initial, 7);
-            assert!(rt; spec.to_zero);
-            assert_eq!(rt; spec.grace_ms, 30_000);
-            assert_eq!(rt; spec.retention_ms, 65_500);
-            assert_eq!(rt; spec.timeout_ms, 600_000);
-            assert_eq!(rt; spec.slots, SLOTS);
+            let Spec {
+                kind,
+                namespace,
+                name,
+                cc,
+                total: _,
+                target: _,
+                stable_s: _,
+                panic_s: _,
+                panic_threshold,
+                up,
+                down,
+                activation,
+                delay_s,
+                burst,
+                min,
+                max,
+                initial,
+                to_zero,
+                grace_ms,
+                retention_ms,
+                timeout_ms,
+                slots,
+            } = spec;
+            assert!(rt; namespace.bytes() == b"default".as_slice());
+            assert!(rt; name.bytes() == b"hello-00001".as_slice());
+            assert!(rt;
+                kind == Kind::Kpa && burst == Burst::Unlimited && to_zero && slots == SLOTS
+            );
+            assert_eq!(rt;
+                (panic_threshold, up, down),
+                (Milli(150_000), Milli(1_000_000), Milli(2_000))
+            );
+            assert_eq!(rt; (cc, activation, min, max, initial), (20, 3, 2, 5, 7));
+            assert_eq!(rt;
+                (delay_s, grace_ms, retention_ms, timeout_ms),
+                (90, 30_000, 65_500, 600_000)
+            );
         }
         Err(fault) => assert!(rt; false, "{fault:?}"),
     }
 }
 
-/// The parts that a setup of fixed pods doesn't give.
-fn same_defaults(rt: &impl Abort, scaled: &Spec, fixed: &Spec) {
-    assert_eq!(rt; scaled.namespace.bytes(), fixed.namespace.bytes());
-    assert_eq!(rt; scaled.name.bytes(), fixed.name.bytes());
-    assert_eq!(rt; scaled.cc, fixed.cc);
-    assert_eq!(rt; scaled.total, fixed.total);
-    assert_eq!(rt; scaled.target, fixed.target);
-    assert_eq!(rt; scaled.stable_s, fixed.stable_s);
-    assert_eq!(rt; scaled.panic_s, fixed.panic_s);
-    assert_eq!(rt; scaled.panic_threshold, fixed.panic_threshold);
-    assert_eq!(rt; scaled.up, fixed.up);
-    assert_eq!(rt; scaled.down, fixed.down);
-    assert_eq!(rt; scaled.activation, fixed.activation);
-    assert_eq!(rt; scaled.delay_s, fixed.delay_s);
-    assert_eq!(rt; scaled.burst, fixed.burst);
-    assert_eq!(rt; scaled.min, fixed.min);
-    assert_eq!(rt; scaled.max, fixed.max);
-    assert_eq!(rt; scaled.initial, fixed.initial);
-    assert_eq!(rt; scaled.to_zero, fixed.to_zero);
-    assert_eq!(rt; scaled.grace_ms, fixed.grace_ms);
-    assert_eq!(rt; scaled.retention_ms, fixed.retention_ms);
-    assert_eq!(rt; scaled.timeout_ms, fixed.timeout_ms);
+/// Whether the parts agree that a setup of fixed pods doesn't give.
+fn same_defaults(a: &Spec, b: &Spec) -> bool {
+    a.cc == b.cc
+        && a.total == b.total
+        && a.target == b.target
+        && same_windows(a, b)
+        && same_bounds(a, b)
+}
+
+fn same_windows(a: &Spec, b: &Spec) -> bool {
+    a.stable_s == b.stable_s
+        && a.panic_s == b.panic_s
+        && a.panic_threshold == b.panic_threshold
+        && a.up == b.up
+        && a.down == b.down
+        && a.burst == b.burst
+        && a.timeout_ms == b.timeout_ms
+}
+
+fn same_bounds(a: &Spec, b: &Spec) -> bool {
+    a.activation == b.activation
+        && a.delay_s == b.delay_s
+        && a.min == b.min
+        && a.max == b.max
+        && a.initial == b.initial
+        && a.to_zero == b.to_zero
+        && a.grace_ms == b.grace_ms
+        && a.retention_ms == b.retention_ms
 }
 
 #[test]
@@ -230,9 +255,10 @@ fn defaults_are_those_of_fixed_pods(rt: HostRuntime) {
         ),
     ];
     for (cc, text) in rows {
+        let scaled = resolve(rt.alloc(), &config, text.as_bytes(), SLOTS);
         let fixed = Spec::fixed(rt.alloc(), cc, 1, 300, SLOTS);
-        match (resolve(rt.alloc(), &config, text.as_bytes(), SLOTS), fixed) {
-            (Ok(scaled), Ok(fixed)) => same_defaults(&rt, &scaled, &fixed),
+        match (scaled, fixed) {
+            (Ok(scaled), Ok(fixed)) => assert!(rt; same_defaults(&scaled, &fixed), "{text}"),
             _ => assert!(rt; false, "{text}"),
         }
     }
