@@ -2,3 +2,4 @@ pub mod Json
 pub mod Keys
 pub mod Values
 pub mod Config
+pub mod Laws

@@ -1,9 +1,10 @@
 //! The settings of a ConfigMap, each fault the first one.
-ghost use Rattle.std.specs.Prelude.{◌≡◌, IfOk};
-ghost use Rattle.serde_json.specs.Data.{Data};
+ghost use Rattle.std.specs.Prelude.{◌≡◌, Ok, IfOk};
+ghost use Rattle.serde_json.specs.Data.{Data, null};
 ghost use Rattle.serde_json.specs.View.{view};
 ghost use Rattle.kn_config.specs.Keys.{IsInRange};
 ghost use Rattle.kn_config.specs.Values.{IsBurstOf};
+ghost use Rattle.kn_config.specs.Laws.{HaveSame, setting_keys, default_config};
 ghost use Rattle.kn_config.specs.Config.{number_at, percentage_at, burst_at, duration_at, seconds_at, count_at, flag_at, targets_of, windows_of, idling_of, scales_of, settings_of, config_in, config_of, Gives, IsConfig, AreTargets, AreWindows, IsIdling, AreScales};
 
 use crate::json::{JsonError, read_json};
@@ -185,6 +186,12 @@ impl Config {
         }
     }
 }
+
+/// Settings depend on the table's keys alone, and without any of them they are the defaults.
+pub fn other_keys_are_ignored()
+    ensures others { (a : Data) (b : Data) → HaveSame setting_keys a b → settings_of a ≡ settings_of b }
+    ensures defaults { settings_of null ≡ Ok default_config }
+{}
 
 /// The settings in a ConfigMap's value.
 fn config_in(map: &Value) -> Result<Config, ConfigError>

@@ -6,7 +6,7 @@ mod json;
 mod key;
 pub mod value;
 
-pub use config::{Config, ConfigError};
+pub use config::{Config, ConfigError, other_keys_are_ignored};
 pub use json::{JsonError, read_json};
 pub use key::{Key, Rule};
 pub use value::KeyError;

@@ -15,7 +15,7 @@ judged_after total (Ok rest) = cond (nat_lt longest (total + rest)) (Err TooLarg
 judged_after total (Err fault) = Err fault
 
 -- a part's milliseconds before the rest
-abbrev with_part : ℕ → Result ℕ NumError → Result ℕ NumError
+abbrev pub with_part : ℕ → Result ℕ NumError → Result ℕ NumError
 with_part ms rest = rest >>= λ more. Ok (ms + more)
 
 -- bytes of the part before are passed over

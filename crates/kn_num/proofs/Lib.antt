@@ -2,3 +2,4 @@ pub mod Numbers
 pub mod Durations
 pub mod Quotients
 pub mod Spelling
+pub mod DurationSpelling

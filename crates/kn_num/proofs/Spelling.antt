@@ -12,7 +12,7 @@ use Rattle.kn_event.specs.declared.units.Milli.{Milli}
 use Rattle.kn_num.specs.declared.number.Number.{Number}
 use Rattle.kn_num.specs.declared.error.NumError.{NumError}
 use Rattle.kn_num.specs.declared.error.NumError.TheVariants.{BadByte, TooLarge}
-use Rattle.kn_num.specs.Number.{◌>>=◌, digit_count, decimal_value, number_at, thousandths_of, milli_of}
+use Rattle.kn_num.specs.Number.{◌>>=◌, digit_count, decimal_value, number_at, thousandths_of, milli_of, whole_of}
 use Rattle.kn_num.specs.Spelling.{IsDigits, IsPlain, HasDecimals, IsNumber}
 
 -- the digits that a text begins with are digits
@@ -152,7 +152,7 @@ digits_then digits rest all none =
     prefix_len-append is_ascii_digit digits rest ∙ rw (e, none) (omega arith)
 
 -- a number's thousandths and the bytes that it takes are found
-pub Reads : ℕ → List ℕ → ℕ → ℕ → Type 0
+unfoldable pub Reads : ℕ → List ℕ → ℕ → ℕ → Type 0
 Reads place text thousandths taken = (n : Number) × ((number_at place text ≡ Ok n) × (thousandths_of n ≡ thousandths) × (n.length ≡ taken))
 
 plain_is_read : (place : ℕ) (front rest : List ℕ) (v : ℕ) → digit_count rest ≡ 0 → starts_with nat_eq rest (codes ".") ≡ false → IsPlain front v → Reads place (front ++ rest) v (length front)
@@ -207,3 +207,35 @@ one_value text v w first second =
     let b = number_is_read 0 text [] w refl refl second in
     let e : a.0 ≡ b.0 = cc in
     sym a.1.1 ∙ ap thousandths_of e ∙ b.1.1
+
+-- the same of whole numbers
+pub read_whole_is_spelled : (text : List ℕ) (n : ℕ) → whole_of text ≡ Ok n → IsDigits text × (n ≡ decimal_value text) × (n ≤ 1000000000)
+read_whole_is_spelled text n is =
+    elim (cases_Bool (nat_eq (length text) 0)) [
+      | inl none ↦ let i = rw none at is in absurd (cc)
+      | inr some ↦
+          let i = rw some at is in
+          elim (cases_Bool (nat_lt (digit_count text) (length text))) [
+            | inl early ↦ let j = rw early at i in absurd (cc)
+            | inr whole ↦
+                let j = rw whole at i in
+                elim (cases_Bool (nat_lt 1000000000 (decimal_value text))) [
+                  | inl large ↦ let k = rw large at j in absurd (cc)
+                  | inr fits ↦
+                      let k = rw fits at j in
+                      let e : decimal_value text ≡ n = cc in
+                      let small : decimal_value text ≤ 1000000000 = grind (arith, nat_tests) in
+                      let all : length text ≤ digit_count text = grind (arith, nat_tests) in
+                      let same : take (digit_count text) text ≡ text = take_all _ _ all in
+                      (record { some = some_counted (length text) some; all = rw same at (front_digits text) }, sym e, subst (λ m. m ≤ 1000000000) e small)
+                ]
+          ]
+    ]
+
+pub spelled_whole_is_read : (text : List ℕ) → IsDigits text → decimal_value text ≤ 1000000000 → whole_of text ≡ Ok (decimal_value text)
+spelled_whole_is_read text digits fits =
+    let some : nat_eq (length text) 0 ≡ false = let h = digits.some in grind (arith, nat_tests) in
+    let count = all_counted text digits.all in
+    let whole : nat_lt (digit_count text) (length text) ≡ false = grind (arith, nat_tests) in
+    let small : nat_lt 1000000000 (decimal_value text) ≡ false = grind (arith, nat_tests) in
+    rw (some, whole, small) refl

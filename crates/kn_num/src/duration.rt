@@ -1,5 +1,7 @@
 //! Durations: `0`, or parts such as `1h` and `30s`.
 ghost use Rattle.std.specs.Prelude.{◌≡◌, ◌+◌, ◌^◌, ◌<◌, ◌≤◌, length, IfOk};
+ghost use Rattle.std.specs.Prelude.{ℕ, List, Ok};
+ghost use Rattle.kn_num.specs.Spelling.{IsDuration};
 ghost use Rattle.kn_num.specs.Capped.{above};
 ghost use Rattle.kn_num.specs.Duration.{unit_at, unit_ms, unit_length, part_at, part_ms, duration_ms_of};
 
@@ -70,6 +72,16 @@ pub fn read_duration_ms(text: &[u8]) -> Result<u64, NumError>
     }
     Ok(total)
 }
+
+/// What is read as a duration is spelled as one, and what is spelled as one is read, up to 2^42 ms. A text has at most
+/// one value.
+pub fn durations_are_spelled()
+    ensures read { (text : List ℕ) (ms : ℕ) → duration_ms_of text ≡ Ok ms
+        → IsDuration text ms × (ms ≤ 4398046511104) }
+    ensures spelled { (text : List ℕ) (ms : ℕ) → IsDuration text ms
+        → ms ≤ 4398046511104 → duration_ms_of text ≡ Ok ms }
+    ensures one { (text : List ℕ) (a : ℕ) (b : ℕ) → IsDuration text a → IsDuration text b → a ≡ b }
+{}
 
 /// The part at the front of this text, whose first byte stands at `place`.
 fn part_at(text: &[u8], place: usize) -> Result<Part, NumError>

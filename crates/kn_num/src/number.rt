@@ -4,7 +4,7 @@ ghost use Rattle.kn_num.specs.Number.{digit_count, decimal_value, number_at, mil
 ghost use Rattle.std.specs.Prelude.{ℕ, List, Ok};
 ghost use Rattle.kn_event.specs.Defaults.{milli};
 ghost use Rattle.kn_event.specs.declared.units.Milli.{Milli};
-ghost use Rattle.kn_num.specs.Spelling.{IsNumber};
+ghost use Rattle.kn_num.specs.Spelling.{IsDigits, IsNumber};
 ghost use Rattle.kn_num.specs.Capped.{above, capped};
 
 use crate::error::NumError;
@@ -67,6 +67,10 @@ pub fn numbers_are_spelled()
         → IsNumber text value.0 × (value.0 ≤ 1000000000000) }
     ensures spelled { (text : List ℕ) (thousandths : ℕ) → IsNumber text thousandths
         → thousandths ≤ 1000000000000 → milli_of text ≡ Ok (milli thousandths) }
+    ensures whole { (text : List ℕ) (value : ℕ) → whole_of text ≡ Ok value
+        → IsDigits text × (value ≡ decimal_value text) × (value ≤ 1000000000) }
+    ensures digits { (text : List ℕ) → IsDigits text
+        → decimal_value text ≤ 1000000000 → whole_of text ≡ Ok (decimal_value text) }
     ensures one { (text : List ℕ) (a : ℕ) (b : ℕ) → IsNumber text a → IsNumber text b → a ≡ b }
 {}
 

@@ -4,6 +4,7 @@ ghost use Rattle.serde_json.specs.View.{view};
 ghost use Rattle.kn_event.specs.Ranges.{is_name, AreSlots, IsTotal};
 ghost use Rattle.kn_event.specs.Defaults.{scaling_target};
 ghost use Rattle.kn_config.specs.Config.{IsConfig};
+ghost use Rattle.kn_revision.specs.Laws.{DefaultsAreFixed};
 ghost use Rattle.kn_revision.specs.Amounts.{AreAmounts};
 ghost use Rattle.kn_revision.specs.Revision.{Gives, spec_of, spec_in, fault_of, parts_of, total_of, panic_seconds, is_rps};
 
@@ -23,7 +24,9 @@ use std::alloc::Global;
 pub fn resolve(alloc: Global, config: &Config, text: &[u8], slots: Slots) -> Result<Spec, SpecError>
     requires config { IsConfig config.now }
     requires slots { AreSlots slots }
-    ensures { Gives result (spec_of config.now text.now slots) }
+    ensures gives { Gives result (spec_of config.now text.now slots) }
+    ensures scaled { IfOk result (λ spec. spec.kind ≡ Kind.Kpa) }
+    ensures slots { IfOk result (λ spec. spec.slots ≡ slots) }
 {
     match read_json(alloc, text) {
         Ok(revision) => spec_in(alloc, config, &revision, slots),
@@ -31,6 +34,12 @@ pub fn resolve(alloc: Global, config: &Config, text: &[u8], slots: Slots) -> Res
         Err(JsonError::Memory) => Err(SpecError::Memory),
     }
 }
+
+/// A Revision without annotations has, over the default configuration, what a setup of fixed pods has in the fields that
+/// it doesn't give.
+pub fn defaults_are_those_of_fixed_pods()
+    ensures { DefaultsAreFixed }
+{}
 
 /// The specification of a Revision's value.
 #[tactic(auto, unfolding(crate::specs::Revision::spec_in))]
@@ -42,7 +51,9 @@ fn spec_in(
 ) -> Result<Spec, SpecError>
     requires config { IsConfig config.now }
     requires slots { AreSlots slots }
-    ensures { Gives result (spec_in config.now slots (view revision.now)) }
+    ensures gives { Gives result (spec_in config.now slots (view revision.now)) }
+    ensures scaled { IfOk result (λ spec. spec.kind ≡ Kind.Kpa) }
+    ensures slots { IfOk result (λ spec. spec.slots ≡ slots) }
 {
     let namespace = match name(revision, Field::Namespace) {
         Ok(namespace) => namespace,
@@ -105,7 +116,11 @@ fn spec(
     requires name { IsTrue (is_name name.now) }
     requires amounts { AreAmounts amounts }
     requires order { 0 < amounts.scale.max → amounts.scale.min ≤ amounts.scale.max }
-    ensures { MatchResult result (λ spec. spec ≡ parts_of config.now slots namespace.now name.now amounts) (λ fault. fault ≡ SpecError.Memory) }
+    ensures value { MatchResult result
+        (λ spec. spec ≡ parts_of config.now slots namespace.now name.now amounts)
+        (λ fault. fault ≡ SpecError.Memory) }
+    ensures scaled { IfOk result (λ spec. spec.kind ≡ Kind.Kpa) }
+    ensures slots { IfOk result (λ spec. spec.slots ≡ slots) }
 {
     let Ok(namespace) = Vec::from_slice(alloc, namespace.as_bytes()) else {
         return Err(SpecError::Memory);
