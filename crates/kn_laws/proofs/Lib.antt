@@ -1,0 +1,5 @@
+pub mod Flags
+pub mod Members
+pub mod Requests
+pub mod Pods
+pub mod Views
