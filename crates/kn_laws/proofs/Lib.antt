@@ -3,3 +3,4 @@ pub mod Members
 pub mod Requests
 pub mod Pods
 pub mod Views
+pub mod Numbers
