@@ -4,3 +4,5 @@ pub mod Requests
 pub mod Pods
 pub mod Views
 pub mod Numbers
+pub mod PodNumbers
+pub mod Appends

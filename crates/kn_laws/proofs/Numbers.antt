@@ -299,7 +299,7 @@ moved_kinds (row.Direct q p) r h = inr h
 moved_kinds _ r h = absurd (cc)
 
 -- one number more in a list of distinct ones, where there is one
-distinct-option : (xs : List ℕ) (o : Option ℕ) → AreDistinct xs → ((r : ℕ) → o ≡ Some r → contains r xs ≡ false) → AreDistinct (xs ++ cons_option o [])
+pub distinct-option : (xs : List ℕ) (o : Option ℕ) → AreDistinct xs → ((r : ℕ) → o ≡ Some r → contains r xs ≡ false) → AreDistinct (xs ++ cons_option o [])
 distinct-option xs None d fresh = rw (append-nil xs) d
 distinct-option xs (Some r) d fresh = distinct-push xs r d (fresh r refl)
 
