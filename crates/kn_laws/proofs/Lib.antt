@@ -6,3 +6,4 @@ pub mod Views
 pub mod Numbers
 pub mod PodNumbers
 pub mod Appends
+pub mod Steps
