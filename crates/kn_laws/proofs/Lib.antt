@@ -7,3 +7,5 @@ pub mod Numbers
 pub mod PodNumbers
 pub mod Appends
 pub mod Steps
+pub mod Choosing
+pub mod PodSteps
