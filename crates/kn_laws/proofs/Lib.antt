@@ -9,3 +9,7 @@ pub mod Appends
 pub mod Steps
 pub mod Choosing
 pub mod PodSteps
+pub mod Kept
+pub mod Reacting
+pub mod Scaling
+pub mod Running

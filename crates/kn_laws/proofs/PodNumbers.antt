@@ -106,7 +106,7 @@ ArePodsNumbered-push c e num keeps = record {
     come p (inl h) = let less = num.come p h in omega arith
     come p (inr h) = keeps.come p (says-true (pod_named_by e.row) p h)
 
-next_unnamed_pod : (c : Trace) → ArePodsNumbered c → contains (created c) (each_row pod_named_by c) ≡ false
+pub next_unnamed_pod : (c : Trace) → ArePodsNumbered c → contains (created c) (each_row pod_named_by c) ≡ false
 next_unnamed_pod c num = false_unless (contains (created c) (each_row pod_named_by c)) (λ e. let less = num.come (created c) e in absurd (omega arith))
 
 pub created_comes : (c : Trace) (p : ℕ) → ArePodsNumbered c → contains p (each_row created_by c) ≡ true → p < created c
