@@ -13,8 +13,9 @@ use Rattle.kn_laws.specs.declared.admission.Request.{Request}
 use Rattle.kn_laws.specs.declared.admission.Pod.{Pod}
 use Rattle.kn_laws.specs.Rows.{named_by, pod_named_by}
 use Rattle.kn_laws.specs.Admission.{Admission, admission, stepped, live_requests, live_after, more_by, pods, pods_after, robin_after}
-use Rattle.kn_laws.specs.Made.{IsNumbered, ArePodsNumbered, IsProper, StandsFor}
+use Rattle.kn_laws.specs.Made.{IsMade, IsProper, StandsFor}
 use Rattle.kn_laws.proofs.Flags.{counted, length-push}
+use Rattle.kn_laws.proofs.Kept.{made_kept}
 use Rattle.kn_laws.proofs.Members.{other_number, or_parts, contains-filter, contains-within}
 use Rattle.kn_laws.proofs.Requests.{live_requests-quiet, live_requests-end, live_requests-assign, live_requests-run, live_requests-admit, live_requests-direct}
 use Rattle.kn_laws.proofs.Views.{live-requests}
@@ -112,3 +113,10 @@ StandsFor-push s a c t x h p =
       requests = IsNumbered-push c (entry t x) h.requests k;
       pods = ArePodsNumbered-push c (entry t x) h.pods l;
     }
+
+-- the record of a trace that was made stands for it
+pub stands_made : (s : Spec) (c : Trace) → IsMade s c → StandsFor (admission c) c
+stands_made s c made = let kept = made_kept s c made in record { kept = refl; requests = kept.requests; pods = kept.pods }
+
+pub admission_made : (s : Spec) (c : Trace) (t : ℕ) (x : Row) → IsMade s c → IsProper s c x → admission (c ++ entry t x ∷ []) ≡ stepped t x (admission c)
+admission_made s c t x made p = let kept = made_kept s c made in admission-push c t x (proper_keeps s c x kept.requests p) (proper_keeps_pods s c x kept.pods p)

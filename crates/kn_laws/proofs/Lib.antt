@@ -13,3 +13,4 @@ pub mod Kept
 pub mod Reacting
 pub mod Scaling
 pub mod Running
+pub mod Lawful

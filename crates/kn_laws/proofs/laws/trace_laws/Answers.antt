@@ -1,0 +1,6 @@
+use Rattle.kn_laws.proofs.Running.{made_trace}
+use Rattle.kn_laws.proofs.Lawful.{lawful_trace}
+use Rattle.kn_laws.proofs.laws.trace_laws.Goals as goal
+
+pub returns : goal.returns
+returns c = record { made = made_trace; lawful = lawful_trace }
