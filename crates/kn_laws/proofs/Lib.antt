@@ -14,3 +14,4 @@ pub mod Reacting
 pub mod Scaling
 pub mod Running
 pub mod Lawful
+pub mod Words
