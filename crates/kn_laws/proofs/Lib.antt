@@ -15,3 +15,4 @@ pub mod Scaling
 pub mod Running
 pub mod Lawful
 pub mod Words
+pub mod Queues

@@ -76,14 +76,14 @@ same-length (x ∷ xs) ys d e same =
 
 -- ---- the rows of one kind, as a filter of those of a wider one
 
-in_rest : (f : Row → Option ℕ) (r : ℕ) (e : Entry) (d : Trace) → contains r (each_row f d) ≡ true → contains r (each_row f (e ∷ d)) ≡ true
+pub in_rest : (f : Row → Option ℕ) (r : ℕ) (e : Entry) (d : Trace) → contains r (each_row f d) ≡ true → contains r (each_row f (e ∷ d)) ≡ true
 in_rest f r e d h = by (f e.row)
   where
     by : (o : Option ℕ) → contains r (cons_option o (each_row f d)) ≡ true
     by None = h
     by (Some q) = or-more (q == r) (contains r (each_row f d)) h
 
-in_first : (f : Row → Option ℕ) (r : ℕ) (e : Entry) (d : Trace) → f e.row ≡ Some r → contains r (each_row f (e ∷ d)) ≡ true
+pub in_first : (f : Row → Option ℕ) (r : ℕ) (e : Entry) (d : Trace) → f e.row ≡ Some r → contains r (each_row f (e ∷ d)) ≡ true
 in_first f r e d h = rw (h, same_number r) refl
 
 -- each row of g is f's or h's, the test holds of f's and not of h's: f's are those of g that pass
@@ -105,15 +105,15 @@ admitted-filter c num = split-filter admitted_by directed_by taken_by (λ r. con
 
 -- ---- what the flags of a request that was taken in say of each other
 
-record Agrees (a d s n : Bool) (o : Option ℕ) : Type 0 where
-  taken : (a || d) ≡ true
-  direct : d ≡ true → a ≡ false
-  assigned : s ≡ true → a ≡ true
-  ran : n ≡ true → d ≡ true
-  gone : o ≡ None → (s || d) ≡ false
-  there : (s || d) ≡ false → o ≡ None
+pub record Agrees (a d s n : Bool) (o : Option ℕ) : Type 0 where
+  pub taken : (a || d) ≡ true
+  pub direct : d ≡ true → a ≡ false
+  pub assigned : s ≡ true → a ≡ true
+  pub ran : n ≡ true → d ≡ true
+  pub gone : o ≡ None → (s || d) ≡ false
+  pub there : (s || d) ≡ false → o ≡ None
 
-agrees : (c : Trace) (r : ℕ) → IsNumbered c → contains r (each_row taken_by c) ≡ true → Agrees (contains r (each_row admitted_by c)) (contains r (each_row directed_by c)) (assigned c r) (has_run c r) (pod_of c r)
+pub agrees : (c : Trace) (r : ℕ) → IsNumbered c → contains r (each_row taken_by c) ≡ true → Agrees (contains r (each_row admitted_by c)) (contains r (each_row directed_by c)) (assigned c r) (has_run c r) (pod_of c r)
 unfolding assigned pod_of
 agrees c r num h = record {
   taken = sym (contains-split taken_by admitted_by directed_by taken_parts r c) ∙ h;
@@ -177,7 +177,7 @@ breaker_by false true false false false (Some p) x = refl
 -- ---- the lists
 
 -- the requests by place, as one filter of those that were taken in
-placed-filter : (test : Place → Bool) (c : Trace) → placed test c ≡ filter (λ r. not (ended c r) && test (place_of c r)) (each_row taken_by c)
+pub placed-filter : (test : Place → Bool) (c : Trace) → placed test c ≡ filter (λ r. not (ended c r) && test (place_of c r)) (each_row taken_by c)
 unfolding placed live
 placed-filter test c = sym (filter-both (λ r. not (ended c r)) (λ r. test (place_of c r)) (each_row taken_by c))
 
