@@ -16,3 +16,6 @@ pub mod Running
 pub mod Lawful
 pub mod Words
 pub mod Queues
+pub mod Rows
+pub mod Settled
+pub mod Settles

@@ -185,6 +185,11 @@ pub queued_member : (c : Trace) (p r : ℕ) → contains r (queued_at c p) ≡ t
 unfolding queued_at
 queued_member c p r h = let both = filter_member (has_not_begun c) r (each_row (brought_to p) c) h in (both.0, not_begun c r both.1)
 
+-- a queued request of a pod is there
+pub queued_at_pod : (c : Trace) (p r : ℕ) → contains r (queued_at c p) ≡ true → contains r (at_pod c p) ≡ true
+unfolding at_pod
+queued_at_pod c p r h = let both = queued_member c p r h in in_filter (λ r. not (ended c r)) r (each_row (brought_to p) c) both.0 (rw both.1.ended refl)
+
 -- a running request has begun, and has not ended
 pub running_parts : (c : Trace) (r : ℕ) → is_running c r ≡ true → ((assigned c r || has_run c r) ≡ true) × (ended c r ≡ false)
 unfolding is_running has_begun
