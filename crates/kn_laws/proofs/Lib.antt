@@ -19,3 +19,5 @@ pub mod Queues
 pub mod Rows
 pub mod Settled
 pub mod Settles
+pub mod Inert
+pub mod Beside

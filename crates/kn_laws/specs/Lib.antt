@@ -1,3 +1,4 @@
 pub mod Rows
 pub mod Admission
 pub mod Made
+pub mod Beside
