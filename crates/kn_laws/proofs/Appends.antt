@@ -1,5 +1,5 @@
 -- One more entry changes the record by one step.
-use Rattle.std.proofs.Common.{◌≡◌, ℕ, ◌+◌, Bool, true, false, not, List, [], ◌∷◌, ◌++◌, refl, ap, ◌∙◌, length, arith, append-nil, append_assoc, map}
+use Rattle.std.proofs.Common.{◌≡◌, ℕ, ◌+◌, false, not, List, [], ◌∷◌, ◌++◌, refl, ◌∙◌, length, arith, append-nil, append_assoc, map}
 use Rattle.std.specs.Prelude.{Option, None, Some, ◌==◌}
 use Rattle.std.specs.List.{list_any}
 use Rattle.kn_event.specs.declared.entry.Entry.{Entry}

@@ -6,10 +6,10 @@ use Rattle.kn_event.specs.declared.entry.Row.TheVariants as row
 use Rattle.kn_event.specs.declared.event.Event.{Event}
 use Rattle.kn_event.specs.declared.revision.Spec.{Spec}
 use Rattle.kn_trace.specs.Trace.{Trace, entry}
-use Rattle.kn_trace.specs.Events.{act_row, expiries, entries_of, react, trace_of}
+use Rattle.kn_trace.specs.Events.{act_row, expiries, trace_of}
 use Rattle.kn_trace.specs.Laws.{IsInert, IsSettled, is_refusal}
 use Rattle.kn_laws.specs.Admission.{Admission, admission, stepped}
-use Rattle.kn_laws.specs.Made.{Holds, IsMade, IsProper}
+use Rattle.kn_laws.specs.Made.{IsMade, IsProper}
 use Rattle.kn_laws.specs.Beside.{LeavesTheRest, refused}
 use Rattle.kn_laws.proofs.Kept.{Holds-append, made_kept}
 use Rattle.kn_laws.proofs.Appends.{admission_made}

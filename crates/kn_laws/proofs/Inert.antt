@@ -1,5 +1,5 @@
 -- A refused event leaves nothing to do.
-use Rattle.std.proofs.Common.{◌≡◌, ℕ, ◌<◌, Bool, true, false, not, cond, ◌&&◌, ◌||◌, List, [], ◌∷◌, ◌++◌, length, refl, sym, ap, ◌∙◌, arith, map, append-nil, append_assoc, nat_lt}
+use Rattle.std.proofs.Common.{◌≡◌, ℕ, ◌<◌, Bool, true, false, not, ◌&&◌, ◌||◌, List, [], ◌∷◌, ◌++◌, length, refl, sym, ap, ◌∙◌, arith, map, append-nil, append_assoc, nat_lt}
 use Rattle.std.specs.Prelude.{Option, None, Some, ◌==◌}
 use Rattle.std.specs.List.{filter}
 use Rattle.std.proofs.lemmas.Bool.{eqb-true}
@@ -14,25 +14,23 @@ use Rattle.kn_event.specs.declared.event.Event.{Event}
 use Rattle.kn_event.specs.declared.revision.Kind.{Kind}
 use Rattle.kn_event.specs.declared.revision.Kind.TheVariants as kind
 use Rattle.kn_event.specs.declared.revision.Spec.{Spec}
-use Rattle.kn_trace.specs.Rows.{admitted_by, assigned_by, brought_to, phase_by, taken_by}
+use Rattle.kn_trace.specs.Rows.{admitted_by, assigned_by, brought_to, phase_by}
 use Rattle.kn_trace.specs.Trace.{Trace, entry, assigned, at_pod, contains, draining, each_row, ended, has_begun, has_free_seat, has_not_begun, has_run, held, is_empty, is_held, is_running, limit_of, live_pods, queued_at, ready_pods, running_at, waiting}
 use Rattle.kn_trace.specs.Capacity.{capacity, in_use}
 use Rattle.kn_trace.specs.Scale.{is_same_phase, phase_of, where_true}
 use Rattle.kn_trace.specs.Settling.{assignments_of, held_assignments, next_choice, promotions, promotions_at, removals, settling}
-use Rattle.kn_trace.specs.Events.{act_row, act_rows, activation, before_settling, due, entries_of, expiries, react, scaler_rows}
+use Rattle.kn_trace.specs.Events.{act_row, act_rows, activation, before_settling, due, expiries, react, scaler_rows}
 use Rattle.kn_trace.specs.Laws.{IsInert, IsSettled, is_refusal}
 use Rattle.kn_laws.specs.Made.{Holds, IsMade, IsNumbered, IsProper}
 use Rattle.kn_laws.proofs.Members.{same_number, contains-filter, filter-others}
-use Rattle.kn_laws.proofs.Numbers.{IsIdle, false_unless, filter_member, first_member, in_filter, running_parts, waiting_member}
-use Rattle.kn_laws.proofs.Steps.{IsQuiet, others, view-same, view-less, ended-quiet, has_not_begun-push, held-quiet, in_use-quiet, is_held-push, is_quiet, is_running-push, queued_at-quiet, running_at-quiet}
-use Rattle.kn_laws.proofs.Flags.{or-false, ended-push}
-use Rattle.kn_laws.proofs.PodNumbers.{draining_live}
+use Rattle.kn_laws.proofs.Numbers.{IsIdle, filter_member, first_member, in_filter, running_parts, waiting_member}
+use Rattle.kn_laws.proofs.Steps.{IsQuiet, view-same, view-less, has_not_begun-push, held-quiet, in_use-quiet, is_held-push, is_quiet, is_running-push, queued_at-quiet, running_at-quiet}
+use Rattle.kn_laws.proofs.Flags.{ended-push}
 use Rattle.kn_laws.proofs.PodSteps.{SaysNoPod, draining-quiet, limit-quiet, ready-quiet, says_no_pod}
 use Rattle.kn_laws.proofs.Choosing.{next_choice-good}
 use Rattle.kn_laws.proofs.Kept.{made_kept, phase_of-push}
 use Rattle.kn_laws.proofs.Reacting.{expiries-hold, or-more}
 use Rattle.kn_laws.proofs.Settled.{capacity-same}
-use Rattle.kn_laws.proofs.Settles.{IsActive}
 
 -- d is c with fewer that wait
 pub record Waned (c d : Trace) : Type 0 where

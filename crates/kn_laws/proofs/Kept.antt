@@ -1,8 +1,7 @@
 -- What proper rows keep true of a trace, all along.
-use Rattle.std.proofs.Common.{◌≡◌, ℕ, ◌≤◌, ◌<◌, Bool, true, false, not, ◌&&◌, ◌||◌, ◌⊎◌, inl, inr, List, [], ◌∷◌, ◌++◌, length, map, max, refl, sym, ap, ◌∙◌, arith, append-nil, append_assoc}
+use Rattle.std.proofs.Common.{◌≡◌, ℕ, ◌≤◌, Bool, true, false, not, ◌&&◌, ◌||◌, ◌⊎◌, inl, inr, List, [], ◌∷◌, ◌++◌, map, max, refl, sym, ap, ◌∙◌, arith, append-nil, append_assoc}
 use Rattle.std.specs.Prelude.{Option, None, Some, ◌==◌, option_map, unwrap_or}
 use Rattle.std.specs.Bool.{then_some}
-use Rattle.std.specs.List.{filter}
 use Rattle.std.proofs.lemmas.Bool.{eqb-true}
 use Rattle.kn_event.specs.declared.entry.Entry.{Entry}
 use Rattle.kn_event.specs.declared.entry.Row.{Row}
@@ -11,11 +10,11 @@ use Rattle.kn_event.specs.declared.entry.Decision.{Decision}
 use Rattle.kn_event.specs.declared.revision.Spec.{Spec}
 use Rattle.kn_event.specs.Revision.{AreInRange}
 use Rattle.kn_trace.specs.Rows.{brought_to, created_by, decision_by, phase_by, removed_by}
-use Rattle.kn_trace.specs.Trace.{Trace, arrivals, assigned, at_pod, contains, created, each_row, ended, has_run, is_live_pod, last_of, live_pods}
+use Rattle.kn_trace.specs.Trace.{Trace, arrivals, assigned, at_pod, contains, created, each_row, ended, has_run, last_of, live_pods}
 use Rattle.kn_trace.specs.Scale.{opening_scale, phase_of, wanted}
 use Rattle.kn_laws.specs.Made.{Holds, IsMade, IsNumbered, ArePodsNumbered, IsProper, pods_most}
 use Rattle.kn_laws.proofs.Flags.{says, or_else, contains-push, ended-push, last_of-push}
-use Rattle.kn_laws.proofs.Members.{contains-filter, or-true}
+use Rattle.kn_laws.proofs.Members.{or-true}
 use Rattle.kn_laws.proofs.Numbers.{IsNumbered-push, and_parts, filter_member, in_filter, proper_keeps, says-true}
 use Rattle.kn_laws.proofs.PodNumbers.{ArePodsNumbered-push, proper_keeps_pods, ready_live}
 use Rattle.kn_laws.proofs.PodSteps.{contains-live_pods}

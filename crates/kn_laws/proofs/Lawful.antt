@@ -1,5 +1,5 @@
 -- A trace of proper rows is lawful.
-use Rattle.std.proofs.Common.{◌≡◌, ℕ, Bool, true, false, List, [], ◌∷◌, ◌++◌, refl, ◌∙◌}
+use Rattle.std.proofs.Common.{◌≡◌, ℕ, true, false, List, [], refl, ◌∙◌}
 use Rattle.std.specs.Prelude.{None, Some}
 use Rattle.kn_event.specs.declared.entry.Row.{Row}
 use Rattle.kn_event.specs.declared.entry.Row.TheVariants as row
@@ -10,7 +10,7 @@ use Rattle.kn_trace.specs.Trace.{Trace, arrivals, contains, each_row, ended}
 use Rattle.kn_trace.specs.Events.{trace_of}
 use Rattle.kn_trace.specs.Laws.{Always, IsFirstOutcome, IsLawful, IsWithinLimits, RefusesFull, RemovesEmpty}
 use Rattle.kn_laws.specs.Rows.{named_by}
-use Rattle.kn_laws.specs.Made.{Holds, IsMade, IsNumbered, IsProper}
+use Rattle.kn_laws.specs.Made.{IsMade, IsNumbered, IsProper}
 use Rattle.kn_laws.proofs.Members.{contains-split, contains-within}
 use Rattle.kn_laws.proofs.Numbers.{begun_taken, ended_named, false_unless, next_unnamed, outcome_parts, refused_named, running_parts, waiting_member}
 use Rattle.kn_laws.proofs.Kept.{Holds-at, Holds-law, Kept, kept-nil}

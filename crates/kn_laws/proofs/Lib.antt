@@ -21,3 +21,5 @@ pub mod Settled
 pub mod Settles
 pub mod Inert
 pub mod Beside
+pub mod PodViews
+pub mod Standing

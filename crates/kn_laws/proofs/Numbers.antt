@@ -9,10 +9,10 @@ use Rattle.kn_event.specs.declared.entry.Row.{Row}
 use Rattle.kn_event.specs.declared.entry.Row.TheVariants as row
 use Rattle.kn_event.specs.declared.revision.Spec.{Spec}
 use Rattle.kn_trace.specs.Rows.{arrived_by, admitted_by, taken_by, assigned_by, brought_to, directed_by, run_by, ended_by, refused_by, outcome_by, pod_by}
-use Rattle.kn_trace.specs.Trace.{Trace, each_row, contains, first_of, last_of, arrivals, assigned, at_pod, ended, has_begun, has_not_begun, has_run, held, in_breaker, is_held, is_running, live, pod_of, queued_at, running_at, waiting}
+use Rattle.kn_trace.specs.Trace.{Trace, each_row, contains, first_of, last_of, arrivals, assigned, at_pod, ended, has_begun, has_not_begun, has_run, held, is_held, is_running, live, pod_of, queued_at, waiting}
 use Rattle.kn_laws.specs.Rows.{named_by, moved_by}
 use Rattle.kn_laws.specs.Made.{AreDistinct, IsNumbered, IsProper}
-use Rattle.kn_laws.proofs.Flags.{says, counted, or-false, each_row-push, contains-push, assigned-push, has_run-push, arrivals-push}
+use Rattle.kn_laws.proofs.Flags.{says, counted, each_row-push, contains-push, assigned-push, has_run-push, arrivals-push}
 use Rattle.kn_laws.proofs.Members.{same_number, or-true, or_parts, contains-filter, contains-split, contains-within, distinct-push}
 use Rattle.kn_laws.proofs.Requests.{IsNew}
 

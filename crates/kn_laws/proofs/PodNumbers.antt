@@ -1,7 +1,6 @@
 -- A proper row keeps the numbering of pods.
-use Rattle.std.proofs.Common.{◌≡◌, ℕ, ◌+◌, ◌<◌, Bool, true, false, not, ◌&&◌, ◌||◌, ◌⊎◌, inl, inr, List, [], ◌∷◌, ◌++◌, reverse, refl, sym, ap, ◌∙◌, arith}
-use Rattle.std.specs.Prelude.{Option, None, Some, ◌==◌}
-use Rattle.std.specs.List.{cons_option}
+use Rattle.std.proofs.Common.{◌≡◌, ℕ, ◌+◌, ◌<◌, Bool, true, false, not, ◌&&◌, ◌||◌, ◌⊎◌, inl, inr, List, [], ◌∷◌, ◌++◌, reverse, refl, sym, ◌∙◌, arith}
+use Rattle.std.specs.Prelude.{None, Some, ◌==◌}
 use Rattle.std.proofs.lemmas.List.{reverse-append}
 use Rattle.kn_event.specs.declared.entry.Entry.{Entry}
 use Rattle.kn_event.specs.declared.entry.Row.{Row}
@@ -11,9 +10,9 @@ use Rattle.kn_trace.specs.Rows.{created_by, readied_by, drained_by, removed_by}
 use Rattle.kn_trace.specs.Trace.{Trace, each_row, contains, created, draining, is_draining, is_live_pod, is_ready, is_starting, live_pods, ready_pods, starting_pods}
 use Rattle.kn_trace.specs.Scale.{drain_order}
 use Rattle.kn_laws.specs.Rows.{pod_named_by}
-use Rattle.kn_laws.specs.Made.{AreDistinct, ArePodsNumbered, IsProper}
+use Rattle.kn_laws.specs.Made.{ArePodsNumbered, IsProper}
 use Rattle.kn_laws.proofs.Flags.{says, counted, each_row-push, contains-push, created-push}
-use Rattle.kn_laws.proofs.Members.{or-true, contains-append, contains-within, distinct-push}
+use Rattle.kn_laws.proofs.Members.{or-true, contains-append, contains-within}
 use Rattle.kn_laws.proofs.Numbers.{and_parts, distinct-option, false_unless, filter_member, in_filter, says-true, within-from}
 
 -- ---- which rows a word is of

@@ -1,7 +1,7 @@
 -- What one more entry changes of the views of pods.
-use Rattle.std.proofs.Common.{◌≡◌, ℕ, ◌+◌, Bool, true, false, not, cond, ◌&&◌, ◌||◌, List, [], ◌∷◌, ◌++◌, length, reverse, refl, sym, ap, ◌∙◌, arith, append-nil, length-append}
-use Rattle.std.specs.Prelude.{Option, None, Some, ◌==◌}
-use Rattle.std.specs.List.{filter, cons_option}
+use Rattle.std.proofs.Common.{◌≡◌, ℕ, ◌+◌, Bool, true, false, not, ◌&&◌, ◌||◌, [], ◌∷◌, ◌++◌, length, refl, ◌∙◌, arith, append-nil, length-append}
+use Rattle.std.specs.Prelude.{None, ◌==◌}
+use Rattle.std.specs.List.{filter}
 use Rattle.std.proofs.lemmas.List.{length-reverse}
 use Rattle.std.proofs.lemmas.List.Elements.{filter_agree, filter-append}
 use Rattle.kn_event.specs.declared.entry.Entry.{Entry}
@@ -12,8 +12,8 @@ use Rattle.kn_trace.specs.Trace.{Trace, entry, contains, draining, each_row, is_
 use Rattle.kn_trace.specs.Scale.{drain_order}
 use Rattle.kn_laws.specs.Rows.{pod_named_by}
 use Rattle.kn_laws.proofs.Flags.{says, or-false, each_row-push, contains-push, limit_of-push}
-use Rattle.kn_laws.proofs.Members.{contains-filter, contains-within, same_number}
-use Rattle.kn_laws.proofs.PodNumbers.{contains-drain_order, created_named, drained_named, readied_named, removed_named}
+use Rattle.kn_laws.proofs.Members.{contains-filter, contains-within}
+use Rattle.kn_laws.proofs.PodNumbers.{contains-drain_order, drained_named, readied_named, removed_named}
 use Rattle.kn_laws.proofs.Steps.{view-same}
 
 -- ---- the tests

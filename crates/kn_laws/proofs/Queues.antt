@@ -1,18 +1,17 @@
 -- The queue of a pod, in its own words and by place: both are in the order of the requests' arrival.
-use Rattle.std.proofs.Common.{◌≡◌, ℕ, Bool, true, false, not, cond, ◌&&◌, ◌||◌, List, [], ◌∷◌, ◌++◌, refl, sym, ap, ◌∙◌}
+use Rattle.std.proofs.Common.{◌≡◌, ℕ, Bool, true, false, not, cond, ◌&&◌, ◌||◌, List, [], ◌∷◌, refl, sym, ap, ◌∙◌}
 use Rattle.std.specs.Prelude.{Option, None, Some, ◌==◌}
 use Rattle.std.specs.Bool.{then_some}
 use Rattle.std.specs.List.{filter, cons_option}
-use Rattle.std.proofs.lemmas.Bool.{eqb-true}
 use Rattle.kn_event.specs.declared.entry.Entry.{Entry}
 use Rattle.kn_event.specs.declared.entry.Row.{Row}
 use Rattle.kn_event.specs.declared.entry.Row.TheVariants as row
 use Rattle.kn_trace.specs.Rows.{admitted_by, assigned_by, brought_to, directed_by, taken_by}
 use Rattle.kn_trace.specs.Trace.{Trace, assigned, contains, each_row, ended, has_begun, has_not_begun, has_run, pod_of, queued_at}
-use Rattle.kn_laws.specs.Admission.{is_at, place_at, place_of, placed, queues_at}
+use Rattle.kn_laws.specs.Admission.{place_at, place_of, placed, queues_at}
 use Rattle.kn_laws.specs.Made.{IsNumbered}
 use Rattle.kn_laws.proofs.Members.{same_number}
-use Rattle.kn_laws.proofs.Numbers.{admitted_taken, false_unless, within-from}
+use Rattle.kn_laws.proofs.Numbers.{admitted_taken, within-from}
 use Rattle.kn_laws.proofs.Words.{Agrees, agrees, and-none, in_first, in_rest, placed-filter, pod_is}
 
 -- what a part d of the trace c says of its requests

@@ -1,7 +1,7 @@
 -- The expiries, the act's own row and the assignments are proper.
-use Rattle.std.proofs.Common.{◌≡◌, ℕ, ◌+◌, ◌≤◌, ◌<◌, ◌%◌, Bool, true, false, not, cond, ◌&&◌, ◌||◌, ◌⊎◌, inl, inr, List, [], ◌∷◌, ◌++◌, length, refl, sym, ap, ◌∙◌, arith, nat_le, map, zero, suc}
+use Rattle.std.proofs.Common.{◌≡◌, ℕ, ◌+◌, ◌≤◌, ◌<◌, ◌%◌, Bool, true, false, not, cond, ◌||◌, ◌⊎◌, inl, inr, List, [], ◌∷◌, ◌++◌, length, refl, ap, ◌∙◌, arith, nat_le, map, zero, suc}
 use Rattle.std.specs.Prelude.{Option, None, Some, ◌==◌, slice_index, slice_index_or}
-use Rattle.std.specs.List.{filter, filter_map, cons_option}
+use Rattle.std.specs.List.{filter_map, cons_option}
 use Rattle.std.proofs.lemmas.Bool.{eqb-true}
 use Rattle.std.proofs.lemmas.Bool.Decides.{nat_tests}
 use Rattle.kn_event.specs.declared.entry.Entry.{Entry}
@@ -12,13 +12,13 @@ use Rattle.kn_event.specs.declared.event.Act.{Act}
 use Rattle.kn_event.specs.declared.event.Act.TheVariants as act
 use Rattle.kn_event.specs.declared.revision.Spec.{Spec}
 use Rattle.kn_trace.specs.Rows.{admitted_by, brought_to, created_by, taken_by}
-use Rattle.kn_trace.specs.Trace.{Trace, entry, arrivals, contains, direct_turn, each_row, ended, has_not_begun, held, is_held, is_running, is_starting, live, live_pods, queued_at, ready_pods, starting_pods, waiting}
+use Rattle.kn_trace.specs.Trace.{Trace, entry, arrivals, contains, direct_turn, each_row, has_not_begun, held, is_held, is_running, is_starting, live, live_pods, queued_at, ready_pods, starting_pods, waiting}
 use Rattle.kn_trace.specs.Capacity.{breaker_full, pod_full}
 use Rattle.kn_trace.specs.Scale.{mode_of}
 use Rattle.kn_trace.specs.Settling.{assignments_of, next_choice, while_chosen}
 use Rattle.kn_trace.specs.Events.{act_row, admission_row, arrival_row, direct_row, due, due_by, entries_of, expiries, live_most}
 use Rattle.kn_laws.specs.Rows.{moved_by}
-use Rattle.kn_laws.specs.Made.{AreDistinct, Holds, IsNext, IsNumbered, IsProper}
+use Rattle.kn_laws.specs.Made.{AreDistinct, Holds, IsNumbered, IsProper}
 use Rattle.kn_laws.proofs.Members.{same_number, or_parts, contains-filter, distinct-filter, filter-first}
 use Rattle.kn_laws.proofs.Numbers.{admitted_taken, brought_moved, filter_member, in_filter, true_unless}
 use Rattle.kn_laws.proofs.PodNumbers.{live_pod_created}

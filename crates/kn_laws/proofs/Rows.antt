@@ -1,14 +1,13 @@
 -- The kinds of rows that each part of an event adds.
-use Rattle.std.proofs.Common.{◌≡◌, ℕ, Bool, true, false, not, List, [], ◌∷◌, ◌++◌, map, refl, ◌∙◌, append-nil, append_assoc}
+use Rattle.std.proofs.Common.{◌≡◌, ℕ, Bool, true, false, List, [], ◌∷◌, ◌++◌, map, refl, ◌∙◌, append-nil, append_assoc}
 use Rattle.std.specs.Prelude.{Option, None, Some, ⊤}
-use Rattle.kn_event.specs.declared.entry.Entry.{Entry}
 use Rattle.kn_event.specs.declared.entry.Row.{Row}
 use Rattle.kn_event.specs.declared.entry.Row.TheVariants as row
 use Rattle.kn_event.specs.declared.revision.Spec.{Spec}
 use Rattle.kn_trace.specs.Rows.{phase_by}
-use Rattle.kn_trace.specs.Trace.{Trace, entry, has_free_seat, held, queued_at, ready_pods}
+use Rattle.kn_trace.specs.Trace.{Trace, entry, has_free_seat, queued_at, ready_pods}
 use Rattle.kn_trace.specs.Scale.{phase_of}
-use Rattle.kn_trace.specs.Settling.{assignments_of, held_assignments, next_choice, promotions, promotions_at, removals, while_chosen, while_free}
+use Rattle.kn_trace.specs.Settling.{assignments_of, next_choice, promotions, promotions_at, while_chosen, while_free}
 use Rattle.kn_trace.specs.Events.{due, expiries}
 use Rattle.kn_laws.proofs.Kept.{phase_of-push}
 use Rattle.kn_laws.proofs.PodSteps.{SaysNoPod, ready-quiet}

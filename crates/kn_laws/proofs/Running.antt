@@ -1,5 +1,5 @@
 -- The rows of the settling are proper, and so all those of an event: a trace that events made stays one.
-use Rattle.std.proofs.Common.{◌≡◌, ℕ, Bool, true, false, not, List, [], ◌∷◌, ◌++◌, map, refl, sym, ap, ◌∙◌, append-nil, append_assoc}
+use Rattle.std.proofs.Common.{◌≡◌, ℕ, Bool, true, false, List, [], ◌∷◌, ◌++◌, map, refl, ap, ◌∙◌, append-nil, append_assoc}
 use Rattle.std.specs.Prelude.{◌==◌}
 use Rattle.std.specs.List.{filter}
 use Rattle.kn_event.specs.declared.entry.Row.TheVariants as row
@@ -7,10 +7,10 @@ use Rattle.kn_event.specs.declared.event.Event.{Event}
 use Rattle.kn_event.specs.declared.revision.Spec.{Spec}
 use Rattle.kn_trace.specs.Rows.{created_by}
 use Rattle.kn_trace.specs.Trace.{Trace, entry, at_pod, contains, draining, each_row, has_free_seat, held, is_draining, is_empty, live_pods, queued_at}
-use Rattle.kn_trace.specs.Settling.{assignments_of, held_assignments, promotions, promotions_at, removals, settling, while_free}
+use Rattle.kn_trace.specs.Settling.{held_assignments, promotions, promotions_at, removals, settling, while_free}
 use Rattle.kn_trace.specs.Events.{act_rows, activation, added, before_settling, expiries, opening, react, trace_of}
 use Rattle.kn_laws.specs.Made.{AreDistinct, ArePodsNumbered, Holds, IsMade, IsNumbered, IsProper}
-use Rattle.kn_laws.proofs.Members.{same_number, contains-filter, distinct-filter, filter-first}
+use Rattle.kn_laws.proofs.Members.{same_number, distinct-filter, filter-first}
 use Rattle.kn_laws.proofs.Numbers.{filter_member}
 use Rattle.kn_laws.proofs.Steps.{others, at_pod-quiet, is_quiet, queued_at-run}
 use Rattle.kn_laws.proofs.PodSteps.{draining-remove}

@@ -1,16 +1,12 @@
 -- The rows of a decision, of the phase and of the opening are proper.
-use Rattle.std.proofs.Common.{◌≡◌, ℕ, ◌+◌, ◌-◌, ◌≤◌, ◌<◌, Bool, true, false, not, cond, ◌&&◌, ◌||◌, List, [], ◌∷◌, ◌++◌, length, reverse, take, map, max, min, nat_lt, nat_le, zero, suc, refl, sym, ap, ◌∙◌, arith, append-nil, append_assoc}
+use Rattle.std.proofs.Common.{◌≡◌, ℕ, ◌+◌, ◌-◌, ◌≤◌, Bool, true, false, not, cond, ◌&&◌, ◌||◌, List, [], ◌∷◌, ◌++◌, length, reverse, take, map, nat_lt, zero, suc, refl, sym, ap, ◌∙◌, arith, append-nil, append_assoc}
 use Rattle.std.specs.Prelude.{Option, None, Some, ◌==◌, unwrap_or, ◌*◌}
-use Rattle.std.specs.List.{filter, range_with_len}
 use Rattle.std.proofs.lemmas.List.{reverse-append}
-use Rattle.std.proofs.lemmas.Bool.{eqb-true}
-use Rattle.std.proofs.lemmas.Bool.Decides.{nat_tests}
 use Rattle.kn_event.specs.declared.entry.Entry.{Entry}
 use Rattle.kn_event.specs.declared.entry.Row.{Row}
 use Rattle.kn_event.specs.declared.entry.Row.TheVariants as row
 use Rattle.kn_event.specs.declared.entry.Phase.{Phase}
 use Rattle.kn_event.specs.declared.entry.Phase.TheVariants as phase
-use Rattle.kn_event.specs.declared.entry.Mode.{Mode}
 use Rattle.kn_event.specs.declared.event.Act.{Act}
 use Rattle.kn_event.specs.declared.event.Act.TheVariants as act
 use Rattle.kn_event.specs.declared.revision.Kind.{Kind}
@@ -21,19 +17,18 @@ use Rattle.kn_event.specs.Revision.{AreInRange}
 use Rattle.kn_scaling.specs.Average.{window_average, second_of}
 use Rattle.kn_scaling.specs.Decide.{Past, Ruling, decision_from_stable, no_load, one_request, ruling}
 use Rattle.kn_scaling.specs.Decide as scaling
-use Rattle.kn_scaling.specs.Zero.{Standing, bounded_count, has_lasted, lower_bound, may_go, not_above_max, no_pods, some_pods, zero_rule, zero_rule_in}
-use Rattle.kn_scaling.specs.declared.zero.ZeroAnswer.{ZeroAnswer}
+use Rattle.kn_scaling.specs.Zero.{Standing, bounded_count, has_lasted, no_pods, some_pods, zero_rule, zero_rule_in}
 use Rattle.kn_trace.specs.Rows.{created_by, drained_by, readied_by, removed_by}
 use Rattle.kn_trace.specs.Trace.{Trace, entry, contains, created, each_row, is_empty, is_live_pod, is_ready, is_starting, ready_pods, starting_pods}
-use Rattle.kn_trace.specs.Scale.{count_ready, creations, decision_at, decision_rows, drain_order, initial_reached, is_same_mode, is_same_phase, mode_of, opening_scale, past_of, phase_of, scale_rows, standing_of, tick_rows, tick_rows_of, wake_decision_at, wake_rows, wanted, where_true}
+use Rattle.kn_trace.specs.Scale.{count_ready, creations, decision_at, decision_rows, drain_order, is_same_mode, is_same_phase, mode_of, opening_scale, past_of, phase_of, scale_rows, standing_of, tick_rows, tick_rows_of, wake_decision_at, wake_rows, wanted, where_true}
 use Rattle.kn_trace.specs.Events.{act_row, act_rows, activation, entries_of, opening, opening_of, opening_phase, scaler_rows, wake_where}
 use Rattle.kn_laws.specs.Made.{AreDistinct, ArePodsNumbered, Holds, IsMade, IsProper, pods_most}
-use Rattle.kn_laws.proofs.Flags.{counted, created-push}
+use Rattle.kn_laws.proofs.Flags.{created-push}
 use Rattle.kn_laws.proofs.Members.{same_number, contains-append, contains-filter, distinct-filter, distinct-push}
-use Rattle.kn_laws.proofs.Numbers.{and_parts, false_unless, filter_member, not-true}
-use Rattle.kn_laws.proofs.PodNumbers.{ArePodsNumbered-push, contains-drain_order, contains-reverse, next_unnamed_pod, proper_keeps_pods}
+use Rattle.kn_laws.proofs.Numbers.{false_unless, filter_member}
+use Rattle.kn_laws.proofs.PodNumbers.{ArePodsNumbered-push, contains-reverse, next_unnamed_pod, proper_keeps_pods}
 use Rattle.kn_laws.proofs.PodSteps.{SaysNoPod, drain_order-create, drain_order-drain, drain_order-quiet, says_no_pod}
-use Rattle.kn_laws.proofs.Kept.{Holds-append, Holds-kept, Kept, Kept-push, wanted-push}
+use Rattle.kn_laws.proofs.Kept.{Holds-append, Holds-kept, Kept, Kept-push}
 use Rattle.kn_laws.proofs.Reacting.{act-holds, apart_from, or-more}
 
 -- ---- lists

@@ -5,27 +5,25 @@ use Rattle.std.specs.Bool.{then_some}
 use Rattle.std.specs.List.{filter, sum_by}
 use Rattle.std.proofs.lemmas.Bool.{eqb-true}
 use Rattle.std.proofs.lemmas.Bool.Decides.{nat_tests}
-use Rattle.std.proofs.lemmas.List.Elements.{filter_agree}
 use Rattle.std.proofs.lemmas.List.Sums.{sum_by-cons}
 use Rattle.kn_event.specs.declared.entry.Entry.{Entry}
-use Rattle.kn_event.specs.declared.entry.Row.{Row}
 use Rattle.kn_event.specs.declared.entry.Row.TheVariants as row
 use Rattle.kn_event.specs.declared.revision.Spec.{Spec}
 use Rattle.kn_trace.specs.Rows.{brought_to, created_by, drained_by, limit_by, readied_by, removed_by}
 use Rattle.kn_trace.specs.Trace.{Trace, entry, assigned, at_pod, contains, draining, each_row, ended, has_begun, has_free_seat, has_not_begun, has_run, held, is_draining, is_empty, is_live_pod, is_ready, is_running, limit_of, live_pods, queued_at, ready_pods, running_at}
 use Rattle.kn_trace.specs.Capacity.{capacity, in_use, seats_of}
 use Rattle.kn_trace.specs.Choice.{choice}
-use Rattle.kn_trace.specs.Settling.{assignments_of, held_assignments, next_choice, promotions, promotions_at, removals, settling, while_chosen, while_free}
-use Rattle.kn_laws.specs.Made.{AreDistinct, IsNumbered, IsProper}
-use Rattle.kn_laws.proofs.Flags.{says, or-false, each_row-push, contains-push}
+use Rattle.kn_trace.specs.Settling.{assignments_of, next_choice, promotions, promotions_at, while_chosen, while_free}
+use Rattle.kn_laws.specs.Made.{AreDistinct}
+use Rattle.kn_laws.proofs.Flags.{says, or-false, contains-push}
 use Rattle.kn_laws.proofs.Members.{same_number, or-true, contains-filter, filter-first}
-use Rattle.kn_laws.proofs.Numbers.{and_parts, filter_member, in_filter, not-true, says-true}
+use Rattle.kn_laws.proofs.Numbers.{and_parts, filter_member, in_filter, not-true}
 use Rattle.kn_laws.proofs.Steps.{IsQuiet, others, view-same, view-length, is_running-push, has_not_begun-push, is_quiet, queued_at-run, held-assign, held-quiet, in_use-quiet, queued_at-quiet, running_at-quiet, at_pod-quiet}
 use Rattle.kn_laws.proofs.PodSteps.{contains-live_pods, draining-remove, is_ready-push, limit-quiet, live_pods-quiet, says_no_pod}
 use Rattle.kn_laws.proofs.Choosing.{choice-none}
 use Rattle.kn_laws.proofs.Kept.{Holds-kept, Kept}
-use Rattle.kn_laws.proofs.Reacting.{held_distinct, or-more, queued_distinct}
-use Rattle.kn_laws.proofs.Running.{promotions-hold, promotions_at-hold, queued-next}
+use Rattle.kn_laws.proofs.Reacting.{or-more, queued_distinct}
+use Rattle.kn_laws.proofs.Running.{promotions_at-hold, queued-next}
 
 -- ---- d has no more queued, no more free pods and no more pods than c
 

@@ -1,6 +1,6 @@
 -- An event leaves a settled trace, and so does the opening.
 use Rattle.std.proofs.Common.{◌≡◌, ℕ, Bool, true, false, not, ◌&&◌, List, [], ◌∷◌, ◌++◌, refl, sym, ap, subst, ◌∙◌, map, append-nil, append_assoc}
-use Rattle.std.specs.Prelude.{Option, None, Some, ◌==◌}
+use Rattle.std.specs.Prelude.{Option, None}
 use Rattle.std.specs.List.{filter, range_with_len}
 use Rattle.kn_event.specs.declared.entry.Entry.{Entry}
 use Rattle.kn_event.specs.declared.entry.Row.{Row}
@@ -12,23 +12,21 @@ use Rattle.kn_event.specs.declared.revision.Kind.{Kind}
 use Rattle.kn_event.specs.declared.revision.Kind.TheVariants as kind
 use Rattle.kn_event.specs.declared.revision.Spec.{Spec}
 use Rattle.kn_trace.specs.Rows.{admitted_by, brought_to, created_by, drained_by, phase_by, readied_by}
-use Rattle.kn_trace.specs.Trace.{Trace, entry, at_pod, contains, draining, each_row, ended, held, is_empty, is_held, is_ready, live_pods, queued_at, ready_pods}
-use Rattle.kn_trace.specs.Capacity.{capacity, in_use}
+use Rattle.kn_trace.specs.Trace.{Trace, entry, at_pod, contains, draining, each_row, held, is_empty, is_ready, live_pods, queued_at, ready_pods}
 use Rattle.kn_trace.specs.Scale.{creations, is_same_phase, opening_scale, phase_of, where_true}
 use Rattle.kn_trace.specs.Settling.{assignments_of, held_assignments, promotions, removals, settling}
 use Rattle.kn_trace.specs.Events.{act_rows, activation, added, before_settling, expiries, opening, opening_of, opening_phase, react, trace_of}
 use Rattle.kn_trace.specs.Laws.{IsSettled}
-use Rattle.kn_laws.specs.Made.{Holds, IsMade, IsProper}
-use Rattle.kn_laws.proofs.Flags.{or_else}
+use Rattle.kn_laws.specs.Made.{IsMade}
 use Rattle.kn_laws.proofs.Members.{contains-filter}
 use Rattle.kn_laws.proofs.Numbers.{filter_member, queued_at_pod}
-use Rattle.kn_laws.proofs.PodSteps.{SaysNoPod, ready-quiet, says_no_pod}
-use Rattle.kn_laws.proofs.Rows.{Each, assignments-rows, is_assign_row, is_remove_row, is_run_row, phase-each, promotions-rows, ready-each, removed-rows}
+use Rattle.kn_laws.proofs.PodSteps.{SaysNoPod, says_no_pod}
+use Rattle.kn_laws.proofs.Rows.{assignments-rows, is_assign_row, is_remove_row, is_run_row, phase-each, promotions-rows, ready-each, removed-rows}
 use Rattle.kn_laws.proofs.Kept.{Holds-kept, Kept, made_kept, phase_of-push}
 use Rattle.kn_laws.proofs.Reacting.{held_distinct}
-use Rattle.kn_laws.proofs.Running.{before-holds, held_assignments-hold, made_react, promotions-hold, settling-holds}
+use Rattle.kn_laws.proofs.Running.{before-holds, made_react, promotions-hold, settling-holds}
 use Rattle.kn_laws.proofs.Scaling.{made_opening}
-use Rattle.kn_laws.proofs.Settled.{SameSeats, assignments-busy, assignments-filled, busier-then, draining_drained, filled-same, full-busier, promotions-busy, promotions-full, removals-drained, removed-busy, removed-seats}
+use Rattle.kn_laws.proofs.Settled.{assignments-busy, assignments-filled, busier-then, draining_drained, filled-same, full-busier, promotions-busy, promotions-full, removals-drained, removed-busy, removed-seats}
 
 -- ---- the phase
 

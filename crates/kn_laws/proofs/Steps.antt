@@ -1,5 +1,5 @@
 -- What one more entry changes of the views of requests, in their own words.
-use Rattle.std.proofs.Common.{◌≡◌, ℕ, ◌≤◌, Bool, true, false, not, cond, ◌&&◌, ◌||◌, List, [], ◌∷◌, ◌++◌, length, refl, sym, ap, ◌∙◌, arith, append-nil, length-append}
+use Rattle.std.proofs.Common.{◌≡◌, ℕ, ◌≤◌, Bool, true, false, not, cond, ◌&&◌, ◌||◌, List, [], ◌∷◌, ◌++◌, length, refl, ap, ◌∙◌, arith, append-nil, length-append}
 use Rattle.std.specs.Prelude.{Option, None, Some, ◌==◌}
 use Rattle.std.specs.List.{filter, cons_option}
 use Rattle.std.proofs.lemmas.List.Elements.{filter_agree, filter-append}
@@ -7,10 +7,10 @@ use Rattle.kn_event.specs.declared.entry.Entry.{Entry}
 use Rattle.kn_event.specs.declared.entry.Row.{Row}
 use Rattle.kn_event.specs.declared.entry.Row.TheVariants as row
 use Rattle.kn_trace.specs.Rows.{admitted_by, taken_by, assigned_by, brought_to, run_by, ended_by}
-use Rattle.kn_trace.specs.Trace.{Trace, entry, each_row, contains, assigned, at_pod, ended, has_begun, has_not_begun, has_run, held, in_breaker, is_held, is_running, live, queued_at, running_at, waiting}
+use Rattle.kn_trace.specs.Trace.{Trace, entry, each_row, assigned, at_pod, ended, has_begun, has_not_begun, has_run, held, in_breaker, is_held, is_running, live, queued_at, running_at, waiting}
 use Rattle.kn_trace.specs.Capacity.{in_use}
 use Rattle.kn_laws.specs.Rows.{moved_by}
-use Rattle.kn_laws.proofs.Flags.{says, or-false, each_row-push, contains-push, ended-push, assigned-push, has_run-push}
+use Rattle.kn_laws.proofs.Flags.{says, or-false, each_row-push, ended-push, assigned-push, has_run-push}
 
 -- ---- lists
 

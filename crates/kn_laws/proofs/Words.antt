@@ -1,6 +1,6 @@
 -- The views of requests in their own words are the views by place.
-use Rattle.std.proofs.Common.{◌≡◌, ℕ, ◌+◌, Bool, true, false, not, cond, ◌&&◌, ◌||◌, ◌⊎◌, inl, inr, List, [], ◌∷◌, ◌++◌, length, refl, sym, ap, ◌∙◌, arith}
-use Rattle.std.specs.Prelude.{Option, None, Some, ◌==◌, unwrap_or}
+use Rattle.std.proofs.Common.{◌≡◌, ℕ, ◌+◌, Bool, true, false, not, cond, ◌&&◌, ◌||◌, ◌⊎◌, inl, inr, List, [], ◌∷◌, length, refl, sym, ap, ◌∙◌, arith}
+use Rattle.std.specs.Prelude.{Option, None, Some, ◌==◌}
 use Rattle.std.specs.Bool.{then_some}
 use Rattle.std.specs.List.{filter, cons_option}
 use Rattle.std.proofs.lemmas.Bool.{eqb-true}
@@ -8,15 +8,15 @@ use Rattle.kn_event.specs.declared.entry.Entry.{Entry}
 use Rattle.kn_event.specs.declared.entry.Row.{Row}
 use Rattle.kn_event.specs.declared.entry.Row.TheVariants as row
 use Rattle.kn_trace.specs.Rows.{admitted_by, assigned_by, brought_to, directed_by, pod_by, taken_by}
-use Rattle.kn_trace.specs.Trace.{Trace, assigned, at_pod, contains, each_row, ended, has_begun, has_not_begun, has_run, held, in_breaker, is_held, is_running, last_of, live, pod_of, queued_at, running_at, waiting}
+use Rattle.kn_trace.specs.Trace.{Trace, assigned, at_pod, contains, each_row, ended, has_begun, has_not_begun, has_run, held, in_breaker, is_held, is_running, last_of, live, pod_of, running_at, waiting}
 use Rattle.kn_trace.specs.Capacity.{in_use}
 use Rattle.kn_laws.specs.declared.admission.Place.{Place}
 use Rattle.kn_laws.specs.Rows.{moved_by}
-use Rattle.kn_laws.specs.Admission.{is_assigned_place, is_at, is_held_place, is_through, place_at, place_of, placed, queues_at, runs_at, runs_somewhere, waits}
+use Rattle.kn_laws.specs.Admission.{is_assigned_place, is_at, is_held_place, is_through, place_at, place_of, placed, runs_at, runs_somewhere, waits}
 use Rattle.kn_laws.specs.Made.{AreDistinct, IsNumbered}
 use Rattle.kn_laws.proofs.Flags.{says}
-use Rattle.kn_laws.proofs.Members.{same_number, or-true, or_parts, contains-filter, contains-split, contains-within, distinct-filter, filter-members, filter-others, other_number}
-use Rattle.kn_laws.proofs.Numbers.{admitted_taken, and_parts, begun_taken, brought_moved, directed_taken, false_unless, last_of-none, moved-none, moved_parts, moved_pod, says-true, pod-none, taken_parts, true_unless, within-from}
+use Rattle.kn_laws.proofs.Members.{same_number, or-true, contains-filter, contains-split, distinct-filter, filter-members, filter-others, other_number}
+use Rattle.kn_laws.proofs.Numbers.{admitted_taken, begun_taken, brought_moved, directed_taken, false_unless, last_of-none, moved-none, moved_parts, moved_pod, says-true, pod-none, taken_parts, within-from}
 use Rattle.kn_laws.proofs.Steps.{filter-both, others}
 use Rattle.kn_laws.proofs.Reacting.{brought_distinct, distinct-fewer, or-more}
 
@@ -146,7 +146,7 @@ held_by false true false true false (Some p) x = refl
 held_by false true false false true (Some p) x = refl
 held_by false true false false false (Some p) x = refl
 
-waiting_by : (a d s n g : Bool) (o : Option ℕ) → Agrees a d s n o → (not (s || n) && not g) ≡ (not g && waits (place_at o s n))
+pub waiting_by : (a d s n g : Bool) (o : Option ℕ) → Agrees a d s n o → (not (s || n) && not g) ≡ (not g && waits (place_at o s n))
 waiting_by a d true n g None x = absurd (let e = x.gone refl in cc)
 waiting_by a true false n g None x = absurd (let e = x.gone refl in cc)
 waiting_by a false false true g None x = absurd (let e = x.ran refl in cc)

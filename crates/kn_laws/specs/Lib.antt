@@ -2,3 +2,4 @@ pub mod Rows
 pub mod Admission
 pub mod Made
 pub mod Beside
+pub mod Views
