@@ -23,3 +23,4 @@ pub mod Inert
 pub mod Beside
 pub mod PodViews
 pub mod Standing
+pub mod Counts

@@ -34,7 +34,7 @@ assigned_moved _ = inl refl
 
 -- ---- lists of the same members
 
-others-length : (r : ℕ) (ys : List ℕ) → AreDistinct ys → contains r ys ≡ true → length (others r ys) + 1 ≡ length ys
+pub others-length : (r : ℕ) (ys : List ℕ) → AreDistinct ys → contains r ys ≡ true → length (others r ys) + 1 ≡ length ys
 others-length r [] d h = absurd (cc)
 others-length r (y ∷ ys) d h = by (r == y) refl (λ k. others-length r ys d.1 k)
   where
