@@ -292,7 +292,7 @@ unfolding pod_of
 pod_came c p r h = pod_brought_in p r c h
 
 -- a request that came to a pod was taken in
-moved_taken : (c : Trace) (r : ℕ) → IsNumbered c → contains r (each_row moved_by c) ≡ true → contains r (each_row taken_by c) ≡ true
+pub moved_taken : (c : Trace) (r : ℕ) → IsNumbered c → contains r (each_row moved_by c) ≡ true → contains r (each_row taken_by c) ≡ true
 unfolding assigned
 moved_taken c r num h = by (or-true (contains r (each_row assigned_by c)) (contains r (each_row directed_by c)) (sym (contains-split moved_by assigned_by directed_by moved_parts r c) ∙ h))
   where
