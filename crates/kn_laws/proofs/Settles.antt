@@ -21,7 +21,7 @@ use Rattle.kn_laws.specs.Made.{IsMade}
 use Rattle.kn_laws.proofs.Members.{contains-filter}
 use Rattle.kn_laws.proofs.Numbers.{filter_member, queued_at_pod}
 use Rattle.kn_laws.proofs.PodSteps.{SaysNoPod, says_no_pod}
-use Rattle.kn_laws.proofs.Rows.{assignments-rows, is_assign_row, is_remove_row, is_run_row, phase-each, promotions-rows, ready-each, removed-rows}
+use Rattle.kn_laws.proofs.Rows.{assign_pods, run_pods, assignments-rows, is_assign_row, is_remove_row, is_run_row, phase-each, promotions-rows, ready-each, removed-rows}
 use Rattle.kn_laws.proofs.Kept.{Holds-kept, Kept, made_kept, phase_of-push}
 use Rattle.kn_laws.proofs.Reacting.{held_distinct}
 use Rattle.kn_laws.proofs.Running.{before-holds, made_react, promotions-hold, settling-holds}
@@ -52,17 +52,9 @@ run_phase : (x : Row) → is_run_row x ≡ true → phase_by x ≡ None
 run_phase (row.Run r) h = refl
 run_phase _ h = absurd (cc)
 
-run_pods : (x : Row) → is_run_row x ≡ true → SaysNoPod x
-run_pods (row.Run r) h = says_no_pod (row.Run r) refl
-run_pods _ h = absurd (cc)
-
 assign_phase : (x : Row) → is_assign_row x ≡ true → phase_by x ≡ None
 assign_phase (row.Assign r p) h = refl
 assign_phase _ h = absurd (cc)
-
-assign_pods : (x : Row) → is_assign_row x ≡ true → SaysNoPod x
-assign_pods (row.Assign r p) h = says_no_pod (row.Assign r p) refl
-assign_pods _ h = absurd (cc)
 
 remove_phase : (x : Row) → is_remove_row x ≡ true → phase_by x ≡ None
 remove_phase (row.Remove p) h = refl
