@@ -24,3 +24,5 @@ pub mod Beside
 pub mod PodViews
 pub mod Standing
 pub mod Counts
+pub mod Acts
+pub mod Bounds

@@ -185,7 +185,7 @@ decision-holds s t c made kept few =
     pods-hold false d kept same = tt
     pods-hold true d kept same = scale-hold s t c d made.decision.want kept.pods same.0 same.1 few
 
-tick-holds : (s : Spec) (t : ℕ) (c : Trace) → Kept s c → Holds (IsProper s) c (tick_rows s t c)
+pub tick-holds : (s : Spec) (t : ℕ) (c : Trace) → Kept s c → Holds (IsProper s) c (tick_rows s t c)
 unfolding tick_rows decision_at past_of standing_of scaling.decision_at
 tick-holds s t c kept = by (window_average (past_of s c).samples s.stable_s (second_of t))
   where
@@ -199,11 +199,11 @@ unfolding wake_rows wake_decision_at past_of standing_of scaling.wake_decision_a
 wake-holds s t c kept =
     decision-holds s t c (ruling s (past_of s c) t (count_ready c) one_request one_request) kept (λ ranges. ruling_few s (past_of s c) t (count_ready c) one_request one_request (kept.wants ranges))
 
-wake_where-holds : (b : Bool) (s : Spec) (t : ℕ) (c : Trace) → Kept s c → Holds (IsProper s) c (wake_where b s t c)
+pub wake_where-holds : (b : Bool) (s : Spec) (t : ℕ) (c : Trace) → Kept s c → Holds (IsProper s) c (wake_where b s t c)
 wake_where-holds false s t c kept = tt
 wake_where-holds true s t c kept = wake-holds s t c kept
 
-scaler-holds : (k : Kind) (s : Spec) (t : ℕ) (c : Trace) (a : Act) (did : Option Row) → Kept s c → Holds (IsProper s) c (scaler_rows k s t c a did)
+pub scaler-holds : (k : Kind) (s : Spec) (t : ℕ) (c : Trace) (a : Act) (did : Option Row) → Kept s c → Holds (IsProper s) c (scaler_rows k s t c a did)
 scaler-holds kind.Kpa s t c act.Tick did kept = tick-holds s t c kept
 scaler-holds kind.Kpa s t c (act.Arrive tag) (Some (row.Admit r g)) kept = wake_where-holds (wanted s c == 0) s t c kept
 scaler-holds k s t c a did kept = tt

@@ -3,3 +3,4 @@ pub mod Admission
 pub mod Made
 pub mod Beside
 pub mod Views
+pub mod ByAct
