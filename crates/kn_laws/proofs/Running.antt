@@ -106,6 +106,9 @@ react-holds s c e kept =
     let one = before-holds s c e kept in
     Holds-append (IsProper s) c first (settling s e.time (c ++ first)) one (settling-holds s e.time (c ++ first) (Holds-kept s c first kept one))
 
+pub made_more : (s : Spec) (c es : Trace) → IsMade s c → Holds (IsProper s) c es → IsMade s (c ++ es)
+made_more s c es made h = record { rows = Holds-append (IsProper s) [] c es made.rows h }
+
 pub made_react : (s : Spec) (c : Trace) (e : Event) → IsMade s c → IsMade s (c ++ react s c e)
 made_react s c e made = record { rows = Holds-append (IsProper s) [] c (react s c e) made.rows (react-holds s c e (made_kept s c made)) }
 
