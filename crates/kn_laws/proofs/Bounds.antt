@@ -377,3 +377,24 @@ few_entries s c e ranges made settled =
     let g = few_live s c made in
     let len : length (first ++ settling s e.time (c ++ first)) ≡ length first + length (settling s e.time (c ++ first)) = length-append first (settling s e.time (c ++ first)) in
     omega arith
+
+pub few_expiries : (s : Spec) (t : ℕ) (c : Trace) → IsMade s c → length (expiries s t c) ≤ live_most
+few_expiries s t c made =
+    let w = leaves-list s c (expiries s t c) (made_kept s c made) (expiries-hold s t c (made_kept s c made).requests) in
+    let n = count-each leaves_by is_expire_row expire_leaves (expiries s t c) (expiries-rows s t c) in
+    let k : length (each_row taken_by (expiries s t c)) ≡ 0 = rw (none-each taken_by is_expire_row expire_takes (expiries s t c) (expiries-rows s t c)) refl in
+    let d = count-live c in
+    let g = few_live s c made in
+    omega arith
+
+pub few_settling : (s : Spec) (c : Trace) (e : Event) → AreInRange s → IsMade s c → IsSettled s c → length (settling s e.time (c ++ before_settling s c e)) ≤ 40500
+few_settling s c e ranges made settled =
+    let first = before_settling s c e in
+    let hold = before-holds s c e (made_kept s c made) in
+    let after = settling-count s e.time (c ++ first) (Holds-kept s c first (made_kept s c made) hold) in
+    let some = after.0 in
+    let d = count-live (c ++ first) in
+    let g = few_live s (c ++ first) (made_more s c first made hold) in
+    let p = count-pods (c ++ first) in
+    let most = few_pods_before s c e ranges made settled in
+    omega arith

@@ -26,3 +26,4 @@ pub mod Standing
 pub mod Counts
 pub mod Acts
 pub mod Bounds
+pub mod Phases

@@ -4,3 +4,4 @@ pub mod Made
 pub mod Beside
 pub mod Views
 pub mod ByAct
+pub mod Phases

@@ -1,0 +1,199 @@
+-- No pod is wanted exactly where the phase is inactive.
+use Rattle.std.proofs.Common.{◌≡◌, ℕ, ◌-◌, ◌*◌, Bool, true, false, not, cond, ◌&&◌, List, [], ◌∷◌, ◌++◌, length, map, take, nat_lt, zero, suc, refl, sym, ap, ◌∙◌, arith, append-nil, append_assoc}
+use Rattle.std.specs.Prelude.{Option, None, Some, ◌==◌, unwrap_or}
+use Rattle.std.specs.List.{range_with_len}
+use Rattle.std.proofs.lemmas.Bool.Decides.{nat_tests}
+use Rattle.std.proofs.lemmas.List.Elements.{filter_map-append}
+use Rattle.kn_event.specs.declared.entry.Entry.{Entry}
+use Rattle.kn_event.specs.declared.entry.Row.{Row}
+use Rattle.kn_event.specs.declared.entry.Row.TheVariants as row
+use Rattle.kn_event.specs.declared.entry.Phase.{Phase}
+use Rattle.kn_event.specs.declared.entry.Phase.TheVariants as phase
+use Rattle.kn_event.specs.declared.event.Act.{Act}
+use Rattle.kn_event.specs.declared.event.Act.TheVariants as act
+use Rattle.kn_event.specs.declared.event.Event.{Event}
+use Rattle.kn_event.specs.declared.revision.Kind.{Kind}
+use Rattle.kn_event.specs.declared.revision.Kind.TheVariants as kind
+use Rattle.kn_event.specs.declared.revision.Spec.{Spec}
+use Rattle.kn_event.specs.declared.units.Frac.{Frac}
+use Rattle.kn_scaling.specs.Average.{second_of, window_average}
+use Rattle.kn_scaling.specs.Decide.{Past, Ruling, decision_from_stable, no_load, one_request, ruling}
+use Rattle.kn_scaling.specs.Decide as scaling
+use Rattle.kn_scaling.specs.Zero.{Standing, has_lasted, may_go, no_pods, some_pods, zero_rule, zero_rule_in}
+use Rattle.kn_trace.specs.Rows.{decision_by, phase_by}
+use Rattle.kn_trace.specs.Trace.{Trace, entry, created, each_row, held, is_empty, last_of, live_pods, ready_pods}
+use Rattle.kn_trace.specs.Scale.{count_ready, creations, decision_at, decision_rows, drain_order, is_same_mode, is_same_phase, mode_of, opening_scale, past_of, phase_of, scale_rows, standing_of, tick_rows, tick_rows_of, wake_decision_at, wake_rows, wanted, where_true}
+use Rattle.kn_trace.specs.Settling.{assignments_of, held_assignments, promotions, removals, settling}
+use Rattle.kn_trace.specs.Events.{act_row, act_rows, activation, added, before_settling, entries_of, expiries, opening, opening_of, opening_phase, react, scaler_rows, trace_of, wake_where}
+use Rattle.kn_laws.specs.Phases.{WantsByPhase}
+use Rattle.kn_laws.proofs.Flags.{or_else}
+use Rattle.kn_laws.proofs.Kept.{phase_of-push, want_after, wanted-push}
+use Rattle.kn_laws.proofs.Rows.{Each, assignments-rows, expiries-rows, is_assign_row, is_expire_row, is_remove_row, is_run_row, promotions-rows}
+use Rattle.kn_laws.proofs.Acts.{act-rows, is_act_row, removals-rows}
+
+abbrev is_idle : Phase → Bool
+is_idle p = is_same_phase phase.Inactive (Some p)
+
+-- ---- the rule
+
+zero_in_phase : (s : Spec) (time ready : ℕ) (standing : Standing) → (p : Phase) → (p ≡ phase.Activating → (standing.want == 0) ≡ false)
+    → ((zero_rule_in p s time ready standing).want == 0) ≡ is_idle (zero_rule_in p s time ready standing).phase
+zero_in_phase s time ready standing phase.Activating some = some refl
+zero_in_phase s time ready standing phase.Active some = by (has_lasted standing.phase_since (1000 * s.stable_s) time) (nat_lt 0 ready)
+  where
+    by : (b r : Bool) → ((cond b (no_pods false) (record { want = 1; applied = true; phase = cond r phase.Active phase.Activating })).want == 0)
+        ≡ is_idle (cond b (no_pods false) (record { want = 1; applied = true; phase = cond r phase.Active phase.Activating })).phase
+    by true r = refl
+    by false true = refl
+    by false false = refl
+zero_in_phase s time ready standing phase.Inactive some = refl
+
+pods_phase : (ready want : ℕ) → (want == 0) ≡ false → ((some_pods ready want).want == 0) ≡ is_idle (some_pods ready want).phase
+pods_phase ready want some = by (nat_lt 0 ready)
+  where
+    by : (r : Bool) → (want == 0) ≡ is_idle (cond r phase.Active phase.Activating)
+    by true = some
+    by false = some
+
+zero_phase : (s : Spec) (time ready bounded : ℕ) (standing : Standing) → (standing.phase ≡ phase.Activating → (standing.want == 0) ≡ false)
+    → ((zero_rule s time ready bounded standing).want == 0) ≡ is_idle (zero_rule s time ready bounded standing).phase
+unfolding zero_rule
+zero_phase s time ready bounded standing some = by (nat_lt 0 bounded) refl s.to_zero
+  where
+    above : (n : ℕ) → nat_lt 0 n ≡ true → (n == 0) ≡ false
+    above n h = grind (arith, nat_tests)
+
+    by : (b : Bool) → nat_lt 0 bounded ≡ b → (z : Bool)
+        → ((cond b (some_pods ready bounded) (cond z (zero_rule_in standing.phase s time ready standing) (some_pods ready 1))).want == 0)
+        ≡ is_idle (cond b (some_pods ready bounded) (cond z (zero_rule_in standing.phase s time ready standing) (some_pods ready 1))).phase
+    by true e z = pods_phase ready bounded (above bounded e)
+    by false e true = zero_in_phase s time ready standing standing.phase some
+    by false e false = pods_phase ready 1 refl
+
+abbrev RulesByPhase : Ruling → Type 0
+RulesByPhase made = (made.decision.want == 0) ≡ is_idle made.phase
+
+ruling_phase : (s : Spec) (past : Past) (time ready : ℕ) (stable panic : Frac) → (past.standing.phase ≡ phase.Activating → (past.standing.want == 0) ≡ false) → RulesByPhase (ruling s past time ready stable panic)
+unfolding ruling
+ruling_phase s past time ready stable panic some = zero_phase s time ready _ past.standing some
+
+-- ---- rows without a decision or a phase
+
+unwanted : (s : Spec) (c es : Trace) → each_row decision_by es ≡ [] → wanted s (c ++ es) ≡ wanted s c
+unfolding wanted
+unwanted s c es none = rw (filter_map-append (λ (e : Entry). decision_by e.row) c es, none, append-nil (each_row decision_by c)) refl
+
+unphased : (c es : Trace) → each_row phase_by es ≡ [] → phase_of (c ++ es) ≡ phase_of c
+unfolding phase_of
+unphased c es none = rw (filter_map-append (λ (e : Entry). phase_by e.row) c es, none, append-nil (each_row phase_by c)) refl
+
+pub none-rows : {X : Type 0} (f : Row → Option X) (test : Row → Bool) → ((x : Row) → test x ≡ true → f x ≡ None) → (es : Trace) → Each test es → each_row f es ≡ []
+none-rows f test none [] h = refl
+none-rows f test none (e ∷ es) h = rw (none e.row h.0) (none-rows f test none es h.1)
+
+-- the premise stands over rows of such a kind
+wants-each : (s : Spec) (test : Row → Bool) → ((x : Row) → test x ≡ true → (decision_by x ≡ None) × (phase_by x ≡ None)) → (c es : Trace) → Each test es → WantsByPhase s c → WantsByPhase s (c ++ es)
+wants-each s test none c es h wants scaled =
+    rw (unwanted s c es (none-rows decision_by test (λ x k. (none x k).0) es h), unphased c es (none-rows phase_by test (λ x k. (none x k).1) es h)) (wants scaled)
+
+expire_plain : (x : Row) → is_expire_row x ≡ true → (decision_by x ≡ None) × (phase_by x ≡ None)
+expire_plain (row.Expire r) h = (refl, refl)
+expire_plain _ h = absurd (cc)
+
+act_plain : (x : Row) → is_act_row x ≡ true → (decision_by x ≡ None) × (phase_by x ≡ None)
+act_plain (row.Decided d) h = absurd (cc)
+act_plain (row.Phase p) h = absurd (cc)
+act_plain _ h = (refl, refl)
+
+run_plain : (x : Row) → is_run_row x ≡ true → (decision_by x ≡ None) × (phase_by x ≡ None)
+run_plain (row.Run r) h = (refl, refl)
+run_plain _ h = absurd (cc)
+
+assign_plain : (x : Row) → is_assign_row x ≡ true → (decision_by x ≡ None) × (phase_by x ≡ None)
+assign_plain (row.Assign r p) h = (refl, refl)
+assign_plain _ h = absurd (cc)
+
+remove_plain : (x : Row) → is_remove_row x ≡ true → (decision_by x ≡ None) × (phase_by x ≡ None)
+remove_plain (row.Remove p) h = (refl, refl)
+remove_plain _ h = absurd (cc)
+
+-- ---- the rows of a decision
+
+made-none : {X : Type 0} (f : Row → Option X) → ((p n : ℕ) → f (row.Create p n) ≡ None) → (s : Spec) (t : ℕ) (ps : List ℕ) → each_row f (map (λ p. entry t (row.Create p s.cc)) ps) ≡ []
+made-none f none s t [] = refl
+made-none f none s t (p ∷ ps) = rw (none p s.cc) (made-none f none s t ps)
+
+drained-none : {X : Type 0} (f : Row → Option X) → ((p : ℕ) → f (row.Drain p) ≡ None) → (t : ℕ) (ps : List ℕ) → each_row f (map (λ p. entry t (row.Drain p)) ps) ≡ []
+drained-none f none t [] = refl
+drained-none f none t (p ∷ ps) = rw (none p) (drained-none f none t ps)
+
+scale-none : {X : Type 0} (f : Row → Option X) → ((p n : ℕ) → f (row.Create p n) ≡ None) → ((p : ℕ) → f (row.Drain p) ≡ None) → (b : Bool) (s : Spec) (t : ℕ) (c : Trace) (want : ℕ) → each_row f (where_true b (scale_rows s t c want)) ≡ []
+unfolding scale_rows
+scale-none f create drain false s t c want = refl
+scale-none f create drain true s t c want =
+    let n = length (drain_order c) in
+    rw (filter_map-append (λ (e : Entry). f e.row) (creations s t (created c) (want - n)) (map (λ p. entry t (row.Drain p)) (take (n - want) (drain_order c))), made-none f create s t (range_with_len (created c) (want - n)), drained-none f drain t (take (n - want) (drain_order c))) refl
+
+where-none : {X : Type 0} (f : Row → Option X) (b : Bool) (x : Entry) → f x.row ≡ None → each_row f (where_true b (x ∷ [])) ≡ []
+where-none f false x h = refl
+where-none f true x h = rw h refl
+
+same_is : (p : Phase) (o : Option Phase) → is_same_phase p o ≡ true → o ≡ Some p
+same_is phase.Activating (Some phase.Activating) h = refl
+same_is phase.Active (Some phase.Active) h = refl
+same_is phase.Inactive (Some phase.Inactive) h = refl
+same_is p o h = absurd (cc)
+
+decision-wants : (s : Spec) (t : ℕ) (c : Trace) (made : Ruling) → RulesByPhase made → WantsByPhase s (c ++ decision_rows s t c made)
+unfolding decision_rows
+decision-wants s t c made rules scaled =
+    rw (sym (append_assoc c (x ∷ []) ((p ++ m) ++ sc)))
+    (rw (unwanted s (c ++ x ∷ []) ((p ++ m) ++ sc) tail, wanted-push s c x) (rules ∙ ap (λ (o : Option Phase). is_same_phase phase.Inactive o) (sym phases)))
+  where
+    bp : Bool
+    bp = is_same_phase made.phase (phase_of c)
+
+    x : Entry
+    x = entry t (row.Decided made.decision)
+
+    y : Entry
+    y = entry t (row.Phase made.phase)
+
+    p : Trace
+    p = where_true (not bp) (y ∷ [])
+
+    m : Trace
+    m = where_true (not (is_same_mode made.decision.mode (mode_of c))) (entry t (row.Mode made.decision.mode) ∷ [])
+
+    sc : Trace
+    sc = where_true made.decision.applied (scale_rows s t c made.decision.want)
+
+    tail : each_row decision_by ((p ++ m) ++ sc) ≡ []
+    tail = rw (filter_map-append (λ (e : Entry). decision_by e.row) (p ++ m) sc, filter_map-append (λ (e : Entry). decision_by e.row) p m, where-none decision_by (not bp) y refl, where-none decision_by (not (is_same_mode made.decision.mode (mode_of c))) (entry t (row.Mode made.decision.mode)) refl,
+        scale-none decision_by (λ p n. refl) (λ p. refl) made.decision.applied s t c made.decision.want) refl
+
+    rest : each_row phase_by (m ++ sc) ≡ []
+    rest = rw (filter_map-append (λ (e : Entry). phase_by e.row) m sc, where-none phase_by (not (is_same_mode made.decision.mode (mode_of c))) (entry t (row.Mode made.decision.mode)) refl,
+        scale-none phase_by (λ p n. refl) (λ p. refl) made.decision.applied s t c made.decision.want) refl
+
+    first : phase_of (c ++ x ∷ []) ≡ phase_of c
+    first = phase_of-push c x
+
+    here : (b : Bool) → is_same_phase made.phase (phase_of c) ≡ b → phase_of ((c ++ x ∷ []) ++ where_true (not b) (y ∷ [])) ≡ Some made.phase
+    here true e = rw (append-nil (c ++ x ∷ [])) (first ∙ same_is made.phase (phase_of c) e)
+    here false e = phase_of-push (c ++ x ∷ []) y
+
+    phases : phase_of ((c ++ x ∷ []) ++ ((p ++ m) ++ sc)) ≡ Some made.phase
+    phases =
+        ap phase_of (ap (λ (l : Trace). (c ++ x ∷ []) ++ l) (append_assoc p m sc) ∙ sym (append_assoc (c ++ x ∷ []) p (m ++ sc)))
+        ∙ unphased ((c ++ x ∷ []) ++ p) (m ++ sc) rest ∙ here bp refl
+
+-- what stands before a decision
+stands_some : (s : Spec) (c : Trace) → s.kind ≡ kind.Kpa → WantsByPhase s c → unwrap_or (phase_of c) phase.Inactive ≡ phase.Activating → (wanted s c == 0) ≡ false
+stands_some s c scaled wants h = wants scaled ∙ by (phase_of c) h
+  where
+    by : (o : Option Phase) → unwrap_or o phase.Inactive ≡ phase.Activating → is_same_phase phase.Inactive o ≡ false
+    by (Some phase.Activating) h = refl
+    by (Some phase.Active) h = refl
+    by (Some phase.Inactive) h = absurd (cc)
+    by None h = absurd (cc)
