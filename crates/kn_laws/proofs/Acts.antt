@@ -1,5 +1,5 @@
 -- What an act's own row is, and that no other row of its event is of an act.
-use Rattle.std.proofs.Common.{◌≡◌, ℕ, Bool, true, false, cond, List, [], ◌∷◌, ◌++◌, nat_le, length, map, refl, sym, ap, ◌∙◌}
+use Rattle.std.proofs.Common.{◌≡◌, ℕ, Bool, true, false, cond, List, [], ◌∷◌, ◌++◌, ◌⊎◌, inl, inr, nat_le, length, map, refl, sym, ap, ◌∙◌}
 use Rattle.std.specs.Prelude.{Option, None, Some, slice_index, ◌%◌, ⊤}
 use Rattle.kn_event.specs.declared.entry.Entry.{Entry}
 use Rattle.kn_event.specs.declared.entry.Row.{Row}
@@ -79,12 +79,12 @@ act-facts s c (act.Ready p) = by (contains p (live_pods c)) (is_starting c p)
     by : (a b : Bool) → IsActRow (act.Ready p) (Some (cond a (cond b (row.Ready p) (row.NotStarting p)) (row.NoPod p)))
     by true true = (refl, refl)
     by true false = (refl, refl)
-    by false b = (refl, tt)
+    by false b = (refl, inl refl)
 act-facts s c (act.Limit p n) = by (contains p (live_pods c))
   where
     by : (b : Bool) → IsActRow (act.Limit p n) (Some (cond b (row.Limit p n) (row.NoPod p)))
     by true = (refl, refl)
-    by false = (refl, tt)
+    by false = (refl, inr (n, refl))
 act-facts s c act.Tick = tt
 
 pub act-rows : (s : Spec) (t : ℕ) (c : Trace) (a : Act) → Each is_act_row (entries_of t (act_row s c a))
@@ -151,7 +151,7 @@ pub removals-rows : (t : ℕ) (c : Trace) → Each is_remove_row (removals t c)
 unfolding removals
 removals-rows t c = removed-rows t _
 
-react-by : (s : Spec) (c : Trace) (e : Event) → EachIs (IsByAct e.act) (react s c e)
+pub react-by : (s : Spec) (c : Trace) (e : Event) → EachIs (IsByAct e.act) (react s c e)
 unfolding react before_settling act_rows settling held_assignments
 react-by s c e =
     let gone = expiries s e.time c in

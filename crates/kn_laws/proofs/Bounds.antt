@@ -199,7 +199,7 @@ length-filter-within t (x ∷ xs) = by (t x) (length-filter-within t xs)
     by true h = omega arith
     by false h = omega arith
 
-held_rows : (s : Spec) (t : ℕ) (c : Trace) → Each is_assign_row (held_assignments s t c)
+pub held_rows : (s : Spec) (t : ℕ) (c : Trace) → Each is_assign_row (held_assignments s t c)
 unfolding held_assignments
 held_rows s t c = assignments-rows s t c (held c)
 

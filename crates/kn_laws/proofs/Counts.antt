@@ -91,7 +91,7 @@ taken_room s c (row.Admit q tag) r h e = h.0.room
 taken_room s c (row.Direct q p) r h e = h.0.room
 taken_room s c _ r h e = absurd (cc)
 
-ended-less : (c : Trace) (e : Entry) (q : ℕ) → not (ended (c ++ e ∷ []) q) ≡ true → not (ended c q) ≡ true
+pub ended-less : (c : Trace) (e : Entry) (q : ℕ) → not (ended (c ++ e ∷ []) q) ≡ true → not (ended c q) ≡ true
 ended-less c e q h = by (ended c q) _ (ap (λ (b : Bool). not b) (sym (ended-push c e q)) ∙ h)
   where
     by : (a m : Bool) → not (a || m) ≡ true → not a ≡ true
@@ -273,7 +273,7 @@ held_waits c r num h =
     let idle : has_run c r ≡ false = false_unless (has_run c r) (λ n. let no = num.direct r (num.ran r n) in let yes_it_is = member.admitted in absurd (cc)) in
     in_filter (has_not_begun c) r (each_row taken_by c) (within-from admitted_by taken_by admitted_taken r c member.admitted) (rw (member.assigned, idle, member.ended) refl)
 
-not_begun-less : (c : Trace) (e : Entry) (q : ℕ) → has_not_begun (c ++ e ∷ []) q ≡ true → has_not_begun c q ≡ true
+pub not_begun-less : (c : Trace) (e : Entry) (q : ℕ) → has_not_begun (c ++ e ∷ []) q ≡ true → has_not_begun c q ≡ true
 unfolding has_not_begun has_begun
 not_begun-less c e q h = by (assigned c q) _ (has_run c q) _ (ended c q) _ (sym (has_not_begun-push c e q) ∙ h)
   where

@@ -27,3 +27,5 @@ pub mod Counts
 pub mod Acts
 pub mod Bounds
 pub mod Phases
+pub mod Serving
+pub mod Telling

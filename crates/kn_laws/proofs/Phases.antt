@@ -1,7 +1,8 @@
 -- No pod is wanted exactly where the phase is inactive.
-use Rattle.std.proofs.Common.{◌≡◌, ℕ, ◌-◌, ◌*◌, Bool, true, false, not, cond, ◌&&◌, List, [], ◌∷◌, ◌++◌, length, map, take, nat_lt, zero, suc, refl, sym, ap, ◌∙◌, arith, append-nil, append_assoc}
+use Rattle.std.proofs.Common.{◌≡◌, ℕ, ◌-◌, ◌*◌, Bool, true, false, not, cond, ◌&&◌, List, [], ◌∷◌, ◌++◌, length, map, take, nat_lt, zero, suc, refl, sym, ap, subst, ◌∙◌, arith, append-nil, append_assoc}
 use Rattle.std.specs.Prelude.{Option, None, Some, ◌==◌, unwrap_or}
 use Rattle.std.specs.List.{range_with_len}
+use Rattle.std.proofs.lemmas.Bool.{eqb-true}
 use Rattle.std.proofs.lemmas.Bool.Decides.{nat_tests}
 use Rattle.std.proofs.lemmas.List.Elements.{filter_map-append}
 use Rattle.kn_event.specs.declared.entry.Entry.{Entry}
@@ -27,6 +28,7 @@ use Rattle.kn_trace.specs.Settling.{assignments_of, held_assignments, promotions
 use Rattle.kn_trace.specs.Events.{act_row, act_rows, activation, added, before_settling, entries_of, expiries, opening, opening_of, opening_phase, react, scaler_rows, trace_of, wake_where}
 use Rattle.kn_laws.specs.Phases.{WantsByPhase}
 use Rattle.kn_laws.proofs.Flags.{or_else}
+use Rattle.kn_laws.proofs.Numbers.{false_unless}
 use Rattle.kn_laws.proofs.Kept.{phase_of-push, want_after, wanted-push}
 use Rattle.kn_laws.proofs.Rows.{Each, assignments-rows, expiries-rows, is_assign_row, is_expire_row, is_remove_row, is_run_row, promotions-rows}
 use Rattle.kn_laws.proofs.Acts.{act-rows, is_act_row, removals-rows}
@@ -197,3 +199,102 @@ stands_some s c scaled wants h = wants scaled ∙ by (phase_of c) h
     by (Some phase.Active) h = refl
     by (Some phase.Inactive) h = absurd (cc)
     by None h = absurd (cc)
+
+tick-wants : (s : Spec) (t : ℕ) (c : Trace) → s.kind ≡ kind.Kpa → WantsByPhase s c → WantsByPhase s (c ++ tick_rows s t c)
+unfolding tick_rows decision_at past_of standing_of scaling.decision_at
+tick-wants s t c scaled wants = by (window_average (past_of s c).samples s.stable_s (second_of t))
+  where
+    by : (o : Option Frac) → WantsByPhase s (c ++ tick_rows_of s t c (decision_from_stable s (past_of s c) t (count_ready c) o))
+    by None = λ k. rw (unwanted s c (entry t row.NoData ∷ []) refl, unphased c (entry t row.NoData ∷ []) refl) (wants k)
+    by (Some stable) = decision-wants s t c (ruling s (past_of s c) t (count_ready c) stable (unwrap_or (window_average (past_of s c).samples s.panic_s (second_of t)) no_load))
+        (ruling_phase s (past_of s c) t (count_ready c) stable _ (stands_some s c scaled wants))
+
+wake-wants : (b : Bool) (s : Spec) (t : ℕ) (c : Trace) → s.kind ≡ kind.Kpa → WantsByPhase s c → WantsByPhase s (c ++ wake_where b s t c)
+unfolding wake_rows wake_decision_at past_of standing_of scaling.wake_decision_at
+wake-wants false s t c scaled wants = rw (append-nil c) wants
+wake-wants true s t c scaled wants = decision-wants s t c (ruling s (past_of s c) t (count_ready c) one_request one_request) (ruling_phase s (past_of s c) t (count_ready c) one_request one_request (stands_some s c scaled wants))
+
+scaler-wants : (k : Kind) (s : Spec) (t : ℕ) (c : Trace) (a : Act) (did : Option Row) → s.kind ≡ kind.Kpa → WantsByPhase s c → WantsByPhase s (c ++ scaler_rows k s t c a did)
+scaler-wants kind.Kpa s t c act.Tick did scaled wants = tick-wants s t c scaled wants
+scaler-wants kind.Kpa s t c (act.Arrive tag) (Some (row.Admit r g)) scaled wants = wake-wants (wanted s c == 0) s t c scaled wants
+scaler-wants k s t c a did scaled wants = rw (append-nil c) wants
+
+-- activating or active, some pod is wanted
+activation-wants : (s : Spec) (t : ℕ) (c : Trace) → WantsByPhase s c → WantsByPhase s (c ++ activation t c)
+unfolding activation
+activation-wants s t c wants scaled = by (is_same_phase phase.Activating (phase_of c)) refl (is_empty (ready_pods c))
+  where
+    x : Entry
+    x = entry t (row.Phase phase.Active)
+
+    apart : (o : Option Phase) → is_same_phase phase.Activating o ≡ true → is_same_phase phase.Inactive o ≡ false
+    apart (Some phase.Activating) h = refl
+    apart (Some phase.Active) h = absurd (cc)
+    apart (Some phase.Inactive) h = absurd (cc)
+    apart None h = absurd (cc)
+
+    by : (a : Bool) → is_same_phase phase.Activating (phase_of c) ≡ a → (b : Bool)
+        → (wanted s (c ++ where_true (a && not b) (x ∷ [])) == 0) ≡ is_same_phase phase.Inactive (phase_of (c ++ where_true (a && not b) (x ∷ [])))
+    by false e b = rw (append-nil c) (wants scaled)
+    by true e true = rw (append-nil c) (wants scaled)
+    by true e false = rw (wanted-push s c x, phase_of-push c x) (wants scaled ∙ apart (phase_of c) e)
+
+settling-wants : (s : Spec) (t : ℕ) (c : Trace) → WantsByPhase s c → WantsByPhase s (c ++ settling s t c)
+unfolding settling held_assignments
+settling-wants s t c wants =
+    let ran = promotions t c (live_pods c) in
+    let gave = assignments_of s t (c ++ ran) (held (c ++ ran)) in
+    let gone = removals t ((c ++ ran) ++ gave) in
+    let one = wants-each s is_run_row run_plain c ran (promotions-rows t c (live_pods c)) wants in
+    let two = wants-each s is_assign_row assign_plain (c ++ ran) gave (assignments-rows s t (c ++ ran) (held (c ++ ran))) one in
+    let three = wants-each s is_remove_row remove_plain ((c ++ ran) ++ gave) gone (removals-rows t ((c ++ ran) ++ gave)) two in
+    subst (λ (d : Trace). WantsByPhase s d) (append_assoc (c ++ ran) gave gone ∙ append_assoc c ran (gave ++ gone) ∙ ap (λ (l : Trace). c ++ l) (sym (append_assoc ran gave gone))) three
+
+pub react-wants : (s : Spec) (c : Trace) (e : Event) → WantsByPhase s c → WantsByPhase s (c ++ react s c e)
+unfolding react before_settling act_rows
+react-wants s c e wants scaled =
+    let gone = expiries s e.time c in
+    let own = entries_of e.time (act_row s (c ++ gone) e.act) in
+    let more = scaler_rows s.kind s e.time ((c ++ gone) ++ own) e.act (act_row s (c ++ gone) e.act) in
+    let active = activation e.time ((c ++ gone) ++ (own ++ more)) in
+    let first = (gone ++ (own ++ more)) ++ active in
+    let one = wants-each s is_expire_row expire_plain c gone (expiries-rows s e.time c) wants in
+    let two = wants-each s is_act_row act_plain (c ++ gone) own (act-rows s e.time (c ++ gone) e.act) one in
+    let three = scaler-wants s.kind s e.time ((c ++ gone) ++ own) e.act (act_row s (c ++ gone) e.act) scaled two in
+    let four = activation-wants s e.time ((c ++ gone) ++ (own ++ more)) (subst (λ (d : Trace). WantsByPhase s d) (append_assoc (c ++ gone) own more) three) in
+    let all : ((c ++ gone) ++ (own ++ more)) ++ active ≡ c ++ first = append_assoc (c ++ gone) (own ++ more) active ∙ append_assoc c gone ((own ++ more) ++ active) ∙ ap (λ (l : Trace). c ++ l) (sym (append_assoc gone (own ++ more) active)) in
+    let five = settling-wants s e.time (c ++ first) (subst (λ (d : Trace). WantsByPhase s d) all four) in
+    subst (λ (d : Trace). WantsByPhase s d) (append_assoc c first (settling s e.time (c ++ first))) five scaled
+
+nothing_wanted : (s : Spec) → wanted s [] ≡ opening_scale s
+unfolding wanted
+nothing_wanted s = refl
+
+pub opening-wants : (s : Spec) (start : ℕ) → WantsByPhase s (opening s start)
+unfolding opening
+opening-wants s start scaled = by s.kind scaled
+  where
+    x : Entry
+    x = entry start (row.Phase (opening_phase (opening_scale s)))
+
+    new : Trace
+    new = creations s start 0 (opening_scale s)
+
+    first : (n : ℕ) → (n == 0) ≡ is_idle (opening_phase n)
+    first zero = refl
+    first (suc n) = false_unless (suc n == 0) (λ h. let e : suc n ≡ 0 = eqb-true (suc n) 0 h in absurd (omega arith))
+
+    by : (k : Kind) → k ≡ kind.Kpa → (wanted s (opening_of k s start) == 0) ≡ is_same_phase phase.Inactive (phase_of (opening_of k s start))
+    by kind.Kpa h =
+        rw (unwanted s (x ∷ []) new (made-none decision_by (λ p n. refl) s start (range_with_len 0 (opening_scale s))), unphased (x ∷ []) new (made-none phase_by (λ p n. refl) s start (range_with_len 0 (opening_scale s))))
+        (rw (wanted-push s [] x, phase_of-push [] x, nothing_wanted s) (first (opening_scale s)))
+    by (kind.Fixed n) h = absurd (cc)
+
+wants_added : (s : Spec) (c : Trace) (es : List Event) → WantsByPhase s c → WantsByPhase s (c ++ added s c es)
+unfolding added
+wants_added s c [] wants = rw (append-nil c) wants
+wants_added s c (e ∷ es) wants = rw (append_assoc c (react s c e) (added s (c ++ react s c e) es)) at (wants_added s (c ++ react s c e) es (react-wants s c e wants))
+
+pub wants_trace : (s : Spec) (start : ℕ) (es : List Event) → WantsByPhase s (trace_of s start es)
+unfolding trace_of
+wants_trace s start es = wants_added s (opening s start) es (opening-wants s start)

@@ -1,5 +1,5 @@
 -- Which act a row comes from.
-use Rattle.std.specs.Prelude.{◌≡◌, ℕ, Bool, ◌∷◌, ◌++◌, Option, ⊤}
+use Rattle.std.specs.Prelude.{◌≡◌, ℕ, Bool, ◌∷◌, ◌++◌, ◌⊎◌, Option, ⊤}
 use Rattle.kn_event.specs.declared.entry.Entry.{Entry}
 use Rattle.kn_event.specs.declared.entry.Row.{Row}
 use Rattle.kn_event.specs.declared.entry.Row.TheVariants as row
@@ -26,6 +26,7 @@ IsByAct a (row.NotWaiting r) = a ≡ act.Cancel r
 IsByAct a (row.Ready p) = a ≡ act.Ready p
 IsByAct a (row.NotStarting p) = a ≡ act.Ready p
 IsByAct a (row.Limit p n) = a ≡ act.Limit p n
+IsByAct a (row.NoPod p) = (a ≡ act.Ready p) ⊎ ((n : ℕ) × (a ≡ act.Limit p n))
 IsByAct a _ = ⊤
 
 -- so it is of each row that an event adds

@@ -5,3 +5,4 @@ pub mod Beside
 pub mod Views
 pub mod ByAct
 pub mod Phases
+pub mod Told
