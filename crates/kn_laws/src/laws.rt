@@ -7,6 +7,7 @@ ghost use Rattle.kn_trace.specs.Events.{opening, react, trace_of};
 ghost use Rattle.kn_trace.specs.Laws.{IsInert, IsLawful, IsSettled};
 ghost use Rattle.kn_laws.specs.Beside.{LeavesTheRest};
 ghost use Rattle.kn_laws.specs.Made.{IsMade};
+ghost use Rattle.kn_laws.specs.Phases.{WantsByPhase};
 
 /// Of every trace that a journal's events make: each row was proper when it came, it is lawful and settled, and a
 /// further event that is refused is inert.
@@ -27,4 +28,11 @@ pub fn step_laws()
     ensures settled { (s : Spec) (c : Trace) (e : Event) → IsMade s c → IsSettled s (c ++ react s c e) }
     ensures inert { (s : Spec) (c : Trace) (e : Event) → IsMade s c → IsSettled s c → IsInert s c e }
     ensures beside { (s : Spec) (c : Trace) (e : Event) → IsMade s c → IsSettled s c → LeavesTheRest s c e }
+{}
+
+/// On a scaled revision no pod is wanted exactly where the phase is inactive.
+pub fn phase_laws()
+    ensures opening { (s : Spec) (start : ℕ) → WantsByPhase s (opening s start) }
+    ensures step { (s : Spec) (c : Trace) (e : Event) → WantsByPhase s c → WantsByPhase s (c ++ react s c e) }
+    ensures trace { (s : Spec) (start : ℕ) (es : List Event) → WantsByPhase s (trace_of s start es) }
 {}

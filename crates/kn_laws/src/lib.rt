@@ -6,5 +6,7 @@
 mod admission;
 pub mod append;
 pub mod laws;
+pub mod server;
+pub mod sizes;
 
 pub use admission::{Place, Pod, Readiness, Request};
