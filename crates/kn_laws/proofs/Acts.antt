@@ -56,6 +56,7 @@ arrival-facts mode.Serve s c (p ∷ ps) tag = direct-facts c (p ∷ ps) tag
 arrival-facts mode.Serve s c [] tag = admission-facts s c tag
 arrival-facts mode.Proxy s c ps tag = admission-facts s c tag
 
+-- the row of an act, where it has one, is of its kind and names what the act names
 pub act-facts : (s : Spec) (c : Trace) (a : Act) → IsActRow a (act_row s c a)
 unfolding act_row
 act-facts s c (act.Arrive tag) = by (nat_le live_most (length (live c)))
@@ -87,6 +88,7 @@ act-facts s c (act.Limit p n) = by (contains p (live_pods c))
     by false = (refl, inr (n, refl))
 act-facts s c act.Tick = tt
 
+-- the same as a list
 pub act-rows : (s : Spec) (t : ℕ) (c : Trace) (a : Act) → Each is_act_row (entries_of t (act_row s c a))
 act-rows s t c a = by (act_row s c a) (act-facts s c a)
   where
@@ -140,6 +142,7 @@ scaler_by a (row.Create p n) h = tt
 scaler_by a (row.Drain p) h = tt
 scaler_by a _ h = absurd (cc)
 
+-- the act's own row names what the act names
 own_by : (s : Spec) (t : ℕ) (c : Trace) (a : Act) → EachIs (IsByAct a) (entries_of t (act_row s c a))
 own_by s t c a = by (act_row s c a) (act-facts s c a)
   where
@@ -147,10 +150,12 @@ own_by s t c a = by (act_row s c a) (act-facts s c a)
     by None h = tt
     by (Some x) h = (h.1, tt)
 
+-- the removals are removals
 pub removals-rows : (t : ℕ) (c : Trace) → Each is_remove_row (removals t c)
 unfolding removals
 removals-rows t c = removed-rows t _
 
+-- each row that an event adds is of its act, or of none
 pub react-by : (s : Spec) (c : Trace) (e : Event) → EachIs (IsByAct e.act) (react s c e)
 unfolding react before_settling act_rows settling held_assignments
 react-by s c e =

@@ -29,10 +29,12 @@ numbers-absent : (r : ℕ) (l : List Request) → contains r (map (λ (q : Reque
 numbers-absent r [] h = refl
 numbers-absent r (q ∷ l) h = let both = or_parts (q.number == r) _ h in rw (other_number q.number r both.0) (numbers-absent r l both.1)
 
+-- a request that no row is about is not live
 pub not_live : (c : Trace) (r : ℕ) → contains r (each_row named_by c) ≡ false → contains r (live c) ≡ false
 unfolding live
 not_live c r h = contains-filter (λ r. not (ended c r)) r (each_row taken_by c) ∙ rw (contains-within taken_by named_by taken_named r c h) refl
 
+-- one more entry changes the live requests by one step
 pub live-push : (c : Trace) (t : ℕ) (x : Row) → KeepsNumbers c x → live_requests (c ++ entry t x ∷ []) ≡ live_after t x (live_requests c)
 live-push c t (row.Admit r tag) keeps = live_requests-admit c t r tag (is_new c r (keeps.fresh r refl))
 live-push c t (row.Direct r p) keeps =
@@ -63,6 +65,7 @@ is_new_pod c p h = record {
   absent = pod-numbers-absent p (pods c) (rw (← live-pods c) (not_live_pod c p h));
 }
 
+-- one more entry changes the pods by one step
 pub pods-push : (c : Trace) (t : ℕ) (x : Row) → KeepsPods c x → pods (c ++ entry t x ∷ []) ≡ pods_after x (pods c)
 pods-push c t (row.Create p n) keeps = pods-create c t p n (is_new_pod c p (keeps.fresh p refl))
 pods-push c t (row.Limit p n) keeps = pods-limit c t p n
@@ -77,6 +80,7 @@ place_from-push : (place : ℕ) (before c : Trace) (e : Entry) → place_from pl
 place_from-push place before [] e = rw (append-nil before) refl
 place_from-push place before (x ∷ c) e = rw (append_assoc before (x ∷ []) c) at (place_from-push (place_by before x.row place) (before ++ x ∷ []) c e)
 
+-- the place of the round robin by one more entry
 robin-push : (c : Trace) (t : ℕ) (x : Row) → round_robin_place (c ++ entry t x ∷ []) ≡ robin_after x (pods c) (round_robin_place c)
 unfolding round_robin_place
 robin-push c t x = place_from-push 0 [] c (entry t x) ∙ by x
@@ -87,6 +91,7 @@ robin-push c t x = place_from-push 0 [] c (entry t x) ∙ by x
 
 -- ---- all of it
 
+-- the record by one more entry, where the row keeps both numberings
 pub admission-push : (c : Trace) (t : ℕ) (x : Row) → KeepsNumbers c x → KeepsPods c x → admission (c ++ entry t x ∷ []) ≡ stepped t x (admission c)
 unfolding admission stepped arrivals created assignment_count direct_turn
 admission-push c t x requests' pods' =
@@ -118,5 +123,6 @@ StandsFor-push s a c t x h p =
 pub stands_made : (s : Spec) (c : Trace) → IsMade s c → StandsFor (admission c) c
 stands_made s c made = let kept = made_kept s c made in record { kept = refl; requests = kept.requests; pods = kept.pods }
 
+-- so at each trace that was made
 pub admission_made : (s : Spec) (c : Trace) (t : ℕ) (x : Row) → IsMade s c → IsProper s c x → admission (c ++ entry t x ∷ []) ≡ stepped t x (admission c)
 admission_made s c t x made p = let kept = made_kept s c made in admission-push c t x (proper_keeps s c x kept.requests p) (proper_keeps_pods s c x kept.pods p)

@@ -18,6 +18,7 @@ use Rattle.kn_laws.proofs.Inert.{refusals_inert}
 use Rattle.kn_laws.proofs.Running.{made_trace}
 use Rattle.kn_laws.proofs.Settles.{settled_trace}
 
+-- a refusal steps the record by its number and its turn alone
 refusal-stepped : (t : ℕ) (x : Row) (a : Admission) → is_refusal x ≡ true → stepped t x a ≡ refused x a
 unfolding stepped
 refusal-stepped t (row.QueueFull r pod) a h = refl
@@ -32,9 +33,11 @@ refusal-stepped t _ a h = absurd (cc)
 pub act-proper : (s : Spec) (c : Trace) (e : Event) (x : Row) → act_row s c e.act ≡ Some x → IsProper s c x
 act-proper s c e x is = (rw is at (act-holds s e.time c e.act)).0
 
+-- the expiries of a trace that was made are proper
 pub made_expiries : (s : Spec) (t : ℕ) (c : Trace) → IsMade s c → IsMade s (c ++ expiries s t c)
 made_expiries s t c made = record { rows = Holds-append (IsProper s) [] c (expiries s t c) made.rows (expiries-hold s t c (made_kept s c made).requests) }
 
+-- after a refused event the record is that after the expiries, but for a number and a turn
 pub refusals_leave : (s : Spec) (c : Trace) (e : Event) → IsMade s c → IsSettled s c → LeavesTheRest s c e
 refusals_leave s c e made settled x is h =
     let gone = expiries s e.time c in

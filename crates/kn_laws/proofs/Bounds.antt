@@ -61,6 +61,7 @@ drained-count : (t : ℕ) (ps : List ℕ) → each_row created_by (map (λ p. en
 drained-count t [] = refl
 drained-count t (p ∷ ps) = drained-count t ps
 
+-- new pods fill up what stands, and no more
 scale-created : (s : Spec) (t : ℕ) (c : Trace) (want : ℕ) → length (drain_order c) ≤ pods_most → want ≤ pods_most → length (each_row created_by (scale_rows s t c want)) + length (drain_order c) ≤ pods_most
 unfolding scale_rows
 scale-created s t c want few some =
@@ -85,6 +86,7 @@ pub record AddsFew (most : ℕ) (c es : Trace) : Type 0 where
   pub rows : length es ≤ most
   pub pods : length (each_row created_by es) + length (drain_order c) ≤ pods_most
 
+-- a decision adds at most 503 rows
 decision-few : (s : Spec) (t : ℕ) (c : Trace) (made : Ruling) → length (drain_order c) ≤ pods_most → made.decision.want ≤ pods_most → AddsFew 503 c (decision_rows s t c made)
 unfolding decision_rows
 decision-few s t c made few some =
@@ -110,6 +112,7 @@ decision-few s t c made few some =
 nothing-few : (c : Trace) → length (drain_order c) ≤ pods_most → AddsFew 503 c []
 nothing-few c few = record { rows = omega arith; pods = omega arith }
 
+-- so does a tick
 tick-few : (s : Spec) (t : ℕ) (c : Trace) → Kept s c → AreInRange s → length (drain_order c) ≤ pods_most → AddsFew 503 c (tick_rows s t c)
 unfolding tick_rows decision_rows
 tick-few s t c kept ranges few = by (decision_at s c t) (tick-holds s t c kept)
@@ -118,6 +121,7 @@ tick-few s t c kept ranges few = by (decision_at s c t) (tick-holds s t c kept)
     by None h = record { rows = omega arith; pods = omega arith }
     by (Some made) h = decision-few s t c made few (h.0 ranges)
 
+-- so does a decision on an arrival
 wake-few : (b : Bool) (s : Spec) (t : ℕ) (c : Trace) → Kept s c → AreInRange s → length (drain_order c) ≤ pods_most → AddsFew 503 c (wake_where b s t c)
 unfolding wake_rows decision_rows
 wake-few false s t c kept ranges few = nothing-few c few
@@ -133,6 +137,7 @@ scaler-few k s t c a did kept ranges few = nothing-few c few
 abbrev NoNewPods : (Row → Bool) → Type 0
 NoNewPods test = (x : Row) → test x ≡ true → (created_by x ≡ None) × (drained_by x ≡ None) × (removed_by x ≡ None)
 
+-- such rows leave those that drain
 draining-stays : (test : Row → Bool) → NoNewPods test → (c es : Trace) → Each test es → draining (c ++ es) ≡ draining c
 draining-stays test none c [] h = rw (append-nil c) refl
 draining-stays test none c (e ∷ es) h = rw (append_assoc c (e ∷ []) es) at (draining-stays test none (c ++ e ∷ []) es h.1 ∙ draining-same c e (none e.row h.0))
@@ -179,6 +184,7 @@ scaler_takes (row.Admit r tag) h = absurd (cc)
 scaler_takes (row.Direct r p) h = absurd (cc)
 scaler_takes _ h = refl
 
+-- no more rows say something than there are
 count-within : (f : Row → Option ℕ) (es : Trace) → length (each_row f es) ≤ length es
 count-within f [] = omega arith
 count-within f (e ∷ es) = by (f e.row) (count-within f es)
@@ -225,6 +231,7 @@ more_of s c e = scaler_rows s.kind s e.time ((c ++ gone_of s c e) ++ own_of s c 
 abbrev pub active_of : Spec → Trace → Event → Trace
 active_of s c e = activation e.time ((c ++ gone_of s c e) ++ (own_of s c e ++ more_of s c e))
 
+-- the rows before the settling are these
 pub before-parts : (s : Spec) (c : Trace) (e : Event) → before_settling s c e ≡ (gone_of s c e ++ (own_of s c e ++ more_of s c e)) ++ active_of s c e
 unfolding before_settling act_rows
 before-parts s c e = refl
@@ -243,6 +250,7 @@ activation-creates t c = rw (where-created (is_same_phase phase.Activating (phas
 pub before-whole : (c gone own more active : Trace) → ((c ++ gone) ++ own) ++ (more ++ active) ≡ c ++ ((gone ++ (own ++ more)) ++ active)
 before-whole c gone own more active = simp append_assoc refl
 
+-- what they come to, at a trace that was made
 counts-before : (s : Spec) (c : Trace) (e : Event) → IsMade s c → AreInRange s → Before c (gone_of s c e) (before_settling s c e)
 counts-before s c e made ranges =
     let gone = gone_of s c e in
@@ -343,6 +351,7 @@ few_pods_before s c e ranges made settled =
     let pods = before.pods in
     omega arith
 
+-- an event adds at most 20,505 entries before its settling
 pub few_before : (s : Spec) (c : Trace) (e : Event) → AreInRange s → IsMade s c → length (before_settling s c e) ≤ 20505
 few_before s c e ranges made =
     let before = counts-before s c e made ranges in
@@ -378,6 +387,7 @@ few_entries s c e ranges made settled =
     let len : length (first ++ settling s e.time (c ++ first)) ≡ length first + length (settling s e.time (c ++ first)) = length-append first (settling s e.time (c ++ first)) in
     omega arith
 
+-- at most 20,000 requests expire at once
 pub few_expiries : (s : Spec) (t : ℕ) (c : Trace) → IsMade s c → length (expiries s t c) ≤ live_most
 few_expiries s t c made =
     let w = leaves-list s c (expiries s t c) (made_kept s c made) (expiries-hold s t c (made_kept s c made).requests) in
@@ -387,6 +397,7 @@ few_expiries s t c made =
     let g = few_live s c made in
     omega arith
 
+-- a settling adds at most 40,500 entries
 pub few_settling : (s : Spec) (c : Trace) (e : Event) → AreInRange s → IsMade s c → IsSettled s c → length (settling s e.time (c ++ before_settling s c e)) ≤ 40500
 few_settling s c e ranges made settled =
     let first = before_settling s c e in

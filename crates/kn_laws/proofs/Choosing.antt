@@ -30,6 +30,7 @@ abbrev pub IsSeated : Option ℕ → List ℕ → Type 0
 IsSeated None pods = pods ≡ []
 IsSeated (Some p) pods = contains p pods ≡ true
 
+-- the first pod with a seat has one, and there is one where one has
 find-seated : (cs : List Cand) → IsSeated (option_map (λ (q : Cand). q.pod) (find has_seat cs)) (seated cs)
 find-seated [] = refl
 find-seated (q ∷ cs) = by (has_seat q) (find-seated cs)
@@ -38,6 +39,7 @@ find-seated (q ∷ cs) = by (has_seat q) (find-seated cs)
     by true rest = rw (same_number q.pod) refl
     by false rest = rest
 
+-- turning the list changes nobody's seat
 seated-turned : (n : ℕ) (cs : List Cand) (o : Option ℕ) → IsSeated o (seated (turned_to n cs)) → IsSeated o (seated cs)
 seated-turned n cs o h = by (nat_lt n (length cs)) o h
   where
@@ -81,6 +83,7 @@ skips k i j hi hj = by (nat_le i j)
     by true = omega arith
     by false = omega arith
 
+-- the choice of two is one of the list
 two-seated : (cs : List Cand) (a b : ℕ) → IsSeated (choice_of_two cs a b) (map (λ (q : Cand). q.pod) cs)
 two-seated [] a b = refl
 two-seated (q ∷ []) a b = rw (same_number q.pod) refl
@@ -99,6 +102,7 @@ two-seated (q ∷ r ∷ cs) a b =
         two true = hy
         two false = hx
 
+-- whatever the policy, the pod that is chosen has a seat, and none is chosen only where none has
 pub chosen-seated : (cc seed place assigns : ℕ) (cs : List Cand) → IsSeated (chosen_pod cc seed place assigns cs) (seated cs)
 unfolding chosen_pod first_available round_robin random_choice
 chosen-seated cc seed place assigns cs = by (cc == 0) (nat_lt cc 4)
@@ -123,15 +127,18 @@ seated-candidates c = from (ready_pods c)
         by true rest = ap (λ (l : List ℕ). p ∷ l) rest
         by false rest = rest
 
+-- the same of a trace: the pods with a seat are the Ready ones that are free
 pub choice-seated : (s : Spec) (c : Trace) → IsSeated (choice s c) (filter (has_free_seat c) (ready_pods c))
 unfolding choice
 choice-seated s c = subst (λ (l : List ℕ). IsSeated (chosen_pod s.cc s.slots.seed (round_robin_place c) (assignment_count c) (candidates c)) l) (seated-candidates c) (chosen-seated s.cc s.slots.seed (round_robin_place c) (assignment_count c) (candidates c))
 
+-- a chosen pod is Ready and has a free seat
 pub choice-good : (s : Spec) (c : Trace) (p : ℕ) → choice s c ≡ Some p → (contains p (ready_pods c) ≡ true) × (has_free_seat c p ≡ true)
 choice-good s c p h =
     and_parts (contains p (ready_pods c)) (has_free_seat c p)
     (sym (contains-filter (has_free_seat c) p (ready_pods c)) ∙ subst (λ (o : Option ℕ). IsSeated o (filter (has_free_seat c) (ready_pods c))) h (choice-seated s c))
 
+-- where none is chosen no Ready pod has a free seat
 pub choice-none : (s : Spec) (c : Trace) → choice s c ≡ None → (p : ℕ) → contains p (ready_pods c) ≡ true → has_free_seat c p ≡ false
 choice-none s c n p h =
     let empty = subst (λ (o : Option ℕ). IsSeated o (filter (has_free_seat c) (ready_pods c))) n (choice-seated s c) in
@@ -141,6 +148,7 @@ choice-none s c n p h =
     second true b e h = h
     second false b e h = absurd (cc)
 
+-- where an assignment comes next there is room for it
 pub next_choice-good : (s : Spec) (c : Trace) (p : ℕ) → next_choice s c ≡ Some p → (in_use c < capacity s c) × (contains p (ready_pods c) ≡ true) × (has_free_seat c p ≡ true)
 unfolding next_choice
 next_choice-good s c p h = by (nat_lt (in_use c) (capacity s c)) refl h

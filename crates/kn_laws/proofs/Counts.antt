@@ -62,6 +62,7 @@ length-fewer f t u c e less =
         by true = omega arith
         by false = omega arith
 
+-- the rows of one kind in two lists
 pub count-append : {X : Type 0} (f : Row → Option X) (xs ys : Trace) → length (each_row f (xs ++ ys)) ≡ length (each_row f xs) + length (each_row f ys)
 count-append f xs ys = rw (filter_map-append (λ (e : Entry). f e.row) xs ys, length-append) refl
 
@@ -74,12 +75,14 @@ count-each f test is (e ∷ es) h = by (f e.row) (is e.row h.0) (count-each f te
     by None k rest = absurd (cc)
     by (Some r) k rest = omega arith
 
+-- rows of another kind say nothing
 pub none-each : (f : Row → Option ℕ) (test : Row → Bool) → ((x : Row) → test x ≡ true → f x ≡ None) → (es : Trace) → Each test es → each_row f es ≡ []
 none-each f test none [] h = refl
 none-each f test none (e ∷ es) h = rw (none e.row h.0) (none-each f test none es h.1)
 
 -- ---- what holds before rows that are all proper, and is kept by each, holds after them
 
+-- a fact that each proper row keeps
 pub Holds-keep : (s : Spec) (Q : Trace → Type 0) → ((c : Trace) (e : Entry) → Kept s c → IsProper s c e.row → Q c → Q (c ++ e ∷ [])) → (b c : Trace) → Kept s b → Q b → Holds (IsProper s) b c → Q (b ++ c)
 Holds-keep s Q push b [] kept q h = rw (append-nil b) q
 Holds-keep s Q push b (e ∷ c) kept q h = rw (append_assoc b (e ∷ []) c) at (Holds-keep s Q push (b ++ e ∷ []) c (Kept-push s b e kept h.0) (push b e kept h.0 q) h.1)
@@ -98,6 +101,7 @@ ended-less c e q h = by (ended c q) _ (ap (λ (b : Bool). not b) (sym (ended-pus
     by true m h = h
     by false m h = refl
 
+-- only a row that takes a request in adds a live one
 pub live-fewer : (c : Trace) (e : Entry) → length (live (c ++ e ∷ [])) ≤ length (live c) + counted (taken_by e.row)
 unfolding live
 live-fewer c e = length-fewer taken_by (λ r. not (ended c r)) (λ r. not (ended (c ++ e ∷ []) r)) c e (ended-less c e)
@@ -116,6 +120,7 @@ no_live : HasFewLive []
 unfolding live
 no_live = omega arith
 
+-- at most 20,000 requests are live in a trace that was made
 pub few_live : (s : Spec) (c : Trace) → IsMade s c → HasFewLive c
 few_live s c made = Holds-keep s HasFewLive (few_live-push s) [] c (kept-nil s) no_live made.rows
 
@@ -124,6 +129,7 @@ few_live s c made = Holds-keep s HasFewLive (few_live-push s) [] c (kept-nil s) 
 stands : Trace → ℕ → Bool
 stands c p = not (contains p (each_row drained_by c)) && is_live_pod c p
 
+-- those in the order of draining are the live pods that do not drain
 count-standing : (c : Trace) → length (drain_order c) ≡ length (filter (stands c) (each_row created_by c))
 unfolding stands starting_pods ready_pods is_starting is_ready
 count-standing c =
@@ -174,6 +180,7 @@ stands-less c e q h =
     by true m h = h
     by false m h = refl
 
+-- only a new pod adds one that does not drain
 pub standing-fewer : (c : Trace) (e : Entry) → length (drain_order (c ++ e ∷ [])) ≤ length (drain_order c) + counted (created_by e.row)
 standing-fewer c e =
     let a = count-standing (c ++ e ∷ []) in
@@ -181,6 +188,7 @@ standing-fewer c e =
     let less = length-fewer created_by (stands c) (stands (c ++ e ∷ [])) c e (stands-less c e) in
     omega arith
 
+-- only a new pod adds a live one
 pub live_pods-fewer : (c : Trace) (e : Entry) → length (live_pods (c ++ e ∷ [])) ≤ length (live_pods c) + counted (created_by e.row)
 unfolding live_pods
 live_pods-fewer c e = length-fewer created_by (is_live_pod c) (is_live_pod (c ++ e ∷ [])) c e (gone-less c e)
@@ -199,6 +207,7 @@ nobody_stands : (s : Spec) → HasFewStanding s []
 unfolding drain_order starting_pods ready_pods
 nobody_stands s ranges = omega arith
 
+-- at most 500 pods do not drain
 pub few_standing : (s : Spec) (c : Trace) → IsMade s c → HasFewStanding s c
 few_standing s c made = Holds-keep s (HasFewStanding s) (few_standing-push s) [] c (kept-nil s) (nobody_stands s) made.rows
 
@@ -229,6 +238,7 @@ pub waiting_distinct : (c : Trace) → IsNumbered c → AreDistinct (waiting c)
 unfolding waiting
 waiting_distinct c num = distinct-filter (has_not_begun c) (each_row taken_by c) num.once
 
+-- who begins to run waits no more
 waiting-run : (c : Trace) (t r : ℕ) → waiting (c ++ entry t (row.Run r) ∷ []) ≡ others r (waiting c)
 unfolding waiting has_not_begun has_begun
 waiting-run c t r =
@@ -243,6 +253,7 @@ waiting-run c t r =
     by false false false true = refl
     by false false false false = refl
 
+-- who is assigned waits no more
 waiting-assign : (c : Trace) (t r p : ℕ) → waiting (c ++ entry t (row.Assign r p) ∷ []) ≡ others r (waiting c)
 unfolding waiting has_not_begun has_begun
 waiting-assign c t r p =
@@ -266,6 +277,7 @@ queued_waits c p r h =
     let direct = brought_directed c p r both.0 both.1.assigned in
     in_filter (has_not_begun c) r (each_row taken_by c) (within-from directed_by taken_by directed_taken r c direct) (rw (both.1.assigned, both.1.run, both.1.ended) refl)
 
+-- a held request waits
 pub held_waits : (c : Trace) (r : ℕ) → IsNumbered c → contains r (held c) ≡ true → contains r (waiting c) ≡ true
 unfolding waiting has_not_begun has_begun
 held_waits c r num h =
@@ -285,6 +297,7 @@ not_begun-less c e q h = by (assigned c q) _ (has_run c q) _ (ended c q) _ (sym 
     by false false false false true z h = absurd (cc)
     by false false false false false z h = refl
 
+-- only a row that takes a request in adds one that waits
 pub waiting-fewer : (c : Trace) (e : Entry) → length (waiting (c ++ e ∷ [])) ≤ length (waiting c) + counted (taken_by e.row)
 unfolding waiting
 waiting-fewer c e = length-fewer taken_by (has_not_begun c) (has_not_begun (c ++ e ∷ [])) c e (not_begun-less c e)
@@ -302,6 +315,7 @@ leaves-one s c t (row.Expire r) kept h =
     rw (waiting-end c (entry t (row.Expire r)) r refl refl refl refl) (omega arith)
 leaves-one s c t x kept h = let less = waiting-fewer c (entry t x) in omega arith
 
+-- rows that are all proper take as many from those that wait as there are rows that one leaves by
 pub leaves-list : (s : Spec) (c es : Trace) → Kept s c → Holds (IsProper s) c es → length (each_row leaves_by es) + length (waiting (c ++ es)) ≤ length (waiting c) + length (each_row taken_by es)
 leaves-list s c [] kept h = rw (append-nil c) (omega arith)
 leaves-list s c (e ∷ es) kept h =

@@ -60,26 +60,32 @@ last_of-option xs (Some y) = last_of-end y xs
 pub last_of-push : {X : Type 0} (f : Row → Option X) (c : Trace) (e : Entry) → last_of (each_row f (c ++ e ∷ [])) ≡ or_else (f e.row) (last_of (each_row f c))
 last_of-push f c e = rw (each_row-push f c e) (last_of-option (each_row f c) (f e.row))
 
+-- the pod of a request by one more entry
 pub pod_of-push : (c : Trace) (e : Entry) (r : ℕ) → pod_of (c ++ e ∷ []) r ≡ or_else (pod_by r e.row) (pod_of c r)
 unfolding pod_of
 pod_of-push c e r = last_of-push (pod_by r) c e
 
+-- whether a request has ended by one more entry
 pub ended-push : (c : Trace) (e : Entry) (r : ℕ) → ended (c ++ e ∷ []) r ≡ (ended c r || says (ended_by e.row) r)
 unfolding ended
 ended-push c e r = contains-push ended_by c e r
 
+-- whether it was assigned
 pub assigned-push : (c : Trace) (e : Entry) (r : ℕ) → assigned (c ++ e ∷ []) r ≡ (assigned c r || says (assigned_by e.row) r)
 unfolding assigned
 assigned-push c e r = contains-push assigned_by c e r
 
+-- whether it has a run entry
 pub has_run-push : (c : Trace) (e : Entry) (r : ℕ) → has_run (c ++ e ∷ []) r ≡ (has_run c r || says (run_by e.row) r)
 unfolding has_run
 has_run-push c e r = contains-push run_by c e r
 
+-- how many arrived
 pub arrivals-push : (c : Trace) (e : Entry) → arrivals (c ++ e ∷ []) ≡ arrivals c + counted (arrived_by e.row)
 unfolding arrivals
 arrivals-push c e = length-push arrived_by c e
 
+-- how many pods were created
 pub created-push : (c : Trace) (e : Entry) → created (c ++ e ∷ []) ≡ created c + counted (created_by e.row)
 unfolding created
 created-push c e = length-push created_by c e
@@ -88,6 +94,7 @@ created-push c e = length-push created_by c e
 abbrev pub limit_after : Option ℕ → ℕ → ℕ
 limit_after o n = unwrap_or o n
 
+-- the limit of a pod by one more entry
 pub limit_of-push : (c : Trace) (e : Entry) (p : ℕ) → limit_of (c ++ e ∷ []) p ≡ limit_after (limit_by p e.row) (limit_of c p)
 unfolding limit_of
 limit_of-push c e p = rw (last_of-push (limit_by p) c e) (by (limit_by p e.row))

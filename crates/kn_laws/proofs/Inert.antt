@@ -58,6 +58,7 @@ waned-then c d e x y = record {
   phase = y.phase ∙ x.phase;
 }
 
+-- a row that says nothing of requests, pods and the phase
 waned-quiet : (c : Trace) (e : Entry) → SaysNoPod e.row → IsQuiet e.row → phase_by e.row ≡ None → Waned c (c ++ e ∷ [])
 waned-quiet c e none quiet phase' = record {
   held = λ r h. rw (held-quiet c e quiet) at h;
@@ -88,6 +89,7 @@ expire_same c t r idle q =
     by false true false false x y = refl
     by false false g m x y = refl
 
+-- an expiry leaves all but who waits as it is
 waned-expire : (c : Trace) (t r : ℕ) → contains r (waiting c) ≡ true → Waned c (c ++ entry t (row.Expire r) ∷ [])
 unfolding held is_held queued_at has_not_begun has_begun running_at in_use assigned
 waned-expire c t r h = record {
@@ -142,10 +144,12 @@ waned-expired s t c (r ∷ rs) h =
     rw (append_assoc c (entry t (row.Expire r) ∷ []) (map (λ r. entry t (row.Expire r)) rs)) at
     (waned-then c (c ++ entry t (row.Expire r) ∷ []) ((c ++ entry t (row.Expire r) ∷ []) ++ map (λ r. entry t (row.Expire r)) rs) (waned-expire c t r h.0) (waned-expired s t (c ++ entry t (row.Expire r) ∷ []) rs h.1))
 
+-- so do all that come at once
 pub waned-expiries : (s : Spec) (t : ℕ) (c : Trace) → IsNumbered c → Waned c (c ++ expiries s t c)
 unfolding expiries
 waned-expiries s t c num = waned-expired s t c (due s t c) (expiries-hold s t c num)
 
+-- a refusal changes nothing of this
 waned-refusal : (c : Trace) (t : ℕ) (x : Row) → is_refusal x ≡ true → Waned c (c ++ entry t x ∷ [])
 waned-refusal c t (row.QueueFull r pod) h = waned-quiet c (entry t (row.QueueFull r pod)) (says_no_pod (row.QueueFull r pod) refl) (is_quiet (row.QueueFull r pod) refl refl refl refl) refl
 waned-refusal c t (row.Overload r) h = waned-quiet c (entry t (row.Overload r)) (says_no_pod (row.Overload r) refl) (is_quiet (row.Overload r) refl refl refl refl) refl
@@ -235,6 +239,7 @@ keeps_one s c d p settled w h = by (running_at c p) refl
     by [] e = absurd (draining_runs s c p settled h e)
     by (r ∷ l) e = not_empty r (at_pod d p) (running_there d p r (rw (w.running p, e, same_number r) refl))
 
+-- where all was settled and fewer wait, nothing is left to settle
 pub settling-none : (s : Spec) (t : ℕ) (c d : Trace) → IsSettled s c → Waned c d → settling s t d ≡ []
 unfolding settling held_assignments removals
 settling-none s t c d settled w =
@@ -243,6 +248,7 @@ settling-none s t c d settled w =
     rw (one, append-nil d, two, append-nil d)
     (ap (λ (l : List ℕ). map (λ p. entry t (row.Remove p)) l) (filter-none (λ p. is_empty (at_pod d p)) (draining d) (λ p k. keeps_one s c d p settled w (rw w.draining at k))))
 
+-- nor does the phase change
 activation-none : (s : Spec) (t : ℕ) (c d : Trace) → IsSettled s c → Waned c d → activation t d ≡ []
 unfolding activation
 activation-none s t c d settled w = rw (w.ready, w.phase) (by (ready_pods c) refl (is_same_phase phase.Activating (phase_of c)) refl)
@@ -259,6 +265,7 @@ no_decision kind.Kpa s t c d act.Tick x is h = absurd (cc)
 no_decision kind.Kpa s t c d (act.Arrive tag) (row.Admit r g) is h = absurd (cc)
 no_decision k s t c d a x is h = refl
 
+-- a refused event adds its expiries and its refusal alone
 pub refusals_inert : (s : Spec) (c : Trace) (e : Event) → IsMade s c → IsSettled s c → IsInert s c e
 unfolding react before_settling act_rows
 refusals_inert s c e made settled x is h =

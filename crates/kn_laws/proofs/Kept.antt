@@ -34,6 +34,7 @@ abbrev pub want_after : Option Decision → ℕ → ℕ
 want_after None n = n
 want_after (Some d) n = d.want
 
+-- the wanted scale by one more entry
 pub wanted-push : (s : Spec) (c : Trace) (e : Entry) → wanted s (c ++ e ∷ []) ≡ want_after (decision_by e.row) (wanted s c)
 unfolding wanted
 wanted-push s c e =
@@ -44,6 +45,7 @@ wanted-push s c e =
     by None = refl
     by (Some d) = refl
 
+-- the phase by one more entry
 pub phase_of-push : (c : Trace) (e : Entry) → phase_of (c ++ e ∷ []) ≡ or_else (phase_by e.row) (phase_of c)
 unfolding phase_of
 phase_of-push c e = last_of-push phase_by c e
@@ -61,6 +63,7 @@ homeless : (x : Row) (p q r : ℕ) → removed_by x ≡ Some p → brought_to q 
 homeless (row.Remove u) p q r a b = absurd (cc)
 homeless x p q r a b = absurd (cc)
 
+-- requests stay at live pods
 AreHoused-push : (c : Trace) (e : Entry) → AreHoused c → KeepsHomes c e.row → AreHoused (c ++ e ∷ [])
 unfolding at_pod
 AreHoused-push c e housed keeps p r h =
@@ -104,6 +107,7 @@ homes_at c x p r live brought removed' = record { brought = λ q u h. by q u (p 
     by q u true e h = let same : p ≡ q = eqb-true p q e in rw (← same) live
     by q u false e h = absurd (cc)
 
+-- a proper row brings a request to a live pod, and removes an empty one
 keeps_homes : (s : Spec) (c : Trace) (x : Row) → IsProper s c x → KeepsHomes c x
 keeps_homes s c (row.Assign r p) h = homes_at c (row.Assign r p) p r (ready_live c p h.ready) (λ q. refl) refl
 keeps_homes s c (row.Direct r p) h = homes_at c (row.Direct r p) p r (ready_live c p h.1.ready) (λ q. refl) refl
@@ -124,6 +128,7 @@ wants_push : (s : Spec) (c : Trace) (x : Row) → (AreInRange s → wanted s c �
 wants_push s c (row.Decided d) wants h ranges = h ranges
 wants_push s c x wants h ranges = wants ranges
 
+-- a proper row keeps all of it
 pub Kept-push : (s : Spec) (c : Trace) (e : Entry) → Kept s c → IsProper s c e.row → Kept s (c ++ e ∷ [])
 Kept-push s c e kept h = record {
   requests = IsNumbered-push c e kept.requests (proper_keeps s c e.row kept.requests h);
@@ -135,6 +140,7 @@ Kept-push s c e kept h = record {
 max-within : (a b : ℕ) → a ≤ 500 → b ≤ 500 → max a b ≤ 500
 max-within a b h k = omega arith
 
+-- it is so before the first row
 pub kept-nil : (s : Spec) → Kept s []
 unfolding arrivals created assigned has_run at_pod wanted
 kept-nil s = record {
@@ -146,10 +152,12 @@ kept-nil s = record {
 
 -- ---- rows that are all proper
 
+-- a list after another
 pub Holds-append : (P : Trace → Row → Type 0) (b xs ys : Trace) → Holds P b xs → Holds P (b ++ xs) ys → Holds P b (xs ++ ys)
 Holds-append P b [] ys h k = rw (append-nil b) at k
 Holds-append P b (e ∷ xs) ys h k = (h.0, Holds-append P (b ++ e ∷ []) xs ys h.1 (rw (append_assoc b (e ∷ []) xs) k))
 
+-- at each place of the trace
 pub Holds-at : (P : Trace → Row → Type 0) (b c before : Trace) (e : Entry) (rest : Trace) → c ≡ before ++ e ∷ rest → Holds P b c → P (b ++ before) e.row
 Holds-at P b [] [] e rest eq h = absurd (cc)
 Holds-at P b (x ∷ c) [] e rest eq h = let same : x ≡ e = cc in rw (append-nil b, ← same) h.0
@@ -164,9 +172,11 @@ pub Holds-law : (s : Spec) (P : Trace → Row → Type 0) → ((c : Trace) (x : 
 Holds-law s P law b [] kept h = tt
 Holds-law s P law b (e ∷ c) kept h = (law b e.row kept h.0, Holds-law s P law (b ++ e ∷ []) c (Kept-push s b e kept h.0) h.1)
 
+-- rows that are all proper keep it
 pub Holds-kept : (s : Spec) (b c : Trace) → Kept s b → Holds (IsProper s) b c → Kept s (b ++ c)
 Holds-kept s b [] kept h = rw (append-nil b) kept
 Holds-kept s b (e ∷ c) kept h = rw (append_assoc b (e ∷ []) c) at (Holds-kept s (b ++ e ∷ []) c (Kept-push s b e kept h.0) h.1)
 
+-- so it holds of each trace that was made
 pub made_kept : (s : Spec) (c : Trace) → IsMade s c → Kept s c
 made_kept s c made = Holds-kept s [] c (kept-nil s) made.rows

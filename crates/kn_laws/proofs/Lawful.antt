@@ -24,6 +24,7 @@ pub live_undecided : (c : Trace) (r : ℕ) → IsNumbered c → contains r (each
 unfolding ended
 live_undecided c r num taken e = outcome-split r c e (false_unless (contains r (each_row refused_by c)) (λ h. let no = num.apart r h in absurd (cc)))
 
+-- nor has a request that is new
 new_undecided : (c : Trace) (r : ℕ) → IsNumbered c → r ≡ arrivals c → contains r (each_row outcome_by c) ≡ false
 new_undecided c r num e =
     let n = next_unnamed c num in
@@ -31,6 +32,7 @@ new_undecided c r num e =
 
 -- ---- the laws, row by row
 
+-- a proper outcome is the request's first
 single : (s : Spec) (c : Trace) (x : Row) → Kept s c → IsProper s c x → IsFirstOutcome c x
 single s c (row.QueueFull r None) kept p = new_undecided c r kept.requests p.0.number
 single s c (row.QueueFull r (Some q)) kept p = new_undecided c r kept.requests p.0.number
@@ -40,16 +42,19 @@ single s c (row.Expire r) kept p = let both = waiting_member c r p in live_undec
 single s c (row.Cancel r) kept p = let both = waiting_member c r p in live_undecided c r kept.requests both.0 both.1.ended
 single s c _ kept p = tt
 
+-- a proper row keeps the limits
 within : (s : Spec) (c : Trace) (x : Row) → Kept s c → IsProper s c x → IsWithinLimits s c x
 within s c (row.Assign r q) kept p = p
 within s c (row.Run r) kept p = p
 within s c (row.Direct r q) kept p = p.1
 within s c _ kept p = tt
 
+-- a proper removal is of an empty draining pod
 removes : (s : Spec) (c : Trace) (x : Row) → Kept s c → IsProper s c x → RemovesEmpty c x
 removes s c (row.Remove q) kept p = p
 removes s c _ kept p = tt
 
+-- a proper refusal meets a full breaker or pod
 refuses : (s : Spec) (c : Trace) (x : Row) → Kept s c → IsProper s c x → RefusesFull s c x
 refuses s c (row.QueueFull r None) kept p = p.1
 refuses s c (row.QueueFull r (Some q)) kept p = p.1
@@ -59,6 +64,7 @@ refuses s c _ kept p = tt
 pub made_law : (s : Spec) (P : Trace → Row → Type 0) → ((c : Trace) (x : Row) → Kept s c → IsProper s c x → P c x) → (c : Trace) → IsMade s c → Always P c
 made_law s P law c made before e rest eq = Holds-at P [] c before e rest eq (Holds-law s P law [] c (kept-nil s) made.rows)
 
+-- a trace that was made is lawful
 pub made_lawful : (s : Spec) (c : Trace) → IsMade s c → IsLawful s c
 made_lawful s c made = record {
   single_outcome = made_law s IsFirstOutcome (single s) c made;

@@ -29,3 +29,4 @@ pub mod Bounds
 pub mod Phases
 pub mod Serving
 pub mod Telling
+pub mod Walks

@@ -18,6 +18,7 @@ other_number r q h = by (q == r) refl
     by false e = refl
     by true e = let same : (r == q) ≡ true = eq-eqb r q (sym (eqb-true q r e)) in cc
 
+-- members of two lists
 pub contains-append : (r : ℕ) (xs ys : List ℕ) → contains r (xs ++ ys) ≡ (contains r xs || contains r ys)
 contains-append r xs ys = list_any-append (λ y. y == r) xs ys
 
@@ -40,6 +41,7 @@ kept true false false u a same e = e ∙ and-false a
 kept false true k u a same e = e
 kept false false k u a same e = e
 
+-- members of a filter are those that pass
 pub contains-filter : (t : ℕ → Bool) (r : ℕ) (xs : List ℕ) → contains r (filter t xs) ≡ (contains r xs && t r)
 contains-filter t r [] = refl
 contains-filter t r (x ∷ xs) = split (t x) ∙ kept (x == r) (t x) (t r) (contains r (filter t xs)) (contains r xs) (λ h. ap t (eqb-true x r h)) (contains-filter t r xs)
@@ -48,12 +50,14 @@ contains-filter t r (x ∷ xs) = split (t x) ∙ kept (x == r) (t x) (t r) (cont
     split true = refl
     split false = refl
 
+-- a new number keeps a list distinct
 pub distinct-push : (xs : List ℕ) (y : ℕ) → AreDistinct xs → contains y xs ≡ false → AreDistinct (xs ++ y ∷ [])
 distinct-push [] y d h = (refl, tt)
 distinct-push (x ∷ xs) y d h =
     let parts = or_parts (x == y) (contains y xs) h in
     (rw (contains-append x xs (y ∷ []), d.0, other_number x y parts.0) refl, distinct-push xs y d.1 parts.1)
 
+-- a filter keeps a list distinct
 pub distinct-filter : (t : ℕ → Bool) (xs : List ℕ) → AreDistinct xs → AreDistinct (filter t xs)
 distinct-filter t [] d = tt
 distinct-filter t (x ∷ xs) d = by (t x) (distinct-filter t xs d.1)
@@ -62,12 +66,14 @@ distinct-filter t (x ∷ xs) d = by (t x) (distinct-filter t xs d.1)
     by true rest = (rw (contains-filter t x xs, d.0) refl, rest)
     by false rest = rest
 
+-- taking out a number that isn't there changes nothing
 pub filter-others : (r : ℕ) (xs : List ℕ) → contains r xs ≡ false → filter (λ q. not (r == q)) xs ≡ xs
 filter-others r [] h = refl
 filter-others r (x ∷ xs) h =
     let parts = or_parts (x == r) (contains r xs) h in
     rw (other_number x r parts.0) (ap (λ (l : List ℕ). x ∷ l) (filter-others r xs parts.1))
 
+-- taking out the first of distinct numbers leaves the rest
 pub filter-first : (r : ℕ) (rs : List ℕ) → AreDistinct (r ∷ rs) → filter (λ q. not (r == q)) (r ∷ rs) ≡ rs
 filter-first r rs d = rw (same_number r) (filter-others r rs d.0)
 

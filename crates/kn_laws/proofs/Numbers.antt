@@ -157,6 +157,7 @@ pub record IsHeldMember (c : Trace) (r : ℕ) : Type 0 where
   pub assigned : assigned c r ≡ false
   pub ended : ended c r ≡ false
 
+-- a held request is admitted, and neither assigned nor ended
 pub held_member : (c : Trace) (r : ℕ) → contains r (held c) ≡ true → IsHeldMember c r
 unfolding held is_held
 held_member c r h =
@@ -177,10 +178,12 @@ not_begun c r h =
     let both = or_parts (assigned c r) (has_run c r) (not-true (assigned c r || has_run c r) tests.0) in
     record { assigned = both.0; run = both.1; ended = not-true (ended c r) tests.1 }
 
+-- a waiting one was taken in and is idle
 pub waiting_member : (c : Trace) (r : ℕ) → contains r (waiting c) ≡ true → (contains r (each_row taken_by c) ≡ true) × IsIdle c r
 unfolding waiting
 waiting_member c r h = let both = filter_member (has_not_begun c) r (each_row taken_by c) h in (both.0, not_begun c r both.1)
 
+-- a queued one came to its pod and is idle
 pub queued_member : (c : Trace) (p r : ℕ) → contains r (queued_at c p) ≡ true → (contains r (each_row (brought_to p) c) ≡ true) × IsIdle c r
 unfolding queued_at
 queued_member c p r h = let both = filter_member (has_not_begun c) r (each_row (brought_to p) c) h in (both.0, not_begun c r both.1)
@@ -195,6 +198,7 @@ pub running_parts : (c : Trace) (r : ℕ) → is_running c r ≡ true → ((assi
 unfolding is_running has_begun
 running_parts c r h = let both = and_parts (assigned c r || has_run c r) (not (ended c r)) h in (both.0, not-true (ended c r) both.1)
 
+-- a request that has begun was taken in
 pub begun_taken : (c : Trace) (r : ℕ) → IsNumbered c → (assigned c r || has_run c r) ≡ true → contains r (each_row taken_by c) ≡ true
 begun_taken c r num h = by (or-true (assigned c r) (has_run c r) h)
   where
@@ -204,12 +208,15 @@ begun_taken c r num h = by (or-true (assigned c r) (has_run c r) h)
 
 -- ---- the next number
 
+-- a request that was taken in has come
 pub taken_comes : (c : Trace) (r : ℕ) → IsNumbered c → contains r (each_row taken_by c) ≡ true → r < arrivals c
 taken_comes c r num h = num.come r (named-from taken_by taken_named r c h)
 
+-- no row is about the next request
 pub next_unnamed : (c : Trace) → IsNumbered c → contains (arrivals c) (each_row named_by c) ≡ false
 next_unnamed c num = false_unless (contains (arrivals c) (each_row named_by c)) (λ e. let less = num.come (arrivals c) e in absurd (omega arith))
 
+-- a request that came to no pod has none
 pub pod-none : (r : ℕ) (c : Trace) → contains r (each_row moved_by c) ≡ false → each_row (pod_by r) c ≡ []
 pod-none r [] h = refl
 pod-none r (e ∷ c) h = by (moved_by e.row) (moved_pod r e.row) h (pod-none r c)
@@ -233,6 +240,7 @@ pub last_of-none : (xs : List ℕ) → last_of xs ≡ None → xs ≡ []
 last_of-none [] h = refl
 last_of-none (x ∷ xs) h = absurd (cc)
 
+-- and the other way round
 pub moved-none : (r : ℕ) (c : Trace) → each_row (pod_by r) c ≡ [] → contains r (each_row moved_by c) ≡ false
 moved-none r [] h = refl
 moved-none r (e ∷ c) h = by (pod_by r e.row) (pod_moved r e.row) h (moved-none r c)
@@ -308,6 +316,7 @@ pub distinct-option : (xs : List ℕ) (o : Option ℕ) → AreDistinct xs → ((
 distinct-option xs None d fresh = rw (append-nil xs) d
 distinct-option xs (Some r) d fresh = distinct-push xs r d (fresh r refl)
 
+-- a row that keeps numbers keeps the numbering
 pub IsNumbered-push : (c : Trace) (e : Entry) → IsNumbered c → KeepsNumbers c e.row → IsNumbered (c ++ e ∷ [])
 IsNumbered-push c e num keeps = record {
   come = λ r h. rw (arrivals-push c e) (come r (or-true _ _ (sym (contains-push named_by c e r) ∙ h)));
@@ -377,6 +386,7 @@ keeps_arrival c x r num e named arrived assigned' run' = record {
 keeps_none : (c : Trace) (x : Row) → named_by x ≡ None → arrived_by x ≡ None → assigned_by x ≡ None → run_by x ≡ None → KeepsNumbers c x
 keeps_none c x named arrived assigned' run' = record { come = λ q h. absurd (cc); fresh = λ q h. absurd (cc); assign = λ q h. absurd (cc); run = λ q h. absurd (cc) }
 
+-- a proper row keeps numbers
 pub proper_keeps : (s : Spec) (c : Trace) (x : Row) → IsNumbered c → IsProper s c x → KeepsNumbers c x
 proper_keeps s c (row.Admit r tag) num p = keeps_arrival c (row.Admit r tag) r num p.0.number refl refl refl refl
 proper_keeps s c (row.QueueFull r None) num p = keeps_arrival c (row.QueueFull r None) r num p.0.number refl refl refl refl

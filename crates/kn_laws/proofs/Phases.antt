@@ -57,6 +57,7 @@ pods_phase ready want some = by (nat_lt 0 ready)
     by true = some
     by false = some
 
+-- the rule answers no pods with the inactive phase, and some with another
 zero_phase : (s : Spec) (time ready bounded : ℕ) (standing : Standing) → (standing.phase ≡ phase.Activating → (standing.want == 0) ≡ false)
     → ((zero_rule s time ready bounded standing).want == 0) ≡ is_idle (zero_rule s time ready bounded standing).phase
 unfolding zero_rule
@@ -75,16 +76,19 @@ zero_phase s time ready bounded standing some = by (nat_lt 0 bounded) refl s.to_
 abbrev RulesByPhase : Ruling → Type 0
 RulesByPhase made = (made.decision.want == 0) ≡ is_idle made.phase
 
+-- so does a whole decision
 ruling_phase : (s : Spec) (past : Past) (time ready : ℕ) (stable panic : Frac) → (past.standing.phase ≡ phase.Activating → (past.standing.want == 0) ≡ false) → RulesByPhase (ruling s past time ready stable panic)
 unfolding ruling
 ruling_phase s past time ready stable panic some = zero_phase s time ready _ past.standing some
 
 -- ---- rows without a decision or a phase
 
+-- rows without a decision leave the wanted scale
 unwanted : (s : Spec) (c es : Trace) → each_row decision_by es ≡ [] → wanted s (c ++ es) ≡ wanted s c
 unfolding wanted
 unwanted s c es none = rw (filter_map-append (λ (e : Entry). decision_by e.row) c es, none, append-nil (each_row decision_by c)) refl
 
+-- rows without a phase leave the phase
 unphased : (c es : Trace) → each_row phase_by es ≡ [] → phase_of (c ++ es) ≡ phase_of c
 unfolding phase_of
 unphased c es none = rw (filter_map-append (λ (e : Entry). phase_by e.row) c es, none, append-nil (each_row phase_by c)) refl
@@ -146,6 +150,7 @@ same_is phase.Active (Some phase.Active) h = refl
 same_is phase.Inactive (Some phase.Inactive) h = refl
 same_is p o h = absurd (cc)
 
+-- after a decision's rows the two agree
 decision-wants : (s : Spec) (t : ℕ) (c : Trace) (made : Ruling) → RulesByPhase made → WantsByPhase s (c ++ decision_rows s t c made)
 unfolding decision_rows
 decision-wants s t c made rules scaled =
@@ -200,6 +205,7 @@ stands_some s c scaled wants h = wants scaled ∙ by (phase_of c) h
     by (Some phase.Inactive) h = absurd (cc)
     by None h = absurd (cc)
 
+-- a tick keeps it
 tick-wants : (s : Spec) (t : ℕ) (c : Trace) → s.kind ≡ kind.Kpa → WantsByPhase s c → WantsByPhase s (c ++ tick_rows s t c)
 unfolding tick_rows decision_at past_of standing_of scaling.decision_at
 tick-wants s t c scaled wants = by (window_average (past_of s c).samples s.stable_s (second_of t))
@@ -209,6 +215,7 @@ tick-wants s t c scaled wants = by (window_average (past_of s c).samples s.stabl
     by (Some stable) = decision-wants s t c (ruling s (past_of s c) t (count_ready c) stable (unwrap_or (window_average (past_of s c).samples s.panic_s (second_of t)) no_load))
         (ruling_phase s (past_of s c) t (count_ready c) stable _ (stands_some s c scaled wants))
 
+-- so does a decision on an arrival
 wake-wants : (b : Bool) (s : Spec) (t : ℕ) (c : Trace) → s.kind ≡ kind.Kpa → WantsByPhase s c → WantsByPhase s (c ++ wake_where b s t c)
 unfolding wake_rows wake_decision_at past_of standing_of scaling.wake_decision_at
 wake-wants false s t c scaled wants = rw (append-nil c) wants
@@ -239,6 +246,7 @@ activation-wants s t c wants scaled = by (is_same_phase phase.Activating (phase_
     by true e true = rw (append-nil c) (wants scaled)
     by true e false = rw (wanted-push s c x, phase_of-push c x) (wants scaled ∙ apart (phase_of c) e)
 
+-- so does a settling
 settling-wants : (s : Spec) (t : ℕ) (c : Trace) → WantsByPhase s c → WantsByPhase s (c ++ settling s t c)
 unfolding settling held_assignments
 settling-wants s t c wants =
@@ -250,6 +258,7 @@ settling-wants s t c wants =
     let three = wants-each s is_remove_row remove_plain ((c ++ ran) ++ gave) gone (removals-rows t ((c ++ ran) ++ gave)) two in
     subst (λ (d : Trace). WantsByPhase s d) (append_assoc (c ++ ran) gave gone ∙ append_assoc c ran (gave ++ gone) ∙ ap (λ (l : Trace). c ++ l) (sym (append_assoc ran gave gone))) three
 
+-- so does an event
 pub react-wants : (s : Spec) (c : Trace) (e : Event) → WantsByPhase s c → WantsByPhase s (c ++ react s c e)
 unfolding react before_settling act_rows
 react-wants s c e wants scaled =
@@ -270,6 +279,7 @@ nothing_wanted : (s : Spec) → wanted s [] ≡ opening_scale s
 unfolding wanted
 nothing_wanted s = refl
 
+-- it is so after the opening
 pub opening-wants : (s : Spec) (start : ℕ) → WantsByPhase s (opening s start)
 unfolding opening
 opening-wants s start scaled = by s.kind scaled
@@ -295,6 +305,7 @@ unfolding added
 wants_added s c [] wants = rw (append-nil c) wants
 wants_added s c (e ∷ es) wants = rw (append_assoc c (react s c e) (added s (c ++ react s c e) es)) at (wants_added s (c ++ react s c e) es (react-wants s c e wants))
 
+-- so after each event of a run
 pub wants_trace : (s : Spec) (start : ℕ) (es : List Event) → WantsByPhase s (trace_of s start es)
 unfolding trace_of
 wants_trace s start es = wants_added s (opening s start) es (opening-wants s start)

@@ -35,6 +35,7 @@ created_named _ = inl refl
 
 -- ---- members of views
 
+-- a list backwards has the same members
 pub contains-reverse : (r : ℕ) (xs : List ℕ) → contains r (reverse xs) ≡ contains r xs
 contains-reverse r [] = refl
 contains-reverse r (x ∷ xs) = rw (reverse-append (x ∷ []) xs, contains-append r (reverse xs) (x ∷ []), contains-reverse r xs) (swap (contains r xs) (x == r))
@@ -54,12 +55,14 @@ pub live_pod_created : (c : Trace) (p : ℕ) → contains p (live_pods c) ≡ tr
 unfolding live_pods
 live_pod_created c p h = (filter_member (is_live_pod c) p (each_row created_by c) h).0
 
+-- a draining pod is live
 pub draining_live : (c : Trace) (p : ℕ) → contains p (draining c) ≡ true → contains p (live_pods c) ≡ true
 unfolding draining is_draining live_pods
 draining_live c p h =
     let both = filter_member (is_draining c) p (each_row created_by c) h in
     in_filter (is_live_pod c) p (each_row created_by c) both.0 (and_parts (contains p (each_row drained_by c)) (is_live_pod c p) both.1).1
 
+-- a Ready pod is live
 pub ready_live : (c : Trace) (p : ℕ) → contains p (ready_pods c) ≡ true → contains p (live_pods c) ≡ true
 unfolding ready_pods is_ready live_pods
 ready_live c p h =
@@ -71,6 +74,7 @@ ready_live c p h =
     last true false g h = absurd (cc)
     last false b g h = absurd (cc)
 
+-- a starting pod is live
 pub starting_live : (c : Trace) (p : ℕ) → contains p (starting_pods c) ≡ true → contains p (live_pods c) ≡ true
 unfolding starting_pods is_starting live_pods
 starting_live c p h =
@@ -82,6 +86,7 @@ starting_live c p h =
     last true false g h = absurd (cc)
     last false b g h = absurd (cc)
 
+-- so is each that does not drain
 pub drain_order_live : (c : Trace) (p : ℕ) → contains p (drain_order c) ≡ true → contains p (live_pods c) ≡ true
 drain_order_live c p h = by (or-true (contains p (starting_pods c)) (contains p (ready_pods c)) (sym (contains-drain_order c p) ∙ h))
   where
@@ -95,6 +100,7 @@ pub record KeepsPods (c : Trace) (x : Row) : Type 0 where
   pub come : (p : ℕ) → pod_named_by x ≡ Some p → p < created c + counted (created_by x)
   pub fresh : (p : ℕ) → created_by x ≡ Some p → contains p (each_row pod_named_by c) ≡ false
 
+-- a row that keeps numbers keeps the numbering
 pub ArePodsNumbered-push : (c : Trace) (e : Entry) → ArePodsNumbered c → KeepsPods c e.row → ArePodsNumbered (c ++ e ∷ [])
 ArePodsNumbered-push c e num keeps = record {
   come = λ p h. rw (created-push c e) (come p (or-true _ _ (sym (contains-push pod_named_by c e p) ∙ h)));
@@ -105,6 +111,7 @@ ArePodsNumbered-push c e num keeps = record {
     come p (inl h) = let less = num.come p h in omega arith
     come p (inr h) = keeps.come p (says-true (pod_named_by e.row) p h)
 
+-- no row is about the next pod
 pub next_unnamed_pod : (c : Trace) → ArePodsNumbered c → contains (created c) (each_row pod_named_by c) ≡ false
 next_unnamed_pod c num = false_unless (contains (created c) (each_row pod_named_by c)) (λ e. let less = num.come (created c) e in absurd (omega arith))
 
@@ -119,6 +126,7 @@ keeps_live_pod c x p num h named made = record { come = λ q e. let same : p ≡
 keeps_no_pod : (c : Trace) (x : Row) → pod_named_by x ≡ None → created_by x ≡ None → KeepsPods c x
 keeps_no_pod c x named made = record { come = λ q e. absurd (cc); fresh = λ q e. absurd (cc) }
 
+-- a proper row keeps the numbers of pods
 pub proper_keeps_pods : (s : Spec) (c : Trace) (x : Row) → ArePodsNumbered c → IsProper s c x → KeepsPods c x
 proper_keeps_pods s c (row.Create p n) num h =
     let number = h.0 in

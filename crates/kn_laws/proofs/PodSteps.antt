@@ -45,6 +45,7 @@ pub record SaysNoPod (x : Row) : Type 0 where
   pub removed : removed_by x ≡ None
   pub limit : (p : ℕ) → limit_by p x ≡ None
 
+-- a row that names no pod
 pub says_no_pod : (x : Row) → pod_named_by x ≡ None → SaysNoPod x
 says_no_pod (row.Create p n) h = absurd (cc)
 says_no_pod (row.Limit p n) h = absurd (cc)
@@ -116,6 +117,7 @@ contains-starting c q = contains-filter (is_starting c) q (each_row created_by c
 
 -- ---- a pod drains
 
+-- a starting pod drains
 starting-drain : (c : Trace) (t p q : ℕ) → contains q (starting_pods (c ++ entry t (row.Drain p) ∷ [])) ≡ (contains q (starting_pods c) && not (p == q))
 starting-drain c t p q =
     contains-starting (c ++ entry t (row.Drain p) ∷ []) q
@@ -131,6 +133,7 @@ starting-drain c t p q =
     by true false false false true = refl
     by true false false false false = refl
 
+-- a Ready pod drains
 ready-drain : (c : Trace) (t p q : ℕ) → contains q (ready_pods (c ++ entry t (row.Drain p) ∷ [])) ≡ (contains q (ready_pods c) && not (p == q))
 ready-drain c t p q =
     contains-ready (c ++ entry t (row.Drain p) ∷ []) q
@@ -146,6 +149,7 @@ ready-drain c t p q =
     by true true false false true = refl
     by true true false false false = refl
 
+-- it leaves the order of draining
 pub drain_order-drain : (c : Trace) (t p q : ℕ) → contains q (drain_order (c ++ entry t (row.Drain p) ∷ [])) ≡ (contains q (drain_order c) && not (p == q))
 drain_order-drain c t p q =
     contains-drain_order (c ++ entry t (row.Drain p) ∷ []) q
@@ -160,6 +164,7 @@ drain_order-drain c t p q =
 
 -- ---- a pod is removed
 
+-- a removed pod drains no more
 pub draining-remove : (c : Trace) (t p q : ℕ) → contains q (draining (c ++ entry t (row.Remove p) ∷ [])) ≡ (contains q (draining c) && not (p == q))
 draining-remove c t p q =
     contains-draining (c ++ entry t (row.Remove p) ∷ []) q
@@ -174,6 +179,7 @@ draining-remove c t p q =
 
 -- ---- a new pod starts
 
+-- a new pod starts
 starting-create : (c : Trace) (t p n : ℕ) → contains p (each_row pod_named_by c) ≡ false → starting_pods (c ++ entry t (row.Create p n) ∷ []) ≡ starting_pods c ++ p ∷ []
 unfolding starting_pods is_starting is_live_pod
 starting-create c t p n new =
@@ -185,6 +191,7 @@ starting-create c t p n new =
     same : filter (is_starting (c ++ e ∷ [])) (each_row created_by c) ≡ filter (is_starting c) (each_row created_by c)
     same = filter_agree (is_starting (c ++ e ∷ [])) (is_starting c) (λ q. is_starting-push c e q ∙ rw (or-false (contains q (each_row readied_by c)), or-false (contains q (each_row drained_by c)), or-false (contains q (each_row removed_by c))) refl) (each_row created_by c)
 
+-- and is not Ready
 ready-create : (c : Trace) (t p n : ℕ) → contains p (each_row pod_named_by c) ≡ false → ready_pods (c ++ entry t (row.Create p n) ∷ []) ≡ ready_pods c
 unfolding ready_pods is_ready is_live_pod
 ready-create c t p n new =
@@ -200,6 +207,7 @@ pub length-drain_order : (c : Trace) → length (drain_order c) ≡ length (star
 unfolding drain_order
 length-drain_order c = rw (length-append, length-reverse (starting_pods c), length-reverse (ready_pods c)) refl
 
+-- it is one more that does not drain
 pub drain_order-create : (c : Trace) (t p n : ℕ) → contains p (each_row pod_named_by c) ≡ false → length (drain_order (c ++ entry t (row.Create p n) ∷ [])) ≡ length (drain_order c) + 1
 drain_order-create c t p n new =
     let a = length-drain_order (c ++ entry t (row.Create p n) ∷ []) in

@@ -53,6 +53,7 @@ ready_limits f c = pods_by f c (is_ready c) is_ready_now (λ p. by (contains p (
     by false true g = refl
     by false false g = refl
 
+-- the starting pods of the record
 pub starting-pods : (c : Trace) → starting_pods c ≡ pods_in is_starting_now (pods c)
 unfolding starting_pods is_starting is_live_pod
 starting-pods c =
@@ -64,6 +65,7 @@ starting-pods c =
     by false true g = refl
     by false false g = refl
 
+-- its draining pods
 pub draining-pods : (c : Trace) → draining c ≡ pods_in is_draining_now (pods c)
 unfolding draining is_draining is_live_pod
 draining-pods c =
@@ -75,6 +77,7 @@ draining-pods c =
     by false true g = refl
     by false false g = refl
 
+-- whether a live pod is starting
 pub live_is_starting : (c : Trace) (p : ℕ) → contains p (live_pods c) ≡ true → is_starting c p ≡ contains p (starting_pods c)
 unfolding starting_pods
 live_is_starting c p h = sym (contains-filter (is_starting c) p (each_row created_by c) ∙ rw (live_pod_created c p h) refl)

@@ -47,6 +47,7 @@ old_pods c e g same =
     by None = refl
     by (Some p) = pod_record-push c e p ∙ same p
 
+-- a row that says nothing of pods
 pub pods-quiet : (c : Trace) (e : Entry) → created_by e.row ≡ None → removed_by e.row ≡ None → drained_by e.row ≡ None → readied_by e.row ≡ None → ((p : ℕ) → limit_by p e.row ≡ None) → pods (c ++ e ∷ []) ≡ pods c
 unfolding pod_record
 pods-quiet c e created removed' drained' readied' limit' =
@@ -57,6 +58,7 @@ pods-quiet c e created removed' drained' readied' limit' =
     by p true n d x = refl
     by p false n d x = rw (or-false d, or-false x) refl
 
+-- a pod gets a limit
 pub pods-limit : (c : Trace) (t p n : ℕ) → pods (c ++ entry t (row.Limit p n) ∷ []) ≡ with_limit p n (pods c)
 unfolding pod_record
 pods-limit c t p n =
@@ -69,6 +71,7 @@ pods-limit c t p n =
     by q false m d x true e = rw (e, or-false d, or-false x) refl
     by q false m d x false e = rw (e, or-false d, or-false x) refl
 
+-- a pod is ready, unless it drains
 pub pods-ready : (c : Trace) (t p : ℕ) → pods (c ++ entry t (row.Ready p) ∷ []) ≡ with_readiness p readied (pods c)
 unfolding pod_record
 pods-ready c t p =
@@ -83,6 +86,7 @@ pods-ready c t p =
     by q false m false false true e = rw (e) refl
     by q false m d x false e = rw (e, or-false d, or-false x) refl
 
+-- a pod drains
 pub pods-drain : (c : Trace) (t p : ℕ) → pods (c ++ entry t (row.Drain p) ∷ []) ≡ with_readiness p drained (pods c)
 unfolding pod_record
 pods-drain c t p =
@@ -96,6 +100,7 @@ pods-drain c t p =
     by q false m false x true e = rw (e) refl
     by q false m d x false e = rw (e, or-false d, or-false x) refl
 
+-- a pod goes
 pub pods-remove : (c : Trace) (t p : ℕ) → pods (c ++ entry t (row.Remove p) ∷ []) ≡ filter (λ (q : Pod). not (p == q.number)) (pods c)
 unfolding pod_record
 pods-remove c t p =
@@ -123,6 +128,7 @@ limited-none p n (q ∷ all) h = by (p == q.number) refl (limited-none p n all) 
     by true e rest h = absurd (cc)
     by false e rest h = rw e (ap (λ (l : List Pod). q ∷ l) (rest h))
 
+-- a new pod starts with its limit
 pub pods-create : (c : Trace) (t p n : ℕ) → IsNewPod c p → pods (c ++ entry t (row.Create p n) ∷ []) ≡ pods c ++ record { number = p; limit = n; readiness = readiness.Starting } ∷ []
 pods-create c t p n new =
     old_pods c (entry t (row.Create p n)) (λ q. Some (limited p n q)) (λ q. by q (removed c q) (limit_of c q) (drains c q) (readies c q) (p == q) refl)
@@ -136,6 +142,7 @@ pods-create c t p n new =
 
 -- ---- the views of pods
 
+-- the Ready pods are those of the record
 pub ready-pods : (c : Trace) → ready_pods c ≡ pods_in is_ready_now (pods c)
 unfolding ready_pods is_ready is_live_pod pods pod_record readiness_of
 ready-pods c = from c
@@ -159,6 +166,7 @@ ready-pods c = from c
         by None rest = rest
         by (Some p) rest = step p (readies c p) (drains c p) (removed c p) _ _ rest
 
+-- so are the live ones
 pub live-pods : (c : Trace) → live_pods c ≡ map (λ (q : Pod). q.number) (pods c)
 unfolding live_pods is_live_pod pods pod_record
 live-pods c = from c

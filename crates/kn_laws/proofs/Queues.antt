@@ -84,6 +84,7 @@ queue_part c p (e ∷ d) fits = by e.row refl (queue_part c p d (fits_rest c d e
     by (row.Admit r tag) k rest = admit r (fits.admitted r p (in_first admitted_by r e d (ap admitted_by k))) rest
     by x k rest = rest
 
+-- a whole trace fits itself
 fits_whole : (c : Trace) → IsNumbered c → Fits c c
 unfolding has_not_begun has_begun place_of assigned
 fits_whole c num = record {
@@ -99,6 +100,7 @@ fits_whole c num = record {
     idle p false false true (Some q) x h = absurd (let e = x.direct refl in cc)
     idle p false false false (Some q) x h = absurd (let e = x.there refl in cc)
 
+-- a pod's queue in its own words is that by place
 pub queued_at-placed : (c : Trace) (p : ℕ) → IsNumbered c → queued_at c p ≡ placed (queues_at p) c
 unfolding queued_at
 queued_at-placed c p num = queue_part c p c (fits_whole c num) ∙ sym (placed-filter (queues_at p) c)

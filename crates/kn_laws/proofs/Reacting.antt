@@ -39,6 +39,7 @@ contains-fewer f g part r (x ∷ xs) n = by (f x) (g x) (part x) n (contains-few
     by a (Some q) (inl e) n rest = rw e (rest (or_parts (q == r) _ n).1)
     by a (Some q) (inr e) n rest = let both = or_parts (q == r) _ n in rw (e, both.0) (rest both.1)
 
+-- what leaves some out of distinct numbers is distinct
 pub distinct-fewer : {X : Type 0} (f g : X → Option ℕ) → ((x : X) → (f x ≡ None) ⊎ (f x ≡ g x)) → (xs : List X) → AreDistinct (filter_map g xs) → AreDistinct (filter_map f xs)
 distinct-fewer f g part [] d = tt
 distinct-fewer f g part (x ∷ xs) d = by (f x) (g x) (part x) d (distinct-fewer f g part xs)
@@ -49,6 +50,7 @@ distinct-fewer f g part (x ∷ xs) d = by (f x) (g x) (part x) d (distinct-fewer
     by a (Some q) (inl e) d rest = rw e (rest d.1)
     by a (Some q) (inr e) d rest = rw e (contains-fewer f g part q xs d.0, rest d.1)
 
+-- each is held once
 pub held_distinct : (c : Trace) → IsNumbered c → AreDistinct (held c)
 unfolding held
 held_distinct c num = distinct-filter (is_held c) (each_row admitted_by c) (distinct-fewer (λ (e : Entry). admitted_by e.row) (λ (e : Entry). taken_by e.row) (λ e. admitted_taken e.row) c num.once)
@@ -56,6 +58,7 @@ held_distinct c num = distinct-filter (is_held c) (each_row admitted_by c) (dist
 pub brought_distinct : (c : Trace) (p : ℕ) → IsNumbered c → AreDistinct (each_row (brought_to p) c)
 brought_distinct c p num = distinct-fewer (λ (e : Entry). brought_to p e.row) (λ (e : Entry). moved_by e.row) (λ e. brought_moved p e.row) c num.moved
 
+-- each is queued once
 pub queued_distinct : (c : Trace) (p : ℕ) → IsNumbered c → AreDistinct (queued_at c p)
 unfolding queued_at
 queued_distinct c p num = distinct-filter (has_not_begun c) (each_row (brought_to p) c) (brought_distinct c p num)
@@ -81,6 +84,7 @@ due_taken timeout t e = by (nat_le (e.time + timeout) t)
     by true = inr refl
     by false = inl refl
 
+-- who is due waits
 pub due_waits : (s : Spec) (t : ℕ) (c : Trace) (r : ℕ) → contains r (due s t c) ≡ true → contains r (waiting c) ≡ true
 unfolding due waiting
 due_waits s t c r h =
@@ -88,6 +92,7 @@ due_waits s t c r h =
     in_filter (has_not_begun c) r (each_row taken_by c)
     (true_unless (contains r (each_row taken_by c)) (λ n. let no = contains-fewer (due_by s.timeout_ms t) (λ (e : Entry). taken_by e.row) (due_taken s.timeout_ms t) r c n in let yes_it_is = both.0 in absurd (cc))) both.1
 
+-- each is due once
 pub due_distinct : (s : Spec) (t : ℕ) (c : Trace) → IsNumbered c → AreDistinct (due s t c)
 unfolding due
 due_distinct s t c num =
@@ -101,6 +106,7 @@ expire-hold s t c (r ∷ rs) d all = (
       (λ q h. rw (waiting-end c (entry t (row.Expire r)) r refl refl refl refl, contains-filter (λ (q : ℕ). not (r == q)) q (waiting c), all q (or-more (r == q) (contains q rs) h)) (apart_from r q rs d.0 h)),
 )
 
+-- the expiries are proper
 pub expiries-hold : (s : Spec) (t : ℕ) (c : Trace) → IsNumbered c → Holds (IsProper s) c (expiries s t c)
 unfolding expiries
 expiries-hold s t c num = expire-hold s t c (due s t c) (due_distinct s t c num) (due_waits s t c)
@@ -116,6 +122,7 @@ contains-index (suc i) d (x ∷ xs) h = or-more (x == slice_index_or xs i d) _ (
 turn_ready : (n p : ℕ) (ps : List ℕ) → contains (slice_index (p ∷ ps) (n % length (p ∷ ps))) (p ∷ ps) ≡ true
 turn_ready n p ps = contains-index (n % length (p ∷ ps)) _ (p ∷ ps) (omega arith)
 
+-- a request past the activator meets a full pod, or one with room
 direct-hold : (s : Spec) (t : ℕ) (c : Trace) (p : ℕ) (ps : List ℕ) → ready_pods c ≡ p ∷ ps → length (live c) < live_most → Holds (IsProper s) c (entries_of t (Some (direct_row c (p ∷ ps))))
 direct-hold s t c p ps ready room = by (pod_full c q) refl
   where
@@ -126,6 +133,7 @@ direct-hold s t c p ps ready room = by (pod_full c q) refl
     by true e = ((record { number = refl; room = room }, e), tt)
     by false e = ((record { number = refl; room = room }, record { ready = rw ready (turn_ready (direct_turn c) p ps); room = e }), tt)
 
+-- a request at the activator meets a full breaker, or one with room
 admission-hold : (s : Spec) (t : ℕ) (c : Trace) (tag : ℕ) → length (live c) < live_most → Holds (IsProper s) c (entries_of t (Some (admission_row s c tag)))
 admission-hold s t c tag room = by (breaker_full s c) refl
   where
@@ -138,6 +146,7 @@ arrival-hold mode.Serve s t c (p ∷ ps) tag ready room = direct-hold s t c p ps
 arrival-hold mode.Serve s t c [] tag ready room = admission-hold s t c tag room
 arrival-hold mode.Proxy s t c ps tag ready room = admission-hold s t c tag room
 
+-- the row of an act is proper, whichever it is
 pub act-holds : (s : Spec) (t : ℕ) (c : Trace) (a : Act) → Holds (IsProper s) c (entries_of t (act_row s c a))
 unfolding act_row starting_pods
 act-holds s t c (act.Arrive tag) = by (nat_le live_most (length (live c))) refl
@@ -171,6 +180,7 @@ act-holds s t c act.Tick = tt
 
 -- ---- the assignments
 
+-- each assignment is of the first held request, to a Ready pod with a free seat, while there is room
 pub assignments-hold : (s : Spec) (t : ℕ) (c : Trace) (rs : List ℕ) → held c ≡ rs → AreDistinct rs → Holds (IsProper s) c (assignments_of s t c rs)
 unfolding assignments_of
 assignments-hold s t c [] e d = tt

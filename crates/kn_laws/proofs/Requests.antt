@@ -132,6 +132,7 @@ pub record IsNew (c : Trace) (r : ℕ) : Type 0 where
   pub run : has_run c r ≡ false
   pub pod : pod_of c r ≡ None
 
+-- a request is admitted: it is held
 pub live_requests-admit : (c : Trace) (t r tag : ℕ) → IsNew c r → live_requests (c ++ entry t (row.Admit r tag) ∷ []) ≡ live_requests c ++ record { number = r; time = t; place = place.Held } ∷ []
 unfolding request_of place_of
 live_requests-admit c t r tag new =
@@ -151,6 +152,7 @@ moved_to-none r x (q ∷ live) h = by (r == q.number) refl (moved_to-none r x li
     by true e rest h = absurd (cc)
     by false e rest h = rw e (ap (λ (l : List Request). q ∷ l) (rest h))
 
+-- a request goes straight to a pod: it is queued there
 pub live_requests-direct : (c : Trace) (t r p : ℕ) → IsNew c r → list_any (λ (q : Request). r == q.number) (live_requests c) ≡ false
     → live_requests (c ++ entry t (row.Direct r p) ∷ []) ≡ live_requests c ++ record { number = r; time = t; place = place.Queued p } ∷ []
 unfolding request_of place_of

@@ -24,6 +24,7 @@ abbrev pub Each : (Row → Bool) → Trace → Type 0
 Each test [] = ⊤
 Each test (e ∷ es) = (test e.row ≡ true) × Each test es
 
+-- a list after another
 pub Each-append : (test : Row → Bool) (xs ys : Trace) → Each test xs → Each test ys → Each test (xs ++ ys)
 Each-append test [] ys h k = k
 Each-append test (e ∷ xs) ys h k = (h.0, Each-append test xs ys h.1 k)
@@ -57,11 +58,13 @@ promotions_at-rows t c p (r ∷ rs) = by (has_free_seat c p) (promotions_at-rows
     by false rest = tt
     by true rest = (refl, rest)
 
+-- promotions are run rows
 pub promotions-rows : (t : ℕ) (c : Trace) (ps : List ℕ) → Each is_run_row (promotions t c ps)
 unfolding promotions
 promotions-rows t c [] = tt
 promotions-rows t c (p ∷ ps) = Each-append is_run_row (promotions_at t c p (queued_at c p)) _ (promotions_at-rows t c p (queued_at c p)) (promotions-rows t (c ++ promotions_at t c p (queued_at c p)) ps)
 
+-- assignments are assign rows
 pub assignments-rows : (s : Spec) (t : ℕ) (c : Trace) (rs : List ℕ) → Each is_assign_row (assignments_of s t c rs)
 unfolding assignments_of
 assignments-rows s t c [] = tt
@@ -79,26 +82,31 @@ expired-rows : (t : ℕ) (rs : List ℕ) → Each is_expire_row (map (λ r. entr
 expired-rows t [] = tt
 expired-rows t (r ∷ rs) = (refl, expired-rows t rs)
 
+-- expiries are expire rows
 pub expiries-rows : (s : Spec) (t : ℕ) (c : Trace) → Each is_expire_row (expiries s t c)
 unfolding expiries
 expiries-rows s t c = expired-rows t (due s t c)
 
 -- ---- what rows of a kind leave as it is
 
+-- the phase
 pub phase-each : (test : Row → Bool) → ((x : Row) → test x ≡ true → phase_by x ≡ None) → (c es : Trace) → Each test es → phase_of (c ++ es) ≡ phase_of c
 phase-each test none c [] h = rw (append-nil c) refl
 phase-each test none c (e ∷ es) h =
     let one : phase_of (c ++ e ∷ []) ≡ phase_of c = rw (phase_of-push c e, none e.row h.0) refl in
     rw (append_assoc c (e ∷ []) es) at (phase-each test none (c ++ e ∷ []) es h.1 ∙ one)
 
+-- the Ready pods
 pub ready-each : (test : Row → Bool) → ((x : Row) → test x ≡ true → SaysNoPod x) → (c es : Trace) → Each test es → ready_pods (c ++ es) ≡ ready_pods c
 ready-each test none c [] h = rw (append-nil c) refl
 ready-each test none c (e ∷ es) h = rw (append_assoc c (e ∷ []) es) at (ready-each test none (c ++ e ∷ []) es h.1 ∙ ready-quiet c e (none e.row h.0))
 
+-- the draining pods
 pub draining-each : (test : Row → Bool) → ((x : Row) → test x ≡ true → SaysNoPod x) → (c es : Trace) → Each test es → draining (c ++ es) ≡ draining c
 draining-each test none c [] h = rw (append-nil c) refl
 draining-each test none c (e ∷ es) h = rw (append_assoc c (e ∷ []) es) at (draining-each test none (c ++ e ∷ []) es h.1 ∙ draining-quiet c e (none e.row h.0))
 
+-- those that do not drain
 pub drain_order-each : (test : Row → Bool) → ((x : Row) → test x ≡ true → SaysNoPod x) → (c es : Trace) → Each test es → drain_order (c ++ es) ≡ drain_order c
 drain_order-each test none c [] h = rw (append-nil c) refl
 drain_order-each test none c (e ∷ es) h = rw (append_assoc c (e ∷ []) es) at (drain_order-each test none (c ++ e ∷ []) es h.1 ∙ drain_order-quiet c e (none e.row h.0))
@@ -138,6 +146,7 @@ pub where-each : (test : Row → Bool) (b : Bool) (es : Trace) → Each test es 
 where-each test false es h = tt
 where-each test true es h = h
 
+-- a decision adds the autoscaler's rows alone
 pub decision-rows : (s : Spec) (t : ℕ) (c : Trace) (made : Ruling) → Each is_scaler_row (decision_rows s t c made)
 unfolding decision_rows scale_rows
 decision-rows s t c made =
@@ -163,11 +172,13 @@ unfolding wake_rows
 wake_where-rows false s t c = tt
 wake_where-rows true s t c = decision-rows s t c (wake_decision_at s c t)
 
+-- so does all that the autoscaler does at an act
 pub scaler-rows : (k : Kind) (s : Spec) (t : ℕ) (c : Trace) (a : Act) (did : Option Row) → Each is_scaler_row (scaler_rows k s t c a did)
 scaler-rows kind.Kpa s t c act.Tick did = tick-rows s t c
 scaler-rows kind.Kpa s t c (act.Arrive tag) (Some (row.Admit r g)) = wake_where-rows (wanted s c == 0) s t c
 scaler-rows k s t c a did = tt
 
+-- and the activation
 pub activation-rows : (t : ℕ) (c : Trace) → Each is_scaler_row (activation t c)
 unfolding activation
 activation-rows t c = where-each is_scaler_row (is_same_phase phase.Activating (phase_of c) && not (is_empty (ready_pods c))) (entry t (row.Phase phase.Active) ∷ []) (refl, tt)

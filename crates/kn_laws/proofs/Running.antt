@@ -20,6 +20,7 @@ use Rattle.kn_laws.proofs.Scaling.{activation-holds, acts-hold, made_opening}
 
 -- ---- queued requests run
 
+-- after the first queued request runs the others are queued
 pub queued-next : (c : Trace) (t p r : ℕ) (rs : List ℕ) → queued_at c p ≡ r ∷ rs → AreDistinct (r ∷ rs) → queued_at (c ++ entry t (row.Run r) ∷ []) p ≡ rs
 queued-next c t p r rs e d = queued_at-run c t r p ∙ ap (λ (l : List ℕ). others r l) e ∙ filter-first r rs d
 
@@ -33,6 +34,7 @@ promotions_at-hold s t c p (r ∷ rs) e d = by (has_free_seat c p) refl (promoti
     by false h rest = tt
     by true h rest = ((p, record { first = rw e refl; free = h }), rest)
 
+-- each run is of a pod's first queued request, while there is a free seat
 pub promotions-hold : (s : Spec) (t : ℕ) (c : Trace) (ps : List ℕ) → Kept s c → Holds (IsProper s) c (promotions t c ps)
 unfolding promotions
 promotions-hold s t c [] kept = tt
@@ -62,6 +64,7 @@ pub draining_distinct : (c : Trace) → ArePodsNumbered c → AreDistinct (drain
 unfolding draining
 draining_distinct c num = distinct-filter (is_draining c) (each_row created_by c) num.once
 
+-- each removal is of an empty draining pod
 pub removals-hold : (s : Spec) (t : ℕ) (c : Trace) → ArePodsNumbered c → Holds (IsProper s) c (removals t c)
 unfolding removals
 removals-hold s t c num =
@@ -74,6 +77,7 @@ pub held_assignments-hold : (s : Spec) (t : ℕ) (c : Trace) → IsNumbered c �
 unfolding held_assignments
 held_assignments-hold s t c num = assignments-hold s t c (held c) refl (held_distinct c num)
 
+-- the rows of a settling are proper
 pub settling-holds : (s : Spec) (t : ℕ) (c : Trace) → Kept s c → Holds (IsProper s) c (settling s t c)
 unfolding settling
 settling-holds s t c kept =
@@ -87,6 +91,7 @@ settling-holds s t c kept =
     (Holds-append (IsProper s) c ran gave one two)
     (rw (← append_assoc c ran gave) (removals-hold s t ((c ++ ran) ++ gave) kept2.pods))
 
+-- so are those before it
 pub before-holds : (s : Spec) (c : Trace) (e : Event) → Kept s c → Holds (IsProper s) c (before_settling s c e)
 unfolding before_settling
 before-holds s c e kept =
@@ -99,6 +104,7 @@ before-holds s c e kept =
     (Holds-append (IsProper s) c gone did one two)
     (rw (← append_assoc c gone did) (activation-holds s e.time ((c ++ gone) ++ did)))
 
+-- so are all of an event
 pub react-holds : (s : Spec) (c : Trace) (e : Event) → Kept s c → Holds (IsProper s) c (react s c e)
 unfolding react
 react-holds s c e kept =
@@ -106,9 +112,11 @@ react-holds s c e kept =
     let one = before-holds s c e kept in
     Holds-append (IsProper s) c first (settling s e.time (c ++ first)) one (settling-holds s e.time (c ++ first) (Holds-kept s c first kept one))
 
+-- proper rows go on a trace that was made
 pub made_more : (s : Spec) (c es : Trace) → IsMade s c → Holds (IsProper s) c es → IsMade s (c ++ es)
 made_more s c es made h = record { rows = Holds-append (IsProper s) [] c es made.rows h }
 
+-- a trace that was made stays one at each event
 pub made_react : (s : Spec) (c : Trace) (e : Event) → IsMade s c → IsMade s (c ++ react s c e)
 made_react s c e made = record { rows = Holds-append (IsProper s) [] c (react s c e) made.rows (react-holds s c e (made_kept s c made)) }
 
@@ -117,6 +125,7 @@ unfolding added
 made_added s c [] made = rw (append-nil c) made
 made_added s c (e ∷ es) made = rw (append_assoc c (react s c e) (added s (c ++ react s c e) es)) at (made_added s (c ++ react s c e) es (made_react s c e made))
 
+-- the trace of a journal's events was made
 pub made_trace : (s : Spec) (start : ℕ) (es : List Event) → IsMade s (trace_of s start es)
 unfolding trace_of
 made_trace s start es = made_added s (opening s start) es (made_opening s start)

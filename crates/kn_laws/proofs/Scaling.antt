@@ -33,6 +33,7 @@ use Rattle.kn_laws.proofs.Reacting.{act-holds, apart_from, or-more}
 
 -- ---- lists
 
+-- two distinct lists without a number in common
 pub distinct-append : (xs ys : List ℕ) → AreDistinct xs → AreDistinct ys → ((r : ℕ) → contains r xs ≡ true → contains r ys ≡ false) → AreDistinct (xs ++ ys)
 distinct-append [] ys d e apart = e
 distinct-append (x ∷ xs) ys d e apart = (
@@ -60,6 +61,7 @@ distinct-take (suc n) (x ∷ xs) d = (false_unless (contains x (take n xs)) (λ 
 
 -- ---- the pods that do not drain
 
+-- a starting pod isn't Ready
 starting_or_ready : (c : Trace) (p : ℕ) → contains p (starting_pods c) ≡ true → contains p (ready_pods c) ≡ false
 unfolding starting_pods ready_pods is_starting is_ready is_live_pod
 starting_or_ready c p h =
@@ -71,6 +73,7 @@ starting_or_ready c p h =
     by true false d g h = refl
     by false x d g h = refl
 
+-- each pod stands once in the order of draining
 pub drain_order_distinct : (c : Trace) → ArePodsNumbered c → AreDistinct (drain_order c)
 unfolding drain_order starting_pods ready_pods
 drain_order_distinct c num =
@@ -79,6 +82,7 @@ drain_order_distinct c num =
 
 -- ---- the rows of a scale
 
+-- new pods take the next numbers, and there is room for them
 pub creations-hold : (s : Spec) (t : ℕ) (c : Trace) (i k : ℕ) → ArePodsNumbered c → created c ≡ i → (AreInRange s → length (drain_order c) + k ≤ pods_most) → Holds (IsProper s) c (creations s t i k)
 creations-hold s t c i zero num e room = tt
 creations-hold s t c i (suc k) num e room =
@@ -91,6 +95,7 @@ creations-hold s t c i (suc k) num e room =
     one : IsProper s c (row.Create i s.cc)
     one = (sym e, λ ranges. let a = room ranges in omega arith)
 
+-- who drains has not drained before
 drains-hold : (s : Spec) (t : ℕ) (c : Trace) (ps : List ℕ) → AreDistinct ps → ((p : ℕ) → contains p ps ≡ true → contains p (drain_order c) ≡ true) → Holds (IsProper s) c (map (λ p. entry t (row.Drain p)) ps)
 drains-hold s t c [] d all = tt
 drains-hold s t c (p ∷ ps) d all = (
@@ -117,6 +122,7 @@ scale-hold s t c d want num made standing few = by (want - n) refl
 
 -- ---- no decision wants more pods than a revision may have
 
+-- the bounds end at 500
 bounds_few : (s : Spec) (reached : Bool) (count : ℕ) → bounded_count s reached count ≤ pods_most
 unfolding bounded_count
 bounds_few s reached count = omega arith
@@ -130,6 +136,7 @@ zero_in_few s time ready standing few phase.Active = by (has_lasted standing.pha
     by false = omega arith
 zero_in_few s time ready standing few phase.Inactive = omega arith
 
+-- so does the rule of zero, if no more were wanted before
 zero_few : (s : Spec) (time ready bounded : ℕ) (standing : Standing) → bounded ≤ pods_most → standing.want ≤ pods_most → (zero_rule s time ready bounded standing).want ≤ pods_most
 unfolding zero_rule
 zero_few s time ready bounded standing few kept = by (nat_lt 0 bounded) s.to_zero
@@ -160,6 +167,7 @@ same_where : (c d : Trace) (b : Bool) (t : ℕ) (x : Row) → SamePods c d → S
 same_where c d false t x same none = rw (append-nil d) same
 same_where c d true t x same none = same_pods c d (entry t x) same none
 
+-- the rows of a decision are proper
 pub decision-holds : (s : Spec) (t : ℕ) (c : Trace) (made : Ruling) → Kept s c → (AreInRange s → made.decision.want ≤ pods_most) → Holds (IsProper s) c (decision_rows s t c made)
 unfolding decision_rows
 decision-holds s t c made kept few =
@@ -185,6 +193,7 @@ decision-holds s t c made kept few =
     pods-hold false d kept same = tt
     pods-hold true d kept same = scale-hold s t c d made.decision.want kept.pods same.0 same.1 few
 
+-- those of a tick are
 pub tick-holds : (s : Spec) (t : ℕ) (c : Trace) → Kept s c → Holds (IsProper s) c (tick_rows s t c)
 unfolding tick_rows decision_at past_of standing_of scaling.decision_at
 tick-holds s t c kept = by (window_average (past_of s c).samples s.stable_s (second_of t))
@@ -194,6 +203,7 @@ tick-holds s t c kept = by (window_average (past_of s c).samples s.stable_s (sec
     by (Some stable) = decision-holds s t c (ruling s (past_of s c) t (count_ready c) stable (unwrap_or (window_average (past_of s c).samples s.panic_s (second_of t)) no_load)) kept
         (λ ranges. ruling_few s (past_of s c) t (count_ready c) stable _ (kept.wants ranges))
 
+-- those of a decision on an arrival are
 wake-holds : (s : Spec) (t : ℕ) (c : Trace) → Kept s c → Holds (IsProper s) c (wake_rows s t c)
 unfolding wake_rows wake_decision_at past_of standing_of scaling.wake_decision_at
 wake-holds s t c kept =
@@ -216,6 +226,7 @@ acts-hold s t c a kept =
     let one = act-holds s t c a in
     Holds-append (IsProper s) c did _ one (scaler-holds s.kind s t (c ++ did) a (act_row s c a) (Holds-kept s c did kept one))
 
+-- the activation is
 pub activation-holds : (s : Spec) (t : ℕ) (c : Trace) → Holds (IsProper s) c (activation t c)
 unfolding activation
 activation-holds s t c = quiet-hold s t c (is_same_phase phase.Activating (phase_of c) && not (is_empty (ready_pods c))) (row.Phase phase.Active) tt
@@ -234,6 +245,7 @@ no_pods_numbered : ArePodsNumbered []
 unfolding created
 no_pods_numbered = record { come = λ p h. absurd (cc); once = tt }
 
+-- the opening was made
 pub made_opening : (s : Spec) (start : ℕ) → IsMade s (opening s start)
 unfolding opening
 made_opening s start = record { rows = by s.kind refl }

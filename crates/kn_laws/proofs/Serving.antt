@@ -32,11 +32,13 @@ use Rattle.kn_laws.proofs.Counts.{not_begun-less}
 
 -- ---- waiting is left for good
 
+-- who is taken in has the next number
 taken_next : (s : Spec) (c : Trace) (x : Row) (r : ℕ) → IsProper s c x → taken_by x ≡ Some r → r ≡ arrivals c
 taken_next s c (row.Admit q tag) r h e = let number = h.0.number in cc
 taken_next s c (row.Direct q p) r h e = let number = h.0.number in cc
 taken_next s c _ r h e = absurd (cc)
 
+-- a row makes no old request wait
 waits_no_more : (s : Spec) (c : Trace) (e : Entry) (r : ℕ) → IsProper s c e.row → r < arrivals c → contains r (waiting c) ≡ false → contains r (waiting (c ++ e ∷ [])) ≡ false
 unfolding waiting
 waits_no_more s c e r h less out = false_unless (contains r (waiting (c ++ e ∷ []))) (λ k. again k)
@@ -80,6 +82,7 @@ runs-push c e r h out = is_running-push c e r ∙ rw out (by (assigned c r) _ (h
     by false false true y false h = refl
     by false x false y g h = absurd (cc)
 
+-- who waits doesn't run
 waiting_idle : (c : Trace) (q r : ℕ) → contains q (waiting c) ≡ true → is_running c r ≡ true → (q == r) ≡ false
 waiting_idle c q r waits runs = false_unless (q == r) (λ e. clash (eqb-true q r e))
   where
@@ -95,6 +98,7 @@ waiting_idle c q r waits runs = false_unless (q == r) (λ e. clash (eqb-true q r
 abbrev Finishes : Act → ℕ → Type 0
 Finishes a r = (ok : Bool) × (a ≡ act.Finish r ok)
 
+-- one row
 one-row : (s : Spec) (a : Act) (c : Trace) (t : ℕ) (x : Row) (r : ℕ) → IsProper s c x → IsByAct a x → is_running c r ≡ true → (is_running (c ++ entry t x ∷ []) r ≡ true) ⊎ Finishes a r
 one-row s a c t (row.Finish q ok) r h own runs = by (q == r) refl
   where
@@ -105,6 +109,7 @@ one-row s a c t (row.Expire q) r h own runs = inl (runs-push c (entry t (row.Exp
 one-row s a c t (row.Cancel q) r h own runs = inl (runs-push c (entry t (row.Cancel q)) r runs (waiting_idle c q r h runs))
 one-row s a c t x r h own runs = inl (runs-push c (entry t x) r runs refl)
 
+-- rows that are all proper and of this act
 runs-on : (s : Spec) (a : Act) (c es : Trace) (r : ℕ) → Holds (IsProper s) c es → EachIs (IsByAct a) es → is_running c r ≡ true → (is_running (c ++ es) r ≡ true) ⊎ Finishes a r
 runs-on s a c [] r h own runs = inl (rw (append-nil c) runs)
 runs-on s a c (e ∷ es) r h own runs = by (one-row s a c e.time e.row r h.0 own.0 runs) (λ k. runs-on s a (c ++ e ∷ []) es r h.1 own.1 k)

@@ -56,6 +56,7 @@ free-less c e q l more h =
     by true a b f h = refl
     by false a b f h = f h
 
+-- a run
 busier-run : (c : Trace) (t r : ℕ) → Busier c (c ++ entry t (row.Run r) ∷ [])
 unfolding is_running has_begun
 busier-run c t r = record {
@@ -71,6 +72,7 @@ busier-run c t r = record {
     still false true false m h = refl
     still false false g m h = absurd (cc)
 
+-- an assignment
 busier-assign : (c : Trace) (t r p : ℕ) → Busier c (c ++ entry t (row.Assign r p) ∷ [])
 unfolding is_running has_begun has_not_begun queued_at
 busier-assign c t r p = record {
@@ -108,6 +110,7 @@ busier-assign c t r p = record {
     still false true false false h = refl
     still false false g m h = absurd (cc)
 
+-- a removal
 busier-remove : (c : Trace) (t p : ℕ) → Busier c (c ++ entry t (row.Remove p) ∷ [])
 busier-remove c t p = record {
   queued = λ q x k. rw (queued_at-quiet c e q quiet) at k;
@@ -139,6 +142,7 @@ promotions_at-busy t c p (r ∷ rs) =
     by false h = rw (append-nil c) (busier-same c)
     by true h = rw (append_assoc c (entry t (row.Run r) ∷ []) (promotions_at t (c ++ entry t (row.Run r) ∷ []) p rs)) at h
 
+-- so the promotions
 pub promotions-busy : (t : ℕ) (c : Trace) (ps : List ℕ) → Busier c (c ++ promotions t c ps)
 unfolding promotions
 promotions-busy t c [] = rw (append-nil c) (busier-same c)
@@ -146,6 +150,7 @@ promotions-busy t c (p ∷ ps) =
     let here = promotions_at t c p (queued_at c p) in
     rw (append_assoc c here (promotions t (c ++ here) ps)) at (busier-then c (c ++ here) ((c ++ here) ++ promotions t (c ++ here) ps) (promotions_at-busy t c p (queued_at c p)) (promotions-busy t (c ++ here) ps))
 
+-- the assignments
 pub assignments-busy : (s : Spec) (t : ℕ) (c : Trace) (rs : List ℕ) → Busier c (c ++ assignments_of s t c rs)
 unfolding assignments_of
 assignments-busy s t c [] = rw (append-nil c) (busier-same c)
@@ -157,6 +162,7 @@ assignments-busy s t c (r ∷ rs) =
     by None h = rw (append-nil c) (busier-same c)
     by (Some p) h = rw (append_assoc c (entry t (row.Assign r p) ∷ []) (assignments_of s t (c ++ entry t (row.Assign r p) ∷ []) rs)) at (h p)
 
+-- and the removals
 pub removed-busy : (t : ℕ) (c : Trace) (ps : List ℕ) → Busier c (c ++ map (λ p. entry t (row.Remove p)) ps)
 removed-busy t c [] = rw (append-nil c) (busier-same c)
 removed-busy t c (p ∷ ps) =
@@ -168,6 +174,7 @@ removed-busy t c (p ∷ ps) =
 abbrev pub QueuesFull : Trace → ℕ → Type 0
 QueuesFull c p = (r : ℕ) → contains r (queued_at c p) ≡ true → has_free_seat c p ≡ false
 
+-- a pod whose queue is done stays so
 pub full-busier : (c d : Trace) (p : ℕ) → Busier c d → QueuesFull c p → QueuesFull d p
 full-busier c d p busy full r h = by (has_free_seat d p) refl
   where
@@ -185,6 +192,7 @@ promotions_at-full t c p (r ∷ rs) e d = by (has_free_seat c p) refl (promotion
     by false f h = rw (append-nil c) (λ q k. f)
     by true f h = rw (append_assoc c (entry t (row.Run r) ∷ []) (promotions_at t (c ++ entry t (row.Run r) ∷ []) p rs)) at h
 
+-- after the promotions each pod's queue is done
 pub promotions-full : (s : Spec) (t : ℕ) (c : Trace) (ps : List ℕ) → Kept s c → (p : ℕ) → contains p ps ≡ true → QueuesFull (c ++ promotions t c ps) p
 unfolding promotions
 promotions-full s t c [] kept p h = absurd (cc)
@@ -208,6 +216,7 @@ promotions-full s t c (q ∷ ps) kept p h =
 abbrev pub Filled : Spec → Trace → Type 0
 Filled s c = (r p : ℕ) → contains r (held c) ≡ true → in_use c < capacity s c → contains p (ready_pods c) ≡ true → has_free_seat c p ≡ false
 
+-- where no assignment comes next the seats are filled
 filled-none : (s : Spec) (c : Trace) → next_choice s c ≡ None → Filled s c
 unfolding next_choice
 filled-none s c n r p h less ready = by (nat_lt (in_use c) (capacity s c)) refl n
@@ -216,6 +225,7 @@ filled-none s c n r p h less ready = by (nat_lt (in_use c) (capacity s c)) refl 
     by true e n = choice-none s c n p ready
     by false e n = absurd (let yes_it_is : nat_lt (in_use c) (capacity s c) ≡ true = grind (arith, nat_tests) in cc)
 
+-- so they are after the assignments
 pub assignments-filled : (s : Spec) (t : ℕ) (c : Trace) (rs : List ℕ) → held c ≡ rs → AreDistinct rs → Filled s (c ++ assignments_of s t c rs)
 unfolding assignments_of
 assignments-filled s t c [] e d = rw (append-nil c) (λ r p h less ready. absurd (let no_one : contains r (held c) ≡ false = rw e refl in cc))
@@ -243,6 +253,7 @@ same-seats c = record { held = refl; in_use = refl; ready = refl; limit = λ p. 
 seats-then : (c d e : Trace) → SameSeats c d → SameSeats d e → SameSeats c e
 seats-then c d e x y = record { held = y.held ∙ x.held; in_use = y.in_use ∙ x.in_use; ready = y.ready ∙ x.ready; limit = λ p. y.limit p ∙ x.limit p; running = λ p. y.running p ∙ x.running p; at_pod = λ p. y.at_pod p ∙ x.at_pod p }
 
+-- a draining pod that goes was not Ready
 pub ready-remove : (c : Trace) (t p : ℕ) → contains p (each_row drained_by c) ≡ true → ready_pods (c ++ entry t (row.Remove p) ∷ []) ≡ ready_pods c
 unfolding ready_pods is_ready is_live_pod
 ready-remove c t p drained =
@@ -292,6 +303,7 @@ unfolding capacity
 capacity-same s c d ready limit =
     rw (ready, sum_by-agree (λ p. seats_of s.slots.max (limit_of d p)) (λ p. seats_of s.slots.max (limit_of c p)) (λ p. ap (λ (n : ℕ). seats_of s.slots.max n) (limit p)) (ready_pods c)) refl
 
+-- the seats stay filled
 pub filled-same : (s : Spec) (c d : Trace) → SameSeats c d → Filled s c → Filled s d
 unfolding has_free_seat
 filled-same s c d same filled r p h less ready =
@@ -310,6 +322,7 @@ pub draining_drained : (c : Trace) (p : ℕ) → contains p (draining c) ≡ tru
 unfolding draining is_draining
 draining_drained c p h = (and_parts _ _ (filter_member (is_draining c) p (each_row created_by c) h).1).0
 
+-- after the removals each draining pod has a request
 pub removals-drained : (t : ℕ) (c : Trace) (p : ℕ) → SameSeats c (c ++ map (λ p. entry t (row.Remove p)) (filter (λ p. is_empty (at_pod c p)) (draining c)))
     → contains p (draining (c ++ map (λ p. entry t (row.Remove p)) (filter (λ p. is_empty (at_pod c p)) (draining c)))) ≡ true
     → is_empty (at_pod (c ++ map (λ p. entry t (row.Remove p)) (filter (λ p. is_empty (at_pod c p)) (draining c))) p) ≡ false

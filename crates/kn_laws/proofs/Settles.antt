@@ -62,6 +62,7 @@ remove_phase _ h = absurd (cc)
 
 -- ---- all of it
 
+-- a settling settles
 pub settling-settles : (s : Spec) (t : ℕ) (c : Trace) → Kept s c → IsActive c → IsSettled s (c ++ settling s t c)
 unfolding settling held_assignments removals
 settling-settles s t c kept active =
@@ -94,6 +95,7 @@ settling-settles s t c kept active =
       active = λ p h. rw phases (active p (rw pods at h));
     })
 
+-- an event leaves a settled trace
 pub react-settles : (s : Spec) (c : Trace) (e : Event) → IsMade s c → IsSettled s (c ++ react s c e)
 unfolding react before_settling
 react-settles s c e made =
@@ -125,6 +127,7 @@ opening_none f create phase' s start = by s.kind
     by (kind.Fixed n) = creates_none f create s start 0 n
     by kind.Kpa = rw (phase' (opening_phase (opening_scale s))) (creates_none f create s start 0 (opening_scale s))
 
+-- so does the opening
 pub opening-settled : (s : Spec) (start : ℕ) → IsSettled s (opening s start)
 unfolding held queued_at draining ready_pods is_ready
 opening-settled s start = record {
@@ -155,6 +158,7 @@ unfolding added
 settled_added s c [] made settled = rw (append-nil c) settled
 settled_added s c (e ∷ es) made settled = rw (append_assoc c (react s c e) (added s (c ++ react s c e) es)) at (settled_added s (c ++ react s c e) es (made_react s c e made) (react-settles s c e made))
 
+-- so is the trace of a journal's events
 pub settled_trace : (s : Spec) (start : ℕ) (es : List Event) → IsSettled s (trace_of s start es)
 unfolding trace_of
 settled_trace s start es = settled_added s (opening s start) es (made_opening s start) (opening-settled s start)

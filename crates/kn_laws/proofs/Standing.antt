@@ -56,6 +56,7 @@ made_by_place s c made = by_place c (made_kept s c made).requests
 
 -- ---- who is due
 
+-- who is due, of the live requests
 due-requests : (s : Spec) (t : ℕ) (c : Trace) → IsNumbered c → due s t c ≡ due_in s.timeout_ms t (live_requests c)
 unfolding due live_requests request_of has_not_begun has_begun place_of
 due-requests s t c num = first ∙ from c
@@ -94,6 +95,7 @@ stand_place true n (Some p) = refl
 stand_place false true (Some p) = refl
 stand_place false false (Some p) = refl
 
+-- where a request stands, of the live requests
 stand-requests : (c : Trace) (r : ℕ) → stand_found (find (λ (q : Request). q.number == r) (live_requests c)) ≡ stand_of_arrived (contains r (live c)) (has_begun c r) (pod_of c r)
 unfolding live live_requests request_of has_begun place_of
 stand-requests c r = from c
@@ -138,6 +140,7 @@ length-numbers : (l : List Request) → length (numbers_in l) ≡ length l
 length-numbers [] = refl
 length-numbers (q ∷ l) = let rest = length-numbers l in omega arith
 
+-- the candidates
 candidates-record : (c : Trace) → IsNumbered c → candidates c ≡ candidates_in (live_requests c) (pods c)
 unfolding candidates candidates_in
 candidates-record c num =
@@ -147,6 +150,7 @@ candidates-record c num =
     cand : ℕ → ℕ → Cand
     cand p n = record { pod = p; limit = n; running = length (placed_in (runs_at p) (live_requests c)) }
 
+-- the capacity
 capacity-record : (s : Spec) (c : Trace) → capacity s c ≡ capacity_in s.slots.max (pods c)
 unfolding capacity capacity_in
 capacity-record s c =
@@ -163,6 +167,7 @@ capacity-record s c =
     sum_by-map f [] = refl
     sum_by-map f (x ∷ xs) = let rest = sum_by-map f xs in let e = sum_by-cons f x xs in let h = sum_by-cons (λ (y : ℕ). y) (f x) (map f xs) in omega arith
 
+-- the next choice
 next-record : (s : Spec) (c : Trace) → IsNumbered c → next_choice s c ≡ next_in s (admission c)
 unfolding next_choice next_in choice admission
 next-record s c num = rw (capacity-record s c, candidates-record c num, in_use-count c num, count_in is_assigned_place c) refl
@@ -204,6 +209,7 @@ views_of s c num = record {
   next = next-record s c num;
 }
 
+-- a record that stands for a trace answers each view
 pub are_views : (s : Spec) (a : Admission) (c : Trace) → StandsFor a c → AreViews s a c
 are_views s a c h = rw h.kept (whole h.requests)
   where

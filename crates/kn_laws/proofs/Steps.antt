@@ -17,6 +17,7 @@ use Rattle.kn_laws.proofs.Flags.{says, or-false, each_row-push, ended-push, assi
 abbrev pub others : ℕ → List ℕ → List ℕ
 others r xs = filter (λ q. not (r == q)) xs
 
+-- a filter by two tests
 pub filter-both : (t u : ℕ → Bool) (xs : List ℕ) → filter (λ q. t q && u q) xs ≡ filter u (filter t xs)
 filter-both t u [] = refl
 filter-both t u (x ∷ xs) = by (t x) (u x) refl (filter-both t u xs)
@@ -38,13 +39,16 @@ length-filter-more p q more (x ∷ xs) = by (p x) (q x) (more x) (length-filter-
 
 -- ---- a view filters the rows of one kind: what a row does to it that is not of this kind
 
+-- nothing of the kind, and the same test
 pub view-same : (f : Row → Option ℕ) (t u : ℕ → Bool) (c : Trace) (e : Entry) → f e.row ≡ None → ((q : ℕ) → u q ≡ t q) → filter u (each_row f (c ++ e ∷ [])) ≡ filter t (each_row f c)
 view-same f t u c e none same = rw (each_row-push f c e, none, append-nil (each_row f c)) (filter_agree u t same (each_row f c))
 
+-- nothing of the kind, and the test loses one
 pub view-less : (f : Row → Option ℕ) (t u : ℕ → Bool) (c : Trace) (e : Entry) (r : ℕ) → f e.row ≡ None → ((q : ℕ) → u q ≡ (t q && not (r == q))) → filter u (each_row f (c ++ e ∷ [])) ≡ others r (filter t (each_row f c))
 view-less f t u c e r none less =
     rw (each_row-push f c e, none, append-nil (each_row f c)) (filter_agree u (λ q. t q && not (r == q)) less (each_row f c) ∙ filter-both t (λ q. not (r == q)) (each_row f c))
 
+-- the test only gains
 pub view-length : (f : Row → Option ℕ) (t u : ℕ → Bool) (c : Trace) (e : Entry) → ((q : ℕ) → t q ≡ true → u q ≡ true) → length (filter t (each_row f c)) ≤ length (filter u (each_row f (c ++ e ∷ [])))
 view-length f t u c e more =
     let less = length-filter-more t u more (each_row f c) in
@@ -147,6 +151,7 @@ in_use-quiet c e quiet = ap (λ (l : List ℕ). length l) (view-same assigned_by
 
 -- ---- a waiting request expires, is given up, begins to run or is assigned
 
+-- a request ends: it waits no more
 pub waiting-end : (c : Trace) (e : Entry) (r : ℕ) → taken_by e.row ≡ None → assigned_by e.row ≡ None → run_by e.row ≡ None → ended_by e.row ≡ Some r → waiting (c ++ e ∷ []) ≡ others r (waiting c)
 unfolding waiting has_not_begun has_begun
 waiting-end c e r taken assigned' run' ended' =
@@ -159,6 +164,7 @@ waiting-end c e r taken assigned' run' ended' =
     by false false true m = refl
     by false false false m = refl
 
+-- a request runs: it is queued no more
 pub queued_at-run : (c : Trace) (t r p : ℕ) → queued_at (c ++ entry t (row.Run r) ∷ []) p ≡ others r (queued_at c p)
 unfolding queued_at has_not_begun has_begun
 queued_at-run c t r p =
@@ -173,6 +179,7 @@ queued_at-run c t r p =
     by false false false true = refl
     by false false false false = refl
 
+-- a request is assigned: it is held no more
 pub held-assign : (c : Trace) (t r p : ℕ) → held (c ++ entry t (row.Assign r p) ∷ []) ≡ others r (held c)
 unfolding held is_held
 held-assign c t r p =
@@ -186,6 +193,7 @@ held-assign c t r p =
     by false false true = refl
     by false false false = refl
 
+-- a run leaves who is held
 pub held-run : (c : Trace) (t r : ℕ) → held (c ++ entry t (row.Run r) ∷ []) ≡ held c
 unfolding held is_held
 held-run c t r =

@@ -83,6 +83,7 @@ later_of s c e =
     let d = c ++ before_settling s c e in
     (more ++ active) ++ settling s e.time d
 
+-- the settling's rows come later
 settling-later : (s : Spec) (t : ℕ) (d : Trace) → Each is_later_row (settling s t d)
 unfolding settling
 settling-later s t d =
@@ -92,6 +93,7 @@ settling-later s t d =
     (Each-append is_later_row ran gave (Each-weaken is_run_row is_later_row run_later ran (promotions-rows t d (live_pods d))) (Each-weaken is_assign_row is_later_row assign_later gave (held_rows s t (d ++ ran))))
     (Each-weaken is_remove_row is_later_row remove_later (removals t ((d ++ ran) ++ gave)) (removals-rows t ((d ++ ran) ++ gave)))
 
+-- all that follows the act's own row
 later-rows : (s : Spec) (c : Trace) (e : Event) → Each is_later_row (later_of s c e)
 later-rows s c e =
     let c1 = c ++ expiries s e.time c in
@@ -156,6 +158,7 @@ record Brings (s : Spec) (c : Trace) (e : Event) (x : Row) (q : ℕ) : Type 0 wh
   arrives : arrived_by x ≡ Some q
   number : q ≡ arrivals c
 
+-- an event is told by its act's own row
 told-row : (s : Spec) (c : Trace) (e : Event) (x : Row) → act_row s (c ++ expiries s e.time c) e.act ≡ Some x → told_of s c e ≡ told_row (c ++ react s c e) (Some x)
 unfolding told_of act_rows
 told-row s c e x h = by (act_row s (c ++ expiries s e.time c) e.act) h
@@ -165,12 +168,14 @@ told-row s c e x h = by (act_row s (c ++ expiries s e.time c) e.act) h
     by None h = absurd (cc)
     by (Some y) h = let same : y ≡ x = cc in rw same refl
 
+-- the trace after the event
 after-parts : (s : Spec) (c : Trace) (e : Event) (x : Row) → act_row s (c ++ expiries s e.time c) e.act ≡ Some x → c ++ react s c e ≡ ((c ++ expiries s e.time c) ++ entry e.time x ∷ []) ++ later_of s c e
 after-parts s c e x h = react-parts s c e ∙ ap (λ (o : Option Row). ((c ++ expiries s e.time c) ++ entries_of e.time o) ++ later_of s c e) h
 
 first-arrivals : (s : Spec) (t : ℕ) (c : Trace) → arrivals (c ++ expiries s t c) ≡ arrivals c
 first-arrivals s t c = let none : length (each_row arrived_by (expiries s t c)) ≡ 0 = rw (none-rows arrived_by is_expire_row expire_arrives (expiries s t c) (expiries-rows s t c)) refl in let all = arrivals-list c (expiries s t c) in omega arith
 
+-- an arrival counts once
 counts-one : (s : Spec) (c : Trace) (e : Event) (x : Row) (q : ℕ) → Brings s c e x q → arrivals (c ++ react s c e) ≡ arrivals c + 1
 counts-one s c e x q brings =
     let c1 = c ++ expiries s e.time c in
@@ -262,6 +267,7 @@ refused-told s c e x q made brings refuses name stands =
         ∙ contains-list refused_by q (c1 ++ entry e.time x ∷ []) later (none-rows refused_by is_later_row (λ y k. (later_plain y k).2) later (later-rows s c e))
         ∙ contains-push refused_by c1 (entry e.time x) q ∙ rw (refuses, same_number q) (or-true-last (contains q (each_row refused_by c1)))
 
+-- an arrival is told its number and where it stands
 pub arrival_is_told : (s : Spec) (c : Trace) (e : Event) (tag : ℕ) → IsMade s c → e.act ≡ act.Arrive tag → IsTold s c e
 arrival_is_told s c e tag made arrives = by (act_row s c1 e.act) refl (act-facts s c1 e.act) (act-holds s e.time c1 e.act)
   where

@@ -10,6 +10,7 @@ use Rattle.kn_trace.specs.Rows.{taken_by}
 use Rattle.kn_trace.specs.Trace.{Trace, each_row, ended, live}
 use Rattle.kn_laws.specs.Admission.{place_of, placed, request_of, live_requests, placed_in}
 
+-- the live requests' numbers
 pub live-requests : (c : Trace) → live c ≡ map (λ (q : Request). q.number) (live_requests c)
 unfolding live live_requests request_of
 live-requests c = from c

@@ -34,6 +34,7 @@ assigned_moved _ = inl refl
 
 -- ---- lists of the same members
 
+-- taking out a member leaves one fewer
 pub others-length : (r : ℕ) (ys : List ℕ) → AreDistinct ys → contains r ys ≡ true → length (others r ys) + 1 ≡ length ys
 others-length r [] d h = absurd (cc)
 others-length r (y ∷ ys) d h = by (r == y) refl (λ k. others-length r ys d.1 k)
@@ -49,6 +50,7 @@ others-length r (y ∷ ys) d h = by (r == y) refl (λ k. others-length r ys d.1 
         second true b e h = absurd (cc)
         second false b e h = h
 
+-- distinct lists of the same members are as long
 pub same-length : (xs ys : List ℕ) → AreDistinct xs → AreDistinct ys → ((r : ℕ) → contains r xs ≡ contains r ys) → length xs ≡ length ys
 same-length [] [] d e same = refl
 same-length [] (y ∷ ys) d e same = absurd (let one = same y in let there : contains y (y ∷ ys) ≡ true = rw (same_number y) refl in cc)
@@ -100,6 +102,7 @@ split-filter f h g t parts (e ∷ d) passed stopped =
     by (Some r) k (inl p) rest = rw (p.0, k, passed r (in_first f r e d (p.0 ∙ k))) (ap (λ (l : List ℕ). r ∷ l) rest)
     by (Some r) k (inr p) rest = rw (p.0, stopped r (in_first h r e d (p.1 ∙ k))) rest
 
+-- the admitted requests, of those that were taken in
 pub admitted-filter : (c : Trace) → IsNumbered c → each_row admitted_by c ≡ filter (λ r. contains r (each_row admitted_by c)) (each_row taken_by c)
 admitted-filter c num = split-filter admitted_by directed_by taken_by (λ r. contains r (each_row admitted_by c)) taken_parts c (λ r h. h) num.direct
 
@@ -113,6 +116,7 @@ pub record Agrees (a d s n : Bool) (o : Option ℕ) : Type 0 where
   pub gone : o ≡ None → (s || d) ≡ false
   pub there : (s || d) ≡ false → o ≡ None
 
+-- of a request that was taken in
 pub agrees : (c : Trace) (r : ℕ) → IsNumbered c → contains r (each_row taken_by c) ≡ true → Agrees (contains r (each_row admitted_by c)) (contains r (each_row directed_by c)) (assigned c r) (has_run c r) (pod_of c r)
 unfolding assigned pod_of
 agrees c r num h = record {
@@ -181,6 +185,7 @@ pub placed-filter : (test : Place → Bool) (c : Trace) → placed test c ≡ fi
 unfolding placed live
 placed-filter test c = sym (filter-both (λ r. not (ended c r)) (λ r. test (place_of c r)) (each_row taken_by c))
 
+-- the held requests
 pub held-placed : (c : Trace) → IsNumbered c → held c ≡ placed is_held_place c
 unfolding held is_held place_of
 held-placed c num =
@@ -190,6 +195,7 @@ held-placed c num =
         (λ r h. held_by _ _ _ _ (ended c r) _ (agrees c r num h))
     ∙ sym (placed-filter is_held_place c)
 
+-- those in the breaker
 pub in_breaker-placed : (c : Trace) → IsNumbered c → in_breaker c ≡ placed is_through c
 unfolding in_breaker place_of
 in_breaker-placed c num =
@@ -199,6 +205,7 @@ in_breaker-placed c num =
         (λ r h. breaker_by _ _ _ _ (ended c r) _ (agrees c r num h))
     ∙ sym (placed-filter is_through c)
 
+-- those that wait
 pub waiting-placed : (c : Trace) → IsNumbered c → waiting c ≡ placed waits c
 unfolding waiting has_not_begun has_begun place_of
 waiting-placed c num =
@@ -283,10 +290,12 @@ brought_is p r (e ∷ c) d h = by (says (brought_to p e.row) r) refl h (moved_by
         let none = moved_pod r e.row (ap (λ (o : Option ℕ). says o r) m ∙ unmoved o d (within-from (brought_to p) moved_by (brought_moved p) r c there)) in
         rw none (rest (rest_distinct o d) there)
 
+-- a request that was sent to a pod is there
 pub pod_is : (c : Trace) (p r : ℕ) → IsNumbered c → contains r (each_row (brought_to p) c) ≡ true → pod_of c r ≡ Some p
 unfolding pod_of
 pod_is c p r num h = rw (brought_is p r c num.moved h) refl
 
+-- and the other way round
 pub pod_came : (c : Trace) (p r : ℕ) → pod_of c r ≡ Some p → contains r (each_row (brought_to p) c) ≡ true
 unfolding pod_of
 pod_came c p r h = pod_brought_in p r c h
@@ -333,6 +342,7 @@ brought_at c p r num =
 contains-placed : (test : Place → Bool) (c : Trace) (r : ℕ) → contains r (placed test c) ≡ (contains r (each_row taken_by c) && (not (ended c r) && test (place_of c r)))
 contains-placed test c r = ap (λ (l : List ℕ). contains r l) (placed-filter test c) ∙ contains-filter (λ r. not (ended c r) && test (place_of c r)) r (each_row taken_by c)
 
+-- who is at a pod
 pub at_pod-members : (c : Trace) (p r : ℕ) → IsNumbered c → contains r (at_pod c p) ≡ contains r (placed (is_at p) c)
 unfolding at_pod
 at_pod-members c p r num =
@@ -356,6 +366,7 @@ running_by true false false true p (Some q) = and-all (q == p)
 running_by true true false false p (Some q) = and-none (q == p)
 running_by true false false false p (Some q) = and-none (q == p)
 
+-- who runs there
 pub running_at-members : (c : Trace) (p r : ℕ) → IsNumbered c → contains r (running_at c p) ≡ contains r (placed (runs_at p) c)
 unfolding running_at is_running has_begun place_of
 running_at-members c p r num =
@@ -383,16 +394,19 @@ use_by a d false n g false o x t = refl
 taken_distinct : (c : Trace) (test : Place → Bool) → IsNumbered c → AreDistinct (placed test c)
 taken_distinct c test num = rw (placed-filter test c) (distinct-filter (λ r. not (ended c r) && test (place_of c r)) (each_row taken_by c) num.once)
 
+-- how many are at a pod
 pub at_pod-count : (c : Trace) (p : ℕ) → IsNumbered c → length (at_pod c p) ≡ length (placed (is_at p) c)
 unfolding at_pod
 at_pod-count c p num =
     same-length (at_pod c p) (placed (is_at p) c) (distinct-filter (λ r. not (ended c r)) (each_row (brought_to p) c) (brought_distinct c p num)) (taken_distinct c (is_at p) num) (λ r. at_pod-members c p r num)
 
+-- how many run there
 pub running_at-count : (c : Trace) (p : ℕ) → IsNumbered c → length (running_at c p) ≡ length (placed (runs_at p) c)
 unfolding running_at
 running_at-count c p num =
     same-length (running_at c p) (placed (runs_at p) c) (distinct-filter (is_running c) (each_row (brought_to p) c) (brought_distinct c p num)) (taken_distinct c (runs_at p) num) (λ r. running_at-members c p r num)
 
+-- how many are in use
 pub in_use-count : (c : Trace) → IsNumbered c → in_use c ≡ length (placed is_assigned_place c)
 unfolding in_use assigned place_of
 in_use-count c num =
@@ -416,6 +430,7 @@ running_somewhere false g true n o t x = absurd (let e = t refl in cc)
 running_somewhere false g false true o t x = absurd (let e = t refl in cc)
 running_somewhere false g false false o t x = refl
 
+-- whether a request runs
 pub is_running-placed : (c : Trace) (r : ℕ) → IsNumbered c → is_running c r ≡ contains r (placed runs_somewhere c)
 unfolding is_running has_begun place_of
 is_running-placed c r num =

@@ -6,3 +6,4 @@ pub mod Views
 pub mod ByAct
 pub mod Phases
 pub mod Told
+pub mod Walks
