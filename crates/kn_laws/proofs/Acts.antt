@@ -1,5 +1,5 @@
 -- What an act's own row is, and that no other row of its event is of an act.
-use Rattle.std.proofs.Common.{◌≡◌, ℕ, Bool, true, false, cond, List, [], ◌∷◌, ◌++◌, ◌⊎◌, inl, inr, nat_le, length, map, refl, sym, ap, ◌∙◌}
+use Rattle.std.proofs.Common.{◌≡◌, ℕ, Bool, true, false, cond, List, [], ◌∷◌, ◌++◌, inl, inr, nat_le, length, refl}
 use Rattle.std.specs.Prelude.{Option, None, Some, slice_index, ◌%◌, ⊤}
 use Rattle.kn_event.specs.declared.entry.Entry.{Entry}
 use Rattle.kn_event.specs.declared.entry.Row.{Row}
@@ -10,7 +10,7 @@ use Rattle.kn_event.specs.declared.event.Act.{Act}
 use Rattle.kn_event.specs.declared.event.Act.TheVariants as act
 use Rattle.kn_event.specs.declared.event.Event.{Event}
 use Rattle.kn_event.specs.declared.revision.Spec.{Spec}
-use Rattle.kn_trace.specs.Trace.{Trace, entry, arrivals, at_pod, contains, direct_turn, draining, held, is_empty, is_running, is_starting, live, live_pods, ready_pods, waiting}
+use Rattle.kn_trace.specs.Trace.{Trace, arrivals, contains, direct_turn, held, is_running, is_starting, live, live_pods, ready_pods, waiting}
 use Rattle.kn_trace.specs.Capacity.{breaker_full, pod_full}
 use Rattle.kn_trace.specs.Scale.{mode_of}
 use Rattle.kn_trace.specs.Settling.{assignments_of, held_assignments, promotions, removals, settling}

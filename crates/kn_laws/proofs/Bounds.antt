@@ -1,5 +1,5 @@
 -- How many entries one event adds, and how many pods may live.
-use Rattle.std.proofs.Common.{◌≡◌, ℕ, ◌+◌, ◌-◌, ◌≤◌, ◌<◌, Bool, true, false, not, cond, ◌&&◌, List, [], ◌∷◌, ◌++◌, length, map, take, min, refl, sym, ap, subst, ◌∙◌, arith, append-nil, append_assoc, length-append}
+use Rattle.std.proofs.Common.{◌≡◌, ℕ, ◌+◌, ◌-◌, ◌≤◌, Bool, true, false, not, cond, ◌&&◌, List, [], ◌∷◌, ◌++◌, length, map, take, refl, sym, ap, subst, ◌∙◌, arith, append-nil, append_assoc, length-append}
 use Rattle.std.specs.Prelude.{Option, None, Some, ◌==◌}
 use Rattle.std.specs.List.{cons_option, filter, range_with_len}
 use Rattle.std.proofs.lemmas.List.{length-take}
@@ -15,19 +15,19 @@ use Rattle.kn_event.specs.declared.revision.Kind.{Kind}
 use Rattle.kn_event.specs.declared.revision.Kind.TheVariants as kind
 use Rattle.kn_event.specs.declared.revision.Spec.{Spec}
 use Rattle.kn_event.specs.Revision.{AreInRange}
-use Rattle.kn_scaling.specs.Decide.{Past, Ruling}
+use Rattle.kn_scaling.specs.Decide.{Ruling}
 use Rattle.kn_trace.specs.Rows.{created_by, drained_by, removed_by, taken_by}
-use Rattle.kn_trace.specs.Trace.{Trace, entry, at_pod, contains, created, draining, each_row, held, is_empty, is_running, live, live_pods, ready_pods, waiting}
+use Rattle.kn_trace.specs.Trace.{Trace, entry, at_pod, created, draining, each_row, held, is_empty, live_pods, ready_pods, waiting}
 use Rattle.kn_trace.specs.Scale.{creations, decision_at, decision_rows, drain_order, is_same_mode, is_same_phase, mode_of, phase_of, scale_rows, tick_rows, tick_rows_of, wake_decision_at, wake_rows, wanted, where_true}
-use Rattle.kn_trace.specs.Settling.{assignments_of, held_assignments, promotions, removals, settling}
-use Rattle.kn_trace.specs.Events.{act_row, act_rows, activation, before_settling, entries_of, expiries, live_most, opening, react, scaler_rows, wake_where}
+use Rattle.kn_trace.specs.Settling.{held_assignments, promotions, removals, settling}
+use Rattle.kn_trace.specs.Events.{act_row, act_rows, activation, before_settling, entries_of, expiries, live_most, react, scaler_rows, wake_where}
 use Rattle.kn_trace.specs.Laws.{IsSettled}
 use Rattle.kn_laws.specs.Made.{Holds, IsMade, IsProper, pods_most}
 use Rattle.kn_laws.proofs.Flags.{counted}
 use Rattle.kn_laws.proofs.PodSteps.{draining-same}
-use Rattle.kn_laws.proofs.Rows.{Each, Each-append, activation-rows, assign_pods, assignments-rows, decision-rows, drain_order-each, draining-each, expire_pods, expiries-rows, is_assign_row, is_expire_row, is_remove_row, is_run_row, is_scaler_row, promotions-rows, removed-rows, run_pods, scaler-rows}
-use Rattle.kn_laws.proofs.Kept.{Holds-append, Holds-kept, Kept, made_kept}
-use Rattle.kn_laws.proofs.Reacting.{act-holds, expiries-hold, held_distinct}
+use Rattle.kn_laws.proofs.Rows.{Each, activation-rows, assign_pods, assignments-rows, draining-each, expiries-rows, is_assign_row, is_expire_row, is_remove_row, is_run_row, is_scaler_row, promotions-rows, removed-rows, run_pods, scaler-rows}
+use Rattle.kn_laws.proofs.Kept.{Holds-kept, Kept, made_kept}
+use Rattle.kn_laws.proofs.Reacting.{act-holds, expiries-hold}
 use Rattle.kn_laws.proofs.Scaling.{tick-holds, wake_where-holds}
 use Rattle.kn_laws.proofs.Acts.{act-rows, is_act_row}
 use Rattle.kn_laws.proofs.Running.{before-holds, held_assignments-hold, made_more, promotions-hold}
@@ -274,10 +274,10 @@ counts-before s c e made ranges =
     let b = activation-length e.time (c1 ++ (own ++ more)) in
     let len : length ((gone ++ (own ++ more)) ++ active) ≡ (length gone + (length own + length more)) + length active = rw (length-append, length-append, length-append) refl in
     let leaves : length (each_row leaves_by ((gone ++ (own ++ more)) ++ active)) ≡ (length (each_row leaves_by gone) + length (each_row leaves_by (own ++ more))) + length (each_row leaves_by active)
-            = rw (count-append leaves_by (gone ++ (own ++ more)) active, count-append leaves_by gone (own ++ more)) refl in
+    = rw (count-append leaves_by (gone ++ (own ++ more)) active, count-append leaves_by gone (own ++ more)) refl in
     let each = count-each leaves_by is_expire_row expire_leaves gone gone_kind in
     let takes : length (each_row taken_by ((gone ++ (own ++ more)) ++ active)) ≡ (length (each_row taken_by gone) + (length (each_row taken_by own) + length (each_row taken_by more))) + length (each_row taken_by active)
-            = rw (count-append taken_by (gone ++ (own ++ more)) active, count-append taken_by gone (own ++ more), count-append taken_by own more) refl in
+    = rw (count-append taken_by (gone ++ (own ++ more)) active, count-append taken_by gone (own ++ more), count-append taken_by own more) refl in
     let t1 : length (each_row taken_by gone) ≡ 0 = rw (none-each taken_by is_expire_row expire_takes gone gone_kind) refl in
     let t2 = count-within taken_by own in
     let t3 : length (each_row taken_by more) ≡ 0 = rw (none-each taken_by is_scaler_row scaler_takes more more_kind) refl in
@@ -323,7 +323,7 @@ settling-count s t d kept =
     let r2 = length-filter-within (λ p. is_empty (at_pod d2 p)) (draining d2) in
     let len : length ((ran ++ gave) ++ rem) ≡ (length ran + length gave) + length rem = rw (length-append, length-append) refl in
     let c0 : length (each_row created_by ((ran ++ gave) ++ rem)) ≡ (length (each_row created_by ran) + length (each_row created_by gave)) + length (each_row created_by rem)
-            = rw (count-append created_by (ran ++ gave) rem, count-append created_by ran gave) refl in
+    = rw (count-append created_by (ran ++ gave) rem, count-append created_by ran gave) refl in
     let c1 : length (each_row created_by ran) ≡ 0 = rw (none-each created_by is_run_row (λ x k. (run_pods x k).created) ran ran_kind) refl in
     let c2 : length (each_row created_by gave) ≡ 0 = rw (none-each created_by is_assign_row (λ x k. (assign_pods x k).created) gave gave_kind) refl in
     let c3 : length (each_row created_by rem) ≡ 0 = rw (none-each created_by is_remove_row remove_creates rem (removed-rows t ps)) refl in

@@ -1,5 +1,5 @@
 -- How many there are: live requests, pods, and those that wait.
-use Rattle.std.proofs.Common.{◌≡◌, ℕ, ◌+◌, ◌≤◌, ◌<◌, Bool, true, false, not, cond, ◌&&◌, ◌||◌, ◌⊎◌, inl, inr, List, [], ◌∷◌, ◌++◌, length, refl, sym, ap, ◌∙◌, arith, append-nil, append_assoc, length-append}
+use Rattle.std.proofs.Common.{◌≡◌, ℕ, ◌+◌, ◌≤◌, ◌<◌, Bool, true, false, not, cond, ◌&&◌, ◌||◌, List, [], ◌∷◌, ◌++◌, length, refl, sym, ap, ◌∙◌, arith, append-nil, append_assoc, length-append}
 use Rattle.std.specs.Prelude.{Option, None, Some, ◌==◌}
 use Rattle.std.specs.List.{filter, cons_option}
 use Rattle.std.proofs.lemmas.Bool.{eqb-true}
@@ -10,7 +10,7 @@ use Rattle.kn_event.specs.declared.entry.Row.TheVariants as row
 use Rattle.kn_event.specs.declared.revision.Spec.{Spec}
 use Rattle.kn_event.specs.Revision.{AreInRange}
 use Rattle.kn_trace.specs.Rows.{admitted_by, brought_to, created_by, directed_by, drained_by, readied_by, removed_by, taken_by}
-use Rattle.kn_trace.specs.Trace.{Trace, entry, assigned, contains, created, draining, each_row, ended, has_begun, has_not_begun, has_run, held, is_draining, is_live_pod, is_ready, is_running, is_starting, live, live_pods, pod_of, queued_at, ready_pods, running_at, starting_pods, waiting}
+use Rattle.kn_trace.specs.Trace.{Trace, entry, assigned, contains, draining, each_row, ended, has_begun, has_not_begun, has_run, held, is_draining, is_live_pod, is_ready, is_running, is_starting, live, live_pods, pod_of, queued_at, ready_pods, running_at, starting_pods, waiting}
 use Rattle.kn_trace.specs.Scale.{drain_order}
 use Rattle.kn_trace.specs.Events.{live_most}
 use Rattle.kn_trace.specs.Laws.{IsSettled}
@@ -351,7 +351,7 @@ pods-within c (p ∷ ps) xs d e own =
     let r = mine.0 in
     let less = others-length r xs e mine.1 in
     let rest = pods-within c ps (others r xs) d.1 (distinct-filter (λ q. not (r == q)) xs e)
-            (λ q h. let theirs = own q (or-more (p == q) (contains q ps) h) in (theirs.0, contains-filter (λ u. not (r == u)) theirs.0 xs ∙ rw (theirs.1) (apart r q theirs.0 h mine.2 theirs.2 (r == theirs.0) refl), theirs.2)) in
+    (λ q h. let theirs = own q (or-more (p == q) (contains q ps) h) in (theirs.0, contains-filter (λ u. not (r == u)) theirs.0 xs ∙ rw (theirs.1) (apart r q theirs.0 h mine.2 theirs.2 (r == theirs.0) refl), theirs.2)) in
     omega arith
   where
     apart : (r q u : ℕ) → contains q ps ≡ true → pod_of c r ≡ Some p → pod_of c u ≡ Some q → (b : Bool) → (r == u) ≡ b → not b ≡ true

@@ -20,16 +20,15 @@ use Rattle.kn_event.specs.declared.units.Frac.{Frac}
 use Rattle.kn_scaling.specs.Average.{second_of, window_average}
 use Rattle.kn_scaling.specs.Decide.{Past, Ruling, decision_from_stable, no_load, one_request, ruling}
 use Rattle.kn_scaling.specs.Decide as scaling
-use Rattle.kn_scaling.specs.Zero.{Standing, has_lasted, may_go, no_pods, some_pods, zero_rule, zero_rule_in}
+use Rattle.kn_scaling.specs.Zero.{Standing, has_lasted, no_pods, some_pods, zero_rule, zero_rule_in}
 use Rattle.kn_trace.specs.Rows.{decision_by, phase_by}
-use Rattle.kn_trace.specs.Trace.{Trace, entry, created, each_row, held, is_empty, last_of, live_pods, ready_pods}
+use Rattle.kn_trace.specs.Trace.{Trace, entry, created, each_row, held, is_empty, live_pods, ready_pods}
 use Rattle.kn_trace.specs.Scale.{count_ready, creations, decision_at, decision_rows, drain_order, is_same_mode, is_same_phase, mode_of, opening_scale, past_of, phase_of, scale_rows, standing_of, tick_rows, tick_rows_of, wake_decision_at, wake_rows, wanted, where_true}
 use Rattle.kn_trace.specs.Settling.{assignments_of, held_assignments, promotions, removals, settling}
 use Rattle.kn_trace.specs.Events.{act_row, act_rows, activation, added, before_settling, entries_of, expiries, opening, opening_of, opening_phase, react, scaler_rows, trace_of, wake_where}
 use Rattle.kn_laws.specs.Phases.{WantsByPhase}
-use Rattle.kn_laws.proofs.Flags.{or_else}
 use Rattle.kn_laws.proofs.Numbers.{false_unless}
-use Rattle.kn_laws.proofs.Kept.{phase_of-push, want_after, wanted-push}
+use Rattle.kn_laws.proofs.Kept.{phase_of-push, wanted-push}
 use Rattle.kn_laws.proofs.Rows.{Each, assignments-rows, expiries-rows, is_assign_row, is_expire_row, is_remove_row, is_run_row, promotions-rows}
 use Rattle.kn_laws.proofs.Acts.{act-rows, is_act_row, removals-rows}
 
@@ -176,12 +175,20 @@ decision-wants s t c made rules scaled =
     sc = where_true made.decision.applied (scale_rows s t c made.decision.want)
 
     tail : each_row decision_by ((p ++ m) ++ sc) ≡ []
-    tail = rw (filter_map-append (λ (e : Entry). decision_by e.row) (p ++ m) sc, filter_map-append (λ (e : Entry). decision_by e.row) p m, where-none decision_by (not bp) y refl, where-none decision_by (not (is_same_mode made.decision.mode (mode_of c))) (entry t (row.Mode made.decision.mode)) refl,
-        scale-none decision_by (λ p n. refl) (λ p. refl) made.decision.applied s t c made.decision.want) refl
+    tail = rw (
+      filter_map-append (λ (e : Entry). decision_by e.row) (p ++ m) sc,
+      filter_map-append (λ (e : Entry). decision_by e.row) p m,
+      where-none decision_by (not bp) y refl,
+      where-none decision_by (not (is_same_mode made.decision.mode (mode_of c))) (entry t (row.Mode made.decision.mode)) refl,
+      scale-none decision_by (λ p n. refl) (λ p. refl) made.decision.applied s t c made.decision.want,
+    ) refl
 
     rest : each_row phase_by (m ++ sc) ≡ []
-    rest = rw (filter_map-append (λ (e : Entry). phase_by e.row) m sc, where-none phase_by (not (is_same_mode made.decision.mode (mode_of c))) (entry t (row.Mode made.decision.mode)) refl,
-        scale-none phase_by (λ p n. refl) (λ p. refl) made.decision.applied s t c made.decision.want) refl
+    rest = rw (
+      filter_map-append (λ (e : Entry). phase_by e.row) m sc,
+      where-none phase_by (not (is_same_mode made.decision.mode (mode_of c))) (entry t (row.Mode made.decision.mode)) refl,
+      scale-none phase_by (λ p n. refl) (λ p. refl) made.decision.applied s t c made.decision.want,
+    ) refl
 
     first : phase_of (c ++ x ∷ []) ≡ phase_of c
     first = phase_of-push c x

@@ -154,10 +154,12 @@ decision-rows s t c made =
     let p = where_true (not (is_same_phase made.phase (phase_of c))) (entry t (row.Phase made.phase) ∷ []) in
     let m = where_true (not (is_same_mode made.decision.mode (mode_of c))) (entry t (row.Mode made.decision.mode) ∷ []) in
     let new = creations s t (created c) (made.decision.want - n) in
-    let old = map (λ q. entry t (row.Drain q)) (take (n - made.decision.want) (drain_order c)) in
-    (refl, Each-append is_scaler_row (p ++ m) _
-    (Each-append is_scaler_row p m (where-each is_scaler_row (not (is_same_phase made.phase (phase_of c))) _ (refl, tt)) (where-each is_scaler_row (not (is_same_mode made.decision.mode (mode_of c))) _ (refl, tt)))
-    (where-each is_scaler_row made.decision.applied (new ++ old) (Each-append is_scaler_row new old (created-rows s t (range_with_len (created c) (made.decision.want - n))) (drained-rows t (take (n - made.decision.want) (drain_order c))))))
+    let old = map (λ q. entry t (row.Drain q)) (take (n - made.decision.want) (drain_order c)) in (
+      refl,
+      Each-append is_scaler_row (p ++ m) _
+          (Each-append is_scaler_row p m (where-each is_scaler_row (not (is_same_phase made.phase (phase_of c))) _ (refl, tt)) (where-each is_scaler_row (not (is_same_mode made.decision.mode (mode_of c))) _ (refl, tt)))
+          (where-each is_scaler_row made.decision.applied (new ++ old) (Each-append is_scaler_row new old (created-rows s t (range_with_len (created c) (made.decision.want - n))) (drained-rows t (take (n - made.decision.want) (drain_order c))))),
+    )
 
 tick-rows : (s : Spec) (t : ℕ) (c : Trace) → Each is_scaler_row (tick_rows s t c)
 unfolding tick_rows

@@ -85,9 +85,11 @@ drain_order_distinct c num =
 -- new pods take the next numbers, and there is room for them
 pub creations-hold : (s : Spec) (t : ℕ) (c : Trace) (i k : ℕ) → ArePodsNumbered c → created c ≡ i → (AreInRange s → length (drain_order c) + k ≤ pods_most) → Holds (IsProper s) c (creations s t i k)
 creations-hold s t c i zero num e room = tt
-creations-hold s t c i (suc k) num e room =
-    (one, creations-hold s t (c ++ x ∷ []) (i + 1) k (ArePodsNumbered-push c x num (proper_keeps_pods s c x.row num one)) (created-push c x ∙ ap (λ (m : ℕ). m + 1) e)
-    (λ ranges. let a = room ranges in let b = drain_order-create c t i s.cc (rw (← e) (next_unnamed_pod c num)) in omega arith))
+creations-hold s t c i (suc k) num e room = (
+  one,
+  creations-hold s t (c ++ x ∷ []) (i + 1) k (ArePodsNumbered-push c x num (proper_keeps_pods s c x.row num one)) (created-push c x ∙ ap (λ (m : ℕ). m + 1) e)
+      (λ ranges. let a = room ranges in let b = drain_order-create c t i s.cc (rw (← e) (next_unnamed_pod c num)) in omega arith),
+)
   where
     x : Entry
     x = entry t (row.Create i s.cc)
@@ -185,9 +187,11 @@ decision-holds s t c made kept few =
     let kept3 = Holds-kept s c2 m kept2 three in
     let same1 = same_pods c c x (refl, refl) (says_no_pod (row.Decided made.decision) refl) in
     let same2 = same_where c c1 (not (is_same_phase made.phase (phase_of c))) t (row.Phase made.phase) same1 (says_no_pod (row.Phase made.phase) refl) in
-    let same3 = same_where c c2 (not (is_same_mode made.decision.mode (mode_of c))) t (row.Mode made.decision.mode) same2 (says_no_pod (row.Mode made.decision.mode) refl) in
-    (one, Holds-append (IsProper s) c1 (p ++ m) (where_true made.decision.applied (scale_rows s t c made.decision.want)) (Holds-append (IsProper s) c1 p m two three)
-    (rw (← append_assoc c1 p m) (pods-hold made.decision.applied c3 kept3 same3)))
+    let same3 = same_where c c2 (not (is_same_mode made.decision.mode (mode_of c))) t (row.Mode made.decision.mode) same2 (says_no_pod (row.Mode made.decision.mode) refl) in (
+      one,
+      Holds-append (IsProper s) c1 (p ++ m) (where_true made.decision.applied (scale_rows s t c made.decision.want)) (Holds-append (IsProper s) c1 p m two three)
+          (rw (← append_assoc c1 p m) (pods-hold made.decision.applied c3 kept3 same3)),
+    )
   where
     pods-hold : (b : Bool) (d : Trace) → Kept s d → SamePods c d → Holds (IsProper s) d (where_true b (scale_rows s t c made.decision.want))
     pods-hold false d kept same = tt
@@ -261,5 +265,8 @@ made_opening s start = record { rows = by s.kind refl }
 
     by : (k : Kind) → s.kind ≡ k → Holds (IsProper s) [] (opening_of k s start)
     by (kind.Fixed n) e = creations-hold s start [] 0 n no_pods_numbered nothing_created (λ ranges. let a = ranges.pods n e in let b = nothing_stands in omega arith)
-    by kind.Kpa e = (tt, creations-hold s start (x ∷ []) 0 (opening_scale s) (ArePodsNumbered-push [] x no_pods_numbered (proper_keeps_pods s [] x.row no_pods_numbered tt))
-        (created-push [] x ∙ rw (nothing_created) refl) (λ ranges. let a = few ranges in let b = nothing_stands in rw (drain_order-quiet [] x none) (omega arith)))
+    by kind.Kpa e = (
+      tt,
+      creations-hold s start (x ∷ []) 0 (opening_scale s) (ArePodsNumbered-push [] x no_pods_numbered (proper_keeps_pods s [] x.row no_pods_numbered tt))
+          (created-push [] x ∙ rw (nothing_created) refl) (λ ranges. let a = few ranges in let b = nothing_stands in rw (drain_order-quiet [] x none) (omega arith)),
+    )

@@ -1,31 +1,24 @@
 -- What a server needs of one request: how it comes, waits, runs and ends.
-use Rattle.std.proofs.Common.{◌≡◌, ℕ, ◌+◌, ◌<◌, Bool, true, false, not, cond, ◌&&◌, ◌||◌, ◌⊎◌, inl, inr, List, [], ◌∷◌, ◌++◌, length, nat_lt, refl, sym, ap, subst, ◌∙◌, arith, append-nil, append_assoc, length-append}
-use Rattle.std.specs.Prelude.{Option, None, Some, ◌==◌}
+use Rattle.std.proofs.Common.{◌≡◌, ℕ, ◌<◌, Bool, true, false, not, ◌&&◌, ◌||◌, ◌⊎◌, inl, inr, List, [], ◌∷◌, ◌++◌, refl, sym, ap, ◌∙◌, arith, append-nil, append_assoc}
+use Rattle.std.specs.Prelude.{Some, ◌==◌}
 use Rattle.std.proofs.lemmas.Bool.{eqb-true}
-use Rattle.std.proofs.lemmas.Bool.Decides.{nat_tests}
-use Rattle.std.proofs.lemmas.List.Elements.{filter_map-append}
 use Rattle.kn_event.specs.declared.entry.Entry.{Entry}
 use Rattle.kn_event.specs.declared.entry.Row.{Row}
 use Rattle.kn_event.specs.declared.entry.Row.TheVariants as row
 use Rattle.kn_event.specs.declared.event.Act.{Act}
 use Rattle.kn_event.specs.declared.event.Act.TheVariants as act
 use Rattle.kn_event.specs.declared.event.Event.{Event}
-use Rattle.kn_event.specs.declared.event.Stand.{Stand}
-use Rattle.kn_event.specs.declared.event.Stand.TheVariants as stand
-use Rattle.kn_event.specs.declared.event.Told.TheVariants as told
 use Rattle.kn_event.specs.declared.revision.Spec.{Spec}
-use Rattle.kn_trace.specs.Rows.{arrived_by, ended_by, refused_by, taken_by}
-use Rattle.kn_trace.specs.Trace.{Trace, entry, arrivals, assigned, contains, each_row, ended, first_of, has_begun, has_not_begun, has_run, is_running, live, live_pods, pod_of, stand_at, stand_of, stand_of_arrived, stand_where, waiting}
-use Rattle.kn_trace.specs.Settling.{held_assignments, promotions, removals, settling}
-use Rattle.kn_trace.specs.Events.{act_row, act_rows, activation, added, before_settling, entries_of, expiries, react, row_of, scaler_rows, told_of, told_row, told_stand}
-use Rattle.kn_laws.specs.Made.{Holds, IsMade, IsNumbered, IsProper}
-use Rattle.kn_laws.specs.ByAct.{IsArrival, IsByAct}
-use Rattle.kn_laws.specs.Told.{IsTold, arrival_told, stand_told}
-use Rattle.kn_laws.proofs.Flags.{arrivals-push, counted, contains-push, ended-push, says}
-use Rattle.kn_laws.proofs.Members.{contains-filter, contains-append, contains-within, or-true}
-use Rattle.kn_laws.proofs.Numbers.{and_parts, false_unless, filter_member, in_filter, next_unnamed, not_begun, refused_named, running_parts, says-true, taken_named, waiting_member}
-use Rattle.kn_laws.proofs.Steps.{has_not_begun-push, is_running-push}
-use Rattle.kn_laws.proofs.Kept.{Holds-append, Holds-kept, Kept, Kept-push, made_kept}
+use Rattle.kn_trace.specs.Rows.{ended_by, taken_by}
+use Rattle.kn_trace.specs.Trace.{Trace, entry, arrivals, assigned, contains, each_row, ended, has_begun, has_not_begun, has_run, is_running, waiting}
+use Rattle.kn_trace.specs.Events.{added, react}
+use Rattle.kn_laws.specs.Made.{Holds, IsMade, IsProper}
+use Rattle.kn_laws.specs.ByAct.{IsByAct}
+use Rattle.kn_laws.proofs.Flags.{arrivals-push, contains-push, says}
+use Rattle.kn_laws.proofs.Members.{or-true}
+use Rattle.kn_laws.proofs.Numbers.{false_unless, filter_member, in_filter, running_parts, says-true, waiting_member}
+use Rattle.kn_laws.proofs.Steps.{is_running-push}
+use Rattle.kn_laws.proofs.Kept.{Holds-append, made_kept}
 use Rattle.kn_laws.proofs.Running.{made_react, react-holds}
 use Rattle.kn_laws.proofs.Acts.{EachIs, react-by}
 use Rattle.kn_laws.proofs.Counts.{not_begun-less}

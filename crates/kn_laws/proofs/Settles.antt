@@ -20,7 +20,6 @@ use Rattle.kn_trace.specs.Laws.{IsSettled}
 use Rattle.kn_laws.specs.Made.{IsMade}
 use Rattle.kn_laws.proofs.Members.{contains-filter}
 use Rattle.kn_laws.proofs.Numbers.{filter_member, queued_at_pod}
-use Rattle.kn_laws.proofs.PodSteps.{SaysNoPod, says_no_pod}
 use Rattle.kn_laws.proofs.Rows.{assign_pods, run_pods, assignments-rows, is_assign_row, is_remove_row, is_run_row, phase-each, promotions-rows, ready-each, removed-rows}
 use Rattle.kn_laws.proofs.Kept.{Holds-kept, Kept, made_kept, phase_of-push}
 use Rattle.kn_laws.proofs.Reacting.{held_distinct}
@@ -81,13 +80,13 @@ settling-settles s t c kept active =
     let all : (c2 ++ rows) ≡ c ++ ((ran ++ gave) ++ rows) = append_assoc (c ++ ran) gave rows ∙ append_assoc c ran (gave ++ rows) ∙ ap (λ (l : Trace). c ++ l) (sym (append_assoc ran gave rows)) in
     let homes = subst (λ (d : Trace). (p r : ℕ) → contains r (at_pod d p) ≡ true → contains p (live_pods d) ≡ true) (sym all) whole.homes in
     let phases : phase_of (c2 ++ rows) ≡ phase_of c =
-            phase-each is_remove_row remove_phase c2 rows (removed-rows t gone)
-            ∙ phase-each is_assign_row assign_phase (c ++ ran) gave (assignments-rows s t (c ++ ran) (held (c ++ ran)))
-            ∙ phase-each is_run_row run_phase c ran (promotions-rows t c (live_pods c)) in
+    phase-each is_remove_row remove_phase c2 rows (removed-rows t gone)
+    ∙ phase-each is_assign_row assign_phase (c ++ ran) gave (assignments-rows s t (c ++ ran) (held (c ++ ran)))
+    ∙ phase-each is_run_row run_phase c ran (promotions-rows t c (live_pods c)) in
     let pods : ready_pods (c2 ++ rows) ≡ ready_pods c =
-            same.ready
-            ∙ ready-each is_assign_row assign_pods (c ++ ran) gave (assignments-rows s t (c ++ ran) (held (c ++ ran)))
-            ∙ ready-each is_run_row run_pods c ran (promotions-rows t c (live_pods c)) in
+    same.ready
+    ∙ ready-each is_assign_row assign_pods (c ++ ran) gave (assignments-rows s t (c ++ ran) (held (c ++ ran)))
+    ∙ ready-each is_run_row run_pods c ran (promotions-rows t c (live_pods c)) in
     subst (λ (d : Trace). IsSettled s d) all (record {
       held = filled;
       queued = λ p r h. full-busier (c ++ ran) (c2 ++ rows) p busy2 (promotions-full s t c (live_pods c) kept p (busy.pods p (homes p r (queued_at_pod (c2 ++ rows) p r h)))) r h;

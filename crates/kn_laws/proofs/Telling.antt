@@ -1,7 +1,6 @@
 -- An arrival is told where its request stands after its event.
-use Rattle.std.proofs.Common.{◌≡◌, ℕ, ◌+◌, ◌<◌, Bool, true, false, not, cond, ◌&&◌, ◌||◌, ◌⊎◌, inl, inr, List, [], ◌∷◌, ◌++◌, length, nat_lt, nat_le, refl, sym, ap, subst, ◌∙◌, arith, append-nil, append_assoc, length-append}
-use Rattle.std.specs.Prelude.{Option, None, Some, ◌==◌}
-use Rattle.std.specs.List.{filter}
+use Rattle.std.proofs.Common.{◌≡◌, ℕ, ◌+◌, ◌<◌, Bool, true, false, not, ◌||◌, inl, inr, [], ◌∷◌, ◌++◌, length, nat_lt, refl, sym, ap, ◌∙◌, arith, append-nil, append_assoc, length-append}
+use Rattle.std.specs.Prelude.{Option, None, Some}
 use Rattle.std.proofs.lemmas.Bool.Decides.{nat_tests}
 use Rattle.std.proofs.lemmas.List.Elements.{filter_map-append}
 use Rattle.kn_event.specs.declared.entry.Entry.{Entry}
@@ -12,22 +11,21 @@ use Rattle.kn_event.specs.declared.event.Act.TheVariants as act
 use Rattle.kn_event.specs.declared.event.Event.{Event}
 use Rattle.kn_event.specs.declared.event.Stand.{Stand}
 use Rattle.kn_event.specs.declared.event.Stand.TheVariants as stand
-use Rattle.kn_event.specs.declared.event.Told.TheVariants as told
 use Rattle.kn_event.specs.declared.revision.Spec.{Spec}
 use Rattle.kn_trace.specs.Rows.{arrived_by, ended_by, refused_by, taken_by}
-use Rattle.kn_trace.specs.Trace.{Trace, entry, arrivals, contains, each_row, ended, first_of, has_begun, live, live_pods, pod_of, stand_at, stand_of, stand_of_arrived, stand_where}
+use Rattle.kn_trace.specs.Trace.{Trace, entry, arrivals, contains, each_row, ended, first_of, has_begun, live, live_pods, pod_of, stand_at, stand_of}
 use Rattle.kn_trace.specs.Settling.{held_assignments, promotions, removals, settling}
 use Rattle.kn_trace.specs.Events.{act_row, act_rows, activation, before_settling, entries_of, expiries, react, row_of, scaler_rows, told_of, told_row, told_stand}
 use Rattle.kn_laws.specs.Rows.{named_by}
 use Rattle.kn_laws.specs.Made.{Holds, IsMade, IsNumbered, IsProper}
-use Rattle.kn_laws.specs.ByAct.{IsArrival, IsByAct}
+use Rattle.kn_laws.specs.ByAct.{IsByAct}
 use Rattle.kn_laws.specs.Told.{IsTold, arrival_told, stand_told}
-use Rattle.kn_laws.proofs.Flags.{arrivals-push, contains-push, ended-push, or-false, says}
-use Rattle.kn_laws.proofs.Members.{contains-append, contains-filter, contains-within, same_number}
-use Rattle.kn_laws.proofs.Numbers.{ended_named, false_unless, in_filter, next_unnamed, refused_named, taken_named}
-use Rattle.kn_laws.proofs.Kept.{Holds-kept, Kept, Kept-push, made_kept}
+use Rattle.kn_laws.proofs.Flags.{arrivals-push, contains-push}
+use Rattle.kn_laws.proofs.Members.{contains-filter, contains-within, same_number}
+use Rattle.kn_laws.proofs.Numbers.{ended_named, in_filter, next_unnamed}
+use Rattle.kn_laws.proofs.Kept.{Holds-kept, Kept, made_kept}
 use Rattle.kn_laws.proofs.Reacting.{act-holds, expiries-hold}
-use Rattle.kn_laws.proofs.Rows.{Each, Each-append, Each-weaken, activation-rows, assignments-rows, expiries-rows, is_assign_row, is_expire_row, is_remove_row, is_run_row, is_scaler_row, promotions-rows, scaler-rows}
+use Rattle.kn_laws.proofs.Rows.{Each, Each-append, Each-weaken, activation-rows, expiries-rows, is_assign_row, is_expire_row, is_remove_row, is_run_row, is_scaler_row, promotions-rows, scaler-rows}
 use Rattle.kn_laws.proofs.Acts.{IsActRow, act-facts, is_act_row, removals-rows}
 use Rattle.kn_laws.proofs.Bounds.{held_rows}
 use Rattle.kn_laws.proofs.Phases.{none-rows}

@@ -1,6 +1,6 @@
 -- One row of each list of rows: what a loop that makes them goes by.
 use Rattle.std.proofs.Common.{◌≡◌, ℕ, ◌+◌, Bool, true, false, not, cond, ◌&&◌, ◌||◌, ◌⊎◌, inl, inr, List, [], ◌∷◌, ◌++◌, length, map, nat_le, refl, sym, ap, ◌∙◌, arith, append-nil, append_assoc}
-use Rattle.std.specs.Prelude.{Option, None, Some, ◌==◌}
+use Rattle.std.specs.Prelude.{None, Some, ◌==◌}
 use Rattle.std.specs.List.{cons_option, filter, filter_map}
 use Rattle.std.proofs.lemmas.List.Elements.{filter_agree, filter_map-append}
 use Rattle.kn_event.specs.declared.entry.Entry.{Entry}
@@ -11,9 +11,9 @@ use Rattle.kn_trace.specs.Rows.{created_by, drained_by, removed_by}
 use Rattle.kn_trace.specs.Trace.{Trace, entry, assigned, at_pod, contains, draining, each_row, ended, first_of, has_begun, has_free_seat, has_not_begun, has_run, held, is_draining, is_empty, is_live_pod, queued_at}
 use Rattle.kn_trace.specs.Settling.{assignments_of, held_assignments, next_choice, promotions, promotions_at, removals}
 use Rattle.kn_trace.specs.Events.{act_rows, before_settling, due, due_by, expiries, react}
-use Rattle.kn_laws.specs.Admission.{Admission, is_at, is_draining_now, is_held_place, next_in, placed_in, pods_in, queues_at, stepped}
+use Rattle.kn_laws.specs.Admission.{Admission, is_at, is_held_place, next_in, placed_in, queues_at, stepped}
 use Rattle.kn_laws.specs.Made.{AreDistinct, Holds, IsMade, IsNumbered, IsProper, StandsFor}
-use Rattle.kn_laws.specs.Views.{AreViews, due_in}
+use Rattle.kn_laws.specs.Views.{due_in}
 use Rattle.kn_laws.specs.Walks.{ArePartsProper, BeginsWith, leaving_in, promoting, stepped_by}
 use Rattle.kn_laws.proofs.Members.{distinct-filter, filter-first}
 use Rattle.kn_laws.proofs.Numbers.{filter_member, first_member}

@@ -192,7 +192,7 @@ held-placed c num =
     ap (λ (l : List ℕ). filter (is_held c) l) (admitted-filter c num)
     ∙ sym (filter-both (λ r. contains r (each_row admitted_by c)) (is_held c) (each_row taken_by c))
     ∙ filter-members (λ r. contains r (each_row admitted_by c) && is_held c r) (λ r. not (ended c r) && is_held_place (place_of c r)) (each_row taken_by c)
-        (λ r h. held_by _ _ _ _ (ended c r) _ (agrees c r num h))
+    (λ r h. held_by _ _ _ _ (ended c r) _ (agrees c r num h))
     ∙ sym (placed-filter is_held_place c)
 
 -- those in the breaker
@@ -202,7 +202,7 @@ in_breaker-placed c num =
     ap (λ (l : List ℕ). filter (λ r. not (ended c r)) l) (admitted-filter c num)
     ∙ sym (filter-both (λ r. contains r (each_row admitted_by c)) (λ r. not (ended c r)) (each_row taken_by c))
     ∙ filter-members (λ r. contains r (each_row admitted_by c) && not (ended c r)) (λ r. not (ended c r) && is_through (place_of c r)) (each_row taken_by c)
-        (λ r h. breaker_by _ _ _ _ (ended c r) _ (agrees c r num h))
+    (λ r h. breaker_by _ _ _ _ (ended c r) _ (agrees c r num h))
     ∙ sym (placed-filter is_through c)
 
 -- those that wait

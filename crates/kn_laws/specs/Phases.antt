@@ -1,5 +1,5 @@
 -- The wanted scale and the phase of a scaled revision.
-use Rattle.std.specs.Prelude.{◌≡◌, ℕ, ◌==◌}
+use Rattle.std.specs.Prelude.{◌≡◌, ◌==◌}
 use Rattle.kn_event.specs.declared.entry.Phase.TheVariants as phase
 use Rattle.kn_event.specs.declared.revision.Kind.TheVariants as kind
 use Rattle.kn_event.specs.declared.revision.Spec.{Spec}
