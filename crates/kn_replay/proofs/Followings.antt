@@ -155,30 +155,3 @@ happens last l e h = by_parts (fits l) (bytes_eq l (codes "end")) (event_of l) r
         let P : Event → Type 0 = λ y. (last ≤ y.time) × (y.time ≤ time_most) in
         let times = subst P parts.0 (parts.1, parts.2) in
         (p ∙ ap (λ (y : Event). Some y) parts.0, times.0, times.1)
-
--- a line that is an event has four bytes or more
-abbrev IsLong : List ℕ → Type 0
-IsLong m = 4 ≤ length m
-
-some_same : {x y : List ℕ} → Some x ≡ Some y → x ≡ y
-some_same h = cc
-
-act_text_is_long : (a : Act) (text : List ℕ) → act_text a ≡ Some text → 4 ≤ length text
-unfolding act_text labelled with_number
-act_text_is_long (act.Arrive tag) text h = subst IsLong (some_same h) (simp (length-append) (omega arith))
-act_text_is_long (act.Finish r ok) text h = subst IsLong (some_same h) (simp (length-append) (omega arith))
-act_text_is_long (act.Ready p) text h = subst IsLong (some_same h) (simp (length-append) (omega arith))
-act_text_is_long (act.Cancel r) text h = cc
-act_text_is_long act.Pass text h = cc
-act_text_is_long (act.Limit p n) text h = cc
-act_text_is_long act.Tick text h = cc
-
-pub event_is_long : (l : List ℕ) (e : Event) → event_of l ≡ Some e → 4 ≤ length l
-unfolding Spells
-event_is_long l e h = by_text (act_text e.act) refl (event_of-spells l e h)
-  where
-    by_text : (o : Option (List ℕ)) → act_text e.act ≡ o → option_map (λ (text : List ℕ). decimal e.time ++ text) o ≡ Some l → 4 ≤ length l
-    by_text None p k = cc
-    by_text (Some text) p k =
-        let long = act_text_is_long e.act text p in
-        subst IsLong (some_same k) (simp (length-append) (omega (arith, long)))

@@ -4,5 +4,6 @@ pub mod Journal
 pub mod Following
 pub mod Report
 pub mod Tally
+pub mod Replaying
 pub mod Words
 pub mod Reading

@@ -90,7 +90,6 @@ impl Reader {
     fn next_line<S: Source>(&mut self, source: &mut S, number: u64) -> Result<(), JournalError>
         ensures next { GivesLine number (unread self.old.input (S.left source.old)) (unread self.new.input (S.left source.new)) self.new.line result }
         ensures fits { OnOk result (fits self.new.line ≡ true) }
-        ensures count { OnOk result (self.old.input.taken + length self.new.line ≤ self.new.input.taken) }
         ensures fault { result ≡ Err JournalError.ReadFault → Rose (S.Faulty.faults source.old) (S.Faulty.faults source.new) ⊎ (self.new.input.taken ≡ most_taken) }
         ensures exact { Counts (unread self.old.input (S.left source.old)) (unread self.new.input (S.left source.new)) self.old.input.taken self.new.input.taken }
         ensures grows { self.old.input.taken ≤ self.new.input.taken }
@@ -211,7 +210,6 @@ impl Reader {
         ensures gives { Gives (read_events number last) (after_event number) refused_read (unread self.old.input (S.left source.old)) (unread self.new.input (S.left source.new)) result }
         ensures order { OnEvent result (λ e. last ≤ e.time) }
         ensures most { OnEvent result (λ e. e.time ≤ time_most) }
-        ensures count { OnEvent result (λ e. self.old.input.taken + 4 ≤ self.new.input.taken) }
         ensures ended { result ≡ Ok None → EndsThere (unread self.old.input (S.left source.old)) (unread self.new.input (S.left source.new)) }
         ensures fault { result ≡ Err JournalError.ReadFault → Rose (S.Faulty.faults source.old) (S.Faulty.faults source.new) ⊎ (self.new.input.taken ≡ most_taken) }
         ensures exact { Counts (unread self.old.input (S.left source.old)) (unread self.new.input (S.left source.new)) self.old.input.taken self.new.input.taken }

@@ -5,4 +5,5 @@ mod input;
 mod journal;
 mod lines;
 mod report;
+mod run;
 mod setup;

@@ -78,7 +78,7 @@ impl Tally {
 
     /// Counts one entry more.
     fn add(&mut self, row: &Row)
-        requires { self.old.rows < 2 ^ 100 }
+        requires { self.old.rows < 2 ^ 127 }
         ensures rows { self.new.rows ≡ self.old.rows + 1 }
         ensures totals { self.new.totals ≡ with_row row.now self.old.totals }
     {
@@ -100,8 +100,9 @@ impl Tally {
 
     /// Counts the log's entries.
     pub fn add_all(&mut self, log: &EntryLog)
-        requires { self.old.rows + length log.now < 2 ^ 100 }
+        requires { self.old.rows ≤ 2 ^ 126 }
         ensures rows { self.new.rows ≡ self.old.rows + length log.now }
+        ensures few { length log.now < 2 ^ 64 }
         ensures totals { (c : Trace) → self.old.totals ≡ totals c → self.new.totals ≡ totals (c ++ log.now) }
     {
         for e in log.entries() {
