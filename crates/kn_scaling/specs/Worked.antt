@@ -43,13 +43,20 @@ run_of second count load = record { second = second; count = count; load = load 
 abbrev pub samples_at : List (ℕ × ℕ) → Samples
 samples_at pairs = samples_of (map (λ p. run_of p.0 1 p.1) pairs)
 
--- a decision at this time with its stable and its panic count, and a window of a minute
-abbrev pub judged_at : ℕ → Bool → ℕ → ℕ → Judged
-judged_at time over stable panic = record {
+abbrev pub judged_at : Bool → ℕ → ℕ → ℕ → Judged
+judged_at over time stable panic = record {
   time = time;
   counts = record { dspc = 0; dppc = 0; stable_count = stable; panic_count = panic; over = over };
   window_ms = 60000;
 }
+
+-- a decision at this time that is over, with its stable and its panic count, and a window of a minute
+abbrev pub over_at : ℕ → ℕ → ℕ → Judged
+over_at time stable panic = judged_at true time stable panic
+
+-- one that isn't over
+abbrev pub calm_at : ℕ → ℕ → ℕ → Judged
+calm_at time stable panic = judged_at false time stable panic
 
 abbrev pub asked_at : ℕ → ℕ → Asked
 asked_at second count = record { second = second; count = count }

@@ -11,7 +11,7 @@ ghost use Rattle.kn_scaling.specs.Panic.{is_panicking, undelayed_count};
 ghost use Rattle.kn_scaling.specs.Delay.{delayed_count};
 ghost use Rattle.kn_scaling.specs.Burst.{excess_burst, serving_mode};
 ghost use Rattle.kn_scaling.specs.Zero.{bounded_count, zero_rule};
-ghost use Rattle.kn_scaling.specs.Worked.{scaled, fraction, numbers_of, run_of, samples_at, judged_at, asked_at, standing_at, answer};
+ghost use Rattle.kn_scaling.specs.Worked.{scaled, fraction, over_seconds, numbers_of, run_of, samples_at, over_at, calm_at, asked_at, standing_at, answer};
 
 /// Two samples and the seconds between them: three seconds apart they are one spell of a window of six.
 #[tactic(auto, unfolding(crate::specs::Worked::whole_decision))]
@@ -44,30 +44,30 @@ pub fn window_length()
 /// At containerConcurrency 10 and 70 per cent the target is 7, and 21 requests ask for three pods.
 #[tactic(auto, unfolding(crate::specs::Worked::whole_decision))]
 pub fn counts_at_the_threshold()
-    ensures { let average = fraction 21000 1000 (lit< tt) in
+    ensures { let average = over_seconds 21000 1 in
         desired_counts (scaled 10) 1 average average ≡ record { dspc = 3; dppc = 3; stable_count = 3; panic_count = 3; over = true } }
 {}
 
 /// With a target of 7 each request above 7 asks for a second pod, and twice the Ready pods are over at 200 per cent.
 #[tactic(auto, unfolding(crate::specs::Worked::whole_decision))]
 pub fn over_from_the_threshold()
-    ensures at { desired_counts (scaled 10) 1 (fraction 7001 1000 (lit< tt)) (fraction 14000 1000 (lit< tt))
+    ensures at { desired_counts (scaled 10) 1 (over_seconds 7001 1) (over_seconds 14000 1)
         ≡ record { dspc = 2; dppc = 2; stable_count = 2; panic_count = 2; over = true } }
-    ensures below { desired_counts (scaled 10) 1 (fraction 7000 1000 (lit< tt)) (fraction 7000 1000 (lit< tt))
+    ensures below { desired_counts (scaled 10) 1 (over_seconds 7000 1) (over_seconds 7000 1)
         ≡ record { dspc = 1; dppc = 1; stable_count = 1; panic_count = 1; over = false } }
-    ensures at_two_pods { desired_counts (scaled 10) 2 (fraction 7001 1000 (lit< tt)) (fraction 14000 1000 (lit< tt))
+    ensures at_two_pods { desired_counts (scaled 10) 2 (over_seconds 7001 1) (over_seconds 14000 1)
         ≡ record { dspc = 2; dppc = 2; stable_count = 2; panic_count = 2; over = false } }
-    ensures without_pods { desired_counts (scaled 10) 0 (fraction 7001 1000 (lit< tt)) (fraction 14000 1000 (lit< tt))
+    ensures without_pods { desired_counts (scaled 10) 0 (over_seconds 7001 1) (over_seconds 14000 1)
         ≡ record { dspc = 2; dppc = 2; stable_count = 2; panic_count = 2; over = true } }
 {}
 
 /// At a target of 1 and rates of 1.1 up and 2 down, two pods become 2.2 at most, and five 2.5 at least.
 #[tactic(auto, unfolding(crate::specs::Worked::whole_decision))]
 pub fn rate_bounds()
-    ensures up { let average = fraction 5000 1000 (lit< tt) in
+    ensures up { let average = over_seconds 5000 1 in
         desired_counts (record (scaled 1) { target = scaling_target 1000 100000; up = milli 1100 }) 2 average average
         ≡ record { dspc = 5; dppc = 5; stable_count = 3; panic_count = 3; over = true } }
-    ensures down { let average = fraction 0 1000 (lit< tt) in
+    ensures down { let average = over_seconds 0 1 in
         desired_counts (record (scaled 1) { target = scaling_target 1000 100000; up = milli 1100 }) 5 average average
         ≡ record { dspc = 0; dppc = 0; stable_count = 2; panic_count = 2; over = false } }
 {}
@@ -75,43 +75,41 @@ pub fn rate_bounds()
 /// An activation scale of 4 raises each count from 1 to 3, but no 0, and it does so after the rates.
 #[tactic(auto, unfolding(crate::specs::Worked::whole_decision))]
 pub fn activation_scale()
-    ensures raised_but_not_from_zero { desired_counts (record (scaled 1) { activation = 4 }) 1 (fraction 500 1000 (lit< tt)) (fraction 0 1 (lit< tt))
+    ensures raised_but_not_from_zero { desired_counts (record (scaled 1) { activation = 4 }) 1 (over_seconds 500 1) (fraction 0 1 (lit< tt))
         ≡ record { dspc = 1; dppc = 0; stable_count = 4; panic_count = 0; over = false } }
-    ensures at_and_above { desired_counts (record (scaled 1) { activation = 4 }) 1 (fraction 2800 1000 (lit< tt)) (fraction 2801 1000 (lit< tt))
+    ensures at_and_above { desired_counts (record (scaled 1) { activation = 4 }) 1 (over_seconds 2800 1) (over_seconds 2801 1)
         ≡ record { dspc = 4; dppc = 5; stable_count = 4; panic_count = 5; over = true } }
-    ensures after_the_rates { desired_counts (record (scaled 1) { activation = 4; up = milli 1100 }) 1 (fraction 3500 1000 (lit< tt)) (fraction 700 1000 (lit< tt))
+    ensures after_the_rates { desired_counts (record (scaled 1) { activation = 4; up = milli 1100 }) 1 (over_seconds 3500 1) (over_seconds 700 1)
         ≡ record { dspc = 5; dppc = 1; stable_count = 4; panic_count = 4; over = false } }
 {}
 
 /// A decision panics for one window after the last that was over, that moment included.
 #[tactic(auto, unfolding(crate::specs::Worked::whole_decision))]
 pub fn panic_window_edge()
-    ensures at_once { undelayed_count (judged_at 10000 true 1 4 ∷ []) ≡ 4 }
-    ensures at_the_window { undelayed_count (judged_at 70000 false 1 1 ∷ judged_at 10000 true 1 4 ∷ []) ≡ 4 }
-    ensures still_panicking { is_panicking (judged_at 70000 false 1 1 ∷ judged_at 10000 true 1 4 ∷ []) ≡ true }
-    ensures after { undelayed_count (judged_at 70001 false 1 1 ∷ judged_at 70000 false 1 1 ∷ judged_at 10000 true 1 4 ∷ []) ≡ 1 }
-    ensures over_never { undelayed_count (judged_at 1000 false 3 7 ∷ []) ≡ 3 }
+    ensures at_once { undelayed_count (over_at 10000 1 4 ∷ []) ≡ 4 }
+    ensures at_the_window { undelayed_count (calm_at 70000 1 1 ∷ over_at 10000 1 4 ∷ []) ≡ 4 }
+    ensures still_panicking { is_panicking (calm_at 70000 1 1 ∷ over_at 10000 1 4 ∷ []) ≡ true }
+    ensures after { undelayed_count (calm_at 70001 1 1 ∷ calm_at 70000 1 1 ∷ over_at 10000 1 4 ∷ []) ≡ 1 }
+    ensures over_never { undelayed_count (calm_at 1000 3 7 ∷ []) ≡ 3 }
 {}
 
 /// The greatest count of a run stays while decisions panic, also where another one is over.
 #[tactic(auto, unfolding(crate::specs::Worked::whole_decision))]
 pub fn panic_keeps_the_greatest_count()
-    ensures first { undelayed_count (judged_at 0 true 1 5 ∷ []) ≡ 5 }
-    ensures lower { undelayed_count (judged_at 50000 false 1 1 ∷ judged_at 0 true 1 5 ∷ []) ≡ 5 }
-    ensures over_again { undelayed_count (judged_at 60000 true 2 2 ∷ judged_at 50000 false 1 1 ∷ judged_at 0 true 1 5 ∷ []) ≡ 5 }
-    ensures at_the_end { is_panicking (judged_at 120001 false 1 1 ∷ judged_at 60000 true 2 2 ∷ judged_at 50000 false 1 1 ∷ judged_at 0 true 1 5 ∷ [])
-        ≡ false }
-    ensures after { undelayed_count (judged_at 120001 false 1 1 ∷ judged_at 60000 true 2 2 ∷ judged_at 50000 false 1 1 ∷ judged_at 0 true 1 5 ∷ [])
-        ≡ 1 }
-    ensures by_a_stable_count { undelayed_count (judged_at 50000 false 1 1 ∷ judged_at 0 true 5 1 ∷ []) ≡ 5 }
+    ensures first { undelayed_count (over_at 0 1 5 ∷ []) ≡ 5 }
+    ensures lower { undelayed_count (calm_at 50000 1 1 ∷ over_at 0 1 5 ∷ []) ≡ 5 }
+    ensures over_again { undelayed_count (over_at 60000 2 2 ∷ calm_at 50000 1 1 ∷ over_at 0 1 5 ∷ []) ≡ 5 }
+    ensures at_the_end { is_panicking (calm_at 120001 1 1 ∷ over_at 60000 2 2 ∷ calm_at 50000 1 1 ∷ over_at 0 1 5 ∷ []) ≡ false }
+    ensures after { undelayed_count (calm_at 120001 1 1 ∷ over_at 60000 2 2 ∷ calm_at 50000 1 1 ∷ over_at 0 1 5 ∷ []) ≡ 1 }
+    ensures by_a_stable_count { undelayed_count (calm_at 50000 1 1 ∷ over_at 0 5 1 ∷ []) ≡ 5 }
 {}
 
 /// Only a decision that doesn't panic breaks a run: a pause that is longer than the window doesn't.
 #[tactic(auto, unfolding(crate::specs::Worked::whole_decision))]
 pub fn panic_across_a_pause()
-    ensures pause { undelayed_count (judged_at 70000 true 2 2 ∷ judged_at 0 true 1 5 ∷ []) ≡ 5 }
-    ensures broken { undelayed_count (judged_at 60002 true 2 2 ∷ judged_at 60001 false 1 1 ∷ judged_at 0 true 9 9 ∷ []) ≡ 2 }
-    ensures own_window { undelayed_count (record (judged_at 70000 false 1 1) { window_ms = 80000 } ∷ judged_at 0 true 3 3 ∷ []) ≡ 3 }
+    ensures pause { undelayed_count (over_at 70000 2 2 ∷ over_at 0 1 5 ∷ []) ≡ 5 }
+    ensures broken { undelayed_count (over_at 60002 2 2 ∷ calm_at 60001 1 1 ∷ over_at 0 9 9 ∷ []) ≡ 2 }
+    ensures own_window { undelayed_count (record (calm_at 70000 1 1) { window_ms = 80000 } ∷ over_at 0 3 3 ∷ []) ≡ 3 }
 {}
 
 /// A count of ten seconds before is no longer asked for with a delay of ten.
@@ -128,7 +126,7 @@ pub fn delay_edge()
 /// The excess is exact and rounded down, but 0 and unlimited stand for themselves.
 #[tactic(auto, unfolding(crate::specs::Worked::whole_decision))]
 pub fn excess_values()
-    ensures busy { excess_burst 1 (milli 100000) (Capacity (milli 211000)) (fraction 450000 6000 (lit< tt)) ≡ negsuc 185 }
+    ensures busy { excess_burst 1 (milli 100000) (Capacity (milli 211000)) (over_seconds 450000 6) ≡ negsuc 185 }
     ensures capacity_zero { excess_burst 3 (milli 1000) (Capacity (milli 0)) (fraction 9 1 (lit< tt)) ≡ pos 0 }
     ensures unlimited { excess_burst 3 (milli 1000) Unlimited (fraction 9 1 (lit< tt)) ≡ negsuc 0 }
     ensures rounded_down { excess_burst 0 (milli 1000) (Capacity (milli 500)) (fraction 0 1 (lit< tt)) ≡ negsuc 0 }
@@ -153,6 +151,7 @@ pub fn scale_bounds()
     ensures max { bounded_count (record (scaled 1) { initial = 2; max = 1 }) true 5 ≡ 1 }
     ensures initial_above_min { bounded_count (record (scaled 1) { initial = 5; min = 3 }) false 4 ≡ 5 }
     ensures initial_once_reached { bounded_count (record (scaled 1) { initial = 5; min = 3 }) true 4 ≡ 4 }
+    ensures min_above_initial { bounded_count (record (scaled 1) { initial = 3; min = 5 }) false 1 ≡ 5 }
     ensures min { bounded_count (record (scaled 1) { min = 3 }) true 1 ≡ 3 }
     ensures at_the_ceiling { bounded_count (scaled 1) true 500 ≡ 500 }
     ensures ceiling { bounded_count (scaled 1) true 501 ≡ 500 }
