@@ -1,6 +1,5 @@
 //! Durations: `0`, or parts such as `1h` and `30s`.
-ghost use Rattle.std.specs.Prelude.{◌≡◌, ◌+◌, ◌^◌, ◌<◌, ◌≤◌, length, IfOk};
-ghost use Rattle.std.specs.Prelude.{ℕ, List, Ok};
+ghost use Rattle.std.specs.Prelude.{◌≡◌, ℕ, ◌+◌, ◌^◌, ◌<◌, ◌≤◌, List, length, Ok, IfOk};
 ghost use Rattle.kn_num.specs.Spelling.{IsDuration};
 ghost use Rattle.kn_num.specs.Capped.{above};
 ghost use Rattle.kn_num.specs.Duration.{unit_at, unit_ms, unit_length, part_at, part_ms, duration_ms_of};

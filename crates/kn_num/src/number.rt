@@ -1,7 +1,6 @@
 //! Numbers: digits, then perhaps a point and up to three decimals.
-ghost use Rattle.std.specs.Prelude.{◌≡◌, ◌+◌, ◌-◌, ◌*◌, ◌^◌, ◌<◌, ◌≤◌, min, length, IfOk};
+ghost use Rattle.std.specs.Prelude.{◌≡◌, ℕ, ◌+◌, ◌-◌, ◌*◌, ◌^◌, ◌<◌, ◌≤◌, min, List, length, Ok, IfOk};
 ghost use Rattle.kn_num.specs.Number.{digit_count, decimal_value, number_at, milli_of, whole_of};
-ghost use Rattle.std.specs.Prelude.{ℕ, List, Ok};
 ghost use Rattle.kn_event.specs.Defaults.{milli};
 ghost use Rattle.kn_event.specs.declared.units.Milli.{Milli};
 ghost use Rattle.kn_num.specs.Spelling.{IsDigits, IsNumber};
