@@ -41,13 +41,15 @@ impl Line {
         &self.buffer[..self.len]
     }
 
-    pub(crate) fn clear(&mut self)
+    /// Empties the line.
+    pub fn clear(&mut self)
         ensures { self.new ≡ [] }
     {
         self.len = 0;
     }
 
-    pub(crate) fn put(&mut self, bytes: &[u8])
+    /// Adds bytes at the end.
+    pub fn put(&mut self, bytes: &[u8])
         requires { length self.old + length bytes.now ≤ 1024 }
         ensures { self.new ≡ self.old ++ bytes.now }
     {
@@ -56,8 +58,8 @@ impl Line {
         self.len = end;
     }
 
-    /// A number in decimal.
-    pub(crate) fn put_integer<I: Integer>(&mut self, n: I)
+    /// Adds a number in decimal, at most 40 bytes.
+    pub fn put_integer<I: Integer>(&mut self, n: I)
         requires { length self.old ≤ 984 }
         ensures value { self.new ≡ self.old ++ I.text n }
         ensures short { length self.new ≤ length self.old + 40 }

@@ -1,10 +1,10 @@
 -- Which Ready pod the next held request is assigned to.
-use Rattle.std.specs.Prelude.{ℕ, Bool, ◌+◌, ◌*◌, ◌-◌, ◌%◌, ◌==◌, ◌||◌, nat_lt, nat_le, List, [], ◌∷◌, ◌++◌, map, length, take, drop, Option, None, Some, if◌then◌else◌, slice_index_or}
+use Rattle.std.specs.Prelude.{ℕ, Bool, ◌+◌, ◌*◌, ◌-◌, ◌%◌, ◌==◌, ◌||◌, zero, suc, nat_lt, nat_le, List, [], ◌∷◌, ◌++◌, map, length, take, drop, Option, None, Some, if◌then◌else◌, slice_index_or}
 use Rattle.std.specs.List.{filter, find, position_or_len}
 use Rattle.std.specs.Option.{option_map}
 use Rattle.rand_core.specs.Pcg32Seed.{pcg32_seed}
-use Rattle.rand_pcg.specs.Lcg.{advance}
-use Rattle.rand_pcg.specs.Pcg.{output_xsh_rr, pcg32_of_seed, multiplier_64}
+use Rattle.rand_pcg.specs.Lcg.{Lcg}
+use Rattle.rand_pcg.specs.Pcg.{pcg32, pcg32_of_seed}
 use Rattle.kn_event.specs.declared.entry.Row.{Row}
 use Rattle.kn_event.specs.declared.entry.Row.TheVariants as row
 use Rattle.kn_event.specs.declared.revision.Spec.{Spec}
@@ -29,9 +29,14 @@ turned_to place cands = if nat_lt place (length cands) then drop place cands ++ 
 unfoldable pub round_robin : ℕ → List Cand → Option ℕ
 round_robin place cands = first_available (turned_to place cands)
 
--- the word at place k, counted from 0, of Pcg32 seeded by the number
-unfoldable pub random_word : ℕ → ℕ → ℕ
-random_word seed k = output_xsh_rr (advance 64 multiplier_64 k (pcg32_of_seed (pcg32_seed 16 seed))).state
+-- Pcg32 seeded by the number, after k words
+unfoldable pub generator_at : ℕ → ℕ → Lcg
+generator_at seed zero = pcg32_of_seed (pcg32_seed 16 seed)
+generator_at seed (suc k) = (pcg32 (generator_at seed k)).1
+
+-- its word at place k, counted from 0
+abbrev pub random_word : ℕ → ℕ → ℕ
+random_word seed k = (pcg32 (generator_at seed k)).0
 
 -- the second position leaves the first one out
 abbrev pub other_position : ℕ → ℕ → ℕ
@@ -42,7 +47,7 @@ abbrev pub less_busy : Cand → Cand → ℕ
 less_busy x y = if nat_lt y.running x.running then y.pod else x.pod
 
 -- of the pods with a free seat, one of two that these words name
-abbrev pub choice_of_two : List Cand → ℕ → ℕ → Option ℕ
+unfoldable pub choice_of_two : List Cand → ℕ → ℕ → Option ℕ
 choice_of_two [] a b = None
 choice_of_two (q ∷ []) a b = Some q.pod
 choice_of_two (q ∷ r ∷ free) a b =

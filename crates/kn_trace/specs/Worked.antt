@@ -1,6 +1,8 @@
 -- Worked runs: a setup, its events, and the lines of the report that they make.
 use Rattle.std.specs.Prelude.{◌≡◌, ℕ, List, [], ◌∷◌, map, true, false, codes, ⊤}
 use Rattle.std.specs.Fmt.{digits}
+use Rattle.rand_core.specs.Steps.{u32_at, word_bytes}
+use Rattle.rand_core.specs.Pcg32Seed.{pcg32_seed}
 use Rattle.kn_event.specs.declared.event.Act.{Act}
 use Rattle.kn_event.specs.declared.event.Act.TheVariants as act
 use Rattle.kn_event.specs.declared.event.Event.{Event}
@@ -21,7 +23,7 @@ use Rattle.kn_scaling.specs.Decide.{ruling}
 use Rattle.kn_scaling.specs.Worked.{scaled}
 use Rattle.kn_trace.specs.Trace.{arrivals, ended, assigned, has_run, live, in_breaker, is_held, held, at_pod, has_begun, is_running, running_at, has_not_begun, queued_at, waiting, direct_turn, pod_of, stand_of, created, is_live_pod, live_pods, is_starting, starting_pods, is_ready, ready_pods, is_draining, draining, limit_of, has_free_seat}
 use Rattle.kn_trace.specs.Capacity.{capacity, in_use, breaker_full, pod_full}
-use Rattle.kn_trace.specs.Choice.{first_available, round_robin, random_word, random_choice, chosen_pod, candidates, round_robin_place, assignment_count, choice}
+use Rattle.kn_trace.specs.Choice.{first_available, round_robin, choice_of_two, generator_at, random_word, random_choice, chosen_pod, candidates, round_robin_place, assignment_count, choice}
 use Rattle.kn_trace.specs.Settling.{promotions_at, promotions, next_choice, assignments_of, held_assignments, removals, settling}
 use Rattle.kn_trace.specs.Load.{end_of, spans, load_in, samples}
 use Rattle.kn_trace.specs.Scale.{phase_of, phase_since, mode_of, mode_since, wanted, count_ready, initial_reached, standing_of, past_of, drain_order, scale_rows, decision_rows, decision_at, wake_decision_at, tick_rows, wake_rows}
@@ -39,7 +41,7 @@ Reports s start events lines = map entry_text (trace_of s start events) ≡ line
 
 -- a proof that names this on its `unfolding` line computes a whole run
 unfoldable pub whole_run : Type 0
-unfolding digits labelled with_number with_numbers averages_text demand_text scale_text effect_text decision_text row_text entry_text fixed_spec is_any_sample is_spell_start first_write window_sum last_sample window_average pods_for max_scale_up max_scale_down count_for is_over desired_counts is_panicking panicking_run greatest_of_run undelayed_count recent_count delayed_count spare_seats excess_burst serving_mode lower_bound bounded_count may_go zero_rule ruling scaling.decision_at scaling.wake_decision_at arrivals ended assigned has_run live in_breaker is_held held at_pod has_begun is_running running_at has_not_begun queued_at waiting direct_turn pod_of stand_of created is_live_pod live_pods is_starting starting_pods is_ready ready_pods is_draining draining limit_of has_free_seat capacity in_use breaker_full pod_full first_available round_robin random_word random_choice chosen_pod candidates round_robin_place assignment_count choice promotions_at promotions next_choice assignments_of held_assignments removals settling end_of spans load_in samples phase_of phase_since mode_of mode_since wanted count_ready initial_reached standing_of past_of drain_order scale_rows decision_rows decision_at wake_decision_at tick_rows wake_rows due expiries act_row act_rows activation before_settling react told_of opening added trace_of tolds
+unfolding digits u32_at word_bytes pcg32_seed labelled with_number with_numbers averages_text demand_text scale_text effect_text decision_text row_text entry_text fixed_spec is_any_sample is_spell_start first_write window_sum last_sample window_average pods_for max_scale_up max_scale_down count_for is_over desired_counts is_panicking panicking_run greatest_of_run undelayed_count recent_count delayed_count spare_seats excess_burst serving_mode lower_bound bounded_count may_go zero_rule ruling scaling.decision_at scaling.wake_decision_at arrivals ended assigned has_run live in_breaker is_held held at_pod has_begun is_running running_at has_not_begun queued_at waiting direct_turn pod_of stand_of created is_live_pod live_pods is_starting starting_pods is_ready ready_pods is_draining draining limit_of has_free_seat capacity in_use breaker_full pod_full first_available round_robin choice_of_two generator_at random_choice chosen_pod candidates round_robin_place assignment_count choice promotions_at promotions next_choice assignments_of held_assignments removals settling end_of spans load_in samples phase_of phase_since mode_of mode_since wanted count_ready initial_reached standing_of past_of drain_order scale_rows decision_rows decision_at wake_decision_at tick_rows wake_rows due expiries act_row act_rows activation before_settling react told_of opening added trace_of tolds
 whole_run = ⊤
 
 -- no pod and no event
@@ -536,3 +538,10 @@ DelayKeepsPods =
     ∷ codes "11000 decision stable=0/6000 panic=0/1000 ready=1 dspc=0 dppc=0 over=no panicking=no undelayed=0 delayed=0 excess=-210 bounded=0 want=0 applied=no mode=proxy\n"
     ∷ codes "11000 phase inactive\n"
     ∷ [])
+
+-- the first words of two seeds
+abbrev pub FirstWords : Type 0
+FirstWords = map (random_word 7) (0 ∷ 1 ∷ 2 ∷ 3 ∷ 4 ∷ []) ≡ 2442223337 ∷ 414063806 ∷ 2743600285 ∷ 3524868804 ∷ 2371632060 ∷ []
+
+abbrev pub FirstWordsOfZero : Type 0
+FirstWordsOfZero = map (random_word 0) (0 ∷ 1 ∷ []) ≡ 298703107 ∷ 4236525527 ∷ []

@@ -1,152 +1,138 @@
-//! Worked runs: each contract is computed by the checker, from the definitions alone.
-ghost use Rattle.kn_trace.specs.Worked.{EmptyJournal, OneSeatOneWaits, FinishTwice, CancelThenFinish, LimitCutWhileBusy, ExpiryBeforeFinish, RoundRobinPodComesLate, PodQueueFull, ScaleDownWhileBusy, ScaleToZeroAfterGrace, ScaleFromZero, ScaleFromZeroMax1, VeryLongPause, DrainingPodRunsItsQueue, WakeDecisionDrains, InitialScaleAboveMax, WakesInProxyMode, GraceCountsFromTheMode, ActivatingKeepsItsScale, ReadyWithinTheSecond, LoadWithoutAReadyPod, RefusedTurnsCount, ActivationScale, NoScaleToZero, DelayKeepsPods};
+//! What one row says.
+ghost use Rattle.std.specs.Prelude.{◌≡◌};
+ghost use Rattle.kn_trace.specs.Rows.{arrived_by, admitted_by, taken_by, assigned_by, run_by, ended_by, brought_to, pod_by, created_by, readied_by, drained_by, removed_by, limit_by};
 
-/// No pod and no event.
-#[tactic(auto, unfolding(crate::specs::Worked::whole_run))]
-pub fn empty_journal()
-    ensures { EmptyJournal }
-{}
+use kn_event::Row;
 
-/// One seat: the second request waits for it, the third is refused.
-#[tactic(auto, unfolding(crate::specs::Worked::whole_run))]
-pub fn one_seat_one_waits()
-    ensures { OneSeatOneWaits }
-{}
+/// The request that arrives with it.
+pub fn arrived_by(row: &Row) -> Option<u64>
+    ensures { result ≡ arrived_by row.now }
+{
+    match *row {
+        Row::Admit(number, _)
+        | Row::QueueFull(number, _)
+        | Row::Overload(number)
+        | Row::Direct(number, _) => Some(number),
+        _ => None,
+    }
+}
 
-/// A request that has ended is not running.
-#[tactic(auto, unfolding(crate::specs::Worked::whole_run))]
-pub fn finish_twice()
-    ensures { FinishTwice }
-{}
+/// The request that the activator takes in.
+pub fn admitted_by(row: &Row) -> Option<u64>
+    ensures { result ≡ admitted_by row.now }
+{
+    match *row {
+        Row::Admit(number, _) => Some(number),
+        _ => None,
+    }
+}
 
-/// A held request is given up, and cannot finish then.
-#[tactic(auto, unfolding(crate::specs::Worked::whole_run))]
-pub fn cancel_then_finish()
-    ensures { CancelThenFinish }
-{}
+/// The request that is taken in, through the activator or past it.
+pub fn taken_by(row: &Row) -> Option<u64>
+    ensures { result ≡ taken_by row.now }
+{
+    match *row {
+        Row::Admit(number, _) | Row::Direct(number, _) => Some(number),
+        _ => None,
+    }
+}
 
-/// A reduced limit stops nobody, and the next request waits until it leaves room.
-#[tactic(auto, unfolding(crate::specs::Worked::whole_run))]
-pub fn limit_cut_while_busy()
-    ensures { LimitCutWhileBusy }
-{}
+/// The request that is assigned.
+pub fn assigned_by(row: &Row) -> Option<u64>
+    ensures { result ≡ assigned_by row.now }
+{
+    match *row {
+        Row::Assign(number, _) => Some(number),
+        _ => None,
+    }
+}
 
-/// Who waited too long goes before a seat is freed.
-#[tactic(auto, unfolding(crate::specs::Worked::whole_run))]
-pub fn expiry_before_finish()
-    ensures { ExpiryBeforeFinish }
-{}
+/// The direct request that begins to run.
+pub fn run_by(row: &Row) -> Option<u64>
+    ensures { result ≡ run_by row.now }
+{
+    match *row {
+        Row::Run(number) => Some(number),
+        _ => None,
+    }
+}
 
-/// Round robin goes on from its place when a pod comes.
-#[tactic(auto, unfolding(crate::specs::Worked::whole_run))]
-pub fn round_robin_pod_comes_late()
-    ensures { RoundRobinPodComesLate }
-{}
+/// The request that ends.
+pub fn ended_by(row: &Row) -> Option<u64>
+    ensures { result ≡ ended_by row.now }
+{
+    match *row {
+        Row::Finish(number, _) | Row::Expire(number) | Row::Cancel(number) => Some(number),
+        _ => None,
+    }
+}
 
-/// A pod takes eleven requests for its one seat, past the activator.
-#[tactic(auto, unfolding(crate::specs::Worked::whole_run))]
-pub fn pod_queue_full()
-    ensures { PodQueueFull }
-{}
+/// The request that comes to this pod.
+pub fn brought_to(row: &Row, pod: u64) -> Option<u64>
+    ensures { result ≡ brought_to pod row.now }
+{
+    match *row {
+        Row::Assign(number, to) | Row::Direct(number, to) if to == pod => Some(number),
+        _ => None,
+    }
+}
 
-/// A busy pod drains first, and goes when it is empty; an assignment comes before that.
-#[tactic(auto, unfolding(crate::specs::Worked::whole_run))]
-pub fn scale_down_while_busy()
-    ensures { ScaleDownWhileBusy }
-{}
+/// The pod that this request comes to.
+pub fn pod_by(row: &Row, request: u64) -> Option<u64>
+    ensures { result ≡ pod_by request row.now }
+{
+    match *row {
+        Row::Assign(number, pod) | Row::Direct(number, pod) if number == request => Some(pod),
+        _ => None,
+    }
+}
 
-/// A revision without load is inactive after its window, and its pod goes after the grace period.
-#[tactic(auto, unfolding(crate::specs::Worked::whole_run))]
-pub fn scale_to_zero_after_grace()
-    ensures { ScaleToZeroAfterGrace }
-{}
+/// The pod that is created.
+pub fn created_by(row: &Row) -> Option<u64>
+    ensures { result ≡ created_by row.now }
+{
+    match *row {
+        Row::Create(number, _) => Some(number),
+        _ => None,
+    }
+}
 
-/// An arrival wakes a revision without pods.
-#[tactic(auto, unfolding(crate::specs::Worked::whole_run))]
-pub fn scale_from_zero()
-    ensures { ScaleFromZero }
-{}
+/// The pod that gets ready.
+pub fn readied_by(row: &Row) -> Option<u64>
+    ensures { result ≡ readied_by row.now }
+{
+    match *row {
+        Row::Ready(number) => Some(number),
+        _ => None,
+    }
+}
 
-/// And gets no more pods than max-scale.
-#[tactic(auto, unfolding(crate::specs::Worked::whole_run))]
-pub fn scale_from_zero_max_1()
-    ensures { ScaleFromZeroMax1 }
-{}
+/// The pod that is drained.
+pub fn drained_by(row: &Row) -> Option<u64>
+    ensures { result ≡ drained_by row.now }
+{
+    match *row {
+        Row::Drain(number) => Some(number),
+        _ => None,
+    }
+}
 
-/// An average over a window in a pause of 10^9 seconds.
-#[tactic(auto, unfolding(crate::specs::Worked::whole_run))]
-pub fn very_long_pause()
-    ensures { VeryLongPause }
-{}
+/// The pod that is removed.
+pub fn removed_by(row: &Row) -> Option<u64>
+    ensures { result ≡ removed_by row.now }
+{
+    match *row {
+        Row::Remove(number) => Some(number),
+        _ => None,
+    }
+}
 
-/// A draining pod runs what is queued at it, and an expiry empties none.
-#[tactic(auto, unfolding(crate::specs::Worked::whole_run))]
-pub fn draining_pod_runs_its_queue()
-    ensures { DrainingPodRunsItsQueue }
-{}
-
-/// A decision on arrival is a whole decision: it drains pods that still stand.
-#[tactic(auto, unfolding(crate::specs::Worked::whole_run))]
-pub fn wake_decision_drains()
-    ensures { WakeDecisionDrains }
-{}
-
-/// The initial scale rules over max-scale until it was reached.
-#[tactic(auto, unfolding(crate::specs::Worked::whole_run))]
-pub fn initial_scale_above_max()
-    ensures { InitialScaleAboveMax }
-{}
-
-/// A revision that waits for its first pod is reached through the activator, whatever its excess.
-#[tactic(auto, unfolding(crate::specs::Worked::whole_run))]
-pub fn wakes_in_proxy_mode()
-    ensures { WakesInProxyMode }
-{}
-
-/// In proxy mode the grace period counts from the mode, which is as old as the revision.
-#[tactic(auto, unfolding(crate::specs::Worked::whole_run))]
-pub fn grace_counts_from_the_mode()
-    ensures { GraceCountsFromTheMode }
-{}
-
-/// While it is activating a revision wants what it wanted; the initial scale was reached once for all.
-#[tactic(auto, unfolding(crate::specs::Worked::whole_run))]
-pub fn activating_keeps_its_scale()
-    ensures { ActivatingKeepsItsScale }
-{}
-
-/// A pod that gets ready within a second counts at its end.
-#[tactic(auto, unfolding(crate::specs::Worked::whole_run))]
-pub fn ready_within_the_second()
-    ensures { ReadyWithinTheSecond }
-{}
-
-/// A second with a load is a sample without a ready pod.
-#[tactic(auto, unfolding(crate::specs::Worked::whole_run))]
-pub fn load_without_a_ready_pod()
-    ensures { LoadWithoutAReadyPod }
-{}
-
-/// A request that its pod refuses takes a turn; the next goes to the next pod.
-#[tactic(auto, unfolding(crate::specs::Worked::whole_run))]
-pub fn refused_turns_count()
-    ensures { RefusedTurnsCount }
-{}
-
-/// A count above 0 is raised to the activation scale: one request asks for three pods.
-#[tactic(auto, unfolding(crate::specs::Worked::whole_run))]
-pub fn activation_scale()
-    ensures { ActivationScale }
-{}
-
-/// Without scale to zero one pod stays, and the revision stays active.
-#[tactic(auto, unfolding(crate::specs::Worked::whole_run))]
-pub fn no_scale_to_zero()
-    ensures { NoScaleToZero }
-{}
-
-/// Within the delay the greatest count of before counts, and at its end no more.
-#[tactic(auto, unfolding(crate::specs::Worked::whole_run))]
-pub fn delay_keeps_pods()
-    ensures { DelayKeepsPods }
-{}
+/// The limit that this pod gets.
+pub fn limit_by(row: &Row, pod: u64) -> Option<u64>
+    ensures { result ≡ limit_by pod row.now }
+{
+    match *row {
+        Row::Create(number, limit) | Row::Limit(number, limit) if number == pod => Some(limit),
+        _ => None,
+    }
+}

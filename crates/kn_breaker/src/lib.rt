@@ -1,0 +1,9 @@
+//! The queue-proxy's breaker: who may enter, and how many of those who did may run.
+#![tactic(auto)]
+
+mod breaker;
+
+pub use breaker::Breaker;
+
+#[cfg(test)]
+mod tests;

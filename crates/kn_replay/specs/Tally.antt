@@ -1,0 +1,37 @@
+-- The counts of the last line while a report is written.
+use Rattle.std.specs.Prelude.{ℕ, ◌+◌, ◌≤◌, true, false}
+use Rattle.kn_event.specs.declared.entry.Row.{Row}
+use Rattle.kn_event.specs.declared.entry.Row.TheVariants as row
+use Rattle.kn_replay.specs.Report.{Totals}
+
+-- how many entries there were in all, and of each kind
+pub record Counted : Type 0 where
+  pub rows : ℕ
+  pub totals : Totals
+
+-- no kind has more entries than there were
+pub record AreWithin (rows : ℕ) (t : Totals) : Type 0 where
+  pub admitted : t.admitted ≤ rows
+  pub direct : t.direct ≤ rows
+  pub assigned : t.assigned ≤ rows
+  pub finished : t.finished ≤ rows
+  pub failed : t.failed ≤ rows
+  pub expired : t.expired ≤ rows
+  pub cancelled : t.cancelled ≤ rows
+  pub queue_full : t.queue_full ≤ rows
+  pub overload : t.overload ≤ rows
+  pub decisions : t.decisions ≤ rows
+
+-- one more entry
+abbrev pub with_row : Row → Totals → Totals
+with_row (row.Admit r tag) t = record t { admitted = t.admitted + 1 }
+with_row (row.Direct r p) t = record t { direct = t.direct + 1 }
+with_row (row.Assign r p) t = record t { assigned = t.assigned + 1 }
+with_row (row.Finish r true) t = record t { finished = t.finished + 1 }
+with_row (row.Finish r false) t = record t { failed = t.failed + 1 }
+with_row (row.Expire r) t = record t { expired = t.expired + 1 }
+with_row (row.Cancel r) t = record t { cancelled = t.cancelled + 1 }
+with_row (row.QueueFull r p) t = record t { queue_full = t.queue_full + 1 }
+with_row (row.Overload r) t = record t { overload = t.overload + 1 }
+with_row (row.Decided d) t = record t { decisions = t.decisions + 1 }
+with_row _ t = t

@@ -1,0 +1,168 @@
+//! Writing a report: its rows, and the last line that counts them.
+ghost use Rattle.std.specs.Prelude.{◌≡◌, ◌+◌, ◌<◌, ◌≤◌, ◌^◌, ℕ, ◌++◌, ◌∷◌, [], length, OnOk, OnErr};
+ghost use Rattle.std.specs.Io.KnownBytes.{Appends};
+ghost use Rattle.kn_io.specs.Causes.{HasCause};
+ghost use Rattle.kn_io.specs.Prefix.{AppendsPrefix};
+ghost use Rattle.kn_trace.specs.Trace.{Trace};
+ghost use Rattle.kn_replay.specs.Report.{rows_text, totals, named, taken_text, ended_text, refused_text, last_line};
+ghost use Rattle.kn_replay.specs.Tally.{with_row};
+
+use kn_event::{EntryLog, Line, Row, entry_line};
+use kn_io::{Failed, Sink, put_all};
+use std::marker::Model;
+
+/// Writes a line for each entry, or on `Failed` some first bytes of these lines.
+pub fn write_rows<O: Sink>(log: &EntryLog, line: &mut Line, out: &mut O) -> Result<(), Failed>
+    ensures ok { OnOk result (Appends (O.held out.old) (O.held out.new) (rows_text log.now)) }
+    ensures err { OnErr result (AppendsPrefix (O.held out.old) (O.held out.new) (rows_text log.now)) }
+    ensures cause { HasCause (O.Faulty.faults out.old) (O.Faulty.faults out.new) result }
+{
+    for e in log.entries() {
+        entry_line(e, line);
+        match put_all(out, line.bytes()) {
+            Ok(()) => {}
+            Err(Failed) => return Err(Failed),
+        }
+    }
+    Ok(())
+}
+
+/// How many entries of each kind there were.
+#[derive(Drop)]
+pub struct Tally {
+    rows: u128,
+    admitted: u128,
+    direct: u128,
+    assigned: u128,
+    finished: u128,
+    failed: u128,
+    expired: u128,
+    cancelled: u128,
+    queue_full: u128,
+    overload: u128,
+    decisions: u128,
+}
+
+impl Model for Tally {
+    ghost use Rattle.std.specs.Prelude.{◌≤◌};
+    ghost use Rattle.kn_replay.specs.Tally.{Counted, AreWithin};
+
+    ghost Value = { Counted };
+
+    ghost view = { λ t. record { rows = t.rows; totals = record { admitted = t.admitted; direct = t.direct; assigned = t.assigned; finished = t.finished; failed = t.failed; expired = t.expired; cancelled = t.cancelled; queue_full = t.queue_full; overload = t.overload; decisions = t.decisions } } };
+
+    ghost invariant = { λ t. AreWithin t.rows (record { admitted = t.admitted; direct = t.direct; assigned = t.assigned; finished = t.finished; failed = t.failed; expired = t.expired; cancelled = t.cancelled; queue_full = t.queue_full; overload = t.overload; decisions = t.decisions }) };
+}
+
+impl Tally {
+    /// No entry yet.
+    #[tactic(auto, unfolding(crate::specs::Report::totals))]
+    pub fn new() -> Tally
+        ensures rows { result.rows ≡ 0 }
+        ensures totals { result.totals ≡ totals [] }
+    {
+        Tally {
+            rows: 0,
+            admitted: 0,
+            direct: 0,
+            assigned: 0,
+            finished: 0,
+            failed: 0,
+            expired: 0,
+            cancelled: 0,
+            queue_full: 0,
+            overload: 0,
+            decisions: 0,
+        }
+    }
+
+    /// Counts one entry more.
+    fn add(&mut self, row: &Row)
+        requires { self.old.rows < 2 ^ 100 }
+        ensures rows { self.new.rows ≡ self.old.rows + 1 }
+        ensures totals { self.new.totals ≡ with_row row.now self.old.totals }
+    {
+        self.rows += 1;
+        match *row {
+            Row::Admit(_, _) => self.admitted += 1,
+            Row::Direct(_, _) => self.direct += 1,
+            Row::Assign(_, _) => self.assigned += 1,
+            Row::Finish(_, true) => self.finished += 1,
+            Row::Finish(_, false) => self.failed += 1,
+            Row::Expire(_) => self.expired += 1,
+            Row::Cancel(_) => self.cancelled += 1,
+            Row::QueueFull(_, _) => self.queue_full += 1,
+            Row::Overload(_) => self.overload += 1,
+            Row::Decided(_) => self.decisions += 1,
+            _ => {}
+        }
+    }
+
+    /// Counts the log's entries.
+    pub fn add_all(&mut self, log: &EntryLog)
+        requires { self.old.rows + length log.now < 2 ^ 100 }
+        ensures rows { self.new.rows ≡ self.old.rows + length log.now }
+        ensures totals { (c : Trace) → self.old.totals ≡ totals c → self.new.totals ≡ totals (c ++ log.now) }
+    {
+        for e in log.entries() {
+            self.add(&e.row);
+        }
+    }
+
+    /// Sets the line to the last line of a report over so many events, with its LF.
+    #[tactic(auto, using(std::proofs::Common::append_assoc), unfolding(crate::specs::Report::last_line))]
+    pub fn last_line(&self, events: u64, line: &mut Line)
+        ensures { line.new ≡ last_line events self.now.totals }
+    {
+        line.clear();
+        self.put_taken(events, line);
+        self.put_ended(line);
+        self.put_refused(line);
+    }
+
+    #[tactic(auto, using(crate::proofs::Pieces::four_pieces), unfolding(crate::specs::Report::taken_text))]
+    fn put_taken(&self, events: u64, line: &mut Line)
+        requires { length line.old ≤ 0 }
+        ensures value { line.new ≡ line.old ++ taken_text events self.now.totals }
+        ensures short { length line.new ≤ 260 }
+    {
+        put_named(line, b"end events=", u128::from(events));
+        put_named(line, b" admitted=", self.admitted);
+        put_named(line, b" direct=", self.direct);
+        put_named(line, b" assigned=", self.assigned);
+    }
+
+    #[tactic(auto, using(crate::proofs::Pieces::four_pieces), unfolding(crate::specs::Report::ended_text))]
+    fn put_ended(&self, line: &mut Line)
+        requires { length line.old ≤ 260 }
+        ensures value { line.new ≡ line.old ++ ended_text self.now.totals }
+        ensures short { length line.new ≤ 500 }
+    {
+        put_named(line, b" finished=", self.finished);
+        put_named(line, b" failed=", self.failed);
+        put_named(line, b" expired=", self.expired);
+        put_named(line, b" cancelled=", self.cancelled);
+    }
+
+    #[tactic(auto, using(crate::proofs::Pieces::four_pieces), unfolding(crate::specs::Report::refused_text))]
+    fn put_refused(&self, line: &mut Line)
+        requires { length line.old ≤ 500 }
+        ensures value { line.new ≡ line.old ++ refused_text self.now.totals }
+    {
+        put_named(line, b" queue-full=", self.queue_full);
+        put_named(line, b" overload=", self.overload);
+        put_named(line, b" decisions=", self.decisions);
+        line.put(b"\n");
+    }
+}
+
+/// A word and the number that it names.
+#[tactic(auto, using(std::proofs::Common::append_assoc))]
+fn put_named(line: &mut Line, word: &[u8], n: u128)
+    requires { length line.old + length word.now ≤ 980 }
+    ensures value { line.new ≡ line.old ++ named word.now n }
+    ensures short { length line.new ≤ length line.old + length word.now + 40 }
+{
+    line.put(word);
+    line.put_integer(n);
+}

@@ -1,0 +1,154 @@
+-- What a pod's place among pods whose numbers rise says of looking it up, changing it and removing it.
+use Rattle.std.proofs.Common.{◌≡◌, ℕ, zero, suc, ◌<◌, ◌≤◌, Bool, true, false, ◌||◌, List, [], ◌∷◌, set, get_or, length, refl, sym, ap, subst, ◌∙◌, arith, nat_eq, Some, Option, unwrap_or, Result, Ok, Err, cond}
+use Rattle.std.specs.List.{find, remove}
+use Rattle.std.specs.List.Sorted.{IsSearchInRange, IsBinarySearchResult, IsNonDecreasingBy}
+use Rattle.std.specs.Ordering.{nat_cmp, ordering_index}
+use Rattle.std.specs.Prelude.{IsOk}
+use Rattle.std.proofs.lemmas.Bool.Decides.{nat_tests}
+use Rattle.std.proofs.lemmas.Cmp.{ranked}
+use Rattle.std.proofs.lemmas.List.{get_or_default}
+use Rattle.std.proofs.lemmas.List.Sorted.{IsNonDecreasingBy-from_default}
+use Rattle.kn_seats.specs.declared.pod.Pod.{Pod}
+use Rattle.kn_seats.specs.Pods.{idle_pod, has_pod, pod_at, with_pod_changed, without_pod}
+use Rattle.kn_seats.specs.Kept.{IsAscending, IsPlaceOf}
+
+is_named : (n p : ℕ) → n ≡ p → nat_eq n p ≡ true
+is_named n p same = grind (arith, nat_tests)
+
+not_named : (n p : ℕ) → (n ≡ p → ⊥) → nat_eq n p ≡ false
+not_named n p differ = grind (arith, nat_tests)
+
+number_of : (n p : ℕ) → nat_eq n p ≡ true → n ≡ p
+number_of n p named = grind (arith, nat_tests)
+
+-- the pods after the first one rise too, and lie above it
+ascending_rest : (x : Pod) (xs : List Pod) → IsAscending (x ∷ xs) → IsAscending xs
+ascending_rest x xs rise i j d lt inside = rise (suc i) (suc j) d (omega arith) (omega arith)
+
+above_first : (x : Pod) (xs : List Pod) → IsAscending (x ∷ xs) → (k : ℕ) (d : Pod) → k < length xs → x.number < (get_or xs k d).number
+above_first x xs rise k d inside = rise 0 (suc k) d (omega arith) (omega arith)
+
+-- none of these has the number
+HasNone : ℕ → List Pod → Type 0
+HasNone p xs = (k : ℕ) (d : Pod) → k < length xs → (get_or xs k d).number ≡ p → ⊥
+
+none_rest : (p : ℕ) (x : Pod) (xs : List Pod) → HasNone p (x ∷ xs) → HasNone p xs
+unfolding HasNone
+none_rest p x xs none k d inside = none (suc k) d (omega arith)
+
+none_after : (p : ℕ) (x : Pod) (xs : List Pod) → IsAscending (x ∷ xs) → x.number ≡ p → HasNone p xs
+unfolding HasNone
+none_after p x xs rise same k d inside other = absurd (omega (arith, above_first x xs rise k d inside, same, other))
+
+unchanged : (p : ℕ) (by : Pod → Pod) (xs : List Pod) → HasNone p xs → with_pod_changed p by xs ≡ xs
+unfolding HasNone
+unchanged p by [] none = refl
+unchanged p by (x ∷ xs) none =
+    let other : nat_eq x.number p ≡ false = not_named x.number p (none 0 x (omega arith)) in
+    rw other (ap (λ l. x ∷ l) (unchanged p by xs (none_rest p x xs none)))
+
+unfiltered : (p : ℕ) (xs : List Pod) → HasNone p xs → without_pod p xs ≡ xs
+unfolding HasNone
+unfiltered p [] none = refl
+unfiltered p (x ∷ xs) none =
+    let other : nat_eq x.number p ≡ false = not_named x.number p (none 0 x (omega arith)) in
+    rw other (ap (λ l. x ∷ l) (unfiltered p xs (none_rest p x xs none)))
+
+found_at : (p : ℕ) (xs : List Pod) (i : ℕ) (d : Pod) → IsAscending xs → i < length xs → (get_or xs i d).number ≡ p → find (λ pod. nat_eq pod.number p) xs ≡ Some (get_or xs i d)
+found_at p [] i d rise inside same = absurd (omega arith)
+found_at p (x ∷ xs) zero d rise inside same = rw (is_named x.number p same) refl
+found_at p (x ∷ xs) (suc i) d rise inside same =
+    let within : i < length xs = omega arith in
+    let below = above_first x xs rise i d within in
+    let other : nat_eq x.number p ≡ false = not_named x.number p (λ e. absurd (omega (arith, below, same, e))) in
+    rw other (found_at p xs i d (ascending_rest x xs rise) within same)
+
+changed_at : (p : ℕ) (by : Pod → Pod) (xs : List Pod) (i : ℕ) (d : Pod) → IsAscending xs → i < length xs → (get_or xs i d).number ≡ p → with_pod_changed p by xs ≡ set xs i (by (get_or xs i d))
+changed_at p by [] i d rise inside same = absurd (omega arith)
+changed_at p by (x ∷ xs) zero d rise inside same =
+    rw (is_named x.number p same) (ap (λ l. by x ∷ l) (unchanged p by xs (none_after p x xs rise same)))
+changed_at p by (x ∷ xs) (suc i) d rise inside same =
+    let within : i < length xs = omega arith in
+    let below = above_first x xs rise i d within in
+    let other : nat_eq x.number p ≡ false = not_named x.number p (λ e. absurd (omega (arith, below, same, e))) in
+    rw other (ap (λ l. x ∷ l) (changed_at p by xs i d (ascending_rest x xs rise) within same))
+
+removed_at : (p : ℕ) (xs : List Pod) (i : ℕ) (d : Pod) → IsAscending xs → i < length xs → (get_or xs i d).number ≡ p → without_pod p xs ≡ remove xs i
+removed_at p [] i d rise inside same = absurd (omega arith)
+removed_at p (x ∷ xs) zero d rise inside same =
+    rw (is_named x.number p same) (unfiltered p xs (none_after p x xs rise same))
+removed_at p (x ∷ xs) (suc i) d rise inside same =
+    let within : i < length xs = omega arith in
+    let below = above_first x xs rise i d within in
+    let other : nat_eq x.number p ≡ false = not_named x.number p (λ e. absurd (omega (arith, below, same, e))) in
+    rw other (ap (λ l. x ∷ l) (removed_at p xs i d (ascending_rest x xs rise) within same))
+
+-- a place at which a pod of this number stands
+pub record StandsAt (p : ℕ) (pods : List Pod) (place : ℕ) : Type 0 where
+  pub inside : place < length pods
+  pub number : (d : Pod) → (get_or pods place d).number ≡ p
+
+-- where the test finds a pod of this number there is such a place: at the first one, or among the rest
+place_from : (p : ℕ) (x : Pod) (xs : List Pod) (first : Bool) → nat_eq x.number p ≡ first → (first || has_pod p xs) ≡ true
+    → (has_pod p xs ≡ true → (place : ℕ) × StandsAt p xs place) → (place : ℕ) × StandsAt p (x ∷ xs) place
+place_from p x xs true named there rest = (0, record { inside = omega arith; number = λ d. number_of x.number p named })
+place_from p x xs false named there rest =
+    let found = rest there in
+    (suc found.0, record { inside = let within = found.1.inside in omega arith; number = found.1.number })
+
+pub some_place : (p : ℕ) (pods : List Pod) → has_pod p pods ≡ true → (place : ℕ) × StandsAt p pods place
+some_place p [] there = absurd (let h : false ≡ true = there in cc)
+some_place p (x ∷ xs) there = place_from p x xs (nat_eq x.number p) refl there (some_place p xs)
+
+-- it is the only one
+pub the_place : (p : ℕ) (pods : List Pod) (place : ℕ) → IsAscending pods → StandsAt p pods place → IsPlaceOf p pods place
+the_place p pods place rise stands =
+    let d = idle_pod p 0 in
+    let here = get_or pods place d in
+    let found : find (λ pod. nat_eq pod.number p) pods ≡ Some here = found_at p pods place d rise stands.inside (stands.number d) in
+    let same : pod_at p pods ≡ here = ap (λ (o : Option Pod). unwrap_or o d) found in
+    record {
+      inside = stands.inside;
+      pod = λ e. get_or_default pods place e d stands.inside ∙ sym same;
+      changed = λ by. changed_at p by pods place d rise stands.inside (stands.number d) ∙ ap (λ (q : Pod). set pods place (by q)) (sym same);
+      removed = removed_at p pods place d rise stands.inside (stands.number d);
+    }
+
+module _ (pods : List Pod) (rise : IsAscending pods) (p : ℕ) where
+  -- the comparisons with p rise along the list, as a binary search asks
+  comparisons_rise : IsNonDecreasingBy (λ pod. ordering_index (nat_cmp pod.number p)) pods
+  comparisons_rise = IsNonDecreasingBy-from_default (λ pod. ordering_index (nat_cmp pod.number p)) pods (idle_pod p 0) (λ i j le inside.
+      let numbers_rise : (get_or pods i (idle_pod p 0)).number ≤ (get_or pods j (idle_pod p 0)).number =
+      grind (arith, rise i j (idle_pod p 0), λ (same : i ≡ j). ap (λ k. (get_or pods k (idle_pod p 0)).number) same) in
+      grind (arith, nat_tests))
+
+  -- a binary search ends at a pod that is there
+  pub search_finds : has_pod p pods ≡ true → (r : Result ℕ ℕ) → IsSearchInRange r (length pods) → IsBinarySearchResult (λ pod. nat_cmp pod.number p) pods r → IsOk r
+  search_finds there (Ok at) inside equal = refl
+  search_finds there (Err at) inside parted =
+      let found = some_place p pods there in
+      let d = idle_pod p 0 in
+      let same = found.1.number d in
+      let within = found.1.inside in
+      let parts = parted comparisons_rise in
+      let before : (k : ℕ) → k < at → (get_or pods k d).number < p = λ k lt. ranked _ p _ (sym (parts.0 k d (omega arith) lt)) in
+      let after : (k : ℕ) → at ≤ k → k < length pods → p < (get_or pods k d).number = λ k le lt. ranked _ p _ (sym (parts.1 k d le lt)) in
+      absurd (grind (arith, before found.0, after found.0, same, within))
+
+  pub search_place : (r : Result ℕ ℕ) (at : ℕ) → r ≡ Ok at → IsSearchInRange r (length pods) → IsBinarySearchResult (λ pod. nat_cmp pod.number p) pods r → IsPlaceOf p pods at
+  search_place (Ok n) at is inside equal =
+      let same : n ≡ at = cc in
+      let stands : StandsAt p pods n = record { inside = inside; number = λ d. ranked _ p _ (sym (equal d)) } in
+      subst (IsPlaceOf p pods) same (the_place p pods n rise stands)
+  search_place (Err n) at is inside parted = absurd (cc)
+
+-- the same numbers are there after a change that keeps a pod's number
+number-changed : (x y : Pod) (here : Bool) → y.number ≡ x.number → (cond here y x).number ≡ x.number
+number-changed x y true keeps = keeps
+number-changed x y false keeps = refl
+
+pub has_pod-changed : (q p : ℕ) (by : Pod → Pod) → ((x : Pod) → (by x).number ≡ x.number) → (pods : List Pod) → has_pod q (with_pod_changed p by pods) ≡ has_pod q pods
+has_pod-changed q p by keeps [] = refl
+has_pod-changed q p by keeps (x ∷ xs) =
+    ap (λ n. nat_eq n q || has_pod q (with_pod_changed p by xs)) (number-changed x (by x) (nat_eq x.number p) (keeps x))
+    ∙ ap (λ b. nat_eq x.number q || b) (has_pod-changed q p by keeps xs)

@@ -1,0 +1,3 @@
+pub mod Pods
+pub mod Seats
+pub mod Kept

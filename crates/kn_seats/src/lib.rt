@@ -1,0 +1,11 @@
+//! Which requests run and which are queued at each pod.
+#![tactic(auto)]
+
+mod cells;
+mod pod;
+mod seats;
+
+pub use seats::Seats;
+
+#[cfg(test)]
+mod tests;

@@ -1,0 +1,218 @@
+//! The seats at all pods. A pod is found by a binary search over the numbers, which rise.
+ghost use Rattle.std.specs.Prelude.{true, ◌≡◌, ◌+◌, ◌-◌, ◌<◌, ◌≤◌, [], ◌∷◌, ◌++◌, None, drop, length, slice_get, IsTrue, IfOk, OnSome, IfNone, Contains, All, not, if◌then◌else◌};
+ghost use Rattle.std.specs.Bool.{OnFalse, OnTrue};
+
+use crate::cells::{Cells, spare_cells};
+use crate::pod::Pod;
+use kn_event::Memory;
+use std::alloc::Global;
+use std::marker::Model;
+
+/// Pods, and the requests that run and are queued at each. Room for pods and requests is taken once.
+///
+/// Contracts see the list of the pods in the order of their numbers, and both rooms. A pod limit is at most 1,000.
+/// Each call but `new` and `add` names a pod that is there, and none but `new` takes memory. Each says how many
+/// requests are at pods afterwards, since room left is a condition of `reserve_seat` and `queue_at`.
+#[derive(Drop)]
+pub struct Seats {
+    pods: Vec<Pod>,
+    spare: Cells,
+    pod_room: u64,
+    request_room: u64,
+    alloc: Global,
+}
+
+impl Model for Seats {
+    ghost use Rattle.std.specs.Prelude.{◌≤◌, length, vec_capacity};
+    ghost use Rattle.kn_seats.specs.Seats.{State};
+    ghost use Rattle.kn_seats.specs.Kept.{IsKept};
+
+    ghost Value = { State };
+
+    ghost view = { λ s. record { pods = s.pods.items; pod_room = s.pod_room; request_room = s.request_room } };
+
+    ghost invariant = { λ s. record {
+      kept : IsKept s.pods.items (length s.spare) s.pod_room s.request_room;
+      reserved : s.pod_room ≤ vec_capacity s.pods;
+    } };
+}
+
+impl Seats {
+    ghost use Rattle.kn_seats.specs.Pods.{idle_pod, requests_at, requests_at_all, has_free_seat, is_full, has_pod, pod_at, without_pod, without_request};
+    ghost use Rattle.kn_seats.specs.Seats.{change};
+    ghost use Rattle.kn_seats.specs.Kept.{IsPlaceOf};
+
+    /// No pods yet, and room for so many of them and so many requests at them.
+    pub fn new(alloc: Global, pods: u64, requests: u64) -> Result<Seats, Memory>
+        requires pods { pods ≤ 20500 }
+        requires requests { requests ≤ 20000 }
+        ensures { IfOk result (λ seats. seats ≡ record { pods = []; pod_room = pods; request_room = requests }) }
+    {
+        let spare = spare_cells(alloc, requests)?;
+        match Vec::with_capacity(alloc, pods as usize) {
+            Ok(held) => Ok(Seats {
+                pods: held,
+                spare,
+                pod_room: pods,
+                request_room: requests,
+                alloc,
+            }),
+            Err(_) => Err(Memory),
+        }
+    }
+
+    /// Adds a pod without requests. Its number is above all others.
+    pub fn add(&mut self, p: u64, limit: u64)
+        requires last { All (λ pod. pod.number < p) self.old.pods }
+        requires room { length self.old.pods < self.old.pod_room }
+        requires limit { limit ≤ 1000 }
+        ensures added { self.new ≡ record self.old { pods = self.old.pods ++ idle_pod p limit ∷ [] } }
+        ensures counted { requests_at_all self.new.pods ≡ requests_at_all self.old.pods }
+    {
+        self.pods.push_reserved(Pod::idle(self.alloc, p, limit));
+    }
+
+    /// Changes a pod's limit; 0 is no limit. Who runs or is queued there stays.
+    pub fn set_limit(&mut self, p: u64, n: u64)
+        requires there { IsTrue (has_pod p self.old.pods) }
+        requires limit { n ≤ 1000 }
+        ensures changed { self.new ≡ change p (λ pod. record pod { limit = n }) self.old }
+        ensures counted { requests_at_all self.new.pods ≡ requests_at_all self.old.pods }
+    {
+        let place = self.place_of(p);
+        self.pods[place].limit = n;
+    }
+
+    /// Marks a pod as draining.
+    pub fn drain(&mut self, p: u64)
+        requires there { IsTrue (has_pod p self.old.pods) }
+        ensures changed { self.new ≡ change p (λ pod. record pod { draining = true }) self.old }
+        ensures counted { requests_at_all self.new.pods ≡ requests_at_all self.old.pods }
+    {
+        let place = self.place_of(p);
+        self.pods[place].draining = true;
+    }
+
+    /// Removes a pod that drains and has no request.
+    pub fn remove(&mut self, p: u64)
+        requires there { IsTrue (has_pod p self.old.pods) }
+        requires draining { IsTrue (pod_at p self.old.pods).draining }
+        requires none { requests_at (pod_at p self.old.pods) ≡ 0 }
+        ensures removed { self.new ≡ record self.old { pods = without_pod p self.old.pods } }
+        ensures counted { requests_at_all self.new.pods ≡ requests_at_all self.old.pods }
+    {
+        let place = self.place_of(p);
+        let _ = self.pods.remove(place);
+    }
+
+    /// Lets one more request run at a pod, where a seat is free there.
+    pub fn reserve_seat(&mut self, p: u64) -> bool
+        requires there { IsTrue (has_pod p self.old.pods) }
+        requires room { requests_at_all self.old.pods < self.old.request_room }
+        ensures free { result ≡ has_free_seat (pod_at p self.old.pods) }
+        ensures reserved { OnTrue result (self.new ≡ change p (λ pod. record pod { running = pod.running + 1 }) self.old) }
+        ensures counted { OnTrue result (requests_at_all self.new.pods ≡ requests_at_all self.old.pods + 1) }
+        ensures refused { OnFalse result (self.new ≡ self.old) }
+    {
+        let place = self.place_of(p);
+        let pod = &mut self.pods[place];
+        if !pod.has_free_seat() {
+            return false;
+        }
+        pod.running += 1;
+        true
+    }
+
+    /// Queues a request last at a pod, unless the pod is full.
+    pub fn queue_at(&mut self, p: u64, r: u64) -> bool
+        requires there { IsTrue (has_pod p self.old.pods) }
+        requires room { requests_at_all self.old.pods < self.old.request_room }
+        ensures not_full { result ≡ not (is_full (pod_at p self.old.pods)) }
+        ensures queued { OnTrue result (self.new ≡ change p (λ pod. record pod { queued = pod.queued ++ r ∷ [] }) self.old) }
+        ensures counted { OnTrue result (requests_at_all self.new.pods ≡ requests_at_all self.old.pods + 1) }
+        ensures refused { OnFalse result (self.new ≡ self.old) }
+    {
+        let place = self.place_of(p);
+        let pod = &mut self.pods[place];
+        if pod.is_full() {
+            return false;
+        }
+        pod.queue(r, &mut self.spare);
+        true
+    }
+
+    /// Lets the first request that is queued at a pod run, where a seat is free there. Answers the request.
+    pub fn promote(&mut self, p: u64) -> Option<u64>
+        requires there { IsTrue (has_pod p self.old.pods) }
+        ensures answer { result ≡ (if has_free_seat (pod_at p self.old.pods) then slice_get (pod_at p self.old.pods).queued 0 else None) }
+        ensures promoted { OnSome result (self.new ≡
+            change p (λ pod. record pod { queued = drop 1 pod.queued; running = pod.running + 1 }) self.old) }
+        ensures refused { IfNone result (self.new ≡ self.old) }
+        ensures counted { requests_at_all self.new.pods ≡ requests_at_all self.old.pods }
+    {
+        let place = self.place_of(p);
+        let pod = &mut self.pods[place];
+        if pod.queued.is_empty() || !pod.has_free_seat() {
+            return None;
+        }
+        let r = pod.dequeue(&mut self.spare);
+        pod.running += 1;
+        Some(r)
+    }
+
+    /// Takes a request that is queued at a pod out of its queue, the first of them if it stands there twice.
+    pub fn unqueue(&mut self, p: u64, r: u64)
+        requires there { IsTrue (has_pod p self.old.pods) }
+        requires queued { Contains (pod_at p self.old.pods).queued r }
+        ensures changed { self.new ≡ change p (λ pod. record pod { queued = without_request r pod.queued }) self.old }
+        ensures counted { requests_at_all self.new.pods + 1 ≡ requests_at_all self.old.pods }
+    {
+        let place = self.place_of(p);
+        self.pods[place].take_out(r, &mut self.spare);
+    }
+
+    /// Ends one that is running at a pod.
+    pub fn give_back(&mut self, p: u64)
+        requires there { IsTrue (has_pod p self.old.pods) }
+        requires running { 0 < (pod_at p self.old.pods).running }
+        ensures changed { self.new ≡ change p (λ pod. record pod { running = pod.running - 1 }) self.old }
+        ensures counted { requests_at_all self.new.pods + 1 ≡ requests_at_all self.old.pods }
+    {
+        let place = self.place_of(p);
+        self.pods[place].running -= 1;
+    }
+
+    /// A pod's limit; 0 is no limit.
+    pub fn limit(&self, p: u64) -> u64
+        requires { IsTrue (has_pod p self.now.pods) }
+        ensures { result ≡ (pod_at p self.now.pods).limit }
+    {
+        self.pods[self.place_of(p)].limit
+    }
+
+    /// How many run at a pod.
+    pub fn running(&self, p: u64) -> u64
+        requires { IsTrue (has_pod p self.now.pods) }
+        ensures { result ≡ (pod_at p self.now.pods).running }
+    {
+        self.pods[self.place_of(p)].running
+    }
+
+    /// How many are queued at a pod.
+    pub fn queued(&self, p: u64) -> u64
+        requires { IsTrue (has_pod p self.now.pods) }
+        ensures { result ≡ length (pod_at p self.now.pods).queued }
+    {
+        self.pods[self.place_of(p)].queued.len() as u64
+    }
+
+    /// Where the pod of this number stands.
+    fn place_of(&self, p: u64) -> usize
+        requires { IsTrue (has_pod p self.now.pods) }
+        ensures { IsPlaceOf p self.now.pods result }
+    {
+        self.pods
+            .binary_search_by_key(&p, |pod| pod.number)
+            .unwrap()
+    }
+}
