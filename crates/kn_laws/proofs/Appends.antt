@@ -12,10 +12,10 @@ use Rattle.kn_trace.specs.Choice.{assignment_count, place_by, place_from, round_
 use Rattle.kn_laws.specs.declared.admission.Request.{Request}
 use Rattle.kn_laws.specs.declared.admission.Pod.{Pod}
 use Rattle.kn_laws.specs.Rows.{named_by, pod_named_by}
-use Rattle.kn_laws.specs.Admission.{Admission, admission, stepped, live_requests, live_after, more_by, pods, pods_after, robin_after}
+use Rattle.kn_laws.specs.Admission.{Admission, admission, nothing_yet, stepped, live_requests, live_after, more_by, pods, pods_after, robin_after}
 use Rattle.kn_laws.specs.Made.{IsMade, IsProper, StandsFor}
 use Rattle.kn_laws.proofs.Flags.{counted, length-push}
-use Rattle.kn_laws.proofs.Kept.{made_kept}
+use Rattle.kn_laws.proofs.Kept.{kept-nil, made_kept}
 use Rattle.kn_laws.proofs.Members.{other_number, or_parts, contains-filter, contains-within}
 use Rattle.kn_laws.proofs.Requests.{live_requests-quiet, live_requests-end, live_requests-assign, live_requests-run, live_requests-admit, live_requests-direct}
 use Rattle.kn_laws.proofs.Views.{live-requests}
@@ -126,3 +126,8 @@ stands_made s c made = let kept = made_kept s c made in record { kept = refl; re
 -- so at each trace that was made
 pub admission_made : (s : Spec) (c : Trace) (t : ℕ) (x : Row) → IsMade s c → IsProper s c x → admission (c ++ entry t x ∷ []) ≡ stepped t x (admission c)
 admission_made s c t x made p = let kept = made_kept s c made in admission-push c t x (proper_keeps s c x kept.requests p) (proper_keeps_pods s c x kept.pods p)
+
+-- the empty record stands for the trace without an entry
+pub stands_nothing : (s : Spec) → StandsFor nothing_yet []
+unfolding admission arrivals live_requests created pods assignment_count round_robin_place direct_turn
+stands_nothing s = let kept = kept-nil s in record { kept = refl; requests = kept.requests; pods = kept.pods }

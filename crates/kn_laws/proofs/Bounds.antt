@@ -16,13 +16,14 @@ use Rattle.kn_event.specs.declared.revision.Kind.TheVariants as kind
 use Rattle.kn_event.specs.declared.revision.Spec.{Spec}
 use Rattle.kn_event.specs.Revision.{AreInRange}
 use Rattle.kn_scaling.specs.Decide.{Ruling}
+use Rattle.kn_scaling.specs.Zero.{pods_most}
 use Rattle.kn_trace.specs.Rows.{created_by, drained_by, removed_by, taken_by}
 use Rattle.kn_trace.specs.Trace.{Trace, entry, at_pod, created, draining, each_row, held, is_empty, live_pods, ready_pods, waiting}
 use Rattle.kn_trace.specs.Scale.{creations, decision_at, decision_rows, drain_order, is_same_mode, is_same_phase, mode_of, phase_of, scale_rows, tick_rows, tick_rows_of, wake_decision_at, wake_rows, wanted, where_true}
 use Rattle.kn_trace.specs.Settling.{held_assignments, promotions, removals, settling}
 use Rattle.kn_trace.specs.Events.{act_row, act_rows, activation, before_settling, entries_of, expiries, live_most, react, scaler_rows, wake_where}
 use Rattle.kn_trace.specs.Laws.{IsSettled}
-use Rattle.kn_laws.specs.Made.{Holds, IsMade, IsProper, pods_most}
+use Rattle.kn_laws.specs.Made.{Holds, IsMade, IsProper}
 use Rattle.kn_laws.proofs.Flags.{counted}
 use Rattle.kn_laws.proofs.PodSteps.{draining-same}
 use Rattle.kn_laws.proofs.Rows.{Each, activation-rows, assign_pods, assignments-rows, draining-each, expiries-rows, is_assign_row, is_expire_row, is_remove_row, is_run_row, is_scaler_row, promotions-rows, removed-rows, run_pods, scaler-rows}

@@ -85,6 +85,7 @@ skips k i j hi hj = by (nat_le i j)
 
 -- the choice of two is one of the list
 two-seated : (cs : List Cand) (a b : ℕ) → IsSeated (choice_of_two cs a b) (map (λ (q : Cand). q.pod) cs)
+unfolding choice_of_two
 two-seated [] a b = refl
 two-seated (q ∷ []) a b = rw (same_number q.pod) refl
 two-seated (q ∷ r ∷ cs) a b =

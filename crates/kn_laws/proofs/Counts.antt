@@ -9,13 +9,14 @@ use Rattle.kn_event.specs.declared.entry.Row.{Row}
 use Rattle.kn_event.specs.declared.entry.Row.TheVariants as row
 use Rattle.kn_event.specs.declared.revision.Spec.{Spec}
 use Rattle.kn_event.specs.Revision.{AreInRange}
+use Rattle.kn_scaling.specs.Zero.{pods_most}
 use Rattle.kn_trace.specs.Rows.{admitted_by, brought_to, created_by, directed_by, drained_by, readied_by, removed_by, taken_by}
 use Rattle.kn_trace.specs.Trace.{Trace, entry, assigned, contains, draining, each_row, ended, has_begun, has_not_begun, has_run, held, is_draining, is_live_pod, is_ready, is_running, is_starting, live, live_pods, pod_of, queued_at, ready_pods, running_at, starting_pods, waiting}
 use Rattle.kn_trace.specs.Scale.{drain_order}
 use Rattle.kn_trace.specs.Events.{live_most}
 use Rattle.kn_trace.specs.Laws.{IsSettled}
 use Rattle.kn_laws.specs.Rows.{moved_by}
-use Rattle.kn_laws.specs.Made.{AreDistinct, Holds, IsMade, IsNumbered, IsProper, pods_most}
+use Rattle.kn_laws.specs.Made.{AreDistinct, Holds, IsMade, IsNumbered, IsProper}
 use Rattle.kn_laws.proofs.Flags.{contains-push, counted, each_row-push, ended-push}
 use Rattle.kn_laws.proofs.Members.{same_number, contains-filter, distinct-filter}
 use Rattle.kn_laws.proofs.Numbers.{admitted_taken, and_parts, brought_moved, directed_taken, false_unless, filter_member, first_member, held_member, in_filter, queued_member, within-from, brought_directed}

@@ -9,10 +9,11 @@ use Rattle.kn_event.specs.declared.entry.Row.TheVariants as row
 use Rattle.kn_event.specs.declared.entry.Decision.{Decision}
 use Rattle.kn_event.specs.declared.revision.Spec.{Spec}
 use Rattle.kn_event.specs.Revision.{AreInRange}
+use Rattle.kn_scaling.specs.Zero.{pods_most}
 use Rattle.kn_trace.specs.Rows.{brought_to, created_by, decision_by, phase_by, removed_by}
 use Rattle.kn_trace.specs.Trace.{Trace, arrivals, assigned, at_pod, contains, created, each_row, ended, has_run, last_of, live_pods}
 use Rattle.kn_trace.specs.Scale.{opening_scale, phase_of, wanted}
-use Rattle.kn_laws.specs.Made.{Holds, IsMade, IsNumbered, ArePodsNumbered, IsProper, pods_most}
+use Rattle.kn_laws.specs.Made.{Holds, IsMade, IsNumbered, ArePodsNumbered, IsProper}
 use Rattle.kn_laws.proofs.Flags.{says, or_else, contains-push, ended-push, last_of-push}
 use Rattle.kn_laws.proofs.Members.{or-true}
 use Rattle.kn_laws.proofs.Numbers.{IsNumbered-push, and_parts, filter_member, in_filter, proper_keeps, says-true}

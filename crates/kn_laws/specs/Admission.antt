@@ -74,6 +74,10 @@ admission c = record {
   turn = direct_turn c;
 }
 
+-- before the first entry
+abbrev pub nothing_yet : Admission
+nothing_yet = record { arrivals = 0; live = []; created = 0; pods = []; assignments = 0; robin = 0; turn = 0 }
+
 -- ---- by one more entry
 
 abbrev pub without : ℕ → List Request → List Request

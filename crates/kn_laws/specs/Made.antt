@@ -4,6 +4,7 @@ use Rattle.kn_event.specs.declared.entry.Row.{Row}
 use Rattle.kn_event.specs.declared.entry.Row.TheVariants as row
 use Rattle.kn_event.specs.declared.revision.Spec.{Spec}
 use Rattle.kn_event.specs.Revision.{AreInRange}
+use Rattle.kn_scaling.specs.Zero.{pods_most}
 use Rattle.kn_trace.specs.Rows.{admitted_by, directed_by, refused_by, taken_by, created_by}
 use Rattle.kn_trace.specs.Trace.{Trace, arrivals, assigned, at_pod, contains, created, draining, each_row, has_run, is_running, live, live_pods, starting_pods, waiting}
 use Rattle.kn_trace.specs.Capacity.{breaker_full, pod_full}
@@ -19,10 +20,6 @@ use Rattle.kn_laws.specs.Admission.{Admission, admission}
 pub record IsNext (c : Trace) (r : ℕ) : Type 0 where
   pub number : r ≡ arrivals c
   pub room : length (live c) < live_most
-
--- as many pods as a revision may have
-abbrev pub pods_most : ℕ
-pods_most = 500
 
 abbrev pub IsProper : Spec → Trace → Row → Type 0
 IsProper s c (row.Admit r tag) = IsNext c r × (breaker_full s c ≡ false)

@@ -8,7 +8,7 @@ ghost use Rattle.kn_event.specs.declared.revision.Spec.{Spec};
 ghost use Rattle.kn_trace.specs.Events.{act_row, expiries, react};
 ghost use Rattle.kn_trace.specs.Settling.{held_assignments, removals};
 ghost use Rattle.kn_trace.specs.Trace.{Trace, entry, first_of, has_free_seat};
-ghost use Rattle.kn_laws.specs.Admission.{Admission, admission, is_held_place, next_in, placed_in, queues_at, stepped};
+ghost use Rattle.kn_laws.specs.Admission.{Admission, admission, is_held_place, next_in, nothing_yet, placed_in, queues_at, stepped};
 ghost use Rattle.kn_laws.specs.Made.{Holds, IsMade, IsProper, StandsFor};
 ghost use Rattle.kn_laws.specs.Views.{AreByPlace, AreViews, due_in};
 ghost use Rattle.kn_laws.specs.Walks.{ArePartsProper, BeginsWith, leaving_in, promoting, stepped_by};
@@ -18,6 +18,7 @@ ghost use Rattle.kn_laws.specs.Walks.{ArePartsProper, BeginsWith, leaving_in, pr
 pub fn append_laws()
     ensures admission { (s : Spec) (c : Trace) (t : ℕ) (x : Row) → IsMade s c → IsProper s c x → admission (c ++ entry t x ∷ []) ≡ stepped t x (admission c) }
     ensures stands { (s : Spec) (c : Trace) → IsMade s c → StandsFor (admission c) c }
+    ensures nothing { (s : Spec) → StandsFor nothing_yet [] }
     ensures append { (s : Spec) (a : Admission) (c : Trace) (t : ℕ) (x : Row) → StandsFor a c → IsProper s c x → StandsFor (stepped t x a) (c ++ entry t x ∷ []) }
     ensures act { (s : Spec) (a : Admission) (c : Trace) (t : ℕ) (act : Act) (x : Row) → StandsFor a c → act_row s c act ≡ Some x → StandsFor (stepped t x a) (c ++ entry t x ∷ []) }
     ensures views { (s : Spec) (a : Admission) (c : Trace) → StandsFor a c → AreViews s a c }

@@ -1,3 +1,6 @@
+use Rattle.kn_trace.specs.Events.{trace_of}
+use Rattle.kn_laws.proofs.Running.{made_trace}
+use Rattle.kn_laws.proofs.Settles.{settled_trace}
 use Rattle.std.proofs.Common.{arith}
 use Rattle.kn_laws.proofs.Bounds.{few_before, few_entries, few_expiries, few_settling}
 use Rattle.kn_laws.proofs.sizes.entry_laws.Goals as goal
@@ -9,4 +12,5 @@ returns c = record {
   expiries = λ s d t made. few_expiries s t d made;
   before = few_before;
   settling = few_settling;
+  trace = λ s start es e ranges. let few = few_entries s (trace_of s start es) e ranges (made_trace s start es) (settled_trace s start es) in omega arith;
 }
