@@ -1,12 +1,12 @@
 -- Each policy finds a pod exactly where one has a free seat.
 use Rattle.std.proofs.Common.{◌≡◌, ◌∙◌, sym, ap, ℕ, Bool, true, false, List, [], ◌∷◌, ◌++◌, take, drop, length, Option, None, Some, refl}
-use Rattle.std.specs.Prelude.{◌||◌, nat_lt, nat_le, ◌==◌, cond, if◌then◌else◌}
+use Rattle.std.specs.Prelude.{◌||◌, nat_lt, ◌==◌, cond, if◌then◌else◌}
 use Rattle.std.specs.List.{filter, find, list_any}
 use Rattle.std.specs.Option.{option_map, is_some}
 use Rattle.std.proofs.lemmas.List.{take-append-drop}
 use Rattle.std.proofs.lemmas.List.Folds.{list_any-append}
 use Rattle.kn_trace.specs.declared.candidate.Cand.{Cand}
-use Rattle.kn_trace.specs.Choice.{has_seat, first_available, turned_to, round_robin, choice_of_two, random_choice, chosen_pod, random_word}
+use Rattle.kn_trace.specs.Choice.{has_seat, first_available, turned_to, round_robin, choice_of_two, random_choice, chosen_pod}
 
 pub first_found : (cands : List Cand) → is_some (first_available cands) ≡ list_any has_seat cands
 unfolding first_available
@@ -44,6 +44,7 @@ two_found (q ∷ cands) a b = by (has_seat q) (two_found cands a b)
     one_or_more : (free : List Cand) → is_some (choice_of_two (q ∷ free) a b) ≡ true
     one_or_more [] = refl
     one_or_more (r ∷ free) = refl
+
     by : (free : Bool) → is_some (choice_of_two (filter has_seat cands) a b) ≡ list_any has_seat cands
         → is_some (choice_of_two (cond free (q ∷ filter has_seat cands) (filter has_seat cands)) a b) ≡ (free || list_any has_seat cands)
     by true rest = one_or_more (filter has_seat cands)

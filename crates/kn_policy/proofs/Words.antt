@@ -15,7 +15,7 @@ pub words_drawn : (generator next last : Lcg) (a b seed picks : ℕ) → generat
     → (a ≡ random_word seed (2 * picks)) × (b ≡ random_word seed (2 * picks + 1))
 words_drawn generator next last a b seed picks at first second =
     let one_on : next ≡ generator_at seed (2 * picks + 1) =
-        ap (λ (p : ℕ × Lcg). p.1) first ∙ ap (λ (g : Lcg). (pcg32 g).1) at ∙ generator_one_on seed (2 * picks) in
+    ap (λ (p : ℕ × Lcg). p.1) first ∙ ap (λ (g : Lcg). (pcg32 g).1) at ∙ generator_one_on seed (2 * picks) in
     (ap (λ (p : ℕ × Lcg). p.0) first ∙ ap (λ (g : Lcg). (pcg32 g).0) at, ap (λ (p : ℕ × Lcg). p.0) second ∙ ap (λ (g : Lcg). (pcg32 g).0) one_on)
 
 -- after them it is at the next pick

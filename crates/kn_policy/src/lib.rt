@@ -5,3 +5,6 @@ mod policy;
 
 pub use kn_trace::Cand;
 pub use policy::Policy;
+
+#[cfg(test)]
+mod tests;

@@ -16,4 +16,4 @@ pub returns-clause-chosen : goal.returns-clause-chosen
 returns-clause-chosen c = λ seed picks at.
     let words = words_drawn _ _ _ _ _ seed picks (ap (λ (s : State). s.generator) c.self.view_is ∙ at) c.next_word-first_word.ensures c.next_word-second_word.ensures in
     sym c.in_ok-pod.was ∙ c.pod_by.ensures.chosen seed picks words.0 words.1
-        ∙ ap (λ (s : State). chosen_pod s.cc seed s.place picks c.args.ready.now) c.self.view_is
+    ∙ ap (λ (s : State). chosen_pod s.cc seed s.place picks c.args.ready.now) c.self.view_is
