@@ -15,7 +15,7 @@ use std::marker::Model;
 /// robin.
 ///
 /// Contracts see the containerConcurrency, the place where round robin goes on, and the generator of random words. The
-/// last two move at each pick, whichever policy it is.
+/// last two move at each pick, whichever policy it is. Picks are not counted, so there may be any number of them.
 #[derive(Drop)]
 pub struct Policy {
     cc: u64,
@@ -46,10 +46,13 @@ impl Policy {
         }
     }
 
-    /// The pod that the next held request goes to, of all Ready pods in the order of their numbers. There is none exactly
-    /// where no pod has a free seat, and then nothing changes: no word is drawn.
+    /// The pod that the next held request goes to, of all Ready pods in the order of their numbers: after any number of
+    /// picks with any seed, the one that the policy names.
+    ///
+    /// There is none exactly where no pod has a free seat. Then nothing changes: no word is drawn, and the place stays.
     pub fn pick(&mut self, ready: &[Cand]) -> Option<u64>
-        ensures chosen { (seed picks : ℕ) → self.old.generator ≡ generator_at seed (2 * picks) → result ≡ chosen_pod self.old.cc seed self.old.place picks ready.now }
+        ensures chosen { (seed picks : ℕ) → self.old.generator ≡ generator_at seed (2 * picks)
+            → result ≡ chosen_pod self.old.cc seed self.old.place picks ready.now }
         ensures found { is_some result ≡ list_any has_seat ready.now }
         ensures picked { IfSome result (λ p. self.new ≡ picked p ready.now self.old) }
         ensures unchanged { IfNone result (self.new ≡ self.old) }
@@ -72,10 +75,11 @@ fn has_free_seat(ready: &[Cand]) -> bool
     first_available(ready).is_some()
 }
 
-#[tactic(auto, using(crate::proofs::Found::first_found, crate::proofs::Found::round_found, crate::proofs::Found::two_found), unfolding(kn_trace::specs::Choice::chosen_pod, kn_trace::specs::Choice::random_choice))]
 /// The pod that the policy takes by its place and the next two random words.
+#[tactic(auto, using(crate::proofs::Found::first_found, crate::proofs::Found::round_found, crate::proofs::Found::two_found), unfolding(kn_trace::specs::Choice::chosen_pod, kn_trace::specs::Choice::random_choice))]
 fn pod_by(cc: u64, place: u64, first_word: u32, second_word: u32, ready: &[Cand]) -> Option<u64>
-    ensures chosen { (seed picks : ℕ) → first_word ≡ random_word seed (2 * picks) → second_word ≡ random_word seed (2 * picks + 1) → result ≡ chosen_pod cc seed place picks ready.now }
+    ensures chosen { (seed picks : ℕ) → first_word ≡ random_word seed (2 * picks) → second_word ≡ random_word seed (2 * picks + 1)
+        → result ≡ chosen_pod cc seed place picks ready.now }
     ensures found { is_some result ≡ list_any has_seat ready.now }
 {
     match cc {
@@ -91,8 +95,8 @@ fn position_of(pod: u64, ready: &[Cand]) -> Option<usize>
     ready.iter().map(|cand| cand.pod).position(|p| p == pod)
 }
 
-#[tactic(auto, using(crate::proofs::Places::position_else_length))]
 /// One past the position of the pod.
+#[tactic(auto, using(crate::proofs::Places::position_else_length))]
 fn place_past(pod: u64, ready: &[Cand]) -> u64
     ensures { result ≡ place_past pod ready.now }
 {
