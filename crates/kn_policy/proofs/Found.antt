@@ -3,6 +3,7 @@ use Rattle.std.proofs.Common.{◌≡◌, ◌∙◌, sym, ap, ℕ, Bool, true, fa
 use Rattle.std.specs.Prelude.{◌||◌, nat_lt, ◌==◌, cond, if◌then◌else◌}
 use Rattle.std.specs.List.{filter, find, list_any}
 use Rattle.std.specs.Option.{option_map, is_some}
+use Rattle.std.proofs.Math.Bool.{or_comm}
 use Rattle.std.proofs.lemmas.List.{take-append-drop}
 use Rattle.std.proofs.lemmas.List.Folds.{list_any-append}
 use Rattle.kn_trace.specs.declared.candidate.Cand.{Cand}
@@ -17,12 +18,6 @@ first_found (q ∷ cands) = by (has_seat q) (first_found cands)
         → is_some (option_map (λ (q : Cand). q.pod) (cond free (Some q) (find has_seat cands))) ≡ (free || list_any has_seat cands)
     by true rest = refl
     by false rest = rest
-
-or_comm : (x y : Bool) → (x || y) ≡ (y || x)
-or_comm true true = refl
-or_comm true false = refl
-or_comm false true = refl
-or_comm false false = refl
 
 any_turned : (place : ℕ) (cands : List Cand) → list_any has_seat (turned_to place cands) ≡ list_any has_seat cands
 any_turned place cands = by (nat_lt place (length cands))
