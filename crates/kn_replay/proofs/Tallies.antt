@@ -1,8 +1,7 @@
 -- One more entry, and the counts of a trace.
-use Rattle.std.proofs.Common.{◌≡◌, ◌+◌, ℕ, Bool, true, false, List, [], ◌∷◌, ◌++◌, refl, sym, ap, ◌∙◌, cond, arith, add-zero, length, take, get_or, append_assoc, ◌<◌}
+use Rattle.std.proofs.Common.{◌≡◌, ◌+◌, ℕ, Bool, true, false, [], ◌∷◌, ◌++◌, refl, sym, ap, ◌∙◌, cond, add-zero, length, take, get_or, append_assoc, ◌<◌}
 use Rattle.std.proofs.lemmas.List.{take_more}
 use Rattle.std.proofs.lemmas.List.Sums.{sum_by_push}
-use Rattle.std.specs.List.{count_by}
 use Rattle.kn_event.specs.declared.entry.Entry.{Entry}
 use Rattle.kn_event.specs.declared.entry.Row.{Row}
 use Rattle.kn_event.specs.declared.entry.Row.TheVariants as row
@@ -25,16 +24,32 @@ rows_with-push test c e = by_test (test e.row) refl
 pub totals-push : (c : Trace) (e : Entry) → totals (c ++ e ∷ []) ≡ with_row e.row (totals c)
 unfolding totals more_where
 totals-push c e =
-    rw (rows_with-push is_admit c e, rows_with-push is_direct c e, rows_with-push is_assign c e, rows_with-push is_finish c e, rows_with-push is_failure c e,
-      rows_with-push is_expire c e, rows_with-push is_cancel c e, rows_with-push is_queue_full c e, rows_with-push is_overload c e, rows_with-push is_decision c e)
+    rw (
+      rows_with-push is_admit c e,
+      rows_with-push is_direct c e,
+      rows_with-push is_assign c e,
+      rows_with-push is_finish c e,
+      rows_with-push is_failure c e,
+      rows_with-push is_expire c e,
+      rows_with-push is_cancel c e,
+      rows_with-push is_queue_full c e,
+      rows_with-push is_overload c e,
+      rows_with-push is_decision c e,
+    )
     (by_row e.row (totals c))
   where
     by_row : (x : Row) (t : Totals) → record {
-        admitted = more_where (is_admit x) t.admitted; direct = more_where (is_direct x) t.direct; assigned = more_where (is_assign x) t.assigned;
-        finished = more_where (is_finish x) t.finished; failed = more_where (is_failure x) t.failed; expired = more_where (is_expire x) t.expired;
-        cancelled = more_where (is_cancel x) t.cancelled; queue_full = more_where (is_queue_full x) t.queue_full; overload = more_where (is_overload x) t.overload;
-        decisions = more_where (is_decision x) t.decisions;
-      } ≡ with_row x t
+      admitted = more_where (is_admit x) t.admitted;
+      direct = more_where (is_direct x) t.direct;
+      assigned = more_where (is_assign x) t.assigned;
+      finished = more_where (is_finish x) t.finished;
+      failed = more_where (is_failure x) t.failed;
+      expired = more_where (is_expire x) t.expired;
+      cancelled = more_where (is_cancel x) t.cancelled;
+      queue_full = more_where (is_queue_full x) t.queue_full;
+      overload = more_where (is_overload x) t.overload;
+      decisions = more_where (is_decision x) t.decisions;
+    } ≡ with_row x t
     by_row (row.Finish r true) t = refl
     by_row (row.Finish r false) t = refl
     by_row _ t = refl

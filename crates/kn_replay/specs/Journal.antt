@@ -4,6 +4,8 @@ use Rattle.std.specs.Str.{bytes_eq}
 use Rattle.kn_event.specs.declared.event.Event.{Event}
 use Rattle.kn_event.specs.declared.revision.Spec.{Spec}
 use Rattle.kn_event.specs.EventLine.{event_of}
+use Rattle.kn_replay.specs.declared.journal.LineKind.{LineKind}
+use Rattle.kn_replay.specs.declared.journal.LineKind.TheVariants.{End, Happens, Refused}
 use Rattle.kn_replay.specs.Lines.{fits, lines}
 use Rattle.kn_replay.specs.Setup.{setup_of, start_of, time_most}
 
@@ -20,12 +22,6 @@ pub record Verdict : Type 0 where
   pub refused : Option ℕ
 
 -- ---- a line where events stand
-
--- the last line of a journal, an event, or neither
-pub data LineKind : Type 0 where
-  End : LineKind
-  Happens : Event → LineKind
-  Refused : LineKind
 
 -- times never fall, and are in range
 abbrev pub is_in_time : ℕ → ℕ → Bool

@@ -1,14 +1,13 @@
 -- The report of a journal: a line for each entry of its trace, and the last line, which counts them.
-use Rattle.std.specs.Prelude.{ℕ, Bool, true, false, not, ◌++◌, List, [], ◌∷◌, Option, None, Some, codes, length, if◌then◌else◌}
+use Rattle.std.specs.Prelude.{ℕ, Bool, true, false, not, ◌++◌, List, [], ◌∷◌, Option, None, Some, codes, length}
 use Rattle.std.specs.Fmt.{decimal}
 use Rattle.std.specs.List.{flat_map, count_by}
-use Rattle.kn_event.specs.declared.entry.Entry.{Entry}
 use Rattle.kn_event.specs.declared.entry.Row.{Row}
 use Rattle.kn_event.specs.declared.entry.Row.TheVariants as row
 use Rattle.kn_event.specs.EntryLine.{entry_text}
 use Rattle.kn_trace.specs.Trace.{Trace}
 use Rattle.kn_trace.specs.Events.{trace_of}
-use Rattle.kn_replay.specs.Journal.{Journal, Verdict, verdict}
+use Rattle.kn_replay.specs.Journal.{Journal, verdict}
 
 unfoldable pub rows_text : Trace → List ℕ
 rows_text c = flat_map entry_text c

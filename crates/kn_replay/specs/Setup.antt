@@ -1,5 +1,5 @@
 -- The setup line of a journal and its start line. So far fixed revisions of at most one pod can be read.
-use Rattle.std.specs.Prelude.{ℕ, Bool, ◌&&◌, nat_le, nat_eq, List, [], ◌∷◌, ◌++◌, drop, length, Option, None, Some, codes, if◌then◌else◌}
+use Rattle.std.specs.Prelude.{ℕ, Bool, ◌&&◌, nat_le, nat_eq, List, [], ◌∷◌, drop, length, Option, None, Some, codes, if◌then◌else◌}
 use Rattle.std.specs.Bool.{then_some}
 use Rattle.std.specs.List.{starts_with}
 use Rattle.std.specs.Option.{option_map, option_and_then}
@@ -50,9 +50,12 @@ setup_of line = option_and_then spec_in_range (setup_of_fields (fields line))
 abbrev pub time_most : ℕ
 time_most = 4398046511104
 
+abbrev pub time_of : List ℕ → Option ℕ
+time_of field = option_and_then (λ t. then_some (nat_le t time_most) t) (number_of field)
+
 abbrev pub start_of_fields : List (List ℕ) → Option ℕ
 start_of_fields (word ∷ time ∷ []) =
-    if bytes_eq word (codes "start") then option_and_then (λ t. then_some (nat_le t time_most) t) (number_of time) else None
+    if bytes_eq word (codes "start") then time_of time else None
 start_of_fields _ = None
 
 -- `start T`, with its time in range

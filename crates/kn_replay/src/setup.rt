@@ -2,7 +2,8 @@
 ghost use Rattle.std.specs.Prelude.{◌≡◌, ◌+◌, ◌≤◌, ◌^◌, ℕ, List, ◌∷◌, IfSome, IfNone, IfOk, codes, Option, None, true};
 ghost use Rattle.std.specs.Option.{option_map, option_copied};
 ghost use Rattle.kn_event.specs.Fields.{fields};
-ghost use Rattle.kn_replay.specs.Setup.{named_number, named_numbers, numbers_from, setup_names, is_in_range, setup_of_fields, setup_of, spec_of_numbers, start_of, start_of_fields, fields_after, time_most};
+ghost use Rattle.kn_core.specs.Plain.{IsSinglePod};
+ghost use Rattle.kn_replay.specs.Setup.{named_number, named_numbers, numbers_from, setup_names, is_in_range, setup_of_fields, setup_of, spec_of_numbers, start_of, start_of_fields, time_of, fields_after, time_most};
 
 use kn_event::{Memory, Slots, Spec, read_number, split_field};
 use std::alloc::Global;
@@ -46,10 +47,8 @@ fn next_field(rest: Option<&[u8]>) -> Option<(&[u8], Option<&[u8]>)>
 /// The number of the next field, where it is the named one, and what follows it.
 fn next_named<'a>(rest: Option<&'a [u8]>, name: &[u8]) -> Option<(u64, Option<&'a [u8]>)>
     ensures none { IfNone result ((names : List (List ℕ)) → named_numbers (name.now ∷ names) (fields_after (option_copied rest.entry)) ≡ None) }
-    ensures some {
-        IfSome result (λ parts. (names : List (List ℕ)) →
-            named_numbers (name.now ∷ names) (fields_after (option_copied rest.entry)) ≡ option_map (λ more. parts.0 ∷ more) (named_numbers names (fields_after (option_copied parts.1))))
-    }
+    ensures some { IfSome result (λ parts. (names : List (List ℕ)) →
+        named_numbers (name.now ∷ names) (fields_after (option_copied rest.entry)) ≡ option_map (λ more. parts.0 ∷ more) (named_numbers names (fields_after (option_copied parts.1)))) }
 {
     let (field, after) = next_field(rest)?;
     let number = named_number(name, field)?;
@@ -70,17 +69,17 @@ fn read_numbers(line: &[u8]) -> Option<Numbers>
     let (pods, rest) = next_named(rest, b"pods=")?;
     let (timeout, rest) = next_named(rest, b"timeout=")?;
     let (seed, rest) = next_named(rest, b"seed=")?;
-    if rest.is_some() {
-        return None;
+    match next_field(rest) {
+        Some(_) => None,
+        None => Some(Numbers {
+            limit,
+            depth,
+            max,
+            pods,
+            timeout,
+            seed,
+        }),
     }
-    Some(Numbers {
-        limit,
-        depth,
-        max,
-        pods,
-        timeout,
-        seed,
-    })
 }
 
 fn is_in_range(n: &Numbers) -> bool
@@ -96,9 +95,11 @@ fn is_in_range(n: &Numbers) -> bool
         && n.timeout <= 3600
 }
 
+#[tactic(auto, unfolding(kn_event::specs::FixedSpec::fixed_spec))]
 fn spec_of(alloc: Global, n: &Numbers) -> Result<Spec, Memory>
     requires { is_in_range n.now ≡ true }
-    ensures { IfOk result (λ spec. spec ≡ spec_of_numbers n.now) }
+    ensures value { IfOk result (λ spec. spec ≡ spec_of_numbers n.now) }
+    ensures kind { IfOk result (λ spec. IsSinglePod spec.kind) }
 {
     let slots = Slots {
         depth: n.depth,
@@ -111,11 +112,26 @@ fn spec_of(alloc: Global, n: &Numbers) -> Result<Spec, Memory>
 /// The specification of a setup line, none where the line is not one.
 #[tactic(auto, unfolding(crate::specs::Setup::setup_of))]
 pub fn read_setup(alloc: Global, line: &[u8]) -> Result<Option<Spec>, Memory>
-    ensures { IfOk result (λ spec. spec ≡ setup_of line.now) }
+    ensures value { IfOk result (λ spec. spec ≡ setup_of line.now) }
+    ensures kind { IfOk result (λ spec. IfSome spec (λ s. IsSinglePod s.kind)) }
 {
     match read_numbers(line) {
-        Some(n) if is_in_range(&n) => Ok(Some(spec_of(alloc, &n)?)),
+        Some(n) if is_in_range(&n) => match spec_of(alloc, &n) {
+            Ok(spec) => Ok(Some(spec)),
+            Err(Memory) => Err(Memory),
+        },
         _ => Ok(None),
+    }
+}
+
+/// A time in range.
+fn read_time(field: &[u8]) -> Option<u64>
+    ensures value { result ≡ time_of field.now }
+    ensures most { IfSome result (λ t. t ≤ time_most) }
+{
+    match read_number(field) {
+        Some(t) if t <= 4398046511104 => Some(t),
+        _ => None,
     }
 }
 
@@ -126,12 +142,12 @@ pub fn read_start(line: &[u8]) -> Option<u64>
     ensures most { IfSome result (λ t. t ≤ time_most) }
 {
     let (word, rest) = next_field(Some(line))?;
-    let (time, rest) = next_field(rest)?;
-    if word != b"start".as_slice() || rest.is_some() {
+    if word != b"start".as_slice() {
         return None;
     }
-    match read_number(time) {
-        Some(t) if t <= 4398046511104 => Some(t),
-        _ => None,
+    let (time, rest) = next_field(rest)?;
+    match next_field(rest) {
+        Some(_) => None,
+        None => read_time(time),
     }
 }

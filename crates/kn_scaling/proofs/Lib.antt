@@ -1,3 +1,4 @@
 pub mod Samples
 pub mod Recent
 pub mod Runs
+pub mod Quotients

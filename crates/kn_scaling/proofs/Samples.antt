@@ -64,3 +64,9 @@ sum_next f before s end h = ap (λ ss. sum_after f before ss) (seconds_next s en
 
 pub sum_done : (f : ℕ → ℕ) (before s end : ℕ) → end ≤ s → sum_after f before (seconds s end) ≡ before
 sum_done f before s end h = ap (λ ss. sum_after f before ss) (seconds_done s end h)
+
+-- ---- for loops over seconds
+
+pub ruleset last_steps = (last_begin, last_next, last_done)
+
+pub ruleset sum_steps = (sum_next, sum_done)

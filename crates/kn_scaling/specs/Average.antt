@@ -1,5 +1,5 @@
 -- The average load over a window of seconds.
-use Rattle.std.specs.Prelude.{ℕ, Bool, false, not, ◌+◌, ◌-◌, ◌*◌, ◌/◌, ◌<◌, ◌&&◌, nat_lt, nat_le, List, [], ◌∷◌, Option, None, Some, is_some, unwrap_or, if◌then◌else◌}
+use Rattle.std.specs.Prelude.{ℕ, Bool, false, not, ◌+◌, ◌-◌, ◌*◌, ◌/◌, ◌<◌, ◌≤◌, ◌&&◌, nat_lt, nat_le, List, [], ◌∷◌, Option, None, Some, is_some, unwrap_or, if◌then◌else◌}
 use Rattle.std.specs.List.{filter, fold, list_any, range_with_len, sum_by}
 use Rattle.std.proofs.Common.{subst, sym, add-one, lit<}
 use Rattle.std.proofs.Math.Nat.{mul-pos, zero-lt-suc}
@@ -68,6 +68,11 @@ average_to samples n end (Some last) = Some (load_over (window_sum samples n end
 -- the average load of the n seconds before this one, never reduced; none where no sample lies in them
 unfoldable pub window_average : Samples → ℕ → ℕ → Option Frac
 window_average samples n end = average_to samples n end (last_sample samples n end)
+
+-- what a window of an hour at most gives: at most 20,000 requests at once
+pub record IsAverage (average : Frac) : Type 0 where
+  pub den : average.den ≤ 3600000
+  pub value : average.num ≤ 20000 * average.den
 
 -- ---- how samples come
 

@@ -68,7 +68,7 @@ fn chosen(is_chosen: bool, second: u64, before: Option<u64>) -> Option<u64>
     if is_chosen { Some(second) } else { before }
 }
 
-#[tactic(auto, using(crate::proofs::Samples::last_begin, crate::proofs::Samples::last_next, crate::proofs::Samples::last_done), unfolding(crate::specs::Average::first_write))]
+#[tactic(auto, using(crate::proofs::Samples::last_steps), unfolding(crate::specs::Average::first_write))]
 fn first_write(runs: &[SampleRun], count: u64, end: u64) -> u64
     ensures { result ≡ first_write (samples_of runs.now) count end }
 {
@@ -79,7 +79,7 @@ fn first_write(runs: &[SampleRun], count: u64, end: u64) -> u64
     last.unwrap_or(end.saturating_sub(count))
 }
 
-#[tactic(auto, using(crate::proofs::Samples::last_begin, crate::proofs::Samples::last_next, crate::proofs::Samples::last_done), unfolding(crate::specs::Average::last_sample))]
+#[tactic(auto, using(crate::proofs::Samples::last_steps), unfolding(crate::specs::Average::last_sample))]
 fn last_sample(runs: &[SampleRun], count: u64, end: u64) -> Option<u64>
     ensures { result ≡ last_sample (samples_of runs.now) count end }
 {
@@ -90,7 +90,7 @@ fn last_sample(runs: &[SampleRun], count: u64, end: u64) -> Option<u64>
     last
 }
 
-#[tactic(auto, using(crate::proofs::Samples::sum_next, crate::proofs::Samples::sum_done), unfolding(crate::specs::Average::window_sum))]
+#[tactic(auto, using(crate::proofs::Samples::sum_steps), unfolding(crate::specs::Average::window_sum))]
 fn window_sum(runs: &[SampleRun], count: u64, end: u64) -> u128
     ensures { result ≡ window_sum (samples_of runs.now) count end }
 {

@@ -4,11 +4,15 @@
 
 mod average;
 mod delay;
+mod demand;
 mod panic;
 pub mod rows;
+#[cfg(test)]
+mod tests;
 mod zero;
 
 pub use average::{SampleRun, window_average};
 pub use delay::{Asked, delayed_count, recent_count};
+pub use demand::desired_counts;
 pub use panic::{Judged, is_panicking, undelayed_count};
 pub use zero::ZeroAnswer;

@@ -1,4 +1,5 @@
-use Rattle.std.proofs.Common.{arith, sym, ◌∙◌}
+use Rattle.std.proofs.Common.{ap, sym, ◌∙◌}
+use Rattle.kn_replay.specs.Setup.{named_numbers}
 use Rattle.kn_replay.proofs.Setups.{after_fixed, onto, same_word, after_limit, after_depth, after_max, after_pods, after_timeout, after_seed}
 use Rattle.kn_replay.proofs.setup.read_numbers.Goals as goal
 
@@ -20,8 +21,8 @@ returns-in_err-timeout c = c.from_residual-in_err-timeout.ensures ∙ sym (after
 pub returns-in_err-seed : goal.returns-in_err-seed
 returns-in_err-seed c = c.from_residual-in_err-seed.ensures ∙ sym (after_fixed _ _ _ _ c.in_ok-word.ensures.some (same_word _ _ _ c.if-ne.ensures c.as_slice.ensures) (c.in_ok-limit.ensures.some after_limit ∙ onto c.in_ok-limit.limit _ _ (c.in_ok-depth.ensures.some after_depth ∙ onto c.in_ok-depth.depth _ _ (c.in_ok-max.ensures.some after_max ∙ onto c.in_ok-max.max _ _ (c.in_ok-pods.ensures.some after_pods ∙ onto c.in_ok-pods.pods _ _ (c.in_ok-timeout.ensures.some after_timeout ∙ onto c.in_ok-timeout.timeout _ _ (c.in_err-seed.ensures.none after_seed)))))))
 
-pub returns-then-is_some : goal.returns-then-is_some
-returns-then-is_some c = sym (after_fixed _ _ _ _ c.in_ok-word.ensures.some (same_word _ _ _ c.if-ne.ensures c.as_slice.ensures) (c.in_ok-limit.ensures.some after_limit ∙ onto c.in_ok-limit.limit _ _ (c.in_ok-depth.ensures.some after_depth ∙ onto c.in_ok-depth.depth _ _ (c.in_ok-max.ensures.some after_max ∙ onto c.in_ok-max.max _ _ (c.in_ok-pods.ensures.some after_pods ∙ onto c.in_ok-pods.pods _ _ (c.in_ok-timeout.ensures.some after_timeout ∙ onto c.in_ok-timeout.timeout _ _ (c.in_ok-seed.ensures.some after_seed ∙ onto c.in_ok-seed.seed _ _ (?))))))))
+pub returns-in-Some : goal.returns-in-Some
+returns-in-Some c = sym (after_fixed _ _ _ _ c.in_ok-word.ensures.some (same_word _ _ _ c.if-ne.ensures c.as_slice.ensures) (c.in_ok-limit.ensures.some after_limit ∙ onto c.in_ok-limit.limit _ _ (c.in_ok-depth.ensures.some after_depth ∙ onto c.in_ok-depth.depth _ _ (c.in_ok-max.ensures.some after_max ∙ onto c.in_ok-max.max _ _ (c.in_ok-pods.ensures.some after_pods ∙ onto c.in_ok-pods.pods _ _ (c.in_ok-timeout.ensures.some after_timeout ∙ onto c.in_ok-timeout.timeout _ _ (c.in_ok-seed.ensures.some after_seed ∙ onto c.in_ok-seed.seed _ _ (ap (named_numbers after_seed) c.in-Some.ensures.some))))))))
 
-pub returns : goal.returns
-returns c = sym (after_fixed _ _ _ _ c.in_ok-word.ensures.some (same_word _ _ _ c.if-ne.ensures c.as_slice.ensures) (c.in_ok-limit.ensures.some after_limit ∙ onto c.in_ok-limit.limit _ _ (c.in_ok-depth.ensures.some after_depth ∙ onto c.in_ok-depth.depth _ _ (c.in_ok-max.ensures.some after_max ∙ onto c.in_ok-max.max _ _ (c.in_ok-pods.ensures.some after_pods ∙ onto c.in_ok-pods.pods _ _ (c.in_ok-timeout.ensures.some after_timeout ∙ onto c.in_ok-timeout.timeout _ _ (c.in_ok-seed.ensures.some after_seed ∙ onto c.in_ok-seed.seed _ _ (?))))))))
+pub returns-in-None : goal.returns-in-None
+returns-in-None c = sym (after_fixed _ _ _ _ c.in_ok-word.ensures.some (same_word _ _ _ c.if-ne.ensures c.as_slice.ensures) (c.in_ok-limit.ensures.some after_limit ∙ onto c.in_ok-limit.limit _ _ (c.in_ok-depth.ensures.some after_depth ∙ onto c.in_ok-depth.depth _ _ (c.in_ok-max.ensures.some after_max ∙ onto c.in_ok-max.max _ _ (c.in_ok-pods.ensures.some after_pods ∙ onto c.in_ok-pods.pods _ _ (c.in_ok-timeout.ensures.some after_timeout ∙ onto c.in_ok-timeout.timeout _ _ (c.in_ok-seed.ensures.some after_seed ∙ onto c.in_ok-seed.seed _ _ (ap (named_numbers after_seed) c.in-None.ensures.none))))))))

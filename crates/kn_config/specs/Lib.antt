@@ -1,0 +1,5 @@
+pub mod Json
+pub mod Keys
+pub mod Values
+pub mod Config
+pub mod Laws

@@ -1,0 +1,53 @@
+-- What goes on beside a refusal.
+use Rattle.std.proofs.Common.{◌≡◌, ℕ, true, List, [], ◌∷◌, ◌++◌, refl, sym, ap, ◌∙◌, append_assoc}
+use Rattle.std.specs.Prelude.{Some}
+use Rattle.kn_event.specs.declared.entry.Row.{Row}
+use Rattle.kn_event.specs.declared.entry.Row.TheVariants as row
+use Rattle.kn_event.specs.declared.event.Event.{Event}
+use Rattle.kn_event.specs.declared.revision.Spec.{Spec}
+use Rattle.kn_trace.specs.Trace.{Trace, entry}
+use Rattle.kn_trace.specs.Events.{act_row, expiries, trace_of}
+use Rattle.kn_trace.specs.Laws.{IsInert, IsSettled, is_refusal}
+use Rattle.kn_laws.specs.Admission.{Admission, admission, stepped}
+use Rattle.kn_laws.specs.Made.{IsMade, IsProper}
+use Rattle.kn_laws.specs.Beside.{LeavesTheRest, refused}
+use Rattle.kn_laws.proofs.Kept.{Holds-append, made_kept}
+use Rattle.kn_laws.proofs.Appends.{admission_made}
+use Rattle.kn_laws.proofs.Reacting.{act-holds, expiries-hold}
+use Rattle.kn_laws.proofs.Inert.{refusals_inert}
+use Rattle.kn_laws.proofs.Running.{made_trace}
+use Rattle.kn_laws.proofs.Settles.{settled_trace}
+
+-- a refusal steps the record by its number and its turn alone
+refusal-stepped : (t : ℕ) (x : Row) (a : Admission) → is_refusal x ≡ true → stepped t x a ≡ refused x a
+unfolding stepped
+refusal-stepped t (row.QueueFull r pod) a h = refl
+refusal-stepped t (row.Overload r) a h = refl
+refusal-stepped t (row.NotRunning r) a h = refl
+refusal-stepped t (row.NotWaiting r) a h = refl
+refusal-stepped t (row.NotStarting p) a h = refl
+refusal-stepped t (row.NoPod p) a h = refl
+refusal-stepped t _ a h = absurd (cc)
+
+-- the row of an act is proper where it comes
+pub act-proper : (s : Spec) (c : Trace) (e : Event) (x : Row) → act_row s c e.act ≡ Some x → IsProper s c x
+act-proper s c e x is = (rw is at (act-holds s e.time c e.act)).0
+
+-- the expiries of a trace that was made are proper
+pub made_expiries : (s : Spec) (t : ℕ) (c : Trace) → IsMade s c → IsMade s (c ++ expiries s t c)
+made_expiries s t c made = record { rows = Holds-append (IsProper s) [] c (expiries s t c) made.rows (expiries-hold s t c (made_kept s c made).requests) }
+
+-- after a refused event the record is that after the expiries, but for a number and a turn
+pub refusals_leave : (s : Spec) (c : Trace) (e : Event) → IsMade s c → IsSettled s c → LeavesTheRest s c e
+refusals_leave s c e made settled x is h =
+    let gone = expiries s e.time c in
+    ap (λ (d : Trace). admission (c ++ d)) (refusals_inert s c e made settled x is h)
+    ∙ ap admission (sym (append_assoc c gone (entry e.time x ∷ [])))
+    ∙ admission_made s (c ++ gone) e.time x (made_expiries s e.time c made) (act-proper s (c ++ gone) e x is)
+    ∙ refusal-stepped e.time x (admission (c ++ gone)) h
+
+pub inert_trace : (s : Spec) (start : ℕ) (es : List Event) (e : Event) → IsInert s (trace_of s start es) e
+inert_trace s start es e = refusals_inert s (trace_of s start es) e (made_trace s start es) (settled_trace s start es)
+
+pub leaving_trace : (s : Spec) (start : ℕ) (es : List Event) (e : Event) → LeavesTheRest s (trace_of s start es) e
+leaving_trace s start es e = refusals_leave s (trace_of s start es) e (made_trace s start es) (settled_trace s start es)

@@ -1,0 +1,13 @@
+use Rattle.kn_laws.proofs.Appends.{admission_made, stands_made, StandsFor-push}
+use Rattle.kn_laws.proofs.Standing.{are_views, made_by_place, stands_act}
+use Rattle.kn_laws.proofs.append.append_laws.Goals as goal
+
+pub returns : goal.returns
+returns c = record {
+  admission = admission_made;
+  stands = stands_made;
+  append = StandsFor-push;
+  act = stands_act;
+  views = are_views;
+  by_place = made_by_place;
+}

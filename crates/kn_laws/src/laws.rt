@@ -1,0 +1,38 @@
+//! The laws, over whole runs and over one event.
+ghost use Rattle.std.specs.Prelude.{ℕ, List, ◌++◌};
+ghost use Rattle.kn_event.specs.declared.event.Event.{Event};
+ghost use Rattle.kn_event.specs.declared.revision.Spec.{Spec};
+ghost use Rattle.kn_trace.specs.Trace.{Trace};
+ghost use Rattle.kn_trace.specs.Events.{opening, react, trace_of};
+ghost use Rattle.kn_trace.specs.Laws.{IsInert, IsLawful, IsSettled};
+ghost use Rattle.kn_laws.specs.Beside.{LeavesTheRest};
+ghost use Rattle.kn_laws.specs.Made.{IsMade};
+ghost use Rattle.kn_laws.specs.Phases.{WantsByPhase};
+
+/// Of every trace that a journal's events make: each row was proper when it came, it is lawful and settled, and a
+/// further event that is refused is inert.
+pub fn trace_laws()
+    ensures made { (s : Spec) (start : ℕ) (es : List Event) → IsMade s (trace_of s start es) }
+    ensures lawful { (s : Spec) (start : ℕ) (es : List Event) → IsLawful s (trace_of s start es) }
+    ensures settled { (s : Spec) (start : ℕ) (es : List Event) → IsSettled s (trace_of s start es) }
+    ensures inert { (s : Spec) (start : ℕ) (es : List Event) (e : Event) → IsInert s (trace_of s start es) e }
+    ensures beside { (s : Spec) (start : ℕ) (es : List Event) (e : Event) → LeavesTheRest s (trace_of s start es) e }
+{}
+
+/// The same for one event more, of any trace whose rows were proper when they came.
+pub fn step_laws()
+    ensures opening { (s : Spec) (start : ℕ) → IsMade s (opening s start) }
+    ensures opening_settled { (s : Spec) (start : ℕ) → IsSettled s (opening s start) }
+    ensures made { (s : Spec) (c : Trace) (e : Event) → IsMade s c → IsMade s (c ++ react s c e) }
+    ensures lawful { (s : Spec) (c : Trace) → IsMade s c → IsLawful s c }
+    ensures settled { (s : Spec) (c : Trace) (e : Event) → IsMade s c → IsSettled s (c ++ react s c e) }
+    ensures inert { (s : Spec) (c : Trace) (e : Event) → IsMade s c → IsSettled s c → IsInert s c e }
+    ensures beside { (s : Spec) (c : Trace) (e : Event) → IsMade s c → IsSettled s c → LeavesTheRest s c e }
+{}
+
+/// On a scaled revision no pod is wanted exactly where the phase is inactive.
+pub fn phase_laws()
+    ensures opening { (s : Spec) (start : ℕ) → WantsByPhase s (opening s start) }
+    ensures step { (s : Spec) (c : Trace) (e : Event) → WantsByPhase s c → WantsByPhase s (c ++ react s c e) }
+    ensures trace { (s : Spec) (start : ℕ) (es : List Event) → WantsByPhase s (trace_of s start es) }
+{}

@@ -1,0 +1,4 @@
+pub mod Number
+pub mod Capped
+pub mod Duration
+pub mod Spelling

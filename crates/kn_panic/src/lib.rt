@@ -1,0 +1,154 @@
+//! Panic mode: one moment and one greatest count in place of all decisions.
+#![tactic(auto)]
+
+ghost use Rattle.std.specs.Prelude.{◌≡◌, List, [], ◌∷◌, max, if◌then◌else◌};
+ghost use Rattle.kn_scaling.specs.declared.panic.Judged.{Judged};
+ghost use Rattle.kn_scaling.specs.Panic.{greatest_after, is_panicking, undelayed_count};
+ghost use Rattle.kn_panic.specs.Stands.{StandsFor, is_moment_within, judged_by, moment_after};
+
+use kn_event::Counts;
+use std::marker::Model;
+
+/// What a decision asks for before the scale-down delay.
+#[derive(Clone, Copy, Debug, PartialEq, Eq)]
+pub struct Panicked {
+    pub panicking: bool,
+    /// Pods: in panic the greatest count of the run of panicking decisions, else the decision's stable count.
+    pub count: u64,
+}
+
+/// The decisions up to now, as far as later ones need them. Contracts say for which list of decisions it stands.
+#[derive(Debug, Drop)]
+pub struct Panic {
+    moment: Option<u64>,
+    greatest: u64,
+}
+
+impl Model for Panic {
+    ghost use Rattle.kn_panic.specs.Stands.{PanicState};
+
+    ghost Value = { PanicState };
+
+    ghost view = { λ p. record { moment = p.moment; greatest = p.greatest } };
+}
+
+impl Panic {
+    /// No decision yet.
+    #[tactic(auto, using(crate::proofs::Takes::stands_for_none))]
+    pub fn new() -> Panic
+        ensures { StandsFor result [] }
+    {
+        Panic {
+            moment: None,
+            greatest: 0,
+        }
+    }
+
+    /// One more decision, at a time in milliseconds. It panics where some decision up to it was over, and the last such
+    /// one lies at most its window before it. Only a decision that doesn't panic breaks a run, and a pause doesn't.
+    pub fn take(&mut self, time: u64, c: &Counts, window_ms: u64) -> Panicked
+        ensures panicking { (earlier : List Judged) → StandsFor self.old earlier → result.panicking ≡ is_panicking (judged_by time c.now window_ms ∷ earlier) }
+        ensures count { (earlier : List Judged) → StandsFor self.old earlier → result.count ≡ undelayed_count (judged_by time c.now window_ms ∷ earlier) }
+        ensures stands { (earlier : List Judged) → StandsFor self.old earlier → StandsFor self.new (judged_by time c.now window_ms ∷ earlier) }
+    {
+        self.moment = moment_after(c.over, time, self.moment);
+        let panicking = is_within(time, window_ms, self.moment);
+        self.greatest = greatest_after(panicking, c.stable_count.max(c.panic_count), self.greatest);
+        Panicked {
+            panicking,
+            count: count_of(panicking, self.greatest, c.stable_count),
+        }
+    }
+}
+
+/// The moment of the last decision that was over.
+fn moment_after(over: bool, time: u64, before: Option<u64>) -> Option<u64>
+    ensures { result ≡ moment_after over time before }
+{
+    if over { Some(time) } else { before }
+}
+
+/// Whether a time lies at most a window after the moment.
+fn is_within(time: u64, window_ms: u64, moment: Option<u64>) -> bool
+    ensures { result ≡ is_moment_within time window_ms moment }
+{
+    match moment {
+        None => false,
+        Some(moment) => time.saturating_sub(moment) <= window_ms,
+    }
+}
+
+/// The greatest count of the run that ends here.
+fn greatest_after(panicking: bool, count: u64, before: u64) -> u64
+    ensures { result ≡ greatest_after panicking count before }
+{
+    if panicking { count.max(before) } else { 0 }
+}
+
+fn count_of(panicking: bool, greatest: u64, stable_count: u64) -> u64
+    ensures { result ≡ (if panicking then greatest else stable_count) }
+{
+    if panicking { greatest } else { stable_count }
+}
+
+#[cfg(test)]
+mod tests {
+    use super::*;
+    use std::process::Abort;
+
+    /// Time, over, stable and panic count; then whether it panics and what it asks for, with a window of a minute.
+    type Row = (u64, bool, u64, u64, bool, u64);
+
+    fn check(rt: &impl Abort, rows: &[Row]) {
+        let mut panic = Panic::new();
+        for &(time, over, stable_count, panic_count, panicking, count) in rows {
+            let counts = Counts {
+                dspc: stable_count,
+                dppc: panic_count,
+                stable_count,
+                panic_count,
+                over,
+            };
+            let panicked = panic.take(time, &counts, 60_000);
+            assert_eq!(rt; panicked, Panicked { panicking, count }, "at {time}");
+        }
+    }
+
+    #[test]
+    fn panic_window_edge(rt: HostRuntime) {
+        check(
+            &rt,
+            &[
+                (10_000, true, 1, 4, true, 4),
+                (70_000, false, 1, 1, true, 4),
+                (70_001, false, 1, 1, false, 1),
+            ],
+        );
+    }
+
+    #[test]
+    fn panic_keeps_the_greatest_count(rt: HostRuntime) {
+        check(
+            &rt,
+            &[
+                (0, true, 1, 5, true, 5),
+                (50_000, false, 1, 1, true, 5),
+                (60_000, true, 2, 2, true, 5),
+                (120_001, false, 1, 1, false, 1),
+                (120_002, true, 3, 2, true, 3),
+            ],
+        );
+    }
+
+    #[test]
+    fn panic_across_a_pause(rt: HostRuntime) {
+        check(
+            &rt,
+            &[
+                (0, true, 1, 5, true, 5),
+                (70_000, true, 2, 2, true, 5),
+                (1 << 42, true, 1, u64::MAX, true, u64::MAX),
+            ],
+        );
+    }
+}
