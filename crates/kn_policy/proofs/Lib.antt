@@ -1,0 +1,4 @@
+pub mod Found
+pub mod Words
+pub mod Places
+pub mod Follows

@@ -1,0 +1,10 @@
+//! The activator's load-balancing policies: which of the Ready pods the next held request goes to.
+#![tactic(auto)]
+
+mod policy;
+
+pub use kn_trace::Cand;
+pub use policy::Policy;
+
+#[cfg(test)]
+mod tests;
