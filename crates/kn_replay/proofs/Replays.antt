@@ -10,8 +10,8 @@ use Rattle.kn_io.specs.Prefix.{AppendsPrefix}
 use Rattle.kn_trace.specs.Trace.{Trace}
 use Rattle.kn_trace.specs.Events.{added, opening, react, trace_of}
 use Rattle.kn_replay.specs.declared.journal.JournalError.TheVariants as error
-use Rattle.kn_replay.specs.declared.run.Status.{Status}
-use Rattle.kn_replay.specs.declared.run.Status.TheVariants as status
+use Rattle.kn_replay.specs.declared.command.Status.{Status}
+use Rattle.kn_replay.specs.declared.command.Status.TheVariants as status
 use Rattle.kn_replay.specs.declared.journal.JournalError.{JournalError}
 use Rattle.kn_replay.specs.Reading.{Counts, most_taken}
 use Rattle.kn_replay.specs.Lines.{lines}
@@ -166,8 +166,10 @@ report_is s start r = by_refused r.refused
   where
     c : Trace
     c = opening s start
+
     more : Trace
     more = added s (opening s start) r.events
+
     by_refused : (o : Option ℕ) → report_of_read (opened s start r).journal o ≡ rows_text c ++ (rows_text more ++ ending (c ++ more) (0 + length r.events) o)
     by_refused None =
         ap (λ (z : List ℕ). z ++ last_line (length r.events) (totals (c ++ more))) (rows_text-append c more)

@@ -11,8 +11,8 @@ use Rattle.kn_trace.specs.Events.{added}
 use Rattle.kn_core.specs.State.{State}
 use Rattle.kn_replay.specs.declared.journal.JournalError.{JournalError}
 use Rattle.kn_replay.specs.declared.journal.JournalError.TheVariants as error
-use Rattle.kn_replay.specs.declared.run.Status.{Status}
-use Rattle.kn_replay.specs.declared.run.Status.TheVariants as status
+use Rattle.kn_replay.specs.declared.command.Status.{Status}
+use Rattle.kn_replay.specs.declared.command.Status.TheVariants as status
 use Rattle.kn_replay.specs.Lines.{lines}
 use Rattle.kn_replay.specs.Journal.{Read, read_events, verdict}
 use Rattle.kn_replay.specs.Reading.{most_taken}

@@ -1,9 +1,12 @@
 //! `kact replay`: from the bytes of a journal to the bytes of its report.
 #![tactic(auto)]
 
+mod command;
 mod input;
 mod journal;
 mod lines;
 mod report;
-mod run;
 mod setup;
+
+pub use command::{Status, run};
+pub use journal::JournalError;

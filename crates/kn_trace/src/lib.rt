@@ -12,3 +12,6 @@ pub mod views;
 pub mod worked;
 
 pub use candidate::Cand;
+
+#[cfg(test)]
+mod tests;

@@ -5,14 +5,14 @@ use Rattle.std.specs.Io.KnownBytes.{Appends}
 use Rattle.kn_io.specs.Prefix.{AppendsPrefix}
 use Rattle.kn_event.specs.declared.revision.Spec.{Spec}
 use Rattle.kn_trace.specs.Events.{react}
-use Rattle.kn_replay.specs.declared.run.Status.TheVariants as status
+use Rattle.kn_replay.specs.declared.command.Status.TheVariants as status
 use Rattle.kn_core.specs.State.{StandsFor}
 use Rattle.kn_replay.specs.Report.{rows_text, totals}
 use Rattle.kn_replay.specs.Replaying.{Running}
 use Rattle.kn_replay.specs.Reading.{unread}
 use Rattle.kn_replay.proofs.Followings.{counts-trans}
 use Rattle.kn_replay.proofs.Replays.{goes_begin, goes_more, goes_good, goes_refused, goes_fault, goes_memory, goes_cut}
-use Rattle.kn_replay.proofs.run.Replay.follow.Goals as goal
+use Rattle.kn_replay.proofs.command.Replay.follow.Goals as goal
 
 pub returns-in-Ok-None-clause-follows : goal.returns-in-Ok-None-clause-follows
 returns-in-Ok-None-clause-follows g c d stands counts =

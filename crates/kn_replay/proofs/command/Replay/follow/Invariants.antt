@@ -4,7 +4,7 @@ use Rattle.kn_core.specs.State.{StandsFor}
 use Rattle.kn_replay.specs.Reading.{Counts, most_taken, unread}
 use Rattle.kn_replay.specs.Report.{totals}
 use Rattle.kn_replay.specs.Replaying.{GoesOn}
-use Rattle.kn_replay.proofs.run.Replay.follow.Given as goal
+use Rattle.kn_replay.proofs.command.Replay.follow.Given as goal
 
 abbrev pub invariant-loop-number : goal.invariant-loop-number
 invariant-loop-number g l = record {

@@ -150,7 +150,13 @@ impl Replay {
     }
 
     /// Takes the events of a journal from line 4 on, and writes the last line where all lines are good.
-    fn follow<S: Source, O: Sink>(&mut self, alloc: Global, reader: &mut Reader, source: &mut S, out: &mut O) -> Status
+    fn follow<S: Source, O: Sink>(
+        &mut self,
+        alloc: Global,
+        reader: &mut Reader,
+        source: &mut S,
+        out: &mut O,
+    ) -> Status
         requires clock { self.old.revision.clock ≤ 2 ^ 42 }
         requires events { self.old.revision.events ≡ 0 }
         requires rows { self.old.counted.rows < 2 ^ 64 }
@@ -169,7 +175,9 @@ impl Replay {
             let e = match reader.event(source, number, self.revision.now()) {
                 Ok(Some(e)) => e,
                 Ok(None) => return self.end(number - 4, out),
-                Err(JournalError::NotBuilt(n)) => return Status::BadInput(JournalError::NotBuilt(n)),
+                Err(JournalError::NotBuilt(n)) => return Status::BadInput(JournalError::NotBuilt(
+                    n,
+                )),
                 Err(JournalError::ReadFault) => return Status::ReadFault,
                 Err(JournalError::Memory) => return Status::Memory,
             };
@@ -267,7 +275,13 @@ fn tell<E: Sink>(status: Status, err: &mut E) -> Status
 /// line is good. At the first line that is not good the rows of all events before it were written. After a fault, or
 /// where memory is lacking, some first bytes of the report were written.
 #[tactic(auto, using(crate::proofs::Replays::never_usage))]
-pub fn run<S: Source, O: Sink, E: Sink>(alloc: Global, words: &[String], input: &mut S, out: &mut O, err: &mut E) -> Status
+pub fn run<S: Source, O: Sink, E: Sink>(
+    alloc: Global,
+    words: &[String],
+    input: &mut S,
+    out: &mut O,
+    err: &mut E,
+) -> Status
     ensures usage { (result ≡ Status.Usage) ↔ (is_replay (map string_bytes words.now) ≡ false) }
     ensures unread { result ≡ Status.Usage → input.new ≡ input.old }
     ensures unwritten { result ≡ Status.Usage → out.new ≡ out.old }

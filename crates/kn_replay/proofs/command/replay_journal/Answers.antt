@@ -2,14 +2,14 @@ use Rattle.std.proofs.Common.{ℕ, List, subst}
 use Rattle.std.specs.Prelude.{Option, Err}
 use Rattle.kn_event.specs.declared.revision.Spec.{Spec}
 use Rattle.kn_trace.specs.Events.{opening}
-use Rattle.kn_replay.specs.declared.run.Status.TheVariants as status
+use Rattle.kn_replay.specs.declared.command.Status.TheVariants as status
 use Rattle.kn_replay.specs.Reading.{unread}
 use Rattle.kn_replay.specs.Journal.{from_first, refused_at}
 use Rattle.kn_replay.specs.Following.{Gives, after_opening}
 use Rattle.kn_replay.specs.Replaying.{Follows}
 use Rattle.kn_replay.proofs.Followings.{counts-trans}
 use Rattle.kn_replay.proofs.Replays.{are_many, either, ends_left, nothing_ahead, opening_cut, opening_fails, opening_then, rose_on}
-use Rattle.kn_replay.proofs.run.replay_journal.Goals as goal
+use Rattle.kn_replay.proofs.command.replay_journal.Goals as goal
 
 pub returns-in-Err-opening-clause-report : goal.returns-in-Err-opening-clause-report
 returns-in-Err-opening-clause-report g c =
