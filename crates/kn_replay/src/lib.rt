@@ -10,3 +10,6 @@ mod setup;
 
 pub use command::{Status, run};
 pub use journal::JournalError;
+
+#[cfg(test)]
+mod tests;
