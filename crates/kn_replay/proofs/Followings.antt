@@ -1,17 +1,11 @@
 -- One line of a journal, and what follows it.
-use Rattle.std.proofs.Common.{◌≡◌, ◌+◌, ◌<◌, ◌≤◌, ◌++◌, length-append, ℕ, Bool, true, false, List, [], ◌∷◌, length, inl, inr, subst, refl, ap, ◌∙◌, arith}
+use Rattle.std.proofs.Common.{◌≡◌, ◌+◌, ◌<◌, ◌≤◌, ℕ, Bool, true, false, List, [], ◌∷◌, length, inl, inr, subst, refl, ap, ◌∙◌, arith}
 use Rattle.std.specs.Prelude.{Option, None, Some, Err, codes, cond}
 use Rattle.std.specs.Str.{bytes_eq}
-use Rattle.std.specs.Fmt.{decimal}
-use Rattle.std.specs.Option.{option_map}
 use Rattle.kn_replay.specs.Lines.{lines, lines_at_lf, without_crs, fits, line_most}
 use Rattle.kn_replay.specs.Reading.{Counts, TakesLine, HasLongLine}
 use Rattle.kn_event.specs.declared.event.Event.{Event}
-use Rattle.kn_event.specs.declared.event.Act.{Act}
-use Rattle.kn_event.specs.declared.event.Act.TheVariants as act
-use Rattle.kn_event.specs.EventLine.{event_of, Spells, act_text}
-use Rattle.kn_event.specs.EntryLine.{labelled, with_number}
-use Rattle.kn_event.proofs.Spelling.{event_of-spells}
+use Rattle.kn_event.specs.EventLine.{event_of}
 use Rattle.kn_replay.specs.Setup.{time_most}
 use Rattle.kn_replay.specs.Journal.{after_end, none_read, read_events, line_kind, kind_of_event, is_in_time}
 use Rattle.kn_replay.specs.declared.journal.LineKind.TheVariants as kind

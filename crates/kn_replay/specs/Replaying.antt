@@ -1,7 +1,6 @@
 -- What replaying a journal's events writes.
 use Rattle.std.specs.Prelude.{◌≡◌, ◌⊎◌, ℕ, ◌+◌, ◌++◌, ◌≤◌, List, [], length, Option, None, Some, codes, ⊤}
 use Rattle.std.specs.Io.KnownBytes.{Appends}
-use Rattle.kn_event.specs.declared.event.Event.{Event}
 use Rattle.kn_event.specs.declared.revision.Spec.{Spec}
 use Rattle.std.specs.Fmt.{decimal}
 use Rattle.kn_io.specs.Causes.{Rose}

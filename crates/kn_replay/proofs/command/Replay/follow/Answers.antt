@@ -1,6 +1,5 @@
-use Rattle.std.proofs.Common.{◌≡◌, ◌+◌, ◌-◌, ◌++◌, arith, ap, sym, subst, ◌∙◌}
+use Rattle.std.proofs.Common.{◌≡◌, ◌+◌, ◌-◌, ◌++◌, arith, ap, subst, ◌∙◌}
 use Rattle.std.proofs.lemmas.Grind.{common_steps}
-use Rattle.std.specs.Prelude.{None, Some}
 use Rattle.std.specs.Io.KnownBytes.{Appends}
 use Rattle.kn_io.specs.Prefix.{AppendsPrefix}
 use Rattle.kn_event.specs.declared.revision.Spec.{Spec}
@@ -11,7 +10,7 @@ use Rattle.kn_replay.specs.Report.{rows_text, totals}
 use Rattle.kn_replay.specs.Replaying.{Running}
 use Rattle.kn_replay.specs.Reading.{unread}
 use Rattle.kn_replay.proofs.Followings.{counts-trans}
-use Rattle.kn_replay.proofs.Replays.{goes_begin, goes_more, goes_good, goes_refused, goes_fault, goes_memory, goes_cut}
+use Rattle.kn_replay.proofs.Replays.{goes_more, goes_good, goes_refused, goes_fault, goes_memory, goes_cut}
 use Rattle.kn_replay.proofs.command.Replay.follow.Goals as goal
 
 pub returns-in-Ok-None-clause-follows : goal.returns-in-Ok-None-clause-follows
