@@ -5,3 +5,6 @@ mod revision;
 mod steps;
 
 pub use revision::Revision;
+
+#[cfg(test)]
+mod tests;

@@ -109,7 +109,7 @@ impl Revision {
     }
 
     /// Takes one event: the log becomes what it adds to the trace, and the answer is what it is told. Its time is in
-    /// milliseconds.
+    /// milliseconds. Live requests grow by at most the need of its act less one.
     pub fn step(&mut self, e: &Event, log: &mut EntryLog) -> Told
         requires empty { log.old ≡ [] }
         requires order { self.old.clock ≤ e.now.time }
@@ -120,6 +120,7 @@ impl Revision {
         ensures told { (c : Trace) → StandsFor self.old c → result ≡ told_of self.old.spec c e.now }
         ensures stands { (c : Trace) → StandsFor self.old c → StandsFor self.new (c ++ react self.old.spec c e.now) }
         ensures few { length log.new ≤ 41005 }
+        ensures grows { (c : Trace) → StandsFor self.old c → self.new.live + 1 ≤ self.old.live + need_of c e.now.act }
         ensures spec { self.new.spec ≡ self.old.spec }
         ensures start { self.new.start ≡ self.old.start }
         ensures clock { self.new.clock ≡ e.now.time }

@@ -168,19 +168,19 @@ assign_leaves : (x : Row) → is_assign_row x ≡ true → counted (leaves_by x)
 assign_leaves (row.Assign r p) h = refl
 assign_leaves _ h = absurd (cc)
 
-expire_takes : (x : Row) → is_expire_row x ≡ true → taken_by x ≡ None
+pub expire_takes : (x : Row) → is_expire_row x ≡ true → taken_by x ≡ None
 expire_takes (row.Expire r) h = refl
 expire_takes _ h = absurd (cc)
 
-run_takes : (x : Row) → is_run_row x ≡ true → taken_by x ≡ None
+pub run_takes : (x : Row) → is_run_row x ≡ true → taken_by x ≡ None
 run_takes (row.Run r) h = refl
 run_takes _ h = absurd (cc)
 
-assign_takes : (x : Row) → is_assign_row x ≡ true → taken_by x ≡ None
+pub assign_takes : (x : Row) → is_assign_row x ≡ true → taken_by x ≡ None
 assign_takes (row.Assign r p) h = refl
 assign_takes _ h = absurd (cc)
 
-scaler_takes : (x : Row) → is_scaler_row x ≡ true → taken_by x ≡ None
+pub scaler_takes : (x : Row) → is_scaler_row x ≡ true → taken_by x ≡ None
 scaler_takes (row.Admit r tag) h = absurd (cc)
 scaler_takes (row.Direct r p) h = absurd (cc)
 scaler_takes _ h = refl
@@ -193,6 +193,10 @@ count-within f (e ∷ es) = by (f e.row) (count-within f es)
     by : (o : Option ℕ) → length (each_row f es) ≤ length es → length (cons_option o (each_row f es)) ≤ length (e ∷ es)
     by None h = omega arith
     by (Some r) h = omega arith
+
+pub remove_takes : (x : Row) → is_remove_row x ≡ true → taken_by x ≡ None
+remove_takes (row.Remove p) h = refl
+remove_takes _ h = absurd (cc)
 
 remove_creates : (x : Row) → is_remove_row x ≡ true → created_by x ≡ None
 remove_creates (row.Remove p) h = refl

@@ -26,6 +26,7 @@ pub mod Standing
 pub mod Counts
 pub mod Acts
 pub mod Bounds
+pub mod Growth
 pub mod Phases
 pub mod Serving
 pub mod Telling

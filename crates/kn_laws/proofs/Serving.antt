@@ -63,7 +63,7 @@ waits_once s c es r made less out = waits_no_longer s c (added s c es) r (added-
 -- ---- running is left by a finish alone
 
 -- the row ends request r, or r runs on
-runs-push : (c : Trace) (e : Entry) (r : ℕ) → is_running c r ≡ true → says (ended_by e.row) r ≡ false → is_running (c ++ e ∷ []) r ≡ true
+pub runs-push : (c : Trace) (e : Entry) (r : ℕ) → is_running c r ≡ true → says (ended_by e.row) r ≡ false → is_running (c ++ e ∷ []) r ≡ true
 unfolding is_running has_begun
 runs-push c e r h out = is_running-push c e r ∙ rw out (by (assigned c r) _ (has_run c r) _ (ended c r) h)
   where
@@ -76,7 +76,7 @@ runs-push c e r h out = is_running-push c e r ∙ rw out (by (assigned c r) _ (h
     by false x false y g h = absurd (cc)
 
 -- who waits doesn't run
-waiting_idle : (c : Trace) (q r : ℕ) → contains q (waiting c) ≡ true → is_running c r ≡ true → (q == r) ≡ false
+pub waiting_idle : (c : Trace) (q r : ℕ) → contains q (waiting c) ≡ true → is_running c r ≡ true → (q == r) ≡ false
 waiting_idle c q r waits runs = false_unless (q == r) (λ e. clash (eqb-true q r e))
   where
     clash : q ≡ r → ⊥

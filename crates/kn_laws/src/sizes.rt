@@ -1,9 +1,9 @@
 //! How many there are.
-ghost use Rattle.std.specs.Prelude.{ℕ, ◌≤◌, ◌++◌, List, length};
+ghost use Rattle.std.specs.Prelude.{ℕ, ◌+◌, ◌≤◌, ◌++◌, List, length};
 ghost use Rattle.kn_event.specs.Revision.{AreInRange};
 ghost use Rattle.kn_event.specs.declared.event.Event.{Event};
 ghost use Rattle.kn_event.specs.declared.revision.Spec.{Spec};
-ghost use Rattle.kn_trace.specs.Events.{before_settling, expiries, react, trace_of};
+ghost use Rattle.kn_trace.specs.Events.{before_settling, expiries, need_of, react, trace_of};
 ghost use Rattle.kn_trace.specs.Laws.{IsSettled};
 ghost use Rattle.kn_trace.specs.Scale.{drain_order, wanted};
 ghost use Rattle.kn_trace.specs.Settling.{settling};
@@ -20,6 +20,12 @@ pub fn size_laws()
     ensures pods_before { (s : Spec) (c : Trace) (e : Event) → AreInRange s → IsMade s c → IsSettled s c → length (live_pods (c ++ before_settling s c e)) ≤ 20500 }
     ensures trace_live { (s : Spec) (start : ℕ) (es : List Event) → length (live (trace_of s start es)) ≤ 20000 }
     ensures trace_pods { (s : Spec) (start : ℕ) (es : List Event) → AreInRange s → length (live_pods (trace_of s start es)) ≤ 20500 }
+{}
+
+/// An event lets the live requests grow by at most the need of its act less one: by one at an arrival; where it finishes a
+/// running request or cancels a waiting one, they become fewer.
+pub fn growth_laws()
+    ensures live { (s : Spec) (c : Trace) (e : Event) → IsMade s c → length (live (c ++ react s c e)) + 1 ≤ length (live c) + need_of c e.act }
 {}
 
 /// How many entries an event adds: at most 41,005, and indeed at most 21,006, since each draining pod runs a request

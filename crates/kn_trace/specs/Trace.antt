@@ -32,7 +32,8 @@ abbrev pub is_empty : {X : Type 0} → List X → Bool
 is_empty [] = true
 is_empty (x ∷ xs) = false
 
--- ---- requests, by their numbers and in the order of their entries, which is the order of their numbers
+-- ---- requests, by their numbers. Those that arrived, were taken in or were admitted are listed in the order of arrival, which is
+-- that of their numbers; those at a pod in the order in which they came there
 
 -- how many requests have arrived, which is the number of the next one
 unfoldable pub arrivals : Trace → ℕ

@@ -1,8 +1,10 @@
 -- Worked runs: a setup, its events, and the lines of the report that they make.
-use Rattle.std.specs.Prelude.{◌≡◌, ℕ, List, [], ◌∷◌, map, true, false, codes, ⊤}
+use Rattle.std.specs.Prelude.{◌≡◌, ◌≤◌, ℕ, List, [], ◌∷◌, length, map, Some, true, false, codes, ⊤}
 use Rattle.std.specs.Fmt.{digits}
 use Rattle.rand_core.specs.Steps.{u32_at, word_bytes}
 use Rattle.rand_core.specs.Pcg32Seed.{pcg32_seed}
+use Rattle.kn_event.specs.declared.entry.Mode.TheVariants as mode
+use Rattle.kn_event.specs.declared.entry.Row.TheVariants as row
 use Rattle.kn_event.specs.declared.event.Act.{Act}
 use Rattle.kn_event.specs.declared.event.Act.TheVariants as act
 use Rattle.kn_event.specs.declared.event.Event.{Event}
@@ -21,7 +23,7 @@ use Rattle.kn_scaling.specs.Zero.{lower_bound, bounded_count, may_go, zero_rule}
 use Rattle.kn_scaling.specs.Decide as scaling
 use Rattle.kn_scaling.specs.Decide.{ruling}
 use Rattle.kn_scaling.specs.Worked.{scaled}
-use Rattle.kn_trace.specs.Trace.{arrivals, ended, assigned, has_run, live, in_breaker, is_held, held, at_pod, has_begun, is_running, running_at, has_not_begun, queued_at, waiting, direct_turn, pod_of, stand_of, created, is_live_pod, live_pods, is_starting, starting_pods, is_ready, ready_pods, is_draining, draining, limit_of, has_free_seat}
+use Rattle.kn_trace.specs.Trace.{Trace, arrivals, ended, assigned, has_run, live, in_breaker, is_held, held, at_pod, has_begun, is_running, running_at, has_not_begun, queued_at, waiting, direct_turn, pod_of, stand_of, created, is_live_pod, live_pods, is_starting, starting_pods, is_ready, ready_pods, is_draining, draining, limit_of, has_free_seat}
 use Rattle.kn_trace.specs.Capacity.{capacity, in_use, breaker_full, pod_full}
 use Rattle.kn_trace.specs.Choice.{first_available, round_robin, choice_of_two, generator_at, random_word, random_choice, chosen_pod, candidates, round_robin_place, assignment_count, choice}
 use Rattle.kn_trace.specs.Settling.{promotions_at, promotions, next_choice, assignments_of, held_assignments, removals, settling}
@@ -183,6 +185,50 @@ PodQueueFull =
     ∷ codes "1100 direct 9 0\n"
     ∷ codes "1100 direct 10 0\n"
     ∷ codes "1100 queue-full 11 0\n"
+    ∷ [])
+
+-- one that is held doesn't run; both that find a seat when the pod is ready are assigned at once, in the order of arrival
+abbrev pub HeldUntilReady : Type 0
+HeldUntilReady =
+    Reports (fixed_spec 2 1 300 (slots 2 2)) 0
+    (at 0 (act.Arrive 1) ∷ at 0 (act.Arrive 2) ∷ at 0 (act.Arrive 3) ∷ at 1 (act.Finish 0 true) ∷ at 2 (act.Ready 0)
+    ∷ at 3 (act.Finish 2 true) ∷ [])
+    (codes "0 create 0 2\n"
+    ∷ codes "0 admit 0 1\n"
+    ∷ codes "0 admit 1 2\n"
+    ∷ codes "0 admit 2 3\n"
+    ∷ codes "1 not-running 0\n"
+    ∷ codes "2 ready 0\n"
+    ∷ codes "2 assign 0 0\n"
+    ∷ codes "2 assign 1 0\n"
+    ∷ codes "3 not-running 2\n"
+    ∷ [])
+
+-- one that is queued at a pod doesn't run; a greater limit lets two of them run at once, in order
+abbrev pub QueuedUntilFree : Type 0
+QueuedUntilFree =
+    Reports (record (scaled 1) { burst = Capacity (milli 0) }) 0
+    (at 0 (act.Ready 0) ∷ at 1000 act.Tick ∷ at 1100 (act.Arrive 1) ∷ at 1100 (act.Arrive 2) ∷ at 1100 (act.Arrive 3)
+    ∷ at 1100 (act.Arrive 4) ∷ at 1200 (act.Finish 2 true) ∷ at 1300 (act.Limit 0 3) ∷ at 1400 (act.Cancel 2)
+    ∷ at 1500 (act.Cancel 3) ∷ at 1600 (act.Finish 2 false) ∷ [])
+    (codes "0 phase activating\n"
+    ∷ codes "0 create 0 1\n"
+    ∷ codes "0 ready 0\n"
+    ∷ codes "0 phase active\n"
+    ∷ codes "1000 decision stable=0/1000 panic=0/1000 ready=1 dspc=0 dppc=0 over=no panicking=no undelayed=0 delayed=0 excess=0 bounded=0 want=1 applied=yes mode=serve\n"
+    ∷ codes "1000 mode serve\n"
+    ∷ codes "1100 direct 0 0\n"
+    ∷ codes "1100 run 0\n"
+    ∷ codes "1100 direct 1 0\n"
+    ∷ codes "1100 direct 2 0\n"
+    ∷ codes "1100 direct 3 0\n"
+    ∷ codes "1200 not-running 2\n"
+    ∷ codes "1300 limit 0 3\n"
+    ∷ codes "1300 run 1\n"
+    ∷ codes "1300 run 2\n"
+    ∷ codes "1400 not-waiting 2\n"
+    ∷ codes "1500 cancel 3\n"
+    ∷ codes "1600 finish 2 fail\n"
     ∷ [])
 
 -- a busy pod drains first, and goes when it is empty; an assignment comes before that
@@ -545,3 +591,16 @@ FirstWords = map (random_word 7) (0 ∷ 1 ∷ 2 ∷ 3 ∷ 4 ∷ []) ≡ 24422233
 
 abbrev pub FirstWordsOfZero : Type 0
 FirstWordsOfZero = map (random_word 0) (0 ∷ 1 ∷ []) ≡ 298703107 ∷ 4236525527 ∷ []
+
+-- ---- overload where requests go past the activator: 20,000 live ones are too many to compute a run, so these are its last
+-- two steps, of every trace
+
+-- with 20,000 live requests an arrival is refused, in serve mode too and whichever pods are Ready
+abbrev pub OverloadComesFirst : Type 0
+OverloadComesFirst = (s : Spec) (c : Trace) (tag : ℕ) → 20000 ≤ length (live c) → act_row s c (act.Arrive tag) ≡ Some (row.Overload (arrivals c))
+
+-- with 19,999 it goes in serve mode to the pod in turn, here the only one, which has no limit
+abbrev pub OneLessIsServed : Type 0
+OneLessIsServed =
+    (s : Spec) (c : Trace) (tag p : ℕ) → length (live c) ≡ 19999 → mode_of c ≡ mode.Serve → ready_pods c ≡ p ∷ [] → limit_of c p ≡ 0
+    → act_row s c (act.Arrive tag) ≡ Some (row.Direct (arrivals c) p)

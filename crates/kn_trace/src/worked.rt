@@ -1,5 +1,5 @@
 //! Worked runs: each contract is computed by the checker, from the definitions alone.
-ghost use Rattle.kn_trace.specs.Worked.{FirstWords, FirstWordsOfZero, EmptyJournal, OneSeatOneWaits, FinishTwice, CancelThenFinish, LimitCutWhileBusy, ExpiryBeforeFinish, RoundRobinPodComesLate, PodQueueFull, ScaleDownWhileBusy, ScaleToZeroAfterGrace, ScaleFromZero, ScaleFromZeroMax1, VeryLongPause, DrainingPodRunsItsQueue, WakeDecisionDrains, InitialScaleAboveMax, WakesInProxyMode, GraceCountsFromTheMode, ActivatingKeepsItsScale, ReadyWithinTheSecond, LoadWithoutAReadyPod, RefusedTurnsCount, ActivationScale, NoScaleToZero, DelayKeepsPods};
+ghost use Rattle.kn_trace.specs.Worked.{FirstWords, FirstWordsOfZero, EmptyJournal, OneSeatOneWaits, FinishTwice, CancelThenFinish, LimitCutWhileBusy, ExpiryBeforeFinish, RoundRobinPodComesLate, PodQueueFull, HeldUntilReady, QueuedUntilFree, OverloadComesFirst, OneLessIsServed, ScaleDownWhileBusy, ScaleToZeroAfterGrace, ScaleFromZero, ScaleFromZeroMax1, VeryLongPause, DrainingPodRunsItsQueue, WakeDecisionDrains, InitialScaleAboveMax, WakesInProxyMode, GraceCountsFromTheMode, ActivatingKeepsItsScale, ReadyWithinTheSecond, LoadWithoutAReadyPod, RefusedTurnsCount, ActivationScale, NoScaleToZero, DelayKeepsPods};
 
 /// No pod and no event.
 #[tactic(auto, unfolding(crate::specs::Worked::whole_run))]
@@ -47,6 +47,26 @@ pub fn round_robin_pod_comes_late()
 #[tactic(auto, unfolding(crate::specs::Worked::whole_run))]
 pub fn pod_queue_full()
     ensures { PodQueueFull }
+{}
+
+/// One that is held doesn't run; both that find a seat when the pod is ready are assigned at once, in the order of arrival.
+#[tactic(auto, unfolding(crate::specs::Worked::whole_run))]
+pub fn held_until_ready()
+    ensures { HeldUntilReady }
+{}
+
+/// One that is queued at a pod doesn't run; a greater limit lets two of them run at once, in order.
+#[tactic(auto, unfolding(crate::specs::Worked::whole_run))]
+pub fn queued_until_free()
+    ensures { QueuedUntilFree }
+{}
+
+/// With 20,000 live requests an arrival is refused before anything else is looked at, in serve mode too; with one less it is
+/// served.
+#[tactic(auto, unfolding(crate::specs::Events::act_row, crate::specs::Capacity::pod_full))]
+pub fn overload_in_serve_mode()
+    ensures first { OverloadComesFirst }
+    ensures one_less { OneLessIsServed }
 {}
 
 /// A busy pod drains first, and goes when it is empty; an assignment comes before that.
