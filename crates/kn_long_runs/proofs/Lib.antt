@@ -1,0 +1,4 @@
+pub mod Lists
+pub mod Serving
+pub mod Overloads
+pub mod Holding
