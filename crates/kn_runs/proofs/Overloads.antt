@@ -5,9 +5,9 @@ use Rattle.kn_trace.specs.Rows.{arrived_by}
 use Rattle.kn_trace.specs.Trace.{Trace, each_row}
 use Rattle.kn_trace.specs.Events.{trace_of}
 use Rattle.kn_trace.specs.Worked.{whole_run}
-use Rattle.kn_long_runs.specs.Long.{OverloadAt20000, arrivals_from, serving, to_serve_mode}
-use Rattle.kn_long_runs.proofs.Lists.{trace_of-append, upto, upto-none}
-use Rattle.kn_long_runs.proofs.Serving.{IsServing, all-served}
+use Rattle.kn_runs.specs.Long.{OverloadAt20000, arrivals_from, serving, to_serve_mode}
+use Rattle.kn_runs.proofs.Lists.{trace_of-append, upto, upto-none}
+use Rattle.kn_runs.proofs.Serving.{IsServing, all-served}
 
 switched : IsServing (trace_of serving 0 to_serve_mode) 0 0
 unfolding whole_run

@@ -1,7 +1,10 @@
-//! Worked runs with more events than the checker can compute: each contract is proved by induction over the events.
-#![tactic(auto)]
+//! Runs of many events. The checker computes 75; the contracts over 20,001 are proved by induction over the events.
+ghost use Rattle.kn_runs.specs.Long.{BreakerRefuses9001, OverloadAt20000, ScaleUpAsKubectlPrints, SwitchesToServeMode};
 
-ghost use Rattle.kn_long_runs.specs.Long.{BreakerRefuses9001, OverloadAt20000, SwitchesToServeMode};
+/// 75 requests at one pod without a limit ask for a second one.
+pub fn scale_up_as_kubectl_prints()
+    ensures { ScaleUpAsKubectlPrints }
+{}
 
 /// One pod without a limit, in serve mode, takes 20,000 requests; the next is refused.
 #[tactic(auto, unfolding(kn_trace::specs::Worked::whole_run))]

@@ -1,11 +1,12 @@
--- Runs with too many events to compute: what these add is proved by induction.
-use Rattle.std.specs.Prelude.{◌≡◌, ℕ, zero, suc, List, [], ◌∷◌, ◌++◌, None, codes}
+-- Runs of many events. 75 compute; what 20,001 add is proved by induction.
+use Rattle.std.specs.Prelude.{◌≡◌, ℕ, zero, suc, List, [], ◌∷◌, ◌++◌, map, None, codes}
 use Rattle.kn_event.specs.declared.entry.Row.TheVariants as row
 use Rattle.kn_event.specs.declared.event.Act.TheVariants as act
 use Rattle.kn_event.specs.declared.event.Event.{Event}
 use Rattle.kn_event.specs.declared.revision.Burst.TheVariants.{Capacity}
 use Rattle.kn_event.specs.declared.revision.Spec.{Spec}
 use Rattle.kn_event.specs.Defaults.{milli}
+use Rattle.kn_event.specs.EntryLine.{entry_text}
 use Rattle.kn_event.specs.FixedSpec.{fixed_spec}
 use Rattle.kn_scaling.specs.Worked.{scaled}
 use Rattle.kn_trace.specs.Trace.{Trace, entry}
@@ -16,6 +17,27 @@ use Rattle.kn_trace.specs.Worked.{Reports, at, slots}
 unfoldable pub arrivals_from : ℕ → ℕ → ℕ → List Event
 arrivals_from t i zero = []
 arrivals_from t i (suc n) = at t (act.Arrive i) ∷ arrivals_from t (suc i) n
+
+-- ---- a decision over 75 requests
+
+-- so many requests, numbered from i on, are admitted and assigned to pod 0
+unfoldable pub assigned_from : ℕ → ℕ → ℕ → Trace
+assigned_from t i zero = []
+assigned_from t i (suc n) = entry t (row.Admit i i) ∷ entry t (row.Assign i 0) ∷ assigned_from t (suc i) n
+
+-- 75 requests at one pod without a limit ask for a second one
+abbrev pub ScaleUpAsKubectlPrints : Type 0
+ScaleUpAsKubectlPrints =
+    Reports (scaled 0) 0
+    (at 0 (act.Ready 0) ∷ (arrivals_from 0 0 75 ++ at 6000 act.Tick ∷ []))
+    (codes "0 phase activating\n"
+    ∷ codes "0 create 0 0\n"
+    ∷ codes "0 ready 0\n"
+    ∷ codes "0 phase active\n"
+    ∷ (map entry_text (assigned_from 0 0 75)
+    ++ codes "6000 decision stable=450000/6000 panic=450000/6000 ready=1 dspc=2 dppc=2 over=yes panicking=yes undelayed=2 delayed=2 excess=-186 bounded=2 want=2 applied=yes mode=proxy\n"
+    ∷ codes "6000 create 1 0\n"
+    ∷ []))
 
 -- ---- overload in serve mode
 

@@ -17,8 +17,8 @@ use Rattle.kn_trace.specs.Scale.{mode_of, phase_of}
 use Rattle.kn_trace.specs.Settling.{assignments_of, held_assignments, promotions, promotions_at, removals, settling}
 use Rattle.kn_trace.specs.Events.{act_row, act_rows, activation, added, before_settling, due, expiries, live_most, react, scaler_rows}
 use Rattle.kn_trace.specs.Worked.{at}
-use Rattle.kn_long_runs.specs.Long.{arrivals_from, served_from}
-use Rattle.kn_long_runs.proofs.Lists.{each-none, each-some, filter-all, filter-none, length-upto, nobody_due, not_below, upto, upto-more}
+use Rattle.kn_runs.specs.Long.{arrivals_from, served_from}
+use Rattle.kn_runs.proofs.Lists.{each-none, each-some, filter-all, filter-none, length-upto, nobody_due, not_below, upto, upto-more}
 
 -- pod 0 is ready and has no limit; so many requests have come and gone to it, and of these so many have run
 pub record IsServing (d : Trace) (m k : ℕ) : Type 0 where

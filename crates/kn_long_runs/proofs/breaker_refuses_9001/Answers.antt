@@ -1,5 +1,0 @@
-use Rattle.kn_long_runs.proofs.Holding.{breaker-run}
-use Rattle.kn_long_runs.proofs.breaker_refuses_9001.Goals as goal
-
-pub returns : goal.returns
-returns c = breaker-run

@@ -1,0 +1,5 @@
+//! Further worked runs of the definitions: those of the policies, and those of many events.
+#![tactic(auto)]
+
+pub mod long;
+pub mod policies;
