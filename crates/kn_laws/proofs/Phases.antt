@@ -20,7 +20,8 @@ use Rattle.kn_event.specs.declared.units.Frac.{Frac}
 use Rattle.kn_scaling.specs.Average.{second_of, window_average}
 use Rattle.kn_scaling.specs.Decide.{Past, Ruling, decision_from_stable, no_load, one_request, ruling}
 use Rattle.kn_scaling.specs.Decide as scaling
-use Rattle.kn_scaling.specs.Zero.{Standing, has_lasted, no_pods, some_pods, zero_rule, zero_rule_in}
+use Rattle.kn_scaling.specs.declared.zero.Standing.{Standing}
+use Rattle.kn_scaling.specs.Zero.{has_lasted, no_pods, some_pods, zero_rule, zero_rule_in}
 use Rattle.kn_trace.specs.Rows.{decision_by, phase_by}
 use Rattle.kn_trace.specs.Trace.{Trace, entry, created, each_row, held, is_empty, live_pods, ready_pods}
 use Rattle.kn_trace.specs.Scale.{count_ready, creations, decision_at, decision_rows, drain_order, is_same_mode, is_same_phase, mode_of, opening_scale, past_of, phase_of, scale_rows, standing_of, tick_rows, tick_rows_of, wake_decision_at, wake_rows, wanted, where_true}

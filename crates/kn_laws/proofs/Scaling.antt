@@ -17,7 +17,8 @@ use Rattle.kn_event.specs.Revision.{AreInRange}
 use Rattle.kn_scaling.specs.Average.{window_average, second_of}
 use Rattle.kn_scaling.specs.Decide.{Past, Ruling, decision_from_stable, no_load, one_request, ruling}
 use Rattle.kn_scaling.specs.Decide as scaling
-use Rattle.kn_scaling.specs.Zero.{Standing, bounded_count, has_lasted, no_pods, pods_most, some_pods, zero_rule, zero_rule_in}
+use Rattle.kn_scaling.specs.declared.zero.Standing.{Standing}
+use Rattle.kn_scaling.specs.Zero.{bounded_count, has_lasted, no_pods, pods_most, some_pods, zero_rule, zero_rule_in}
 use Rattle.kn_trace.specs.Rows.{created_by, drained_by, readied_by, removed_by}
 use Rattle.kn_trace.specs.Trace.{Trace, entry, contains, created, each_row, is_empty, is_live_pod, is_ready, is_starting, ready_pods, starting_pods}
 use Rattle.kn_trace.specs.Scale.{count_ready, creations, decision_at, decision_rows, drain_order, is_same_mode, is_same_phase, mode_of, opening_scale, past_of, phase_of, scale_rows, standing_of, tick_rows, tick_rows_of, wake_decision_at, wake_rows, wanted, where_true}

@@ -9,10 +9,11 @@ use Rattle.kn_scaling.specs.Average.{Samples, second_of, window_average}
 use Rattle.kn_scaling.specs.Demand.{desired_counts}
 use Rattle.kn_scaling.specs.declared.panic.Judged.{Judged}
 use Rattle.kn_scaling.specs.declared.delay.Asked.{Asked}
+use Rattle.kn_scaling.specs.declared.zero.Standing.{Standing}
 use Rattle.kn_scaling.specs.Panic.{is_panicking, undelayed_count}
 use Rattle.kn_scaling.specs.Delay.{delayed_count}
 use Rattle.kn_scaling.specs.Burst.{excess_burst, serving_mode}
-use Rattle.kn_scaling.specs.Zero.{Standing, bounded_count, zero_rule}
+use Rattle.kn_scaling.specs.Zero.{bounded_count, zero_rule}
 
 pub record Decided : Type 0 where
   pub time : ℕ

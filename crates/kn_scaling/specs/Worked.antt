@@ -11,13 +11,14 @@ use Rattle.kn_event.specs.FixedSpec.{fixed_spec}
 use Rattle.kn_scaling.specs.declared.average.SampleRun.{SampleRun}
 use Rattle.kn_scaling.specs.declared.panic.Judged.{Judged}
 use Rattle.kn_scaling.specs.declared.delay.Asked.{Asked}
+use Rattle.kn_scaling.specs.declared.zero.Standing.{Standing}
 use Rattle.kn_scaling.specs.declared.zero.ZeroAnswer.{ZeroAnswer}
 use Rattle.kn_scaling.specs.Average.{Samples, load_over, is_any_sample, is_spell_start, first_write, window_sum, last_sample, window_average, with_run, samples_of}
 use Rattle.kn_scaling.specs.Demand.{pods_for, max_scale_up, max_scale_down, count_for, is_over, desired_counts}
 use Rattle.kn_scaling.specs.Panic.{is_panicking, panicking_run, greatest_of_run, undelayed_count}
 use Rattle.kn_scaling.specs.Delay.{recent_count, delayed_count}
 use Rattle.kn_scaling.specs.Burst.{spare_seats, excess_burst, serving_mode}
-use Rattle.kn_scaling.specs.Zero.{Standing, lower_bound, bounded_count, may_go, zero_rule}
+use Rattle.kn_scaling.specs.Zero.{lower_bound, bounded_count, may_go, zero_rule}
 use Rattle.kn_scaling.specs.Decide.{Decided, Past, Ruling, ruling, decision_at, wake_decision_at}
 
 -- a scaled revision of this containerConcurrency, by the default configuration and without annotations

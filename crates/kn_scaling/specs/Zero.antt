@@ -5,6 +5,7 @@ use Rattle.kn_event.specs.declared.entry.Phase.TheVariants as phase
 use Rattle.kn_event.specs.declared.entry.Mode.{Mode}
 use Rattle.kn_event.specs.declared.entry.Mode.TheVariants as mode
 use Rattle.kn_event.specs.declared.revision.Spec.{Spec}
+use Rattle.kn_scaling.specs.declared.zero.Standing.{Standing}
 use Rattle.kn_scaling.specs.declared.zero.ZeroAnswer.{ZeroAnswer}
 
 -- ---- the bounds
@@ -27,14 +28,6 @@ bounded_count spec reached count =
     min pods_most (if nat_lt count (lower_bound spec reached) then lower_bound spec reached else not_above_max spec count)
 
 -- ---- the scale-to-zero rule
-
--- where a revision stands before a decision; 'since' is the time of the last entry of it, or the start
-pub record Standing : Type 0 where
-  pub phase : Phase
-  pub phase_since : ℕ
-  pub mode : Mode
-  pub mode_since : ℕ
-  pub want : ℕ
 
 abbrev pub is_proxy : Mode → Bool
 is_proxy mode.Proxy = true

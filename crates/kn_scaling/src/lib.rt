@@ -15,4 +15,4 @@ pub use average::{SampleRun, window_average};
 pub use delay::{Asked, delayed_count, recent_count};
 pub use demand::desired_counts;
 pub use panic::{Judged, is_panicking, undelayed_count};
-pub use zero::ZeroAnswer;
+pub use zero::{Standing, ZeroAnswer, bounded_count, zero_rule};

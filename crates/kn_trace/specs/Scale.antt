@@ -9,7 +9,7 @@ use Rattle.kn_event.specs.declared.entry.Phase.TheVariants as phase
 use Rattle.kn_event.specs.declared.entry.Mode.{Mode}
 use Rattle.kn_event.specs.declared.entry.Mode.TheVariants as mode
 use Rattle.kn_event.specs.declared.revision.Spec.{Spec}
-use Rattle.kn_scaling.specs.Zero.{Standing}
+use Rattle.kn_scaling.specs.declared.zero.Standing.{Standing}
 use Rattle.kn_scaling.specs.Decide as scaling
 use Rattle.kn_scaling.specs.Decide.{Decided, Past, Ruling}
 use Rattle.kn_trace.specs.Rows.{phase_by, mode_by, decision_by}
