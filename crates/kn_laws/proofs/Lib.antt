@@ -13,6 +13,7 @@ pub mod Kept
 pub mod Reacting
 pub mod Scaling
 pub mod Running
+pub mod Added
 pub mod Lawful
 pub mod Words
 pub mod Queues

@@ -1,17 +1,16 @@
--- Lists of numbers, rows that are added, and events in two parts.
-use Rattle.std.proofs.Common.{◌≡◌, ℕ, ◌≤◌, ◌<◌, ◌+◌, Bool, true, false, ◌||◌, List, [], ◌∷◌, ◌++◌, length, refl, sym, ap, ◌∙◌, arith, append-nil, append_assoc, length-append, nat_le}
+-- Lists of numbers, and one more row.
+use Rattle.std.proofs.Common.{◌≡◌, ℕ, ◌≤◌, ◌<◌, ◌+◌, Bool, true, false, ◌||◌, List, [], ◌∷◌, ◌++◌, length, refl, ◌∙◌, arith, append-nil, length-append, nat_le}
 use Rattle.std.specs.Prelude.{Option, None, Some, zero, suc, ◌==◌}
 use Rattle.std.specs.List.{filter, filter_map}
 use Rattle.std.proofs.lemmas.Bool.{eqb-true}
 use Rattle.std.proofs.lemmas.Bool.Decides.{nat_tests}
-use Rattle.std.proofs.lemmas.List.Elements.{filter_map-append}
 use Rattle.std.proofs.lemmas.List.Folds.{list_any-append}
 use Rattle.kn_event.specs.declared.entry.Entry.{Entry}
 use Rattle.kn_event.specs.declared.entry.Row.{Row}
-use Rattle.kn_event.specs.declared.event.Event.{Event}
-use Rattle.kn_event.specs.declared.revision.Spec.{Spec}
 use Rattle.kn_trace.specs.Trace.{Trace, contains, each_row}
-use Rattle.kn_trace.specs.Events.{added, due_by, opening, react, trace_of}
+use Rattle.kn_trace.specs.Events.{due_by}
+use Rattle.kn_laws.proofs.Flags.{each_row-push}
+use Rattle.kn_laws.proofs.Members.{same_number}
 
 -- ---- the numbers below n
 
@@ -49,9 +48,6 @@ pub filter-all : (t : ℕ → Bool) → ((r : ℕ) → t r ≡ true) → (xs : L
 filter-all t all [] = refl
 filter-all t all (x ∷ xs) = rw (all x, filter-all t all xs) refl
 
-pub same_number : (r : ℕ) → (r == r) ≡ true
-same_number r = grind (arith, nat_tests)
-
 -- of those that are among the numbers none passes a test that refuses these
 pub filter-none : (t : ℕ → Bool) (xs : List ℕ) → ((r : ℕ) → contains r xs ≡ true → t r ≡ false) → filter t xs ≡ []
 filter-none t [] none = refl
@@ -65,10 +61,10 @@ filter-none t (x ∷ xs) none =
 -- ---- one more row
 
 pub each-none : {X : Type 0} (f : Row → Option X) (d : Trace) (e : Entry) (xs : List X) → f e.row ≡ None → each_row f d ≡ xs → each_row f (d ++ e ∷ []) ≡ xs
-each-none f d e xs none was = filter_map-append (λ (e : Entry). f e.row) d (e ∷ []) ∙ rw (none, append-nil) was
+each-none f d e xs none was = each_row-push f d e ∙ rw (none, append-nil) was
 
 pub each-some : {X : Type 0} (f : Row → Option X) (d : Trace) (e : Entry) (xs : List X) (x : X) → f e.row ≡ Some x → each_row f d ≡ xs → each_row f (d ++ e ∷ []) ≡ xs ++ x ∷ []
-each-some f d e xs x some was = filter_map-append (λ (e : Entry). f e.row) d (e ∷ []) ∙ rw (some, was) refl
+each-some f d e xs x some was = each_row-push f d e ∙ rw (some, was) refl
 
 -- ---- nobody is due before the timeout has passed since the start
 
@@ -78,17 +74,3 @@ nobody_due timeout t h (e ∷ c) = rw (late) (nobody_due timeout t h c)
   where
     late : nat_le (e.time + timeout) t ≡ false
     late = grind (arith, nat_tests)
-
--- ---- events in two parts
-
-added-append : (s : Spec) (c : Trace) (es fs : List Event) → added s c (es ++ fs) ≡ added s c es ++ added s (c ++ added s c es) fs
-unfolding added
-added-append s c [] fs = rw append-nil refl
-added-append s c (e ∷ es) fs =
-    let next = c ++ react s c e in
-    ap (λ (more : Trace). react s c e ++ more) (added-append s next es fs)
-    ∙ rw (append_assoc c (react s c e) (added s next es)) (sym (append_assoc (react s c e) (added s next es) (added s (c ++ (react s c e ++ added s next es)) fs)))
-
-pub trace_of-append : (s : Spec) (start : ℕ) (es fs : List Event) → trace_of s start (es ++ fs) ≡ trace_of s start es ++ added s (trace_of s start es) fs
-unfolding trace_of
-trace_of-append s start es fs = rw (added-append s (opening s start) es fs) (sym (append_assoc (opening s start) (added s (opening s start) es) (added s (opening s start ++ added s (opening s start) es) fs)))

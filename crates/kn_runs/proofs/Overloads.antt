@@ -6,7 +6,8 @@ use Rattle.kn_trace.specs.Trace.{Trace, each_row}
 use Rattle.kn_trace.specs.Events.{trace_of}
 use Rattle.kn_trace.specs.Worked.{whole_run}
 use Rattle.kn_runs.specs.Long.{OverloadAt20000, arrivals_from, serving, to_serve_mode}
-use Rattle.kn_runs.proofs.Lists.{trace_of-append, upto, upto-none}
+use Rattle.kn_laws.proofs.Added.{trace_of-append}
+use Rattle.kn_runs.proofs.Lists.{upto, upto-none}
 use Rattle.kn_runs.proofs.Serving.{IsServing, all-served}
 
 switched : IsServing (trace_of serving 0 to_serve_mode) 0 0

@@ -20,7 +20,7 @@ use Rattle.kn_trace.specs.Worked.{at}
 use Rattle.kn_runs.specs.Long.{arrivals_from, served_from}
 use Rattle.kn_runs.proofs.Lists.{each-none, each-some, filter-all, filter-none, length-upto, nobody_due, not_below, upto, upto-more}
 
--- pod 0 is ready and has no limit; so many requests have come and gone to it, and of these so many have run
+-- pod 0 is Ready and has no limit; so many requests were sent to it, and so many of them have a run entry; nobody else came
 pub record IsServing (d : Trace) (m k : ℕ) : Type 0 where
   pub mode : each_row mode_by d ≡ mode.Serve ∷ []
   pub phase : last_of (each_row phase_by d) ≡ Some phase.Active

@@ -124,15 +124,14 @@ fn no_pods(applied: bool) -> ZeroAnswer
 fn zero_rule_in(spec: &Spec, time: u64, ready: u64, standing: &Standing) -> ZeroAnswer
     ensures { result ≡ zero_rule_in standing.now.phase spec.now time ready standing.now }
 {
+    let is_over = has_lasted(standing.phase_since, 1000 * spec.stable_s, time);
     match standing.phase {
         Phase::Activating => ZeroAnswer {
             want: standing.want,
             applied: false,
             phase: Phase::Activating,
         },
-        Phase::Active if has_lasted(standing.phase_since, 1000 * spec.stable_s, time) => no_pods(
-            false,
-        ),
+        Phase::Active if is_over => no_pods(false),
         Phase::Active => some_pods(ready, 1),
         Phase::Inactive => no_pods(may_go(spec, time, standing)),
     }
