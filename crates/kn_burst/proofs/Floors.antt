@@ -6,12 +6,12 @@ use Rattle.std.specs.Int.{int_div_euclid, w128}
 
 -- ---- bounds of the two sides
 
-pub seats_most : (ready total den : ℕ) → ready ≤ 500 → total ≤ 1000000000 → ready * total * den ≤ 1020000000 * (1000 * den)
+pub seats_most : (ready total den : ℕ) → ready ≤ 500 → total ≤ 1000000000 → ready * total * den ≤ 2000000000 * (1000 * den)
 seats_most ready total den few small =
     let pods : ready * total ≤ 500 * 1000000000 = mul-le-mul few small in
     let all : ready * total * den ≤ 500 * 1000000000 * den = mul-le-mul pods (omega arith) in omega (arith, all)
 
-pub taken_most : (capacity den num : ℕ) → capacity ≤ 1000000000 → num ≤ 20000 * den → capacity * den + 1000 * num ≤ 1020000000 * (1000 * den)
+pub taken_most : (capacity den num : ℕ) → capacity ≤ 1000000000 → num ≤ 1000000 * den → capacity * den + 1000 * num ≤ 2000000000 * (1000 * den)
 taken_most capacity den num small value =
     let all : capacity * den ≤ 1000000000 * den = mul-le-mul small (omega arith) in omega (arith, all, value)
 

@@ -11,7 +11,7 @@ use kn_event::{Burst, Frac, Milli, Mode, Phase};
 
 /// The excess burst capacity in requests, rounded down: what so many Ready pods of this total bear, 500 pods at most,
 /// less the target burst capacity and the panic average. It is 0 where the target burst capacity is 0, and -1 where it
-/// is unlimited. An average has a denominator of 3,600,000 at most and stands for 20,000 requests at most.
+/// is unlimited. An average has a denominator of 3,600,000 at most and stands for 1,000,000 requests at most.
 #[tactic(auto, unfolding(kn_scaling::specs::Burst::excess_burst))]
 pub fn excess(ready: u64, total: Milli, burst: Burst, panic: Frac) -> i64
     requires ready { ready ≤ 500 }
@@ -71,8 +71,8 @@ fn spare_seats(ready: u64, total: u64, capacity: u64, panic: Frac) -> i64
 /// The difference of two numbers over a third, rounded down.
 fn floor_of(seats: u128, taken: u128, den: u128) -> i64
     requires den { den ≤ 3600000000 }
-    requires seats { seats ≤ 1020000000 * den }
-    requires taken { taken ≤ 1020000000 * den }
+    requires seats { seats ≤ 2000000000 * den }
+    requires taken { taken ≤ 2000000000 * den }
     requires above_zero { 0 < den }
     ensures { result ≡ int_div_euclid (pos seats -ℤ pos taken) (pos den) }
 {
@@ -92,7 +92,7 @@ mod tests {
         let nine = Frac { num: 9, den: 1 };
         let none = Frac { num: 0, den: 1 };
         let most = Frac {
-            num: 72_000_000_000,
+            num: 3_600_000_000_000,
             den: 3_600_000,
         };
         assert_eq!(rt;
@@ -111,7 +111,7 @@ mod tests {
         );
         assert_eq!(rt;
             excess(0, Milli(10), Burst::Capacity(Milli(1_000_000_000)), most),
-            -1_020_000
+            -2_000_000
         );
     }
 

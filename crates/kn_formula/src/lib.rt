@@ -8,7 +8,7 @@ ghost use Rattle.kn_scaling.specs.Demand.{count_for, desired_counts, is_over, ma
 use kn_event::{Counts, Frac, Spec};
 
 /// What the stable and the panic average ask for with so many Ready pods, 500 at most. An average has a denominator of
-/// 3,600,000 at most and stands for 20,000 requests at most.
+/// 3,600,000 at most and stands for 1,000,000 requests at most.
 #[tactic(auto, unfolding(kn_scaling::specs::Demand::desired_counts))]
 pub fn counts(spec: &Spec, ready: u64, stable: Frac, panic: Frac) -> Counts
     requires ready { ready ≤ 500 }
@@ -27,12 +27,12 @@ pub fn counts(spec: &Spec, ready: u64, stable: Frac, panic: Frac) -> Counts
     }
 }
 
-/// Pods that bear an average, each at the target: 2,000,000 at most, since a target is 0.01 at least.
+/// Pods that bear an average, each at the target: 100,000,000 at most, since a target is 0.01 at least.
 #[tactic(auto, using(crate::proofs::Quotients::pods_most), unfolding(kn_scaling::specs::Demand::pods_for))]
 fn pods_for(spec: &Spec, average: Frac) -> u64
     requires { IsAverage average }
     ensures value { result ≡ pods_for spec.now average }
-    ensures most { result ≤ 2000000 }
+    ensures most { result ≤ 100000000 }
 {
     (average.num * spec.target.den).div_ceil(average.den * spec.target.num) as u64
 }
@@ -80,7 +80,7 @@ fn count_for(spec: &Spec, ready: u64, pods: u64) -> u64
 #[tactic(auto, unfolding(kn_scaling::specs::Demand::is_over))]
 fn is_over(spec: &Spec, ready: u64, pods: u64) -> bool
     requires ready { ready ≤ 500 }
-    requires pods { pods ≤ 2000000 }
+    requires pods { pods ≤ 100000000 }
     ensures { result ≡ is_over spec.now ready pods }
 {
     spec.panic_threshold.0 * ready.max(1) <= pods * 100_000
@@ -120,7 +120,7 @@ mod tests {
     fn counts_at_the_bounds_of_the_averages(rt: HostRuntime) -> Result<(), Fail> {
         let spec = Spec::fixed(rt.alloc(), 1, 0, 300, SLOTS)?;
         let most = Frac {
-            num: 72_000_000_000,
+            num: 3_600_000_000_000,
             den: 3_600_000,
         };
         let none = Frac {
@@ -128,16 +128,16 @@ mod tests {
             den: 3_600_000,
         };
         let up = Counts {
-            dspc: 28_572,
-            dppc: 28_572,
+            dspc: 1_428_572,
+            dppc: 1_428_572,
             stable_count: 1000,
             panic_count: 1000,
             over: true,
         };
         let down = Counts {
-            dspc: 28_572,
+            dspc: 1_428_572,
             dppc: 0,
-            stable_count: 28_572,
+            stable_count: 500_000,
             panic_count: 250,
             over: false,
         };

@@ -6,7 +6,7 @@ use Rattle.kn_event.specs.declared.entry.Entry.{Entry}
 use Rattle.kn_event.specs.declared.entry.Row.{Row}
 use Rattle.kn_event.specs.declared.entry.Row.TheVariants as row
 use Rattle.kn_event.specs.declared.revision.Spec.{Spec}
-use Rattle.kn_trace.specs.Rows.{arrived_by, taken_by, assigned_by, turned_by, created_by, readied_by, drained_by, removed_by}
+use Rattle.kn_trace.specs.Rows.{arrived_by, taken_by, assigned_by, turned_by, created_by, readied_by, drained_by, gone_by}
 use Rattle.kn_trace.specs.Trace.{Trace, entry, each_row, contains, arrivals, created, direct_turn, ended, is_live_pod, live, live_pods}
 use Rattle.kn_trace.specs.Choice.{assignment_count, place_by, place_from, round_robin_place}
 use Rattle.kn_laws.specs.declared.admission.Request.{Request}
@@ -59,7 +59,7 @@ not_live_pod c p h = contains-filter (is_live_pod c) p (each_row created_by c) �
 
 is_new_pod : (c : Trace) (p : ℕ) → contains p (each_row pod_named_by c) ≡ false → IsNewPod c p
 is_new_pod c p h = record {
-  removed = contains-within removed_by pod_named_by removed_named p c h;
+  removed = contains-within gone_by pod_named_by removed_named p c h;
   drained = contains-within drained_by pod_named_by drained_named p c h;
   readied = contains-within readied_by pod_named_by readied_named p c h;
   absent = pod-numbers-absent p (pods c) (rw (← live-pods c) (not_live_pod c p h));

@@ -17,7 +17,7 @@ use Rattle.kn_event.specs.declared.revision.Spec.{Spec}
 use Rattle.kn_event.specs.Revision.{AreInRange}
 use Rattle.kn_scaling.specs.Decide.{Ruling}
 use Rattle.kn_scaling.specs.Zero.{pods_most}
-use Rattle.kn_trace.specs.Rows.{created_by, drained_by, removed_by, taken_by}
+use Rattle.kn_trace.specs.Rows.{created_by, drained_by, gone_by, taken_by}
 use Rattle.kn_trace.specs.Trace.{Trace, entry, at_pod, created, draining, each_row, held, is_empty, live_pods, ready_pods, waiting}
 use Rattle.kn_trace.specs.Scale.{creations, decision_at, decision_rows, drain_order, is_same_mode, is_same_phase, mode_of, phase_of, scale_rows, tick_rows, tick_rows_of, wake_decision_at, wake_rows, wanted, where_true}
 use Rattle.kn_trace.specs.Settling.{held_assignments, promotions, removals, settling}
@@ -136,7 +136,7 @@ scaler-few k s t c a did kept ranges few = nothing-few c few
 -- ---- rows that create, drain and remove no pod
 
 abbrev NoNewPods : (Row → Bool) → Type 0
-NoNewPods test = (x : Row) → test x ≡ true → (created_by x ≡ None) × (drained_by x ≡ None) × (removed_by x ≡ None)
+NoNewPods test = (x : Row) → test x ≡ true → (created_by x ≡ None) × (drained_by x ≡ None) × (gone_by x ≡ None)
 
 -- such rows leave those that drain
 draining-stays : (test : Row → Bool) → NoNewPods test → (c es : Trace) → Each test es → draining (c ++ es) ≡ draining c

@@ -10,7 +10,7 @@ use Rattle.kn_event.specs.declared.entry.Row.TheVariants as row
 use Rattle.kn_event.specs.declared.revision.Spec.{Spec}
 use Rattle.kn_event.specs.Revision.{AreInRange}
 use Rattle.kn_scaling.specs.Zero.{pods_most}
-use Rattle.kn_trace.specs.Rows.{admitted_by, brought_to, created_by, directed_by, drained_by, readied_by, removed_by, taken_by}
+use Rattle.kn_trace.specs.Rows.{admitted_by, brought_to, created_by, directed_by, drained_by, readied_by, gone_by, taken_by}
 use Rattle.kn_trace.specs.Trace.{Trace, entry, assigned, contains, draining, each_row, ended, has_begun, has_not_begun, has_run, held, is_draining, is_live_pod, is_ready, is_running, is_starting, live, live_pods, pod_of, queued_at, ready_pods, running_at, starting_pods, waiting}
 use Rattle.kn_trace.specs.Scale.{drain_order}
 use Rattle.kn_trace.specs.Events.{live_most}
@@ -165,7 +165,7 @@ created_room s c _ p h e ranges = absurd (cc)
 
 gone-less : (c : Trace) (e : Entry) (q : ℕ) → is_live_pod (c ++ e ∷ []) q ≡ true → is_live_pod c q ≡ true
 unfolding is_live_pod
-gone-less c e q h = by (contains q (each_row removed_by c)) _ (sym (is_live_pod-push c e q) ∙ h)
+gone-less c e q h = by (contains q (each_row gone_by c)) _ (sym (is_live_pod-push c e q) ∙ h)
   where
     by : (a m : Bool) → not (a || m) ≡ true → not a ≡ true
     by true m h = h

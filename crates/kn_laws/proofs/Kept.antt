@@ -10,7 +10,7 @@ use Rattle.kn_event.specs.declared.entry.Decision.{Decision}
 use Rattle.kn_event.specs.declared.revision.Spec.{Spec}
 use Rattle.kn_event.specs.Revision.{AreInRange}
 use Rattle.kn_scaling.specs.Zero.{pods_most}
-use Rattle.kn_trace.specs.Rows.{brought_to, created_by, decision_by, phase_by, removed_by}
+use Rattle.kn_trace.specs.Rows.{brought_to, created_by, decision_by, phase_by, gone_by}
 use Rattle.kn_trace.specs.Trace.{Trace, arrivals, assigned, at_pod, contains, created, each_row, ended, has_run, last_of, live_pods}
 use Rattle.kn_trace.specs.Scale.{opening_scale, phase_of, wanted}
 use Rattle.kn_laws.specs.Made.{Holds, IsMade, IsNumbered, ArePodsNumbered, IsProper}
@@ -58,9 +58,9 @@ AreHoused c = (p r : ℕ) → contains r (at_pod c p) ≡ true → contains p (l
 
 record KeepsHomes (c : Trace) (x : Row) : Type 0 where
   brought : (p r : ℕ) → brought_to p x ≡ Some r → contains p (live_pods c) ≡ true
-  removed : (p : ℕ) → removed_by x ≡ Some p → at_pod c p ≡ []
+  removed : (p : ℕ) → gone_by x ≡ Some p → at_pod c p ≡ []
 
-homeless : (x : Row) (p q r : ℕ) → removed_by x ≡ Some p → brought_to q x ≡ Some r → ⊥
+homeless : (x : Row) (p q r : ℕ) → gone_by x ≡ Some p → brought_to q x ≡ Some r → ⊥
 homeless (row.Remove u) p q r a b = absurd (cc)
 homeless x p q r a b = absurd (cc)
 
@@ -69,10 +69,10 @@ AreHoused-push : (c : Trace) (e : Entry) → AreHoused c → KeepsHomes c e.row 
 unfolding at_pod
 AreHoused-push c e housed keeps p r h =
     let both = filter_member (λ r. not (ended (c ++ e ∷ []) r)) r (each_row (brought_to p) (c ++ e ∷ [])) h in
-    let old = and_parts (contains p (each_row created_by c)) (not (contains p (each_row removed_by c))) (sym (contains-live_pods c p) ∙ home both.1 (or-true _ _ (sym (contains-push (brought_to p) c e r) ∙ both.0))) in
+    let old = and_parts (contains p (each_row created_by c)) (not (contains p (each_row gone_by c))) (sym (contains-live_pods c p) ∙ home both.1 (or-true _ _ (sym (contains-push (brought_to p) c e r) ∙ both.0))) in
     contains-live_pods (c ++ e ∷ []) p
-    ∙ rw (contains-push created_by c e p, contains-push removed_by c e p)
-    (stays (contains p (each_row created_by c)) (contains p (each_row removed_by c)) (says (removed_by e.row) p) old.0 old.1 (λ g. gone both.1 (says-true (removed_by e.row) p g) (or-true _ _ (sym (contains-push (brought_to p) c e r) ∙ both.0))))
+    ∙ rw (contains-push created_by c e p, contains-push gone_by c e p)
+    (stays (contains p (each_row created_by c)) (contains p (each_row gone_by c)) (says (gone_by e.row) p) old.0 old.1 (λ g. gone both.1 (says-true (gone_by e.row) p g) (or-true _ _ (sym (contains-push (brought_to p) c e r) ∙ both.0))))
   where
     lived : not (ended (c ++ e ∷ []) r) ≡ true → not (ended c r) ≡ true
     lived h = by (ended c r) (says _ r) (ap (λ (b : Bool). not b) (sym (ended-push c e r)) ∙ h)
@@ -85,7 +85,7 @@ AreHoused-push c e housed keeps p r h =
     home live (inl a) = housed p r (in_filter (λ r. not (ended c r)) r (each_row (brought_to p) c) a (lived live))
     home live (inr a) = keeps.brought p r (says-true (brought_to p e.row) r a)
 
-    gone : not (ended (c ++ e ∷ []) r) ≡ true → removed_by e.row ≡ Some p → (contains r (each_row (brought_to p) c) ≡ true) ⊎ (says (brought_to p e.row) r ≡ true) → ⊥
+    gone : not (ended (c ++ e ∷ []) r) ≡ true → gone_by e.row ≡ Some p → (contains r (each_row (brought_to p) c) ≡ true) ⊎ (says (brought_to p e.row) r ≡ true) → ⊥
     gone live g (inl a) =
         let there : contains r (at_pod c p) ≡ true = in_filter (λ r. not (ended c r)) r (each_row (brought_to p) c) a (lived live) in
         let none : contains r (at_pod c p) ≡ false = rw (keeps.removed p g) refl in
@@ -98,10 +98,10 @@ AreHoused-push c e housed keeps p r h =
     stays true false false x y z = refl
     stays false g m x y z = absurd (cc)
 
-homes_none : (c : Trace) (x : Row) → ((p : ℕ) → brought_to p x ≡ None) → removed_by x ≡ None → KeepsHomes c x
+homes_none : (c : Trace) (x : Row) → ((p : ℕ) → brought_to p x ≡ None) → gone_by x ≡ None → KeepsHomes c x
 homes_none c x brought removed' = record { brought = λ p r h. absurd (let none = brought p in cc); removed = λ p h. absurd (cc) }
 
-homes_at : (c : Trace) (x : Row) (p r : ℕ) → contains p (live_pods c) ≡ true → ((q : ℕ) → brought_to q x ≡ then_some (p == q) r) → removed_by x ≡ None → KeepsHomes c x
+homes_at : (c : Trace) (x : Row) (p r : ℕ) → contains p (live_pods c) ≡ true → ((q : ℕ) → brought_to q x ≡ then_some (p == q) r) → gone_by x ≡ None → KeepsHomes c x
 homes_at c x p r live brought removed' = record { brought = λ q u h. by q u (p == q) refl (sym (brought q) ∙ h); removed = λ q h. absurd (cc) }
   where
     by : (q u : ℕ) (b : Bool) → (p == q) ≡ b → then_some b r ≡ Some u → contains q (live_pods c) ≡ true

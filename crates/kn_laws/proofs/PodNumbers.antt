@@ -6,7 +6,7 @@ use Rattle.kn_event.specs.declared.entry.Entry.{Entry}
 use Rattle.kn_event.specs.declared.entry.Row.{Row}
 use Rattle.kn_event.specs.declared.entry.Row.TheVariants as row
 use Rattle.kn_event.specs.declared.revision.Spec.{Spec}
-use Rattle.kn_trace.specs.Rows.{created_by, readied_by, drained_by, removed_by}
+use Rattle.kn_trace.specs.Rows.{created_by, readied_by, drained_by, gone_by}
 use Rattle.kn_trace.specs.Trace.{Trace, each_row, contains, created, draining, is_draining, is_live_pod, is_ready, is_starting, live_pods, ready_pods, starting_pods}
 use Rattle.kn_trace.specs.Scale.{drain_order}
 use Rattle.kn_laws.specs.Rows.{pod_named_by}
@@ -17,7 +17,7 @@ use Rattle.kn_laws.proofs.Numbers.{and_parts, distinct-option, false_unless, fil
 
 -- ---- which rows a word is of
 
-pub removed_named : (x : Row) → (removed_by x ≡ None) ⊎ (removed_by x ≡ pod_named_by x)
+pub removed_named : (x : Row) → (gone_by x ≡ None) ⊎ (gone_by x ≡ pod_named_by x)
 removed_named (row.Remove p) = inr refl
 removed_named _ = inl refl
 

@@ -5,7 +5,7 @@ use Rattle.std.specs.Bool.{then_some}
 use Rattle.std.specs.List.{All, filter, filter_map, cons_option}
 use Rattle.std.proofs.lemmas.List.Elements.{All-cons, All-nil}
 use Rattle.kn_event.specs.declared.entry.Entry.{Entry}
-use Rattle.kn_trace.specs.Rows.{created_by, drained_by, readied_by, removed_by}
+use Rattle.kn_trace.specs.Rows.{created_by, drained_by, readied_by, gone_by}
 use Rattle.kn_trace.specs.Trace.{Trace, contains, draining, each_row, is_draining, is_live_pod, is_ready, is_starting, limit_of, live_pods, ready_pods, starting_pods}
 use Rattle.kn_laws.specs.declared.admission.Pod.{Pod}
 use Rattle.kn_laws.specs.declared.admission.Readiness.{Readiness}
@@ -15,7 +15,7 @@ use Rattle.kn_laws.proofs.PodNumbers.{live_pod_created}
 
 -- a list over the pods that pass, with their limits, is one over the record's pods
 pods_by : {X : Type 0} (f : ℕ → ℕ → X) (c : Trace) (t : ℕ → Bool) (now : Readiness → Bool)
-    → ((p : ℕ) → t p ≡ (now (readiness_by (contains p (each_row drained_by c)) (contains p (each_row readied_by c))) && not (contains p (each_row removed_by c))))
+    → ((p : ℕ) → t p ≡ (now (readiness_by (contains p (each_row drained_by c)) (contains p (each_row readied_by c))) && not (contains p (each_row gone_by c))))
     → map (λ p. f p (limit_of c p)) (filter t (each_row created_by c)) ≡ map (λ (q : Pod). f q.number q.limit) (filter (λ (q : Pod). now q.readiness) (pods c))
 unfolding pods pod_record readiness_of
 pods_by {X} f c t now same = from c
@@ -36,7 +36,7 @@ pods_by {X} f c t now same = from c
             → map (λ p. f p (limit_of c p)) (filter t (cons_option o (each_row created_by d)))
             ≡ map (λ (q : Pod). f q.number q.limit) (filter (λ (q : Pod). now q.readiness) (cons_option (pod_record c o) (filter_map (λ (e : Entry). pod_record c (created_by e.row)) d)))
         by None rest = rest
-        by (Some p) rest = step p (limit_of c p) (readiness_of c p) (t p) _ (contains p (each_row removed_by c)) _ _ refl refl (same p) rest
+        by (Some p) rest = step p (limit_of c p) (readiness_of c p) (t p) _ (contains p (each_row gone_by c)) _ _ refl refl (same p) rest
 
 map-same : (xs : List ℕ) → map (λ p. p) xs ≡ xs
 map-same [] = refl
@@ -45,7 +45,7 @@ map-same (x ∷ xs) = ap (λ (l : List ℕ). x ∷ l) (map-same xs)
 -- a list over the Ready pods and their limits
 pub ready_limits : {X : Type 0} (f : ℕ → ℕ → X) (c : Trace) → map (λ p. f p (limit_of c p)) (ready_pods c) ≡ map (λ (q : Pod). f q.number q.limit) (filter (λ (q : Pod). is_ready_now q.readiness) (pods c))
 unfolding ready_pods is_ready is_live_pod
-ready_limits f c = pods_by f c (is_ready c) is_ready_now (λ p. by (contains p (each_row readied_by c)) (contains p (each_row drained_by c)) (contains p (each_row removed_by c)))
+ready_limits f c = pods_by f c (is_ready c) is_ready_now (λ p. by (contains p (each_row readied_by c)) (contains p (each_row drained_by c)) (contains p (each_row gone_by c)))
   where
     by : (x d g : Bool) → (x && not d && not g) ≡ (is_ready_now (readiness_by d x) && not g)
     by true true g = refl
@@ -57,7 +57,7 @@ ready_limits f c = pods_by f c (is_ready c) is_ready_now (λ p. by (contains p (
 pub starting-pods : (c : Trace) → starting_pods c ≡ pods_in is_starting_now (pods c)
 unfolding starting_pods is_starting is_live_pod
 starting-pods c =
-    sym (map-same (starting_pods c)) ∙ pods_by (λ p n. p) c (is_starting c) is_starting_now (λ p. by (contains p (each_row readied_by c)) (contains p (each_row drained_by c)) (contains p (each_row removed_by c)))
+    sym (map-same (starting_pods c)) ∙ pods_by (λ p n. p) c (is_starting c) is_starting_now (λ p. by (contains p (each_row readied_by c)) (contains p (each_row drained_by c)) (contains p (each_row gone_by c)))
   where
     by : (x d g : Bool) → (not x && not d && not g) ≡ (is_starting_now (readiness_by d x) && not g)
     by true true g = refl
@@ -69,7 +69,7 @@ starting-pods c =
 pub draining-pods : (c : Trace) → draining c ≡ pods_in is_draining_now (pods c)
 unfolding draining is_draining is_live_pod
 draining-pods c =
-    sym (map-same (draining c)) ∙ pods_by (λ p n. p) c (is_draining c) is_draining_now (λ p. by (contains p (each_row readied_by c)) (contains p (each_row drained_by c)) (contains p (each_row removed_by c)))
+    sym (map-same (draining c)) ∙ pods_by (λ p n. p) c (is_draining c) is_draining_now (λ p. by (contains p (each_row readied_by c)) (contains p (each_row drained_by c)) (contains p (each_row gone_by c)))
   where
     by : (x d g : Bool) → (d && not g) ≡ (is_draining_now (readiness_by d x) && not g)
     by true true g = refl
@@ -100,4 +100,4 @@ pods_limits c = from c
 
         by : (o : Option ℕ) → All P (filter_map (λ (e : Entry). pod_record c (created_by e.row)) d) → All P (cons_option (pod_record c o) (filter_map (λ (e : Entry). pod_record c (created_by e.row)) d))
         by None rest = rest
-        by (Some p) rest = step p (not (contains p (each_row removed_by c))) _ rest
+        by (Some p) rest = step p (not (contains p (each_row gone_by c))) _ rest

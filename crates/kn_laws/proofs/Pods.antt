@@ -9,7 +9,7 @@ use Rattle.kn_event.specs.declared.entry.Row.TheVariants as row
 use Rattle.kn_laws.specs.declared.admission.Readiness.{Readiness}
 use Rattle.kn_laws.specs.declared.admission.Readiness.TheVariants as readiness
 use Rattle.kn_laws.specs.declared.admission.Pod.{Pod}
-use Rattle.kn_trace.specs.Rows.{limit_by, created_by, readied_by, drained_by, removed_by}
+use Rattle.kn_trace.specs.Rows.{limit_by, created_by, readied_by, drained_by, gone_by}
 use Rattle.kn_trace.specs.Trace.{Trace, entry, each_row, contains, limit_of, live_pods, is_live_pod, ready_pods, is_ready}
 use Rattle.kn_laws.specs.Admission.{readiness_by, readiness_of, pod_record, pods, limited, with_limit, marked, with_readiness, readied, drained, is_ready_now, pods_in}
 use Rattle.kn_laws.proofs.Flags.{says, or-false, contains-push, limit_after, limit_of-push}
@@ -20,7 +20,7 @@ abbrev after_pod : ℕ → Bool → ℕ → Readiness → Option Pod
 after_pod p gone n x = then_some (not gone) (record { number = p; limit = n; readiness = x })
 
 abbrev removed : Trace → ℕ → Bool
-removed c p = contains p (each_row removed_by c)
+removed c p = contains p (each_row gone_by c)
 
 abbrev drains : Trace → ℕ → Bool
 drains c p = contains p (each_row drained_by c)
@@ -29,12 +29,12 @@ abbrev readies : Trace → ℕ → Bool
 readies c p = contains p (each_row readied_by c)
 
 pod_record-push : (c : Trace) (e : Entry) (p : ℕ) → pod_record (c ++ e ∷ []) (Some p)
-    ≡ after_pod p (removed c p || says (removed_by e.row) p) (limit_after (limit_by p e.row) (limit_of c p)) (readiness_by (drains c p || says (drained_by e.row) p) (readies c p || says (readied_by e.row) p))
+    ≡ after_pod p (removed c p || says (gone_by e.row) p) (limit_after (limit_by p e.row) (limit_of c p)) (readiness_by (drains c p || says (drained_by e.row) p) (readies c p || says (readied_by e.row) p))
 unfolding pod_record readiness_of
-pod_record-push c e p = rw (contains-push removed_by c e p, limit_of-push c e p, contains-push drained_by c e p, contains-push readied_by c e p) refl
+pod_record-push c e p = rw (contains-push gone_by c e p, limit_of-push c e p, contains-push drained_by c e p, contains-push readied_by c e p) refl
 
 old_pods : (c : Trace) (e : Entry) (g : Pod → Option Pod)
-    → ((p : ℕ) → after_pod p (removed c p || says (removed_by e.row) p) (limit_after (limit_by p e.row) (limit_of c p)) (readiness_by (drains c p || says (drained_by e.row) p) (readies c p || says (readied_by e.row) p))
+    → ((p : ℕ) → after_pod p (removed c p || says (gone_by e.row) p) (limit_after (limit_by p e.row) (limit_of c p)) (readiness_by (drains c p || says (drained_by e.row) p) (readies c p || says (readied_by e.row) p))
     ≡ changed g (after_pod p (removed c p) (limit_of c p) (readiness_by (drains c p) (readies c p))))
     → pods (c ++ e ∷ []) ≡ filter_map g (pods c) ++ cons_option (pod_record (c ++ e ∷ []) (created_by e.row)) []
 unfolding pods pod_record readiness_of
@@ -48,7 +48,7 @@ old_pods c e g same =
     by (Some p) = pod_record-push c e p ∙ same p
 
 -- a row that says nothing of pods
-pub pods-quiet : (c : Trace) (e : Entry) → created_by e.row ≡ None → removed_by e.row ≡ None → drained_by e.row ≡ None → readied_by e.row ≡ None → ((p : ℕ) → limit_by p e.row ≡ None) → pods (c ++ e ∷ []) ≡ pods c
+pub pods-quiet : (c : Trace) (e : Entry) → created_by e.row ≡ None → gone_by e.row ≡ None → drained_by e.row ≡ None → readied_by e.row ≡ None → ((p : ℕ) → limit_by p e.row ≡ None) → pods (c ++ e ∷ []) ≡ pods c
 unfolding pod_record
 pods-quiet c e created removed' drained' readied' limit' =
     old_pods c e (λ q. Some q) (λ p. rw (removed', drained', readied', limit' p) (by p (removed c p) (limit_of c p) (drains c p) (readies c p)))
@@ -114,7 +114,7 @@ pods-remove c t p =
 
 -- a pod that no row has named yet
 pub record IsNewPod (c : Trace) (p : ℕ) : Type 0 where
-  pub removed : contains p (each_row removed_by c) ≡ false
+  pub removed : contains p (each_row gone_by c) ≡ false
   pub drained : contains p (each_row drained_by c) ≡ false
   pub readied : contains p (each_row readied_by c) ≡ false
   pub absent : list_any (λ (q : Pod). p == q.number) (pods c) ≡ false

@@ -19,7 +19,7 @@ use Rattle.kn_scaling.specs.Decide.{Past, Ruling, decision_from_stable, no_load,
 use Rattle.kn_scaling.specs.Decide as scaling
 use Rattle.kn_scaling.specs.declared.zero.Standing.{Standing}
 use Rattle.kn_scaling.specs.Zero.{bounded_count, has_lasted, no_pods, pods_most, some_pods, zero_rule, zero_rule_in}
-use Rattle.kn_trace.specs.Rows.{created_by, drained_by, readied_by, removed_by}
+use Rattle.kn_trace.specs.Rows.{created_by, drained_by, readied_by, gone_by}
 use Rattle.kn_trace.specs.Trace.{Trace, entry, contains, created, each_row, is_empty, is_live_pod, is_ready, is_starting, ready_pods, starting_pods}
 use Rattle.kn_trace.specs.Scale.{count_ready, creations, decision_at, decision_rows, drain_order, is_same_mode, is_same_phase, mode_of, opening_scale, past_of, phase_of, scale_rows, standing_of, tick_rows, tick_rows_of, wake_decision_at, wake_rows, wanted, where_true}
 use Rattle.kn_trace.specs.Events.{act_row, act_rows, activation, entries_of, opening, opening_of, opening_phase, scaler_rows, wake_where}
@@ -67,7 +67,7 @@ starting_or_ready : (c : Trace) (p : ℕ) → contains p (starting_pods c) ≡ t
 unfolding starting_pods ready_pods is_starting is_ready is_live_pod
 starting_or_ready c p h =
     let both = filter_member (is_starting c) p (each_row created_by c) h in
-    contains-filter (is_ready c) p (each_row created_by c) ∙ by (contains p (each_row created_by c)) (contains p (each_row readied_by c)) (not (contains p (each_row drained_by c))) (not (contains p (each_row removed_by c))) both.1
+    contains-filter (is_ready c) p (each_row created_by c) ∙ by (contains p (each_row created_by c)) (contains p (each_row readied_by c)) (not (contains p (each_row drained_by c))) (not (contains p (each_row gone_by c))) both.1
   where
     by : (a x d g : Bool) → (not x && d && g) ≡ true → (a && (x && d && g)) ≡ false
     by true true d g h = absurd (cc)

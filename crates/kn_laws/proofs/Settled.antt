@@ -9,7 +9,7 @@ use Rattle.std.proofs.lemmas.List.Sums.{sum_by-cons}
 use Rattle.kn_event.specs.declared.entry.Entry.{Entry}
 use Rattle.kn_event.specs.declared.entry.Row.TheVariants as row
 use Rattle.kn_event.specs.declared.revision.Spec.{Spec}
-use Rattle.kn_trace.specs.Rows.{brought_to, created_by, drained_by, limit_by, readied_by, removed_by}
+use Rattle.kn_trace.specs.Rows.{brought_to, created_by, drained_by, limit_by, readied_by, gone_by}
 use Rattle.kn_trace.specs.Trace.{Trace, entry, assigned, at_pod, contains, draining, each_row, ended, has_begun, has_free_seat, has_not_begun, has_run, held, is_draining, is_empty, is_live_pod, is_ready, is_running, limit_of, live_pods, queued_at, ready_pods, running_at}
 use Rattle.kn_trace.specs.Capacity.{capacity, in_use, seats_of}
 use Rattle.kn_trace.specs.Choice.{choice}
@@ -115,7 +115,7 @@ busier-remove : (c : Trace) (t p : ℕ) → Busier c (c ++ entry t (row.Remove p
 busier-remove c t p = record {
   queued = λ q x k. rw (queued_at-quiet c e q quiet) at k;
   free = λ q. free-less c e q refl (rw (running_at-quiet c e q quiet) (omega arith));
-  pods = λ q h. contains-live_pods c q ∙ by (contains q (each_row created_by c)) (contains q (each_row removed_by c)) (p == q) (sym (contains-live_pods (c ++ e ∷ []) q ∙ rw (contains-push created_by c e q, contains-push removed_by c e q) refl) ∙ h);
+  pods = λ q h. contains-live_pods c q ∙ by (contains q (each_row created_by c)) (contains q (each_row gone_by c)) (p == q) (sym (contains-live_pods (c ++ e ∷ []) q ∙ rw (contains-push created_by c e q, contains-push gone_by c e q) refl) ∙ h);
 }
   where
     e : Entry
@@ -259,7 +259,7 @@ unfolding ready_pods is_ready is_live_pod
 ready-remove c t p drained =
     view-same created_by (is_ready c) (is_ready (c ++ entry t (row.Remove p) ∷ [])) c (entry t (row.Remove p)) refl
     (λ q. is_ready-push c (entry t (row.Remove p)) q
-    ∙ by (contains q (each_row readied_by c)) (contains q (each_row drained_by c)) (contains q (each_row removed_by c)) (p == q) (λ e. subst (λ (x : ℕ). contains x (each_row drained_by c) ≡ true) (eqb-true p q e) drained))
+    ∙ by (contains q (each_row readied_by c)) (contains q (each_row drained_by c)) (contains q (each_row gone_by c)) (p == q) (λ e. subst (λ (x : ℕ). contains x (each_row drained_by c) ≡ true) (eqb-true p q e) drained))
   where
     by : (a d g m : Bool) → (m ≡ true → d ≡ true) → ((a || false) && not (d || false) && not (g || m)) ≡ (a && not d && not g)
     by false d g m h = refl

@@ -7,7 +7,7 @@ use Rattle.kn_event.specs.declared.entry.Entry.{Entry}
 use Rattle.kn_event.specs.declared.entry.Row.TheVariants as row
 use Rattle.kn_event.specs.declared.event.Event.{Event}
 use Rattle.kn_event.specs.declared.revision.Spec.{Spec}
-use Rattle.kn_trace.specs.Rows.{created_by, drained_by, removed_by}
+use Rattle.kn_trace.specs.Rows.{created_by, drained_by, gone_by}
 use Rattle.kn_trace.specs.Trace.{Trace, entry, assigned, at_pod, contains, draining, each_row, ended, first_of, has_begun, has_free_seat, has_not_begun, has_run, held, is_draining, is_empty, is_live_pod, queued_at}
 use Rattle.kn_trace.specs.Settling.{assignments_of, held_assignments, next_choice, promotions, promotions_at, removals}
 use Rattle.kn_trace.specs.Events.{act_rows, before_settling, due, due_by, expiries, react}
@@ -175,7 +175,7 @@ draining-less : (c : Trace) (t p : ℕ) → draining (c ++ entry t (row.Remove p
 unfolding draining is_draining is_live_pod
 draining-less c t p =
     view-less created_by (is_draining c) (is_draining (c ++ entry t (row.Remove p) ∷ [])) c (entry t (row.Remove p)) p refl
-    (λ q. is_draining-push c (entry t (row.Remove p)) q ∙ by (contains q (each_row drained_by c)) (contains q (each_row removed_by c)) (p == q))
+    (λ q. is_draining-push c (entry t (row.Remove p)) q ∙ by (contains q (each_row drained_by c)) (contains q (each_row gone_by c)) (p == q))
   where
     by : (d g m : Bool) → ((d || false) && not (g || m)) ≡ ((d && not g) && not m)
     by false g m = refl

@@ -7,7 +7,7 @@ use Rattle.kn_event.specs.declared.entry.Row.{Row}
 use Rattle.kn_event.specs.declared.entry.Row.TheVariants as row
 use Rattle.kn_event.specs.declared.revision.Spec.{Spec}
 use Rattle.kn_trace.specs.declared.candidate.Cand.{Cand}
-use Rattle.kn_trace.specs.Rows.{arrived_by, assigned_by, taken_by, turned_by, created_by, readied_by, drained_by, removed_by}
+use Rattle.kn_trace.specs.Rows.{arrived_by, assigned_by, taken_by, turned_by, created_by, readied_by, drained_by, gone_by}
 use Rattle.kn_trace.specs.Trace.{Trace, contains, each_row, arrivals, created, direct_turn, assigned, ended, has_run, limit_of, live, pod_of}
 use Rattle.kn_trace.specs.Capacity.{seats_of}
 use Rattle.kn_trace.specs.Choice.{assignment_count, chosen_pod, round_robin_place}
@@ -58,7 +58,7 @@ readiness_of c p = readiness_by (contains p (each_row drained_by c)) (contains p
 -- the pod that an entry creates, if it is live
 unfoldable pub pod_record : Trace → Option ℕ → Option Pod
 pod_record c None = None
-pod_record c (Some p) = then_some (not (contains p (each_row removed_by c))) (record { number = p; limit = limit_of c p; readiness = readiness_of c p })
+pod_record c (Some p) = then_some (not (contains p (each_row gone_by c))) (record { number = p; limit = limit_of c p; readiness = readiness_of c p })
 
 unfoldable pub pods : Trace → List Pod
 pods c = filter_map (λ (e : Entry). pod_record c (created_by e.row)) c

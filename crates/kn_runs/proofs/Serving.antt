@@ -10,7 +10,7 @@ use Rattle.kn_event.specs.declared.event.Act.TheVariants as act
 use Rattle.kn_event.specs.declared.revision.Kind.{Kind}
 use Rattle.kn_event.specs.declared.revision.Kind.TheVariants as kind
 use Rattle.kn_event.specs.declared.revision.Spec.{Spec}
-use Rattle.kn_trace.specs.Rows.{admitted_by, arrived_by, assigned_by, brought_to, created_by, drained_by, ended_by, limit_by, mode_by, phase_by, readied_by, removed_by, run_by, taken_by, turned_by}
+use Rattle.kn_trace.specs.Rows.{admitted_by, arrived_by, assigned_by, brought_to, created_by, drained_by, ended_by, limit_by, mode_by, phase_by, readied_by, gone_by, run_by, taken_by, turned_by}
 use Rattle.kn_trace.specs.Trace.{Trace, entry, arrivals, assigned, contains, direct_turn, draining, each_row, ended, has_begun, has_free_seat, has_not_begun, has_run, held, is_draining, is_live_pod, is_ready, last_of, limit_of, live, live_pods, queued_at, ready_pods}
 use Rattle.kn_trace.specs.Capacity.{pod_full}
 use Rattle.kn_trace.specs.Scale.{mode_of, phase_of}
@@ -27,7 +27,7 @@ pub record IsServing (d : Trace) (m k : ℕ) : Type 0 where
   pub created : each_row created_by d ≡ 0 ∷ []
   pub readied : each_row readied_by d ≡ 0 ∷ []
   pub drained : each_row drained_by d ≡ []
-  pub removed : each_row removed_by d ≡ []
+  pub removed : each_row gone_by d ≡ []
   pub limit : each_row (limit_by 0) d ≡ 0 ∷ []
   pub admitted : each_row admitted_by d ≡ []
   pub assigned : each_row assigned_by d ≡ []
@@ -46,7 +46,7 @@ goes d t m h =
       created = each-none created_by d e _ refl h.created;
       readied = each-none readied_by d e _ refl h.readied;
       drained = each-none drained_by d e _ refl h.drained;
-      removed = each-none removed_by d e _ refl h.removed;
+      removed = each-none gone_by d e _ refl h.removed;
       limit = each-none (limit_by 0) d e _ refl h.limit;
       admitted = each-none admitted_by d e _ refl h.admitted;
       assigned = each-none assigned_by d e _ refl h.assigned;
@@ -66,7 +66,7 @@ runs d t m h =
       created = each-none created_by d e _ refl h.created;
       readied = each-none readied_by d e _ refl h.readied;
       drained = each-none drained_by d e _ refl h.drained;
-      removed = each-none removed_by d e _ refl h.removed;
+      removed = each-none gone_by d e _ refl h.removed;
       limit = each-none (limit_by 0) d e _ refl h.limit;
       admitted = each-none admitted_by d e _ refl h.admitted;
       assigned = each-none assigned_by d e _ refl h.assigned;
@@ -231,7 +231,7 @@ stays d t m k r h =
       created = each-none created_by d e _ refl h.created;
       readied = each-none readied_by d e _ refl h.readied;
       drained = each-none drained_by d e _ refl h.drained;
-      removed = each-none removed_by d e _ refl h.removed;
+      removed = each-none gone_by d e _ refl h.removed;
       limit = each-none (limit_by 0) d e _ refl h.limit;
       admitted = each-none admitted_by d e _ refl h.admitted;
       assigned = each-none assigned_by d e _ refl h.assigned;

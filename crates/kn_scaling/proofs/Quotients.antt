@@ -18,7 +18,7 @@ cover_more whole part count positive few =
     let below : count * part < div_ceil whole part * part = omega (arith, times.0, few) in
     let more : count < div_ceil whole part = lt_of_mul-lt-mul_right part below in omega (arith, more)
 
--- an average of at most 20,000 at a target of at least 0.01
-pub pods_fit : (num den target : ℕ) → num ≤ 20000 * den → 1000000 ≤ target → num * 100000000 ≤ 2000000 * (den * target)
+-- an average of at most 1,000,000 at a target of at least 0.01
+pub pods_fit : (num den target : ℕ) → num ≤ 1000000 * den → 1000000 ≤ target → num * 100000000 ≤ 100000000 * (den * target)
 pods_fit num den target value least =
     let some : den * 1000000 ≤ den * target = mul-le-mul (omega arith) least in omega (arith, some, value)

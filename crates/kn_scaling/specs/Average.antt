@@ -1,4 +1,4 @@
--- The average load over a window of seconds.
+-- The average over a window of seconds: of loads, or of requests that came.
 use Rattle.std.specs.Prelude.{ℕ, Bool, false, not, ◌+◌, ◌-◌, ◌*◌, ◌/◌, ◌<◌, ◌≤◌, ◌&&◌, nat_lt, nat_le, List, [], ◌∷◌, Option, None, Some, is_some, unwrap_or, if◌then◌else◌}
 use Rattle.std.specs.List.{filter, fold, list_any, range_with_len, sum_by}
 use Rattle.std.proofs.Common.{subst, sym, add-one, lit<}
@@ -10,7 +10,8 @@ use Rattle.kn_scaling.specs.declared.average.SampleRun.{SampleRun}
 abbrev pub second_of : ℕ → ℕ
 second_of time = time / 1000
 
--- the load of each second that is a sample, in milliseconds
+-- the value of each second that is a sample, in thousandths: its load, which is milliseconds of requests, or 1,000 for each
+-- request that came in it
 abbrev pub Samples : Type 0
 Samples = ℕ → Option ℕ
 
@@ -34,7 +35,7 @@ is_any_sample samples ss = list_any (is_sample samples) ss
 
 abbrev pub is_spell_start_by : Option ℕ → Samples → ℕ → ℕ → Bool
 is_spell_start_by None samples n s = false
-is_spell_start_by (Some load) samples n s = not (is_any_sample samples (seconds (s + 1 - n) s))
+is_spell_start_by (Some value) samples n s = not (is_any_sample samples (seconds (s + 1 - n) s))
 
 -- a sample starts a spell where none of the n - 1 seconds before it is one: its earlier neighbour is missing, or
 -- lies n or more seconds before it
@@ -65,14 +66,14 @@ abbrev pub average_to : Samples → ℕ → ℕ → Option ℕ → Option Frac
 average_to samples n end None = None
 average_to samples n end (Some last) = Some (load_over (window_sum samples n end) (last - first_write samples n end))
 
--- the average load of the n seconds before this one, never reduced; none where no sample lies in them
+-- the average of the n seconds before this one, never reduced; none where no sample lies in them
 unfoldable pub window_average : Samples → ℕ → ℕ → Option Frac
 window_average samples n end = average_to samples n end (last_sample samples n end)
 
--- what a window of an hour at most gives: at most 20,000 requests at once
+-- what a window of an hour at most gives: a second's value is at most a million requests
 pub record IsAverage (average : Frac) : Type 0 where
   pub den : average.den ≤ 3600000
-  pub value : average.num ≤ 20000 * average.den
+  pub value : average.num ≤ 1000000 * average.den
 
 -- ---- how samples come
 
@@ -83,11 +84,11 @@ no_samples s = None
 abbrev pub is_in_run : ℕ → ℕ → ℕ → Bool
 is_in_run second count s = nat_le second s && nat_lt s (second + count)
 
--- what a run makes of the load of the second s
+-- what a run makes of the value of the second s
 abbrev pub load_after : Option ℕ → SampleRun → ℕ → Option ℕ
 load_after load run s = if is_in_run run.second run.count s then Some run.load else load
 
--- the seconds of the run become samples, each with its load
+-- the seconds of the run become samples, each with its value
 unfoldable pub with_run : Samples → SampleRun → Samples
 with_run samples run s = load_after (samples s) run s
 

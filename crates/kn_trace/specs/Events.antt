@@ -19,7 +19,7 @@ use Rattle.kn_event.specs.declared.revision.Spec.{Spec}
 use Rattle.kn_event.specs.declared.revision.Kind.{Kind}
 use Rattle.kn_event.specs.declared.revision.Kind.TheVariants as kind
 use Rattle.kn_trace.specs.Rows.{taken_by}
-use Rattle.kn_trace.specs.Trace.{Trace, entry, arrivals, contains, first_of, has_not_begun, is_empty, is_running, is_starting, live, live_pods, ready_pods, direct_turn, stand_of, waiting}
+use Rattle.kn_trace.specs.Trace.{Trace, entry, arrivals, contains, first_of, has_not_begun, is_empty, is_running, is_starting, at_pod, live, live_pods, ready_pods, direct_turn, stand_of, waiting}
 use Rattle.kn_trace.specs.Capacity.{breaker_full, pod_full}
 use Rattle.kn_trace.specs.Scale.{creations, is_same_phase, mode_of, opening_scale, phase_of, tick_rows, wake_rows, wanted, where_true}
 use Rattle.kn_trace.specs.Settling.{settling}
@@ -57,7 +57,7 @@ abbrev pub arrival_row : Mode → Spec → Trace → List ℕ → ℕ → Row
 arrival_row mode.Serve s c (p ∷ ps) tag = direct_row c (p ∷ ps)
 arrival_row _ s c ready tag = admission_row s c tag
 
--- the row of the act itself; a pass and a tick have none
+-- the row of the act itself; a pass and a tick have none, and of a lost pod it is the last one
 unfoldable pub act_row : Spec → Trace → Act → Option Row
 act_row s c (act.Arrive tag) =
     Some (if nat_le live_most (length (live c)) then row.Overload (arrivals c) else arrival_row (mode_of c) s c (ready_pods c) tag)
@@ -67,7 +67,21 @@ act_row s c act.Pass = None
 act_row s c (act.Ready p) =
     Some (if contains p (live_pods c) then (if is_starting c p then row.Ready p else row.NotStarting p) else row.NoPod p)
 act_row s c (act.Limit p n) = Some (if contains p (live_pods c) then row.Limit p n else row.NoPod p)
+act_row s c (act.Lost p) = Some (if contains p (live_pods c) then row.LostPod p else row.NoPod p)
 act_row s c act.Tick = None
+
+-- the live requests at pod p, in the order of their numbers
+unfoldable pub lost_with : Trace → ℕ → List ℕ
+lost_with c p = filter (λ r. contains r (at_pod c p)) (live c)
+
+-- who ends with a live pod that is lost, before it goes itself
+abbrev pub losses_at : Bool → ℕ → Trace → ℕ → List Entry
+losses_at false t c p = []
+losses_at true t c p = map (λ r. entry t (row.LostRequest r)) (lost_with c p)
+
+abbrev pub losses : ℕ → Trace → Act → List Entry
+losses t c (act.Lost p) = losses_at (contains p (live_pods c)) t c p
+losses t c _ = []
 
 abbrev pub entries_of : ℕ → Option Row → List Entry
 entries_of t None = []
@@ -84,10 +98,15 @@ scaler_rows kind.Kpa s t c act.Tick did = tick_rows s t c
 scaler_rows kind.Kpa s t c (act.Arrive tag) (Some (row.Admit r g)) = wake_where (wanted s c == 0) s t c
 scaler_rows _ s t c _ did = []
 
-unfoldable pub act_rows : Spec → ℕ → Trace → Act → List Entry
-act_rows s t c a =
+-- the row that answers the act, and what the autoscaler adds
+unfoldable pub answer_rows : Spec → ℕ → Trace → Act → List Entry
+answer_rows s t c a =
     let did = act_row s c a in
     entries_of t did ++ scaler_rows s.kind s t (c ++ entries_of t did) a did
+
+-- only a lost pod has rows of its requests first
+unfoldable pub act_rows : Spec → ℕ → Trace → Act → List Entry
+act_rows s t c a = losses t c a ++ answer_rows s t c a
 
 -- ---- then the phase
 

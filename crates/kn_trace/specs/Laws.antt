@@ -7,7 +7,7 @@ use Rattle.kn_event.specs.declared.entry.Phase.TheVariants as phase
 use Rattle.kn_event.specs.declared.event.Event.{Event}
 use Rattle.kn_event.specs.declared.revision.Spec.{Spec}
 use Rattle.kn_trace.specs.Rows.{outcome_by}
-use Rattle.kn_trace.specs.Trace.{Trace, entry, each_row, contains, first_of, held, at_pod, queued_at, ready_pods, draining, has_free_seat}
+use Rattle.kn_trace.specs.Trace.{Trace, entry, each_row, contains, first_of, held, at_pod, live_pods, queued_at, ready_pods, draining, has_free_seat}
 use Rattle.kn_trace.specs.Capacity.{capacity, in_use, breaker_full, pod_full}
 use Rattle.kn_trace.specs.Scale.{is_same_phase, phase_of}
 use Rattle.kn_trace.specs.Events.{act_row, expiries, react}
@@ -51,10 +51,11 @@ IsWithinLimits s c (row.Run r) = (p : ℕ) × IsRunnable c r p
 IsWithinLimits s c (row.Direct r p) = IsDirectable c p
 IsWithinLimits s c _ = ⊤
 
--- ---- removal: a pod that is removed drains and has no request
+-- ---- removal: a pod that is removed drains and has no request; one that is lost is live, and has none any more
 
 abbrev pub RemovesEmpty : Trace → Row → Type 0
 RemovesEmpty c (row.Remove p) = (contains p (draining c) ≡ true) × (at_pod c p ≡ [])
+RemovesEmpty c (row.LostPod p) = (contains p (live_pods c) ≡ true) × (at_pod c p ≡ [])
 RemovesEmpty c _ = ⊤
 
 -- ---- justified queue-full: the breaker is full, or the pod that is named

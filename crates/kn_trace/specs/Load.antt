@@ -1,9 +1,11 @@
--- How many milliseconds of each second the requests took, and which seconds are samples.
-use Rattle.std.specs.Prelude.{ℕ, Bool, false, not, ◌+◌, ◌-◌, ◌*◌, ◌||◌, ◌==◌, nat_lt, min, max, List, Option, None, Some, option_map}
+-- How many milliseconds of each second the requests took, how many came in it, and which seconds are samples.
+use Rattle.std.specs.Prelude.{ℕ, Bool, false, not, ◌+◌, ◌-◌, ◌*◌, ◌||◌, ◌==◌, nat_lt, min, max, List, length, Option, None, Some, option_map, if◌then◌else◌}
 use Rattle.std.specs.Bool.{then_some}
 use Rattle.std.specs.List.{filter, filter_map, sum_by}
 use Rattle.kn_event.specs.declared.entry.Entry.{Entry}
-use Rattle.kn_scaling.specs.Average.{Samples}
+use Rattle.kn_event.specs.declared.revision.Metric.{Metric}
+use Rattle.kn_event.specs.declared.revision.Metric.TheVariants as metric
+use Rattle.kn_scaling.specs.Average.{Samples, second_of}
 use Rattle.kn_trace.specs.Rows.{taken_by, ended_by}
 use Rattle.kn_trace.specs.Trace.{Trace, first_of, is_empty, ready_pods}
 
@@ -51,12 +53,31 @@ has_ready_pod c = not (is_empty (ready_pods c))
 abbrev pub entries_before : ℕ → Trace → Trace
 entries_before t c = filter (λ e. nat_lt e.time t) c
 
--- a second is a sample where it has a load, or a pod is Ready at its end, which is after all entries before the next
--- second. Before the start there is neither
-abbrev pub sample_of : List Span → Trace → Samples
-sample_of all c s =
-    let load = load_of all s in
-    then_some (nat_lt 0 load || has_ready_pod (entries_before (1000 * (s + 1)) c)) load
+-- the most requests of one second that count
+abbrev pub count_most : ℕ
+count_most = 1000000
 
-unfoldable pub samples : Trace → Samples
-samples c = sample_of (spans c) c
+-- the request that is taken in with this entry, where that is in second s
+abbrev pub taken_in : ℕ → Entry → Option ℕ
+taken_in s e = if second_of e.time == s then taken_by e.row else None
+
+-- how many requests were taken in in second s, through the activator or past it
+unfoldable pub count_in : Trace → ℕ → ℕ
+count_in c s = min count_most (length (filter_map (taken_in s) c))
+
+-- what a second counts for: its load, or 1,000 for each request that was taken in in it
+abbrev pub value_of : Metric → ℕ → ℕ → ℕ
+value_of metric.Concurrency load count = load
+value_of metric.Rps load count = 1000 * count
+
+-- a second is a sample where its value or its load is above 0, or a pod is Ready at its end, which is after all entries
+-- before the next second. Before the start there is none of these
+abbrev pub sample_of : Metric → List Span → Trace → Samples
+sample_of m all c s =
+    let load = load_of all s in
+    let value = value_of m load (count_in c s) in
+    then_some (nat_lt 0 value || nat_lt 0 load || has_ready_pod (entries_before (1000 * (s + 1)) c)) value
+
+-- the value of each second that is a sample, by the metric
+unfoldable pub samples : Metric → Trace → Samples
+samples m c = sample_of m (spans c) c

@@ -52,6 +52,7 @@ abbrev pub ended_by : Row → Option ℕ
 ended_by (row.Finish r ok) = Some r
 ended_by (row.Expire r) = Some r
 ended_by (row.Cancel r) = Some r
+ended_by (row.LostRequest r) = Some r
 ended_by _ = None
 
 -- the request whose outcome it is
@@ -61,6 +62,7 @@ outcome_by (row.Overload r) = Some r
 outcome_by (row.Finish r ok) = Some r
 outcome_by (row.Expire r) = Some r
 outcome_by (row.Cancel r) = Some r
+outcome_by (row.LostRequest r) = Some r
 outcome_by _ = None
 
 -- the request that comes to pod p
@@ -95,9 +97,11 @@ abbrev pub drained_by : Row → Option ℕ
 drained_by (row.Drain p) = Some p
 drained_by _ = None
 
-abbrev pub removed_by : Row → Option ℕ
-removed_by (row.Remove p) = Some p
-removed_by _ = None
+-- the pod that goes: removed, or lost
+abbrev pub gone_by : Row → Option ℕ
+gone_by (row.Remove p) = Some p
+gone_by (row.LostPod p) = Some p
+gone_by _ = None
 
 -- the limit that pod p gets
 abbrev pub limit_by : ℕ → Row → Option ℕ

@@ -73,7 +73,7 @@ standing_of s c = record {
 -- what the next decision looks back on
 unfoldable pub past_of : Spec → Trace → Past
 past_of s c = record {
-  samples = samples c;
+  samples = samples s.metric c;
   decisions = reverse (filter_map decided_by c);
   standing = standing_of s c;
   reached = initial_reached s c;

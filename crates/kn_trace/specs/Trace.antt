@@ -5,7 +5,7 @@ use Rattle.kn_event.specs.declared.entry.Entry.{Entry}
 use Rattle.kn_event.specs.declared.entry.Row.{Row}
 use Rattle.kn_event.specs.declared.event.Stand.{Stand}
 use Rattle.kn_event.specs.declared.event.Stand.TheVariants as stand
-use Rattle.kn_trace.specs.Rows.{arrived_by, admitted_by, taken_by, assigned_by, run_by, ended_by, brought_to, pod_by, turned_by, created_by, readied_by, drained_by, removed_by, limit_by}
+use Rattle.kn_trace.specs.Rows.{arrived_by, admitted_by, taken_by, assigned_by, run_by, ended_by, brought_to, pod_by, turned_by, created_by, readied_by, drained_by, gone_by, limit_by}
 
 abbrev pub Trace : Type 0
 Trace = List Entry
@@ -122,13 +122,13 @@ unfoldable pub created : Trace → ℕ
 created c = length (each_row created_by c)
 
 unfoldable pub is_live_pod : Trace → ℕ → Bool
-is_live_pod c p = not (contains p (each_row removed_by c))
+is_live_pod c p = not (contains p (each_row gone_by c))
 
--- created, and not removed
+-- created, and neither removed nor lost
 unfoldable pub live_pods : Trace → List ℕ
 live_pods c = filter (is_live_pod c) (each_row created_by c)
 
--- not ready yet, nor drained, nor removed
+-- not ready yet, nor drained, nor gone
 unfoldable pub is_starting : Trace → ℕ → Bool
 is_starting c p = not (contains p (each_row readied_by c)) && not (contains p (each_row drained_by c)) && is_live_pod c p
 
@@ -138,14 +138,14 @@ starting_pods c = filter (is_starting c) (each_row created_by c)
 unfoldable pub is_ready : Trace → ℕ → Bool
 is_ready c p = contains p (each_row readied_by c) && not (contains p (each_row drained_by c)) && is_live_pod c p
 
--- ready, and neither drained nor removed
+-- ready, and neither drained nor gone
 unfoldable pub ready_pods : Trace → List ℕ
 ready_pods c = filter (is_ready c) (each_row created_by c)
 
 unfoldable pub is_draining : Trace → ℕ → Bool
 is_draining c p = contains p (each_row drained_by c) && is_live_pod c p
 
--- drained, and not removed
+-- drained, and not gone
 unfoldable pub draining : Trace → List ℕ
 draining c = filter (is_draining c) (each_row created_by c)
 

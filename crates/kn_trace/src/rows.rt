@@ -1,6 +1,6 @@
 //! What one row says.
 ghost use Rattle.std.specs.Prelude.{◌≡◌};
-ghost use Rattle.kn_trace.specs.Rows.{arrived_by, admitted_by, taken_by, assigned_by, run_by, ended_by, brought_to, pod_by, created_by, readied_by, drained_by, removed_by, limit_by};
+ghost use Rattle.kn_trace.specs.Rows.{arrived_by, admitted_by, taken_by, assigned_by, run_by, ended_by, brought_to, pod_by, created_by, readied_by, drained_by, gone_by, limit_by};
 
 use kn_event::Row;
 
@@ -62,7 +62,10 @@ pub fn ended_by(row: &Row) -> Option<u64>
     ensures { result ≡ ended_by row.now }
 {
     match *row {
-        Row::Finish(number, _) | Row::Expire(number) | Row::Cancel(number) => Some(number),
+        Row::Finish(number, _)
+        | Row::Expire(number)
+        | Row::Cancel(number)
+        | Row::LostRequest(number) => Some(number),
         _ => None,
     }
 }
@@ -117,12 +120,12 @@ pub fn drained_by(row: &Row) -> Option<u64>
     }
 }
 
-/// The pod that is removed.
-pub fn removed_by(row: &Row) -> Option<u64>
-    ensures { result ≡ removed_by row.now }
+/// The pod that goes: removed, or lost.
+pub fn gone_by(row: &Row) -> Option<u64>
+    ensures { result ≡ gone_by row.now }
 {
     match *row {
-        Row::Remove(number) => Some(number),
+        Row::Remove(number) | Row::LostPod(number) => Some(number),
         _ => None,
     }
 }

@@ -1,6 +1,6 @@
 //! What a trace says, counted over its entries. Each function reads them all, and takes no memory.
 ghost use Rattle.std.specs.Prelude.{◌≡◌, ◌+◌, ◌<◌, ◌≤◌, ℕ, length, Option};
-ghost use Rattle.kn_trace.specs.Rows.{readied_by, drained_by, removed_by, taken_by};
+ghost use Rattle.kn_trace.specs.Rows.{readied_by, drained_by, gone_by, taken_by};
 ghost use Rattle.kn_trace.specs.Trace.{each_row, contains, arrivals, ended, assigned, has_run, has_begun, has_not_begun, is_running, is_held, live, in_breaker, held, at_pod, running_at, queued_at, waiting, pod_of, stand_of, stand_at, stand_of_arrived, created, is_live_pod, live_pods, is_starting, is_ready, ready_pods, is_draining, draining, limit_of, has_free_seat};
 
 use crate::rows;
@@ -245,21 +245,21 @@ fn is_drained(entries: &[Entry], pod: u64) -> bool
         .any(|p| p == pod)
 }
 
-fn is_removed(entries: &[Entry], pod: u64) -> bool
-    ensures { result ≡ contains pod (each_row removed_by entries.now) }
+fn is_gone(entries: &[Entry], pod: u64) -> bool
+    ensures { result ≡ contains pod (each_row gone_by entries.now) }
 {
     entries
         .iter()
-        .filter_map(|e| rows::removed_by(&e.row))
+        .filter_map(|e| rows::gone_by(&e.row))
         .any(|p| p == pod)
 }
 
-/// Whether a created pod has not been removed.
+/// Whether a created pod has neither been removed nor lost.
 #[tactic(auto, unfolding(crate::specs::Trace::is_live_pod))]
 pub fn is_live_pod(entries: &[Entry], pod: u64) -> bool
     ensures { result ≡ is_live_pod entries.now pod }
 {
-    !is_removed(entries, pod)
+    !is_gone(entries, pod)
 }
 
 /// Whether the pod was created and is live.

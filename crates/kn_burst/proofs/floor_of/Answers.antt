@@ -4,7 +4,7 @@ use Rattle.kn_burst.proofs.floor_of.Goals as goal
 
 fits : (c : goal.After-div_euclid) → FitsSigned w64 c.div_euclid.result
 fits c =
-    floor_fits c.div_euclid.result c.args.seats c.args.taken c.args.den 1020000000 c.div_euclid.ensures
+    floor_fits c.div_euclid.result c.args.seats c.args.taken c.args.den 2000000000 c.div_euclid.ensures
     (omega (arith, c.requires)) (omega (arith, c.requires)) (omega (arith, c.requires)) (omega (arith, c.requires)) (omega (arith, c.requires)) (omega arith)
 
 pub overflow_cast-result : goal.overflow_cast-result

@@ -59,6 +59,8 @@ pub fn over_from_the_threshold()
         ≡ record { dspc = 2; dppc = 2; stable_count = 2; panic_count = 2; over = false } }
     ensures without_pods { desired_counts (scaled 10) 0 (over_seconds 7001 1) (over_seconds 14000 1)
         ≡ record { dspc = 2; dppc = 2; stable_count = 2; panic_count = 2; over = true } }
+    ensures without_pods_below { desired_counts (scaled 10) 0 (over_seconds 7000 1) (over_seconds 7000 1)
+        ≡ record { dspc = 1; dppc = 1; stable_count = 1; panic_count = 1; over = false } }
 {}
 
 /// At a target of 1 and rates of 1.1 up and 2 down, two pods become 2.2 at most, and five 2.5 at least.
@@ -166,6 +168,7 @@ pub fn some_pods_wanted()
     ensures with_one { zero_rule (scaled 1) 5000 1 4 (standing_at Activating 0 Proxy 0) ≡ answer 4 true Active }
     ensures never_to_zero { zero_rule (record (scaled 1) { to_zero = false }) 1000000 1 0 (standing_at Active 0 Serve 0) ≡ answer 1 true Active }
     ensures never_to_zero_inactive { zero_rule (record (scaled 1) { to_zero = false }) 1000000 0 0 (standing_at Inactive 0 Proxy 0) ≡ answer 1 true Activating }
+    ensures never_to_zero_activating { zero_rule (record (scaled 1) { to_zero = false }) 1000000 0 0 (record (standing_at Activating 0 Proxy 0) { want = 7 }) ≡ answer 1 true Activating }
 {}
 
 /// Nothing is wanted any more: an activating revision stays, and an active one becomes inactive after a stable window.
@@ -173,6 +176,7 @@ pub fn some_pods_wanted()
 pub fn going_to_zero()
     ensures activating { zero_rule (scaled 1) 1000000 0 0 (record (standing_at Activating 0 Proxy 0) { want = 7 }) ≡ answer 7 false Activating }
     ensures active { zero_rule (scaled 1) 60999 1 0 (standing_at Active 1000 Serve 1000) ≡ answer 1 true Active }
+    ensures active_without_a_pod { zero_rule (scaled 1) 60999 0 0 (standing_at Active 1000 Serve 1000) ≡ answer 1 true Activating }
     ensures active_for_a_window { zero_rule (scaled 1) 61000 1 0 (standing_at Active 1000 Serve 1000) ≡ answer 0 false Inactive }
 {}
 

@@ -16,11 +16,13 @@ fn parts_of_rows(rt: HostRuntime) {
         (Row::Finish(7, false), "ended"),
         (Row::Expire(7), "ended"),
         (Row::Cancel(7), "ended"),
+        (Row::LostRequest(7), "ended"),
         (Row::Create(7, 9), "created"),
         (Row::Limit(7, 9), ""),
         (Row::Ready(7), "readied"),
         (Row::Drain(7), "drained"),
-        (Row::Remove(7), "removed"),
+        (Row::Remove(7), "gone"),
+        (Row::LostPod(7), "gone"),
         (Row::NoData, ""),
         (Row::Phase(Phase::Active), ""),
         (Row::Mode(Mode::Serve), ""),
@@ -39,7 +41,7 @@ fn parts_of_rows(rt: HostRuntime) {
             ("created", rows::created_by(&row)),
             ("readied", rows::readied_by(&row)),
             ("drained", rows::drained_by(&row)),
-            ("removed", rows::removed_by(&row)),
+            ("gone", rows::gone_by(&row)),
         ] {
             let is_said = said.split(' ').any(|word| word == part);
             assert_eq!(rt; number == Some(7), is_said, "{row:?}, {number:?}");
