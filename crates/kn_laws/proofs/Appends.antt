@@ -45,6 +45,7 @@ live-push c t (row.Run r) keeps = live_requests-run c t r
 live-push c t (row.Finish r ok) keeps = live_requests-end c (entry t (row.Finish r ok)) r refl refl refl refl (λ q. refl)
 live-push c t (row.Expire r) keeps = live_requests-end c (entry t (row.Expire r)) r refl refl refl refl (λ q. refl)
 live-push c t (row.Cancel r) keeps = live_requests-end c (entry t (row.Cancel r)) r refl refl refl refl (λ q. refl)
+live-push c t (row.LostRequest r) keeps = live_requests-end c (entry t (row.LostRequest r)) r refl refl refl refl (λ q. refl)
 live-push c t x keeps = live_requests-quiet c (entry t x) refl refl refl refl (λ q. refl)
 
 -- ---- pods

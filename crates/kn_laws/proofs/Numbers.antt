@@ -22,6 +22,7 @@ pub ended_named : (x : Row) → (ended_by x ≡ None) ⊎ (ended_by x ≡ named_
 ended_named (row.Finish r ok) = inr refl
 ended_named (row.Expire r) = inr refl
 ended_named (row.Cancel r) = inr refl
+ended_named (row.LostRequest r) = inr refl
 ended_named _ = inl refl
 
 pub taken_named : (x : Row) → (taken_by x ≡ None) ⊎ (taken_by x ≡ named_by x)
@@ -90,6 +91,7 @@ pub outcome_parts : (x : Row) → ((ended_by x ≡ outcome_by x) × (refused_by 
 outcome_parts (row.Finish r ok) = inl (refl, refl)
 outcome_parts (row.Expire r) = inl (refl, refl)
 outcome_parts (row.Cancel r) = inl (refl, refl)
+outcome_parts (row.LostRequest r) = inl (refl, refl)
 outcome_parts (row.QueueFull r pod) = inr (refl, refl)
 outcome_parts (row.Overload r) = inr (refl, refl)
 outcome_parts _ = inl (refl, refl)

@@ -19,6 +19,7 @@ use Rattle.kn_laws.proofs.Numbers.{and_parts, distinct-option, false_unless, fil
 
 pub removed_named : (x : Row) → (gone_by x ≡ None) ⊎ (gone_by x ≡ pod_named_by x)
 removed_named (row.Remove p) = inr refl
+removed_named (row.LostPod p) = inr refl
 removed_named _ = inl refl
 
 pub drained_named : (x : Row) → (drained_by x ≡ None) ⊎ (drained_by x ≡ pod_named_by x)
@@ -135,4 +136,5 @@ proper_keeps_pods s c (row.Limit p n) num h = keeps_live_pod c (row.Limit p n) p
 proper_keeps_pods s c (row.Ready p) num h = keeps_live_pod c (row.Ready p) p num (starting_live c p h) refl refl
 proper_keeps_pods s c (row.Drain p) num h = keeps_live_pod c (row.Drain p) p num (drain_order_live c p h) refl refl
 proper_keeps_pods s c (row.Remove p) num h = keeps_live_pod c (row.Remove p) p num (draining_live c p h.0) refl refl
+proper_keeps_pods s c (row.LostPod p) num h = keeps_live_pod c (row.LostPod p) p num h.0 refl refl
 proper_keeps_pods s c x num h = keeps_no_pod c x refl refl

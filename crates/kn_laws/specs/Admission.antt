@@ -110,6 +110,7 @@ live_after t (row.Run r) live = begins r live
 live_after t (row.Finish r ok) live = without r live
 live_after t (row.Expire r) live = without r live
 live_after t (row.Cancel r) live = without r live
+live_after t (row.LostRequest r) live = without r live
 live_after t _ live = live
 
 abbrev pub limited : ℕ → ℕ → Pod → Pod
@@ -138,6 +139,7 @@ pods_after (row.Limit p n) all = with_limit p n all
 pods_after (row.Ready p) all = with_readiness p readied all
 pods_after (row.Drain p) all = with_readiness p drained all
 pods_after (row.Remove p) all = filter (λ q. not (p == q.number)) all
+pods_after (row.LostPod p) all = filter (λ q. not (p == q.number)) all
 pods_after _ all = all
 
 abbrev pub is_ready_now : Readiness → Bool

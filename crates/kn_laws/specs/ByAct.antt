@@ -26,7 +26,9 @@ IsByAct a (row.NotWaiting r) = a ≡ act.Cancel r
 IsByAct a (row.Ready p) = a ≡ act.Ready p
 IsByAct a (row.NotStarting p) = a ≡ act.Ready p
 IsByAct a (row.Limit p n) = a ≡ act.Limit p n
-IsByAct a (row.NoPod p) = (a ≡ act.Ready p) ⊎ ((n : ℕ) × (a ≡ act.Limit p n))
+IsByAct a (row.LostRequest r) = (p : ℕ) × (a ≡ act.Lost p)
+IsByAct a (row.LostPod p) = a ≡ act.Lost p
+IsByAct a (row.NoPod p) = (a ≡ act.Ready p) ⊎ (((n : ℕ) × (a ≡ act.Limit p n)) ⊎ (a ≡ act.Lost p))
 IsByAct a _ = ⊤
 
 -- so it is of each row that an event adds

@@ -32,11 +32,13 @@ IsProper s c (row.Run r) = (p : ℕ) × IsRunnable c r p
 IsProper s c (row.Finish r ok) = is_running c r ≡ true
 IsProper s c (row.Expire r) = contains r (waiting c) ≡ true
 IsProper s c (row.Cancel r) = contains r (waiting c) ≡ true
+IsProper s c (row.LostRequest r) = (p : ℕ) × (contains r (at_pod c p) ≡ true)
 IsProper s c (row.Create p n) = (p ≡ created c) × (AreInRange s → length (drain_order c) < pods_most)
 IsProper s c (row.Limit p n) = contains p (live_pods c) ≡ true
 IsProper s c (row.Ready p) = contains p (starting_pods c) ≡ true
 IsProper s c (row.Drain p) = contains p (drain_order c) ≡ true
 IsProper s c (row.Remove p) = (contains p (draining c) ≡ true) × (at_pod c p ≡ [])
+IsProper s c (row.LostPod p) = (contains p (live_pods c) ≡ true) × (at_pod c p ≡ [])
 IsProper s c (row.Decided d) = AreInRange s → d.want ≤ pods_most
 IsProper s c _ = ⊤
 

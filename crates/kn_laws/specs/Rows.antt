@@ -14,6 +14,7 @@ named_by (row.Run r) = Some r
 named_by (row.Finish r ok) = Some r
 named_by (row.Expire r) = Some r
 named_by (row.Cancel r) = Some r
+named_by (row.LostRequest r) = Some r
 named_by _ = None
 
 -- the request that comes to a pod
@@ -29,4 +30,5 @@ pod_named_by (row.Limit p n) = Some p
 pod_named_by (row.Ready p) = Some p
 pod_named_by (row.Drain p) = Some p
 pod_named_by (row.Remove p) = Some p
+pod_named_by (row.LostPod p) = Some p
 pod_named_by _ = None

@@ -37,6 +37,27 @@ due s t c = filter (has_not_begun c) (filter_map (due_by s.timeout_ms t) c)
 unfoldable pub expiries : Spec → ℕ → Trace → List Entry
 expiries s t c = map (λ r. entry t (row.Expire r)) (due s t c)
 
+-- ---- then, where a pod is lost, its requests
+
+-- the live requests at pod p, in the order of their numbers
+unfoldable pub lost_with : Trace → ℕ → List ℕ
+lost_with c p = filter (λ r. contains r (at_pod c p)) (live c)
+
+abbrev pub losses_at : Bool → ℕ → Trace → ℕ → List Entry
+losses_at false t c p = []
+losses_at true t c p = map (λ r. entry t (row.LostRequest r)) (lost_with c p)
+
+-- who ends with a live pod that is lost; no other act ends a request before its own row
+unfoldable pub losses : ℕ → Trace → Act → List Entry
+losses t c (act.Lost p) = losses_at (contains p (live_pods c)) t c p
+losses t c _ = []
+
+-- all who end before the act's own row
+unfoldable pub departures : Spec → Trace → Event → List Entry
+departures s c e =
+    let gone = expiries s e.time c in
+    gone ++ losses e.time (c ++ gone) e.act
+
 -- ---- then the act
 
 -- how many requests may be live
@@ -57,7 +78,7 @@ abbrev pub arrival_row : Mode → Spec → Trace → List ℕ → ℕ → Row
 arrival_row mode.Serve s c (p ∷ ps) tag = direct_row c (p ∷ ps)
 arrival_row _ s c ready tag = admission_row s c tag
 
--- the row of the act itself; a pass and a tick have none, and of a lost pod it is the last one
+-- the row of the act itself; a pass and a tick have none
 unfoldable pub act_row : Spec → Trace → Act → Option Row
 act_row s c (act.Arrive tag) =
     Some (if nat_le live_most (length (live c)) then row.Overload (arrivals c) else arrival_row (mode_of c) s c (ready_pods c) tag)
@@ -69,19 +90,6 @@ act_row s c (act.Ready p) =
 act_row s c (act.Limit p n) = Some (if contains p (live_pods c) then row.Limit p n else row.NoPod p)
 act_row s c (act.Lost p) = Some (if contains p (live_pods c) then row.LostPod p else row.NoPod p)
 act_row s c act.Tick = None
-
--- the live requests at pod p, in the order of their numbers
-unfoldable pub lost_with : Trace → ℕ → List ℕ
-lost_with c p = filter (λ r. contains r (at_pod c p)) (live c)
-
--- who ends with a live pod that is lost, before it goes itself
-abbrev pub losses_at : Bool → ℕ → Trace → ℕ → List Entry
-losses_at false t c p = []
-losses_at true t c p = map (λ r. entry t (row.LostRequest r)) (lost_with c p)
-
-abbrev pub losses : ℕ → Trace → Act → List Entry
-losses t c (act.Lost p) = losses_at (contains p (live_pods c)) t c p
-losses t c _ = []
 
 abbrev pub entries_of : ℕ → Option Row → List Entry
 entries_of t None = []
@@ -98,15 +106,10 @@ scaler_rows kind.Kpa s t c act.Tick did = tick_rows s t c
 scaler_rows kind.Kpa s t c (act.Arrive tag) (Some (row.Admit r g)) = wake_where (wanted s c == 0) s t c
 scaler_rows _ s t c _ did = []
 
--- the row that answers the act, and what the autoscaler adds
-unfoldable pub answer_rows : Spec → ℕ → Trace → Act → List Entry
-answer_rows s t c a =
+unfoldable pub act_rows : Spec → ℕ → Trace → Act → List Entry
+act_rows s t c a =
     let did = act_row s c a in
     entries_of t did ++ scaler_rows s.kind s t (c ++ entries_of t did) a did
-
--- only a lost pod has rows of its requests first
-unfoldable pub act_rows : Spec → ℕ → Trace → Act → List Entry
-act_rows s t c a = losses t c a ++ answer_rows s t c a
 
 -- ---- then the phase
 
@@ -119,7 +122,7 @@ activation t c = where_true (is_same_phase phase.Activating (phase_of c) && not 
 -- the rows before settling
 unfoldable pub before_settling : Spec → Trace → Event → List Entry
 before_settling s c e =
-    let gone = expiries s e.time c in
+    let gone = departures s c e in
     let did = act_rows s e.time (c ++ gone) e.act in
     (gone ++ did) ++ activation e.time ((c ++ gone) ++ did)
 
@@ -158,7 +161,7 @@ row_of None = None
 row_of (Some e) = Some e.row
 
 unfoldable pub told_of : Spec → Trace → Event → Told
-told_of s c e = told_row (c ++ react s c e) (row_of (first_of (act_rows s e.time (c ++ expiries s e.time c) e.act)))
+told_of s c e = told_row (c ++ react s c e) (row_of (first_of (act_rows s e.time (c ++ departures s c e) e.act)))
 
 -- ---- a whole run
 
