@@ -1,5 +1,5 @@
 -- What an act's own row is, and that no other row of its event is of an act.
-use Rattle.std.proofs.Common.{◌≡◌, ℕ, Bool, true, false, cond, List, [], ◌∷◌, ◌++◌, inl, inr, nat_le, length, refl}
+use Rattle.std.proofs.Common.{◌≡◌, ℕ, Bool, true, false, cond, List, [], ◌∷◌, ◌++◌, inl, inr, nat_le, length, map, refl}
 use Rattle.std.specs.Prelude.{Option, None, Some, slice_index, ◌%◌, ⊤}
 use Rattle.kn_event.specs.declared.entry.Entry.{Entry}
 use Rattle.kn_event.specs.declared.entry.Row.{Row}
@@ -10,11 +10,11 @@ use Rattle.kn_event.specs.declared.event.Act.{Act}
 use Rattle.kn_event.specs.declared.event.Act.TheVariants as act
 use Rattle.kn_event.specs.declared.event.Event.{Event}
 use Rattle.kn_event.specs.declared.revision.Spec.{Spec}
-use Rattle.kn_trace.specs.Trace.{Trace, arrivals, contains, direct_turn, held, is_running, is_starting, live, live_pods, ready_pods, waiting}
+use Rattle.kn_trace.specs.Trace.{Trace, entry, arrivals, contains, direct_turn, held, is_running, is_starting, live, live_pods, ready_pods, waiting}
 use Rattle.kn_trace.specs.Capacity.{breaker_full, pod_full}
 use Rattle.kn_trace.specs.Scale.{mode_of}
 use Rattle.kn_trace.specs.Settling.{assignments_of, held_assignments, promotions, removals, settling}
-use Rattle.kn_trace.specs.Events.{act_row, act_rows, activation, admission_row, arrival_row, before_settling, direct_row, entries_of, expiries, live_most, react, scaler_rows}
+use Rattle.kn_trace.specs.Events.{act_row, act_rows, activation, admission_row, arrival_row, before_settling, departures, direct_row, entries_of, expiries, live_most, losses, losses_at, lost_with, react, scaler_rows}
 use Rattle.kn_laws.specs.ByAct.{AreByAct, IsByAct}
 use Rattle.kn_laws.proofs.Rows.{Each, activation-rows, assignments-rows, expiries-rows, is_assign_row, is_expire_row, is_remove_row, is_run_row, is_scaler_row, promotions-rows, removed-rows, scaler-rows}
 
@@ -31,6 +31,7 @@ is_act_row (row.NotRunning r) = true
 is_act_row (row.NotWaiting r) = true
 is_act_row (row.NotStarting p) = true
 is_act_row (row.NoPod p) = true
+is_act_row (row.LostPod p) = true
 is_act_row _ = false
 
 abbrev pub IsActRow : Act → Option Row → Type 0
@@ -85,7 +86,12 @@ act-facts s c (act.Limit p n) = by (contains p (live_pods c))
   where
     by : (b : Bool) → IsActRow (act.Limit p n) (Some (cond b (row.Limit p n) (row.NoPod p)))
     by true = (refl, refl)
-    by false = (refl, inr (n, refl))
+    by false = (refl, inr (inl (n, refl)))
+act-facts s c (act.Lost p) = by (contains p (live_pods c))
+  where
+    by : (b : Bool) → IsActRow (act.Lost p) (Some (cond b (row.LostPod p) (row.NoPod p)))
+    by true = (refl, refl)
+    by false = (refl, inr (inr refl))
 act-facts s c act.Tick = tt
 
 -- the same as a list
@@ -150,6 +156,20 @@ own_by s t c a = by (act_row s c a) (act-facts s c a)
     by None h = tt
     by (Some x) h = (h.1, tt)
 
+-- who is lost with a pod is lost by the act that names it
+losses_by : (t : ℕ) (c : Trace) (a : Act) → EachIs (IsByAct a) (losses t c a)
+unfolding losses
+losses_by t c (act.Lost p) = by (contains p (live_pods c))
+  where
+    each : (rs : List ℕ) → EachIs (IsByAct (act.Lost p)) (map (λ r. entry t (row.LostRequest r)) rs)
+    each [] = tt
+    each (r ∷ rs) = ((p, refl), each rs)
+
+    by : (b : Bool) → EachIs (IsByAct (act.Lost p)) (losses_at b t c p)
+    by true = each (lost_with c p)
+    by false = tt
+losses_by t c a = tt
+
 -- the removals are removals
 pub removals-rows : (t : ℕ) (c : Trace) → Each is_remove_row (removals t c)
 unfolding removals
@@ -157,9 +177,11 @@ removals-rows t c = removed-rows t _
 
 -- each row that an event adds is of its act, or of none
 pub react-by : (s : Spec) (c : Trace) (e : Event) → EachIs (IsByAct e.act) (react s c e)
-unfolding react before_settling act_rows settling held_assignments
+unfolding react before_settling departures act_rows settling held_assignments
 react-by s c e =
-    let gone = expiries s e.time c in
+    let late = expiries s e.time c in
+    let lost = losses e.time (c ++ late) e.act in
+    let gone = late ++ lost in
     let own = entries_of e.time (act_row s (c ++ gone) e.act) in
     let more = scaler_rows s.kind s e.time ((c ++ gone) ++ own) e.act (act_row s (c ++ gone) e.act) in
     let did = own ++ more in
@@ -170,7 +192,7 @@ react-by s c e =
     let P = IsByAct e.act in
     EachIs-append P ((gone ++ did) ++ active) ((ran ++ gave) ++ removals e.time ((d ++ ran) ++ gave))
     (EachIs-append P (gone ++ did) active
-    (EachIs-append P gone did (by-rows e.act is_expire_row (expire_by e.act) gone (expiries-rows s e.time c))
+    (EachIs-append P gone did (EachIs-append P late lost (by-rows e.act is_expire_row (expire_by e.act) late (expiries-rows s e.time c)) (losses_by e.time (c ++ late) e.act))
     (EachIs-append P own more (own_by s e.time (c ++ gone) e.act) (by-rows e.act is_scaler_row (scaler_by e.act) more (scaler-rows s.kind s e.time ((c ++ gone) ++ own) e.act (act_row s (c ++ gone) e.act)))))
     (by-rows e.act is_scaler_row (scaler_by e.act) active (activation-rows e.time ((c ++ gone) ++ did))))
     (EachIs-append P (ran ++ gave) (removals e.time ((d ++ ran) ++ gave))

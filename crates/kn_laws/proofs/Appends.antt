@@ -1,5 +1,5 @@
 -- One more entry changes the record by one step.
-use Rattle.std.proofs.Common.{◌≡◌, ℕ, ◌+◌, false, not, List, [], ◌∷◌, ◌++◌, refl, ◌∙◌, length, arith, append-nil, append_assoc, map}
+use Rattle.std.proofs.Common.{◌≡◌, ℕ, ◌+◌, true, false, not, List, [], ◌∷◌, ◌++◌, refl, ◌∙◌, length, arith, append-nil, append_assoc, map}
 use Rattle.std.specs.Prelude.{Option, None, Some, ◌==◌}
 use Rattle.std.specs.List.{list_any}
 use Rattle.kn_event.specs.declared.entry.Entry.{Entry}
@@ -19,9 +19,9 @@ use Rattle.kn_laws.proofs.Kept.{kept-nil, made_kept}
 use Rattle.kn_laws.proofs.Members.{other_number, or_parts, contains-filter, contains-within}
 use Rattle.kn_laws.proofs.Requests.{live_requests-quiet, live_requests-end, live_requests-assign, live_requests-run, live_requests-admit, live_requests-direct}
 use Rattle.kn_laws.proofs.Views.{live-requests}
-use Rattle.kn_laws.proofs.Numbers.{KeepsNumbers, IsNumbered-push, is_new, proper_keeps, taken_named}
-use Rattle.kn_laws.proofs.Pods.{IsNewPod, pods-quiet, pods-limit, pods-ready, pods-drain, pods-remove, pods-create, ready-pods, live-pods}
-use Rattle.kn_laws.proofs.PodNumbers.{KeepsPods, ArePodsNumbered-push, proper_keeps_pods, removed_named, drained_named, readied_named, created_named}
+use Rattle.kn_laws.proofs.Numbers.{KeepsNumbers, IsNumbered-push, is_new, keeps_none, proper_keeps, taken_named}
+use Rattle.kn_laws.proofs.Pods.{IsNewPod, pods-quiet, pods-limit, pods-ready, pods-drain, pods-gone, pods-create, ready-pods, live-pods}
+use Rattle.kn_laws.proofs.PodNumbers.{KeepsPods, ArePodsNumbered-push, keeps_live_pod, proper_keeps_pods, removed_named, drained_named, readied_named, created_named}
 
 -- ---- requests
 
@@ -72,7 +72,8 @@ pods-push c t (row.Create p n) keeps = pods-create c t p n (is_new_pod c p (keep
 pods-push c t (row.Limit p n) keeps = pods-limit c t p n
 pods-push c t (row.Ready p) keeps = pods-ready c t p
 pods-push c t (row.Drain p) keeps = pods-drain c t p
-pods-push c t (row.Remove p) keeps = pods-remove c t p
+pods-push c t (row.Remove p) keeps = pods-gone c (entry t (row.Remove p)) p refl refl refl refl (λ q. refl)
+pods-push c t (row.LostPod p) keeps = pods-gone c (entry t (row.LostPod p)) p refl refl refl refl (λ q. refl)
 pods-push c t x keeps = pods-quiet c (entry t x) refl refl refl refl (λ q. refl)
 
 -- ---- the place of the round robin
@@ -114,6 +115,18 @@ pub StandsFor-push : (s : Spec) (a : Admission) (c : Trace) (t : ℕ) (x : Row) 
 StandsFor-push s a c t x h p =
     let k = proper_keeps s c x h.requests p in
     let l = proper_keeps_pods s c x h.pods p in
+    record {
+      kept = rw (admission-push c t x k l, h.kept) refl;
+      requests = IsNumbered-push c (entry t x) h.requests k;
+      pods = ArePodsNumbered-push c (entry t x) h.pods l;
+    }
+
+-- a live pod that is lost leaves the record, whoever is there
+pub stands_lost : (a : Admission) (c : Trace) (t p : ℕ) → StandsFor a c → contains p (live_pods c) ≡ true → StandsFor (stepped t (row.LostPod p) a) (c ++ entry t (row.LostPod p) ∷ [])
+stands_lost a c t p h live =
+    let x = row.LostPod p in
+    let k = keeps_none c x refl refl refl refl in
+    let l = keeps_live_pod c x p h.pods live refl refl in
     record {
       kept = rw (admission-push c t x k l, h.kept) refl;
       requests = IsNumbered-push c (entry t x) h.requests k;

@@ -1,11 +1,13 @@
 -- What goes on beside a refusal.
-use Rattle.std.proofs.Common.{◌≡◌, ℕ, true, List, [], ◌∷◌, ◌++◌, refl, sym, ap, ◌∙◌, append_assoc}
+use Rattle.std.proofs.Common.{◌≡◌, ℕ, Bool, true, false, cond, List, [], ◌∷◌, ◌++◌, refl, sym, ap, subst, ◌∙◌, append_assoc}
 use Rattle.std.specs.Prelude.{Some}
 use Rattle.kn_event.specs.declared.entry.Row.{Row}
 use Rattle.kn_event.specs.declared.entry.Row.TheVariants as row
+use Rattle.kn_event.specs.declared.event.Act.{Act}
+use Rattle.kn_event.specs.declared.event.Act.TheVariants as act
 use Rattle.kn_event.specs.declared.event.Event.{Event}
 use Rattle.kn_event.specs.declared.revision.Spec.{Spec}
-use Rattle.kn_trace.specs.Trace.{Trace, entry}
+use Rattle.kn_trace.specs.Trace.{Trace, entry, contains, live_pods}
 use Rattle.kn_trace.specs.Events.{act_row, expiries, trace_of}
 use Rattle.kn_trace.specs.Laws.{IsInert, IsSettled, is_refusal}
 use Rattle.kn_laws.specs.Admission.{Admission, admission, stepped}
@@ -29,9 +31,21 @@ refusal-stepped t (row.NotStarting p) a h = refl
 refusal-stepped t (row.NoPod p) a h = refl
 refusal-stepped t _ a h = absurd (cc)
 
--- the row of an act is proper where it comes
-pub act-proper : (s : Spec) (c : Trace) (e : Event) (x : Row) → act_row s c e.act ≡ Some x → IsProper s c x
-act-proper s c e x is = (rw is at (act-holds s e.time c e.act)).0
+lost-refused : (s : Spec) (c : Trace) (p : ℕ) (x : Row) → act_row s c (act.Lost p) ≡ Some x → is_refusal x ≡ true → IsProper s c x
+unfolding act_row
+lost-refused s c p x is h = by (contains p (live_pods c)) is
+  where
+    by : (b : Bool) → Some (cond b (row.LostPod p) (row.NoPod p)) ≡ Some x → IsProper s c x
+    by true e = absurd (let same : row.LostPod p ≡ x = cc in let no : false ≡ true = subst (λ (y : Row). is_refusal y ≡ true) (sym same) h in cc)
+    by false e = let same : row.NoPod p ≡ x = cc in subst (IsProper s c) same tt
+
+act-proper : (s : Spec) (c : Trace) (a : Act) (x : Row) → act_row s c a ≡ Some x → ((p : ℕ) → a ≡ act.Lost p → ⊥) → IsProper s c x
+act-proper s c a x is other = (rw is at (act-holds s 0 c a (λ p lost. absurd (other p lost)))).0
+
+-- a refusal is proper where it comes
+refusal-proper : (s : Spec) (c : Trace) (a : Act) (x : Row) → act_row s c a ≡ Some x → is_refusal x ≡ true → IsProper s c x
+refusal-proper s c (act.Lost p) x is h = lost-refused s c p x is h
+refusal-proper s c a x is h = act-proper s c a x is (λ p lost. absurd (cc))
 
 -- the expiries of a trace that was made are proper
 pub made_expiries : (s : Spec) (t : ℕ) (c : Trace) → IsMade s c → IsMade s (c ++ expiries s t c)
@@ -43,7 +57,7 @@ refusals_leave s c e made settled x is h =
     let gone = expiries s e.time c in
     ap (λ (d : Trace). admission (c ++ d)) (refusals_inert s c e made settled x is h)
     ∙ ap admission (sym (append_assoc c gone (entry e.time x ∷ [])))
-    ∙ admission_made s (c ++ gone) e.time x (made_expiries s e.time c made) (act-proper s (c ++ gone) e x is)
+    ∙ admission_made s (c ++ gone) e.time x (made_expiries s e.time c made) (refusal-proper s (c ++ gone) e.act x is h)
     ∙ refusal-stepped e.time x (admission (c ++ gone)) h
 
 pub inert_trace : (s : Spec) (start : ℕ) (es : List Event) (e : Event) → IsInert s (trace_of s start es) e

@@ -17,22 +17,22 @@ use Rattle.kn_event.specs.declared.revision.Spec.{Spec}
 use Rattle.kn_event.specs.Revision.{AreInRange}
 use Rattle.kn_scaling.specs.Decide.{Ruling}
 use Rattle.kn_scaling.specs.Zero.{pods_most}
-use Rattle.kn_trace.specs.Rows.{created_by, drained_by, gone_by, taken_by}
-use Rattle.kn_trace.specs.Trace.{Trace, entry, at_pod, created, draining, each_row, held, is_empty, live_pods, ready_pods, waiting}
+use Rattle.kn_trace.specs.Rows.{created_by, drained_by, ended_by, taken_by}
+use Rattle.kn_trace.specs.Trace.{Trace, entry, at_pod, contains, created, draining, each_row, held, is_empty, live, live_pods, ready_pods, waiting}
 use Rattle.kn_trace.specs.Scale.{creations, decision_at, decision_rows, drain_order, is_same_mode, is_same_phase, mode_of, phase_of, scale_rows, tick_rows, tick_rows_of, wake_decision_at, wake_rows, wanted, where_true}
 use Rattle.kn_trace.specs.Settling.{held_assignments, promotions, removals, settling}
-use Rattle.kn_trace.specs.Events.{act_row, act_rows, activation, before_settling, entries_of, expiries, live_most, react, scaler_rows, wake_where}
+use Rattle.kn_trace.specs.Events.{act_row, act_rows, activation, before_settling, departures, entries_of, expiries, live_most, react, scaler_rows, wake_where}
 use Rattle.kn_trace.specs.Laws.{IsSettled}
 use Rattle.kn_laws.specs.Made.{Holds, IsMade, IsProper}
 use Rattle.kn_laws.proofs.Flags.{counted}
-use Rattle.kn_laws.proofs.PodSteps.{draining-same}
-use Rattle.kn_laws.proofs.Rows.{Each, activation-rows, assign_pods, assignments-rows, draining-each, expiries-rows, is_assign_row, is_expire_row, is_remove_row, is_run_row, is_scaler_row, promotions-rows, removed-rows, run_pods, scaler-rows}
-use Rattle.kn_laws.proofs.Kept.{Holds-kept, Kept, made_kept}
-use Rattle.kn_laws.proofs.Reacting.{act-holds, expiries-hold}
-use Rattle.kn_laws.proofs.Scaling.{tick-holds, wake_where-holds}
+use Rattle.kn_laws.proofs.Rows.{Each, activation-rows, assign_pods, assignments-rows, departures-rows, departures-same, draining-each, expiries-rows, is_assign_row, is_departure_row, is_expire_row, is_remove_row, is_run_row, is_scaler_row, promotions-rows, removed-rows, run_pods, scaler-rows}
+use Rattle.kn_laws.proofs.Kept.{Holds-append, Holds-kept, Kept, made_kept}
+use Rattle.kn_laws.proofs.Reacting.{act-holds, departures-clear, departures-hold, expiries-hold}
+use Rattle.kn_laws.proofs.Scaling.{activation-holds, scaler-holds, tick-holds, wake_where-holds}
+use Rattle.kn_laws.proofs.Ends.{live-many}
 use Rattle.kn_laws.proofs.Acts.{act-rows, is_act_row}
 use Rattle.kn_laws.proofs.Running.{before-holds, held_assignments-hold, made_more, promotions-hold}
-use Rattle.kn_laws.proofs.Counts.{count-append, count-each, count-live, count-pods, draining-within, few_live, few_standing, leaves-list, leaves_by, live_pods-list, none-each}
+use Rattle.kn_laws.proofs.Counts.{count-append, count-each, count-live, count-pods, draining-within, draining-less, few_live, few_standing, leaves-list, leaves_by, live_pods-list, none-each}
 
 -- ---- the rows of a decision
 
@@ -136,25 +136,37 @@ scaler-few k s t c a did kept ranges few = nothing-few c few
 -- ---- rows that create, drain and remove no pod
 
 abbrev NoNewPods : (Row → Bool) → Type 0
-NoNewPods test = (x : Row) → test x ≡ true → (created_by x ≡ None) × (drained_by x ≡ None) × (gone_by x ≡ None)
+NoNewPods test = (x : Row) → test x ≡ true → (created_by x ≡ None) × (drained_by x ≡ None)
 
--- such rows leave those that drain
-draining-stays : (test : Row → Bool) → NoNewPods test → (c es : Trace) → Each test es → draining (c ++ es) ≡ draining c
-draining-stays test none c [] h = rw (append-nil c) refl
-draining-stays test none c (e ∷ es) h = rw (append_assoc c (e ∷ []) es) at (draining-stays test none (c ++ e ∷ []) es h.1 ∙ draining-same c e (none e.row h.0))
+-- such rows make no more pods drain
+draining-fewer : (test : Row → Bool) → NoNewPods test → (c es : Trace) → Each test es → length (draining (c ++ es)) ≤ length (draining c)
+draining-fewer test none c [] h = rw (append-nil c) (omega arith)
+draining-fewer test none c (e ∷ es) h =
+    let rest = draining-fewer test none (c ++ e ∷ []) es h.1 in
+    let both = none e.row h.0 in
+    let one = draining-less c e both.0 both.1 in
+    let sum : length (draining ((c ++ e ∷ []) ++ es)) ≤ length (draining c) = omega arith in
+    rw (append_assoc c (e ∷ []) es) at sum
 
-created-none : (test : Row → Bool) → NoNewPods test → (es : Trace) → Each test es → length (each_row created_by es) ≡ 0
-created-none test none es h = rw (none-each created_by test (λ x k. (none x k).0) es h) refl
-
-expire_none : NoNewPods is_expire_row
-expire_none (row.Expire r) h = (refl, refl, refl)
-expire_none _ h = absurd (cc)
+departure_none : NoNewPods is_departure_row
+departure_none (row.Expire r) h = (refl, refl)
+departure_none (row.LostRequest r) h = (refl, refl)
+departure_none _ h = absurd (cc)
 
 act_none : NoNewPods is_act_row
 act_none (row.Create p n) h = absurd (cc)
 act_none (row.Drain p) h = absurd (cc)
-act_none (row.Remove p) h = absurd (cc)
-act_none _ h = (refl, refl, refl)
+act_none _ h = (refl, refl)
+
+departure_ends : (x : Row) → is_departure_row x ≡ true → counted (ended_by x) ≡ 1
+departure_ends (row.Expire r) h = refl
+departure_ends (row.LostRequest r) h = refl
+departure_ends _ h = absurd (cc)
+
+pub departure_takes : (x : Row) → is_departure_row x ≡ true → taken_by x ≡ None
+departure_takes (row.Expire r) h = refl
+departure_takes (row.LostRequest r) h = refl
+departure_takes _ h = absurd (cc)
 
 expire_leaves : (x : Row) → is_expire_row x ≡ true → counted (leaves_by x) ≡ 1
 expire_leaves (row.Expire r) h = refl
@@ -168,7 +180,7 @@ assign_leaves : (x : Row) → is_assign_row x ≡ true → counted (leaves_by x)
 assign_leaves (row.Assign r p) h = refl
 assign_leaves _ h = absurd (cc)
 
-pub expire_takes : (x : Row) → is_expire_row x ≡ true → taken_by x ≡ None
+expire_takes : (x : Row) → is_expire_row x ≡ true → taken_by x ≡ None
 expire_takes (row.Expire r) h = refl
 expire_takes _ h = absurd (cc)
 
@@ -225,7 +237,7 @@ activation-length t c = where-length _ (entry t (row.Phase phase.Active))
 -- ---- the parts of an event, up to the settling
 
 abbrev pub gone_of : Spec → Trace → Event → Trace
-gone_of s c e = expiries s e.time c
+gone_of s c e = departures s c e
 
 abbrev pub own_of : Spec → Trace → Event → Trace
 own_of s c e = entries_of e.time (act_row s (c ++ gone_of s c e) e.act)
@@ -244,7 +256,9 @@ before-parts s c e = refl
 -- what they come to
 record Before (c gone es : Trace) : Type 0 where
   rows : length es ≤ length gone + 505
-  leave : length gone ≤ length (each_row leaves_by es)
+  ends : length gone + length (live (c ++ gone)) ≤ length (live c)
+  wait : length (waiting (c ++ es)) ≤ length (waiting (c ++ gone)) + length (each_row taken_by es)
+  leave : length (each_row leaves_by gone) ≤ length (each_row leaves_by es)
   take : length (each_row taken_by es) ≤ 1
   pods : length (live_pods (c ++ es)) ≤ length (draining c) + pods_most
 
@@ -264,14 +278,17 @@ counts-before s c e made ranges =
     let active = active_of s c e in
     let c1 = c ++ gone in
     let c2 = c1 ++ own in
-    let kept1 = Holds-kept s c gone (made_kept s c made) (expiries-hold s e.time c (made_kept s c made).requests) in
-    let kept2 = Holds-kept s c1 own kept1 (act-holds s e.time c1 e.act) in
-    let made1 = made_more s c gone made (expiries-hold s e.time c (made_kept s c made).requests) in
-    let made2 = made_more s c1 own made1 (act-holds s e.time c1 e.act) in
+    let kept = made_kept s c made in
+    let departs = departures-hold s c e kept in
+    let clear = departures-clear s c e kept in
+    let kept1 = Holds-kept s c gone kept departs in
+    let kept2 = Holds-kept s c1 own kept1 (act-holds s e.time c1 e.act clear) in
+    let made1 = made_more s c gone made departs in
+    let made2 = made_more s c1 own made1 (act-holds s e.time c1 e.act clear) in
     let few = scaler-few s.kind s e.time c2 e.act (act_row s c1 e.act) kept2 ranges (few_standing s c2 made2 ranges) in
     let few_rows = few.rows in
     let few_pods = few.pods in
-    let gone_kind = expiries-rows s e.time c in
+    let gone_kind = departures-rows s c e in
     let own_kind = act-rows s e.time c1 e.act in
     let more_kind = scaler-rows s.kind s e.time c2 e.act (act_row s c1 e.act) in
     let active_kind = activation-rows e.time (c1 ++ (own ++ more)) in
@@ -280,22 +297,33 @@ counts-before s c e made ranges =
     let len : length ((gone ++ (own ++ more)) ++ active) ≡ (length gone + (length own + length more)) + length active = rw (length-append, length-append, length-append) refl in
     let leaves : length (each_row leaves_by ((gone ++ (own ++ more)) ++ active)) ≡ (length (each_row leaves_by gone) + length (each_row leaves_by (own ++ more))) + length (each_row leaves_by active)
     = rw (count-append leaves_by (gone ++ (own ++ more)) active, count-append leaves_by gone (own ++ more)) refl in
-    let each = count-each leaves_by is_expire_row expire_leaves gone gone_kind in
+    let end = count-each ended_by is_departure_row departure_ends gone gone_kind in
+    let lives = live-many s c gone kept departs in
+    let did = Holds-append (IsProper s) c1 own (more ++ active) (act-holds s e.time c1 e.act clear)
+    (Holds-append (IsProper s) c2 more active (scaler-holds s.kind s e.time c2 e.act (act_row s c1 e.act) kept2) (rw (append_assoc c1 own more) (activation-holds s e.time (c1 ++ (own ++ more))))) in
+    let waits = leaves-list s c1 (own ++ (more ++ active)) kept1 did in
+    let took : length (each_row taken_by (own ++ (more ++ active))) ≡ length (each_row taken_by own) + (length (each_row taken_by more) + length (each_row taken_by active))
+    = rw (count-append taken_by own (more ++ active), count-append taken_by more active) refl in
+    let whole : c1 ++ (own ++ (more ++ active)) ≡ c ++ ((gone ++ (own ++ more)) ++ active) = simp append_assoc refl in
     let takes : length (each_row taken_by ((gone ++ (own ++ more)) ++ active)) ≡ (length (each_row taken_by gone) + (length (each_row taken_by own) + length (each_row taken_by more))) + length (each_row taken_by active)
     = rw (count-append taken_by (gone ++ (own ++ more)) active, count-append taken_by gone (own ++ more), count-append taken_by own more) refl in
-    let t1 : length (each_row taken_by gone) ≡ 0 = rw (none-each taken_by is_expire_row expire_takes gone gone_kind) refl in
+    let t1 : length (each_row taken_by gone) ≡ 0 = rw (none-each taken_by is_departure_row departure_takes gone gone_kind) refl in
     let t2 = count-within taken_by own in
     let t3 : length (each_row taken_by more) ≡ 0 = rw (none-each taken_by is_scaler_row scaler_takes more more_kind) refl in
     let t4 : length (each_row taken_by active) ≡ 0 = rw (none-each taken_by is_scaler_row scaler_takes active active_kind) refl in
-    let d1 : length (draining c2) ≡ length (draining c) = ap (λ (l : List ℕ). length l) (draining-stays is_act_row act_none c1 own own_kind ∙ draining-stays is_expire_row expire_none c gone gone_kind) in
+    let d1 = draining-fewer is_act_row act_none c1 own own_kind in
+    let d2 = draining-fewer is_departure_row departure_none c gone gone_kind in
     let p2 = count-pods c2 in
     let p3 = live_pods-list c2 (more ++ active) in
     let p4 = count-append created_by more active in
     let p5 = activation-creates e.time (c1 ++ (own ++ more)) in
     let all : c2 ++ (more ++ active) ≡ c ++ ((gone ++ (own ++ more)) ++ active) = before-whole c gone own more active in
     let bound : length (live_pods (c2 ++ (more ++ active))) ≤ length (draining c) + pods_most = omega arith in
+    let waits_bound : length (waiting (c1 ++ (own ++ (more ++ active)))) ≤ length (waiting c1) + length (each_row taken_by ((gone ++ (own ++ more)) ++ active)) = omega arith in
     subst (λ (es : Trace). Before c gone es) (sym (before-parts s c e)) (record {
       rows = omega arith;
+      ends = omega arith;
+      wait = rw whole at waits_bound;
       leave = omega arith;
       take = omega arith;
       pods = rw all at bound;
@@ -361,19 +389,14 @@ pub few_before : (s : Spec) (c : Trace) (e : Event) → AreInRange s → IsMade 
 few_before s c e ranges made =
     let before = counts-before s c e made ranges in
     let rows = before.rows in
-    let leave = before.leave in
-    let take = before.take in
-    let w = leaves-list s c (gone_of s c e) (made_kept s c made) (expiries-hold s e.time c (made_kept s c made).requests) in
-    let n = count-each leaves_by is_expire_row expire_leaves (gone_of s c e) (expiries-rows s e.time c) in
-    let t : length (each_row taken_by (gone_of s c e)) ≡ 0 = rw (none-each taken_by is_expire_row expire_takes (gone_of s c e) (expiries-rows s e.time c)) refl in
-    let d = count-live c in
+    let ends = before.ends in
     let g = few_live s c made in
     omega arith
 
--- one event adds at most 21,006 entries
-pub few_entries : (s : Spec) (c : Trace) (e : Event) → AreInRange s → IsMade s c → IsSettled s c → length (react s c e) ≤ 21006
+-- where no pod is lost, one event adds at most 21,006 entries
+pub fewer_entries : (s : Spec) (c : Trace) (e : Event) → AreInRange s → IsMade s c → IsSettled s c → ((p : ℕ) → e.act ≡ act.Lost p → ⊥) → length (react s c e) ≤ 21006
 unfolding react
-few_entries s c e ranges made settled =
+fewer_entries s c e ranges made settled other =
     let first = before_settling s c e in
     let kept = made_kept s c made in
     let hold = before-holds s c e kept in
@@ -382,6 +405,9 @@ few_entries s c e ranges made settled =
     let leave = before.leave in
     let take = before.take in
     let pods = before.pods in
+    let same = ap (λ (l : Trace). length l) (departures-same s c e other) in
+    let left = ap (λ (l : Trace). length (each_row leaves_by l)) (departures-same s c e other) in
+    let each = count-each leaves_by is_expire_row expire_leaves (expiries s e.time c) (expiries-rows s e.time c) in
     let w = leaves-list s c first kept hold in
     let after = settling-count s e.time (c ++ first) (Holds-kept s c first kept hold) in
     let some = after.0 in
@@ -391,6 +417,62 @@ few_entries s c e ranges made settled =
     let g = few_live s c made in
     let len : length (first ++ settling s e.time (c ++ first)) ≡ length first + length (settling s e.time (c ++ first)) = length-append first (settling s e.time (c ++ first)) in
     omega arith
+
+act-takes : (s : Spec) (t : ℕ) (c : Trace) (p : ℕ) → each_row taken_by (entries_of t (act_row s c (act.Lost p))) ≡ []
+unfolding act_row
+act-takes s t c p = by (contains p (live_pods c))
+  where
+    by : (b : Bool) → each_row taken_by (entries_of t (Some (cond b (row.LostPod p) (row.NoPod p)))) ≡ []
+    by true = refl
+    by false = refl
+
+-- an event that loses a pod takes in nobody
+lost-takes : (s : Spec) (c : Trace) (e : Event) (p : ℕ) → e.act ≡ act.Lost p → length (each_row taken_by (before_settling s c e)) ≡ 0
+lost-takes s c e p lost =
+    let gone = gone_of s c e in
+    let own = own_of s c e in
+    let more = more_of s c e in
+    let active = active_of s c e in
+    let c1 = c ++ gone in
+    let all : length (each_row taken_by ((gone ++ (own ++ more)) ++ active)) ≡ (length (each_row taken_by gone) + (length (each_row taken_by own) + length (each_row taken_by more))) + length (each_row taken_by active)
+    = rw (count-append taken_by (gone ++ (own ++ more)) active, count-append taken_by gone (own ++ more), count-append taken_by own more) refl in
+    let t1 : length (each_row taken_by gone) ≡ 0 = rw (none-each taken_by is_departure_row departure_takes gone (departures-rows s c e)) refl in
+    let t2 : length (each_row taken_by own) ≡ 0 = ap (λ (a : Act). length (each_row taken_by (entries_of e.time (act_row s c1 a)))) lost ∙ ap (λ (l : List ℕ). length l) (act-takes s e.time c1 p) in
+    let t3 : length (each_row taken_by more) ≡ 0 = rw (none-each taken_by is_scaler_row scaler_takes more (scaler-rows s.kind s e.time (c1 ++ own) e.act (act_row s c1 e.act))) refl in
+    let t4 : length (each_row taken_by active) ≡ 0 = rw (none-each taken_by is_scaler_row scaler_takes active (activation-rows e.time (c1 ++ (own ++ more)))) refl in
+    ap (λ (es : Trace). length (each_row taken_by es)) (before-parts s c e) ∙ omega arith
+
+-- one event adds at most 41,005 entries
+pub few_entries : (s : Spec) (c : Trace) (e : Event) → AreInRange s → IsMade s c → IsSettled s c → length (react s c e) ≤ 41005
+unfolding react
+few_entries s c e ranges made settled = by e.act refl
+  where
+    first : Trace
+    first = before_settling s c e
+
+    lost : (p : ℕ) → e.act ≡ act.Lost p → length (first ++ settling s e.time (c ++ first)) ≤ 41005
+    lost p is =
+        let kept = made_kept s c made in
+        let hold = before-holds s c e kept in
+        let before = counts-before s c e made ranges in
+        let rows = before.rows in
+        let ends = before.ends in
+        let wait = before.wait in
+        let none = lost-takes s c e p is in
+        let some = (settling-count s e.time (c ++ first) (Holds-kept s c first kept hold)).0 in
+        let w = count-live (c ++ gone_of s c e) in
+        let g = few_live s c made in
+        let most = few_pods_before s c e ranges made settled in
+        let all = count-pods (c ++ first) in
+        let len : length (first ++ settling s e.time (c ++ first)) ≡ length first + length (settling s e.time (c ++ first)) = length-append first (settling s e.time (c ++ first)) in
+        omega arith
+
+    plain : ((p : ℕ) → e.act ≡ act.Lost p → ⊥) → length (first ++ settling s e.time (c ++ first)) ≤ 41005
+    plain other = let few = fewer_entries s c e ranges made settled other in omega arith
+
+    by : (a : Act) → e.act ≡ a → length (first ++ settling s e.time (c ++ first)) ≤ 41005
+    by (act.Lost p) is = lost p is
+    by a is = plain (λ p lost. absurd (cc))
 
 -- at most 20,000 requests expire at once
 pub few_expiries : (s : Spec) (t : ℕ) (c : Trace) → IsMade s c → length (expiries s t c) ≤ live_most

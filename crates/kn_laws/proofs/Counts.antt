@@ -17,13 +17,13 @@ use Rattle.kn_trace.specs.Events.{live_most}
 use Rattle.kn_trace.specs.Laws.{IsSettled}
 use Rattle.kn_laws.specs.Rows.{moved_by}
 use Rattle.kn_laws.specs.Made.{AreDistinct, Holds, IsMade, IsNumbered, IsProper}
-use Rattle.kn_laws.proofs.Flags.{contains-push, counted, each_row-push, ended-push}
+use Rattle.kn_laws.proofs.Flags.{contains-push, counted, each_row-push, ended-push, or-false}
 use Rattle.kn_laws.proofs.Members.{same_number, contains-filter, distinct-filter}
-use Rattle.kn_laws.proofs.Numbers.{admitted_taken, and_parts, brought_moved, directed_taken, false_unless, filter_member, first_member, held_member, in_filter, queued_member, within-from, brought_directed}
+use Rattle.kn_laws.proofs.Numbers.{admitted_taken, and_parts, brought_moved, directed_taken, false_unless, filter_member, first_member, held_member, in_filter, moved_taken, queued_member, within-from, brought_directed}
 use Rattle.kn_laws.proofs.Steps.{length-filter-more, others, view-less, has_not_begun-push, waiting-end}
 use Rattle.kn_laws.proofs.PodSteps.{is_live_pod-push, length-drain_order}
 use Rattle.kn_laws.proofs.Kept.{Kept, Kept-push, kept-nil, made_kept}
-use Rattle.kn_laws.proofs.Words.{moved_taken, others-length, pod_is}
+use Rattle.kn_laws.proofs.Words.{others-length, pod_is}
 use Rattle.kn_laws.proofs.Reacting.{or-more}
 use Rattle.kn_laws.proofs.Inert.{draining_runs}
 use Rattle.kn_laws.proofs.Rows.{Each}
@@ -187,6 +187,21 @@ standing-fewer c e =
     let a = count-standing (c ++ e ∷ []) in
     let b = count-standing c in
     let less = length-fewer created_by (stands c) (stands (c ++ e ∷ [])) c e (stands-less c e) in
+    omega arith
+
+draining-still : (c : Trace) (e : Entry) → drained_by e.row ≡ None → (q : ℕ) → is_draining (c ++ e ∷ []) q ≡ true → is_draining c q ≡ true
+unfolding is_draining
+draining-still c e none q h =
+    let both = and_parts (contains q (each_row drained_by (c ++ e ∷ []))) (is_live_pod (c ++ e ∷ []) q) h in
+    let drains : contains q (each_row drained_by c) ≡ true = sym (contains-push drained_by c e q ∙ rw none (or-false (contains q (each_row drained_by c)))) ∙ both.0 in
+    rw (drains, gone-less c e q both.1) refl
+
+-- a row that neither creates a pod nor drains one makes no more of them drain
+pub draining-less : (c : Trace) (e : Entry) → created_by e.row ≡ None → drained_by e.row ≡ None → length (draining (c ++ e ∷ [])) ≤ length (draining c)
+unfolding draining
+draining-less c e made none =
+    let less = length-fewer created_by (is_draining c) (is_draining (c ++ e ∷ [])) c e (draining-still c e none) in
+    let zero : counted (created_by e.row) ≡ 0 = rw made refl in
     omega arith
 
 -- only a new pod adds a live one

@@ -1,5 +1,5 @@
 -- How many more requests are live after an event: those that it takes in, less those that it ends.
-use Rattle.std.proofs.Common.{◌≡◌, ℕ, ◌+◌, ◌≤◌, Bool, true, false, not, cond, ◌&&◌, ◌||◌, ◌⊎◌, inl, inr, [], ◌∷◌, ◌++◌, length, refl, ap, ◌∙◌, arith, append-nil, append_assoc}
+use Rattle.std.proofs.Common.{◌≡◌, ℕ, ◌+◌, ◌≤◌, Bool, true, false, not, cond, ◌&&◌, ◌||◌, ◌⊎◌, inl, inr, [], ◌∷◌, ◌++◌, length, refl, ap, subst, ◌∙◌, arith, append-nil, append_assoc}
 use Rattle.std.specs.Prelude.{Option, None, Some, ◌==◌}
 use Rattle.std.specs.List.{cons_option}
 use Rattle.kn_event.specs.declared.entry.Entry.{Entry}
@@ -21,74 +21,14 @@ use Rattle.kn_laws.proofs.Numbers.{begun_taken, in_filter, running_parts, waitin
 use Rattle.kn_laws.proofs.Steps.{others, view-less}
 use Rattle.kn_laws.proofs.Words.{others-length}
 use Rattle.kn_laws.proofs.Kept.{Kept, Kept-push, made_kept}
-use Rattle.kn_laws.proofs.Rows.{Each, activation-rows, expiries-rows, is_assign_row, is_expire_row, is_remove_row, is_run_row, is_scaler_row, promotions-rows, scaler-rows}
+use Rattle.kn_laws.proofs.Rows.{Each, activation-rows, departures-rows, departures-same, expiries-rows, is_departure_row, is_assign_row, is_expire_row, is_remove_row, is_run_row, is_scaler_row, promotions-rows, scaler-rows}
 use Rattle.kn_laws.proofs.Running.{react-holds}
 use Rattle.kn_laws.proofs.Reacting.{expiries-hold}
 use Rattle.kn_laws.proofs.Serving.{runs-push, waiting_idle}
 use Rattle.kn_laws.proofs.Acts.{IsActRow, act-facts, removals-rows}
 use Rattle.kn_laws.proofs.Counts.{count-append, live-fewer, none-each}
-use Rattle.kn_laws.proofs.Bounds.{active_of, assign_takes, before-parts, expire_takes, gone_of, held_rows, more_of, own_of, remove_takes, run_takes, scaler_takes}
-
--- ---- by one row
-
-live_distinct : (c : Trace) → IsNumbered c → AreDistinct (live c)
-unfolding live
-live_distinct c num = distinct-filter (λ r. not (ended c r)) (each_row taken_by c) num.once
-
--- a request that was taken in and has not ended is live
-is_live : (c : Trace) (r : ℕ) → contains r (each_row taken_by c) ≡ true → ended c r ≡ false → contains r (live c) ≡ true
-unfolding live
-is_live c r taken on = in_filter (λ q. not (ended c q)) r (each_row taken_by c) taken (rw on refl)
-
-running_live : (c : Trace) (r : ℕ) → IsNumbered c → is_running c r ≡ true → contains r (live c) ≡ true
-running_live c r num h = let parts = running_parts c r h in is_live c r (begun_taken c r num parts.0) parts.1
-
-waiting_live : (c : Trace) (r : ℕ) → contains r (waiting c) ≡ true → contains r (live c) ≡ true
-waiting_live c r h = let parts = waiting_member c r h in is_live c r parts.0 parts.1.ended
-
--- who ends is live no more
-live-end : (c : Trace) (e : Entry) (r : ℕ) → taken_by e.row ≡ None → ended_by e.row ≡ Some r → live (c ++ e ∷ []) ≡ others r (live c)
-unfolding live
-live-end c e r taken ends =
-    view-less taken_by (λ q. not (ended c q)) (λ q. not (ended (c ++ e ∷ []) q)) c e r taken
-    (λ q. ap (λ (b : Bool). not b) (ended-push c e q) ∙ rw ends (by (ended c q) (r == q)))
-  where
-    by : (g m : Bool) → not (g || m) ≡ (not g && not m)
-    by true m = refl
-    by false m = refl
-
--- the end of a live request makes them one fewer
-end_counts : (c : Trace) (e : Entry) (r : ℕ) → IsNumbered c → contains r (live c) ≡ true → taken_by e.row ≡ None → ended_by e.row ≡ Some r → length (live (c ++ e ∷ [])) + 1 ≤ length (live c)
-end_counts c e r num there taken ends =
-    let less = others-length r (live c) (live_distinct c num) there in
-    rw (live-end c e r taken ends) (omega arith)
-
--- a proper row adds the request that it takes in, and takes the one that it ends
-live-one : (s : Spec) (c : Trace) (t : ℕ) (x : Row) → IsNumbered c → IsProper s c x → length (live (c ++ entry t x ∷ [])) + counted (ended_by x) ≤ length (live c) + counted (taken_by x)
-live-one s c t (row.Finish r ok) num h = let less = end_counts c (entry t (row.Finish r ok)) r num (running_live c r num h) refl refl in omega arith
-live-one s c t (row.Expire r) num h = let less = end_counts c (entry t (row.Expire r)) r num (waiting_live c r h) refl refl in omega arith
-live-one s c t (row.Cancel r) num h = let less = end_counts c (entry t (row.Cancel r)) r num (waiting_live c r h) refl refl in omega arith
-live-one s c t x num h = let less = live-fewer c (entry t x) in omega arith
-
--- ---- by many
-
-count-cons : (f : Row → Option ℕ) (e : Entry) (es : Trace) → length (each_row f (e ∷ es)) ≡ counted (f e.row) + length (each_row f es)
-count-cons f e es = by (f e.row)
-  where
-    by : (o : Option ℕ) → length (cons_option o (each_row f es)) ≡ counted o + length (each_row f es)
-    by None = omega arith
-    by (Some r) = omega arith
-
--- so do many proper rows
-live-many : (s : Spec) (c es : Trace) → Kept s c → Holds (IsProper s) c es → length (live (c ++ es)) + length (each_row ended_by es) ≤ length (live c) + length (each_row taken_by es)
-live-many s c [] kept h = rw (append-nil c) (omega arith)
-live-many s c (e ∷ es) kept h =
-    let rest = live-many s (c ++ e ∷ []) es (Kept-push s c e kept h.0) h.1 in
-    let one = live-one s c e.time e.row kept.requests h.0 in
-    let ends = count-cons ended_by e es in
-    let takes = count-cons taken_by e es in
-    let sum : length (live ((c ++ e ∷ []) ++ es)) + length (each_row ended_by (e ∷ es)) ≤ length (live c) + length (each_row taken_by (e ∷ es)) = omega arith in
-    rw (append_assoc c (e ∷ []) es) at sum
+use Rattle.kn_laws.proofs.Ends.{count-cons, live-many}
+use Rattle.kn_laws.proofs.Bounds.{active_of, assign_takes, before-parts, departure_takes, gone_of, held_rows, more_of, own_of, remove_takes, run_takes, scaler_takes}
 
 -- ---- what one event takes in, and what it ends
 
@@ -146,7 +86,7 @@ event-takes : (s : Spec) (c : Trace) (e : Event) → length (each_row taken_by (
 event-takes s c e =
     let all = parts-count taken_by s c e in
     let c1 = c ++ gone_of s c e in
-    let a : length (each_row taken_by (gone_of s c e)) ≡ 0 = rw (none-each taken_by is_expire_row expire_takes (gone_of s c e) (expiries-rows s e.time c)) refl in
+    let a : length (each_row taken_by (gone_of s c e)) ≡ 0 = rw (none-each taken_by is_departure_row departure_takes (gone_of s c e) (departures-rows s c e)) refl in
     let b = own-takes s e.time c1 e.act in
     let d : length (each_row taken_by (more_of s c e)) ≡ 0 = rw (none-each taken_by is_scaler_row scaler_takes (more_of s c e) (scaler-rows s.kind s e.time (c1 ++ own_of s c e) e.act (act_row s c1 e.act))) refl in
     let f : length (each_row taken_by (active_of s c e)) ≡ 0 = rw (none-each taken_by is_scaler_row scaler_takes (active_of s c e) (activation-rows e.time (c1 ++ (own_of s c e ++ more_of s c e)))) refl in
@@ -156,6 +96,13 @@ event-takes s c e =
 -- it ends at least those that expire, and the one that its act ends
 event-ends : (s : Spec) (c : Trace) (e : Event) → length (each_row ended_by (gone_of s c e)) + length (each_row ended_by (own_of s c e)) ≤ length (each_row ended_by (react s c e))
 event-ends s c e = let all = parts-count ended_by s c e in omega arith
+
+-- where no pod is lost, those are the expired
+plain-ends : (s : Spec) (c : Trace) (e : Event) → ((p : ℕ) → e.act ≡ act.Lost p → ⊥)
+    → length (each_row ended_by (expiries s e.time c)) + length (each_row ended_by (entries_of e.time (act_row s (c ++ expiries s e.time c) e.act))) ≤ length (each_row ended_by (react s c e))
+plain-ends s c e other =
+    let P : Trace → Type 0 = λ gone. length (each_row ended_by gone) + length (each_row ended_by (entries_of e.time (act_row s (c ++ gone) e.act))) ≤ length (each_row ended_by (react s c e)) in
+    subst P (departures-same s c e other) (event-ends s c e)
 
 -- ---- who runs doesn't expire, and who waits expires or can be cancelled
 
@@ -198,25 +145,26 @@ pub grows-by : (s : Spec) (c : Trace) (e : Event) → IsMade s c → length (liv
 unfolding need_of
 grows-by s c e made =
     let kept = made_kept s c made in
-    by e.act (live-many s c (react s c e) kept (react-holds s c e kept)) (event-takes s c e) (event-ends s c e) (λ r runs. runs-past s c (gone_of s c e) r (expiries-rows s e.time c) (expiries-hold s e.time c kept.requests) runs)
+    by e.act (live-many s c (react s c e) kept (react-holds s c e kept)) (event-takes s c e) (plain-ends s c e) (λ r runs. runs-past s c (expiries s e.time c) r (expiries-rows s e.time c) (expiries-hold s e.time c kept.requests) runs)
   where
     by : (a : Act) → length (live (c ++ react s c e)) + length (each_row ended_by (react s c e)) ≤ length (live c) + length (each_row taken_by (react s c e))
         → length (each_row taken_by (react s c e)) ≤ taken_most a
-        → length (each_row ended_by (expiries s e.time c)) + length (each_row ended_by (entries_of e.time (act_row s (c ++ expiries s e.time c) a))) ≤ length (each_row ended_by (react s c e))
+        → (((p : ℕ) → a ≡ act.Lost p → ⊥) → length (each_row ended_by (expiries s e.time c)) + length (each_row ended_by (entries_of e.time (act_row s (c ++ expiries s e.time c) a))) ≤ length (each_row ended_by (react s c e)))
         → ((r : ℕ) → is_running c r ≡ true → is_running (c ++ expiries s e.time c) r ≡ true)
         → length (live (c ++ react s c e)) + 1 ≤ length (live c) + need_of c a
     by (act.Arrive tag) sum takes ends runs = omega arith
     by (act.Finish r ok) sum takes ends runs = at (is_running c r) refl
       where
         at : (b : Bool) → is_running c r ≡ b → length (live (c ++ react s c e)) + 1 ≤ length (live c) + cond b 0 1
-        at true k = let one = finish-ends s (c ++ expiries s e.time c) e.time r ok (runs r k) in omega arith
+        at true k = let one = finish-ends s (c ++ expiries s e.time c) e.time r ok (runs r k) in let all = ends (λ p lost. absurd (cc)) in omega arith
         at false k = omega arith
     by (act.Cancel r) sum takes ends runs = at (contains r (waiting c)) refl
       where
         at : (b : Bool) → contains r (waiting c) ≡ b → length (live (c ++ react s c e)) + 1 ≤ length (live c) + cond b 0 1
-        at true k = let one = cancelled s c e.time r k in omega arith
+        at true k = let one = cancelled s c e.time r k in let all = ends (λ p lost. absurd (cc)) in omega arith
         at false k = omega arith
     by act.Pass sum takes ends runs = omega arith
     by (act.Ready p) sum takes ends runs = omega arith
     by (act.Limit p n) sum takes ends runs = omega arith
+    by (act.Lost p) sum takes ends runs = omega arith
     by act.Tick sum takes ends runs = omega arith

@@ -1,5 +1,5 @@
 -- A refused event leaves nothing to do.
-use Rattle.std.proofs.Common.{◌≡◌, ℕ, ◌<◌, Bool, true, false, not, ◌&&◌, ◌||◌, List, [], ◌∷◌, ◌++◌, length, refl, sym, ap, ◌∙◌, arith, map, append-nil, append_assoc, nat_lt}
+use Rattle.std.proofs.Common.{◌≡◌, ℕ, ◌<◌, Bool, true, false, not, cond, ◌&&◌, ◌||◌, List, [], ◌∷◌, ◌++◌, length, refl, sym, ap, subst, ◌∙◌, arith, map, append-nil, append_assoc, nat_lt}
 use Rattle.std.specs.Prelude.{Option, None, Some, ◌==◌}
 use Rattle.std.specs.List.{filter}
 use Rattle.std.proofs.lemmas.Bool.{eqb-true}
@@ -19,7 +19,7 @@ use Rattle.kn_trace.specs.Trace.{Trace, entry, assigned, at_pod, contains, drain
 use Rattle.kn_trace.specs.Capacity.{capacity, in_use}
 use Rattle.kn_trace.specs.Scale.{is_same_phase, phase_of, where_true}
 use Rattle.kn_trace.specs.Settling.{assignments_of, held_assignments, next_choice, promotions, promotions_at, removals, settling}
-use Rattle.kn_trace.specs.Events.{act_row, act_rows, activation, before_settling, due, expiries, react, scaler_rows}
+use Rattle.kn_trace.specs.Events.{act_row, act_rows, activation, before_settling, departures, due, expiries, losses, losses_at, react, scaler_rows}
 use Rattle.kn_trace.specs.Laws.{IsInert, IsSettled, is_refusal}
 use Rattle.kn_laws.specs.Made.{Holds, IsMade, IsNumbered, IsProper}
 use Rattle.kn_laws.proofs.Members.{same_number, contains-filter, filter-others}
@@ -265,13 +265,24 @@ no_decision kind.Kpa s t c d act.Tick x is h = absurd (cc)
 no_decision kind.Kpa s t c d (act.Arrive tag) (row.Admit r g) is h = absurd (cc)
 no_decision k s t c d a x is h = refl
 
+-- nobody is lost by an act that is refused
+no_loss : (s : Spec) (t : ℕ) (c : Trace) (a : Act) (x : Row) → act_row s c a ≡ Some x → is_refusal x ≡ true → losses t c a ≡ []
+unfolding act_row losses
+no_loss s t c (act.Lost p) x is h = by (contains p (live_pods c)) is
+  where
+    by : (b : Bool) → Some (cond b (row.LostPod p) (row.NoPod p)) ≡ Some x → losses_at b t c p ≡ []
+    by true e = absurd (let same : row.LostPod p ≡ x = cc in let no : false ≡ true = subst (λ (y : Row). is_refusal y ≡ true) (sym same) h in cc)
+    by false e = refl
+no_loss s t c a x is h = refl
+
 -- a refused event adds its expiries and its refusal alone
 pub refusals_inert : (s : Spec) (c : Trace) (e : Event) → IsMade s c → IsSettled s c → IsInert s c e
-unfolding react before_settling act_rows
+unfolding react before_settling departures act_rows
 refusals_inert s c e made settled x is h =
     let gone = expiries s e.time c in
+    let none = no_loss s e.time (c ++ gone) e.act x is h in
     let w1 = waned-expiries s e.time c (made_kept s c made).requests in
     let d = (c ++ gone) ++ entry e.time x ∷ [] in
     let w = waned-then c (c ++ gone) d w1 (waned-refusal (c ++ gone) e.time x h) in
     let all : (c ++ (gone ++ entry e.time x ∷ [])) ≡ d = sym (append_assoc c gone (entry e.time x ∷ [])) in
-    rw (is, no_decision s.kind s e.time (c ++ gone) d e.act x is h, activation-none s e.time c d settled w, append-nil (gone ++ entry e.time x ∷ []), all, settling-none s e.time c d settled w) (append-nil (gone ++ entry e.time x ∷ []))
+    rw (none, append-nil gone, is, no_decision s.kind s e.time (c ++ gone) d e.act x is h, activation-none s e.time c d settled w, append-nil (gone ++ entry e.time x ∷ []), all, settling-none s e.time c d settled w) (append-nil (gone ++ entry e.time x ∷ []))

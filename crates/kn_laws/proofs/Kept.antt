@@ -62,6 +62,7 @@ record KeepsHomes (c : Trace) (x : Row) : Type 0 where
 
 homeless : (x : Row) (p q r : ℕ) → gone_by x ≡ Some p → brought_to q x ≡ Some r → ⊥
 homeless (row.Remove u) p q r a b = absurd (cc)
+homeless (row.LostPod u) p q r a b = absurd (cc)
 homeless x p q r a b = absurd (cc)
 
 -- requests stay at live pods
@@ -113,6 +114,7 @@ keeps_homes : (s : Spec) (c : Trace) (x : Row) → IsProper s c x → KeepsHomes
 keeps_homes s c (row.Assign r p) h = homes_at c (row.Assign r p) p r (ready_live c p h.ready) (λ q. refl) refl
 keeps_homes s c (row.Direct r p) h = homes_at c (row.Direct r p) p r (ready_live c p h.1.ready) (λ q. refl) refl
 keeps_homes s c (row.Remove p) h = record { brought = λ q r k. absurd (cc); removed = λ q k. let same : p ≡ q = cc in rw (← same) h.1 }
+keeps_homes s c (row.LostPod p) h = record { brought = λ q r k. absurd (cc); removed = λ q k. let same : p ≡ q = cc in rw (← same) h.1 }
 keeps_homes s c x h = homes_none c x (λ p. refl) refl
 
 -- ---- all of it

@@ -5,14 +5,14 @@ use Rattle.kn_event.specs.declared.entry.Row.{Row}
 use Rattle.kn_event.specs.declared.entry.Row.TheVariants as row
 use Rattle.kn_event.specs.declared.event.Event.{Event}
 use Rattle.kn_event.specs.declared.revision.Spec.{Spec}
-use Rattle.kn_trace.specs.Rows.{ended_by, outcome_by, refused_by, taken_by}
+use Rattle.kn_trace.specs.Rows.{brought_to, ended_by, outcome_by, refused_by, taken_by}
 use Rattle.kn_trace.specs.Trace.{Trace, arrivals, contains, each_row, ended}
 use Rattle.kn_trace.specs.Events.{trace_of}
 use Rattle.kn_trace.specs.Laws.{Always, IsFirstOutcome, IsLawful, IsWithinLimits, RefusesFull, RemovesEmpty}
-use Rattle.kn_laws.specs.Rows.{named_by}
+use Rattle.kn_laws.specs.Rows.{moved_by, named_by}
 use Rattle.kn_laws.specs.Made.{IsMade, IsNumbered, IsProper}
 use Rattle.kn_laws.proofs.Members.{contains-split, contains-within}
-use Rattle.kn_laws.proofs.Numbers.{begun_taken, ended_named, false_unless, next_unnamed, outcome_parts, refused_named, running_parts, waiting_member}
+use Rattle.kn_laws.proofs.Numbers.{at_pod_member, begun_taken, brought_moved, ended_named, false_unless, moved_taken, next_unnamed, outcome_parts, refused_named, running_parts, waiting_member, within-from}
 use Rattle.kn_laws.proofs.Kept.{Holds-at, Holds-law, Kept, kept-nil}
 use Rattle.kn_laws.proofs.Running.{made_trace}
 
@@ -40,6 +40,9 @@ single s c (row.Overload r) kept p = new_undecided c r kept.requests p.0
 single s c (row.Finish r ok) kept p = let both = running_parts c r p in live_undecided c r kept.requests (begun_taken c r kept.requests both.0) both.1
 single s c (row.Expire r) kept p = let both = waiting_member c r p in live_undecided c r kept.requests both.0 both.1.ended
 single s c (row.Cancel r) kept p = let both = waiting_member c r p in live_undecided c r kept.requests both.0 both.1.ended
+single s c (row.LostRequest r) kept p =
+    let both = at_pod_member c p.0 r p.1 in
+    live_undecided c r kept.requests (moved_taken c r kept.requests (within-from (brought_to p.0) moved_by (brought_moved p.0) r c both.0)) both.1
 single s c _ kept p = tt
 
 -- a proper row keeps the limits
@@ -49,9 +52,10 @@ within s c (row.Run r) kept p = p
 within s c (row.Direct r q) kept p = p.1
 within s c _ kept p = tt
 
--- a proper removal is of an empty draining pod
+-- a proper removal is of an empty draining pod, a proper loss of an empty live one
 removes : (s : Spec) (c : Trace) (x : Row) → Kept s c → IsProper s c x → RemovesEmpty c x
 removes s c (row.Remove q) kept p = p
+removes s c (row.LostPod q) kept p = p
 removes s c _ kept p = tt
 
 -- a proper refusal meets a full breaker or pod

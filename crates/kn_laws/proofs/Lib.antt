@@ -26,6 +26,7 @@ pub mod PodViews
 pub mod Standing
 pub mod Counts
 pub mod Acts
+pub mod Ends
 pub mod Bounds
 pub mod Growth
 pub mod Phases

@@ -195,6 +195,11 @@ pub queued_at_pod : (c : Trace) (p r : ℕ) → contains r (queued_at c p) ≡ t
 unfolding at_pod
 queued_at_pod c p r h = let both = queued_member c p r h in in_filter (λ r. not (ended c r)) r (each_row (brought_to p) c) both.0 (rw both.1.ended refl)
 
+-- who is at a pod came to it, and has not ended
+pub at_pod_member : (c : Trace) (p r : ℕ) → contains r (at_pod c p) ≡ true → (contains r (each_row (brought_to p) c) ≡ true) × (ended c r ≡ false)
+unfolding at_pod
+at_pod_member c p r h = let both = filter_member (λ r. not (ended c r)) r (each_row (brought_to p) c) h in (both.0, not-true (ended c r) both.1)
+
 -- a running request has begun, and has not ended
 pub running_parts : (c : Trace) (r : ℕ) → is_running c r ≡ true → ((assigned c r || has_run c r) ≡ true) × (ended c r ≡ false)
 unfolding is_running has_begun
@@ -207,6 +212,15 @@ begun_taken c r num h = by (or-true (assigned c r) (has_run c r) h)
     by : (assigned c r ≡ true) ⊎ (has_run c r ≡ true) → contains r (each_row taken_by c) ≡ true
     by (inl a) = within-from admitted_by taken_by admitted_taken r c (num.assigned r a)
     by (inr a) = within-from directed_by taken_by directed_taken r c (num.ran r a)
+
+-- a request that came to a pod was taken in
+pub moved_taken : (c : Trace) (r : ℕ) → IsNumbered c → contains r (each_row moved_by c) ≡ true → contains r (each_row taken_by c) ≡ true
+unfolding assigned
+moved_taken c r num h = by (or-true (contains r (each_row assigned_by c)) (contains r (each_row directed_by c)) (sym (contains-split moved_by assigned_by directed_by moved_parts r c) ∙ h))
+  where
+    by : (contains r (each_row assigned_by c) ≡ true) ⊎ (contains r (each_row directed_by c) ≡ true) → contains r (each_row taken_by c) ≡ true
+    by (inl a) = within-from admitted_by taken_by admitted_taken r c (num.assigned r a)
+    by (inr a) = within-from directed_by taken_by directed_taken r c a
 
 -- ---- the next number
 
@@ -385,7 +399,7 @@ keeps_arrival c x r num e named arrived assigned' run' = record {
   run = λ q h. absurd (cc);
 }
 
-keeps_none : (c : Trace) (x : Row) → named_by x ≡ None → arrived_by x ≡ None → assigned_by x ≡ None → run_by x ≡ None → KeepsNumbers c x
+pub keeps_none : (c : Trace) (x : Row) → named_by x ≡ None → arrived_by x ≡ None → assigned_by x ≡ None → run_by x ≡ None → KeepsNumbers c x
 keeps_none c x named arrived assigned' run' = record { come = λ q h. absurd (cc); fresh = λ q h. absurd (cc); assign = λ q h. absurd (cc); run = λ q h. absurd (cc) }
 
 -- a proper row keeps numbers
@@ -417,4 +431,5 @@ proper_keeps s c (row.Run r) num p =
 proper_keeps s c (row.Finish r ok) num p = keeps_known c (row.Finish r ok) r (taken_comes c r num (begun_taken c r num (running_parts c r p).0)) refl refl refl refl
 proper_keeps s c (row.Expire r) num p = keeps_known c (row.Expire r) r (taken_comes c r num (waiting_member c r p).0) refl refl refl refl
 proper_keeps s c (row.Cancel r) num p = keeps_known c (row.Cancel r) r (taken_comes c r num (waiting_member c r p).0) refl refl refl refl
+proper_keeps s c (row.LostRequest r) num p = keeps_known c (row.LostRequest r) r (num.come r (named-from moved_by moved_named r c (within-from (brought_to p.0) moved_by (brought_moved p.0) r c (at_pod_member c p.0 r p.1).0))) refl refl refl refl
 proper_keeps s c x num p = keeps_none c x refl refl refl refl

@@ -26,11 +26,11 @@ use Rattle.kn_trace.specs.Rows.{decision_by, phase_by}
 use Rattle.kn_trace.specs.Trace.{Trace, entry, created, each_row, held, is_empty, live_pods, ready_pods}
 use Rattle.kn_trace.specs.Scale.{count_ready, creations, decision_at, decision_rows, drain_order, is_same_mode, is_same_phase, mode_of, opening_scale, past_of, phase_of, scale_rows, standing_of, tick_rows, tick_rows_of, wake_decision_at, wake_rows, wanted, where_true}
 use Rattle.kn_trace.specs.Settling.{assignments_of, held_assignments, promotions, removals, settling}
-use Rattle.kn_trace.specs.Events.{act_row, act_rows, activation, added, before_settling, entries_of, expiries, opening, opening_of, opening_phase, react, scaler_rows, trace_of, wake_where}
+use Rattle.kn_trace.specs.Events.{act_row, act_rows, activation, added, before_settling, entries_of, departures, opening, opening_of, opening_phase, react, scaler_rows, trace_of, wake_where}
 use Rattle.kn_laws.specs.Phases.{WantsByPhase}
 use Rattle.kn_laws.proofs.Numbers.{false_unless}
 use Rattle.kn_laws.proofs.Kept.{phase_of-push, wanted-push}
-use Rattle.kn_laws.proofs.Rows.{Each, assignments-rows, expiries-rows, is_assign_row, is_expire_row, is_remove_row, is_run_row, promotions-rows}
+use Rattle.kn_laws.proofs.Rows.{Each, assignments-rows, departures-rows, is_assign_row, is_departure_row, is_remove_row, is_run_row, promotions-rows}
 use Rattle.kn_laws.proofs.Acts.{act-rows, is_act_row, removals-rows}
 
 abbrev is_idle : Phase → Bool
@@ -102,9 +102,10 @@ wants-each : (s : Spec) (test : Row → Bool) → ((x : Row) → test x ≡ true
 wants-each s test none c es h wants scaled =
     rw (unwanted s c es (none-rows decision_by test (λ x k. (none x k).0) es h), unphased c es (none-rows phase_by test (λ x k. (none x k).1) es h)) (wants scaled)
 
-expire_plain : (x : Row) → is_expire_row x ≡ true → (decision_by x ≡ None) × (phase_by x ≡ None)
-expire_plain (row.Expire r) h = (refl, refl)
-expire_plain _ h = absurd (cc)
+departure_plain : (x : Row) → is_departure_row x ≡ true → (decision_by x ≡ None) × (phase_by x ≡ None)
+departure_plain (row.Expire r) h = (refl, refl)
+departure_plain (row.LostRequest r) h = (refl, refl)
+departure_plain _ h = absurd (cc)
 
 act_plain : (x : Row) → is_act_row x ≡ true → (decision_by x ≡ None) × (phase_by x ≡ None)
 act_plain (row.Decided d) h = absurd (cc)
@@ -270,12 +271,12 @@ settling-wants s t c wants =
 pub react-wants : (s : Spec) (c : Trace) (e : Event) → WantsByPhase s c → WantsByPhase s (c ++ react s c e)
 unfolding react before_settling act_rows
 react-wants s c e wants scaled =
-    let gone = expiries s e.time c in
+    let gone = departures s c e in
     let own = entries_of e.time (act_row s (c ++ gone) e.act) in
     let more = scaler_rows s.kind s e.time ((c ++ gone) ++ own) e.act (act_row s (c ++ gone) e.act) in
     let active = activation e.time ((c ++ gone) ++ (own ++ more)) in
     let first = (gone ++ (own ++ more)) ++ active in
-    let one = wants-each s is_expire_row expire_plain c gone (expiries-rows s e.time c) wants in
+    let one = wants-each s is_departure_row departure_plain c gone (departures-rows s c e) wants in
     let two = wants-each s is_act_row act_plain (c ++ gone) own (act-rows s e.time (c ++ gone) e.act) one in
     let three = scaler-wants s.kind s e.time ((c ++ gone) ++ own) e.act (act_row s (c ++ gone) e.act) scaled two in
     let four = activation-wants s e.time ((c ++ gone) ++ (own ++ more)) (subst (λ (d : Trace). WantsByPhase s d) (append_assoc (c ++ gone) own more) three) in

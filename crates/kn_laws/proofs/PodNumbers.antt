@@ -121,7 +121,7 @@ created_comes c p num h = num.come p (within-from created_by pod_named_by create
 
 -- ---- a proper row
 
-keeps_live_pod : (c : Trace) (x : Row) (p : ℕ) → ArePodsNumbered c → contains p (live_pods c) ≡ true → pod_named_by x ≡ Some p → created_by x ≡ None → KeepsPods c x
+pub keeps_live_pod : (c : Trace) (x : Row) (p : ℕ) → ArePodsNumbered c → contains p (live_pods c) ≡ true → pod_named_by x ≡ Some p → created_by x ≡ None → KeepsPods c x
 keeps_live_pod c x p num h named made = record { come = λ q e. let same : p ≡ q = cc in let less = created_comes c p num (live_pod_created c p h) in rw made (omega arith); fresh = λ q e. absurd (cc) }
 
 keeps_no_pod : (c : Trace) (x : Row) → pod_named_by x ≡ None → created_by x ≡ None → KeepsPods c x

@@ -52,6 +52,7 @@ says_no_pod (row.Limit p n) h = absurd (cc)
 says_no_pod (row.Ready p) h = absurd (cc)
 says_no_pod (row.Drain p) h = absurd (cc)
 says_no_pod (row.Remove p) h = absurd (cc)
+says_no_pod (row.LostPod p) h = absurd (cc)
 says_no_pod _ h = record { created = refl; readied = refl; drained = refl; removed = refl; limit = λ p. refl }
 
 pub starting-quiet : (c : Trace) (e : Entry) → SaysNoPod e.row → starting_pods (c ++ e ∷ []) ≡ starting_pods c

@@ -100,12 +100,13 @@ pods-drain c t p =
     by q false m false x true e = rw (e) refl
     by q false m d x false e = rw (e, or-false d, or-false x) refl
 
--- a pod goes
-pub pods-remove : (c : Trace) (t p : ℕ) → pods (c ++ entry t (row.Remove p) ∷ []) ≡ filter (λ (q : Pod). not (p == q.number)) (pods c)
+-- a pod goes: it is removed, or lost
+pub pods-gone : (c : Trace) (e : Entry) (p : ℕ) → created_by e.row ≡ None → gone_by e.row ≡ Some p → drained_by e.row ≡ None → readied_by e.row ≡ None → ((q : ℕ) → limit_by q e.row ≡ None)
+    → pods (c ++ e ∷ []) ≡ filter (λ (q : Pod). not (p == q.number)) (pods c)
 unfolding pod_record
-pods-remove c t p =
-    old_pods c (entry t (row.Remove p)) (λ q. then_some (not (p == q.number)) q) (λ q. by q (removed c q) (limit_of c q) (drains c q) (readies c q) (p == q) refl)
-    ∙ append-nil _ ∙ filter_map-filter (λ (q : Pod). not (p == q.number)) (pods c)
+pods-gone c e p created gone drained' readied' limit' =
+    old_pods c e (λ q. then_some (not (p == q.number)) q) (λ q. rw (gone, drained', readied', limit' q) (by q (removed c q) (limit_of c q) (drains c q) (readies c q) (p == q) refl))
+    ∙ rw created (append-nil (filter_map (λ (q : Pod). then_some (not (p == q.number)) q) (pods c)) ∙ filter_map-filter (λ (q : Pod). not (p == q.number)) (pods c))
   where
     by : (q : ℕ) (g : Bool) (m : ℕ) (d x b : Bool) → (p == q) ≡ b → after_pod q (g || (p == q)) m (readiness_by (d || false) (x || false))
         ≡ changed (λ y. then_some (not (p == y.number)) y) (after_pod q g m (readiness_by d x))

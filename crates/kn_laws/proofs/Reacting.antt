@@ -1,5 +1,5 @@
--- The expiries, the act's own row and the assignments are proper.
-use Rattle.std.proofs.Common.{◌≡◌, ℕ, ◌+◌, ◌≤◌, ◌<◌, ◌%◌, Bool, true, false, not, cond, ◌||◌, ◌⊎◌, inl, inr, List, [], ◌∷◌, ◌++◌, length, refl, ap, ◌∙◌, arith, nat_le, map, zero, suc}
+-- The expiries, the losses with a pod, the act's own row and the assignments are proper.
+use Rattle.std.proofs.Common.{◌≡◌, ℕ, ◌+◌, ◌≤◌, ◌<◌, ◌%◌, Bool, true, false, not, cond, ◌||◌, ◌⊎◌, inl, inr, List, [], ◌∷◌, ◌++◌, length, refl, sym, ap, subst, ◌∙◌, arith, nat_le, map, zero, suc, append-nil, append_assoc}
 use Rattle.std.specs.Prelude.{Option, None, Some, ◌==◌, slice_index, slice_index_or}
 use Rattle.std.specs.List.{filter_map, cons_option}
 use Rattle.std.proofs.lemmas.Bool.{eqb-true}
@@ -10,19 +10,21 @@ use Rattle.kn_event.specs.declared.entry.Mode.{Mode}
 use Rattle.kn_event.specs.declared.entry.Mode.TheVariants as mode
 use Rattle.kn_event.specs.declared.event.Act.{Act}
 use Rattle.kn_event.specs.declared.event.Act.TheVariants as act
+use Rattle.kn_event.specs.declared.event.Event.{Event}
 use Rattle.kn_event.specs.declared.revision.Spec.{Spec}
 use Rattle.kn_trace.specs.Rows.{admitted_by, brought_to, created_by, taken_by}
-use Rattle.kn_trace.specs.Trace.{Trace, entry, arrivals, contains, direct_turn, each_row, has_not_begun, held, is_held, is_running, is_starting, live, live_pods, queued_at, ready_pods, starting_pods, waiting}
+use Rattle.kn_trace.specs.Trace.{Trace, entry, arrivals, at_pod, contains, direct_turn, each_row, ended, has_not_begun, held, is_held, is_running, is_starting, live, live_pods, queued_at, ready_pods, starting_pods, waiting}
 use Rattle.kn_trace.specs.Capacity.{breaker_full, pod_full}
 use Rattle.kn_trace.specs.Scale.{mode_of}
 use Rattle.kn_trace.specs.Settling.{assignments_of, next_choice, while_chosen}
-use Rattle.kn_trace.specs.Events.{act_row, admission_row, arrival_row, direct_row, due, due_by, entries_of, expiries, live_most}
+use Rattle.kn_trace.specs.Events.{act_row, admission_row, arrival_row, departures, direct_row, due, due_by, entries_of, expiries, live_most, losses, losses_at, lost_with}
 use Rattle.kn_laws.specs.Rows.{moved_by}
 use Rattle.kn_laws.specs.Made.{AreDistinct, Holds, IsNumbered, IsProper}
 use Rattle.kn_laws.proofs.Members.{same_number, or_parts, contains-filter, distinct-filter, filter-first}
-use Rattle.kn_laws.proofs.Numbers.{admitted_taken, brought_moved, filter_member, in_filter, true_unless}
+use Rattle.kn_laws.proofs.Numbers.{admitted_taken, at_pod_member, brought_moved, filter_member, in_filter, moved_taken, not-true, true_unless, within-from}
 use Rattle.kn_laws.proofs.PodNumbers.{live_pod_created}
-use Rattle.kn_laws.proofs.Steps.{others, waiting-end, held-assign}
+use Rattle.kn_laws.proofs.Steps.{others, at_pod-end, waiting-end, held-assign}
+use Rattle.kn_laws.proofs.Kept.{Holds-append, Holds-kept, Kept}
 use Rattle.kn_laws.proofs.Choosing.{next_choice-good}
 
 -- ---- lists that leave some out
@@ -111,6 +113,81 @@ pub expiries-hold : (s : Spec) (t : ℕ) (c : Trace) → IsNumbered c → Holds 
 unfolding expiries
 expiries-hold s t c num = expire-hold s t c (due s t c) (due_distinct s t c num) (due_waits s t c)
 
+-- ---- then, where a pod is lost, its requests
+
+-- who is at a pod is live
+pub at_pod_live : (c : Trace) (p r : ℕ) → IsNumbered c → contains r (at_pod c p) ≡ true → contains r (live c) ≡ true
+unfolding live
+at_pod_live c p r num h =
+    let both = at_pod_member c p r h in
+    in_filter (λ q. not (ended c q)) r (each_row taken_by c) (moved_taken c r num (within-from (brought_to p) moved_by (brought_moved p) r c both.0)) (rw (both.1) refl)
+
+lost-hold : (s : Spec) (t : ℕ) (c : Trace) (p : ℕ) (rs : List ℕ) → AreDistinct rs → ((r : ℕ) → contains r rs ≡ true → contains r (at_pod c p) ≡ true) → Holds (IsProper s) c (map (λ r. entry t (row.LostRequest r)) rs)
+lost-hold s t c p [] d all = tt
+lost-hold s t c p (r ∷ rs) d all = (
+  (p, all r (rw (same_number r) refl)),
+  lost-hold s t (c ++ entry t (row.LostRequest r) ∷ []) p rs d.1
+      (λ q h. rw (at_pod-end c (entry t (row.LostRequest r)) r p refl refl, contains-filter (λ (q : ℕ). not (r == q)) q (at_pod c p), all q (or-more (r == q) (contains q rs) h)) (apart_from r q rs d.0 h)),
+)
+
+-- the losses are proper
+pub losses-hold : (s : Spec) (t : ℕ) (c : Trace) (a : Act) → IsNumbered c → Holds (IsProper s) c (losses t c a)
+unfolding losses lost_with live
+losses-hold s t c (act.Lost p) num = by (contains p (live_pods c))
+  where
+    by : (b : Bool) → Holds (IsProper s) c (losses_at b t c p)
+    by true = lost-hold s t c p (lost_with c p) (distinct-filter (λ r. contains r (at_pod c p)) (live c) (distinct-filter (λ r. not (ended c r)) (each_row taken_by c) num.once))
+        (λ r h. (filter_member (λ r. contains r (at_pod c p)) r (live c) h).1)
+    by false = tt
+losses-hold s t c a num = tt
+
+-- so are all that come before the act's own row
+pub departures-hold : (s : Spec) (c : Trace) (e : Event) → Kept s c → Holds (IsProper s) c (departures s c e)
+unfolding departures
+departures-hold s c e kept =
+    let gone = expiries s e.time c in
+    let one = expiries-hold s e.time c kept.requests in
+    Holds-append (IsProper s) c gone (losses e.time (c ++ gone) e.act) one (losses-hold s e.time (c ++ gone) e.act (Holds-kept s c gone kept one).requests)
+
+-- who is at the pod after these losses was there before, and is none of them
+lost-leave : (t : ℕ) (c : Trace) (p r : ℕ) (rs : List ℕ) → contains r (at_pod (c ++ map (λ q. entry t (row.LostRequest q)) rs) p) ≡ true → (contains r (at_pod c p) ≡ true) × (contains r rs ≡ false)
+lost-leave t c p r [] h = (rw (append-nil c) at h, refl)
+lost-leave t c p r (q ∷ rs) h =
+    let e = entry t (row.LostRequest q) in
+    let rest = lost-leave t (c ++ e ∷ []) p r rs (rw (append_assoc c (e ∷ []) (map (λ q. entry t (row.LostRequest q)) rs)) h) in
+    let both = filter_member (λ (x : ℕ). not (q == x)) r (at_pod c p) (rw (at_pod-end c e q p refl refl) at rest.0) in
+    (both.0, rw (not-true (q == r) both.1) rest.1)
+
+-- the pod that the act loses has no request any more
+abbrev pub IsCleared : Trace → Act → Type 0
+IsCleared c a = (p : ℕ) → a ≡ act.Lost p → contains p (live_pods c) ≡ true → at_pod c p ≡ []
+
+none-there : (xs : List ℕ) → ((r : ℕ) → contains r xs ≡ true → ⊥) → xs ≡ []
+none-there [] h = refl
+none-there (x ∷ xs) h = absurd (h x (rw (same_number x) refl))
+
+losses-clear : (t : ℕ) (c : Trace) (p : ℕ) → IsNumbered c → contains p (live_pods (c ++ losses t c (act.Lost p))) ≡ true → at_pod (c ++ losses t c (act.Lost p)) p ≡ []
+unfolding losses lost_with
+losses-clear t c p num = by (contains p (live_pods c)) refl
+  where
+    by : (b : Bool) → contains p (live_pods c) ≡ b → contains p (live_pods (c ++ losses_at b t c p)) ≡ true → at_pod (c ++ losses_at b t c p) p ≡ []
+    by true k h = none-there (at_pod (c ++ map (λ r. entry t (row.LostRequest r)) (lost_with c p)) p) (λ r there.
+        let both = lost-leave t c p r (lost_with c p) there in
+        let lost : contains r (lost_with c p) ≡ true = in_filter (λ q. contains q (at_pod c p)) r (live c) (at_pod_live c p r num both.0) both.0 in
+        let kept = both.1 in absurd (cc))
+    by false k h = absurd (let live : contains p (live_pods c) ≡ true = rw (append-nil c) at h in cc)
+
+-- after the departures it is so
+pub departures-clear : (s : Spec) (c : Trace) (e : Event) → Kept s c → IsCleared (c ++ departures s c e) e.act
+unfolding departures
+departures-clear s c e kept p lost =
+    let gone = expiries s e.time c in
+    let kept1 = Holds-kept s c gone kept (expiries-hold s e.time c kept.requests) in
+    let all : ((c ++ gone) ++ losses e.time (c ++ gone) e.act) ≡ c ++ (gone ++ losses e.time (c ++ gone) e.act) = append_assoc c gone (losses e.time (c ++ gone) e.act) in
+    let P : Act → Type 0 = λ a. contains p (live_pods ((c ++ gone) ++ losses e.time (c ++ gone) a)) ≡ true → at_pod ((c ++ gone) ++ losses e.time (c ++ gone) a) p ≡ [] in
+    let Q : Trace → Type 0 = λ d. contains p (live_pods d) ≡ true → at_pod d p ≡ [] in
+    subst Q all (subst P (sym lost) (losses-clear e.time (c ++ gone) p kept1.requests))
+
 -- ---- then the act's own row
 
 contains-index : (i : ℕ) (d : ℕ) (xs : List ℕ) → i < length xs → contains (slice_index_or xs i d) xs ≡ true
@@ -147,36 +224,41 @@ arrival-hold mode.Serve s t c [] tag ready room = admission-hold s t c tag room
 arrival-hold mode.Proxy s t c ps tag ready room = admission-hold s t c tag room
 
 -- the row of an act is proper, whichever it is
-pub act-holds : (s : Spec) (t : ℕ) (c : Trace) (a : Act) → Holds (IsProper s) c (entries_of t (act_row s c a))
+pub act-holds : (s : Spec) (t : ℕ) (c : Trace) (a : Act) → IsCleared c a → Holds (IsProper s) c (entries_of t (act_row s c a))
 unfolding act_row starting_pods
-act-holds s t c (act.Arrive tag) = by (nat_le live_most (length (live c))) refl
+act-holds s t c (act.Arrive tag) clear = by (nat_le live_most (length (live c))) refl
   where
     by : (m : Bool) → nat_le live_most (length (live c)) ≡ m → Holds (IsProper s) c (entries_of t (Some (cond m (row.Overload (arrivals c)) (arrival_row (mode_of c) s c (ready_pods c) tag))))
     by true e = let many : live_most ≤ length (live c) = grind (arith, nat_tests) in ((refl, many), tt)
     by false e = let few : length (live c) < live_most = grind (arith, nat_tests) in arrival-hold (mode_of c) s t c (ready_pods c) tag refl few
-act-holds s t c (act.Finish r ok) = by (is_running c r) refl
+act-holds s t c (act.Finish r ok) clear = by (is_running c r) refl
   where
     by : (b : Bool) → is_running c r ≡ b → Holds (IsProper s) c (entries_of t (Some (cond b (row.Finish r ok) (row.NotRunning r))))
     by true e = (e, tt)
     by false e = (tt, tt)
-act-holds s t c (act.Cancel r) = by (contains r (waiting c)) refl
+act-holds s t c (act.Cancel r) clear = by (contains r (waiting c)) refl
   where
     by : (b : Bool) → contains r (waiting c) ≡ b → Holds (IsProper s) c (entries_of t (Some (cond b (row.Cancel r) (row.NotWaiting r))))
     by true e = (e, tt)
     by false e = (tt, tt)
-act-holds s t c act.Pass = tt
-act-holds s t c (act.Ready p) = by (contains p (live_pods c)) (is_starting c p) refl refl
+act-holds s t c act.Pass clear = tt
+act-holds s t c (act.Ready p) clear = by (contains p (live_pods c)) (is_starting c p) refl refl
   where
     by : (m b : Bool) → contains p (live_pods c) ≡ m → is_starting c p ≡ b → Holds (IsProper s) c (entries_of t (Some (cond m (cond b (row.Ready p) (row.NotStarting p)) (row.NoPod p))))
     by true true e f = (in_filter (is_starting c) p (each_row created_by c) (live_pod_created c p e) f, tt)
     by true false e f = (tt, tt)
     by false b e f = (tt, tt)
-act-holds s t c (act.Limit p n) = by (contains p (live_pods c)) refl
+act-holds s t c (act.Limit p n) clear = by (contains p (live_pods c)) refl
   where
     by : (m : Bool) → contains p (live_pods c) ≡ m → Holds (IsProper s) c (entries_of t (Some (cond m (row.Limit p n) (row.NoPod p))))
     by true e = (e, tt)
     by false e = (tt, tt)
-act-holds s t c act.Tick = tt
+act-holds s t c (act.Lost p) clear = by (contains p (live_pods c)) refl
+  where
+    by : (m : Bool) → contains p (live_pods c) ≡ m → Holds (IsProper s) c (entries_of t (Some (cond m (row.LostPod p) (row.NoPod p))))
+    by true e = ((e, clear p refl e), tt)
+    by false e = (tt, tt)
+act-holds s t c act.Tick clear = tt
 
 -- ---- the assignments
 

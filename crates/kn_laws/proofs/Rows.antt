@@ -7,17 +7,18 @@ use Rattle.kn_event.specs.declared.entry.Row.TheVariants as row
 use Rattle.kn_event.specs.declared.entry.Phase.TheVariants as phase
 use Rattle.kn_event.specs.declared.event.Act.{Act}
 use Rattle.kn_event.specs.declared.event.Act.TheVariants as act
+use Rattle.kn_event.specs.declared.event.Event.{Event}
 use Rattle.kn_event.specs.declared.revision.Kind.{Kind}
 use Rattle.kn_event.specs.declared.revision.Kind.TheVariants as kind
 use Rattle.kn_event.specs.declared.revision.Spec.{Spec}
 use Rattle.kn_scaling.specs.Decide.{Ruling}
 use Rattle.kn_trace.specs.Rows.{phase_by}
-use Rattle.kn_trace.specs.Trace.{Trace, entry, created, draining, has_free_seat, is_empty, queued_at, ready_pods}
+use Rattle.kn_trace.specs.Trace.{Trace, contains, entry, created, live_pods, draining, has_free_seat, is_empty, queued_at, ready_pods}
 use Rattle.kn_trace.specs.Scale.{creations, decision_at, decision_rows, drain_order, is_same_mode, is_same_phase, mode_of, phase_of, scale_rows, tick_rows, tick_rows_of, wake_decision_at, wake_rows, wanted, where_true}
 use Rattle.kn_trace.specs.Settling.{assignments_of, next_choice, promotions, promotions_at, while_chosen, while_free}
-use Rattle.kn_trace.specs.Events.{activation, due, expiries, scaler_rows, wake_where}
+use Rattle.kn_trace.specs.Events.{activation, departures, due, expiries, losses, losses_at, lost_with, scaler_rows, wake_where}
 use Rattle.kn_laws.proofs.Kept.{phase_of-push}
-use Rattle.kn_laws.proofs.PodSteps.{SaysNoPod, drain_order-quiet, draining-quiet, ready-quiet, says_no_pod}
+use Rattle.kn_laws.proofs.PodSteps.{SaysNoPod, drain_order-quiet, draining-quiet, live_pods-quiet, ready-quiet, says_no_pod}
 
 -- each row passes the test
 abbrev pub Each : (Row → Bool) → Trace → Type 0
@@ -48,6 +49,16 @@ is_remove_row _ = false
 abbrev pub is_expire_row : Row → Bool
 is_expire_row (row.Expire r) = true
 is_expire_row _ = false
+
+abbrev pub is_loss_row : Row → Bool
+is_loss_row (row.LostRequest r) = true
+is_loss_row _ = false
+
+-- who ends before the act's own row
+abbrev pub is_departure_row : Row → Bool
+is_departure_row (row.Expire r) = true
+is_departure_row (row.LostRequest r) = true
+is_departure_row _ = false
 
 pub promotions_at-rows : (t : ℕ) (c : Trace) (p : ℕ) (rs : List ℕ) → Each is_run_row (promotions_at t c p rs)
 unfolding promotions_at
@@ -87,6 +98,47 @@ pub expiries-rows : (s : Spec) (t : ℕ) (c : Trace) → Each is_expire_row (exp
 unfolding expiries
 expiries-rows s t c = expired-rows t (due s t c)
 
+lost-rows : (t : ℕ) (rs : List ℕ) → Each is_loss_row (map (λ r. entry t (row.LostRequest r)) rs)
+lost-rows t [] = tt
+lost-rows t (r ∷ rs) = (refl, lost-rows t rs)
+
+-- the losses are rows of lost requests
+pub losses-rows : (t : ℕ) (c : Trace) (a : Act) → Each is_loss_row (losses t c a)
+unfolding losses
+losses-rows t c (act.Lost p) = by (contains p (live_pods c))
+  where
+    by : (b : Bool) → Each is_loss_row (losses_at b t c p)
+    by true = lost-rows t (lost_with c p)
+    by false = tt
+losses-rows t c a = tt
+
+expire_departs : (x : Row) → is_expire_row x ≡ true → is_departure_row x ≡ true
+expire_departs (row.Expire r) h = refl
+expire_departs _ h = absurd (cc)
+
+loss_departs : (x : Row) → is_loss_row x ≡ true → is_departure_row x ≡ true
+loss_departs (row.LostRequest r) h = refl
+loss_departs _ h = absurd (cc)
+
+-- so all that end before the act's own row are of these kinds
+pub departures-rows : (s : Spec) (c : Trace) (e : Event) → Each is_departure_row (departures s c e)
+unfolding departures
+departures-rows s c e =
+    let gone = expiries s e.time c in
+    Each-append is_departure_row gone (losses e.time (c ++ gone) e.act)
+    (Each-weaken is_expire_row is_departure_row expire_departs gone (expiries-rows s e.time c))
+    (Each-weaken is_loss_row is_departure_row loss_departs (losses e.time (c ++ gone) e.act) (losses-rows e.time (c ++ gone) e.act))
+
+-- only where a pod is lost does anybody but the expired end before the act's own row
+pub no_losses : (t : ℕ) (c : Trace) (a : Act) → ((p : ℕ) → a ≡ act.Lost p → ⊥) → losses t c a ≡ []
+unfolding losses
+no_losses t c (act.Lost p) other = absurd (other p refl)
+no_losses t c a other = refl
+
+pub departures-same : (s : Spec) (c : Trace) (e : Event) → ((p : ℕ) → e.act ≡ act.Lost p → ⊥) → departures s c e ≡ expiries s e.time c
+unfolding departures
+departures-same s c e other = rw (no_losses e.time (c ++ expiries s e.time c) e.act other) (append-nil (expiries s e.time c))
+
 -- ---- what rows of a kind leave as it is
 
 -- the phase
@@ -106,14 +158,19 @@ pub draining-each : (test : Row → Bool) → ((x : Row) → test x ≡ true →
 draining-each test none c [] h = rw (append-nil c) refl
 draining-each test none c (e ∷ es) h = rw (append_assoc c (e ∷ []) es) at (draining-each test none (c ++ e ∷ []) es h.1 ∙ draining-quiet c e (none e.row h.0))
 
+-- the live pods
+pub live_pods-each : (test : Row → Bool) → ((x : Row) → test x ≡ true → SaysNoPod x) → (c es : Trace) → Each test es → live_pods (c ++ es) ≡ live_pods c
+live_pods-each test none c [] h = rw (append-nil c) refl
+live_pods-each test none c (e ∷ es) h = rw (append_assoc c (e ∷ []) es) at (live_pods-each test none (c ++ e ∷ []) es h.1 ∙ live_pods-quiet c e (none e.row h.0))
+
 -- those that do not drain
 pub drain_order-each : (test : Row → Bool) → ((x : Row) → test x ≡ true → SaysNoPod x) → (c es : Trace) → Each test es → drain_order (c ++ es) ≡ drain_order c
 drain_order-each test none c [] h = rw (append-nil c) refl
 drain_order-each test none c (e ∷ es) h = rw (append_assoc c (e ∷ []) es) at (drain_order-each test none (c ++ e ∷ []) es h.1 ∙ drain_order-quiet c e (none e.row h.0))
 
-pub expire_pods : (x : Row) → is_expire_row x ≡ true → SaysNoPod x
-expire_pods (row.Expire r) h = says_no_pod (row.Expire r) refl
-expire_pods _ h = absurd (cc)
+pub loss_pods : (x : Row) → is_loss_row x ≡ true → SaysNoPod x
+loss_pods (row.LostRequest r) h = says_no_pod (row.LostRequest r) refl
+loss_pods _ h = absurd (cc)
 
 pub run_pods : (x : Row) → is_run_row x ≡ true → SaysNoPod x
 run_pods (row.Run r) h = says_no_pod (row.Run r) refl

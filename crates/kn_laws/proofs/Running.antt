@@ -8,14 +8,14 @@ use Rattle.kn_event.specs.declared.revision.Spec.{Spec}
 use Rattle.kn_trace.specs.Rows.{created_by}
 use Rattle.kn_trace.specs.Trace.{Trace, entry, at_pod, contains, draining, each_row, has_free_seat, held, is_draining, is_empty, live_pods, queued_at}
 use Rattle.kn_trace.specs.Settling.{held_assignments, promotions, promotions_at, removals, settling, while_free}
-use Rattle.kn_trace.specs.Events.{act_rows, activation, added, before_settling, expiries, opening, react, trace_of}
+use Rattle.kn_trace.specs.Events.{act_rows, activation, added, before_settling, departures, opening, react, trace_of}
 use Rattle.kn_laws.specs.Made.{AreDistinct, ArePodsNumbered, Holds, IsMade, IsNumbered, IsProper}
 use Rattle.kn_laws.proofs.Members.{same_number, distinct-filter, filter-first}
 use Rattle.kn_laws.proofs.Numbers.{filter_member}
 use Rattle.kn_laws.proofs.Steps.{others, at_pod-quiet, is_quiet, queued_at-run}
 use Rattle.kn_laws.proofs.PodSteps.{draining-remove}
 use Rattle.kn_laws.proofs.Kept.{Holds-append, Holds-kept, Kept, made_kept}
-use Rattle.kn_laws.proofs.Reacting.{apart_from, assignments-hold, expiries-hold, held_distinct, or-more, queued_distinct}
+use Rattle.kn_laws.proofs.Reacting.{apart_from, assignments-hold, departures-clear, departures-hold, held_distinct, or-more, queued_distinct}
 use Rattle.kn_laws.proofs.Scaling.{activation-holds, acts-hold, made_opening}
 
 -- ---- queued requests run
@@ -95,11 +95,11 @@ settling-holds s t c kept =
 pub before-holds : (s : Spec) (c : Trace) (e : Event) → Kept s c → Holds (IsProper s) c (before_settling s c e)
 unfolding before_settling
 before-holds s c e kept =
-    let gone = expiries s e.time c in
+    let gone = departures s c e in
     let did = act_rows s e.time (c ++ gone) e.act in
-    let one = expiries-hold s e.time c kept.requests in
+    let one = departures-hold s c e kept in
     let kept1 = Holds-kept s c gone kept one in
-    let two = acts-hold s e.time (c ++ gone) e.act kept1 in
+    let two = acts-hold s e.time (c ++ gone) e.act kept1 (departures-clear s c e kept) in
     Holds-append (IsProper s) c (gone ++ did) (activation e.time ((c ++ gone) ++ did))
     (Holds-append (IsProper s) c gone did one two)
     (rw (← append_assoc c gone did) (activation-holds s e.time ((c ++ gone) ++ did)))

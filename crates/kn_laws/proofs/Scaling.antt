@@ -30,7 +30,7 @@ use Rattle.kn_laws.proofs.Numbers.{false_unless, filter_member}
 use Rattle.kn_laws.proofs.PodNumbers.{ArePodsNumbered-push, contains-reverse, next_unnamed_pod, proper_keeps_pods}
 use Rattle.kn_laws.proofs.PodSteps.{SaysNoPod, drain_order-create, drain_order-drain, drain_order-quiet, says_no_pod}
 use Rattle.kn_laws.proofs.Kept.{Holds-append, Holds-kept, Kept, Kept-push}
-use Rattle.kn_laws.proofs.Reacting.{act-holds, apart_from, or-more}
+use Rattle.kn_laws.proofs.Reacting.{IsCleared, act-holds, apart_from, or-more}
 
 -- ---- lists
 
@@ -224,11 +224,11 @@ scaler-holds kind.Kpa s t c (act.Arrive tag) (Some (row.Admit r g)) kept = wake_
 scaler-holds k s t c a did kept = tt
 
 -- the act's row and what the autoscaler adds to it
-pub acts-hold : (s : Spec) (t : ℕ) (c : Trace) (a : Act) → Kept s c → Holds (IsProper s) c (act_rows s t c a)
+pub acts-hold : (s : Spec) (t : ℕ) (c : Trace) (a : Act) → Kept s c → IsCleared c a → Holds (IsProper s) c (act_rows s t c a)
 unfolding act_rows
-acts-hold s t c a kept =
+acts-hold s t c a kept clear =
     let did = entries_of t (act_row s c a) in
-    let one = act-holds s t c a in
+    let one = act-holds s t c a clear in
     Holds-append (IsProper s) c did _ one (scaler-holds s.kind s t (c ++ did) a (act_row s c a) (Holds-kept s c did kept one))
 
 -- the activation is

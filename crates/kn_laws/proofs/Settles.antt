@@ -15,7 +15,7 @@ use Rattle.kn_trace.specs.Rows.{admitted_by, brought_to, created_by, drained_by,
 use Rattle.kn_trace.specs.Trace.{Trace, entry, at_pod, contains, draining, each_row, held, is_empty, is_ready, live_pods, queued_at, ready_pods}
 use Rattle.kn_trace.specs.Scale.{creations, is_same_phase, opening_scale, phase_of, where_true}
 use Rattle.kn_trace.specs.Settling.{assignments_of, held_assignments, promotions, removals, settling}
-use Rattle.kn_trace.specs.Events.{act_rows, activation, added, before_settling, expiries, opening, opening_of, opening_phase, react, trace_of}
+use Rattle.kn_trace.specs.Events.{act_rows, activation, added, before_settling, departures, opening, opening_of, opening_phase, react, trace_of}
 use Rattle.kn_trace.specs.Laws.{IsSettled}
 use Rattle.kn_laws.specs.Made.{IsMade}
 use Rattle.kn_laws.proofs.Members.{contains-filter}
@@ -98,7 +98,7 @@ settling-settles s t c kept active =
 pub react-settles : (s : Spec) (c : Trace) (e : Event) → IsMade s c → IsSettled s (c ++ react s c e)
 unfolding react before_settling
 react-settles s c e made =
-    let gone = expiries s e.time c in
+    let gone = departures s c e in
     let did = act_rows s e.time (c ++ gone) e.act in
     let c1 = (c ++ gone) ++ did in
     let first = before_settling s c e in

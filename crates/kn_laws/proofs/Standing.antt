@@ -1,5 +1,5 @@
 -- What a record answers that stands for a trace.
-use Rattle.std.proofs.Common.{◌≡◌, ℕ, ◌+◌, Bool, true, false, not, cond, ◌&&◌, ◌||◌, List, [], ◌∷◌, ◌++◌, length, map, min, nat_le, nat_lt, refl, sym, ap, ◌∙◌, arith}
+use Rattle.std.proofs.Common.{◌≡◌, ℕ, ◌+◌, Bool, true, false, not, cond, ◌&&◌, ◌||◌, List, [], ◌∷◌, ◌++◌, length, map, min, nat_le, nat_lt, refl, sym, ap, subst, ◌∙◌, arith}
 use Rattle.std.specs.Prelude.{Option, None, Some, ◌==◌, if◌then◌else◌}
 use Rattle.std.specs.Bool.{then_some}
 use Rattle.std.specs.List.{filter, filter_map, cons_option, find, sum_by}
@@ -8,12 +8,14 @@ use Rattle.std.proofs.lemmas.List.Elements.{All-weaker}
 use Rattle.std.proofs.lemmas.List.Sums.{sum_by-cons}
 use Rattle.kn_event.specs.declared.entry.Entry.{Entry}
 use Rattle.kn_event.specs.declared.entry.Row.{Row}
+use Rattle.kn_event.specs.declared.entry.Row.TheVariants as row
 use Rattle.kn_event.specs.declared.event.Act.{Act}
+use Rattle.kn_event.specs.declared.event.Act.TheVariants as act
 use Rattle.kn_event.specs.declared.event.Stand.TheVariants as stand
 use Rattle.kn_event.specs.declared.revision.Spec.{Spec}
 use Rattle.kn_trace.specs.declared.candidate.Cand.{Cand}
 use Rattle.kn_trace.specs.Rows.{taken_by}
-use Rattle.kn_trace.specs.Trace.{Trace, entry, arrivals, assigned, contains, each_row, ended, has_begun, has_free_seat, has_not_begun, has_run, limit_of, live, pod_of, ready_pods, running_at, stand_at, stand_of, stand_of_arrived, stand_where}
+use Rattle.kn_trace.specs.Trace.{Trace, entry, arrivals, assigned, contains, each_row, ended, has_begun, has_free_seat, has_not_begun, has_run, limit_of, live, live_pods, pod_of, ready_pods, running_at, stand_at, stand_of, stand_of_arrived, stand_where}
 use Rattle.kn_trace.specs.Capacity.{breaker_full, capacity, pod_full, seats_of}
 use Rattle.kn_trace.specs.Choice.{candidates, choice}
 use Rattle.kn_trace.specs.Settling.{next_choice}
@@ -33,7 +35,7 @@ use Rattle.kn_laws.proofs.Words.{at_pod-count, at_pod-members, held-placed, in_b
 use Rattle.kn_laws.proofs.Queues.{queued_at-placed}
 use Rattle.kn_laws.proofs.PodViews.{draining-pods, live_is_starting, pods_limits, ready_limits, starting-pods}
 use Rattle.kn_laws.proofs.Reacting.{act-holds, contains-fewer, due_taken}
-use Rattle.kn_laws.proofs.Appends.{StandsFor-push}
+use Rattle.kn_laws.proofs.Appends.{StandsFor-push, stands_lost}
 
 -- ---- the views by place
 
@@ -217,5 +219,20 @@ are_views s a c h = rw h.kept (whole h.requests)
     whole num = views_of s c num
 
 -- the row of an act, whichever it is
-pub stands_act : (s : Spec) (a : Admission) (c : Trace) (t : ℕ) (act : Act) (x : Row) → StandsFor a c → act_row s c act ≡ Some x → StandsFor (stepped t x a) (c ++ entry t x ∷ [])
-stands_act s a c t act x h e = StandsFor-push s a c t x h (rw e at (act-holds s t c act)).0
+lost-stands : (s : Spec) (a : Admission) (c : Trace) (t p : ℕ) (x : Row) → StandsFor a c → act_row s c (act.Lost p) ≡ Some x → StandsFor (stepped t x a) (c ++ entry t x ∷ [])
+unfolding act_row
+lost-stands s a c t p x h e = by (contains p (live_pods c)) refl e
+  where
+    P : Row → Type 0
+    P y = StandsFor (stepped t y a) (c ++ entry t y ∷ [])
+
+    by : (b : Bool) → contains p (live_pods c) ≡ b → Some (cond b (row.LostPod p) (row.NoPod p)) ≡ Some x → P x
+    by true live e = let same : row.LostPod p ≡ x = cc in subst P same (stands_lost a c t p h live)
+    by false live e = let same : row.NoPod p ≡ x = cc in subst P same (StandsFor-push s a c t (row.NoPod p) h tt)
+
+act-stands : (s : Spec) (a : Admission) (c : Trace) (t : ℕ) (did : Act) (x : Row) → StandsFor a c → act_row s c did ≡ Some x → ((p : ℕ) → did ≡ act.Lost p → ⊥) → StandsFor (stepped t x a) (c ++ entry t x ∷ [])
+act-stands s a c t did x h e other = StandsFor-push s a c t x h (rw e at (act-holds s t c did (λ p lost. absurd (other p lost)))).0
+
+pub stands_act : (s : Spec) (a : Admission) (c : Trace) (t : ℕ) (did : Act) (x : Row) → StandsFor a c → act_row s c did ≡ Some x → StandsFor (stepped t x a) (c ++ entry t x ∷ [])
+stands_act s a c t (act.Lost p) x h e = lost-stands s a c t p x h e
+stands_act s a c t did x h e = act-stands s a c t did x h e (λ p lost. absurd (cc))

@@ -96,6 +96,7 @@ is_quiet (row.Run r) a b d e = absurd (cc)
 is_quiet (row.Finish r ok) a b d e = absurd (cc)
 is_quiet (row.Expire r) a b d e = absurd (cc)
 is_quiet (row.Cancel r) a b d e = absurd (cc)
+is_quiet (row.LostRequest r) a b d e = absurd (cc)
 is_quiet _ a b d e = record { admitted = refl; taken = refl; assigned = refl; brought = λ p. refl; run = refl; ended = refl }
 
 pub ended-quiet : (c : Trace) (e : Entry) → IsQuiet e.row → (q : ℕ) → ended (c ++ e ∷ []) q ≡ ended c q
@@ -163,6 +164,17 @@ waiting-end c e r taken assigned' run' ended' =
     by false true g m = refl
     by false false true m = refl
     by false false false m = refl
+
+-- a request ends: it is at its pod no more
+pub at_pod-end : (c : Trace) (e : Entry) (r p : ℕ) → brought_to p e.row ≡ None → ended_by e.row ≡ Some r → at_pod (c ++ e ∷ []) p ≡ others r (at_pod c p)
+unfolding at_pod
+at_pod-end c e r p brought ends =
+    view-less (brought_to p) (λ q. not (ended c q)) (λ q. not (ended (c ++ e ∷ []) q)) c e r brought
+    (λ q. ap (λ (b : Bool). not b) (ended-push c e q) ∙ rw ends (by (ended c q) (r == q)))
+  where
+    by : (g m : Bool) → not (g || m) ≡ (not g && not m)
+    by true m = refl
+    by false m = refl
 
 -- a request runs: it is queued no more
 pub queued_at-run : (c : Trace) (t r p : ℕ) → queued_at (c ++ entry t (row.Run r) ∷ []) p ≡ others r (queued_at c p)

@@ -15,7 +15,7 @@ use Rattle.kn_event.specs.declared.revision.Spec.{Spec}
 use Rattle.kn_trace.specs.Rows.{arrived_by, ended_by, refused_by, taken_by}
 use Rattle.kn_trace.specs.Trace.{Trace, entry, arrivals, contains, each_row, ended, first_of, has_begun, live, live_pods, pod_of, stand_at, stand_of}
 use Rattle.kn_trace.specs.Settling.{held_assignments, promotions, removals, settling}
-use Rattle.kn_trace.specs.Events.{act_row, act_rows, activation, before_settling, entries_of, expiries, react, row_of, scaler_rows, told_of, told_row, told_stand}
+use Rattle.kn_trace.specs.Events.{act_row, act_rows, activation, before_settling, entries_of, departures, react, row_of, scaler_rows, told_of, told_row, told_stand}
 use Rattle.kn_laws.specs.Rows.{named_by}
 use Rattle.kn_laws.specs.Made.{Holds, IsMade, IsNumbered, IsProper}
 use Rattle.kn_laws.specs.ByAct.{IsByAct}
@@ -24,8 +24,8 @@ use Rattle.kn_laws.proofs.Flags.{arrivals-push, contains-push}
 use Rattle.kn_laws.proofs.Members.{contains-filter, contains-within, same_number}
 use Rattle.kn_laws.proofs.Numbers.{ended_named, in_filter, next_unnamed}
 use Rattle.kn_laws.proofs.Kept.{Holds-kept, Kept, made_kept}
-use Rattle.kn_laws.proofs.Reacting.{act-holds, expiries-hold}
-use Rattle.kn_laws.proofs.Rows.{Each, Each-append, Each-weaken, activation-rows, expiries-rows, is_assign_row, is_expire_row, is_remove_row, is_run_row, is_scaler_row, promotions-rows, scaler-rows}
+use Rattle.kn_laws.proofs.Reacting.{act-holds, departures-clear, departures-hold}
+use Rattle.kn_laws.proofs.Rows.{Each, Each-append, Each-weaken, activation-rows, departures-rows, is_assign_row, is_departure_row, is_remove_row, is_run_row, is_scaler_row, promotions-rows, scaler-rows}
 use Rattle.kn_laws.proofs.Acts.{IsActRow, act-facts, is_act_row, removals-rows}
 use Rattle.kn_laws.proofs.Bounds.{held_rows}
 use Rattle.kn_laws.proofs.Phases.{none-rows}
@@ -66,15 +66,17 @@ later_plain (row.Direct r p) h = absurd (cc)
 later_plain (row.Finish r ok) h = absurd (cc)
 later_plain (row.Expire r) h = absurd (cc)
 later_plain (row.Cancel r) h = absurd (cc)
+later_plain (row.LostRequest r) h = absurd (cc)
 later_plain _ h = (refl, refl, refl, refl)
 
-expire_arrives : (x : Row) → is_expire_row x ≡ true → arrived_by x ≡ None
-expire_arrives (row.Expire r) h = refl
-expire_arrives _ h = absurd (cc)
+departure_arrives : (x : Row) → is_departure_row x ≡ true → arrived_by x ≡ None
+departure_arrives (row.Expire r) h = refl
+departure_arrives (row.LostRequest r) h = refl
+departure_arrives _ h = absurd (cc)
 
 abbrev later_of : Spec → Trace → Event → Trace
 later_of s c e =
-    let c1 = c ++ expiries s e.time c in
+    let c1 = c ++ departures s c e in
     let own = entries_of e.time (act_row s c1 e.act) in
     let more = scaler_rows s.kind s e.time (c1 ++ own) e.act (act_row s c1 e.act) in
     let active = activation e.time (c1 ++ (own ++ more)) in
@@ -94,7 +96,7 @@ settling-later s t d =
 -- all that follows the act's own row
 later-rows : (s : Spec) (c : Trace) (e : Event) → Each is_later_row (later_of s c e)
 later-rows s c e =
-    let c1 = c ++ expiries s e.time c in
+    let c1 = c ++ departures s c e in
     let own = entries_of e.time (act_row s c1 e.act) in
     let more = scaler_rows s.kind s e.time (c1 ++ own) e.act (act_row s c1 e.act) in
     let active = activation e.time (c1 ++ (own ++ more)) in
@@ -105,7 +107,7 @@ later-rows s c e =
     (settling-later s e.time (c ++ before_settling s c e))
 
 -- an event: who waited too long, the act's own row, and what follows
-react-parts : (s : Spec) (c : Trace) (e : Event) → c ++ react s c e ≡ ((c ++ expiries s e.time c) ++ entries_of e.time (act_row s (c ++ expiries s e.time c) e.act)) ++ later_of s c e
+react-parts : (s : Spec) (c : Trace) (e : Event) → c ++ react s c e ≡ ((c ++ departures s c e) ++ entries_of e.time (act_row s (c ++ departures s c e) e.act)) ++ later_of s c e
 unfolding react before_settling act_rows
 react-parts s c e = simp append_assoc refl
 
@@ -152,36 +154,36 @@ arrive_some s c tag h = absurd (cc)
 
 -- the act's row x, which brings request q, and all that follows it
 record Brings (s : Spec) (c : Trace) (e : Event) (x : Row) (q : ℕ) : Type 0 where
-  is : act_row s (c ++ expiries s e.time c) e.act ≡ Some x
+  is : act_row s (c ++ departures s c e) e.act ≡ Some x
   arrives : arrived_by x ≡ Some q
   number : q ≡ arrivals c
 
 -- an event is told by its act's own row
-told-row : (s : Spec) (c : Trace) (e : Event) (x : Row) → act_row s (c ++ expiries s e.time c) e.act ≡ Some x → told_of s c e ≡ told_row (c ++ react s c e) (Some x)
+told-row : (s : Spec) (c : Trace) (e : Event) (x : Row) → act_row s (c ++ departures s c e) e.act ≡ Some x → told_of s c e ≡ told_row (c ++ react s c e) (Some x)
 unfolding told_of act_rows
-told-row s c e x h = by (act_row s (c ++ expiries s e.time c) e.act) h
+told-row s c e x h = by (act_row s (c ++ departures s c e) e.act) h
   where
     by : (o : Option Row) → o ≡ Some x
-        → told_row (c ++ react s c e) (row_of (first_of (entries_of e.time o ++ scaler_rows s.kind s e.time ((c ++ expiries s e.time c) ++ entries_of e.time o) e.act o))) ≡ told_row (c ++ react s c e) (Some x)
+        → told_row (c ++ react s c e) (row_of (first_of (entries_of e.time o ++ scaler_rows s.kind s e.time ((c ++ departures s c e) ++ entries_of e.time o) e.act o))) ≡ told_row (c ++ react s c e) (Some x)
     by None h = absurd (cc)
     by (Some y) h = let same : y ≡ x = cc in rw same refl
 
 -- the trace after the event
-after-parts : (s : Spec) (c : Trace) (e : Event) (x : Row) → act_row s (c ++ expiries s e.time c) e.act ≡ Some x → c ++ react s c e ≡ ((c ++ expiries s e.time c) ++ entry e.time x ∷ []) ++ later_of s c e
-after-parts s c e x h = react-parts s c e ∙ ap (λ (o : Option Row). ((c ++ expiries s e.time c) ++ entries_of e.time o) ++ later_of s c e) h
+after-parts : (s : Spec) (c : Trace) (e : Event) (x : Row) → act_row s (c ++ departures s c e) e.act ≡ Some x → c ++ react s c e ≡ ((c ++ departures s c e) ++ entry e.time x ∷ []) ++ later_of s c e
+after-parts s c e x h = react-parts s c e ∙ ap (λ (o : Option Row). ((c ++ departures s c e) ++ entries_of e.time o) ++ later_of s c e) h
 
-first-arrivals : (s : Spec) (t : ℕ) (c : Trace) → arrivals (c ++ expiries s t c) ≡ arrivals c
-first-arrivals s t c = let none : length (each_row arrived_by (expiries s t c)) ≡ 0 = rw (none-rows arrived_by is_expire_row expire_arrives (expiries s t c) (expiries-rows s t c)) refl in let all = arrivals-list c (expiries s t c) in omega arith
+first-arrivals : (s : Spec) (c : Trace) (e : Event) → arrivals (c ++ departures s c e) ≡ arrivals c
+first-arrivals s c e = let none : length (each_row arrived_by (departures s c e)) ≡ 0 = rw (none-rows arrived_by is_departure_row departure_arrives (departures s c e) (departures-rows s c e)) refl in let all = arrivals-list c (departures s c e) in omega arith
 
 -- an arrival counts once
 counts-one : (s : Spec) (c : Trace) (e : Event) (x : Row) (q : ℕ) → Brings s c e x q → arrivals (c ++ react s c e) ≡ arrivals c + 1
 counts-one s c e x q brings =
-    let c1 = c ++ expiries s e.time c in
+    let c1 = c ++ departures s c e in
     let later = later_of s c e in
     let none : length (each_row arrived_by later) ≡ 0 = rw (none-rows arrived_by is_later_row (λ y k. (later_plain y k).0) later (later-rows s c e)) refl in
     let all = arrivals-list (c1 ++ entry e.time x ∷ []) later in
     let one : arrivals (c1 ++ entry e.time x ∷ []) ≡ arrivals c1 + 1 = arrivals-push c1 (entry e.time x) ∙ rw (brings.arrives) refl in
-    let zero = first-arrivals s e.time c in
+    let zero = first-arrivals s c e in
     let parts = ap arrivals (after-parts s c e x brings.is) in
     omega arith
 
@@ -205,13 +207,13 @@ taken-told s c e x q made brings taken ends told' =
     }
   where
     c1 : Trace
-    c1 = c ++ expiries s e.time c
+    c1 = c ++ departures s c e
 
     later : Trace
     later = later_of s c e
 
     kept1 : Kept s c1
-    kept1 = Holds-kept s c (expiries s e.time c) (made_kept s c made) (expiries-hold s e.time c (made_kept s c made).requests)
+    kept1 = Holds-kept s c (departures s c e) (made_kept s c made) (departures-hold s c e (made_kept s c made))
 
     is_taken : contains q (each_row taken_by (c ++ react s c e)) ≡ true
     is_taken =
@@ -224,7 +226,7 @@ taken-told s c e x q made brings taken ends told' =
         or-true-last false = refl
 
     fresh : contains q (each_row ended_by c1) ≡ false
-    fresh = contains-within ended_by named_by ended_named q c1 (rw (brings.number ∙ sym (first-arrivals s e.time c)) (next_unnamed c1 kept1.requests))
+    fresh = contains-within ended_by named_by ended_named q c1 (rw (brings.number ∙ sym (first-arrivals s c e)) (next_unnamed c1 kept1.requests))
 
     lives : ended (c ++ react s c e) q ≡ false
     lives =
@@ -250,7 +252,7 @@ refused-told s c e x q made brings refuses name stands =
     }
   where
     c1 : Trace
-    c1 = c ++ expiries s e.time c
+    c1 = c ++ departures s c e
 
     later : Trace
     later = later_of s c e
@@ -267,13 +269,13 @@ refused-told s c e x q made brings refuses name stands =
 
 -- an arrival is told its number and where it stands
 pub arrival_is_told : (s : Spec) (c : Trace) (e : Event) (tag : ℕ) → IsMade s c → e.act ≡ act.Arrive tag → IsTold s c e
-arrival_is_told s c e tag made arrives = by (act_row s c1 e.act) refl (act-facts s c1 e.act) (act-holds s e.time c1 e.act)
+arrival_is_told s c e tag made arrives = by (act_row s c1 e.act) refl (act-facts s c1 e.act) (act-holds s e.time c1 e.act (departures-clear s c e (made_kept s c made)))
   where
     c1 : Trace
-    c1 = c ++ expiries s e.time c
+    c1 = c ++ departures s c e
 
     next : arrivals c1 ≡ arrivals c
-    next = first-arrivals s e.time c
+    next = first-arrivals s c e
 
     one : (x : Row) → act_row s c1 e.act ≡ Some x → is_act_row x ≡ true → IsByAct e.act x → IsProper s c1 x → IsTold s c e
     one (row.Admit q g) k a b h = taken-told s c e (row.Admit q g) q made (record { is = k; arrives = refl; number = h.0.number ∙ next }) refl refl refl
@@ -283,7 +285,8 @@ arrival_is_told s c e tag made arrives = by (act_row s c1 e.act) refl (act-facts
     one (row.Overload q) k a b h = refused-told s c e (row.Overload q) q made (record { is = k; arrives = refl; number = h.0 ∙ next }) refl refl refl
     one (row.NotRunning q) k a b h = absurd (let other = b.1 in cc)
     one (row.NoPod p) k a (inl b) h = absurd (cc)
-    one (row.NoPod p) k a (inr b) h = absurd (let other = b.1 in cc)
+    one (row.NoPod p) k a (inr (inl b)) h = absurd (let other = b.1 in cc)
+    one (row.NoPod p) k a (inr (inr b)) h = absurd (cc)
     one x k a b h = absurd (cc)
 
     by : (o : Option Row) → act_row s c1 e.act ≡ o → IsActRow e.act o → Holds (IsProper s) c1 (entries_of e.time o) → IsTold s c e

@@ -10,7 +10,7 @@ use Rattle.kn_event.specs.declared.revision.Spec.{Spec}
 use Rattle.kn_trace.specs.Rows.{created_by, drained_by, gone_by}
 use Rattle.kn_trace.specs.Trace.{Trace, entry, assigned, at_pod, contains, draining, each_row, ended, first_of, has_begun, has_free_seat, has_not_begun, has_run, held, is_draining, is_empty, is_live_pod, queued_at}
 use Rattle.kn_trace.specs.Settling.{assignments_of, held_assignments, next_choice, promotions, promotions_at, removals}
-use Rattle.kn_trace.specs.Events.{act_rows, before_settling, due, due_by, expiries, react}
+use Rattle.kn_trace.specs.Events.{act_rows, before_settling, departures, due, due_by, expiries, losses, react}
 use Rattle.kn_laws.specs.Admission.{Admission, is_at, is_held_place, next_in, placed_in, queues_at, stepped}
 use Rattle.kn_laws.specs.Made.{AreDistinct, Holds, IsMade, IsNumbered, IsProper, StandsFor}
 use Rattle.kn_laws.specs.Views.{due_in}
@@ -20,7 +20,7 @@ use Rattle.kn_laws.proofs.Numbers.{filter_member, first_member}
 use Rattle.kn_laws.proofs.Steps.{others, filter-both, at_pod-quiet, has_not_begun-push, held-assign, is_quiet, view-less}
 use Rattle.kn_laws.proofs.PodSteps.{is_draining-push}
 use Rattle.kn_laws.proofs.Kept.{Holds-kept, made_kept}
-use Rattle.kn_laws.proofs.Reacting.{due_distinct, due_waits, expiries-hold, held_distinct, queued_distinct}
+use Rattle.kn_laws.proofs.Reacting.{departures-clear, departures-hold, due_distinct, due_waits, expiries-hold, held_distinct, losses-hold, queued_distinct}
 use Rattle.kn_laws.proofs.Scaling.{activation-holds, acts-hold}
 use Rattle.kn_laws.proofs.Choosing.{next_choice-good}
 use Rattle.kn_laws.proofs.Running.{before-holds, draining_distinct, empty_list, queued-next, react-holds, settling-holds}
@@ -267,11 +267,13 @@ parts_proper s c e made =
     let kept = made_kept s c made in
     let gone = expiries-hold s e.time c kept.requests in
     let kept1 = Holds-kept s c (expiries s e.time c) kept gone in
-    let did = acts-hold s e.time (c ++ expiries s e.time c) e.act kept1 in
+    let kept2 = Holds-kept s c (departures s c e) kept (departures-hold s c e kept) in
+    let did = acts-hold s e.time (c ++ departures s c e) e.act kept2 (departures-clear s c e kept) in
     let before = before-holds s c e kept in
     record {
       expiries = gone;
+      losses = losses-hold s e.time (c ++ expiries s e.time c) e.act kept1.requests;
       acts = did;
-      activation = activation-holds s e.time ((c ++ expiries s e.time c) ++ act_rows s e.time (c ++ expiries s e.time c) e.act);
+      activation = activation-holds s e.time ((c ++ departures s c e) ++ act_rows s e.time (c ++ departures s c e) e.act);
       settling = settling-holds s e.time (c ++ before_settling s c e) (Holds-kept s c (before_settling s c e) kept before);
     }

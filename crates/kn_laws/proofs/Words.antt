@@ -16,7 +16,7 @@ use Rattle.kn_laws.specs.Admission.{is_assigned_place, is_at, is_held_place, is_
 use Rattle.kn_laws.specs.Made.{AreDistinct, IsNumbered}
 use Rattle.kn_laws.proofs.Flags.{says}
 use Rattle.kn_laws.proofs.Members.{same_number, or-true, contains-filter, contains-split, distinct-filter, filter-members, filter-others, other_number}
-use Rattle.kn_laws.proofs.Numbers.{admitted_taken, begun_taken, brought_moved, directed_taken, false_unless, last_of-none, moved-none, moved_parts, moved_pod, says-true, pod-none, taken_parts, within-from}
+use Rattle.kn_laws.proofs.Numbers.{admitted_taken, begun_taken, brought_moved, directed_taken, false_unless, last_of-none, moved-none, moved_parts, moved_pod, moved_taken, says-true, pod-none, taken_parts, within-from}
 use Rattle.kn_laws.proofs.Steps.{filter-both, others}
 use Rattle.kn_laws.proofs.Reacting.{brought_distinct, distinct-fewer, or-more}
 
@@ -299,15 +299,6 @@ pod_is c p r num h = rw (brought_is p r c num.moved h) refl
 pub pod_came : (c : Trace) (p r : ℕ) → pod_of c r ≡ Some p → contains r (each_row (brought_to p) c) ≡ true
 unfolding pod_of
 pod_came c p r h = pod_brought_in p r c h
-
--- a request that came to a pod was taken in
-pub moved_taken : (c : Trace) (r : ℕ) → IsNumbered c → contains r (each_row moved_by c) ≡ true → contains r (each_row taken_by c) ≡ true
-unfolding assigned
-moved_taken c r num h = by (or-true (contains r (each_row assigned_by c)) (contains r (each_row directed_by c)) (sym (contains-split moved_by assigned_by directed_by moved_parts r c) ∙ h))
-  where
-    by : (contains r (each_row assigned_by c) ≡ true) ⊎ (contains r (each_row directed_by c) ≡ true) → contains r (each_row taken_by c) ≡ true
-    by (inl a) = within-from admitted_by taken_by admitted_taken r c (num.assigned r a)
-    by (inr a) = within-from directed_by taken_by directed_taken r c a
 
 -- ---- the requests at a pod, as a set
 

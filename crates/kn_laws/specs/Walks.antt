@@ -7,7 +7,7 @@ use Rattle.kn_event.specs.declared.event.Event.{Event}
 use Rattle.kn_event.specs.declared.revision.Spec.{Spec}
 use Rattle.kn_trace.specs.Trace.{Trace, entry, is_empty}
 use Rattle.kn_trace.specs.Settling.{promotions, settling}
-use Rattle.kn_trace.specs.Events.{act_rows, activation, before_settling, expiries}
+use Rattle.kn_trace.specs.Events.{act_rows, activation, before_settling, departures, expiries, losses}
 use Rattle.kn_laws.specs.Admission.{Admission, is_at, is_draining_now, placed_in, pods_in, stepped}
 use Rattle.kn_laws.specs.Made.{Holds, IsProper, StandsFor}
 
@@ -28,9 +28,13 @@ abbrev pub stepped_by : List Entry → Admission → Admission
 stepped_by [] a = a
 stepped_by (e ∷ es) a = stepped_by es (stepped e.time e.row a)
 
--- the trace after the expiries of an event, and after its act and the autoscaler's rows
+-- the trace after the expiries of an event, after all who end before its act's own row, and after that row and the
+-- autoscaler's
+abbrev pub expired_after : Spec → Trace → Event → Trace
+expired_after s c e = c ++ expiries s e.time c
+
 abbrev pub gone_after : Spec → Trace → Event → Trace
-gone_after s c e = c ++ expiries s e.time c
+gone_after s c e = c ++ departures s c e
 
 abbrev pub done_after : Spec → Trace → Event → Trace
 done_after s c e = gone_after s c e ++ act_rows s e.time (gone_after s c e) e.act
@@ -38,6 +42,7 @@ done_after s c e = gone_after s c e ++ act_rows s e.time (gone_after s c e) e.ac
 -- each row that an event adds is proper where it comes, part by part
 pub record ArePartsProper (s : Spec) (c : Trace) (e : Event) : Type 0 where
   pub expiries : Holds (IsProper s) c (expiries s e.time c)
+  pub losses : Holds (IsProper s) (expired_after s c e) (losses e.time (expired_after s c e) e.act)
   pub acts : Holds (IsProper s) (gone_after s c e) (act_rows s e.time (gone_after s c e) e.act)
   pub activation : Holds (IsProper s) (done_after s c e) (activation e.time (done_after s c e))
   pub settling : Holds (IsProper s) (c ++ before_settling s c e) (settling s e.time (c ++ before_settling s c e))

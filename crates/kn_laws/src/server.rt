@@ -10,12 +10,12 @@ ghost use Rattle.kn_laws.specs.Made.{IsMade};
 ghost use Rattle.kn_laws.specs.Told.{IsTold};
 
 /// Of any trace that events made: an arrival's request is new, and after its event stands as the arrival was told;
-/// waiting is left for good; the pod of a live request lives; a running request runs on until an event is its finish; and each row of an act, so a finish
-/// or a cancel, comes from an event that names what it is about.
+/// waiting is left for good; the pod of a live request lives; a running request runs on until an event is its finish or
+/// loses a pod; and each row of an act, so a finish or a cancel, comes from an event that names what it is about.
 pub fn request_laws()
     ensures told { (s : Spec) (c : Trace) (e : Event) (tag : ℕ) → IsMade s c → e.act ≡ act.Arrive tag → IsTold s c e }
     ensures waits { (s : Spec) (c : Trace) (es : List Event) (r : ℕ) → IsMade s c → r < arrivals c → contains r (waiting c) ≡ false → contains r (waiting (c ++ added s c es)) ≡ false }
     ensures homes { (s : Spec) (c : Trace) (p r : ℕ) → IsMade s c → contains r (at_pod c p) ≡ true → contains p (live_pods c) ≡ true }
-    ensures runs { (s : Spec) (c : Trace) (e : Event) (r : ℕ) → IsMade s c → is_running c r ≡ true → (is_running (c ++ react s c e) r ≡ true) ⊎ ((ok : Bool) × (e.act ≡ act.Finish r ok)) }
+    ensures runs { (s : Spec) (c : Trace) (e : Event) (r : ℕ) → IsMade s c → is_running c r ≡ true → (is_running (c ++ react s c e) r ≡ true) ⊎ (((ok : Bool) × (e.act ≡ act.Finish r ok)) ⊎ ((p : ℕ) × (e.act ≡ act.Lost p))) }
     ensures by_act { (s : Spec) (c : Trace) (e : Event) → AreByAct s c e }
 {}

@@ -1,6 +1,7 @@
 //! How many there are.
-ghost use Rattle.std.specs.Prelude.{ℕ, ◌+◌, ◌≤◌, ◌++◌, List, length};
+ghost use Rattle.std.specs.Prelude.{◌≡◌, ℕ, ◌+◌, ◌≤◌, ◌++◌, List, length};
 ghost use Rattle.kn_event.specs.Revision.{AreInRange};
+ghost use Rattle.kn_event.specs.declared.event.Act.TheVariants as act;
 ghost use Rattle.kn_event.specs.declared.event.Event.{Event};
 ghost use Rattle.kn_event.specs.declared.revision.Spec.{Spec};
 ghost use Rattle.kn_trace.specs.Events.{before_settling, expiries, need_of, react, trace_of};
@@ -28,12 +29,12 @@ pub fn growth_laws()
     ensures live { (s : Spec) (c : Trace) (e : Event) → IsMade s c → length (live (c ++ react s c e)) + 1 ≤ length (live c) + need_of c e.act }
 {}
 
-/// How many entries an event adds: at most 41,005, and indeed at most 21,006, since each draining pod runs a request
-/// and an event takes each live request forward once. Of those at most 20,505 come before its settling, and of these at
-/// most 20,000 are expiries.
+/// How many entries an event adds: at most 41,005, and where no pod is lost at most 21,006, since each draining pod runs
+/// a request and an event takes each live request forward once. Of those at most 20,505 come before its settling, and of
+/// these at most 20,000 are expiries.
 pub fn entry_laws()
     ensures entries { (s : Spec) (c : Trace) (e : Event) → AreInRange s → IsMade s c → IsSettled s c → length (react s c e) ≤ 41005 }
-    ensures fewer { (s : Spec) (c : Trace) (e : Event) → AreInRange s → IsMade s c → IsSettled s c → length (react s c e) ≤ 21006 }
+    ensures fewer { (s : Spec) (c : Trace) (e : Event) → AreInRange s → IsMade s c → IsSettled s c → ((p : ℕ) → e.act ≡ act.Lost p → ⊥) → length (react s c e) ≤ 21006 }
     ensures expiries { (s : Spec) (c : Trace) (t : ℕ) → IsMade s c → length (expiries s t c) ≤ 20000 }
     ensures before { (s : Spec) (c : Trace) (e : Event) → AreInRange s → IsMade s c → length (before_settling s c e) ≤ 20505 }
     ensures settling { (s : Spec) (c : Trace) (e : Event) → AreInRange s → IsMade s c → IsSettled s c → length (settling s e.time (c ++ before_settling s c e)) ≤ 40500 }
