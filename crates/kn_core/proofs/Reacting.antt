@@ -17,8 +17,8 @@ use Rattle.kn_trace.specs.Trace.{Trace, entry, each_row, contains, arrivals, fir
 use Rattle.kn_trace.specs.Capacity.{breaker_full}
 use Rattle.kn_trace.specs.Scale.{phase_of}
 use Rattle.kn_trace.specs.Settling.{assignments_of}
-use Rattle.kn_trace.specs.Events.{act_row, act_rows, activation, before_settling, entries_of, expiries, live_most, opening, opening_of, react, row_of, scaler_rows}
-use Rattle.kn_core.specs.Plain.{IsPlain, IsSinglePod}
+use Rattle.kn_trace.specs.Events.{act_row, act_rows, activation, before_settling, departures, entries_of, expiries, live_most, losses, opening, opening_of, react, row_of, scaler_rows}
+use Rattle.kn_core.specs.Plain.{IsPlain, IsSinglePod, LosesNone}
 use Rattle.kn_core.proofs.Acting.{arrival_through}
 use Rattle.kn_core.proofs.Keeping.{AreQuiet, IsPlain-more, settling-plain}
 
@@ -79,6 +79,11 @@ act_row-quiet s c (act.Limit p n) h = by (contains p (live_pods c))
     by : (b : Bool) → IsQuietAct c (Some (if b then row.Limit p n else row.NoPod p))
     by true = quiet_row c _ refl refl refl refl refl refl h.live
     by false = quiet_row c _ refl refl refl refl refl refl h.live
+act_row-quiet s c (act.Lost p) h = by (contains p (live_pods c))
+  where
+    by : (b : Bool) → IsQuietAct c (Some (if b then row.LostPod p else row.NoPod p))
+    by true = quiet_row c _ refl refl refl refl refl refl h.live
+    by false = quiet_row c _ refl refl refl refl refl refl h.live
 act_row-quiet s c act.Tick h = quiet_none c h.live
 
 pub IsPlain-acted : (s : Spec) (t : ℕ) (c : Trace) (a : Act) → IsPlain c → IsPlain (c ++ entries_of t (act_row s c a))
@@ -87,6 +92,15 @@ IsPlain-acted s t c a h =
     IsPlain-more c (entries_of t (act_row s c a)) (quiet.quiet t) (quiet.taken t) h
 
 -- ---- the event
+
+-- where no pod is lost only the expired end before the act's own row
+departures-plain : (s : Spec) (c : Trace) (e : Event) → LosesNone e.act → departures s c e ≡ expiries s e.time c
+unfolding departures losses
+departures-plain s c e none = ap (λ (more : List Entry). expiries s e.time c ++ more) (by e.act none) ∙ append-nil (expiries s e.time c)
+  where
+    by : (a : Act) → LosesNone a → losses e.time (expired s c e) a ≡ []
+    by (act.Lost p) h = absurd h
+    by a h = refl
 
 -- a fixed revision makes no decision
 act_rows-fixed : (s : Spec) (t : ℕ) (c : Trace) (a : Act) → IsSinglePod s.kind → act_rows s t c a ≡ entries_of t (act_row s c a)
@@ -102,36 +116,36 @@ activation-plain : (t : ℕ) (c : Trace) → IsPlain c → activation t c ≡ []
 unfolding activation phase_of
 activation-plain t c h = rw h.phase refl
 
-pub react-is : (s : Spec) (c : Trace) (e : Event) → IsSinglePod s.kind → IsPlain (acted s c e)
+pub react-is : (s : Spec) (c : Trace) (e : Event) → IsSinglePod s.kind → LosesNone e.act → IsPlain (acted s c e)
     → react s c e ≡ (expiries s e.time c ++ did s c e) ++ assignments_of s e.time (acted s c e) (held (acted s c e))
 unfolding react before_settling
-react-is s c e fixed h =
-    rw (act_rows-fixed s e.time (expired s c e) e.act fixed, activation-plain e.time (acted s c e) h, append-nil, ← append_assoc c (expiries s e.time c) (did s c e))
+react-is s c e fixed none h =
+    rw (departures-plain s c e none, act_rows-fixed s e.time (expired s c e) e.act fixed, activation-plain e.time (acted s c e) h, append-nil, ← append_assoc c (expiries s e.time c) (did s c e))
     (ap (λ (more : List Entry). (expiries s e.time c ++ did s c e) ++ more) (settling-plain s e.time (acted s c e) h))
 
 regroup : (a b c d : Trace) → ((a ++ b) ++ c) ++ d ≡ a ++ ((b ++ c) ++ d)
 regroup a b c d = simp append_assoc
 
-pub react_grows : (s : Spec) (c : Trace) (e : Event) (d : Trace) → IsSinglePod s.kind → d ≡ acted s c e → IsPlain d
+pub react_grows : (s : Spec) (c : Trace) (e : Event) (d : Trace) → IsSinglePod s.kind → LosesNone e.act → d ≡ acted s c e → IsPlain d
     → d ++ assignments_of s e.time d (held d) ≡ c ++ react s c e
-react_grows s c e d fixed same h =
+react_grows s c e d fixed none same h =
     let plain : IsPlain (acted s c e) = subst IsPlain same h in
-    rw (same, react-is s c e fixed plain) (regroup c (expiries s e.time c) (did s c e) (assignments_of s e.time (acted s c e) (held (acted s c e))))
+    rw (same, react-is s c e fixed none plain) (regroup c (expiries s e.time c) (did s c e) (assignments_of s e.time (acted s c e) (held (acted s c e))))
 
-pub react_logs : (s : Spec) (c : Trace) (e : Event) (d log : Trace) → IsSinglePod s.kind → d ≡ acted s c e → IsPlain d → log ≡ expiries s e.time c ++ did s c e
+pub react_logs : (s : Spec) (c : Trace) (e : Event) (d log : Trace) → IsSinglePod s.kind → LosesNone e.act → d ≡ acted s c e → IsPlain d → log ≡ expiries s e.time c ++ did s c e
     → log ++ assignments_of s e.time d (held d) ≡ react s c e
-react_logs s c e d log fixed same h logged =
+react_logs s c e d log fixed none same h logged =
     let plain : IsPlain (acted s c e) = subst IsPlain same h in
-    rw (same, logged, react-is s c e fixed plain) refl
+    rw (same, logged, react-is s c e fixed none plain) refl
 
 pub length-entries_of-le : (t : ℕ) (o : Option Row) → length (entries_of t o) ≤ 1
 length-entries_of-le t None = omega arith
 length-entries_of-le t (Some x) = omega arith
 
 -- the act's first row is its only one
-pub told_first : (s : Spec) (c : Trace) (e : Event) → IsSinglePod s.kind
-    → row_of (first_of (act_rows s e.time (expired s c e) e.act)) ≡ act_row s (expired s c e) e.act
-told_first s c e fixed = rw (act_rows-fixed s e.time (expired s c e) e.act fixed) (by (act_row s (expired s c e) e.act))
+pub told_first : (s : Spec) (c : Trace) (e : Event) → IsSinglePod s.kind → LosesNone e.act
+    → row_of (first_of (act_rows s e.time (c ++ departures s c e) e.act)) ≡ act_row s (expired s c e) e.act
+told_first s c e fixed none = rw (departures-plain s c e none, act_rows-fixed s e.time (expired s c e) e.act fixed) (by (act_row s (expired s c e) e.act))
   where
     by : (o : Option Row) → row_of (first_of (entries_of e.time o)) ≡ o
     by None = refl

@@ -1,8 +1,10 @@
 -- The revisions that are built so far: fixed ones of at most one pod. Their traces have no row of the autoscaler.
-use Rattle.std.specs.Prelude.{ℕ, ◌≡◌, ◌≤◌, List, [], length, drop, Option, None, Some}
+use Rattle.std.specs.Prelude.{ℕ, ◌≡◌, ◌≤◌, List, [], length, drop, Option, None, Some, ⊤}
 use Rattle.std.specs.Bool.{then_some}
 use Rattle.std.specs.List.{filter}
 use Rattle.kn_event.specs.declared.entry.Entry.{Entry}
+use Rattle.kn_event.specs.declared.event.Act.{Act}
+use Rattle.kn_event.specs.declared.event.Act.TheVariants as act
 use Rattle.kn_event.specs.declared.revision.Kind.{Kind}
 use Rattle.kn_event.specs.declared.revision.Kind.TheVariants as kind
 use Rattle.kn_trace.specs.Rows.{created_by, admitted_by, directed_by, drained_by, phase_by, mode_by}
@@ -12,6 +14,11 @@ use Rattle.kn_trace.specs.Trace.{Trace, each_row, is_held, live}
 abbrev pub IsSinglePod : Kind → Type 0
 IsSinglePod (kind.Fixed pods) = pods ≤ 1
 IsSinglePod kind.Kpa = ⊥
+
+-- the acts that are built so far: all but the loss of a pod
+abbrev pub LosesNone : Act → Type 0
+LosesNone (act.Lost p) = ⊥
+LosesNone _ = ⊤
 
 -- the request, where it is held
 abbrev pub if_held : Trace → Option ℕ → Option ℕ

@@ -2,7 +2,7 @@
 ghost use Rattle.std.specs.Prelude.{◌≡◌, ◌+◌, ◌<◌, ◌≤◌, ◌^◌, [], ◌++◌, length, IfOk, OnOk, OnErr};
 ghost use Rattle.kn_trace.specs.Trace.{Trace, arrivals, live, stand_of};
 ghost use Rattle.kn_trace.specs.Events.{react, told_of, opening, need_of};
-ghost use Rattle.kn_core.specs.Plain.{IsSinglePod};
+ghost use Rattle.kn_core.specs.Plain.{IsSinglePod, LosesNone};
 ghost use Rattle.kn_core.specs.State.{StandsFor, StandsForSome, spare};
 
 use crate::steps;
@@ -108,7 +108,7 @@ impl Revision {
         }
     }
 
-    /// Takes one event: the log becomes what it adds to the trace, and the answer is what it is told. Its time is in
+    /// Takes one event, of any act but a lost pod: the log becomes what it adds to the trace, and the answer is what it is told. Its time is in
     /// milliseconds. Live requests grow by at most the need of its act less one.
     pub fn step(&mut self, e: &Event, log: &mut EntryLog) -> Told
         requires empty { log.old ≡ [] }
@@ -116,6 +116,7 @@ impl Revision {
         requires times { e.now.time ≤ 2 ^ 42 }
         requires count { self.old.events < 2 ^ 54 }
         requires spare { 1 ≤ spare self.old }
+        requires kept_pods { LosesNone e.now.act }
         ensures logged { (c : Trace) → StandsFor self.old c → log.new ≡ react self.old.spec c e.now }
         ensures told { (c : Trace) → StandsFor self.old c → result ≡ told_of self.old.spec c e.now }
         ensures stands { (c : Trace) → StandsFor self.old c → StandsFor self.new (c ++ react self.old.spec c e.now) }

@@ -5,7 +5,7 @@ ghost use Rattle.kn_trace.specs.Rows.{mode_by};
 ghost use Rattle.std.specs.List.{find};
 ghost use Rattle.kn_trace.specs.Settling.{next_choice, assignments_of};
 ghost use Rattle.kn_trace.specs.Events.{due_by, due, expiries, act_row, entries_of, react, told_row, told_of, told_stand};
-ghost use Rattle.kn_core.specs.Plain.{IsSinglePod, held_by, held_from, IsPlain};
+ghost use Rattle.kn_core.specs.Plain.{IsSinglePod, LosesNone, held_by, held_from, IsPlain};
 
 use kn_event::{Act, Entry, EntryLog, Event, Row, Spec, Stand, Told};
 use kn_trace::{capacity, rows, views};
@@ -102,6 +102,11 @@ fn act_row(spec: &Spec, entries: &[Entry], act: Act) -> Option<Row>
         }),
         Act::Limit(pod, limit) => Some(if views::has_pod(entries, pod) {
             Row::Limit(pod, limit)
+        } else {
+            Row::NoPod(pod)
+        }),
+        Act::Lost(pod) => Some(if views::has_pod(entries, pod) {
+            Row::LostPod(pod)
         } else {
             Row::NoPod(pod)
         }),
@@ -232,12 +237,13 @@ fn act(spec: &Spec, e: &Event, entries: &mut Vec<Entry>, log: &mut EntryLog) -> 
     row
 }
 
-/// One event of a fixed revision: what it adds is kept and logged, and what it is told is answered.
+/// One event of a fixed revision that loses no pod: what it adds is kept and logged, and what it is told is answered.
 pub fn react(spec: &Spec, e: &Event, entries: &mut Vec<Entry>, log: &mut EntryLog) -> Told
     requires kind { IsSinglePod spec.now.kind }
     requires plain { IsPlain entries.old.items }
     requires room { vec_len entries.old + 65536 ≤ vec_capacity entries.old }
     requires log { log.old ≡ [] }
+    requires kept_pods { LosesNone e.now.act }
     ensures items { entries.new.items ≡ entries.old.items ++ react spec.now entries.old.items e.now }
     ensures logged { log.new ≡ react spec.now entries.old.items e.now }
     ensures told { result ≡ told_of spec.now entries.old.items e.now }

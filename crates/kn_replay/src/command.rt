@@ -5,7 +5,7 @@ ghost use Rattle.kn_io.specs.Causes.{Rose};
 ghost use Rattle.kn_io.specs.Prefix.{AppendsPrefix};
 ghost use Rattle.kn_trace.specs.Trace.{Trace};
 ghost use Rattle.kn_trace.specs.Events.{opening, react};
-ghost use Rattle.kn_core.specs.Plain.{IsSinglePod};
+ghost use Rattle.kn_core.specs.Plain.{IsSinglePod, LosesNone};
 ghost use Rattle.kn_core.specs.State.{StandsFor};
 ghost use Rattle.kn_replay.specs.Report.{last_line, rows_text, totals};
 ghost use Rattle.kn_replay.specs.Replaying.{AreMany, Follows, IsReplayed, Replays, Tells, Writes, code_of, status_of, status_text};
@@ -108,6 +108,7 @@ impl Replay {
         requires times { e.now.time ≤ 2 ^ 42 }
         requires events { self.old.revision.events < 2 ^ 54 }
         requires few { self.old.counted.rows ≤ 2 ^ 126 }
+        requires kept_pods { LosesNone e.now.act }
         ensures stands { (c : Trace) → StandsFor self.old.revision c → OnOk result (StandsFor self.new.revision (c ++ react self.old.revision.spec c e.now)) }
         ensures spec { OnOk result (self.new.revision.spec ≡ self.old.revision.spec) }
         ensures clock { OnOk result (self.new.revision.clock ≡ e.now.time) }

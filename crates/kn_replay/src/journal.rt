@@ -1,7 +1,7 @@
 //! Reading a journal part by part: its first line, the setup, the start, and the events up to `end`.
 ghost use Rattle.std.specs.Prelude.{true, ◌≡◌, ◌⊎◌, ◌+◌, ◌<◌, ◌≤◌, ◌^◌, [], length, IfOk, OnOk, None};
 ghost use Rattle.kn_io.specs.Causes.{Rose};
-ghost use Rattle.kn_core.specs.Plain.{IsSinglePod};
+ghost use Rattle.kn_core.specs.Plain.{IsSinglePod, LosesNone};
 ghost use Rattle.kn_replay.specs.Lines.{fits, line_most};
 ghost use Rattle.kn_replay.specs.Reading.{Counts, most_taken, unread};
 ghost use Rattle.kn_replay.specs.Setup.{time_most};
@@ -210,6 +210,7 @@ impl Reader {
         ensures gives { Gives (read_events number last) (after_event number) refused_read (unread self.old.input (S.left source.old)) (unread self.new.input (S.left source.new)) result }
         ensures order { OnEvent result (λ e. last ≤ e.time) }
         ensures most { OnEvent result (λ e. e.time ≤ time_most) }
+        ensures kept_pods { OnEvent result (λ e. LosesNone e.act) }
         ensures ended { result ≡ Ok None → EndsThere (unread self.old.input (S.left source.old)) (unread self.new.input (S.left source.new)) }
         ensures fault { result ≡ Err JournalError.ReadFault → Rose (S.Faulty.faults source.old) (S.Faulty.faults source.new) ⊎ (self.new.input.taken ≡ most_taken) }
         ensures exact { Counts (unread self.old.input (S.left source.old)) (unread self.new.input (S.left source.new)) self.old.input.taken self.new.input.taken }

@@ -33,14 +33,14 @@ pub returns-clause-items : goal.returns-clause-items
 returns-clause-items c =
     let gone : c.keep_all.new.entries.items ≡ expired c.args.spec.now c.args.entries.now.items c.args.e.now = grind (arith, common_steps) in
     let same : c.act-row.new.entries.items ≡ acted c.args.spec.now c.args.entries.now.items c.args.e.now = grind (arith, common_steps) in
-    grind (arith, common_steps, react_grows c.args.spec.now c.args.entries.now.items c.args.e.now c.act-row.new.entries.items c.requires.kind same c.act-row.ensures.plain)
+    grind (arith, common_steps, react_grows c.args.spec.now c.args.entries.now.items c.args.e.now c.act-row.new.entries.items c.requires.kind c.requires.kept_pods same c.act-row.ensures.plain)
 
 pub returns-clause-logged : goal.returns-clause-logged
 returns-clause-logged c =
     let gone : c.keep_all.new.entries.items ≡ expired c.args.spec.now c.args.entries.now.items c.args.e.now = grind (arith, common_steps) in
     let same : c.act-row.new.entries.items ≡ acted c.args.spec.now c.args.entries.now.items c.args.e.now = grind (arith, common_steps) in
     let logged : c.act-row.new.log ≡ expiries c.args.spec.now c.args.e.now.time c.args.entries.now.items ++ did c.args.spec.now c.args.entries.now.items c.args.e.now = grind (arith, common_steps) in
-    grind (arith, common_steps, react_logs c.args.spec.now c.args.entries.now.items c.args.e.now c.act-row.new.entries.items c.act-row.new.log c.requires.kind same c.act-row.ensures.plain logged)
+    grind (arith, common_steps, react_logs c.args.spec.now c.args.entries.now.items c.args.e.now c.act-row.new.entries.items c.act-row.new.log c.requires.kind c.requires.kept_pods same c.act-row.ensures.plain logged)
 
 pub returns-clause-told : goal.returns-clause-told
 unfolding told_of
@@ -48,7 +48,7 @@ returns-clause-told c =
     let gone : c.keep_all.new.entries.items ≡ expired c.args.spec.now c.args.entries.now.items c.args.e.now = grind (arith, common_steps) in
     let whole : c.assign_held.new.entries.items ≡ c.args.entries.now.items ++ react c.args.spec.now c.args.entries.now.items c.args.e.now = returns-clause-items c in
     let row = c.act-row.ensures.value in
-    rw (told_first c.args.spec.now c.args.entries.now.items c.args.e.now c.requires.kind) (cc (c.deref-2.ensures.value, c.told.ensures))
+    rw (told_first c.args.spec.now c.args.entries.now.items c.args.e.now c.requires.kind c.requires.kept_pods) (cc (c.deref-2.ensures.value, c.told.ensures))
 
 pub returns-clause-few : goal.returns-clause-few
 returns-clause-few c =

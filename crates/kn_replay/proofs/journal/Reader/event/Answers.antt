@@ -2,7 +2,7 @@ use Rattle.std.proofs.Common.{ap, sym, ◌∙◌, None, Some}
 use Rattle.kn_replay.specs.Reading.{unread}
 use Rattle.kn_replay.specs.Journal.{line_kind, read_events, after_end, none_read}
 use Rattle.kn_replay.specs.Following.{ReaderState, after_event, refused_read}
-use Rattle.kn_replay.proofs.Followings.{lacks, bad_line, good_line, goes-trans, gives_on, no_event_line, long_event_line, event_line, end_line, refused_line, happens}
+use Rattle.kn_replay.proofs.Followings.{lacks, bad_line, good_line, goes-trans, gives_on, no_event_line, long_event_line, event_line, end_line, refused_line, happens, reads_no_loss}
 use Rattle.kn_replay.proofs.journal.Reader.event.Goals as goal
 
 pub returns-in-Err-clause-gives : goal.returns-in-Err-clause-gives
@@ -16,6 +16,9 @@ returns-in-Happens-clause-order g c = (happens c.args.last c.next_line.new.self.
 
 pub returns-in-Happens-clause-most : goal.returns-in-Happens-clause-most
 returns-in-Happens-clause-most g c = (happens c.args.last c.next_line.new.self.line c.in-Happens.e (sym (c.in-Happens.ensures ∙ ap (line_kind c.args.last) (c.deref.ensures.value ∙ ap (λ (r : ReaderState). r.line) c.self.view_is)))).2
+
+pub returns-in-Happens-clause-kept_pods : goal.returns-in-Happens-clause-kept_pods
+returns-in-Happens-clause-kept_pods g c = reads_no_loss c.next_line.new.self.line c.in-Happens.e (happens c.args.last c.next_line.new.self.line c.in-Happens.e (sym (c.in-Happens.ensures ∙ ap (line_kind c.args.last) (c.deref.ensures.value ∙ ap (λ (r : ReaderState). r.line) c.self.view_is)))).0
 
 pub returns-in-Refused-clause-gives : goal.returns-in-Refused-clause-gives
 returns-in-Refused-clause-gives g c = bad_line (read_events c.args.number c.args.last) (after_event c.args.number) refused_read c.args.number (unread c.args.self.now.input (g.S.Source.left c.args.source.now)) (unread c.next_line.new.self.input (g.S.Source.left c.next_line.new.source)) c.next_line.new.self.line c.in-Ok.ensures.next (λ ls. refused_line c.args.number c.args.last c.next_line.new.self.line ls (sym (c.in-Refused.ensures ∙ ap (line_kind c.args.last) (c.deref.ensures.value ∙ ap (λ (r : ReaderState). r.line) c.self.view_is))))
