@@ -1,6 +1,10 @@
 -- What a Revision's limits and annotations come to over the configuration.
 use Rattle.std.specs.Prelude.{◌≤◌, Result, Ok, IfSome, codes}
 use Rattle.serde_json.specs.Data.{Data}
+use Rattle.kn_event.specs.declared.units.Milli.{Milli}
+use Rattle.kn_event.specs.declared.revision.Metric.{Metric}
+use Rattle.kn_event.specs.declared.revision.Metric.TheVariants.{Concurrency, Rps}
+use Rattle.kn_event.specs.Defaults.{milli}
 use Rattle.kn_event.specs.Ranges.{IsBurst, IsTotal}
 use Rattle.kn_config.specs.declared.config.Config.{Config}
 use Rattle.kn_config.specs.declared.value.KeyError.{KeyError}
@@ -24,11 +28,17 @@ scale_of config annotations =
     count_at annotation.InitialScale config.initial annotations >>= λ initial.
     Ok (record { metric = metric; min = min; max = max; initial = initial })
 
--- the target, its utilisation and the windows
-unfoldable pub load_of : Config → Data → Result Load KeyError
-load_of config annotations =
+-- the utilisation without its annotation: the configuration's for the concurrency, and always 70 per cent for requests
+-- per second
+unfoldable pub utilisation_without : Config → Metric → Milli
+utilisation_without config Concurrency = config.utilisation
+utilisation_without config Rps = milli 70000
+
+-- the target, its utilisation, which is given where it has no annotation, and the windows
+unfoldable pub load_of : Config → Milli → Data → Result Load KeyError
+load_of config otherwise annotations =
     target_at annotations >>= λ target.
-    number_at annotation.TargetUtilizationPercentage config.utilisation annotations >>= λ utilisation.
+    number_at annotation.TargetUtilizationPercentage otherwise annotations >>= λ utilisation.
     seconds_at annotation.Window config.stable_s annotations >>= λ stable_s.
     number_at annotation.PanicWindowPercentage config.panic_percent annotations >>= λ panic_percent.
     number_at annotation.PanicThresholdPercentage config.panic_threshold annotations >>= λ panic_threshold.
@@ -47,7 +57,7 @@ pace_of config annotations =
 unfoldable pub overridden : Config → Limits → Data → Result Amounts KeyError
 overridden config limits annotations =
     scale_of config annotations >>= λ scale.
-    load_of config annotations >>= λ load.
+    load_of config (utilisation_without config scale.metric) annotations >>= λ load.
     pace_of config annotations >>= λ pace.
     Ok (record { limits = limits; scale = scale; load = load; pace = pace })
 

@@ -4,6 +4,8 @@ use Rattle.serde_json.specs.Data.{Data, null, boolean, number, string, array, ob
 use Rattle.serde_json.specs.Find.{get}
 use Rattle.kn_event.specs.declared.units.Milli.{Milli}
 use Rattle.kn_event.specs.declared.revision.Burst.{Burst}
+use Rattle.kn_event.specs.declared.revision.Metric.{Metric}
+use Rattle.kn_event.specs.declared.revision.Metric.TheVariants as metric
 use Rattle.kn_config.specs.declared.key.Key.{Key}
 use Rattle.kn_config.specs.declared.key.Key.TheVariants as key
 use Rattle.kn_config.specs.declared.value.KeyError.{KeyError}
@@ -12,8 +14,6 @@ use Rattle.kn_config.specs.Keys.{key_text}
 use Rattle.kn_config.specs.Values.{◌>>=◌, text_of, or_else, number_of, burst_of, duration_of, seconds_of, count_of}
 use Rattle.kn_revision.specs.declared.annotation.Annotation.{Annotation}
 use Rattle.kn_revision.specs.declared.annotation.Annotation.TheVariants as annotation
-use Rattle.kn_revision.specs.declared.annotation.Metric.{Metric}
-use Rattle.kn_revision.specs.declared.annotation.Metric.TheVariants as metric
 
 abbrev pub key_of : Annotation → Key
 key_of annotation.Class = key.Class

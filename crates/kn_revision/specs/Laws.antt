@@ -3,11 +3,11 @@ use Rattle.std.specs.Prelude.{◌≡◌, ℕ, None, Ok, codes}
 use Rattle.serde_json.specs.Data.{null}
 use Rattle.kn_event.specs.declared.revision.Slots.{Slots}
 use Rattle.kn_event.specs.declared.revision.Kind.TheVariants.{Kpa}
+use Rattle.kn_event.specs.declared.revision.Metric.TheVariants.{Concurrency}
 use Rattle.kn_event.specs.declared.revision.Burst.TheVariants.{Capacity}
 use Rattle.kn_event.specs.Defaults.{milli}
 use Rattle.kn_event.specs.FixedSpec.{fixed_spec}
 use Rattle.kn_config.specs.Laws.{default_config}
-use Rattle.kn_revision.specs.declared.annotation.Metric.TheVariants.{Concurrency}
 use Rattle.kn_revision.specs.declared.member.Limits.{Limits}
 use Rattle.kn_revision.specs.declared.amounts.Amounts.{Amounts}
 use Rattle.kn_revision.specs.Amounts.{overridden}

@@ -1,10 +1,12 @@
 -- The specification that a Revision gives over a configuration.
-use Rattle.std.specs.Prelude.{◌≡◌, ℕ, ◌*◌, ◌/◌, ◌==◌, ◌&&◌, nat_lt, min, max, not, Bool, true, false, List, Option, Some, None, Result, Ok, Err, if◌then◌else◌, codes}
+use Rattle.std.specs.Prelude.{◌≡◌, ℕ, ◌*◌, ◌/◌, ◌==◌, ◌&&◌, nat_lt, min, max, not, List, Option, Some, None, Result, Ok, Err, if◌then◌else◌, codes}
 use Rattle.serde_json.specs.Data.{Data}
 use Rattle.kn_event.specs.declared.units.Milli.{Milli}
 use Rattle.kn_event.specs.declared.revision.Slots.{Slots}
 use Rattle.kn_event.specs.declared.revision.Spec.{Spec}
 use Rattle.kn_event.specs.declared.revision.Kind.TheVariants.{Kpa}
+use Rattle.kn_event.specs.declared.revision.Metric.{Metric}
+use Rattle.kn_event.specs.declared.revision.Metric.TheVariants.{Concurrency, Rps}
 use Rattle.kn_event.specs.Defaults.{milli, scaling_target}
 use Rattle.kn_config.specs.declared.key.Key.TheVariants as key
 use Rattle.kn_config.specs.declared.config.Config.{Config}
@@ -14,8 +16,6 @@ use Rattle.kn_config.specs.Json.{json_of}
 use Rattle.kn_revision.specs.declared.error.Field.TheVariants as field
 use Rattle.kn_revision.specs.declared.error.SpecError.{SpecError}
 use Rattle.kn_revision.specs.declared.error.SpecError.TheVariants as error
-use Rattle.kn_revision.specs.declared.annotation.Metric.{Metric}
-use Rattle.kn_revision.specs.declared.annotation.Metric.TheVariants as metric
 use Rattle.kn_revision.specs.declared.amounts.Amounts.{Amounts}
 use Rattle.kn_revision.specs.Members.{inner, name_of}
 use Rattle.kn_revision.specs.Amounts.{amounts_of}
@@ -38,36 +38,42 @@ of_keys (Err why) = Err (as_fault why)
 
 -- the containerConcurrency, or the default where that is 0; a target is taken in place of the default, and the smaller
 -- of it and a containerConcurrency above 0
-abbrev pub total_of : ℕ → Milli → Option Milli → Milli
-total_of cc default None = if cc == 0 then default else milli (1000 * cc)
-total_of cc default (Some target) = if cc == 0 then target else milli (min target.0 (1000 * cc))
+abbrev pub concurrency_total : ℕ → Milli → Option Milli → Milli
+concurrency_total cc default None = if cc == 0 then default else milli (1000 * cc)
+concurrency_total cc default (Some target) = if cc == 0 then target else milli (min target.0 (1000 * cc))
+
+-- the default, or the target in its place; the containerConcurrency isn't looked at
+abbrev pub rps_total : Milli → Option Milli → Milli
+rps_total default None = default
+rps_total default (Some target) = target
+
+-- what a pod bears in all: requests, or requests per second
+abbrev pub total_of : Config → Metric → ℕ → Option Milli → Milli
+total_of config Concurrency cc target = concurrency_total cc config.concurrency_default target
+total_of config Rps cc target = rps_total config.rps_default target
 
 -- the per cent of the stable window in whole seconds, rounded down, and at least 1
 abbrev pub panic_seconds : ℕ → Milli → ℕ
 panic_seconds stable_s percent = max 1 (stable_s * percent.0 / 100000)
 
-abbrev pub is_rps : Metric → Bool
-is_rps metric.Concurrency = false
-is_rps metric.Rps = true
-
--- the metric; then a max-scale that isn't 0 and is below the min-scale; then an initial scale of 0 that isn't allowed
+-- a max-scale that isn't 0 and is below the min-scale; then an initial scale of 0 that isn't allowed
 abbrev pub fault_of : Config → Amounts → Option SpecError
 fault_of config amounts =
-    if is_rps amounts.scale.metric then Some error.MetricNotBuilt
-    else (if nat_lt 0 amounts.scale.max && nat_lt amounts.scale.max amounts.scale.min then Some (error.OutOfRange key.MaxScale)
+    if nat_lt 0 amounts.scale.max && nat_lt amounts.scale.max amounts.scale.min then Some (error.OutOfRange key.MaxScale)
     else (if amounts.scale.initial == 0 && not config.allow_zero_initial then Some error.ZeroInitial
-    else None))
+    else None)
 
 -- the specification of these names and amounts; the rates, the grace period and whether it scales to zero are the
 -- configuration's
 unfoldable pub parts_of : Config → Slots → List ℕ → List ℕ → Amounts → Spec
 parts_of config slots namespace name amounts =
-    let total = total_of amounts.limits.cc config.concurrency_default amounts.load.target in
+    let total = total_of config amounts.scale.metric amounts.limits.cc amounts.load.target in
     record {
       kind = Kpa;
       namespace = namespace;
       name = name;
       cc = amounts.limits.cc;
+      metric = amounts.scale.metric;
       total = total;
       target = scaling_target total.0 amounts.load.utilisation.0;
       stable_s = amounts.load.stable_s;

@@ -1,14 +1,14 @@
 //! What a Revision's limits and annotations come to over the configuration, each fault the first one.
-ghost use Rattle.std.specs.Prelude.{◌≡◌, IfOk};
+ghost use Rattle.std.specs.Prelude.{◌≡◌, ◌≤◌, IfOk};
 ghost use Rattle.serde_json.specs.View.{view};
 ghost use Rattle.kn_config.specs.Config.{IsConfig};
 ghost use Rattle.kn_revision.specs.Members.{AreLimits};
-ghost use Rattle.kn_revision.specs.Amounts.{scale_of, load_of, pace_of, amounts_of, overridden, AreScales, IsLoad, IsPace, AreAmounts};
+ghost use Rattle.kn_revision.specs.Amounts.{scale_of, load_of, pace_of, amounts_of, overridden, utilisation_without, AreScales, IsLoad, IsPace, AreAmounts};
 
-use crate::annotation::{Annotation, Metric, check_class, metric_in, target};
+use crate::annotation::{Annotation, check_class, metric_in, target};
 use crate::member::{Limits, inner};
 use kn_config::{Config, Key, KeyError};
-use kn_event::{Burst, Milli};
+use kn_event::{Burst, Metric, Milli};
 use serde_json::Value;
 
 /// What is counted, and the bounds on counts.
@@ -78,17 +78,16 @@ impl Scale {
 }
 
 impl Load {
+    /// The utilisation is given where it has no annotation.
     #[tactic(auto, unfolding(crate::specs::Amounts::load_of))]
-    fn read(config: &Config, annotations: &Value) -> Result<Load, KeyError>
-        requires { IsConfig config.now }
-        ensures value { result ≡ load_of config.now (view annotations.now) }
+    fn read(config: &Config, otherwise: Milli, annotations: &Value) -> Result<Load, KeyError>
+        requires config { IsConfig config.now }
+        requires otherwise { otherwise.0 ≤ 100000 }
+        ensures value { result ≡ load_of config.now otherwise (view annotations.now) }
         ensures ranges { IfOk result (λ load. IsLoad load) }
     {
         let target = target(annotations)?;
-        let utilisation = Annotation::TargetUtilizationPercentage.number(
-            annotations,
-            config.utilisation,
-        )?;
+        let utilisation = Annotation::TargetUtilizationPercentage.number(annotations, otherwise)?;
         let stable_s = Annotation::Window.seconds(annotations, config.stable_s)?;
         let panic_percent = Annotation::PanicWindowPercentage.number(
             annotations,
@@ -151,6 +150,19 @@ impl Amounts {
     }
 }
 
+/// The utilisation where no annotation gives it. For requests per second it is always 70 per cent.
+#[tactic(auto, unfolding(crate::specs::Amounts::utilisation_without))]
+fn utilisation_without(config: &Config, metric: Metric) -> Milli
+    requires { IsConfig config.now }
+    ensures value { result ≡ utilisation_without config.now metric }
+    ensures most { result.0 ≤ 100000 }
+{
+    match metric {
+        Metric::Concurrency => config.utilisation,
+        Metric::Rps => Milli(70_000),
+    }
+}
+
 /// The amounts of these limits and annotations.
 #[tactic(auto, unfolding(crate::specs::Amounts::overridden))]
 fn overridden(config: &Config, limits: Limits, annotations: &Value) -> Result<Amounts, KeyError>
@@ -160,7 +172,8 @@ fn overridden(config: &Config, limits: Limits, annotations: &Value) -> Result<Am
     ensures ranges { IfOk result (λ amounts. AreAmounts amounts) }
 {
     let scale = Scale::read(config, annotations)?;
-    let load = Load::read(config, annotations)?;
+    let otherwise = utilisation_without(config, scale.metric);
+    let load = Load::read(config, otherwise, annotations)?;
     let pace = Pace::read(config, annotations)?;
     Ok(Amounts {
         limits,

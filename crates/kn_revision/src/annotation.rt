@@ -6,7 +6,7 @@ ghost use Rattle.kn_config.specs.Values.{IsBurstOf};
 ghost use Rattle.kn_revision.specs.Annotations.{key_of, annotation_name, text_at, number_at, burst_at, duration_at, seconds_at, count_at, renamed_count_at, target_at, class_at, metric_at};
 
 use kn_config::{Key, KeyError, value};
-use kn_event::{Burst, Milli};
+use kn_event::{Burst, Metric, Milli};
 use serde_json::Value;
 
 /// An annotation that a Revision may have.
@@ -28,13 +28,6 @@ pub enum Annotation {
     ScaleDownDelay,
     ScaleToZeroPodRetentionPeriod,
     ActivationScale,
-}
-
-/// What is counted.
-#[derive(Clone, Copy)]
-pub enum Metric {
-    Concurrency,
-    Rps,
 }
 
 impl Annotation {

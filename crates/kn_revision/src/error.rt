@@ -14,8 +14,6 @@ pub enum SpecError {
     NotText(Key),
     BadValue(Key, NumError),
     OutOfRange(Key),
-    /// The metric is `rps`.
-    MetricNotBuilt,
     /// The initial scale in force is 0, and the configuration doesn't allow that.
     ZeroInitial,
     Memory,

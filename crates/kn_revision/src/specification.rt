@@ -6,20 +6,19 @@ ghost use Rattle.kn_event.specs.Defaults.{scaling_target};
 ghost use Rattle.kn_config.specs.Config.{IsConfig};
 ghost use Rattle.kn_revision.specs.Laws.{DefaultsAreFixed};
 ghost use Rattle.kn_revision.specs.Amounts.{AreAmounts};
-ghost use Rattle.kn_revision.specs.Revision.{Gives, spec_of, spec_in, fault_of, parts_of, total_of, panic_seconds, is_rps};
+ghost use Rattle.kn_revision.specs.Revision.{Gives, spec_of, spec_in, fault_of, parts_of, total_of, concurrency_total, panic_seconds};
 
 use crate::amounts::Amounts;
-use crate::annotation::Metric;
 use crate::error::{Field, SpecError};
 use crate::member::name;
 use kn_config::{Config, JsonError, Key, read_json};
-use kn_event::{Frac, Kind, Milli, Slots, Spec, Text};
+use kn_event::{Frac, Kind, Metric, Milli, Slots, Spec, Text};
 use serde_json::Value;
 use std::alloc::Global;
 
 /// The specification of a Revision in JSON over this configuration, or its first fault: the text as JSON; the
-/// namespace, then the name; containerConcurrency and timeoutSeconds; the annotations in the table's order; the
-/// metric `rps`; a max-scale below the min-scale; an initial scale of 0 that isn't allowed.
+/// namespace, then the name; containerConcurrency and timeoutSeconds; the annotations in the table's order; a
+/// max-scale below the min-scale; an initial scale of 0 that isn't allowed.
 #[tactic(auto, unfolding(crate::specs::Revision::spec_of))]
 pub fn resolve(alloc: Global, config: &Config, text: &[u8], slots: Slots) -> Result<Spec, SpecError>
     requires config { IsConfig config.now }
@@ -79,9 +78,6 @@ fn fault_of(config: &Config, amounts: Amounts) -> Option<SpecError>
     ensures order { IfNone result (0 < amounts.scale.max → amounts.scale.min ≤ amounts.scale.max) }
 {
     let scale = amounts.scale;
-    if is_rps(scale.metric) {
-        return Some(SpecError::MetricNotBuilt);
-    }
     if scale.max > 0 && scale.max < scale.min {
         return Some(SpecError::OutOfRange(Key::MaxScale));
     }
@@ -89,15 +85,6 @@ fn fault_of(config: &Config, amounts: Amounts) -> Option<SpecError>
         return Some(SpecError::ZeroInitial);
     }
     None
-}
-
-fn is_rps(metric: Metric) -> bool
-    ensures { result ≡ is_rps metric }
-{
-    match metric {
-        Metric::Concurrency => false,
-        Metric::Rps => true,
-    }
 }
 
 /// The specification of these names and amounts.
@@ -134,12 +121,13 @@ fn spec(
         load,
         pace,
     } = amounts;
-    let total = total_of(limits.cc, config.concurrency_default, load.target);
+    let total = total_of(config, scale.metric, limits.cc, load.target);
     Ok(Spec {
         kind: Kind::Kpa,
         namespace: Text::new(namespace),
         name: Text::new(name),
         cc: limits.cc,
+        metric: scale.metric,
         total,
         target: target(total, load.utilisation),
         stable_s: load.stable_s,
@@ -161,13 +149,27 @@ fn spec(
     })
 }
 
-/// What a pod bears in all: its containerConcurrency, or the default where that is 0. A target is taken in place of
+/// What a pod bears in all: requests, or requests per second.
+fn total_of(config: &Config, metric: Metric, cc: u64, target: Option<Milli>) -> Milli
+    requires config { IsConfig config.now }
+    requires cc { cc ≤ 1000 }
+    requires target { IfSome target IsTotal }
+    ensures value { result ≡ total_of config.now metric cc target }
+    ensures range { IsTotal result }
+{
+    match metric {
+        Metric::Concurrency => concurrency_total(cc, config.concurrency_default, target),
+        Metric::Rps => target.unwrap_or(config.rps_default),
+    }
+}
+
+/// Requests that a pod bears: its containerConcurrency, or the default where that is 0. A target is taken in place of
 /// the default, and where it is below a containerConcurrency above 0.
-fn total_of(cc: u64, default: Milli, target: Option<Milli>) -> Milli
+fn concurrency_total(cc: u64, default: Milli, target: Option<Milli>) -> Milli
     requires cc { cc ≤ 1000 }
     requires default { IsTotal default }
     requires target { IfSome target IsTotal }
-    ensures value { result ≡ total_of cc default target }
+    ensures value { result ≡ concurrency_total cc default target }
     ensures range { IsTotal result }
 {
     if cc == 0 {

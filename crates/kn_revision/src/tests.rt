@@ -1,7 +1,10 @@
+mod bounds;
+
 use super::*;
 use kn_config::{Config, Key};
-use kn_event::{Burst, Frac, Kind, Milli, Slots, Spec};
+use kn_event::{Burst, Frac, Kind, Metric, Milli, Slots, Spec};
 use kn_num::NumError;
+use std::test::Fail;
 
 const SLOTS: Slots = Slots {
     depth: 10_000,
@@ -162,6 +165,73 @@ fn targets_and_windows(rt: HostRuntime) {
     }
 }
 
+/// A Revision that scales by requests per second, without further annotations.
+const RPS: &str =
+    r#"{"metadata":{"namespace":"default","name":"hello-00001","annotations":{"autoscaling.knative.dev/metric":"rps"}}}"#;
+
+#[test]
+fn requests_per_second(rt: HostRuntime) {
+    let rows = [
+        ("{}", RPS, Metric::Rps, 200_000, 14_000_000_000),
+        (
+            r#"{"data":{"container-concurrency-target-percentage":"100"}}"#,
+            RPS,
+            Metric::Rps,
+            200_000,
+            14_000_000_000,
+        ),
+        (
+            r#"{"data":{"container-concurrency-target-percentage":"100","requests-per-second-target-default":"150"}}"#,
+            SCALE_UP,
+            Metric::Concurrency,
+            100_000,
+            10_000_000_000,
+        ),
+        (
+            r#"{"data":{"container-concurrency-target-default":"50","requests-per-second-target-default":"150"}}"#,
+            RPS,
+            Metric::Rps,
+            150_000,
+            10_500_000_000,
+        ),
+        (
+            "{}",
+            r#"{"metadata":{"namespace":"default","name":"hello-00001","annotations":{"autoscaling.knative.dev/metric":"rps"}},"spec":{"containerConcurrency":5}}"#,
+            Metric::Rps,
+            200_000,
+            14_000_000_000,
+        ),
+        (
+            "{}",
+            r#"{"metadata":{"namespace":"default","name":"hello-00001","annotations":{"autoscaling.knative.dev/metric":"rps","autoscaling.knative.dev/target":"20"}},"spec":{"containerConcurrency":5}}"#,
+            Metric::Rps,
+            20_000,
+            1_400_000_000,
+        ),
+        (
+            r#"{"data":{"container-concurrency-target-percentage":"100"}}"#,
+            r#"{"metadata":{"namespace":"default","name":"hello-00001","annotations":{"autoscaling.knative.dev/metric":"rps","autoscaling.knative.dev/target-utilization-percentage":"50"}}}"#,
+            Metric::Rps,
+            200_000,
+            10_000_000_000,
+        ),
+    ];
+    for (settings, text, metric, total, num) in rows {
+        let config = Config::read(rt.alloc(), settings.as_bytes()).expect(
+            &rt,
+            "a good configuration",
+        );
+        match resolve(rt.alloc(), &config, text.as_bytes(), SLOTS) {
+            Ok(spec) => {
+                assert_eq!(rt; spec.metric, metric, "{text}");
+                assert_eq!(rt; spec.total, Milli(total), "{text}");
+                assert_eq!(rt; spec.target, target_of(num), "{text}");
+            }
+            Err(fault) => assert!(rt; false, "{fault:?} {text}"),
+        }
+    }
+}
+
 #[test]
 fn each_annotation(rt: HostRuntime) {
     let config = Config::read(rt.alloc(), b"{}").expect(&rt, "the default configuration");
@@ -172,6 +242,7 @@ fn each_annotation(rt: HostRuntime) {
                 namespace,
                 name,
                 cc,
+                metric,
                 total: _,
                 target: _,
                 stable_s: _,
@@ -200,6 +271,7 @@ fn each_annotation(rt: HostRuntime) {
                 (panic_threshold, up, down),
                 (Milli(150_000), Milli(1_000_000), Milli(2_000))
             );
+            assert_eq!(rt; metric, Metric::Concurrency);
             assert_eq!(rt; (cc, activation, min, max, initial), (20, 3, 2, 5, 7));
             assert_eq!(rt;
                 (delay_s, grace_ms, retention_ms, timeout_ms),
@@ -329,10 +401,6 @@ fn faults(rt: HostRuntime) {
             SpecError::OutOfRange(Key::Metric),
         ),
         (
-            r#"{"metadata":{"namespace":"a","name":"b","annotations":{"autoscaling.knative.dev/metric":"rps"}}}"#,
-            SpecError::MetricNotBuilt,
-        ),
-        (
             r#"{"metadata":{"namespace":"a","name":"b","annotations":{"autoscaling.knative.dev/metric":"rps","autoscaling.knative.dev/activation-scale":"0"}}}"#,
             SpecError::OutOfRange(Key::ActivationScale),
         ),
@@ -392,4 +460,33 @@ fn the_longest_name(rt: HostRuntime) {
         };
         assert_eq!(rt; found, fault);
     }
+}
+
+/// A text of more than 100 KB, with an annotation on each side of what is ignored.
+#[test]
+fn a_long_text(rt: HostRuntime) -> Result<(), Fail> {
+    let config = Config::read(rt.alloc(), b"{}").expect(&rt, "the default configuration");
+    let mut text = String::new(rt.alloc());
+    text.push_str(
+        r#"{"metadata":{"namespace":"default","name":"long","annotations":{"autoscaling.knative.dev/min-scale":"3","kubectl.kubernetes.io/last-applied-configuration":""#,
+    )?;
+    for _ in 0..2_000 {
+        text.push_str("containers:\\n- image: ghcr.io/knative/helloworld-go:latest\\n")?;
+    }
+    text.push_str(
+        r#"","autoscaling.knative.dev/max-scale":"9"}},"spec":{"containerConcurrency":20}}"#,
+    )?;
+    assert!(rt; text.len() > 100_000);
+    match resolve(rt.alloc(), &config, text.as_bytes(), SLOTS) {
+        Ok(spec) => {
+            assert!(rt; spec.name.bytes() == b"long".as_slice());
+            assert_eq!(rt; (spec.min, spec.max, spec.cc), (3, 9, 20));
+            assert_eq!(rt;
+                (spec.total, spec.target),
+                (Milli(20_000), target_of(1_400_000_000))
+            );
+        }
+        Err(fault) => assert!(rt; false, "{fault:?}"),
+    }
+    Ok(())
 }
