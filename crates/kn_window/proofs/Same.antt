@@ -1,5 +1,5 @@
 -- Samples that agree, and samples up to a second.
-use Rattle.std.proofs.Common.{◌≡◌, refl, sym, ap, ◌∙◌, ◌+◌, ◌-◌, ◌<◌, ◌≤◌, ℕ, zero, suc, Bool, ◌∷◌, arith, cond}
+use Rattle.std.proofs.Common.{◌≡◌, refl, sym, ap, subst, ◌∙◌, ◌+◌, ◌-◌, ◌<◌, ◌≤◌, ℕ, zero, suc, Bool, ◌∷◌, arith, cond}
 use Rattle.std.specs.Prelude.{Option, None, Some, is_some, unwrap_or}
 use Rattle.std.specs.List.{filter, range_with_len}
 use Rattle.kn_scaling.specs.Average.{Samples, last_of, is_sample, is_spell_start, first_write, last_sample, window_sum, window_average, average_to, load_over}
@@ -12,6 +12,7 @@ use Rattle.kn_window.proofs.Windows.{total_same}
 pub stands_same : (w : WindowState) (f g : Samples) → ((s : ℕ) → f s ≡ g s) → StandsFor w f → StandsFor w g
 stands_same w f g h r = record {
   beyond = λ s i. sym (h s) ∙ r.beyond s i;
+  small = λ s. subst (λ o. unwrap_or o 0 ≤ 1000000000) (h s) (r.small s);
   last = λ i. ap is_some (sym (h (w.end - 1))) ∙ r.last i;
   fits = r.fits;
   some = r.some;

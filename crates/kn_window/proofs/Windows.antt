@@ -1,9 +1,10 @@
 -- What a window that stands for samples says of their average, and what one more run makes of it.
-use Rattle.std.proofs.Common.{◌≡◌, refl, sym, ap, subst, ◌∙◌, ◌+◌, ◌-◌, ◌*◌, ◌<◌, ◌≤◌, ◌⊎◌, inl, inr, ℕ, Bool, true, false, ◌||◌, ◌==◌, List, [], arith, max, min, length, cond}
-use Rattle.std.specs.Prelude.{Option, None, Some, nat_lt, nat_le, is_some, unwrap_or, slice_get}
+use Rattle.std.proofs.Common.{◌≡◌, refl, sym, ap, subst, ◌∙◌, ◌+◌, ◌-◌, ◌*◌, ◌<◌, ◌≤◌, ◌⊎◌, inl, inr, ℕ, zero, suc, Bool, true, false, ◌||◌, ◌==◌, List, [], arith, max, min, length, cond}
+use Rattle.std.specs.Prelude.{Option, None, Some, nat_lt, nat_le, is_some, unwrap_or, slice_get, if◌then◌else◌}
 use Rattle.std.specs.List.{filter, range_with_len, sum_by}
+use Rattle.std.proofs.lemmas.List.Sums.{sum_by-cons}
 use Rattle.std.proofs.Math.Nat.{eq-or-lt_of_le}
-use Rattle.kn_scaling.specs.Average.{Samples, last_of, is_sample, is_spell_start, first_write, last_sample, window_sum, window_average, average_to, load_over, with_run, no_samples}
+use Rattle.kn_scaling.specs.Average.{IsAverage, Samples, is_in_run, last_of, is_sample, is_spell_start, first_write, last_sample, window_sum, window_average, average_to, load_over, with_run, no_samples}
 use Rattle.kn_scaling.specs.Worked.{run_of}
 use Rattle.kn_window.specs.Stands.{Holds, StandsFor, WindowState, first_of, load_at, total_before}
 use Rattle.kn_window.proofs.Spells.{last_pass, last_none, none_starts, started_before, starts_at, quiet_before, starts_same, run_inside, run_before, run_after}
@@ -35,6 +36,7 @@ total_none = refl
 pub stands_none : (n : ℕ) → StandsFor (state n [] 0 0) no_samples
 stands_none n = record {
   beyond = λ s h. refl;
+  small = λ s. omega arith;
   last = λ h. absurd (omega (arith, h));
   fits = omega arith;
   some = λ h. absurd (omega (arith, h));
@@ -151,6 +153,29 @@ average_some f w now r below above =
     ∙ ap (λ n. Some (load_over (sum_of w now) n))
     (ap (λ n. w.end - 1 - n) (first_is f w now r below above) ∙ (let e : w.end - 1 - start_of w now ≡ w.end - start_of w now - 1 = omega arith in e))
 
+sum_small : (v : ℕ → ℕ) (k a : ℕ) → ((s : ℕ) → v s ≤ 1000000000) → sum_by v (range_with_len a k) ≤ 1000000000 * k
+sum_small v zero a h = omega arith
+sum_small v (suc k) a h =
+    let first = h a in
+    let rest = sum_small v k (a + 1) h in
+    omega (arith, sum_by-cons v a (range_with_len (a + 1) k), first, rest)
+
+-- what a window of an hour at most gives
+pub average_small : (f : Samples) (w : WindowState) (now : ℕ) → StandsFor w f → now - w.seconds < w.end → w.end ≤ now → w.seconds ≤ 3600 → IsAverage (load_over (sum_of w now) (w.end - start_of w now - 1))
+average_small f w now r below above hour =
+    let start = start_of w now in
+    let ring = r.totals.within in
+    let some = r.some (omega (arith, below)) in
+    let inside : start < w.end = omega (arith, below, ring, some) in
+    let before = held_at w.totals w.total (total_before f) w.end (start - first_of w) r.totals (omega (arith, below, ring, inside)) in
+    let place = ap (total_before f) (let e : w.end - length w.totals + (start - first_of w) ≡ start = omega arith in e) in
+    let rest = ap (total_before f) (let e : w.end ≡ start + (w.end - start) = omega (arith, inside) in e) ∙ total_split f start (w.end - start) in
+    let most = sum_small (load_at f) (w.end - start) start r.small in
+    record {
+      den = omega (arith, above, hour, inside);
+      value = omega (arith, before, place, rest, r.totals.whole, most, inside);
+    }
+
 -- ---- one more run
 
 module _ (f : Samples) (n a k v : ℕ) where
@@ -160,6 +185,15 @@ module _ (f : Samples) (n a k v : ℕ) where
   started_inside : (s : ℕ) → 2 ≤ n → a < s → s < a + k → is_spell_start g n s ≡ false
   started_inside s two low high =
       started_before g n s (s - 1) (omega (arith, two, low)) (omega (arith, low)) (ap is_some (run_inside f a k v (s - 1) (omega (arith, low)) (omega (arith, high))))
+
+  -- no load of more than a thousand million
+  all_small : v ≤ 1000000000 → ((s : ℕ) → load_at f s ≤ 1000000000) → (s : ℕ) → load_at g s ≤ 1000000000
+  unfolding with_run
+  all_small few before s = go (is_in_run a k s)
+    where
+      go : (b : Bool) → unwrap_or (if b then Some v else f s) 0 ≤ 1000000000
+      go true = few
+      go false = before s
 
   last_sampled : 0 < k → is_sample g (a + k - 1) ≡ true
   last_sampled some = ap is_some (run_inside f a k v (a + k - 1) (omega (arith, some)) (omega (arith, some)))
@@ -175,11 +209,12 @@ module _ (f : Samples) (n a k v : ℕ) where
       go true e = let j : s < a + k = grind (arith, e) in started_inside s (omega (arith, j, low, h, some)) i j
       go false e = let j : a + k ≤ s = grind (arith, e) in none_starts g n s (none_beyond end beyond after s j)
 
-  pub stands_new : (w : WindowState) (ws : List ℕ) (total : ℕ) → w.seconds ≡ n → 0 < n → 0 < k → w.end ≤ a → (w.end ≡ 0) ⊎ (w.end + n ≤ a + 1) → StandsFor w f
+  pub stands_new : (w : WindowState) (ws : List ℕ) (total : ℕ) → w.seconds ≡ n → 0 < n → v ≤ 1000000000 → 0 < k → w.end ≤ a → (w.end ≡ 0) ⊎ (w.end + n ≤ a + 1) → StandsFor w f
       → Holds ws total (total_before g) (a + k) → length ws ≤ n → 0 < length ws → a + k - length ws ≡ max a (a + k - n)
       → StandsFor (state n ws total (a + k)) g
-  stands_new w ws total size long some after apart r held fits any place = record {
+  stands_new w ws total size long few some after apart r held fits any place = record {
     beyond = none_beyond w.end r.beyond after;
+    small = all_small few r.small;
     last = λ h. last_sampled some;
     fits = fits;
     some = λ h. any;
@@ -195,11 +230,12 @@ module _ (f : Samples) (n a k v : ℕ) where
       reach (inl e) x low = omega (arith, e)
       reach (inr e) x low = omega (arith, e, low)
 
-  pub stands_on : (w : WindowState) (ws : List ℕ) (total : ℕ) → w.seconds ≡ n → 0 < n → 0 < k → w.end ≤ a → 0 < w.end → a + 1 < w.end + n → StandsFor w f
+  pub stands_on : (w : WindowState) (ws : List ℕ) (total : ℕ) → w.seconds ≡ n → 0 < n → v ≤ 1000000000 → 0 < k → w.end ≤ a → 0 < w.end → a + 1 < w.end + n → StandsFor w f
       → Holds ws total (total_before g) (a + k) → length ws ≤ n → 0 < length ws → a + k - length ws ≡ max (first_of w) (a + k - n)
       → StandsFor (state n ws total (a + k)) g
-  stands_on w ws total size long some after was near r held fits any place = record {
+  stands_on w ws total size long few some after was near r held fits any place = record {
     beyond = none_beyond w.end r.beyond after;
+    small = all_small few r.small;
     last = λ h. last_sampled some;
     fits = fits;
     some = λ h. any;
@@ -244,7 +280,7 @@ module _ (f : Samples) (n a k v : ℕ) where
       omega (arith, begun, gap, none, rest, alike, many)
 
   -- the calls that a run makes: those that it skips, zeros for the gap, and its own seconds
-  pub stands_run : (w : WindowState) (from : ℕ) (is_new cut : Bool) (ys zs ws : List ℕ) (y z total yend : ℕ) → w.seconds ≡ n → 0 < n → 0 < k → w.end ≤ a
+  pub stands_run : (w : WindowState) (from : ℕ) (is_new cut : Bool) (ys zs ws : List ℕ) (y z total yend : ℕ) → w.seconds ≡ n → 0 < n → v ≤ 1000000000 → 0 < k → w.end ≤ a
       → is_new ≡ ((w.end == 0) || nat_le (w.end + n) (a + 1)) → from ≡ max (cond is_new a w.end) (a + k - n) → cut ≡ (is_new || nat_lt w.end from)
       → ys ≡ cond cut [] w.totals → y ≡ cond cut (w.total + v * (from - a)) w.total → yend ≡ cond cut from w.end
       → ((before : ℕ → ℕ) → Holds ys y before yend → ((s : ℕ) → yend ≤ s → s < yend + (a - from) → before (s + 1) ≡ before s + 0) → Holds zs z before (yend + (a - from)))
@@ -252,7 +288,7 @@ module _ (f : Samples) (n a k v : ℕ) where
       → ((before : ℕ → ℕ) → Holds zs z before (yend + (a - from)) → ((s : ℕ) → yend + (a - from) ≤ s → s < yend + (a - from) + (a + k - max from a) → before (s + 1) ≡ before s + v) → Holds ws total before (yend + (a - from) + (a + k - max from a)))
       → length ws ≡ min n (length zs + (a + k - max from a))
       → StandsFor w f → StandsFor (state n ws total (a + k)) g
-  stands_run w from is_new cut ys zs ws y z total yend size long some after new_is from_is cut_is ys_is y_is yend_is first first_len second second_len r = go is_new cut refl refl
+  stands_run w from is_new cut ys zs ws y z total yend size long few some after new_is from_is cut_is ys_is y_is yend_is first first_len second second_len r = go is_new cut refl refl
     where
       none_before : w.end ≤ from → (s : ℕ) → from ≤ s → s < from + (a - from) → total_before g (s + 1) ≡ total_before g s + 0
       none_before low s i j =
@@ -288,7 +324,7 @@ module _ (f : Samples) (n a k v : ℕ) where
           let apart : (w.end ≡ 0) ⊎ (w.end + n ≤ a + 1) = grind (arith, e, new_is) in
           let low : w.end ≤ from = omega (arith, whole, after) in
           let high : from ≤ a + k = omega (arith, whole, some) in
-          stands_new w ws total size long some after apart r (held at low high (emptied cleared sum low high))
+          stands_new w ws total size long few some after apart r (held at low high (emptied cleared sum low high))
           (omega (arith, second_len)) (omega (arith, second_len, first_len, empty, whole, some, long)) (omega (arith, second_len, first_len, empty, whole, some))
       go false true e d =
           let whole : from ≡ max w.end (a + k - n) = from_is ∙ ap (λ t. max (cond t a w.end) (a + k - n)) e in
@@ -301,7 +337,7 @@ module _ (f : Samples) (n a k v : ℕ) where
           let ring = r.totals.within in
           let low : w.end ≤ from = omega (arith, whole) in
           let high : from ≤ a + k = omega (arith, whole, after) in
-          stands_on w ws total size long some after apart.0 apart.1 r (held at low high (emptied cleared sum low high))
+          stands_on w ws total size long few some after apart.0 apart.1 r (held at low high (emptied cleared sum low high))
           (omega (arith, second_len)) (omega (arith, second_len, first_len, empty, whole, some, long)) (omega (arith, second_len, first_len, empty, whole, some, far))
       go false false e d =
           let whole : from ≡ max w.end (a + k - n) = from_is ∙ ap (λ t. max (cond t a w.end) (a + k - n)) e in
@@ -317,7 +353,7 @@ module _ (f : Samples) (n a k v : ℕ) where
           let agrees = holds_same w.totals w.total (total_before f) (total_before g) w.end
           (λ s i. total_same f g s (λ x h. sym (run_before f a k v x (omega (arith, i, h, after))))) r.totals in
           let moved = subst (λ xs. Holds xs y (total_before g) w.end) (sym kept) (subst (λ t. Holds w.totals t (total_before g) w.end) (sym sum) agrees) in
-          stands_on w ws total size long some after apart.0 apart.1 r
+          stands_on w ws total size long few some after apart.0 apart.1 r
           (held (ends ∙ at_end) (omega (arith, whole)) (omega (arith, whole, after)) (subst (Holds ys y (total_before g)) at_end moved))
           (omega (arith, second_len)) (omega (arith, second_len, first_len, some, long)) (omega (arith, second_len, first_len, same, at_end, some, ring, fit, size, near, whole, after))
 

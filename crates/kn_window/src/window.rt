@@ -1,5 +1,5 @@
-ghost use Rattle.std.specs.Prelude.{◌≡◌, ◌≤◌, ◌<◌, ◌+◌, ◌-◌, ◌^◌, ◌==◌, ◌||◌, nat_le, nat_lt, IfOk, max, if◌then◌else◌};
-ghost use Rattle.kn_scaling.specs.Average.{Samples, load_over, no_samples, window_average, with_run};
+ghost use Rattle.std.specs.Prelude.{◌≡◌, ◌≤◌, ◌<◌, ◌+◌, ◌-◌, ◌^◌, ◌==◌, ◌||◌, nat_le, nat_lt, IfOk, IfSome, max, if◌then◌else◌};
+ghost use Rattle.kn_scaling.specs.Average.{IsAverage, Samples, load_over, no_samples, window_average, with_run};
 ghost use Rattle.kn_scaling.specs.Worked.{run_of};
 ghost use Rattle.kn_window.specs.Stands.{StandsFor};
 
@@ -104,7 +104,8 @@ impl Window {
     /// No sample may lie at this second or later. It takes the same time for each window.
     pub fn average(&self, now: u64) -> Option<Frac>
         requires { self.now.end ≤ now }
-        ensures { (samples : Samples) → StandsFor self.now samples → result ≡ window_average samples self.now.seconds now }
+        ensures value { (samples : Samples) → StandsFor self.now samples → result ≡ window_average samples self.now.seconds now }
+        ensures small { (samples : Samples) → StandsFor self.now samples → IfSome result IsAverage }
     {
         let (first, end) = (self.totals.first(), self.totals.end());
         let low = now.saturating_sub(self.totals.seconds());

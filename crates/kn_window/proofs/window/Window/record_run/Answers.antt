@@ -50,7 +50,7 @@ returns-clause-stands c = λ f r.
     let first_len : length z.ring.items ≡ min n (length y.ring.items + (a - from)) = omega (arith, c.push_all.ensures.length, c.skip_if.ensures.capacity, size, gap) in
     let second_len : length last.ring.items ≡ min n (length z.ring.items + (a + k - max from a)) = omega (arith, c.push_all-2.ensures.length, c.push_all.ensures.capacity, c.skip_if.ensures.capacity, size, rest) in
     let ends = run_ends a k n w.end from is_new cut c.requires.second c.requires.some long from_is cut_is in
-    let whole = stands_run f n a k v w from is_new cut y.ring.items z.ring.items last.ring.items y.total z.total last.total y.end refl long c.requires.some c.requires.second
+    let whole = stands_run f n a k v w from is_new cut y.ring.items z.ring.items last.ring.items y.total z.total last.total y.end refl long c.requires.load c.requires.some c.requires.second
     new_is from_is cut_is ys_is y_is yend_is first first_len second second_len r in
     subst (λ m. StandsFor (record { seconds = m; totals = last.ring.items; total = last.total; end = last.end }) (with_run f (run_of a k v)))
     (let e : n ≡ last.ring.capacity = omega (arith, size, c.push_all-2.ensures.capacity, c.push_all.ensures.capacity, c.skip_if.ensures.capacity) in e)
