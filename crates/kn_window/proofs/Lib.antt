@@ -1,0 +1,4 @@
+pub mod Spells
+pub mod Rings
+pub mod Windows
+pub mod Same
