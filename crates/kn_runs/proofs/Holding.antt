@@ -16,7 +16,7 @@ use Rattle.kn_trace.specs.Trace.{Trace, entry, arrivals, draining, each_row, end
 use Rattle.kn_trace.specs.Capacity.{breaker_full, capacity, in_use}
 use Rattle.kn_trace.specs.Scale.{mode_of, phase_of}
 use Rattle.kn_trace.specs.Settling.{assignments_of, held_assignments, next_choice, promotions, removals, settling}
-use Rattle.kn_trace.specs.Events.{act_row, act_rows, activation, added, before_settling, due, expiries, live_most, opening, react, scaler_rows, trace_of}
+use Rattle.kn_trace.specs.Events.{act_row, act_rows, activation, added, before_settling, due, departures, expiries, live_most, losses, opening, react, scaler_rows, trace_of}
 use Rattle.kn_trace.specs.Worked.{at}
 use Rattle.kn_runs.specs.Long.{BreakerRefuses9001, admitted_from, arrivals_from, refused_from, without_pods}
 use Rattle.kn_runs.proofs.Lists.{each-none, each-some, filter-all, length-upto, nobody_due, upto, upto-more, upto-none}
@@ -151,14 +151,14 @@ row_of_refusal s t full d i tag slots h come =
     rw (many_live d full h, room, by_proxy d full h, many_inside d full h, slots.count, taken, next_number d i come) refl
 
 one-held : (s : Spec) (t full : ℕ) (d : Trace) (m tag : ℕ) → HasSlots s t full → IsHolding d m → each_row arrived_by d ≡ upto m → m < full → react s d (at t (act.Arrive tag)) ≡ entry t (row.Admit m tag) ∷ []
-unfolding react before_settling act_rows
+unfolding react before_settling departures losses act_rows
 one-held s t full d m tag slots h come less =
     let next = d ++ entry t (row.Admit m tag) ∷ [] in
     let came = comes d t m tag h in
     rw (none_expires s t full d slots, append-nil, row_of_arrival s t full d m m tag slots h come less, no_decision s.kind s t next (act.Arrive tag) (Some (row.Admit m tag)) slots.fixed, not_activated t next (suc m) came, settles-none s t next (suc m) came) refl
 
 one-refused : (s : Spec) (t full : ℕ) (d : Trace) (i tag : ℕ) → HasSlots s t full → IsHolding d full → each_row arrived_by d ≡ upto i → react s d (at t (act.Arrive tag)) ≡ entry t (row.QueueFull i None) ∷ []
-unfolding react before_settling act_rows
+unfolding react before_settling departures losses act_rows
 one-refused s t full d i tag slots h come =
     let next = d ++ entry t (row.QueueFull i None) ∷ [] in
     let still = stays d t full i h in

@@ -15,7 +15,7 @@ use Rattle.kn_trace.specs.Trace.{Trace, entry, arrivals, assigned, contains, dir
 use Rattle.kn_trace.specs.Capacity.{pod_full}
 use Rattle.kn_trace.specs.Scale.{mode_of, phase_of}
 use Rattle.kn_trace.specs.Settling.{assignments_of, held_assignments, promotions, promotions_at, removals, settling}
-use Rattle.kn_trace.specs.Events.{act_row, act_rows, activation, added, before_settling, due, expiries, live_most, react, scaler_rows}
+use Rattle.kn_trace.specs.Events.{act_row, act_rows, activation, added, before_settling, due, departures, expiries, live_most, losses, react, scaler_rows}
 use Rattle.kn_trace.specs.Worked.{at}
 use Rattle.kn_runs.specs.Long.{arrivals_from, served_from}
 use Rattle.kn_runs.proofs.Lists.{each-none, each-some, filter-all, filter-none, length-upto, nobody_due, not_below, upto, upto-more}
@@ -215,7 +215,7 @@ settles-none s t d m k h none = rw (not_promoted t d m k h none, append-nil d, n
 
 one-served : (s : Spec) (t : ℕ) (d : Trace) (m tag : ℕ) → t < s.timeout_ms → IsServing d m m → each_row arrived_by d ≡ upto m → m < live_most
     → react s d (at t (act.Arrive tag)) ≡ entry t (row.Direct m 0) ∷ entry t (row.Run m) ∷ []
-unfolding react before_settling act_rows
+unfolding react before_settling departures losses act_rows
 one-served s t d m tag early h come few =
     let next = d ++ entry t (row.Direct m 0) ∷ [] in
     let gone = goes d t m h in
@@ -248,7 +248,7 @@ none_queued d m h = rw (h.brought) (filter-none (has_not_begun d) (upto m) (λ r
 
 last-refused : (s : Spec) (t : ℕ) (d : Trace) (m tag : ℕ) → t < s.timeout_ms → IsServing d m m → each_row arrived_by d ≡ upto m → m ≡ live_most
     → react s d (at t (act.Arrive tag)) ≡ entry t (row.Overload m) ∷ []
-unfolding react before_settling act_rows
+unfolding react before_settling departures losses act_rows
 last-refused s t d m tag early h come all =
     let next = d ++ entry t (row.Overload m) ∷ [] in
     let still = stays d t m m m h in
