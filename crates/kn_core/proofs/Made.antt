@@ -7,8 +7,8 @@ use Rattle.kn_event.specs.declared.revision.Spec.{Spec}
 use Rattle.kn_trace.specs.Trace.{Trace, live}
 use Rattle.kn_trace.specs.Events.{added, need_of, opening, react, trace_of}
 use Rattle.kn_laws.proofs.Added.{trace_of-append}
-use Rattle.kn_laws.proofs.Running.{made_trace}
-use Rattle.kn_laws.proofs.Growth.{grows-by}
+use Rattle.kn_record.proofs.Running.{made_trace}
+use Rattle.kn_sizes.proofs.Growth.{grows-by}
 use Rattle.kn_core.specs.State.{IsMadeBy}
 
 pub trace_of-push : (s : Spec) (start : ℕ) (es : List Event) (e : Event) → trace_of s start (es ++ e ∷ []) ≡ trace_of s start es ++ react s (trace_of s start es) e

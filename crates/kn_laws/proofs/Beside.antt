@@ -10,14 +10,14 @@ use Rattle.kn_event.specs.declared.revision.Spec.{Spec}
 use Rattle.kn_trace.specs.Trace.{Trace, entry, contains, live_pods}
 use Rattle.kn_trace.specs.Events.{act_row, expiries, trace_of}
 use Rattle.kn_trace.specs.Laws.{IsInert, IsSettled, is_refusal}
-use Rattle.kn_laws.specs.Admission.{Admission, admission, stepped}
-use Rattle.kn_laws.specs.Made.{IsMade, IsProper}
+use Rattle.kn_record.specs.Admission.{Admission, admission, stepped}
+use Rattle.kn_record.specs.Made.{IsMade, IsProper}
 use Rattle.kn_laws.specs.Beside.{LeavesTheRest, refused}
-use Rattle.kn_laws.proofs.Kept.{Holds-append, made_kept}
-use Rattle.kn_laws.proofs.Appends.{admission_made}
-use Rattle.kn_laws.proofs.Reacting.{act-holds, expiries-hold}
+use Rattle.kn_record.proofs.Kept.{Holds-append, made_kept}
+use Rattle.kn_record.proofs.Appends.{admission_made}
+use Rattle.kn_record.proofs.Reacting.{act-holds, expiries-hold}
 use Rattle.kn_laws.proofs.Inert.{refusals_inert}
-use Rattle.kn_laws.proofs.Running.{made_trace}
+use Rattle.kn_record.proofs.Running.{made_trace}
 use Rattle.kn_laws.proofs.Settles.{settled_trace}
 
 -- a refusal steps the record by its number and its turn alone

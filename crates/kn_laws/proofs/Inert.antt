@@ -21,15 +21,15 @@ use Rattle.kn_trace.specs.Scale.{is_same_phase, phase_of, where_true}
 use Rattle.kn_trace.specs.Settling.{assignments_of, held_assignments, next_choice, promotions, promotions_at, removals, settling}
 use Rattle.kn_trace.specs.Events.{act_row, act_rows, activation, before_settling, departures, due, expiries, losses, losses_at, react, scaler_rows}
 use Rattle.kn_trace.specs.Laws.{IsInert, IsSettled, is_refusal}
-use Rattle.kn_laws.specs.Made.{Holds, IsMade, IsNumbered, IsProper}
-use Rattle.kn_laws.proofs.Members.{same_number, contains-filter, filter-others}
-use Rattle.kn_laws.proofs.Numbers.{IsIdle, filter_member, first_member, in_filter, running_parts, waiting_member}
-use Rattle.kn_laws.proofs.Steps.{IsQuiet, view-same, view-less, has_not_begun-push, held-quiet, in_use-quiet, is_held-push, is_quiet, is_running-push, queued_at-quiet, running_at-quiet}
-use Rattle.kn_laws.proofs.Flags.{ended-push}
-use Rattle.kn_laws.proofs.PodSteps.{SaysNoPod, draining-quiet, limit-quiet, ready-quiet, says_no_pod}
-use Rattle.kn_laws.proofs.Choosing.{next_choice-good}
-use Rattle.kn_laws.proofs.Kept.{made_kept, phase_of-push}
-use Rattle.kn_laws.proofs.Reacting.{expiries-hold, or-more}
+use Rattle.kn_record.specs.Made.{Holds, IsMade, IsNumbered, IsProper}
+use Rattle.kn_record.proofs.Members.{same_number, contains-filter, filter-others}
+use Rattle.kn_record.proofs.Numbers.{IsIdle, filter_member, first_member, in_filter, running_parts, waiting_member}
+use Rattle.kn_record.proofs.Steps.{IsQuiet, view-same, view-less, has_not_begun-push, held-quiet, in_use-quiet, is_held-push, is_quiet, is_running-push, queued_at-quiet, running_at-quiet}
+use Rattle.kn_record.proofs.Flags.{ended-push}
+use Rattle.kn_record.proofs.PodSteps.{SaysNoPod, draining-quiet, limit-quiet, ready-quiet, says_no_pod}
+use Rattle.kn_record.proofs.Choosing.{next_choice-good}
+use Rattle.kn_record.proofs.Kept.{made_kept, phase_of-push}
+use Rattle.kn_record.proofs.Reacting.{expiries-hold, or-more}
 use Rattle.kn_laws.proofs.Settled.{capacity-same}
 
 -- d is c with fewer that wait

@@ -9,12 +9,12 @@ use Rattle.kn_trace.specs.Rows.{brought_to, ended_by, outcome_by, refused_by, ta
 use Rattle.kn_trace.specs.Trace.{Trace, arrivals, contains, each_row, ended}
 use Rattle.kn_trace.specs.Events.{trace_of}
 use Rattle.kn_trace.specs.Laws.{Always, IsFirstOutcome, IsLawful, IsWithinLimits, RefusesFull, RemovesEmpty}
-use Rattle.kn_laws.specs.Rows.{moved_by, named_by}
-use Rattle.kn_laws.specs.Made.{IsMade, IsNumbered, IsProper}
-use Rattle.kn_laws.proofs.Members.{contains-split, contains-within}
-use Rattle.kn_laws.proofs.Numbers.{at_pod_member, begun_taken, brought_moved, ended_named, false_unless, moved_taken, next_unnamed, outcome_parts, refused_named, running_parts, waiting_member, within-from}
-use Rattle.kn_laws.proofs.Kept.{Holds-at, Holds-law, Kept, kept-nil}
-use Rattle.kn_laws.proofs.Running.{made_trace}
+use Rattle.kn_record.specs.Rows.{moved_by, named_by}
+use Rattle.kn_record.specs.Made.{IsMade, IsNumbered, IsProper}
+use Rattle.kn_record.proofs.Members.{contains-split, contains-within}
+use Rattle.kn_record.proofs.Numbers.{at_pod_member, begun_taken, brought_moved, ended_named, false_unless, moved_taken, next_unnamed, outcome_parts, refused_named, running_parts, waiting_member, within-from}
+use Rattle.kn_record.proofs.Kept.{Holds-at, Holds-law, Kept, kept-nil}
+use Rattle.kn_record.proofs.Running.{made_trace}
 
 outcome-split : (r : ℕ) (c : Trace) → contains r (each_row ended_by c) ≡ false → contains r (each_row refused_by c) ≡ false → contains r (each_row outcome_by c) ≡ false
 outcome-split r c e f = contains-split outcome_by ended_by refused_by outcome_parts r c ∙ rw (e, f) refl

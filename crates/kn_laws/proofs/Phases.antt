@@ -28,8 +28,8 @@ use Rattle.kn_trace.specs.Scale.{count_ready, creations, decision_at, decision_r
 use Rattle.kn_trace.specs.Settling.{assignments_of, held_assignments, promotions, removals, settling}
 use Rattle.kn_trace.specs.Events.{act_row, act_rows, activation, added, before_settling, entries_of, departures, opening, opening_of, opening_phase, react, scaler_rows, trace_of, wake_where}
 use Rattle.kn_laws.specs.Phases.{WantsByPhase}
-use Rattle.kn_laws.proofs.Numbers.{false_unless}
-use Rattle.kn_laws.proofs.Kept.{phase_of-push, wanted-push}
+use Rattle.kn_record.proofs.Numbers.{false_unless}
+use Rattle.kn_record.proofs.Kept.{phase_of-push, wanted-push}
 use Rattle.kn_laws.proofs.Rows.{Each, assignments-rows, departures-rows, is_assign_row, is_departure_row, is_remove_row, is_run_row, promotions-rows}
 use Rattle.kn_laws.proofs.Acts.{act-rows, is_act_row, removals-rows}
 

@@ -17,8 +17,8 @@ use Rattle.kn_trace.specs.Trace.{Trace, contains, entry, created, live_pods, dra
 use Rattle.kn_trace.specs.Scale.{creations, decision_at, decision_rows, drain_order, is_same_mode, is_same_phase, mode_of, phase_of, scale_rows, tick_rows, tick_rows_of, wake_decision_at, wake_rows, wanted, where_true}
 use Rattle.kn_trace.specs.Settling.{assignments_of, next_choice, promotions, promotions_at, while_chosen, while_free}
 use Rattle.kn_trace.specs.Events.{activation, departures, due, expiries, losses, losses_at, lost_with, scaler_rows, wake_where}
-use Rattle.kn_laws.proofs.Kept.{phase_of-push}
-use Rattle.kn_laws.proofs.PodSteps.{SaysNoPod, drain_order-quiet, draining-quiet, live_pods-quiet, ready-quiet, says_no_pod}
+use Rattle.kn_record.proofs.Kept.{phase_of-push}
+use Rattle.kn_record.proofs.PodSteps.{SaysNoPod, drain_order-quiet, draining-quiet, live_pods-quiet, ready-quiet, says_no_pod}
 
 -- each row passes the test
 abbrev pub Each : (Row → Bool) → Trace → Type 0

@@ -14,16 +14,16 @@ use Rattle.kn_trace.specs.Trace.{Trace, entry, assigned, at_pod, contains, drain
 use Rattle.kn_trace.specs.Capacity.{capacity, in_use, seats_of}
 use Rattle.kn_trace.specs.Choice.{choice}
 use Rattle.kn_trace.specs.Settling.{assignments_of, next_choice, promotions, promotions_at, while_chosen, while_free}
-use Rattle.kn_laws.specs.Made.{AreDistinct}
-use Rattle.kn_laws.proofs.Flags.{says, or-false, contains-push}
-use Rattle.kn_laws.proofs.Members.{same_number, or-true, contains-filter, filter-first}
-use Rattle.kn_laws.proofs.Numbers.{and_parts, filter_member, in_filter, not-true}
-use Rattle.kn_laws.proofs.Steps.{IsQuiet, others, view-same, view-length, is_running-push, has_not_begun-push, is_quiet, queued_at-run, held-assign, held-quiet, in_use-quiet, queued_at-quiet, running_at-quiet, at_pod-quiet}
-use Rattle.kn_laws.proofs.PodSteps.{contains-live_pods, draining-remove, is_ready-push, limit-quiet, live_pods-quiet, says_no_pod}
-use Rattle.kn_laws.proofs.Choosing.{choice-none}
-use Rattle.kn_laws.proofs.Kept.{Holds-kept, Kept}
-use Rattle.kn_laws.proofs.Reacting.{or-more, queued_distinct}
-use Rattle.kn_laws.proofs.Running.{promotions_at-hold, queued-next}
+use Rattle.kn_record.specs.Made.{AreDistinct}
+use Rattle.kn_record.proofs.Flags.{says, or-false, contains-push}
+use Rattle.kn_record.proofs.Members.{same_number, or-true, contains-filter, filter-first}
+use Rattle.kn_record.proofs.Numbers.{and_parts, filter_member, in_filter, not-true}
+use Rattle.kn_record.proofs.Steps.{IsQuiet, others, view-same, view-length, is_running-push, has_not_begun-push, is_quiet, queued_at-run, held-assign, held-quiet, in_use-quiet, queued_at-quiet, running_at-quiet, at_pod-quiet}
+use Rattle.kn_record.proofs.PodSteps.{contains-live_pods, draining-remove, is_ready-push, limit-quiet, live_pods-quiet, says_no_pod}
+use Rattle.kn_record.proofs.Choosing.{choice-none}
+use Rattle.kn_record.proofs.Kept.{Holds-kept, Kept}
+use Rattle.kn_record.proofs.Reacting.{or-more, queued_distinct}
+use Rattle.kn_record.proofs.Running.{promotions_at-hold, queued-next}
 
 -- ---- d has no more queued, no more free pods and no more pods than c
 

@@ -17,14 +17,14 @@ use Rattle.kn_trace.specs.Scale.{creations, is_same_phase, opening_scale, phase_
 use Rattle.kn_trace.specs.Settling.{assignments_of, held_assignments, promotions, removals, settling}
 use Rattle.kn_trace.specs.Events.{act_rows, activation, added, before_settling, departures, opening, opening_of, opening_phase, react, trace_of}
 use Rattle.kn_trace.specs.Laws.{IsSettled}
-use Rattle.kn_laws.specs.Made.{IsMade}
-use Rattle.kn_laws.proofs.Members.{contains-filter}
-use Rattle.kn_laws.proofs.Numbers.{filter_member, queued_at_pod}
+use Rattle.kn_record.specs.Made.{IsMade}
+use Rattle.kn_record.proofs.Members.{contains-filter}
+use Rattle.kn_record.proofs.Numbers.{filter_member, queued_at_pod}
 use Rattle.kn_laws.proofs.Rows.{assign_pods, run_pods, assignments-rows, is_assign_row, is_remove_row, is_run_row, phase-each, promotions-rows, ready-each, removed-rows}
-use Rattle.kn_laws.proofs.Kept.{Holds-kept, Kept, made_kept, phase_of-push}
-use Rattle.kn_laws.proofs.Reacting.{held_distinct}
-use Rattle.kn_laws.proofs.Running.{before-holds, made_react, promotions-hold, settling-holds}
-use Rattle.kn_laws.proofs.Scaling.{made_opening}
+use Rattle.kn_record.proofs.Kept.{Holds-kept, Kept, made_kept, phase_of-push}
+use Rattle.kn_record.proofs.Reacting.{held_distinct}
+use Rattle.kn_record.proofs.Running.{before-holds, made_react, promotions-hold, settling-holds}
+use Rattle.kn_record.proofs.Scaling.{made_opening}
 use Rattle.kn_laws.proofs.Settled.{assignments-busy, assignments-filled, busier-then, draining_drained, filled-same, full-busier, promotions-busy, promotions-full, removals-drained, removed-busy, removed-seats}
 
 -- ---- the phase

@@ -7,7 +7,7 @@ use Rattle.kn_trace.specs.Rows.{arrived_by, turned_by}
 use Rattle.kn_trace.specs.Trace.{Trace}
 use Rattle.kn_trace.specs.Events.{act_row, expiries, react}
 use Rattle.kn_trace.specs.Laws.{is_refusal}
-use Rattle.kn_laws.specs.Admission.{Admission, admission, more_by}
+use Rattle.kn_record.specs.Admission.{Admission, admission, more_by}
 
 -- a refused arrival takes a number, and one that was refused at its pod a turn; all else stays
 abbrev pub refused : Row → Admission → Admission

@@ -1,9 +1,4 @@
-pub mod Rows
-pub mod Admission
-pub mod Made
 pub mod Beside
-pub mod Views
 pub mod ByAct
 pub mod Phases
-pub mod Told
-pub mod Walks
+pub mod History

@@ -6,7 +6,7 @@ ghost use Rattle.kn_trace.specs.Trace.{Trace};
 ghost use Rattle.kn_trace.specs.Events.{opening, react, trace_of};
 ghost use Rattle.kn_trace.specs.Laws.{IsInert, IsLawful, IsSettled};
 ghost use Rattle.kn_laws.specs.Beside.{LeavesTheRest};
-ghost use Rattle.kn_laws.specs.Made.{IsMade};
+ghost use Rattle.kn_record.specs.Made.{IsMade};
 ghost use Rattle.kn_laws.specs.Phases.{WantsByPhase};
 
 /// Of every trace that a journal's events make: each row was proper when it came, it is lawful and settled, and a

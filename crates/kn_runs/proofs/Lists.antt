@@ -9,8 +9,8 @@ use Rattle.kn_event.specs.declared.entry.Entry.{Entry}
 use Rattle.kn_event.specs.declared.entry.Row.{Row}
 use Rattle.kn_trace.specs.Trace.{Trace, contains, each_row}
 use Rattle.kn_trace.specs.Events.{due_by}
-use Rattle.kn_laws.proofs.Flags.{each_row-push}
-use Rattle.kn_laws.proofs.Members.{same_number}
+use Rattle.kn_record.proofs.Flags.{each_row-push}
+use Rattle.kn_record.proofs.Members.{same_number}
 
 -- ---- the numbers below n
 

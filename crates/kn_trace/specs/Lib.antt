@@ -3,6 +3,7 @@ pub mod Trace
 pub mod Capacity
 pub mod Choice
 pub mod Settling
+pub mod Outcome
 pub mod Load
 pub mod Scale
 pub mod Events

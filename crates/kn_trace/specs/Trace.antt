@@ -1,6 +1,6 @@
 -- What a trace says. A trace is the list of all entries so far, and each view reads the whole of it.
-use Rattle.std.specs.Prelude.{ℕ, Bool, true, false, not, ◌&&◌, ◌||◌, ◌==◌, nat_lt, List, [], ◌∷◌, length, Option, None, Some, unwrap_or}
-use Rattle.std.specs.List.{filter, filter_map, list_any}
+use Rattle.std.specs.Prelude.{ℕ, Bool, true, false, not, ◌&&◌, ◌||◌, ◌==◌, nat_le, nat_lt, List, [], ◌∷◌, length, Option, None, Some, unwrap_or}
+use Rattle.std.specs.List.{filter, filter_map, find, list_any}
 use Rattle.kn_event.specs.declared.entry.Entry.{Entry}
 use Rattle.kn_event.specs.declared.entry.Row.{Row}
 use Rattle.kn_event.specs.declared.event.Stand.{Stand}
@@ -115,6 +115,10 @@ stand_where true known = known
 unfoldable pub stand_of : Trace → ℕ → Stand
 stand_of c r = stand_where (nat_lt r (arrivals c)) (stand_of_arrived (contains r (live c)) (has_begun c r) (pod_of c r))
 
+-- came through the activator to a pod, and has not ended
+unfoldable pub proxied : Trace → ℕ → Bool
+proxied c r = assigned c r && not (ended c r)
+
 -- ---- pods, by their numbers and in the order of their entries, which is the order of their numbers
 
 -- how many pods were created, which is the number of the next one
@@ -134,6 +138,10 @@ is_starting c p = not (contains p (each_row readied_by c)) && not (contains p (e
 
 unfoldable pub starting_pods : Trace → List ℕ
 starting_pods c = filter (is_starting c) (each_row created_by c)
+
+-- the least Starting pod that is not below this number
+unfoldable pub next_starting : Trace → ℕ → Option ℕ
+next_starting c from = find (λ p. nat_le from p) (starting_pods c)
 
 unfoldable pub is_ready : Trace → ℕ → Bool
 is_ready c p = contains p (each_row readied_by c) && not (contains p (each_row drained_by c)) && is_live_pod c p

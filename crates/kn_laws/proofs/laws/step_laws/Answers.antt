@@ -1,5 +1,5 @@
-use Rattle.kn_laws.proofs.Scaling.{made_opening}
-use Rattle.kn_laws.proofs.Running.{made_react}
+use Rattle.kn_record.proofs.Scaling.{made_opening}
+use Rattle.kn_record.proofs.Running.{made_react}
 use Rattle.kn_laws.proofs.Lawful.{made_lawful}
 use Rattle.kn_laws.proofs.Settles.{opening-settled, react-settles}
 use Rattle.kn_laws.proofs.Inert.{refusals_inert}

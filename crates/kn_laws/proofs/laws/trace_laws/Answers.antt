@@ -1,4 +1,4 @@
-use Rattle.kn_laws.proofs.Running.{made_trace}
+use Rattle.kn_record.proofs.Running.{made_trace}
 use Rattle.kn_laws.proofs.Lawful.{lawful_trace}
 use Rattle.kn_laws.proofs.Settles.{settled_trace}
 use Rattle.kn_laws.proofs.Beside.{inert_trace, leaving_trace}

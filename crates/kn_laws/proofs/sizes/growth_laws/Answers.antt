@@ -1,5 +1,0 @@
-use Rattle.kn_laws.proofs.Growth.{grows-by}
-use Rattle.kn_laws.proofs.sizes.growth_laws.Goals as goal
-
-pub returns : goal.returns
-returns c = record { live = grows-by }

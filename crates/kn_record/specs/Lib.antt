@@ -1,0 +1,5 @@
+pub mod Rows
+pub mod Admission
+pub mod Made
+pub mod Views
+pub mod Walks

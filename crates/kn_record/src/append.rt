@@ -1,0 +1,42 @@
+//! What one more entry changes, for bodies that keep a record in place of the trace.
+ghost use Rattle.std.specs.Prelude.{◌≡◌, ◌⊎◌, ℕ, true, false, List, ◌++◌, ◌∷◌, [], None, Some};
+ghost use Rattle.kn_event.specs.declared.entry.Row.{Row};
+ghost use Rattle.kn_event.specs.declared.entry.Row.TheVariants as row;
+ghost use Rattle.kn_event.specs.declared.event.Act.{Act};
+ghost use Rattle.kn_event.specs.declared.event.Event.{Event};
+ghost use Rattle.kn_event.specs.declared.revision.Spec.{Spec};
+ghost use Rattle.kn_trace.specs.Events.{act_row, expiries, react};
+ghost use Rattle.kn_trace.specs.Settling.{held_assignments, removals};
+ghost use Rattle.kn_trace.specs.Trace.{Trace, entry, first_of, has_free_seat};
+ghost use Rattle.kn_record.specs.Admission.{Admission, admission, is_held_place, next_in, nothing_yet, placed_in, queues_at, stepped};
+ghost use Rattle.kn_record.specs.Made.{Holds, IsMade, IsProper, StandsFor};
+ghost use Rattle.kn_record.specs.Views.{AreByPlace, AreViews, due_in};
+ghost use Rattle.kn_record.specs.Walks.{ArePartsProper, BeginsWith, leaving_in, promoting, stepped_by};
+
+/// The record of a trace that events made stands for it, goes on by one step at each row that is proper where it comes,
+/// and answers each view of the trace.
+pub fn append_laws()
+    ensures admission { (s : Spec) (c : Trace) (t : ℕ) (x : Row) → IsMade s c → IsProper s c x → admission (c ++ entry t x ∷ []) ≡ stepped t x (admission c) }
+    ensures stands { (s : Spec) (c : Trace) → IsMade s c → StandsFor (admission c) c }
+    ensures nothing { (s : Spec) → StandsFor nothing_yet [] }
+    ensures append { (s : Spec) (a : Admission) (c : Trace) (t : ℕ) (x : Row) → StandsFor a c → IsProper s c x → StandsFor (stepped t x a) (c ++ entry t x ∷ []) }
+    ensures act { (s : Spec) (a : Admission) (c : Trace) (t : ℕ) (act : Act) (x : Row) → StandsFor a c → act_row s c act ≡ Some x → StandsFor (stepped t x a) (c ++ entry t x ∷ []) }
+    ensures views { (s : Spec) (a : Admission) (c : Trace) → StandsFor a c → AreViews s a c }
+    ensures by_place { (s : Spec) (c : Trace) → IsMade s c → AreByPlace c }
+{}
+
+/// The rows of an event one after the other, by what the record says comes next: expiries, then at each pod in turn the
+/// runs of its queue, then assignments, then removals. And a whole list of proper rows at once, as an event's are.
+pub fn walk_laws()
+    ensures expire { (s : Spec) (a : Admission) (c : Trace) (t r : ℕ) → StandsFor a c → first_of (due_in s.timeout_ms t a.live) ≡ Some r → BeginsWith (expiries s t) t (row.Expire r) a c }
+    ensures expired { (s : Spec) (a : Admission) (c : Trace) (t : ℕ) → StandsFor a c → first_of (due_in s.timeout_ms t a.live) ≡ None → expiries s t c ≡ [] }
+    ensures promote { (s : Spec) (a : Admission) (c : Trace) (t p : ℕ) (ps : List ℕ) (r : ℕ) → StandsFor a c → first_of (placed_in (queues_at p) a.live) ≡ Some r → has_free_seat c p ≡ true → BeginsWith (promoting t (p ∷ ps)) t (row.Run r) a c }
+    ensures promoted { (s : Spec) (a : Admission) (c : Trace) (t p : ℕ) (ps : List ℕ) → StandsFor a c → (first_of (placed_in (queues_at p) a.live) ≡ None) ⊎ (has_free_seat c p ≡ false) → promoting t (p ∷ ps) c ≡ promoting t ps c }
+    ensures assign { (s : Spec) (a : Admission) (c : Trace) (t r p : ℕ) → StandsFor a c → first_of (placed_in is_held_place a.live) ≡ Some r → next_in s a ≡ Some p → BeginsWith (held_assignments s t) t (row.Assign r p) a c }
+    ensures assigned { (s : Spec) (a : Admission) (c : Trace) (t : ℕ) → StandsFor a c → (first_of (placed_in is_held_place a.live) ≡ None) ⊎ (next_in s a ≡ None) → held_assignments s t c ≡ [] }
+    ensures remove { (s : Spec) (a : Admission) (c : Trace) (t p : ℕ) → StandsFor a c → first_of (leaving_in a) ≡ Some p → BeginsWith (removals t) t (row.Remove p) a c }
+    ensures removed { (s : Spec) (a : Admission) (c : Trace) (t : ℕ) → StandsFor a c → first_of (leaving_in a) ≡ None → removals t c ≡ [] }
+    ensures rows { (s : Spec) (a : Admission) (c es : Trace) → StandsFor a c → Holds (IsProper s) c es → StandsFor (stepped_by es a) (c ++ es) }
+    ensures event { (s : Spec) (a : Admission) (c : Trace) (e : Event) → IsMade s c → StandsFor a c → StandsFor (stepped_by (react s c e) a) (c ++ react s c e) }
+    ensures parts { (s : Spec) (c : Trace) (e : Event) → IsMade s c → ArePartsProper s c e }
+{}

@@ -1,0 +1,6 @@
+pub mod Counts
+pub mod Ends
+pub mod Bounds
+pub mod Growth
+pub mod Serving
+pub mod Telling

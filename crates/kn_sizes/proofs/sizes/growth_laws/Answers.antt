@@ -1,0 +1,5 @@
+use Rattle.kn_sizes.proofs.Growth.{grows-by}
+use Rattle.kn_sizes.proofs.sizes.growth_laws.Goals as goal
+
+pub returns : goal.returns
+returns c = record { live = grows-by }

@@ -1,0 +1,21 @@
+//! What a server needs of one request.
+ghost use Rattle.std.specs.Prelude.{◌≡◌, ◌<◌, ◌⊎◌, ℕ, Bool, true, false, List, ◌++◌};
+ghost use Rattle.kn_event.specs.declared.event.Act.TheVariants as act;
+ghost use Rattle.kn_event.specs.declared.event.Event.{Event};
+ghost use Rattle.kn_event.specs.declared.revision.Spec.{Spec};
+ghost use Rattle.kn_trace.specs.Events.{added, react};
+ghost use Rattle.kn_trace.specs.Trace.{Trace, arrivals, at_pod, contains, is_running, live_pods, waiting};
+ghost use Rattle.kn_laws.specs.ByAct.{AreByAct};
+ghost use Rattle.kn_record.specs.Made.{IsMade};
+ghost use Rattle.kn_sizes.specs.Told.{IsTold};
+
+/// Of any trace that events made: an arrival's request is new, and after its event stands as the arrival was told;
+/// waiting is left for good; the pod of a live request lives; a running request runs on until an event is its finish or
+/// loses a pod; and each row of an act, so a finish or a cancel, comes from an event that names what it is about.
+pub fn request_laws()
+    ensures told { (s : Spec) (c : Trace) (e : Event) (tag : ℕ) → IsMade s c → e.act ≡ act.Arrive tag → IsTold s c e }
+    ensures waits { (s : Spec) (c : Trace) (es : List Event) (r : ℕ) → IsMade s c → r < arrivals c → contains r (waiting c) ≡ false → contains r (waiting (c ++ added s c es)) ≡ false }
+    ensures homes { (s : Spec) (c : Trace) (p r : ℕ) → IsMade s c → contains r (at_pod c p) ≡ true → contains p (live_pods c) ≡ true }
+    ensures runs { (s : Spec) (c : Trace) (e : Event) (r : ℕ) → IsMade s c → is_running c r ≡ true → (is_running (c ++ react s c e) r ≡ true) ⊎ (((ok : Bool) × (e.act ≡ act.Finish r ok)) ⊎ ((p : ℕ) × (e.act ≡ act.Lost p))) }
+    ensures by_act { (s : Spec) (c : Trace) (e : Event) → AreByAct s c e }
+{}
