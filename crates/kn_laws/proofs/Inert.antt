@@ -266,7 +266,7 @@ no_decision kind.Kpa s t c d (act.Arrive tag) (row.Admit r g) is h = absurd (cc)
 no_decision k s t c d a x is h = refl
 
 -- nobody is lost by an act that is refused
-no_loss : (s : Spec) (t : ℕ) (c : Trace) (a : Act) (x : Row) → act_row s c a ≡ Some x → is_refusal x ≡ true → losses t c a ≡ []
+pub no_loss : (s : Spec) (t : ℕ) (c : Trace) (a : Act) (x : Row) → act_row s c a ≡ Some x → is_refusal x ≡ true → losses t c a ≡ []
 unfolding act_row losses
 no_loss s t c (act.Lost p) x is h = by (contains p (live_pods c)) is
   where

@@ -1,20 +1,21 @@
 -- A trace of proper rows is lawful.
-use Rattle.std.proofs.Common.{◌≡◌, ℕ, true, false, List, [], refl, ◌∙◌}
-use Rattle.std.specs.Prelude.{None, Some}
+use Rattle.std.proofs.Common.{◌≡◌, ℕ, true, false, List, [], refl, sym, subst, ◌∙◌}
+use Rattle.std.specs.Prelude.{Option, None, Some}
 use Rattle.kn_event.specs.declared.entry.Row.{Row}
 use Rattle.kn_event.specs.declared.entry.Row.TheVariants as row
 use Rattle.kn_event.specs.declared.event.Event.{Event}
 use Rattle.kn_event.specs.declared.revision.Spec.{Spec}
 use Rattle.kn_trace.specs.Rows.{brought_to, ended_by, outcome_by, refused_by, taken_by}
-use Rattle.kn_trace.specs.Trace.{Trace, arrivals, contains, each_row, ended}
+use Rattle.kn_trace.specs.Trace.{Trace, arrivals, contains, each_row, ended, queued_at}
 use Rattle.kn_trace.specs.Events.{trace_of}
-use Rattle.kn_trace.specs.Laws.{Always, IsFirstOutcome, IsLawful, IsWithinLimits, RefusesFull, RemovesEmpty}
+use Rattle.kn_trace.specs.Laws.{Always, IsFirstOutcome, IsLawful, IsRunnableAt, IsWithinLimits, RefusesFull, RemovesEmpty}
 use Rattle.kn_record.specs.Rows.{moved_by, named_by}
 use Rattle.kn_record.specs.Made.{IsMade, IsNumbered, IsProper}
 use Rattle.kn_record.proofs.Members.{contains-split, contains-within}
-use Rattle.kn_record.proofs.Numbers.{at_pod_member, begun_taken, brought_moved, ended_named, false_unless, moved_taken, next_unnamed, outcome_parts, refused_named, running_parts, waiting_member, within-from}
+use Rattle.kn_record.proofs.Numbers.{at_pod_member, begun_taken, brought_moved, ended_named, false_unless, first_member, moved_taken, next_unnamed, outcome_parts, queued_member, refused_named, running_parts, waiting_member, within-from}
 use Rattle.kn_record.proofs.Kept.{Holds-at, Holds-law, Kept, kept-nil}
 use Rattle.kn_record.proofs.Running.{made_trace}
+use Rattle.kn_record.proofs.Words.{pod_is}
 
 outcome-split : (r : ℕ) (c : Trace) → contains r (each_row ended_by c) ≡ false → contains r (each_row refused_by c) ≡ false → contains r (each_row outcome_by c) ≡ false
 outcome-split r c e f = contains-split outcome_by ended_by refused_by outcome_parts r c ∙ rw (e, f) refl
@@ -48,7 +49,9 @@ single s c _ kept p = tt
 -- a proper row keeps the limits
 within : (s : Spec) (c : Trace) (x : Row) → Kept s c → IsProper s c x → IsWithinLimits s c x
 within s c (row.Assign r q) kept p = p
-within s c (row.Run r) kept p = p
+within s c (row.Run r) kept p =
+    let there = (queued_member c p.0 r (first_member r (queued_at c p.0) p.1.first)).0 in
+    subst (λ (o : Option ℕ). IsRunnableAt c r o) (sym (pod_is c p.0 r kept.requests there)) p.1
 within s c (row.Direct r q) kept p = p.1
 within s c _ kept p = tt
 

@@ -5,5 +5,6 @@ pub mod Settled
 pub mod Settles
 pub mod Inert
 pub mod Beside
+pub mod Refusals
 pub mod Acts
 pub mod Phases

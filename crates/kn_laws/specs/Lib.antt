@@ -2,3 +2,5 @@ pub mod Beside
 pub mod ByAct
 pub mod Phases
 pub mod History
+pub mod Refusals
+pub mod Losses

@@ -8,15 +8,17 @@ ghost use Rattle.kn_trace.specs.Laws.{IsInert, IsLawful, IsSettled};
 ghost use Rattle.kn_laws.specs.Beside.{LeavesTheRest};
 ghost use Rattle.kn_record.specs.Made.{IsMade};
 ghost use Rattle.kn_laws.specs.Phases.{WantsByPhase};
+ghost use Rattle.kn_laws.specs.Refusals.{RefusesByAnswer};
 
 /// Of every trace that a journal's events make: each row was proper when it came, it is lawful and settled, and a
-/// further event that is refused is inert.
+/// further event that is refused is inert, by its row and by the answer that it is told.
 pub fn trace_laws()
     ensures made { (s : Spec) (start : ℕ) (es : List Event) → IsMade s (trace_of s start es) }
     ensures lawful { (s : Spec) (start : ℕ) (es : List Event) → IsLawful s (trace_of s start es) }
     ensures settled { (s : Spec) (start : ℕ) (es : List Event) → IsSettled s (trace_of s start es) }
     ensures inert { (s : Spec) (start : ℕ) (es : List Event) (e : Event) → IsInert s (trace_of s start es) e }
     ensures beside { (s : Spec) (start : ℕ) (es : List Event) (e : Event) → LeavesTheRest s (trace_of s start es) e }
+    ensures answers { (s : Spec) (start : ℕ) (es : List Event) (e : Event) → RefusesByAnswer s (trace_of s start es) e }
 {}
 
 /// The same for one event more, of any trace whose rows were proper when they came.
@@ -28,6 +30,7 @@ pub fn step_laws()
     ensures settled { (s : Spec) (c : Trace) (e : Event) → IsMade s c → IsSettled s (c ++ react s c e) }
     ensures inert { (s : Spec) (c : Trace) (e : Event) → IsMade s c → IsSettled s c → IsInert s c e }
     ensures beside { (s : Spec) (c : Trace) (e : Event) → IsMade s c → IsSettled s c → LeavesTheRest s c e }
+    ensures answers { (s : Spec) (c : Trace) (e : Event) → IsMade s c → IsSettled s c → RefusesByAnswer s c e }
 {}
 
 /// On a scaled revision no pod is wanted exactly where the phase is inactive.

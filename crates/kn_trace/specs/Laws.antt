@@ -7,7 +7,7 @@ use Rattle.kn_event.specs.declared.entry.Phase.TheVariants as phase
 use Rattle.kn_event.specs.declared.event.Event.{Event}
 use Rattle.kn_event.specs.declared.revision.Spec.{Spec}
 use Rattle.kn_trace.specs.Rows.{outcome_by}
-use Rattle.kn_trace.specs.Trace.{Trace, entry, each_row, contains, first_of, held, at_pod, live_pods, queued_at, ready_pods, draining, has_free_seat}
+use Rattle.kn_trace.specs.Trace.{Trace, entry, each_row, contains, first_of, held, at_pod, live_pods, pod_of, queued_at, ready_pods, draining, has_free_seat}
 use Rattle.kn_trace.specs.Capacity.{capacity, in_use, breaker_full, pod_full}
 use Rattle.kn_trace.specs.Scale.{is_same_phase, phase_of}
 use Rattle.kn_trace.specs.Events.{act_row, expiries, react}
@@ -40,6 +40,11 @@ pub record IsRunnable (c : Trace) (r p : ℕ) : Type 0 where
   pub first : first_of (queued_at c p) ≡ Some r
   pub free : has_free_seat c p ≡ true
 
+-- so it is of the pod that the request came to
+abbrev pub IsRunnableAt : Trace → ℕ → Option ℕ → Type 0
+IsRunnableAt c r None = ⊥
+IsRunnableAt c r (Some p) = IsRunnable c r p
+
 -- a request goes straight to a Ready pod that isn't full
 pub record IsDirectable (c : Trace) (p : ℕ) : Type 0 where
   pub ready : contains p (ready_pods c) ≡ true
@@ -47,7 +52,7 @@ pub record IsDirectable (c : Trace) (p : ℕ) : Type 0 where
 
 abbrev pub IsWithinLimits : Spec → Trace → Row → Type 0
 IsWithinLimits s c (row.Assign r p) = IsAssignable s c r p
-IsWithinLimits s c (row.Run r) = (p : ℕ) × IsRunnable c r p
+IsWithinLimits s c (row.Run r) = IsRunnableAt c r (pod_of c r)
 IsWithinLimits s c (row.Direct r p) = IsDirectable c p
 IsWithinLimits s c _ = ⊤
 
