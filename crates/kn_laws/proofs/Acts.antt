@@ -113,7 +113,7 @@ EachIs-append : (P : Row → Type 0) (xs ys : Trace) → EachIs P xs → EachIs 
 EachIs-append P [] ys h k = k
 EachIs-append P (e ∷ xs) ys h k = (h.0, EachIs-append P xs ys h.1 k)
 
-EachIs-at : (P : Row → Type 0) (es before : Trace) (x : Entry) (rest : Trace) → es ≡ before ++ x ∷ rest → EachIs P es → P x.row
+pub EachIs-at : (P : Row → Type 0) (es before : Trace) (x : Entry) (rest : Trace) → es ≡ before ++ x ∷ rest → EachIs P es → P x.row
 EachIs-at P [] [] x rest eq h = absurd (cc)
 EachIs-at P (e ∷ es) [] x rest eq h = let same : e ≡ x = cc in rw same at h.0
 EachIs-at P [] (y ∷ before) x rest eq h = absurd (cc)

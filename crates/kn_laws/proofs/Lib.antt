@@ -7,4 +7,8 @@ pub mod Inert
 pub mod Beside
 pub mod Refusals
 pub mod Acts
+pub mod Losses
+pub mod History
+pub mod Single
+pub mod Histories
 pub mod Phases

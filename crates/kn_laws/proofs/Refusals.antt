@@ -1,5 +1,5 @@
 -- Refusals by the answer that an event is told.
-use Rattle.std.proofs.Common.{◌≡◌, ℕ, Bool, true, false, cond, List, [], ◌∷◌, ◌++◌, refl, sym, ap, subst, ◌∙◌, append-nil, append_assoc}
+use Rattle.std.proofs.Common.{◌≡◌, ℕ, Bool, true, false, List, [], ◌∷◌, ◌++◌, refl, sym, ap, subst, ◌∙◌, append-nil, append_assoc}
 use Rattle.std.specs.Prelude.{Option, None, Some, ⊤, option_map}
 use Rattle.std.specs.List.{filter_map}
 use Rattle.std.proofs.lemmas.List.Elements.{filter_map-append}
@@ -11,11 +11,10 @@ use Rattle.kn_event.specs.declared.event.Act.TheVariants as act
 use Rattle.kn_event.specs.declared.event.Event.{Event}
 use Rattle.kn_event.specs.declared.event.Stand.{Stand}
 use Rattle.kn_event.specs.declared.event.Stand.TheVariants as stand
-use Rattle.kn_event.specs.declared.event.Told.{Told}
 use Rattle.kn_event.specs.declared.revision.Spec.{Spec}
-use Rattle.kn_trace.specs.Rows.{created_by, decision_by, drained_by, gone_by, limit_by, mode_by, phase_by, readied_by}
-use Rattle.kn_trace.specs.Trace.{Trace, contains, each_row, entry, first_of, live_pods, stand_of}
-use Rattle.kn_trace.specs.Scale.{decided_by, times_of, wanted}
+use Rattle.kn_trace.specs.Rows.{decision_by, mode_by, phase_by}
+use Rattle.kn_trace.specs.Trace.{Trace, contains, entry, first_of, live_pods, stand_of}
+use Rattle.kn_trace.specs.Scale.{decided_by, wanted}
 use Rattle.kn_trace.specs.Events.{act_row, act_rows, departures, entries_of, expiries, losses, losses_at, react, row_of, scaler_rows, told_of, told_row, told_stand, trace_of}
 use Rattle.kn_trace.specs.Laws.{IsSettled, is_refusal}
 use Rattle.kn_record.specs.Admission.{pods}

@@ -1,13 +1,12 @@
 -- What becomes of a pod's requests when it is lost.
-use Rattle.std.specs.Prelude.{◌≡◌, ℕ, true, false, List, [], ◌∷◌, ◌++◌, Option, None, Some, ⊤}
+use Rattle.std.specs.Prelude.{◌≡◌, ℕ, true, List, [], ◌∷◌, ◌++◌, Option, None, Some, ⊤}
 use Rattle.kn_event.specs.declared.entry.Row.{Row}
 use Rattle.kn_event.specs.declared.entry.Row.TheVariants as row
-use Rattle.kn_event.specs.declared.event.Act.{Act}
 use Rattle.kn_event.specs.declared.event.Act.TheVariants as act
 use Rattle.kn_event.specs.declared.event.Event.{Event}
 use Rattle.kn_event.specs.declared.revision.Spec.{Spec}
 use Rattle.kn_trace.specs.Trace.{Trace, at_pod, contains, each_row, entry}
-use Rattle.kn_trace.specs.Events.{expiries, react, trace_of}
+use Rattle.kn_trace.specs.Events.{expiries, react}
 
 -- the request that ends with its pod
 abbrev pub lost_by : Row → Option ℕ

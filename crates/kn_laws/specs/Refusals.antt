@@ -6,7 +6,7 @@ use Rattle.kn_event.specs.declared.event.Event.{Event}
 use Rattle.kn_event.specs.declared.event.Told.{Told}
 use Rattle.kn_event.specs.declared.event.Told.TheVariants as told
 use Rattle.kn_event.specs.declared.revision.Spec.{Spec}
-use Rattle.kn_trace.specs.Rows.{decision_by, mode_by, phase_by}
+use Rattle.kn_trace.specs.Rows.{mode_by, phase_by}
 use Rattle.kn_trace.specs.Trace.{Trace, each_row, entry}
 use Rattle.kn_trace.specs.Scale.{decided_by, times_of, wanted}
 use Rattle.kn_trace.specs.Events.{act_row, expiries, react, told_of}

@@ -1,5 +1,5 @@
 //! The laws, over whole runs and over one event.
-ghost use Rattle.std.specs.Prelude.{ℕ, List, ◌++◌};
+ghost use Rattle.std.specs.Prelude.{ℕ, ◌≤◌, ◌+◌, List, ◌++◌};
 ghost use Rattle.kn_event.specs.declared.event.Event.{Event};
 ghost use Rattle.kn_event.specs.declared.revision.Spec.{Spec};
 ghost use Rattle.kn_trace.specs.Trace.{Trace};
@@ -7,6 +7,8 @@ ghost use Rattle.kn_trace.specs.Events.{opening, react, trace_of};
 ghost use Rattle.kn_trace.specs.Laws.{IsInert, IsLawful, IsSettled};
 ghost use Rattle.kn_laws.specs.Beside.{LeavesTheRest};
 ghost use Rattle.kn_record.specs.Made.{IsMade};
+ghost use Rattle.kn_laws.specs.History.{AreTimesInOrder, IsMadeBy};
+ghost use Rattle.kn_laws.specs.Losses.{AreNoLosses, LosesAll, LosesNothing};
 ghost use Rattle.kn_laws.specs.Phases.{WantsByPhase};
 ghost use Rattle.kn_laws.specs.Refusals.{RefusesByAnswer};
 
@@ -31,6 +33,26 @@ pub fn step_laws()
     ensures inert { (s : Spec) (c : Trace) (e : Event) → IsMade s c → IsSettled s c → IsInert s c e }
     ensures beside { (s : Spec) (c : Trace) (e : Event) → IsMade s c → IsSettled s c → LeavesTheRest s c e }
     ensures answers { (s : Spec) (c : Trace) (e : Event) → IsMade s c → IsSettled s c → RefusesByAnswer s c e }
+{}
+
+/// The same of every trace that some events made, whichever they were: so many, with times in order from the start to the
+/// clock. Such is the opening, by no event, and what one more event at the clock or later makes of such a trace.
+pub fn history_laws()
+    ensures opening { (s : Spec) (start : ℕ) → IsMadeBy s start start 0 (opening s start) }
+    ensures step { (s : Spec) (start clock count : ℕ) (c : Trace) (e : Event) → IsMadeBy s start clock count c → clock ≤ e.time → IsMadeBy s start e.time (count + 1) (c ++ react s c e) }
+    ensures made { (s : Spec) (start clock count : ℕ) (c : Trace) → IsMadeBy s start clock count c → ∥ IsMade s c ∥₁ }
+    ensures lawful { (s : Spec) (start clock count : ℕ) (c : Trace) → IsMadeBy s start clock count c → IsLawful s c }
+    ensures settled { (s : Spec) (start clock count : ℕ) (c : Trace) → IsMadeBy s start clock count c → IsSettled s c }
+    ensures inert { (s : Spec) (start clock count : ℕ) (c : Trace) (e : Event) → IsMadeBy s start clock count c → IsInert s c e }
+    ensures answers { (s : Spec) (start clock count : ℕ) (c : Trace) (e : Event) → IsMadeBy s start clock count c → ∥ RefusesByAnswer s c e ∥₁ }
+    ensures losses { (s : Spec) (start clock count : ℕ) (c : Trace) (e : Event) → IsMadeBy s start clock count c → LosesAll s c e }
+    ensures times { (s : Spec) (start clock count : ℕ) (c : Trace) → IsMadeBy s start clock count c → AreTimesInOrder start c clock }
+{}
+
+/// A lost pod takes all its requests with it, and events that lose no pod lose nobody.
+pub fn loss_laws()
+    ensures all { (s : Spec) (c : Trace) (e : Event) → IsMade s c → LosesAll s c e }
+    ensures nothing { (s : Spec) (start : ℕ) (es : List Event) → AreNoLosses es → LosesNothing (trace_of s start es) }
 {}
 
 /// On a scaled revision no pod is wanted exactly where the phase is inactive.
