@@ -57,7 +57,7 @@ seconds_at a otherwise annotations = text_at a annotations >>= or_else otherwise
 abbrev pub count_at : Annotation → ℕ → Data → Result ℕ KeyError
 count_at a otherwise annotations = text_at a annotations >>= or_else otherwise (count_of (key_of a))
 
-abbrev new_or_old : Annotation → Annotation → ℕ → Data → Option (List ℕ) → Result ℕ KeyError
+abbrev pub new_or_old : Annotation → Annotation → ℕ → Data → Option (List ℕ) → Result ℕ KeyError
 new_or_old new old otherwise annotations (Some text) = count_of (key_of new) text
 new_or_old new old otherwise annotations None = count_at old otherwise annotations
 

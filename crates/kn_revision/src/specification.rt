@@ -4,7 +4,7 @@ ghost use Rattle.serde_json.specs.View.{view};
 ghost use Rattle.kn_event.specs.Ranges.{is_name, AreSlots, IsTotal};
 ghost use Rattle.kn_event.specs.Defaults.{scaling_target};
 ghost use Rattle.kn_config.specs.Config.{IsConfig};
-ghost use Rattle.kn_revision.specs.Laws.{DefaultsAreFixed};
+ghost use Rattle.kn_revision.specs.Laws.{DefaultsAreFixed, OthersAreIgnored};
 ghost use Rattle.kn_revision.specs.Amounts.{AreAmounts};
 ghost use Rattle.kn_revision.specs.Revision.{Gives, spec_of, spec_in, fault_of, parts_of, total_of, concurrency_total, panic_seconds};
 
@@ -38,6 +38,12 @@ pub fn resolve(alloc: Global, config: &Config, text: &[u8], slots: Slots) -> Res
 /// it doesn't give.
 pub fn defaults_are_those_of_fixed_pods()
     ensures { DefaultsAreFixed }
+{}
+
+/// A specification depends on the named members alone: namespace, name, containerConcurrency, timeoutSeconds and the
+/// annotations of the table. Any other member is ignored, at the top, in the metadata, among the annotations and in `spec`.
+pub fn other_members_are_ignored()
+    ensures { OthersAreIgnored }
 {}
 
 /// The specification of a Revision's value.
