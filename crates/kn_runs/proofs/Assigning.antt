@@ -1,7 +1,7 @@
 -- One pod without a limit, through the activator: each arrival is admitted and assigned to it, whether those before it live on
 -- or have ended.
 use Rattle.std.proofs.Common.{◌≡◌, ◌≤◌, ℕ, ◌<◌, ◌+◌, Bool, true, false, not, ◌&&◌, ◌||◌, [], ◌∷◌, ◌++◌, length, refl, sym, ap, ◌∙◌, arith, append-nil, append_assoc, nat_le, nat_lt}
-use Rattle.std.specs.Prelude.{None, Some, zero, suc, ◌==◌}
+use Rattle.std.specs.Prelude.{Some, zero, suc, ◌==◌}
 use Rattle.std.specs.List.{filter}
 use Rattle.std.proofs.lemmas.Bool.Decides.{nat_tests}
 use Rattle.std.proofs.lemmas.List.Elements.{filter-append}
@@ -15,7 +15,7 @@ use Rattle.kn_event.specs.declared.revision.Kind.{Kind}
 use Rattle.kn_event.specs.declared.revision.Kind.TheVariants as kind
 use Rattle.kn_event.specs.declared.revision.Spec.{Spec}
 use Rattle.kn_trace.specs.Rows.{admitted_by, arrived_by, assigned_by, brought_to, created_by, decision_by, drained_by, ended_by, gone_by, limit_by, mode_by, phase_by, readied_by, run_by, taken_by}
-use Rattle.kn_trace.specs.Trace.{Trace, entry, arrivals, assigned, contains, draining, each_row, ended, has_begun, has_not_begun, has_run, held, in_breaker, is_draining, is_held, is_live_pod, is_ready, is_running, last_of, limit_of, live, live_pods, queued_at, ready_pods}
+use Rattle.kn_trace.specs.Trace.{Trace, entry, arrivals, assigned, contains, draining, each_row, ended, has_begun, has_not_begun, held, in_breaker, is_draining, is_held, is_live_pod, is_ready, is_running, last_of, limit_of, live, live_pods, queued_at, ready_pods}
 use Rattle.kn_trace.specs.Capacity.{breaker_full, capacity, in_use}
 use Rattle.kn_trace.specs.Choice.{candidates, choice, choice_of_two, chosen_pod, random_choice}
 use Rattle.kn_trace.specs.Scale.{mode_of, opening_scale, phase_of, wanted}
@@ -306,4 +306,4 @@ all-finished s t d (suc n) m room h few =
     let given : IsAssigning (d ++ x ∷ y ∷ []) (suc m) (suc m) m = rw append_assoc at (assigns (d ++ x ∷ []) t m m (admits d t m m m h)) in
     let gone : IsAssigning ((d ++ x ∷ y ∷ []) ++ z ∷ []) (suc m) (suc m) (suc m) = ends (d ++ x ∷ y ∷ []) t m given in
     rw (one-assigned s t d m m m room (omega arith) h (omega arith), one-finished s t (d ++ x ∷ y ∷ []) m room given)
-      (ap (λ (es : Trace). x ∷ y ∷ z ∷ es) (all-finished s t ((d ++ x ∷ y ∷ []) ++ z ∷ []) n (suc m) room gone (omega arith)))
+    (ap (λ (es : Trace). x ∷ y ∷ z ∷ es) (all-finished s t ((d ++ x ∷ y ∷ []) ++ z ∷ []) n (suc m) room gone (omega arith)))

@@ -1,5 +1,5 @@
 -- The runs of 290 requests: the arrivals by induction, the decision by computation.
-use Rattle.std.proofs.Common.{◌≡◌, ◌≤◌, ℕ, List, [], ◌∷◌, ◌++◌, map, refl, sym, ap, ◌∙◌, arith}
+use Rattle.std.proofs.Common.{◌≡◌, ℕ, List, [], ◌∷◌, ◌++◌, map, refl, sym, ap, ◌∙◌, arith}
 use Rattle.kn_event.specs.FixedSpec.{fixed_spec}
 use Rattle.kn_event.specs.EntryLine.{entry_text}
 use Rattle.kn_event.specs.declared.event.Act.TheVariants as act
