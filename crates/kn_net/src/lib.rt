@@ -7,4 +7,6 @@ pub mod counts;
 pub mod draining;
 pub mod lost;
 pub mod scaling;
+#[cfg(test)]
+mod tests;
 pub mod views;
