@@ -1,5 +1,6 @@
 //! Further worked runs of the definitions: those of the policies, and those of many events.
 #![tactic(auto)]
 
+pub mod counts;
 pub mod long;
 pub mod policies;

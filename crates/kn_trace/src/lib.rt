@@ -12,6 +12,3 @@ pub mod views;
 pub mod worked;
 
 pub use candidate::Cand;
-
-#[cfg(test)]
-mod tests;
