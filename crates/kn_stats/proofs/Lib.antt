@@ -1,0 +1,7 @@
+pub mod Table
+pub mod Search
+pub mod Bounds
+pub mod Sums
+pub mod Allowed
+pub mod Steps
+pub mod Closings

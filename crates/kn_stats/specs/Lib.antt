@@ -1,0 +1,5 @@
+pub mod Changes
+pub mod Closing
+pub mod Pods
+pub mod Places
+pub mod Stands

@@ -1,0 +1,12 @@
+//! What live requests took of each second, from their changes: the activator's area, and two areas for each pod.
+#![tactic(auto)]
+
+mod change;
+mod closed;
+mod pods;
+mod stats;
+mod tally;
+
+pub use change::Change;
+pub use closed::{Closed, Run};
+pub use stats::{PodArea, Stats};

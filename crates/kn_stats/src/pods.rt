@@ -1,0 +1,57 @@
+//! The pods, in the order of their numbers. One is found by a binary search.
+ghost use Rattle.std.specs.Prelude.{◌≡◌, ◌≤◌, length, vec_capacity, MatchResult};
+ghost use Rattle.kn_stats.specs.Pods.{IsSmallPod, IsSorted, found, pod_after, put, without_pod};
+ghost use Rattle.kn_stats.specs.Places.{IsAt, IsGap};
+
+use crate::Change;
+use crate::tally::PodTally;
+
+/// Where the pod stands, or would be put in.
+fn place_of(pods: &[PodTally], p: u64) -> Result<usize, usize>
+    requires { IsSorted pods.now }
+    ensures { MatchResult result (λ i. IsAt p pods.now i) (λ i. IsGap p pods.now i) }
+{
+    pods.binary_search_by_key(&p, |pod| pod.number)
+}
+
+/// What is kept of the pod; nothing where it isn't there.
+pub(crate) fn found(pods: &[PodTally], p: u64) -> PodTally
+    requires { IsSorted pods.now }
+    ensures { result ≡ found p pods.now }
+{
+    match place_of(pods, p) {
+        Ok(i) => pods[i],
+        Err(_) => PodTally::idle(p),
+    }
+}
+
+/// A change that names the pod, which is put in where it isn't there.
+pub(crate) fn update(pods: &mut Vec<PodTally>, p: u64, c: Change, second: u64, left: u64)
+    requires sorted { IsSorted pods.old.items }
+    requires small { IsSmallPod second left (found p pods.old.items) }
+    requires left { left ≤ 1000 }
+    requires room { length (put p (λ q. q) pods.old.items) ≤ vec_capacity pods.old }
+    ensures put { pods.new.items ≡ put p (pod_after second left c) pods.old.items }
+    ensures capacity { vec_capacity pods.old ≤ vec_capacity pods.new }
+{
+    match place_of(pods, p) {
+        Ok(i) => {
+            let pod = pods[i].after(c, second, left);
+            pods[i] = pod;
+        }
+        Err(i) => pods
+            .insert(i, PodTally::idle(p).after(c, second, left))
+            .unwrap(),
+    }
+}
+
+/// Forgets the pod.
+pub(crate) fn remove(pods: &mut Vec<PodTally>, p: u64)
+    requires { IsSorted pods.old.items }
+    ensures without { pods.new.items ≡ without_pod p pods.old.items }
+    ensures capacity { vec_capacity pods.old ≤ vec_capacity pods.new }
+{
+    if let Ok(i) = place_of(pods, p) {
+        let _ = pods.remove(i);
+    }
+}
