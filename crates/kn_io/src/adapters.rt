@@ -5,22 +5,28 @@ ghost use Rattle.std.specs.Prelude.{◌≡◌, ℕ, None, Some};
 use crate::traits::{Failed, Faulty, Sink, Source};
 use std::io::{Read, Write};
 
+/// How many bytes an adapter reads at once.
+const PIECE: usize = 8192;
+
 /// A reader of std. Each error of it is a fault.
 #[derive(Drop)]
 pub struct ReaderSource<R> {
     reader: R,
-    buffer: [u8; 8192],
+    buffer: [u8; PIECE],
+    given: u128,
     faults: u64,
 }
 
 impl<R: Read> ReaderSource<R> {
     /// A source that reads from here, without faults so far.
     pub fn new(reader: R) -> ReaderSource<R>
-        ensures { ⟦<ReaderSource<R> as Faulty>⟧.faults result ≡ 0 }
+        ensures faults { ⟦<ReaderSource<R> as Faulty>⟧.faults result ≡ 0 }
+        ensures given { ⟦<ReaderSource<R> as Source>⟧.given result ≡ 0 }
     {
         ReaderSource {
             reader,
-            buffer: [0; 8192],
+            buffer: [0; PIECE],
+            given: 0,
             faults: 0,
         }
     }
@@ -39,13 +45,21 @@ impl<R: Read> Source for ReaderSource<R> {
 
     ghost apart = { λ _. None };
 
-    // A reader may write past what it answers, so it gets a buffer of its own.
+    ghost given = { λ s. s.given };
+
+    // A reader may write past what it answers, so it gets a buffer of its own. Where the count of the bytes given
+    // has no room for one more piece, that is a fault.
     fn read(&mut self, buf: &mut [u8]) -> Result<usize, Failed> {
+        if self.given > u128::MAX - PIECE as u128 {
+            self.faults = self.faults.saturating_add(1);
+            return Err(Failed);
+        }
         let own = &mut self.buffer[..];
         let most = buf.len().min(own.len());
         match self.reader.read(&mut own[..most]) {
             Ok(n) => {
                 buf[..n].copy_from_slice(&own[..n]);
+                self.given += n as u128;
                 Ok(n)
             }
             Err(_) => {
