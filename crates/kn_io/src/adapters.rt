@@ -1,26 +1,65 @@
 //! Readers and writers of std as sources and sinks. They tell the content that std tells of them: of standard
 //! input, output and error none.
-ghost use Rattle.std.specs.Prelude.{◌≡◌, ℕ, None, Some};
+ghost use Rattle.std.specs.Prelude.{◌≡◌, ◌≤◌, ◌<◌, ℕ, None, Some, IfOk, MatchResult, length, take, drop};
+ghost use Rattle.std.specs.Io.KnownBytes.{Consumes, IsAtEnd, Keeps};
+ghost use Rattle.kn_io.specs.Causes.{Rose};
 
 use crate::traits::{Failed, Faulty, Sink, Source};
+use std::io;
 use std::io::{Read, Write};
 
-/// A reader of std. Each error of it is a fault.
+/// How many bytes an adapter reads at once.
+pub const PIECE: usize = 8192;
+
+/// Counts a fault. The count stops at the greatest u64.
+pub fn fault(faults: &mut u64) -> Failed
+    ensures rose { Rose faults.old faults.new }
+    ensures never_falls { faults.old ≤ faults.new }
+{
+    *faults = faults.saturating_add(1);
+    Failed
+}
+
+/// Reads once, through a buffer of its own, since a reader may write past what it answers.
+pub fn read_piece<R: Read>(
+    reader: &mut R,
+    own: &mut [u8; PIECE],
+    buf: &mut [u8],
+) -> io::Result<usize>
+    ensures bound { IfOk result (λ n. n ≤ length buf.old) }
+    ensures piece { IfOk result (λ n. n ≤ 8192) }
+    ensures moved { MatchResult result
+        (λ n. Consumes (R.remaining reader.old) (R.remaining reader.new) (take n buf.new))
+        (λ _. Keeps (R.remaining reader.old) (R.remaining reader.new)) }
+    ensures end { IfOk result (λ n. n ≡ 0 → 0 < length buf.old → IsAtEnd (R.remaining reader.new)) }
+    ensures rest_of_buffer { MatchResult result (λ n. drop n buf.new ≡ drop n buf.old) (λ _. buf.new ≡ buf.old) }
+{
+    let own = &mut own[..];
+    let most = buf.len().min(own.len());
+    let n = reader.read(&mut own[..most])?;
+    buf[..n].copy_from_slice(&own[..n]);
+    Ok(n)
+}
+
+/// A reader of std. Each error of it is a fault, and so is a read for which the count of the bytes given has no room.
 #[derive(Drop)]
 pub struct ReaderSource<R> {
     reader: R,
-    buffer: [u8; 8192],
+    buffer: [u8; PIECE],
+    given: u128,
     faults: u64,
 }
 
 impl<R: Read> ReaderSource<R> {
     /// A source that reads from here, without faults so far.
     pub fn new(reader: R) -> ReaderSource<R>
-        ensures { ⟦<ReaderSource<R> as Faulty>⟧.faults result ≡ 0 }
+        ensures faults { ⟦<ReaderSource<R> as Faulty>⟧.faults result ≡ 0 }
+        ensures given { ⟦<ReaderSource<R> as Source>⟧.given result ≡ 0 }
     {
         ReaderSource {
             reader,
-            buffer: [0; 8192],
+            buffer: [0; PIECE],
+            given: 0,
             faults: 0,
         }
     }
@@ -39,19 +78,18 @@ impl<R: Read> Source for ReaderSource<R> {
 
     ghost apart = { λ _. None };
 
-    // A reader may write past what it answers, so it gets a buffer of its own.
+    ghost given = { λ s. s.given };
+
     fn read(&mut self, buf: &mut [u8]) -> Result<usize, Failed> {
-        let own = &mut self.buffer[..];
-        let most = buf.len().min(own.len());
-        match self.reader.read(&mut own[..most]) {
+        if self.given > u128::MAX - PIECE as u128 {
+            return Err(fault(&mut self.faults));
+        }
+        match read_piece(&mut self.reader, &mut self.buffer, buf) {
             Ok(n) => {
-                buf[..n].copy_from_slice(&own[..n]);
+                self.given += n as u128;
                 Ok(n)
             }
-            Err(_) => {
-                self.faults = self.faults.saturating_add(1);
-                Err(Failed)
-            }
+            Err(_) => Err(fault(&mut self.faults)),
         }
     }
 }
@@ -88,10 +126,7 @@ impl<W: Write> Sink for WriterSink<W> {
     fn write(&mut self, bytes: &[u8]) -> Result<usize, Failed> {
         match self.writer.write(bytes) {
             Ok(n) if n > 0 || bytes.is_empty() => Ok(n),
-            Ok(_) | Err(_) => {
-                self.faults = self.faults.saturating_add(1);
-                Err(Failed)
-            }
+            Ok(_) | Err(_) => Err(fault(&mut self.faults)),
         }
     }
 }

@@ -1,0 +1,5 @@
+use Rattle.std.proofs.Common.{vec_len, ◌≤◌}
+use Rattle.kn_io.proofs.tcp.receive.Given as goal
+
+abbrev pub invariant-loop : goal.invariant-loop
+invariant-loop g l = vec_len l.reply ≤ 1114112
