@@ -1,0 +1,5 @@
+use Rattle.kn_past.proofs.Below.{average_below}
+use Rattle.kn_past.proofs.samples.average_laws.Goals as goal
+
+pub returns : goal.returns
+returns c = record { below = average_below }
