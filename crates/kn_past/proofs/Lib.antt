@@ -5,3 +5,9 @@ pub mod Below
 pub mod Sums
 pub mod Adds
 pub mod Later
+pub mod Ends
+pub mod Turns
+pub mod Made
+pub mod LoadSteps
+pub mod Balance
+pub mod Bounds

@@ -4,4 +4,5 @@
 #![tactic(auto)]
 
 pub mod changes;
+pub mod loads;
 pub mod samples;
