@@ -6,6 +6,8 @@ use Rattle.kn_event.specs.declared.entry.Entry.{Entry}
 use Rattle.kn_event.specs.declared.revision.Metric.{Metric}
 use Rattle.kn_event.specs.declared.revision.Metric.TheVariants as metric
 use Rattle.kn_event.specs.declared.revision.Spec.{Spec}
+use Rattle.std.specs.Option.{IfSome}
+use Rattle.kn_scaling.specs.Average.{IsAverage, window_average}
 use Rattle.kn_trace.specs.Trace.{Trace, live}
 use Rattle.kn_trace.specs.Load.{count_in, entries_before, has_ready_pod, load_in, samples, spans, value_of}
 use Rattle.kn_record.specs.Made.{IsMade, IsProper}
@@ -14,6 +16,7 @@ use Rattle.kn_record.proofs.Words.{others-length}
 use Rattle.kn_sizes.proofs.Counts.{few_live}
 use Rattle.kn_sizes.proofs.Ends.{is_live, live-end, live_distinct}
 use Rattle.kn_past.specs.Loads.{AreTimesInOrder, after_in}
+use Rattle.kn_past.proofs.Averages.{average_small}
 use Rattle.kn_past.proofs.Balance.{live-more, live-same}
 use Rattle.kn_past.proofs.Later.{sample_is}
 use Rattle.kn_past.proofs.LoadSteps.{load-end, load-quiet, load-start}
@@ -117,3 +120,6 @@ value_most s m c start clock n value made times h =
     let tests = nat_lt 0 (value_of m (load_in c n) (count_in c n)) || nat_lt 0 (load_in c n) || has_ready_pod (entries_before (1000 * (n + 1)) c) in
     let is = of_some tests (value_of m (load_in c n) (count_in c n)) value (sym (sample_is m c n) ∙ h) in
     rw (← is) few
+
+pub average_most : (s : Spec) (m : Metric) (c : Trace) (start clock n end : ℕ) → IsMade s c → AreTimesInOrder start c clock → n ≤ 3600 → IfSome (window_average (samples m c) n end) IsAverage
+average_most s m c start clock n end made times hour = average_small (samples m c) n end (λ second value h. value_most s m c start clock second value made times h) hour

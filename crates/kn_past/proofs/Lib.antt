@@ -5,6 +5,7 @@ pub mod Below
 pub mod Sums
 pub mod Adds
 pub mod Later
+pub mod Averages
 pub mod Ends
 pub mod Turns
 pub mod Made

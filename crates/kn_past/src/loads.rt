@@ -1,9 +1,9 @@
 //! The load of a second by starts and ends, and how great it may be.
 ghost use Rattle.std.specs.Prelude.{◌≡◌, ℕ, ◌+◌, ◌-◌, ◌*◌, ◌≤◌, ◌++◌, Some, length};
+ghost use Rattle.std.specs.Option.{IfSome};
 ghost use Rattle.kn_event.specs.declared.revision.Metric.{Metric};
 ghost use Rattle.kn_event.specs.declared.revision.Spec.{Spec};
 ghost use Rattle.kn_scaling.specs.Average.{IsAverage, window_average};
-ghost use Rattle.kn_event.specs.declared.units.Frac.{Frac};
 ghost use Rattle.kn_trace.specs.Laws.{Always};
 ghost use Rattle.kn_trace.specs.Load.{load_in, samples};
 ghost use Rattle.kn_trace.specs.Rows.{ended_by, taken_by};
@@ -26,4 +26,5 @@ pub fn load_laws()
 pub fn bound_laws()
     ensures load { (s : Spec) (c : Trace) (start clock second : ℕ) → IsMade s c → AreTimesInOrder start c clock → load_in c second ≤ 20000000 }
     ensures value { (s : Spec) (m : Metric) (c : Trace) (start clock second value : ℕ) → IsMade s c → AreTimesInOrder start c clock → samples m c second ≡ Some value → value ≤ 1000000000 }
+    ensures average { (s : Spec) (m : Metric) (c : Trace) (start clock n end : ℕ) → IsMade s c → AreTimesInOrder start c clock → n ≤ 3600 → IfSome (window_average (samples m c) n end) IsAverage }
 {}
