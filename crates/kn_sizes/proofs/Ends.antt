@@ -20,12 +20,12 @@ use Rattle.kn_sizes.proofs.Counts.{live-fewer}
 
 -- ---- by one row
 
-live_distinct : (c : Trace) → IsNumbered c → AreDistinct (live c)
+pub live_distinct : (c : Trace) → IsNumbered c → AreDistinct (live c)
 unfolding live
 live_distinct c num = distinct-filter (λ r. not (ended c r)) (each_row taken_by c) num.once
 
 -- a request that was taken in and has not ended is live
-is_live : (c : Trace) (r : ℕ) → contains r (each_row taken_by c) ≡ true → ended c r ≡ false → contains r (live c) ≡ true
+pub is_live : (c : Trace) (r : ℕ) → contains r (each_row taken_by c) ≡ true → ended c r ≡ false → contains r (live c) ≡ true
 unfolding live
 is_live c r taken on = in_filter (λ q. not (ended c q)) r (each_row taken_by c) taken (rw on refl)
 
@@ -36,7 +36,7 @@ waiting_live : (c : Trace) (r : ℕ) → contains r (waiting c) ≡ true → con
 waiting_live c r h = let parts = waiting_member c r h in is_live c r parts.0 parts.1.ended
 
 -- who ends is live no more
-live-end : (c : Trace) (e : Entry) (r : ℕ) → taken_by e.row ≡ None → ended_by e.row ≡ Some r → live (c ++ e ∷ []) ≡ others r (live c)
+pub live-end : (c : Trace) (e : Entry) (r : ℕ) → taken_by e.row ≡ None → ended_by e.row ≡ Some r → live (c ++ e ∷ []) ≡ others r (live c)
 unfolding live
 live-end c e r taken ends =
     view-less taken_by (λ q. not (ended c q)) (λ q. not (ended (c ++ e ∷ []) q)) c e r taken

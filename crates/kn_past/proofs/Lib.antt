@@ -1,0 +1,14 @@
+pub mod Ranges
+pub mod Views
+pub mod Reached
+pub mod Below
+pub mod Sums
+pub mod Adds
+pub mod Later
+pub mod Averages
+pub mod Ends
+pub mod Turns
+pub mod Made
+pub mod LoadSteps
+pub mod Balance
+pub mod Bounds
