@@ -59,7 +59,7 @@ taken_next s c (row.Direct q p) r h e = let number = h.0.number in cc
 taken_next s c _ r h e = absurd (cc)
 
 -- and so has a new pod
-created_next : (s : Spec) (c : Trace) (x : Row) (p : ℕ) → IsProper s c x → created_by x ≡ Some p → p ≡ created c
+pub created_next : (s : Spec) (c : Trace) (x : Row) (p : ℕ) → IsProper s c x → created_by x ≡ Some p → p ≡ created c
 created_next s c (row.Create q n) p h e = let number = h.0 in cc
 created_next s c _ p h e = absurd (cc)
 

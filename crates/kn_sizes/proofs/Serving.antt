@@ -1,6 +1,6 @@
 -- What a server needs of one request: how it comes, waits, runs and ends.
 use Rattle.std.proofs.Common.{◌≡◌, ℕ, ◌<◌, Bool, true, false, not, ◌&&◌, ◌||◌, ◌⊎◌, inl, inr, List, [], ◌∷◌, ◌++◌, refl, sym, ap, ◌∙◌, arith, append-nil, append_assoc}
-use Rattle.std.specs.Prelude.{Some, ◌==◌}
+use Rattle.std.specs.Prelude.{◌==◌}
 use Rattle.std.proofs.lemmas.Bool.{eqb-true}
 use Rattle.kn_event.specs.declared.entry.Entry.{Entry}
 use Rattle.kn_event.specs.declared.entry.Row.{Row}
@@ -18,18 +18,14 @@ use Rattle.kn_record.proofs.Flags.{arrivals-push, contains-push, says}
 use Rattle.kn_record.proofs.Members.{or-true}
 use Rattle.kn_record.proofs.Numbers.{false_unless, filter_member, in_filter, running_parts, says-true, waiting_member}
 use Rattle.kn_record.proofs.Steps.{is_running-push}
-use Rattle.kn_record.proofs.Kept.{Holds-append, made_kept}
-use Rattle.kn_record.proofs.Running.{made_react, react-holds}
+use Rattle.kn_record.proofs.Kept.{made_kept}
+use Rattle.kn_record.proofs.Order.{taken_next}
+use Rattle.kn_record.proofs.Running.{react-holds}
 use Rattle.kn_laws.proofs.Acts.{EachIs, react-by}
 use Rattle.kn_sizes.proofs.Counts.{not_begun-less}
+use Rattle.kn_sizes.proofs.Lasting.{added-holds}
 
 -- ---- waiting is left for good
-
--- who is taken in has the next number
-taken_next : (s : Spec) (c : Trace) (x : Row) (r : ℕ) → IsProper s c x → taken_by x ≡ Some r → r ≡ arrivals c
-taken_next s c (row.Admit q tag) r h e = let number = h.0.number in cc
-taken_next s c (row.Direct q p) r h e = let number = h.0.number in cc
-taken_next s c _ r h e = absurd (cc)
 
 -- a row makes no old request wait
 waits_no_more : (s : Spec) (c : Trace) (e : Entry) (r : ℕ) → IsProper s c e.row → r < arrivals c → contains r (waiting c) ≡ false → contains r (waiting (c ++ e ∷ [])) ≡ false
@@ -50,11 +46,6 @@ waits_no_longer s c [] r h less out = rw (append-nil c) out
 waits_no_longer s c (e ∷ es) r h less out =
     let more = arrivals-push c e in
     rw (append_assoc c (e ∷ []) es) at (waits_no_longer s (c ++ e ∷ []) es r h.1 (omega arith) (waits_no_more s c e r h.0 less out))
-
-added-holds : (s : Spec) (c : Trace) (es : List Event) → IsMade s c → Holds (IsProper s) c (added s c es)
-unfolding added
-added-holds s c [] made = tt
-added-holds s c (e ∷ es) made = Holds-append (IsProper s) c (react s c e) (added s (c ++ react s c e) es) (react-holds s c e (made_kept s c made)) (added-holds s (c ++ react s c e) es (made_react s c e made))
 
 -- a request that has come and does not wait never waits again, whatever happens
 pub waits_once : (s : Spec) (c : Trace) (es : List Event) (r : ℕ) → IsMade s c → r < arrivals c → contains r (waiting c) ≡ false → contains r (waiting (c ++ added s c es)) ≡ false

@@ -1,1 +1,3 @@
 pub mod Told
+pub mod Stays
+pub mod Starting
