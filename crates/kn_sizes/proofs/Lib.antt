@@ -6,3 +6,5 @@ pub mod Serving
 pub mod Telling
 pub mod Lasting
 pub mod Starting
+pub mod Outcomes
+pub mod Course

@@ -1,12 +1,13 @@
 //! What a server needs of one request.
-ghost use Rattle.std.specs.Prelude.{◌≡◌, ◌<◌, ◌≤◌, ◌⊎◌, ℕ, Bool, true, false, List, ◌++◌};
+ghost use Rattle.std.specs.Prelude.{◌≡◌, ◌<◌, ◌≤◌, ◌⊎◌, ℕ, true, false, List, ◌++◌};
 ghost use Rattle.kn_event.specs.declared.event.Act.TheVariants as act;
 ghost use Rattle.kn_event.specs.declared.event.Event.{Event};
 ghost use Rattle.kn_event.specs.declared.revision.Spec.{Spec};
 ghost use Rattle.kn_trace.specs.Events.{added, react};
-ghost use Rattle.kn_trace.specs.Trace.{Trace, arrivals, at_pod, contains, created, is_running, live_pods, next_starting, starting_pods, waiting};
+ghost use Rattle.kn_trace.specs.Trace.{Trace, arrivals, at_pod, contains, created, is_running, live_pods, next_starting, pod_of, starting_pods, waiting};
 ghost use Rattle.kn_laws.specs.ByAct.{AreByAct};
 ghost use Rattle.kn_record.specs.Made.{IsMade};
+ghost use Rattle.kn_sizes.specs.Course.{IsUnfinished, MayEnd};
 ghost use Rattle.kn_sizes.specs.Starting.{IsLeastFrom};
 ghost use Rattle.kn_sizes.specs.Stays.{Stays};
 ghost use Rattle.kn_sizes.specs.Told.{IsTold};
@@ -18,7 +19,8 @@ pub fn request_laws()
     ensures told { (s : Spec) (c : Trace) (e : Event) (tag : ℕ) → IsMade s c → e.act ≡ act.Arrive tag → IsTold s c e }
     ensures waits { (s : Spec) (c : Trace) (es : List Event) (r : ℕ) → IsMade s c → r < arrivals c → contains r (waiting c) ≡ false → contains r (waiting (c ++ added s c es)) ≡ false }
     ensures homes { (s : Spec) (c : Trace) (p r : ℕ) → IsMade s c → contains r (at_pod c p) ≡ true → contains p (live_pods c) ≡ true }
-    ensures runs { (s : Spec) (c : Trace) (e : Event) (r : ℕ) → IsMade s c → is_running c r ≡ true → (is_running (c ++ react s c e) r ≡ true) ⊎ (((ok : Bool) × (e.act ≡ act.Finish r ok)) ⊎ ((p : ℕ) × (e.act ≡ act.Lost p))) }
+    ensures unfinished { (s : Spec) (c : Trace) (e : Event) (r : ℕ) → IsMade s c → IsUnfinished c r → IsUnfinished (c ++ react s c e) r ⊎ MayEnd r (pod_of c r) e.act }
+    ensures runs { (s : Spec) (c : Trace) (e : Event) (r : ℕ) → IsMade s c → is_running c r ≡ true → (is_running (c ++ react s c e) r ≡ true) ⊎ MayEnd r (pod_of c r) e.act }
     ensures by_act { (s : Spec) (c : Trace) (e : Event) → AreByAct s c e }
 {}
 
