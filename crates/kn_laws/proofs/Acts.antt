@@ -109,7 +109,8 @@ abbrev pub EachIs : (Row → Type 0) → Trace → Type 0
 EachIs P [] = ⊤
 EachIs P (e ∷ es) = P e.row × EachIs P es
 
-EachIs-append : (P : Row → Type 0) (xs ys : Trace) → EachIs P xs → EachIs P ys → EachIs P (xs ++ ys)
+-- a list after another
+pub EachIs-append : (P : Row → Type 0) (xs ys : Trace) → EachIs P xs → EachIs P ys → EachIs P (xs ++ ys)
 EachIs-append P [] ys h k = k
 EachIs-append P (e ∷ xs) ys h k = (h.0, EachIs-append P xs ys h.1 k)
 

@@ -18,3 +18,4 @@ pub mod Queues
 pub mod PodViews
 pub mod Standing
 pub mod Walks
+pub mod Order

@@ -10,7 +10,7 @@ use Rattle.kn_event.specs.declared.revision.Spec.{Spec}
 use Rattle.kn_trace.specs.Rows.{created_by, drained_by, gone_by}
 use Rattle.kn_trace.specs.Trace.{Trace, entry, assigned, at_pod, contains, draining, each_row, ended, first_of, has_begun, has_free_seat, has_not_begun, has_run, held, is_draining, is_empty, is_live_pod, queued_at}
 use Rattle.kn_trace.specs.Settling.{assignments_of, held_assignments, next_choice, promotions, promotions_at, removals}
-use Rattle.kn_trace.specs.Events.{act_rows, before_settling, departures, due, due_by, expiries, losses, react}
+use Rattle.kn_trace.specs.Events.{act_rows, before_settling, departures, due, due_by, expiries, react}
 use Rattle.kn_record.specs.Admission.{Admission, is_at, is_held_place, next_in, placed_in, queues_at, stepped}
 use Rattle.kn_record.specs.Made.{AreDistinct, Holds, IsMade, IsNumbered, IsProper, StandsFor}
 use Rattle.kn_record.specs.Views.{due_in}

@@ -15,8 +15,8 @@ use Rattle.kn_record.specs.Rows.{moved_by}
 use Rattle.kn_record.specs.Admission.{is_assigned_place, is_at, is_held_place, is_through, place_at, place_of, placed, runs_at, runs_somewhere, waits}
 use Rattle.kn_record.specs.Made.{AreDistinct, IsNumbered}
 use Rattle.kn_record.proofs.Flags.{says}
-use Rattle.kn_record.proofs.Members.{same_number, or-true, contains-filter, contains-split, distinct-filter, filter-members, filter-others, other_number}
-use Rattle.kn_record.proofs.Numbers.{admitted_taken, begun_taken, brought_moved, directed_taken, false_unless, last_of-none, moved-none, moved_parts, moved_pod, moved_taken, says-true, pod-none, taken_parts, within-from}
+use Rattle.kn_record.proofs.Members.{same_number, contains-filter, contains-split, distinct-filter, filter-members, filter-others, other_number}
+use Rattle.kn_record.proofs.Numbers.{admitted_taken, begun_taken, brought_moved, false_unless, last_of-none, moved-none, moved_parts, moved_pod, moved_taken, says-true, pod-none, taken_parts, within-from}
 use Rattle.kn_record.proofs.Steps.{filter-both, others}
 use Rattle.kn_record.proofs.Reacting.{brought_distinct, distinct-fewer, or-more}
 

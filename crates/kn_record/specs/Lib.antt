@@ -3,3 +3,4 @@ pub mod Admission
 pub mod Made
 pub mod Views
 pub mod Walks
+pub mod Order

@@ -10,6 +10,7 @@ ghost use Rattle.kn_trace.specs.Settling.{held_assignments, removals};
 ghost use Rattle.kn_trace.specs.Trace.{Trace, entry, first_of, has_free_seat};
 ghost use Rattle.kn_record.specs.Admission.{Admission, admission, is_held_place, next_in, nothing_yet, placed_in, queues_at, stepped};
 ghost use Rattle.kn_record.specs.Made.{Holds, IsMade, IsProper, StandsFor};
+ghost use Rattle.kn_record.specs.Order.{IsInOrder};
 ghost use Rattle.kn_record.specs.Views.{AreByPlace, AreViews, due_in};
 ghost use Rattle.kn_record.specs.Walks.{ArePartsProper, BeginsWith, leaving_in, promoting, stepped_by};
 
@@ -39,4 +40,11 @@ pub fn walk_laws()
     ensures rows { (s : Spec) (a : Admission) (c es : Trace) → StandsFor a c → Holds (IsProper s) c es → StandsFor (stepped_by es a) (c ++ es) }
     ensures event { (s : Spec) (a : Admission) (c : Trace) (e : Event) → IsMade s c → StandsFor a c → StandsFor (stepped_by (react s c e) a) (c ++ react s c e) }
     ensures parts { (s : Spec) (c : Trace) (e : Event) → IsMade s c → ArePartsProper s c e }
+{}
+
+/// The record of a trace that events made lists requests and pods by ascending numbers, all below those to come, and each
+/// request at a pod that is listed. A row that is proper where it comes leaves the trace one that events make.
+pub fn order_laws()
+    ensures order { (s : Spec) (a : Admission) (c : Trace) → IsMade s c → StandsFor a c → IsInOrder a }
+    ensures row { (s : Spec) (c : Trace) (t : ℕ) (x : Row) → IsMade s c → IsProper s c x → IsMade s (c ++ entry t x ∷ []) }
 {}

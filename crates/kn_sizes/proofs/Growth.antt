@@ -1,8 +1,6 @@
 -- How many more requests are live after an event: those that it takes in, less those that it ends.
-use Rattle.std.proofs.Common.{◌≡◌, ℕ, ◌+◌, ◌≤◌, Bool, true, false, not, cond, ◌&&◌, ◌||◌, ◌⊎◌, inl, inr, [], ◌∷◌, ◌++◌, length, refl, ap, subst, ◌∙◌, arith, append-nil, append_assoc}
-use Rattle.std.specs.Prelude.{Option, None, Some, ◌==◌}
-use Rattle.std.specs.List.{cons_option}
-use Rattle.kn_event.specs.declared.entry.Entry.{Entry}
+use Rattle.std.proofs.Common.{◌≡◌, ℕ, ◌+◌, ◌≤◌, Bool, true, false, cond, ◌⊎◌, inl, inr, [], ◌∷◌, ◌++◌, length, refl, ap, subst, ◌∙◌, arith, append-nil, append_assoc}
+use Rattle.std.specs.Prelude.{Option, None, Some}
 use Rattle.kn_event.specs.declared.entry.Row.{Row}
 use Rattle.kn_event.specs.declared.entry.Row.TheVariants as row
 use Rattle.kn_event.specs.declared.event.Act.{Act}
@@ -10,23 +8,19 @@ use Rattle.kn_event.specs.declared.event.Act.TheVariants as act
 use Rattle.kn_event.specs.declared.event.Event.{Event}
 use Rattle.kn_event.specs.declared.revision.Spec.{Spec}
 use Rattle.kn_trace.specs.Rows.{ended_by, taken_by}
-use Rattle.kn_trace.specs.Trace.{Trace, entry, contains, each_row, ended, is_running, live, live_pods, waiting}
+use Rattle.kn_trace.specs.Trace.{Trace, entry, contains, each_row, is_running, live, live_pods, waiting}
 use Rattle.kn_trace.specs.Events.{act_row, before_settling, entries_of, expiries, need_of, react}
 use Rattle.kn_trace.specs.Settling.{held_assignments, promotions, removals, settling}
 use Rattle.kn_laws.specs.ByAct.{IsByAct}
-use Rattle.kn_record.specs.Made.{AreDistinct, Holds, IsMade, IsNumbered, IsProper}
-use Rattle.kn_record.proofs.Flags.{counted, ended-push}
-use Rattle.kn_record.proofs.Members.{distinct-filter}
-use Rattle.kn_record.proofs.Numbers.{begun_taken, in_filter, running_parts, waiting_member}
-use Rattle.kn_record.proofs.Steps.{others, view-less}
-use Rattle.kn_record.proofs.Words.{others-length}
-use Rattle.kn_record.proofs.Kept.{Kept, Kept-push, made_kept}
+use Rattle.kn_record.specs.Made.{Holds, IsMade, IsProper}
+use Rattle.kn_record.proofs.Flags.{counted}
+use Rattle.kn_record.proofs.Kept.{made_kept}
 use Rattle.kn_laws.proofs.Rows.{Each, activation-rows, departures-rows, departures-same, expiries-rows, is_departure_row, is_assign_row, is_expire_row, is_remove_row, is_run_row, is_scaler_row, promotions-rows, scaler-rows}
 use Rattle.kn_record.proofs.Running.{react-holds}
 use Rattle.kn_record.proofs.Reacting.{expiries-hold}
 use Rattle.kn_sizes.proofs.Serving.{runs-push, waiting_idle}
 use Rattle.kn_laws.proofs.Acts.{IsActRow, act-facts, removals-rows}
-use Rattle.kn_sizes.proofs.Counts.{count-append, live-fewer, none-each}
+use Rattle.kn_sizes.proofs.Counts.{count-append, none-each}
 use Rattle.kn_sizes.proofs.Ends.{count-cons, live-many}
 use Rattle.kn_sizes.proofs.Bounds.{active_of, assign_takes, before-parts, departure_takes, gone_of, held_rows, more_of, own_of, remove_takes, run_takes, scaler_takes}
 

@@ -4,3 +4,7 @@ pub mod Bounds
 pub mod Growth
 pub mod Serving
 pub mod Telling
+pub mod Lasting
+pub mod Starting
+pub mod Outcomes
+pub mod Course

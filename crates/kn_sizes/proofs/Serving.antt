@@ -1,6 +1,6 @@
 -- What a server needs of one request: how it comes, waits, runs and ends.
 use Rattle.std.proofs.Common.{◌≡◌, ℕ, ◌<◌, Bool, true, false, not, ◌&&◌, ◌||◌, ◌⊎◌, inl, inr, List, [], ◌∷◌, ◌++◌, refl, sym, ap, ◌∙◌, arith, append-nil, append_assoc}
-use Rattle.std.specs.Prelude.{Some, ◌==◌}
+use Rattle.std.specs.Prelude.{◌==◌}
 use Rattle.std.proofs.lemmas.Bool.{eqb-true}
 use Rattle.kn_event.specs.declared.entry.Entry.{Entry}
 use Rattle.kn_event.specs.declared.entry.Row.{Row}
@@ -18,18 +18,14 @@ use Rattle.kn_record.proofs.Flags.{arrivals-push, contains-push, says}
 use Rattle.kn_record.proofs.Members.{or-true}
 use Rattle.kn_record.proofs.Numbers.{false_unless, filter_member, in_filter, running_parts, says-true, waiting_member}
 use Rattle.kn_record.proofs.Steps.{is_running-push}
-use Rattle.kn_record.proofs.Kept.{Holds-append, made_kept}
-use Rattle.kn_record.proofs.Running.{made_react, react-holds}
+use Rattle.kn_record.proofs.Kept.{made_kept}
+use Rattle.kn_record.proofs.Order.{taken_next}
+use Rattle.kn_record.proofs.Running.{react-holds}
 use Rattle.kn_laws.proofs.Acts.{EachIs, react-by}
 use Rattle.kn_sizes.proofs.Counts.{not_begun-less}
+use Rattle.kn_sizes.proofs.Lasting.{added-holds}
 
 -- ---- waiting is left for good
-
--- who is taken in has the next number
-taken_next : (s : Spec) (c : Trace) (x : Row) (r : ℕ) → IsProper s c x → taken_by x ≡ Some r → r ≡ arrivals c
-taken_next s c (row.Admit q tag) r h e = let number = h.0.number in cc
-taken_next s c (row.Direct q p) r h e = let number = h.0.number in cc
-taken_next s c _ r h e = absurd (cc)
 
 -- a row makes no old request wait
 waits_no_more : (s : Spec) (c : Trace) (e : Entry) (r : ℕ) → IsProper s c e.row → r < arrivals c → contains r (waiting c) ≡ false → contains r (waiting (c ++ e ∷ [])) ≡ false
@@ -51,16 +47,11 @@ waits_no_longer s c (e ∷ es) r h less out =
     let more = arrivals-push c e in
     rw (append_assoc c (e ∷ []) es) at (waits_no_longer s (c ++ e ∷ []) es r h.1 (omega arith) (waits_no_more s c e r h.0 less out))
 
-added-holds : (s : Spec) (c : Trace) (es : List Event) → IsMade s c → Holds (IsProper s) c (added s c es)
-unfolding added
-added-holds s c [] made = tt
-added-holds s c (e ∷ es) made = Holds-append (IsProper s) c (react s c e) (added s (c ++ react s c e) es) (react-holds s c e (made_kept s c made)) (added-holds s (c ++ react s c e) es (made_react s c e made))
-
 -- a request that has come and does not wait never waits again, whatever happens
 pub waits_once : (s : Spec) (c : Trace) (es : List Event) (r : ℕ) → IsMade s c → r < arrivals c → contains r (waiting c) ≡ false → contains r (waiting (c ++ added s c es)) ≡ false
 waits_once s c es r made less out = waits_no_longer s c (added s c es) r (added-holds s c es made) less out
 
--- ---- running is left by a finish alone
+-- ---- running is left by an end alone
 
 -- the row ends request r, or r runs on
 pub runs-push : (c : Trace) (e : Entry) (r : ℕ) → is_running c r ≡ true → says (ended_by e.row) r ≡ false → is_running (c ++ e ∷ []) r ≡ true
@@ -87,32 +78,3 @@ waiting_idle c q r waits runs = false_unless (q == r) (λ e. clash (eqb-true q r
         let n : has_run c r ≡ false = rw (← same) idle.run in
         let none : (assigned c r || has_run c r) ≡ false = rw (a, n) refl in
         absurd (cc)
-
--- the act ends the request, or loses a pod
-abbrev MayEnd : Act → ℕ → Type 0
-MayEnd a r = ((ok : Bool) × (a ≡ act.Finish r ok)) ⊎ ((p : ℕ) × (a ≡ act.Lost p))
-
--- one row
-one-row : (s : Spec) (a : Act) (c : Trace) (t : ℕ) (x : Row) (r : ℕ) → IsProper s c x → IsByAct a x → is_running c r ≡ true → (is_running (c ++ entry t x ∷ []) r ≡ true) ⊎ MayEnd a r
-one-row s a c t (row.Finish q ok) r h own runs = by (q == r) refl
-  where
-    by : (b : Bool) → (q == r) ≡ b → (is_running (c ++ entry t (row.Finish q ok) ∷ []) r ≡ true) ⊎ MayEnd a r
-    by true e = inr (inl (ok, own ∙ ap (λ (n : ℕ). act.Finish n ok) (eqb-true q r e)))
-    by false e = inl (runs-push c (entry t (row.Finish q ok)) r runs e)
-one-row s a c t (row.Expire q) r h own runs = inl (runs-push c (entry t (row.Expire q)) r runs (waiting_idle c q r h runs))
-one-row s a c t (row.Cancel q) r h own runs = inl (runs-push c (entry t (row.Cancel q)) r runs (waiting_idle c q r h runs))
-one-row s a c t (row.LostRequest q) r h own runs = inr (inr own)
-one-row s a c t x r h own runs = inl (runs-push c (entry t x) r runs refl)
-
--- rows that are all proper and of this act
-runs-on : (s : Spec) (a : Act) (c es : Trace) (r : ℕ) → Holds (IsProper s) c es → EachIs (IsByAct a) es → is_running c r ≡ true → (is_running (c ++ es) r ≡ true) ⊎ MayEnd a r
-runs-on s a c [] r h own runs = inl (rw (append-nil c) runs)
-runs-on s a c (e ∷ es) r h own runs = by (one-row s a c e.time e.row r h.0 own.0 runs) (λ k. runs-on s a (c ++ e ∷ []) es r h.1 own.1 k)
-  where
-    by : (is_running (c ++ e ∷ []) r ≡ true) ⊎ MayEnd a r → (is_running (c ++ e ∷ []) r ≡ true → (is_running ((c ++ e ∷ []) ++ es) r ≡ true) ⊎ MayEnd a r) → (is_running (c ++ e ∷ es) r ≡ true) ⊎ MayEnd a r
-    by (inl k) rest = rw (append_assoc c (e ∷ []) es) at (rest k)
-    by (inr k) rest = inr k
-
--- a running request runs on, unless the event is its finish or loses a pod
-pub runs_until : (s : Spec) (c : Trace) (e : Event) (r : ℕ) → IsMade s c → is_running c r ≡ true → (is_running (c ++ react s c e) r ≡ true) ⊎ (((ok : Bool) × (e.act ≡ act.Finish r ok)) ⊎ ((p : ℕ) × (e.act ≡ act.Lost p)))
-runs_until s c e r made runs = runs-on s e.act c (react s c e) r (react-holds s c e (made_kept s c made)) (react-by s c e) runs

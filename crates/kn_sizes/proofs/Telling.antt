@@ -1,5 +1,5 @@
 -- An arrival is told where its request stands after its event.
-use Rattle.std.proofs.Common.{◌≡◌, ℕ, ◌+◌, ◌<◌, Bool, true, false, not, ◌||◌, inl, inr, [], ◌∷◌, ◌++◌, length, nat_lt, refl, sym, ap, ◌∙◌, arith, append-nil, append_assoc, length-append}
+use Rattle.std.proofs.Common.{◌≡◌, ℕ, ◌+◌, ◌<◌, Bool, true, false, not, ◌||◌, ◌⊎◌, inl, inr, [], ◌∷◌, ◌++◌, length, nat_lt, refl, sym, ap, ◌∙◌, arith, append-nil, append_assoc, length-append}
 use Rattle.std.specs.Prelude.{Option, None, Some}
 use Rattle.std.proofs.lemmas.Bool.Decides.{nat_tests}
 use Rattle.std.proofs.lemmas.List.Elements.{filter_map-append}
@@ -12,14 +12,15 @@ use Rattle.kn_event.specs.declared.event.Event.{Event}
 use Rattle.kn_event.specs.declared.event.Stand.{Stand}
 use Rattle.kn_event.specs.declared.event.Stand.TheVariants as stand
 use Rattle.kn_event.specs.declared.revision.Spec.{Spec}
-use Rattle.kn_trace.specs.Rows.{arrived_by, ended_by, refused_by, taken_by}
+use Rattle.kn_trace.specs.Outcome.{Outcome, Overload, Refused, outcome_in, outcome_of}
+use Rattle.kn_trace.specs.Rows.{arrived_by, ended_by, outcome_by, refused_by, taken_by}
 use Rattle.kn_trace.specs.Trace.{Trace, entry, arrivals, contains, each_row, ended, first_of, has_begun, live, live_pods, pod_of, stand_at, stand_of}
 use Rattle.kn_trace.specs.Settling.{held_assignments, promotions, removals, settling}
 use Rattle.kn_trace.specs.Events.{act_row, act_rows, activation, before_settling, entries_of, departures, react, row_of, scaler_rows, told_of, told_row, told_stand}
 use Rattle.kn_record.specs.Rows.{named_by}
 use Rattle.kn_record.specs.Made.{Holds, IsMade, IsNumbered, IsProper}
 use Rattle.kn_laws.specs.ByAct.{IsByAct}
-use Rattle.kn_sizes.specs.Told.{IsTold, arrival_told, stand_told}
+use Rattle.kn_sizes.specs.Told.{IsTold, arrival_told, outcome_told, stand_told}
 use Rattle.kn_record.proofs.Flags.{arrivals-push, contains-push}
 use Rattle.kn_record.proofs.Members.{contains-filter, contains-within, same_number}
 use Rattle.kn_record.proofs.Numbers.{ended_named, in_filter, next_unnamed}
@@ -28,12 +29,13 @@ use Rattle.kn_record.proofs.Reacting.{act-holds, departures-clear, departures-ho
 use Rattle.kn_laws.proofs.Rows.{Each, Each-append, Each-weaken, activation-rows, departures-rows, is_assign_row, is_departure_row, is_remove_row, is_run_row, is_scaler_row, promotions-rows, scaler-rows}
 use Rattle.kn_laws.proofs.Acts.{IsActRow, act-facts, is_act_row, removals-rows}
 use Rattle.kn_sizes.proofs.Bounds.{held_rows}
+use Rattle.kn_sizes.proofs.Outcomes.{live_outcome, no_outcome, outcome_comes, outcome_stays}
 use Rattle.kn_laws.proofs.Phases.{none-rows}
 use Rattle.kn_record.proofs.Running.{react-holds}
 
 -- ---- what comes after the act's own row
 
-abbrev is_later_row : Row → Bool
+abbrev pub is_later_row : Row → Bool
 is_later_row (row.Run r) = true
 is_later_row (row.Assign r p) = true
 is_later_row (row.Remove p) = true
@@ -58,7 +60,7 @@ scaler_later (row.Remove p) h = refl
 scaler_later x h = h
 
 -- it neither brings a request nor ends one
-later_plain : (x : Row) → is_later_row x ≡ true → (arrived_by x ≡ None) × (taken_by x ≡ None) × (refused_by x ≡ None) × (ended_by x ≡ None)
+pub later_plain : (x : Row) → is_later_row x ≡ true → (arrived_by x ≡ None) × (taken_by x ≡ None) × (refused_by x ≡ None) × (ended_by x ≡ None)
 later_plain (row.Admit r tag) h = absurd (cc)
 later_plain (row.QueueFull r pod) h = absurd (cc)
 later_plain (row.Overload r) h = absurd (cc)
@@ -74,7 +76,7 @@ departure_arrives (row.Expire r) h = refl
 departure_arrives (row.LostRequest r) h = refl
 departure_arrives _ h = absurd (cc)
 
-abbrev later_of : Spec → Trace → Event → Trace
+abbrev pub later_of : Spec → Trace → Event → Trace
 later_of s c e =
     let c1 = c ++ departures s c e in
     let own = entries_of e.time (act_row s c1 e.act) in
@@ -94,7 +96,7 @@ settling-later s t d =
     (Each-weaken is_remove_row is_later_row remove_later (removals t ((d ++ ran) ++ gave)) (removals-rows t ((d ++ ran) ++ gave)))
 
 -- all that follows the act's own row
-later-rows : (s : Spec) (c : Trace) (e : Event) → Each is_later_row (later_of s c e)
+pub later-rows : (s : Spec) (c : Trace) (e : Event) → Each is_later_row (later_of s c e)
 later-rows s c e =
     let c1 = c ++ departures s c e in
     let own = entries_of e.time (act_row s c1 e.act) in
@@ -106,19 +108,33 @@ later-rows s c e =
     (Each-weaken is_scaler_row is_later_row scaler_later active (activation-rows e.time (c1 ++ (own ++ more)))))
     (settling-later s e.time (c ++ before_settling s c e))
 
--- an event: who waited too long, the act's own row, and what follows
-react-parts : (s : Spec) (c : Trace) (e : Event) → c ++ react s c e ≡ ((c ++ departures s c e) ++ entries_of e.time (act_row s (c ++ departures s c e) e.act)) ++ later_of s c e
+-- an event: who ends first, the act's own row, and what follows
+pub react-split : (s : Spec) (c : Trace) (e : Event) → react s c e ≡ departures s c e ++ (entries_of e.time (act_row s (c ++ departures s c e) e.act) ++ later_of s c e)
+unfolding react before_settling act_rows
+react-split s c e = simp append_assoc refl
+
+-- the same, after the trace
+pub react-parts : (s : Spec) (c : Trace) (e : Event) → c ++ react s c e ≡ ((c ++ departures s c e) ++ entries_of e.time (act_row s (c ++ departures s c e) e.act)) ++ later_of s c e
 unfolding react before_settling act_rows
 react-parts s c e = simp append_assoc refl
 
 -- ---- views by such rows
 
-arrivals-list : (c es : Trace) → arrivals (c ++ es) ≡ arrivals c + length (each_row arrived_by es)
+pub arrivals-list : (c es : Trace) → arrivals (c ++ es) ≡ arrivals c + length (each_row arrived_by es)
 unfolding arrivals
 arrivals-list c es = rw (filter_map-append (λ (e : Entry). arrived_by e.row) c es, length-append) refl
 
-contains-list : (f : Row → Option ℕ) (r : ℕ) (c es : Trace) → each_row f es ≡ [] → contains r (each_row f (c ++ es)) ≡ contains r (each_row f c)
+pub contains-list : (f : Row → Option ℕ) (r : ℕ) (c es : Trace) → each_row f es ≡ [] → contains r (each_row f (c ++ es)) ≡ contains r (each_row f c)
 contains-list f r c es none = rw (filter_map-append (λ (e : Entry). f e.row) c es, none, append-nil (each_row f c)) refl
+
+outcome_named : (x : Row) → (outcome_by x ≡ None) ⊎ (outcome_by x ≡ named_by x)
+outcome_named (row.QueueFull r pod) = inr refl
+outcome_named (row.Overload r) = inr refl
+outcome_named (row.Finish r ok) = inr refl
+outcome_named (row.Expire r) = inr refl
+outcome_named (row.Cancel r) = inr refl
+outcome_named (row.LostRequest r) = inr refl
+outcome_named _ = inl refl
 
 -- ---- where the arrival's request stands
 
@@ -136,10 +152,10 @@ live-stands : (c : Trace) (r : ℕ) → r < arrivals c → contains r (each_row 
 unfolding stand_of live
 live-stands c r less taken out = rw (arrived-less c r less, in_filter (λ r. not (ended c r)) r (each_row taken_by c) taken (rw out refl)) refl
 
-told-at : (r : ℕ) (b : Bool) (o : Option ℕ) → (arrival_told (told_stand r (stand_at b o)) ≡ Some r) × (stand_told (told_stand r (stand_at b o)) ≡ Some (stand_at b o))
-told-at r b None = (refl, refl)
-told-at r true (Some p) = (refl, refl)
-told-at r false (Some p) = (refl, refl)
+told-at : (r : ℕ) (b : Bool) (o : Option ℕ) → (arrival_told (told_stand r (stand_at b o)) ≡ Some r) × (stand_told (told_stand r (stand_at b o)) ≡ Some (stand_at b o)) × (outcome_told (told_stand r (stand_at b o)) ≡ None)
+told-at r b None = (refl, refl, refl)
+told-at r true (Some p) = (refl, refl, refl)
+told-at r false (Some p) = (refl, refl, refl)
 
 ended-is : (c : Trace) (r : ℕ) → ended c r ≡ contains r (each_row ended_by c)
 unfolding ended
@@ -169,10 +185,10 @@ told-row s c e x h = by (act_row s (c ++ departures s c e) e.act) h
     by (Some y) h = let same : y ≡ x = cc in rw same refl
 
 -- the trace after the event
-after-parts : (s : Spec) (c : Trace) (e : Event) (x : Row) → act_row s (c ++ departures s c e) e.act ≡ Some x → c ++ react s c e ≡ ((c ++ departures s c e) ++ entry e.time x ∷ []) ++ later_of s c e
+pub after-parts : (s : Spec) (c : Trace) (e : Event) (x : Row) → act_row s (c ++ departures s c e) e.act ≡ Some x → c ++ react s c e ≡ ((c ++ departures s c e) ++ entry e.time x ∷ []) ++ later_of s c e
 after-parts s c e x h = react-parts s c e ∙ ap (λ (o : Option Row). ((c ++ departures s c e) ++ entries_of e.time o) ++ later_of s c e) h
 
-first-arrivals : (s : Spec) (c : Trace) (e : Event) → arrivals (c ++ departures s c e) ≡ arrivals c
+pub first-arrivals : (s : Spec) (c : Trace) (e : Event) → arrivals (c ++ departures s c e) ≡ arrivals c
 first-arrivals s c e = let none : length (each_row arrived_by (departures s c e)) ≡ 0 = rw (none-rows arrived_by is_departure_row departure_arrives (departures s c e) (departures-rows s c e)) refl in let all = arrivals-list c (departures s c e) in omega arith
 
 -- an arrival counts once
@@ -203,6 +219,7 @@ taken-told s c e x q made brings taken ends told' =
       new = unknown c (arrivals c) refl;
       number = ap arrival_told (told-row s c e x brings.is ∙ told' ∙ ap (λ (k : Stand). told_stand q k) there) ∙ both.0 ∙ ap (λ (n : ℕ). Some n) number;
       stands = ap stand_told (told-row s c e x brings.is ∙ told' ∙ ap (λ (k : Stand). told_stand q k) there) ∙ both.1 ∙ ap (λ (k : Stand). Some k) (sym there) ∙ ap (λ (n : ℕ). Some (stand_of after n)) number;
+      outcome = sym (ap (λ (n : ℕ). outcome_of after n) number) ∙ live_outcome after q kept.requests is_taken lives ∙ sym both.2 ∙ sym (ap outcome_told (told-row s c e x brings.is ∙ told' ∙ ap (λ (k : Stand). told_stand q k) there));
       counts = count;
     }
   where
@@ -211,6 +228,9 @@ taken-told s c e x q made brings taken ends told' =
 
     later : Trace
     later = later_of s c e
+
+    kept : Kept s (c ++ react s c e)
+    kept = Holds-kept s c (react s c e) (made_kept s c made) (react-holds s c e (made_kept s c made))
 
     kept1 : Kept s c1
     kept1 = Holds-kept s c (departures s c e) (made_kept s c made) (departures-hold s c e (made_kept s c made))
@@ -237,8 +257,9 @@ taken-told s c e x q made brings taken ends told' =
 
 -- the row refuses it
 refused-told : (s : Spec) (c : Trace) (e : Event) (x : Row) (q : ℕ) → IsMade s c → Brings s c e x q → refused_by x ≡ Some q
-    → arrival_told (told_row (c ++ react s c e) (Some x)) ≡ Some q → stand_told (told_row (c ++ react s c e) (Some x)) ≡ Some stand.Ended → IsTold s c e
-refused-told s c e x q made brings refuses name stands =
+    → arrival_told (told_row (c ++ react s c e) (Some x)) ≡ Some q → stand_told (told_row (c ++ react s c e) (Some x)) ≡ Some stand.Ended
+    → (o : Outcome) → outcome_told (told_row (c ++ react s c e) (Some x)) ≡ Some o → outcome_in q x ≡ Some o → IsTold s c e
+refused-told s c e x q made brings refuses name stands o outcome says' =
     let after = c ++ react s c e in
     let count = counts-one s c e x q brings in
     let number = brings.number in
@@ -248,6 +269,7 @@ refused-told s c e x q made brings refuses name stands =
       new = unknown c (arrivals c) refl;
       number = ap arrival_told (told-row s c e x brings.is) ∙ name ∙ ap (λ (n : ℕ). Some n) number;
       stands = ap stand_told (told-row s c e x brings.is) ∙ stands ∙ ap (λ (k : Stand). Some k) (sym gone) ∙ ap (λ (n : ℕ). Some (stand_of after n)) number;
+      outcome = sym (ap (λ (n : ℕ). outcome_of after n) number) ∙ has_outcome ∙ sym outcome ∙ sym (ap outcome_told (told-row s c e x brings.is));
       counts = count;
     }
   where
@@ -260,6 +282,16 @@ refused-told s c e x q made brings refuses name stands =
     or-true-last : (b : Bool) → (b || true) ≡ true
     or-true-last true = refl
     or-true-last false = refl
+
+    kept1 : Kept s c1
+    kept1 = Holds-kept s c (departures s c e) (made_kept s c made) (departures-hold s c e (made_kept s c made))
+
+    -- the row itself is the first that says one
+    has_outcome : outcome_of (c ++ react s c e) q ≡ Some o
+    has_outcome =
+        let unnamed : contains q (each_row named_by c1) ≡ false = rw (brings.number ∙ sym (first-arrivals s c e)) (next_unnamed c1 kept1.requests) in
+        rw (after-parts s c e x brings.is)
+        (outcome_stays (c1 ++ entry e.time x ∷ []) later q o (outcome_comes c1 (entry e.time x) q o (no_outcome c1 q (contains-within outcome_by named_by outcome_named q c1 unnamed)) says'))
 
     is_refused : contains q (each_row refused_by (c ++ react s c e)) ≡ true
     is_refused =
@@ -280,9 +312,9 @@ arrival_is_told s c e tag made arrives = by (act_row s c1 e.act) refl (act-facts
     one : (x : Row) → act_row s c1 e.act ≡ Some x → is_act_row x ≡ true → IsByAct e.act x → IsProper s c1 x → IsTold s c e
     one (row.Admit q g) k a b h = taken-told s c e (row.Admit q g) q made (record { is = k; arrives = refl; number = h.0.number ∙ next }) refl refl refl
     one (row.Direct q p) k a b h = taken-told s c e (row.Direct q p) q made (record { is = k; arrives = refl; number = h.0.number ∙ next }) refl refl refl
-    one (row.QueueFull q None) k a b h = refused-told s c e (row.QueueFull q None) q made (record { is = k; arrives = refl; number = h.0.number ∙ next }) refl refl refl
-    one (row.QueueFull q (Some p)) k a b h = refused-told s c e (row.QueueFull q (Some p)) q made (record { is = k; arrives = refl; number = h.0.number ∙ next }) refl refl refl
-    one (row.Overload q) k a b h = refused-told s c e (row.Overload q) q made (record { is = k; arrives = refl; number = h.0 ∙ next }) refl refl refl
+    one (row.QueueFull q None) k a b h = refused-told s c e (row.QueueFull q None) q made (record { is = k; arrives = refl; number = h.0.number ∙ next }) refl refl refl Refused refl (rw (same_number q) refl)
+    one (row.QueueFull q (Some p)) k a b h = refused-told s c e (row.QueueFull q (Some p)) q made (record { is = k; arrives = refl; number = h.0.number ∙ next }) refl refl refl Refused refl (rw (same_number q) refl)
+    one (row.Overload q) k a b h = refused-told s c e (row.Overload q) q made (record { is = k; arrives = refl; number = h.0 ∙ next }) refl refl refl Overload refl (rw (same_number q) refl)
     one (row.NotRunning q) k a b h = absurd (let other = b.1 in cc)
     one (row.NoPod p) k a (inl b) h = absurd (cc)
     one (row.NoPod p) k a (inr (inl b)) h = absurd (let other = b.1 in cc)

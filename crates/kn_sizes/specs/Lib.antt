@@ -1,1 +1,4 @@
 pub mod Told
+pub mod Stays
+pub mod Starting
+pub mod Course

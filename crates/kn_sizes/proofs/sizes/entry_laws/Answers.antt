@@ -1,7 +1,6 @@
 use Rattle.kn_trace.specs.Events.{trace_of}
 use Rattle.kn_record.proofs.Running.{made_trace}
 use Rattle.kn_laws.proofs.Settles.{settled_trace}
-use Rattle.std.proofs.Common.{arith}
 use Rattle.kn_sizes.proofs.Bounds.{few_before, few_entries, few_expiries, few_settling, fewer_entries}
 use Rattle.kn_sizes.proofs.sizes.entry_laws.Goals as goal
 
