@@ -1,0 +1,11 @@
+//! Heads of requests with their bodies: read exactly or refused by name, sent on, and answered.
+#![tactic(auto)]
+
+mod answer;
+mod fields;
+mod forward;
+mod head;
+
+pub use answer::{Answer, answer_bytes};
+pub use forward::forward_bytes;
+pub use head::{Head, HeadError, Headers};
