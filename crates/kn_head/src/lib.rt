@@ -2,9 +2,13 @@
 #![tactic(auto)]
 
 mod answer;
+mod chunks;
 mod fields;
+mod find;
 mod forward;
 mod head;
+mod rules;
+mod window;
 
 pub use answer::{Answer, answer_bytes};
 pub use forward::forward_bytes;
