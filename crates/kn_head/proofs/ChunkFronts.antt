@@ -1,9 +1,9 @@
 -- What the bytes that came say of a size line and of a trailer, at the front of all the bytes.
-use Rattle.std.proofs.Common.{◌≡◌, ◌⊎◌, ℕ, ◌+◌, ◌≤◌, ◌<◌, List, ◌∷◌, [], ◌++◌, length, take, drop, Option, None, Some, IfSome, inl, inr, refl, sym, subst, ap, ◌∙◌, arith, length-append, append_assoc}
+use Rattle.std.proofs.Common.{◌≡◌, ℕ, ◌≤◌, ◌<◌, List, ◌++◌, length, take, drop, Option, None, Some, IfSome, inl, inr, sym, subst, ap, ◌∙◌, arith, length-append, append_assoc}
 use Rattle.std.proofs.lemmas.List.{take-append-le, take-append-drop, length-take-le, take_all}
 use Rattle.std.proofs.Math.Seq.{take-append_seam, drop-append_seam}
 use Rattle.std.specs.Io.KnownBytes.{Keeps}
-use Rattle.httparse.specs.Grammar.{ChunkLine, print_chunk_line, ReadsChunkLine, NeverHasChunkLine, HasNoChunkLine, Field, LineEnd, print_section, ReadsSection, HasNoSection}
+use Rattle.httparse.specs.Grammar.{ChunkLine, print_chunk_line, NeverHasChunkLine, HasNoChunkLine, Field, LineEnd, print_section, HasNoSection}
 use Rattle.httparse.specs.Spans.{IsChunkLineAt, IsSectionAt}
 use Rattle.httparse.specs.declared.spans.HeaderSpan.{HeaderSpan}
 use Rattle.httparse.proofs.GrammarLemmas.{ReadsSection-append}
@@ -67,14 +67,14 @@ size_line_at waiting more k end size line short within at_ =
     let text = print_chunk_line line in
     let behind = drop end (take k waiting) ++ drop k waiting in
     let all : waiting ≡ text ++ behind =
-        sym (take-append-drop k waiting) ∙ (ap (λ l. l ++ drop k waiting) at_.reads.1
-        ∙ append_assoc text (drop end (take k waiting)) (drop k waiting)) in
+    sym (take-append-drop k waiting) ∙ (ap (λ l. l ++ drop k waiting) at_.reads.1
+    ∙ append_assoc text (drop end (take k waiting)) (drop k waiting)) in
     let cut : drop end waiting ≡ behind =
-        ap (drop end) all ∙ (ap (λ n. drop n (text ++ behind)) at_.len_is ∙ drop-append_seam text behind) in
+    ap (drop end) all ∙ (ap (λ n. drop n (text ++ behind)) at_.len_is ∙ drop-append_seam text behind) in
     let whole : waiting ++ more ≡ text ++ (drop end waiting ++ more) =
-        ap (λ l. l ++ more) (all ∙ ap (λ l. text ++ l) (sym cut)) ∙ append_assoc text (drop end waiting) more in
+    ap (λ l. l ++ more) (all ∙ ap (λ l. text ++ l) (sym cut)) ∙ append_assoc text (drop end waiting) more in
     let few : length text ≤ k =
-        omega (arith, ap length at_.reads.1, length-append text (drop end (take k waiting)), length-take-le k waiting within) in
+    omega (arith, ap length at_.reads.1, length-append text (drop end (take k waiting)), length-take-le k waiting within) in
     (line, (at_.reads.0, whole), sym at_.size_is, omega (arith, few, short))
 
 -- ---- trailers

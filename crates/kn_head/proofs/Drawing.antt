@@ -1,5 +1,5 @@
 -- Reads one after the other.
-use Rattle.std.proofs.Common.{◌≡◌, ℕ, ◌≤◌, List, [], ◌++◌, Option, None, Some, IfSome, Result, Err, refl, sym, subst, ap, ◌∙◌, arith, append_assoc}
+use Rattle.std.proofs.Common.{ℕ, List, [], ◌++◌, Option, None, Some, IfSome, refl, sym, subst, ap, ◌∙◌, arith, append_assoc}
 use Rattle.std.specs.Io.KnownBytes.{Consumes, Keeps}
 use Rattle.kn_head.specs.Told.{Draws}
 

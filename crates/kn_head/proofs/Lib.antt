@@ -5,3 +5,5 @@ pub mod Drawing
 pub mod HeadFronts
 pub mod ChunkFronts
 pub mod Taking
+pub mod Values
+pub mod Whole

@@ -1,5 +1,5 @@
 -- Parts that are taken one after the other.
-use Rattle.std.proofs.Common.{◌≡◌, ◌⊎◌, ℕ, ◌+◌, ◌≤◌, ◌<◌, Bool, true, false, ◌==◌, ◌&&◌, if◌then◌else◌, List, ◌∷◌, [], ◌++◌, length, take, drop, Option, None, Some, IfSome, Result, Ok, Err, inl, inr, refl, sym, subst, ap, ◌∙◌, arith, length-append, append_assoc, append-nil, ◌-◌}
+use Rattle.std.proofs.Common.{◌≡◌, ◌⊎◌, ℕ, ◌+◌, ◌≤◌, ◌<◌, Bool, true, false, ◌==◌, ◌&&◌, if◌then◌else◌, List, ◌∷◌, [], ◌++◌, length, take, drop, Option, None, Some, IfSome, Ok, Err, inl, inr, refl, sym, subst, ap, ◌∙◌, arith, length-append, append_assoc, append-nil, ◌-◌}
 use Rattle.std.proofs.lemmas.Grind.{common_steps}
 use Rattle.std.proofs.lemmas.List.{length-take-le, take-append-drop}
 use Rattle.kn_head.proofs.ChunkFronts.{kept_taken}
@@ -51,10 +51,10 @@ takes_more old mid before now left n k waiting unread' now' taken few within kee
   items = grown ∙ (ap (λ l. l ++ take k waiting) taken.items ∙ append_assoc before taken.piece (take k waiting));
   count = omega (arith, taken.count, length-append taken.piece (take k waiting), length-take-le k waiting within);
   told = told_more old mid (unread (drop k waiting) unread') (λ bytes rest. bytes ≡ taken.piece ++ rest) (λ bytes rest. bytes ≡ take k waiting ++ rest)
-    (λ bytes rest. bytes ≡ (taken.piece ++ take k waiting) ++ rest) taken.told
-    (kept_taken mid unread' waiting k (λ bytes rest. bytes ≡ take k waiting ++ rest) keeps
-    (λ more. ap (λ l. l ++ more) (sym (take-append-drop k waiting)) ∙ append_assoc (take k waiting) (drop k waiting) more))
-    (λ x y z p q. p ∙ (ap (λ l. taken.piece ++ l) q ∙ sym (append_assoc taken.piece (take k waiting) z)));
+      (λ bytes rest. bytes ≡ (taken.piece ++ take k waiting) ++ rest) taken.told
+      (kept_taken mid unread' waiting k (λ bytes rest. bytes ≡ take k waiting ++ rest) keeps
+      (λ more. ap (λ l. l ++ more) (sym (take-append-drop k waiting)) ∙ append_assoc (take k waiting) (drop k waiting) more))
+      (λ x y z p q. p ∙ (ap (λ l. taken.piece ++ l) q ∙ sym (append_assoc taken.piece (take k waiting) z)));
 }
 
 -- nothing more came
@@ -102,10 +102,12 @@ one_bad x false e t h = (cc, λ same. let no : (13 == 13) ≡ false = subst (λ 
 two_bad : (x y : ℕ) (b : Bool) (e : HeadError) → (x == 13 && y == 10) ≡ b → (if b then Ok true else Err error.BadChunk) ≡ Err e
     → (e ≡ error.BadChunk) × (x ≡ 13 → y ≡ 10 → ⊥)
 two_bad x y true e t h = cc
-two_bad x y false e t h =
-    (cc, λ p q.
-    let no : (13 == 13 && 10 == 10) ≡ false =
-        subst (λ m. (13 == 13 && m == 10) ≡ false) q (subst (λ n. (n == 13 && y == 10) ≡ false) p t) in cc)
+two_bad x y false e t h = (
+  cc,
+  λ p q.
+      let no : (13 == 13 && 10 == 10) ≡ false =
+      subst (λ m. (13 == 13 && m == 10) ≡ false) q (subst (λ n. (n == 13 && y == 10) ≡ false) p t) in cc,
+)
 
 lacks : (waiting : List ℕ) (e : HeadError) → line_end_at waiting ≡ Err e → (e ≡ error.BadChunk) × LacksLineEnd waiting
 lacks [] e h = cc
@@ -151,8 +153,8 @@ pub goes_on_more : (body bytes rest piece more : List ℕ) → GoesOn body bytes
     → GoesOn (body ++ piece) bytes more
 goes_on_more body bytes rest piece more goes taken = record {
   chunked = λ value end it.
-    subst (λ l. IsChunked bytes l end) (sym (append_assoc body piece value))
-    (goes.chunked (piece ++ value) end (chunk piece more taken.size taken.some it));
+      subst (λ l. IsChunked bytes l end) (sym (append_assoc body piece value))
+      (goes.chunked (piece ++ value) end (chunk piece more taken.size taken.some it));
   fails = λ e it. goes.fails e (later piece more taken (subst (λ n. ChunksFail n more e) (length-append body piece) it));
 }
 

@@ -1,5 +1,5 @@
 -- The head at the front of a stream, and why there is none.
-use Rattle.std.specs.Prelude.{◌≡◌, ◌⊎◌, ℕ, ◌≤◌, ◌<◌, List, length, take, map, ⊤}
+use Rattle.std.specs.Prelude.{◌⊎◌, ℕ, ◌≤◌, ◌<◌, List, length, take, map, ⊤}
 use Rattle.httparse.specs.Grammar.{RequestHead, print_request, ReadsRequest, HasNoRequest, NeverHasRequest, MayBecomeRequest}
 use Rattle.httparse.specs.Spans.{RequestExceeds, RequestOverflows, name_and_value}
 use Rattle.kn_head.specs.declared.head.HeadError.{HeadError}

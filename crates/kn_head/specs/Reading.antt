@@ -1,5 +1,5 @@
 -- What the bytes of a stream say: a request with its body, or the first fault in order.
-use Rattle.std.specs.Prelude.{◌≡◌, ℕ, ◌≤◌, Bool, true, false, List, length, take, Option, None, Some, Result, Ok, Err}
+use Rattle.std.specs.Prelude.{◌≡◌, ℕ, ◌≤◌, Bool, true, false, List, length, take, None, Some, Result, Ok, Err, ⊤}
 use Rattle.httparse.specs.Grammar.{RequestHead}
 use Rattle.kn_head.specs.declared.head.Head.{Head}
 use Rattle.kn_head.specs.declared.head.HeadError.{HeadError}
@@ -10,9 +10,13 @@ use Rattle.kn_head.specs.Heads.{BeginsWithHead, HeadFails, fields_of}
 use Rattle.kn_head.specs.Rules.{body_limit, owner_of, form_of}
 use Rattle.kn_head.specs.Chunks.{IsChunked, BytesFail, ChunksFail}
 
+-- the bytes begin with a body of so many
+abbrev pub HasBodyOf : ℕ → List ℕ → List ℕ → Type 0
+HasBodyOf n body bytes = (n ≤ length bytes) × (body ≡ take n bytes)
+
 -- the bytes after the head begin with this body; what follows it is dropped
 abbrev pub HasBody : Form → List ℕ → List ℕ → Type 0
-HasBody (form.Plain n) bytes body = (n ≤ length bytes) × (body ≡ take n bytes)
+HasBody (form.Plain n) bytes body = HasBodyOf n body bytes
 HasBody form.Chunked bytes body = (rest : List ℕ) × IsChunked bytes body rest × (length body ≤ body_limit)
 
 -- they don't
@@ -24,13 +28,37 @@ abbrev pub is_chunked : Form → Bool
 is_chunked (form.Plain n) = false
 is_chunked form.Chunked = true
 
+-- method, target, version and fields are those of the head
+pub record ArePartsOf (text : RequestHead) (method target : List ℕ) (minor : ℕ) (headers : List (List ℕ × List ℕ)) : Type 0 where
+  pub method_is : method ≡ text.method
+  pub target_is : target ≡ text.target
+  pub minor_is : minor ≡ text.minor
+  pub headers_are : headers ≡ fields_of text
+
+-- the bytes begin with a head of these parts, and the rest follows
+pub record HasHead (method target : List ℕ) (minor : ℕ) (headers : List (List ℕ × List ℕ)) (bytes rest : List ℕ) : Type 0 where
+  pub text : RequestHead
+  pub begins : BeginsWithHead bytes text rest
+  pub parts : ArePartsOf text method target minor headers
+
 -- the parts of a request are those of the head of the grammar
 pub record HasParts (text : RequestHead) (head : Head) : Type 0 where
-  pub method : head.method ≡ text.method
-  pub target : head.target ≡ text.target
-  pub minor : head.minor ≡ text.minor
-  pub headers : head.headers ≡ fields_of text
+  pub parts : ArePartsOf text head.method head.target head.minor head.headers
   pub owner : owner_of (fields_of text) ≡ Some (head.namespace, head.revision)
+
+-- the owner is named, or not, or memory is lacking
+abbrev pub GivesOwner : List (List ℕ × List ℕ) → Result (List ℕ × List ℕ) HeadError → Type 0
+GivesOwner headers (Ok owner) = owner_of headers ≡ Some owner
+GivesOwner headers (Err error.NoRevision) = owner_of headers ≡ None
+GivesOwner headers (Err error.Memory) = ⊤
+GivesOwner headers (Err error.ReadFault) = ⊥
+GivesOwner headers (Err error.Malformed) = ⊥
+GivesOwner headers (Err error.TooLong) = ⊥
+GivesOwner headers (Err error.EndedEarly) = ⊥
+GivesOwner headers (Err error.BadLength) = ⊥
+GivesOwner headers (Err error.BodyTooLong) = ⊥
+GivesOwner headers (Err error.BadCoding) = ⊥
+GivesOwner headers (Err error.BadChunk) = ⊥
 
 -- what the bytes say; of want of memory nothing is said
 pub data Reads : List ℕ → Result Head HeadError → Type 0 where

@@ -1,5 +1,5 @@
 -- What the fields of a head settle: whose request it is, and how its body comes.
-use Rattle.std.specs.Prelude.{ℕ, Bool, ◌&&◌, if◌then◌else◌, nat_le, List, [], ◌∷◌, length, codes, Option, None, Some, Result, Ok, Err}
+use Rattle.std.specs.Prelude.{◌≡◌, ◌<◌, ℕ, Bool, ◌&&◌, if◌then◌else◌, nat_le, List, [], ◌∷◌, length, codes, Option, None, Some, Result, Ok, Err}
 use Rattle.std.specs.List.{list_all}
 use Rattle.std.specs.Char.{is_ascii_digit}
 use Rattle.std.specs.Str.Parse.{digits_value}
@@ -7,6 +7,8 @@ use Rattle.kn_head.specs.declared.head.HeadError.{HeadError}
 use Rattle.kn_head.specs.declared.head.HeadError.TheVariants as error
 use Rattle.kn_head.specs.declared.rules.Form.{Form}
 use Rattle.kn_head.specs.declared.rules.Form.TheVariants as form
+use Rattle.kn_head.specs.declared.rules.Values.{Values}
+use Rattle.kn_head.specs.declared.rules.Values.TheVariants as values
 use Rattle.kn_head.specs.Fields.{has_name, values_named}
 
 -- the most bytes of a body
@@ -53,3 +55,9 @@ form_by_coding (c ∷ d ∷ cs) [] = Err error.BadCoding
 -- how the body comes, or why it isn't read
 abbrev pub form_of : List (List ℕ × List ℕ) → Result Form HeadError
 form_of fields = form_by_coding (values_named (codes "transfer-encoding") fields) (values_named (codes "content-length") fields)
+
+-- the values are none, this one, or several
+abbrev pub AreValues : List (List ℕ) → Values → Type 0
+AreValues vs values.Absent = vs ≡ []
+AreValues vs (values.One v) = vs ≡ v.now ∷ []
+AreValues vs values.Several = 1 < length vs

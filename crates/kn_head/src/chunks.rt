@@ -133,7 +133,12 @@ fn take_line_end<S: Source>(source: &mut S, window: &mut Window) -> Result<(), H
 }
 
 /// Takes so many bytes, in whatever pieces they come, and adds them to `body`.
-pub(crate) fn take_bytes<S: Source>(source: &mut S, window: &mut Window, n: usize, body: &mut Vec<u8>) -> Result<(), HeadError>
+pub(crate) fn take_bytes<S: Source>(
+    source: &mut S,
+    window: &mut Window,
+    n: usize,
+    body: &mut Vec<u8>,
+) -> Result<(), HeadError>
     ensures piece { OnOk result ((piece : List ℕ) × (body.new.items ≡ body.old.items ++ piece) × (length piece ≡ n)
         × IfTold (unread window.old (S.left source.old)) (unread window.new (S.left source.new)) (λ bytes rest. bytes ≡ piece ++ rest)) }
     ensures fails { IfErr result (λ e. IfSome (unread window.old (S.left source.old)) (λ bytes. BytesFail n bytes e)) }
@@ -159,7 +164,11 @@ pub(crate) fn take_bytes<S: Source>(source: &mut S, window: &mut Window, n: usiz
 }
 
 /// Takes one chunk and adds its bytes to `body`, or takes the last one with the trailer. Answers whether it took a chunk.
-fn take_chunk<S: Source>(source: &mut S, window: &mut Window, body: &mut Vec<u8>) -> Result<bool, HeadError>
+fn take_chunk<S: Source>(
+    source: &mut S,
+    window: &mut Window,
+    body: &mut Vec<u8>,
+) -> Result<bool, HeadError>
     requires { vec_len body.old ≤ body_limit }
     ensures chunk { result ≡ Ok true → (piece : List ℕ) × (body.new.items ≡ body.old.items ++ piece) × (0 < length piece)
         × IfTold (unread window.old (S.left source.old)) (unread window.new (S.left source.new)) (λ bytes rest. TakesChunk (vec_len body.old) bytes piece rest) }
@@ -195,7 +204,11 @@ fn take_chunk<S: Source>(source: &mut S, window: &mut Window, body: &mut Vec<u8>
 }
 
 /// Takes a body in chunks and decodes it.
-pub(crate) fn take_chunks<S: Source>(alloc: Global, source: &mut S, window: &mut Window) -> Result<Vec<u8>, HeadError>
+pub(crate) fn take_chunks<S: Source>(
+    alloc: Global,
+    source: &mut S,
+    window: &mut Window,
+) -> Result<Vec<u8>, HeadError>
     ensures body { IfOk result (λ body. IfTold (unread window.old (S.left source.old)) (unread window.new (S.left source.new)) (λ bytes rest. IsChunked bytes body.items rest)) }
     ensures short { IfOk result (λ body. vec_len body ≤ body_limit) }
     ensures fails { IfErr result (λ e. IfSome (unread window.old (S.left source.old)) (λ bytes. ChunksFail 0 bytes e)) }

@@ -30,7 +30,11 @@ fn judge(bytes: &[u8], spans: &mut [HeaderSpan]) -> Result<Option<RequestSpans>,
 }
 
 /// Reads until a head is whole, in whatever pieces it comes. The head still waits then.
-pub(crate) fn find_head<S: Source>(source: &mut S, window: &mut Window, spans: &mut [HeaderSpan]) -> Result<RequestSpans, HeadError>
+pub(crate) fn find_head<S: Source>(
+    source: &mut S,
+    window: &mut Window,
+    spans: &mut [HeaderSpan],
+) -> Result<RequestSpans, HeadError>
     requires { length spans.old ≡ room }
     ensures whole { IfOk result (λ r. (h : RequestHead) × IsRequestAt window.new spans.new r h × (length h.fields ≤ room)) }
     ensures within { IfOk result (λ r. IsRequestWithin window.new spans.new r) }

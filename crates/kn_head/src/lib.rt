@@ -7,9 +7,12 @@ mod fields;
 mod find;
 mod forward;
 mod head;
+mod parts;
+mod read;
 mod rules;
 mod window;
 
 pub use answer::{Answer, answer_bytes};
 pub use forward::forward_bytes;
 pub use head::{Head, HeadError, Headers};
+pub use read::read_head;

@@ -18,6 +18,6 @@ pieces-preserved g c =
     let within : c.min-count.result ≤ length c.wait.new.self = omega (arith, c.bytes-bytes.ensures.len) in
     let grown = c.in-Ok-extend_from_slice.ensures.items ∙ ap (λ l. c.pieces.body.items ++ take c.min-count.result l) c.bytes-bytes.ensures.value in
     record {
-  taken = rw c.advance.ensures (takes_more _ _ _ _ _ _ c.min-count.result c.wait.new.self _ _ c.pieces.invariant.taken few within c.in-Ok.ensures.stays grown);
-  source = draws_more c.pieces.invariant.source c.wait.ensures.source;
-}
+      taken = rw c.advance.ensures (takes_more _ _ _ _ _ _ c.min-count.result c.wait.new.self _ _ c.pieces.invariant.taken few within c.in-Ok.ensures.stays grown);
+      source = draws_more c.pieces.invariant.source c.wait.ensures.source;
+    }

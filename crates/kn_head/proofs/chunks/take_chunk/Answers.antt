@@ -57,5 +57,9 @@ returns-in-Ok-take_line_end-clause-chunk g c =
     let short : vec_len c.args.body.now + c.in-Ok.size ≤ body_limit = omega arith in
     let came = c.in-Ok-take_bytes.ensures.piece in
     let long : 0 < length came.0 = omega (arith, came.2, some) in
-    λ e. (came.0, came.1, long,
-    chunk_taken _ _ _ _ _ c.in-Ok.size came.0 c.in-Ok.ensures.line came.3 c.in-Ok-take_line_end.ensures.end came.2 some short)
+    λ e. (
+      came.0,
+      came.1,
+      long,
+      chunk_taken _ _ _ _ _ c.in-Ok.size came.0 c.in-Ok.ensures.line came.3 c.in-Ok-take_line_end.ensures.end came.2 some short,
+    )

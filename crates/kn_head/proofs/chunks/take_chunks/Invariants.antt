@@ -9,7 +9,7 @@ invariant-chunks g l = record {
   short : vec_len l.body ≤ body_limit;
   goes_on : IfTold (unread l.fn.window (g.S.Source.left l.fn.source)) (unread l.window (g.S.Source.left l.source)) (GoesOn l.body.items);
   source : Draws (g.S.Source.left l.fn.source) (g.S.Source.left l.source) (g.S.Source.apart l.fn.source) (g.S.Source.apart l.source)
-    (g.S.Faulty.faults l.fn.source) (g.S.Faulty.faults l.source);
+      (g.S.Faulty.faults l.fn.source) (g.S.Faulty.faults l.source);
 }
 
 abbrev pub decreases-chunks : goal.decreases-chunks

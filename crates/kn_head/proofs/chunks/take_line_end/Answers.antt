@@ -1,9 +1,4 @@
-use Rattle.std.proofs.Common.{◌≡◌, ◌∷◌, ◌++◌, drop, length, subst, arith}
-use Rattle.kn_head.specs.Chunks.{LineEndFails, line_end_at}
-use Rattle.kn_head.proofs.Pieces.{of_unread}
-use Rattle.kn_head.proofs.Drawing.{draws_more, kept_holds, keeps_more}
-use Rattle.kn_head.proofs.ChunkFronts.{kept_taken}
-use Rattle.kn_head.proofs.Taking.{line_end_found, line_end_lacking, line_end_stopped, open_line_end}
+use Rattle.kn_head.proofs.Drawing.{draws_more, keeps_more}
 use Rattle.kn_head.proofs.chunks.take_line_end.Goals as goal
 
 pub pieces-preserved : goal.pieces-preserved
