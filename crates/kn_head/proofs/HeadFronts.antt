@@ -1,0 +1,47 @@
+-- Why there is no head, of all the bytes, from what the bytes that came say.
+use Rattle.std.proofs.Common.{◌≡◌, ℕ, ◌≤◌, ◌<◌, List, ◌++◌, length, take, Option, None, Some, IfSome, inl, inr, sym, subst, arith, length-append}
+use Rattle.std.proofs.Math.Seq.{take-append_seam}
+use Rattle.kn_head.specs.declared.head.HeadError.{HeadError}
+use Rattle.kn_head.specs.declared.head.HeadError.TheVariants as error
+use Rattle.httparse.specs.Grammar.{NeverHasRequest}
+use Rattle.kn_head.specs.Told.{Stops}
+use Rattle.kn_head.specs.Heads.{limit, IsUnfinished, HasTooManyFields, HeadRefused, HeadFails}
+
+-- the first bytes are those that came
+pub front_is : (waiting more : List ℕ) (n : ℕ) → length waiting ≡ n → take n (waiting ++ more) ≡ waiting
+front_is waiting more n same = subst (λ k. take k (waiting ++ more) ≡ waiting) same (take-append_seam waiting more)
+
+pub head_refused : (e : HeadError) (waiting more : List ℕ) → length waiting ≤ limit → HeadRefused waiting e → HeadFails (waiting ++ more) e
+head_refused error.Malformed waiting more short never =
+    (length waiting, short, subst NeverHasRequest (sym (take-append_seam waiting more)) never)
+head_refused error.TooLong waiting more short many =
+    inl (length waiting, short, subst HasTooManyFields (sym (take-append_seam waiting more)) many)
+head_refused error.ReadFault waiting more short never = tt
+head_refused error.EndedEarly waiting more short never = absurd never
+head_refused error.NoRevision waiting more short never = absurd never
+head_refused error.BadLength waiting more short never = absurd never
+head_refused error.BodyTooLong waiting more short never = absurd never
+head_refused error.Memory waiting more short never = absurd never
+head_refused error.BadCoding waiting more short never = absurd never
+head_refused error.BadChunk waiting more short never = absurd never
+
+-- all room is taken
+pub head_too_long : (waiting more : List ℕ) → length waiting ≡ limit → IsUnfinished waiting → HeadFails (waiting ++ more) error.TooLong
+head_too_long waiting more full open_ =
+    inr (omega (arith, length-append waiting more), subst IsUnfinished (sym (front_is waiting more limit full)) open_)
+
+-- the stream ended or failed
+pub head_stopped : (e : HeadError) (known : Option (List ℕ)) (waiting : List ℕ) → length waiting < limit → IsUnfinished waiting
+    → Stops waiting known e → IfSome known (λ bytes. HeadFails bytes e)
+head_stopped e None waiting short open_ stops = tt
+head_stopped error.EndedEarly (Some bytes) waiting short open_ same =
+    subst (λ b. HeadFails b error.EndedEarly) (sym same) (short, open_)
+head_stopped error.ReadFault (Some bytes) waiting short open_ stops = tt
+head_stopped error.Malformed (Some bytes) waiting short open_ stops = absurd stops
+head_stopped error.TooLong (Some bytes) waiting short open_ stops = absurd stops
+head_stopped error.NoRevision (Some bytes) waiting short open_ stops = absurd stops
+head_stopped error.BadLength (Some bytes) waiting short open_ stops = absurd stops
+head_stopped error.BodyTooLong (Some bytes) waiting short open_ stops = absurd stops
+head_stopped error.Memory (Some bytes) waiting short open_ stops = absurd stops
+head_stopped error.BadCoding (Some bytes) waiting short open_ stops = absurd stops
+head_stopped error.BadChunk (Some bytes) waiting short open_ stops = absurd stops

@@ -1,0 +1,13 @@
+use Rattle.kn_head.specs.Told.{unread, Draws}
+use Rattle.kn_head.proofs.Taking.{HasTaken}
+use Rattle.kn_head.proofs.chunks.take_bytes.Given as goal
+
+abbrev pub invariant-pieces : goal.invariant-pieces
+invariant-pieces g l = record {
+  taken : HasTaken (unread l.fn.window (g.S.Source.left l.fn.source)) (unread l.window (g.S.Source.left l.source)) l.fn.body.items l.body.items l.left l.n;
+  source : Draws (g.S.Source.left l.fn.source) (g.S.Source.left l.source) (g.S.Source.apart l.fn.source) (g.S.Source.apart l.source)
+      (g.S.Faulty.faults l.fn.source) (g.S.Faulty.faults l.source);
+}
+
+abbrev pub decreases-pieces : goal.decreases-pieces
+decreases-pieces g l = l.left

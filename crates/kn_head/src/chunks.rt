@@ -1,0 +1,226 @@
+//! A body in chunks.
+ghost use Rattle.std.specs.Prelude.{◌≡◌, ℕ, ◌≤◌, ◌<◌, List, ◌∷◌, ◌++◌, length, vec_len, true, false, Ok, IfOk, IfErr, IfSome, IfNone, OnOk};
+ghost use Rattle.std.specs.Io.KnownBytes.{Keeps};
+ghost use Rattle.httparse.specs.Grammar.{ChunkLine, Field, LineEnd, ReadsSection};
+ghost use Rattle.httparse.specs.Spans.{IsChunkLineAt, IsSectionAt};
+ghost use Rattle.kn_io.specs.Causes.{Rose};
+ghost use Rattle.kn_head.specs.Told.{unread, IfTold, Draws};
+ghost use Rattle.kn_head.specs.Heads.{room, limit};
+ghost use Rattle.kn_head.specs.Rules.{body_limit};
+ghost use Rattle.kn_head.specs.Chunks.{size_limit, IsSizeLine, IsTrailer, SizeRefused, IsUnfinishedSize, SizeFails, TrailerRefused, IsUnfinishedTrailer, TrailerFails, BytesFail, line_end_at, LineEndFails, TakesChunk, EndsChunks, IsChunked, ChunksFail};
+
+use crate::head::HeadError;
+use crate::window::Window;
+use httparse::spans::{EMPTY_HEADER_SPAN, HeaderSpan, parse_headers};
+use httparse::{Status, parse_chunk_size};
+use kn_io::Source;
+use std::alloc::Global;
+
+/// The size line at the front with where it ends, or that more is wanted, or that it is refused.
+fn judge_size(bytes: &[u8]) -> Result<Option<(usize, u64)>, HeadError>
+    ensures whole { IfOk result (λ found. IfSome found (λ r. (line : ChunkLine) × IsChunkLineAt bytes.now r.0 r.1 line)) }
+    ensures more { IfOk result (λ found. IfNone found (IsUnfinishedSize bytes.now)) }
+    ensures refused { IfErr result (SizeRefused bytes.now) }
+{
+    match parse_chunk_size(bytes) {
+        Ok(Status::Complete(found)) => Ok(Some(found)),
+        Ok(Status::Partial) => Ok(None),
+        Err(_) => Err(HeadError::BadChunk),
+    }
+}
+
+/// The trailer at the front with where it ends, or that more is wanted, or that it is refused.
+fn judge_trailer(bytes: &[u8], spans: &mut [HeaderSpan]) -> Result<Option<usize>, HeadError>
+    requires { length spans.old ≡ room }
+    ensures whole { IfOk result (λ found. IfSome found (λ end. (count : ℕ) × (fields : List Field) × (last : LineEnd) × IsSectionAt bytes.now 0 spans.new end count fields last × (length fields ≤ room))) }
+    ensures more { IfOk result (λ found. IfNone found (IsUnfinishedTrailer bytes.now)) }
+    ensures refused { IfErr result (TrailerRefused bytes.now) }
+{
+    match parse_headers(bytes, spans) {
+        Ok(Status::Complete((end, _))) => Ok(Some(end)),
+        Ok(Status::Partial) => Ok(None),
+        Err(_) => Err(HeadError::BadChunk),
+    }
+}
+
+/// Takes a size line, in whatever pieces it comes.
+fn take_size<S: Source>(source: &mut S, window: &mut Window) -> Result<u64, HeadError>
+    ensures line { IfOk result (λ n. IfTold (unread window.old (S.left source.old)) (unread window.new (S.left source.new)) (λ bytes rest. IsSizeLine bytes n rest)) }
+    ensures fails { IfErr result (λ e. IfSome (unread window.old (S.left source.old)) (λ bytes. SizeFails bytes e)) }
+    ensures fault { result ≡ Err HeadError.ReadFault → Rose (S.Faulty.faults source.old) (S.Faulty.faults source.new) }
+    ensures source { Draws (S.left source.old) (S.left source.new) (S.apart source.old) (S.apart source.new) (S.Faulty.faults source.old) (S.Faulty.faults source.new) }
+{
+    'pieces: loop {
+        let bytes = window.bytes();
+        let count = bytes.len().min(1024);
+        match judge_size(&bytes[..count]) {
+            Ok(Some((end, size))) => {
+                window.advance(end);
+                return Ok(size);
+            }
+            Ok(None) => {}
+            Err(e) => return Err(e),
+        }
+        if count == 1024 {
+            return Err(HeadError::BadChunk);
+        }
+        match window.fill(source) {
+            Ok(()) => {}
+            Err(e) => return Err(e),
+        }
+    }
+}
+
+/// Takes a trailer, in whatever pieces it comes, and drops it.
+fn take_trailer<S: Source>(source: &mut S, window: &mut Window) -> Result<(), HeadError>
+    ensures trailer { OnOk result (IfTold (unread window.old (S.left source.old)) (unread window.new (S.left source.new)) IsTrailer) }
+    ensures fails { IfErr result (λ e. IfSome (unread window.old (S.left source.old)) (λ bytes. TrailerFails bytes e)) }
+    ensures fault { result ≡ Err HeadError.ReadFault → Rose (S.Faulty.faults source.old) (S.Faulty.faults source.new) }
+    ensures source { Draws (S.left source.old) (S.left source.new) (S.apart source.old) (S.apart source.new) (S.Faulty.faults source.old) (S.Faulty.faults source.new) }
+{
+    let mut spans = [EMPTY_HEADER_SPAN; 100];
+    'pieces: loop {
+        match judge_trailer(window.bytes(), &mut spans) {
+            Ok(Some(end)) => {
+                window.advance(end);
+                return Ok(());
+            }
+            Ok(None) => {}
+            Err(e) => return Err(e),
+        }
+        if window.bytes().len() == 16384 {
+            return Err(HeadError::BadChunk);
+        }
+        match window.fill(source) {
+            Ok(()) => {}
+            Err(e) => return Err(e),
+        }
+    }
+}
+
+fn judge_line_end(bytes: &[u8]) -> Result<bool, HeadError>
+    ensures { result ≡ line_end_at bytes.now }
+{
+    match bytes {
+        [] => Ok(false),
+        [first] if *first == b'\r' => Ok(false),
+        [first, second, ..] if *first == b'\r' && *second == b'\n' => Ok(true),
+        _ => Err(HeadError::BadChunk),
+    }
+}
+
+/// Takes CR LF, in whatever pieces it comes.
+fn take_line_end<S: Source>(source: &mut S, window: &mut Window) -> Result<(), HeadError>
+    ensures end { OnOk result (IfTold (unread window.old (S.left source.old)) (unread window.new (S.left source.new)) (λ bytes rest. bytes ≡ 13 ∷ 10 ∷ rest)) }
+    ensures fails { IfErr result (λ e. IfSome (unread window.old (S.left source.old)) (λ bytes. LineEndFails bytes e)) }
+    ensures fault { result ≡ Err HeadError.ReadFault → Rose (S.Faulty.faults source.old) (S.Faulty.faults source.new) }
+    ensures source { Draws (S.left source.old) (S.left source.new) (S.apart source.old) (S.apart source.new) (S.Faulty.faults source.old) (S.Faulty.faults source.new) }
+{
+    'pieces: loop {
+        match judge_line_end(window.bytes()) {
+            Ok(true) => {
+                window.advance(2);
+                return Ok(());
+            }
+            Ok(false) => {}
+            Err(e) => return Err(e),
+        }
+        match window.fill(source) {
+            Ok(()) => {}
+            Err(e) => return Err(e),
+        }
+    }
+}
+
+/// Takes so many bytes, in whatever pieces they come, and adds them to `body`.
+pub(crate) fn take_bytes<S: Source>(
+    source: &mut S,
+    window: &mut Window,
+    n: usize,
+    body: &mut Vec<u8>,
+) -> Result<(), HeadError>
+    ensures piece { OnOk result ((piece : List ℕ) × (body.new.items ≡ body.old.items ++ piece) × (length piece ≡ n)
+        × IfTold (unread window.old (S.left source.old)) (unread window.new (S.left source.new)) (λ bytes rest. bytes ≡ piece ++ rest)) }
+    ensures fails { IfErr result (λ e. IfSome (unread window.old (S.left source.old)) (λ bytes. BytesFail n bytes e)) }
+    ensures fault { result ≡ Err HeadError.ReadFault → Rose (S.Faulty.faults source.old) (S.Faulty.faults source.new) }
+    ensures source { Draws (S.left source.old) (S.left source.new) (S.apart source.old) (S.apart source.new) (S.Faulty.faults source.old) (S.Faulty.faults source.new) }
+{
+    let mut left = n;
+    'pieces: while left > 0 {
+        match window.wait(source) {
+            Ok(()) => {}
+            Err(e) => return Err(e),
+        }
+        let bytes = window.bytes();
+        let count = bytes.len().min(left);
+        match body.extend_from_slice(&bytes[..count]) {
+            Ok(()) => {}
+            Err(_) => return Err(HeadError::Memory),
+        }
+        window.advance(count);
+        left -= count;
+    }
+    Ok(())
+}
+
+/// Takes one chunk and adds its bytes to `body`, or takes the last one with the trailer. Answers whether it took a chunk.
+fn take_chunk<S: Source>(
+    source: &mut S,
+    window: &mut Window,
+    body: &mut Vec<u8>,
+) -> Result<bool, HeadError>
+    requires { vec_len body.old ≤ body_limit }
+    ensures chunk { result ≡ Ok true → (piece : List ℕ) × (body.new.items ≡ body.old.items ++ piece) × (0 < length piece)
+        × IfTold (unread window.old (S.left source.old)) (unread window.new (S.left source.new)) (λ bytes rest. TakesChunk (vec_len body.old) bytes piece rest) }
+    ensures last { result ≡ Ok false → (body.new.items ≡ body.old.items)
+        × IfTold (unread window.old (S.left source.old)) (unread window.new (S.left source.new)) EndsChunks }
+    ensures short { IfOk result (λ _. vec_len body.new ≤ body_limit) }
+    ensures fails { IfErr result (λ e. IfSome (unread window.old (S.left source.old)) (λ bytes. ChunksFail (vec_len body.old) bytes e)) }
+    ensures fault { result ≡ Err HeadError.ReadFault → Rose (S.Faulty.faults source.old) (S.Faulty.faults source.new) }
+    ensures source { Draws (S.left source.old) (S.left source.new) (S.apart source.old) (S.apart source.new) (S.Faulty.faults source.old) (S.Faulty.faults source.new) }
+{
+    let size = match take_size(source, window) {
+        Ok(size) => size,
+        Err(e) => return Err(e),
+    };
+    if size == 0 {
+        return match take_trailer(source, window) {
+            Ok(()) => Ok(false),
+            Err(e) => Err(e),
+        };
+    }
+    let room = 1_048_576 - body.len();
+    if size > room as u64 {
+        return Err(HeadError::BodyTooLong);
+    }
+    match take_bytes(source, window, size as usize, body) {
+        Ok(()) => {}
+        Err(e) => return Err(e),
+    }
+    match take_line_end(source, window) {
+        Ok(()) => Ok(true),
+        Err(e) => Err(e),
+    }
+}
+
+/// Takes a body in chunks and decodes it.
+pub(crate) fn take_chunks<S: Source>(
+    alloc: Global,
+    source: &mut S,
+    window: &mut Window,
+) -> Result<Vec<u8>, HeadError>
+    ensures body { IfOk result (λ body. IfTold (unread window.old (S.left source.old)) (unread window.new (S.left source.new)) (λ bytes rest. IsChunked bytes body.items rest)) }
+    ensures short { IfOk result (λ body. vec_len body ≤ body_limit) }
+    ensures fails { IfErr result (λ e. IfSome (unread window.old (S.left source.old)) (λ bytes. ChunksFail 0 bytes e)) }
+    ensures fault { result ≡ Err HeadError.ReadFault → Rose (S.Faulty.faults source.old) (S.Faulty.faults source.new) }
+    ensures source { Draws (S.left source.old) (S.left source.new) (S.apart source.old) (S.apart source.new) (S.Faulty.faults source.old) (S.Faulty.faults source.new) }
+{
+    let mut body = Vec::new(alloc);
+    'chunks: loop {
+        match take_chunk(source, window, &mut body) {
+            Ok(true) => {}
+            Ok(false) => return Ok(body),
+            Err(e) => return Err(e),
+        }
+    }
+}

@@ -1,0 +1,61 @@
+//! The head at the front of a stream.
+ghost use Rattle.std.specs.Prelude.{◌≡◌, ◌≤◌, length, IfOk, IfErr, IfSome, IfNone, OnOk};
+ghost use Rattle.std.specs.Io.KnownBytes.{Keeps};
+ghost use Rattle.httparse.specs.Grammar.{RequestHead};
+ghost use Rattle.httparse.specs.Spans.{IsRequestAt, IsRequestWithin};
+ghost use Rattle.kn_io.specs.Causes.{Rose};
+ghost use Rattle.kn_head.specs.Told.{unread, Draws};
+ghost use Rattle.kn_head.specs.Heads.{room, limit, IsUnfinished, HeadRefused, HeadFails};
+
+use crate::head::HeadError;
+use crate::window::Window;
+use httparse::spans::{HeaderSpan, RequestSpans, parse_request};
+use httparse::{Error, Status};
+use kn_io::Source;
+
+/// What the bytes that came say: a whole head, or that more is wanted, or why they are none.
+fn judge(bytes: &[u8], spans: &mut [HeaderSpan]) -> Result<Option<RequestSpans>, HeadError>
+    requires { length spans.old ≡ room }
+    ensures whole { IfOk result (λ found. IfSome found (λ r. (h : RequestHead) × IsRequestAt bytes.now spans.new r h × (length h.fields ≤ room))) }
+    ensures within { IfOk result (λ found. IfSome found (λ r. IsRequestWithin bytes.now spans.new r)) }
+    ensures more { IfOk result (λ found. IfNone found (IsUnfinished bytes.now)) }
+    ensures refused { IfErr result (HeadRefused bytes.now) }
+{
+    match parse_request(bytes, spans) {
+        Ok(Status::Complete(head)) => Ok(Some(head)),
+        Ok(Status::Partial) => Ok(None),
+        Err(Error::TooManyHeaders) => Err(HeadError::TooLong),
+        Err(_) => Err(HeadError::Malformed),
+    }
+}
+
+/// Reads until a head is whole, in whatever pieces it comes. The head still waits then.
+pub(crate) fn find_head<S: Source>(
+    source: &mut S,
+    window: &mut Window,
+    spans: &mut [HeaderSpan],
+) -> Result<RequestSpans, HeadError>
+    requires { length spans.old ≡ room }
+    ensures whole { IfOk result (λ r. (h : RequestHead) × IsRequestAt window.new spans.new r h × (length h.fields ≤ room)) }
+    ensures within { IfOk result (λ r. IsRequestWithin window.new spans.new r) }
+    ensures short { OnOk result (length window.new ≤ limit) }
+    ensures stays { OnOk result (Keeps (unread window.old (S.left source.old)) (unread window.new (S.left source.new))) }
+    ensures fails { IfErr result (λ e. IfSome (unread window.old (S.left source.old)) (λ bytes. HeadFails bytes e)) }
+    ensures fault { result ≡ Err HeadError.ReadFault → Rose (S.Faulty.faults source.old) (S.Faulty.faults source.new) }
+    ensures source { Draws (S.left source.old) (S.left source.new) (S.apart source.old) (S.apart source.new) (S.Faulty.faults source.old) (S.Faulty.faults source.new) }
+{
+    'pieces: loop {
+        match judge(window.bytes(), spans) {
+            Ok(Some(head)) => return Ok(head),
+            Ok(None) => {}
+            Err(e) => return Err(e),
+        }
+        if window.bytes().len() == 16384 {
+            return Err(HeadError::TooLong);
+        }
+        match window.fill(source) {
+            Ok(()) => {}
+            Err(e) => return Err(e),
+        }
+    }
+}

@@ -1,0 +1,18 @@
+//! Heads of requests with their bodies: read exactly or refused by name, sent on, and answered.
+#![tactic(auto)]
+
+mod answer;
+mod chunks;
+mod fields;
+mod find;
+mod forward;
+mod head;
+mod parts;
+mod read;
+mod rules;
+mod window;
+
+pub use answer::{Answer, answer_bytes};
+pub use forward::forward_bytes;
+pub use head::{Head, HeadError, Headers};
+pub use read::read_head;
