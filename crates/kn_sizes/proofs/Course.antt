@@ -13,15 +13,15 @@ use Rattle.kn_event.specs.declared.event.Event.{Event}
 use Rattle.kn_event.specs.declared.revision.Spec.{Spec}
 use Rattle.kn_trace.specs.Outcome.{Cancelled, Expired, outcome_of}
 use Rattle.kn_trace.specs.Rows.{assigned_by, ended_by, pod_by, run_by, taken_by}
-use Rattle.kn_trace.specs.Trace.{Trace, entry, assigned, at_pod, contains, each_row, ended, has_begun, has_not_begun, has_run, is_running, live, live_pods, pod_of, waiting}
-use Rattle.kn_trace.specs.Events.{act_row, added, departures, entries_of, expiries, losses, losses_at, lost_with, react}
+use Rattle.kn_trace.specs.Trace.{Trace, entry, assigned, at_pod, contains, each_row, has_not_begun, has_run, is_running, live, live_pods, pod_of, waiting}
+use Rattle.kn_trace.specs.Events.{act_row, departures, entries_of, expiries, losses, losses_at, lost_with, react}
 use Rattle.kn_record.specs.Admission.{is_at, place_at, place_of, placed}
 use Rattle.kn_record.specs.Made.{Holds, IsMade, IsNumbered, IsProper}
 use Rattle.kn_laws.specs.ByAct.{IsByAct}
 use Rattle.kn_sizes.specs.Course.{IsUnfinished, MayEnd}
 use Rattle.kn_record.proofs.Flags.{contains-push, says}
 use Rattle.kn_record.proofs.Members.{same_number}
-use Rattle.kn_record.proofs.Numbers.{filter_member, in_filter, running_parts, waiting_member}
+use Rattle.kn_record.proofs.Numbers.{filter_member, in_filter, waiting_member}
 use Rattle.kn_record.proofs.Steps.{has_not_begun-push, is_running-push}
 use Rattle.kn_record.proofs.Kept.{Holds-kept, Kept, Kept-push, made_kept}
 use Rattle.kn_record.proofs.Reacting.{expiries-hold, or-more}
@@ -122,7 +122,7 @@ runs-row s pod a c t (row.Expire q) r h own on = inl (runs-push c (entry t (row.
 runs-row s pod a c t (row.Cancel q) r h own on = inl (runs-push c (entry t (row.Cancel q)) r on (waiting_idle c q r h on))
 runs-row s pod a c t x r h own on = inl (runs-push c (entry t x) r on refl)
 
-runs-rows : (s : Spec) (pod : ℕ → Option ℕ) (a : Act) (c es : Trace) (r : ℕ) → Holds (IsProper s) c es → EachIs (IsEndBy pod a) es → is_running c r ≡ true → (is_running (c ++ es) r ≡ true) ⊎ MayEnd r (pod r) a
+pub runs-rows : (s : Spec) (pod : ℕ → Option ℕ) (a : Act) (c es : Trace) (r : ℕ) → Holds (IsProper s) c es → EachIs (IsEndBy pod a) es → is_running c r ≡ true → (is_running (c ++ es) r ≡ true) ⊎ MayEnd r (pod r) a
 runs-rows s pod a c [] r h own on = inl (rw (append-nil c) on)
 runs-rows s pod a c (e ∷ es) r h own on = by (runs-row s pod a c e.time e.row r h.0 own.0 on) (λ k. runs-rows s pod a (c ++ e ∷ []) es r h.1 own.1 k)
   where
@@ -143,11 +143,11 @@ pod_there c p r num h = by (pod_of c r) (assigned c r) (has_run c r) (filter_mem
     by (Some q) false true k = ap (λ (n : ℕ). Some n) (eqb-true q p k)
     by (Some q) false false k = ap (λ (n : ℕ). Some n) (eqb-true q p k)
 
-ends-each : (pod : ℕ → Option ℕ) (a : Act) (test : Row → Bool) → ((x : Row) → test x ≡ true → IsEndBy pod a x) → (es : Trace) → Each test es → EachIs (IsEndBy pod a) es
+pub ends-each : (pod : ℕ → Option ℕ) (a : Act) (test : Row → Bool) → ((x : Row) → test x ≡ true → IsEndBy pod a x) → (es : Trace) → Each test es → EachIs (IsEndBy pod a) es
 ends-each pod a test is [] h = tt
 ends-each pod a test is (e ∷ es) h = (is e.row h.0, ends-each pod a test is es h.1)
 
-expire_ends : (pod : ℕ → Option ℕ) (a : Act) (x : Row) → is_expire_row x ≡ true → IsEndBy pod a x
+pub expire_ends : (pod : ℕ → Option ℕ) (a : Act) (x : Row) → is_expire_row x ≡ true → IsEndBy pod a x
 expire_ends pod a (row.Expire r) h = tt
 expire_ends pod a _ h = absurd (cc)
 

@@ -8,3 +8,5 @@ pub mod Lasting
 pub mod Starting
 pub mod Outcomes
 pub mod Course
+pub mod Lasts
+pub mod Finishing

@@ -1,29 +1,20 @@
 -- What a server needs of one request: how it comes, waits, runs and ends.
-use Rattle.std.proofs.Common.{◌≡◌, ℕ, ◌<◌, Bool, true, false, not, ◌&&◌, ◌||◌, ◌⊎◌, inl, inr, List, [], ◌∷◌, ◌++◌, refl, sym, ap, ◌∙◌, arith, append-nil, append_assoc}
+use Rattle.std.proofs.Common.{◌≡◌, ℕ, ◌<◌, Bool, true, false, not, ◌&&◌, ◌||◌, ◌⊎◌, inl, inr, [], ◌∷◌, ◌++◌, refl, sym, ◌∙◌, arith, append-nil, append_assoc}
 use Rattle.std.specs.Prelude.{◌==◌}
 use Rattle.std.proofs.lemmas.Bool.{eqb-true}
 use Rattle.kn_event.specs.declared.entry.Entry.{Entry}
-use Rattle.kn_event.specs.declared.entry.Row.{Row}
-use Rattle.kn_event.specs.declared.entry.Row.TheVariants as row
-use Rattle.kn_event.specs.declared.event.Act.{Act}
-use Rattle.kn_event.specs.declared.event.Act.TheVariants as act
-use Rattle.kn_event.specs.declared.event.Event.{Event}
 use Rattle.kn_event.specs.declared.revision.Spec.{Spec}
 use Rattle.kn_trace.specs.Rows.{ended_by, taken_by}
-use Rattle.kn_trace.specs.Trace.{Trace, entry, arrivals, assigned, contains, each_row, ended, has_begun, has_not_begun, has_run, is_running, waiting}
-use Rattle.kn_trace.specs.Events.{added, react}
+use Rattle.kn_trace.specs.Trace.{Trace, arrivals, assigned, contains, each_row, ended, has_begun, has_not_begun, has_run, is_running, waiting}
 use Rattle.kn_record.specs.Made.{Holds, IsMade, IsProper}
-use Rattle.kn_laws.specs.ByAct.{IsByAct}
 use Rattle.kn_record.proofs.Flags.{arrivals-push, contains-push, says}
 use Rattle.kn_record.proofs.Members.{or-true}
 use Rattle.kn_record.proofs.Numbers.{false_unless, filter_member, in_filter, running_parts, says-true, waiting_member}
 use Rattle.kn_record.proofs.Steps.{is_running-push}
-use Rattle.kn_record.proofs.Kept.{made_kept}
 use Rattle.kn_record.proofs.Order.{taken_next}
-use Rattle.kn_record.proofs.Running.{react-holds}
-use Rattle.kn_laws.proofs.Acts.{EachIs, react-by}
 use Rattle.kn_sizes.proofs.Counts.{not_begun-less}
-use Rattle.kn_sizes.proofs.Lasting.{added-holds}
+use Rattle.kn_sizes.specs.Stays.{Stays}
+use Rattle.kn_sizes.proofs.Lasting.{stays_over}
 
 -- ---- waiting is left for good
 
@@ -48,8 +39,8 @@ waits_no_longer s c (e ∷ es) r h less out =
     rw (append_assoc c (e ∷ []) es) at (waits_no_longer s (c ++ e ∷ []) es r h.1 (omega arith) (waits_no_more s c e r h.0 less out))
 
 -- a request that has come and does not wait never waits again, whatever happens
-pub waits_once : (s : Spec) (c : Trace) (es : List Event) (r : ℕ) → IsMade s c → r < arrivals c → contains r (waiting c) ≡ false → contains r (waiting (c ++ added s c es)) ≡ false
-waits_once s c es r made less out = waits_no_longer s c (added s c es) r (added-holds s c es made) less out
+pub waits_once : (s : Spec) (c : Trace) (r : ℕ) → IsMade s c → r < arrivals c → contains r (waiting c) ≡ false → Stays s c (λ d. contains r (waiting d) ≡ false)
+waits_once s c r made less out = stays_over s (λ d. contains r (waiting d) ≡ false) c made (λ es h. waits_no_longer s c es r h less out)
 
 -- ---- running is left by an end alone
 

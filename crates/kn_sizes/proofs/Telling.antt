@@ -138,7 +138,7 @@ outcome_named _ = inl refl
 
 -- ---- where the arrival's request stands
 
-arrived-less : (c : Trace) (r : ℕ) → r < arrivals c → nat_lt r (arrivals c) ≡ true
+pub arrived-less : (c : Trace) (r : ℕ) → r < arrivals c → nat_lt r (arrivals c) ≡ true
 arrived-less c r h = grind (arith, nat_tests)
 
 -- a refused request has ended

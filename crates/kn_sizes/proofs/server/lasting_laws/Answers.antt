@@ -1,0 +1,16 @@
+use Rattle.kn_sizes.proofs.Finishing.{runs_on}
+use Rattle.kn_sizes.proofs.Lasts.{arrivals_stay, assigned_stays, known_stays, outcome_lasts, pod_stays, proxied_stays}
+use Rattle.kn_sizes.proofs.Serving.{waits_once}
+use Rattle.kn_sizes.proofs.server.lasting_laws.Goals as goal
+
+pub returns : goal.returns
+returns c = record {
+  arrivals = arrivals_stay;
+  known = known_stays;
+  waits = waits_once;
+  outcome = outcome_lasts;
+  pod = pod_stays;
+  assigned = assigned_stays;
+  proxied = proxied_stays;
+  runs = runs_on;
+}
