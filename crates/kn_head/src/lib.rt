@@ -16,3 +16,6 @@ pub use answer::{Answer, answer_bytes};
 pub use forward::forward_bytes;
 pub use head::{Head, HeadError, Headers};
 pub use read::read_head;
+
+#[cfg(test)]
+mod tests;

@@ -1,0 +1,596 @@
+use super::{Answer, HeadError, answer_bytes, forward_bytes, read_head};
+use kn_event::Text;
+use kn_io::{Failed, Faulty, MemSource, Source};
+use std::alloc::{AllocError, Global};
+use std::process::Abort;
+use std::test::Fail;
+
+/// A source that gives at most so many bytes at a time, and at least one.
+#[derive(Drop)]
+struct Pieces {
+    source: MemSource,
+    most: usize,
+}
+
+impl Faulty for Pieces {
+    ghost faults = { λ s. s.source.plan.faults };
+
+    fn faults(&self) -> u64 {
+        self.source.faults()
+    }
+}
+
+impl Source for Pieces {
+    ghost use Rattle.std.specs.Prelude.{Some, []};
+
+    ghost left = { λ s. Some s.source.left };
+
+    ghost apart = { λ _. Some [] };
+
+    fn read(&mut self, buf: &mut [u8]) -> Result<usize, Failed> {
+        let most = buf.len().min(self.most.max(1));
+        self.source.read(&mut buf[..most])
+    }
+}
+
+/// What is sent on, not through the activator, or why the request is refused.
+fn sent_on(
+    alloc: Global,
+    input: &[u8],
+    most: usize,
+    proxied: bool,
+    fail: Vec<u64>,
+) -> Result<Text, HeadError> {
+    let bytes = match Vec::from_slice(alloc, input) {
+        Ok(bytes) => bytes,
+        Err(_) => return Err(HeadError::Memory),
+    };
+    let mut source = Pieces {
+        source: MemSource::new(bytes, fail),
+        most,
+    };
+    let head = read_head(alloc, &mut source)?;
+    match forward_bytes(alloc, &head, proxied) {
+        Ok(text) => Ok(text),
+        Err(_) => Err(HeadError::Memory),
+    }
+}
+
+fn expect_sent(
+    rt: &impl Abort,
+    alloc: Global,
+    input: &[u8],
+    most: usize,
+    proxied: bool,
+    expected: &[u8],
+) {
+    match sent_on(alloc, input, most, proxied, Vec::new(alloc)) {
+        Ok(text) => assert_eq!(rt; text.bytes(), expected),
+        Err(e) => panic!(rt; "refused: {e:?}"),
+    }
+}
+
+fn expect_refused(rt: &impl Abort, alloc: Global, input: &[u8], most: usize, expected: HeadError) {
+    match sent_on(alloc, input, most, false, Vec::new(alloc)) {
+        Ok(_) => panic!(rt; "not refused: {expected:?}"),
+        Err(e) => assert_eq!(rt; e, expected),
+    }
+}
+
+/// The texts one after the other.
+fn joined(alloc: Global, parts: &[&[u8]]) -> Result<Vec<u8>, AllocError> {
+    let mut all = Vec::new(alloc);
+    for part in parts {
+        all.extend_from_slice(part)?;
+    }
+    Ok(all)
+}
+
+const START: &[u8] =
+    b"POST /a HTTP/1.1\r\nKnative-Serving-Namespace: default\r\nKnative-Serving-Revision: fixed\r\n";
+
+const ROW: &[u8] =
+    b"GET /a HTTP/1.1\r\nHost: h\r\nKnative-Serving-Namespace: default\r\nKnative-Serving-Revision: fixed\r\nConnection: keep-alive\r\n\r\n";
+
+const CHUNKED_ROW: &[u8] =
+    b"POST /a HTTP/1.1\r\nHost: h\r\nKnative-Serving-Namespace: default\r\nKnative-Serving-Revision: fixed\r\nConnection: keep-alive\r\nTransfer-Encoding: chunked\r\n\r\n4\r\nwiki\r\n0\r\n\r\n";
+
+#[test]
+fn forwarded_head(rt: HostRuntime) {
+    let proxied =
+        b"GET /a HTTP/1.1\r\nHost: h\r\nK-Proxy-Request: activator\r\nConnection: close\r\n\r\n";
+    for most in 1..ROW.len() + 1 {
+        expect_sent(&rt, rt.alloc(), ROW, most, true, proxied);
+    }
+    expect_sent(
+        &rt,
+        rt.alloc(),
+        ROW,
+        9,
+        false,
+        b"GET /a HTTP/1.1\r\nHost: h\r\nConnection: close\r\n\r\n",
+    );
+    for end in 0..ROW.len() {
+        expect_refused(&rt, rt.alloc(), &ROW[..end], 7, HeadError::EndedEarly);
+    }
+    expect_refused(
+        &rt,
+        rt.alloc(),
+        b"GET /a HTTP/1.1\r\nHost: h\r\n\r\n",
+        100,
+        HeadError::NoRevision,
+    );
+}
+
+#[test]
+fn chunked_post(rt: HostRuntime) {
+    let sent =
+        b"POST /a HTTP/1.1\r\nHost: h\r\nContent-Length: 4\r\nK-Proxy-Request: activator\r\nConnection: close\r\n\r\nwiki";
+    for most in 1..CHUNKED_ROW.len() + 1 {
+        expect_sent(&rt, rt.alloc(), CHUNKED_ROW, most, true, sent);
+    }
+    for end in 0..CHUNKED_ROW.len() {
+        expect_refused(
+            &rt,
+            rt.alloc(),
+            &CHUNKED_ROW[..end],
+            5,
+            HeadError::EndedEarly,
+        );
+    }
+}
+
+/// A read that fails is a fault, whichever it is, and the last one is not made.
+#[test]
+fn failing_reads(rt: HostRuntime) -> Result<(), Fail> {
+    for k in 0..CHUNKED_ROW.len() as u64 {
+        let fail = [k].to_vec(rt.alloc())?;
+        match sent_on(rt.alloc(), CHUNKED_ROW, 1, true, fail) {
+            Ok(_) => panic!(rt; "no fault"),
+            Err(e) => assert_eq!(rt; e, HeadError::ReadFault),
+        }
+    }
+    let fail = [CHUNKED_ROW.len() as u64].to_vec(rt.alloc())?;
+    assert!(rt; sent_on(rt.alloc(), CHUNKED_ROW, 1, true, fail).is_ok());
+    Ok(())
+}
+
+/// What follows the three lines of `START`, and the error.
+const REFUSED: [(&[u8], HeadError); 40] = [
+    (
+        b"Content-Length: 4\r\nContent-Length: 4\r\n\r\nwiki",
+        HeadError::BadLength,
+    ),
+    (b"Content-Length: \r\n\r\n", HeadError::BadLength),
+    (b"Content-Length: +4\r\n\r\nwiki", HeadError::BadLength),
+    (b"Content-Length: 4,4\r\n\r\nwiki", HeadError::BadLength),
+    (
+        b"Content-Length: 00000000000000000004\r\n\r\nwiki",
+        HeadError::BadLength,
+    ),
+    (
+        b"Content-Length: 9999999999999999999\r\n\r\n",
+        HeadError::BodyTooLong,
+    ),
+    (b"Content-Length: 1048577\r\n\r\n", HeadError::BodyTooLong),
+    (b"Content-Length: 5\r\n\r\nwiki", HeadError::EndedEarly),
+    (
+        b"Content-Length: x\r\nTransfer-Encoding: chunked\r\n\r\n0\r\n\r\n",
+        HeadError::BadLength,
+    ),
+    (
+        b"Transfer-Encoding: gzip, chunked\r\n\r\n",
+        HeadError::BadCoding,
+    ),
+    (
+        b"Transfer-Encoding: chunked\r\nTransfer-Encoding: chunked\r\n\r\n",
+        HeadError::BadCoding,
+    ),
+    (b"Transfer-Encoding: \r\n\r\n", HeadError::BadCoding),
+    (
+        b"Knative-Serving-Revision: other\r\n\r\n",
+        HeadError::NoRevision,
+    ),
+    (
+        b"KNATIVE-serving-NAMESPACE: default\r\n\r\n",
+        HeadError::NoRevision,
+    ),
+    (
+        b"Content-Length: x\r\nKnative-Serving-Revision: fixed\r\n\r\n",
+        HeadError::NoRevision,
+    ),
+    (b"X: a\r\n b\r\n\r\n", HeadError::Malformed),
+    (b"X: a\0b\r\n\r\n", HeadError::Malformed),
+    (b"X : a\r\n\r\n", HeadError::Malformed),
+    (b": a\r\n\r\n", HeadError::Malformed),
+    (b"X: a\rb\r\n\r\n", HeadError::Malformed),
+    (b"X\r\n\r\n", HeadError::Malformed),
+    (b"Transfer-Encoding: chunked\r\n\r\n", HeadError::EndedEarly),
+    (
+        b"Transfer-Encoding: chunked\r\n\r\ng\r\n",
+        HeadError::BadChunk,
+    ),
+    (
+        b"Transfer-Encoding: chunked\r\n\r\n\r\n",
+        HeadError::BadChunk,
+    ),
+    (
+        b"Transfer-Encoding: chunked\r\n\r\n4\nwiki\r\n0\r\n\r\n",
+        HeadError::BadChunk,
+    ),
+    (
+        b"Transfer-Encoding: chunked\r\n\r\n4\r\nwiki",
+        HeadError::EndedEarly,
+    ),
+    (
+        b"Transfer-Encoding: chunked\r\n\r\n4\r\nwikiX",
+        HeadError::BadChunk,
+    ),
+    (
+        b"Transfer-Encoding: chunked\r\n\r\n4\r\nwiki\r",
+        HeadError::EndedEarly,
+    ),
+    (
+        b"Transfer-Encoding: chunked\r\n\r\n4\r\nwiki\rX",
+        HeadError::BadChunk,
+    ),
+    (
+        b"Transfer-Encoding: chunked\r\n\r\n4\r\nwiki\n",
+        HeadError::BadChunk,
+    ),
+    (
+        b"Transfer-Encoding: chunked\r\n\r\n4\r\nwiki\r\n",
+        HeadError::EndedEarly,
+    ),
+    (
+        b"Transfer-Encoding: chunked\r\n\r\n100001\r\n",
+        HeadError::BodyTooLong,
+    ),
+    (
+        b"Transfer-Encoding: chunked\r\n\r\nffffffffffffffff\r\n",
+        HeadError::BodyTooLong,
+    ),
+    (
+        b"Transfer-Encoding: chunked\r\n\r\n1\r\na\r\n100000\r\n",
+        HeadError::BodyTooLong,
+    ),
+    (
+        b"Transfer-Encoding: chunked\r\n\r\n10000000000000000\r\n",
+        HeadError::BadChunk,
+    ),
+    (
+        b"Transfer-Encoding: chunked\r\n\r\n0\r\nX : a\r\n\r\n",
+        HeadError::BadChunk,
+    ),
+    (
+        b"Transfer-Encoding: chunked\r\n\r\n0\r\nX: a\r\n",
+        HeadError::EndedEarly,
+    ),
+    (
+        b"Transfer-Encoding: chunked\r\n\r\n0\r\n",
+        HeadError::EndedEarly,
+    ),
+    (
+        b"Transfer-Encoding: chunked\r\n\r\n0",
+        HeadError::EndedEarly,
+    ),
+    (
+        b"Transfer-Encoding: chunked\r\n\r\n-1\r\n",
+        HeadError::BadChunk,
+    ),
+];
+
+#[test]
+fn refused_heads(rt: HostRuntime) -> Result<(), Fail> {
+    for (rest, expected) in REFUSED {
+        let input = joined(rt.alloc(), &[START, rest])?;
+        expect_refused(&rt, rt.alloc(), &input, 16384, expected);
+        expect_refused(&rt, rt.alloc(), &input, 1, expected);
+    }
+    expect_refused(&rt, rt.alloc(), b"", 1, HeadError::EndedEarly);
+    expect_refused(
+        &rt,
+        rt.alloc(),
+        b"GET /a HTTP/2.0\r\n\r\n",
+        1,
+        HeadError::Malformed,
+    );
+    expect_refused(
+        &rt,
+        rt.alloc(),
+        b"GET  /a HTTP/1.1\r\n\r\n",
+        1,
+        HeadError::Malformed,
+    );
+    Ok(())
+}
+
+/// What follows the three lines of `START`, and what follows the request line that is sent on.
+const SENT: [(&[u8], &[u8]); 8] = [
+    (
+        b"Content-Length: 0004\r\n\r\nwikiMORE",
+        b"Content-Length: 0004\r\nConnection: close\r\n\r\nwiki",
+    ),
+    (
+        b"X:\r\nx: \t b \t\r\nX: c\r\n\r\n",
+        b"X: \r\nx: b\r\nX: c\r\nConnection: close\r\n\r\n",
+    ),
+    (b"X: a\n\n", b"X: a\r\nConnection: close\r\n\r\n"),
+    (
+        b"X: \xff\x80\r\n\r\n",
+        b"X: \xff\x80\r\nConnection: close\r\n\r\n",
+    ),
+    (
+        b"keep-alive: 1\r\nProxy-Connection: 1\r\nte: trailers\r\nUPGRADE: h2c\r\nK-Proxy-Request: activator\r\nconnection: x\r\nTrailer: x\r\n\r\n",
+        b"Trailer: x\r\nConnection: close\r\n\r\n",
+    ),
+    (
+        b"transfer-encoding: \tCHUNKED \r\nTRAILER: X\r\nA: b\r\n\r\n4;a=b\r\nwiki\r\n5 \r\npedia\r\n0\r\nX: a\r\n\r\nMORE",
+        b"A: b\r\nContent-Length: 9\r\nConnection: close\r\n\r\nwikipedia",
+    ),
+    (
+        b"Transfer-Encoding: chunked\r\n\r\n000A\r\n0123456789\r\n00\r\n\n",
+        b"Content-Length: 10\r\nConnection: close\r\n\r\n0123456789",
+    ),
+    (
+        b"Content-Length: 0\r\n\r\n",
+        b"Content-Length: 0\r\nConnection: close\r\n\r\n",
+    ),
+];
+
+#[test]
+fn sent_heads(rt: HostRuntime) -> Result<(), Fail> {
+    for (rest, expected) in SENT {
+        let input = joined(rt.alloc(), &[START, rest])?;
+        let output = joined(rt.alloc(), &[b"POST /a HTTP/1.1\r\n", expected])?;
+        expect_sent(&rt, rt.alloc(), &input, 16384, false, &output);
+        expect_sent(&rt, rt.alloc(), &input, 1, false, &output);
+    }
+    Ok(())
+}
+
+/// What curl 7.88.1, Python 3.11 (http.client, urllib) and Wget 1.21.3 sent, recorded once.
+#[test]
+fn clients(rt: HostRuntime) {
+    let alloc = rt.alloc();
+    expect_sent(
+        &rt,
+        alloc,
+        b"GET /a HTTP/1.1\r\nHost: 127.0.0.1:58825\r\nUser-Agent: curl/7.88.1\r\nAccept: */*\r\nKnative-Serving-Namespace: default\r\nKnative-Serving-Revision: fixed\r\n\r\n",
+        16384,
+        false,
+        b"GET /a HTTP/1.1\r\nHost: 127.0.0.1:58825\r\nUser-Agent: curl/7.88.1\r\nAccept: */*\r\nConnection: close\r\n\r\n",
+    );
+    expect_sent(
+        &rt,
+        alloc,
+        b"POST /a HTTP/1.1\r\nHost: 127.0.0.1:58201\r\nUser-Agent: curl/7.88.1\r\nAccept: */*\r\nKnative-Serving-Namespace: default\r\nKnative-Serving-Revision: fixed\r\nTransfer-Encoding: chunked\r\nContent-Type: application/x-www-form-urlencoded\r\n\r\n4\r\nwiki\r\n0\r\n\r\n",
+        16384,
+        true,
+        b"POST /a HTTP/1.1\r\nHost: 127.0.0.1:58201\r\nUser-Agent: curl/7.88.1\r\nAccept: */*\r\nContent-Type: application/x-www-form-urlencoded\r\nContent-Length: 4\r\nK-Proxy-Request: activator\r\nConnection: close\r\n\r\nwiki",
+    );
+    expect_sent(
+        &rt,
+        alloc,
+        b"POST /a HTTP/1.1\r\nHost: 127.0.0.1:53573\r\nAccept-Encoding: identity\r\nContent-Length: 4\r\nKnative-Serving-Namespace: default\r\nKnative-Serving-Revision: fixed\r\n\r\nwiki",
+        16384,
+        true,
+        b"POST /a HTTP/1.1\r\nHost: 127.0.0.1:53573\r\nAccept-Encoding: identity\r\nContent-Length: 4\r\nK-Proxy-Request: activator\r\nConnection: close\r\n\r\nwiki",
+    );
+    expect_sent(
+        &rt,
+        alloc,
+        b"POST /a HTTP/1.1\r\nHost: 127.0.0.1:40435\r\nAccept-Encoding: identity\r\nTransfer-Encoding: chunked\r\nKnative-Serving-Namespace: default\r\nKnative-Serving-Revision: fixed\r\n\r\n2\r\nwi\r\n2\r\nki\r\n0\r\n\r\n",
+        16384,
+        false,
+        b"POST /a HTTP/1.1\r\nHost: 127.0.0.1:40435\r\nAccept-Encoding: identity\r\nContent-Length: 4\r\nConnection: close\r\n\r\nwiki",
+    );
+    expect_sent(
+        &rt,
+        alloc,
+        b"GET /a HTTP/1.1\r\nAccept-Encoding: identity\r\nHost: 127.0.0.1:43457\r\nUser-Agent: Python-urllib/3.11\r\nKnative-Serving-Namespace: default\r\nKnative-Serving-Revision: fixed\r\nConnection: close\r\n\r\n",
+        16384,
+        false,
+        b"GET /a HTTP/1.1\r\nAccept-Encoding: identity\r\nHost: 127.0.0.1:43457\r\nUser-Agent: Python-urllib/3.11\r\nConnection: close\r\n\r\n",
+    );
+    expect_sent(
+        &rt,
+        alloc,
+        b"GET /a HTTP/1.1\r\nHost: 127.0.0.1:44089\r\nUser-Agent: Wget/1.21.3\r\nAccept: */*\r\nAccept-Encoding: identity\r\nConnection: Keep-Alive\r\nKnative-Serving-Namespace: default\r\nKnative-Serving-Revision: fixed\r\n\r\n",
+        16384,
+        false,
+        b"GET /a HTTP/1.1\r\nHost: 127.0.0.1:44089\r\nUser-Agent: Wget/1.21.3\r\nAccept: */*\r\nAccept-Encoding: identity\r\nConnection: close\r\n\r\n",
+    );
+}
+
+/// A head of so many bytes, by one long field.
+fn long_head(alloc: Global, size: usize) -> Result<Vec<u8>, AllocError> {
+    let mut head = joined(alloc, &[START, b"X: "])?;
+    while head.len() + 4 < size {
+        head.push(b'x')?;
+    }
+    head.extend_from_slice(b"\r\n\r\n")?;
+    Ok(head)
+}
+
+/// A head of so many fields.
+fn head_of(alloc: Global, fields: usize) -> Result<Vec<u8>, AllocError> {
+    let mut head = joined(alloc, &[START])?;
+    for _ in 2..fields {
+        head.extend_from_slice(b"X: y\r\n")?;
+    }
+    head.extend_from_slice(b"\r\n")?;
+    Ok(head)
+}
+
+/// The input, `times` times a text, and then another.
+fn repeated(
+    alloc: Global,
+    start: &[u8],
+    text: &[u8],
+    times: usize,
+    end: &[u8],
+) -> Result<Vec<u8>, AllocError> {
+    let mut all = joined(alloc, &[START, start])?;
+    for _ in 0..times {
+        all.extend_from_slice(text)?;
+    }
+    all.extend_from_slice(end)?;
+    Ok(all)
+}
+
+fn body_length(alloc: Global, input: Vec<u8>) -> Result<usize, HeadError> {
+    let head = read_head(alloc, &mut MemSource::new(input, Vec::new(alloc)))?;
+    Ok(head.body.bytes().len())
+}
+
+#[test]
+fn limits(rt: HostRuntime) -> Result<(), Fail> {
+    let alloc = rt.alloc();
+    assert_eq!(rt; body_length(alloc, long_head(alloc, 16384)?), Ok(0));
+    assert_eq!(rt;
+        body_length(alloc, long_head(alloc, 16385)?),
+        Err(HeadError::TooLong)
+    );
+    assert_eq!(rt; body_length(alloc, head_of(alloc, 100)?), Ok(0));
+    assert_eq!(rt;
+        body_length(alloc, head_of(alloc, 101)?),
+        Err(HeadError::TooLong)
+    );
+    let chunked = b"Transfer-Encoding: chunked\r\n\r\n";
+    let most = repeated(
+        alloc,
+        b"Content-Length: 1048576\r\n\r\n",
+        b"0123456789abcdef",
+        65536,
+        b"",
+    )?;
+    assert_eq!(rt; body_length(alloc, most), Ok(1_048_576));
+    let short = repeated(
+        alloc,
+        b"Content-Length: 1048576\r\n\r\n",
+        b"0123456789abcdef",
+        65535,
+        b"0123456789abcde",
+    )?;
+    assert_eq!(rt; body_length(alloc, short), Err(HeadError::EndedEarly));
+    let most = repeated(
+        alloc,
+        chunked,
+        b"10\r\n0123456789abcdef\r\n",
+        65536,
+        b"0\r\n\r\n",
+    )?;
+    assert_eq!(rt; body_length(alloc, most), Ok(1_048_576));
+    let over = repeated(
+        alloc,
+        chunked,
+        b"10\r\n0123456789abcdef\r\n",
+        65536,
+        b"1\r\n",
+    )?;
+    assert_eq!(rt; body_length(alloc, over), Err(HeadError::BodyTooLong));
+    // a size line of 1,024 bytes, and one of a byte more
+    let line = repeated(alloc, chunked, b"0", 15, b"1;")?;
+    assert_eq!(rt;
+        body_length(alloc, repeated_line(alloc, &line, 1005)?),
+        Ok(1)
+    );
+    assert_eq!(rt;
+        body_length(alloc, repeated_line(alloc, &line, 1006)?),
+        Err(HeadError::BadChunk)
+    );
+    // trailers of 100 and 101 fields, and one that is too long
+    let trailer = repeated(
+        alloc,
+        b"Transfer-Encoding: chunked\r\n\r\n0\r\n",
+        b"X: y\r\n",
+        100,
+        b"\r\n",
+    )?;
+    assert_eq!(rt; body_length(alloc, trailer), Ok(0));
+    let trailer = repeated(
+        alloc,
+        b"Transfer-Encoding: chunked\r\n\r\n0\r\n",
+        b"X: y\r\n",
+        101,
+        b"\r\n",
+    )?;
+    assert_eq!(rt; body_length(alloc, trailer), Err(HeadError::BadChunk));
+    let trailer = repeated(
+        alloc,
+        b"Transfer-Encoding: chunked\r\n\r\n0\r\nX: ",
+        b"y",
+        16384,
+        b"\r\n\r\n",
+    )?;
+    assert_eq!(rt; body_length(alloc, trailer), Err(HeadError::BadChunk));
+    Ok(())
+}
+
+/// An input whose size line goes on for so many bytes, then a chunk of one byte and the last.
+fn repeated_line(alloc: Global, line: &[u8], times: usize) -> Result<Vec<u8>, AllocError> {
+    let mut all = joined(alloc, &[line])?;
+    for _ in 0..times {
+        all.push(b'x')?;
+    }
+    all.extend_from_slice(b"\r\na\r\n0\r\n\r\n")?;
+    Ok(all)
+}
+
+/// The table of own answers: status, length and text.
+const ANSWERS: [(Answer, &[u8]); 10] = [
+    (
+        Answer::BadHead,
+        b"HTTP/1.1 400 Bad Request\r\nContent-Type: text/plain\r\nContent-Length: 11\r\nConnection: close\r\n\r\nbad request",
+    ),
+    (
+        Answer::NoSuchRevision,
+        b"HTTP/1.1 404 Not Found\r\nContent-Type: text/plain\r\nContent-Length: 16\r\nConnection: close\r\n\r\nunknown revision",
+    ),
+    (
+        Answer::BodyTooLong,
+        b"HTTP/1.1 413 Payload Too Large\r\nContent-Type: text/plain\r\nContent-Length: 21\r\nConnection: close\r\n\r\nrequest body too long",
+    ),
+    (
+        Answer::HeadTooLong,
+        b"HTTP/1.1 431 Request Header Fields Too Large\r\nContent-Type: text/plain\r\nContent-Length: 21\r\nConnection: close\r\n\r\nrequest head too long",
+    ),
+    (
+        Answer::BadCoding,
+        b"HTTP/1.1 501 Not Implemented\r\nContent-Type: text/plain\r\nContent-Length: 32\r\nConnection: close\r\n\r\ntransfer coding is not supported",
+    ),
+    (
+        Answer::LinkFailed,
+        b"HTTP/1.1 502 Bad Gateway\r\nContent-Type: text/plain\r\nContent-Length: 15\r\nConnection: close\r\n\r\npod call failed",
+    ),
+    (
+        Answer::QueueFull,
+        b"HTTP/1.1 503 Service Unavailable\r\nContent-Type: text/plain\r\nContent-Length: 26\r\nConnection: close\r\n\r\npending request queue full",
+    ),
+    (
+        Answer::Overload,
+        b"HTTP/1.1 503 Service Unavailable\r\nContent-Type: text/plain\r\nContent-Length: 17\r\nConnection: close\r\n\r\ntoo many requests",
+    ),
+    (
+        Answer::Expired,
+        b"HTTP/1.1 503 Service Unavailable\r\nContent-Type: text/plain\r\nContent-Length: 27\r\nConnection: close\r\n\r\ntimed out waiting for a pod",
+    ),
+    (
+        Answer::HistoryFull,
+        b"HTTP/1.1 507 Insufficient Storage\r\nContent-Type: text/plain\r\nContent-Length: 12\r\nConnection: close\r\n\r\nhistory full",
+    ),
+];
+
+#[test]
+fn answers(rt: HostRuntime) {
+    for (answer, expected) in ANSWERS {
+        match answer_bytes(rt.alloc(), answer) {
+            Ok(text) => assert_eq!(rt; text.bytes(), expected),
+            Err(_) => panic!(rt; "out of memory"),
+        }
+    }
+    assert_eq!(rt; HeadError::NoRevision.answer(), Some(Answer::BadHead));
+    assert_eq!(rt; HeadError::BadCoding.answer(), Some(Answer::BadCoding));
+    assert_eq!(rt; HeadError::ReadFault.answer(), None);
+}
