@@ -17,7 +17,8 @@ use Rattle.kn_record.proofs.Kept.{Holds-at, Holds-law, kept-nil, made_kept}
 use Rattle.kn_record.proofs.Members.{filter-members}
 use Rattle.kn_record.proofs.Words.{others-length}
 use Rattle.kn_sizes.proofs.Ends.{is_live, live-end, live_distinct}
-use Rattle.kn_past.specs.Loads.{AreTimesInOrder, EndsLive, after_by, after_in, after_sum}
+use Rattle.kn_laws.specs.History.{AreTimesInOrder}
+use Rattle.kn_past.specs.Loads.{EndsLive, after_by, after_in, after_sum}
 use Rattle.kn_past.proofs.LoadSteps.{load-end, load-quiet, load-start}
 use Rattle.kn_past.proofs.Made.{AreUpTo, made_keeps, ordered_keeps}
 use Rattle.kn_past.proofs.Turns.{Turn, turn}
@@ -103,7 +104,7 @@ live-more c e r t h on =
     ap length (live-rows c e h) ∙ rw t (ap length (filter-append test (each_row taken_by c) (r ∷ [])) ∙ length-append (filter test (each_row taken_by c)) (filter test (r ∷ [])) ∙ rw on refl)
 
 -- by a proper row: one more, one fewer, or as many
-live-push : (s : Spec) (c : Trace) (e : Entry) → IsMade s c → IsProper s c e.row → length (live (c ++ e ∷ [])) + counted (ended_by e.row) ≡ length (live c) + counted (taken_by e.row)
+pub live-push : (s : Spec) (c : Trace) (e : Entry) → IsMade s c → IsProper s c e.row → length (live (c ++ e ∷ [])) + counted (ended_by e.row) ≡ length (live c) + counted (taken_by e.row)
 live-push s c e made proper = let num = (made_kept s c made).requests in by (turn s c e.row num proper)
   where
     by : Turn c e.row → length (live (c ++ e ∷ [])) + counted (ended_by e.row) ≡ length (live c) + counted (taken_by e.row)

@@ -1,5 +1,5 @@
 -- A second that is over: what is added later changes neither its load nor its count nor whether it is a sample.
-use Rattle.std.proofs.Common.{◌≡◌, refl, sym, ap, ◌∙◌, ◌+◌, ◌-◌, ◌*◌, ◌≤◌, ◌<◌, ℕ, Bool, true, false, ◌||◌, List, [], ◌∷◌, ◌++◌, arith, length, max, min, cond, append-nil}
+use Rattle.std.proofs.Common.{◌≡◌, refl, sym, ap, ◌∙◌, ◌+◌, ◌-◌, ◌*◌, ◌≤◌, ◌<◌, ℕ, Bool, true, false, List, [], ◌∷◌, ◌++◌, arith, length, max, min, cond, append-nil}
 use Rattle.std.specs.Prelude.{Option, None, Some, ⊤, nat_lt, ◌/◌, ◌==◌, if◌then◌else◌}
 use Rattle.std.specs.Bool.{then_some}
 use Rattle.std.specs.List.{cons_option, filter_map, sum_by}
@@ -9,8 +9,8 @@ use Rattle.kn_event.specs.declared.revision.Metric.{Metric}
 use Rattle.kn_scaling.specs.Average.{window_average}
 use Rattle.kn_trace.specs.Rows.{ended_by, taken_by}
 use Rattle.kn_trace.specs.Trace.{Trace, first_of}
-use Rattle.kn_trace.specs.Load.{count_in, count_most, end_by, end_of, end_within, entries_before, has_ready_pod, is_some_of, load_in, samples, taken_in, value_of}
-use Rattle.kn_past.specs.Seconds.{AreFrom, end_of_second}
+use Rattle.kn_trace.specs.Load.{count_in, count_most, end_by, end_of, end_within, entries_before, has_ready_pod, is_some_of, load_in, samples, taken_in}
+use Rattle.kn_past.specs.Seconds.{AreFrom, end_of_second, sample_by}
 use Rattle.kn_past.proofs.Adds.{adds, adds_of, load-sum}
 use Rattle.kn_past.proofs.Below.{average_below}
 
@@ -103,20 +103,16 @@ none_before b (e ∷ es) h = ap (λ x. cond x (e ∷ entries_before b es) (entri
 before_same : (b : ℕ) (c d : Trace) → AreFrom b d → entries_before b (c ++ d) ≡ entries_before b c
 before_same b c d h = filter-append (λ e. nat_lt e.time b) c d ∙ ap (λ xs. entries_before b c ++ xs) (none_before b d h) ∙ append-nil (entries_before b c)
 
--- by the load, the count and the entries before the next second
-abbrev pub sample_by : Metric → ℕ → ℕ → Trace → Option ℕ
-sample_by m load count before = then_some (nat_lt 0 (value_of m load count) || nat_lt 0 load || has_ready_pod before) (value_of m load count)
-
-pub sample_is : (m : Metric) (c : Trace) (n : ℕ) → samples m c n ≡ sample_by m (load_in c n) (count_in c n) (entries_before (1000 * (n + 1)) c)
+pub sample_is : (m : Metric) (c : Trace) (n : ℕ) → samples m c n ≡ sample_by m (load_in c n) (count_in c n) (has_ready_pod (entries_before (end_of_second n) c))
 unfolding samples load_in
 sample_is m c n = refl
 
 pub samples-later : (m : Metric) (c d : Trace) (n : ℕ) → AreFrom (end_of_second n) d → samples m (c ++ d) n ≡ samples m c n
 samples-later m c d n h =
     sample_is m (c ++ d) n
-    ∙ ap (λ x. sample_by m x (count_in (c ++ d) n) (entries_before (1000 * (n + 1)) (c ++ d))) (load-later c d n h)
-    ∙ ap (λ x. sample_by m (load_in c n) x (entries_before (1000 * (n + 1)) (c ++ d))) (count-later c d n h)
-    ∙ ap (λ x. sample_by m (load_in c n) (count_in c n) x) (before_same (1000 * (n + 1)) c d h)
+    ∙ ap (λ x. sample_by m x (count_in (c ++ d) n) (has_ready_pod (entries_before (1000 * (n + 1)) (c ++ d)))) (load-later c d n h)
+    ∙ ap (λ x. sample_by m (load_in c n) x (has_ready_pod (entries_before (1000 * (n + 1)) (c ++ d)))) (count-later c d n h)
+    ∙ ap (λ x. sample_by m (load_in c n) (count_in c n) (has_ready_pod x)) (before_same (1000 * (n + 1)) c d h)
     ∙ sym (sample_is m c n)
 
 -- ---- averages

@@ -12,3 +12,4 @@ pub mod Made
 pub mod LoadSteps
 pub mod Balance
 pub mod Bounds
+pub mod Quiet

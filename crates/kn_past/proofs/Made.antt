@@ -6,14 +6,14 @@ use Rattle.kn_event.specs.declared.revision.Spec.{Spec}
 use Rattle.kn_trace.specs.Trace.{Trace}
 use Rattle.kn_record.specs.Made.{Holds, IsMade, IsProper}
 use Rattle.kn_record.proofs.Kept.{Holds-append}
-use Rattle.kn_past.specs.Loads.{AreTimesInOrder}
+use Rattle.kn_laws.specs.History.{AreTimesInOrder}
 
 -- no entry is after this time
 abbrev pub AreUpTo : ℕ → Trace → Type 0
 AreUpTo t [] = ⊤
 AreUpTo t (e ∷ es) = (e.time ≤ t) × AreUpTo t es
 
-up_to_later : (t u : ℕ) (c : Trace) → t ≤ u → AreUpTo t c → AreUpTo u c
+pub up_to_later : (t u : ℕ) (c : Trace) → t ≤ u → AreUpTo t c → AreUpTo u c
 up_to_later t u [] le h = tt
 up_to_later t u (e ∷ es) le h = (omega (arith, le, h.0), up_to_later t u es le h.1)
 

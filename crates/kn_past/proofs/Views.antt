@@ -85,7 +85,7 @@ last_one : {X : Type 0} (o : Option X) → last_of (cons_option o []) ≡ o
 last_one None = refl
 last_one (Some x) = refl
 
-option_list : {X : Type 0} (o : Option X) → cons_option o [] ≡ option_to_list o
+pub option_list : {X : Type 0} (o : Option X) → cons_option o [] ≡ option_to_list o
 option_list None = refl
 option_list (Some x) = refl
 

@@ -1,5 +1,5 @@
 -- The load of a second by the entries that take requests in and those that end them.
-use Rattle.std.specs.Prelude.{◌≡◌, ℕ, true, ◌+◌, ◌-◌, ◌*◌, ◌≤◌, max, [], ◌∷◌, Option, Some, is_some, if◌then◌else◌}
+use Rattle.std.specs.Prelude.{◌≡◌, ℕ, true, ◌+◌, ◌-◌, ◌*◌, max, Option, Some, is_some, if◌then◌else◌}
 use Rattle.std.specs.List.{sum_by}
 use Rattle.kn_event.specs.declared.entry.Entry.{Entry}
 use Rattle.kn_event.specs.declared.entry.Row.{Row}
@@ -16,11 +16,6 @@ after_by said s e = if is_some (said e.row) then after_in s e.time else 0
 -- the sum of the milliseconds of the second that lie after each entry whose row says something of this kind
 unfoldable pub after_sum : (Row → Option ℕ) → ℕ → Trace → ℕ
 after_sum said s c = sum_by (after_by said s) c
-
--- the times of these entries never fall: none is before the first time given, and none after the last
-abbrev pub AreTimesInOrder : ℕ → Trace → ℕ → Type 0
-AreTimesInOrder from [] to = from ≤ to
-AreTimesInOrder from (e ∷ es) to = (from ≤ e.time) × AreTimesInOrder e.time es to
 
 -- who ends with this row is live before it
 abbrev pub EndsLive : Trace → Row → Type 0

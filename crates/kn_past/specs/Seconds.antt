@@ -1,6 +1,9 @@
 -- What lies below a second, and what comes after it.
-use Rattle.std.specs.Prelude.{◌≡◌, ℕ, ◌+◌, ◌*◌, ◌<◌, ◌≤◌, [], ◌∷◌, Some, ⊤}
+use Rattle.std.specs.Prelude.{◌≡◌, ℕ, ◌+◌, ◌*◌, ◌<◌, ◌≤◌, [], ◌∷◌, Bool, ◌||◌, nat_lt, Option, Some, ⊤}
+use Rattle.std.specs.Bool.{then_some}
+use Rattle.kn_event.specs.declared.revision.Metric.{Metric}
 use Rattle.kn_scaling.specs.Average.{Samples}
+use Rattle.kn_trace.specs.Load.{value_of}
 use Rattle.kn_trace.specs.Trace.{Trace}
 
 -- the same of each second below this one
@@ -19,3 +22,7 @@ end_of_second s = 1000 * (s + 1)
 -- each value is that of a million requests at most
 abbrev pub AreSmall : Samples → Type 0
 AreSmall f = (s value : ℕ) → f s ≡ Some value → value ≤ 1000000000
+
+-- what a second is a sample of, by its load, how many requests were taken in in it, and whether a pod is Ready at its end
+abbrev pub sample_by : Metric → ℕ → ℕ → Bool → Option ℕ
+sample_by m load count ready = let value = value_of m load count in then_some (nat_lt 0 value || nat_lt 0 load || ready) value
