@@ -8,7 +8,8 @@ ghost use Rattle.kn_trace.specs.Events.{before_settling, expiries, need_of, reac
 ghost use Rattle.kn_trace.specs.Laws.{IsSettled};
 ghost use Rattle.kn_trace.specs.Scale.{drain_order, wanted};
 ghost use Rattle.kn_trace.specs.Settling.{settling};
-ghost use Rattle.kn_trace.specs.Trace.{Trace, live, live_pods};
+ghost use Rattle.kn_trace.specs.Trace.{Trace, arrivals, live, live_pods};
+ghost use Rattle.kn_laws.specs.History.{IsMadeBy};
 ghost use Rattle.kn_record.specs.Made.{IsMade};
 
 /// Of any trace that events made, at most 20,000 requests are live, at most 500 pods do not drain, and at most 500 are
@@ -27,6 +28,11 @@ pub fn size_laws()
 /// running request or cancels a waiting one, they become fewer.
 pub fn growth_laws()
     ensures live { (s : Spec) (c : Trace) (e : Event) → IsMade s c → length (live (c ++ react s c e)) + 1 ≤ length (live c) + need_of c e.act }
+{}
+
+/// No more requests arrived than there were events.
+pub fn count_laws()
+    ensures arrivals { (s : Spec) (start clock count : ℕ) (c : Trace) → IsMadeBy s start clock count c → arrivals c ≤ count }
 {}
 
 /// How many entries an event adds: at most 41,005, and where no pod is lost at most 21,006, since each draining pod runs
