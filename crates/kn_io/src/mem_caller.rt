@@ -118,6 +118,7 @@ fn last_stream(met: &[Taken]) -> &[u8]
 }
 
 impl MemCaller {
+    #[tactic(auto, unfolding(crate::specs::MemCaller::kept_of))]
     /// A caller of these inputs, to which `room` bytes can be written in all. `fail` lists the numbers, from 0, of the
     /// calls of `meet`, `read` and `write` that fail. A `meet` past the last input fails too, and a `write` once all
     /// room is taken.
@@ -128,6 +129,7 @@ impl MemCaller {
         fail: Vec<u64>,
     ) -> Result<MemCaller, Memory>
         ensures met { IfOk result (λ caller. caller.met ≡ []) }
+        ensures kept { IfOk result (λ caller. kept_of caller.met ≡ []) }
         ensures held { IfOk result (λ caller. caller.held ≡ []) }
         ensures left { IfOk result (λ caller. caller.left ≡ []) }
         ensures coming { IfOk result (λ caller. caller.coming ≡ inputs.items) }
@@ -142,6 +144,7 @@ impl MemCaller {
         MemCaller::in_pieces(alloc, inputs, room, u64::MAX, fail)
     }
 
+    #[tactic(auto, unfolding(crate::specs::MemCaller::kept_of))]
     /// The same, where a `read` gives at most `piece` bytes.
     pub fn in_pieces(
         alloc: Global,
@@ -152,6 +155,7 @@ impl MemCaller {
     ) -> Result<MemCaller, Memory>
         requires { 0 < piece }
         ensures met { IfOk result (λ caller. caller.met ≡ []) }
+        ensures kept { IfOk result (λ caller. kept_of caller.met ≡ []) }
         ensures held { IfOk result (λ caller. caller.held ≡ []) }
         ensures left { IfOk result (λ caller. caller.left ≡ []) }
         ensures coming { IfOk result (λ caller. caller.coming ≡ inputs.items) }
@@ -183,6 +187,13 @@ impl MemCaller {
             piece,
             calls: Calls::new(fail),
         })
+    }
+
+    /// How many texts it has: one more than connections were taken.
+    pub fn texts(&self) -> u64
+        ensures { result ≡ length (texts self.now) }
+    {
+        self.met.len() as u64 + 1
     }
 
     /// Its text at this place, counted from 0, lent.
