@@ -48,6 +48,13 @@ fn leave(rt: &impl Abort, stats: &mut Stats, p: u64) {
     stats.pod_leaves(p);
 }
 
+/// A change at a later time. Answers what closed before it.
+fn step(rt: &impl Abort, stats: &mut Stats, time: u64, c: Change) -> Closed {
+    let closed = pass_time(rt, stats, time, true);
+    make_change(rt, stats, c);
+    closed
+}
+
 const fn run(second: u64, load: u64, arrived: u64) -> Option<Run> {
     Some(Run {
         second,
@@ -58,70 +65,58 @@ const fn run(second: u64, load: u64, arrived: u64) -> Option<Run> {
     })
 }
 
+const fn closed(first: Option<Run>, rest: Option<Run>) -> Closed {
+    Closed { first, rest }
+}
+
 #[test]
 fn areas_of_one_request(rt: HostRuntime) -> Result<(), Fail> {
     let mut stats = Stats::new(rt.alloc(), 0, Metric::Concurrency)?;
-    let (none, nothing) = (None, None);
     assert_eq!(rt;
-        pass_time(&rt, &mut stats, 500, true),
-        Closed {
-            first: none,
-            rest: nothing
-        }
+        step(&rt, &mut stats, 500, Change::Admitted),
+        closed(None, None)
     );
-    make_change(&rt, &mut stats, Change::Admitted);
     assert_eq!(rt;
-        pass_time(&rt, &mut stats, 700, true),
-        Closed {
-            first: none,
-            rest: nothing
-        }
+        step(&rt, &mut stats, 700, Change::Assigned(0)),
+        closed(None, None)
     );
-    make_change(&rt, &mut stats, Change::Assigned(0));
-    let whole = Closed {
-        first: run(0, 500, 1),
-        rest: run(1, 1000, 0),
-    };
-    assert_eq!(rt; pass_time(&rt, &mut stats, 2500, true), whole);
-    make_change(&rt, &mut stats, Change::EndedAt(0, true));
-    let last = Closed {
-        first: run(2, 500, 0),
-        rest: nothing,
-    };
-    assert_eq!(rt; pass_time(&rt, &mut stats, 3000, true), last);
+    let both = step(&rt, &mut stats, 2500, Change::EndedAt(0, true));
+    assert_eq!(rt; both, closed(run(0, 500, 1), run(1, 1000, 0)));
+    let last = pass_time(&rt, &mut stats, 3000, true);
+    assert_eq!(rt; last, closed(run(2, 500, 0), None));
     Ok(())
 }
 
-fn check_area(rt: &impl Abort, stats: &Stats, p: u64, area: u64, proxied: u64) {
-    assert_eq!(rt; stats.pod_area(p), PodArea { area, proxied }, "{p}");
+/// The area of pod 0 at a later time, and the proxied part of it.
+fn area_at(rt: &impl Abort, stats: &mut Stats, time: u64) -> (u64, u64) {
+    let _ = pass_time(rt, stats, time, true);
+    let PodArea { area, proxied } = stats.pod_area(0);
+    (area, proxied)
 }
 
 #[test]
 fn areas_of_a_pod(rt: HostRuntime) -> Result<(), Fail> {
     let mut stats = Stats::new(rt.alloc(), 0, Metric::Concurrency)?;
-    let _ = pass_time(&rt, &mut stats, 500, true);
-    make_change(&rt, &mut stats, Change::Admitted);
-    let _ = pass_time(&rt, &mut stats, 700, true);
-    make_change(&rt, &mut stats, Change::Assigned(0));
-    let _ = pass_time(&rt, &mut stats, 900, true);
-    check_area(&rt, &stats, 0, 200, 200);
+    let _ = step(&rt, &mut stats, 500, Change::Admitted);
+    let _ = step(&rt, &mut stats, 700, Change::Assigned(0));
+    assert_eq!(rt; area_at(&rt, &mut stats, 900), (200, 200));
     make_change(&rt, &mut stats, Change::Directed(0));
-    let _ = pass_time(&rt, &mut stats, 950, true);
-    check_area(&rt, &stats, 0, 300, 250);
-    check_area(&rt, &stats, 1, 0, 0);
-    // the next second begins anew: 500 through the activator and 100 past it are over
-    let closed = pass_time(&rt, &mut stats, 1000, true);
-    assert_eq!(rt; closed.first, run(0, 600, 2));
-    check_area(&rt, &stats, 0, 0, 0);
-    let _ = pass_time(&rt, &mut stats, 1100, true);
-    check_area(&rt, &stats, 0, 200, 100);
-    // what a pod took that left still counts
-    make_change(&rt, &mut stats, Change::EndedAt(0, true));
-    make_change(&rt, &mut stats, Change::EndedAt(0, false));
-    leave(&rt, &mut stats, 0);
+    assert_eq!(rt; area_at(&rt, &mut stats, 950), (300, 250));
+    // the next second begins anew
+    assert_eq!(rt; area_at(&rt, &mut stats, 1100), (200, 100));
+    Ok(())
+}
+
+/// What a pod took that left still counts.
+#[test]
+fn areas_of_a_pod_that_left(rt: HostRuntime) -> Result<(), Fail> {
+    let mut stats = Stats::new(rt.alloc(), 0, Metric::Concurrency)?;
+    let _ = step(&rt, &mut stats, 500, Change::Directed(3));
+    let _ = step(&rt, &mut stats, 900, Change::EndedAt(3, false));
+    leave(&rt, &mut stats, 3);
     assert_eq!(rt;
-        pass_time(&rt, &mut stats, 2000, true).first,
-        run(1, 200, 0)
+        pass_time(&rt, &mut stats, 1000, true),
+        closed(run(0, 400, 1), None)
     );
     Ok(())
 }
@@ -175,7 +170,7 @@ fn room_for_pods(rt: HostRuntime) -> Result<(), Fail> {
     leave(&rt, &mut stats, 0);
     make_change(&rt, &mut stats, Change::Directed(20_500));
     let _ = pass_time(&rt, &mut stats, 250, false);
-    check_area(&rt, &stats, 20_500, 250, 0);
-    check_area(&rt, &stats, 20_499, 0, 0);
+    assert_eq!(rt; stats.pod_area(20_500).area, 250);
+    assert_eq!(rt; stats.pod_area(20_499).area, 0);
     Ok(())
 }
