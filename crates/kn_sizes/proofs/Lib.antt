@@ -10,3 +10,4 @@ pub mod Outcomes
 pub mod Course
 pub mod Lasts
 pub mod Finishing
+pub mod Stands
