@@ -29,10 +29,10 @@ pub is_live : (c : Trace) (r : ℕ) → contains r (each_row taken_by c) ≡ tru
 unfolding live
 is_live c r taken on = in_filter (λ q. not (ended c q)) r (each_row taken_by c) taken (rw on refl)
 
-running_live : (c : Trace) (r : ℕ) → IsNumbered c → is_running c r ≡ true → contains r (live c) ≡ true
+pub running_live : (c : Trace) (r : ℕ) → IsNumbered c → is_running c r ≡ true → contains r (live c) ≡ true
 running_live c r num h = let parts = running_parts c r h in is_live c r (begun_taken c r num parts.0) parts.1
 
-waiting_live : (c : Trace) (r : ℕ) → contains r (waiting c) ≡ true → contains r (live c) ≡ true
+pub waiting_live : (c : Trace) (r : ℕ) → contains r (waiting c) ≡ true → contains r (live c) ≡ true
 waiting_live c r h = let parts = waiting_member c r h in is_live c r parts.0 parts.1.ended
 
 -- who ends is live no more

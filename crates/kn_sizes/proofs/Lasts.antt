@@ -17,7 +17,7 @@ use Rattle.kn_record.specs.Made.{AreDistinct, IsMade, IsNumbered, IsProper}
 use Rattle.kn_sizes.specs.Stays.{Stays}
 use Rattle.kn_record.proofs.Flags.{assigned-push, contains-push, each_row-push, pod_of-push, says}
 use Rattle.kn_record.proofs.Members.{contains-append, contains-filter, contains-split, or-true, or_parts, other_number, same_number}
-use Rattle.kn_record.proofs.Numbers.{IsNumbered-push, false_unless, filter_member, last_of-none, moved-none, moved_parts, moved_pod, pod-none, proper_keeps, running_parts, says-true}
+use Rattle.kn_record.proofs.Numbers.{IsNumbered-push, and_parts, false_unless, filter_member, last_of-none, moved-none, moved_parts, moved_pod, pod-none, proper_keeps, running_parts, says-true}
 use Rattle.kn_record.proofs.Steps.{is_quiet, waiting-end, waiting-quiet}
 use Rattle.kn_record.proofs.Kept.{Kept}
 use Rattle.kn_record.proofs.Reacting.{or-more}
@@ -95,10 +95,16 @@ assigned-list c (e ∷ es) r h = rw (append_assoc c (e ∷ []) es) at (assigned-
 pub assigned_stays : (s : Spec) (c : Trace) (r : ℕ) → assigned c r ≡ true → Stays s c (λ d. assigned d r ≡ true)
 assigned_stays s c r h = stays_always s (λ d. assigned d r ≡ true) c (λ es. assigned-list c es r h)
 
--- nor does the way that it came there change
-pub proxied_stays : (s : Spec) (c : Trace) (r p : ℕ) → IsMade s c → pod_of c r ≡ Some p → ended c r ≡ false → Stays s c (λ d. ended d r ≡ false → proxied d r ≡ proxied c r)
+pub proxied_stays : (s : Spec) (c : Trace) (r : ℕ) → proxied c r ≡ true → Stays s c (λ d. ended d r ≡ false → proxied d r ≡ true)
 unfolding proxied
-proxied_stays s c r p made there on =
+proxied_stays s c r h =
+    stays_less s (λ d. assigned d r ≡ true) (λ d. ended d r ≡ false → (assigned d r && not (ended d r)) ≡ true) c
+    (λ d yes still. rw (yes, still) refl) (assigned_stays s c r (and_parts (assigned c r) (not (ended c r)) h).0)
+
+-- nor does the way that it came to its pod change
+pub way_stays : (s : Spec) (c : Trace) (r p : ℕ) → IsMade s c → pod_of c r ≡ Some p → ended c r ≡ false → Stays s c (λ d. ended d r ≡ false → proxied d r ≡ proxied c r)
+unfolding proxied
+way_stays s c r p made there on =
     stays_less s (IsPlaced r p (assigned c r)) (λ d. ended d r ≡ false → (assigned d r && not (ended d r)) ≡ (assigned c r && not (ended c r))) c
     (λ d h still. rw (h.assigned, still, on) refl) (placed_stays s c r p made there)
 
@@ -136,9 +142,6 @@ unfolding need_of
 other_needs c = (refl, λ p. refl, refl, λ p n. refl, λ p. refl, λ tag. refl)
 
 -- ---- a cancel
-
-record WaitsNot (r : ℕ) (c : Trace) : Type 0 where
-  out : contains r (waiting c) ≡ false
 
 -- a row that takes nobody in makes nobody wait
 waits-out : (c : Trace) (e : Entry) (r : ℕ) → taken_by e.row ≡ None → contains r (waiting c) ≡ false → contains r (waiting (c ++ e ∷ [])) ≡ false

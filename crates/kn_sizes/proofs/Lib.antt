@@ -11,3 +11,4 @@ pub mod Course
 pub mod Lasts
 pub mod Finishing
 pub mod Histories
+pub mod Stands

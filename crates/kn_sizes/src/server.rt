@@ -9,17 +9,18 @@ ghost use Rattle.kn_trace.specs.Outcome.{Outcome, outcome_of};
 ghost use Rattle.kn_trace.specs.Trace.{Trace, arrivals, assigned, at_pod, contains, created, ended, is_running, live_pods, next_starting, pod_of, proxied, starting_pods, waiting};
 ghost use Rattle.kn_laws.specs.ByAct.{AreByAct};
 ghost use Rattle.kn_record.specs.Made.{IsMade};
-ghost use Rattle.kn_sizes.specs.Course.{HasFinished, IsUnfinished, MayEnd};
+ghost use Rattle.kn_sizes.specs.Course.{HasFinished, IsToldByStand, IsUnfinished, MayEnd};
 ghost use Rattle.kn_sizes.specs.Starting.{IsLeastFrom};
 ghost use Rattle.kn_sizes.specs.Stays.{Stays};
 ghost use Rattle.kn_sizes.specs.Told.{IsTold};
 
 /// Of any trace that events made, over one event more: an arrival's request is new, and then stands as the arrival was
-/// told, with that outcome; after a cancel its request doesn't wait; a request that waits, runs, expired or was
+/// told, with that outcome; a request's stand tells whether it waits or runs, and at which pod; after a cancel its request doesn't wait; a request that waits, runs, expired or was
 /// cancelled does so still, and one that runs runs on, unless the event finishes it or loses its pod; a finish ends a
 /// running request; and each row of an act, so a finish or a cancel, comes from an event that names what it is about.
 pub fn request_laws()
     ensures told { (s : Spec) (c : Trace) (e : Event) (tag : ℕ) → IsMade s c → e.act ≡ act.Arrive tag → IsTold s c e }
+    ensures stands { (s : Spec) (c : Trace) (r : ℕ) → IsMade s c → IsToldByStand c r }
     ensures homes { (s : Spec) (c : Trace) (p r : ℕ) → IsMade s c → contains r (at_pod c p) ≡ true → contains p (live_pods c) ≡ true }
     ensures cancelled { (s : Spec) (c : Trace) (e : Event) (r : ℕ) → IsMade s c → e.act ≡ act.Cancel r → contains r (waiting (c ++ react s c e)) ≡ false }
     ensures unfinished { (s : Spec) (c : Trace) (e : Event) (r : ℕ) → IsMade s c → IsUnfinished c r → IsUnfinished (c ++ react s c e) r ⊎ MayEnd r (pod_of c r) e.act }
@@ -39,7 +40,8 @@ pub fn lasting_laws()
     ensures outcome { (s : Spec) (c : Trace) (r : ℕ) (o : Outcome) → outcome_of c r ≡ Some o → Stays s c (λ d. outcome_of d r ≡ Some o) }
     ensures pod { (s : Spec) (c : Trace) (r p : ℕ) → IsMade s c → pod_of c r ≡ Some p → Stays s c (λ d. pod_of d r ≡ Some p) }
     ensures assigned { (s : Spec) (c : Trace) (r : ℕ) → assigned c r ≡ true → Stays s c (λ d. assigned d r ≡ true) }
-    ensures proxied { (s : Spec) (c : Trace) (r p : ℕ) → IsMade s c → pod_of c r ≡ Some p → ended c r ≡ false → Stays s c (λ d. ended d r ≡ false → proxied d r ≡ proxied c r) }
+    ensures proxied { (s : Spec) (c : Trace) (r : ℕ) → proxied c r ≡ true → Stays s c (λ d. ended d r ≡ false → proxied d r ≡ true) }
+    ensures way { (s : Spec) (c : Trace) (r p : ℕ) → IsMade s c → pod_of c r ≡ Some p → ended c r ≡ false → Stays s c (λ d. ended d r ≡ false → proxied d r ≡ proxied c r) }
     ensures runs { (s : Spec) (c : Trace) (es : List Event) (r : ℕ) → IsMade s c → is_running c r ≡ true → (is_running (c ++ added s c es) r ≡ true) ⊎ Any (λ (e : Event). MayEnd r (pod_of c r) e.act) es }
 {}
 

@@ -1,5 +1,5 @@
 use Rattle.kn_sizes.proofs.Finishing.{runs_on}
-use Rattle.kn_sizes.proofs.Lasts.{arrivals_stay, assigned_stays, known_stays, outcome_lasts, pod_stays, proxied_stays}
+use Rattle.kn_sizes.proofs.Lasts.{arrivals_stay, assigned_stays, known_stays, outcome_lasts, pod_stays, proxied_stays, way_stays}
 use Rattle.kn_sizes.proofs.Serving.{waits_once}
 use Rattle.kn_sizes.proofs.server.lasting_laws.Goals as goal
 
@@ -12,5 +12,6 @@ returns c = record {
   pod = pod_stays;
   assigned = assigned_stays;
   proxied = proxied_stays;
+  way = way_stays;
   runs = runs_on;
 }
