@@ -102,3 +102,95 @@ fn outside_words(rt: HostRuntime) {
         "4236525527 mod 2, past position 1"
     );
 }
+
+/// Two picks by each seed, where the second word settles the pod: both pods that are looked at differ from the third in
+/// load. The words come from a program written from the definitions of Pcg32 and its seeding alone. First words, modulo 3
+/// and 2, then second words:
+///
+/// - seed 0: 298703107 (1), 4236525527 (1); 336081875 (2), 1056616254 (0)
+/// - seed 2: 663514024 (1), 4050668357 (1); 535747897 (1), 1254972678 (0)
+/// - seed 7: 2442223337 (2), 414063806 (0); 2743600285 (1), 3524868804 (0)
+/// - seed 9: 3429093174 (0), 673120095 (1); 3444530991 (0), 1995233291 (1)
+#[test]
+fn second_words(rt: HostRuntime) {
+    for (seed, first_running, first, second_running, second) in [
+        (0, [0, 2, 1], 2, [1, 0, 2], 0),
+        (2, [0, 2, 1], 2, [1, 2, 0], 0),
+        (7, [1, 0, 2], 0, [1, 2, 0], 0),
+        (9, [2, 0, 1], 2, [2, 0, 1], 2),
+    ] {
+        let mut policy = Policy::new(0, seed);
+        assert_eq!(rt;
+            policy.pick(&three(0, first_running)),
+            Some(first),
+            "seed {seed}"
+        );
+        assert_eq!(rt;
+            policy.pick(&three(0, second_running)),
+            Some(second),
+            "seed {seed}"
+        );
+    }
+}
+
+/// Pods come and go between the picks. A place past the end is read as 0, and stays where no pod has a free seat.
+#[test]
+fn round_robin_pods_come_and_go(rt: HostRuntime) {
+    let mut policy = Policy::new(4, 7);
+    let five = [
+        cand(0, 4, 0),
+        cand(1, 4, 0),
+        cand(2, 4, 0),
+        cand(3, 4, 0),
+        cand(4, 4, 0),
+    ];
+    for pod in 0..4 {
+        assert_eq!(rt; policy.pick(&five), Some(pod));
+    }
+    assert_eq!(rt; policy.pick(&three(4, [4, 4, 4])), None);
+    assert_eq!(rt; policy.pick(&five), Some(4), "the place is still 4");
+    for pod in 0..4 {
+        assert_eq!(rt; policy.pick(&five), Some(pod));
+    }
+    assert_eq!(rt;
+        policy.pick(&three(4, [0, 0, 0])),
+        Some(0),
+        "place 4 of 3 is read as 0"
+    );
+    assert_eq!(rt; policy.pick(&[cand(2, 4, 0), cand(7, 4, 0)]), Some(7));
+    assert_eq!(rt;
+        policy.pick(&[cand(2, 4, 0), cand(7, 4, 0), cand(9, 4, 0)]),
+        Some(9)
+    );
+    assert_eq!(rt; policy.pick(&[cand(9, 4, 3)]), Some(9));
+    assert_eq!(rt;
+        policy.pick(&[cand(9, 4, 3), cand(11, 4, 4)]),
+        Some(9),
+        "pod 11 is full"
+    );
+}
+
+/// Each pick draws two words, also where one pod alone has a free seat, and none where there is no pod.
+#[test]
+fn random_choice_pods_come_and_go(rt: HostRuntime) {
+    let mut policy = Policy::new(0, 7);
+    assert_eq!(rt; policy.pick(&[]), None);
+    assert_eq!(rt; policy.pick(&[cand(5, 0, 8)]), Some(5));
+    assert_eq!(rt;
+        policy.pick(&three(0, [1, 2, 0])),
+        Some(0),
+        "2743600285 and 3524868804"
+    );
+    let five = [
+        cand(2, 0, 4),
+        cand(3, 0, 1),
+        cand(6, 0, 2),
+        cand(8, 0, 3),
+        cand(9, 0, 3),
+    ];
+    assert_eq!(rt;
+        policy.pick(&five),
+        Some(6),
+        "2371632060 mod 5, and 1368306093 mod 4 past it"
+    );
+}
