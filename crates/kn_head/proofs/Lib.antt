@@ -7,3 +7,4 @@ pub mod ChunkFronts
 pub mod Taking
 pub mod Values
 pub mod Whole
+pub mod Determined

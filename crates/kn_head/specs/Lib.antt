@@ -6,3 +6,4 @@ pub mod Heads
 pub mod Rules
 pub mod Chunks
 pub mod Reading
+pub mod Laws

@@ -7,6 +7,7 @@ mod fields;
 mod find;
 mod forward;
 mod head;
+mod laws;
 mod parts;
 mod read;
 mod rules;
@@ -15,6 +16,7 @@ mod window;
 pub use answer::{Answer, answer_bytes};
 pub use forward::forward_bytes;
 pub use head::{Head, HeadError, Headers};
+pub use laws::answers_are_determined;
 pub use read::read_head;
 
 #[cfg(test)]

@@ -28,8 +28,11 @@ impl Source for Pieces {
     ghost apart = { λ _. Some [] };
 
     fn read(&mut self, buf: &mut [u8]) -> Result<usize, Failed> {
-        let most = buf.len().min(self.most.max(1));
-        self.source.read(&mut buf[..most])
+        let mut own = [0u8; 16384];
+        let most = buf.len().min(self.most.max(1)).min(own.len());
+        let n = self.source.read(&mut own[..most])?;
+        buf[..n].copy_from_slice(&own[..n]);
+        Ok(n)
     }
 }
 
@@ -280,28 +283,21 @@ const REFUSED: [(&[u8], HeadError); 40] = [
     ),
 ];
 
+fn refuse_all(rt: &impl Abort, alloc: Global, table: &[(&[u8], HeadError)]) -> Result<(), AllocError> {
+    for (rest, expected) in table {
+        let input = joined(alloc, &[START, rest])?;
+        expect_refused(rt, alloc, &input, 16384, *expected);
+        expect_refused(rt, alloc, &input, 1, *expected);
+    }
+    Ok(())
+}
+
 #[test]
 fn refused_heads(rt: HostRuntime) -> Result<(), Fail> {
-    for (rest, expected) in REFUSED {
-        let input = joined(rt.alloc(), &[START, rest])?;
-        expect_refused(&rt, rt.alloc(), &input, 16384, expected);
-        expect_refused(&rt, rt.alloc(), &input, 1, expected);
-    }
+    refuse_all(&rt, rt.alloc(), &REFUSED)?;
     expect_refused(&rt, rt.alloc(), b"", 1, HeadError::EndedEarly);
-    expect_refused(
-        &rt,
-        rt.alloc(),
-        b"GET /a HTTP/2.0\r\n\r\n",
-        1,
-        HeadError::Malformed,
-    );
-    expect_refused(
-        &rt,
-        rt.alloc(),
-        b"GET  /a HTTP/1.1\r\n\r\n",
-        1,
-        HeadError::Malformed,
-    );
+    expect_refused(&rt, rt.alloc(), b"GET /a HTTP/2.0\r\n\r\n", 1, HeadError::Malformed);
+    expect_refused(&rt, rt.alloc(), b"GET  /a HTTP/1.1\r\n\r\n", 1, HeadError::Malformed);
     Ok(())
 }
 
@@ -338,14 +334,19 @@ const SENT: [(&[u8], &[u8]); 8] = [
     ),
 ];
 
+fn send_all(rt: &impl Abort, alloc: Global, table: &[(&[u8], &[u8])]) -> Result<(), AllocError> {
+    for (rest, expected) in table {
+        let input = joined(alloc, &[START, rest])?;
+        let output = joined(alloc, &[b"POST /a HTTP/1.1\r\n", expected])?;
+        expect_sent(rt, alloc, &input, 16384, false, &output);
+        expect_sent(rt, alloc, &input, 1, false, &output);
+    }
+    Ok(())
+}
+
 #[test]
 fn sent_heads(rt: HostRuntime) -> Result<(), Fail> {
-    for (rest, expected) in SENT {
-        let input = joined(rt.alloc(), &[START, rest])?;
-        let output = joined(rt.alloc(), &[b"POST /a HTTP/1.1\r\n", expected])?;
-        expect_sent(&rt, rt.alloc(), &input, 16384, false, &output);
-        expect_sent(&rt, rt.alloc(), &input, 1, false, &output);
-    }
+    send_all(&rt, rt.alloc(), &SENT)?;
     Ok(())
 }
 
@@ -439,103 +440,49 @@ fn repeated(
     Ok(all)
 }
 
-fn body_length(alloc: Global, input: Vec<u8>) -> Result<usize, HeadError> {
-    let head = read_head(alloc, &mut MemSource::new(input, Vec::new(alloc)))?;
-    Ok(head.body.bytes().len())
+fn expect_length(rt: &impl Abort, alloc: Global, input: Vec<u8>, expected: Result<usize, HeadError>) {
+    match read_head(alloc, &mut MemSource::new(input, Vec::new(alloc))) {
+        Ok(head) => assert_eq!(rt; Ok(head.body.bytes().len()), expected),
+        Err(e) => assert_eq!(rt; Err(e), expected),
+    }
 }
 
 #[test]
-fn limits(rt: HostRuntime) -> Result<(), Fail> {
+fn longest_heads(rt: HostRuntime) -> Result<(), Fail> {
     let alloc = rt.alloc();
-    assert_eq!(rt; body_length(alloc, long_head(alloc, 16384)?), Ok(0));
-    assert_eq!(rt;
-        body_length(alloc, long_head(alloc, 16385)?),
-        Err(HeadError::TooLong)
-    );
-    assert_eq!(rt; body_length(alloc, head_of(alloc, 100)?), Ok(0));
-    assert_eq!(rt;
-        body_length(alloc, head_of(alloc, 101)?),
-        Err(HeadError::TooLong)
-    );
-    let chunked = b"Transfer-Encoding: chunked\r\n\r\n";
-    let most = repeated(
-        alloc,
-        b"Content-Length: 1048576\r\n\r\n",
-        b"0123456789abcdef",
-        65536,
-        b"",
-    )?;
-    assert_eq!(rt; body_length(alloc, most), Ok(1_048_576));
-    let short = repeated(
-        alloc,
-        b"Content-Length: 1048576\r\n\r\n",
-        b"0123456789abcdef",
-        65535,
-        b"0123456789abcde",
-    )?;
-    assert_eq!(rt; body_length(alloc, short), Err(HeadError::EndedEarly));
-    let most = repeated(
-        alloc,
-        chunked,
-        b"10\r\n0123456789abcdef\r\n",
-        65536,
-        b"0\r\n\r\n",
-    )?;
-    assert_eq!(rt; body_length(alloc, most), Ok(1_048_576));
-    let over = repeated(
-        alloc,
-        chunked,
-        b"10\r\n0123456789abcdef\r\n",
-        65536,
-        b"1\r\n",
-    )?;
-    assert_eq!(rt; body_length(alloc, over), Err(HeadError::BodyTooLong));
-    // a size line of 1,024 bytes, and one of a byte more
-    let line = repeated(alloc, chunked, b"0", 15, b"1;")?;
-    assert_eq!(rt;
-        body_length(alloc, repeated_line(alloc, &line, 1005)?),
-        Ok(1)
-    );
-    assert_eq!(rt;
-        body_length(alloc, repeated_line(alloc, &line, 1006)?),
-        Err(HeadError::BadChunk)
-    );
-    // trailers of 100 and 101 fields, and one that is too long
-    let trailer = repeated(
-        alloc,
-        b"Transfer-Encoding: chunked\r\n\r\n0\r\n",
-        b"X: y\r\n",
-        100,
-        b"\r\n",
-    )?;
-    assert_eq!(rt; body_length(alloc, trailer), Ok(0));
-    let trailer = repeated(
-        alloc,
-        b"Transfer-Encoding: chunked\r\n\r\n0\r\n",
-        b"X: y\r\n",
-        101,
-        b"\r\n",
-    )?;
-    assert_eq!(rt; body_length(alloc, trailer), Err(HeadError::BadChunk));
-    let trailer = repeated(
-        alloc,
-        b"Transfer-Encoding: chunked\r\n\r\n0\r\nX: ",
-        b"y",
-        16384,
-        b"\r\n\r\n",
-    )?;
-    assert_eq!(rt; body_length(alloc, trailer), Err(HeadError::BadChunk));
+    expect_length(&rt, alloc, long_head(alloc, 16384)?, Ok(0));
+    expect_length(&rt, alloc, long_head(alloc, 16385)?, Err(HeadError::TooLong));
+    expect_length(&rt, alloc, head_of(alloc, 100)?, Ok(0));
+    expect_length(&rt, alloc, head_of(alloc, 101)?, Err(HeadError::TooLong));
     Ok(())
 }
 
-/// An input whose size line goes on for so many bytes, then a chunk of one byte and the last.
-fn repeated_line(alloc: Global, line: &[u8], times: usize) -> Result<Vec<u8>, AllocError> {
-    let mut all = joined(alloc, &[line])?;
-    for _ in 0..times {
-        all.push(b'x')?;
-    }
-    all.extend_from_slice(b"\r\na\r\n0\r\n\r\n")?;
-    Ok(all)
+#[test]
+fn longest_bodies(rt: HostRuntime) -> Result<(), Fail> {
+    let alloc = rt.alloc();
+    let plain = b"Content-Length: 1048576\r\n\r\n";
+    let chunked = b"Transfer-Encoding: chunked\r\n\r\n";
+    let text = b"0123456789abcdef";
+    let chunk = b"10\r\n0123456789abcdef\r\n";
+    expect_length(&rt, alloc, repeated(alloc, plain, text, 65536, b"")?, Ok(1_048_576));
+    expect_length(&rt, alloc, repeated(alloc, plain, text, 65535, b"0123456789abcde")?, Err(HeadError::EndedEarly));
+    expect_length(&rt, alloc, repeated(alloc, chunked, chunk, 65536, b"0\r\n\r\n")?, Ok(1_048_576));
+    expect_length(&rt, alloc, repeated(alloc, chunked, chunk, 65536, b"1\r\n")?, Err(HeadError::BodyTooLong));
+    Ok(())
+}
+
+/// A size line of 1,024 bytes and one of a byte more; trailers of 100 and 101 fields, and one that is too long.
+#[test]
+fn longest_lines(rt: HostRuntime) -> Result<(), Fail> {
+    let alloc = rt.alloc();
+    let line = b"Transfer-Encoding: chunked\r\n\r\n1;";
+    let trailer = b"Transfer-Encoding: chunked\r\n\r\n0\r\n";
+    expect_length(&rt, alloc, repeated(alloc, line, b"x", 1020, b"\r\na\r\n0\r\n\r\n")?, Ok(1));
+    expect_length(&rt, alloc, repeated(alloc, line, b"x", 1021, b"\r\na\r\n0\r\n\r\n")?, Err(HeadError::BadChunk));
+    expect_length(&rt, alloc, repeated(alloc, trailer, b"X: y\r\n", 100, b"\r\n")?, Ok(0));
+    expect_length(&rt, alloc, repeated(alloc, trailer, b"X: y\r\n", 101, b"\r\n")?, Err(HeadError::BadChunk));
+    expect_length(&rt, alloc, repeated(alloc, trailer, b"X:", 8192, b"\r\n\r\n")?, Err(HeadError::BadChunk));
+    Ok(())
 }
 
 /// The table of own answers: status, length and text.
@@ -582,14 +529,18 @@ const ANSWERS: [(Answer, &[u8]); 10] = [
     ),
 ];
 
-#[test]
-fn answers(rt: HostRuntime) {
-    for (answer, expected) in ANSWERS {
-        match answer_bytes(rt.alloc(), answer) {
-            Ok(text) => assert_eq!(rt; text.bytes(), expected),
+fn answer_all(rt: &impl Abort, alloc: Global, table: &[(Answer, &[u8])]) {
+    for (answer, expected) in table {
+        match answer_bytes(alloc, *answer) {
+            Ok(text) => assert_eq!(rt; text.bytes(), *expected),
             Err(_) => panic!(rt; "out of memory"),
         }
     }
+}
+
+#[test]
+fn answers(rt: HostRuntime) {
+    answer_all(&rt, rt.alloc(), &ANSWERS);
     assert_eq!(rt; HeadError::NoRevision.answer(), Some(Answer::BadHead));
     assert_eq!(rt; HeadError::BadCoding.answer(), Some(Answer::BadCoding));
     assert_eq!(rt; HeadError::ReadFault.answer(), None);

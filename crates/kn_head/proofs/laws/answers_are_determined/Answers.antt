@@ -1,0 +1,17 @@
+use Rattle.kn_head.proofs.Determined.{head_unique, no_head_there, heads_alike, one_body, answer_there}
+use Rattle.kn_head.proofs.laws.answers_are_determined.Goals as goal
+
+pub returns-clause-request : goal.returns-clause-request
+returns-clause-request c bytes head answer x y = answer_there bytes head answer x y
+
+pub returns-clause-head : goal.returns-clause-head
+returns-clause-head c bytes r q h k x y = head_unique bytes r q h k x y
+
+pub returns-clause-no_head : goal.returns-clause-no_head
+returns-clause-no_head c bytes rest h e x y = no_head_there bytes rest h e x y
+
+pub returns-clause-faults : goal.returns-clause-faults
+returns-clause-faults c bytes e f x y = heads_alike bytes e f x y
+
+pub returns-clause-chunked : goal.returns-clause-chunked
+returns-clause-chunked c b v w r q x y = one_body b v w r q x y
