@@ -15,9 +15,10 @@ ghost use Rattle.kn_sizes.specs.Stays.{Stays};
 ghost use Rattle.kn_sizes.specs.Told.{IsTold};
 
 /// Of any trace that events made, over one event more: an arrival's request is new, and then stands as the arrival was
-/// told, with that outcome; a request's stand tells whether it waits or runs, and at which pod; after a cancel its request doesn't wait; a request that waits, runs, expired or was
-/// cancelled does so still, and one that runs runs on, unless the event finishes it or loses its pod; a finish ends a
-/// running request; and each row of an act, so a finish or a cancel, comes from an event that names what it is about.
+/// told, with that outcome; a request's stand tells whether it waits or runs, and at which pod; after a cancel its
+/// request doesn't wait; a request that waits, runs, expired or was cancelled does so still, and one that runs runs on,
+/// unless the event finishes it or loses its pod; a finish ends a running request; and each row of an act, so a finish or
+/// a cancel, comes from an event that names what it is about.
 pub fn request_laws()
     ensures told { (s : Spec) (c : Trace) (e : Event) (tag : ℕ) → IsMade s c → e.act ≡ act.Arrive tag → IsTold s c e }
     ensures stands { (s : Spec) (c : Trace) (r : ℕ) → IsMade s c → IsToldByStand c r }
