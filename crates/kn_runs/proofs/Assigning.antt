@@ -22,7 +22,7 @@ use Rattle.kn_trace.specs.Scale.{mode_of, opening_scale, phase_of, wanted}
 use Rattle.kn_trace.specs.Settling.{assignments_of, held_assignments, next_choice, promotions, promotions_at, removals, settling}
 use Rattle.kn_trace.specs.Events.{act_row, act_rows, activation, added, before_settling, departures, due, expiries, live_most, losses, react, scaler_rows}
 use Rattle.kn_trace.specs.Worked.{at}
-use Rattle.kn_laws.proofs.Members.{same_number}
+use Rattle.kn_record.proofs.Members.{same_number}
 use Rattle.kn_runs.specs.Long.{arrivals_from, assigned_from}
 use Rattle.kn_runs.specs.Counts.{brief_requests_from, finished_from}
 use Rattle.kn_runs.proofs.Lists.{each-none, each-some, filter-none, length-upto, nobody_due, not_below, upto, upto-more}
