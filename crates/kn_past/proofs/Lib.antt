@@ -13,3 +13,4 @@ pub mod LoadSteps
 pub mod Balance
 pub mod Bounds
 pub mod Quiet
+pub mod ByEvents

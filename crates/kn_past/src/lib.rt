@@ -4,5 +4,6 @@
 #![tactic(auto)]
 
 pub mod changes;
+pub mod events;
 pub mod loads;
 pub mod samples;
