@@ -262,7 +262,7 @@ same_request h k x y kind kind' b same p q f g chunked chunked' body body' =
     let first : List ℕ × List ℕ → List ℕ = λ o. o.0 in
     let second : List ℕ × List ℕ → List ℕ = λ o. o.1 in
     let owners : Some (y.namespace, y.revision) ≡ Some (x.namespace, x.revision) =
-        sym q.owner ∙ (ap (λ i. owner_of (fields_of i)) (sym same) ∙ p.owner) in
+    sym q.owner ∙ (ap (λ i. owner_of (fields_of i)) (sym same) ∙ p.owner) in
     let pairs : (y.namespace, y.revision) ≡ (x.namespace, x.revision) = ap (λ o. unwrap_or o ([], [])) owners in
     let method_is : y.method ≡ x.method = q.parts.method_is ∙ (ap (λ i. i.method) (sym same) ∙ sym p.parts.method_is) in
     let target_is : y.target ≡ x.target = q.parts.target_is ∙ (ap (λ i. i.target) (sym same) ∙ sym p.parts.target_is) in

@@ -158,195 +158,362 @@ fn failing_reads(rt: HostRuntime) -> Result<(), Fail> {
     Ok(())
 }
 
-/// What follows the three lines of `START`, and the error.
-const REFUSED: [(&[u8], HeadError); 40] = [
-    (
+/// The lines of `START` and then these bytes are refused, whole and byte by byte.
+fn refused(
+    rt: &impl Abort,
+    alloc: Global,
+    rest: &[u8],
+    expected: HeadError,
+) -> Result<(), AllocError> {
+    let input = joined(alloc, &[START, rest])?;
+    expect_refused(rt, alloc, &input, 16384, expected);
+    expect_refused(rt, alloc, &input, 1, expected);
+    Ok(())
+}
+
+/// The lines of `START` and then these bytes are sent on as the request line and `expected`.
+fn sent(rt: &impl Abort, alloc: Global, rest: &[u8], expected: &[u8]) -> Result<(), AllocError> {
+    let input = joined(alloc, &[START, rest])?;
+    let output = joined(alloc, &[b"POST /a HTTP/1.1\r\n", expected])?;
+    expect_sent(rt, alloc, &input, 16384, false, &output);
+    expect_sent(rt, alloc, &input, 1, false, &output);
+    Ok(())
+}
+
+#[test]
+fn odd_heads(rt: HostRuntime) {
+    expect_refused(&rt, rt.alloc(), b"", 1, HeadError::EndedEarly);
+    expect_refused(
+        &rt,
+        rt.alloc(),
+        b"GET /a HTTP/2.0\r\n\r\n",
+        1,
+        HeadError::Malformed,
+    );
+    expect_refused(
+        &rt,
+        rt.alloc(),
+        b"GET  /a HTTP/1.1\r\n\r\n",
+        1,
+        HeadError::Malformed,
+    );
+}
+
+#[test]
+fn refused_lengths(rt: HostRuntime) -> Result<(), Fail> {
+    let alloc = rt.alloc();
+    refused(
+        &rt,
+        alloc,
         b"Content-Length: 4\r\nContent-Length: 4\r\n\r\nwiki",
         HeadError::BadLength,
-    ),
-    (b"Content-Length: \r\n\r\n", HeadError::BadLength),
-    (b"Content-Length: +4\r\n\r\nwiki", HeadError::BadLength),
-    (b"Content-Length: 4,4\r\n\r\nwiki", HeadError::BadLength),
-    (
+    )?;
+    refused(
+        &rt,
+        alloc,
+        b"Content-Length: \r\n\r\n",
+        HeadError::BadLength,
+    )?;
+    refused(
+        &rt,
+        alloc,
+        b"Content-Length: +4\r\n\r\nwiki",
+        HeadError::BadLength,
+    )?;
+    refused(
+        &rt,
+        alloc,
+        b"Content-Length: 4,4\r\n\r\nwiki",
+        HeadError::BadLength,
+    )?;
+    refused(
+        &rt,
+        alloc,
         b"Content-Length: 00000000000000000004\r\n\r\nwiki",
         HeadError::BadLength,
-    ),
-    (
+    )?;
+    refused(
+        &rt,
+        alloc,
         b"Content-Length: 9999999999999999999\r\n\r\n",
         HeadError::BodyTooLong,
-    ),
-    (b"Content-Length: 1048577\r\n\r\n", HeadError::BodyTooLong),
-    (b"Content-Length: 5\r\n\r\nwiki", HeadError::EndedEarly),
-    (
+    )?;
+    refused(
+        &rt,
+        alloc,
+        b"Content-Length: 1048577\r\n\r\n",
+        HeadError::BodyTooLong,
+    )?;
+    refused(
+        &rt,
+        alloc,
+        b"Content-Length: 5\r\n\r\nwiki",
+        HeadError::EndedEarly,
+    )?;
+    Ok(())
+}
+
+#[test]
+fn refused_codings(rt: HostRuntime) -> Result<(), Fail> {
+    let alloc = rt.alloc();
+    refused(
+        &rt,
+        alloc,
         b"Content-Length: x\r\nTransfer-Encoding: chunked\r\n\r\n0\r\n\r\n",
         HeadError::BadLength,
-    ),
-    (
+    )?;
+    refused(
+        &rt,
+        alloc,
         b"Transfer-Encoding: gzip, chunked\r\n\r\n",
         HeadError::BadCoding,
-    ),
-    (
+    )?;
+    refused(
+        &rt,
+        alloc,
         b"Transfer-Encoding: chunked\r\nTransfer-Encoding: chunked\r\n\r\n",
         HeadError::BadCoding,
-    ),
-    (b"Transfer-Encoding: \r\n\r\n", HeadError::BadCoding),
-    (
+    )?;
+    refused(
+        &rt,
+        alloc,
+        b"Transfer-Encoding: \r\n\r\n",
+        HeadError::BadCoding,
+    )?;
+    Ok(())
+}
+
+#[test]
+fn no_revision(rt: HostRuntime) -> Result<(), Fail> {
+    let alloc = rt.alloc();
+    refused(
+        &rt,
+        alloc,
         b"Knative-Serving-Revision: other\r\n\r\n",
         HeadError::NoRevision,
-    ),
-    (
+    )?;
+    refused(
+        &rt,
+        alloc,
         b"KNATIVE-serving-NAMESPACE: default\r\n\r\n",
         HeadError::NoRevision,
-    ),
-    (
+    )?;
+    refused(
+        &rt,
+        alloc,
         b"Content-Length: x\r\nKnative-Serving-Revision: fixed\r\n\r\n",
         HeadError::NoRevision,
-    ),
-    (b"X: a\r\n b\r\n\r\n", HeadError::Malformed),
-    (b"X: a\0b\r\n\r\n", HeadError::Malformed),
-    (b"X : a\r\n\r\n", HeadError::Malformed),
-    (b": a\r\n\r\n", HeadError::Malformed),
-    (b"X: a\rb\r\n\r\n", HeadError::Malformed),
-    (b"X\r\n\r\n", HeadError::Malformed),
-    (b"Transfer-Encoding: chunked\r\n\r\n", HeadError::EndedEarly),
-    (
+    )?;
+    Ok(())
+}
+
+#[test]
+fn refused_fields(rt: HostRuntime) -> Result<(), Fail> {
+    let alloc = rt.alloc();
+    refused(&rt, alloc, b"X: a\r\n b\r\n\r\n", HeadError::Malformed)?;
+    refused(&rt, alloc, b"X: a\0b\r\n\r\n", HeadError::Malformed)?;
+    refused(&rt, alloc, b"X : a\r\n\r\n", HeadError::Malformed)?;
+    refused(&rt, alloc, b": a\r\n\r\n", HeadError::Malformed)?;
+    refused(&rt, alloc, b"X: a\rb\r\n\r\n", HeadError::Malformed)?;
+    refused(&rt, alloc, b"X\r\n\r\n", HeadError::Malformed)?;
+    Ok(())
+}
+
+#[test]
+fn refused_sizes(rt: HostRuntime) -> Result<(), Fail> {
+    let alloc = rt.alloc();
+    refused(
+        &rt,
+        alloc,
+        b"Transfer-Encoding: chunked\r\n\r\n",
+        HeadError::EndedEarly,
+    )?;
+    refused(
+        &rt,
+        alloc,
         b"Transfer-Encoding: chunked\r\n\r\ng\r\n",
         HeadError::BadChunk,
-    ),
-    (
+    )?;
+    refused(
+        &rt,
+        alloc,
         b"Transfer-Encoding: chunked\r\n\r\n\r\n",
         HeadError::BadChunk,
-    ),
-    (
+    )?;
+    refused(
+        &rt,
+        alloc,
         b"Transfer-Encoding: chunked\r\n\r\n4\nwiki\r\n0\r\n\r\n",
         HeadError::BadChunk,
-    ),
-    (
+    )?;
+    Ok(())
+}
+
+#[test]
+fn cut_chunks(rt: HostRuntime) -> Result<(), Fail> {
+    let alloc = rt.alloc();
+    refused(
+        &rt,
+        alloc,
         b"Transfer-Encoding: chunked\r\n\r\n4\r\nwiki",
         HeadError::EndedEarly,
-    ),
-    (
+    )?;
+    refused(
+        &rt,
+        alloc,
         b"Transfer-Encoding: chunked\r\n\r\n4\r\nwikiX",
         HeadError::BadChunk,
-    ),
-    (
+    )?;
+    refused(
+        &rt,
+        alloc,
         b"Transfer-Encoding: chunked\r\n\r\n4\r\nwiki\r",
         HeadError::EndedEarly,
-    ),
-    (
+    )?;
+    refused(
+        &rt,
+        alloc,
         b"Transfer-Encoding: chunked\r\n\r\n4\r\nwiki\rX",
         HeadError::BadChunk,
-    ),
-    (
+    )?;
+    refused(
+        &rt,
+        alloc,
         b"Transfer-Encoding: chunked\r\n\r\n4\r\nwiki\n",
         HeadError::BadChunk,
-    ),
-    (
+    )?;
+    refused(
+        &rt,
+        alloc,
         b"Transfer-Encoding: chunked\r\n\r\n4\r\nwiki\r\n",
         HeadError::EndedEarly,
-    ),
-    (
+    )?;
+    Ok(())
+}
+
+#[test]
+fn long_sizes(rt: HostRuntime) -> Result<(), Fail> {
+    let alloc = rt.alloc();
+    refused(
+        &rt,
+        alloc,
         b"Transfer-Encoding: chunked\r\n\r\n100001\r\n",
         HeadError::BodyTooLong,
-    ),
-    (
+    )?;
+    refused(
+        &rt,
+        alloc,
         b"Transfer-Encoding: chunked\r\n\r\nffffffffffffffff\r\n",
         HeadError::BodyTooLong,
-    ),
-    (
+    )?;
+    refused(
+        &rt,
+        alloc,
         b"Transfer-Encoding: chunked\r\n\r\n1\r\na\r\n100000\r\n",
         HeadError::BodyTooLong,
-    ),
-    (
+    )?;
+    refused(
+        &rt,
+        alloc,
         b"Transfer-Encoding: chunked\r\n\r\n10000000000000000\r\n",
         HeadError::BadChunk,
-    ),
-    (
+    )?;
+    Ok(())
+}
+
+#[test]
+fn cut_trailers(rt: HostRuntime) -> Result<(), Fail> {
+    let alloc = rt.alloc();
+    refused(
+        &rt,
+        alloc,
         b"Transfer-Encoding: chunked\r\n\r\n0\r\nX : a\r\n\r\n",
         HeadError::BadChunk,
-    ),
-    (
+    )?;
+    refused(
+        &rt,
+        alloc,
         b"Transfer-Encoding: chunked\r\n\r\n0\r\nX: a\r\n",
         HeadError::EndedEarly,
-    ),
-    (
+    )?;
+    refused(
+        &rt,
+        alloc,
         b"Transfer-Encoding: chunked\r\n\r\n0\r\n",
         HeadError::EndedEarly,
-    ),
-    (
+    )?;
+    refused(
+        &rt,
+        alloc,
         b"Transfer-Encoding: chunked\r\n\r\n0",
         HeadError::EndedEarly,
-    ),
-    (
+    )?;
+    refused(
+        &rt,
+        alloc,
         b"Transfer-Encoding: chunked\r\n\r\n-1\r\n",
         HeadError::BadChunk,
-    ),
-];
-
-fn refuse_all(rt: &impl Abort, alloc: Global, table: &[(&[u8], HeadError)]) -> Result<(), AllocError> {
-    for (rest, expected) in table {
-        let input = joined(alloc, &[START, rest])?;
-        expect_refused(rt, alloc, &input, 16384, *expected);
-        expect_refused(rt, alloc, &input, 1, *expected);
-    }
+    )?;
     Ok(())
 }
 
 #[test]
-fn refused_heads(rt: HostRuntime) -> Result<(), Fail> {
-    refuse_all(&rt, rt.alloc(), &REFUSED)?;
-    expect_refused(&rt, rt.alloc(), b"", 1, HeadError::EndedEarly);
-    expect_refused(&rt, rt.alloc(), b"GET /a HTTP/2.0\r\n\r\n", 1, HeadError::Malformed);
-    expect_refused(&rt, rt.alloc(), b"GET  /a HTTP/1.1\r\n\r\n", 1, HeadError::Malformed);
-    Ok(())
-}
-
-/// What follows the three lines of `START`, and what follows the request line that is sent on.
-const SENT: [(&[u8], &[u8]); 8] = [
-    (
+fn sent_plain(rt: HostRuntime) -> Result<(), Fail> {
+    let alloc = rt.alloc();
+    sent(
+        &rt,
+        alloc,
         b"Content-Length: 0004\r\n\r\nwikiMORE",
         b"Content-Length: 0004\r\nConnection: close\r\n\r\nwiki",
-    ),
-    (
+    )?;
+    sent(
+        &rt,
+        alloc,
         b"X:\r\nx: \t b \t\r\nX: c\r\n\r\n",
         b"X: \r\nx: b\r\nX: c\r\nConnection: close\r\n\r\n",
-    ),
-    (b"X: a\n\n", b"X: a\r\nConnection: close\r\n\r\n"),
-    (
+    )?;
+    sent(
+        &rt,
+        alloc,
+        b"X: a\n\n",
+        b"X: a\r\nConnection: close\r\n\r\n",
+    )?;
+    sent(
+        &rt,
+        alloc,
         b"X: \xff\x80\r\n\r\n",
         b"X: \xff\x80\r\nConnection: close\r\n\r\n",
-    ),
-    (
+    )?;
+    sent(
+        &rt,
+        alloc,
         b"keep-alive: 1\r\nProxy-Connection: 1\r\nte: trailers\r\nUPGRADE: h2c\r\nK-Proxy-Request: activator\r\nconnection: x\r\nTrailer: x\r\n\r\n",
         b"Trailer: x\r\nConnection: close\r\n\r\n",
-    ),
-    (
-        b"transfer-encoding: \tCHUNKED \r\nTRAILER: X\r\nA: b\r\n\r\n4;a=b\r\nwiki\r\n5 \r\npedia\r\n0\r\nX: a\r\n\r\nMORE",
-        b"A: b\r\nContent-Length: 9\r\nConnection: close\r\n\r\nwikipedia",
-    ),
-    (
-        b"Transfer-Encoding: chunked\r\n\r\n000A\r\n0123456789\r\n00\r\n\n",
-        b"Content-Length: 10\r\nConnection: close\r\n\r\n0123456789",
-    ),
-    (
-        b"Content-Length: 0\r\n\r\n",
-        b"Content-Length: 0\r\nConnection: close\r\n\r\n",
-    ),
-];
-
-fn send_all(rt: &impl Abort, alloc: Global, table: &[(&[u8], &[u8])]) -> Result<(), AllocError> {
-    for (rest, expected) in table {
-        let input = joined(alloc, &[START, rest])?;
-        let output = joined(alloc, &[b"POST /a HTTP/1.1\r\n", expected])?;
-        expect_sent(rt, alloc, &input, 16384, false, &output);
-        expect_sent(rt, alloc, &input, 1, false, &output);
-    }
+    )?;
     Ok(())
 }
 
 #[test]
-fn sent_heads(rt: HostRuntime) -> Result<(), Fail> {
-    send_all(&rt, rt.alloc(), &SENT)?;
+fn sent_chunked(rt: HostRuntime) -> Result<(), Fail> {
+    let alloc = rt.alloc();
+    sent(
+        &rt,
+        alloc,
+        b"transfer-encoding: \tCHUNKED \r\nTRAILER: X\r\nA: b\r\n\r\n4;a=b\r\nwiki\r\n5 \r\npedia\r\n0\r\nX: a\r\n\r\nMORE",
+        b"A: b\r\nContent-Length: 9\r\nConnection: close\r\n\r\nwikipedia",
+    )?;
+    sent(
+        &rt,
+        alloc,
+        b"Transfer-Encoding: chunked\r\n\r\n000A\r\n0123456789\r\n00\r\n\n",
+        b"Content-Length: 10\r\nConnection: close\r\n\r\n0123456789",
+    )?;
+    sent(
+        &rt,
+        alloc,
+        b"Content-Length: 0\r\n\r\n",
+        b"Content-Length: 0\r\nConnection: close\r\n\r\n",
+    )?;
     Ok(())
 }
 
@@ -440,7 +607,12 @@ fn repeated(
     Ok(all)
 }
 
-fn expect_length(rt: &impl Abort, alloc: Global, input: Vec<u8>, expected: Result<usize, HeadError>) {
+fn expect_length(
+    rt: &impl Abort,
+    alloc: Global,
+    input: Vec<u8>,
+    expected: Result<usize, HeadError>,
+) {
     match read_head(alloc, &mut MemSource::new(input, Vec::new(alloc))) {
         Ok(head) => assert_eq!(rt; Ok(head.body.bytes().len()), expected),
         Err(e) => assert_eq!(rt; Err(e), expected),
@@ -451,7 +623,12 @@ fn expect_length(rt: &impl Abort, alloc: Global, input: Vec<u8>, expected: Resul
 fn longest_heads(rt: HostRuntime) -> Result<(), Fail> {
     let alloc = rt.alloc();
     expect_length(&rt, alloc, long_head(alloc, 16384)?, Ok(0));
-    expect_length(&rt, alloc, long_head(alloc, 16385)?, Err(HeadError::TooLong));
+    expect_length(
+        &rt,
+        alloc,
+        long_head(alloc, 16385)?,
+        Err(HeadError::TooLong),
+    );
     expect_length(&rt, alloc, head_of(alloc, 100)?, Ok(0));
     expect_length(&rt, alloc, head_of(alloc, 101)?, Err(HeadError::TooLong));
     Ok(())
@@ -464,10 +641,30 @@ fn longest_bodies(rt: HostRuntime) -> Result<(), Fail> {
     let chunked = b"Transfer-Encoding: chunked\r\n\r\n";
     let text = b"0123456789abcdef";
     let chunk = b"10\r\n0123456789abcdef\r\n";
-    expect_length(&rt, alloc, repeated(alloc, plain, text, 65536, b"")?, Ok(1_048_576));
-    expect_length(&rt, alloc, repeated(alloc, plain, text, 65535, b"0123456789abcde")?, Err(HeadError::EndedEarly));
-    expect_length(&rt, alloc, repeated(alloc, chunked, chunk, 65536, b"0\r\n\r\n")?, Ok(1_048_576));
-    expect_length(&rt, alloc, repeated(alloc, chunked, chunk, 65536, b"1\r\n")?, Err(HeadError::BodyTooLong));
+    expect_length(
+        &rt,
+        alloc,
+        repeated(alloc, plain, text, 65536, b"")?,
+        Ok(1_048_576),
+    );
+    expect_length(
+        &rt,
+        alloc,
+        repeated(alloc, plain, text, 65535, b"0123456789abcde")?,
+        Err(HeadError::EndedEarly),
+    );
+    expect_length(
+        &rt,
+        alloc,
+        repeated(alloc, chunked, chunk, 65536, b"0\r\n\r\n")?,
+        Ok(1_048_576),
+    );
+    expect_length(
+        &rt,
+        alloc,
+        repeated(alloc, chunked, chunk, 65536, b"1\r\n")?,
+        Err(HeadError::BodyTooLong),
+    );
     Ok(())
 }
 
@@ -477,70 +674,118 @@ fn longest_lines(rt: HostRuntime) -> Result<(), Fail> {
     let alloc = rt.alloc();
     let line = b"Transfer-Encoding: chunked\r\n\r\n1;";
     let trailer = b"Transfer-Encoding: chunked\r\n\r\n0\r\n";
-    expect_length(&rt, alloc, repeated(alloc, line, b"x", 1020, b"\r\na\r\n0\r\n\r\n")?, Ok(1));
-    expect_length(&rt, alloc, repeated(alloc, line, b"x", 1021, b"\r\na\r\n0\r\n\r\n")?, Err(HeadError::BadChunk));
-    expect_length(&rt, alloc, repeated(alloc, trailer, b"X: y\r\n", 100, b"\r\n")?, Ok(0));
-    expect_length(&rt, alloc, repeated(alloc, trailer, b"X: y\r\n", 101, b"\r\n")?, Err(HeadError::BadChunk));
-    expect_length(&rt, alloc, repeated(alloc, trailer, b"X:", 8192, b"\r\n\r\n")?, Err(HeadError::BadChunk));
+    expect_length(
+        &rt,
+        alloc,
+        repeated(alloc, line, b"x", 1020, b"\r\na\r\n0\r\n\r\n")?,
+        Ok(1),
+    );
+    expect_length(
+        &rt,
+        alloc,
+        repeated(alloc, line, b"x", 1021, b"\r\na\r\n0\r\n\r\n")?,
+        Err(HeadError::BadChunk),
+    );
+    expect_length(
+        &rt,
+        alloc,
+        repeated(alloc, trailer, b"X: y\r\n", 100, b"\r\n")?,
+        Ok(0),
+    );
+    expect_length(
+        &rt,
+        alloc,
+        repeated(alloc, trailer, b"X: y\r\n", 101, b"\r\n")?,
+        Err(HeadError::BadChunk),
+    );
+    expect_length(
+        &rt,
+        alloc,
+        repeated(alloc, trailer, b"X:", 8192, b"\r\n\r\n")?,
+        Err(HeadError::BadChunk),
+    );
     Ok(())
 }
 
-/// The table of own answers: status, length and text.
-const ANSWERS: [(Answer, &[u8]); 10] = [
-    (
-        Answer::BadHead,
-        b"HTTP/1.1 400 Bad Request\r\nContent-Type: text/plain\r\nContent-Length: 11\r\nConnection: close\r\n\r\nbad request",
-    ),
-    (
-        Answer::NoSuchRevision,
-        b"HTTP/1.1 404 Not Found\r\nContent-Type: text/plain\r\nContent-Length: 16\r\nConnection: close\r\n\r\nunknown revision",
-    ),
-    (
-        Answer::BodyTooLong,
-        b"HTTP/1.1 413 Payload Too Large\r\nContent-Type: text/plain\r\nContent-Length: 21\r\nConnection: close\r\n\r\nrequest body too long",
-    ),
-    (
-        Answer::HeadTooLong,
-        b"HTTP/1.1 431 Request Header Fields Too Large\r\nContent-Type: text/plain\r\nContent-Length: 21\r\nConnection: close\r\n\r\nrequest head too long",
-    ),
-    (
-        Answer::BadCoding,
-        b"HTTP/1.1 501 Not Implemented\r\nContent-Type: text/plain\r\nContent-Length: 32\r\nConnection: close\r\n\r\ntransfer coding is not supported",
-    ),
-    (
-        Answer::LinkFailed,
-        b"HTTP/1.1 502 Bad Gateway\r\nContent-Type: text/plain\r\nContent-Length: 15\r\nConnection: close\r\n\r\npod call failed",
-    ),
-    (
-        Answer::QueueFull,
-        b"HTTP/1.1 503 Service Unavailable\r\nContent-Type: text/plain\r\nContent-Length: 26\r\nConnection: close\r\n\r\npending request queue full",
-    ),
-    (
-        Answer::Overload,
-        b"HTTP/1.1 503 Service Unavailable\r\nContent-Type: text/plain\r\nContent-Length: 17\r\nConnection: close\r\n\r\ntoo many requests",
-    ),
-    (
-        Answer::Expired,
-        b"HTTP/1.1 503 Service Unavailable\r\nContent-Type: text/plain\r\nContent-Length: 27\r\nConnection: close\r\n\r\ntimed out waiting for a pod",
-    ),
-    (
-        Answer::HistoryFull,
-        b"HTTP/1.1 507 Insufficient Storage\r\nContent-Type: text/plain\r\nContent-Length: 12\r\nConnection: close\r\n\r\nhistory full",
-    ),
-];
-
-fn answer_all(rt: &impl Abort, alloc: Global, table: &[(Answer, &[u8])]) {
-    for (answer, expected) in table {
-        match answer_bytes(alloc, *answer) {
-            Ok(text) => assert_eq!(rt; text.bytes(), *expected),
-            Err(_) => panic!(rt; "out of memory"),
-        }
+fn expect_answer(rt: &impl Abort, alloc: Global, answer: Answer, expected: &[u8]) {
+    match answer_bytes(alloc, answer) {
+        Ok(text) => assert_eq!(rt; text.bytes(), expected),
+        Err(_) => panic!(rt; "out of memory"),
     }
 }
 
 #[test]
-fn answers(rt: HostRuntime) {
-    answer_all(&rt, rt.alloc(), &ANSWERS);
+fn answers_to_heads(rt: HostRuntime) {
+    let alloc = rt.alloc();
+    expect_answer(
+        &rt,
+        alloc,
+        Answer::BadHead,
+        b"HTTP/1.1 400 Bad Request\r\nContent-Type: text/plain\r\nContent-Length: 11\r\nConnection: close\r\n\r\nbad request",
+    );
+    expect_answer(
+        &rt,
+        alloc,
+        Answer::NoSuchRevision,
+        b"HTTP/1.1 404 Not Found\r\nContent-Type: text/plain\r\nContent-Length: 16\r\nConnection: close\r\n\r\nunknown revision",
+    );
+    expect_answer(
+        &rt,
+        alloc,
+        Answer::BodyTooLong,
+        b"HTTP/1.1 413 Payload Too Large\r\nContent-Type: text/plain\r\nContent-Length: 21\r\nConnection: close\r\n\r\nrequest body too long",
+    );
+    expect_answer(
+        &rt,
+        alloc,
+        Answer::HeadTooLong,
+        b"HTTP/1.1 431 Request Header Fields Too Large\r\nContent-Type: text/plain\r\nContent-Length: 21\r\nConnection: close\r\n\r\nrequest head too long",
+    );
+    expect_answer(
+        &rt,
+        alloc,
+        Answer::BadCoding,
+        b"HTTP/1.1 501 Not Implemented\r\nContent-Type: text/plain\r\nContent-Length: 32\r\nConnection: close\r\n\r\ntransfer coding is not supported",
+    );
+}
+
+#[test]
+fn answers_to_requests(rt: HostRuntime) {
+    let alloc = rt.alloc();
+    expect_answer(
+        &rt,
+        alloc,
+        Answer::LinkFailed,
+        b"HTTP/1.1 502 Bad Gateway\r\nContent-Type: text/plain\r\nContent-Length: 15\r\nConnection: close\r\n\r\npod call failed",
+    );
+    expect_answer(
+        &rt,
+        alloc,
+        Answer::QueueFull,
+        b"HTTP/1.1 503 Service Unavailable\r\nContent-Type: text/plain\r\nContent-Length: 26\r\nConnection: close\r\n\r\npending request queue full",
+    );
+    expect_answer(
+        &rt,
+        alloc,
+        Answer::Overload,
+        b"HTTP/1.1 503 Service Unavailable\r\nContent-Type: text/plain\r\nContent-Length: 17\r\nConnection: close\r\n\r\ntoo many requests",
+    );
+    expect_answer(
+        &rt,
+        alloc,
+        Answer::Expired,
+        b"HTTP/1.1 503 Service Unavailable\r\nContent-Type: text/plain\r\nContent-Length: 27\r\nConnection: close\r\n\r\ntimed out waiting for a pod",
+    );
+    expect_answer(
+        &rt,
+        alloc,
+        Answer::HistoryFull,
+        b"HTTP/1.1 507 Insufficient Storage\r\nContent-Type: text/plain\r\nContent-Length: 12\r\nConnection: close\r\n\r\nhistory full",
+    );
+}
+
+#[test]
+fn faults_answered(rt: HostRuntime) {
     assert_eq!(rt; HeadError::NoRevision.answer(), Some(Answer::BadHead));
     assert_eq!(rt; HeadError::BadCoding.answer(), Some(Answer::BadCoding));
     assert_eq!(rt; HeadError::ReadFault.answer(), None);
