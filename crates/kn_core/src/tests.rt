@@ -86,8 +86,11 @@ impl Run {
         Ok(())
     }
 
-    /// Takes one event, which may not lie back in time.
+    /// Takes one event, which may not lie back in time, nor lose a pod.
     fn take(&mut self, time: u64, act: Act) -> Result<Told, Memory> {
+        if let Act::Lost(_) = act {
+            return Err(Memory);
+        }
         self.revision.reserve(self.alloc, 1)?;
         if time < self.revision.now() || time > 1 << 42 || self.revision.events() >= 1 << 54 {
             return Err(Memory);

@@ -1,40 +1,9 @@
 use super::{Answer, HeadError, answer_bytes, forward_bytes, read_head};
 use kn_event::Text;
-use kn_io::{Failed, Faulty, MemSource, Source};
+use kn_io::MemSource;
 use std::alloc::{AllocError, Global};
 use std::process::Abort;
 use std::test::Fail;
-
-/// A source that gives at most so many bytes at a time, and at least one.
-#[derive(Drop)]
-struct Pieces {
-    source: MemSource,
-    most: usize,
-}
-
-impl Faulty for Pieces {
-    ghost faults = { λ s. s.source.plan.faults };
-
-    fn faults(&self) -> u64 {
-        self.source.faults()
-    }
-}
-
-impl Source for Pieces {
-    ghost use Rattle.std.specs.Prelude.{Some, []};
-
-    ghost left = { λ s. Some s.source.left };
-
-    ghost apart = { λ _. Some [] };
-
-    fn read(&mut self, buf: &mut [u8]) -> Result<usize, Failed> {
-        let mut own = [0u8; 16384];
-        let most = buf.len().min(self.most.max(1)).min(own.len());
-        let n = self.source.read(&mut own[..most])?;
-        buf[..n].copy_from_slice(&own[..n]);
-        Ok(n)
-    }
-}
 
 /// What is sent on, not through the activator, or why the request is refused.
 fn sent_on(
@@ -48,10 +17,8 @@ fn sent_on(
         Ok(bytes) => bytes,
         Err(_) => return Err(HeadError::Memory),
     };
-    let mut source = Pieces {
-        source: MemSource::new(bytes, fail),
-        most,
-    };
+    let piece = (most as u64).max(1);
+    let mut source = MemSource::in_pieces(bytes, piece, fail);
     let head = read_head(alloc, &mut source)?;
     match forward_bytes(alloc, &head, proxied) {
         Ok(text) => Ok(text),
