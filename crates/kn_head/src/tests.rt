@@ -541,7 +541,7 @@ fn clients(rt: HostRuntime) {
 /// A head of so many bytes, by one long field.
 fn long_head(alloc: Global, size: usize) -> Result<Vec<u8>, AllocError> {
     let mut head = joined(alloc, &[START, b"X: "])?;
-    while head.len() + 4 < size {
+    for _ in head.len()..size.saturating_sub(4) {
         head.push(b'x')?;
     }
     head.extend_from_slice(b"\r\n\r\n")?;
