@@ -1,5 +1,5 @@
 -- Runs in which pods drain, and what they leave as it was.
-use Rattle.std.specs.Prelude.{[], ◌∷◌, true, codes}
+use Rattle.std.specs.Prelude.{[], ◌∷◌, ◌++◌, true, codes}
 use Rattle.kn_event.specs.declared.event.Act.TheVariants as act
 use Rattle.kn_event.specs.declared.event.Told.TheVariants as told
 use Rattle.kn_event.specs.declared.event.Stand.TheVariants as stand
@@ -275,6 +275,20 @@ DrainingRunsQueueTold =
 abbrev pub DrainingRunsQueueStand : Type 0
 DrainingRunsQueueStand =
     Leaves draining_runs_queue (stand.Ended ∷ stand.Running 1 ∷ stand.Queued 1 ∷ stand.Ended ∷ stand.Unknown ∷ [])
+
+-- what is queued at a draining pod expires there
+abbrev pub queue_expires_while_draining : Run
+queue_expires_while_draining = record draining_runs_queue { events = draining_runs_queue.events ++ at 2100 act.Pass ∷ [] }
+
+abbrev pub QueueExpiresWhileDrainingTold : Type 0
+QueueExpiresWhileDrainingTold =
+    Tells queue_expires_while_draining
+    (told.Passed ∷ decided ∷ told.Run 0 1 ∷ told.AtPod 1 1 ∷ told.AtPod 2 1 ∷ told.AtPod 3 1 ∷ told.Passed ∷ decided
+    ∷ told.Done 0 ∷ told.Done 3 ∷ told.Passed ∷ [])
+
+abbrev pub QueueExpiresWhileDrainingStand : Type 0
+QueueExpiresWhileDrainingStand =
+    Leaves queue_expires_while_draining (stand.Ended ∷ stand.Running 1 ∷ stand.Ended ∷ stand.Ended ∷ stand.Unknown ∷ [])
 
 -- neither a new pod nor a drain resets the turn
 abbrev pub turns_across_drain : Run

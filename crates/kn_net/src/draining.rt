@@ -1,5 +1,5 @@
 //! Pods that drain: which, when they go, and what they leave as it was.
-ghost use Rattle.kn_net.specs.Draining.{PlaceAfterDrainReport, PlaceAfterDrainTold, PlaceAfterDrainStand, PlaceAcrossDrainReport, PlaceAcrossDrainTold, PlaceAcrossDrainStand, WordsAfterDirectsReport, WordsAfterDirectsTold, WordsAfterDirectsStand, DrainStartingFirstReport, DrainStartingFirstTold, DrainStartingFirstStand, CreateBesideDrainingReport, CreateBesideDrainingTold, CreateBesideDrainingStand, DrainingRunsQueueReport, DrainingRunsQueueTold, DrainingRunsQueueStand, TurnsAcrossDrainReport, TurnsAcrossDrainTold, TurnsAcrossDrainStand};
+ghost use Rattle.kn_net.specs.Draining.{PlaceAfterDrainReport, PlaceAfterDrainTold, PlaceAfterDrainStand, PlaceAcrossDrainReport, PlaceAcrossDrainTold, PlaceAcrossDrainStand, WordsAfterDirectsReport, WordsAfterDirectsTold, WordsAfterDirectsStand, DrainStartingFirstReport, DrainStartingFirstTold, DrainStartingFirstStand, CreateBesideDrainingReport, CreateBesideDrainingTold, CreateBesideDrainingStand, DrainingRunsQueueReport, DrainingRunsQueueTold, DrainingRunsQueueStand, QueueExpiresWhileDrainingTold, QueueExpiresWhileDrainingStand, TurnsAcrossDrainReport, TurnsAcrossDrainTold, TurnsAcrossDrainStand};
 
 /// A place past the Ready pods is 0, and no rest of a division. Requests that go past the activator do not move it;
 /// the search goes on past a full pod. A decision's mode comes before its drains.
@@ -52,6 +52,13 @@ pub fn draining_runs_queue()
     ensures report { DrainingRunsQueueReport }
     ensures told { DrainingRunsQueueTold }
     ensures stand { DrainingRunsQueueStand }
+{}
+
+/// A request that is still queued at a draining pod when its time is over expires.
+#[tactic(auto, unfolding(kn_trace::specs::Worked::whole_run))]
+pub fn queue_expires_while_draining()
+    ensures told { QueueExpiresWhileDrainingTold }
+    ensures stand { QueueExpiresWhileDrainingStand }
 {}
 
 /// A pod that gets ready does not reset the turn, nor does one that drains.
