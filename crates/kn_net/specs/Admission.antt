@@ -8,7 +8,7 @@ use Rattle.kn_event.specs.Defaults.{milli}
 use Rattle.kn_event.specs.FixedSpec.{fixed_spec}
 use Rattle.kn_scaling.specs.Worked.{scaled}
 use Rattle.kn_trace.specs.Worked.{at, slots}
-use Rattle.kn_net.specs.Run.{Run, Prints, Tells, Leaves, decided}
+use Rattle.kn_net.specs.Run.{Run, Prints, Ends, Tells, Leaves, decided}
 
 -- held requests whose timeout is just reached end before the act
 abbrev pub waits_end_first : Run
@@ -41,6 +41,9 @@ WaitsEndFirstReport =
     ∷ codes "1001 assign 4 1\n"
     ∷ codes "1001 not-waiting 0\n"
     ∷ codes "1001 not-waiting 9\n" ∷ [])
+
+abbrev pub WaitsEndFirstLastLine : Type 0
+WaitsEndFirstLastLine = Ends waits_end_first 1 (codes "end events=12 admitted=5 direct=0 assigned=3 finished=0 failed=0 expired=2 cancelled=0 queue-full=0 overload=0 decisions=0\n")
 
 abbrev pub WaitsEndFirstTold : Type 0
 WaitsEndFirstTold =
@@ -90,6 +93,9 @@ RandomChoiceOfThreeReport =
     ∷ codes "3 assign 6 2\n"
     ∷ codes "3 limit 0 1\n" ∷ [])
 
+abbrev pub RandomChoiceOfThreeLastLine : Type 0
+RandomChoiceOfThreeLastLine = Ends random_choice_of_three 1 (codes "end events=13 admitted=7 direct=0 assigned=7 finished=1 failed=0 expired=0 cancelled=0 queue-full=0 overload=0 decisions=0\n")
+
 abbrev pub RandomChoiceOfThreeTold : Type 0
 RandomChoiceOfThreeTold =
     Tells random_choice_of_three
@@ -129,6 +135,9 @@ RoundRobinOfThreeReport =
     ∷ codes "2 assign 2 2\n"
     ∷ codes "3 no-pod 7\n"
     ∷ codes "3 not-starting 0\n" ∷ [])
+
+abbrev pub RoundRobinOfThreeLastLine : Type 0
+RoundRobinOfThreeLastLine = Ends round_robin_of_three 1 (codes "end events=10 admitted=3 direct=0 assigned=3 finished=0 failed=0 expired=0 cancelled=0 queue-full=0 overload=0 decisions=0\n")
 
 abbrev pub RoundRobinOfThreeTold : Type 0
 RoundRobinOfThreeTold =
@@ -180,6 +189,9 @@ PodFullByLimitReport =
     ∷ codes "1300 limit 0 2\n"
     ∷ codes "1300 direct 12 0\n"
     ∷ codes "1300 direct 13 0\n" ∷ [])
+
+abbrev pub PodFullByLimitLastLine : Type 0
+PodFullByLimitLastLine = Ends pod_full_by_limit 1 (codes "end events=19 admitted=0 direct=13 assigned=0 finished=0 failed=0 expired=0 cancelled=0 queue-full=1 overload=0 decisions=1\n")
 
 abbrev pub PodFullByLimitTold : Type 0
 PodFullByLimitTold =
@@ -247,6 +259,9 @@ FullPodKeepsItsTurnReport =
     ∷ codes "1300 direct 13 0\n"
     ∷ codes "1300 run 13\n" ∷ [])
 
+abbrev pub FullPodKeepsItsTurnLastLine : Type 0
+FullPodKeepsItsTurnLastLine = Ends full_pod_keeps_its_turn 1 (codes "end events=18 admitted=1 direct=12 assigned=1 finished=0 failed=0 expired=0 cancelled=0 queue-full=1 overload=0 decisions=1\n")
+
 abbrev pub FullPodKeepsItsTurnTold : Type 0
 FullPodKeepsItsTurnTold =
     Tells full_pod_keeps_its_turn
@@ -287,6 +302,9 @@ BreakerRefusesThenTurnsReport =
     ∷ codes "1000 mode serve\n"
     ∷ codes "1100 direct 3 0\n"
     ∷ codes "1200 not-running 3\n" ∷ [])
+
+abbrev pub BreakerRefusesThenTurnsLastLine : Type 0
+BreakerRefusesThenTurnsLastLine = Ends breaker_refuses_then_turns 1 (codes "end events=8 admitted=2 direct=1 assigned=1 finished=0 failed=0 expired=0 cancelled=0 queue-full=1 overload=0 decisions=1\n")
 
 abbrev pub BreakerRefusesThenTurnsTold : Type 0
 BreakerRefusesThenTurnsTold =
@@ -341,6 +359,9 @@ InUseAndSeatsReport =
     ∷ codes "3000 direct 4 1\n"
     ∷ codes "3000 run 4\n" ∷ [])
 
+abbrev pub InUseAndSeatsLastLine : Type 0
+InUseAndSeatsLastLine = Ends in_use_and_seats 1 (codes "end events=14 admitted=1 direct=4 assigned=1 finished=3 failed=1 expired=0 cancelled=0 queue-full=0 overload=0 decisions=3\n")
+
 abbrev pub InUseAndSeatsTold : Type 0
 InUseAndSeatsTold =
     Tells in_use_and_seats
@@ -383,6 +404,9 @@ ServeThenProxyReport =
     ∷ codes "3000 expire 2\n"
     ∷ codes "3000 expire 3\n"
     ∷ codes "3000 finish 1 fail\n" ∷ [])
+
+abbrev pub ServeThenProxyLastLine : Type 0
+ServeThenProxyLastLine = Ends serve_then_proxy 1 (codes "end events=9 admitted=1 direct=3 assigned=0 finished=1 failed=1 expired=2 cancelled=0 queue-full=0 overload=0 decisions=2\n")
 
 abbrev pub ServeThenProxyTold : Type 0
 ServeThenProxyTold =

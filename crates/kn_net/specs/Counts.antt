@@ -8,7 +8,7 @@ use Rattle.kn_event.specs.declared.revision.Metric.TheVariants.{Rps}
 use Rattle.kn_event.specs.Defaults.{milli, scaling_target}
 use Rattle.kn_scaling.specs.Worked.{scaled}
 use Rattle.kn_trace.specs.Worked.{at, slots}
-use Rattle.kn_net.specs.Run.{Run, Prints, Tells, Leaves, decided}
+use Rattle.kn_net.specs.Run.{Run, Prints, Ends, Tells, Leaves, decided}
 
 -- what is taken in in a second counts, also what ended at once
 abbrev pub rps_counts_taken_in : Run
@@ -37,6 +37,9 @@ RpsCountsTakenInReport =
     ∷ codes "8500 drain 1\n"
     ∷ codes "8500 remove 1\n"
     ∷ codes "8500 remove 2\n" ∷ [])
+
+abbrev pub RpsCountsTakenInLastLine : Type 0
+RpsCountsTakenInLastLine = Ends rps_counts_taken_in 1 (codes "end events=7 admitted=3 direct=0 assigned=0 finished=0 failed=0 expired=0 cancelled=1 queue-full=1 overload=0 decisions=2\n")
 
 abbrev pub RpsCountsTakenInTold : Type 0
 RpsCountsTakenInTold =
@@ -73,6 +76,9 @@ RpsPastTheActivatorReport =
     ∷ codes "2000 mode proxy\n"
     ∷ codes "2000 create 1 1\n" ∷ [])
 
+abbrev pub RpsPastTheActivatorLastLine : Type 0
+RpsPastTheActivatorLastLine = Ends rps_past_the_activator 1 (codes "end events=6 admitted=0 direct=3 assigned=0 finished=0 failed=0 expired=0 cancelled=0 queue-full=0 overload=0 decisions=2\n")
+
 abbrev pub RpsPastTheActivatorTold : Type 0
 RpsPastTheActivatorTold =
     Tells rps_past_the_activator (told.Passed ∷ decided ∷ told.Run 0 0 ∷ told.AtPod 1 0 ∷ told.AtPod 2 0 ∷ decided ∷ [])
@@ -105,6 +111,9 @@ RpsWakesReport =
     ∷ codes "6000 admit 2 12\n"
     ∷ codes "6000 decision stable=1/1 panic=1/1 ready=1 dspc=1 dppc=1 over=no panicking=no undelayed=1 delayed=1 excess=-211 bounded=1 want=1 applied=yes mode=proxy\n"
     ∷ codes "6000 phase active\n" ∷ [])
+
+abbrev pub RpsWakesLastLine : Type 0
+RpsWakesLastLine = Ends rps_wakes 1 (codes "end events=5 admitted=3 direct=0 assigned=1 finished=0 failed=0 expired=0 cancelled=0 queue-full=0 overload=0 decisions=2\n")
 
 abbrev pub RpsWakesTold : Type 0
 RpsWakesTold =

@@ -7,7 +7,7 @@ use Rattle.kn_event.specs.declared.revision.Burst.TheVariants.{Capacity}
 use Rattle.kn_event.specs.Defaults.{milli}
 use Rattle.kn_scaling.specs.Worked.{scaled}
 use Rattle.kn_trace.specs.Worked.{at, slots}
-use Rattle.kn_net.specs.Run.{Run, Prints, Tells, Leaves, decided}
+use Rattle.kn_net.specs.Run.{Run, Prints, Ends, Tells, Leaves, decided}
 
 -- a place past the Ready pods is 0
 abbrev pub place_after_drain : Run
@@ -49,6 +49,9 @@ PlaceAfterDrainReport =
     ∷ codes "2000 admit 5 15\n"
     ∷ codes "2000 assign 5 0\n" ∷ [])
 
+abbrev pub PlaceAfterDrainLastLine : Type 0
+PlaceAfterDrainLastLine = Ends place_after_drain 1 (codes "end events=12 admitted=5 direct=1 assigned=5 finished=0 failed=0 expired=0 cancelled=0 queue-full=0 overload=0 decisions=2\n")
+
 abbrev pub PlaceAfterDrainTold : Type 0
 PlaceAfterDrainTold =
     Tells place_after_drain
@@ -88,6 +91,9 @@ PlaceAcrossDrainReport =
     ∷ codes "1000 remove 2\n"
     ∷ codes "1000 admit 1 11\n"
     ∷ codes "1000 assign 1 1\n" ∷ [])
+
+abbrev pub PlaceAcrossDrainLastLine : Type 0
+PlaceAcrossDrainLastLine = Ends place_across_drain 1 (codes "end events=6 admitted=2 direct=0 assigned=2 finished=0 failed=0 expired=0 cancelled=0 queue-full=0 overload=0 decisions=1\n")
 
 abbrev pub PlaceAcrossDrainTold : Type 0
 PlaceAcrossDrainTold =
@@ -129,6 +135,9 @@ WordsAfterDirectsReport =
     ∷ codes "2000 mode proxy\n"
     ∷ codes "2000 admit 3 13\n"
     ∷ codes "2000 assign 3 1\n" ∷ [])
+
+abbrev pub WordsAfterDirectsLastLine : Type 0
+WordsAfterDirectsLastLine = Ends words_after_directs 1 (codes "end events=9 admitted=1 direct=3 assigned=1 finished=0 failed=0 expired=0 cancelled=0 queue-full=0 overload=0 decisions=2\n")
 
 abbrev pub WordsAfterDirectsTold : Type 0
 WordsAfterDirectsTold =
@@ -180,6 +189,9 @@ DrainStartingFirstReport =
     ∷ codes "1300 assign 2 1\n"
     ∷ codes "1300 remove 3\n" ∷ [])
 
+abbrev pub DrainStartingFirstLastLine : Type 0
+DrainStartingFirstLastLine = Ends drain_starting_first 1 (codes "end events=11 admitted=3 direct=0 assigned=3 finished=2 failed=0 expired=0 cancelled=0 queue-full=0 overload=0 decisions=1\n")
+
 abbrev pub DrainStartingFirstTold : Type 0
 DrainStartingFirstTold =
     Tells drain_starting_first
@@ -224,6 +236,9 @@ CreateBesideDrainingReport =
     ∷ codes "2000 ready 2\n"
     ∷ codes "2000 assign 3 2\n" ∷ [])
 
+abbrev pub CreateBesideDrainingLastLine : Type 0
+CreateBesideDrainingLastLine = Ends create_beside_draining 1 (codes "end events=10 admitted=4 direct=0 assigned=4 finished=0 failed=0 expired=0 cancelled=0 queue-full=0 overload=0 decisions=2\n")
+
 abbrev pub CreateBesideDrainingTold : Type 0
 CreateBesideDrainingTold =
     Tells create_beside_draining
@@ -265,6 +280,9 @@ DrainingRunsQueueReport =
     ∷ codes "2050 finish 0 ok\n"
     ∷ codes "2050 run 1\n"
     ∷ codes "2050 cancel 3\n" ∷ [])
+
+abbrev pub DrainingRunsQueueLastLine : Type 0
+DrainingRunsQueueLastLine = Ends draining_runs_queue 1 (codes "end events=10 admitted=0 direct=4 assigned=0 finished=1 failed=0 expired=0 cancelled=1 queue-full=0 overload=0 decisions=2\n")
 
 abbrev pub DrainingRunsQueueTold : Type 0
 DrainingRunsQueueTold =
@@ -319,6 +337,9 @@ TurnsAcrossDrainReport =
     ∷ codes "2000 remove 2\n"
     ∷ codes "2000 direct 1 1\n"
     ∷ codes "2000 run 1\n" ∷ [])
+
+abbrev pub TurnsAcrossDrainLastLine : Type 0
+TurnsAcrossDrainLastLine = Ends turns_across_drain 1 (codes "end events=7 admitted=0 direct=2 assigned=0 finished=0 failed=0 expired=0 cancelled=0 queue-full=0 overload=0 decisions=2\n")
 
 abbrev pub TurnsAcrossDrainTold : Type 0
 TurnsAcrossDrainTold =

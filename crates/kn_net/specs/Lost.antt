@@ -8,7 +8,7 @@ use Rattle.kn_event.specs.Defaults.{milli}
 use Rattle.kn_event.specs.FixedSpec.{fixed_spec}
 use Rattle.kn_scaling.specs.Worked.{scaled}
 use Rattle.kn_trace.specs.Worked.{at, slots}
-use Rattle.kn_net.specs.Run.{Run, Prints, Tells, Leaves, decided}
+use Rattle.kn_net.specs.Run.{Run, Prints, Ends, Tells, Leaves, decided}
 
 -- a lost pod ends its request, and its seat is not given again
 abbrev pub lost_pod : Run
@@ -31,6 +31,9 @@ LostPodReport =
     ∷ codes "3 lost-pod 0\n"
     ∷ codes "4 not-running 0\n"
     ∷ codes "5 no-pod 0\n" ∷ [])
+
+abbrev pub LostPodLastLine : Type 0
+LostPodLastLine = Ends lost_pod 2 (codes "end events=6 admitted=2 direct=0 assigned=1 finished=0 failed=0 expired=0 cancelled=0 queue-full=0 overload=0 decisions=0 lost=1\n")
 
 -- expiries, then the requests at the pod, then the pod, then settling
 abbrev pub lost_before_settling : Run
@@ -68,6 +71,9 @@ LostBeforeSettlingReport =
     ∷ codes "1001 lost-request 2\n"
     ∷ codes "1001 lost-request 3\n"
     ∷ codes "1001 lost-pod 1\n" ∷ [])
+
+abbrev pub LostBeforeSettlingLastLine : Type 0
+LostBeforeSettlingLastLine = Ends lost_before_settling 2 (codes "end events=12 admitted=6 direct=0 assigned=4 finished=0 failed=0 expired=1 cancelled=0 queue-full=0 overload=0 decisions=0 lost=4\n")
 
 abbrev pub LostBeforeSettlingTold : Type 0
 LostBeforeSettlingTold =
@@ -121,6 +127,9 @@ LostWhileServingReport =
     ∷ codes "2000 create 2 1\n"
     ∷ codes "2000 create 3 1\n" ∷ [])
 
+abbrev pub LostWhileServingLastLine : Type 0
+LostWhileServingLastLine = Ends lost_while_serving 2 (codes "end events=11 admitted=3 direct=2 assigned=2 finished=0 failed=0 expired=0 cancelled=0 queue-full=0 overload=0 decisions=2 lost=4\n")
+
 abbrev pub LostWhileServingTold : Type 0
 LostWhileServingTold =
     Tells lost_while_serving
@@ -159,6 +168,9 @@ LostAndCreatedAgainReport =
     ∷ codes "3000 phase activating\n"
     ∷ codes "3000 create 3 1\n" ∷ [])
 
+abbrev pub LostAndCreatedAgainLastLine : Type 0
+LostAndCreatedAgainLastLine = Ends lost_and_created_again 2 (codes "end events=8 admitted=0 direct=0 assigned=0 finished=0 failed=0 expired=0 cancelled=0 queue-full=0 overload=0 decisions=2 lost=0\n")
+
 abbrev pub LostAndCreatedAgainTold : Type 0
 LostAndCreatedAgainTold =
     Tells lost_and_created_again
@@ -194,6 +206,9 @@ LostWhileDrainingReport =
     ∷ codes "1000 drain 1\n"
     ∷ codes "1100 lost-request 1\n"
     ∷ codes "1100 lost-pod 1\n" ∷ [])
+
+abbrev pub LostWhileDrainingLastLine : Type 0
+LostWhileDrainingLastLine = Ends lost_while_draining 2 (codes "end events=6 admitted=2 direct=0 assigned=2 finished=0 failed=0 expired=0 cancelled=0 queue-full=0 overload=0 decisions=1 lost=1\n")
 
 abbrev pub LostWhileDrainingTold : Type 0
 LostWhileDrainingTold =

@@ -9,6 +9,7 @@ use Rattle.kn_event.specs.declared.revision.Spec.{Spec}
 use Rattle.kn_scaling.specs.Decide.{no_load}
 use Rattle.kn_scaling.specs.Worked.{decided_at}
 use Rattle.kn_trace.specs.Trace.{stand_of}
+use Rattle.kn_trace.specs.Report.{last_line, totals}
 use Rattle.kn_trace.specs.Events.{opening, tolds, trace_of}
 use Rattle.kn_trace.specs.Worked.{Reports}
 
@@ -20,6 +21,10 @@ pub record Run : Type 0 where
 -- the lines of the report, without the last one
 abbrev pub Prints : Run → List (List ℕ) → Type 0
 Prints run lines = Reports run.spec run.start run.events lines
+
+-- the last line of the report, of a journal of this version
+abbrev pub Ends : Run → ℕ → List ℕ → Type 0
+Ends run version line = last_line version (length run.events) (totals (trace_of run.spec run.start run.events)) ≡ line
 
 -- a decision whose numbers are left out: they stand in its line of the report
 abbrev pub decided : Told

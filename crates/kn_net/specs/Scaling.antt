@@ -7,7 +7,7 @@ use Rattle.kn_event.specs.declared.revision.Burst.TheVariants.{Capacity, Unlimit
 use Rattle.kn_event.specs.Defaults.{milli, scaling_target}
 use Rattle.kn_scaling.specs.Worked.{scaled}
 use Rattle.kn_trace.specs.Worked.{at, slots}
-use Rattle.kn_net.specs.Run.{Run, Prints, Tells, Leaves, decided}
+use Rattle.kn_net.specs.Run.{Run, Prints, Ends, Tells, Leaves, decided}
 
 -- an opening at a start that is not 0
 abbrev pub start_times : Run
@@ -38,6 +38,9 @@ StartTimesReport =
     ∷ codes "10500 drain 0\n"
     ∷ codes "10500 remove 0\n"
     ∷ codes "10500 remove 1\n" ∷ [])
+
+abbrev pub StartTimesLastLine : Type 0
+StartTimesLastLine = Ends start_times 1 (codes "end events=7 admitted=1 direct=0 assigned=1 finished=1 failed=0 expired=0 cancelled=0 queue-full=0 overload=0 decisions=3\n")
 
 abbrev pub StartTimesTold : Type 0
 StartTimesTold =
@@ -79,6 +82,9 @@ ServeToZeroReport =
     ∷ codes "9500 remove 0\n"
     ∷ codes "9500 remove 1\n" ∷ [])
 
+abbrev pub ServeToZeroLastLine : Type 0
+ServeToZeroLastLine = Ends serve_to_zero 1 (codes "end events=7 admitted=1 direct=0 assigned=1 finished=1 failed=0 expired=0 cancelled=0 queue-full=0 overload=0 decisions=4\n")
+
 abbrev pub ServeToZeroTold : Type 0
 ServeToZeroTold =
     Tells serve_to_zero (told.Passed ∷ told.Run 0 0 ∷ told.Done 0 ∷ decided ∷ decided ∷ decided ∷ decided ∷ [])
@@ -119,6 +125,9 @@ ActiveTwiceReport =
     ∷ codes "12500 phase inactive\n"
     ∷ codes "12500 mode proxy\n"
     ∷ codes "13000 decision stable=0/6000 panic=0/1000 ready=1 dspc=0 dppc=0 over=no panicking=no undelayed=0 delayed=0 excess=0 bounded=0 want=0 applied=no mode=proxy\n" ∷ [])
+
+abbrev pub ActiveTwiceLastLine : Type 0
+ActiveTwiceLastLine = Ends active_twice 1 (codes "end events=8 admitted=1 direct=0 assigned=1 finished=1 failed=0 expired=0 cancelled=0 queue-full=0 overload=0 decisions=6\n")
 
 abbrev pub ActiveTwiceTold : Type 0
 ActiveTwiceTold =
@@ -162,6 +171,9 @@ WakeAtZeroReport =
     ∷ codes "7000 create 1 1\n"
     ∷ codes "7000 create 2 1\n" ∷ [])
 
+abbrev pub WakeAtZeroLastLine : Type 0
+WakeAtZeroLastLine = Ends wake_at_zero 1 (codes "end events=10 admitted=4 direct=0 assigned=1 finished=0 failed=0 expired=0 cancelled=1 queue-full=1 overload=0 decisions=3\n")
+
 abbrev pub WakeAtZeroTold : Type 0
 WakeAtZeroTold =
     Tells wake_at_zero
@@ -203,6 +215,9 @@ ActivatingKeepsScaleReport =
     ∷ codes "8000 decision stable=0/5000 panic=0/1 ready=0 dspc=0 dppc=0 over=no panicking=no undelayed=0 delayed=0 excess=-211 bounded=0 want=2 applied=no mode=proxy\n"
     ∷ codes "8000 admit 1 11\n" ∷ [])
 
+abbrev pub ActivatingKeepsScaleLastLine : Type 0
+ActivatingKeepsScaleLastLine = Ends activating_keeps_scale 1 (codes "end events=8 admitted=2 direct=0 assigned=0 finished=0 failed=0 expired=0 cancelled=1 queue-full=0 overload=0 decisions=5\n")
+
 abbrev pub ActivatingKeepsScaleTold : Type 0
 ActivatingKeepsScaleTold =
     Tells activating_keeps_scale
@@ -230,6 +245,9 @@ WakeCountsInPanicReport =
     ∷ codes "500 create 0 1\n"
     ∷ codes "700 no-data\n"
     ∷ codes "1000 decision stable=500/1000 panic=500/1000 ready=0 dspc=50 dppc=50 over=yes panicking=yes undelayed=100 delayed=100 excess=0 bounded=1 want=1 applied=yes mode=proxy\n" ∷ [])
+
+abbrev pub WakeCountsInPanicLastLine : Type 0
+WakeCountsInPanicLastLine = Ends wake_counts_in_panic 1 (codes "end events=3 admitted=1 direct=0 assigned=0 finished=0 failed=0 expired=0 cancelled=0 queue-full=0 overload=0 decisions=2\n")
 
 abbrev pub WakeCountsInPanicTold : Type 0
 WakeCountsInPanicTold =
@@ -274,6 +292,9 @@ PanicStartsAnewReport =
     ∷ codes "3000 drain 2\n"
     ∷ codes "3000 remove 2\n" ∷ [])
 
+abbrev pub PanicStartsAnewLastLine : Type 0
+PanicStartsAnewLastLine = Ends panic_starts_anew 1 (codes "end events=10 admitted=4 direct=0 assigned=4 finished=3 failed=0 expired=0 cancelled=0 queue-full=0 overload=0 decisions=2\n")
+
 abbrev pub PanicStartsAnewTold : Type 0
 PanicStartsAnewTold =
     Tells panic_starts_anew
@@ -308,6 +329,9 @@ AveragesOverGapsReport =
     ∷ codes "8000 admit 2 12\n"
     ∷ codes "9000 expire 2\n"
     ∷ codes "9000 decision stable=1000/1000 panic=1000/1000 ready=0 dspc=1 dppc=1 over=no panicking=no undelayed=1 delayed=1 excess=-212 bounded=1 want=1 applied=yes mode=proxy\n" ∷ [])
+
+abbrev pub AveragesOverGapsLastLine : Type 0
+AveragesOverGapsLastLine = Ends averages_over_gaps 1 (codes "end events=7 admitted=3 direct=0 assigned=0 finished=0 failed=0 expired=2 cancelled=1 queue-full=0 overload=0 decisions=3\n")
 
 abbrev pub AveragesOverGapsTold : Type 0
 AveragesOverGapsTold =
@@ -349,6 +373,9 @@ DelayOfTwoReport =
     ∷ codes "3100 drain 4\n"
     ∷ codes "3100 remove 4\n" ∷ [])
 
+abbrev pub DelayOfTwoLastLine : Type 0
+DelayOfTwoLastLine = Ends delay_of_two 1 (codes "end events=8 admitted=3 direct=0 assigned=2 finished=1 failed=0 expired=0 cancelled=0 queue-full=0 overload=0 decisions=3\n")
+
 abbrev pub DelayOfTwoTold : Type 0
 DelayOfTwoTold =
     Tells delay_of_two (told.Passed ∷ told.Run 0 0 ∷ told.Held 1 ∷ told.Held 2 ∷ told.Done 0 ∷ decided ∷ decided ∷ decided ∷ [])
@@ -375,6 +402,9 @@ MinAboveInitialReport =
     ∷ codes "200 ready 1\n"
     ∷ codes "200 phase active\n"
     ∷ codes "200 assign 0 1\n" ∷ [])
+
+abbrev pub MinAboveInitialLastLine : Type 0
+MinAboveInitialLastLine = Ends min_above_initial 1 (codes "end events=2 admitted=1 direct=0 assigned=1 finished=0 failed=0 expired=0 cancelled=0 queue-full=0 overload=0 decisions=0\n")
 
 abbrev pub MinAboveInitialTold : Type 0
 MinAboveInitialTold =
@@ -410,6 +440,9 @@ InitialUntilReachedReport =
     ∷ codes "0 admit 2 12\n"
     ∷ codes "0 assign 2 0\n"
     ∷ codes "1000 decision stable=3000/1000 panic=3000/1000 ready=2 dspc=2 dppc=2 over=no panicking=no undelayed=2 delayed=2 excess=-208 bounded=3 want=3 applied=yes mode=proxy\n" ∷ [])
+
+abbrev pub InitialUntilReachedLastLine : Type 0
+InitialUntilReachedLastLine = Ends initial_until_reached 1 (codes "end events=6 admitted=3 direct=0 assigned=3 finished=0 failed=0 expired=0 cancelled=0 queue-full=0 overload=0 decisions=1\n")
 
 abbrev pub InitialUntilReachedTold : Type 0
 InitialUntilReachedTold =

@@ -1,5 +1,5 @@
 //! Who is taken in, held, queued or refused, and where it goes.
-ghost use Rattle.kn_net.specs.Admission.{WaitsEndFirstReport, WaitsEndFirstTold, WaitsEndFirstStand, RandomChoiceOfThreeReport, RandomChoiceOfThreeTold, RandomChoiceOfThreeStand, RoundRobinOfThreeReport, RoundRobinOfThreeTold, RoundRobinOfThreeStand, PodFullByLimitReport, PodFullByLimitTold, PodFullByLimitStand, FullPodKeepsItsTurnReport, FullPodKeepsItsTurnTold, FullPodKeepsItsTurnStand, BreakerRefusesThenTurnsReport, BreakerRefusesThenTurnsTold, BreakerRefusesThenTurnsStand, InUseAndSeatsReport, InUseAndSeatsTold, InUseAndSeatsStand, ServeThenProxyReport, ServeThenProxyTold, ServeThenProxyStand};
+ghost use Rattle.kn_net.specs.Admission.{WaitsEndFirstReport, WaitsEndFirstLastLine, WaitsEndFirstTold, WaitsEndFirstStand, RandomChoiceOfThreeReport, RandomChoiceOfThreeLastLine, RandomChoiceOfThreeTold, RandomChoiceOfThreeStand, RoundRobinOfThreeReport, RoundRobinOfThreeLastLine, RoundRobinOfThreeTold, RoundRobinOfThreeStand, PodFullByLimitReport, PodFullByLimitLastLine, PodFullByLimitTold, PodFullByLimitStand, FullPodKeepsItsTurnReport, FullPodKeepsItsTurnLastLine, FullPodKeepsItsTurnTold, FullPodKeepsItsTurnStand, BreakerRefusesThenTurnsReport, BreakerRefusesThenTurnsLastLine, BreakerRefusesThenTurnsTold, BreakerRefusesThenTurnsStand, InUseAndSeatsReport, InUseAndSeatsLastLine, InUseAndSeatsTold, InUseAndSeatsStand, ServeThenProxyReport, ServeThenProxyLastLine, ServeThenProxyTold, ServeThenProxyStand};
 
 /// Held requests whose timeout is just reached end first, by number and before the act: at a pass, at an arrival and
 /// at an act that is refused. Running ones never expire. A limit that is set while its pod is starting stays; a
@@ -8,6 +8,7 @@ ghost use Rattle.kn_net.specs.Admission.{WaitsEndFirstReport, WaitsEndFirstTold,
 #[tactic(auto, unfolding(kn_trace::specs::Worked::whole_run))]
 pub fn waits_end_first()
     ensures report { WaitsEndFirstReport }
+    ensures last_line { WaitsEndFirstLastLine }
     ensures told { WaitsEndFirstTold }
     ensures stand { WaitsEndFirstStand }
 {}
@@ -18,6 +19,7 @@ pub fn waits_end_first()
 #[tactic(auto, unfolding(kn_trace::specs::Worked::whole_run))]
 pub fn random_choice_of_three()
     ensures report { RandomChoiceOfThreeReport }
+    ensures last_line { RandomChoiceOfThreeLastLine }
     ensures told { RandomChoiceOfThreeTold }
     ensures stand { RandomChoiceOfThreeStand }
 {}
@@ -28,6 +30,7 @@ pub fn random_choice_of_three()
 #[tactic(auto, unfolding(kn_trace::specs::Worked::whole_run))]
 pub fn round_robin_of_three()
     ensures report { RoundRobinOfThreeReport }
+    ensures last_line { RoundRobinOfThreeLastLine }
     ensures told { RoundRobinOfThreeTold }
     ensures stand { RoundRobinOfThreeStand }
 {}
@@ -37,6 +40,7 @@ pub fn round_robin_of_three()
 #[tactic(auto, unfolding(kn_trace::specs::Worked::whole_run))]
 pub fn pod_full_by_limit()
     ensures report { PodFullByLimitReport }
+    ensures last_line { PodFullByLimitLastLine }
     ensures told { PodFullByLimitTold }
     ensures stand { PodFullByLimitStand }
 {}
@@ -47,6 +51,7 @@ pub fn pod_full_by_limit()
 #[tactic(auto, unfolding(kn_trace::specs::Worked::whole_run))]
 pub fn full_pod_keeps_its_turn()
     ensures report { FullPodKeepsItsTurnReport }
+    ensures last_line { FullPodKeepsItsTurnLastLine }
     ensures told { FullPodKeepsItsTurnTold }
     ensures stand { FullPodKeepsItsTurnStand }
 {}
@@ -56,6 +61,7 @@ pub fn full_pod_keeps_its_turn()
 #[tactic(auto, unfolding(kn_trace::specs::Worked::whole_run))]
 pub fn breaker_refuses_then_turns()
     ensures report { BreakerRefusesThenTurnsReport }
+    ensures last_line { BreakerRefusesThenTurnsLastLine }
     ensures told { BreakerRefusesThenTurnsTold }
     ensures stand { BreakerRefusesThenTurnsStand }
 {}
@@ -66,6 +72,7 @@ pub fn breaker_refuses_then_turns()
 #[tactic(auto, unfolding(kn_trace::specs::Worked::whole_run))]
 pub fn in_use_and_seats()
     ensures report { InUseAndSeatsReport }
+    ensures last_line { InUseAndSeatsLastLine }
     ensures told { InUseAndSeatsTold }
     ensures stand { InUseAndSeatsStand }
 {}
@@ -76,6 +83,7 @@ pub fn in_use_and_seats()
 #[tactic(auto, unfolding(kn_trace::specs::Worked::whole_run))]
 pub fn serve_then_proxy()
     ensures report { ServeThenProxyReport }
+    ensures last_line { ServeThenProxyLastLine }
     ensures told { ServeThenProxyTold }
     ensures stand { ServeThenProxyStand }
 {}

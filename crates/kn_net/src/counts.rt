@@ -1,5 +1,5 @@
 //! Revisions that scale by requests per second.
-ghost use Rattle.kn_net.specs.Counts.{RpsCountsTakenInReport, RpsCountsTakenInTold, RpsCountsTakenInStand, RpsPastTheActivatorReport, RpsPastTheActivatorTold, RpsPastTheActivatorStand, RpsWakesReport, RpsWakesTold, RpsWakesStand};
+ghost use Rattle.kn_net.specs.Counts.{RpsCountsTakenInReport, RpsCountsTakenInLastLine, RpsCountsTakenInTold, RpsCountsTakenInStand, RpsPastTheActivatorReport, RpsPastTheActivatorLastLine, RpsPastTheActivatorTold, RpsPastTheActivatorStand, RpsWakesReport, RpsWakesLastLine, RpsWakesTold, RpsWakesStand};
 
 /// The requests count that are taken in in a second, also those that ended at once, and no refused ones. A second
 /// with a count alone is a sample, and so is one with a load alone. The target is by the annotations, not bounded by
@@ -7,6 +7,7 @@ ghost use Rattle.kn_net.specs.Counts.{RpsCountsTakenInReport, RpsCountsTakenInTo
 #[tactic(auto, unfolding(kn_trace::specs::Worked::whole_run))]
 pub fn rps_counts_taken_in()
     ensures report { RpsCountsTakenInReport }
+    ensures last_line { RpsCountsTakenInLastLine }
     ensures told { RpsCountsTakenInTold }
     ensures stand { RpsCountsTakenInStand }
 {}
@@ -16,6 +17,7 @@ pub fn rps_counts_taken_in()
 #[tactic(auto, unfolding(kn_trace::specs::Worked::whole_run))]
 pub fn rps_past_the_activator()
     ensures report { RpsPastTheActivatorReport }
+    ensures last_line { RpsPastTheActivatorLastLine }
     ensures told { RpsPastTheActivatorTold }
     ensures stand { RpsPastTheActivatorStand }
 {}
@@ -24,6 +26,7 @@ pub fn rps_past_the_activator()
 #[tactic(auto, unfolding(kn_trace::specs::Worked::whole_run))]
 pub fn rps_wakes()
     ensures report { RpsWakesReport }
+    ensures last_line { RpsWakesLastLine }
     ensures told { RpsWakesTold }
     ensures stand { RpsWakesStand }
 {}

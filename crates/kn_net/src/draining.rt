@@ -1,11 +1,12 @@
 //! Pods that drain: which, when they go, and what they leave as it was.
-ghost use Rattle.kn_net.specs.Draining.{PlaceAfterDrainReport, PlaceAfterDrainTold, PlaceAfterDrainStand, PlaceAcrossDrainReport, PlaceAcrossDrainTold, PlaceAcrossDrainStand, WordsAfterDirectsReport, WordsAfterDirectsTold, WordsAfterDirectsStand, DrainStartingFirstReport, DrainStartingFirstTold, DrainStartingFirstStand, CreateBesideDrainingReport, CreateBesideDrainingTold, CreateBesideDrainingStand, DrainingRunsQueueReport, DrainingRunsQueueTold, DrainingRunsQueueStand, QueueExpiresWhileDrainingTold, QueueExpiresWhileDrainingStand, TurnsAcrossDrainReport, TurnsAcrossDrainTold, TurnsAcrossDrainStand};
+ghost use Rattle.kn_net.specs.Draining.{PlaceAfterDrainReport, PlaceAfterDrainLastLine, PlaceAfterDrainTold, PlaceAfterDrainStand, PlaceAcrossDrainReport, PlaceAcrossDrainLastLine, PlaceAcrossDrainTold, PlaceAcrossDrainStand, WordsAfterDirectsReport, WordsAfterDirectsLastLine, WordsAfterDirectsTold, WordsAfterDirectsStand, DrainStartingFirstReport, DrainStartingFirstLastLine, DrainStartingFirstTold, DrainStartingFirstStand, CreateBesideDrainingReport, CreateBesideDrainingLastLine, CreateBesideDrainingTold, CreateBesideDrainingStand, DrainingRunsQueueReport, DrainingRunsQueueLastLine, DrainingRunsQueueTold, DrainingRunsQueueStand, QueueExpiresWhileDrainingTold, QueueExpiresWhileDrainingStand, TurnsAcrossDrainReport, TurnsAcrossDrainLastLine, TurnsAcrossDrainTold, TurnsAcrossDrainStand};
 
 /// A place past the Ready pods is 0, and no rest of a division. Requests that go past the activator do not move it;
 /// the search goes on past a full pod. A decision's mode comes before its drains.
 #[tactic(auto, unfolding(kn_trace::specs::Worked::whole_run))]
 pub fn place_after_drain()
     ensures report { PlaceAfterDrainReport }
+    ensures last_line { PlaceAfterDrainLastLine }
     ensures told { PlaceAfterDrainTold }
     ensures stand { PlaceAfterDrainStand }
 {}
@@ -14,6 +15,7 @@ pub fn place_after_drain()
 #[tactic(auto, unfolding(kn_trace::specs::Worked::whole_run))]
 pub fn place_across_drain()
     ensures report { PlaceAcrossDrainReport }
+    ensures last_line { PlaceAcrossDrainLastLine }
     ensures told { PlaceAcrossDrainTold }
     ensures stand { PlaceAcrossDrainStand }
 {}
@@ -22,6 +24,7 @@ pub fn place_across_drain()
 #[tactic(auto, unfolding(kn_trace::specs::Worked::whole_run))]
 pub fn words_after_directs()
     ensures report { WordsAfterDirectsReport }
+    ensures last_line { WordsAfterDirectsLastLine }
     ensures told { WordsAfterDirectsTold }
     ensures stand { WordsAfterDirectsStand }
 {}
@@ -32,6 +35,7 @@ pub fn words_after_directs()
 #[tactic(auto, unfolding(kn_trace::specs::Worked::whole_run))]
 pub fn drain_starting_first()
     ensures report { DrainStartingFirstReport }
+    ensures last_line { DrainStartingFirstLastLine }
     ensures told { DrainStartingFirstTold }
     ensures stand { DrainStartingFirstStand }
 {}
@@ -41,6 +45,7 @@ pub fn drain_starting_first()
 #[tactic(auto, unfolding(kn_trace::specs::Worked::whole_run))]
 pub fn create_beside_draining()
     ensures report { CreateBesideDrainingReport }
+    ensures last_line { CreateBesideDrainingLastLine }
     ensures told { CreateBesideDrainingTold }
     ensures stand { CreateBesideDrainingStand }
 {}
@@ -50,6 +55,7 @@ pub fn create_beside_draining()
 #[tactic(auto, unfolding(kn_trace::specs::Worked::whole_run))]
 pub fn draining_runs_queue()
     ensures report { DrainingRunsQueueReport }
+    ensures last_line { DrainingRunsQueueLastLine }
     ensures told { DrainingRunsQueueTold }
     ensures stand { DrainingRunsQueueStand }
 {}
@@ -65,6 +71,7 @@ pub fn queue_expires_while_draining()
 #[tactic(auto, unfolding(kn_trace::specs::Worked::whole_run))]
 pub fn turns_across_drain()
     ensures report { TurnsAcrossDrainReport }
+    ensures last_line { TurnsAcrossDrainLastLine }
     ensures told { TurnsAcrossDrainTold }
     ensures stand { TurnsAcrossDrainStand }
 {}

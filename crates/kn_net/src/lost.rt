@@ -1,5 +1,5 @@
 //! Pods that are lost, with the requests at them.
-ghost use Rattle.kn_net.specs.Lost.{LostPodReport, LostBeforeSettlingReport, LostBeforeSettlingTold, LostBeforeSettlingStand, LostWhileServingReport, LostWhileServingTold, LostWhileServingStand, LostAndCreatedAgainReport, LostAndCreatedAgainTold, LostAndCreatedAgainStand, LostWhileDrainingReport, LostWhileDrainingTold, LostWhileDrainingStand};
+ghost use Rattle.kn_net.specs.Lost.{LostPodReport, LostPodLastLine, LostBeforeSettlingReport, LostBeforeSettlingLastLine, LostBeforeSettlingTold, LostBeforeSettlingStand, LostWhileServingReport, LostWhileServingLastLine, LostWhileServingTold, LostWhileServingStand, LostAndCreatedAgainReport, LostAndCreatedAgainLastLine, LostAndCreatedAgainTold, LostAndCreatedAgainStand, LostWhileDrainingReport, LostWhileDrainingLastLine, LostWhileDrainingTold, LostWhileDrainingStand};
 
 /// A lost pod takes its request with it. The held one stays, the lost one does not run any more, and the pod is no
 /// pod.
@@ -14,6 +14,7 @@ pub fn lost_pod()
 #[tactic(auto, unfolding(kn_trace::specs::Worked::whole_run))]
 pub fn lost_before_settling()
     ensures report { LostBeforeSettlingReport }
+    ensures last_line { LostBeforeSettlingLastLine }
     ensures told { LostBeforeSettlingTold }
     ensures stand { LostBeforeSettlingStand }
 {}
@@ -24,6 +25,7 @@ pub fn lost_before_settling()
 #[tactic(auto, unfolding(kn_trace::specs::Worked::whole_run))]
 pub fn lost_while_serving()
     ensures report { LostWhileServingReport }
+    ensures last_line { LostWhileServingLastLine }
     ensures told { LostWhileServingTold }
     ensures stand { LostWhileServingStand }
 {}
@@ -33,6 +35,7 @@ pub fn lost_while_serving()
 #[tactic(auto, unfolding(kn_trace::specs::Worked::whole_run))]
 pub fn lost_and_created_again()
     ensures report { LostAndCreatedAgainReport }
+    ensures last_line { LostAndCreatedAgainLastLine }
     ensures told { LostAndCreatedAgainTold }
     ensures stand { LostAndCreatedAgainStand }
 {}
@@ -41,6 +44,7 @@ pub fn lost_and_created_again()
 #[tactic(auto, unfolding(kn_trace::specs::Worked::whole_run))]
 pub fn lost_while_draining()
     ensures report { LostWhileDrainingReport }
+    ensures last_line { LostWhileDrainingLastLine }
     ensures told { LostWhileDrainingTold }
     ensures stand { LostWhileDrainingStand }
 {}

@@ -1,11 +1,12 @@
 //! Phases, waking, averages, panic, delay and bounds of scaled revisions.
-ghost use Rattle.kn_net.specs.Scaling.{StartTimesReport, StartTimesTold, StartTimesStand, ServeToZeroReport, ServeToZeroTold, ServeToZeroStand, ActiveTwiceReport, ActiveTwiceTold, ActiveTwiceStand, WakeAtZeroReport, WakeAtZeroTold, WakeAtZeroStand, ActivatingKeepsScaleReport, ActivatingKeepsScaleTold, ActivatingKeepsScaleStand, WakeCountsInPanicReport, WakeCountsInPanicTold, WakeCountsInPanicStand, PanicStartsAnewReport, PanicStartsAnewTold, PanicStartsAnewStand, AveragesOverGapsReport, AveragesOverGapsTold, AveragesOverGapsStand, DelayOfTwoReport, DelayOfTwoTold, DelayOfTwoStand, MinAboveInitialReport, MinAboveInitialTold, MinAboveInitialStand, InitialUntilReachedReport, InitialUntilReachedTold, InitialUntilReachedStand};
+ghost use Rattle.kn_net.specs.Scaling.{StartTimesReport, StartTimesLastLine, StartTimesTold, StartTimesStand, ServeToZeroReport, ServeToZeroLastLine, ServeToZeroTold, ServeToZeroStand, ActiveTwiceReport, ActiveTwiceLastLine, ActiveTwiceTold, ActiveTwiceStand, WakeAtZeroReport, WakeAtZeroLastLine, WakeAtZeroTold, WakeAtZeroStand, ActivatingKeepsScaleReport, ActivatingKeepsScaleLastLine, ActivatingKeepsScaleTold, ActivatingKeepsScaleStand, WakeCountsInPanicReport, WakeCountsInPanicLastLine, WakeCountsInPanicTold, WakeCountsInPanicStand, PanicStartsAnewReport, PanicStartsAnewLastLine, PanicStartsAnewTold, PanicStartsAnewStand, AveragesOverGapsReport, AveragesOverGapsLastLine, AveragesOverGapsTold, AveragesOverGapsStand, DelayOfTwoReport, DelayOfTwoLastLine, DelayOfTwoTold, DelayOfTwoStand, MinAboveInitialReport, MinAboveInitialLastLine, MinAboveInitialTold, MinAboveInitialStand, InitialUntilReachedReport, InitialUntilReachedLastLine, InitialUntilReachedTold, InitialUntilReachedStand};
 
 /// An opening at a start that is not 0. Without a mode entry proxy mode counts from the start; the grace period
 /// counts from it to the millisecond, and no request renews the phase or the mode. From two pods straight to none.
 #[tactic(auto, unfolding(kn_trace::specs::Worked::whole_run))]
 pub fn start_times()
     ensures report { StartTimesReport }
+    ensures last_line { StartTimesLastLine }
     ensures told { StartTimesTold }
     ensures stand { StartTimesStand }
 {}
@@ -15,6 +16,7 @@ pub fn start_times()
 #[tactic(auto, unfolding(kn_trace::specs::Worked::whole_run))]
 pub fn serve_to_zero()
     ensures report { ServeToZeroReport }
+    ensures last_line { ServeToZeroLastLine }
     ensures told { ServeToZeroTold }
     ensures stand { ServeToZeroStand }
 {}
@@ -24,6 +26,7 @@ pub fn serve_to_zero()
 #[tactic(auto, unfolding(kn_trace::specs::Worked::whole_run))]
 pub fn active_twice()
     ensures report { ActiveTwiceReport }
+    ensures last_line { ActiveTwiceLastLine }
     ensures told { ActiveTwiceTold }
     ensures stand { ActiveTwiceStand }
 {}
@@ -34,6 +37,7 @@ pub fn active_twice()
 #[tactic(auto, unfolding(kn_trace::specs::Worked::whole_run))]
 pub fn wake_at_zero()
     ensures report { WakeAtZeroReport }
+    ensures last_line { WakeAtZeroLastLine }
     ensures told { WakeAtZeroTold }
     ensures stand { WakeAtZeroStand }
 {}
@@ -43,6 +47,7 @@ pub fn wake_at_zero()
 #[tactic(auto, unfolding(kn_trace::specs::Worked::whole_run))]
 pub fn activating_keeps_scale()
     ensures report { ActivatingKeepsScaleReport }
+    ensures last_line { ActivatingKeepsScaleLastLine }
     ensures told { ActivatingKeepsScaleTold }
     ensures stand { ActivatingKeepsScaleStand }
 {}
@@ -52,6 +57,7 @@ pub fn activating_keeps_scale()
 #[tactic(auto, unfolding(kn_trace::specs::Worked::whole_run))]
 pub fn wake_counts_in_panic()
     ensures report { WakeCountsInPanicReport }
+    ensures last_line { WakeCountsInPanicLastLine }
     ensures told { WakeCountsInPanicTold }
     ensures stand { WakeCountsInPanicStand }
 {}
@@ -60,6 +66,7 @@ pub fn wake_counts_in_panic()
 #[tactic(auto, unfolding(kn_trace::specs::Worked::whole_run))]
 pub fn panic_starts_anew()
     ensures report { PanicStartsAnewReport }
+    ensures last_line { PanicStartsAnewLastLine }
     ensures told { PanicStartsAnewTold }
     ensures stand { PanicStartsAnewStand }
 {}
@@ -70,6 +77,7 @@ pub fn panic_starts_anew()
 #[tactic(auto, unfolding(kn_trace::specs::Worked::whole_run))]
 pub fn averages_over_gaps()
     ensures report { AveragesOverGapsReport }
+    ensures last_line { AveragesOverGapsLastLine }
     ensures told { AveragesOverGapsTold }
     ensures stand { AveragesOverGapsStand }
 {}
@@ -79,6 +87,7 @@ pub fn averages_over_gaps()
 #[tactic(auto, unfolding(kn_trace::specs::Worked::whole_run))]
 pub fn delay_of_two()
     ensures report { DelayOfTwoReport }
+    ensures last_line { DelayOfTwoLastLine }
     ensures told { DelayOfTwoTold }
     ensures stand { DelayOfTwoStand }
 {}
@@ -88,6 +97,7 @@ pub fn delay_of_two()
 #[tactic(auto, unfolding(kn_trace::specs::Worked::whole_run))]
 pub fn min_above_initial()
     ensures report { MinAboveInitialReport }
+    ensures last_line { MinAboveInitialLastLine }
     ensures told { MinAboveInitialTold }
     ensures stand { MinAboveInitialStand }
 {}
@@ -97,6 +107,7 @@ pub fn min_above_initial()
 #[tactic(auto, unfolding(kn_trace::specs::Worked::whole_run))]
 pub fn initial_until_reached()
     ensures report { InitialUntilReachedReport }
+    ensures last_line { InitialUntilReachedLastLine }
     ensures told { InitialUntilReachedTold }
     ensures stand { InitialUntilReachedStand }
 {}

@@ -1,5 +1,5 @@
-//! What no report shows: the room that an act needs, and the turns past the activator.
-ghost use Rattle.kn_net.specs.Views.{RoomOfArrivals, RoomOfEnds, RoomOfQueuedEnds, RoomOfOthers, RoomOfQueuedOthers, TurnsOfRows};
+//! What no report shows: the room that an act needs, the turns past the activator, and the counts of the last line.
+ghost use Rattle.kn_net.specs.Views.{RoomOfArrivals, RoomOfEnds, RoomOfQueuedEnds, RoomOfOthers, RoomOfQueuedOthers, TurnsOfRows, CountsEachKind, CountsNoLost};
 
 /// An arrival needs room for two rows, refused or not. The finish of a running request and the cancel of a waiting one,
 /// held or queued, need none; every other act needs one.
@@ -17,4 +17,12 @@ pub fn room_of_acts()
 #[tactic(auto, unfolding(kn_trace::specs::Worked::whole_run))]
 pub fn turns_of_rows()
     ensures { TurnsOfRows }
+{}
+
+/// The last line counts each kind of entry by itself, and the others not at all. Lost requests stand there in a journal of
+/// version 2 alone.
+#[tactic(auto, unfolding(kn_trace::specs::Worked::whole_run))]
+pub fn last_line_counts_each_kind()
+    ensures each { CountsEachKind }
+    ensures lost { CountsNoLost }
 {}

@@ -10,9 +10,13 @@ use Rattle.std.proofs.lemmas.List.Concat.{flat_map-append}
 use Rattle.kn_event.specs.declared.entry.Entry.{Entry}
 use Rattle.kn_event.specs.EntryLine.{entry_text}
 use Rattle.kn_io.specs.Prefix.{AppendsPrefix}
-use Rattle.kn_replay.specs.Report.{rows_text}
+use Rattle.kn_trace.specs.Report.{rows_text}
 
--- four pieces in a row
+-- three pieces in a row
+pub three_pieces : (start a b c one two three : List ℕ) → one ≡ start ++ a → two ≡ one ++ b → three ≡ two ++ c → three ≡ start ++ (a ++ b ++ c)
+three_pieces start a b c one two three p q r = rw (r, q, p) (simp append_assoc)
+
+-- and four
 pub four_pieces : (start a b c d one two three four : List ℕ) → one ≡ start ++ a → two ≡ one ++ b → three ≡ two ++ c → four ≡ three ++ d
     → four ≡ start ++ (a ++ b ++ c ++ d)
 four_pieces start a b c d one two three four p q r s = rw (s, r, q, p) (simp append_assoc)

@@ -17,7 +17,8 @@ use Rattle.kn_replay.specs.Reading.{Counts, most_taken}
 use Rattle.kn_replay.specs.Lines.{lines}
 use Rattle.kn_replay.specs.Journal.{Read, from_first, none_read, opened, read_events, refused_at, verdict, with_event}
 use Rattle.kn_replay.specs.Following.{EndsThere, Gives, Goes, Stops, after_event, after_opening, refused_read}
-use Rattle.kn_replay.specs.Report.{journal_last_line, journal_rows, last_line, report_of_bytes, report_of_read, rows_text, totals}
+use Rattle.kn_replay.specs.Report.{journal_last_line, journal_rows, report_of_bytes, report_of_read}
+use Rattle.kn_trace.specs.Report.{last_line, rows_text, totals}
 use Rattle.kn_replay.specs.Replaying.{AreMany, Follows, GoesOn, IsReplayed, Replays, Writes, ending, rest_of_report, status_of}
 use Rattle.kn_replay.proofs.Pieces.{prefix_after, prefix_more, prefix_none, rows_text-append, rows_text-nil}
 
@@ -104,7 +105,7 @@ goes_exit s c start (Some xs) out new more now k n last (Some ys) result (writte
 
 -- all lines were good
 pub goes_good : (s : Spec) (c : Trace) (start : ℕ) (known out new more : Option (List ℕ)) (now : Trace) (k n last : ℕ) (rest left : Option (List ℕ)) (result : Status)
-    → GoesOn s c start known out new now k n last rest → Goes (read_events n last) (after_event n None) rest left → Writes (last_line k (totals now)) None new more result
+    → GoesOn s c start known out new now k n last rest → Goes (read_events n last) (after_event n None) rest left → Writes (last_line 1 k (totals now)) None new more result
     → Follows s c start known out more result
 goes_good s c start known out new more now k n last None left result h g w = goes_exit s c start known out new more now k n last None result h (λ ys is. cc)
 goes_good s c start known out new more now k n last (Some xs) None result h g w = absurd g
@@ -172,9 +173,9 @@ report_is s start r = by_refused r.refused
 
     by_refused : (o : Option ℕ) → report_of_read (opened s start r).journal o ≡ rows_text c ++ (rows_text more ++ ending (c ++ more) (0 + length r.events) o)
     by_refused None =
-        ap (λ (z : List ℕ). z ++ last_line (length r.events) (totals (c ++ more))) (rows_text-append c more)
-        ∙ append_assoc (rows_text c) (rows_text more) (last_line (length r.events) (totals (c ++ more)))
-        ∙ ap (λ (n : ℕ). rows_text c ++ (rows_text more ++ last_line n (totals (c ++ more)))) (sym (zero-add (length r.events)))
+        ap (λ (z : List ℕ). z ++ last_line 1 (length r.events) (totals (c ++ more))) (rows_text-append c more)
+        ∙ append_assoc (rows_text c) (rows_text more) (last_line 1 (length r.events) (totals (c ++ more)))
+        ∙ ap (λ (n : ℕ). rows_text c ++ (rows_text more ++ last_line 1 n (totals (c ++ more)))) (sym (zero-add (length r.events)))
     by_refused (Some n) = rows_text-append c more ∙ ap (λ (z : List ℕ). rows_text c ++ z) (sym (append-nil (rows_text more)))
 
 report_of : (s : Spec) (start : ℕ) (xs : List ℕ) (r : Read) → from_first (lines xs) ≡ opened s start r

@@ -6,7 +6,7 @@ use Rattle.kn_event.specs.declared.entry.Entry.{Entry}
 use Rattle.kn_event.specs.declared.entry.Row.{Row}
 use Rattle.kn_event.specs.declared.entry.Row.TheVariants as row
 use Rattle.kn_trace.specs.Trace.{Trace}
-use Rattle.kn_replay.specs.Report.{Totals, totals, rows_with, is_admit, is_direct, is_assign, is_finish, is_failure, is_expire, is_cancel, is_queue_full, is_overload, is_decision}
+use Rattle.kn_trace.specs.Report.{Totals, totals, rows_with, is_admit, is_direct, is_assign, is_finish, is_failure, is_expire, is_cancel, is_queue_full, is_overload, is_decision, is_loss}
 use Rattle.kn_replay.specs.Tally.{with_row}
 
 more_where : Bool → ℕ → ℕ
@@ -35,6 +35,7 @@ totals-push c e =
       rows_with-push is_queue_full c e,
       rows_with-push is_overload c e,
       rows_with-push is_decision c e,
+      rows_with-push is_loss c e,
     )
     (by_row e.row (totals c))
   where
@@ -49,6 +50,7 @@ totals-push c e =
       queue_full = more_where (is_queue_full x) t.queue_full;
       overload = more_where (is_overload x) t.overload;
       decisions = more_where (is_decision x) t.decisions;
+      lost = more_where (is_loss x) t.lost;
     } ≡ with_row x t
     by_row (row.Finish r true) t = refl
     by_row (row.Finish r false) t = refl

@@ -15,7 +15,8 @@ use Rattle.kn_replay.specs.declared.command.Status.TheVariants as status
 use Rattle.kn_replay.specs.Lines.{lines}
 use Rattle.kn_replay.specs.Journal.{Read, read_events, verdict}
 use Rattle.kn_replay.specs.Reading.{most_taken}
-use Rattle.kn_replay.specs.Report.{last_line, report_of_bytes, rows_text, totals}
+use Rattle.kn_replay.specs.Report.{report_of_bytes}
+use Rattle.kn_trace.specs.Report.{last_line, rows_text, totals}
 use Rattle.kn_replay.specs.Tally.{Counted}
 
 -- a revision that is replayed, and the counts of its trace
@@ -25,7 +26,7 @@ pub record Running : Type 0 where
 
 -- after so many events before these
 abbrev pub ending : Trace → ℕ → Option ℕ → List ℕ
-ending c events None = last_line events (totals c)
+ending c events None = last_line 1 events (totals c)
 ending c events (Some n) = []
 
 -- what the report of these events adds to that of a trace that so many events made; no last line where a line is refused

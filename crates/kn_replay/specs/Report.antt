@@ -1,114 +1,9 @@
--- The report of a journal: a line for each entry of its trace, and the last line, which counts them.
-use Rattle.std.specs.Prelude.{ℕ, Bool, true, false, not, ◌++◌, List, [], ◌∷◌, Option, None, Some, codes, length}
-use Rattle.std.specs.Fmt.{decimal}
-use Rattle.std.specs.List.{flat_map, count_by}
-use Rattle.kn_event.specs.declared.entry.Row.{Row}
-use Rattle.kn_event.specs.declared.entry.Row.TheVariants as row
-use Rattle.kn_event.specs.EntryLine.{entry_text}
+-- The report of a journal, and of bytes.
+use Rattle.std.specs.Prelude.{ℕ, ◌++◌, List, [], Option, None, Some, length}
+use Rattle.kn_trace.specs.Report.{last_line, rows_text, totals}
 use Rattle.kn_trace.specs.Trace.{Trace}
 use Rattle.kn_trace.specs.Events.{trace_of}
 use Rattle.kn_replay.specs.Journal.{Journal, verdict}
-
-unfoldable pub rows_text : Trace → List ℕ
-rows_text c = flat_map entry_text c
-
--- ---- the last line
-
-abbrev pub is_admit : Row → Bool
-is_admit (row.Admit r tag) = true
-is_admit _ = false
-
-abbrev pub is_direct : Row → Bool
-is_direct (row.Direct r p) = true
-is_direct _ = false
-
-abbrev pub is_assign : Row → Bool
-is_assign (row.Assign r p) = true
-is_assign _ = false
-
--- a request that finished well, or one that failed
-abbrev pub is_finish : Row → Bool
-is_finish (row.Finish r ok) = ok
-is_finish _ = false
-
-abbrev pub is_failure : Row → Bool
-is_failure (row.Finish r ok) = not ok
-is_failure _ = false
-
-abbrev pub is_expire : Row → Bool
-is_expire (row.Expire r) = true
-is_expire _ = false
-
-abbrev pub is_cancel : Row → Bool
-is_cancel (row.Cancel r) = true
-is_cancel _ = false
-
-abbrev pub is_queue_full : Row → Bool
-is_queue_full (row.QueueFull r pod) = true
-is_queue_full _ = false
-
-abbrev pub is_overload : Row → Bool
-is_overload (row.Overload r) = true
-is_overload _ = false
-
-abbrev pub is_decision : Row → Bool
-is_decision (row.Decided d) = true
-is_decision _ = false
-
-abbrev pub rows_with : (Row → Bool) → Trace → ℕ
-rows_with test c = count_by (λ e. test e.row) c
-
--- how many entries of each kind a trace has
-pub record Totals : Type 0 where
-  pub admitted : ℕ
-  pub direct : ℕ
-  pub assigned : ℕ
-  pub finished : ℕ
-  pub failed : ℕ
-  pub expired : ℕ
-  pub cancelled : ℕ
-  pub queue_full : ℕ
-  pub overload : ℕ
-  pub decisions : ℕ
-
-unfoldable pub totals : Trace → Totals
-totals c = record {
-  admitted = rows_with is_admit c;
-  direct = rows_with is_direct c;
-  assigned = rows_with is_assign c;
-  finished = rows_with is_finish c;
-  failed = rows_with is_failure c;
-  expired = rows_with is_expire c;
-  cancelled = rows_with is_cancel c;
-  queue_full = rows_with is_queue_full c;
-  overload = rows_with is_overload c;
-  decisions = rows_with is_decision c;
-}
-
--- a word and the number that it names
-abbrev pub named : List ℕ → ℕ → List ℕ
-named word n = word ++ decimal n
-
--- the first half of the last line
-unfoldable pub taken_text : ℕ → Totals → List ℕ
-taken_text events t =
-    named (codes "end events=") events ++ named (codes " admitted=") t.admitted ++ named (codes " direct=") t.direct
-    ++ named (codes " assigned=") t.assigned
-
--- and the second
-unfoldable pub ended_text : Totals → List ℕ
-ended_text t =
-    named (codes " finished=") t.finished ++ named (codes " failed=") t.failed ++ named (codes " expired=") t.expired
-    ++ named (codes " cancelled=") t.cancelled
-
-unfoldable pub refused_text : Totals → List ℕ
-refused_text t =
-    named (codes " queue-full=") t.queue_full ++ named (codes " overload=") t.overload ++ named (codes " decisions=") t.decisions ++ 10 ∷ []
-
-unfoldable pub last_line : ℕ → Totals → List ℕ
-last_line events t = taken_text events t ++ ended_text t ++ refused_text t
-
--- ---- of a journal, and of bytes
 
 abbrev pub trace_of_journal : Journal → Trace
 trace_of_journal j = trace_of j.spec j.start j.events
@@ -117,7 +12,7 @@ unfoldable pub journal_rows : Journal → List ℕ
 journal_rows j = rows_text (trace_of_journal j)
 
 unfoldable pub journal_last_line : Journal → List ℕ
-journal_last_line j = last_line (length j.events) (totals (trace_of_journal j))
+journal_last_line j = last_line 1 (length j.events) (totals (trace_of_journal j))
 
 abbrev pub report_of_read : Option Journal → Option ℕ → List ℕ
 report_of_read None refused = []

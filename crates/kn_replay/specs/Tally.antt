@@ -2,7 +2,7 @@
 use Rattle.std.specs.Prelude.{ℕ, ◌+◌, ◌≤◌, true, false}
 use Rattle.kn_event.specs.declared.entry.Row.{Row}
 use Rattle.kn_event.specs.declared.entry.Row.TheVariants as row
-use Rattle.kn_replay.specs.Report.{Totals}
+use Rattle.kn_trace.specs.Report.{Totals}
 
 -- how many entries there were in all, and of each kind
 pub record Counted : Type 0 where
@@ -21,6 +21,7 @@ pub record AreWithin (rows : ℕ) (t : Totals) : Type 0 where
   pub queue_full : t.queue_full ≤ rows
   pub overload : t.overload ≤ rows
   pub decisions : t.decisions ≤ rows
+  pub lost : t.lost ≤ rows
 
 -- one more entry
 abbrev pub with_row : Row → Totals → Totals
@@ -33,5 +34,6 @@ with_row (row.Expire r) t = record t { expired = t.expired + 1 }
 with_row (row.Cancel r) t = record t { cancelled = t.cancelled + 1 }
 with_row (row.QueueFull r p) t = record t { queue_full = t.queue_full + 1 }
 with_row (row.Overload r) t = record t { overload = t.overload + 1 }
+with_row (row.LostRequest r) t = record t { lost = t.lost + 1 }
 with_row (row.Decided d) t = record t { decisions = t.decisions + 1 }
 with_row _ t = t

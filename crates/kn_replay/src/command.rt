@@ -7,7 +7,7 @@ ghost use Rattle.kn_trace.specs.Trace.{Trace};
 ghost use Rattle.kn_trace.specs.Events.{opening, react};
 ghost use Rattle.kn_core.specs.Plain.{IsSinglePod, LosesNone};
 ghost use Rattle.kn_core.specs.State.{StandsFor};
-ghost use Rattle.kn_replay.specs.Report.{last_line, rows_text, totals};
+ghost use Rattle.kn_trace.specs.Report.{last_line, rows_text, totals};
 ghost use Rattle.kn_replay.specs.Replaying.{AreMany, Follows, IsReplayed, Replays, Tells, Writes, code_of, status_of, status_text};
 ghost use Rattle.kn_replay.specs.Words.{is_replay};
 ghost use Rattle.kn_replay.specs.Reading.{Counts, most_taken, unread};
@@ -136,13 +136,13 @@ impl Replay {
 
     /// Writes the last line.
     fn end<O: Sink>(&mut self, events: u64, out: &mut O) -> Status
-        ensures writes { Writes (last_line events self.old.counted.totals) None (O.held out.old) (O.held out.new) result }
+        ensures writes { Writes (last_line 1 events self.old.counted.totals) None (O.held out.old) (O.held out.new) result }
         ensures only { (result ≡ Status.Ok) ⊎ (result ≡ Status.WriteFault) }
         ensures replayed { IsReplayed result }
         ensures fault { result ≡ Status.WriteFault → Rose (O.Faulty.faults out.old) (O.Faulty.faults out.new) }
         ensures never_falls { O.Faulty.faults out.old ≤ O.Faulty.faults out.new }
     {
-        self.tally.last_line(events, &mut self.line);
+        self.tally.last_line(1, events, &mut self.line);
         match put_all(out, self.line.bytes()) {
             Ok(()) => {}
             Err(Failed) => return Status::WriteFault,

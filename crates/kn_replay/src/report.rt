@@ -4,7 +4,7 @@ ghost use Rattle.std.specs.Io.KnownBytes.{Appends};
 ghost use Rattle.kn_io.specs.Causes.{HasCause};
 ghost use Rattle.kn_io.specs.Prefix.{AppendsPrefix};
 ghost use Rattle.kn_trace.specs.Trace.{Trace};
-ghost use Rattle.kn_replay.specs.Report.{rows_text, totals, named, taken_text, ended_text, refused_text, last_line};
+ghost use Rattle.kn_trace.specs.Report.{rows_text, totals, named, taken_text, ended_text, refused_text, lost_text, last_line};
 ghost use Rattle.kn_replay.specs.Tally.{with_row};
 
 use kn_event::{EntryLog, Line, Row, entry_line};
@@ -41,6 +41,7 @@ pub struct Tally {
     queue_full: u128,
     overload: u128,
     decisions: u128,
+    lost: u128,
 }
 
 impl Model for Tally {
@@ -49,14 +50,14 @@ impl Model for Tally {
 
     ghost Value = { Counted };
 
-    ghost view = { λ t. record { rows = t.rows; totals = record { admitted = t.admitted; direct = t.direct; assigned = t.assigned; finished = t.finished; failed = t.failed; expired = t.expired; cancelled = t.cancelled; queue_full = t.queue_full; overload = t.overload; decisions = t.decisions } } };
+    ghost view = { λ t. record { rows = t.rows; totals = record { admitted = t.admitted; direct = t.direct; assigned = t.assigned; finished = t.finished; failed = t.failed; expired = t.expired; cancelled = t.cancelled; queue_full = t.queue_full; overload = t.overload; decisions = t.decisions; lost = t.lost } } };
 
-    ghost invariant = { λ t. AreWithin t.rows (record { admitted = t.admitted; direct = t.direct; assigned = t.assigned; finished = t.finished; failed = t.failed; expired = t.expired; cancelled = t.cancelled; queue_full = t.queue_full; overload = t.overload; decisions = t.decisions }) };
+    ghost invariant = { λ t. AreWithin t.rows (record { admitted = t.admitted; direct = t.direct; assigned = t.assigned; finished = t.finished; failed = t.failed; expired = t.expired; cancelled = t.cancelled; queue_full = t.queue_full; overload = t.overload; decisions = t.decisions; lost = t.lost }) };
 }
 
 impl Tally {
     /// No entry yet.
-    #[tactic(auto, unfolding(crate::specs::Report::totals))]
+    #[tactic(auto, unfolding(kn_trace::specs::Report::totals))]
     pub fn new() -> Tally
         ensures rows { result.rows ≡ 0 }
         ensures totals { result.totals ≡ totals [] }
@@ -73,6 +74,7 @@ impl Tally {
             queue_full: 0,
             overload: 0,
             decisions: 0,
+            lost: 0,
         }
     }
 
@@ -93,6 +95,7 @@ impl Tally {
             Row::Cancel(_) => self.cancelled += 1,
             Row::QueueFull(_, _) => self.queue_full += 1,
             Row::Overload(_) => self.overload += 1,
+            Row::LostRequest(_) => self.lost += 1,
             Row::Decided(_) => self.decisions += 1,
             _ => {}
         }
@@ -110,18 +113,21 @@ impl Tally {
         }
     }
 
-    /// Sets the line to the last line of a report over so many events, with its LF.
-    #[tactic(auto, using(std::proofs::Common::append_assoc), unfolding(crate::specs::Report::last_line))]
-    pub fn last_line(&self, events: u64, line: &mut Line)
-        ensures { line.new ≡ last_line events self.now.totals }
+    /// Sets the line to the last line of a report over so many events, with its LF. A journal of version 2 counts the lost
+    /// requests too.
+    #[tactic(auto, using(std::proofs::Common::append_assoc), unfolding(kn_trace::specs::Report::last_line))]
+    pub fn last_line(&self, version: u64, events: u64, line: &mut Line)
+        ensures { line.new ≡ last_line version events self.now.totals }
     {
         line.clear();
         self.put_taken(events, line);
         self.put_ended(line);
         self.put_refused(line);
+        self.put_lost(version, line);
+        line.put(b"\n");
     }
 
-    #[tactic(auto, using(crate::proofs::Pieces::four_pieces), unfolding(crate::specs::Report::taken_text))]
+    #[tactic(auto, using(crate::proofs::Pieces::four_pieces), unfolding(kn_trace::specs::Report::taken_text))]
     fn put_taken(&self, events: u64, line: &mut Line)
         requires { length line.old ≤ 0 }
         ensures value { line.new ≡ line.old ++ taken_text events self.now.totals }
@@ -133,7 +139,7 @@ impl Tally {
         put_named(line, b" assigned=", self.assigned);
     }
 
-    #[tactic(auto, using(crate::proofs::Pieces::four_pieces), unfolding(crate::specs::Report::ended_text))]
+    #[tactic(auto, using(crate::proofs::Pieces::four_pieces), unfolding(kn_trace::specs::Report::ended_text))]
     fn put_ended(&self, line: &mut Line)
         requires { length line.old ≤ 260 }
         ensures value { line.new ≡ line.old ++ ended_text self.now.totals }
@@ -145,15 +151,25 @@ impl Tally {
         put_named(line, b" cancelled=", self.cancelled);
     }
 
-    #[tactic(auto, using(crate::proofs::Pieces::four_pieces), unfolding(crate::specs::Report::refused_text))]
+    #[tactic(auto, using(crate::proofs::Pieces::three_pieces), unfolding(kn_trace::specs::Report::refused_text))]
     fn put_refused(&self, line: &mut Line)
         requires { length line.old ≤ 500 }
         ensures value { line.new ≡ line.old ++ refused_text self.now.totals }
+        ensures short { length line.new ≤ 700 }
     {
         put_named(line, b" queue-full=", self.queue_full);
         put_named(line, b" overload=", self.overload);
         put_named(line, b" decisions=", self.decisions);
-        line.put(b"\n");
+    }
+
+    fn put_lost(&self, version: u64, line: &mut Line)
+        requires { length line.old ≤ 700 }
+        ensures value { line.new ≡ line.old ++ lost_text version self.now.totals }
+        ensures short { length line.new ≤ 800 }
+    {
+        if version == 2 {
+            put_named(line, b" lost=", self.lost);
+        }
     }
 }
 

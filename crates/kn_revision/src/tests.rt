@@ -209,6 +209,13 @@ fn requests_per_second(rt: HostRuntime) {
             1_400_000_000,
         ),
         (
+            "{}",
+            r#"{"metadata":{"namespace":"default","name":"hello-00001","annotations":{"autoscaling.knative.dev/metric":"rps","autoscaling.knative.dev/target":"300"}}}"#,
+            Metric::Rps,
+            300_000,
+            21_000_000_000,
+        ),
+        (
             r#"{"data":{"container-concurrency-target-percentage":"100"}}"#,
             r#"{"metadata":{"namespace":"default","name":"hello-00001","annotations":{"autoscaling.knative.dev/metric":"rps","autoscaling.knative.dev/target-utilization-percentage":"50"}}}"#,
             Metric::Rps,

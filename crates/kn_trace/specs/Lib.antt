@@ -8,4 +8,5 @@ pub mod Load
 pub mod Scale
 pub mod Events
 pub mod Laws
+pub mod Report
 pub mod Worked

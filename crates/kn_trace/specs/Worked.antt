@@ -29,6 +29,7 @@ use Rattle.kn_trace.specs.Choice.{first_available, round_robin, choice_of_two, g
 use Rattle.kn_trace.specs.Settling.{promotions_at, promotions, next_choice, assignments_of, held_assignments, removals, settling}
 use Rattle.kn_trace.specs.Load.{count_in, end_of, spans, load_in, samples}
 use Rattle.kn_trace.specs.Scale.{phase_of, phase_since, mode_of, mode_since, wanted, count_ready, initial_reached, standing_of, past_of, drain_order, scale_rows, decision_rows, decision_at, wake_decision_at, tick_rows, wake_rows}
+use Rattle.kn_trace.specs.Report.{totals, taken_text, ended_text, refused_text, last_line}
 use Rattle.kn_trace.specs.Events.{due, expiries, lost_with, losses, departures, act_row, act_rows, activation, before_settling, react, told_of, opening, added, trace_of, tolds}
 
 abbrev pub slots : ℕ → ℕ → Slots
@@ -43,7 +44,7 @@ Reports s start events lines = map entry_text (trace_of s start events) ≡ line
 
 -- a proof that names this on its `unfolding` line computes a whole run
 unfoldable pub whole_run : Type 0
-unfolding digits u32_at word_bytes pcg32_seed labelled with_number with_numbers averages_text demand_text scale_text effect_text decision_text row_text entry_text fixed_spec is_any_sample is_spell_start first_write window_sum last_sample window_average pods_for max_scale_up max_scale_down count_for is_over desired_counts is_panicking panicking_run greatest_of_run undelayed_count recent_count delayed_count spare_seats excess_burst serving_mode lower_bound bounded_count may_go zero_rule ruling scaling.decision_at scaling.wake_decision_at arrivals ended assigned has_run live in_breaker is_held held at_pod has_begun is_running running_at has_not_begun queued_at waiting direct_turn pod_of stand_of created is_live_pod live_pods is_starting starting_pods is_ready ready_pods is_draining draining limit_of has_free_seat capacity in_use breaker_full pod_full first_available round_robin choice_of_two generator_at random_choice chosen_pod candidates round_robin_place assignment_count choice promotions_at promotions next_choice assignments_of held_assignments removals settling end_of spans load_in count_in samples phase_of phase_since mode_of mode_since wanted count_ready initial_reached standing_of past_of drain_order scale_rows decision_rows decision_at wake_decision_at tick_rows wake_rows due expiries lost_with losses departures act_row act_rows activation before_settling react told_of opening added trace_of tolds
+unfolding digits u32_at word_bytes pcg32_seed labelled with_number with_numbers averages_text demand_text scale_text effect_text decision_text row_text entry_text fixed_spec is_any_sample is_spell_start first_write window_sum last_sample window_average pods_for max_scale_up max_scale_down count_for is_over desired_counts is_panicking panicking_run greatest_of_run undelayed_count recent_count delayed_count spare_seats excess_burst serving_mode lower_bound bounded_count may_go zero_rule ruling scaling.decision_at scaling.wake_decision_at arrivals ended assigned has_run live in_breaker is_held held at_pod has_begun is_running running_at has_not_begun queued_at waiting direct_turn pod_of stand_of created is_live_pod live_pods is_starting starting_pods is_ready ready_pods is_draining draining limit_of has_free_seat capacity in_use breaker_full pod_full first_available round_robin choice_of_two generator_at random_choice chosen_pod candidates round_robin_place assignment_count choice promotions_at promotions next_choice assignments_of held_assignments removals settling end_of spans load_in count_in samples phase_of phase_since mode_of mode_since wanted count_ready initial_reached standing_of past_of drain_order scale_rows decision_rows decision_at wake_decision_at tick_rows wake_rows due expiries lost_with losses departures act_row act_rows activation before_settling react told_of opening added trace_of tolds totals taken_text ended_text refused_text last_line
 whole_run = ⊤
 
 -- no pod and no event

@@ -2,7 +2,7 @@ use Rattle.std.proofs.Common.{◌+◌, drop, arith}
 use Rattle.std.proofs.lemmas.Grind.{common_steps}
 use Rattle.std.proofs.KnownBytes.{Appends-nil, Appends-trans}
 use Rattle.kn_replay.proofs.Pieces.{rows_more, rows_around, prefix_after}
-use Rattle.kn_replay.specs.Report.{rows_text}
+use Rattle.kn_trace.specs.Report.{rows_text}
 use Rattle.kn_replay.proofs.report.write_rows.Goals as goal
 
 pub loop-e-init : goal.loop-e-init

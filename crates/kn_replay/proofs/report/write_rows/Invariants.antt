@@ -1,6 +1,6 @@
 use Rattle.std.proofs.Common.{◌≤◌, take}
 use Rattle.std.specs.Io.KnownBytes.{Appends}
-use Rattle.kn_replay.specs.Report.{rows_text}
+use Rattle.kn_trace.specs.Report.{rows_text}
 use Rattle.kn_replay.proofs.report.write_rows.Given as goal
 
 abbrev pub invariant-loop-e : goal.invariant-loop-e

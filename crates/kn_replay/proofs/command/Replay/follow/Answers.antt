@@ -6,7 +6,7 @@ use Rattle.kn_event.specs.declared.revision.Spec.{Spec}
 use Rattle.kn_trace.specs.Events.{react}
 use Rattle.kn_replay.specs.declared.command.Status.TheVariants as status
 use Rattle.kn_core.specs.State.{StandsFor}
-use Rattle.kn_replay.specs.Report.{rows_text, totals}
+use Rattle.kn_trace.specs.Report.{rows_text, totals}
 use Rattle.kn_replay.specs.Replaying.{Running}
 use Rattle.kn_replay.specs.Reading.{unread}
 use Rattle.kn_replay.proofs.Followings.{counts-trans}

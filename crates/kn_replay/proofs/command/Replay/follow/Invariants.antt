@@ -2,7 +2,7 @@ use Rattle.std.proofs.Common.{◌≡◌, ◌≤◌, ◌<◌, ◌+◌, ◌-◌, �
 use Rattle.kn_trace.specs.Trace.{Trace}
 use Rattle.kn_core.specs.State.{StandsFor}
 use Rattle.kn_replay.specs.Reading.{Counts, unread}
-use Rattle.kn_replay.specs.Report.{totals}
+use Rattle.kn_trace.specs.Report.{totals}
 use Rattle.kn_replay.specs.Replaying.{GoesOn}
 use Rattle.kn_replay.proofs.command.Replay.follow.Given as goal
 

@@ -1,6 +1,6 @@
 use Rattle.std.proofs.Common.{◌≡◌, ◌+◌, ◌++◌, take}
 use Rattle.kn_trace.specs.Trace.{Trace}
-use Rattle.kn_replay.specs.Report.{totals}
+use Rattle.kn_trace.specs.Report.{totals}
 use Rattle.kn_replay.proofs.report.Tally.add_all.Given as goal
 
 abbrev pub invariant-loop-e : goal.invariant-loop-e
