@@ -1,17 +1,14 @@
 -- One line of a journal, and what follows it.
 use Rattle.std.proofs.Common.{◌≡◌, ◌+◌, ◌<◌, ◌≤◌, ℕ, Bool, true, false, List, [], ◌∷◌, length, inl, inr, subst, refl, ap, ◌∙◌, arith}
 use Rattle.std.specs.Prelude.{Option, None, Some, Err, codes, cond}
-use Rattle.std.specs.Bool.{then_some}
-use Rattle.std.specs.Option.{option_map, option_and_then}
+use Rattle.std.specs.Result.{result_ok}
 use Rattle.std.specs.Str.{bytes_eq}
 use Rattle.kn_replay.specs.Lines.{lines, lines_at_lf, without_crs, fits, line_most}
 use Rattle.kn_replay.specs.Reading.{Counts, TakesLine, HasLongLine}
 use Rattle.kn_event.specs.declared.event.Act.{Act}
 use Rattle.kn_event.specs.declared.event.Act.TheVariants as act
 use Rattle.kn_event.specs.declared.event.Event.{Event}
-use Rattle.kn_event.specs.EventLine.{act_of, act_of_number, act_of_outcome, event_at, event_of, event_of_fields, outcome_of}
-use Rattle.kn_event.specs.Fields.{fields}
-use Rattle.kn_event.specs.Numbers.{number_of}
+use Rattle.kn_event.specs.EventLine.{event_of, IsInVersion}
 use Rattle.kn_core.specs.Plain.{LosesNone}
 use Rattle.kn_replay.specs.Setup.{time_most}
 use Rattle.kn_replay.specs.Journal.{after_end, none_read, read_events, line_kind, kind_of_event, is_in_time}
@@ -138,16 +135,16 @@ unfolding read_events
 end_line n last l ls h = rw h refl
 
 -- what a line that is an event says of it
-pub happens : (last : ℕ) (l : List ℕ) (e : Event) → line_kind last l ≡ kind.Happens e → (event_of l ≡ Some e) × (last ≤ e.time) × (e.time ≤ time_most)
+pub happens : (last : ℕ) (l : List ℕ) (e : Event) → line_kind last l ≡ kind.Happens e → (result_ok (event_of 1 l) ≡ Some e) × (last ≤ e.time) × (e.time ≤ time_most)
 unfolding line_kind
-happens last l e h = by_parts (fits l) (bytes_eq l (codes "end")) (event_of l) refl h
+happens last l e h = by_parts (fits l) (bytes_eq l (codes "end")) (result_ok (event_of 1 l)) refl h
   where
     by_time : (x : Event) (b : Bool) → is_in_time last x.time ≡ b → cond b (kind.Happens x) kind.Refused ≡ kind.Happens e → (x ≡ e) × (last ≤ x.time) × (x.time ≤ time_most)
     by_time x true p q = (cc, grind (arith), grind (arith))
     by_time x false p q = cc
 
-    by_parts : (f b : Bool) (o : Option Event) → event_of l ≡ o → cond f (cond b kind.End (kind_of_event last o)) kind.Refused ≡ kind.Happens e
-        → (event_of l ≡ Some e) × (last ≤ e.time) × (e.time ≤ time_most)
+    by_parts : (f b : Bool) (o : Option Event) → result_ok (event_of 1 l) ≡ o → cond f (cond b kind.End (kind_of_event last o)) kind.Refused ≡ kind.Happens e
+        → (result_ok (event_of 1 l) ≡ Some e) × (last ≤ e.time) × (e.time ≤ time_most)
     by_parts false b o p q = cc
     by_parts true true o p q = cc
     by_parts true false None p q = cc
@@ -157,47 +154,7 @@ happens last l e h = by_parts (fits l) (bytes_eq l (codes "end")) (event_of l) r
         let times = subst P parts.0 (parts.1, parts.2) in
         (p ∙ ap (λ (y : Event). Some y) parts.0, times.0, times.1)
 
--- no line spells a lost pod yet
-pub reads_no_loss : (l : List ℕ) (e : Event) → event_of l ≡ Some e → LosesNone e.act
-unfolding event_of
-reads_no_loss l e = by (fields l)
-  where
-    a_number : (word : List ℕ) (o : Option ℕ) (a : Act) → option_and_then (act_of_number word) o ≡ Some a → LosesNone a
-    a_number word None a h = absurd (cc)
-    a_number word (Some n) a h = word_by (bytes_eq word (codes "arrive")) (bytes_eq word (codes "ready")) h
-      where
-        word_by : (b d : Bool) → cond b (Some (act.Arrive n)) (cond d (Some (act.Ready n)) None) ≡ Some a → LosesNone a
-        word_by true d h = let same : act.Arrive n ≡ a = cc in subst LosesNone same tt
-        word_by false true h = let same : act.Ready n ≡ a = cc in subst LosesNone same tt
-        word_by false false h = absurd (cc)
-
-    an_outcome : (word : List ℕ) (r : ℕ) (o : Option Bool) (a : Act) → option_and_then (act_of_outcome word r) o ≡ Some a → LosesNone a
-    an_outcome word r None a h = absurd (cc)
-    an_outcome word r (Some ok) a h = word_by (bytes_eq word (codes "finish")) h
-      where
-        word_by : (b : Bool) → then_some b (act.Finish r ok) ≡ Some a → LosesNone a
-        word_by true h = let same : act.Finish r ok ≡ a = cc in subst LosesNone same tt
-        word_by false h = absurd (cc)
-
-    a_request : (word outcome : List ℕ) (o : Option ℕ) (a : Act) → option_and_then (λ r. option_and_then (act_of_outcome word r) (outcome_of outcome)) o ≡ Some a → LosesNone a
-    a_request word outcome None a h = absurd (cc)
-    a_request word outcome (Some r) a h = an_outcome word r (outcome_of outcome) a h
-
-    an_act : (ws : List (List ℕ)) (a : Act) → act_of ws ≡ Some a → LosesNone a
-    an_act [] a h = absurd (cc)
-    an_act (word ∷ []) a h = absurd (cc)
-    an_act (word ∷ n ∷ []) a h = a_number word (number_of n) a h
-    an_act (word ∷ n ∷ outcome ∷ []) a h = a_request word outcome (number_of n) a h
-    an_act (word ∷ n ∷ outcome ∷ more ∷ rest) a h = absurd (cc)
-
-    timed : (t : ℕ) (o : Option Act) → ((a : Act) → o ≡ Some a → LosesNone a) → option_map (event_at t) o ≡ Some e → LosesNone e.act
-    timed t None each h = absurd (cc)
-    timed t (Some a) each h = let same : event_at t a ≡ e = cc in subst (λ (x : Event). LosesNone x.act) same (each a refl)
-
-    dated : (o : Option ℕ) (rest : List (List ℕ)) → option_and_then (λ t. option_map (event_at t) (act_of rest)) o ≡ Some e → LosesNone e.act
-    dated None rest h = absurd (cc)
-    dated (Some t) rest h = timed t (act_of rest) (an_act rest) h
-
-    by : (ws : List (List ℕ)) → event_of_fields ws ≡ Some e → LosesNone e.act
-    by [] h = absurd (cc)
-    by (time ∷ rest) h = dated (number_of time) rest h
+-- a journal 1 spells no lost pod
+pub version_1_loses_none : (a : Act) → IsInVersion 1 a → LosesNone a
+version_1_loses_none (act.Lost p) h = absurd (omega (arith, h))
+version_1_loses_none _ h = tt

@@ -1,5 +1,6 @@
 -- What the lines of an input say: a journal, up to the first line that is refused.
-use Rattle.std.specs.Prelude.{ℕ, ◌+◌, ◌&&◌, Bool, true, false, cond, nat_le, List, [], ◌∷◌, Option, None, Some, codes}
+use Rattle.std.specs.Prelude.{ℕ, ◌+◌, ◌&&◌, Bool, true, false, cond, nat_le, List, [], ◌∷◌, Option, None, Some, codes, ⊤}
+use Rattle.std.specs.Result.{result_ok}
 use Rattle.std.specs.Str.{bytes_eq}
 use Rattle.kn_event.specs.declared.event.Event.{Event}
 use Rattle.kn_event.specs.declared.revision.Spec.{Spec}
@@ -33,7 +34,12 @@ kind_of_event last (Some e) = cond (is_in_time last e.time) (Happens e) Refused
 
 -- a line by itself, after an event at time last
 unfoldable pub line_kind : ℕ → List ℕ → LineKind
-line_kind last line = cond (fits line) (cond (bytes_eq line (codes "end")) End (kind_of_event last (event_of line))) Refused
+line_kind last line = cond (fits line) (cond (bytes_eq line (codes "end")) End (kind_of_event last (result_ok (event_of 1 line)))) Refused
+
+-- what is said of a line's event, where it is one
+abbrev pub OnHappens : LineKind → (Event → Type 0) → Type 0
+OnHappens (Happens e) P = P e
+OnHappens _ P = ⊤
 
 -- ---- the events
 

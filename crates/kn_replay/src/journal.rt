@@ -5,7 +5,7 @@ ghost use Rattle.kn_core.specs.Plain.{IsSinglePod, LosesNone};
 ghost use Rattle.kn_replay.specs.Lines.{fits, line_most};
 ghost use Rattle.kn_replay.specs.Reading.{Counts, most_taken, unread};
 ghost use Rattle.kn_replay.specs.Setup.{time_most};
-ghost use Rattle.kn_replay.specs.Journal.{after_first, after_end, line_kind, from_first, from_setup, from_start, none_read, opened, read_events, refused_at};
+ghost use Rattle.kn_replay.specs.Journal.{after_first, after_end, line_kind, OnHappens, from_first, from_setup, from_start, none_read, opened, read_events, refused_at};
 ghost use Rattle.kn_replay.specs.Following.{Gives, GivesLine, after_event, after_opening, refused_read, EndsThere, OnEvent};
 
 use crate::input::Input;
@@ -35,9 +35,10 @@ pub enum LineKind {
     Refused,
 }
 
-#[tactic(auto, unfolding(crate::specs::Journal::line_kind))]
+#[tactic(auto, using(crate::proofs::Followings::version_1_loses_none), unfolding(crate::specs::Journal::line_kind))]
 fn line_kind(line: &[u8], last: u64) -> LineKind
-    ensures { result ≡ line_kind last line.now }
+    ensures value { result ≡ line_kind last line.now }
+    ensures kept_pods { OnHappens result (λ e. LosesNone e.act) }
 {
     if line.len() > 65536 {
         return LineKind::Refused;
@@ -45,8 +46,8 @@ fn line_kind(line: &[u8], last: u64) -> LineKind
     if line == b"end".as_slice() {
         return LineKind::End;
     }
-    match read_event(line) {
-        Some(e) if last <= e.time && e.time <= 4398046511104 => LineKind::Happens(e),
+    match read_event(line, 1) {
+        Ok(e) if last <= e.time && e.time <= 4398046511104 => LineKind::Happens(e),
         _ => LineKind::Refused,
     }
 }

@@ -158,7 +158,7 @@ fn what_is_no_good_journal(rt: HostRuntime) -> Result<(), Fail> {
             b"kact: line 4: not built\n",
         ),
         (
-            b"kact journal 1\r\nfixed limit=1 depth=1 max=1 pods=1 timeout=300 seed=0\r\nstart 5\n5 ready 0\n5 tick\n",
+            b"kact journal 1\r\nfixed limit=1 depth=1 max=1 pods=1 timeout=300 seed=0\r\nstart 5\n5 ready 0\n5 lost 0\n",
             5,
             b"5 create 0 1\n5 ready 0\n",
             b"kact: line 5: not built\n",
