@@ -1,0 +1,4 @@
+pub mod Numbers
+pub mod Pods
+pub mod Kept
+pub mod Answer
