@@ -1,0 +1,3 @@
+pub mod Order
+pub mod Moves
+pub mod Slots
