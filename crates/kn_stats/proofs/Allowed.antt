@@ -1,12 +1,10 @@
 -- What a change needs, said of each count that it changes.
-use Rattle.std.proofs.Common.{◌≡◌, refl, sym, ap, ◌∙◌, ℕ, ◌+◌, ◌-◌, ◌≤◌, ◌<◌, Bool, true, false, List, [], ◌∷◌, length, arith}
-use Rattle.std.specs.Prelude.{Option, None, Some}
-use Rattle.std.specs.List.{sum_by}
-use Rattle.std.proofs.lemmas.Option.{none-some}
+use Rattle.std.proofs.Common.{◌≡◌, refl, ap, ℕ, ◌+◌, ◌≤◌, ◌<◌, true, false, length, arith}
+use Rattle.std.specs.Prelude.{Some}
 use Rattle.kn_stats.specs.declared.change.Change.{Change}
 use Rattle.kn_stats.specs.declared.change.Change.TheVariants as change
 use Rattle.kn_stats.specs.declared.tally.PodTally.{PodTally}
-use Rattle.kn_stats.specs.Changes.{ends_admitted, ends_assigned, ends_directed, ends_waiting, is_admitted, is_assigned, is_directed, is_start, pod_of}
+use Rattle.kn_stats.specs.Changes.{ends_admitted, ends_assigned, ends_directed, ends_waiting, is_admitted, is_assigned, is_directed, pod_of}
 use Rattle.kn_stats.specs.Pods.{found, put}
 use Rattle.kn_stats.specs.Stands.{CanChange, HasRoom, IsWithin, StatsState, live_in}
 use Rattle.kn_stats.proofs.Table.{found-sum, length-there}

@@ -1,13 +1,13 @@
 -- What closes, and what a pod's area is, by the changes.
-use Rattle.std.proofs.Common.{◌≡◌, refl, sym, ap, ◌∙◌, ℕ, ◌+◌, ◌-◌, ◌*◌, ◌≤◌, ◌<◌, Bool, true, false, ◌&&◌, ◌||◌, List, [], ◌∷◌, arith}
-use Rattle.std.specs.Prelude.{nat_lt, Option, None, Some, IfSome, if◌then◌else◌}
+use Rattle.std.proofs.Common.{◌≡◌, refl, sym, ◌∙◌, ℕ, ◌+◌, ◌-◌, ◌*◌, ◌≤◌, ◌<◌, Bool, true, false, ◌&&◌, List, arith}
+use Rattle.std.specs.Prelude.{nat_lt, None, Some, IfSome, if◌then◌else◌}
 use Rattle.kn_event.specs.declared.revision.Metric.{Metric}
 use Rattle.kn_scaling.specs.Average.{second_of}
 use Rattle.kn_stats.specs.declared.change.Change.{Change}
 use Rattle.kn_stats.specs.declared.closed.Run.{Run}
-use Rattle.kn_stats.specs.Changes.{TimedChange, after_sum, arrived_by, at, count_of, ends_admitted, ends_assigned, ends_directed, is_admitted, is_arrival_at, is_assigned, is_directed, is_end, is_end_at, is_pod, is_start, load_by, pod_of, time_taken}
+use Rattle.kn_stats.specs.Changes.{TimedChange, after_sum, arrived_by, at, ends_admitted, ends_assigned, ends_directed, is_admitted, is_arrival_at, is_assigned, is_directed, is_end_at, is_pod, load_by, pod_of, time_taken}
 use Rattle.kn_stats.specs.Closing.{closed_by, is_sampled, run_of}
-use Rattle.kn_stats.specs.Pods.{IsSmall, found, fresh, so_far}
+use Rattle.kn_stats.specs.Pods.{found, fresh, so_far}
 use Rattle.kn_stats.specs.Stands.{IsWithin, StandsFor, StatsState, closed_at, is_among, left_of, live_in}
 use Rattle.kn_stats.proofs.Allowed.{apart_arrivals, apart_ends, apart_pod_ends, apart_starts}
 use Rattle.kn_stats.proofs.Bounds.{area_small}

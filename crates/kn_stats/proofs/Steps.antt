@@ -1,5 +1,5 @@
 -- One change more, a pod that leaves, and time that passes: what a Stats stands for, and its bounds.
-use Rattle.std.proofs.Common.{◌≡◌, refl, sym, ap, subst, ◌∙◌, ℕ, ◌+◌, ◌-◌, ◌*◌, ◌≤◌, ◌<◌, Bool, true, false, cond, ◌&&◌, ◌||◌, List, [], ◌∷◌, ◌++◌, length, min, arith}
+use Rattle.std.proofs.Common.{◌≡◌, refl, sym, ap, subst, ◌∙◌, ℕ, ◌+◌, ◌-◌, ◌≤◌, ◌<◌, Bool, true, false, cond, ◌&&◌, ◌||◌, List, [], ◌∷◌, ◌++◌, length, min, arith}
 use Rattle.std.specs.Prelude.{◌==◌, nat_lt, Option, None, Some, if◌then◌else◌}
 use Rattle.std.specs.List.{sum_by}
 use Rattle.std.proofs.lemmas.Bool.{eqb-true}
@@ -11,7 +11,7 @@ use Rattle.kn_stats.specs.declared.tally.Tally.{Tally}
 use Rattle.kn_stats.specs.declared.tally.PodTally.{PodTally}
 use Rattle.kn_stats.specs.Changes.{TimedChange, arrived_by, at, count_of, counted_most, ends_admitted, ends_assigned, ends_directed, ends_waiting, is_admitted, is_assigned, is_directed, is_pod, is_start, pod_of, timed}
 use Rattle.kn_stats.specs.Pods.{IsSmall, IsSmallPod, IsSorted, anew, anew_if, found, fresh, idle, no_tally, pod_after, put, tally_after, without_pod}
-use Rattle.kn_stats.specs.Stands.{CanChange, HasRoom, IsIdle, IsPodOf, IsTally, IsWithin, StandsFor, StatsState, advanced, advanced_by, arrived_after, changed, is_among, left_of, live_in, opened, pods_by, waiting_after, without}
+use Rattle.kn_stats.specs.Stands.{CanChange, IsIdle, IsPodOf, IsTally, IsWithin, StandsFor, StatsState, advanced, advanced_by, changed, is_among, left_of, live_in, opened, pods_by, waiting_after, without}
 use Rattle.kn_stats.proofs.Allowed.{apart_admitted, apart_assigned, apart_directed, apart_starts, apart_waiting, room_admitted, room_assigned_at, room_at, room_direct_at, room_directed, some_admitted, some_assigned_at, some_direct_at, some_directed, some_waiting}
 use Rattle.kn_stats.proofs.Bounds.{count-fresh-direct, count-fresh-proxied, left_inside, small_after, small_anew, small_later, small_none}
 use Rattle.kn_stats.proofs.Sums.{arrived-push, by-later, by-push, count-push, past-arrived, tally_anew, tally_none, tally_push}

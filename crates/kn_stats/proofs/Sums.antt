@@ -1,12 +1,12 @@
 -- Sums over changes: one change more, a later second, and a stretch that ends earlier.
-use Rattle.std.proofs.Common.{◌≡◌, refl, sym, ap, ◌∙◌, ℕ, ◌+◌, ◌-◌, ◌*◌, ◌/◌, ◌%◌, ◌≤◌, ◌<◌, Bool, true, false, cond, ◌&&◌, ◌||◌, List, [], ◌∷◌, ◌++◌, max, arith}
+use Rattle.std.proofs.Common.{◌≡◌, refl, sym, ap, ◌∙◌, ℕ, ◌+◌, ◌-◌, ◌*◌, ◌≤◌, ◌<◌, Bool, true, false, cond, ◌&&◌, ◌||◌, List, [], ◌∷◌, ◌++◌, arith}
 use Rattle.std.specs.Prelude.{◌==◌, if◌then◌else◌}
 use Rattle.std.specs.List.{sum_by}
 use Rattle.std.proofs.lemmas.List.Sums.{sum_by-cons, sum_by_push}
 use Rattle.kn_scaling.specs.Average.{second_of}
 use Rattle.kn_stats.specs.declared.change.Change.{Change}
 use Rattle.kn_stats.specs.declared.tally.Tally.{Tally}
-use Rattle.kn_stats.specs.Changes.{AreBy, TimedChange, after_in, after_sum, arrived_by, count_of, is_start, part, time_taken, timed}
+use Rattle.kn_stats.specs.Changes.{AreBy, TimedChange, after_in, after_sum, arrived_by, count_of, is_start, part, timed}
 use Rattle.kn_stats.specs.Pods.{anew, no_tally, so_far, tally_after}
 use Rattle.kn_stats.specs.Stands.{IsTally, left_of}
 

@@ -1,6 +1,5 @@
-use Rattle.std.proofs.Common.{sym, ap, subst, arith, ◌∷◌, [], ◌++◌}
-use Rattle.kn_stats.specs.Changes.{timed}
-use Rattle.kn_stats.specs.Stands.{CanChange, StandsFor, StatsState, changed}
+use Rattle.std.proofs.Common.{sym, ap, subst, arith}
+use Rattle.kn_stats.specs.Stands.{CanChange, StandsFor, StatsState}
 use Rattle.kn_stats.proofs.Allowed.{room_at}
 use Rattle.kn_stats.proofs.Steps.{stands_changed, within_changed}
 use Rattle.kn_stats.proofs.stats.Stats.change.Goals as goal
