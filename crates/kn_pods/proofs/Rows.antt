@@ -164,7 +164,7 @@ live_by facts s c p pods made stands =
 -- what is said of a pod that is live, or not; that starts, is Ready or drains
 ready_where : (p : ℕ) (live starting is_starting ready draining : Bool) → live ≡ ((starting || ready) || draining) → (live ≡ true → is_starting ≡ starting)
     → (if live then (if is_starting then row.Ready p else row.NotStarting p) else row.NoPod p)
-      ≡ (if starting then row.Ready p else (if ready || draining then row.NotStarting p else row.NoPod p))
+    ≡ (if starting then row.Ready p else (if ready || draining then row.NotStarting p else row.NoPod p))
 ready_where p true true i r d e f = rw (f refl) refl
 ready_where p true false i true d e f = rw (f refl) refl
 ready_where p true false i false true e f = rw (f refl) refl
