@@ -1,5 +1,5 @@
 -- What is told of a link to pods.
-use Rattle.std.specs.Prelude.{◌≡◌, ℕ, List, [], ◌∷◌, ◌++◌, Bool, Option, None, Some, Result, Ok, Err, ⊤}
+use Rattle.std.specs.Prelude.{◌≡◌, ℕ, List, [], ◌∷◌, ◌++◌, Bool, Option, None, Some, Result, ⊤}
 use Rattle.std.specs.Result.{result_ok}
 use Rattle.kn_io.specs.declared.records.Call.{Call}
 use Rattle.kn_io.specs.declared.records.Probe.{Probe}

@@ -1,5 +1,5 @@
 -- What contracts see of a caller in memory.
-use Rattle.std.specs.Prelude.{◌≡◌, ℕ, ◌+◌, ◌-◌, List, [], ◌∷◌, length, drop, Option, None, Some, slice_get, refl}
+use Rattle.std.specs.Prelude.{ℕ, ◌+◌, ◌-◌, List, [], ◌∷◌, length, Option, None, Some, slice_get, refl}
 use Rattle.std.proofs.Common.{arith}
 use Rattle.kn_io.specs.Callers.{IsPaired, texts_of}
 use Rattle.kn_io.specs.Memory.{Plan}

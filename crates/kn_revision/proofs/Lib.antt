@@ -1,1 +1,2 @@
 pub mod OtherMembers
+pub mod Fractions

@@ -2,3 +2,4 @@ pub mod Samples
 pub mod Recent
 pub mod Runs
 pub mod Quotients
+pub mod Fractions

@@ -101,9 +101,9 @@ fn window_sum(runs: &[SampleRun], count: u64, end: u64) -> u128
     sum
 }
 
-/// A sum over the milliseconds of one second and so many others.
-#[tactic(auto, using(kn_event::proofs::Fractions::frac_by_parts))]
-fn load_over(sum: u128, others: u64) -> Frac
+/// A sum over the milliseconds of one second and so many others, not reduced.
+#[tactic(auto, using(crate::proofs::Fractions::frac_by_parts))]
+pub fn load_over(sum: u128, others: u64) -> Frac
     ensures { result ≡ load_over sum others }
 {
     Frac {

@@ -11,7 +11,7 @@ pub mod rows;
 mod tests;
 mod zero;
 
-pub use average::{SampleRun, window_average};
+pub use average::{SampleRun, load_over, window_average};
 pub use delay::{Asked, delayed_count, recent_count};
 pub use demand::desired_counts;
 pub use panic::{Judged, is_panicking, undelayed_count};

@@ -1,10 +1,11 @@
 ghost use Rattle.std.specs.Prelude.{◌≡◌, ◌≤◌, ◌<◌, ◌+◌, ◌-◌, ◌^◌, ◌==◌, ◌||◌, nat_le, nat_lt, IfOk, IfSome, max, if◌then◌else◌};
-ghost use Rattle.kn_scaling.specs.Average.{IsAverage, Samples, load_over, no_samples, window_average, with_run};
+ghost use Rattle.kn_scaling.specs.Average.{IsAverage, Samples, no_samples, window_average, with_run};
 ghost use Rattle.kn_scaling.specs.Worked.{run_of};
 ghost use Rattle.kn_window.specs.Stands.{StandsFor};
 
 use crate::totals::Totals;
 use kn_event::{Frac, Memory};
+use kn_scaling::load_over;
 use std::alloc::Global;
 use std::marker::Model;
 
@@ -48,17 +49,6 @@ fn is_cut(is_new: bool, end: u64, from: u64) -> bool
     ensures { result ≡ (is_new || nat_lt end from) }
 {
     is_new || end < from
-}
-
-/// A sum over the milliseconds of one second and so many others.
-#[tactic(auto, using(kn_event::proofs::Fractions::frac_by_parts))]
-fn load_over(sum: u128, others: u64) -> Frac
-    ensures { result ≡ load_over sum others }
-{
-    Frac {
-        num: sum,
-        den: 1000 * (u128::from(others) + 1),
-    }
 }
 
 impl Window {

@@ -1,4 +1,4 @@
-use Rattle.std.proofs.Common.{◌≡◌, ℕ, ◌+◌, List, [], ◌∷◌, ◌++◌, length, true, false, ap, arith, refl, sym, ◌∙◌, append_assoc, length-append}
+use Rattle.std.proofs.Common.{ℕ, List, [], ◌∷◌, ◌++◌, true, false, ap, arith, refl, length-append}
 use Rattle.kn_io.specs.Callers.{every_second}
 use Rattle.kn_io.proofs.Seconds.{every_second-append, length-every_second}
 use Rattle.kn_io.proofs.callers.caller_laws.Goals as goal

@@ -1,4 +1,4 @@
-use Rattle.std.proofs.Common.{◌≡◌, ◌+◌, arith, length, subst, sym}
+use Rattle.std.proofs.Common.{◌≡◌, ◌+◌, arith, length, subst}
 use Rattle.std.proofs.lemmas.Grind.{common_steps}
 use Rattle.kn_io.specs.Callers.{texts_of}
 use Rattle.kn_io.specs.MemCaller.{kept_of, texts}
