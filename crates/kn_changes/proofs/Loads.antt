@@ -1,18 +1,13 @@
 -- What lies in a second after the changes that begin or end requests is what lies in it after the entries that do.
-use Rattle.std.proofs.Common.{◌≡◌, ℕ, ◌+◌, ◌-◌, ◌*◌, Bool, true, false, List, [], ◌∷◌, ◌++◌, refl, sym, ◌∙◌, arith}
+use Rattle.std.proofs.Common.{◌≡◌, ℕ, ◌+◌, ◌-◌, ◌*◌, Bool, true, false, List, [], ◌∷◌, ◌++◌, refl, arith}
 use Rattle.std.specs.Prelude.{Option, None, Some, option_map}
 use Rattle.std.specs.List.{cons_option, sum_by}
 use Rattle.std.proofs.lemmas.List.Sums.{sum_by-cons}
 use Rattle.kn_event.specs.declared.entry.Row.{Row}
 use Rattle.kn_event.specs.declared.entry.Row.TheVariants as row
-use Rattle.kn_event.specs.declared.revision.Spec.{Spec}
 use Rattle.kn_trace.specs.Rows.{ended_by, taken_by}
 use Rattle.kn_trace.specs.Trace.{Trace, assigned, pod_of}
-use Rattle.kn_trace.specs.Load.{load_in}
-use Rattle.kn_record.specs.Made.{IsMade}
-use Rattle.kn_record.specs.Order.{AreTimesInOrder}
 use Rattle.kn_past.specs.Loads as past
-use Rattle.kn_past.proofs.Balance.{load_is}
 use Rattle.kn_stats.specs.Changes.{TimedChange, after_sum, is_end, is_start, load_by, part, time_taken, timed}
 use Rattle.kn_changes.specs.Changes.{change_by, change_of, changes_after, changes_of, end_at}
 
@@ -79,12 +74,10 @@ all-ends n d (e ∷ es) =
     let whole = sum_by-cons (past.after_by ended_by n) e es in
     omega (arith, this, one, rest, whole)
 
-load-sums : (n : ℕ) (c : Trace) → load_by (changes_of c) n ≡ past.after_sum taken_by n c - past.after_sum ended_by n c
+-- so the load by the changes is what lies in the second after the starts, less what lies in it after the ends
+pub load-sums : (n : ℕ) (c : Trace) → load_by (changes_of c) n ≡ past.after_sum taken_by n c - past.after_sum ended_by n c
 unfolding time_taken after_sum changes_of past.after_sum
 load-sums n c =
     let began = all-starts n [] c in
     let over = all-ends n [] c in
     omega (arith, began, over)
-
-pub load_same : (s : Spec) (c : Trace) (start clock n : ℕ) → IsMade s c → AreTimesInOrder start c clock → load_by (changes_of c) n ≡ load_in c n
-load_same s c start clock n made times = load-sums n c ∙ sym (load_is s c start clock n made times)

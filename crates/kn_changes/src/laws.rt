@@ -10,13 +10,17 @@ ghost use Rattle.kn_record.specs.Order.{AreTimesInOrder};
 ghost use Rattle.kn_stats.specs.Changes.{AreBy, arrived_count, load_by};
 ghost use Rattle.kn_changes.specs.Changes.{change_of, changes_of};
 
+use kn_past::loads::load_laws;
+
 /// Of every trace that events made, with times that never fall: the load of a second by the trace's changes is the load of
 /// the spans of its requests, so one that went through the activator to a pod counts once. Of every trace: as many arrived
 /// in the second.
 pub fn change_laws()
     ensures load { (s : Spec) (c : Trace) (start clock second : ℕ) → IsMade s c → AreTimesInOrder start c clock → load_by (changes_of c) second ≡ load_in c second }
     ensures count { (c : Trace) (second : ℕ) → arrived_count (changes_of c) second ≡ count_in c second }
-{}
+{
+    load_laws();
+}
 
 /// By one more entry, the change that its row makes where it comes is one more, if it makes one. No change is after the
 /// last entry.

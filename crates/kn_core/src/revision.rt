@@ -7,6 +7,8 @@ ghost use Rattle.kn_core.specs.State.{StandsFor, StandsForSome, spare};
 
 use crate::steps;
 use kn_event::{Entry, EntryLog, Event, Kind, Memory, Row, Spec, Stand, Told};
+use kn_laws::laws::trace_laws;
+use kn_sizes::sizes::growth_laws;
 use kn_trace::views;
 use std::alloc::Global;
 use std::marker::Model;
@@ -128,6 +130,8 @@ impl Revision {
         ensures events { self.new.events ≡ self.old.events + 1 }
         ensures spares { spare self.old ≤ spare self.new + 1 }
     {
+        trace_laws();
+        growth_laws();
         self.clock = e.time;
         self.events += 1;
         steps::react(&self.spec, e, &mut self.entries, log)

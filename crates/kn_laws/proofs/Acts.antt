@@ -1,6 +1,6 @@
 -- What an act's own row is, and that no other row of its event is of an act.
 use Rattle.std.proofs.Common.{◌≡◌, ℕ, Bool, true, false, cond, List, [], ◌∷◌, ◌++◌, inl, inr, nat_le, length, map, refl}
-use Rattle.std.specs.Prelude.{Option, None, Some, slice_index, ◌%◌, ⊤}
+use Rattle.std.specs.Prelude.{Option, None, Some, slice_index, ◌%◌}
 use Rattle.kn_event.specs.declared.entry.Entry.{Entry}
 use Rattle.kn_event.specs.declared.entry.Row.{Row}
 use Rattle.kn_event.specs.declared.entry.Row.TheVariants as row
@@ -16,27 +16,8 @@ use Rattle.kn_trace.specs.Scale.{mode_of}
 use Rattle.kn_trace.specs.Settling.{assignments_of, held_assignments, promotions, removals, settling}
 use Rattle.kn_trace.specs.Events.{act_row, act_rows, activation, admission_row, arrival_row, before_settling, departures, direct_row, entries_of, expiries, live_most, losses, losses_at, lost_with, react, scaler_rows}
 use Rattle.kn_laws.specs.ByAct.{AreByAct, IsByAct}
-use Rattle.kn_laws.proofs.Rows.{Each, activation-rows, assignments-rows, expiries-rows, is_assign_row, is_expire_row, is_remove_row, is_run_row, is_scaler_row, promotions-rows, removed-rows, scaler-rows}
-
-abbrev pub is_act_row : Row → Bool
-is_act_row (row.Admit r tag) = true
-is_act_row (row.QueueFull r pod) = true
-is_act_row (row.Overload r) = true
-is_act_row (row.Direct r p) = true
-is_act_row (row.Finish r ok) = true
-is_act_row (row.Cancel r) = true
-is_act_row (row.Ready p) = true
-is_act_row (row.Limit p n) = true
-is_act_row (row.NotRunning r) = true
-is_act_row (row.NotWaiting r) = true
-is_act_row (row.NotStarting p) = true
-is_act_row (row.NoPod p) = true
-is_act_row (row.LostPod p) = true
-is_act_row _ = false
-
-abbrev pub IsActRow : Act → Option Row → Type 0
-IsActRow a None = ⊤
-IsActRow a (Some x) = (is_act_row x ≡ true) × IsByAct a x
+use Rattle.kn_laws.specs.Kinds.{Each, is_assign_row, is_expire_row, is_remove_row, is_run_row, is_scaler_row, is_act_row, IsActRow, EachIs}
+use Rattle.kn_laws.proofs.Rows.{activation-rows, assignments-rows, expiries-rows, promotions-rows, removed-rows, scaler-rows}
 
 direct-facts : (c : Trace) (ps : List ℕ) (tag : ℕ) → IsActRow (act.Arrive tag) (Some (direct_row c ps))
 direct-facts c ps tag = by (pod_full c (slice_index ps (direct_turn c % length ps)))
@@ -103,11 +84,6 @@ act-rows s t c a = by (act_row s c a) (act-facts s c a)
     by (Some x) h = (h.0, tt)
 
 -- ---- each row of an event is of its act, or of no act
-
--- each row satisfies this
-abbrev pub EachIs : (Row → Type 0) → Trace → Type 0
-EachIs P [] = ⊤
-EachIs P (e ∷ es) = P e.row × EachIs P es
 
 -- a list after another
 pub EachIs-append : (P : Row → Type 0) (xs ys : Trace) → EachIs P xs → EachIs P ys → EachIs P (xs ++ ys)

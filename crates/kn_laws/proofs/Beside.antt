@@ -12,12 +12,9 @@ use Rattle.kn_trace.specs.Events.{act_row, expiries, trace_of}
 use Rattle.kn_trace.specs.Laws.{IsInert, IsSettled, is_refusal}
 use Rattle.kn_record.specs.Admission.{Admission, admission, stepped}
 use Rattle.kn_record.specs.Made.{IsMade, IsProper}
+use Rattle.kn_record.specs.Facts.{Facts}
 use Rattle.kn_laws.specs.Beside.{LeavesTheRest, refused}
-use Rattle.kn_record.proofs.Kept.{Holds-append, made_kept}
-use Rattle.kn_record.proofs.Appends.{admission_made}
-use Rattle.kn_record.proofs.Reacting.{act-holds, expiries-hold}
 use Rattle.kn_laws.proofs.Inert.{refusals_inert}
-use Rattle.kn_record.proofs.Running.{made_trace}
 use Rattle.kn_laws.proofs.Settles.{settled_trace}
 
 -- a refusal steps the record by its number and its turn alone
@@ -39,29 +36,32 @@ lost-refused s c p x is h = by (contains p (live_pods c)) is
     by true e = absurd (let same : row.LostPod p ≡ x = cc in let no : false ≡ true = subst (λ (y : Row). is_refusal y ≡ true) (sym same) h in cc)
     by false e = let same : row.NoPod p ≡ x = cc in subst (IsProper s c) same tt
 
-act-proper : (s : Spec) (c : Trace) (a : Act) (x : Row) → act_row s c a ≡ Some x → ((p : ℕ) → a ≡ act.Lost p → ⊥) → IsProper s c x
-act-proper s c a x is other = (rw is at (act-holds s 0 c a (λ p lost. absurd (other p lost)))).0
+module _ (facts : Facts) where
+  open facts use {proper.{made_kept, admission_made, made_more, made_trace, expiries-hold, act-holds}}
 
--- a refusal is proper where it comes
-refusal-proper : (s : Spec) (c : Trace) (a : Act) (x : Row) → act_row s c a ≡ Some x → is_refusal x ≡ true → IsProper s c x
-refusal-proper s c (act.Lost p) x is h = lost-refused s c p x is h
-refusal-proper s c a x is h = act-proper s c a x is (λ p lost. absurd (cc))
+  act-proper : (s : Spec) (c : Trace) (a : Act) (x : Row) → act_row s c a ≡ Some x → ((p : ℕ) → a ≡ act.Lost p → ⊥) → IsProper s c x
+  act-proper s c a x is other = (rw is at (act-holds s 0 c a (λ p lost. absurd (other p lost)))).0
 
--- the expiries of a trace that was made are proper
-pub made_expiries : (s : Spec) (t : ℕ) (c : Trace) → IsMade s c → IsMade s (c ++ expiries s t c)
-made_expiries s t c made = record { rows = Holds-append (IsProper s) [] c (expiries s t c) made.rows (expiries-hold s t c (made_kept s c made).requests) }
+  -- a refusal is proper where it comes
+  refusal-proper : (s : Spec) (c : Trace) (a : Act) (x : Row) → act_row s c a ≡ Some x → is_refusal x ≡ true → IsProper s c x
+  refusal-proper s c (act.Lost p) x is h = lost-refused s c p x is h
+  refusal-proper s c a x is h = act-proper s c a x is (λ p lost. absurd (cc))
 
--- after a refused event the record is that after the expiries, but for a number and a turn
-pub refusals_leave : (s : Spec) (c : Trace) (e : Event) → IsMade s c → IsSettled s c → LeavesTheRest s c e
-refusals_leave s c e made settled x is h =
-    let gone = expiries s e.time c in
-    ap (λ (d : Trace). admission (c ++ d)) (refusals_inert s c e made settled x is h)
-    ∙ ap admission (sym (append_assoc c gone (entry e.time x ∷ [])))
-    ∙ admission_made s (c ++ gone) e.time x (made_expiries s e.time c made) (refusal-proper s (c ++ gone) e.act x is h)
-    ∙ refusal-stepped e.time x (admission (c ++ gone)) h
+  -- the expiries of a trace that was made are proper
+  pub made_expiries : (s : Spec) (t : ℕ) (c : Trace) → IsMade s c → IsMade s (c ++ expiries s t c)
+  made_expiries s t c made = made_more s c (expiries s t c) made (expiries-hold s t c (made_kept s c made).requests)
 
-pub inert_trace : (s : Spec) (start : ℕ) (es : List Event) (e : Event) → IsInert s (trace_of s start es) e
-inert_trace s start es e = refusals_inert s (trace_of s start es) e (made_trace s start es) (settled_trace s start es)
+  -- after a refused event the record is that after the expiries, but for a number and a turn
+  pub refusals_leave : (s : Spec) (c : Trace) (e : Event) → IsMade s c → IsSettled s c → LeavesTheRest s c e
+  refusals_leave s c e made settled x is h =
+      let gone = expiries s e.time c in
+      ap (λ (d : Trace). admission (c ++ d)) (refusals_inert facts s c e made settled x is h)
+      ∙ ap admission (sym (append_assoc c gone (entry e.time x ∷ [])))
+      ∙ admission_made s (c ++ gone) e.time x (made_expiries s e.time c made) (refusal-proper s (c ++ gone) e.act x is h)
+      ∙ refusal-stepped e.time x (admission (c ++ gone)) h
 
-pub leaving_trace : (s : Spec) (start : ℕ) (es : List Event) (e : Event) → LeavesTheRest s (trace_of s start es) e
-leaving_trace s start es e = refusals_leave s (trace_of s start es) e (made_trace s start es) (settled_trace s start es)
+  pub inert_trace : (s : Spec) (start : ℕ) (es : List Event) (e : Event) → IsInert s (trace_of s start es) e
+  inert_trace s start es e = refusals_inert facts s (trace_of s start es) e (made_trace s start es) (settled_trace facts s start es)
+
+  pub leaving_trace : (s : Spec) (start : ℕ) (es : List Event) (e : Event) → LeavesTheRest s (trace_of s start es) e
+  leaving_trace s start es e = refusals_leave s (trace_of s start es) e (made_trace s start es) (settled_trace facts s start es)

@@ -1,6 +1,6 @@
 -- What holds of every trace that some events made in order.
 use Rattle.std.proofs.Common.{◌≡◌, ℕ, ◌+◌, ◌-◌, ◌≤◌, Bool, true, false, not, ◌&&◌, List, [], ◌∷◌, ◌++◌, length, map, take, refl, sym, ap, ◌∙◌, arith, append-nil, length-append}
-use Rattle.std.specs.Prelude.{Option, None, Some, ⊤, ◌==◌}
+use Rattle.std.specs.Prelude.{Option, None, Some, ◌==◌}
 use Rattle.std.specs.List.{filter, range_with_len}
 use Rattle.std.proofs.Math.Logic.{∥∥₁_map}
 use Rattle.kn_event.specs.declared.entry.Row.{Row}
@@ -19,14 +19,10 @@ use Rattle.kn_trace.specs.Settling.{assignments_of, held_assignments, next_choic
 use Rattle.kn_trace.specs.Events.{act_row, act_rows, activation, added, before_settling, departures, due, entries_of, expiries, losses, losses_at, lost_with, opening, opening_of, react, scaler_rows, trace_of, wake_where}
 use Rattle.kn_record.specs.Order.{AreTimesInOrder}
 use Rattle.kn_laws.specs.History.{AreInOrder, History, IsMadeBy}
+use Rattle.kn_laws.specs.Kinds.{EachAt}
 use Rattle.kn_laws.proofs.Added.{trace_of-append}
 
 -- ---- all entries of an event have its time
-
--- each entry has this time
-abbrev pub EachAt : ℕ → Trace → Type 0
-EachAt t [] = ⊤
-EachAt t (e ∷ es) = (e.time ≡ t) × EachAt t es
 
 at-append : (t : ℕ) (xs ys : Trace) → EachAt t xs → EachAt t ys → EachAt t (xs ++ ys)
 at-append t [] ys h k = k

@@ -2,7 +2,7 @@
 use Rattle.std.proofs.Common.{◌≡◌, ℕ, ◌<◌, Bool, true, false, not, cond, ◌&&◌, ◌||◌, List, [], ◌∷◌, ◌++◌, length, refl, sym, ap, subst, ◌∙◌, arith, map, append-nil, append_assoc, nat_lt}
 use Rattle.std.specs.Prelude.{Option, None, Some, ◌==◌}
 use Rattle.std.specs.List.{filter}
-use Rattle.std.proofs.lemmas.Bool.{eqb-true}
+use Rattle.std.proofs.lemmas.Bool.{eqb-true, eq-eqb, or_right}
 use Rattle.std.proofs.lemmas.Bool.Decides.{nat_tests}
 use Rattle.kn_event.specs.declared.entry.Entry.{Entry}
 use Rattle.kn_event.specs.declared.entry.Row.{Row}
@@ -22,14 +22,9 @@ use Rattle.kn_trace.specs.Settling.{assignments_of, held_assignments, next_choic
 use Rattle.kn_trace.specs.Events.{act_row, act_rows, activation, before_settling, departures, due, expiries, losses, losses_at, react, scaler_rows}
 use Rattle.kn_trace.specs.Laws.{IsInert, IsSettled, is_refusal}
 use Rattle.kn_record.specs.Made.{Holds, IsMade, IsNumbered, IsProper}
-use Rattle.kn_record.proofs.Members.{same_number, contains-filter, filter-others}
-use Rattle.kn_record.proofs.Numbers.{IsIdle, filter_member, first_member, in_filter, running_parts, waiting_member}
-use Rattle.kn_record.proofs.Steps.{IsQuiet, view-same, view-less, has_not_begun-push, held-quiet, in_use-quiet, is_held-push, is_quiet, is_running-push, queued_at-quiet, running_at-quiet}
-use Rattle.kn_record.proofs.Flags.{ended-push}
-use Rattle.kn_record.proofs.PodSteps.{SaysNoPod, draining-quiet, limit-quiet, ready-quiet, says_no_pod}
-use Rattle.kn_record.proofs.Choosing.{next_choice-good}
-use Rattle.kn_record.proofs.Kept.{made_kept, phase_of-push}
-use Rattle.kn_record.proofs.Reacting.{expiries-hold, or-more}
+use Rattle.kn_record.specs.Rows.{IsQuiet, SaysNoPod}
+use Rattle.kn_record.specs.Kept.{IsIdle}
+use Rattle.kn_record.specs.Facts.{Facts}
 use Rattle.kn_laws.proofs.Settled.{capacity-same}
 
 -- d is c with fewer that wait
@@ -58,109 +53,6 @@ waned-then c d e x y = record {
   phase = y.phase ∙ x.phase;
 }
 
--- a row that says nothing of requests, pods and the phase
-waned-quiet : (c : Trace) (e : Entry) → SaysNoPod e.row → IsQuiet e.row → phase_by e.row ≡ None → Waned c (c ++ e ∷ [])
-waned-quiet c e none quiet phase' = record {
-  held = λ r h. rw (held-quiet c e quiet) at h;
-  queued = λ p r h. rw (queued_at-quiet c e p quiet) at h;
-  in_use = in_use-quiet c e quiet;
-  running = λ p. running_at-quiet c e p quiet;
-  limit = λ p. limit-quiet c e p (none.limit p);
-  ready = ready-quiet c e none;
-  draining = draining-quiet c e none;
-  phase = phase_of-push c e ∙ rw phase' refl;
-}
-
--- ---- a waiting request expires
-
--- it is none of those that run
-expire_same : (c : Trace) (t r : ℕ) → IsIdle c r → (q : ℕ) → is_running (c ++ entry t (row.Expire r) ∷ []) q ≡ is_running c q
-unfolding is_running has_begun
-expire_same c t r idle q =
-    is_running-push c (entry t (row.Expire r)) q
-    ∙ by (assigned c q) (has_run c q) (ended c q) (r == q) (λ e. rw (← eqb-true r q e) idle.assigned) (λ e. rw (← eqb-true r q e) idle.run)
-  where
-    by : (a n g m : Bool) → (m ≡ true → a ≡ false) → (m ≡ true → n ≡ false) → (((a || false) || (n || false)) && not (g || m)) ≡ ((a || n) && not g)
-    by true n g true x y = absurd (let e = x refl in cc)
-    by true n true false x y = refl
-    by true n false false x y = refl
-    by false true g true x y = absurd (let e = y refl in cc)
-    by false true true false x y = refl
-    by false true false false x y = refl
-    by false false g m x y = refl
-
--- an expiry leaves all but who waits as it is
-waned-expire : (c : Trace) (t r : ℕ) → contains r (waiting c) ≡ true → Waned c (c ++ entry t (row.Expire r) ∷ [])
-unfolding held is_held queued_at has_not_begun has_begun running_at in_use assigned
-waned-expire c t r h = record {
-  held = λ x k. (filter_member (λ (y : ℕ). not (r == y)) x (held c) (rw (view-less admitted_by (is_held c) (is_held (c ++ e ∷ [])) c e r refl (λ q. is_held-push c e q ∙ held_less (assigned c q) (ended c q) (r == q))) at k)).0;
-  queued = λ p x k. (filter_member (λ (y : ℕ). not (r == y)) x (queued_at c p)
-      (rw (view-less (brought_to p) (has_not_begun c) (has_not_begun (c ++ e ∷ [])) c e r refl (λ q. has_not_begun-push c e q ∙ queue_less (assigned c q) (has_run c q) (ended c q) (r == q))) at k)).0;
-  in_use = used;
-  running = λ p. view-same (brought_to p) (is_running c) (is_running (c ++ e ∷ [])) c e refl (expire_same c t r idle);
-  limit = λ p. limit-quiet c e p refl;
-  ready = ready-quiet c e none;
-  draining = draining-quiet c e none;
-  phase = phase_of-push c e;
-}
-  where
-    e : Entry
-    e = entry t (row.Expire r)
-
-    idle : IsIdle c r
-    idle = (waiting_member c r h).1
-
-    none : SaysNoPod (row.Expire r)
-    none = says_no_pod (row.Expire r) refl
-
-    held_less : (a g m : Bool) → (not (a || false) && not (g || m)) ≡ ((not a && not g) && not m)
-    held_less true g m = refl
-    held_less false true m = refl
-    held_less false false m = refl
-
-    queue_less : (a n g m : Bool) → (not ((a || false) || (n || false)) && not (g || m)) ≡ ((not (a || n) && not g) && not m)
-    queue_less true n g m = refl
-    queue_less false true g m = refl
-    queue_less false false true m = refl
-    queue_less false false false m = refl
-
-    -- a request that was not assigned is not in use
-    absent : contains r (filter (λ q. not (ended c q)) (each_row assigned_by c)) ≡ false
-    absent = contains-filter (λ q. not (ended c q)) r (each_row assigned_by c) ∙ rw (idle.assigned) refl
-
-    used : in_use (c ++ e ∷ []) ≡ in_use c
-    used = ap (λ (l : List ℕ). length l)
-        (view-less assigned_by (λ q. not (ended c q)) (λ q. not (ended (c ++ e ∷ []) q)) c e r refl (λ q. ap (λ (b : Bool). not b) (ended-push c e q) ∙ not_or (ended c q) (r == q))
-        ∙ filter-others r (filter (λ q. not (ended c q)) (each_row assigned_by c)) absent)
-      where
-        not_or : (a b : Bool) → not (a || b) ≡ (not a && not b)
-        not_or true b = refl
-        not_or false b = refl
-
--- rows that are all proper expiries
-waned-expired : (s : Spec) (t : ℕ) (c : Trace) (rs : List ℕ) → Holds (IsProper s) c (map (λ r. entry t (row.Expire r)) rs) → Waned c (c ++ map (λ r. entry t (row.Expire r)) rs)
-waned-expired s t c [] h = rw (append-nil c) (waned-same c)
-waned-expired s t c (r ∷ rs) h =
-    rw (append_assoc c (entry t (row.Expire r) ∷ []) (map (λ r. entry t (row.Expire r)) rs)) at
-    (waned-then c (c ++ entry t (row.Expire r) ∷ []) ((c ++ entry t (row.Expire r) ∷ []) ++ map (λ r. entry t (row.Expire r)) rs) (waned-expire c t r h.0) (waned-expired s t (c ++ entry t (row.Expire r) ∷ []) rs h.1))
-
--- so do all that come at once
-pub waned-expiries : (s : Spec) (t : ℕ) (c : Trace) → IsNumbered c → Waned c (c ++ expiries s t c)
-unfolding expiries
-waned-expiries s t c num = waned-expired s t c (due s t c) (expiries-hold s t c num)
-
--- a refusal changes nothing of this
-waned-refusal : (c : Trace) (t : ℕ) (x : Row) → is_refusal x ≡ true → Waned c (c ++ entry t x ∷ [])
-waned-refusal c t (row.QueueFull r pod) h = waned-quiet c (entry t (row.QueueFull r pod)) (says_no_pod (row.QueueFull r pod) refl) (is_quiet (row.QueueFull r pod) refl refl refl refl) refl
-waned-refusal c t (row.Overload r) h = waned-quiet c (entry t (row.Overload r)) (says_no_pod (row.Overload r) refl) (is_quiet (row.Overload r) refl refl refl refl) refl
-waned-refusal c t (row.NotRunning r) h = waned-quiet c (entry t (row.NotRunning r)) (says_no_pod (row.NotRunning r) refl) (is_quiet (row.NotRunning r) refl refl refl refl) refl
-waned-refusal c t (row.NotWaiting r) h = waned-quiet c (entry t (row.NotWaiting r)) (says_no_pod (row.NotWaiting r) refl) (is_quiet (row.NotWaiting r) refl refl refl refl) refl
-waned-refusal c t (row.NotStarting p) h = waned-quiet c (entry t (row.NotStarting p)) (says_no_pod (row.NotStarting p) refl) (is_quiet (row.NotStarting p) refl refl refl refl) refl
-waned-refusal c t (row.NoPod p) h = waned-quiet c (entry t (row.NoPod p)) (says_no_pod (row.NoPod p) refl) (is_quiet (row.NoPod p) refl refl refl refl) refl
-waned-refusal c t _ h = absurd (cc)
-
--- ---- a settled trace that has waned has nothing to settle
-
 free-same : (c d : Trace) (p : ℕ) → Waned c d → has_free_seat d p ≡ has_free_seat c p
 unfolding has_free_seat
 free-same c d p w = rw (w.limit p, w.running p) refl
@@ -168,7 +60,7 @@ free-same c d p w = rw (w.limit p, w.running p) refl
 promotions_at-none : (t : ℕ) (c : Trace) (p : ℕ) (rs : List ℕ) → ((r : ℕ) → contains r rs ≡ true → has_free_seat c p ≡ false) → promotions_at t c p rs ≡ []
 unfolding promotions_at
 promotions_at-none t c p [] h = refl
-promotions_at-none t c p (r ∷ rs) h = rw (h r (rw (same_number r) refl)) refl
+promotions_at-none t c p (r ∷ rs) h = rw (h r (rw (eq-eqb r r refl) refl)) refl
 
 promotions-none : (t : ℕ) (c : Trace) (ps : List ℕ) → ((p r : ℕ) → contains r (queued_at c p) ≡ true → has_free_seat c p ≡ false) → promotions t c ps ≡ []
 unfolding promotions
@@ -177,23 +69,9 @@ promotions-none t c (p ∷ ps) h =
     let one = promotions_at-none t c p (queued_at c p) (λ r k. h p r k) in
     rw (one, append-nil c) (promotions-none t c ps h)
 
-next-none : (s : Spec) (c : Trace) (r : ℕ) → contains r (held c) ≡ true
-    → ((r p : ℕ) → contains r (held c) ≡ true → in_use c < capacity s c → contains p (ready_pods c) ≡ true → has_free_seat c p ≡ false) → next_choice s c ≡ None
-next-none s c r h filled = by (next_choice s c) refl
-  where
-    by : (o : Option ℕ) → next_choice s c ≡ o → o ≡ None
-    by None e = refl
-    by (Some p) e = absurd (let good = next_choice-good s c p e in let shut = filled r p h good.0 good.1 in let open_pod = good.2 in cc)
-
-assignments-none : (s : Spec) (t : ℕ) (c : Trace) (rs : List ℕ) → held c ≡ rs
-    → ((r p : ℕ) → contains r (held c) ≡ true → in_use c < capacity s c → contains p (ready_pods c) ≡ true → has_free_seat c p ≡ false) → assignments_of s t c rs ≡ []
-unfolding assignments_of
-assignments-none s t c [] e filled = refl
-assignments-none s t c (r ∷ rs) e filled = rw (next-none s c r (first_member r (held c) (rw e refl)) filled) refl
-
 filter-none : (t : ℕ → Bool) (xs : List ℕ) → ((x : ℕ) → contains x xs ≡ true → t x ≡ false) → filter t xs ≡ []
 filter-none t [] h = refl
-filter-none t (x ∷ xs) h = rw (h x (rw (same_number x) refl)) (filter-none t xs (λ y k. h y (or-more (x == y) (contains y xs) k)))
+filter-none t (x ∷ xs) h = rw (h x (rw (eq-eqb x x refl) refl)) (filter-none t xs (λ y k. h y (or_right (x == y) (contains y xs) k)))
 
 pub not_empty : (r : ℕ) (xs : List ℕ) → contains r xs ≡ true → is_empty xs ≡ false
 not_empty r [] h = absurd (cc)
@@ -207,47 +85,6 @@ runs_some c p h e = shut (limit_of c p) (rw e at h)
     shut : (n : ℕ) → ((n == 0) || nat_lt 0 n) ≡ false → ⊥
     shut n k = grind (arith, nat_tests)
 
--- a draining pod runs a request where all is settled: one that is queued there would run otherwise
-pub draining_runs : (s : Spec) (c : Trace) (p : ℕ) → IsSettled s c → contains p (draining c) ≡ true → running_at c p ≡ [] → ⊥
-unfolding at_pod running_at queued_at is_running has_not_begun
-draining_runs s c p settled h e = settled.draining p h (by (at_pod c p) refl)
-  where
-    one : (r : ℕ) → contains r (at_pod c p) ≡ true → ⊥
-    one r k =
-        let both = filter_member (λ r. not (ended c r)) r (each_row (brought_to p) c) k in
-        two (has_begun c r) refl both.0 both.1
-      where
-        two : (b : Bool) → has_begun c r ≡ b → contains r (each_row (brought_to p) c) ≡ true → not (ended c r) ≡ true → ⊥
-        two true f there live = absurd (let found : contains r (running_at c p) ≡ true = in_filter (is_running c) r (each_row (brought_to p) c) there (rw (f, live) refl) in let lost : contains r (running_at c p) ≡ false = rw e refl in cc)
-        two false f there live = runs_some c p (settled.queued p r (in_filter (has_not_begun c) r (each_row (brought_to p) c) there (rw (f, live) refl))) e
-
-    by : (l : List ℕ) → at_pod c p ≡ l → at_pod c p ≡ []
-    by [] k = k
-    by (r ∷ l) k = absurd (one r (rw (k, same_number r) refl))
-
-running_there : (c : Trace) (p r : ℕ) → contains r (running_at c p) ≡ true → contains r (at_pod c p) ≡ true
-unfolding at_pod running_at
-running_there c p r h =
-    let both = filter_member (is_running c) r (each_row (brought_to p) c) h in
-    in_filter (λ r. not (ended c r)) r (each_row (brought_to p) c) both.0 (rw (running_parts c r both.1).1 refl)
-
--- a draining pod with a request still has one
-keeps_one : (s : Spec) (c d : Trace) (p : ℕ) → IsSettled s c → Waned c d → contains p (draining c) ≡ true → is_empty (at_pod d p) ≡ false
-keeps_one s c d p settled w h = by (running_at c p) refl
-  where
-    by : (l : List ℕ) → running_at c p ≡ l → is_empty (at_pod d p) ≡ false
-    by [] e = absurd (draining_runs s c p settled h e)
-    by (r ∷ l) e = not_empty r (at_pod d p) (running_there d p r (rw (w.running p, e, same_number r) refl))
-
--- where all was settled and fewer wait, nothing is left to settle
-pub settling-none : (s : Spec) (t : ℕ) (c d : Trace) → IsSettled s c → Waned c d → settling s t d ≡ []
-unfolding settling held_assignments removals
-settling-none s t c d settled w =
-    let one = promotions-none t d (live_pods d) (λ p r b. free-same c d p w ∙ settled.queued p r (w.queued p r b)) in
-    let two = assignments-none s t d (held d) refl (λ r p a less ready. free-same c d p w ∙ settled.held r p (w.held r a) (rw (w.in_use, capacity-same s c d w.ready w.limit) at less) (rw w.ready at ready)) in
-    rw (one, append-nil d, two, append-nil d)
-    (ap (λ (l : List ℕ). map (λ p. entry t (row.Remove p)) l) (filter-none (λ p. is_empty (at_pod d p)) (draining d) (λ p k. keeps_one s c d p settled w (rw w.draining at k))))
-
 -- nor does the phase change
 activation-none : (s : Spec) (t : ℕ) (c d : Trace) → IsSettled s c → Waned c d → activation t d ≡ []
 unfolding activation
@@ -256,7 +93,7 @@ activation-none s t c d settled w = rw (w.ready, w.phase) (by (ready_pods c) ref
     by : (l : List ℕ) → ready_pods c ≡ l → (b : Bool) → is_same_phase phase.Activating (phase_of c) ≡ b → where_true (b && not (is_empty l)) (entry t (row.Phase phase.Active) ∷ []) ≡ []
     by l e false f = refl
     by [] e true f = refl
-    by (p ∷ l) e true f = absurd (let calm = settled.active p (rw (e, same_number p) refl) in cc)
+    by (p ∷ l) e true f = absurd (let calm = settled.active p (rw (e, eq-eqb p p refl) refl) in cc)
 
 -- a refused act makes no decision
 no_decision : (k : Kind) (s : Spec) (t : ℕ) (c d : Trace) (a : Act) (x : Row) → act_row s c a ≡ Some x → is_refusal x ≡ true → scaler_rows k s t d a (Some x) ≡ []
@@ -275,14 +112,175 @@ no_loss s t c (act.Lost p) x is h = by (contains p (live_pods c)) is
     by false e = refl
 no_loss s t c a x is h = refl
 
--- a refused event adds its expiries and its refusal alone
-pub refusals_inert : (s : Spec) (c : Trace) (e : Event) → IsMade s c → IsSettled s c → IsInert s c e
-unfolding react before_settling departures act_rows
-refusals_inert s c e made settled x is h =
-    let gone = expiries s e.time c in
-    let none = no_loss s e.time (c ++ gone) e.act x is h in
-    let w1 = waned-expiries s e.time c (made_kept s c made).requests in
-    let d = (c ++ gone) ++ entry e.time x ∷ [] in
-    let w = waned-then c (c ++ gone) d w1 (waned-refusal (c ++ gone) e.time x h) in
-    let all : (c ++ (gone ++ entry e.time x ∷ [])) ≡ d = sym (append_assoc c gone (entry e.time x ∷ [])) in
-    rw (none, append-nil gone, is, no_decision s.kind s e.time (c ++ gone) d e.act x is h, activation-none s e.time c d settled w, append-nil (gone ++ entry e.time x ∷ []), all, settling-none s e.time c d settled w) (append-nil (gone ++ entry e.time x ∷ []))
+module _ (facts : Facts) where
+  open facts use {lists.{contains-filter, filter_member, in_filter, first_member, filter-others}, entries.{ended-push, phase_of-push, is_held-push, has_not_begun-push, is_running-push, view-same, view-less}, views.{is_quiet, says_no_pod, held-quiet, queued_at-quiet, running_at-quiet, in_use-quiet, limit-quiet, ready-quiet, draining-quiet}, members.{waiting_member, running_parts, next_choice-good}, proper.{made_kept, expiries-hold}}
+
+  -- a row that says nothing of requests, pods and the phase
+  waned-quiet : (c : Trace) (e : Entry) → SaysNoPod e.row → IsQuiet e.row → phase_by e.row ≡ None → Waned c (c ++ e ∷ [])
+  waned-quiet c e none quiet phase' = record {
+    held = λ r h. rw (held-quiet c e quiet) at h;
+    queued = λ p r h. rw (queued_at-quiet c e p quiet) at h;
+    in_use = in_use-quiet c e quiet;
+    running = λ p. running_at-quiet c e p quiet;
+    limit = λ p. limit-quiet c e p (none.limit p);
+    ready = ready-quiet c e none;
+    draining = draining-quiet c e none;
+    phase = phase_of-push c e ∙ rw phase' refl;
+  }
+
+  -- ---- a waiting request expires
+
+  -- it is none of those that run
+  expire_same : (c : Trace) (t r : ℕ) → IsIdle c r → (q : ℕ) → is_running (c ++ entry t (row.Expire r) ∷ []) q ≡ is_running c q
+  unfolding is_running has_begun
+  expire_same c t r idle q =
+      is_running-push c (entry t (row.Expire r)) q
+      ∙ by (assigned c q) (has_run c q) (ended c q) (r == q) (λ e. rw (← eqb-true r q e) idle.assigned) (λ e. rw (← eqb-true r q e) idle.run)
+    where
+      by : (a n g m : Bool) → (m ≡ true → a ≡ false) → (m ≡ true → n ≡ false) → (((a || false) || (n || false)) && not (g || m)) ≡ ((a || n) && not g)
+      by true n g true x y = absurd (let e = x refl in cc)
+      by true n true false x y = refl
+      by true n false false x y = refl
+      by false true g true x y = absurd (let e = y refl in cc)
+      by false true true false x y = refl
+      by false true false false x y = refl
+      by false false g m x y = refl
+
+  -- an expiry leaves all but who waits as it is
+  waned-expire : (c : Trace) (t r : ℕ) → contains r (waiting c) ≡ true → Waned c (c ++ entry t (row.Expire r) ∷ [])
+  unfolding held is_held queued_at has_not_begun has_begun running_at in_use assigned
+  waned-expire c t r h = record {
+    held = λ x k. (filter_member (λ (y : ℕ). not (r == y)) x (held c) (rw (view-less admitted_by (is_held c) (is_held (c ++ e ∷ [])) c e r refl (λ q. is_held-push c e q ∙ held_less (assigned c q) (ended c q) (r == q))) at k)).0;
+    queued = λ p x k. (filter_member (λ (y : ℕ). not (r == y)) x (queued_at c p)
+        (rw (view-less (brought_to p) (has_not_begun c) (has_not_begun (c ++ e ∷ [])) c e r refl (λ q. has_not_begun-push c e q ∙ queue_less (assigned c q) (has_run c q) (ended c q) (r == q))) at k)).0;
+    in_use = used;
+    running = λ p. view-same (brought_to p) (is_running c) (is_running (c ++ e ∷ [])) c e refl (expire_same c t r idle);
+    limit = λ p. limit-quiet c e p refl;
+    ready = ready-quiet c e none;
+    draining = draining-quiet c e none;
+    phase = phase_of-push c e;
+  }
+    where
+      e : Entry
+      e = entry t (row.Expire r)
+
+      idle : IsIdle c r
+      idle = (waiting_member c r h).1
+
+      none : SaysNoPod (row.Expire r)
+      none = says_no_pod (row.Expire r) refl
+
+      held_less : (a g m : Bool) → (not (a || false) && not (g || m)) ≡ ((not a && not g) && not m)
+      held_less true g m = refl
+      held_less false true m = refl
+      held_less false false m = refl
+
+      queue_less : (a n g m : Bool) → (not ((a || false) || (n || false)) && not (g || m)) ≡ ((not (a || n) && not g) && not m)
+      queue_less true n g m = refl
+      queue_less false true g m = refl
+      queue_less false false true m = refl
+      queue_less false false false m = refl
+
+      -- a request that was not assigned is not in use
+      absent : contains r (filter (λ q. not (ended c q)) (each_row assigned_by c)) ≡ false
+      absent = contains-filter (λ q. not (ended c q)) r (each_row assigned_by c) ∙ rw (idle.assigned) refl
+
+      used : in_use (c ++ e ∷ []) ≡ in_use c
+      used = ap (λ (l : List ℕ). length l)
+          (view-less assigned_by (λ q. not (ended c q)) (λ q. not (ended (c ++ e ∷ []) q)) c e r refl (λ q. ap (λ (b : Bool). not b) (ended-push c e q) ∙ not_or (ended c q) (r == q))
+          ∙ filter-others r (filter (λ q. not (ended c q)) (each_row assigned_by c)) absent)
+        where
+          not_or : (a b : Bool) → not (a || b) ≡ (not a && not b)
+          not_or true b = refl
+          not_or false b = refl
+
+  -- rows that are all proper expiries
+  waned-expired : (s : Spec) (t : ℕ) (c : Trace) (rs : List ℕ) → Holds (IsProper s) c (map (λ r. entry t (row.Expire r)) rs) → Waned c (c ++ map (λ r. entry t (row.Expire r)) rs)
+  waned-expired s t c [] h = rw (append-nil c) (waned-same c)
+  waned-expired s t c (r ∷ rs) h =
+      rw (append_assoc c (entry t (row.Expire r) ∷ []) (map (λ r. entry t (row.Expire r)) rs)) at
+      (waned-then c (c ++ entry t (row.Expire r) ∷ []) ((c ++ entry t (row.Expire r) ∷ []) ++ map (λ r. entry t (row.Expire r)) rs) (waned-expire c t r h.0) (waned-expired s t (c ++ entry t (row.Expire r) ∷ []) rs h.1))
+
+  -- so do all that come at once
+  pub waned-expiries : (s : Spec) (t : ℕ) (c : Trace) → IsNumbered c → Waned c (c ++ expiries s t c)
+  unfolding expiries
+  waned-expiries s t c num = waned-expired s t c (due s t c) (expiries-hold s t c num)
+
+  -- a refusal changes nothing of this
+  waned-refusal : (c : Trace) (t : ℕ) (x : Row) → is_refusal x ≡ true → Waned c (c ++ entry t x ∷ [])
+  waned-refusal c t (row.QueueFull r pod) h = waned-quiet c (entry t (row.QueueFull r pod)) (says_no_pod (row.QueueFull r pod) refl) (is_quiet (row.QueueFull r pod) refl refl refl refl) refl
+  waned-refusal c t (row.Overload r) h = waned-quiet c (entry t (row.Overload r)) (says_no_pod (row.Overload r) refl) (is_quiet (row.Overload r) refl refl refl refl) refl
+  waned-refusal c t (row.NotRunning r) h = waned-quiet c (entry t (row.NotRunning r)) (says_no_pod (row.NotRunning r) refl) (is_quiet (row.NotRunning r) refl refl refl refl) refl
+  waned-refusal c t (row.NotWaiting r) h = waned-quiet c (entry t (row.NotWaiting r)) (says_no_pod (row.NotWaiting r) refl) (is_quiet (row.NotWaiting r) refl refl refl refl) refl
+  waned-refusal c t (row.NotStarting p) h = waned-quiet c (entry t (row.NotStarting p)) (says_no_pod (row.NotStarting p) refl) (is_quiet (row.NotStarting p) refl refl refl refl) refl
+  waned-refusal c t (row.NoPod p) h = waned-quiet c (entry t (row.NoPod p)) (says_no_pod (row.NoPod p) refl) (is_quiet (row.NoPod p) refl refl refl refl) refl
+  waned-refusal c t _ h = absurd (cc)
+
+  -- ---- a settled trace that has waned has nothing to settle
+
+  next-none : (s : Spec) (c : Trace) (r : ℕ) → contains r (held c) ≡ true
+      → ((r p : ℕ) → contains r (held c) ≡ true → in_use c < capacity s c → contains p (ready_pods c) ≡ true → has_free_seat c p ≡ false) → next_choice s c ≡ None
+  next-none s c r h filled = by (next_choice s c) refl
+    where
+      by : (o : Option ℕ) → next_choice s c ≡ o → o ≡ None
+      by None e = refl
+      by (Some p) e = absurd (let good = next_choice-good s c p e in let shut = filled r p h good.0 good.1 in let open_pod = good.2 in cc)
+
+  assignments-none : (s : Spec) (t : ℕ) (c : Trace) (rs : List ℕ) → held c ≡ rs
+      → ((r p : ℕ) → contains r (held c) ≡ true → in_use c < capacity s c → contains p (ready_pods c) ≡ true → has_free_seat c p ≡ false) → assignments_of s t c rs ≡ []
+  unfolding assignments_of
+  assignments-none s t c [] e filled = refl
+  assignments-none s t c (r ∷ rs) e filled = rw (next-none s c r (first_member r (held c) (rw e refl)) filled) refl
+
+  -- a draining pod runs a request where all is settled: one that is queued there would run otherwise
+  pub draining_runs : (s : Spec) (c : Trace) (p : ℕ) → IsSettled s c → contains p (draining c) ≡ true → running_at c p ≡ [] → ⊥
+  unfolding at_pod running_at queued_at is_running has_not_begun
+  draining_runs s c p settled h e = settled.draining p h (by (at_pod c p) refl)
+    where
+      one : (r : ℕ) → contains r (at_pod c p) ≡ true → ⊥
+      one r k =
+          let both = filter_member (λ r. not (ended c r)) r (each_row (brought_to p) c) k in
+          two (has_begun c r) refl both.0 both.1
+        where
+          two : (b : Bool) → has_begun c r ≡ b → contains r (each_row (brought_to p) c) ≡ true → not (ended c r) ≡ true → ⊥
+          two true f there live = absurd (let found : contains r (running_at c p) ≡ true = in_filter (is_running c) r (each_row (brought_to p) c) there (rw (f, live) refl) in let lost : contains r (running_at c p) ≡ false = rw e refl in cc)
+          two false f there live = runs_some c p (settled.queued p r (in_filter (has_not_begun c) r (each_row (brought_to p) c) there (rw (f, live) refl))) e
+
+      by : (l : List ℕ) → at_pod c p ≡ l → at_pod c p ≡ []
+      by [] k = k
+      by (r ∷ l) k = absurd (one r (rw (k, eq-eqb r r refl) refl))
+
+  running_there : (c : Trace) (p r : ℕ) → contains r (running_at c p) ≡ true → contains r (at_pod c p) ≡ true
+  unfolding at_pod running_at
+  running_there c p r h =
+      let both = filter_member (is_running c) r (each_row (brought_to p) c) h in
+      in_filter (λ r. not (ended c r)) r (each_row (brought_to p) c) both.0 (rw (running_parts c r both.1).1 refl)
+
+  -- a draining pod with a request still has one
+  keeps_one : (s : Spec) (c d : Trace) (p : ℕ) → IsSettled s c → Waned c d → contains p (draining c) ≡ true → is_empty (at_pod d p) ≡ false
+  keeps_one s c d p settled w h = by (running_at c p) refl
+    where
+      by : (l : List ℕ) → running_at c p ≡ l → is_empty (at_pod d p) ≡ false
+      by [] e = absurd (draining_runs s c p settled h e)
+      by (r ∷ l) e = not_empty r (at_pod d p) (running_there d p r (rw (w.running p, e, eq-eqb r r refl) refl))
+
+  -- where all was settled and fewer wait, nothing is left to settle
+  pub settling-none : (s : Spec) (t : ℕ) (c d : Trace) → IsSettled s c → Waned c d → settling s t d ≡ []
+  unfolding settling held_assignments removals
+  settling-none s t c d settled w =
+      let one = promotions-none t d (live_pods d) (λ p r b. free-same c d p w ∙ settled.queued p r (w.queued p r b)) in
+      let two = assignments-none s t d (held d) refl (λ r p a less ready. free-same c d p w ∙ settled.held r p (w.held r a) (rw (w.in_use, capacity-same s c d w.ready w.limit) at less) (rw w.ready at ready)) in
+      rw (one, append-nil d, two, append-nil d)
+      (ap (λ (l : List ℕ). map (λ p. entry t (row.Remove p)) l) (filter-none (λ p. is_empty (at_pod d p)) (draining d) (λ p k. keeps_one s c d p settled w (rw w.draining at k))))
+
+  -- a refused event adds its expiries and its refusal alone
+  pub refusals_inert : (s : Spec) (c : Trace) (e : Event) → IsMade s c → IsSettled s c → IsInert s c e
+  unfolding react before_settling departures act_rows
+  refusals_inert s c e made settled x is h =
+      let gone = expiries s e.time c in
+      let none = no_loss s e.time (c ++ gone) e.act x is h in
+      let w1 = waned-expiries s e.time c (made_kept s c made).requests in
+      let d = (c ++ gone) ++ entry e.time x ∷ [] in
+      let w = waned-then c (c ++ gone) d w1 (waned-refusal (c ++ gone) e.time x h) in
+      let all : (c ++ (gone ++ entry e.time x ∷ [])) ≡ d = sym (append_assoc c gone (entry e.time x ∷ [])) in
+      rw (none, append-nil gone, is, no_decision s.kind s e.time (c ++ gone) d e.act x is h, activation-none s e.time c d settled w, append-nil (gone ++ entry e.time x ∷ []), all, settling-none s e.time c d settled w) (append-nil (gone ++ entry e.time x ∷ []))

@@ -2,6 +2,8 @@
 use Rattle.std.proofs.Common.{◌≡◌, ℕ, Bool, true, false, ◌||◌, List, [], ◌∷◌, ◌++◌, map, refl, sym, ap, subst, ◌∙◌, append-nil, append_assoc}
 use Rattle.std.specs.Prelude.{Option, None, ◌==◌}
 use Rattle.std.proofs.lemmas.List.Elements.{filter_map-append}
+use Rattle.std.proofs.lemmas.Bool.{or_right}
+use Rattle.std.proofs.lemmas.List.Folds.{list_any-append}
 use Rattle.kn_event.specs.declared.entry.Entry.{Entry}
 use Rattle.kn_event.specs.declared.entry.Row.{Row}
 use Rattle.kn_event.specs.declared.entry.Row.TheVariants as row
@@ -13,17 +15,14 @@ use Rattle.kn_trace.specs.Trace.{Trace, at_pod, contains, each_row, entry, live}
 use Rattle.kn_trace.specs.Settling.{settling}
 use Rattle.kn_trace.specs.Events.{act_rows, activation, added, before_settling, departures, expiries, losses, lost_with, opening, react, trace_of}
 use Rattle.kn_record.specs.Made.{IsMade}
-use Rattle.kn_record.proofs.Members.{contains-append}
-use Rattle.kn_record.proofs.Numbers.{in_filter}
-use Rattle.kn_record.proofs.Kept.{Holds-kept, Kept, made_kept}
-use Rattle.kn_record.proofs.Reacting.{at_pod_live, expiries-hold, or-more}
+use Rattle.kn_record.specs.Kept.{Kept}
+use Rattle.kn_record.specs.Facts.{Facts}
 use Rattle.kn_laws.specs.ByAct.{IsByAct}
 use Rattle.kn_laws.specs.Losses.{AreNoLosses, LosesAll, LosesNothing, lost_by, lost_pod_by}
-use Rattle.kn_laws.proofs.Rows.{Each, departures-rows, is_departure_row}
-use Rattle.kn_laws.proofs.Acts.{EachIs, EachIs-at, react-by}
+use Rattle.kn_laws.specs.Kinds.{Each, is_departure_row, EachIs}
+use Rattle.kn_laws.proofs.Rows.{departures-rows}
+use Rattle.kn_laws.proofs.Acts.{EachIs-at, react-by}
 use Rattle.kn_laws.proofs.Settles.{opening_none}
-
--- ---- who is there when a pod is lost
 
 -- what comes before a row of another kind begins with these rows
 record Begins (xs before : Trace) : Type 0 where
@@ -48,11 +47,6 @@ lost-list t r (q ∷ rs) h = by (q == r) refl h (lost-list t r rs)
     by true e k rest = rw e refl
     by false e k rest = rw e (rest k)
 
--- whoever is at a live pod that is lost is among the losses
-losses-all : {s : Spec} (t : ℕ) (c : Trace) (p r : ℕ) → Kept s c → contains r (at_pod c p) ≡ true → contains r (each_row lost_by (losses t c (act.Lost p))) ≡ true
-unfolding losses lost_with
-losses-all {s} t c p r kept h = rw (kept.homes p r h) (lost-list t r (lost_with c p) (in_filter (λ q. contains q (at_pod c p)) r (live c) (at_pod_live c p r kept.requests h) h))
-
 react-begins : (s : Spec) (c : Trace) (e : Event) → (more : Trace) × (react s c e ≡ departures s c e ++ more)
 unfolding react before_settling
 react-begins s c e =
@@ -61,27 +55,6 @@ react-begins s c e =
     let active = activation e.time ((c ++ gone) ++ did) in
     let last = settling s e.time (c ++ ((gone ++ did) ++ active)) in
     (did ++ (active ++ last), append_assoc (gone ++ did) active last ∙ append_assoc gone did (active ++ last))
-
-departed-all : (s : Spec) (c : Trace) (e : Event) (p r : ℕ) → IsMade s c → e.act ≡ act.Lost p → contains r (at_pod (c ++ expiries s e.time c) p) ≡ true → contains r (each_row lost_by (departures s c e)) ≡ true
-unfolding departures
-departed-all s c e p r made lost h =
-    let late = expiries s e.time c in
-    let kept = Holds-kept s c late (made_kept s c made) (expiries-hold s e.time c (made_kept s c made).requests) in
-    let there = losses-all {s = s} e.time (c ++ late) p r kept h in
-    let P : Act → Type 0 = λ a. contains r (each_row lost_by (losses e.time (c ++ late) a)) ≡ true in
-    let mine = subst P (sym lost) there in
-    rw (filter_map-append (λ (x : Entry). lost_by x.row) late (losses e.time (c ++ late) e.act), contains-append r (each_row lost_by late) (each_row lost_by (losses e.time (c ++ late) e.act)))
-    (or-more (contains r (each_row lost_by late)) _ mine)
-
--- where an event loses a pod, each request that was there has ended before it
-pub loses_all : (s : Spec) (c : Trace) (e : Event) → IsMade s c → LosesAll s c e
-loses_all s c e made p t before rest eq r h =
-    let lost : e.act ≡ act.Lost p = EachIs-at (IsByAct e.act) (react s c e) before (entry t (row.LostPod p)) rest eq (react-by s c e) in
-    let parts = react-begins s c e in
-    let found = begins-before (departures s c e) parts.0 before (entry t (row.LostPod p)) rest (departures-rows s c e) refl (sym parts.1 ∙ eq) in
-    let there = departed-all s c e p r made lost h in
-    subst (λ (b : Trace). contains r (each_row lost_by b) ≡ true) (sym found.is)
-    (rw (filter_map-append (λ (x : Entry). lost_by x.row) (departures s c e) found.more, contains-append r (each_row lost_by (departures s c e)) (each_row lost_by found.more), there) refl)
 
 -- ---- no other event loses anybody
 
@@ -116,3 +89,34 @@ pub loses_nothing : (s : Spec) (start : ℕ) (es : List Event) → AreNoLosses e
 unfolding trace_of
 loses_nothing s start es h =
     nothing-added s (opening s start) es h (record { requests = opening_none lost_by (λ p n. refl) (λ x. refl) s start; pods = opening_none lost_pod_by (λ p n. refl) (λ x. refl) s start })
+
+module _ (facts : Facts) where
+  open facts use {lists.{in_filter}, members.{at_pod_live}, proper.{Holds-kept, made_kept, expiries-hold}}
+
+  -- ---- who is there when a pod is lost
+
+  -- whoever is at a live pod that is lost is among the losses
+  losses-all : {s : Spec} (t : ℕ) (c : Trace) (p r : ℕ) → Kept s c → contains r (at_pod c p) ≡ true → contains r (each_row lost_by (losses t c (act.Lost p))) ≡ true
+  unfolding losses lost_with
+  losses-all {s} t c p r kept h = rw (kept.homes p r h) (lost-list t r (lost_with c p) (in_filter (λ q. contains q (at_pod c p)) r (live c) (at_pod_live c p r kept.requests h) h))
+
+  departed-all : (s : Spec) (c : Trace) (e : Event) (p r : ℕ) → IsMade s c → e.act ≡ act.Lost p → contains r (at_pod (c ++ expiries s e.time c) p) ≡ true → contains r (each_row lost_by (departures s c e)) ≡ true
+  unfolding departures
+  departed-all s c e p r made lost h =
+      let late = expiries s e.time c in
+      let kept = Holds-kept s c late (made_kept s c made) (expiries-hold s e.time c (made_kept s c made).requests) in
+      let there = losses-all {s = s} e.time (c ++ late) p r kept h in
+      let P : Act → Type 0 = λ a. contains r (each_row lost_by (losses e.time (c ++ late) a)) ≡ true in
+      let mine = subst P (sym lost) there in
+      rw (filter_map-append (λ (x : Entry). lost_by x.row) late (losses e.time (c ++ late) e.act), list_any-append (λ y. y == r) (each_row lost_by late) (each_row lost_by (losses e.time (c ++ late) e.act)))
+      (or_right (contains r (each_row lost_by late)) _ mine)
+
+  -- where an event loses a pod, each request that was there has ended before it
+  pub loses_all : (s : Spec) (c : Trace) (e : Event) → IsMade s c → LosesAll s c e
+  loses_all s c e made p t before rest eq r h =
+      let lost : e.act ≡ act.Lost p = EachIs-at (IsByAct e.act) (react s c e) before (entry t (row.LostPod p)) rest eq (react-by s c e) in
+      let parts = react-begins s c e in
+      let found = begins-before (departures s c e) parts.0 before (entry t (row.LostPod p)) rest (departures-rows s c e) refl (sym parts.1 ∙ eq) in
+      let there = departed-all s c e p r made lost h in
+      subst (λ (b : Trace). contains r (each_row lost_by b) ≡ true) (sym found.is)
+      (rw (filter_map-append (λ (x : Entry). lost_by x.row) (departures s c e) found.more, list_any-append (λ y. y == r) (each_row lost_by (departures s c e)) (each_row lost_by found.more), there) refl)

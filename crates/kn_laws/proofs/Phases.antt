@@ -2,7 +2,7 @@
 use Rattle.std.proofs.Common.{◌≡◌, ℕ, ◌-◌, ◌*◌, Bool, true, false, not, cond, ◌&&◌, List, [], ◌∷◌, ◌++◌, length, map, take, nat_lt, zero, suc, refl, sym, ap, subst, ◌∙◌, arith, append-nil, append_assoc}
 use Rattle.std.specs.Prelude.{Option, None, Some, ◌==◌, unwrap_or}
 use Rattle.std.specs.List.{range_with_len}
-use Rattle.std.proofs.lemmas.Bool.{eqb-true}
+use Rattle.std.proofs.lemmas.Bool.{eqb-true, false_from_ne_true}
 use Rattle.std.proofs.lemmas.Bool.Decides.{nat_tests}
 use Rattle.std.proofs.lemmas.List.Elements.{filter_map-append}
 use Rattle.kn_event.specs.declared.entry.Entry.{Entry}
@@ -27,11 +27,11 @@ use Rattle.kn_trace.specs.Trace.{Trace, entry, created, each_row, held, is_empty
 use Rattle.kn_trace.specs.Scale.{count_ready, creations, decision_at, decision_rows, drain_order, is_same_mode, is_same_phase, mode_of, opening_scale, past_of, phase_of, scale_rows, standing_of, tick_rows, tick_rows_of, wake_decision_at, wake_rows, wanted, where_true}
 use Rattle.kn_trace.specs.Settling.{assignments_of, held_assignments, promotions, removals, settling}
 use Rattle.kn_trace.specs.Events.{act_row, act_rows, activation, added, before_settling, entries_of, departures, opening, opening_of, opening_phase, react, scaler_rows, trace_of, wake_where}
+use Rattle.kn_record.specs.Facts.{Facts}
 use Rattle.kn_laws.specs.Phases.{WantsByPhase}
-use Rattle.kn_record.proofs.Numbers.{false_unless}
-use Rattle.kn_record.proofs.Kept.{phase_of-push, wanted-push}
-use Rattle.kn_laws.proofs.Rows.{Each, assignments-rows, departures-rows, is_assign_row, is_departure_row, is_remove_row, is_run_row, promotions-rows}
-use Rattle.kn_laws.proofs.Acts.{act-rows, is_act_row, removals-rows}
+use Rattle.kn_laws.specs.Kinds.{Each, is_assign_row, is_departure_row, is_remove_row, is_run_row, is_act_row}
+use Rattle.kn_laws.proofs.Rows.{assignments-rows, departures-rows, promotions-rows}
+use Rattle.kn_laws.proofs.Acts.{act-rows, removals-rows}
 
 abbrev is_idle : Phase → Bool
 is_idle p = is_same_phase phase.Inactive (Some p)
@@ -124,8 +124,6 @@ remove_plain : (x : Row) → is_remove_row x ≡ true → (decision_by x ≡ Non
 remove_plain (row.Remove p) h = (refl, refl)
 remove_plain _ h = absurd (cc)
 
--- ---- the rows of a decision
-
 made-none : {X : Type 0} (f : Row → Option X) → ((p n : ℕ) → f (row.Create p n) ≡ None) → (s : Spec) (t : ℕ) (ps : List ℕ) → each_row f (map (λ p. entry t (row.Create p s.cc)) ps) ≡ []
 made-none f none s t [] = refl
 made-none f none s t (p ∷ ps) = rw (none p s.cc) (made-none f none s t ps)
@@ -151,59 +149,6 @@ same_is phase.Active (Some phase.Active) h = refl
 same_is phase.Inactive (Some phase.Inactive) h = refl
 same_is p o h = absurd (cc)
 
--- after a decision's rows the two agree
-decision-wants : (s : Spec) (t : ℕ) (c : Trace) (made : Ruling) → RulesByPhase made → WantsByPhase s (c ++ decision_rows s t c made)
-unfolding decision_rows
-decision-wants s t c made rules scaled =
-    rw (sym (append_assoc c (x ∷ []) ((p ++ m) ++ sc)))
-    (rw (unwanted s (c ++ x ∷ []) ((p ++ m) ++ sc) tail, wanted-push s c x) (rules ∙ ap (λ (o : Option Phase). is_same_phase phase.Inactive o) (sym phases)))
-  where
-    bp : Bool
-    bp = is_same_phase made.phase (phase_of c)
-
-    x : Entry
-    x = entry t (row.Decided made.decision)
-
-    y : Entry
-    y = entry t (row.Phase made.phase)
-
-    p : Trace
-    p = where_true (not bp) (y ∷ [])
-
-    m : Trace
-    m = where_true (not (is_same_mode made.decision.mode (mode_of c))) (entry t (row.Mode made.decision.mode) ∷ [])
-
-    sc : Trace
-    sc = where_true made.decision.applied (scale_rows s t c made.decision.want)
-
-    tail : each_row decision_by ((p ++ m) ++ sc) ≡ []
-    tail = rw (
-      filter_map-append (λ (e : Entry). decision_by e.row) (p ++ m) sc,
-      filter_map-append (λ (e : Entry). decision_by e.row) p m,
-      where-none decision_by (not bp) y refl,
-      where-none decision_by (not (is_same_mode made.decision.mode (mode_of c))) (entry t (row.Mode made.decision.mode)) refl,
-      scale-none decision_by (λ p n. refl) (λ p. refl) made.decision.applied s t c made.decision.want,
-    ) refl
-
-    rest : each_row phase_by (m ++ sc) ≡ []
-    rest = rw (
-      filter_map-append (λ (e : Entry). phase_by e.row) m sc,
-      where-none phase_by (not (is_same_mode made.decision.mode (mode_of c))) (entry t (row.Mode made.decision.mode)) refl,
-      scale-none phase_by (λ p n. refl) (λ p. refl) made.decision.applied s t c made.decision.want,
-    ) refl
-
-    first : phase_of (c ++ x ∷ []) ≡ phase_of c
-    first = phase_of-push c x
-
-    here : (b : Bool) → is_same_phase made.phase (phase_of c) ≡ b → phase_of ((c ++ x ∷ []) ++ where_true (not b) (y ∷ [])) ≡ Some made.phase
-    here true e = rw (append-nil (c ++ x ∷ [])) (first ∙ same_is made.phase (phase_of c) e)
-    here false e = phase_of-push (c ++ x ∷ []) y
-
-    phases : phase_of ((c ++ x ∷ []) ++ ((p ++ m) ++ sc)) ≡ Some made.phase
-    phases =
-        ap phase_of (ap (λ (l : Trace). (c ++ x ∷ []) ++ l) (append_assoc p m sc) ∙ sym (append_assoc (c ++ x ∷ []) p (m ++ sc)))
-        ∙ unphased ((c ++ x ∷ []) ++ p) (m ++ sc) rest ∙ here bp refl
-
 -- what stands before a decision
 stands_some : (s : Spec) (c : Trace) → s.kind ≡ kind.Kpa → WantsByPhase s c → unwrap_or (phase_of c) phase.Inactive ≡ phase.Activating → (wanted s c == 0) ≡ false
 stands_some s c scaled wants h = wants scaled ∙ by (phase_of c) h
@@ -213,47 +158,6 @@ stands_some s c scaled wants h = wants scaled ∙ by (phase_of c) h
     by (Some phase.Active) h = refl
     by (Some phase.Inactive) h = absurd (cc)
     by None h = absurd (cc)
-
--- a tick keeps it
-tick-wants : (s : Spec) (t : ℕ) (c : Trace) → s.kind ≡ kind.Kpa → WantsByPhase s c → WantsByPhase s (c ++ tick_rows s t c)
-unfolding tick_rows decision_at past_of standing_of scaling.decision_at
-tick-wants s t c scaled wants = by (window_average (past_of s c).samples s.stable_s (second_of t))
-  where
-    by : (o : Option Frac) → WantsByPhase s (c ++ tick_rows_of s t c (decision_from_stable s (past_of s c) t (count_ready c) o))
-    by None = λ k. rw (unwanted s c (entry t row.NoData ∷ []) refl, unphased c (entry t row.NoData ∷ []) refl) (wants k)
-    by (Some stable) = decision-wants s t c (ruling s (past_of s c) t (count_ready c) stable (unwrap_or (window_average (past_of s c).samples s.panic_s (second_of t)) no_load))
-        (ruling_phase s (past_of s c) t (count_ready c) stable _ (stands_some s c scaled wants))
-
--- so does a decision on an arrival
-wake-wants : (b : Bool) (s : Spec) (t : ℕ) (c : Trace) → s.kind ≡ kind.Kpa → WantsByPhase s c → WantsByPhase s (c ++ wake_where b s t c)
-unfolding wake_rows wake_decision_at past_of standing_of scaling.wake_decision_at
-wake-wants false s t c scaled wants = rw (append-nil c) wants
-wake-wants true s t c scaled wants = decision-wants s t c (ruling s (past_of s c) t (count_ready c) one_request one_request) (ruling_phase s (past_of s c) t (count_ready c) one_request one_request (stands_some s c scaled wants))
-
-scaler-wants : (k : Kind) (s : Spec) (t : ℕ) (c : Trace) (a : Act) (did : Option Row) → s.kind ≡ kind.Kpa → WantsByPhase s c → WantsByPhase s (c ++ scaler_rows k s t c a did)
-scaler-wants kind.Kpa s t c act.Tick did scaled wants = tick-wants s t c scaled wants
-scaler-wants kind.Kpa s t c (act.Arrive tag) (Some (row.Admit r g)) scaled wants = wake-wants (wanted s c == 0) s t c scaled wants
-scaler-wants k s t c a did scaled wants = rw (append-nil c) wants
-
--- activating or active, some pod is wanted
-activation-wants : (s : Spec) (t : ℕ) (c : Trace) → WantsByPhase s c → WantsByPhase s (c ++ activation t c)
-unfolding activation
-activation-wants s t c wants scaled = by (is_same_phase phase.Activating (phase_of c)) refl (is_empty (ready_pods c))
-  where
-    x : Entry
-    x = entry t (row.Phase phase.Active)
-
-    apart : (o : Option Phase) → is_same_phase phase.Activating o ≡ true → is_same_phase phase.Inactive o ≡ false
-    apart (Some phase.Activating) h = refl
-    apart (Some phase.Active) h = absurd (cc)
-    apart (Some phase.Inactive) h = absurd (cc)
-    apart None h = absurd (cc)
-
-    by : (a : Bool) → is_same_phase phase.Activating (phase_of c) ≡ a → (b : Bool)
-        → (wanted s (c ++ where_true (a && not b) (x ∷ [])) == 0) ≡ is_same_phase phase.Inactive (phase_of (c ++ where_true (a && not b) (x ∷ [])))
-    by false e b = rw (append-nil c) (wants scaled)
-    by true e true = rw (append-nil c) (wants scaled)
-    by true e false = rw (wanted-push s c x, phase_of-push c x) (wants scaled ∙ apart (phase_of c) e)
 
 -- so does a settling
 settling-wants : (s : Spec) (t : ℕ) (c : Trace) → WantsByPhase s c → WantsByPhase s (c ++ settling s t c)
@@ -267,54 +171,153 @@ settling-wants s t c wants =
     let three = wants-each s is_remove_row remove_plain ((c ++ ran) ++ gave) gone (removals-rows t ((c ++ ran) ++ gave)) two in
     subst (λ (d : Trace). WantsByPhase s d) (append_assoc (c ++ ran) gave gone ∙ append_assoc c ran (gave ++ gone) ∙ ap (λ (l : Trace). c ++ l) (sym (append_assoc ran gave gone))) three
 
--- so does an event
-pub react-wants : (s : Spec) (c : Trace) (e : Event) → WantsByPhase s c → WantsByPhase s (c ++ react s c e)
-unfolding react before_settling act_rows
-react-wants s c e wants scaled =
-    let gone = departures s c e in
-    let own = entries_of e.time (act_row s (c ++ gone) e.act) in
-    let more = scaler_rows s.kind s e.time ((c ++ gone) ++ own) e.act (act_row s (c ++ gone) e.act) in
-    let active = activation e.time ((c ++ gone) ++ (own ++ more)) in
-    let first = (gone ++ (own ++ more)) ++ active in
-    let one = wants-each s is_departure_row departure_plain c gone (departures-rows s c e) wants in
-    let two = wants-each s is_act_row act_plain (c ++ gone) own (act-rows s e.time (c ++ gone) e.act) one in
-    let three = scaler-wants s.kind s e.time ((c ++ gone) ++ own) e.act (act_row s (c ++ gone) e.act) scaled two in
-    let four = activation-wants s e.time ((c ++ gone) ++ (own ++ more)) (subst (λ (d : Trace). WantsByPhase s d) (append_assoc (c ++ gone) own more) three) in
-    let all : ((c ++ gone) ++ (own ++ more)) ++ active ≡ c ++ first = append_assoc (c ++ gone) (own ++ more) active ∙ append_assoc c gone ((own ++ more) ++ active) ∙ ap (λ (l : Trace). c ++ l) (sym (append_assoc gone (own ++ more) active)) in
-    let five = settling-wants s e.time (c ++ first) (subst (λ (d : Trace). WantsByPhase s d) all four) in
-    subst (λ (d : Trace). WantsByPhase s d) (append_assoc c first (settling s e.time (c ++ first))) five scaled
-
 nothing_wanted : (s : Spec) → wanted s [] ≡ opening_scale s
 unfolding wanted
 nothing_wanted s = refl
 
--- it is so after the opening
-pub opening-wants : (s : Spec) (start : ℕ) → WantsByPhase s (opening s start)
-unfolding opening
-opening-wants s start scaled = by s.kind scaled
-  where
-    x : Entry
-    x = entry start (row.Phase (opening_phase (opening_scale s)))
+module _ (facts : Facts) where
+  open facts use {entries.{phase_of-push, wanted-push}}
 
-    new : Trace
-    new = creations s start 0 (opening_scale s)
+  -- ---- the rows of a decision
 
-    first : (n : ℕ) → (n == 0) ≡ is_idle (opening_phase n)
-    first zero = refl
-    first (suc n) = false_unless (suc n == 0) (λ h. let e : suc n ≡ 0 = eqb-true (suc n) 0 h in absurd (omega arith))
+  -- after a decision's rows the two agree
+  decision-wants : (s : Spec) (t : ℕ) (c : Trace) (made : Ruling) → RulesByPhase made → WantsByPhase s (c ++ decision_rows s t c made)
+  unfolding decision_rows
+  decision-wants s t c made rules scaled =
+      rw (sym (append_assoc c (x ∷ []) ((p ++ m) ++ sc)))
+      (rw (unwanted s (c ++ x ∷ []) ((p ++ m) ++ sc) tail, wanted-push s c x) (rules ∙ ap (λ (o : Option Phase). is_same_phase phase.Inactive o) (sym phases)))
+    where
+      bp : Bool
+      bp = is_same_phase made.phase (phase_of c)
 
-    by : (k : Kind) → k ≡ kind.Kpa → (wanted s (opening_of k s start) == 0) ≡ is_same_phase phase.Inactive (phase_of (opening_of k s start))
-    by kind.Kpa h =
-        rw (unwanted s (x ∷ []) new (made-none decision_by (λ p n. refl) s start (range_with_len 0 (opening_scale s))), unphased (x ∷ []) new (made-none phase_by (λ p n. refl) s start (range_with_len 0 (opening_scale s))))
-        (rw (wanted-push s [] x, phase_of-push [] x, nothing_wanted s) (first (opening_scale s)))
-    by (kind.Fixed n) h = absurd (cc)
+      x : Entry
+      x = entry t (row.Decided made.decision)
 
-wants_added : (s : Spec) (c : Trace) (es : List Event) → WantsByPhase s c → WantsByPhase s (c ++ added s c es)
-unfolding added
-wants_added s c [] wants = rw (append-nil c) wants
-wants_added s c (e ∷ es) wants = rw (append_assoc c (react s c e) (added s (c ++ react s c e) es)) at (wants_added s (c ++ react s c e) es (react-wants s c e wants))
+      y : Entry
+      y = entry t (row.Phase made.phase)
 
--- so after each event of a run
-pub wants_trace : (s : Spec) (start : ℕ) (es : List Event) → WantsByPhase s (trace_of s start es)
-unfolding trace_of
-wants_trace s start es = wants_added s (opening s start) es (opening-wants s start)
+      p : Trace
+      p = where_true (not bp) (y ∷ [])
+
+      m : Trace
+      m = where_true (not (is_same_mode made.decision.mode (mode_of c))) (entry t (row.Mode made.decision.mode) ∷ [])
+
+      sc : Trace
+      sc = where_true made.decision.applied (scale_rows s t c made.decision.want)
+
+      tail : each_row decision_by ((p ++ m) ++ sc) ≡ []
+      tail = rw (
+        filter_map-append (λ (e : Entry). decision_by e.row) (p ++ m) sc,
+        filter_map-append (λ (e : Entry). decision_by e.row) p m,
+        where-none decision_by (not bp) y refl,
+        where-none decision_by (not (is_same_mode made.decision.mode (mode_of c))) (entry t (row.Mode made.decision.mode)) refl,
+        scale-none decision_by (λ p n. refl) (λ p. refl) made.decision.applied s t c made.decision.want,
+      ) refl
+
+      rest : each_row phase_by (m ++ sc) ≡ []
+      rest = rw (
+        filter_map-append (λ (e : Entry). phase_by e.row) m sc,
+        where-none phase_by (not (is_same_mode made.decision.mode (mode_of c))) (entry t (row.Mode made.decision.mode)) refl,
+        scale-none phase_by (λ p n. refl) (λ p. refl) made.decision.applied s t c made.decision.want,
+      ) refl
+
+      first : phase_of (c ++ x ∷ []) ≡ phase_of c
+      first = phase_of-push c x
+
+      here : (b : Bool) → is_same_phase made.phase (phase_of c) ≡ b → phase_of ((c ++ x ∷ []) ++ where_true (not b) (y ∷ [])) ≡ Some made.phase
+      here true e = rw (append-nil (c ++ x ∷ [])) (first ∙ same_is made.phase (phase_of c) e)
+      here false e = phase_of-push (c ++ x ∷ []) y
+
+      phases : phase_of ((c ++ x ∷ []) ++ ((p ++ m) ++ sc)) ≡ Some made.phase
+      phases =
+          ap phase_of (ap (λ (l : Trace). (c ++ x ∷ []) ++ l) (append_assoc p m sc) ∙ sym (append_assoc (c ++ x ∷ []) p (m ++ sc)))
+          ∙ unphased ((c ++ x ∷ []) ++ p) (m ++ sc) rest ∙ here bp refl
+
+  -- a tick keeps it
+  tick-wants : (s : Spec) (t : ℕ) (c : Trace) → s.kind ≡ kind.Kpa → WantsByPhase s c → WantsByPhase s (c ++ tick_rows s t c)
+  unfolding tick_rows decision_at past_of standing_of scaling.decision_at
+  tick-wants s t c scaled wants = by (window_average (past_of s c).samples s.stable_s (second_of t))
+    where
+      by : (o : Option Frac) → WantsByPhase s (c ++ tick_rows_of s t c (decision_from_stable s (past_of s c) t (count_ready c) o))
+      by None = λ k. rw (unwanted s c (entry t row.NoData ∷ []) refl, unphased c (entry t row.NoData ∷ []) refl) (wants k)
+      by (Some stable) = decision-wants s t c (ruling s (past_of s c) t (count_ready c) stable (unwrap_or (window_average (past_of s c).samples s.panic_s (second_of t)) no_load))
+          (ruling_phase s (past_of s c) t (count_ready c) stable _ (stands_some s c scaled wants))
+
+  -- so does a decision on an arrival
+  wake-wants : (b : Bool) (s : Spec) (t : ℕ) (c : Trace) → s.kind ≡ kind.Kpa → WantsByPhase s c → WantsByPhase s (c ++ wake_where b s t c)
+  unfolding wake_rows wake_decision_at past_of standing_of scaling.wake_decision_at
+  wake-wants false s t c scaled wants = rw (append-nil c) wants
+  wake-wants true s t c scaled wants = decision-wants s t c (ruling s (past_of s c) t (count_ready c) one_request one_request) (ruling_phase s (past_of s c) t (count_ready c) one_request one_request (stands_some s c scaled wants))
+
+  scaler-wants : (k : Kind) (s : Spec) (t : ℕ) (c : Trace) (a : Act) (did : Option Row) → s.kind ≡ kind.Kpa → WantsByPhase s c → WantsByPhase s (c ++ scaler_rows k s t c a did)
+  scaler-wants kind.Kpa s t c act.Tick did scaled wants = tick-wants s t c scaled wants
+  scaler-wants kind.Kpa s t c (act.Arrive tag) (Some (row.Admit r g)) scaled wants = wake-wants (wanted s c == 0) s t c scaled wants
+  scaler-wants k s t c a did scaled wants = rw (append-nil c) wants
+
+  -- activating or active, some pod is wanted
+  activation-wants : (s : Spec) (t : ℕ) (c : Trace) → WantsByPhase s c → WantsByPhase s (c ++ activation t c)
+  unfolding activation
+  activation-wants s t c wants scaled = by (is_same_phase phase.Activating (phase_of c)) refl (is_empty (ready_pods c))
+    where
+      x : Entry
+      x = entry t (row.Phase phase.Active)
+
+      apart : (o : Option Phase) → is_same_phase phase.Activating o ≡ true → is_same_phase phase.Inactive o ≡ false
+      apart (Some phase.Activating) h = refl
+      apart (Some phase.Active) h = absurd (cc)
+      apart (Some phase.Inactive) h = absurd (cc)
+      apart None h = absurd (cc)
+
+      by : (a : Bool) → is_same_phase phase.Activating (phase_of c) ≡ a → (b : Bool)
+          → (wanted s (c ++ where_true (a && not b) (x ∷ [])) == 0) ≡ is_same_phase phase.Inactive (phase_of (c ++ where_true (a && not b) (x ∷ [])))
+      by false e b = rw (append-nil c) (wants scaled)
+      by true e true = rw (append-nil c) (wants scaled)
+      by true e false = rw (wanted-push s c x, phase_of-push c x) (wants scaled ∙ apart (phase_of c) e)
+
+  -- so does an event
+  pub react-wants : (s : Spec) (c : Trace) (e : Event) → WantsByPhase s c → WantsByPhase s (c ++ react s c e)
+  unfolding react before_settling act_rows
+  react-wants s c e wants scaled =
+      let gone = departures s c e in
+      let own = entries_of e.time (act_row s (c ++ gone) e.act) in
+      let more = scaler_rows s.kind s e.time ((c ++ gone) ++ own) e.act (act_row s (c ++ gone) e.act) in
+      let active = activation e.time ((c ++ gone) ++ (own ++ more)) in
+      let first = (gone ++ (own ++ more)) ++ active in
+      let one = wants-each s is_departure_row departure_plain c gone (departures-rows s c e) wants in
+      let two = wants-each s is_act_row act_plain (c ++ gone) own (act-rows s e.time (c ++ gone) e.act) one in
+      let three = scaler-wants s.kind s e.time ((c ++ gone) ++ own) e.act (act_row s (c ++ gone) e.act) scaled two in
+      let four = activation-wants s e.time ((c ++ gone) ++ (own ++ more)) (subst (λ (d : Trace). WantsByPhase s d) (append_assoc (c ++ gone) own more) three) in
+      let all : ((c ++ gone) ++ (own ++ more)) ++ active ≡ c ++ first = append_assoc (c ++ gone) (own ++ more) active ∙ append_assoc c gone ((own ++ more) ++ active) ∙ ap (λ (l : Trace). c ++ l) (sym (append_assoc gone (own ++ more) active)) in
+      let five = settling-wants s e.time (c ++ first) (subst (λ (d : Trace). WantsByPhase s d) all four) in
+      subst (λ (d : Trace). WantsByPhase s d) (append_assoc c first (settling s e.time (c ++ first))) five scaled
+
+  -- it is so after the opening
+  pub opening-wants : (s : Spec) (start : ℕ) → WantsByPhase s (opening s start)
+  unfolding opening
+  opening-wants s start scaled = by s.kind scaled
+    where
+      x : Entry
+      x = entry start (row.Phase (opening_phase (opening_scale s)))
+
+      new : Trace
+      new = creations s start 0 (opening_scale s)
+
+      first : (n : ℕ) → (n == 0) ≡ is_idle (opening_phase n)
+      first zero = refl
+      first (suc n) = false_from_ne_true (suc n == 0) (λ h. let e : suc n ≡ 0 = eqb-true (suc n) 0 h in absurd (omega arith))
+
+      by : (k : Kind) → k ≡ kind.Kpa → (wanted s (opening_of k s start) == 0) ≡ is_same_phase phase.Inactive (phase_of (opening_of k s start))
+      by kind.Kpa h =
+          rw (unwanted s (x ∷ []) new (made-none decision_by (λ p n. refl) s start (range_with_len 0 (opening_scale s))), unphased (x ∷ []) new (made-none phase_by (λ p n. refl) s start (range_with_len 0 (opening_scale s))))
+          (rw (wanted-push s [] x, phase_of-push [] x, nothing_wanted s) (first (opening_scale s)))
+      by (kind.Fixed n) h = absurd (cc)
+
+  wants_added : (s : Spec) (c : Trace) (es : List Event) → WantsByPhase s c → WantsByPhase s (c ++ added s c es)
+  unfolding added
+  wants_added s c [] wants = rw (append-nil c) wants
+  wants_added s c (e ∷ es) wants = rw (append_assoc c (react s c e) (added s (c ++ react s c e) es)) at (wants_added s (c ++ react s c e) es (react-wants s c e wants))
+
+  -- so after each event of a run
+  pub wants_trace : (s : Spec) (start : ℕ) (es : List Event) → WantsByPhase s (trace_of s start es)
+  unfolding trace_of
+  wants_trace s start es = wants_added s (opening s start) es (opening-wants s start)

@@ -1,6 +1,6 @@
 -- The kinds of rows that each part of an event adds.
 use Rattle.std.proofs.Common.{◌≡◌, ℕ, ◌-◌, Bool, true, false, not, ◌&&◌, List, [], ◌∷◌, ◌++◌, length, map, take, refl, ◌∙◌, append-nil, append_assoc}
-use Rattle.std.specs.Prelude.{Option, None, Some, ⊤, ◌==◌}
+use Rattle.std.specs.Prelude.{Option, None, Some, ◌==◌}
 use Rattle.std.specs.List.{range_with_len}
 use Rattle.kn_event.specs.declared.entry.Row.{Row}
 use Rattle.kn_event.specs.declared.entry.Row.TheVariants as row
@@ -17,13 +17,9 @@ use Rattle.kn_trace.specs.Trace.{Trace, contains, entry, created, live_pods, dra
 use Rattle.kn_trace.specs.Scale.{creations, decision_at, decision_rows, drain_order, is_same_mode, is_same_phase, mode_of, phase_of, scale_rows, tick_rows, tick_rows_of, wake_decision_at, wake_rows, wanted, where_true}
 use Rattle.kn_trace.specs.Settling.{assignments_of, next_choice, promotions, promotions_at, while_chosen, while_free}
 use Rattle.kn_trace.specs.Events.{activation, departures, due, expiries, losses, losses_at, lost_with, scaler_rows, wake_where}
-use Rattle.kn_record.proofs.Kept.{phase_of-push}
-use Rattle.kn_record.proofs.PodSteps.{SaysNoPod, drain_order-quiet, draining-quiet, live_pods-quiet, ready-quiet, says_no_pod}
-
--- each row passes the test
-abbrev pub Each : (Row → Bool) → Trace → Type 0
-Each test [] = ⊤
-Each test (e ∷ es) = (test e.row ≡ true) × Each test es
+use Rattle.kn_record.specs.Rows.{SaysNoPod}
+use Rattle.kn_record.specs.Facts.{Facts}
+use Rattle.kn_laws.specs.Kinds.{Each, is_run_row, is_assign_row, is_remove_row, is_expire_row, is_loss_row, is_departure_row, is_scaler_row}
 
 -- a list after another
 pub Each-append : (test : Row → Bool) (xs ys : Trace) → Each test xs → Each test ys → Each test (xs ++ ys)
@@ -33,32 +29,6 @@ Each-append test (e ∷ xs) ys h k = (h.0, Each-append test xs ys h.1 k)
 pub Each-weaken : (p q : Row → Bool) → ((x : Row) → p x ≡ true → q x ≡ true) → (xs : Trace) → Each p xs → Each q xs
 Each-weaken p q more [] h = tt
 Each-weaken p q more (e ∷ xs) h = (more e.row h.0, Each-weaken p q more xs h.1)
-
-abbrev pub is_run_row : Row → Bool
-is_run_row (row.Run r) = true
-is_run_row _ = false
-
-abbrev pub is_assign_row : Row → Bool
-is_assign_row (row.Assign r p) = true
-is_assign_row _ = false
-
-abbrev pub is_remove_row : Row → Bool
-is_remove_row (row.Remove p) = true
-is_remove_row _ = false
-
-abbrev pub is_expire_row : Row → Bool
-is_expire_row (row.Expire r) = true
-is_expire_row _ = false
-
-abbrev pub is_loss_row : Row → Bool
-is_loss_row (row.LostRequest r) = true
-is_loss_row _ = false
-
--- who ends before the act's own row
-abbrev pub is_departure_row : Row → Bool
-is_departure_row (row.Expire r) = true
-is_departure_row (row.LostRequest r) = true
-is_departure_row _ = false
 
 pub promotions_at-rows : (t : ℕ) (c : Trace) (p : ℕ) (rs : List ℕ) → Each is_run_row (promotions_at t c p rs)
 unfolding promotions_at
@@ -139,57 +109,7 @@ pub departures-same : (s : Spec) (c : Trace) (e : Event) → ((p : ℕ) → e.ac
 unfolding departures
 departures-same s c e other = rw (no_losses e.time (c ++ expiries s e.time c) e.act other) (append-nil (expiries s e.time c))
 
--- ---- what rows of a kind leave as it is
-
--- the phase
-pub phase-each : (test : Row → Bool) → ((x : Row) → test x ≡ true → phase_by x ≡ None) → (c es : Trace) → Each test es → phase_of (c ++ es) ≡ phase_of c
-phase-each test none c [] h = rw (append-nil c) refl
-phase-each test none c (e ∷ es) h =
-    let one : phase_of (c ++ e ∷ []) ≡ phase_of c = rw (phase_of-push c e, none e.row h.0) refl in
-    rw (append_assoc c (e ∷ []) es) at (phase-each test none (c ++ e ∷ []) es h.1 ∙ one)
-
--- the Ready pods
-pub ready-each : (test : Row → Bool) → ((x : Row) → test x ≡ true → SaysNoPod x) → (c es : Trace) → Each test es → ready_pods (c ++ es) ≡ ready_pods c
-ready-each test none c [] h = rw (append-nil c) refl
-ready-each test none c (e ∷ es) h = rw (append_assoc c (e ∷ []) es) at (ready-each test none (c ++ e ∷ []) es h.1 ∙ ready-quiet c e (none e.row h.0))
-
--- the draining pods
-pub draining-each : (test : Row → Bool) → ((x : Row) → test x ≡ true → SaysNoPod x) → (c es : Trace) → Each test es → draining (c ++ es) ≡ draining c
-draining-each test none c [] h = rw (append-nil c) refl
-draining-each test none c (e ∷ es) h = rw (append_assoc c (e ∷ []) es) at (draining-each test none (c ++ e ∷ []) es h.1 ∙ draining-quiet c e (none e.row h.0))
-
--- the live pods
-pub live_pods-each : (test : Row → Bool) → ((x : Row) → test x ≡ true → SaysNoPod x) → (c es : Trace) → Each test es → live_pods (c ++ es) ≡ live_pods c
-live_pods-each test none c [] h = rw (append-nil c) refl
-live_pods-each test none c (e ∷ es) h = rw (append_assoc c (e ∷ []) es) at (live_pods-each test none (c ++ e ∷ []) es h.1 ∙ live_pods-quiet c e (none e.row h.0))
-
--- those that do not drain
-pub drain_order-each : (test : Row → Bool) → ((x : Row) → test x ≡ true → SaysNoPod x) → (c es : Trace) → Each test es → drain_order (c ++ es) ≡ drain_order c
-drain_order-each test none c [] h = rw (append-nil c) refl
-drain_order-each test none c (e ∷ es) h = rw (append_assoc c (e ∷ []) es) at (drain_order-each test none (c ++ e ∷ []) es h.1 ∙ drain_order-quiet c e (none e.row h.0))
-
-pub loss_pods : (x : Row) → is_loss_row x ≡ true → SaysNoPod x
-loss_pods (row.LostRequest r) h = says_no_pod (row.LostRequest r) refl
-loss_pods _ h = absurd (cc)
-
-pub run_pods : (x : Row) → is_run_row x ≡ true → SaysNoPod x
-run_pods (row.Run r) h = says_no_pod (row.Run r) refl
-run_pods _ h = absurd (cc)
-
-pub assign_pods : (x : Row) → is_assign_row x ≡ true → SaysNoPod x
-assign_pods (row.Assign r p) h = says_no_pod (row.Assign r p) refl
-assign_pods _ h = absurd (cc)
-
 -- ---- what the autoscaler adds
-
-abbrev pub is_scaler_row : Row → Bool
-is_scaler_row (row.Decided d) = true
-is_scaler_row row.NoData = true
-is_scaler_row (row.Phase x) = true
-is_scaler_row (row.Mode m) = true
-is_scaler_row (row.Create p n) = true
-is_scaler_row (row.Drain p) = true
-is_scaler_row _ = false
 
 created-rows : (s : Spec) (t : ℕ) (ps : List ℕ) → Each is_scaler_row (map (λ p. entry t (row.Create p s.cc)) ps)
 created-rows s t [] = tt
@@ -241,3 +161,47 @@ scaler-rows k s t c a did = tt
 pub activation-rows : (t : ℕ) (c : Trace) → Each is_scaler_row (activation t c)
 unfolding activation
 activation-rows t c = where-each is_scaler_row (is_same_phase phase.Activating (phase_of c) && not (is_empty (ready_pods c))) (entry t (row.Phase phase.Active) ∷ []) (refl, tt)
+
+module _ (facts : Facts) where
+  open facts use {entries.{phase_of-push}, views.{says_no_pod, ready-quiet, live_pods-quiet, draining-quiet, drain_order-quiet}}
+
+  -- ---- what rows of a kind leave as it is
+
+  -- the phase
+  pub phase-each : (test : Row → Bool) → ((x : Row) → test x ≡ true → phase_by x ≡ None) → (c es : Trace) → Each test es → phase_of (c ++ es) ≡ phase_of c
+  phase-each test none c [] h = rw (append-nil c) refl
+  phase-each test none c (e ∷ es) h =
+      let one : phase_of (c ++ e ∷ []) ≡ phase_of c = rw (phase_of-push c e, none e.row h.0) refl in
+      rw (append_assoc c (e ∷ []) es) at (phase-each test none (c ++ e ∷ []) es h.1 ∙ one)
+
+  -- the Ready pods
+  pub ready-each : (test : Row → Bool) → ((x : Row) → test x ≡ true → SaysNoPod x) → (c es : Trace) → Each test es → ready_pods (c ++ es) ≡ ready_pods c
+  ready-each test none c [] h = rw (append-nil c) refl
+  ready-each test none c (e ∷ es) h = rw (append_assoc c (e ∷ []) es) at (ready-each test none (c ++ e ∷ []) es h.1 ∙ ready-quiet c e (none e.row h.0))
+
+  -- the draining pods
+  pub draining-each : (test : Row → Bool) → ((x : Row) → test x ≡ true → SaysNoPod x) → (c es : Trace) → Each test es → draining (c ++ es) ≡ draining c
+  draining-each test none c [] h = rw (append-nil c) refl
+  draining-each test none c (e ∷ es) h = rw (append_assoc c (e ∷ []) es) at (draining-each test none (c ++ e ∷ []) es h.1 ∙ draining-quiet c e (none e.row h.0))
+
+  -- the live pods
+  pub live_pods-each : (test : Row → Bool) → ((x : Row) → test x ≡ true → SaysNoPod x) → (c es : Trace) → Each test es → live_pods (c ++ es) ≡ live_pods c
+  live_pods-each test none c [] h = rw (append-nil c) refl
+  live_pods-each test none c (e ∷ es) h = rw (append_assoc c (e ∷ []) es) at (live_pods-each test none (c ++ e ∷ []) es h.1 ∙ live_pods-quiet c e (none e.row h.0))
+
+  -- those that do not drain
+  pub drain_order-each : (test : Row → Bool) → ((x : Row) → test x ≡ true → SaysNoPod x) → (c es : Trace) → Each test es → drain_order (c ++ es) ≡ drain_order c
+  drain_order-each test none c [] h = rw (append-nil c) refl
+  drain_order-each test none c (e ∷ es) h = rw (append_assoc c (e ∷ []) es) at (drain_order-each test none (c ++ e ∷ []) es h.1 ∙ drain_order-quiet c e (none e.row h.0))
+
+  pub loss_pods : (x : Row) → is_loss_row x ≡ true → SaysNoPod x
+  loss_pods (row.LostRequest r) h = says_no_pod (row.LostRequest r) refl
+  loss_pods _ h = absurd (cc)
+
+  pub run_pods : (x : Row) → is_run_row x ≡ true → SaysNoPod x
+  run_pods (row.Run r) h = says_no_pod (row.Run r) refl
+  run_pods _ h = absurd (cc)
+
+  pub assign_pods : (x : Row) → is_assign_row x ≡ true → SaysNoPod x
+  assign_pods (row.Assign r p) h = says_no_pod (row.Assign r p) refl
+  assign_pods _ h = absurd (cc)

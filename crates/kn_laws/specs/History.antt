@@ -1,9 +1,9 @@
 -- Which events made a trace.
-use Rattle.std.specs.Prelude.{◌≡◌, ◌≤◌, ℕ, List, [], ◌∷◌, length}
+use Rattle.std.specs.Prelude.{◌≡◌, ◌≤◌, ◌++◌, ℕ, List, [], ◌∷◌, length}
 use Rattle.kn_event.specs.declared.event.Event.{Event}
 use Rattle.kn_event.specs.declared.revision.Spec.{Spec}
 use Rattle.kn_trace.specs.Trace.{Trace}
-use Rattle.kn_trace.specs.Events.{trace_of}
+use Rattle.kn_trace.specs.Events.{added, trace_of}
 
 -- the times of these events never fall: none is before the first time given, and none after the last
 abbrev pub AreInOrder : ℕ → List Event → ℕ → Type 0
@@ -20,3 +20,7 @@ pub record History (s : Spec) (start clock count : ℕ) (c : Trace) : Type 0 whe
 -- there are such events, whichever they are
 abbrev pub IsMadeBy : Spec → ℕ → ℕ → ℕ → Trace → Type 0
 IsMadeBy s start clock count c = ∥ History s start clock count c ∥₁
+
+-- later events go on from the trace that the earlier ones made
+abbrev pub GoesOn : Spec → ℕ → List Event → List Event → Type 0
+GoesOn s start es later = trace_of s start (es ++ later) ≡ trace_of s start es ++ added s (trace_of s start es) later

@@ -4,3 +4,5 @@ pub mod Phases
 pub mod History
 pub mod Refusals
 pub mod Losses
+pub mod Kinds
+pub mod Facts

@@ -4,12 +4,12 @@ use Rattle.std.specs.Prelude.{Option, None, Some, ◌==◌}
 use Rattle.std.specs.Bool.{then_some}
 use Rattle.std.specs.List.{cons_option, filter_map}
 use Rattle.std.proofs.lemmas.List.Elements.{filter_map-append}
+use Rattle.std.proofs.lemmas.Bool.{or_parts, eq-eqb}
 use Rattle.kn_event.specs.declared.entry.Entry.{Entry}
 use Rattle.kn_trace.specs.Rows.{ended_by}
 use Rattle.kn_trace.specs.Trace.{Trace, contains, each_row, ended, first_of}
 use Rattle.kn_trace.specs.Load.{end_by, end_of, is_some_of}
 use Rattle.std.specs.Option.{option_or}
-use Rattle.kn_record.proofs.Members.{or_parts, same_number}
 
 first-push : (xs : List ℕ) (o : Option ℕ) → first_of (xs ++ cons_option o []) ≡ option_or (first_of xs) o
 first-push [] None = refl
@@ -47,4 +47,4 @@ end_of-other c e q r h other = end_of-push c e r ∙ rw (h, other) (or-none (end
 
 -- a live request ends with the entry that ends it
 pub end_of-own : (c : Trace) (e : Entry) (q : ℕ) → ended_by e.row ≡ Some q → ended c q ≡ false → end_of (c ++ e ∷ []) q ≡ Some e.time
-end_of-own c e q h live = end_of-push c e q ∙ rw (end_of-none c q live, h, same_number q) refl
+end_of-own c e q h live = end_of-push c e q ∙ rw (end_of-none c q live, h, eq-eqb q q refl) refl

@@ -14,3 +14,4 @@ pub mod Balance
 pub mod Bounds
 pub mod Quiet
 pub mod ByEvents
+pub mod EventTimes

@@ -3,13 +3,12 @@ use Rattle.std.proofs.Common.{◌≡◌, ℕ, ◌+◌, ◌-◌, ◌*◌, ◌≤�
 use Rattle.std.specs.Prelude.{Option, None, Some, ◌==◌}
 use Rattle.std.specs.List.{cons_option, sum_by}
 use Rattle.std.proofs.lemmas.List.Sums.{sum_by-cons}
-use Rattle.std.proofs.lemmas.Bool.{eqb-true}
+use Rattle.std.proofs.lemmas.Bool.{eqb-true, or_parts, ne_eqb, eqb-false}
 use Rattle.kn_event.specs.declared.entry.Entry.{Entry}
 use Rattle.kn_trace.specs.Rows.{taken_by}
 use Rattle.kn_trace.specs.Trace.{Trace, contains, each_row}
 use Rattle.kn_trace.specs.Load.{end_of, end_within, load_in}
 use Rattle.kn_record.specs.Made.{AreDistinct, IsNumbered}
-use Rattle.kn_record.proofs.Members.{or_parts, other_number}
 use Rattle.kn_past.specs.Loads.{after_in}
 use Rattle.kn_past.proofs.Adds.{adds, adds_of, load-push, load-sum}
 use Rattle.kn_past.proofs.Ends.{end_of-none, end_of-other, end_of-own, end_of-quiet}
@@ -69,7 +68,7 @@ other-by : (n from : ℕ) (f g : ℕ → Option ℕ) (q t : ℕ) → IsEndedAt f
 other-by n from f g q t is None taken x y more h = ap (λ m. 0 + m) (more h)
 other-by n from f g q t is (Some r) taken x y more h =
     let both = or_parts (r == q) (contains q taken) h in
-    let one = other-adds n from f g q t r is (other_number r q both.0) in
+    let one = other-adds n from f g q t r is (ne_eqb q r (λ same. eqb-false r q both.0 (sym same))) in
     let two = more both.1 in
     omega (arith, one, two)
 
@@ -104,7 +103,7 @@ ended-by n from f g q t is le (Some r) taken x y gone more d h = which (q == r) 
         let own : adds_of n from g (Some r) + after_in n t ≡ adds_of n from f (Some r) = rw (← is_q) (own-adds n from f g q t is le) in
         omega (arith, rest, own)
     which false other =
-        let there : contains q taken ≡ true = rw (other_number q r other) at h in
+        let there : contains q taken ≡ true = rw (ne_eqb r q (λ same. eqb-false q r other (sym same))) at h in
         let rest = more d.1 there in
         let one = other-adds n from f g q t r is other in
         omega (arith, rest, one)

@@ -13,8 +13,8 @@ use Rattle.kn_trace.specs.Trace.{Trace, each_row, live}
 use Rattle.kn_trace.specs.Load.{count_in, count_most, entries_before, load_in, taken_in}
 use Rattle.kn_record.specs.Order.{AreTimesInOrder}
 use Rattle.kn_record.specs.Made.{IsMade, IsProper}
-use Rattle.kn_record.proofs.Flags.{counted}
-use Rattle.kn_record.proofs.Kept.{made_kept}
+use Rattle.kn_record.specs.Rows.{counted}
+use Rattle.kn_record.specs.Facts.{Facts}
 use Rattle.kn_past.specs.Loads.{after_by, after_in, after_sum}
 use Rattle.kn_past.specs.Seconds.{end_of_second}
 use Rattle.kn_past.proofs.Balance.{balance, live-push, live_counted}
@@ -33,28 +33,9 @@ up_to_clock : (from to : ℕ) (c : Trace) → AreTimesInOrder from c to → AreU
 up_to_clock from to [] h = tt
 up_to_clock from to (e ∷ es) h = (in_order e.time to es h.1, up_to_clock e.time to es h.1)
 
--- ---- one more entry
-
-pub load_step : (s : Spec) (c : Trace) (e : Entry) (start n : ℕ) → IsMade s c → IsProper s c e.row → AreTimesInOrder start c e.time
-    → load_in (c ++ e ∷ []) n + after_by ended_by n e ≡ load_in c n + after_by taken_by n e
-load_step s c e start n made proper times = by (turn s c e.row (made_kept s c made).requests proper)
-  where
-    by : Turn c e.row → load_in (c ++ e ∷ []) n + after_by ended_by n e ≡ load_in c n + after_by taken_by n e
-    by (inl is) = let load = load-quiet n c e is in rw (is.takes, is.ends) (omega (arith, load))
-    by (inr (inl (r, is))) = let load = load-start n c e r is in rw (is.takes, is.ends) (omega (arith, load))
-    by (inr (inr (r, is))) = let load = load-end n c e r (made_kept s c made).requests (up_to_clock start e.time c times) is in rw (is.takes, is.ends) (omega (arith, load))
-
 counted_list : (o : Option ℕ) → counted o ≡ length (option_to_list o)
 counted_list None = refl
 counted_list (Some x) = refl
-
-pub live_step : (s : Spec) (c : Trace) (e : Entry) → IsMade s c → IsProper s c e.row
-    → length (live (c ++ e ∷ [])) + length (option_to_list (ended_by e.row)) ≡ length (live c) + length (option_to_list (taken_by e.row))
-live_step s c e made proper =
-    let l = live-push s c e made proper in
-    let a = counted_list (ended_by e.row) in
-    let b = counted_list (taken_by e.row) in
-    omega (arith, l, a, b)
 
 min_more : (most a b : ℕ) → min most (a + b) ≡ min most (min most a + b)
 min_more most a b = omega arith
@@ -72,8 +53,6 @@ pub after_append : (said : Row → Option ℕ) (n : ℕ) (c es : Trace) → afte
 unfolding after_sum
 after_append said n c es = sum_by-append (after_by said n) c es
 
--- ---- whole seconds
-
 after_whole : (said : Row → Option ℕ) (n : ℕ) (c : Trace) → AreUpTo (1000 * n) c → after_sum said n c ≡ 1000 * length (each_row said c)
 unfolding after_sum
 after_whole said n [] h = refl
@@ -89,15 +68,6 @@ after_whole said n (e ∷ es) h =
     by : (o : Option ℕ) → (if is_some o then after_in n e.time else 0) + 1000 * length (each_row said es) ≡ 1000 * length (cons_option o (each_row said es))
     by None = omega arith
     by (Some r) = let w = whole in omega (arith, w)
-
-pub load_whole : (s : Spec) (c : Trace) (start clock n : ℕ) → IsMade s c → AreTimesInOrder start c clock → clock ≤ 1000 * n → load_in c n ≡ 1000 * length (live c)
-load_whole s c start clock n made times le =
-    let up = up_to_later clock (1000 * n) c le (up_to_clock start clock c times) in
-    let sums = balance s c start clock n made times in
-    let starts = after_whole taken_by n c up in
-    let ends = after_whole ended_by n c up in
-    let count = live_counted s c made in
-    omega (arith, sums, starts, ends, count)
 
 earlier_second : (n t u : ℕ) → t ≤ u → u < 1000 * n → (t / 1000 == n) ≡ false
 earlier_second n t u le h = let d : t / 1000 < n = omega (arith, le, h) in grind (arith, d)
@@ -120,3 +90,36 @@ all_before b u (e ∷ es) up h = ap (λ x. cond x (e ∷ entries_before b es) (e
 
 pub before_all : (c : Trace) (start clock n : ℕ) → AreTimesInOrder start c clock → clock < end_of_second n → entries_before (end_of_second n) c ≡ c
 before_all c start clock n times h = all_before (end_of_second n) clock c (up_to_clock start clock c times) h
+
+module _ (facts : Facts) where
+  open facts use {proper.{made_kept}}
+
+  -- ---- one more entry
+
+  pub load_step : (s : Spec) (c : Trace) (e : Entry) (start n : ℕ) → IsMade s c → IsProper s c e.row → AreTimesInOrder start c e.time
+      → load_in (c ++ e ∷ []) n + after_by ended_by n e ≡ load_in c n + after_by taken_by n e
+  load_step s c e start n made proper times = by (turn facts s c e.row (made_kept s c made).requests proper)
+    where
+      by : Turn c e.row → load_in (c ++ e ∷ []) n + after_by ended_by n e ≡ load_in c n + after_by taken_by n e
+      by (inl is) = let load = load-quiet n c e is in rw (is.takes, is.ends) (omega (arith, load))
+      by (inr (inl (r, is))) = let load = load-start n c e r is in rw (is.takes, is.ends) (omega (arith, load))
+      by (inr (inr (r, is))) = let load = load-end n c e r (made_kept s c made).requests (up_to_clock start e.time c times) is in rw (is.takes, is.ends) (omega (arith, load))
+
+  pub live_step : (s : Spec) (c : Trace) (e : Entry) → IsMade s c → IsProper s c e.row
+      → length (live (c ++ e ∷ [])) + length (option_to_list (ended_by e.row)) ≡ length (live c) + length (option_to_list (taken_by e.row))
+  live_step s c e made proper =
+      let l = live-push facts s c e made proper in
+      let a = counted_list (ended_by e.row) in
+      let b = counted_list (taken_by e.row) in
+      omega (arith, l, a, b)
+
+  -- ---- whole seconds
+
+  pub load_whole : (s : Spec) (c : Trace) (start clock n : ℕ) → IsMade s c → AreTimesInOrder start c clock → clock ≤ 1000 * n → load_in c n ≡ 1000 * length (live c)
+  load_whole s c start clock n made times le =
+      let up = up_to_later clock (1000 * n) c le (up_to_clock start clock c times) in
+      let sums = balance facts s c start clock n made times in
+      let starts = after_whole taken_by n c up in
+      let ends = after_whole ended_by n c up in
+      let count = live_counted facts s c made in
+      omega (arith, sums, starts, ends, count)

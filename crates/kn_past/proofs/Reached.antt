@@ -4,6 +4,7 @@ use Rattle.std.specs.Prelude.{Option, None, nat_le}
 use Rattle.std.specs.List.{filter, list_any, range_with_len}
 use Rattle.std.proofs.lemmas.List.{take-append-le}
 use Rattle.std.proofs.Math.Seq.{take-append-add, take-length}
+use Rattle.std.proofs.lemmas.List.Elements.{filter_map-append}
 use Rattle.kn_event.specs.declared.entry.Entry.{Entry}
 use Rattle.kn_event.specs.declared.entry.Row.{Row}
 use Rattle.kn_event.specs.declared.entry.Row.TheVariants as row
@@ -11,7 +12,6 @@ use Rattle.kn_event.specs.declared.revision.Spec.{Spec}
 use Rattle.kn_trace.specs.Rows.{created_by, drained_by, gone_by, readied_by}
 use Rattle.kn_trace.specs.Trace.{Trace, contains, each_row, is_live_pod, is_ready, ready_pods}
 use Rattle.kn_trace.specs.Scale.{count_ready, initial_reached}
-use Rattle.kn_record.proofs.Flags.{each_row-push}
 use Rattle.kn_past.specs.Changes.{leaves_pods}
 use Rattle.kn_past.proofs.Ranges.{any_parts, any_same, any_shift}
 
@@ -73,7 +73,7 @@ apart (row.LostPod p) h = absurd (cc)
 apart _ h = record { created = refl; readied = refl; drained = refl; gone = refl }
 
 said_none : (said : Row → Option ℕ) (c : Trace) (e : Entry) → said e.row ≡ None → each_row said (c ++ e ∷ []) ≡ each_row said c
-said_none said c e h = each_row-push said c e ∙ rw h (append-nil (each_row said c))
+said_none said c e h = filter_map-append (λ (x : Entry). said x.row) c (e ∷ []) ∙ rw h (append-nil (each_row said c))
 
 -- the pods that are created, readied, not drained and not gone by these
 abbrev ready_in : List ℕ → List ℕ → List ℕ → List ℕ → List ℕ

@@ -13,6 +13,11 @@ ghost use Rattle.kn_laws.specs.History.{IsMadeBy};
 ghost use Rattle.kn_past.specs.Loads.{after_sum};
 ghost use Rattle.kn_past.specs.Seconds.{end_of_second};
 
+use kn_laws::laws;
+use kn_laws::parts::part_laws;
+use kn_record::facts::fact_laws;
+use kn_sizes::sizes::size_laws;
+
 /// Of every trace that some events made in order: the load of a second by starts and ends, the live requests by starts and
 /// ends, the load of a second after the clock; a load is at most 20,000,000, a value by either metric at most 10^9, and an
 /// average over at most an hour at most a million.
@@ -23,7 +28,11 @@ pub fn history_laws()
     ensures load { (s : Spec) (start clock count : ℕ) (c : Trace) (second : ℕ) → IsMadeBy s start clock count c → load_in c second ≤ 20000000 }
     ensures value { (s : Spec) (start clock count : ℕ) (m : Metric) (c : Trace) (second value : ℕ) → IsMadeBy s start clock count c → samples m c second ≡ Some value → value ≤ 1000000000 }
     ensures average { (s : Spec) (start clock count : ℕ) (m : Metric) (c : Trace) (n end : ℕ) → IsMadeBy s start clock count c → n ≤ 3600 → IfSome (window_average (samples m c) n end) IsAverage }
-{}
+{
+    laws::history_laws();
+    size_laws();
+    fact_laws();
+}
 
 /// An event changes no second that is over by its time, and no average over such seconds.
 pub fn event_laws()
@@ -31,4 +40,6 @@ pub fn event_laws()
     ensures count { (s : Spec) (c : Trace) (e : Event) (second : ℕ) → end_of_second second ≤ e.time → count_in (c ++ react s c e) second ≡ count_in c second }
     ensures sample { (s : Spec) (m : Metric) (c : Trace) (e : Event) (second : ℕ) → end_of_second second ≤ e.time → samples m (c ++ react s c e) second ≡ samples m c second }
     ensures average { (s : Spec) (m : Metric) (c : Trace) (e : Event) (n end : ℕ) → 1000 * end ≤ e.time → window_average (samples m (c ++ react s c e)) n end ≡ window_average (samples m c) n end }
-{}
+{
+    part_laws();
+}

@@ -15,6 +15,9 @@ ghost use Rattle.kn_record.specs.Order.{AreTimesInOrder};
 ghost use Rattle.kn_past.specs.Loads.{EndsLive, after_by, after_sum};
 ghost use Rattle.kn_past.specs.Seconds.{end_of_second, sample_by};
 
+use kn_record::facts::fact_laws;
+use kn_sizes::sizes::size_laws;
+
 /// Of every trace that events made, with times that never fall: the load of a second is what lies in it after the starts of
 /// requests, less what lies in it after their ends, and the second sum is never the greater one. Each end is that of a live
 /// request, and the starts less the ends are the live ones.
@@ -23,7 +26,9 @@ pub fn load_laws()
     ensures load { (s : Spec) (c : Trace) (start clock second : ℕ) → IsMade s c → AreTimesInOrder start c clock → load_in c second ≡ after_sum taken_by second c - after_sum ended_by second c }
     ensures ends { (s : Spec) (c : Trace) → IsMade s c → Always EndsLive c }
     ensures live { (s : Spec) (c : Trace) → IsMade s c → length (live c) + length (each_row ended_by c) ≡ length (each_row taken_by c) }
-{}
+{
+    fact_laws();
+}
 
 /// By one more entry that is proper where it comes, and not before the others: a start adds what lies in the second after
 /// it, an end takes that. By any list, the two sums add up; by any entry, the count grows by a request that is taken in in
@@ -33,7 +38,9 @@ pub fn step_laws()
     ensures live { (s : Spec) (c : Trace) (e : Entry) → IsMade s c → IsProper s c e.row → length (live (c ++ e ∷ [])) + length (option_to_list (ended_by e.row)) ≡ length (live c) + length (option_to_list (taken_by e.row)) }
     ensures sums { (said : Row → Option ℕ) (second : ℕ) (c es : Trace) → after_sum said second (c ++ es) ≡ after_sum said second c + after_sum said second es }
     ensures count { (c : Trace) (e : Entry) (second : ℕ) → count_in (c ++ e ∷ []) second ≡ min count_most (count_in c second + length (option_to_list (taken_in second e))) }
-{}
+{
+    fact_laws();
+}
 
 /// A second after the last entry: each live request takes all of it, none came in it, and the pods that are Ready at its end
 /// are those that are now. What a second is a sample of, by its load and its count.
@@ -42,7 +49,9 @@ pub fn quiet_laws()
     ensures count { (c : Trace) (start clock second : ℕ) → AreTimesInOrder start c clock → clock < 1000 * second → count_in c second ≡ 0 }
     ensures ready { (c : Trace) (start clock second : ℕ) → AreTimesInOrder start c clock → clock < end_of_second second → entries_before (end_of_second second) c ≡ c }
     ensures sample { (m : Metric) (c : Trace) (second : ℕ) → samples m c second ≡ sample_by m (load_in c second) (count_in c second) (has_ready_pod (entries_before (end_of_second second) c)) }
-{}
+{
+    fact_laws();
+}
 
 /// Of every such trace: at most 20,000 requests are live at once, so the load of a second is at most 20,000,000; its value by
 /// either metric is at most 10^9; and an average over at most an hour is at most a million.
@@ -50,4 +59,7 @@ pub fn bound_laws()
     ensures load { (s : Spec) (c : Trace) (start clock second : ℕ) → IsMade s c → AreTimesInOrder start c clock → load_in c second ≤ 20000000 }
     ensures value { (s : Spec) (m : Metric) (c : Trace) (start clock second value : ℕ) → IsMade s c → AreTimesInOrder start c clock → samples m c second ≡ Some value → value ≤ 1000000000 }
     ensures average { (s : Spec) (m : Metric) (c : Trace) (start clock n end : ℕ) → IsMade s c → AreTimesInOrder start c clock → n ≤ 3600 → IfSome (window_average (samples m c) n end) IsAverage }
-{}
+{
+    size_laws();
+    fact_laws();
+}

@@ -2,6 +2,7 @@
 use Rattle.std.proofs.Common.{◌≡◌, ℕ, ◌+◌, true, false, not, List, [], ◌∷◌, ◌++◌, refl, ◌∙◌, length, arith, append-nil, append_assoc, map}
 use Rattle.std.specs.Prelude.{Option, None, Some, ◌==◌}
 use Rattle.std.specs.List.{list_any}
+use Rattle.std.proofs.lemmas.Bool.{or_parts}
 use Rattle.kn_event.specs.declared.entry.Entry.{Entry}
 use Rattle.kn_event.specs.declared.entry.Row.{Row}
 use Rattle.kn_event.specs.declared.entry.Row.TheVariants as row
@@ -11,12 +12,12 @@ use Rattle.kn_trace.specs.Trace.{Trace, entry, each_row, contains, arrivals, cre
 use Rattle.kn_trace.specs.Choice.{assignment_count, place_by, place_from, round_robin_place}
 use Rattle.kn_record.specs.declared.admission.Request.{Request}
 use Rattle.kn_record.specs.declared.admission.Pod.{Pod}
-use Rattle.kn_record.specs.Rows.{named_by, pod_named_by}
+use Rattle.kn_record.specs.Rows.{named_by, pod_named_by, counted}
 use Rattle.kn_record.specs.Admission.{Admission, admission, nothing_yet, stepped, live_requests, live_after, more_by, pods, pods_after, robin_after}
 use Rattle.kn_record.specs.Made.{IsMade, IsProper, StandsFor}
-use Rattle.kn_record.proofs.Flags.{counted, length-push}
+use Rattle.kn_record.proofs.Flags.{length-push}
 use Rattle.kn_record.proofs.Kept.{kept-nil, made_kept}
-use Rattle.kn_record.proofs.Members.{other_number, or_parts, contains-filter, contains-within}
+use Rattle.kn_record.proofs.Members.{other_number, contains-filter, contains-within}
 use Rattle.kn_record.proofs.Requests.{live_requests-quiet, live_requests-end, live_requests-assign, live_requests-run, live_requests-admit, live_requests-direct}
 use Rattle.kn_record.proofs.Views.{live-requests}
 use Rattle.kn_record.proofs.Numbers.{KeepsNumbers, IsNumbered-push, is_new, keeps_none, proper_keeps, taken_named}

@@ -5,14 +5,14 @@ use Rattle.std.specs.List.{filter, find}
 use Rattle.std.proofs.lemmas.Bool.Decides.{nat_tests}
 use Rattle.std.proofs.lemmas.List.Elements.{filter-append}
 use Rattle.std.specs.Option.{option_map}
+use Rattle.std.proofs.lemmas.Bool.{eq-eqb, and_parts}
 use Rattle.kn_event.specs.declared.revision.Spec.{Spec}
 use Rattle.kn_trace.specs.declared.candidate.Cand.{Cand}
 use Rattle.kn_trace.specs.Trace.{Trace, contains, has_free_seat, limit_of, ready_pods, running_at}
 use Rattle.kn_trace.specs.Capacity.{capacity, in_use}
 use Rattle.kn_trace.specs.Settling.{next_choice}
 use Rattle.kn_trace.specs.Choice.{assignment_count, candidates, choice, choice_of_two, chosen_pod, first_available, has_seat, less_busy, other_position, random_choice, random_word, round_robin, round_robin_place, turned_to}
-use Rattle.kn_record.proofs.Members.{same_number, contains-append, contains-filter}
-use Rattle.kn_record.proofs.Numbers.{and_parts}
+use Rattle.kn_record.proofs.Members.{contains-append, contains-filter}
 
 -- the pods among these that have a seat
 abbrev pub seated : List Cand → List ℕ
@@ -36,7 +36,7 @@ find-seated [] = refl
 find-seated (q ∷ cs) = by (has_seat q) (find-seated cs)
   where
     by : (b : Bool) → IsSeated (option_map (λ (q : Cand). q.pod) (find has_seat cs)) (seated cs) → IsSeated (option_map (λ (q : Cand). q.pod) (cond b (Some q) (find has_seat cs))) (map (λ (q : Cand). q.pod) (cond b (q ∷ filter has_seat cs) (filter has_seat cs)))
-    by true rest = rw (same_number q.pod) refl
+    by true rest = rw (eq-eqb q.pod q.pod refl) refl
     by false rest = rest
 
 -- turning the list changes nobody's seat
@@ -66,7 +66,7 @@ seated-turned n cs o h = by (nat_lt n (length cs)) o h
 
 contains-index : (i : ℕ) (q : Cand) (cs : List Cand) → i < length cs → contains (slice_index_or cs i q).pod (map (λ (q : Cand). q.pod) cs) ≡ true
 contains-index i q [] h = absurd (omega arith)
-contains-index zero q (x ∷ cs) h = rw (same_number x.pod) refl
+contains-index zero q (x ∷ cs) h = rw (eq-eqb x.pod x.pod refl) refl
 contains-index (suc i) q (x ∷ cs) h = more (x.pod == (slice_index_or cs i q).pod) _ (contains-index i q cs (omega arith))
   where
     more : (m b : Bool) → b ≡ true → (m || b) ≡ true
@@ -87,7 +87,7 @@ skips k i j hi hj = by (nat_le i j)
 two-seated : (cs : List Cand) (a b : ℕ) → IsSeated (choice_of_two cs a b) (map (λ (q : Cand). q.pod) cs)
 unfolding choice_of_two
 two-seated [] a b = refl
-two-seated (q ∷ []) a b = rw (same_number q.pod) refl
+two-seated (q ∷ []) a b = rw (eq-eqb q.pod q.pod refl) refl
 two-seated (q ∷ r ∷ cs) a b =
     let k = length (q ∷ r ∷ cs) in
     let i = a % k in

@@ -1,30 +1,15 @@
 -- What one more entry changes of the plain tests: each reads one word of its row.
-use Rattle.std.proofs.Common.{◌≡◌, ℕ, ◌+◌, Bool, true, false, ◌||◌, List, [], ◌∷◌, ◌++◌, refl, ap, length, length-append, append-nil}
+use Rattle.std.proofs.Common.{◌≡◌, ℕ, ◌+◌, Bool, ◌||◌, List, [], ◌∷◌, ◌++◌, refl, ap, length, length-append, append-nil}
 use Rattle.std.specs.Prelude.{Option, None, Some, ◌==◌, unwrap_or}
 use Rattle.std.specs.List.{cons_option}
 use Rattle.std.proofs.lemmas.List.Elements.{filter_map-append}
 use Rattle.std.proofs.lemmas.List.Folds.{list_any-append}
+use Rattle.std.proofs.Math.Bool.{or-false}
 use Rattle.kn_event.specs.declared.entry.Entry.{Entry}
 use Rattle.kn_event.specs.declared.entry.Row.{Row}
 use Rattle.kn_trace.specs.Rows.{arrived_by, assigned_by, created_by, ended_by, limit_by, pod_by, run_by}
 use Rattle.kn_trace.specs.Trace.{Trace, each_row, contains, last_of, arrivals, assigned, created, ended, has_run, limit_of, pod_of}
-
--- a row says this of r
-abbrev pub says : Option ℕ → ℕ → Bool
-says None r = false
-says (Some q) r = q == r
-
-abbrev pub or_else : {X : Type 0} → Option X → Option X → Option X
-or_else None other = other
-or_else (Some x) other = Some x
-
-abbrev pub counted : {X : Type 0} → Option X → ℕ
-counted None = 0
-counted (Some x) = 1
-
-pub or-false : (b : Bool) → (b || false) ≡ b
-or-false true = refl
-or-false false = refl
+use Rattle.kn_record.specs.Rows.{says, or_else, counted}
 
 contains-option : (r : ℕ) (o : Option ℕ) → contains r (cons_option o []) ≡ says o r
 contains-option r None = refl

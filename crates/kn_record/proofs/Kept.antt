@@ -2,7 +2,7 @@
 use Rattle.std.proofs.Common.{◌≡◌, ℕ, ◌≤◌, Bool, true, false, not, ◌&&◌, ◌||◌, ◌⊎◌, inl, inr, List, [], ◌∷◌, ◌++◌, map, max, refl, sym, ap, ◌∙◌, arith, append-nil, append_assoc}
 use Rattle.std.specs.Prelude.{Option, None, Some, ◌==◌, option_map, unwrap_or}
 use Rattle.std.specs.Bool.{then_some}
-use Rattle.std.proofs.lemmas.Bool.{eqb-true}
+use Rattle.std.proofs.lemmas.Bool.{eqb-true, or_cases, and_parts}
 use Rattle.kn_event.specs.declared.entry.Entry.{Entry}
 use Rattle.kn_event.specs.declared.entry.Row.{Row}
 use Rattle.kn_event.specs.declared.entry.Row.TheVariants as row
@@ -13,10 +13,11 @@ use Rattle.kn_scaling.specs.Zero.{pods_most}
 use Rattle.kn_trace.specs.Rows.{brought_to, created_by, decision_by, phase_by, gone_by}
 use Rattle.kn_trace.specs.Trace.{Trace, arrivals, assigned, at_pod, contains, created, each_row, ended, has_run, last_of, live_pods}
 use Rattle.kn_trace.specs.Scale.{opening_scale, phase_of, wanted}
-use Rattle.kn_record.specs.Made.{Holds, IsMade, IsNumbered, ArePodsNumbered, IsProper}
-use Rattle.kn_record.proofs.Flags.{says, or_else, contains-push, ended-push, last_of-push}
-use Rattle.kn_record.proofs.Members.{or-true}
-use Rattle.kn_record.proofs.Numbers.{IsNumbered-push, and_parts, filter_member, in_filter, proper_keeps, says-true}
+use Rattle.kn_record.specs.Made.{Holds, IsMade, IsProper}
+use Rattle.kn_record.specs.Rows.{says, or_else, want_after}
+use Rattle.kn_record.specs.Kept.{AreHoused, Kept}
+use Rattle.kn_record.proofs.Flags.{contains-push, ended-push, last_of-push}
+use Rattle.kn_record.proofs.Numbers.{IsNumbered-push, filter_member, in_filter, proper_keeps, says-true}
 use Rattle.kn_record.proofs.PodNumbers.{ArePodsNumbered-push, proper_keeps_pods, ready_live}
 use Rattle.kn_record.proofs.PodSteps.{contains-live_pods}
 
@@ -29,11 +30,6 @@ last_of-map f (x ∷ xs) = rw (last_of-map f xs) (by (last_of xs))
     by : (o : Option Decision) → Some (unwrap_or (option_map f o) (f x)) ≡ Some (f (unwrap_or o x))
     by None = refl
     by (Some d) = refl
-
--- what the row's decision wants, or what was wanted before
-abbrev pub want_after : Option Decision → ℕ → ℕ
-want_after None n = n
-want_after (Some d) n = d.want
 
 -- the wanted scale by one more entry
 pub wanted-push : (s : Spec) (c : Trace) (e : Entry) → wanted s (c ++ e ∷ []) ≡ want_after (decision_by e.row) (wanted s c)
@@ -53,9 +49,6 @@ phase_of-push c e = last_of-push phase_by c e
 
 -- ---- a request's pod is live
 
-abbrev pub AreHoused : Trace → Type 0
-AreHoused c = (p r : ℕ) → contains r (at_pod c p) ≡ true → contains p (live_pods c) ≡ true
-
 record KeepsHomes (c : Trace) (x : Row) : Type 0 where
   brought : (p r : ℕ) → brought_to p x ≡ Some r → contains p (live_pods c) ≡ true
   removed : (p : ℕ) → gone_by x ≡ Some p → at_pod c p ≡ []
@@ -70,10 +63,10 @@ AreHoused-push : (c : Trace) (e : Entry) → AreHoused c → KeepsHomes c e.row 
 unfolding at_pod
 AreHoused-push c e housed keeps p r h =
     let both = filter_member (λ r. not (ended (c ++ e ∷ []) r)) r (each_row (brought_to p) (c ++ e ∷ [])) h in
-    let old = and_parts (contains p (each_row created_by c)) (not (contains p (each_row gone_by c))) (sym (contains-live_pods c p) ∙ home both.1 (or-true _ _ (sym (contains-push (brought_to p) c e r) ∙ both.0))) in
+    let old = and_parts (contains p (each_row created_by c)) (not (contains p (each_row gone_by c))) (sym (contains-live_pods c p) ∙ home both.1 (or_cases _ _ (sym (contains-push (brought_to p) c e r) ∙ both.0))) in
     contains-live_pods (c ++ e ∷ []) p
     ∙ rw (contains-push created_by c e p, contains-push gone_by c e p)
-    (stays (contains p (each_row created_by c)) (contains p (each_row gone_by c)) (says (gone_by e.row) p) old.0 old.1 (λ g. gone both.1 (says-true (gone_by e.row) p g) (or-true _ _ (sym (contains-push (brought_to p) c e r) ∙ both.0))))
+    (stays (contains p (each_row created_by c)) (contains p (each_row gone_by c)) (says (gone_by e.row) p) old.0 old.1 (λ g. gone both.1 (says-true (gone_by e.row) p g) (or_cases _ _ (sym (contains-push (brought_to p) c e r) ∙ both.0))))
   where
     lived : not (ended (c ++ e ∷ []) r) ≡ true → not (ended c r) ≡ true
     lived h = by (ended c r) (says _ r) (ap (λ (b : Bool). not b) (sym (ended-push c e r)) ∙ h)
@@ -119,14 +112,6 @@ keeps_homes s c x h = homes_none c x (λ p. refl) refl
 
 -- ---- all of it
 
-pub record Kept (s : Spec) (c : Trace) : Type 0 where
-  pub requests : IsNumbered c
-  pub pods : ArePodsNumbered c
-  -- a request's pod is live
-  pub homes : AreHoused c
-  -- no more pods are wanted than a revision may have
-  pub wants : AreInRange s → wanted s c ≤ pods_most
-
 wants_push : (s : Spec) (c : Trace) (x : Row) → (AreInRange s → wanted s c ≤ pods_most) → IsProper s c x → AreInRange s → want_after (decision_by x) (wanted s c) ≤ pods_most
 wants_push s c (row.Decided d) wants h ranges = h ranges
 wants_push s c x wants h ranges = wants ranges
@@ -160,6 +145,10 @@ pub Holds-append : (P : Trace → Row → Type 0) (b xs ys : Trace) → Holds P 
 Holds-append P b [] ys h k = rw (append-nil b) at k
 Holds-append P b (e ∷ xs) ys h k = (h.0, Holds-append P (b ++ e ∷ []) xs ys h.1 (rw (append_assoc b (e ∷ []) xs) k))
 
+-- so where each row is proper
+pub holds_both : (s : Spec) (b xs ys : Trace) → Holds (IsProper s) b xs → Holds (IsProper s) (b ++ xs) ys → Holds (IsProper s) b (xs ++ ys)
+holds_both s b xs ys h k = Holds-append (IsProper s) b xs ys h k
+
 -- at each place of the trace
 pub Holds-at : (P : Trace → Row → Type 0) (b c before : Trace) (e : Entry) (rest : Trace) → c ≡ before ++ e ∷ rest → Holds P b c → P (b ++ before) e.row
 Holds-at P b [] [] e rest eq h = absurd (cc)
@@ -170,11 +159,6 @@ Holds-at P b (x ∷ c) (y ∷ before) e rest eq h =
     let less : c ≡ before ++ e ∷ rest = cc in
     rw (append_assoc b (y ∷ []) before) at (Holds-at P (b ++ y ∷ []) c before e rest less (rw (same) at h.1))
 
--- what proper rows imply where all that is kept holds
-pub Holds-law : (s : Spec) (P : Trace → Row → Type 0) → ((c : Trace) (x : Row) → Kept s c → IsProper s c x → P c x) → (b c : Trace) → Kept s b → Holds (IsProper s) b c → Holds P b c
-Holds-law s P law b [] kept h = tt
-Holds-law s P law b (e ∷ c) kept h = (law b e.row kept h.0, Holds-law s P law (b ++ e ∷ []) c (Kept-push s b e kept h.0) h.1)
-
 -- rows that are all proper keep it
 pub Holds-kept : (s : Spec) (b c : Trace) → Kept s b → Holds (IsProper s) b c → Kept s (b ++ c)
 Holds-kept s b [] kept h = rw (append-nil b) kept
@@ -183,3 +167,13 @@ Holds-kept s b (e ∷ c) kept h = rw (append_assoc b (e ∷ []) c) at (Holds-kep
 -- so it holds of each trace that was made
 pub made_kept : (s : Spec) (c : Trace) → IsMade s c → Kept s c
 made_kept s c made = Holds-kept s [] c (kept-nil s) made.rows
+
+-- the front of rows that are all proper
+Holds-front : (P : Trace → Row → Type 0) (b xs ys : Trace) → Holds P b (xs ++ ys) → Holds P b xs
+Holds-front P b [] ys h = tt
+Holds-front P b (e ∷ xs) ys h = (h.0, Holds-front P (b ++ e ∷ []) xs ys h.1)
+
+-- each row of a trace that was made was proper when it came, and what came before it was made
+pub made_at : (s : Spec) (c before : Trace) (e : Entry) (rest : Trace) → IsMade s c → c ≡ before ++ e ∷ rest → IsMade s before × IsProper s before e.row
+made_at s c before e rest made eq =
+    (record { rows = Holds-front (IsProper s) [] before (e ∷ rest) (rw eq at made.rows) }, Holds-at (IsProper s) [] c before e rest eq made.rows)

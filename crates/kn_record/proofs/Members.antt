@@ -2,14 +2,11 @@
 use Rattle.std.proofs.Common.{◌≡◌, ℕ, zero, suc, ◌<◌, length, get_or, arith, Bool, true, false, not, cond, ◌&&◌, ◌||◌, ◌⊎◌, inl, inr, List, [], ◌∷◌, ◌++◌, refl, sym, ap, ◌∙◌}
 use Rattle.std.specs.Prelude.{Option, None, Some, ◌==◌}
 use Rattle.std.specs.List.{filter, cons_option}
-use Rattle.std.proofs.lemmas.Bool.{eqb-true, eq-eqb}
+use Rattle.std.proofs.lemmas.Bool.{eqb-true, eq-eqb, or_parts}
 use Rattle.std.proofs.lemmas.List.Folds.{list_any-append}
 use Rattle.kn_event.specs.declared.entry.Row.{Row}
 use Rattle.kn_trace.specs.Trace.{Trace, each_row, contains}
 use Rattle.kn_record.specs.Made.{AreDistinct}
-
-pub same_number : (r : ℕ) → (r == r) ≡ true
-same_number r = eq-eqb r r refl
 
 pub other_number : (r q : ℕ) → (r == q) ≡ false → (q == r) ≡ false
 other_number r q h = by (q == r) refl
@@ -21,14 +18,6 @@ other_number r q h = by (q == r) refl
 -- members of two lists
 pub contains-append : (r : ℕ) (xs ys : List ℕ) → contains r (xs ++ ys) ≡ (contains r xs || contains r ys)
 contains-append r xs ys = list_any-append (λ y. y == r) xs ys
-
-pub or-true : (a b : Bool) → (a || b) ≡ true → (a ≡ true) ⊎ (b ≡ true)
-or-true true b h = inl refl
-or-true false b h = inr h
-
-pub or_parts : (a b : Bool) → (a || b) ≡ false → (a ≡ false) × (b ≡ false)
-or_parts true b h = absurd (cc)
-or_parts false b h = (refl, h)
 
 and-false : (b : Bool) → (b && false) ≡ false
 and-false true = refl
@@ -75,13 +64,13 @@ filter-others r (x ∷ xs) h =
 
 -- taking out the first of distinct numbers leaves the rest
 pub filter-first : (r : ℕ) (rs : List ℕ) → AreDistinct (r ∷ rs) → filter (λ q. not (r == q)) (r ∷ rs) ≡ rs
-filter-first r rs d = rw (same_number r) (filter-others r rs d.0)
+filter-first r rs d = rw (eq-eqb r r refl) (filter-others r rs d.0)
 
 -- two tests that agree on the members
 pub filter-members : (p q : ℕ → Bool) (xs : List ℕ) → ((x : ℕ) → contains x xs ≡ true → p x ≡ q x) → filter p xs ≡ filter q xs
 filter-members p q [] same = refl
 filter-members p q (x ∷ xs) same =
-    rw (same x (rw (same_number x) refl))
+    rw (same x (rw (eq-eqb x x refl) refl))
     (ap (λ (l : List ℕ). cond (q x) (x ∷ l) l) (filter-members p q xs (λ y h. same y (more (x == y) (contains y xs) h))))
   where
     more : (a b : Bool) → b ≡ true → (a || b) ≡ true
@@ -91,7 +80,7 @@ filter-members p q (x ∷ xs) same =
 -- each member of a list, at its place
 pub contains-at : (xs : List ℕ) (k d : ℕ) → k < length xs → contains (get_or xs k d) xs ≡ true
 contains-at [] k d h = absurd (omega arith)
-contains-at (x ∷ xs) zero d h = rw (same_number x) refl
+contains-at (x ∷ xs) zero d h = rw (eq-eqb x x refl) refl
 contains-at (x ∷ xs) (suc k) d h = more (x == get_or xs k d) (contains-at xs k d (omega arith))
   where
     more : (b : Bool) → contains (get_or xs k d) xs ≡ true → (b || contains (get_or xs k d) xs) ≡ true

@@ -1,19 +1,20 @@
 -- A proper row keeps the numbering of requests.
-use Rattle.std.proofs.Common.{◌≡◌, ℕ, ◌+◌, ◌<◌, Bool, true, false, not, ◌&&◌, ◌||◌, ◌⊎◌, inl, inr, List, [], ◌∷◌, ◌++◌, refl, sym, ap, ◌∙◌, arith, append-nil}
+use Rattle.std.proofs.Common.{◌≡◌, ℕ, ◌+◌, ◌<◌, Bool, true, false, not, ◌||◌, ◌⊎◌, inl, inr, List, [], ◌∷◌, ◌++◌, refl, sym, ap, ◌∙◌, arith, append-nil}
 use Rattle.std.specs.Prelude.{Option, None, Some, ◌==◌}
 use Rattle.std.specs.Bool.{then_some}
 use Rattle.std.specs.List.{filter, cons_option}
-use Rattle.std.proofs.lemmas.Bool.{eqb-true}
+use Rattle.std.proofs.lemmas.Bool.{eqb-true, eq-eqb, or_cases, or_parts, and_parts, not-true, false_from_ne_true, true_from_ne_false}
 use Rattle.kn_event.specs.declared.entry.Entry.{Entry}
 use Rattle.kn_event.specs.declared.entry.Row.{Row}
 use Rattle.kn_event.specs.declared.entry.Row.TheVariants as row
 use Rattle.kn_event.specs.declared.revision.Spec.{Spec}
 use Rattle.kn_trace.specs.Rows.{arrived_by, admitted_by, taken_by, assigned_by, brought_to, directed_by, run_by, ended_by, refused_by, outcome_by, pod_by}
 use Rattle.kn_trace.specs.Trace.{Trace, each_row, contains, first_of, last_of, arrivals, assigned, at_pod, ended, has_begun, has_not_begun, has_run, held, is_held, is_running, live, pod_of, queued_at, waiting}
-use Rattle.kn_record.specs.Rows.{named_by, moved_by}
+use Rattle.kn_record.specs.Rows.{named_by, moved_by, says, counted}
 use Rattle.kn_record.specs.Made.{AreDistinct, IsNumbered, IsProper}
-use Rattle.kn_record.proofs.Flags.{says, counted, each_row-push, contains-push, assigned-push, has_run-push, arrivals-push}
-use Rattle.kn_record.proofs.Members.{same_number, or-true, or_parts, contains-filter, contains-split, contains-within, distinct-push}
+use Rattle.kn_record.specs.Kept.{IsIdle, IsHeldMember}
+use Rattle.kn_record.proofs.Flags.{each_row-push, contains-push, assigned-push, has_run-push, arrivals-push}
+use Rattle.kn_record.proofs.Members.{contains-filter, contains-split, contains-within, distinct-push}
 use Rattle.kn_record.proofs.Requests.{IsNew}
 
 -- ---- which rows a word is of: the kinds of rows are gone through here
@@ -119,23 +120,7 @@ moved_pod r _ h = refl
 
 pub first_member : (r : ℕ) (xs : List ℕ) → first_of xs ≡ Some r → contains r xs ≡ true
 first_member r [] h = absurd (cc)
-first_member r (x ∷ xs) h = let e : x ≡ r = cc in rw (e, same_number r) refl
-
-pub and_parts : (a b : Bool) → (a && b) ≡ true → (a ≡ true) × (b ≡ true)
-and_parts true b h = (refl, h)
-and_parts false b h = absurd (cc)
-
-pub not-true : (b : Bool) → not b ≡ true → b ≡ false
-not-true true h = absurd (cc)
-not-true false h = refl
-
-pub true_unless : (b : Bool) → (b ≡ false → ⊥) → b ≡ true
-true_unless true h = refl
-true_unless false h = absurd (h refl)
-
-pub false_unless : (b : Bool) → (b ≡ true → ⊥) → b ≡ false
-false_unless true h = absurd (h refl)
-false_unless false h = refl
+first_member r (x ∷ xs) h = let e : x ≡ r = cc in rw (e, eq-eqb r r refl) refl
 
 pub filter_member : (t : ℕ → Bool) (r : ℕ) (xs : List ℕ) → contains r (filter t xs) ≡ true → (contains r xs ≡ true) × (t r ≡ true)
 filter_member t r xs h = and_parts (contains r xs) (t r) (sym (contains-filter t r xs) ∙ h)
@@ -145,7 +130,7 @@ in_filter t r xs h k = contains-filter t r xs ∙ rw (h, k) refl
 
 -- f's rows are g's
 pub within-from : (f g : Row → Option ℕ) → ((x : Row) → (f x ≡ None) ⊎ (f x ≡ g x)) → (r : ℕ) (c : Trace) → contains r (each_row f c) ≡ true → contains r (each_row g c) ≡ true
-within-from f g part r c h = true_unless (contains r (each_row g c)) (λ e. let no = contains-within f g part r c e in absurd (cc))
+within-from f g part r c h = true_from_ne_false (contains r (each_row g c)) (λ e. let no = contains-within f g part r c e in absurd (cc))
 
 pub named-from : (f : Row → Option ℕ) → ((x : Row) → (f x ≡ None) ⊎ (f x ≡ named_by x)) → (r : ℕ) (c : Trace) → contains r (each_row f c) ≡ true → contains r (each_row named_by c) ≡ true
 named-from f part r c h = within-from f named_by part r c h
@@ -154,11 +139,6 @@ pub live_member : (c : Trace) (r : ℕ) → contains r (live c) ≡ true → (co
 unfolding live
 live_member c r h = let both = filter_member (λ r. not (ended c r)) r (each_row taken_by c) h in (both.0, not-true (ended c r) both.1)
 
-pub record IsHeldMember (c : Trace) (r : ℕ) : Type 0 where
-  pub admitted : contains r (each_row admitted_by c) ≡ true
-  pub assigned : assigned c r ≡ false
-  pub ended : ended c r ≡ false
-
 -- a held request is admitted, and neither assigned nor ended
 pub held_member : (c : Trace) (r : ℕ) → contains r (held c) ≡ true → IsHeldMember c r
 unfolding held is_held
@@ -166,12 +146,6 @@ held_member c r h =
     let both = filter_member (is_held c) r (each_row admitted_by c) h in
     let tests = and_parts (not (assigned c r)) (not (ended c r)) both.1 in
     record { admitted = both.0; assigned = not-true (assigned c r) tests.0; ended = not-true (ended c r) tests.1 }
-
--- it has neither begun nor ended
-pub record IsIdle (c : Trace) (r : ℕ) : Type 0 where
-  pub assigned : assigned c r ≡ false
-  pub run : has_run c r ≡ false
-  pub ended : ended c r ≡ false
 
 pub not_begun : (c : Trace) (r : ℕ) → has_not_begun c r ≡ true → IsIdle c r
 unfolding has_not_begun has_begun
@@ -207,7 +181,7 @@ running_parts c r h = let both = and_parts (assigned c r || has_run c r) (not (e
 
 -- a request that has begun was taken in
 pub begun_taken : (c : Trace) (r : ℕ) → IsNumbered c → (assigned c r || has_run c r) ≡ true → contains r (each_row taken_by c) ≡ true
-begun_taken c r num h = by (or-true (assigned c r) (has_run c r) h)
+begun_taken c r num h = by (or_cases (assigned c r) (has_run c r) h)
   where
     by : (assigned c r ≡ true) ⊎ (has_run c r ≡ true) → contains r (each_row taken_by c) ≡ true
     by (inl a) = within-from admitted_by taken_by admitted_taken r c (num.assigned r a)
@@ -216,7 +190,7 @@ begun_taken c r num h = by (or-true (assigned c r) (has_run c r) h)
 -- a request that came to a pod was taken in
 pub moved_taken : (c : Trace) (r : ℕ) → IsNumbered c → contains r (each_row moved_by c) ≡ true → contains r (each_row taken_by c) ≡ true
 unfolding assigned
-moved_taken c r num h = by (or-true (contains r (each_row assigned_by c)) (contains r (each_row directed_by c)) (sym (contains-split moved_by assigned_by directed_by moved_parts r c) ∙ h))
+moved_taken c r num h = by (or_cases (contains r (each_row assigned_by c)) (contains r (each_row directed_by c)) (sym (contains-split moved_by assigned_by directed_by moved_parts r c) ∙ h))
   where
     by : (contains r (each_row assigned_by c) ≡ true) ⊎ (contains r (each_row directed_by c) ≡ true) → contains r (each_row taken_by c) ≡ true
     by (inl a) = within-from admitted_by taken_by admitted_taken r c (num.assigned r a)
@@ -230,7 +204,7 @@ taken_comes c r num h = num.come r (named-from taken_by taken_named r c h)
 
 -- no row is about the next request
 pub next_unnamed : (c : Trace) → IsNumbered c → contains (arrivals c) (each_row named_by c) ≡ false
-next_unnamed c num = false_unless (contains (arrivals c) (each_row named_by c)) (λ e. let less = num.come (arrivals c) e in absurd (omega arith))
+next_unnamed c num = false_from_ne_true (contains (arrivals c) (each_row named_by c)) (λ e. let less = num.come (arrivals c) e in absurd (omega arith))
 
 -- a request that came to no pod has none
 pub pod-none : (r : ℕ) (c : Trace) → contains r (each_row moved_by c) ≡ false → each_row (pod_by r) c ≡ []
@@ -287,7 +261,7 @@ pub held_unmoved : (c : Trace) (r : ℕ) → IsNumbered c → IsHeldMember c r �
 unfolding assigned
 held_unmoved c r num held' =
     contains-split moved_by assigned_by directed_by moved_parts r c
-    ∙ rw (held'.assigned) (false_unless (contains r (each_row directed_by c)) (λ d. let no = num.direct r d in let yes_it_is = held'.admitted in absurd (cc)))
+    ∙ rw (held'.assigned) (false_from_ne_true (contains r (each_row directed_by c)) (λ d. let no = num.direct r d in let yes_it_is = held'.admitted in absurd (cc)))
 
 -- ---- one more row
 
@@ -335,12 +309,12 @@ distinct-option xs (Some r) d fresh = distinct-push xs r d (fresh r refl)
 -- a row that keeps numbers keeps the numbering
 pub IsNumbered-push : (c : Trace) (e : Entry) → IsNumbered c → KeepsNumbers c e.row → IsNumbered (c ++ e ∷ [])
 IsNumbered-push c e num keeps = record {
-  come = λ r h. rw (arrivals-push c e) (come r (or-true _ _ (sym (contains-push named_by c e r) ∙ h)));
+  come = λ r h. rw (arrivals-push c e) (come r (or_cases _ _ (sym (contains-push named_by c e r) ∙ h)));
   once = rw (each_row-push taken_by c e) (distinct-option (each_row taken_by c) (taken_by e.row) num.once (λ r h. contains-within taken_by named_by taken_named r c (keeps.fresh r (taken_arrived e.row r h).0)));
-  apart = λ r h. rw (contains-push taken_by c e r) (apart r (or-true _ _ (sym (contains-push refused_by c e r) ∙ h)));
-  direct = λ r h. rw (contains-push admitted_by c e r) (direct r (or-true _ _ (sym (contains-push directed_by c e r) ∙ h)));
-  assigned = λ r h. rw (contains-push admitted_by c e r) (assign r (or-true _ _ (sym (assigned-push c e r) ∙ h)));
-  ran = λ r h. rw (contains-push directed_by c e r) (ran r (or-true _ _ (sym (has_run-push c e r) ∙ h)));
+  apart = λ r h. rw (contains-push taken_by c e r) (apart r (or_cases _ _ (sym (contains-push refused_by c e r) ∙ h)));
+  direct = λ r h. rw (contains-push admitted_by c e r) (direct r (or_cases _ _ (sym (contains-push directed_by c e r) ∙ h)));
+  assigned = λ r h. rw (contains-push admitted_by c e r) (assign r (or_cases _ _ (sym (assigned-push c e r) ∙ h)));
+  ran = λ r h. rw (contains-push directed_by c e r) (ran r (or_cases _ _ (sym (has_run-push c e r) ∙ h)));
   moved = rw (each_row-push moved_by c e) (distinct-option (each_row moved_by c) (moved_by e.row) num.moved (λ r h. moved r (moved_kinds e.row r h)));
 }
   where

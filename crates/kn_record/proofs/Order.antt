@@ -7,6 +7,7 @@ use Rattle.std.proofs.lemmas.List.{length-map}
 use Rattle.std.proofs.lemmas.List.Elements.{All-cons, All-nil}
 use Rattle.std.proofs.lemmas.List.Kept.{AllPairs-filter}
 use Rattle.std.proofs.lemmas.List.Quantifiers.{all_pairs_push}
+use Rattle.std.proofs.lemmas.Bool.{eq-eqb, or_right}
 use Rattle.kn_event.specs.declared.entry.Entry.{Entry}
 use Rattle.kn_event.specs.declared.entry.Row.{Row}
 use Rattle.kn_event.specs.declared.entry.Row.TheVariants as row
@@ -19,23 +20,20 @@ use Rattle.kn_record.specs.declared.admission.Request.{Request}
 use Rattle.kn_record.specs.declared.admission.Pod.{Pod}
 use Rattle.kn_record.specs.Admission.{Admission, admission, is_at, live_requests, placed_in, pods}
 use Rattle.kn_record.specs.Made.{Holds, IsMade, IsProper, StandsFor}
-use Rattle.kn_record.specs.Order.{IsAmong, IsInOrder}
+use Rattle.kn_record.specs.Order.{IsAmong, IsInOrder, Ascend}
 use Rattle.kn_record.specs.Views.{pod_numbers}
+use Rattle.kn_record.specs.Kept.{Kept}
 use Rattle.kn_record.proofs.Flags.{each_row-push}
-use Rattle.kn_record.proofs.Members.{contains-at, same_number}
+use Rattle.kn_record.proofs.Members.{contains-at}
 use Rattle.kn_record.proofs.Numbers.{live_member, taken_comes}
 use Rattle.kn_record.proofs.PodNumbers.{created_comes, live_pod_created}
 use Rattle.kn_record.proofs.Pods.{live-pods}
 use Rattle.kn_record.proofs.Views.{live-requests, placed-requests}
-use Rattle.kn_record.proofs.Kept.{Kept, Kept-push, kept-nil, made_kept}
+use Rattle.kn_record.proofs.Kept.{Kept-push, kept-nil, made_kept}
 use Rattle.kn_record.proofs.Running.{made_more}
 use Rattle.kn_record.proofs.Standing.{made_by_place}
-use Rattle.kn_record.proofs.Reacting.{or-more}
 
 -- ---- lists of numbers
-
-abbrev pub Ascend : List ℕ → Type 0
-Ascend xs = AllPairs (λ x y. x < y) xs
 
 -- a number above all of them goes to the end
 ascend-option : (xs : List ℕ) (o : Option ℕ) → Ascend xs → ((r : ℕ) → o ≡ Some r → (q : ℕ) → contains q xs ≡ true → q < r) → Ascend (xs ++ cons_option o [])
@@ -101,7 +99,7 @@ pairs-of f xs rise i j d less within =
 below-of : {X : Type 0} (f : X → ℕ) (n : ℕ) (xs : List X) → ((r : ℕ) → contains r (map f xs) ≡ true → r < n) → All (λ (x : X). f x < n) xs
 below-of {X} f n [] below = All-nil (λ (x : X). f x < n)
 below-of {X} f n (x ∷ xs) below =
-    All-cons (λ (x : X). f x < n) x xs (below (f x) (rw (same_number (f x)) refl)) (below-of f n xs (λ r h. below r (or-more (f x == r) (contains r (map f xs)) h)))
+    All-cons (λ (x : X). f x < n) x xs (below (f x) (rw (eq-eqb (f x) (f x) refl) refl)) (below-of f n xs (λ r h. below r (or_right (f x == r) (contains r (map f xs)) h)))
 
 -- each live request is at one of these pods, where each pod that a request is at is one
 homes-of : (ps : List ℕ) (live : List Request) → ((p r : ℕ) → contains r (placed_in (is_at p) live) ≡ true → contains p ps ≡ true) → All (λ (x : Request). IsAmong ps x.place) live
@@ -109,15 +107,15 @@ homes-of ps [] homes = All-nil (λ (x : Request). IsAmong ps x.place)
 homes-of ps (q ∷ live) homes = All-cons (λ (x : Request). IsAmong ps x.place) q live (first q.place refl) (homes-of ps live (λ p r h. homes p r (more p r (is_at p q.place) refl h)))
   where
     there : (p : ℕ) → is_at p q.place ≡ true → contains p ps ≡ true
-    there p h = homes p q.number (rw h (rw (same_number q.number) refl))
+    there p h = homes p q.number (rw h (rw (eq-eqb q.number q.number refl) refl))
 
     first : (x : Place) → q.place ≡ x → IsAmong ps x
     first place.Held e = tt
-    first (place.Queued p) e = there p (rw (e, same_number p) refl)
-    first (place.Running p x) e = there p (rw (e, same_number p) refl)
+    first (place.Queued p) e = there p (rw (e, eq-eqb p p refl) refl)
+    first (place.Running p x) e = there p (rw (e, eq-eqb p p refl) refl)
 
     more : (p r : ℕ) (b : Bool) → is_at p q.place ≡ b → contains r (placed_in (is_at p) live) ≡ true → contains r (placed_in (is_at p) (q ∷ live)) ≡ true
-    more p r true e h = rw e (or-more (q.number == r) _ h)
+    more p r true e h = rw e (or_right (q.number == r) _ h)
     more p r false e h = rw e h
 
 -- the record of a trace that was made is in order

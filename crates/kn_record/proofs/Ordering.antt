@@ -3,7 +3,7 @@ use Rattle.std.proofs.Common.{◌≡◌, ℕ, ◌+◌, ◌<◌, ◌≤◌, Bool,
 use Rattle.std.specs.Prelude.{Option, None, Some, ◌==◌, if◌then◌else◌}
 use Rattle.std.specs.Bool.{then_some}
 use Rattle.std.specs.List.{All, AllPairs, cons_option, filter, filter_map}
-use Rattle.std.proofs.lemmas.Bool.{eqb-true}
+use Rattle.std.proofs.lemmas.Bool.{eqb-true, eq-eqb, false_from_ne_true}
 use Rattle.std.proofs.lemmas.List.{get_or-map, length-map}
 use Rattle.std.proofs.lemmas.List.Elements.{All-cons, All-filter, All-map, All-nil, All-push, All-weaker}
 use Rattle.std.proofs.lemmas.List.Kept.{AllPairs-cons, AllPairs-filter}
@@ -22,8 +22,6 @@ use Rattle.kn_record.specs.Admission.{Admission, admission, begun, begun_at, dra
 use Rattle.kn_record.specs.Made.{StandsFor}
 use Rattle.kn_record.specs.Order.{AreTimed, AreTimesInOrder, FitsRecord, IsAmong, IsInOrder}
 use Rattle.kn_record.specs.Views.{pod_numbers}
-use Rattle.kn_record.proofs.Members.{same_number}
-use Rattle.kn_record.proofs.Numbers.{false_unless}
 use Rattle.kn_record.proofs.Order.{none_in_pairs}
 
 -- ---- of lists
@@ -145,8 +143,8 @@ pods_below_after a x o f = o.created
 -- so where each pod that the place is at stays
 among_more : (ps qs : List ℕ) (w : Place) → ((p : ℕ) → is_at p w ≡ true → contains p ps ≡ true → contains p qs ≡ true) → IsAmong ps w → IsAmong qs w
 among_more ps qs place.Held k h = tt
-among_more ps qs (place.Queued p) k h = k p (same_number p) h
-among_more ps qs (place.Running p x) k h = k p (same_number p) h
+among_more ps qs (place.Queued p) k h = k p (eq-eqb p p refl) h
+among_more ps qs (place.Running p x) k h = k p (eq-eqb p p refl) h
 
 listed_push : (p : ℕ) (all : List Pod) (new : Pod) → contains p (pod_numbers all) ≡ true → contains p (pod_numbers (all ++ new ∷ [])) ≡ true
 listed_push p [] new h = absurd (cc)
@@ -186,7 +184,7 @@ home_without p all live h none k d within =
     among_more (pod_numbers all) (pod_numbers (filter (λ (q : Pod). not (p == q.number)) all)) _ (λ u there listed. listed_stays p u all (other u _ there (none_placed (is_at p) live none k d within)) listed) (h k d within)
   where
     other : (u : ℕ) (w : Place) → is_at u w ≡ true → is_at p w ≡ false → (p == u) ≡ false
-    other u w there not_here = false_unless (p == u) (λ e. let same : p ≡ u = eqb-true p u e in let here : is_at p w ≡ true = rw same there in absurd (cc))
+    other u w there not_here = false_from_ne_true (p == u) (λ e. let same : p ≡ u = eqb-true p u e in let here : is_at p w ≡ true = rw same there in absurd (cc))
 
 home_renumbered : (f : Pod → Pod) → KeepsPodNumbers f → (all : List Pod) (live : List Request) → AreHome all live → AreHome (map f all) live
 home_renumbered f k all live h = rw (same_numbers f k all) h

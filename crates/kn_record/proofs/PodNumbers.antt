@@ -2,6 +2,7 @@
 use Rattle.std.proofs.Common.{◌≡◌, ℕ, ◌+◌, ◌<◌, Bool, true, false, not, ◌&&◌, ◌||◌, ◌⊎◌, inl, inr, List, [], ◌∷◌, ◌++◌, reverse, refl, sym, ◌∙◌, arith}
 use Rattle.std.specs.Prelude.{None, Some, ◌==◌}
 use Rattle.std.proofs.lemmas.List.{reverse-append}
+use Rattle.std.proofs.lemmas.Bool.{or_cases, and_parts, false_from_ne_true}
 use Rattle.kn_event.specs.declared.entry.Entry.{Entry}
 use Rattle.kn_event.specs.declared.entry.Row.{Row}
 use Rattle.kn_event.specs.declared.entry.Row.TheVariants as row
@@ -9,11 +10,11 @@ use Rattle.kn_event.specs.declared.revision.Spec.{Spec}
 use Rattle.kn_trace.specs.Rows.{created_by, readied_by, drained_by, gone_by}
 use Rattle.kn_trace.specs.Trace.{Trace, each_row, contains, created, draining, is_draining, is_live_pod, is_ready, is_starting, live_pods, ready_pods, starting_pods}
 use Rattle.kn_trace.specs.Scale.{drain_order}
-use Rattle.kn_record.specs.Rows.{pod_named_by}
+use Rattle.kn_record.specs.Rows.{pod_named_by, says, counted}
 use Rattle.kn_record.specs.Made.{ArePodsNumbered, IsProper}
-use Rattle.kn_record.proofs.Flags.{says, counted, each_row-push, contains-push, created-push}
-use Rattle.kn_record.proofs.Members.{or-true, contains-append, contains-within}
-use Rattle.kn_record.proofs.Numbers.{and_parts, distinct-option, false_unless, filter_member, in_filter, says-true, within-from}
+use Rattle.kn_record.proofs.Flags.{each_row-push, contains-push, created-push}
+use Rattle.kn_record.proofs.Members.{contains-append, contains-within}
+use Rattle.kn_record.proofs.Numbers.{distinct-option, filter_member, in_filter, says-true, within-from}
 
 -- ---- which rows a word is of
 
@@ -89,7 +90,7 @@ starting_live c p h =
 
 -- so is each that does not drain
 pub drain_order_live : (c : Trace) (p : ℕ) → contains p (drain_order c) ≡ true → contains p (live_pods c) ≡ true
-drain_order_live c p h = by (or-true (contains p (starting_pods c)) (contains p (ready_pods c)) (sym (contains-drain_order c p) ∙ h))
+drain_order_live c p h = by (or_cases (contains p (starting_pods c)) (contains p (ready_pods c)) (sym (contains-drain_order c p) ∙ h))
   where
     by : (contains p (starting_pods c) ≡ true) ⊎ (contains p (ready_pods c) ≡ true) → contains p (live_pods c) ≡ true
     by (inl a) = starting_live c p a
@@ -104,7 +105,7 @@ pub record KeepsPods (c : Trace) (x : Row) : Type 0 where
 -- a row that keeps numbers keeps the numbering
 pub ArePodsNumbered-push : (c : Trace) (e : Entry) → ArePodsNumbered c → KeepsPods c e.row → ArePodsNumbered (c ++ e ∷ [])
 ArePodsNumbered-push c e num keeps = record {
-  come = λ p h. rw (created-push c e) (come p (or-true _ _ (sym (contains-push pod_named_by c e p) ∙ h)));
+  come = λ p h. rw (created-push c e) (come p (or_cases _ _ (sym (contains-push pod_named_by c e p) ∙ h)));
   once = rw (each_row-push created_by c e) (distinct-option (each_row created_by c) (created_by e.row) num.once (λ p h. contains-within created_by pod_named_by created_named p c (keeps.fresh p h)));
 }
   where
@@ -114,7 +115,7 @@ ArePodsNumbered-push c e num keeps = record {
 
 -- no row is about the next pod
 pub next_unnamed_pod : (c : Trace) → ArePodsNumbered c → contains (created c) (each_row pod_named_by c) ≡ false
-next_unnamed_pod c num = false_unless (contains (created c) (each_row pod_named_by c)) (λ e. let less = num.come (created c) e in absurd (omega arith))
+next_unnamed_pod c num = false_from_ne_true (contains (created c) (each_row pod_named_by c)) (λ e. let less = num.come (created c) e in absurd (omega arith))
 
 pub created_comes : (c : Trace) (p : ℕ) → ArePodsNumbered c → contains p (each_row created_by c) ≡ true → p < created c
 created_comes c p num h = num.come p (within-from created_by pod_named_by created_named p c h)

@@ -4,14 +4,15 @@ use Rattle.std.specs.Prelude.{None, ◌==◌}
 use Rattle.std.specs.List.{filter}
 use Rattle.std.proofs.lemmas.List.{length-reverse}
 use Rattle.std.proofs.lemmas.List.Elements.{filter_agree, filter-append}
+use Rattle.std.proofs.Math.Bool.{or-false}
 use Rattle.kn_event.specs.declared.entry.Entry.{Entry}
 use Rattle.kn_event.specs.declared.entry.Row.{Row}
 use Rattle.kn_event.specs.declared.entry.Row.TheVariants as row
 use Rattle.kn_trace.specs.Rows.{created_by, drained_by, limit_by, readied_by, gone_by}
 use Rattle.kn_trace.specs.Trace.{Trace, entry, contains, draining, each_row, is_draining, is_live_pod, is_ready, is_starting, limit_of, live_pods, ready_pods, starting_pods}
 use Rattle.kn_trace.specs.Scale.{drain_order}
-use Rattle.kn_record.specs.Rows.{pod_named_by}
-use Rattle.kn_record.proofs.Flags.{says, or-false, each_row-push, contains-push, limit_of-push}
+use Rattle.kn_record.specs.Rows.{pod_named_by, says, SaysNoPod}
+use Rattle.kn_record.proofs.Flags.{each_row-push, contains-push, limit_of-push}
 use Rattle.kn_record.proofs.Members.{contains-filter, contains-within}
 use Rattle.kn_record.proofs.PodNumbers.{contains-drain_order, drained_named, readied_named, removed_named}
 use Rattle.kn_record.proofs.Steps.{view-same}
@@ -37,13 +38,6 @@ unfolding is_draining
 is_draining-push c e q = rw (is_live_pod-push c e q, contains-push drained_by c e q) refl
 
 -- ---- a row that says nothing of pods
-
-pub record SaysNoPod (x : Row) : Type 0 where
-  pub created : created_by x ≡ None
-  pub readied : readied_by x ≡ None
-  pub drained : drained_by x ≡ None
-  pub removed : gone_by x ≡ None
-  pub limit : (p : ℕ) → limit_by p x ≡ None
 
 -- a row that names no pod
 pub says_no_pod : (x : Row) → pod_named_by x ≡ None → SaysNoPod x

@@ -4,6 +4,8 @@ use Rattle.std.specs.Prelude.{Option, None, Some, ◌==◌}
 use Rattle.std.specs.Bool.{then_some}
 use Rattle.std.specs.List.{filter, filter_map, cons_option, list_any}
 use Rattle.std.proofs.lemmas.List.Elements.{filter_map-append}
+use Rattle.std.proofs.lemmas.Bool.{eq-eqb}
+use Rattle.std.proofs.Math.Bool.{or-false}
 use Rattle.kn_event.specs.declared.entry.Entry.{Entry}
 use Rattle.kn_event.specs.declared.entry.Row.TheVariants as row
 use Rattle.kn_record.specs.declared.admission.Readiness.{Readiness}
@@ -12,8 +14,8 @@ use Rattle.kn_record.specs.declared.admission.Pod.{Pod}
 use Rattle.kn_trace.specs.Rows.{limit_by, created_by, readied_by, drained_by, gone_by}
 use Rattle.kn_trace.specs.Trace.{Trace, entry, each_row, contains, limit_of, live_pods, is_live_pod, ready_pods, is_ready}
 use Rattle.kn_record.specs.Admission.{readiness_by, readiness_of, pod_record, pods, limited, with_limit, marked, with_readiness, readied, drained, is_ready_now, pods_in}
-use Rattle.kn_record.proofs.Flags.{says, or-false, contains-push, limit_after, limit_of-push}
-use Rattle.kn_record.proofs.Members.{same_number}
+use Rattle.kn_record.specs.Rows.{says}
+use Rattle.kn_record.proofs.Flags.{contains-push, limit_after, limit_of-push}
 use Rattle.kn_record.proofs.Requests.{changed, filter_map-changed, filter_map-some, filter_map-filter, filter_map-map}
 
 abbrev after_pod : ℕ → Bool → ℕ → Readiness → Option Pod
@@ -133,7 +135,7 @@ limited-none p n (q ∷ all) h = by (p == q.number) refl (limited-none p n all) 
 pub pods-create : (c : Trace) (t p n : ℕ) → IsNewPod c p → pods (c ++ entry t (row.Create p n) ∷ []) ≡ pods c ++ record { number = p; limit = n; readiness = readiness.Starting } ∷ []
 pods-create c t p n new =
     old_pods c (entry t (row.Create p n)) (λ q. Some (limited p n q)) (λ q. by q (removed c q) (limit_of c q) (drains c q) (readies c q) (p == q) refl)
-    ∙ rw (filter_map-map (limited p n) (pods c), limited-none p n (pods c) new.absent, pod_record-push c (entry t (row.Create p n)) p, new.removed, new.drained, new.readied, same_number p) refl
+    ∙ rw (filter_map-map (limited p n) (pods c), limited-none p n (pods c) new.absent, pod_record-push c (entry t (row.Create p n)) p, new.removed, new.drained, new.readied, eq-eqb p p refl) refl
   where
     by : (q : ℕ) (g : Bool) (m : ℕ) (d x b : Bool) → (p == q) ≡ b → after_pod q (g || false) (limit_after (then_some (p == q) n) m) (readiness_by (d || false) (x || false))
         ≡ changed (λ y. Some (limited p n y)) (after_pod q g m (readiness_by d x))

@@ -3,6 +3,7 @@ use Rattle.std.proofs.Common.{◌≡◌, ℕ, Bool, true, false, not, cond, ◌&
 use Rattle.std.specs.Prelude.{Option, None, Some, ◌==◌}
 use Rattle.std.specs.Bool.{then_some}
 use Rattle.std.specs.List.{filter, cons_option}
+use Rattle.std.proofs.lemmas.Bool.{eq-eqb}
 use Rattle.kn_event.specs.declared.entry.Entry.{Entry}
 use Rattle.kn_event.specs.declared.entry.Row.{Row}
 use Rattle.kn_event.specs.declared.entry.Row.TheVariants as row
@@ -10,7 +11,6 @@ use Rattle.kn_trace.specs.Rows.{admitted_by, assigned_by, brought_to, directed_b
 use Rattle.kn_trace.specs.Trace.{Trace, assigned, contains, each_row, ended, has_begun, has_not_begun, has_run, pod_of, queued_at}
 use Rattle.kn_record.specs.Admission.{place_at, place_of, placed, queues_at}
 use Rattle.kn_record.specs.Made.{IsNumbered}
-use Rattle.kn_record.proofs.Members.{same_number}
 use Rattle.kn_record.proofs.Numbers.{admitted_taken, within-from}
 use Rattle.kn_record.proofs.Words.{Agrees, agrees, and-none, in_first, in_rest, placed-filter, pod_is}
 
@@ -80,7 +80,7 @@ queue_part c p (e ∷ d) fits = by e.row refl (queue_part c p d (fits_rest c d e
     by : (x : Row) → e.row ≡ x → filter (has_not_begun c) us ≡ filter (λ r. not (ended c r) && queues_at p (place_of c r)) vs
         → filter (has_not_begun c) (cons_option (brought_to p x) us) ≡ filter (λ r. not (ended c r) && queues_at p (place_of c r)) (cons_option (taken_by x) vs)
     by (row.Assign r q) k rest = assign r q (q == p) (fits.assigned r (in_first assigned_by r e d (ap assigned_by k))) rest
-    by (row.Direct r q) k rest = direct r q (q == p) refl (fits.sent r q (in_first (brought_to q) r e d (ap (brought_to q) k ∙ rw (same_number q) refl))) rest
+    by (row.Direct r q) k rest = direct r q (q == p) refl (fits.sent r q (in_first (brought_to q) r e d (ap (brought_to q) k ∙ rw (eq-eqb q q refl) refl))) rest
     by (row.Admit r tag) k rest = admit r (fits.admitted r p (in_first admitted_by r e d (ap admitted_by k))) rest
     by x k rest = rest
 

@@ -1,8 +1,8 @@
 -- The expiries, the losses with a pod, the act's own row and the assignments are proper.
-use Rattle.std.proofs.Common.{◌≡◌, ℕ, ◌+◌, ◌≤◌, ◌<◌, ◌%◌, Bool, true, false, not, cond, ◌||◌, ◌⊎◌, inl, inr, List, [], ◌∷◌, ◌++◌, length, refl, sym, ap, subst, ◌∙◌, arith, nat_le, map, zero, suc, append-nil, append_assoc}
+use Rattle.std.proofs.Common.{◌≡◌, ℕ, ◌+◌, ◌≤◌, ◌<◌, ◌%◌, Bool, true, false, not, cond, ◌⊎◌, inl, inr, List, [], ◌∷◌, ◌++◌, length, refl, sym, ap, subst, ◌∙◌, arith, nat_le, map, zero, suc, append-nil, append_assoc, ◌||◌, ◌&&◌}
 use Rattle.std.specs.Prelude.{Option, None, Some, ◌==◌, slice_index, slice_index_or}
 use Rattle.std.specs.List.{filter_map, cons_option}
-use Rattle.std.proofs.lemmas.Bool.{eqb-true}
+use Rattle.std.proofs.lemmas.Bool.{eqb-true, eq-eqb, or_parts, not-true, true_from_ne_false, or_right}
 use Rattle.std.proofs.lemmas.Bool.Decides.{nat_tests}
 use Rattle.kn_event.specs.declared.entry.Entry.{Entry}
 use Rattle.kn_event.specs.declared.entry.Row.TheVariants as row
@@ -12,7 +12,7 @@ use Rattle.kn_event.specs.declared.event.Act.{Act}
 use Rattle.kn_event.specs.declared.event.Act.TheVariants as act
 use Rattle.kn_event.specs.declared.event.Event.{Event}
 use Rattle.kn_event.specs.declared.revision.Spec.{Spec}
-use Rattle.kn_trace.specs.Rows.{admitted_by, brought_to, created_by, taken_by}
+use Rattle.kn_trace.specs.Rows.{admitted_by, brought_to, created_by, taken_by, ended_by}
 use Rattle.kn_trace.specs.Trace.{Trace, entry, arrivals, at_pod, contains, direct_turn, each_row, ended, has_not_begun, held, is_held, is_running, is_starting, live, live_pods, queued_at, ready_pods, starting_pods, waiting}
 use Rattle.kn_trace.specs.Capacity.{breaker_full, pod_full}
 use Rattle.kn_trace.specs.Scale.{mode_of}
@@ -20,12 +20,15 @@ use Rattle.kn_trace.specs.Settling.{assignments_of, next_choice, while_chosen}
 use Rattle.kn_trace.specs.Events.{act_row, admission_row, arrival_row, departures, direct_row, due, due_by, entries_of, expiries, live_most, losses, losses_at, lost_with}
 use Rattle.kn_record.specs.Rows.{moved_by}
 use Rattle.kn_record.specs.Made.{AreDistinct, Holds, IsNumbered, IsProper}
-use Rattle.kn_record.proofs.Members.{same_number, or_parts, contains-filter, distinct-filter, filter-first}
-use Rattle.kn_record.proofs.Numbers.{admitted_taken, at_pod_member, brought_moved, filter_member, in_filter, moved_taken, not-true, true_unless, within-from}
+use Rattle.kn_record.specs.Views.{others}
+use Rattle.kn_record.specs.Kept.{Kept, IsCleared}
+use Rattle.kn_record.proofs.Members.{contains-filter, distinct-filter, filter-first}
+use Rattle.kn_record.proofs.Numbers.{admitted_taken, at_pod_member, brought_moved, filter_member, in_filter, moved_taken, within-from}
 use Rattle.kn_record.proofs.PodNumbers.{live_pod_created}
-use Rattle.kn_record.proofs.Steps.{others, at_pod-end, waiting-end, held-assign}
-use Rattle.kn_record.proofs.Kept.{Holds-append, Holds-kept, Kept}
+use Rattle.kn_record.proofs.Steps.{at_pod-end, waiting-end, held-assign, view-less}
+use Rattle.kn_record.proofs.Kept.{Holds-append, Holds-kept}
 use Rattle.kn_record.proofs.Choosing.{next_choice-good}
+use Rattle.kn_record.proofs.Flags.{ended-push}
 
 -- ---- lists that leave some out
 
@@ -65,10 +68,6 @@ pub queued_distinct : (c : Trace) (p : ℕ) → IsNumbered c → AreDistinct (qu
 unfolding queued_at
 queued_distinct c p num = distinct-filter (has_not_begun c) (each_row (brought_to p) c) (brought_distinct c p num)
 
-pub or-more : (m b : Bool) → b ≡ true → (m || b) ≡ true
-or-more true b h = refl
-or-more false b h = h
-
 -- r isn't in the rest of a list that it begins
 pub apart_from : (r q : ℕ) (rs : List ℕ) → contains r rs ≡ false → contains q rs ≡ true → not (r == q) ≡ true
 apart_from r q rs d h = by (r == q) refl
@@ -92,7 +91,7 @@ unfolding due waiting
 due_waits s t c r h =
     let both = filter_member (has_not_begun c) r (filter_map (due_by s.timeout_ms t) c) h in
     in_filter (has_not_begun c) r (each_row taken_by c)
-    (true_unless (contains r (each_row taken_by c)) (λ n. let no = contains-fewer (due_by s.timeout_ms t) (λ (e : Entry). taken_by e.row) (due_taken s.timeout_ms t) r c n in let yes_it_is = both.0 in absurd (cc))) both.1
+    (true_from_ne_false (contains r (each_row taken_by c)) (λ n. let no = contains-fewer (due_by s.timeout_ms t) (λ (e : Entry). taken_by e.row) (due_taken s.timeout_ms t) r c n in let yes_it_is = both.0 in absurd (cc))) both.1
 
 -- each is due once
 pub due_distinct : (s : Spec) (t : ℕ) (c : Trace) → IsNumbered c → AreDistinct (due s t c)
@@ -103,9 +102,9 @@ due_distinct s t c num =
 expire-hold : (s : Spec) (t : ℕ) (c : Trace) (rs : List ℕ) → AreDistinct rs → ((r : ℕ) → contains r rs ≡ true → contains r (waiting c) ≡ true) → Holds (IsProper s) c (map (λ r. entry t (row.Expire r)) rs)
 expire-hold s t c [] d all = tt
 expire-hold s t c (r ∷ rs) d all = (
-  all r (rw (same_number r) refl),
+  all r (rw (eq-eqb r r refl) refl),
   expire-hold s t (c ++ entry t (row.Expire r) ∷ []) rs d.1
-      (λ q h. rw (waiting-end c (entry t (row.Expire r)) r refl refl refl refl, contains-filter (λ (q : ℕ). not (r == q)) q (waiting c), all q (or-more (r == q) (contains q rs) h)) (apart_from r q rs d.0 h)),
+      (λ q h. rw (waiting-end c (entry t (row.Expire r)) r refl refl refl refl, contains-filter (λ (q : ℕ). not (r == q)) q (waiting c), all q (or_right (r == q) (contains q rs) h)) (apart_from r q rs d.0 h)),
 )
 
 -- the expiries are proper
@@ -115,19 +114,40 @@ expiries-hold s t c num = expire-hold s t c (due s t c) (due_distinct s t c num)
 
 -- ---- then, where a pod is lost, its requests
 
+-- a live request is live once
+pub live_distinct : (c : Trace) → IsNumbered c → AreDistinct (live c)
+unfolding live
+live_distinct c num = distinct-filter (λ r. not (ended c r)) (each_row taken_by c) num.once
+
+-- a request that was taken in and has not ended is live
+pub is_live : (c : Trace) (r : ℕ) → contains r (each_row taken_by c) ≡ true → ended c r ≡ false → contains r (live c) ≡ true
+unfolding live
+is_live c r taken on = in_filter (λ q. not (ended c q)) r (each_row taken_by c) taken (rw on refl)
+
+-- who ends is live no more
+pub live-end : (c : Trace) (e : Entry) (r : ℕ) → taken_by e.row ≡ None → ended_by e.row ≡ Some r → live (c ++ e ∷ []) ≡ others r (live c)
+unfolding live
+live-end c e r taken ends =
+    view-less taken_by (λ q. not (ended c q)) (λ q. not (ended (c ++ e ∷ []) q)) c e r taken
+    (λ q. ap (λ (b : Bool). not b) (ended-push c e q) ∙ rw ends (by (ended c q) (r == q)))
+  where
+    by : (g m : Bool) → not (g || m) ≡ (not g && not m)
+    by true m = refl
+    by false m = refl
+
 -- who is at a pod is live
 pub at_pod_live : (c : Trace) (p r : ℕ) → IsNumbered c → contains r (at_pod c p) ≡ true → contains r (live c) ≡ true
 unfolding live
 at_pod_live c p r num h =
     let both = at_pod_member c p r h in
-    in_filter (λ q. not (ended c q)) r (each_row taken_by c) (moved_taken c r num (within-from (brought_to p) moved_by (brought_moved p) r c both.0)) (rw (both.1) refl)
+    is_live c r (moved_taken c r num (within-from (brought_to p) moved_by (brought_moved p) r c both.0)) both.1
 
 lost-hold : (s : Spec) (t : ℕ) (c : Trace) (p : ℕ) (rs : List ℕ) → AreDistinct rs → ((r : ℕ) → contains r rs ≡ true → contains r (at_pod c p) ≡ true) → Holds (IsProper s) c (map (λ r. entry t (row.LostRequest r)) rs)
 lost-hold s t c p [] d all = tt
 lost-hold s t c p (r ∷ rs) d all = (
-  (p, all r (rw (same_number r) refl)),
+  (p, all r (rw (eq-eqb r r refl) refl)),
   lost-hold s t (c ++ entry t (row.LostRequest r) ∷ []) p rs d.1
-      (λ q h. rw (at_pod-end c (entry t (row.LostRequest r)) r p refl refl, contains-filter (λ (q : ℕ). not (r == q)) q (at_pod c p), all q (or-more (r == q) (contains q rs) h)) (apart_from r q rs d.0 h)),
+      (λ q h. rw (at_pod-end c (entry t (row.LostRequest r)) r p refl refl, contains-filter (λ (q : ℕ). not (r == q)) q (at_pod c p), all q (or_right (r == q) (contains q rs) h)) (apart_from r q rs d.0 h)),
 )
 
 -- the losses are proper
@@ -158,13 +178,9 @@ lost-leave t c p r (q ∷ rs) h =
     let both = filter_member (λ (x : ℕ). not (q == x)) r (at_pod c p) (rw (at_pod-end c e q p refl refl) at rest.0) in
     (both.0, rw (not-true (q == r) both.1) rest.1)
 
--- the pod that the act loses has no request any more
-abbrev pub IsCleared : Trace → Act → Type 0
-IsCleared c a = (p : ℕ) → a ≡ act.Lost p → contains p (live_pods c) ≡ true → at_pod c p ≡ []
-
 none-there : (xs : List ℕ) → ((r : ℕ) → contains r xs ≡ true → ⊥) → xs ≡ []
 none-there [] h = refl
-none-there (x ∷ xs) h = absurd (h x (rw (same_number x) refl))
+none-there (x ∷ xs) h = absurd (h x (rw (eq-eqb x x refl) refl))
 
 losses-clear : (t : ℕ) (c : Trace) (p : ℕ) → IsNumbered c → contains p (live_pods (c ++ losses t c (act.Lost p))) ≡ true → at_pod (c ++ losses t c (act.Lost p)) p ≡ []
 unfolding losses lost_with
@@ -192,8 +208,8 @@ departures-clear s c e kept p lost =
 
 contains-index : (i : ℕ) (d : ℕ) (xs : List ℕ) → i < length xs → contains (slice_index_or xs i d) xs ≡ true
 contains-index i d [] h = absurd (omega arith)
-contains-index zero d (x ∷ xs) h = rw (same_number x) refl
-contains-index (suc i) d (x ∷ xs) h = or-more (x == slice_index_or xs i d) _ (contains-index i d xs (omega arith))
+contains-index zero d (x ∷ xs) h = rw (eq-eqb x x refl) refl
+contains-index (suc i) d (x ∷ xs) h = or_right (x == slice_index_or xs i d) _ (contains-index i d xs (omega arith))
 
 -- the pod in turn is one of them
 turn_ready : (n p : ℕ) (ps : List ℕ) → contains (slice_index (p ∷ ps) (n % length (p ∷ ps))) (p ∷ ps) ≡ true

@@ -4,6 +4,7 @@ use Rattle.std.specs.Prelude.{Option, None, Some, ◌==◌}
 use Rattle.std.specs.Bool.{then_some}
 use Rattle.std.specs.List.{filter, filter_map, cons_option, list_any}
 use Rattle.std.proofs.lemmas.List.Elements.{filter_map-append}
+use Rattle.std.proofs.Math.Bool.{or-false}
 use Rattle.kn_event.specs.declared.entry.Entry.{Entry}
 use Rattle.kn_event.specs.declared.entry.Row.TheVariants as row
 use Rattle.kn_record.specs.declared.admission.Place.{Place}
@@ -12,9 +13,9 @@ use Rattle.kn_record.specs.declared.admission.Request.{Request}
 use Rattle.kn_trace.specs.Rows.{ended_by, assigned_by, run_by, pod_by, taken_by}
 use Rattle.kn_trace.specs.Trace.{Trace, entry, ended, assigned, has_run, pod_of}
 use Rattle.kn_record.specs.Admission.{place_at, place_of, request_of, live_requests, without, moved, moved_to, begun_at, begins}
-use Rattle.kn_record.proofs.Members.{same_number}
-use Rattle.std.proofs.lemmas.Bool.{eqb-true}
-use Rattle.kn_record.proofs.Flags.{says, or_else, or-false, ended-push, assigned-push, has_run-push, pod_of-push}
+use Rattle.std.proofs.lemmas.Bool.{eqb-true, eq-eqb}
+use Rattle.kn_record.specs.Rows.{says, or_else}
+use Rattle.kn_record.proofs.Flags.{ended-push, assigned-push, has_run-push, pod_of-push}
 
 -- an optional request, changed
 abbrev pub changed : {X : Type 0} → (X → Option X) → Option X → Option X
@@ -168,7 +169,7 @@ live_requests-direct c t r p new none =
       new.ended,
       new.assigned,
       new.run,
-      same_number r,
+      eq-eqb r r refl,
     ) refl
   where
     by : (u q : ℕ) (g m : Bool) (o : Option ℕ) (a n : Bool) → (r == q) ≡ m → (m ≡ true → a ≡ false) → (m ≡ true → n ≡ false) → after_flags u q (g || false) (place_at (or_else (then_some (r == q) p) o) (a || false) (n || false))

@@ -2,6 +2,7 @@
 use Rattle.std.proofs.Common.{◌≡◌, ℕ, Bool, true, false, List, [], ◌∷◌, ◌++◌, map, refl, ap, ◌∙◌, append-nil, append_assoc}
 use Rattle.std.specs.Prelude.{◌==◌}
 use Rattle.std.specs.List.{filter}
+use Rattle.std.proofs.lemmas.Bool.{eq-eqb, or_right}
 use Rattle.kn_event.specs.declared.entry.Row.TheVariants as row
 use Rattle.kn_event.specs.declared.event.Event.{Event}
 use Rattle.kn_event.specs.declared.revision.Spec.{Spec}
@@ -10,12 +11,14 @@ use Rattle.kn_trace.specs.Trace.{Trace, entry, at_pod, contains, draining, each_
 use Rattle.kn_trace.specs.Settling.{held_assignments, promotions, promotions_at, removals, settling, while_free}
 use Rattle.kn_trace.specs.Events.{act_rows, activation, added, before_settling, departures, opening, react, trace_of}
 use Rattle.kn_record.specs.Made.{AreDistinct, ArePodsNumbered, Holds, IsMade, IsNumbered, IsProper}
-use Rattle.kn_record.proofs.Members.{same_number, distinct-filter, filter-first}
+use Rattle.kn_record.specs.Views.{others}
+use Rattle.kn_record.specs.Kept.{Kept}
+use Rattle.kn_record.proofs.Members.{distinct-filter, filter-first}
 use Rattle.kn_record.proofs.Numbers.{filter_member}
-use Rattle.kn_record.proofs.Steps.{others, at_pod-quiet, is_quiet, queued_at-run}
+use Rattle.kn_record.proofs.Steps.{at_pod-quiet, is_quiet, queued_at-run}
 use Rattle.kn_record.proofs.PodSteps.{draining-remove}
-use Rattle.kn_record.proofs.Kept.{Holds-append, Holds-kept, Kept, made_kept}
-use Rattle.kn_record.proofs.Reacting.{apart_from, assignments-hold, departures-clear, departures-hold, held_distinct, or-more, queued_distinct}
+use Rattle.kn_record.proofs.Kept.{Holds-append, Holds-kept, made_kept}
+use Rattle.kn_record.proofs.Reacting.{apart_from, assignments-hold, departures-clear, departures-hold, held_distinct, queued_distinct}
 use Rattle.kn_record.proofs.Scaling.{activation-holds, acts-hold, made_opening}
 
 -- ---- queued requests run
@@ -48,9 +51,9 @@ removals-hold-list : (s : Spec) (t : ℕ) (c : Trace) (ps : List ℕ) → AreDis
     → Holds (IsProper s) c (map (λ p. entry t (row.Remove p)) ps)
 removals-hold-list s t c [] d all = tt
 removals-hold-list s t c (p ∷ ps) d all = (
-  all p (rw (same_number p) refl),
+  all p (rw (eq-eqb p p refl) refl),
   removals-hold-list s t (c ++ entry t (row.Remove p) ∷ []) ps d.1
-      (λ q h. let old = all q (or-more (p == q) (contains q ps) h) in (
+      (λ q h. let old = all q (or_right (p == q) (contains q ps) h) in (
         draining-remove c t p q ∙ rw (old.0) (apart_from p q ps d.0 h),
         at_pod-quiet c (entry t (row.Remove p)) q (is_quiet (row.Remove p) refl refl refl refl) ∙ old.1,
       )),

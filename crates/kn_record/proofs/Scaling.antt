@@ -2,6 +2,7 @@
 use Rattle.std.proofs.Common.{◌≡◌, ℕ, ◌+◌, ◌-◌, ◌≤◌, Bool, true, false, not, cond, ◌&&◌, ◌||◌, List, [], ◌∷◌, ◌++◌, length, reverse, take, map, nat_lt, zero, suc, refl, sym, ap, ◌∙◌, arith, append-nil, append_assoc}
 use Rattle.std.specs.Prelude.{Option, None, Some, ◌==◌, unwrap_or, ◌*◌}
 use Rattle.std.proofs.lemmas.List.{reverse-append}
+use Rattle.std.proofs.lemmas.Bool.{eq-eqb, false_from_ne_true, or_right}
 use Rattle.kn_event.specs.declared.entry.Entry.{Entry}
 use Rattle.kn_event.specs.declared.entry.Row.{Row}
 use Rattle.kn_event.specs.declared.entry.Row.TheVariants as row
@@ -24,13 +25,15 @@ use Rattle.kn_trace.specs.Trace.{Trace, entry, contains, created, each_row, is_e
 use Rattle.kn_trace.specs.Scale.{count_ready, creations, decision_at, decision_rows, drain_order, is_same_mode, is_same_phase, mode_of, opening_scale, past_of, phase_of, scale_rows, standing_of, tick_rows, tick_rows_of, wake_decision_at, wake_rows, wanted, where_true}
 use Rattle.kn_trace.specs.Events.{act_row, act_rows, activation, entries_of, opening, opening_of, opening_phase, scaler_rows, wake_where}
 use Rattle.kn_record.specs.Made.{AreDistinct, ArePodsNumbered, Holds, IsMade, IsProper}
+use Rattle.kn_record.specs.Rows.{SaysNoPod}
+use Rattle.kn_record.specs.Kept.{Kept, IsCleared}
 use Rattle.kn_record.proofs.Flags.{created-push}
-use Rattle.kn_record.proofs.Members.{same_number, contains-append, contains-filter, distinct-filter, distinct-push}
-use Rattle.kn_record.proofs.Numbers.{false_unless, filter_member}
+use Rattle.kn_record.proofs.Members.{contains-append, contains-filter, distinct-filter, distinct-push}
+use Rattle.kn_record.proofs.Numbers.{filter_member}
 use Rattle.kn_record.proofs.PodNumbers.{ArePodsNumbered-push, contains-reverse, next_unnamed_pod, proper_keeps_pods}
-use Rattle.kn_record.proofs.PodSteps.{SaysNoPod, drain_order-create, drain_order-drain, drain_order-quiet, says_no_pod}
-use Rattle.kn_record.proofs.Kept.{Holds-append, Holds-kept, Kept, Kept-push}
-use Rattle.kn_record.proofs.Reacting.{IsCleared, act-holds, apart_from, or-more}
+use Rattle.kn_record.proofs.PodSteps.{drain_order-create, drain_order-drain, drain_order-quiet, says_no_pod}
+use Rattle.kn_record.proofs.Kept.{Holds-append, Holds-kept, Kept-push}
+use Rattle.kn_record.proofs.Reacting.{act-holds, apart_from}
 
 -- ---- lists
 
@@ -38,8 +41,8 @@ use Rattle.kn_record.proofs.Reacting.{IsCleared, act-holds, apart_from, or-more}
 pub distinct-append : (xs ys : List ℕ) → AreDistinct xs → AreDistinct ys → ((r : ℕ) → contains r xs ≡ true → contains r ys ≡ false) → AreDistinct (xs ++ ys)
 distinct-append [] ys d e apart = e
 distinct-append (x ∷ xs) ys d e apart = (
-  rw (contains-append x xs ys, d.0) (apart x (rw (same_number x) refl)),
-  distinct-append xs ys d.1 e (λ r h. apart r (or-more (x == r) (contains r xs) h)),
+  rw (contains-append x xs ys, d.0) (apart x (rw (eq-eqb x x refl) refl)),
+  distinct-append xs ys d.1 e (λ r h. apart r (or_right (x == r) (contains r xs) h)),
 )
 
 pub distinct-reverse : (xs : List ℕ) → AreDistinct xs → AreDistinct (reverse xs)
@@ -58,7 +61,7 @@ contains-take (suc n) r (x ∷ xs) h = by (x == r) h (λ k. contains-take n r xs
 pub distinct-take : (n : ℕ) (xs : List ℕ) → AreDistinct xs → AreDistinct (take n xs)
 distinct-take zero xs d = tt
 distinct-take (suc n) [] d = tt
-distinct-take (suc n) (x ∷ xs) d = (false_unless (contains x (take n xs)) (λ h. let found = contains-take n x xs h in let apart = d.0 in absurd (cc)), distinct-take n xs d.1)
+distinct-take (suc n) (x ∷ xs) d = (false_from_ne_true (contains x (take n xs)) (λ h. let found = contains-take n x xs h in let apart = d.0 in absurd (cc)), distinct-take n xs d.1)
 
 -- ---- the pods that do not drain
 
@@ -102,8 +105,8 @@ creations-hold s t c i (suc k) num e room = (
 drains-hold : (s : Spec) (t : ℕ) (c : Trace) (ps : List ℕ) → AreDistinct ps → ((p : ℕ) → contains p ps ≡ true → contains p (drain_order c) ≡ true) → Holds (IsProper s) c (map (λ p. entry t (row.Drain p)) ps)
 drains-hold s t c [] d all = tt
 drains-hold s t c (p ∷ ps) d all = (
-  all p (rw (same_number p) refl),
-  drains-hold s t (c ++ entry t (row.Drain p) ∷ []) ps d.1 (λ q h. drain_order-drain c t p q ∙ rw (all q (or-more (p == q) (contains q ps) h)) (apart_from p q ps d.0 h)),
+  all p (rw (eq-eqb p p refl) refl),
+  drains-hold s t (c ++ entry t (row.Drain p) ∷ []) ps d.1 (λ q h. drain_order-drain c t p q ∙ rw (all q (or_right (p == q) (contains q ps) h)) (apart_from p q ps d.0 h)),
 )
 
 -- the same pods as at c, at a trace d that has grown without a row on pods

@@ -3,7 +3,7 @@ use Rattle.std.proofs.Common.{◌≡◌, ℕ, ◌+◌, Bool, true, false, not, c
 use Rattle.std.specs.Prelude.{Option, None, Some, ◌==◌, if◌then◌else◌}
 use Rattle.std.specs.Bool.{then_some}
 use Rattle.std.specs.List.{All, filter, filter_map, cons_option, find, sum_by}
-use Rattle.std.proofs.lemmas.Bool.{eqb-true}
+use Rattle.std.proofs.lemmas.Bool.{eqb-true, true_from_ne_false}
 use Rattle.std.proofs.lemmas.List.Elements.{All-weaker}
 use Rattle.std.proofs.lemmas.List.Sums.{sum_by-cons}
 use Rattle.kn_event.specs.declared.entry.Entry.{Entry}
@@ -27,7 +27,6 @@ use Rattle.kn_record.specs.Admission.{Admission, admission, candidates_in, capac
 use Rattle.kn_record.specs.Made.{IsMade, IsNumbered, StandsFor}
 use Rattle.kn_record.specs.Views.{AreByPlace, AreViews, due_in, is_free, is_full, numbers_in, stand_found, stand_in, stand_of_place}
 use Rattle.kn_record.proofs.Members.{filter-members}
-use Rattle.kn_record.proofs.Numbers.{true_unless}
 use Rattle.kn_record.proofs.Pods.{live-pods, ready-pods}
 use Rattle.kn_record.proofs.Views.{live-requests, placed-requests}
 use Rattle.kn_record.proofs.Kept.{made_kept}
@@ -68,7 +67,7 @@ due-requests s t c num = first ∙ from c
 
     first : filter (has_not_begun c) (filter_map (due_by s.timeout_ms t) c) ≡ filter test (filter_map (due_by s.timeout_ms t) c)
     first = filter-members (has_not_begun c) test (filter_map (due_by s.timeout_ms t) c)
-        (λ r h. waiting_by _ _ _ _ (ended c r) _ (agrees c r num (true_unless (contains r (each_row taken_by c)) (λ n. let no = contains-fewer (due_by s.timeout_ms t) (λ (e : Entry). taken_by e.row) (due_taken s.timeout_ms t) r c n in absurd (cc)))))
+        (λ r h. waiting_by _ _ _ _ (ended c r) _ (agrees c r num (true_from_ne_false (contains r (each_row taken_by c)) (λ n. let no = contains-fewer (due_by s.timeout_ms t) (λ (e : Entry). taken_by e.row) (due_taken s.timeout_ms t) r c n in absurd (cc)))))
 
     from : (d : Trace) → filter test (filter_map (due_by s.timeout_ms t) d) ≡ due_in s.timeout_ms t (filter_map (λ (e : Entry). request_of c e.time (taken_by e.row)) d)
     from [] = refl

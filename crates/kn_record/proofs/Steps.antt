@@ -3,19 +3,18 @@ use Rattle.std.proofs.Common.{◌≡◌, ℕ, ◌≤◌, Bool, true, false, not,
 use Rattle.std.specs.Prelude.{Option, None, Some, ◌==◌}
 use Rattle.std.specs.List.{filter, cons_option}
 use Rattle.std.proofs.lemmas.List.Elements.{filter_agree, filter-append}
+use Rattle.std.proofs.Math.Bool.{or-false}
 use Rattle.kn_event.specs.declared.entry.Entry.{Entry}
 use Rattle.kn_event.specs.declared.entry.Row.{Row}
 use Rattle.kn_event.specs.declared.entry.Row.TheVariants as row
 use Rattle.kn_trace.specs.Rows.{admitted_by, taken_by, assigned_by, brought_to, run_by, ended_by}
 use Rattle.kn_trace.specs.Trace.{Trace, entry, each_row, assigned, at_pod, ended, has_begun, has_not_begun, has_run, held, in_breaker, is_held, is_running, live, queued_at, running_at, waiting}
 use Rattle.kn_trace.specs.Capacity.{in_use}
-use Rattle.kn_record.specs.Rows.{moved_by}
-use Rattle.kn_record.proofs.Flags.{says, or-false, each_row-push, ended-push, assigned-push, has_run-push}
+use Rattle.kn_record.specs.Rows.{moved_by, says, IsQuiet}
+use Rattle.kn_record.specs.Views.{others}
+use Rattle.kn_record.proofs.Flags.{each_row-push, ended-push, assigned-push, has_run-push}
 
 -- ---- lists
-
-abbrev pub others : ℕ → List ℕ → List ℕ
-others r xs = filter (λ q. not (r == q)) xs
 
 -- a filter by two tests
 pub filter-both : (t u : ℕ → Bool) (xs : List ℕ) → filter (λ q. t q && u q) xs ≡ filter u (filter t xs)
@@ -79,14 +78,6 @@ unfolding is_running
 is_running-push c e q = rw (has_begun-push c e q, ended-push c e q) refl
 
 -- ---- a row that neither takes in, moves, begins nor ends a request
-
-pub record IsQuiet (x : Row) : Type 0 where
-  pub admitted : admitted_by x ≡ None
-  pub taken : taken_by x ≡ None
-  pub assigned : assigned_by x ≡ None
-  pub brought : (p : ℕ) → brought_to p x ≡ None
-  pub run : run_by x ≡ None
-  pub ended : ended_by x ≡ None
 
 pub is_quiet : (x : Row) → taken_by x ≡ None → moved_by x ≡ None → run_by x ≡ None → ended_by x ≡ None → IsQuiet x
 is_quiet (row.Admit r tag) a b d e = absurd (cc)

@@ -14,11 +14,11 @@ use Rattle.kn_trace.specs.Events.{act_rows, before_settling, departures, due, du
 use Rattle.kn_record.specs.declared.admission.Pod.{Pod}
 use Rattle.kn_record.specs.Admission.{Admission, is_at, is_held_place, next_in, placed_in, queues_at, stepped}
 use Rattle.kn_record.specs.Made.{AreDistinct, Holds, IsMade, IsNumbered, IsProper, StandsFor}
-use Rattle.kn_record.specs.Views.{due_in, has_free_seat_in, is_free, is_pod_where, pod_numbered, pod_numbers}
+use Rattle.kn_record.specs.Views.{due_in, has_free_seat_in, is_free, is_pod_where, pod_numbered, pod_numbers, others}
 use Rattle.kn_record.specs.Walks.{ArePartsProper, BeginsWith, leaving_in, promoting, stepped_by}
 use Rattle.kn_record.proofs.Members.{distinct-filter, filter-first}
 use Rattle.kn_record.proofs.Numbers.{filter_member, first_member}
-use Rattle.kn_record.proofs.Steps.{others, filter-both, at_pod-quiet, has_not_begun-push, held-assign, is_quiet, view-less}
+use Rattle.kn_record.proofs.Steps.{filter-both, at_pod-quiet, has_not_begun-push, held-assign, is_quiet, view-less}
 use Rattle.kn_record.proofs.PodSteps.{is_draining-push}
 use Rattle.kn_record.proofs.Kept.{Holds-kept, made_kept}
 use Rattle.kn_record.proofs.Reacting.{departures-clear, departures-hold, due_distinct, due_waits, expiries-hold, held_distinct, losses-hold, queued_distinct}

@@ -3,7 +3,7 @@ use Rattle.std.proofs.Common.{◌≡◌, ℕ, ◌+◌, Bool, true, false, not, c
 use Rattle.std.specs.Prelude.{Option, None, Some, ◌==◌}
 use Rattle.std.specs.Bool.{then_some}
 use Rattle.std.specs.List.{filter, cons_option}
-use Rattle.std.proofs.lemmas.Bool.{eqb-true}
+use Rattle.std.proofs.lemmas.Bool.{eqb-true, eq-eqb, false_from_ne_true, or_right}
 use Rattle.kn_event.specs.declared.entry.Entry.{Entry}
 use Rattle.kn_event.specs.declared.entry.Row.{Row}
 use Rattle.kn_event.specs.declared.entry.Row.TheVariants as row
@@ -11,14 +11,14 @@ use Rattle.kn_trace.specs.Rows.{admitted_by, assigned_by, brought_to, directed_b
 use Rattle.kn_trace.specs.Trace.{Trace, assigned, at_pod, contains, each_row, ended, has_begun, has_not_begun, has_run, held, in_breaker, is_held, is_running, last_of, live, pod_of, proxied, running_at, waiting}
 use Rattle.kn_trace.specs.Capacity.{in_use}
 use Rattle.kn_record.specs.declared.admission.Place.{Place}
-use Rattle.kn_record.specs.Rows.{moved_by}
+use Rattle.kn_record.specs.Rows.{moved_by, says}
 use Rattle.kn_record.specs.Admission.{is_assigned_place, is_at, is_held_place, is_through, place_at, place_of, placed, runs_at, runs_somewhere, waits}
 use Rattle.kn_record.specs.Made.{AreDistinct, IsNumbered}
-use Rattle.kn_record.proofs.Flags.{says}
-use Rattle.kn_record.proofs.Members.{same_number, contains-filter, contains-split, distinct-filter, filter-members, filter-others, other_number}
-use Rattle.kn_record.proofs.Numbers.{admitted_taken, begun_taken, brought_moved, false_unless, last_of-none, moved-none, moved_parts, moved_pod, moved_taken, says-true, pod-none, taken_parts, within-from}
-use Rattle.kn_record.proofs.Steps.{filter-both, others}
-use Rattle.kn_record.proofs.Reacting.{brought_distinct, distinct-fewer, or-more}
+use Rattle.kn_record.specs.Views.{others}
+use Rattle.kn_record.proofs.Members.{contains-filter, contains-split, distinct-filter, filter-members, filter-others, other_number}
+use Rattle.kn_record.proofs.Numbers.{admitted_taken, begun_taken, brought_moved, last_of-none, moved-none, moved_parts, moved_pod, moved_taken, says-true, pod-none, taken_parts, within-from}
+use Rattle.kn_record.proofs.Steps.{filter-both}
+use Rattle.kn_record.proofs.Reacting.{brought_distinct, distinct-fewer}
 
 pub and-none : (b : Bool) → (b && false) ≡ false
 and-none true = refl
@@ -53,9 +53,9 @@ others-length r (y ∷ ys) d h = by (r == y) refl (λ k. others-length r ys d.1 
 -- distinct lists of the same members are as long
 pub same-length : (xs ys : List ℕ) → AreDistinct xs → AreDistinct ys → ((r : ℕ) → contains r xs ≡ contains r ys) → length xs ≡ length ys
 same-length [] [] d e same = refl
-same-length [] (y ∷ ys) d e same = absurd (let one = same y in let there : contains y (y ∷ ys) ≡ true = rw (same_number y) refl in cc)
+same-length [] (y ∷ ys) d e same = absurd (let one = same y in let there : contains y (y ∷ ys) ≡ true = rw (eq-eqb y y refl) refl in cc)
 same-length (x ∷ xs) ys d e same =
-    let there : contains x ys ≡ true = sym (same x) ∙ rw (same_number x) refl in
+    let there : contains x ys ≡ true = sym (same x) ∙ rw (eq-eqb x x refl) refl in
     let less = others-length x ys e there in
     let rest = same-length xs (others x ys) d.1 (distinct-filter (λ q. not (x == q)) ys e) (λ r. by r (x == r) refl) in
     omega arith
@@ -83,10 +83,10 @@ in_rest f r e d h = by (f e.row)
   where
     by : (o : Option ℕ) → contains r (cons_option o (each_row f d)) ≡ true
     by None = h
-    by (Some q) = or-more (q == r) (contains r (each_row f d)) h
+    by (Some q) = or_right (q == r) (contains r (each_row f d)) h
 
 pub in_first : (f : Row → Option ℕ) (r : ℕ) (e : Entry) (d : Trace) → f e.row ≡ Some r → contains r (each_row f (e ∷ d)) ≡ true
-in_first f r e d h = rw (h, same_number r) refl
+in_first f r e d h = rw (h, eq-eqb r r refl) refl
 
 -- each row of g is f's or h's, the test holds of f's and not of h's: f's are those of g that pass
 pub split-filter : (f h g : Row → Option ℕ) (t : ℕ → Bool) → ((x : Row) → ((f x ≡ g x) × (h x ≡ None)) ⊎ ((f x ≡ None) × (h x ≡ g x))) → (d : Trace)
@@ -219,12 +219,12 @@ pod_brought : (p r : ℕ) (x : Row) → pod_by r x ≡ Some p → brought_to p x
 pod_brought p r (row.Assign q u) h = by (q == r) refl h
   where
     by : (b : Bool) → (q == r) ≡ b → then_some b u ≡ Some p → then_some (u == p) q ≡ Some r
-    by true e k = let a : q ≡ r = eqb-true q r e in let d : u ≡ p = cc in rw (d, same_number p, a) refl
+    by true e k = let a : q ≡ r = eqb-true q r e in let d : u ≡ p = cc in rw (d, eq-eqb p p refl, a) refl
     by false e k = absurd (cc)
 pod_brought p r (row.Direct q u) h = by (q == r) refl h
   where
     by : (b : Bool) → (q == r) ≡ b → then_some b u ≡ Some p → then_some (u == p) q ≡ Some r
-    by true e k = let a : q ≡ r = eqb-true q r e in let d : u ≡ p = cc in rw (d, same_number p, a) refl
+    by true e k = let a : q ≡ r = eqb-true q r e in let d : u ≡ p = cc in rw (d, eq-eqb p p refl, a) refl
     by false e k = absurd (cc)
 pod_brought p r _ h = absurd (cc)
 
@@ -232,12 +232,12 @@ brought_pod : (p r : ℕ) (x : Row) → brought_to p x ≡ Some r → pod_by r x
 brought_pod p r (row.Assign q u) h = by (u == p) refl h
   where
     by : (b : Bool) → (u == p) ≡ b → then_some b q ≡ Some r → then_some (q == r) u ≡ Some p
-    by true e k = let a : u ≡ p = eqb-true u p e in let d : q ≡ r = cc in rw (d, same_number r, a) refl
+    by true e k = let a : u ≡ p = eqb-true u p e in let d : q ≡ r = cc in rw (d, eq-eqb r r refl, a) refl
     by false e k = absurd (cc)
 brought_pod p r (row.Direct q u) h = by (u == p) refl h
   where
     by : (b : Bool) → (u == p) ≡ b → then_some b q ≡ Some r → then_some (q == r) u ≡ Some p
-    by true e k = let a : u ≡ p = eqb-true u p e in let d : q ≡ r = cc in rw (d, same_number r, a) refl
+    by true e k = let a : u ≡ p = eqb-true u p e in let d : q ≡ r = cc in rw (d, eq-eqb r r refl, a) refl
     by false e k = absurd (cc)
 brought_pod p r _ h = absurd (cc)
 
@@ -277,7 +277,7 @@ brought_is p r (e ∷ c) d h = by (says (brought_to p e.row) r) refl h (moved_by
 
     unmoved : (o : Option ℕ) → AreDistinct (cons_option o (each_row moved_by c)) → contains r (each_row moved_by c) ≡ true → says o r ≡ false
     unmoved None d k = refl
-    unmoved (Some q) d k = false_unless (q == r) (λ m. let same : q ≡ r = eqb-true q r m in let absent : contains r (each_row moved_by c) ≡ false = rw (← same) d.0 in absurd (cc))
+    unmoved (Some q) d k = false_from_ne_true (q == r) (λ m. let same : q ≡ r = eqb-true q r m in let absent : contains r (each_row moved_by c) ≡ false = rw (← same) d.0 in absurd (cc))
 
     by : (b : Bool) → says (brought_to p e.row) r ≡ b → contains r (cons_option (brought_to p e.row) (each_row (brought_to p) c)) ≡ true → (o : Option ℕ) → moved_by e.row ≡ o → AreDistinct (cons_option o (each_row moved_by c))
         → (AreDistinct (each_row moved_by c) → contains r (each_row (brought_to p) c) ≡ true → each_row (pod_by r) c ≡ p ∷ []) → cons_option (pod_by r e.row) (each_row (pod_by r) c) ≡ p ∷ []
@@ -307,9 +307,9 @@ at_by : (b k : Bool) (p : ℕ) (o : Option ℕ) (s n : Bool) → (b ≡ true →
 at_by true k p o s n to from taken = rw (to refl, taken refl) (by s n)
   where
     by : (s n : Bool) → true ≡ (true && is_at p (place_at (Some p) s n))
-    by true n = sym (same_number p)
-    by false true = sym (same_number p)
-    by false false = sym (same_number p)
+    by true n = sym (eq-eqb p p refl)
+    by false true = sym (eq-eqb p p refl)
+    by false false = sym (eq-eqb p p refl)
 at_by false k p None s n to from taken = by k
   where
     by : (k : Bool) → false ≡ (k && false)

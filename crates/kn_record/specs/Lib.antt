@@ -1,7 +1,9 @@
 pub mod Rows
 pub mod Admission
 pub mod Made
+pub mod Kept
 pub mod Views
 pub mod Walks
 pub mod Order
 pub mod Acting
+pub mod Facts

@@ -11,6 +11,10 @@ use Rattle.kn_record.specs.declared.admission.Pod.{Pod}
 use Rattle.kn_record.specs.Admission.{Admission, is_at, placed_in}
 use Rattle.kn_record.specs.Views.{pod_numbers}
 
+-- each number is below all later ones
+abbrev pub Ascend : List ℕ → Type 0
+Ascend xs = AllPairs (λ x y. x < y) xs
+
 -- the place's pod is one of these; a held request has none
 abbrev pub IsAmong : List ℕ → Place → Type 0
 IsAmong ps place.Held = ⊤

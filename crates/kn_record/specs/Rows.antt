@@ -1,7 +1,9 @@
 -- Which request or pod a row is about, whatever its kind.
-use Rattle.std.specs.Prelude.{ℕ, Option, None, Some}
+use Rattle.std.specs.Prelude.{◌≡◌, ℕ, Bool, false, ◌==◌, Option, None, Some}
+use Rattle.kn_event.specs.declared.entry.Decision.{Decision}
 use Rattle.kn_event.specs.declared.entry.Row.{Row}
 use Rattle.kn_event.specs.declared.entry.Row.TheVariants as row
+use Rattle.kn_trace.specs.Rows.{admitted_by, assigned_by, brought_to, created_by, drained_by, ended_by, gone_by, limit_by, readied_by, run_by, taken_by}
 
 -- the request that has come and that the row is about. A refusal to end a request may name any number
 abbrev pub named_by : Row → Option ℕ
@@ -32,3 +34,42 @@ pod_named_by (row.Drain p) = Some p
 pod_named_by (row.Remove p) = Some p
 pod_named_by (row.LostPod p) = Some p
 pod_named_by _ = None
+
+-- ---- what a row says, and what it leaves
+
+-- it says this of r
+abbrev pub says : Option ℕ → ℕ → Bool
+says None r = false
+says (Some q) r = q == r
+
+-- what it says, or what was so before
+abbrev pub or_else : {X : Type 0} → Option X → Option X → Option X
+or_else None other = other
+or_else (Some x) other = Some x
+
+-- how many rows of its kind it adds
+abbrev pub counted : {X : Type 0} → Option X → ℕ
+counted None = 0
+counted (Some x) = 1
+
+-- it neither takes a request in, nor brings it to a pod, begins or ends it
+pub record IsQuiet (x : Row) : Type 0 where
+  pub admitted : admitted_by x ≡ None
+  pub taken : taken_by x ≡ None
+  pub assigned : assigned_by x ≡ None
+  pub brought : (p : ℕ) → brought_to p x ≡ None
+  pub run : run_by x ≡ None
+  pub ended : ended_by x ≡ None
+
+-- it says nothing of any pod
+pub record SaysNoPod (x : Row) : Type 0 where
+  pub created : created_by x ≡ None
+  pub readied : readied_by x ≡ None
+  pub drained : drained_by x ≡ None
+  pub removed : gone_by x ≡ None
+  pub limit : (p : ℕ) → limit_by p x ≡ None
+
+-- what the row's decision wants, or what was wanted before
+abbrev pub want_after : Option Decision → ℕ → ℕ
+want_after None n = n
+want_after (Some d) n = d.want

@@ -1,5 +1,5 @@
 -- Each view of a trace, of the record that stands for it; and each view of requests by their place.
-use Rattle.std.specs.Prelude.{◌≡◌, ℕ, Bool, true, false, ◌+◌, ◌*◌, ◌&&◌, ◌||◌, ◌==◌, nat_lt, nat_le, List, map, length, Option, None, Some, if◌then◌else◌}
+use Rattle.std.specs.Prelude.{◌≡◌, ℕ, Bool, true, false, not, ◌+◌, ◌*◌, ◌&&◌, ◌||◌, ◌==◌, nat_lt, nat_le, List, map, length, Option, None, Some, if◌then◌else◌}
 use Rattle.std.specs.List.{All, filter, find}
 use Rattle.kn_event.specs.declared.event.Stand.{Stand}
 use Rattle.kn_event.specs.declared.event.Stand.TheVariants as stand
@@ -28,6 +28,10 @@ pub record AreByPlace (c : Trace) : Type 0 where
   pub count_running_at : (p : ℕ) → length (running_at c p) ≡ length (placed (runs_at p) c)
   pub in_use : in_use c ≡ length (placed is_assigned_place c)
   pub is_running : (r : ℕ) → is_running c r ≡ contains r (placed runs_somewhere c)
+
+-- a view without request r
+abbrev pub others : ℕ → List ℕ → List ℕ
+others r xs = filter (λ q. not (r == q)) xs
 
 -- ---- of the record
 

@@ -7,6 +7,7 @@ use Rattle.std.proofs.lemmas.Bool.Decides.{nat_tests}
 use Rattle.std.proofs.lemmas.List.Elements.{filter-append}
 use Rattle.std.proofs.lemmas.List.Folds.{list_any-append}
 use Rattle.std.proofs.lemmas.List.Filters.{length-filter_both}
+use Rattle.std.proofs.lemmas.Bool.{eq-eqb}
 use Rattle.kn_event.specs.declared.entry.Row.TheVariants as row
 use Rattle.kn_event.specs.declared.entry.Phase.TheVariants as phase
 use Rattle.kn_event.specs.declared.entry.Mode.TheVariants as mode
@@ -22,7 +23,6 @@ use Rattle.kn_trace.specs.Scale.{mode_of, opening_scale, phase_of, wanted}
 use Rattle.kn_trace.specs.Settling.{assignments_of, held_assignments, next_choice, promotions, promotions_at, removals, settling}
 use Rattle.kn_trace.specs.Events.{act_row, act_rows, activation, added, before_settling, departures, due, expiries, live_most, losses, react, scaler_rows}
 use Rattle.kn_trace.specs.Worked.{at}
-use Rattle.kn_record.proofs.Members.{same_number}
 use Rattle.kn_runs.specs.Long.{arrivals_from, assigned_from}
 use Rattle.kn_runs.specs.Counts.{brief_requests_from, finished_from}
 use Rattle.kn_runs.proofs.Lists.{each-none, each-some, filter-none, length-upto, nobody_due, not_below, upto, upto-more}
@@ -126,7 +126,7 @@ at_most p m =
     omega arith
 
 is_below : (m : ℕ) → contains m (upto (suc m)) ≡ true
-is_below m = rw (upto-more m, list_any-append (λ y. y == m) (upto m) (m ∷ []), same_number m) (by (contains m (upto m)))
+is_below m = rw (upto-more m, list_any-append (λ y. y == m) (upto m) (m ∷ []), eq-eqb m m refl) (by (contains m (upto m)))
   where
     by : (b : Bool) → (b || (true || false)) ≡ true
     by true = refl

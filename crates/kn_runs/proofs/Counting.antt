@@ -9,7 +9,7 @@ use Rattle.kn_scaling.specs.Worked.{scaled}
 use Rattle.kn_trace.specs.Trace.{Trace}
 use Rattle.kn_trace.specs.Events.{added, trace_of}
 use Rattle.kn_trace.specs.Worked.{Reports, at, whole_run}
-use Rattle.kn_laws.proofs.Added.{trace_of-append}
+use Rattle.kn_laws.specs.History.{GoesOn}
 use Rattle.kn_runs.specs.Long.{arrivals_from, assigned_from}
 use Rattle.kn_runs.specs.Counts.{RpsCounts, SameLoadByConcurrency, RpsOfFinishedRequests, ConcurrencyOfFinishedRequests, brief_requests_from, by_requests, finished_from}
 use Rattle.kn_runs.proofs.Assigning.{HasRoom, IsAssigning, all-assigned, all-finished}
@@ -73,28 +73,29 @@ with_tick s more =
     let c = begun s ++ more in
     c ++ added s c (at 1000 act.Tick ∷ [])
 
--- the events after the pod is Ready make these entries, so the run with the tick has these lines
-by_lines : (s : Spec) (es : List Event) (more : Trace) (lines : List (List ℕ)) → added s (begun s) es ≡ more → map entry_text (with_tick s more) ≡ lines
-    → Reports s 0 (at 0 (act.Ready 0) ∷ (es ++ at 1000 act.Tick ∷ [])) lines
-unfolding begun with_tick
-by_lines s es more lines made text =
-    let tick = at 1000 act.Tick ∷ [] in
-    let first = at 0 (act.Ready 0) ∷ [] in
-    let come : trace_of s 0 (first ++ es) ≡ begun s ++ more = trace_of-append s 0 first es ∙ ap (λ (new : Trace). begun s ++ new) made in
-    ap (λ (c : Trace). map entry_text c) (trace_of-append s 0 (first ++ es) tick ∙ ap (λ (c : Trace). c ++ added s c tick) come) ∙ text
+module _ (append : (s : Spec) (start : ℕ) (es later : List Event) → GoesOn s start es later) where
+  -- the events after the pod is Ready make these entries, so the run with the tick has these lines
+  by_lines : (s : Spec) (es : List Event) (more : Trace) (lines : List (List ℕ)) → added s (begun s) es ≡ more → map entry_text (with_tick s more) ≡ lines
+      → Reports s 0 (at 0 (act.Ready 0) ∷ (es ++ at 1000 act.Tick ∷ [])) lines
+  unfolding begun with_tick
+  by_lines s es more lines made text =
+      let tick = at 1000 act.Tick ∷ [] in
+      let first = at 0 (act.Ready 0) ∷ [] in
+      let come : trace_of s 0 (first ++ es) ≡ begun s ++ more = append s 0 first es ∙ ap (λ (new : Trace). begun s ++ new) made in
+      ap (λ (c : Trace). map entry_text c) (append s 0 (first ++ es) tick ∙ ap (λ (c : Trace). c ++ added s c tick) come) ∙ text
 
-pub rps-run : RpsCounts
-unfolding whole_run begun with_tick assigned_from
-rps-run = by_lines by_requests (arrivals_from 0 0 290) (assigned_from 0 0 290) _ (all-assigned by_requests 0 (begun by_requests) 290 0 room_by_requests nobody_by_requests (omega arith)) refl
+  pub rps-run : RpsCounts
+  unfolding whole_run begun with_tick assigned_from
+  rps-run = by_lines by_requests (arrivals_from 0 0 290) (assigned_from 0 0 290) _ (all-assigned by_requests 0 (begun by_requests) 290 0 room_by_requests nobody_by_requests (omega arith)) refl
 
-pub same-load-run : SameLoadByConcurrency
-unfolding whole_run begun with_tick assigned_from
-same-load-run = by_lines (scaled 0) (arrivals_from 0 0 290) (assigned_from 0 0 290) _ (all-assigned (scaled 0) 0 (begun (scaled 0)) 290 0 room_by_concurrency nobody_by_concurrency (omega arith)) refl
+  pub same-load-run : SameLoadByConcurrency
+  unfolding whole_run begun with_tick assigned_from
+  same-load-run = by_lines (scaled 0) (arrivals_from 0 0 290) (assigned_from 0 0 290) _ (all-assigned (scaled 0) 0 (begun (scaled 0)) 290 0 room_by_concurrency nobody_by_concurrency (omega arith)) refl
 
-pub rps-finished-run : RpsOfFinishedRequests
-unfolding whole_run begun with_tick finished_from
-rps-finished-run = by_lines by_requests (brief_requests_from 0 0 290) (finished_from 0 0 290) _ (all-finished by_requests 0 (begun by_requests) 290 0 room_by_requests nobody_by_requests (omega arith)) refl
+  pub rps-finished-run : RpsOfFinishedRequests
+  unfolding whole_run begun with_tick finished_from
+  rps-finished-run = by_lines by_requests (brief_requests_from 0 0 290) (finished_from 0 0 290) _ (all-finished by_requests 0 (begun by_requests) 290 0 room_by_requests nobody_by_requests (omega arith)) refl
 
-pub concurrency-finished-run : ConcurrencyOfFinishedRequests
-unfolding whole_run begun with_tick finished_from
-concurrency-finished-run = by_lines (scaled 0) (brief_requests_from 0 0 290) (finished_from 0 0 290) _ (all-finished (scaled 0) 0 (begun (scaled 0)) 290 0 room_by_concurrency nobody_by_concurrency (omega arith)) refl
+  pub concurrency-finished-run : ConcurrencyOfFinishedRequests
+  unfolding whole_run begun with_tick finished_from
+  concurrency-finished-run = by_lines (scaled 0) (brief_requests_from 0 0 290) (finished_from 0 0 290) _ (all-finished (scaled 0) 0 (begun (scaled 0)) 290 0 room_by_concurrency nobody_by_concurrency (omega arith)) refl

@@ -2,15 +2,14 @@
 use Rattle.std.proofs.Common.{◌≡◌, ℕ, ◌≤◌, ◌<◌, ◌+◌, Bool, true, false, ◌||◌, List, [], ◌∷◌, ◌++◌, length, refl, ◌∙◌, arith, append-nil, length-append, nat_le}
 use Rattle.std.specs.Prelude.{Option, None, Some, zero, suc, ◌==◌}
 use Rattle.std.specs.List.{filter, filter_map}
-use Rattle.std.proofs.lemmas.Bool.{eqb-true}
+use Rattle.std.proofs.lemmas.Bool.{eqb-true, eq-eqb}
 use Rattle.std.proofs.lemmas.Bool.Decides.{nat_tests}
 use Rattle.std.proofs.lemmas.List.Folds.{list_any-append}
+use Rattle.std.proofs.lemmas.List.Elements.{filter_map-append}
 use Rattle.kn_event.specs.declared.entry.Entry.{Entry}
 use Rattle.kn_event.specs.declared.entry.Row.{Row}
 use Rattle.kn_trace.specs.Trace.{Trace, contains, each_row}
 use Rattle.kn_trace.specs.Events.{due_by}
-use Rattle.kn_record.proofs.Flags.{each_row-push}
-use Rattle.kn_record.proofs.Members.{same_number}
 
 -- ---- the numbers below n
 
@@ -52,7 +51,7 @@ filter-all t all (x ∷ xs) = rw (all x, filter-all t all xs) refl
 pub filter-none : (t : ℕ → Bool) (xs : List ℕ) → ((r : ℕ) → contains r xs ≡ true → t r ≡ false) → filter t xs ≡ []
 filter-none t [] none = refl
 filter-none t (x ∷ xs) none =
-    rw (none x (rw (same_number x) refl)) (filter-none t xs (λ r h. none r (by r (x == r) h)))
+    rw (none x (rw (eq-eqb x x refl) refl)) (filter-none t xs (λ r h. none r (by r (x == r) h)))
   where
     by : (r : ℕ) (b : Bool) → contains r xs ≡ true → (b || contains r xs) ≡ true
     by r true h = refl
@@ -61,10 +60,10 @@ filter-none t (x ∷ xs) none =
 -- ---- one more row
 
 pub each-none : {X : Type 0} (f : Row → Option X) (d : Trace) (e : Entry) (xs : List X) → f e.row ≡ None → each_row f d ≡ xs → each_row f (d ++ e ∷ []) ≡ xs
-each-none f d e xs none was = each_row-push f d e ∙ rw (none, append-nil) was
+each-none f d e xs none was = filter_map-append (λ (x : Entry). f x.row) d (e ∷ []) ∙ rw (none, append-nil) was
 
 pub each-some : {X : Type 0} (f : Row → Option X) (d : Trace) (e : Entry) (xs : List X) (x : X) → f e.row ≡ Some x → each_row f d ≡ xs → each_row f (d ++ e ∷ []) ≡ xs ++ x ∷ []
-each-some f d e xs x some was = each_row-push f d e ∙ rw (some, was) refl
+each-some f d e xs x some was = filter_map-append (λ (x : Entry). f x.row) d (e ∷ []) ∙ rw (some, was) refl
 
 -- ---- nobody is due before the timeout has passed since the start
 

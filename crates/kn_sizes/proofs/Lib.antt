@@ -1,4 +1,5 @@
 pub mod Counts
+pub mod Draining
 pub mod Ends
 pub mod Bounds
 pub mod Growth

@@ -3,6 +3,7 @@ use Rattle.std.proofs.Common.{◌≡◌, ℕ, true, false, List, [], ◌∷◌, 
 use Rattle.std.specs.Prelude.{Option, None, Some, ◌==◌}
 use Rattle.std.specs.List.{cons_option}
 use Rattle.std.proofs.lemmas.List.Elements.{filter_map-append}
+use Rattle.std.proofs.lemmas.Bool.{or_parts, false_from_ne_true}
 use Rattle.kn_event.specs.declared.entry.Entry.{Entry}
 use Rattle.kn_event.specs.declared.entry.Row.{Row}
 use Rattle.kn_event.specs.declared.entry.Row.TheVariants as row
@@ -10,9 +11,8 @@ use Rattle.kn_trace.specs.Outcome.{Outcome, outcome_in, outcome_of}
 use Rattle.kn_trace.specs.Rows.{ended_by, outcome_by, refused_by, taken_by}
 use Rattle.kn_trace.specs.Trace.{Trace, contains, each_row, ended, first_of}
 use Rattle.kn_record.specs.Made.{IsNumbered}
-use Rattle.kn_record.proofs.Flags.{or_else, says}
-use Rattle.kn_record.proofs.Members.{contains-split, or_parts}
-use Rattle.kn_record.proofs.Numbers.{false_unless, outcome_parts}
+use Rattle.kn_record.specs.Rows.{or_else, says}
+use Rattle.kn_record.specs.Facts.{Facts}
 
 first_of-append : {X : Type 0} (xs ys : List X) → first_of (xs ++ ys) ≡ or_else (first_of xs) (first_of ys)
 first_of-append [] ys = refl
@@ -63,9 +63,12 @@ pub no_outcome : (c : Trace) (r : ℕ) → contains r (each_row outcome_by c) �
 unfolding outcome_of
 no_outcome c r h = rw (silent_rows r c h) refl
 
--- a live request has none
-pub live_outcome : (c : Trace) (r : ℕ) → IsNumbered c → contains r (each_row taken_by c) ≡ true → ended c r ≡ false → outcome_of c r ≡ None
-unfolding ended
-live_outcome c r num taken on =
-    let refused : contains r (each_row refused_by c) ≡ false = false_unless (contains r (each_row refused_by c)) (λ k. let no = num.apart r k in absurd (cc)) in
-    no_outcome c r (contains-split outcome_by ended_by refused_by outcome_parts r c ∙ rw (on, refused) refl)
+module _ (facts : Facts) where
+  open facts use {kinds.{outcome_parts, contains-split}}
+
+  -- a live request has none
+  pub live_outcome : (c : Trace) (r : ℕ) → IsNumbered c → contains r (each_row taken_by c) ≡ true → ended c r ≡ false → outcome_of c r ≡ None
+  unfolding ended
+  live_outcome c r num taken on =
+      let refused : contains r (each_row refused_by c) ≡ false = false_from_ne_true (contains r (each_row refused_by c)) (λ k. let no = num.apart r k in absurd (cc)) in
+      no_outcome c r (contains-split outcome_by ended_by refused_by outcome_parts r c ∙ rw (on, refused) refl)

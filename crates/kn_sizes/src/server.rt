@@ -14,6 +14,9 @@ ghost use Rattle.kn_sizes.specs.Starting.{IsLeastFrom};
 ghost use Rattle.kn_sizes.specs.Stays.{Stays};
 ghost use Rattle.kn_sizes.specs.Told.{IsTold};
 
+use kn_laws::parts::part_laws;
+use kn_record::facts::fact_laws;
+
 /// Of any trace that events made, over one event more: an arrival's request is new, and then stands as the arrival was
 /// told, with that outcome; a request's stand tells whether it waits or runs, and at which pod, and that pod lives; after
 /// a cancel its request doesn't wait; a request that waits, runs, expired or was cancelled does so still, and one that
@@ -28,7 +31,10 @@ pub fn request_laws()
     ensures runs { (s : Spec) (c : Trace) (e : Event) (r : ℕ) → IsMade s c → is_running c r ≡ true → (is_running (c ++ react s c e) r ≡ true) ⊎ MayEnd r (pod_of c r) e.act }
     ensures ends { (s : Spec) (c : Trace) (e : Event) (r : ℕ) (ok : Bool) → IsMade s c → e.act ≡ act.Finish r ok → is_running c r ≡ true → HasFinished (c ++ react s c e) r ok }
     ensures by_act { (s : Spec) (c : Trace) (e : Event) → AreByAct s c e }
-{}
+{
+    fact_laws();
+    part_laws();
+}
 
 /// Of any trace that events made, over one event more and over any further ones: arrivals never fall, so who has come has
 /// come for good; waiting is left for good; an outcome, a request's pod and its assignment stay, and so does whether it
@@ -44,7 +50,10 @@ pub fn lasting_laws()
     ensures proxied { (s : Spec) (c : Trace) (r : ℕ) → proxied c r ≡ true → Stays s c (λ d. ended d r ≡ false → proxied d r ≡ true) }
     ensures way { (s : Spec) (c : Trace) (r p : ℕ) → IsMade s c → pod_of c r ≡ Some p → ended c r ≡ false → Stays s c (λ d. ended d r ≡ false → proxied d r ≡ proxied c r) }
     ensures runs { (s : Spec) (c : Trace) (es : List Event) (r : ℕ) → IsMade s c → is_running c r ≡ true → (is_running (c ++ added s c es) r ≡ true) ⊎ Any (λ (e : Event). MayEnd r (pod_of c r) e.act) es }
-{}
+{
+    fact_laws();
+    part_laws();
+}
 
 /// How much room each act needs: none where it ends a live request, two for an arrival, and one for each other.
 pub fn need_laws()
@@ -66,4 +75,6 @@ pub fn starting_laws()
     ensures created { (s : Spec) (c : Trace) (p : ℕ) → IsMade s c → contains p (starting_pods c) ≡ true → p < created c }
     ensures stay { (s : Spec) (c : Trace) → IsMade s c → Stays s c (λ d. created c ≤ created d) }
     ensures gone { (s : Spec) (c : Trace) (p : ℕ) → IsMade s c → p < created c → contains p (starting_pods c) ≡ false → Stays s c (λ d. contains p (starting_pods d) ≡ false) }
-{}
+{
+    fact_laws();
+}

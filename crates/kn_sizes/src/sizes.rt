@@ -12,6 +12,10 @@ ghost use Rattle.kn_trace.specs.Trace.{Trace, arrivals, live, live_pods};
 ghost use Rattle.kn_laws.specs.History.{IsMadeBy};
 ghost use Rattle.kn_record.specs.Made.{IsMade};
 
+use kn_laws::laws::trace_laws;
+use kn_laws::parts::part_laws;
+use kn_record::facts::fact_laws;
+
 /// Of any trace that events made, at most 20,000 requests are live, at most 500 pods do not drain, and at most 500 are
 /// wanted. Where it is settled, as after each event, at most 20,500 pods live, also until the next settling begins.
 pub fn size_laws()
@@ -22,18 +26,28 @@ pub fn size_laws()
     ensures pods_before { (s : Spec) (c : Trace) (e : Event) → AreInRange s → IsMade s c → IsSettled s c → length (live_pods (c ++ before_settling s c e)) ≤ 20500 }
     ensures trace_live { (s : Spec) (start : ℕ) (es : List Event) → length (live (trace_of s start es)) ≤ 20000 }
     ensures trace_pods { (s : Spec) (start : ℕ) (es : List Event) → AreInRange s → length (live_pods (trace_of s start es)) ≤ 20500 }
-{}
+{
+    fact_laws();
+    trace_laws();
+    part_laws();
+}
 
 /// An event lets the live requests grow by at most the need of its act less one: by one at an arrival; where it finishes a
 /// running request or cancels a waiting one, they become fewer.
 pub fn growth_laws()
     ensures live { (s : Spec) (c : Trace) (e : Event) → IsMade s c → length (live (c ++ react s c e)) + 1 ≤ length (live c) + need_of c e.act }
-{}
+{
+    fact_laws();
+    part_laws();
+}
 
 /// No more requests arrived than there were events.
 pub fn count_laws()
     ensures arrivals { (s : Spec) (start clock count : ℕ) (c : Trace) → IsMadeBy s start clock count c → arrivals c ≤ count }
-{}
+{
+    fact_laws();
+    part_laws();
+}
 
 /// How many entries an event adds: at most 41,005, and where no pod is lost at most 21,006, since each draining pod runs
 /// a request and an event takes each live request forward once. Of those at most 20,505 come before its settling, and of
@@ -45,4 +59,8 @@ pub fn entry_laws()
     ensures before { (s : Spec) (c : Trace) (e : Event) → AreInRange s → IsMade s c → length (before_settling s c e) ≤ 20505 }
     ensures settling { (s : Spec) (c : Trace) (e : Event) → AreInRange s → IsMade s c → IsSettled s c → length (settling s e.time (c ++ before_settling s c e)) ≤ 40500 }
     ensures trace { (s : Spec) (start : ℕ) (es : List Event) (e : Event) → AreInRange s → length (react s (trace_of s start es) e) ≤ 41005 }
-{}
+{
+    fact_laws();
+    trace_laws();
+    part_laws();
+}

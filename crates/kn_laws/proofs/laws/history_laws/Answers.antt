@@ -6,11 +6,11 @@ pub returns : goal.returns
 returns c = record {
   opening = history_opening;
   step = history_step;
-  made = history_made;
-  lawful = history_lawful;
-  settled = history_settled;
-  inert = history_inert;
-  answers = history_answers;
-  losses = history_loses;
+  made = history_made c.fact_laws.ensures;
+  lawful = history_lawful c.fact_laws.ensures;
+  settled = history_settled c.fact_laws.ensures;
+  inert = history_inert c.fact_laws.ensures;
+  answers = history_answers c.fact_laws.ensures;
+  losses = history_loses c.fact_laws.ensures;
   times = history_times;
 }

@@ -1,5 +1,3 @@
-use Rattle.kn_record.proofs.Scaling.{made_opening}
-use Rattle.kn_record.proofs.Running.{made_react}
 use Rattle.kn_laws.proofs.Lawful.{made_lawful}
 use Rattle.kn_laws.proofs.Settles.{opening-settled, react-settles}
 use Rattle.kn_laws.proofs.Inert.{refusals_inert}
@@ -9,12 +7,12 @@ use Rattle.kn_laws.proofs.laws.step_laws.Goals as goal
 
 pub returns : goal.returns
 returns c = record {
-  opening = made_opening;
-  opening_settled = opening-settled;
-  made = made_react;
-  lawful = made_lawful;
-  settled = react-settles;
-  inert = refusals_inert;
-  beside = refusals_leave;
-  answers = refuses_by_answer;
+  opening = c.fact_laws.ensures.proper.made_opening;
+  opening_settled = opening-settled c.fact_laws.ensures;
+  made = c.fact_laws.ensures.proper.made_react;
+  lawful = made_lawful c.fact_laws.ensures;
+  settled = react-settles c.fact_laws.ensures;
+  inert = refusals_inert c.fact_laws.ensures;
+  beside = refusals_leave c.fact_laws.ensures;
+  answers = refuses_by_answer c.fact_laws.ensures;
 }

@@ -7,11 +7,11 @@ pub returns : goal.returns
 returns c = record {
   arrivals = arrivals_stay;
   known = known_stays;
-  waits = waits_once;
+  waits = waits_once c.fact_laws.ensures;
   outcome = outcome_lasts;
-  pod = pod_stays;
-  assigned = assigned_stays;
-  proxied = proxied_stays;
-  way = way_stays;
-  runs = runs_on;
+  pod = pod_stays c.fact_laws.ensures c.part_laws.ensures;
+  assigned = assigned_stays c.fact_laws.ensures c.part_laws.ensures;
+  proxied = proxied_stays c.fact_laws.ensures c.part_laws.ensures;
+  way = way_stays c.fact_laws.ensures c.part_laws.ensures;
+  runs = runs_on c.fact_laws.ensures c.part_laws.ensures;
 }

@@ -1,5 +1,3 @@
-use Rattle.kn_record.proofs.Kept.{made_kept}
-use Rattle.kn_laws.proofs.Acts.{are_by_act}
 use Rattle.kn_sizes.proofs.Course.{runs_until, unfinished_on}
 use Rattle.kn_sizes.proofs.Finishing.{finish_ends}
 use Rattle.kn_sizes.proofs.Lasts.{cancelled_out}
@@ -9,12 +7,12 @@ use Rattle.kn_sizes.proofs.server.request_laws.Goals as goal
 
 pub returns : goal.returns
 returns c = record {
-  told = arrival_is_told;
-  stands = told_by_stand;
-  homes = λ s d p r made. (made_kept s d made).homes p r;
-  cancelled = λ s d e r made. cancelled_out s d e r;
-  unfinished = unfinished_on;
-  runs = runs_until;
-  ends = finish_ends;
-  by_act = are_by_act;
+  told = arrival_is_told c.fact_laws.ensures c.part_laws.ensures;
+  stands = told_by_stand c.fact_laws.ensures c.part_laws.ensures;
+  homes = λ s d p r made. (c.fact_laws.ensures.proper.made_kept s d made).homes p r;
+  cancelled = λ s d e r made. cancelled_out c.fact_laws.ensures c.part_laws.ensures s d e r;
+  unfinished = unfinished_on c.fact_laws.ensures c.part_laws.ensures;
+  runs = runs_until c.fact_laws.ensures c.part_laws.ensures;
+  ends = finish_ends c.fact_laws.ensures c.part_laws.ensures;
+  by_act = c.part_laws.ensures.rows.are_by_act;
 }

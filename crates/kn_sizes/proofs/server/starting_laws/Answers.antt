@@ -2,4 +2,4 @@ use Rattle.kn_sizes.proofs.Starting.{created_stays, next_is_least, starting_crea
 use Rattle.kn_sizes.proofs.server.starting_laws.Goals as goal
 
 pub returns : goal.returns
-returns c = record { next = next_is_least; created = starting_created; stay = created_stays; gone = starts_once }
+returns c = record { next = next_is_least c.fact_laws.ensures; created = starting_created c.fact_laws.ensures; stay = created_stays c.fact_laws.ensures; gone = starts_once c.fact_laws.ensures }
