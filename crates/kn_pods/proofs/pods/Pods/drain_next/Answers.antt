@@ -1,9 +1,9 @@
-use Rattle.std.proofs.Common.{◌≡◌, ℕ, List, ◌∷◌, [], ◌++◌, sym, ap, ◌∙◌, length, ◌<◌, append-nil, Some}
+use Rattle.std.proofs.Common.{◌≡◌, ◌∷◌, [], ◌++◌, sym, ap, ◌∙◌, append-nil}
 use Rattle.kn_event.specs.declared.entry.Row.TheVariants as row
 use Rattle.kn_pods.specs.Numbers.{NumbersState}
 use Rattle.kn_pods.specs.Pods.{PodsState, after_row, drain_order_of}
 use Rattle.kn_pods.proofs.Steps.{drain_proper, drained_ready, drained_starting, first_ready, first_starting, goes_by, some_popped, some_ready}
-use Rattle.kn_pods.proofs.state.Pods.drain_next.Goals as goal
+use Rattle.kn_pods.proofs.pods.Pods.drain_next.Goals as goal
 
 pub unwrap-p-requires : goal.unwrap-p-requires
 unwrap-p-requires c =
@@ -15,10 +15,10 @@ returns-in-Some-clause-goes c = λ t.
     let view : PodsState = record { created = c.self.inside.created; starting = c.self.inside.starting.items; ready = c.self.inside.ready.items; draining = c.self.inside.draining.items } in
     let new : PodsState = record view { starting = c.pop.new.self.items; draining = c.insert.new.self.items } in
     let first : drain_order_of c.args.self.now ≡ c.in-Some.p ∷ drain_order_of new =
-        rw (← c.self.view_is) (first_starting c.self.inside.starting.items c.pop.new.self.items c.self.inside.ready.items c.in-Some.p c.in-Some.ensures.popped) in
+    rw (← c.self.view_is) (first_starting c.self.inside.starting.items c.pop.new.self.items c.self.inside.ready.items c.in-Some.p c.in-Some.ensures.popped) in
     let e : new ≡ after_row (row.Drain c.in-Some.p) c.args.self.now =
-        drained_starting view c.in-Some.p c.pop.new.self.items c.insert.new.self.items c.in-Some.ensures.there c.in-Some.ensures.without (ap (λ (n : NumbersState). n.items) c.insert.ensures.inserted)
-        ∙ ap (after_row (row.Drain c.in-Some.p)) c.self.view_is in
+    drained_starting view c.in-Some.p c.pop.new.self.items c.insert.new.self.items c.in-Some.ensures.there c.in-Some.ensures.without (ap (λ (n : NumbersState). n.items) c.insert.ensures.inserted)
+    ∙ ap (after_row (row.Drain c.in-Some.p)) c.self.view_is in
     goes_by c.row_laws.ensures.made c.row_laws.ensures.stands c.args.self.now new t (row.Drain c.in-Some.p) e (λ s d made stands. drain_proper c.args.self.now s d c.in-Some.p _ first stands)
 
 -- without a Starting pod none is left of them
@@ -43,7 +43,7 @@ returns-in-None-clause-goes c = λ t.
     let new : PodsState = record view { starting = c.pop.new.self.items; ready = c.pop-in-None.new.self.items; draining = c.insert-in-None.new.self.items } in
     let without = rw c.unwrap-p.ensures at c.pop-in-None.ensures.without in
     let e : new ≡ after_row (row.Drain c.unwrap-p.result) c.args.self.now =
-        drained_ready view c.unwrap-p.result c.pop.new.self.items c.pop-in-None.new.self.items c.insert-in-None.new.self.items c.in-None.ensures.none (none_left c) without
-            (ap (λ (n : NumbersState). n.items) c.insert-in-None.ensures.inserted)
-        ∙ ap (after_row (row.Drain c.unwrap-p.result)) c.self.view_is in
+    drained_ready view c.unwrap-p.result c.pop.new.self.items c.pop-in-None.new.self.items c.insert-in-None.new.self.items c.in-None.ensures.none (none_left c) without
+    (ap (λ (n : NumbersState). n.items) c.insert-in-None.ensures.inserted)
+    ∙ ap (after_row (row.Drain c.unwrap-p.result)) c.self.view_is in
     goes_by c.row_laws.ensures.made c.row_laws.ensures.stands c.args.self.now new t (row.Drain c.unwrap-p.result) e (λ s d made stands. drain_proper c.args.self.now s d c.unwrap-p.result _ (first c) stands)
