@@ -1,6 +1,6 @@
 -- The numbers of the pods whose readiness passes a test, after one row.
-use Rattle.std.proofs.Common.{◌≡◌, ℕ, zero, suc, ◌+◌, ◌<◌, ◌≤◌, Bool, true, false, not, ◌||◌, List, [], ◌∷◌, ◌++◌, get_or, length, map, refl, sym, ap, ◌∙◌, arith, nat_eq, nat_lt, cond, ◌⊎◌, inl, inr, subst, reverse}
-use Rattle.std.specs.List.{AllPairs, filter, list_any}
+use Rattle.std.proofs.Common.{◌≡◌, ℕ, suc, ◌<◌, Bool, true, false, not, ◌||◌, List, [], ◌∷◌, ◌++◌, get_or, length, refl, sym, ap, ◌∙◌, arith, nat_eq, cond, ◌⊎◌, inl, inr, subst, reverse}
+use Rattle.std.specs.List.{AllPairs, filter}
 use Rattle.std.proofs.lemmas.Bool.{cases_order}
 use Rattle.std.proofs.lemmas.List.{reverse-append}
 use Rattle.std.proofs.lemmas.List.Folds.{list_any-append}
@@ -10,7 +10,7 @@ use Rattle.kn_record.specs.declared.admission.Readiness.TheVariants as readiness
 use Rattle.kn_record.specs.Admission.{is_draining_now, is_ready_now, is_starting_now, pods_in, with_limit, with_readiness}
 use Rattle.kn_record.specs.Views.{pod_numbers}
 use Rattle.kn_pods.specs.Numbers.{contains, inserted, without}
-use Rattle.kn_pods.proofs.Places.{AllAbove, above_more, contains_above, differs, inserted_above, inserted_first, inserted_same, is_same, without_absent}
+use Rattle.kn_pods.proofs.Places.{AllAbove, above_more, contains_above, differs, inserted_above, inserted_first, inserted_same, is_same}
 
 -- the pods' numbers ascend
 abbrev pub Ascend : List Pod → Type 0

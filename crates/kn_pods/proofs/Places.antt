@@ -1,7 +1,7 @@
 -- Where a number stands among numbers that ascend.
-use Rattle.std.proofs.Common.{◌≡◌, ℕ, zero, suc, ◌+◌, ◌<◌, ◌≤◌, Bool, true, false, not, ◌||◌, List, [], ◌∷◌, ◌++◌, get_or, length, take, drop, refl, sym, ap, ◌∙◌, arith, nat_eq, nat_lt, nat_le, cond, ◌⊎◌, inl, inr}
-use Rattle.std.specs.Prelude.{Option, None, Some, slice_get}
-use Rattle.std.specs.List.{AllPairs, filter, find, insert, list_any, remove}
+use Rattle.std.proofs.Common.{◌≡◌, ℕ, zero, suc, ◌<◌, ◌≤◌, Bool, true, false, not, ◌||◌, List, [], ◌∷◌, ◌++◌, get_or, length, refl, ap, ◌∙◌, arith, nat_eq, nat_lt, nat_le, cond, ◌⊎◌, inl, inr}
+use Rattle.std.specs.Prelude.{slice_get}
+use Rattle.std.specs.List.{filter, find, insert, remove}
 use Rattle.std.proofs.lemmas.Bool.{cases_order}
 use Rattle.std.proofs.lemmas.Bool.Decides.{nat_tests}
 use Rattle.kn_pods.specs.Numbers.{IsAscending, IsPlaceOf, contains, inserted, is_number, without}

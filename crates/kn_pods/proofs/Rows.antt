@@ -1,5 +1,5 @@
 -- What one more row changes of the pods of a trace, by what the record of the trace says.
-use Rattle.std.proofs.Common.{◌≡◌, ℕ, ◌+◌, Bool, true, false, not, ◌||◌, List, [], ◌∷◌, ◌++◌, refl, sym, ap, ◌∙◌, nat_eq, reverse, append-nil}
+use Rattle.std.proofs.Common.{◌≡◌, ℕ, Bool, true, false, ◌||◌, List, [], ◌∷◌, ◌++◌, refl, sym, ap, ◌∙◌, nat_eq, reverse, append-nil}
 use Rattle.std.specs.Prelude.{Some, if◌then◌else◌}
 use Rattle.std.proofs.lemmas.List.Folds.{list_any-append}
 use Rattle.kn_event.specs.declared.entry.Row.{Row}
@@ -16,8 +16,8 @@ use Rattle.kn_record.specs.declared.admission.Readiness.TheVariants as readiness
 use Rattle.kn_record.specs.Admission.{Admission, admission, drained, is_draining_now, is_ready_now, is_starting_now, more_by, pods_after, pods_in, readied, stepped}
 use Rattle.kn_record.specs.Made.{IsMade, IsProper, StandsFor as IsRecordOf}
 use Rattle.kn_record.specs.Order.{IsInOrder}
-use Rattle.kn_record.specs.Views.{AreViews, pod_numbers}
-use Rattle.kn_pods.specs.Numbers.{contains, inserted, without}
+use Rattle.kn_record.specs.Views.{AreViews}
+use Rattle.kn_pods.specs.Numbers.{contains}
 use Rattle.kn_pods.specs.Pods.{PodsState, StandsFor, after_row, is_live, lost_row, no_pods, ready_row, with_drained}
 use Rattle.kn_pods.proofs.Places.{without_absent}
 use Rattle.kn_pods.proofs.Lists.{Ascend, apart, contains-kinds, contains-reverse, pods_in-created, pods_in-gone, pods_in-limited, pods_in-marked_in, pods_in-marked_out, pods_in-marked_same}

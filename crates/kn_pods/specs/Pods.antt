@@ -1,12 +1,12 @@
 -- The pods of a trace, by how far they are, and what a row changes of them.
-use Rattle.std.specs.Prelude.{◌≡◌, ℕ, Bool, true, false, ◌+◌, ◌||◌, List, [], ◌∷◌, ◌++◌, length, map, reverse, if◌then◌else◌}
+use Rattle.std.specs.Prelude.{◌≡◌, ℕ, Bool, true, false, ◌+◌, ◌||◌, List, [], ◌∷◌, ◌++◌, map, reverse, if◌then◌else◌}
 use Rattle.std.specs.List.{range_with_len}
 use Rattle.kn_event.specs.declared.entry.Entry.{Entry}
 use Rattle.kn_event.specs.declared.entry.Row.{Row}
 use Rattle.kn_event.specs.declared.entry.Row.TheVariants as row
 use Rattle.kn_event.specs.declared.revision.Spec.{Spec}
 use Rattle.kn_trace.specs.Trace.{Trace, created, draining, entry, ready_pods, starting_pods}
-use Rattle.kn_record.specs.Made.{IsMade, IsProper}
+use Rattle.kn_record.specs.Made.{IsMade}
 use Rattle.kn_pods.specs.Numbers.{contains, inserted, without}
 
 -- how many pods were created, and the live ones, each list in the order of the numbers

@@ -3,6 +3,9 @@
 
 pub mod laws;
 mod numbers;
-mod state;
+mod pods;
 
-pub use state::{PodAnswer, Pods};
+pub use pods::{PodAnswer, Pods};
+
+#[cfg(test)]
+mod tests;

@@ -1,4 +1,4 @@
-use Rattle.std.proofs.Common.{◌≡◌, ℕ, List, nat_lt, true, false, rules, arith, subst, sym, ap, ◌∙◌, ltb-true, ltb-false}
+use Rattle.std.proofs.Common.{ℕ, List, nat_lt, rules, arith, subst, sym, ap, ◌∙◌, ltb-true, ltb-false}
 use Rattle.std.proofs.lemmas.List.Sorted.{IsPartitionPoint-from_clause, IsPartitionedBy-ltb}
 use Rattle.kn_pods.specs.Numbers.{IsAscending, IsPlaceOf, NumbersState}
 use Rattle.kn_pods.proofs.Places.{IsCut, not_falling, place_at}

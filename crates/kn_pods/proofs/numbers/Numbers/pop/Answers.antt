@@ -1,4 +1,4 @@
-use Rattle.std.proofs.Common.{◌≡◌, ℕ, List, Option, None, Some, IfSome, ◌++◌, ◌∷◌, [], option_to_list, sym, ap, ◌∙◌, subst}
+use Rattle.std.proofs.Common.{◌≡◌, ℕ, List, Option, None, Some, IfSome, ◌++◌, option_to_list, sym, ap, ◌∙◌, subst}
 use Rattle.kn_pods.specs.Numbers.{IsAscending, without}
 use Rattle.kn_pods.proofs.Places.{without_last}
 use Rattle.kn_pods.proofs.numbers.Numbers.pop.Goals as goal

@@ -1,10 +1,9 @@
-use Rattle.std.proofs.Common.{◌≡◌, ◌+◌, ◌++◌, ◌∷◌, [], ℕ, List, arith, subst, sym, ap, ◌∙◌, length}
-use Rattle.kn_event.specs.declared.entry.Entry.{Entry}
+use Rattle.std.proofs.Common.{◌≡◌, ◌+◌, ◌++◌, ◌∷◌, [], arith, subst, sym, ap, ◌∙◌, length}
 use Rattle.kn_event.specs.declared.entry.Row.TheVariants as row
 use Rattle.kn_trace.specs.Trace.{entry}
 use Rattle.kn_pods.specs.Pods.{GoesOn, creations}
 use Rattle.kn_pods.proofs.Steps.{creations_more, goes_then, length-logged, logged_more}
-use Rattle.kn_pods.proofs.state.Pods.create.Goals as goal
+use Rattle.kn_pods.proofs.pods.Pods.create.Goals as goal
 
 pub put-requires : goal.put-requires
 put-requires c =

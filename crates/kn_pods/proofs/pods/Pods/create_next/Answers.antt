@@ -1,9 +1,8 @@
-use Rattle.std.proofs.Common.{◌≡◌, ◌+◌, rules, subst}
+use Rattle.std.proofs.Common.{◌≡◌, ◌+◌, rules}
 use Rattle.kn_event.specs.declared.entry.Row.TheVariants as row
-use Rattle.kn_record.specs.Made.{IsProper}
 use Rattle.kn_pods.specs.Pods.{PodsState, after_row}
 use Rattle.kn_pods.proofs.Steps.{create_proper, goes_by}
-use Rattle.kn_pods.proofs.state.Pods.create_next.Goals as goal
+use Rattle.kn_pods.proofs.pods.Pods.create_next.Goals as goal
 
 pub returns-clause-goes : goal.returns-clause-goes
 returns-clause-goes c = λ t limit.

@@ -1,6 +1,6 @@
 use Rattle.std.proofs.Common.{◌≡◌, rules, sym, ◌∙◌}
 use Rattle.kn_pods.specs.Pods.{is_live}
-use Rattle.kn_pods.proofs.state.Pods.live.Goals as goal
+use Rattle.kn_pods.proofs.pods.Pods.live.Goals as goal
 
 pub returns-then-contains-2-clause-trace : goal.returns-then-contains-2-clause-trace
 returns-then-contains-2-clause-trace c = λ s d made stands.

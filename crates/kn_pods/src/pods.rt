@@ -242,4 +242,25 @@ impl Pods {
     {
         self.starting.next_from(from)
     }
+
+    /// How many pods drain.
+    pub fn count_draining(&self) -> u64
+        ensures { result ≡ length self.now.draining }
+    {
+        self.draining.len()
+    }
+
+    /// Whether a pod of this number drains.
+    pub fn is_draining(&self, p: u64) -> bool
+        ensures { result ≡ contains p self.now.draining }
+    {
+        self.draining.contains(p)
+    }
+
+    /// How many pods were created, which is the number of the next one.
+    pub fn count_created(&self) -> u64
+        ensures { result ≡ self.now.created }
+    {
+        self.created
+    }
 }

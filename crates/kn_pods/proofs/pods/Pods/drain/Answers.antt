@@ -1,10 +1,9 @@
-use Rattle.std.proofs.Common.{◌≡◌, ◌+◌, ◌++◌, ◌∷◌, [], ℕ, List, arith, subst, sym, ap, ◌∙◌, length, take, drop}
-use Rattle.kn_event.specs.declared.entry.Entry.{Entry}
+use Rattle.std.proofs.Common.{◌≡◌, ◌+◌, ◌++◌, ◌∷◌, [], arith, subst, sym, ◌∙◌, take, drop}
 use Rattle.kn_event.specs.declared.entry.Row.TheVariants as row
 use Rattle.kn_trace.specs.Trace.{entry}
 use Rattle.kn_pods.specs.Pods.{GoesOn, drain_order_of, drains}
 use Rattle.kn_pods.proofs.Steps.{drains_more, goes_then, logged_more, take_next}
-use Rattle.kn_pods.proofs.state.Pods.drain.Goals as goal
+use Rattle.kn_pods.proofs.pods.Pods.drain.Goals as goal
 
 -- what was drained, and what is left
 taken : (c : goal.After-put) → (take (c.loop.counter + 1) (drain_order_of c.args.self.now) ≡ take c.loop.counter (drain_order_of c.args.self.now) ++ c.drain_next-p.result ∷ [])

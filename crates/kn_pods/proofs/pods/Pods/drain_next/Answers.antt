@@ -1,9 +1,9 @@
-use Rattle.std.proofs.Common.{◌≡◌, ℕ, List, ◌∷◌, [], ◌++◌, sym, ap, ◌∙◌, length, ◌<◌, append-nil, Some}
+use Rattle.std.proofs.Common.{◌≡◌, ◌∷◌, [], ◌++◌, sym, ap, ◌∙◌, append-nil}
 use Rattle.kn_event.specs.declared.entry.Row.TheVariants as row
 use Rattle.kn_pods.specs.Numbers.{NumbersState}
 use Rattle.kn_pods.specs.Pods.{PodsState, after_row, drain_order_of}
 use Rattle.kn_pods.proofs.Steps.{drain_proper, drained_ready, drained_starting, first_ready, first_starting, goes_by, some_popped, some_ready}
-use Rattle.kn_pods.proofs.state.Pods.drain_next.Goals as goal
+use Rattle.kn_pods.proofs.pods.Pods.drain_next.Goals as goal
 
 pub unwrap-p-requires : goal.unwrap-p-requires
 unwrap-p-requires c =

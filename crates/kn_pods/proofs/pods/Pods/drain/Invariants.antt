@@ -1,6 +1,6 @@
 use Rattle.std.proofs.Common.{◌≡◌, ◌+◌, ◌≤◌, ◌++◌, length, take, drop}
 use Rattle.kn_pods.specs.Pods.{GoesOn, drain_order_of, drains}
-use Rattle.kn_pods.proofs.state.Pods.drain.Given as goal
+use Rattle.kn_pods.proofs.pods.Pods.drain.Given as goal
 
 abbrev pub invariant-loop : goal.invariant-loop
 invariant-loop l = record {

@@ -1,11 +1,9 @@
-use Rattle.std.proofs.Common.{◌≡◌, ℕ, rules, sym, ap, ◌∙◌, subst, ◌++◌, ◌∷◌, [], Some, Bool, true, false, ◌||◌}
-use Rattle.kn_event.specs.declared.entry.Row.{Row}
+use Rattle.std.proofs.Common.{◌≡◌, rules, sym, ap, ◌∙◌, subst, ◌++◌, ◌∷◌, [], Some, true}
 use Rattle.kn_event.specs.declared.entry.Row.TheVariants as row
 use Rattle.kn_trace.specs.Trace.{entry}
-use Rattle.kn_pods.specs.Answer.{row_of}
 use Rattle.kn_pods.specs.Numbers.{contains}
 use Rattle.kn_pods.specs.Pods.{PodsState, StandsFor, after_row, ready_row}
-use Rattle.kn_pods.proofs.state.Pods.ready.Goals as goal
+use Rattle.kn_pods.proofs.pods.Pods.ready.Goals as goal
 
 pub returns-then-remove-clause-act : goal.returns-then-remove-clause-act
 returns-then-remove-clause-act c = λ s d made stands.

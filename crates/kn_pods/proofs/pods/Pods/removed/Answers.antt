@@ -2,7 +2,7 @@ use Rattle.std.proofs.Common.{◌≡◌, rules, sym, subst, ◌++◌, ◌∷◌,
 use Rattle.kn_event.specs.declared.entry.Row.TheVariants as row
 use Rattle.kn_trace.specs.Trace.{entry}
 use Rattle.kn_pods.specs.Pods.{PodsState, StandsFor, after_row}
-use Rattle.kn_pods.proofs.state.Pods.removed.Goals as goal
+use Rattle.kn_pods.proofs.pods.Pods.removed.Goals as goal
 
 pub returns-clause-stands : goal.returns-clause-stands
 returns-clause-stands c = λ s d t made proper stands.

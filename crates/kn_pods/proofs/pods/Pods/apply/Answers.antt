@@ -1,11 +1,11 @@
-use Rattle.std.proofs.Common.{◌≡◌, ◌-◌, ◌++◌, ℕ, List, arith, sym, ap, ◌∙◌, subst, length, take}
+use Rattle.std.proofs.Common.{◌≡◌, ◌-◌, ◌++◌, arith, sym, ap, ◌∙◌, subst, take}
 use Rattle.kn_event.specs.declared.revision.Spec.{Spec}
 use Rattle.kn_trace.specs.Scale.{scale_rows}
 use Rattle.kn_trace.specs.Trace.{Trace}
 use Rattle.kn_record.specs.Made.{IsMade}
-use Rattle.kn_pods.specs.Pods.{PodsState, StandsFor, creations, drain_order_of, drains}
+use Rattle.kn_pods.specs.Pods.{StandsFor, creations, drain_order_of, drains}
 use Rattle.kn_pods.proofs.Steps.{rows_created, rows_drained}
-use Rattle.kn_pods.proofs.state.Pods.apply.Goals as goal
+use Rattle.kn_pods.proofs.pods.Pods.apply.Goals as goal
 
 created_rows : (c : goal.After-create) (s : Spec) (d : Trace) → StandsFor c.args.self.now d → s.cc ≡ c.args.limit
     → creations c.args.limit c.args.time c.args.self.now.created (c.args.want - c.standing-standing.result) ≡ scale_rows s c.args.time d c.args.want

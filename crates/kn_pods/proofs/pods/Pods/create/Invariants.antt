@@ -1,6 +1,6 @@
 use Rattle.std.proofs.Common.{◌≡◌, ◌+◌, ◌++◌, length}
 use Rattle.kn_pods.specs.Pods.{GoesOn, creations, drain_order_of}
-use Rattle.kn_pods.proofs.state.Pods.create.Given as goal
+use Rattle.kn_pods.proofs.pods.Pods.create.Given as goal
 
 abbrev pub invariant-loop : goal.invariant-loop
 invariant-loop l = record {

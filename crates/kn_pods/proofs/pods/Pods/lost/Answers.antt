@@ -1,8 +1,7 @@
 use Rattle.std.proofs.Common.{◌≡◌, rules, sym, ap, ◌∙◌, subst, ◌++◌, ◌∷◌, [], Some, Bool}
-use Rattle.kn_event.specs.declared.entry.Row.TheVariants as row
 use Rattle.kn_trace.specs.Trace.{entry}
 use Rattle.kn_pods.specs.Pods.{PodsState, StandsFor, after_row, is_live, lost_row}
-use Rattle.kn_pods.proofs.state.Pods.lost.Goals as goal
+use Rattle.kn_pods.proofs.pods.Pods.lost.Goals as goal
 
 pub returns-clause-act : goal.returns-clause-act
 returns-clause-act c = λ s d made stands.
