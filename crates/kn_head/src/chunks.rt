@@ -1,5 +1,5 @@
 //! A body in chunks.
-ghost use Rattle.std.specs.Prelude.{◌≡◌, ℕ, ◌≤◌, ◌<◌, List, ◌∷◌, ◌++◌, length, vec_len, true, false, Ok, IfOk, IfErr, IfSome, IfNone, OnOk};
+ghost use Rattle.std.specs.Prelude.{◌≡◌, ◌≢◌, ℕ, ◌≤◌, ◌<◌, List, ◌∷◌, ◌++◌, length, vec_len, true, false, Ok, IfOk, IfErr, IfSome, IfNone, OnOk};
 ghost use Rattle.std.specs.Io.KnownBytes.{Keeps};
 ghost use Rattle.httparse.specs.Grammar.{ChunkLine, Field, LineEnd, ReadsSection};
 ghost use Rattle.httparse.specs.Spans.{IsChunkLineAt, IsSectionAt};
@@ -10,6 +10,7 @@ ghost use Rattle.kn_head.specs.Rules.{body_limit};
 ghost use Rattle.kn_head.specs.Chunks.{size_limit, IsSizeLine, IsTrailer, SizeRefused, IsUnfinishedSize, SizeFails, TrailerRefused, IsUnfinishedTrailer, TrailerFails, BytesFail, line_end_at, LineEndFails, TakesChunk, EndsChunks, IsChunked, ChunksFail};
 
 use crate::head::HeadError;
+use crate::lines::line_feeds;
 use crate::window::Window;
 use httparse::spans::{EMPTY_HEADER_SPAN, HeaderSpan, parse_headers};
 use httparse::{Status, parse_chunk_size};
@@ -40,6 +41,20 @@ fn judge_trailer(bytes: &[u8], spans: &mut [HeaderSpan]) -> Result<Option<usize>
         Ok(Status::Complete((end, _))) => Ok(Some(end)),
         Ok(Status::Partial) => Ok(None),
         Err(_) => Err(HeadError::BadChunk),
+    }
+}
+
+/// Why the bytes of a stream that ended, which are no trailer yet, are none: so many lines came whole.
+fn cut_trailer(bytes: &[u8]) -> HeadError
+    requires unfinished { IsUnfinishedTrailer bytes.now }
+    requires short { length bytes.now < limit }
+    ensures why { TrailerFails bytes.now result }
+    ensures told { result ≢ HeadError.ReadFault }
+{
+    if line_feeds(bytes) > 100 {
+        HeadError::BadChunk
+    } else {
+        HeadError::EndedEarly
     }
 }
 
@@ -93,6 +108,7 @@ fn take_trailer<S: Source>(source: &mut S, window: &mut Window) -> Result<(), He
         }
         match window.fill(source) {
             Ok(()) => {}
+            Err(HeadError::EndedEarly) => return Err(cut_trailer(window.bytes())),
             Err(e) => return Err(e),
         }
     }

@@ -1,5 +1,5 @@
 //! The head at the front of a stream.
-ghost use Rattle.std.specs.Prelude.{◌≡◌, ◌≤◌, length, IfOk, IfErr, IfSome, IfNone, OnOk};
+ghost use Rattle.std.specs.Prelude.{◌≡◌, ◌≢◌, ◌≤◌, ◌<◌, length, IfOk, IfErr, IfSome, IfNone, OnOk};
 ghost use Rattle.std.specs.Io.KnownBytes.{Keeps};
 ghost use Rattle.httparse.specs.Grammar.{RequestHead};
 ghost use Rattle.httparse.specs.Spans.{IsRequestAt, IsRequestWithin};
@@ -8,6 +8,7 @@ ghost use Rattle.kn_head.specs.Told.{unread, Draws};
 ghost use Rattle.kn_head.specs.Heads.{room, limit, IsUnfinished, HeadRefused, HeadFails};
 
 use crate::head::HeadError;
+use crate::lines::line_feeds_after_blank;
 use crate::window::Window;
 use httparse::spans::{HeaderSpan, RequestSpans, parse_request};
 use httparse::{Error, Status};
@@ -26,6 +27,20 @@ fn judge(bytes: &[u8], spans: &mut [HeaderSpan]) -> Result<Option<RequestSpans>,
         Ok(Status::Partial) => Ok(None),
         Err(Error::TooManyHeaders) => Err(HeadError::TooLong),
         Err(_) => Err(HeadError::Malformed),
+    }
+}
+
+/// Why the bytes of a stream that ended, which are no head yet, are none: so many lines came whole.
+fn cut_head(bytes: &[u8]) -> HeadError
+    requires unfinished { IsUnfinished bytes.now }
+    requires short { length bytes.now < limit }
+    ensures why { HeadFails bytes.now result }
+    ensures told { result ≢ HeadError.ReadFault }
+{
+    if line_feeds_after_blank(bytes) > 101 {
+        HeadError::TooLong
+    } else {
+        HeadError::EndedEarly
     }
 }
 
@@ -55,6 +70,7 @@ pub(crate) fn find_head<S: Source>(
         }
         match window.fill(source) {
             Ok(()) => {}
+            Err(HeadError::EndedEarly) => return Err(cut_head(window.bytes())),
             Err(e) => return Err(e),
         }
     }
