@@ -1,10 +1,10 @@
 //! A body in chunks.
-ghost use Rattle.std.specs.Prelude.{◌≡◌, ◌≢◌, ℕ, ◌≤◌, ◌<◌, List, ◌∷◌, ◌++◌, length, vec_len, true, false, Ok, IfOk, IfErr, IfSome, IfNone, OnOk};
+ghost use Rattle.std.specs.Prelude.{◌≡◌, ℕ, ◌≤◌, ◌<◌, List, ◌∷◌, ◌++◌, length, Option, vec_len, true, false, Ok, IfOk, IfErr, IfSome, IfNone, OnOk};
 ghost use Rattle.std.specs.Io.KnownBytes.{Keeps};
 ghost use Rattle.httparse.specs.Grammar.{ChunkLine, Field, LineEnd, ReadsSection};
 ghost use Rattle.httparse.specs.Spans.{IsChunkLineAt, IsSectionAt};
 ghost use Rattle.kn_io.specs.Causes.{Rose};
-ghost use Rattle.kn_head.specs.Told.{unread, IfTold, Draws};
+ghost use Rattle.kn_head.specs.Told.{unread, IfTold, Draws, Stops};
 ghost use Rattle.kn_head.specs.Heads.{room, limit};
 ghost use Rattle.kn_head.specs.Rules.{body_limit};
 ghost use Rattle.kn_head.specs.Chunks.{size_limit, IsSizeLine, IsTrailer, SizeRefused, IsUnfinishedSize, SizeFails, TrailerRefused, IsUnfinishedTrailer, TrailerFails, BytesFail, line_end_at, LineEndFails, TakesChunk, EndsChunks, IsChunked, ChunksFail};
@@ -44,17 +44,16 @@ fn judge_trailer(bytes: &[u8], spans: &mut [HeaderSpan]) -> Result<Option<usize>
     }
 }
 
-/// Why the bytes of a stream that ended, which are no trailer yet, are none: so many lines came whole.
-fn cut_trailer(bytes: &[u8]) -> HeadError
+/// Why there is no trailer where the source stopped after these bytes: where it ended, more than 100 fields may have come.
+fn cut_trailer(stop: HeadError, bytes: &[u8]) -> HeadError
     requires unfinished { IsUnfinishedTrailer bytes.now }
     requires short { length bytes.now < limit }
-    ensures why { TrailerFails bytes.now result }
-    ensures told { result ≢ HeadError.ReadFault }
+    ensures why { (known : Option (List ℕ)) → Stops bytes.now known stop → IfSome known (λ all. TrailerFails all result) }
+    ensures fault { result ≡ HeadError.ReadFault → stop ≡ HeadError.ReadFault }
 {
-    if line_feeds(bytes) > 100 {
-        HeadError::BadChunk
-    } else {
-        HeadError::EndedEarly
+    match stop {
+        HeadError::EndedEarly if line_feeds(bytes) > 100 => HeadError::BadChunk,
+        _ => stop,
     }
 }
 
@@ -108,8 +107,7 @@ fn take_trailer<S: Source>(source: &mut S, window: &mut Window) -> Result<(), He
         }
         match window.fill(source) {
             Ok(()) => {}
-            Err(HeadError::EndedEarly) => return Err(cut_trailer(window.bytes())),
-            Err(e) => return Err(e),
+            Err(e) => return Err(cut_trailer(e, window.bytes())),
         }
     }
 }

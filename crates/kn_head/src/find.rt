@@ -1,10 +1,10 @@
 //! The head at the front of a stream.
-ghost use Rattle.std.specs.Prelude.{◌≡◌, ◌≢◌, ◌≤◌, ◌<◌, length, IfOk, IfErr, IfSome, IfNone, OnOk};
+ghost use Rattle.std.specs.Prelude.{◌≡◌, ℕ, ◌≤◌, ◌<◌, List, length, Option, IfOk, IfErr, IfSome, IfNone, OnOk};
 ghost use Rattle.std.specs.Io.KnownBytes.{Keeps};
 ghost use Rattle.httparse.specs.Grammar.{RequestHead};
 ghost use Rattle.httparse.specs.Spans.{IsRequestAt, IsRequestWithin};
 ghost use Rattle.kn_io.specs.Causes.{Rose};
-ghost use Rattle.kn_head.specs.Told.{unread, Draws};
+ghost use Rattle.kn_head.specs.Told.{unread, Draws, Stops};
 ghost use Rattle.kn_head.specs.Heads.{room, limit, IsUnfinished, HeadRefused, HeadFails};
 
 use crate::head::HeadError;
@@ -30,17 +30,17 @@ fn judge(bytes: &[u8], spans: &mut [HeaderSpan]) -> Result<Option<RequestSpans>,
     }
 }
 
-/// Why the bytes of a stream that ended, which are no head yet, are none: so many lines came whole.
-fn cut_head(bytes: &[u8]) -> HeadError
+/// Why there is no head where the source stopped after these bytes: where it ended, more than 100 fields may have come. The
+/// request line and each field have one line feed.
+fn cut_head(stop: HeadError, bytes: &[u8]) -> HeadError
     requires unfinished { IsUnfinished bytes.now }
     requires short { length bytes.now < limit }
-    ensures why { HeadFails bytes.now result }
-    ensures told { result ≢ HeadError.ReadFault }
+    ensures why { (known : Option (List ℕ)) → Stops bytes.now known stop → IfSome known (λ all. HeadFails all result) }
+    ensures fault { result ≡ HeadError.ReadFault → stop ≡ HeadError.ReadFault }
 {
-    if line_feeds_after_blank(bytes) > 101 {
-        HeadError::TooLong
-    } else {
-        HeadError::EndedEarly
+    match stop {
+        HeadError::EndedEarly if line_feeds_after_blank(bytes) > 101 => HeadError::TooLong,
+        _ => stop,
     }
 }
 
@@ -70,8 +70,7 @@ pub(crate) fn find_head<S: Source>(
         }
         match window.fill(source) {
             Ok(()) => {}
-            Err(HeadError::EndedEarly) => return Err(cut_head(window.bytes())),
-            Err(e) => return Err(e),
+            Err(e) => return Err(cut_head(e, window.bytes())),
         }
     }
 }
