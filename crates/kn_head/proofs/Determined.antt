@@ -1,8 +1,8 @@
 -- No bytes have two answers, of which one is a request.
-use Rattle.std.proofs.Common.{◌≡◌, ◌⊎◌, ℕ, ◌+◌, ◌-◌, ◌≤◌, ◌<◌, Bool, List, [], ◌∷◌, ◌++◌, length, take, drop, Option, None, Some, Result, Ok, Err, inl, inr, refl, sym, subst, ap, ap₂, ◌∙◌, arith, length-append, append_assoc, append-nil, unwrap_or}
+use Rattle.std.proofs.Common.{◌≡◌, ℕ, ◌+◌, ◌-◌, ◌≤◌, ◌<◌, List, [], ◌∷◌, ◌++◌, length, take, drop, None, Some, Result, Ok, Err, inl, inr, refl, sym, subst, ap, ap₂, ◌∙◌, arith, length-append, append_assoc, append-nil, unwrap_or}
 use Rattle.std.proofs.lemmas.List.{take-append-drop, take-take, take_all}
-use Rattle.std.proofs.Math.Seq.{take-append-add, take-append_seam}
-use Rattle.httparse.specs.Grammar.{RequestHead, print_request, ReadsRequest, NeverHasRequest, HasNoRequest, EndsInTarget, MayBecomeRequest, ChunkLine, chunk_size, print_chunk_line, ReadsChunkLine, Field, LineEnd, print_section, ReadsSection}
+use Rattle.std.proofs.Math.Seq.{take-append-add}
+use Rattle.httparse.specs.Grammar.{RequestHead, print_request, ReadsRequest, NeverHasRequest, EndsInTarget, MayBecomeRequest, chunk_size, print_chunk_line, ReadsChunkLine, print_section, ReadsSection}
 use Rattle.httparse.specs.Spans.{RequestExceeds}
 use Rattle.httparse.proofs.GrammarLemmas.{request_unique, section_unique}
 use Rattle.httparse.proofs.ChunkLemmas.{chunk_line_unique}
@@ -11,11 +11,11 @@ use Rattle.kn_head.specs.declared.head.HeadError.{HeadError}
 use Rattle.kn_head.specs.declared.head.HeadError.TheVariants as error
 use Rattle.kn_head.specs.declared.rules.Form.{Form}
 use Rattle.kn_head.specs.declared.rules.Form.TheVariants as form
-use Rattle.kn_head.specs.Heads.{room, limit, BeginsWithHead, HeadFails, HasTooManyFields, IsUnfinished, fields_of}
+use Rattle.kn_head.specs.Heads.{room, limit, BeginsWithHead, HeadFails, fields_of}
 use Rattle.kn_head.specs.Rules.{body_limit, owner_of, form_of}
-use Rattle.kn_head.specs.Chunks.{size_limit, IsSizeLine, IsTrailer, IsChunked, last, chunk, SizeFails, TrailerFails, BytesFail, LineEndFails, TakesChunk, ChunksFail, at_size, too_long, at_trailer, at_piece, at_end, later}
-use Rattle.kn_head.specs.Reading.{HasBodyOf, HasBody, BodyFails, is_chunked, HasParts, Reads, no_head, no_owner, no_form, no_body, no_memory, whole}
-use Rattle.kn_head.specs.Laws.{IsUntold, IsOkUnlessUntold, ComeTooMany, AreAlike}
+use Rattle.kn_head.specs.Chunks.{size_limit, IsSizeLine, IsTrailer, IsChunked, last, chunk, SizeFails, TrailerFails, BytesFail, LineEndFails, ChunksFail, at_size, too_long, at_trailer, at_piece, at_end, later}
+use Rattle.kn_head.specs.Reading.{HasBody, BodyFails, is_chunked, HasParts, Reads, no_head, no_owner, no_form, no_body, no_memory, whole}
+use Rattle.kn_head.specs.Laws.{IsUntold, IsOkUnlessUntold, AreAlike}
 
 -- ---- fronts
 

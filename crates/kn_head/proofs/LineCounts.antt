@@ -5,8 +5,8 @@ use Rattle.std.proofs.lemmas.List.{append_cancel_right}
 use Rattle.std.proofs.lemmas.List.Sums.{sum_by-append, sum_by-cons}
 use Rattle.std.proofs.lemmas.List.Elements.{All-nil, All-cons, All-head, All-tail}
 use Rattle.std.specs.List.{prefix_len}
-use Rattle.httparse.specs.Grammar.{is_token_byte, is_uri_byte, is_value_byte, AllPass, LineEnd, crlf, lf, print_end, print_blank, print_version, Field, print_field, IsField, print_section, ReadsSection, HasNoSection, RequestHead, print_request, IsRequestHead, ReadsRequest, HasNoRequest, MayBecomeRequest}
-use Rattle.httparse.specs.Spans.{RequestExceeds, RequestOverflows, SectionExceeds, SectionOverflows}
+use Rattle.httparse.specs.Grammar.{is_token_byte, is_uri_byte, is_value_byte, AllPass, LineEnd, crlf, lf, print_end, print_blank, print_version, Field, print_field, IsField, print_section, ReadsSection, HasNoSection, RequestHead, print_request, IsRequestHead, ReadsRequest, HasNoRequest}
+use Rattle.httparse.specs.Spans.{RequestExceeds, SectionExceeds, SectionOverflows}
 use Rattle.httparse.specs.Pieces.{Stops, is_newline, FieldLines}
 use Rattle.httparse.proofs.PieceLemmas.{Stops_token}
 use Rattle.httparse.proofs.GrammarLemmas.{print_request-append, cons-append}
@@ -57,8 +57,13 @@ field_text f = f.name ++ 58 ∷ f.raw
 
 field_clean : (f : Field) → IsField f → line_feeds (field_text f) ≡ 0
 field_clean f is =
-    omega (arith, feeds-append f.name (58 ∷ f.raw), no_feeds is_token_byte f.name no_token is.name.1,
-    feeds_other 58 f.raw (λ same. cc), no_feeds is_value_byte f.raw refl is.raw)
+    omega (
+      arith,
+      feeds-append f.name (58 ∷ f.raw),
+      no_feeds is_token_byte f.name no_token is.name.1,
+      feeds_other 58 f.raw (λ same. cc),
+      no_feeds is_value_byte f.raw refl is.raw,
+    )
 
 field_feeds : (f : Field) → IsField f → line_feeds (print_field f) ≡ 1
 field_feeds f is = one_feed (field_text f) f.end (field_clean f is)
@@ -66,8 +71,12 @@ field_feeds f is = one_feed (field_text f) f.end (field_clean f is)
 fields_feeds : (fs : List Field) → All IsField fs → line_feeds (flat_map print_field fs) ≡ length fs
 fields_feeds [] are = feeds-nil
 fields_feeds (f ∷ fs) are =
-    omega (arith, feeds-append (print_field f) (flat_map print_field fs), field_feeds f (All-head IsField f fs are),
-    fields_feeds fs (All-tail IsField f fs are))
+    omega (
+      arith,
+      feeds-append (print_field f) (flat_map print_field fs),
+      field_feeds f (All-head IsField f fs are),
+      fields_feeds fs (All-tail IsField f fs are),
+    )
 
 -- the request line without its end
 abbrev request_text : RequestHead → List ℕ
@@ -87,9 +96,16 @@ version_clean minor small =
 request_clean : (h : RequestHead) → IsRequestHead h → line_feeds (request_text h) ≡ 0
 request_clean h is =
     let version = print_version h.minor in
-    omega (arith, feeds-append h.method (32 ∷ (h.target ++ 32 ∷ version)), no_feeds is_token_byte h.method no_token is.method.1,
-    feeds_other 32 (h.target ++ 32 ∷ version) (λ same. cc), feeds-append h.target (32 ∷ version),
-    no_feeds is_uri_byte h.target refl is.target.1, feeds_other 32 version (λ same. cc), version_clean h.minor is.minor)
+    omega (
+      arith,
+      feeds-append h.method (32 ∷ (h.target ++ 32 ∷ version)),
+      no_feeds is_token_byte h.method no_token is.method.1,
+      feeds_other 32 (h.target ++ 32 ∷ version) (λ same. cc),
+      feeds-append h.target (32 ∷ version),
+      no_feeds is_uri_byte h.target refl is.target.1,
+      feeds_other 32 version (λ same. cc),
+      version_clean h.minor is.minor,
+    )
 
 request_is : (h : RequestHead) (rest : List ℕ)
     → print_request h ++ rest ≡ print_blank h.blank ++ (request_line h ++ (print_section h.fields h.last ++ rest))
@@ -118,15 +134,15 @@ split (b ∷ bytes) more (x ∷ text) rest e =
     let head : b ≡ x = cc in
     let tail : bytes ++ more ≡ text ++ rest = cc in
     elim (split bytes more text rest tail) [
-      inl whole ↦ inl (whole.0, ap₂ ◌∷◌ head whole.1, whole.2)
-    | inr part ↦ inr (part.0, part.1, ap₂ ◌∷◌ (sym head) part.2)
+      | inl whole ↦ inl (whole.0, ap₂ ◌∷◌ head whole.1, whole.2)
+      | inr part ↦ inr (part.0, part.1, ap₂ ◌∷◌ (sym head) part.2)
     ]
 
 part_feeds : (text part : List ℕ) (x : ℕ) (xs : List ℕ) → line_feeds text ≡ 0 → text ++ 10 ∷ [] ≡ part ++ x ∷ xs → line_feeds part ≡ 0
 part_feeds text part x xs none e =
     elim (split text (10 ∷ []) part (x ∷ xs) e) [
-      inl whole ↦ omega (arith, none, ap line_feeds whole.1, feeds-append part whole.0)
-    | inr longer ↦ absurd (omega (arith, ap length e, length-append text (10 ∷ []), length-append part (x ∷ xs), ap length longer.2, length-append text (longer.0 ∷ longer.1)))
+      | inl whole ↦ omega (arith, none, ap line_feeds whole.1, feeds-append part whole.0)
+      | inr longer ↦ absurd (omega (arith, ap length e, length-append text (10 ∷ []), length-append part (x ∷ xs), ap length longer.2, length-append text (longer.0 ∷ longer.1)))
     ]
 
 line_part_feeds : (text : List ℕ) (e : LineEnd) (part : List ℕ) (x : ℕ) (xs : List ℕ) → line_feeds text ≡ 0
@@ -141,8 +157,8 @@ line_or_none : (text : List ℕ) (e : LineEnd) (bytes more rest : List ℕ) → 
     → ((after : List ℕ) × (bytes ≡ (text ++ print_end e) ++ after) × (after ++ more ≡ rest)) ⊎ (line_feeds bytes ≡ 0)
 line_or_none text e bytes more rest none same =
     elim (split bytes more (text ++ print_end e) rest same) [
-      inl whole ↦ inl whole
-    | inr part ↦ inr (line_part_feeds text e bytes part.0 part.1 none part.2)
+      | inl whole ↦ inl whole
+      | inr part ↦ inr (line_part_feeds text e bytes part.0 part.1 none part.2)
     ]
 
 -- ---- fields
@@ -186,16 +202,16 @@ fields_came : (bytes more rest : List ℕ) (fields : List Field) (last : LineEnd
     → ReadsSection (bytes ++ more) fields last rest → FieldsCame bytes (length fields)
 fields_came bytes more rest [] last none reads =
     elim (line_or_none [] last bytes more rest feeds-nil reads.1) [
-      inl whole ↦ absurd (none [] last whole.0 (All-nil IsField, whole.1))
-    | inr zero ↦ none_came bytes 0 zero
+      | inl whole ↦ absurd (none [] last whole.0 (All-nil IsField, whole.1))
+      | inr zero ↦ none_came bytes 0 zero
     ]
 fields_came bytes more rest (f ∷ fields) last none reads =
     let is = All-head IsField f fields reads.0 in
     let same = reads.1 ∙ regroup_section (print_field f) (flat_map print_field fields) (print_end last) rest in
     elim (line_or_none (field_text f) f.end bytes more (print_section fields last ++ rest) (field_clean f is) same) [
-      inl whole ↦ field_came f bytes whole.0 (length fields) is whole.1
-        (fields_came whole.0 more rest fields last (section_behind f bytes whole.0 is whole.1 none) (All-tail IsField f fields reads.0, whole.2))
-    | inr zero ↦ none_came bytes (suc (length fields)) zero
+      | inl whole ↦ field_came f bytes whole.0 (length fields) is whole.1
+          (fields_came whole.0 more rest fields last (section_behind f bytes whole.0 is whole.1 none) (All-tail IsField f fields reads.0, whole.2))
+      | inr zero ↦ none_came bytes (suc (length fields)) zero
     ]
 
 -- more than 100 lines of a trailer came
@@ -258,24 +274,24 @@ ends_within : (xs : List ℕ) → ends xs ≤ line_feeds xs
 ends_within [] = omega (arith, ends-nil)
 ends_within (x ∷ xs) =
     elim (cases_Bool (is_newline x)) [
-      inl newline ↦ omega (arith, ap line_feeds (after_newline x xs newline), ends_within xs, feeds-cons x xs)
-    | inr other ↦ omega (arith, ap line_feeds (after_other x xs other))
+      | inl newline ↦ omega (arith, ap line_feeds (after_newline x xs newline), ends_within xs, feeds-cons x xs)
+      | inr other ↦ omega (arith, ap line_feeds (after_other x xs other))
     ]
 
 ends_grow : (xs ys : List ℕ) → ends xs ≤ ends (xs ++ ys)
 ends_grow [] ys = omega (arith, ends-nil)
 ends_grow (x ∷ xs) ys =
     elim (cases_Bool (is_newline x)) [
-      inl newline ↦ omega (arith, ap line_feeds (after_newline x xs newline), ap line_feeds (after_newline x (xs ++ ys) newline), ends_grow xs ys)
-    | inr other ↦ omega (arith, ap line_feeds (after_other x xs other), ap line_feeds (after_other x (xs ++ ys) other), feeds-append (x ∷ xs) ys)
+      | inl newline ↦ omega (arith, ap line_feeds (after_newline x xs newline), ap line_feeds (after_newline x (xs ++ ys) newline), ends_grow xs ys)
+      | inr other ↦ omega (arith, ap line_feeds (after_other x xs other), ap line_feeds (after_other x (xs ++ ys) other), feeds-append (x ∷ xs) ys)
     ]
 
 ends_add : (xs ys : List ℕ) → ends (xs ++ ys) ≤ ends xs + line_feeds ys
 ends_add [] ys = omega (arith, ends_within ys)
 ends_add (x ∷ xs) ys =
     elim (cases_Bool (is_newline x)) [
-      inl newline ↦ omega (arith, ap line_feeds (after_newline x xs newline), ap line_feeds (after_newline x (xs ++ ys) newline), ends_add xs ys)
-    | inr other ↦ omega (arith, ap line_feeds (after_other x xs other), ap line_feeds (after_other x (xs ++ ys) other), feeds-append (x ∷ xs) ys)
+      | inl newline ↦ omega (arith, ap line_feeds (after_newline x xs newline), ap line_feeds (after_newline x (xs ++ ys) newline), ends_add xs ys)
+      | inr other ↦ omega (arith, ap line_feeds (after_other x xs other), ap line_feeds (after_other x (xs ++ ys) other), feeds-append (x ∷ xs) ys)
     ]
 
 -- ---- heads
@@ -305,8 +321,16 @@ line_came bytes begun after more rest h is none same line goes =
       are = came.lines.0;
       text = same ∙ ap (λ l. print_blank h.blank ++ l) (line ∙ ap (λ l. request_line h ++ l) came.lines.1);
       all_came =
-          omega (arith, came.all_came, ap ends same, ap line_feeds (after_ends h.blank begun), ends_within begun, ap line_feeds line,
-          feeds-append (request_line h) after, one_feed (request_text h) h.line_end (request_clean h is));
+          omega (
+            arith,
+            came.all_came,
+            ap ends same,
+            ap line_feeds (after_ends h.blank begun),
+            ends_within begun,
+            ap line_feeds line,
+            feeds-append (request_line h) after,
+            one_feed (request_text h) h.line_end (request_clean h is),
+          );
       few = came.few;
     }
 
@@ -314,11 +338,11 @@ head_came : (bytes more rest : List ℕ) (h : RequestHead) → HasNoRequest byte
 head_came bytes more rest h none reads some =
     let section = print_section h.fields h.last ++ rest in
     elim (split bytes more (print_blank h.blank) (request_line h ++ section) (reads.1 ∙ request_is h rest)) [
-      inl begun ↦ elim (line_or_none (request_text h) h.line_end begun.0 more section (request_clean h reads.0) begun.2) [
-        inl line ↦ line_came bytes begun.0 line.0 more rest h reads.0 none begun.1 line.1 line.2
-      | inr zero ↦ absurd (omega (arith, some, zero, ap ends begun.1, ap line_feeds (after_ends h.blank begun.0), ends_within begun.0))
+      | inl begun ↦ elim (line_or_none (request_text h) h.line_end begun.0 more section (request_clean h reads.0) begun.2) [
+        | inl line ↦ line_came bytes begun.0 line.0 more rest h reads.0 none begun.1 line.1 line.2
+        | inr zero ↦ absurd (omega (arith, some, zero, ap ends begun.1, ap line_feeds (after_ends h.blank begun.0), ends_within begun.0))
       ]
-    | inr part ↦ absurd (omega (arith, some, ends_grow bytes (part.0 ∷ part.1), ap ends part.2, blank_ends h.blank))
+      | inr part ↦ absurd (omega (arith, some, ends_grow bytes (part.0 ∷ part.1), ap ends part.2, blank_ends h.blank))
     ]
 
 came_exceeds : (bytes : List ℕ) (h : RequestHead) → IsRequestHead h → (came : HeadCame bytes h) → room < length came.fields → RequestExceeds room bytes
@@ -348,8 +372,17 @@ head_exceeds bytes (none, inl (more, h, reads)) over =
 head_exceeds bytes (none, inr (blank, method, target, token, uri, same)) over =
     let text = method ++ 32 ∷ target in
     let whole : bytes ≡ print_blank blank ++ text = same ∙ append_assoc (print_blank blank) method (32 ∷ target) in
-    absurd (omega (arith, over, ap ends whole, ap line_feeds (after_ends blank text), ends_within text, feeds-append method (32 ∷ target),
-    no_feeds is_token_byte method no_token token.1, feeds_other 32 target (λ same. cc), no_feeds is_uri_byte target refl uri))
+    absurd (omega (
+      arith,
+      over,
+      ap ends whole,
+      ap line_feeds (after_ends blank text),
+      ends_within text,
+      feeds-append method (32 ∷ target),
+      no_feeds is_token_byte method no_token token.1,
+      feeds_other 32 target (λ same. cc),
+      no_feeds is_uri_byte target refl uri,
+    ))
 
 -- at most 100
 pub head_fits : (bytes : List ℕ) → line_feeds (after_blank bytes) ≤ room + 1 → ¬ (RequestExceeds room bytes)
@@ -359,11 +392,23 @@ head_fits bytes few (front, rest, same, h, reads, over) =
     let begins : Stops is_newline (request_line h ++ section) =
     subst (Stops is_newline) (sym (regroup_line h.method (32 ∷ (h.target ++ 32 ∷ print_version h.minor)) (print_end h.line_end) section))
     (Stops_token h.method _ reads.0.method.0 reads.0.method.1) in
-    omega (arith, over, few, ap ends same, ends_grow front rest, ends_add front (print_end lf), end_feeds lf, ap ends text,
-    ap line_feeds (after_ends h.blank (request_line h ++ section) ∙ after_stops (request_line h ++ section) begins),
-    feeds-append (request_line h) section, one_feed (request_text h) h.line_end (request_clean h reads.0),
-    ap line_feeds (append-nil (print_section h.fields h.last)), feeds-append (flat_map print_field h.fields) (print_end h.last),
-    fields_feeds h.fields reads.0.fields, end_feeds h.last)
+    omega (
+      arith,
+      over,
+      few,
+      ap ends same,
+      ends_grow front rest,
+      ends_add front (print_end lf),
+      end_feeds lf,
+      ap ends text,
+      ap line_feeds (after_ends h.blank (request_line h ++ section) ∙ after_stops (request_line h ++ section) begins),
+      feeds-append (request_line h) section,
+      one_feed (request_text h) h.line_end (request_clean h reads.0),
+      ap line_feeds (append-nil (print_section h.fields h.last)),
+      feeds-append (flat_map print_field h.fields) (print_end h.last),
+      fields_feeds h.fields reads.0.fields,
+      end_feeds h.last,
+    )
   where
     regroup_line : (a b c d : List ℕ) → ((a ++ b) ++ c) ++ d ≡ a ++ ((b ++ c) ++ d)
     regroup_line a b c d = regroup_section a b c d

@@ -68,7 +68,7 @@ impl Window {
         self.start += n;
     }
 
-    /// Reads more bytes, at least one, behind those that wait. `EndedEarly` is the end of the source.
+    /// Reads more bytes, at least one, behind those that wait, which stay on an error. `EndedEarly` is the end of the source.
     pub(crate) fn fill<S: Source>(&mut self, source: &mut S) -> Result<(), HeadError>
         requires { length self.old < limit }
         ensures more { OnOk result (length self.old < length self.new) }

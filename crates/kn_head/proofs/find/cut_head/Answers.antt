@@ -1,4 +1,4 @@
-use Rattle.std.proofs.Common.{ℕ, List, Option, subst, arith}
+use Rattle.std.proofs.Common.{subst, arith}
 use Rattle.kn_head.specs.Told.{Stops}
 use Rattle.kn_head.proofs.LineCounts.{head_exceeds, head_fits}
 use Rattle.kn_head.proofs.HeadFronts.{head_stopped, head_ended_long}
