@@ -1,10 +1,10 @@
 -- What the bytes that came say of a size line and of a trailer, at the front of all the bytes.
-use Rattle.std.proofs.Common.{◌≡◌, ℕ, ◌≤◌, ◌<◌, List, ◌++◌, length, take, drop, Option, None, Some, IfSome, inl, inr, sym, subst, ap, ◌∙◌, arith, length-append, append_assoc}
+use Rattle.std.proofs.Common.{◌≡◌, ℕ, ◌≤◌, ◌<◌, List, ◌++◌, length, take, drop, Option, None, Some, IfSome, inl, inr, refl, sym, subst, ap, ◌∙◌, arith, length-append, append_assoc}
 use Rattle.std.proofs.lemmas.List.{take-append-le, take-append-drop, length-take-le, take_all}
 use Rattle.std.proofs.Math.Seq.{take-append_seam, drop-append_seam}
 use Rattle.std.specs.Io.KnownBytes.{Keeps}
 use Rattle.httparse.specs.Grammar.{ChunkLine, print_chunk_line, NeverHasChunkLine, HasNoChunkLine, Field, LineEnd, print_section, HasNoSection}
-use Rattle.httparse.specs.Spans.{IsChunkLineAt, IsSectionAt}
+use Rattle.httparse.specs.Spans.{IsChunkLineAt, IsSectionAt, SectionExceeds, SectionOverflows}
 use Rattle.httparse.specs.declared.spans.HeaderSpan.{HeaderSpan}
 use Rattle.httparse.proofs.GrammarLemmas.{ReadsSection-append}
 use Rattle.kn_head.specs.declared.head.HeadError.{HeadError}
@@ -100,19 +100,27 @@ trailer_too_long waiting more full none =
 
 -- the stream ended or failed
 pub trailer_stopped : (e : HeadError) (known : Option (List ℕ)) (waiting : List ℕ) → length waiting < limit → IsUnfinishedTrailer waiting
-    → Stops waiting known e → IfSome known (λ bytes. TrailerFails bytes e)
-trailer_stopped e None waiting short open_ stops = tt
-trailer_stopped error.ReadFault (Some bytes) waiting short open_ stops = tt
-trailer_stopped error.Malformed (Some bytes) waiting short open_ stops = absurd stops
-trailer_stopped error.TooLong (Some bytes) waiting short open_ stops = absurd stops
-trailer_stopped error.EndedEarly (Some bytes) waiting short open_ same =
-    subst (λ b. TrailerFails b error.EndedEarly) (sym same) (short, open_)
-trailer_stopped error.NoRevision (Some bytes) waiting short open_ stops = absurd stops
-trailer_stopped error.BadLength (Some bytes) waiting short open_ stops = absurd stops
-trailer_stopped error.BodyTooLong (Some bytes) waiting short open_ stops = absurd stops
-trailer_stopped error.Memory (Some bytes) waiting short open_ stops = absurd stops
-trailer_stopped error.BadCoding (Some bytes) waiting short open_ stops = absurd stops
-trailer_stopped error.BadChunk (Some bytes) waiting short open_ stops = absurd stops
+    → (e ≡ error.EndedEarly → ¬ (SectionExceeds room waiting)) → Stops waiting known e → IfSome known (λ bytes. TrailerFails bytes e)
+trailer_stopped e None waiting short open_ fits stops = tt
+trailer_stopped error.ReadFault (Some bytes) waiting short open_ fits stops = tt
+trailer_stopped error.Malformed (Some bytes) waiting short open_ fits stops = absurd stops
+trailer_stopped error.TooLong (Some bytes) waiting short open_ fits stops = absurd stops
+trailer_stopped error.EndedEarly (Some bytes) waiting short open_ fits same =
+    subst (λ b. TrailerFails b error.EndedEarly) (sym same) (short, open_, fits refl)
+trailer_stopped error.NoRevision (Some bytes) waiting short open_ fits stops = absurd stops
+trailer_stopped error.BadLength (Some bytes) waiting short open_ fits stops = absurd stops
+trailer_stopped error.BodyTooLong (Some bytes) waiting short open_ fits stops = absurd stops
+trailer_stopped error.Memory (Some bytes) waiting short open_ fits stops = absurd stops
+trailer_stopped error.BadCoding (Some bytes) waiting short open_ fits stops = absurd stops
+trailer_stopped error.BadChunk (Some bytes) waiting short open_ fits stops = absurd stops
+
+-- it ended after more than 100 fields
+pub trailer_ended_long : (known : Option (List ℕ)) (waiting : List ℕ) → length waiting < limit → SectionExceeds room waiting × SectionOverflows room waiting
+    → Stops waiting known error.EndedEarly → IfSome known (λ bytes. TrailerFails bytes error.BadChunk)
+trailer_ended_long None waiting short many stops = tt
+trailer_ended_long (Some bytes) waiting short many same =
+    subst (λ b. TrailerFails b error.BadChunk) (sym same)
+    (inl (length waiting, omega (arith, short), subst IsHopelessTrailer (sym (take_all (length waiting) waiting (omega arith))) (inr many)))
 
 pub trailer_at : (waiting more : List ℕ) (spans : List HeaderSpan) (end count : ℕ) (fields : List Field) (last : LineEnd) → length waiting ≤ limit
     → IsSectionAt waiting 0 spans end count fields last → length fields ≤ room → IsTrailer (waiting ++ more) (drop end waiting ++ more)

@@ -1,8 +1,9 @@
 -- No bytes have two answers, of which one is a request.
-use Rattle.std.proofs.Common.{◌≡◌, ◌⊎◌, ℕ, ◌+◌, ◌-◌, ◌≤◌, ◌<◌, Bool, List, [], ◌∷◌, ◌++◌, length, take, drop, Option, None, Some, Result, Ok, Err, inl, inr, refl, sym, subst, ap, ap₂, ◌∙◌, arith, length-append, append_assoc, append-nil, unwrap_or}
+use Rattle.std.proofs.Common.{◌≡◌, ℕ, ◌+◌, ◌-◌, ◌≤◌, ◌<◌, List, [], ◌∷◌, ◌++◌, length, take, drop, None, Some, Result, Ok, Err, inl, inr, refl, sym, subst, ap, ap₂, ◌∙◌, arith, length-append, append_assoc, append-nil, unwrap_or}
 use Rattle.std.proofs.lemmas.List.{take-append-drop, take-take, take_all}
-use Rattle.std.proofs.Math.Seq.{take-append-add, take-append_seam}
-use Rattle.httparse.specs.Grammar.{RequestHead, print_request, ReadsRequest, NeverHasRequest, HasNoRequest, EndsInTarget, MayBecomeRequest, ChunkLine, chunk_size, print_chunk_line, ReadsChunkLine, Field, LineEnd, print_section, ReadsSection}
+use Rattle.std.proofs.Math.Seq.{take-append-add}
+use Rattle.httparse.specs.Grammar.{RequestHead, print_request, ReadsRequest, NeverHasRequest, EndsInTarget, MayBecomeRequest, chunk_size, print_chunk_line, ReadsChunkLine, print_section, ReadsSection}
+use Rattle.httparse.specs.Spans.{RequestExceeds}
 use Rattle.httparse.proofs.GrammarLemmas.{request_unique, section_unique}
 use Rattle.httparse.proofs.ChunkLemmas.{chunk_line_unique}
 use Rattle.kn_head.specs.declared.head.Head.{Head}
@@ -10,11 +11,11 @@ use Rattle.kn_head.specs.declared.head.HeadError.{HeadError}
 use Rattle.kn_head.specs.declared.head.HeadError.TheVariants as error
 use Rattle.kn_head.specs.declared.rules.Form.{Form}
 use Rattle.kn_head.specs.declared.rules.Form.TheVariants as form
-use Rattle.kn_head.specs.Heads.{room, limit, BeginsWithHead, HeadFails, HasTooManyFields, IsUnfinished, fields_of}
+use Rattle.kn_head.specs.Heads.{room, limit, BeginsWithHead, HeadFails, fields_of}
 use Rattle.kn_head.specs.Rules.{body_limit, owner_of, form_of}
-use Rattle.kn_head.specs.Chunks.{size_limit, IsSizeLine, IsTrailer, IsChunked, last, chunk, SizeFails, TrailerFails, BytesFail, LineEndFails, TakesChunk, ChunksFail, at_size, too_long, at_trailer, at_piece, at_end, later}
-use Rattle.kn_head.specs.Reading.{HasBodyOf, HasBody, BodyFails, is_chunked, HasParts, Reads, no_head, no_owner, no_form, no_body, no_memory, whole}
-use Rattle.kn_head.specs.Laws.{IsUntold, IsOkUnlessUntold, ComeTooMany, AreAlike}
+use Rattle.kn_head.specs.Chunks.{size_limit, IsSizeLine, IsTrailer, IsChunked, last, chunk, SizeFails, TrailerFails, BytesFail, LineEndFails, ChunksFail, at_size, too_long, at_trailer, at_piece, at_end, later}
+use Rattle.kn_head.specs.Reading.{HasBody, BodyFails, is_chunked, HasParts, Reads, no_head, no_owner, no_form, no_body, no_memory, whole}
+use Rattle.kn_head.specs.Laws.{IsUntold, IsOkUnlessUntold, AreAlike}
 
 -- ---- fronts
 
@@ -44,7 +45,7 @@ no_head_there bytes rest h error.TooLong begins (inl (k, short, many)) =
     absurd (omega (arith, over, begins.few))
 no_head_there bytes rest h error.TooLong begins (inr (long, open_)) =
     absurd (open_.0 h _ (begins.reads.0, front_of bytes (print_request h) rest limit begins.reads.1 begins.short))
-no_head_there bytes rest h error.EndedEarly begins (short, open_) = absurd (open_.0 h rest begins.reads)
+no_head_there bytes rest h error.EndedEarly begins (short, open_, fits) = absurd (open_.0 h rest begins.reads)
 no_head_there bytes rest h error.ReadFault begins fails = tt
 no_head_there bytes rest h error.NoRevision begins fails = absurd fails
 no_head_there bytes rest h error.BadLength begins fails = absurd fails
@@ -63,17 +64,18 @@ alike_swap : (bytes : List ℕ) (e f : HeadError) → AreAlike bytes e f → Are
 alike_swap bytes e f (inl same) = inl (sym same)
 alike_swap bytes e f (inr (inl (inl untold))) = inr (inl (inr untold))
 alike_swap bytes e f (inr (inl (inr untold))) = inr (inl (inl untold))
-alike_swap bytes e f (inr (inr allowed)) = inr (inr allowed)
+alike_swap bytes e f (inr (inr (inl stands))) = inr (inr (inr stands))
+alike_swap bytes e f (inr (inr (inr stands))) = inr (inr (inl stands))
 
 whole_front : (bytes : List ℕ) → length bytes < limit → take limit bytes ≡ bytes
 whole_front bytes short = take_all limit bytes (omega arith)
 
 never_or : (bytes : List ℕ) (f : HeadError) (k : ℕ) → k ≤ limit → NeverHasRequest (take k bytes) → HeadFails bytes f → AreAlike bytes error.Malformed f
 never_or bytes error.Malformed k short never fails = inl refl
-never_or bytes error.TooLong k short never (inl many) = inr (inr (inr many))
-never_or bytes error.TooLong k short never (inr (long, open_)) = inr (inr (inl (in_target bytes k short never open_.1)))
-never_or bytes error.EndedEarly k short never (few, open_) =
-    inr (inr (inl (in_target bytes k short never (subst MayBecomeRequest (sym (whole_front bytes few)) open_.1))))
+never_or bytes error.TooLong k short never (inl many) = inr (inr (inl (refl, inr many)))
+never_or bytes error.TooLong k short never (inr (long, open_)) = inr (inr (inl (refl, inl (in_target bytes k short never open_.1))))
+never_or bytes error.EndedEarly k short never (few, open_, fits) =
+    inr (inr (inl (refl, in_target bytes k short never (subst MayBecomeRequest (sym (whole_front bytes few)) open_.1))))
 never_or bytes error.ReadFault k short never fails = inr (inl (inr tt))
 never_or bytes error.NoRevision k short never fails = absurd fails
 never_or bytes error.BadLength k short never fails = absurd fails
@@ -82,11 +84,22 @@ never_or bytes error.Memory k short never fails = absurd fails
 never_or bytes error.BadCoding k short never fails = absurd fails
 never_or bytes error.BadChunk k short never fails = absurd fails
 
+-- more than 100 fields come in a front, and so in the whole
+exceeds_whole : (bytes : List ℕ) (k : ℕ) → RequestExceeds room (take k bytes) → RequestExceeds room bytes
+exceeds_whole bytes k (front, rest, same, h, reads, over) = (
+  front,
+  rest ++ drop k bytes,
+  sym (take-append-drop k bytes) ∙ (ap (λ l. l ++ drop k bytes) same ∙ append_assoc front rest (drop k bytes)),
+  h,
+  reads,
+  over,
+)
+
 long_or : (bytes : List ℕ) (f : HeadError) → HeadFails bytes error.TooLong → HeadFails bytes f → AreAlike bytes error.TooLong f
 long_or bytes error.Malformed long (k, short, never) = alike_swap bytes error.Malformed error.TooLong (never_or bytes error.TooLong k short never long)
 long_or bytes error.TooLong long fails = inl refl
-long_or bytes error.EndedEarly (inl many) fails = inr (inr (inr many))
-long_or bytes error.EndedEarly (inr (long, open_)) (few, open') = absurd (omega (arith, long, few))
+long_or bytes error.EndedEarly (inl (k, short, many)) (few, open_, fits) = absurd (fits (exceeds_whole bytes k many.0))
+long_or bytes error.EndedEarly (inr (long, open_)) (few, open', fits) = absurd (omega (arith, long, few))
 long_or bytes error.ReadFault long fails = inr (inl (inr tt))
 long_or bytes error.NoRevision long fails = absurd fails
 long_or bytes error.BadLength long fails = absurd fails
@@ -176,7 +189,7 @@ trailer_there b rest error.BadChunk t (inl (k, short, inr many)) =
     absurd (omega (arith, over, t.3))
 trailer_there b rest error.BadChunk t (inr (long, none)) =
     absurd (none t.0 t.1 _ (t.2.0, front_of b (print_section t.0 t.1) rest limit t.2.1 t.4))
-trailer_there b rest error.EndedEarly t (short, open_) = absurd (open_.0 t.0 t.1 rest t.2)
+trailer_there b rest error.EndedEarly t (short, open_, fits) = absurd (open_.0 t.0 t.1 rest t.2)
 trailer_there b rest error.ReadFault t fails = tt
 trailer_there b rest error.Malformed t fails = absurd fails
 trailer_there b rest error.TooLong t fails = absurd fails

@@ -1,11 +1,13 @@
 -- Why there is no head, of all the bytes, from what the bytes that came say.
-use Rattle.std.proofs.Common.{◌≡◌, ℕ, ◌≤◌, ◌<◌, List, ◌++◌, length, take, Option, None, Some, IfSome, inl, inr, sym, subst, arith, length-append}
+use Rattle.std.proofs.Common.{◌≡◌, ℕ, ◌≤◌, ◌<◌, List, ◌++◌, length, take, Option, None, Some, IfSome, inl, inr, refl, sym, subst, arith, length-append}
+use Rattle.std.proofs.lemmas.List.{take_all}
 use Rattle.std.proofs.Math.Seq.{take-append_seam}
 use Rattle.kn_head.specs.declared.head.HeadError.{HeadError}
 use Rattle.kn_head.specs.declared.head.HeadError.TheVariants as error
 use Rattle.httparse.specs.Grammar.{NeverHasRequest}
+use Rattle.httparse.specs.Spans.{RequestExceeds}
 use Rattle.kn_head.specs.Told.{Stops}
-use Rattle.kn_head.specs.Heads.{limit, IsUnfinished, HasTooManyFields, HeadRefused, HeadFails}
+use Rattle.kn_head.specs.Heads.{room, limit, IsUnfinished, HasTooManyFields, HeadRefused, HeadFails}
 
 -- the first bytes are those that came
 pub front_is : (waiting more : List ℕ) (n : ℕ) → length waiting ≡ n → take n (waiting ++ more) ≡ waiting
@@ -32,16 +34,24 @@ head_too_long waiting more full open_ =
 
 -- the stream ended or failed
 pub head_stopped : (e : HeadError) (known : Option (List ℕ)) (waiting : List ℕ) → length waiting < limit → IsUnfinished waiting
-    → Stops waiting known e → IfSome known (λ bytes. HeadFails bytes e)
-head_stopped e None waiting short open_ stops = tt
-head_stopped error.EndedEarly (Some bytes) waiting short open_ same =
-    subst (λ b. HeadFails b error.EndedEarly) (sym same) (short, open_)
-head_stopped error.ReadFault (Some bytes) waiting short open_ stops = tt
-head_stopped error.Malformed (Some bytes) waiting short open_ stops = absurd stops
-head_stopped error.TooLong (Some bytes) waiting short open_ stops = absurd stops
-head_stopped error.NoRevision (Some bytes) waiting short open_ stops = absurd stops
-head_stopped error.BadLength (Some bytes) waiting short open_ stops = absurd stops
-head_stopped error.BodyTooLong (Some bytes) waiting short open_ stops = absurd stops
-head_stopped error.Memory (Some bytes) waiting short open_ stops = absurd stops
-head_stopped error.BadCoding (Some bytes) waiting short open_ stops = absurd stops
-head_stopped error.BadChunk (Some bytes) waiting short open_ stops = absurd stops
+    → (e ≡ error.EndedEarly → ¬ (RequestExceeds room waiting)) → Stops waiting known e → IfSome known (λ bytes. HeadFails bytes e)
+head_stopped e None waiting short open_ fits stops = tt
+head_stopped error.EndedEarly (Some bytes) waiting short open_ fits same =
+    subst (λ b. HeadFails b error.EndedEarly) (sym same) (short, open_, fits refl)
+head_stopped error.ReadFault (Some bytes) waiting short open_ fits stops = tt
+head_stopped error.Malformed (Some bytes) waiting short open_ fits stops = absurd stops
+head_stopped error.TooLong (Some bytes) waiting short open_ fits stops = absurd stops
+head_stopped error.NoRevision (Some bytes) waiting short open_ fits stops = absurd stops
+head_stopped error.BadLength (Some bytes) waiting short open_ fits stops = absurd stops
+head_stopped error.BodyTooLong (Some bytes) waiting short open_ fits stops = absurd stops
+head_stopped error.Memory (Some bytes) waiting short open_ fits stops = absurd stops
+head_stopped error.BadCoding (Some bytes) waiting short open_ fits stops = absurd stops
+head_stopped error.BadChunk (Some bytes) waiting short open_ fits stops = absurd stops
+
+-- it ended after more than 100 fields
+pub head_ended_long : (known : Option (List ℕ)) (waiting : List ℕ) → length waiting < limit → HasTooManyFields waiting
+    → Stops waiting known error.EndedEarly → IfSome known (λ bytes. HeadFails bytes error.TooLong)
+head_ended_long None waiting short many stops = tt
+head_ended_long (Some bytes) waiting short many same =
+    subst (λ b. HeadFails b error.TooLong) (sym same)
+    (inl (length waiting, omega (arith, short), subst HasTooManyFields (sym (take_all (length waiting) waiting (omega arith))) many))

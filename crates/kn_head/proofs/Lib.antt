@@ -1,4 +1,5 @@
 pub mod Names
+pub mod LineCounts
 pub mod Keeping
 pub mod Pieces
 pub mod Drawing

@@ -1,6 +1,5 @@
 -- Parts that are taken one after the other.
-use Rattle.std.proofs.Common.{◌≡◌, ◌⊎◌, ℕ, ◌+◌, ◌≤◌, ◌<◌, Bool, true, false, ◌==◌, ◌&&◌, if◌then◌else◌, List, ◌∷◌, [], ◌++◌, length, take, drop, Option, None, Some, IfSome, Ok, Err, inl, inr, refl, sym, subst, ap, ◌∙◌, arith, length-append, append_assoc, append-nil, ◌-◌}
-use Rattle.std.proofs.lemmas.Grind.{common_steps}
+use Rattle.std.proofs.Common.{◌≡◌, ℕ, ◌+◌, ◌≤◌, ◌<◌, List, ◌∷◌, [], ◌++◌, length, take, drop, Option, None, Some, IfSome, sym, subst, ap, ◌∙◌, arith, length-append, append_assoc, append-nil, ◌-◌}
 use Rattle.std.proofs.lemmas.List.{length-take-le, take-append-drop}
 use Rattle.kn_head.proofs.ChunkFronts.{kept_taken}
 use Rattle.std.specs.Io.KnownBytes.{Keeps}
@@ -8,13 +7,9 @@ use Rattle.kn_head.specs.declared.head.HeadError.{HeadError}
 use Rattle.kn_head.specs.declared.head.HeadError.TheVariants as error
 use Rattle.kn_head.specs.Told.{unread, IfTold, Stops}
 use Rattle.kn_head.specs.Rules.{body_limit}
-use Rattle.kn_head.specs.Chunks.{IsSizeLine, IsTrailer, IsChunked, last, chunk, BytesFail, line_end_at, LacksLineEnd, LineEndFails, TakesChunk, EndsChunks, ChunksFail, at_size, too_long, at_trailer, at_piece, at_end, later, SizeFails, TrailerFails}
+use Rattle.kn_head.specs.Chunks.{IsSizeLine, IsTrailer, IsChunked, last, chunk, BytesFail, LineEndFails, TakesChunk, EndsChunks, ChunksFail, at_size, too_long, at_trailer, at_piece, at_end, later, SizeFails, TrailerFails}
 
 -- ---- one after the other
-
-pub told_itself : (a : Option (List ℕ)) (P : List ℕ → List ℕ → Type 0) → ((x : List ℕ) → P x x) → IfTold a a P
-told_itself None P h = tt
-told_itself (Some x) P h = h x
 
 pub told_more : (a b c : Option (List ℕ)) (P Q R : List ℕ → List ℕ → Type 0) → IfTold a b P → IfTold b c Q
     → ((x y z : List ℕ) → P x y → Q y z → R x z) → IfTold a c R
@@ -74,79 +69,12 @@ bytes_stopped (Some x) (Some y) error.Memory taken some stops = absurd stops
 bytes_stopped (Some x) (Some y) error.BadCoding taken some stops = absurd stops
 bytes_stopped (Some x) (Some y) error.BadChunk taken some stops = absurd stops
 
--- ---- CR LF
-
-pub line_end_found : (waiting more : List ℕ) → line_end_at waiting ≡ Ok true → waiting ++ more ≡ 13 ∷ 10 ∷ (drop 2 waiting ++ more)
-line_end_found [] more h = cc
-line_end_found (x ∷ []) more h = absurd (one (x == 13) h)
-  where
-    one : (b : Bool) → (if b then Ok false else Err error.BadChunk) ≡ Ok true → ⊥
-    one true h = cc
-    one false h = cc
-line_end_found (x ∷ y ∷ rest) more h = grind (arith, common_steps)
-
-pub open_line_end : (waiting : List ℕ) → line_end_at waiting ≡ Ok false → (waiting ≡ []) ⊎ (waiting ≡ 13 ∷ [])
-open_line_end [] h = inl refl
-open_line_end (x ∷ []) h = inr (grind (arith, common_steps))
-open_line_end (x ∷ y ∷ rest) h = absurd (two (x == 13 && y == 10) h)
-  where
-    two : (b : Bool) → (if b then Ok true else Err error.BadChunk) ≡ Ok false → ⊥
-    two true h = cc
-    two false h = cc
-
-one_bad : (x : ℕ) (b : Bool) (e : HeadError) → (x == 13) ≡ b → (if b then Ok false else Err error.BadChunk) ≡ Err e
-    → (e ≡ error.BadChunk) × (x ≡ 13 → ⊥)
-one_bad x true e t h = cc
-one_bad x false e t h = (cc, λ same. let no : (13 == 13) ≡ false = subst (λ n. (n == 13) ≡ false) same t in cc)
-
-two_bad : (x y : ℕ) (b : Bool) (e : HeadError) → (x == 13 && y == 10) ≡ b → (if b then Ok true else Err error.BadChunk) ≡ Err e
-    → (e ≡ error.BadChunk) × (x ≡ 13 → y ≡ 10 → ⊥)
-two_bad x y true e t h = cc
-two_bad x y false e t h = (
-  cc,
-  λ p q.
-      let no : (13 == 13 && 10 == 10) ≡ false =
-      subst (λ m. (13 == 13 && m == 10) ≡ false) q (subst (λ n. (n == 13 && y == 10) ≡ false) p t) in cc,
-)
-
-lacks : (waiting : List ℕ) (e : HeadError) → line_end_at waiting ≡ Err e → (e ≡ error.BadChunk) × LacksLineEnd waiting
-lacks [] e h = cc
-lacks (x ∷ []) e h =
-    let why = one_bad x (x == 13) e refl h in
-    (why.0, λ more rest same. why.1 (cc))
-lacks (x ∷ y ∷ rest) e h =
-    let why = two_bad x y (x == 13 && y == 10) e refl h in
-    (why.0, λ more end same. why.1 (cc) (cc))
-
-pub line_end_lacking : (waiting more : List ℕ) (e : HeadError) → line_end_at waiting ≡ Err e → LineEndFails (waiting ++ more) e
-line_end_lacking waiting more e h =
-    let why = lacks waiting e h in
-    subst (LineEndFails (waiting ++ more)) (sym why.0)
-    (λ beyond rest same. why.1 (more ++ beyond) rest (sym (append_assoc waiting more beyond) ∙ same))
-
-pub line_end_stopped : (e : HeadError) (known : Option (List ℕ)) (waiting : List ℕ) → (waiting ≡ []) ⊎ (waiting ≡ 13 ∷ [])
-    → Stops waiting known e → IfSome known (λ bytes. LineEndFails bytes e)
-line_end_stopped e None waiting open_ stops = tt
-line_end_stopped error.ReadFault (Some bytes) waiting open_ stops = tt
-line_end_stopped error.Malformed (Some bytes) waiting open_ stops = absurd stops
-line_end_stopped error.TooLong (Some bytes) waiting open_ stops = absurd stops
-line_end_stopped error.EndedEarly (Some bytes) waiting open_ same = subst (λ b. (b ≡ []) ⊎ (b ≡ 13 ∷ [])) (sym same) open_
-line_end_stopped error.NoRevision (Some bytes) waiting open_ stops = absurd stops
-line_end_stopped error.BadLength (Some bytes) waiting open_ stops = absurd stops
-line_end_stopped error.BodyTooLong (Some bytes) waiting open_ stops = absurd stops
-line_end_stopped error.Memory (Some bytes) waiting open_ stops = absurd stops
-line_end_stopped error.BadCoding (Some bytes) waiting open_ stops = absurd stops
-line_end_stopped error.BadChunk (Some bytes) waiting open_ stops = absurd stops
-
 -- ---- chunks
 
 -- what the rest says of a body in chunks, the bytes say with what was taken before it
 pub record GoesOn (body bytes rest : List ℕ) : Type 0 where
   pub chunked : (value end : List ℕ) → IsChunked rest value end → IsChunked bytes (body ++ value) end
   pub fails : (e : HeadError) → ChunksFail (length body) rest e → ChunksFail 0 bytes e
-
-pub goes_on_none : (bytes : List ℕ) → GoesOn [] bytes bytes
-goes_on_none bytes = record { chunked = λ value end it. it; fails = λ e it. it }
 
 -- one more chunk
 pub goes_on_more : (body bytes rest piece more : List ℕ) → GoesOn body bytes rest → TakesChunk (length body) rest piece more
@@ -227,9 +155,6 @@ fails_at_end old mid after before n d e line came len some short fails =
     (λ x y p f. at_end d y (subst (λ m. IsSizeLine x m (d ++ y)) (sym len) p) (omega (arith, len, some)) (omega (arith, len, short)) f)
 
 -- ---- chunk after chunk
-
-pub goes_on_start : (old : Option (List ℕ)) → IfTold old old (GoesOn [])
-goes_on_start old = told_itself old (GoesOn []) goes_on_none
 
 pub goes_on_chunk : (old mid new : Option (List ℕ)) (n : ℕ) (body now piece : List ℕ) → IfTold old mid (GoesOn body) → n ≡ length body
     → now ≡ body ++ piece → IfTold mid new (λ bytes rest. TakesChunk n bytes piece rest) → IfTold old new (GoesOn now)

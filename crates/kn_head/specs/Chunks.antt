@@ -82,12 +82,12 @@ TrailerRefused bytes error.BodyTooLong = ⊥
 TrailerRefused bytes error.Memory = ⊥
 TrailerRefused bytes error.BadCoding = ⊥
 
--- a trailer is refused, isn't whole within its bound, or is cut
+-- a trailer is refused, isn't whole within its bound, or is cut before more than 100 fields came
 abbrev pub TrailerFails : List ℕ → HeadError → Type 0
 TrailerFails bytes error.BadChunk =
     ((k : ℕ) × (k ≤ limit) × IsHopelessTrailer (take k bytes))
     ⊎ ((limit ≤ length bytes) × HasNoSection (take limit bytes))
-TrailerFails bytes error.EndedEarly = (length bytes < limit) × IsUnfinishedTrailer bytes
+TrailerFails bytes error.EndedEarly = (length bytes < limit) × IsUnfinishedTrailer bytes × ¬ (SectionExceeds room bytes)
 TrailerFails bytes error.ReadFault = ⊤
 TrailerFails bytes error.Malformed = ⊥
 TrailerFails bytes error.TooLong = ⊥

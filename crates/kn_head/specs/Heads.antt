@@ -45,13 +45,14 @@ HeadRefused bytes error.Memory = ⊥
 HeadRefused bytes error.BadCoding = ⊥
 HeadRefused bytes error.BadChunk = ⊥
 
--- why the bytes of a stream, whole, don't begin with a head. Of a fault nothing is said.
+-- why the bytes of a stream, whole, don't begin with a head. They end early only where no front of them and an empty line
+-- are a head of more than 100 fields. Of a fault nothing is said.
 abbrev pub HeadFails : List ℕ → HeadError → Type 0
 HeadFails bytes error.Malformed = (k : ℕ) × (k ≤ limit) × NeverHasRequest (take k bytes)
 HeadFails bytes error.TooLong =
     ((k : ℕ) × (k ≤ limit) × HasTooManyFields (take k bytes))
     ⊎ ((limit ≤ length bytes) × IsUnfinished (take limit bytes))
-HeadFails bytes error.EndedEarly = (length bytes < limit) × IsUnfinished bytes
+HeadFails bytes error.EndedEarly = (length bytes < limit) × IsUnfinished bytes × ¬ (RequestExceeds room bytes)
 HeadFails bytes error.ReadFault = ⊤
 HeadFails bytes error.NoRevision = ⊥
 HeadFails bytes error.BadLength = ⊥

@@ -28,7 +28,22 @@ IsOkUnlessUntold (Err e) head = IsUntold e
 abbrev pub ComeTooMany : List ℕ → Type 0
 ComeTooMany bytes = (k : ℕ) × (k ≤ limit) × HasTooManyFields (take k bytes)
 
--- two faults of a head are the same, or the source failed, or the bytes end within the target, or more than 100 fields come
+-- where the bytes end within the target, that they end early or that the head is too long may stand for Malformed; where more
+-- than 100 fields come, that it is too long
+abbrev pub MayStandForMalformed : List ℕ → HeadError → Type 0
+MayStandForMalformed bytes error.EndedEarly = EndsInTarget (take limit bytes)
+MayStandForMalformed bytes error.TooLong = EndsInTarget (take limit bytes) ⊎ ComeTooMany bytes
+MayStandForMalformed bytes error.ReadFault = ⊥
+MayStandForMalformed bytes error.Malformed = ⊥
+MayStandForMalformed bytes error.NoRevision = ⊥
+MayStandForMalformed bytes error.BadLength = ⊥
+MayStandForMalformed bytes error.BodyTooLong = ⊥
+MayStandForMalformed bytes error.Memory = ⊥
+MayStandForMalformed bytes error.BadCoding = ⊥
+MayStandForMalformed bytes error.BadChunk = ⊥
+
+-- two faults of a head are the same, or the source failed, or one is Malformed and the other may stand for it
 abbrev pub AreAlike : List ℕ → HeadError → HeadError → Type 0
 AreAlike bytes e f =
-    (e ≡ f) ⊎ ((IsUntold e ⊎ IsUntold f) ⊎ (EndsInTarget (take limit bytes) ⊎ ComeTooMany bytes))
+    (e ≡ f) ⊎ ((IsUntold e ⊎ IsUntold f)
+    ⊎ (((e ≡ error.Malformed) × MayStandForMalformed bytes f) ⊎ ((f ≡ error.Malformed) × MayStandForMalformed bytes e)))

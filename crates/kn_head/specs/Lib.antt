@@ -3,6 +3,7 @@ pub mod Forwarding
 pub mod Answers
 pub mod Told
 pub mod Heads
+pub mod Lines
 pub mod Rules
 pub mod Chunks
 pub mod Reading

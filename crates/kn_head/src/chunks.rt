@@ -1,15 +1,16 @@
 //! A body in chunks.
-ghost use Rattle.std.specs.Prelude.{◌≡◌, ℕ, ◌≤◌, ◌<◌, List, ◌∷◌, ◌++◌, length, vec_len, true, false, Ok, IfOk, IfErr, IfSome, IfNone, OnOk};
+ghost use Rattle.std.specs.Prelude.{◌≡◌, ℕ, ◌≤◌, ◌<◌, List, ◌∷◌, ◌++◌, length, Option, vec_len, true, false, Ok, IfOk, IfErr, IfSome, IfNone, OnOk};
 ghost use Rattle.std.specs.Io.KnownBytes.{Keeps};
 ghost use Rattle.httparse.specs.Grammar.{ChunkLine, Field, LineEnd, ReadsSection};
 ghost use Rattle.httparse.specs.Spans.{IsChunkLineAt, IsSectionAt};
 ghost use Rattle.kn_io.specs.Causes.{Rose};
-ghost use Rattle.kn_head.specs.Told.{unread, IfTold, Draws};
+ghost use Rattle.kn_head.specs.Told.{unread, IfTold, Draws, Stops};
 ghost use Rattle.kn_head.specs.Heads.{room, limit};
 ghost use Rattle.kn_head.specs.Rules.{body_limit};
 ghost use Rattle.kn_head.specs.Chunks.{size_limit, IsSizeLine, IsTrailer, SizeRefused, IsUnfinishedSize, SizeFails, TrailerRefused, IsUnfinishedTrailer, TrailerFails, BytesFail, line_end_at, LineEndFails, TakesChunk, EndsChunks, IsChunked, ChunksFail};
 
 use crate::head::HeadError;
+use crate::lines::line_feeds;
 use crate::window::Window;
 use httparse::spans::{EMPTY_HEADER_SPAN, HeaderSpan, parse_headers};
 use httparse::{Status, parse_chunk_size};
@@ -40,6 +41,19 @@ fn judge_trailer(bytes: &[u8], spans: &mut [HeaderSpan]) -> Result<Option<usize>
         Ok(Status::Complete((end, _))) => Ok(Some(end)),
         Ok(Status::Partial) => Ok(None),
         Err(_) => Err(HeadError::BadChunk),
+    }
+}
+
+/// Why there is no trailer where the source stopped after these bytes: where it ended, more than 100 fields may have come.
+fn cut_trailer(stop: HeadError, bytes: &[u8]) -> HeadError
+    requires unfinished { IsUnfinishedTrailer bytes.now }
+    requires short { length bytes.now < limit }
+    ensures why { (known : Option (List ℕ)) → Stops bytes.now known stop → IfSome known (λ all. TrailerFails all result) }
+    ensures fault { result ≡ HeadError.ReadFault → stop ≡ HeadError.ReadFault }
+{
+    match stop {
+        HeadError::EndedEarly if line_feeds(bytes) > 100 => HeadError::BadChunk,
+        _ => stop,
     }
 }
 
@@ -93,7 +107,7 @@ fn take_trailer<S: Source>(source: &mut S, window: &mut Window) -> Result<(), He
         }
         match window.fill(source) {
             Ok(()) => {}
-            Err(e) => return Err(e),
+            Err(e) => return Err(cut_trailer(e, window.bytes())),
         }
     }
 }

@@ -1,13 +1,14 @@
 //! The head at the front of a stream.
-ghost use Rattle.std.specs.Prelude.{◌≡◌, ◌≤◌, length, IfOk, IfErr, IfSome, IfNone, OnOk};
+ghost use Rattle.std.specs.Prelude.{◌≡◌, ℕ, ◌≤◌, ◌<◌, List, length, Option, IfOk, IfErr, IfSome, IfNone, OnOk};
 ghost use Rattle.std.specs.Io.KnownBytes.{Keeps};
 ghost use Rattle.httparse.specs.Grammar.{RequestHead};
 ghost use Rattle.httparse.specs.Spans.{IsRequestAt, IsRequestWithin};
 ghost use Rattle.kn_io.specs.Causes.{Rose};
-ghost use Rattle.kn_head.specs.Told.{unread, Draws};
+ghost use Rattle.kn_head.specs.Told.{unread, Draws, Stops};
 ghost use Rattle.kn_head.specs.Heads.{room, limit, IsUnfinished, HeadRefused, HeadFails};
 
 use crate::head::HeadError;
+use crate::lines::line_feeds_after_blank;
 use crate::window::Window;
 use httparse::spans::{HeaderSpan, RequestSpans, parse_request};
 use httparse::{Error, Status};
@@ -26,6 +27,20 @@ fn judge(bytes: &[u8], spans: &mut [HeaderSpan]) -> Result<Option<RequestSpans>,
         Ok(Status::Partial) => Ok(None),
         Err(Error::TooManyHeaders) => Err(HeadError::TooLong),
         Err(_) => Err(HeadError::Malformed),
+    }
+}
+
+/// Why there is no head where the source stopped after these bytes: where it ended, more than 100 fields may have come. The
+/// request line and each field have one line feed.
+fn cut_head(stop: HeadError, bytes: &[u8]) -> HeadError
+    requires unfinished { IsUnfinished bytes.now }
+    requires short { length bytes.now < limit }
+    ensures why { (known : Option (List ℕ)) → Stops bytes.now known stop → IfSome known (λ all. HeadFails all result) }
+    ensures fault { result ≡ HeadError.ReadFault → stop ≡ HeadError.ReadFault }
+{
+    match stop {
+        HeadError::EndedEarly if line_feeds_after_blank(bytes) > 101 => HeadError::TooLong,
+        _ => stop,
     }
 }
 
@@ -55,7 +70,7 @@ pub(crate) fn find_head<S: Source>(
         }
         match window.fill(source) {
             Ok(()) => {}
-            Err(e) => return Err(e),
+            Err(e) => return Err(cut_head(e, window.bytes())),
         }
     }
 }

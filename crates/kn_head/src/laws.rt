@@ -10,7 +10,8 @@ ghost use Rattle.kn_head.specs.Laws.{IsOkUnlessUntold, IsUntold, AreAlike};
 
 /// The same bytes never have two answers, of which one is a request: where they begin with a request, each answer is this
 /// request, unless the source failed or memory was lacking. Bytes begin with one head at most, and with one body in chunks. Two
-/// causes for which there is no head are the same, but where the bytes end within the target or more than 100 fields come.
+/// causes for which there is no head are the same, but that EndedEarly or TooLong may stand for Malformed where the bytes end
+/// within the target, and TooLong where more than 100 fields come.
 pub fn answers_are_determined()
     ensures request { (bytes : List ℕ) (head : Head) (answer : Result Head HeadError) → Reads bytes (Ok head) → Reads bytes answer → IsOkUnlessUntold answer head }
     ensures head { (bytes r q : List ℕ) (h k : RequestHead) → BeginsWithHead bytes h r → BeginsWithHead bytes k q → (h ≡ k) × (r ≡ q) }

@@ -8,6 +8,7 @@ mod find;
 mod forward;
 mod head;
 mod laws;
+mod lines;
 mod parts;
 mod read;
 mod rules;

@@ -68,12 +68,13 @@ impl Window {
         self.start += n;
     }
 
-    /// Reads more bytes, at least one, behind those that wait. `EndedEarly` is the end of the source.
+    /// Reads more bytes, at least one, behind those that wait, which stay on an error. `EndedEarly` is the end of the source.
     pub(crate) fn fill<S: Source>(&mut self, source: &mut S) -> Result<(), HeadError>
         requires { length self.old < limit }
         ensures more { OnOk result (length self.old < length self.new) }
         ensures stays { OnOk result (Keeps (unread self.old (S.left source.old)) (unread self.new (S.left source.new))) }
         ensures stops { IfErr result (Stops self.old (unread self.old (S.left source.old))) }
+        ensures kept { IfErr result (λ _. self.new ≡ self.old) }
         ensures fault { result ≡ Err HeadError.ReadFault → Rose (S.Faulty.faults source.old) (S.Faulty.faults source.new) }
         ensures source { Draws (S.left source.old) (S.left source.new) (S.apart source.old) (S.apart source.new) (S.Faulty.faults source.old) (S.Faulty.faults source.new) }
     {

@@ -1,11 +1,12 @@
-use Rattle.std.proofs.Common.{◌≡◌, length, subst, ◌∙◌, arith}
+use Rattle.std.proofs.Common.{◌≡◌, length, sym, subst, ◌∙◌, arith}
 use Rattle.httparse.specs.Spans.{IsSectionAt}
+use Rattle.kn_head.specs.Told.{unread, Stops}
 use Rattle.kn_head.specs.Heads.{limit}
 use Rattle.kn_head.specs.Chunks.{IsTrailer, IsUnfinishedTrailer, TrailerFails}
 use Rattle.kn_head.specs.declared.head.HeadError.TheVariants as error
 use Rattle.kn_head.proofs.Pieces.{of_unread}
 use Rattle.kn_head.proofs.Drawing.{draws_more, kept_holds, keeps_more}
-use Rattle.kn_head.proofs.ChunkFronts.{trailer_refused, trailer_too_long, trailer_stopped, trailer_at, kept_taken}
+use Rattle.kn_head.proofs.ChunkFronts.{trailer_refused, trailer_too_long, trailer_at, kept_taken}
 use Rattle.kn_head.proofs.chunks.take_trailer.Goals as goal
 
 pub returns-in-Ok-Some-clause-trailer : goal.returns-in-Ok-Some-clause-trailer
@@ -42,7 +43,7 @@ returns-in-Err-fill-clause-source g c = draws_more c.pieces.invariant.source c.f
 
 pub returns-in-Err-fill-clause-fails : goal.returns-in-Err-fill-clause-fails
 returns-in-Err-fill-clause-fails g c =
-    let more = rw c.in-Ok-None.field-0-is at c.in-Ok-None.ensures in
-    let open_ = subst IsUnfinishedTrailer c.bytes.ensures.value more.more in
-    kept_holds _ _ (λ bytes. TrailerFails bytes c.in-Err-fill.e) c.pieces.invariant.stays
-    (trailer_stopped c.in-Err-fill.e _ c.pieces.window (omega arith) open_ c.in-Err-fill.ensures.stops)
+    let known = unread c.pieces.window (g.S.Source.left c.pieces.source) in
+    let same = c.bytes-in-Err-fill.ensures.value ∙ c.in-Err-fill.ensures.kept in
+    kept_holds _ _ (λ bytes. TrailerFails bytes c.cut_trailer.result) c.pieces.invariant.stays
+    (c.cut_trailer.ensures.why known (subst (λ w. Stops w known c.in-Err-fill.e) (sym same) c.in-Err-fill.ensures.stops))
