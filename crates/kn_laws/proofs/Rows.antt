@@ -189,11 +189,6 @@ module _ (facts : Facts) where
   live_pods-each test none c [] h = rw (append-nil c) refl
   live_pods-each test none c (e ∷ es) h = rw (append_assoc c (e ∷ []) es) at (live_pods-each test none (c ++ e ∷ []) es h.1 ∙ live_pods-quiet c e (none e.row h.0))
 
-  -- those that do not drain
-  pub drain_order-each : (test : Row → Bool) → ((x : Row) → test x ≡ true → SaysNoPod x) → (c es : Trace) → Each test es → drain_order (c ++ es) ≡ drain_order c
-  drain_order-each test none c [] h = rw (append-nil c) refl
-  drain_order-each test none c (e ∷ es) h = rw (append_assoc c (e ∷ []) es) at (drain_order-each test none (c ++ e ∷ []) es h.1 ∙ drain_order-quiet c e (none e.row h.0))
-
   pub loss_pods : (x : Row) → is_loss_row x ≡ true → SaysNoPod x
   loss_pods (row.LostRequest r) h = says_no_pod (row.LostRequest r) refl
   loss_pods _ h = absurd (cc)

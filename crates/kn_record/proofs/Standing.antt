@@ -137,10 +137,6 @@ map-agree {X} {Y} f g same (x ∷ xs) = rw (same x) (ap (λ (l : List Y). g x �
 count_in : (test : Place → Bool) (c : Trace) → length (placed test c) ≡ length (placed_in test (live_requests c))
 count_in test c = ap (λ (l : List ℕ). length l) (placed-requests test c)
 
-length-numbers : (l : List Request) → length (numbers_in l) ≡ length l
-length-numbers [] = refl
-length-numbers (q ∷ l) = let rest = length-numbers l in omega arith
-
 -- the candidates
 candidates-record : (c : Trace) → IsNumbered c → candidates c ≡ candidates_in (live_requests c) (pods c)
 unfolding candidates candidates_in
