@@ -163,7 +163,7 @@ unfolding activation
 activation-rows t c = where-each is_scaler_row (is_same_phase phase.Activating (phase_of c) && not (is_empty (ready_pods c))) (entry t (row.Phase phase.Active) ∷ []) (refl, tt)
 
 module _ (facts : Facts) where
-  open facts use {entries.{phase_of-push}, views.{says_no_pod, ready-quiet, live_pods-quiet, draining-quiet, drain_order-quiet}}
+  open facts use {entries.{phase_of-push}, views.{says_no_pod, ready-quiet, live_pods-quiet, draining-quiet}}
 
   -- ---- what rows of a kind leave as it is
 

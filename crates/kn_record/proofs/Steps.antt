@@ -8,7 +8,7 @@ use Rattle.kn_event.specs.declared.entry.Entry.{Entry}
 use Rattle.kn_event.specs.declared.entry.Row.{Row}
 use Rattle.kn_event.specs.declared.entry.Row.TheVariants as row
 use Rattle.kn_trace.specs.Rows.{admitted_by, taken_by, assigned_by, brought_to, run_by, ended_by}
-use Rattle.kn_trace.specs.Trace.{Trace, entry, each_row, assigned, at_pod, ended, has_begun, has_not_begun, has_run, held, in_breaker, is_held, is_running, live, queued_at, running_at, waiting}
+use Rattle.kn_trace.specs.Trace.{Trace, entry, each_row, assigned, at_pod, ended, has_begun, has_not_begun, has_run, held, is_held, is_running, queued_at, running_at, waiting}
 use Rattle.kn_trace.specs.Capacity.{in_use}
 use Rattle.kn_record.specs.Rows.{moved_by, says, IsQuiet}
 use Rattle.kn_record.specs.Views.{others}
