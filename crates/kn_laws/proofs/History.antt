@@ -140,10 +140,6 @@ react-at s c e =
 
 -- ---- so the times of a trace never fall
 
-times-later : (from to later : ℕ) (c : Trace) → AreTimesInOrder from c to → to ≤ later → AreTimesInOrder from c later
-times-later from to later [] h k = omega arith
-times-later from to later (e ∷ c) h k = (h.0, times-later e.time to later c h.1 k)
-
 times-same : (from t : ℕ) (es : Trace) → from ≤ t → EachAt t es → AreTimesInOrder from es t
 times-same from t [] le h = le
 times-same from t (e ∷ es) le h = (rw h.0 le, times-same e.time t es (rw h.0 (omega arith)) h.1)

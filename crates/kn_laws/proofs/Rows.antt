@@ -163,7 +163,7 @@ unfolding activation
 activation-rows t c = where-each is_scaler_row (is_same_phase phase.Activating (phase_of c) && not (is_empty (ready_pods c))) (entry t (row.Phase phase.Active) ∷ []) (refl, tt)
 
 module _ (facts : Facts) where
-  open facts use {entries.{phase_of-push}, views.{says_no_pod, ready-quiet, live_pods-quiet, draining-quiet, drain_order-quiet}}
+  open facts use {entries.{phase_of-push}, views.{says_no_pod, ready-quiet, live_pods-quiet, draining-quiet}}
 
   -- ---- what rows of a kind leave as it is
 
@@ -188,11 +188,6 @@ module _ (facts : Facts) where
   pub live_pods-each : (test : Row → Bool) → ((x : Row) → test x ≡ true → SaysNoPod x) → (c es : Trace) → Each test es → live_pods (c ++ es) ≡ live_pods c
   live_pods-each test none c [] h = rw (append-nil c) refl
   live_pods-each test none c (e ∷ es) h = rw (append_assoc c (e ∷ []) es) at (live_pods-each test none (c ++ e ∷ []) es h.1 ∙ live_pods-quiet c e (none e.row h.0))
-
-  -- those that do not drain
-  pub drain_order-each : (test : Row → Bool) → ((x : Row) → test x ≡ true → SaysNoPod x) → (c es : Trace) → Each test es → drain_order (c ++ es) ≡ drain_order c
-  drain_order-each test none c [] h = rw (append-nil c) refl
-  drain_order-each test none c (e ∷ es) h = rw (append_assoc c (e ∷ []) es) at (drain_order-each test none (c ++ e ∷ []) es h.1 ∙ drain_order-quiet c e (none e.row h.0))
 
   pub loss_pods : (x : Row) → is_loss_row x ≡ true → SaysNoPod x
   loss_pods (row.LostRequest r) h = says_no_pod (row.LostRequest r) refl

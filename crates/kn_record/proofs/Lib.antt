@@ -22,3 +22,4 @@ pub mod Order
 pub mod Acting
 pub mod Ordering
 pub mod Loops
+pub mod Losing

@@ -128,7 +128,3 @@ contains-within f g part r (e ∷ c) n = by (f e.row) (g e.row) (part e.row) n (
     by x None (inr e) n rest = rw e (rest n)
     by x (Some q) (inl e) n rest = rw e (rest (or_parts (q == r) _ n).1)
     by x (Some q) (inr e) n rest = let both = or_parts (q == r) _ n in rw (e, both.0) (rest both.1)
-
-pub false_from : (b : Bool) (P : Type 0) → (b ≡ true → false ≡ true) → b ≡ false
-false_from true P h = absurd (let no = h refl in cc)
-false_from false P h = refl

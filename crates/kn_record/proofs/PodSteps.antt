@@ -80,16 +80,6 @@ drain_order-quiet c e none = rw (starting-quiet c e none, ready-quiet c e none) 
 pub limit-quiet : (c : Trace) (e : Entry) (q : ℕ) → limit_by q e.row ≡ None → limit_of (c ++ e ∷ []) q ≡ limit_of c q
 limit-quiet c e q none = limit_of-push c e q ∙ rw none refl
 
--- a row that creates, drains and removes none leaves those that drain
-pub draining-same : (c : Trace) (e : Entry) → (created_by e.row ≡ None) × (drained_by e.row ≡ None) × (gone_by e.row ≡ None) → draining (c ++ e ∷ []) ≡ draining c
-unfolding draining is_draining is_live_pod
-draining-same c e none =
-    let new = none.0 in
-    let drains = none.1 in
-    let goes = none.2 in
-    view-same created_by (is_draining c) (is_draining (c ++ e ∷ [])) c e new
-    (λ q. is_draining-push c e q ∙ rw (drains, goes, or-false (contains q (each_row drained_by c)), or-false (contains q (each_row gone_by c))) refl)
-
 -- ---- the members, by any row
 
 pub contains-live_pods : (c : Trace) (q : ℕ) → contains q (live_pods c) ≡ (contains q (each_row created_by c) && not (contains q (each_row gone_by c)))

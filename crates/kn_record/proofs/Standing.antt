@@ -25,7 +25,7 @@ use Rattle.kn_record.specs.declared.admission.Pod.{Pod}
 use Rattle.kn_record.specs.declared.admission.Request.{Request}
 use Rattle.kn_record.specs.Admission.{Admission, admission, candidates_in, capacity_in, is_assigned_place, is_at, is_held_place, is_ready_now, is_through, live_requests, next_in, place_at, place_of, placed, placed_in, pods, queues_at, request_of, runs_at, runs_somewhere, stepped, waits}
 use Rattle.kn_record.specs.Made.{IsMade, IsNumbered, StandsFor}
-use Rattle.kn_record.specs.Views.{AreByPlace, AreViews, due_in, is_free, is_full, numbers_in, stand_found, stand_in, stand_of_place}
+use Rattle.kn_record.specs.Views.{AreByPlace, AreViews, due_in, is_free, is_full, stand_found, stand_in, stand_of_place}
 use Rattle.kn_record.proofs.Members.{filter-members}
 use Rattle.kn_record.proofs.Pods.{live-pods, ready-pods}
 use Rattle.kn_record.proofs.Views.{live-requests, placed-requests}
@@ -136,10 +136,6 @@ map-agree {X} {Y} f g same (x ∷ xs) = rw (same x) (ap (λ (l : List Y). g x �
 
 count_in : (test : Place → Bool) (c : Trace) → length (placed test c) ≡ length (placed_in test (live_requests c))
 count_in test c = ap (λ (l : List ℕ). length l) (placed-requests test c)
-
-length-numbers : (l : List Request) → length (numbers_in l) ≡ length l
-length-numbers [] = refl
-length-numbers (q ∷ l) = let rest = length-numbers l in omega arith
 
 -- the candidates
 candidates-record : (c : Trace) → IsNumbered c → candidates c ≡ candidates_in (live_requests c) (pods c)

@@ -8,7 +8,7 @@ use Rattle.kn_event.specs.declared.entry.Entry.{Entry}
 use Rattle.kn_event.specs.declared.entry.Row.{Row}
 use Rattle.kn_event.specs.declared.entry.Row.TheVariants as row
 use Rattle.kn_trace.specs.Rows.{admitted_by, taken_by, assigned_by, brought_to, run_by, ended_by}
-use Rattle.kn_trace.specs.Trace.{Trace, entry, each_row, assigned, at_pod, ended, has_begun, has_not_begun, has_run, held, in_breaker, is_held, is_running, live, queued_at, running_at, waiting}
+use Rattle.kn_trace.specs.Trace.{Trace, entry, each_row, assigned, at_pod, ended, has_begun, has_not_begun, has_run, held, is_held, is_running, queued_at, running_at, waiting}
 use Rattle.kn_trace.specs.Capacity.{in_use}
 use Rattle.kn_record.specs.Rows.{moved_by, says, IsQuiet}
 use Rattle.kn_record.specs.Views.{others}
@@ -59,10 +59,6 @@ pub has_begun-push : (c : Trace) (e : Entry) (q : ℕ) → has_begun (c ++ e ∷
 unfolding has_begun
 has_begun-push c e q = rw (assigned-push c e q, has_run-push c e q) refl
 
-not-or : (a b : Bool) → not (a || b) ≡ (not a && not b)
-not-or true b = refl
-not-or false b = refl
-
 pub is_held-push : (c : Trace) (e : Entry) (q : ℕ) → is_held (c ++ e ∷ []) q ≡ (not (assigned c q || says (assigned_by e.row) q) && not (ended c q || says (ended_by e.row) q))
 unfolding is_held
 is_held-push c e q = rw (assigned-push c e q, ended-push c e q) refl
@@ -112,14 +108,6 @@ is_running-quiet c e quiet q = rw (has_begun-quiet c e quiet q, ended-quiet c e 
 pub held-quiet : (c : Trace) (e : Entry) → IsQuiet e.row → held (c ++ e ∷ []) ≡ held c
 unfolding held
 held-quiet c e quiet = view-same admitted_by (is_held c) (is_held (c ++ e ∷ [])) c e quiet.admitted (is_held-quiet c e quiet)
-
-pub in_breaker-quiet : (c : Trace) (e : Entry) → IsQuiet e.row → in_breaker (c ++ e ∷ []) ≡ in_breaker c
-unfolding in_breaker
-in_breaker-quiet c e quiet = view-same admitted_by (λ r. not (ended c r)) (λ r. not (ended (c ++ e ∷ []) r)) c e quiet.admitted (λ q. ap (λ (b : Bool). not b) (ended-quiet c e quiet q))
-
-pub live-quiet : (c : Trace) (e : Entry) → IsQuiet e.row → live (c ++ e ∷ []) ≡ live c
-unfolding live
-live-quiet c e quiet = view-same taken_by (λ r. not (ended c r)) (λ r. not (ended (c ++ e ∷ []) r)) c e quiet.taken (λ q. ap (λ (b : Bool). not b) (ended-quiet c e quiet q))
 
 pub waiting-quiet : (c : Trace) (e : Entry) → IsQuiet e.row → waiting (c ++ e ∷ []) ≡ waiting c
 unfolding waiting
@@ -195,10 +183,3 @@ held-assign c t r p =
     by false true false = refl
     by false false true = refl
     by false false false = refl
-
--- a run leaves who is held
-pub held-run : (c : Trace) (t r : ℕ) → held (c ++ entry t (row.Run r) ∷ []) ≡ held c
-unfolding held is_held
-held-run c t r =
-    view-same admitted_by (is_held c) (is_held (c ++ entry t (row.Run r) ∷ [])) c (entry t (row.Run r)) refl
-    (λ q. is_held-push c (entry t (row.Run r)) q ∙ rw (or-false (assigned c q), or-false (ended c q)) refl)

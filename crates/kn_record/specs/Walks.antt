@@ -1,5 +1,5 @@
 -- The rows of an event one at a time, as a loop makes them that keeps a record in place of the trace.
-use Rattle.std.specs.Prelude.{◌≡◌, ℕ, ◌∷◌, ◌++◌, List, []}
+use Rattle.std.specs.Prelude.{◌≡◌, true, ℕ, ◌∷◌, ◌++◌, List, []}
 use Rattle.std.specs.List.{filter}
 use Rattle.kn_event.specs.declared.entry.Entry.{Entry}
 use Rattle.kn_event.specs.declared.entry.Row.{Row}
@@ -7,7 +7,7 @@ use Rattle.kn_event.specs.declared.event.Event.{Event}
 use Rattle.kn_event.specs.declared.revision.Spec.{Spec}
 use Rattle.kn_trace.specs.Trace.{Trace, entry, is_empty}
 use Rattle.kn_trace.specs.Settling.{promotions, settling}
-use Rattle.kn_trace.specs.Events.{act_rows, activation, before_settling, departures, expiries, losses}
+use Rattle.kn_trace.specs.Events.{act_rows, activation, before_settling, departures, expiries, losses, losses_at}
 use Rattle.kn_record.specs.Admission.{Admission, is_at, is_draining_now, placed_in, pods_in, stepped}
 use Rattle.kn_record.specs.Made.{Holds, IsProper, StandsFor}
 
@@ -26,6 +26,10 @@ pub record Leaves (all left : Trace → List Entry) (c : Trace) (a : Admission) 
 -- what still runs at these pods
 unfoldable pub promoting : ℕ → List ℕ → Trace → List Entry
 promoting t ps c = promotions t c ps
+
+-- who is still lost with the live pod p
+unfoldable pub losing : ℕ → ℕ → Trace → List Entry
+losing t p c = losses_at true t c p
 
 -- the draining pods without a request
 abbrev pub leaving_in : Admission → List ℕ

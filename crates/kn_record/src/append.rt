@@ -4,18 +4,19 @@ ghost use Rattle.kn_event.specs.declared.entry.Entry.{Entry};
 ghost use Rattle.kn_event.specs.declared.entry.Row.{Row};
 ghost use Rattle.kn_event.specs.declared.entry.Row.TheVariants as row;
 ghost use Rattle.kn_event.specs.declared.event.Act.{Act};
+ghost use Rattle.kn_event.specs.declared.event.Act.TheVariants as act;
 ghost use Rattle.kn_event.specs.declared.event.Event.{Event};
 ghost use Rattle.kn_event.specs.declared.revision.Spec.{Spec};
-ghost use Rattle.kn_trace.specs.Events.{act_row, expiries, react};
+ghost use Rattle.kn_trace.specs.Events.{act_row, expiries, losses, react};
 ghost use Rattle.kn_trace.specs.Settling.{held_assignments, removals};
-ghost use Rattle.kn_trace.specs.Trace.{Trace, contains, entry, first_of};
+ghost use Rattle.kn_trace.specs.Trace.{Trace, contains, entry, first_of, live_pods};
 ghost use Rattle.kn_trace.specs.Scale.{mode_of};
 ghost use Rattle.kn_record.specs.Acting.{row_in};
-ghost use Rattle.kn_record.specs.Admission.{Admission, admission, is_held_place, next_in, nothing_yet, placed_in, queues_at, stepped};
+ghost use Rattle.kn_record.specs.Admission.{Admission, admission, is_at, is_held_place, next_in, nothing_yet, placed_in, queues_at, stepped};
 ghost use Rattle.kn_record.specs.Made.{Holds, IsMade, IsProper, StandsFor};
 ghost use Rattle.kn_record.specs.Order.{AreTimed, AreTimesInOrder, FitsRecord, IsInOrder};
 ghost use Rattle.kn_record.specs.Views.{AreByPlace, AreViews, due_in, has_free_seat_in, pod_numbers};
-ghost use Rattle.kn_record.specs.Walks.{ArePartsProper, BeginsWith, Leaves, leaving_in, promoting, stepped_by};
+ghost use Rattle.kn_record.specs.Walks.{ArePartsProper, BeginsWith, Leaves, leaving_in, losing, promoting, stepped_by};
 
 /// The record of a trace that events made stands for it, goes on by one step at each row that is proper where it comes,
 /// and answers each view of the trace.
@@ -24,17 +25,21 @@ pub fn append_laws()
     ensures stands { (s : Spec) (c : Trace) → IsMade s c → StandsFor (admission c) c }
     ensures nothing { (s : Spec) → StandsFor nothing_yet [] }
     ensures append { (s : Spec) (a : Admission) (c : Trace) (t : ℕ) (x : Row) → StandsFor a c → IsProper s c x → StandsFor (stepped t x a) (c ++ entry t x ∷ []) }
-    ensures act { (s : Spec) (a : Admission) (c : Trace) (t : ℕ) (act : Act) (x : Row) → StandsFor a c → act_row s c act ≡ Some x → StandsFor (stepped t x a) (c ++ entry t x ∷ []) }
-    ensures row { (s : Spec) (a : Admission) (c : Trace) (act : Act) → StandsFor a c → act_row s c act ≡ row_in s (mode_of c) a act }
+    ensures act { (s : Spec) (a : Admission) (c : Trace) (t : ℕ) (did : Act) (x : Row) → StandsFor a c → act_row s c did ≡ Some x → StandsFor (stepped t x a) (c ++ entry t x ∷ []) }
+    ensures row { (s : Spec) (a : Admission) (c : Trace) (did : Act) → StandsFor a c → act_row s c did ≡ row_in s (mode_of c) a did }
     ensures views { (s : Spec) (a : Admission) (c : Trace) → StandsFor a c → AreViews s a c }
     ensures by_place { (s : Spec) (c : Trace) → IsMade s c → AreByPlace c }
 {}
 
-/// The rows of an event one after the other, by what the record says comes next: expiries, then at each pod in turn the
-/// runs of its queue, then assignments, then removals. And a whole list of proper rows at once, as an event's are.
+/// The rows of an event one after the other, by what the record says comes next: expiries, then who is lost with a pod,
+/// then at each pod in turn the runs of its queue, then assignments, then removals. And a whole list of proper rows at once,
+/// as an event's are.
 pub fn walk_laws()
     ensures expire { (s : Spec) (a : Admission) (c : Trace) (t r : ℕ) → StandsFor a c → first_of (due_in s.timeout_ms t a.live) ≡ Some r → BeginsWith (expiries s t) t (row.Expire r) a c }
     ensures expired { (s : Spec) (a : Admission) (c : Trace) (t : ℕ) → StandsFor a c → first_of (due_in s.timeout_ms t a.live) ≡ None → expiries s t c ≡ [] }
+    ensures losses { (c : Trace) (t p : ℕ) → contains p (live_pods c) ≡ true → losses t c (act.Lost p) ≡ losing t p c }
+    ensures lose { (s : Spec) (a : Admission) (c : Trace) (t p r : ℕ) → StandsFor a c → first_of (placed_in (is_at p) a.live) ≡ Some r → BeginsWith (losing t p) t (row.LostRequest r) a c }
+    ensures lost { (a : Admission) (c : Trace) (t p : ℕ) → StandsFor a c → first_of (placed_in (is_at p) a.live) ≡ None → losing t p c ≡ [] }
     ensures promote { (s : Spec) (a : Admission) (c : Trace) (t p : ℕ) (ps : List ℕ) (r : ℕ) → StandsFor a c → first_of (placed_in (queues_at p) a.live) ≡ Some r → has_free_seat_in a p ≡ true → BeginsWith (promoting t (p ∷ ps)) t (row.Run r) a c }
     ensures promoted { (s : Spec) (a : Admission) (c : Trace) (t p : ℕ) (ps : List ℕ) → StandsFor a c → contains p (pod_numbers a.pods) ≡ true → (first_of (placed_in (queues_at p) a.live) ≡ None) ⊎ (has_free_seat_in a p ≡ false) → promoting t (p ∷ ps) c ≡ promoting t ps c }
     ensures assign { (s : Spec) (a : Admission) (c : Trace) (t r p : ℕ) → StandsFor a c → first_of (placed_in is_held_place a.live) ≡ Some r → next_in s a ≡ Some p → BeginsWith (held_assignments s t) t (row.Assign r p) a c }
