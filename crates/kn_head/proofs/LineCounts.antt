@@ -390,7 +390,7 @@ head_fits bytes few (front, rest, same, h, reads, over) =
     let section = print_section h.fields h.last ++ [] in
     let text : front ++ print_end lf ≡ print_blank h.blank ++ (request_line h ++ section) = reads.1 ∙ request_is h [] in
     let begins : Stops is_newline (request_line h ++ section) =
-    subst (Stops is_newline) (sym (regroup_line h.method (32 ∷ (h.target ++ 32 ∷ print_version h.minor)) (print_end h.line_end) section))
+    subst (Stops is_newline) (sym (regroup_section h.method (32 ∷ (h.target ++ 32 ∷ print_version h.minor)) (print_end h.line_end) section))
     (Stops_token h.method _ reads.0.method.0 reads.0.method.1) in
     omega (
       arith,
@@ -409,6 +409,3 @@ head_fits bytes few (front, rest, same, h, reads, over) =
       fields_feeds h.fields reads.0.fields,
       end_feeds h.last,
     )
-  where
-    regroup_line : (a b c d : List ℕ) → ((a ++ b) ++ c) ++ d ≡ a ++ ((b ++ c) ++ d)
-    regroup_line a b c d = regroup_section a b c d
