@@ -74,7 +74,7 @@ module _ (spec : Spec) (past : Past) (time ready : ℕ) (stable panic : Frac) wh
       → excess ≡ excess_burst ready spec.total spec.burst panic → bounded ≡ bounded_count spec past.reached delayed
       → answer ≡ zero_rule spec time ready bounded past.standing → mode ≡ serving_mode answer.want excess answer.phase
       → ruling_by (record { counts = counts; panicking = panicking; undelayed = undelayed; delayed = delayed; excess = excess; bounded = bounded; answer = answer; mode = mode })
-        ≡ ruling spec past time ready stable panic
+      ≡ ruling spec past time ready stable panic
   unfolding ruling
   parts_ruled counts panicking undelayed delayed excess bounded answer mode a b c d e f g h = rw (h, g, f, e, d, c, b, a) refl
 

@@ -99,7 +99,7 @@ closed_stands same old mid new c first rest past until next le over_first over_r
     let metric : mid.spec.metric ≡ m = ap (λ (d : DeciderState). d.spec.metric) first.kept in
     let stable : IsWindowOf new.stable g = subst (λ (k : Metric). IsWindowOf new.stable (with_closed_run k c.rest (with_closed_run m c.first f))) metric (rest.stable _ (first.stable f stands.stable)) in
     let panic_window : IsWindowOf new.panic_window g =
-        subst (λ (k : Metric). IsWindowOf new.panic_window (with_closed_run k c.rest (with_closed_run m c.first f))) metric (rest.panic_window _ (first.panic_window f stands.panic_window)) in
+    subst (λ (k : Metric). IsWindowOf new.panic_window (with_closed_run k c.rest (with_closed_run m c.first f))) metric (rest.panic_window _ (first.panic_window f stands.panic_window)) in
     record {
       stable = same new.stable g (below next g) inside stable;
       panic_window = same new.panic_window g (below next g) inside panic_window;
@@ -136,3 +136,26 @@ average_prop f = λ p q. λ i. record { den = le_prop p.den q.den i; value = le_
 pub if_average_prop : (average : Option Frac) → IsProp (IfSome average IsAverage)
 if_average_prop None = Unit-prop
 if_average_prop (Some f) = average_prop f
+
+-- ---- samples that agree
+
+below_same : (f g : Samples) (until : ℕ) → ((s : ℕ) → s < until → f s ≡ g s) → (s : ℕ) → below until f s ≡ below until g s
+below_same f g until same s = by (cases_lt s until)
+  where
+    by : (s < until) ⊎ (until ≤ s) → below until f s ≡ below until g s
+    by (inl lt) = below_before f until s lt ∙ same s lt ∙ sym (below_before g until s lt)
+    by (inr le) = below_from f until s le ∙ sym (below_from g until s le)
+
+pub stands_same : ((w : WindowState) (f g : Samples) → ((s : ℕ) → f s ≡ g s) → IsWindowOf w f → IsWindowOf w g)
+    → (d : DeciderState) (past : Past) (until : ℕ) (samples : Samples) → ((s : ℕ) → s < until → past.samples s ≡ samples s)
+    → StandsFor d past until → StandsFor d (record past { samples = samples }) until
+stands_same same d past until samples agree stands =
+    let inside = below_same past.samples samples until agree in
+    record {
+      stable = same d.stable (below until past.samples) (below until samples) inside stands.stable;
+      panic_window = same d.panic_window (below until past.samples) (below until samples) inside stands.panic_window;
+      panic = stands.panic;
+      delay = stands.delay;
+      standing = stands.standing;
+      reached = stands.reached;
+    }

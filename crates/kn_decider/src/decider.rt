@@ -7,7 +7,9 @@ ghost use Rattle.kn_window.specs.Stands.{StandsFor as IsWindowOf};
 ghost use Rattle.kn_decider.specs.Closing.{CanClose, CanFollow, IsOverAt, below, end_after, with_closed, with_closed_run};
 ghost use Rattle.kn_decider.specs.Decider.{StandsFor, opening_past, with_ready, with_ruling, with_tick};
 
-use crate::parts::{average_or_none, excess_burst, is_reached, one_request, stable_window_ms, value_of};
+use crate::parts::{
+    average_or_none, excess_burst, is_reached, one_request, stable_window_ms, value_of,
+};
 use kn_burst::mode;
 use kn_delay::Delay;
 use kn_event::{Decision, Frac, Memory, Mode, Phase, Spec};

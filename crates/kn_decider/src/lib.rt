@@ -2,6 +2,10 @@
 #![tactic(auto)]
 
 mod decider;
+pub mod laws;
 mod parts;
 
 pub use decider::Decider;
+
+#[cfg(test)]
+mod tests;
