@@ -28,7 +28,7 @@ pub enum PodAnswer {
 /// The live pods of a revision, by how far they are, and how many were created. All memory is taken once.
 ///
 /// Contracts see the numbers of the Starting, the Ready and the draining pods, each list ascending, and say for which traces
-/// they stand. A pod limit is at most 1,000, and 0 is no limit; it is kept by nobody here.
+/// they stand. A pod's limit is at most 1,000, and 0 is no limit; it goes into the row and is not kept.
 #[derive(Drop)]
 pub struct Pods {
     created: u64,

@@ -1,0 +1,11 @@
+//! The decisions of one scaled revision: from the seconds that closed to the pods that are wanted.
+#![tactic(auto)]
+
+mod decider;
+pub mod laws;
+mod parts;
+
+pub use decider::Decider;
+
+#[cfg(test)]
+mod tests;
