@@ -1,7 +1,7 @@
 -- One step of the assignments.
 use Rattle.std.proofs.Common.{◌≡◌, ◌≤◌, ℕ, List, [], ◌∷◌, ◌++◌, refl, ap, sym, ◌∙◌, length, append_assoc, append-nil, suc, arith}
 use Rattle.std.proofs.Math.ListN.{drop_of_length-le}
-use Rattle.kn_trace.specs.Trace.{Trace, entry, held}
+use Rattle.kn_trace.specs.Trace.{Trace, entry}
 use Rattle.kn_core.specs.Plain.{held_from}
 use Rattle.std.specs.Prelude.{Option, None, Some}
 use Rattle.kn_event.specs.declared.entry.Row.TheVariants as row
@@ -25,10 +25,6 @@ assignments_of-nil s t c = refl
 pub held_from-end : (c : Trace) (i : ℕ) → length c ≤ i → held_from c i ≡ []
 unfolding held_from
 held_from-end c i h = rw (drop_of_length-le c {i = i} h) refl
-
-pub held-from : (c : Trace) → held c ≡ held_from c 0
-unfolding held held_from
-held-from c = refl
 
 -- nothing more is added
 pub assignments_stop : (log more all : Trace) → more ≡ [] → log ++ more ≡ all → log ≡ all

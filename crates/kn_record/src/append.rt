@@ -19,7 +19,7 @@ ghost use Rattle.kn_record.specs.Views.{AreByPlace, AreViews, due_in, has_free_s
 ghost use Rattle.kn_record.specs.Walks.{ArePartsProper, BeginsWith, Leaves, leaving_in, losing, promoting, stepped_by};
 
 /// The record of a trace that events made stands for it, goes on by one step at each row that is proper where it comes,
-/// and answers each view of the trace.
+/// says which row an act has, and answers each view of the trace.
 pub fn append_laws()
     ensures admission { (s : Spec) (c : Trace) (t : ℕ) (x : Row) → IsMade s c → IsProper s c x → admission (c ++ entry t x ∷ []) ≡ stepped t x (admission c) }
     ensures stands { (s : Spec) (c : Trace) → IsMade s c → StandsFor (admission c) c }
