@@ -10,7 +10,7 @@ use Rattle.kn_trace.specs.Rows.{ended_by, taken_by}
 use Rattle.kn_trace.specs.Trace.{Trace, assigned, pod_of}
 use Rattle.kn_trace.specs.Load.{load_in}
 use Rattle.kn_record.specs.Made.{IsMade}
-use Rattle.kn_laws.specs.History.{AreTimesInOrder}
+use Rattle.kn_record.specs.Order.{AreTimesInOrder}
 use Rattle.kn_past.specs.Loads as past
 use Rattle.kn_past.proofs.Balance.{load_is}
 use Rattle.kn_stats.specs.Changes.{TimedChange, after_sum, is_end, is_start, load_by, part, time_taken, timed}

@@ -5,7 +5,7 @@ use Rattle.std.specs.List.{cons_option}
 use Rattle.std.specs.Option.{option_to_list}
 use Rattle.kn_event.specs.declared.entry.Entry.{Entry}
 use Rattle.kn_trace.specs.Trace.{Trace}
-use Rattle.kn_laws.specs.History.{AreTimesInOrder}
+use Rattle.kn_record.specs.Order.{AreTimesInOrder}
 use Rattle.kn_stats.specs.declared.change.Change.{Change}
 use Rattle.kn_stats.specs.Changes.{AreBy, TimedChange, timed}
 use Rattle.kn_changes.specs.Changes.{change_by, change_of, changes_after, changes_of}

@@ -6,7 +6,7 @@ ghost use Rattle.kn_event.specs.declared.revision.Spec.{Spec};
 ghost use Rattle.kn_trace.specs.Load.{count_in, load_in};
 ghost use Rattle.kn_trace.specs.Trace.{Trace};
 ghost use Rattle.kn_record.specs.Made.{IsMade};
-ghost use Rattle.kn_laws.specs.History.{AreTimesInOrder};
+ghost use Rattle.kn_record.specs.Order.{AreTimesInOrder};
 ghost use Rattle.kn_stats.specs.Changes.{AreBy, arrived_count, load_by};
 ghost use Rattle.kn_changes.specs.Changes.{change_of, changes_of};
 

@@ -8,7 +8,8 @@ use Rattle.kn_trace.specs.Trace.{Trace}
 use Rattle.kn_trace.specs.Laws.{IsInert, IsLawful, IsSettled}
 use Rattle.kn_record.specs.Made.{IsMade}
 use Rattle.kn_record.proofs.Running.{made_trace}
-use Rattle.kn_laws.specs.History.{AreTimesInOrder, History, IsMadeBy}
+use Rattle.kn_record.specs.Order.{AreTimesInOrder}
+use Rattle.kn_laws.specs.History.{History, IsMadeBy}
 use Rattle.kn_laws.specs.Losses.{LosesAll}
 use Rattle.kn_laws.specs.Refusals.{RefusesByAnswer}
 use Rattle.kn_laws.proofs.Beside.{inert_trace}

@@ -17,7 +17,8 @@ use Rattle.kn_trace.specs.Trace.{Trace, at_pod, contains, created, draining, ent
 use Rattle.kn_trace.specs.Scale.{creations, decision_at, decision_rows, drain_order, is_same_mode, is_same_phase, mode_of, phase_of, scale_rows, tick_rows, tick_rows_of, wake_decision_at, wake_rows, wanted, where_true}
 use Rattle.kn_trace.specs.Settling.{assignments_of, held_assignments, next_choice, promotions, promotions_at, removals, settling, while_chosen, while_free}
 use Rattle.kn_trace.specs.Events.{act_row, act_rows, activation, added, before_settling, departures, due, entries_of, expiries, losses, losses_at, lost_with, opening, opening_of, react, scaler_rows, trace_of, wake_where}
-use Rattle.kn_laws.specs.History.{AreInOrder, AreTimesInOrder, History, IsMadeBy}
+use Rattle.kn_record.specs.Order.{AreTimesInOrder}
+use Rattle.kn_laws.specs.History.{AreInOrder, History, IsMadeBy}
 use Rattle.kn_laws.proofs.Added.{trace_of-append}
 
 -- ---- all entries of an event have its time

@@ -7,7 +7,7 @@ use Rattle.kn_event.specs.declared.entry.Row.TheVariants as row
 use Rattle.kn_event.specs.declared.revision.Spec.{Spec}
 use Rattle.kn_trace.specs.Rows.{outcome_by}
 use Rattle.kn_trace.specs.Trace.{Trace, pod_of}
-use Rattle.kn_laws.specs.History.{AreTimesInOrder}
+use Rattle.kn_record.specs.Order.{AreTimesInOrder}
 use Rattle.kn_trace.specs.Laws.{HasNoOutcome, IsFirstOutcome, IsLawful, IsRunnableAt, IsSettled, IsWithinLimits, RefusesFull, RemovesEmpty}
 
 first-prop : (c : Trace) (x : Row) → IsProp (IsFirstOutcome c x)

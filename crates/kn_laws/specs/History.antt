@@ -20,8 +20,3 @@ pub record History (s : Spec) (start clock count : ℕ) (c : Trace) : Type 0 whe
 -- there are such events, whichever they are
 abbrev pub IsMadeBy : Spec → ℕ → ℕ → ℕ → Trace → Type 0
 IsMadeBy s start clock count c = ∥ History s start clock count c ∥₁
-
--- so it is of entries: their times never fall
-abbrev pub AreTimesInOrder : ℕ → Trace → ℕ → Type 0
-AreTimesInOrder from [] to = from ≤ to
-AreTimesInOrder from (x ∷ c) to = (from ≤ x.time) × AreTimesInOrder x.time c to

@@ -1,10 +1,9 @@
 -- What one more decision changes.
-use Rattle.std.proofs.Common.{◌≡◌, refl, sym, ap, ◌∙◌, ℕ, Bool, true, false, List, [], ◌∷◌}
+use Rattle.std.proofs.Common.{◌≡◌, refl, sym, ap, ◌∙◌, ℕ, Bool, true, false, List, [], ◌∷◌, map}
 use Rattle.std.specs.Prelude.{Option, None, Some, option_map, if◌then◌else◌}
 use Rattle.std.specs.List.{find}
 use Rattle.kn_scaling.specs.declared.panic.Judged.{Judged}
-use Rattle.kn_scaling.specs.Panic.{is_over_decision, is_within_window, is_panicking, panicking_run, greater_count, greatest_after, greatest_of_run, undelayed_count}
-use Rattle.kn_scaling.proofs.Runs.{run_next}
+use Rattle.kn_scaling.specs.Panic.{is_over_decision, is_within_window, is_panicking, panicking_run, run_with, greater_count, greatest, greatest_after, greatest_of_run, undelayed_count}
 use Rattle.kn_panic.specs.Stands.{PanicState, StandsFor, last_moment, moment_after, is_moment_within}
 
 pub stands_for_none : StandsFor (record { moment = None; greatest = 0 }) []
@@ -28,7 +27,11 @@ panics_next d ds = within_moment d (find is_over_decision (d ∷ ds))
 
 greatest_next : (d : Judged) (ds : List Judged) → greatest_of_run (d ∷ ds) ≡ greatest_after (is_panicking (d ∷ ds)) (greater_count d) (greatest_of_run ds)
 unfolding greatest_of_run panicking_run
-greatest_next d ds = run_next (is_panicking (d ∷ ds)) d (panicking_run ds)
+greatest_next d ds = by (is_panicking (d ∷ ds))
+  where
+    by : (b : Bool) → greatest (map greater_count (run_with b d (panicking_run ds))) ≡ greatest_after b (greater_count d) (greatest (map greater_count (panicking_run ds)))
+    by true = refl
+    by false = refl
 
 -- the state before and after a decision, and whether it panics
 pub record Takes (old new : PanicState) (panics : Bool) (d : Judged) : Type 0 where

@@ -17,7 +17,7 @@ use Rattle.kn_record.proofs.Kept.{Holds-at, Holds-law, kept-nil, made_kept}
 use Rattle.kn_record.proofs.Members.{filter-members}
 use Rattle.kn_record.proofs.Words.{others-length}
 use Rattle.kn_sizes.proofs.Ends.{is_live, live-end, live_distinct}
-use Rattle.kn_laws.specs.History.{AreTimesInOrder}
+use Rattle.kn_record.specs.Order.{AreTimesInOrder}
 use Rattle.kn_past.specs.Loads.{EndsLive, after_by, after_in, after_sum}
 use Rattle.kn_past.proofs.LoadSteps.{load-end, load-quiet, load-start}
 use Rattle.kn_past.proofs.Made.{AreUpTo, made_keeps, ordered_keeps}

@@ -15,7 +15,7 @@ use Rattle.kn_record.proofs.Kept.{made_kept}
 use Rattle.kn_record.proofs.Words.{others-length}
 use Rattle.kn_sizes.proofs.Counts.{few_live}
 use Rattle.kn_sizes.proofs.Ends.{is_live, live-end, live_distinct}
-use Rattle.kn_laws.specs.History.{AreTimesInOrder}
+use Rattle.kn_record.specs.Order.{AreTimesInOrder}
 use Rattle.kn_past.specs.Loads.{after_in}
 use Rattle.kn_past.proofs.Averages.{average_small}
 use Rattle.kn_past.proofs.Balance.{live-more, live-same}

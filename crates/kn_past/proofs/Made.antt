@@ -6,7 +6,7 @@ use Rattle.kn_event.specs.declared.revision.Spec.{Spec}
 use Rattle.kn_trace.specs.Trace.{Trace}
 use Rattle.kn_record.specs.Made.{Holds, IsMade, IsProper}
 use Rattle.kn_record.proofs.Kept.{Holds-append}
-use Rattle.kn_laws.specs.History.{AreTimesInOrder}
+use Rattle.kn_record.specs.Order.{AreTimesInOrder}
 
 -- no entry is after this time
 abbrev pub AreUpTo : ℕ → Trace → Type 0

@@ -11,7 +11,7 @@ use Rattle.kn_event.specs.declared.revision.Spec.{Spec}
 use Rattle.kn_trace.specs.Rows.{ended_by, taken_by}
 use Rattle.kn_trace.specs.Trace.{Trace, each_row, live}
 use Rattle.kn_trace.specs.Load.{count_in, count_most, entries_before, load_in, taken_in}
-use Rattle.kn_laws.specs.History.{AreTimesInOrder}
+use Rattle.kn_record.specs.Order.{AreTimesInOrder}
 use Rattle.kn_record.specs.Made.{IsMade, IsProper}
 use Rattle.kn_record.proofs.Flags.{counted}
 use Rattle.kn_record.proofs.Kept.{made_kept}

@@ -11,7 +11,7 @@ ghost use Rattle.kn_trace.specs.Load.{count_in, count_most, entries_before, has_
 ghost use Rattle.kn_trace.specs.Rows.{ended_by, taken_by};
 ghost use Rattle.kn_trace.specs.Trace.{Trace, each_row, live};
 ghost use Rattle.kn_record.specs.Made.{IsMade, IsProper};
-ghost use Rattle.kn_laws.specs.History.{AreTimesInOrder};
+ghost use Rattle.kn_record.specs.Order.{AreTimesInOrder};
 ghost use Rattle.kn_past.specs.Loads.{EndsLive, after_by, after_sum};
 ghost use Rattle.kn_past.specs.Seconds.{end_of_second, sample_by};
 

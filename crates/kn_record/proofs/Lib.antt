@@ -19,3 +19,6 @@ pub mod PodViews
 pub mod Standing
 pub mod Walks
 pub mod Order
+pub mod Acting
+pub mod Ordering
+pub mod Loops

@@ -1,5 +1,5 @@
 -- Membership in lists of numbers, and in what the rows of a trace give.
-use Rattle.std.proofs.Common.{◌≡◌, ℕ, Bool, true, false, not, cond, ◌&&◌, ◌||◌, ◌⊎◌, inl, inr, List, [], ◌∷◌, ◌++◌, refl, sym, ap, ◌∙◌}
+use Rattle.std.proofs.Common.{◌≡◌, ℕ, zero, suc, ◌<◌, length, get_or, arith, Bool, true, false, not, cond, ◌&&◌, ◌||◌, ◌⊎◌, inl, inr, List, [], ◌∷◌, ◌++◌, refl, sym, ap, ◌∙◌}
 use Rattle.std.specs.Prelude.{Option, None, Some, ◌==◌}
 use Rattle.std.specs.List.{filter, cons_option}
 use Rattle.std.proofs.lemmas.Bool.{eqb-true, eq-eqb}
@@ -87,6 +87,16 @@ filter-members p q (x ∷ xs) same =
     more : (a b : Bool) → b ≡ true → (a || b) ≡ true
     more true b h = refl
     more false b h = h
+
+-- each member of a list, at its place
+pub contains-at : (xs : List ℕ) (k d : ℕ) → k < length xs → contains (get_or xs k d) xs ≡ true
+contains-at [] k d h = absurd (omega arith)
+contains-at (x ∷ xs) zero d h = rw (same_number x) refl
+contains-at (x ∷ xs) (suc k) d h = more (x == get_or xs k d) (contains-at xs k d (omega arith))
+  where
+    more : (b : Bool) → contains (get_or xs k d) xs ≡ true → (b || contains (get_or xs k d) xs) ≡ true
+    more true h = refl
+    more false h = h
 
 -- ---- of rows
 

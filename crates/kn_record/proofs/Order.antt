@@ -1,7 +1,9 @@
 -- The numbers of requests and pods ascend in a trace that was made, and so on its record.
-use Rattle.std.proofs.Common.{◌≡◌, ℕ, ◌<◌, Bool, true, false, not, List, [], ◌∷◌, ◌++◌, length, get_or, map, suc, zero, refl, ◌∙◌, arith, append-nil, append_assoc}
+use Rattle.std.proofs.Common.{◌≡◌, ℕ, ◌<◌, Bool, true, false, not, List, [], ◌∷◌, ◌++◌, get_or, map, refl, ◌∙◌, arith, append-nil, append_assoc}
 use Rattle.std.specs.Prelude.{Option, None, Some, ◌==◌}
 use Rattle.std.specs.List.{All, AllPairs, cons_option}
+use Rattle.std.proofs.Math.ListN.{get_or-map}
+use Rattle.std.proofs.lemmas.List.{length-map}
 use Rattle.std.proofs.lemmas.List.Elements.{All-cons, All-nil}
 use Rattle.std.proofs.lemmas.List.Kept.{AllPairs-filter}
 use Rattle.std.proofs.lemmas.List.Quantifiers.{all_pairs_push}
@@ -20,7 +22,7 @@ use Rattle.kn_record.specs.Made.{Holds, IsMade, IsProper, StandsFor}
 use Rattle.kn_record.specs.Order.{IsAmong, IsInOrder}
 use Rattle.kn_record.specs.Views.{pod_numbers}
 use Rattle.kn_record.proofs.Flags.{each_row-push}
-use Rattle.kn_record.proofs.Members.{same_number}
+use Rattle.kn_record.proofs.Members.{contains-at, same_number}
 use Rattle.kn_record.proofs.Numbers.{live_member, taken_comes}
 use Rattle.kn_record.proofs.PodNumbers.{created_comes, live_pod_created}
 use Rattle.kn_record.proofs.Pods.{live-pods}
@@ -34,12 +36,6 @@ use Rattle.kn_record.proofs.Reacting.{or-more}
 
 abbrev pub Ascend : List ℕ → Type 0
 Ascend xs = AllPairs (λ x y. x < y) xs
-
--- each member of a list, at its place
-pub contains-at : (xs : List ℕ) (k d : ℕ) → k < length xs → contains (get_or xs k d) xs ≡ true
-contains-at [] k d h = absurd (omega arith)
-contains-at (x ∷ xs) zero d h = rw (same_number x) refl
-contains-at (x ∷ xs) (suc k) d h = or-more (x == get_or xs k d) (contains (get_or xs k d) xs) (contains-at xs k d (omega arith))
 
 -- a number above all of them goes to the end
 ascend-option : (xs : List ℕ) (o : Option ℕ) → Ascend xs → ((r : ℕ) → o ≡ Some r → (q : ℕ) → contains q xs ≡ true → q < r) → Ascend (xs ++ cons_option o [])
@@ -76,11 +72,11 @@ ascending-all s b [] kept rise h = rw (append-nil b) rise
 ascending-all s b (e ∷ c) kept rise h =
     rw (append_assoc b (e ∷ []) c) at (ascending-all s (b ++ e ∷ []) c (Kept-push s b e kept h.0) (ascending-push s b e kept h.0 rise) h.1)
 
-none_ascend : Ascend []
-none_ascend i j d less within = absurd (omega arith)
+pub none_in_pairs : {X : Type 0} (R : X → X → Type 0) → AllPairs R []
+none_in_pairs R i j d less within = absurd (omega arith)
 
 made_ascending : (s : Spec) (c : Trace) → IsMade s c → Ascending c
-made_ascending s c made = ascending-all s [] c (kept-nil s) (record { taken = none_ascend; created = none_ascend }) made.rows
+made_ascending s c made = ascending-all s [] c (kept-nil s) (record { taken = none_in_pairs (λ x y. x < y); created = none_in_pairs (λ x y. x < y) }) made.rows
 
 -- the live requests, the live pods and the starting ones are listed by ascending numbers
 pub live_ascend : (s : Spec) (c : Trace) → IsMade s c → Ascend (live c)
@@ -97,19 +93,10 @@ starting_ascend s c made = AllPairs-filter (λ x y. x < y) (is_starting c) (each
 
 -- ---- of the record
 
-get_or-image : {X : Type 0} (f : X → ℕ) (xs : List X) (k : ℕ) (d : X) → get_or (map f xs) k (f d) ≡ f (get_or xs k d)
-get_or-image f [] k d = refl
-get_or-image f (x ∷ xs) zero d = refl
-get_or-image f (x ∷ xs) (suc k) d = get_or-image f xs k d
-
-length-image : {X : Type 0} (f : X → ℕ) (xs : List X) → length (map f xs) ≡ length xs
-length-image f [] = refl
-length-image f (x ∷ xs) = let rest = length-image f xs in omega arith
-
 -- what is so of the numbers is so of those that have them
 pairs-of : {X : Type 0} (f : X → ℕ) (xs : List X) → Ascend (map f xs) → AllPairs (λ (x y : X). f x < f y) xs
 pairs-of f xs rise i j d less within =
-    rw (get_or-image f xs i d, get_or-image f xs j d) at (rise i j (f d) less (rw (length-image f xs) within))
+    rw (get_or-map f xs i d, get_or-map f xs j d) at (rise i j (f d) less (rw (length-map xs f) within))
 
 below-of : {X : Type 0} (f : X → ℕ) (n : ℕ) (xs : List X) → ((r : ℕ) → contains r (map f xs) ≡ true → r < n) → All (λ (x : X). f x < n) xs
 below-of {X} f n [] below = All-nil (λ (x : X). f x < n)

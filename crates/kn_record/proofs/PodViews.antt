@@ -1,15 +1,17 @@
 -- The views of pods are the record's.
 use Rattle.std.proofs.Common.{◌≡◌, ℕ, Bool, true, false, not, cond, ◌&&◌, List, [], ◌∷◌, refl, sym, ap, ◌∙◌, map}
-use Rattle.std.specs.Prelude.{Option, None, Some}
+use Rattle.std.specs.Prelude.{Option, None, Some, ◌==◌}
 use Rattle.std.specs.Bool.{then_some}
 use Rattle.std.specs.List.{All, filter, filter_map, cons_option}
-use Rattle.std.proofs.lemmas.List.Elements.{All-cons, All-nil}
+use Rattle.std.proofs.lemmas.Bool.{eqb-true}
+use Rattle.std.proofs.lemmas.List.Elements.{All-cons, All-head, All-nil, All-tail}
 use Rattle.kn_event.specs.declared.entry.Entry.{Entry}
 use Rattle.kn_trace.specs.Rows.{created_by, drained_by, readied_by, gone_by}
 use Rattle.kn_trace.specs.Trace.{Trace, contains, draining, each_row, is_draining, is_live_pod, is_ready, is_starting, limit_of, live_pods, ready_pods, starting_pods}
 use Rattle.kn_record.specs.declared.admission.Pod.{Pod}
 use Rattle.kn_record.specs.declared.admission.Readiness.{Readiness}
 use Rattle.kn_record.specs.Admission.{is_draining_now, is_ready_now, is_starting_now, pod_record, pods, pods_in, readiness_by, readiness_of}
+use Rattle.kn_record.specs.Views.{is_pod_where, pod_numbered, pod_numbers}
 use Rattle.kn_record.proofs.Members.{contains-filter}
 use Rattle.kn_record.proofs.PodNumbers.{live_pod_created}
 
@@ -101,3 +103,12 @@ pods_limits c = from c
         by : (o : Option ℕ) → All P (filter_map (λ (e : Entry). pod_record c (created_by e.row)) d) → All P (cons_option (pod_record c o) (filter_map (λ (e : Entry). pod_record c (created_by e.row)) d))
         by None rest = rest
         by (Some p) rest = step p (not (contains p (each_row gone_by c))) _ rest
+
+-- what is so of each pod of the record by its number is so of the one with the number p
+pub by_number : (f : ℕ → Bool) (g : Pod → Bool) (p : ℕ) (all : List Pod) → All (λ (q : Pod). f q.number ≡ g q) all → contains p (pod_numbers all) ≡ true → f p ≡ is_pod_where g (pod_numbered p all)
+by_number f g p [] h here = absurd (cc)
+by_number f g p (q ∷ all) h here = by (q.number == p) refl (by_number f g p all (All-tail (λ (q : Pod). f q.number ≡ g q) q all h))
+  where
+    by : (m : Bool) → (q.number == p) ≡ m → (contains p (pod_numbers all) ≡ true → f p ≡ is_pod_where g (pod_numbered p all)) → f p ≡ is_pod_where g (cond m (Some q) (pod_numbered p all))
+    by true e rest = let same : q.number ≡ p = eqb-true q.number p e in rw (← same) (All-head (λ (q : Pod). f q.number ≡ g q) q all h)
+    by false e rest = rest (rw e at here)

@@ -2,7 +2,7 @@
 use Rattle.std.proofs.Common.{◌≡◌, ℕ, ◌+◌, Bool, true, false, not, cond, ◌&&◌, ◌||◌, List, [], ◌∷◌, ◌++◌, length, map, min, nat_le, nat_lt, refl, sym, ap, subst, ◌∙◌, arith}
 use Rattle.std.specs.Prelude.{Option, None, Some, ◌==◌, if◌then◌else◌}
 use Rattle.std.specs.Bool.{then_some}
-use Rattle.std.specs.List.{filter, filter_map, cons_option, find, sum_by}
+use Rattle.std.specs.List.{All, filter, filter_map, cons_option, find, sum_by}
 use Rattle.std.proofs.lemmas.Bool.{eqb-true}
 use Rattle.std.proofs.lemmas.List.Elements.{All-weaker}
 use Rattle.std.proofs.lemmas.List.Sums.{sum_by-cons}
@@ -15,7 +15,7 @@ use Rattle.kn_event.specs.declared.event.Stand.TheVariants as stand
 use Rattle.kn_event.specs.declared.revision.Spec.{Spec}
 use Rattle.kn_trace.specs.declared.candidate.Cand.{Cand}
 use Rattle.kn_trace.specs.Rows.{taken_by}
-use Rattle.kn_trace.specs.Trace.{Trace, entry, arrivals, assigned, contains, each_row, ended, has_begun, has_free_seat, has_not_begun, has_run, limit_of, live, live_pods, pod_of, ready_pods, running_at, stand_at, stand_of, stand_of_arrived, stand_where}
+use Rattle.kn_trace.specs.Trace.{Trace, entry, arrivals, assigned, contains, each_row, ended, has_begun, has_free_seat, has_not_begun, has_run, limit_of, live, live_pods, next_starting, pod_of, ready_pods, running_at, stand_at, stand_of, stand_of_arrived, stand_where}
 use Rattle.kn_trace.specs.Capacity.{breaker_full, capacity, pod_full, seats_of}
 use Rattle.kn_trace.specs.Choice.{candidates, choice}
 use Rattle.kn_trace.specs.Settling.{next_choice}
@@ -31,9 +31,9 @@ use Rattle.kn_record.proofs.Numbers.{true_unless}
 use Rattle.kn_record.proofs.Pods.{live-pods, ready-pods}
 use Rattle.kn_record.proofs.Views.{live-requests, placed-requests}
 use Rattle.kn_record.proofs.Kept.{made_kept}
-use Rattle.kn_record.proofs.Words.{at_pod-count, at_pod-members, held-placed, in_breaker-placed, in_use-count, is_running-placed, running_at-count, running_at-members, waiting-placed, waiting_by, agrees}
+use Rattle.kn_record.proofs.Words.{at_pod-count, at_pod-members, held-placed, in_breaker-placed, in_use-count, is_running-placed, proxied-placed, running_at-count, running_at-members, waiting-placed, waiting_by, agrees}
 use Rattle.kn_record.proofs.Queues.{queued_at-placed}
-use Rattle.kn_record.proofs.PodViews.{draining-pods, live_is_starting, pods_limits, ready_limits, starting-pods}
+use Rattle.kn_record.proofs.PodViews.{by_number, draining-pods, live_is_starting, pods_limits, ready_limits, starting-pods}
 use Rattle.kn_record.proofs.Reacting.{act-holds, contains-fewer, due_taken}
 use Rattle.kn_record.proofs.Appends.{StandsFor-push, stands_lost}
 
@@ -176,8 +176,19 @@ next-record s c num = rw (capacity-record s c, candidates-record c num, in_use-c
 
 -- ---- all of them
 
+-- of each pod of the record, whether it has a free seat and whether it is full
+free_pods : (c : Trace) → IsNumbered c → All (λ (q : Pod). has_free_seat c q.number ≡ is_free (live_requests c) q) (pods c)
+unfolding has_free_seat
+free_pods c num =
+    All-weaker (λ (q : Pod). limit_of c q.number ≡ q.limit) (λ (q : Pod). has_free_seat c q.number ≡ is_free (live_requests c) q) (λ q e. rw (e, running_at-count c q.number num, count_in (runs_at q.number) c) refl) (pods c) (pods_limits c)
+
+full_pods : (c : Trace) → IsNumbered c → All (λ (q : Pod). pod_full c q.number ≡ is_full (live_requests c) q) (pods c)
+unfolding pod_full
+full_pods c num =
+    All-weaker (λ (q : Pod). limit_of c q.number ≡ q.limit) (λ (q : Pod). pod_full c q.number ≡ is_full (live_requests c) q) (λ q e. rw (e, at_pod-count c q.number num, count_in (is_at q.number) c) refl) (pods c) (pods_limits c)
+
 views_of : (s : Spec) (c : Trace) → IsNumbered c → AreViews s (admission c) c
-unfolding admission breaker_full has_free_seat pod_full
+unfolding admission breaker_full next_starting
 views_of s c num = record {
   arrivals = refl;
   turn = refl;
@@ -193,17 +204,21 @@ views_of s c num = record {
   count_running_at = λ p. running_at-count c p num ∙ count_in (runs_at p) c;
   in_use = in_use-count c num ∙ count_in is_assigned_place c;
   is_running = λ r. is_running-placed c r num ∙ ap (λ (l : List ℕ). contains r l) (placed-requests runs_somewhere c);
+  proxied = λ r. proxied-placed c r num ∙ ap (λ (l : List ℕ). contains r l) (placed-requests is_assigned_place c);
   due = λ t. due-requests s t c num;
   stand = λ r. stand-record c r;
   created = refl;
   pods = live-pods c;
   starting = starting-pods c;
   is_starting = λ p h. live_is_starting c p h ∙ ap (λ (l : List ℕ). contains p l) (starting-pods c);
+  next_starting = λ from. ap (λ (l : List ℕ). find (λ p. nat_le from p) l) (starting-pods c);
   ready = ready-pods c;
   draining = draining-pods c;
   limits = pods_limits c;
-  free = All-weaker (λ (q : Pod). limit_of c q.number ≡ q.limit) (λ (q : Pod). has_free_seat c q.number ≡ is_free (live_requests c) q) (λ q e. rw (e, running_at-count c q.number num, count_in (runs_at q.number) c) refl) (pods c) (pods_limits c);
-  pod_full = All-weaker (λ (q : Pod). limit_of c q.number ≡ q.limit) (λ (q : Pod). pod_full c q.number ≡ is_full (live_requests c) q) (λ q e. rw (e, at_pod-count c q.number num, count_in (is_at q.number) c) refl) (pods c) (pods_limits c);
+  free = free_pods c num;
+  pod_full = full_pods c num;
+  free_at = λ p h. by_number (has_free_seat c) (is_free (live_requests c)) p (pods c) (free_pods c num) h;
+  full_at = λ p h. by_number (pod_full c) (is_full (live_requests c)) p (pods c) (full_pods c num) h;
   assignments = refl;
   robin = refl;
   candidates = candidates-record c num;

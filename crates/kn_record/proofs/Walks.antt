@@ -11,9 +11,10 @@ use Rattle.kn_trace.specs.Rows.{created_by, drained_by, gone_by}
 use Rattle.kn_trace.specs.Trace.{Trace, entry, assigned, at_pod, contains, draining, each_row, ended, first_of, has_begun, has_free_seat, has_not_begun, has_run, held, is_draining, is_empty, is_live_pod, queued_at}
 use Rattle.kn_trace.specs.Settling.{assignments_of, held_assignments, next_choice, promotions, promotions_at, removals}
 use Rattle.kn_trace.specs.Events.{act_rows, before_settling, departures, due, due_by, expiries, react}
+use Rattle.kn_record.specs.declared.admission.Pod.{Pod}
 use Rattle.kn_record.specs.Admission.{Admission, is_at, is_held_place, next_in, placed_in, queues_at, stepped}
 use Rattle.kn_record.specs.Made.{AreDistinct, Holds, IsMade, IsNumbered, IsProper, StandsFor}
-use Rattle.kn_record.specs.Views.{due_in}
+use Rattle.kn_record.specs.Views.{due_in, has_free_seat_in, is_free, is_pod_where, pod_numbered, pod_numbers}
 use Rattle.kn_record.specs.Walks.{ArePartsProper, BeginsWith, leaving_in, promoting, stepped_by}
 use Rattle.kn_record.proofs.Members.{distinct-filter, filter-first}
 use Rattle.kn_record.proofs.Numbers.{filter_member, first_member}
@@ -110,19 +111,31 @@ promotions-next t c p ps over = by (queued_at c p) over
     by (q ∷ rs) (inl f) = absurd (cc)
     by (q ∷ rs) (inr f) = rw (f, append-nil c) refl
 
-pub walk_promote : (s : Spec) (a : Admission) (c : Trace) (t p : ℕ) (ps : List ℕ) (r : ℕ) → StandsFor a c → first_of (placed_in (queues_at p) a.live) ≡ Some r → has_free_seat c p ≡ true → BeginsWith (promoting t (p ∷ ps)) t (row.Run r) a c
+-- a pod with a free seat is there
+seat_listed : (test : Pod → Bool) (p : ℕ) (all : List Pod) → is_pod_where test (pod_numbered p all) ≡ true → contains p (pod_numbers all) ≡ true
+seat_listed test p [] h = absurd (cc)
+seat_listed test p (q ∷ all) h = by (q.number == p) refl (seat_listed test p all)
+  where
+    by : (m : Bool) → (q.number == p) ≡ m → (is_pod_where test (pod_numbered p all) ≡ true → contains p (pod_numbers all) ≡ true) → (m || contains p (pod_numbers all)) ≡ true
+    by true e rest = refl
+    by false e rest = rest (rw e at h)
+
+pub walk_promote : (s : Spec) (a : Admission) (c : Trace) (t p : ℕ) (ps : List ℕ) (r : ℕ) → StandsFor a c → first_of (placed_in (queues_at p) a.live) ≡ Some r → has_free_seat_in a p ≡ true → BeginsWith (promoting t (p ∷ ps)) t (row.Run r) a c
 unfolding promoting
-walk_promote s a c t p ps r h f free =
-    let g : first_of (queued_at c p) ≡ Some r = ap (λ (l : List ℕ). first_of l) ((are_views s a c h).queued p) ∙ f in
+walk_promote s a c t p ps r h f seat =
+    let views = are_views s a c h in
+    let g : first_of (queued_at c p) ≡ Some r = ap (λ (l : List ℕ). first_of l) (views.queued p) ∙ f in
+    let free : has_free_seat c p ≡ true = views.free_at p (seat_listed (is_free a.live) p a.pods seat) ∙ seat in
     (promotions-one t c p ps r h.requests g free, StandsFor-push s a c t (row.Run r) h (p, record { first = g; free = free }))
 
-pub walk_promoted : (s : Spec) (a : Admission) (c : Trace) (t p : ℕ) (ps : List ℕ) → StandsFor a c → (first_of (placed_in (queues_at p) a.live) ≡ None) ⊎ (has_free_seat c p ≡ false) → promoting t (p ∷ ps) c ≡ promoting t ps c
+pub walk_promoted : (s : Spec) (a : Admission) (c : Trace) (t p : ℕ) (ps : List ℕ) → StandsFor a c → contains p (pod_numbers a.pods) ≡ true → (first_of (placed_in (queues_at p) a.live) ≡ None) ⊎ (has_free_seat_in a p ≡ false)
+    → promoting t (p ∷ ps) c ≡ promoting t ps c
 unfolding promoting
-walk_promoted s a c t p ps h over = promotions-next t c p ps (by over)
+walk_promoted s a c t p ps h listed over = promotions-next t c p ps (by over)
   where
-    by : (first_of (placed_in (queues_at p) a.live) ≡ None) ⊎ (has_free_seat c p ≡ false) → (first_of (queued_at c p) ≡ None) ⊎ (has_free_seat c p ≡ false)
+    by : (first_of (placed_in (queues_at p) a.live) ≡ None) ⊎ (has_free_seat_in a p ≡ false) → (first_of (queued_at c p) ≡ None) ⊎ (has_free_seat c p ≡ false)
     by (inl f) = inl (ap (λ (l : List ℕ). first_of l) ((are_views s a c h).queued p) ∙ f)
-    by (inr f) = inr f
+    by (inr f) = inr ((are_views s a c h).free_at p listed ∙ f)
 
 -- ---- assignments
 

@@ -8,7 +8,7 @@ use Rattle.kn_event.specs.declared.entry.Entry.{Entry}
 use Rattle.kn_event.specs.declared.entry.Row.{Row}
 use Rattle.kn_event.specs.declared.entry.Row.TheVariants as row
 use Rattle.kn_trace.specs.Rows.{admitted_by, assigned_by, brought_to, directed_by, pod_by, taken_by}
-use Rattle.kn_trace.specs.Trace.{Trace, assigned, at_pod, contains, each_row, ended, has_begun, has_not_begun, has_run, held, in_breaker, is_held, is_running, last_of, live, pod_of, running_at, waiting}
+use Rattle.kn_trace.specs.Trace.{Trace, assigned, at_pod, contains, each_row, ended, has_begun, has_not_begun, has_run, held, in_breaker, is_held, is_running, last_of, live, pod_of, proxied, running_at, waiting}
 use Rattle.kn_trace.specs.Capacity.{in_use}
 use Rattle.kn_record.specs.declared.admission.Place.{Place}
 use Rattle.kn_record.specs.Rows.{moved_by}
@@ -397,19 +397,20 @@ unfolding running_at
 running_at-count c p num =
     same-length (running_at c p) (placed (runs_at p) c) (distinct-filter (is_running c) (each_row (brought_to p) c) (brought_distinct c p num)) (taken_distinct c (runs_at p) num) (λ r. running_at-members c p r num)
 
+-- who came through the activator to a pod
+pub proxied-placed : (c : Trace) (r : ℕ) → IsNumbered c → proxied c r ≡ contains r (placed is_assigned_place c)
+unfolding proxied place_of
+proxied-placed c r num =
+    use_by _ _ (assigned c r) (has_run c r) (ended c r) (contains r (each_row taken_by c)) (pod_of c r) (agrees c r num) (λ h. within-from admitted_by taken_by admitted_taken r c (num.assigned r h))
+    ∙ sym (contains-placed is_assigned_place c r)
+
 -- how many are in use
 pub in_use-count : (c : Trace) → IsNumbered c → in_use c ≡ length (placed is_assigned_place c)
-unfolding in_use assigned place_of
+unfolding in_use proxied assigned
 in_use-count c num =
     same-length (filter (λ r. not (ended c r)) (each_row assigned_by c)) (placed is_assigned_place c)
     (distinct-filter (λ r. not (ended c r)) (each_row assigned_by c) (distinct-fewer (λ (e : Entry). assigned_by e.row) (λ (e : Entry). moved_by e.row) (λ e. assigned_moved e.row) c num.moved))
-    (taken_distinct c is_assigned_place num) (λ r. members r)
-  where
-    members : (r : ℕ) → contains r (filter (λ r. not (ended c r)) (each_row assigned_by c)) ≡ contains r (placed is_assigned_place c)
-    members r =
-        contains-filter (λ r. not (ended c r)) r (each_row assigned_by c)
-        ∙ rw (contains-placed is_assigned_place c r)
-        (use_by _ _ (assigned c r) (has_run c r) (ended c r) (contains r (each_row taken_by c)) (pod_of c r) (agrees c r num) (λ h. within-from admitted_by taken_by admitted_taken r c (num.assigned r h)))
+    (taken_distinct c is_assigned_place num) (λ r. contains-filter (λ r. not (ended c r)) r (each_row assigned_by c) ∙ proxied-placed c r num)
 
 -- a request runs where its place says so
 running_somewhere : (k g s n : Bool) (o : Option ℕ) → ((s || n) ≡ true → k ≡ true) → (k ≡ true → o ≡ None → (s || n) ≡ false) → ((s || n) && not g) ≡ (k && (not g && runs_somewhere (place_at o s n)))

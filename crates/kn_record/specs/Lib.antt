@@ -4,3 +4,4 @@ pub mod Made
 pub mod Views
 pub mod Walks
 pub mod Order
+pub mod Acting

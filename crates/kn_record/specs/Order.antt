@@ -1,12 +1,14 @@
--- The order of the record: numbers ascend, and each pod that is named is there.
-use Rattle.std.specs.Prelude.{◌≡◌, ℕ, ◌<◌, true, List, ⊤}
+-- The order of the record: numbers ascend, times never fall, and each pod that is named is there.
+use Rattle.std.specs.Prelude.{◌≡◌, ℕ, ◌<◌, ◌≤◌, true, List, [], ◌∷◌, ⊤}
 use Rattle.std.specs.List.{All, AllPairs}
-use Rattle.kn_trace.specs.Trace.{contains}
+use Rattle.kn_event.specs.declared.entry.Row.{Row}
+use Rattle.kn_event.specs.declared.entry.Row.TheVariants as row
+use Rattle.kn_trace.specs.Trace.{Trace, contains}
 use Rattle.kn_record.specs.declared.admission.Place.{Place}
 use Rattle.kn_record.specs.declared.admission.Place.TheVariants as place
 use Rattle.kn_record.specs.declared.admission.Request.{Request}
 use Rattle.kn_record.specs.declared.admission.Pod.{Pod}
-use Rattle.kn_record.specs.Admission.{Admission}
+use Rattle.kn_record.specs.Admission.{Admission, is_at, placed_in}
 use Rattle.kn_record.specs.Views.{pod_numbers}
 
 -- the place's pod is one of these; a held request has none
@@ -24,3 +26,26 @@ pub record IsInOrder (a : Admission) : Type 0 where
   pub created : All (λ (x : Pod). x.number < a.created) a.pods
   -- a live request is at one of the pods, or held
   pub homes : All (λ (x : Request). IsAmong (pod_numbers a.pods) x.place) a.live
+
+-- a row that leaves the record in order: who arrives or is created has the next number, a request comes to a pod that is
+-- there, and only an empty pod goes
+abbrev pub FitsRecord : Admission → Row → Type 0
+FitsRecord a (row.Admit r tag) = r ≡ a.arrivals
+FitsRecord a (row.Direct r p) = (r ≡ a.arrivals) × (contains p (pod_numbers a.pods) ≡ true)
+FitsRecord a (row.Assign r p) = contains p (pod_numbers a.pods) ≡ true
+FitsRecord a (row.Create p n) = p ≡ a.created
+FitsRecord a (row.Remove p) = placed_in (is_at p) a.live ≡ []
+FitsRecord a (row.LostPod p) = placed_in (is_at p) a.live ≡ []
+FitsRecord a _ = ⊤
+
+-- ---- times
+
+-- the times of entries never fall: none is before the first time given, and none after the last
+abbrev pub AreTimesInOrder : ℕ → Trace → ℕ → Type 0
+AreTimesInOrder from [] to = from ≤ to
+AreTimesInOrder from (x ∷ c) to = (from ≤ x.time) × AreTimesInOrder x.time c to
+
+-- the live requests came by this time, in the order of their numbers
+pub record AreTimed (clock : ℕ) (a : Admission) : Type 0 where
+  pub ascend : AllPairs (λ (x y : Request). x.time ≤ y.time) a.live
+  pub past : All (λ (x : Request). x.time ≤ clock) a.live

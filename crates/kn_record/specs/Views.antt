@@ -1,10 +1,10 @@
 -- Each view of a trace, of the record that stands for it; and each view of requests by their place.
-use Rattle.std.specs.Prelude.{◌≡◌, ℕ, Bool, true, ◌+◌, ◌*◌, ◌&&◌, ◌||◌, ◌==◌, nat_lt, nat_le, List, map, length, Option, None, Some, if◌then◌else◌}
+use Rattle.std.specs.Prelude.{◌≡◌, ℕ, Bool, true, false, ◌+◌, ◌*◌, ◌&&◌, ◌||◌, ◌==◌, nat_lt, nat_le, List, map, length, Option, None, Some, if◌then◌else◌}
 use Rattle.std.specs.List.{All, filter, find}
 use Rattle.kn_event.specs.declared.event.Stand.{Stand}
 use Rattle.kn_event.specs.declared.event.Stand.TheVariants as stand
 use Rattle.kn_event.specs.declared.revision.Spec.{Spec}
-use Rattle.kn_trace.specs.Trace.{Trace, arrivals, at_pod, contains, created, direct_turn, draining, has_free_seat, held, in_breaker, is_running, is_starting, limit_of, live, live_pods, queued_at, ready_pods, running_at, stand_of, starting_pods, waiting}
+use Rattle.kn_trace.specs.Trace.{Trace, arrivals, at_pod, contains, created, direct_turn, draining, has_free_seat, held, in_breaker, is_running, is_starting, limit_of, live, live_pods, next_starting, proxied, queued_at, ready_pods, running_at, stand_of, starting_pods, waiting}
 use Rattle.kn_trace.specs.Capacity.{breaker_full, capacity, in_use, pod_full}
 use Rattle.kn_trace.specs.Choice.{assignment_count, candidates, round_robin_place}
 use Rattle.kn_trace.specs.Settling.{next_choice}
@@ -62,6 +62,23 @@ is_free live q = q.limit == 0 || nat_lt (length (placed_in (runs_at q.number) li
 abbrev pub is_full : List Request → Pod → Bool
 is_full live q = nat_lt 0 q.limit && nat_le (11 * q.limit) (length (placed_in (is_at q.number) live))
 
+-- the live pod of this number
+abbrev pub pod_numbered : ℕ → List Pod → Option Pod
+pod_numbered p all = find (λ (q : Pod). q.number == p) all
+
+-- there is a pod, and it passes the test
+abbrev pub is_pod_where : (Pod → Bool) → Option Pod → Bool
+is_pod_where test None = false
+is_pod_where test (Some q) = test q
+
+-- the live pod p has no limit, or fewer run there than it
+abbrev pub has_free_seat_in : Admission → ℕ → Bool
+has_free_seat_in a p = is_pod_where (is_free a.live) (pod_numbered p a.pods)
+
+-- the live pod p takes no further request
+abbrev pub is_full_in : Admission → ℕ → Bool
+is_full_in a p = is_pod_where (is_full a.live) (pod_numbered p a.pods)
+
 -- each view of the trace c, of the record a
 pub record AreViews (s : Spec) (a : Admission) (c : Trace) : Type 0 where
   pub arrivals : arrivals c ≡ a.arrivals
@@ -78,15 +95,19 @@ pub record AreViews (s : Spec) (a : Admission) (c : Trace) : Type 0 where
   pub count_running_at : (p : ℕ) → length (running_at c p) ≡ length (placed_in (runs_at p) a.live)
   pub in_use : in_use c ≡ length (placed_in is_assigned_place a.live)
   pub is_running : (r : ℕ) → is_running c r ≡ contains r (placed_in runs_somewhere a.live)
+  pub proxied : (r : ℕ) → proxied c r ≡ contains r (placed_in is_assigned_place a.live)
   pub due : (t : ℕ) → due s t c ≡ due_in s.timeout_ms t a.live
   pub stand : (r : ℕ) → stand_of c r ≡ stand_in a r
   pub created : created c ≡ a.created
   pub pods : live_pods c ≡ pod_numbers a.pods
   pub starting : starting_pods c ≡ pods_in is_starting_now a.pods
   pub is_starting : (p : ℕ) → contains p (live_pods c) ≡ true → is_starting c p ≡ contains p (pods_in is_starting_now a.pods)
+  pub next_starting : (from : ℕ) → next_starting c from ≡ find (λ p. nat_le from p) (pods_in is_starting_now a.pods)
   pub ready : ready_pods c ≡ pods_in is_ready_now a.pods
   pub draining : draining c ≡ pods_in is_draining_now a.pods
   pub limits : All (λ (q : Pod). limit_of c q.number ≡ q.limit) a.pods
+  pub free_at : (p : ℕ) → contains p (pod_numbers a.pods) ≡ true → has_free_seat c p ≡ has_free_seat_in a p
+  pub full_at : (p : ℕ) → contains p (pod_numbers a.pods) ≡ true → pod_full c p ≡ is_full_in a p
   pub free : All (λ (q : Pod). has_free_seat c q.number ≡ is_free a.live q) a.pods
   pub pod_full : All (λ (q : Pod). pod_full c q.number ≡ is_full a.live q) a.pods
   pub assignments : assignment_count c ≡ a.assignments

@@ -15,6 +15,14 @@ use Rattle.kn_record.specs.Made.{Holds, IsProper, StandsFor}
 abbrev pub BeginsWith : (Trace → List Entry) → ℕ → Row → Admission → Trace → Type 0
 BeginsWith rest t x a c = (rest c ≡ entry t x ∷ rest (c ++ entry t x ∷ [])) × StandsFor (stepped t x a) (c ++ entry t x ∷ [])
 
+-- a loop that makes the rows all of the trace c: log has grown from old by the first of them, left is still to come at
+-- the trace that they made, and the record stands for that trace
+pub record Leaves (all left : Trace → List Entry) (c : Trace) (a : Admission) (old log : List Entry) : Type 0 where
+  pub here : Trace
+  pub stands : StandsFor a here
+  pub rows : log ++ left here ≡ old ++ all c
+  pub whole : here ++ left here ≡ c ++ all c
+
 -- what still runs at these pods
 unfoldable pub promoting : ℕ → List ℕ → Trace → List Entry
 promoting t ps c = promotions t c ps

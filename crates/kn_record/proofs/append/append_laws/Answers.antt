@@ -1,3 +1,4 @@
+use Rattle.kn_record.proofs.Acting.{act_by_record}
 use Rattle.kn_record.proofs.Appends.{admission_made, stands_made, stands_nothing, StandsFor-push}
 use Rattle.kn_record.proofs.Standing.{are_views, made_by_place, stands_act}
 use Rattle.kn_record.proofs.append.append_laws.Goals as goal
@@ -9,6 +10,7 @@ returns c = record {
   nothing = stands_nothing;
   append = StandsFor-push;
   act = stands_act;
+  row = act_by_record;
   views = are_views;
   by_place = made_by_place;
 }
