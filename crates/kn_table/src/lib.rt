@@ -1,6 +1,7 @@
 //! The live requests of a revision in a table that takes its memory once, for any number of requests over time.
 #![tactic(auto)]
 
+mod cursors;
 mod slot;
 mod table;
 #[cfg(test)]

@@ -1,5 +1,9 @@
-//! Slots, and what is looked up among them.
-ghost use Rattle.std.specs.Prelude.{◌≡◌, ◌<◌, ◌≤◌, ◌+◌, ◌≢◌, ℕ, All, IfSome, IfNone, length, slice_index_or};
+//! Slots, and how one is found by its number.
+ghost use Rattle.std.specs.Prelude.{◌≡◌, ◌≢◌, ◌==◌, ◌<◌, ◌≤◌, None, All, IsTrue, MatchOption, filter, find, vec_capacity};
+ghost use Rattle.kn_record.specs.declared.admission.Request.{Request};
+ghost use Rattle.kn_record.specs.Admission.{begun, is_at};
+ghost use Rattle.kn_table.specs.declared.slot.Slot.{Slot};
+ghost use Rattle.kn_table.specs.Slots.{AreInOrder, IsPlaceOf, IsSlotOf, is_live, is_of_kind, is_placed, live_of};
 
 use kn_record::{Place, Request};
 
@@ -10,14 +14,123 @@ pub struct Slot {
     pub has_ended: bool,
 }
 
-/// Where the first live request stands whose place is looked for, from a place on before which there is none.
-pub fn first_held(slots: &[Slot], from: usize) -> usize {
-    let mut place = from;
-    while place < slots.len() {
-        if !slots[place].has_ended && matches!(slots[place].request.place, Place::Held) {
-            return place;
-        }
-        place += 1;
+impl Slot {
+    /// Whether the request is live, at a place of a kind.
+    pub fn is_placed(&self, kind: PlaceKind) -> bool
+        ensures { result ≡ is_placed (is_of_kind kind) self.now }
+    {
+        !self.has_ended && kind.includes(self.request.place)
     }
-    place
+}
+
+/// The places that are looked for.
+#[derive(Clone, Copy)]
+pub enum PlaceKind {
+    Held,
+    /// Held, or queued at a pod.
+    Waiting,
+    /// Queued or running at this pod.
+    At(u64),
+}
+
+impl PlaceKind {
+    /// Whether a place is of this kind.
+    pub fn includes(self, place: Place) -> bool
+        ensures { result ≡ is_of_kind self place }
+    {
+        match self {
+            PlaceKind::Held => matches!(place, Place::Held),
+            PlaceKind::Waiting => !matches!(place, Place::Running(_, _)),
+            PlaceKind::At(p) => is_at(place, p),
+        }
+    }
+}
+
+fn is_at(place: Place, p: u64) -> bool
+    ensures { result ≡ is_at p place }
+{
+    match place {
+        Place::Held => false,
+        Place::Queued(q) => q == p,
+        Place::Running(q, _) => q == p,
+    }
+}
+
+/// Where a request is that runs from now on, where it was queued.
+pub fn begun(place: Place) -> Place
+    ensures { result ≡ begun place }
+{
+    match place {
+        Place::Held => Place::Held,
+        Place::Queued(p) => Place::Running(p, false),
+        Place::Running(p, assigned) => Place::Running(p, assigned),
+    }
+}
+
+/// Whether a request comes after all slots, by its number and its time.
+pub fn is_after(request: &Request, slots: &[Slot]) -> bool
+    requires { AreInOrder slots.now }
+    ensures above { IsTrue result → All (λ (s : Slot). s.request.number < request.now.number) slots.now }
+    ensures later { IsTrue result → All (λ (s : Slot). s.request.time ≤ request.now.time) slots.now }
+{
+    match slots.last() {
+        Some(slot) => slot.request.number < request.number && slot.request.time <= request.time,
+        None => true,
+    }
+}
+
+/// Where the slot of this number stands, by a binary search.
+fn search(slots: &[Slot], r: u64) -> Option<usize>
+    requires { AreInOrder slots.now }
+    ensures { MatchOption result (All (λ (s : Slot). s.request.number ≢ r) slots.now) (λ place. IsSlotOf r slots.now place) }
+{
+    slots
+        .binary_search_by_key(&r, |slot| slot.request.number)
+        .ok()
+}
+
+/// Where the slot of this number stands. Numbers ascend, so it is no further from the first slot than its number is from the
+/// first number, and just there where no number is missing.
+fn slot_of(slots: &[Slot], r: u64) -> Option<usize>
+    requires { AreInOrder slots.now }
+    ensures { MatchOption result (All (λ (s : Slot). s.request.number ≢ r) slots.now) (λ place. IsSlotOf r slots.now place) }
+{
+    let Some(first) = slots.first() else {
+        return None;
+    };
+    if r < first.request.number {
+        return None;
+    }
+    let most = (r - first.request.number) as usize;
+    if most >= slots.len() {
+        return search(slots, r);
+    }
+    if slots[most].request.number == r {
+        return Some(most);
+    }
+    search(&slots[..most], r)
+}
+
+/// Where the live request of this number stands.
+pub fn place_of(slots: &[Slot], r: u64) -> Option<usize>
+    requires { AreInOrder slots.now }
+    ensures { MatchOption result (find (λ (q : Request). q.number == r) (live_of slots.now) ≡ None) (λ place. IsPlaceOf r slots.now place) }
+{
+    match slot_of(slots, r) {
+        Some(place) => {
+            if slots[place].has_ended {
+                return None;
+            }
+            Some(place)
+        }
+        None => None,
+    }
+}
+
+/// Takes out the slots of requests that have ended.
+pub fn sweep(slots: &mut Vec<Slot>)
+    ensures items { slots.new.items ≡ filter is_live slots.old.items }
+    ensures capacity { vec_capacity slots.new ≡ vec_capacity slots.old }
+{
+    slots.retain(|slot| !slot.has_ended);
 }

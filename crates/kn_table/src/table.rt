@@ -1,4 +1,4 @@
-ghost use Rattle.std.specs.Prelude.{◌≡◌, ◌==◌, ◌+◌, ◌<◌, ◌≤◌, ℕ, Bool, true, false, List, [], ◌∷◌, ◌++◌, All, IfOk, IfSome, filter, find, is_some, length, map};
+ghost use Rattle.std.specs.Prelude.{◌≡◌, ◌==◌, ◌+◌, ◌<◌, ◌≤◌, ℕ, Bool, true, false, List, [], ◌∷◌, ◌++◌, All, IfOk, IfSome, filter, find, is_some, length, nat_le, vec_capacity};
 ghost use Rattle.kn_trace.specs.Events.{live_most};
 ghost use Rattle.kn_trace.specs.Trace.{contains, first_of};
 ghost use Rattle.kn_record.specs.declared.admission.Place.{Place};
@@ -8,32 +8,68 @@ ghost use Rattle.kn_record.specs.Admission.{begins, is_at, is_held_place, moved,
 ghost use Rattle.kn_record.specs.Views.{due_in, numbers_in};
 ghost use Rattle.kn_table.specs.Moves.{Leaves, Moves};
 ghost use Rattle.kn_table.specs.Order.{IsOrdered};
+ghost use Rattle.kn_table.specs.Slots.{AreBefore, AreInOrder, IsNext, live_of};
 
-use crate::slot::Slot;
+use crate::cursors::{Cursors, number_at, request_at};
+use crate::slot::{Slot, begun, is_after, place_of, sweep};
 use kn_event::Memory;
 use kn_record::{Place, Request};
 use std::alloc::Global;
 use std::marker::Model;
 
+/// How many slots there is room for: twice as many as requests may be live.
+const ROOM: usize = 40_000;
+
 /// Live requests in the order of their numbers, at most 20,000 of them. Contracts see the list.
+///
+/// A request that ended leaves its slot with a mark. All these are swept out once no slot is left, which happens after at
+/// least 20,000 ends.
 #[derive(Drop)]
 pub struct Table {
     slots: Vec<Slot>,
     live: u64,
-    held: usize,
-    waiting: usize,
-    pod: u64,
-    from: usize,
+    cursors: Cursors,
 }
 
 impl Model for Table {
-    ghost use Rattle.std.specs.Prelude.{List};
+    ghost use Rattle.std.specs.Prelude.{◌≤◌, List, vec_capacity};
     ghost use Rattle.kn_record.specs.declared.admission.Request.{Request};
-    ghost use Rattle.kn_table.specs.Slots.{live_of};
+    ghost use Rattle.kn_table.specs.Slots.{AreKept, live_of};
 
     ghost Value = { List Request };
 
     ghost view = { λ t. live_of t.slots.items };
+
+    ghost invariant = { λ t. record {
+      kept : AreKept t.slots.items t.live t.cursors;
+      room : 40000 ≤ vec_capacity t.slots;
+    } };
+}
+
+/// Whether so many milliseconds have passed at this time.
+fn is_over(since: u64, timeout_ms: u64, time: u64) -> bool
+    ensures { result ≡ nat_le (since + timeout_ms) time }
+{
+    timeout_ms <= time && since <= time - timeout_ms
+}
+
+/// Sweeps out the requests that have ended where no slot is left, or where one of them isn't before this request.
+fn make_room(slots: &mut Vec<Slot>, cursors: &mut Cursors, request: &Request)
+    requires order { AreInOrder slots.old.items }
+    requires before { AreBefore cursors.old slots.old.items }
+    requires few { length (live_of slots.old.items) < live_most }
+    requires above { All (λ (q : Request). q.number < request.now.number) (live_of slots.old.items) }
+    requires later { All (λ (q : Request). q.time ≤ request.now.time) (live_of slots.old.items) }
+    ensures live { live_of slots.new.items ≡ live_of slots.old.items }
+    ensures next { IsNext request.now slots.new.items }
+    ensures before { AreBefore cursors.new slots.new.items }
+    ensures capacity { vec_capacity slots.new ≡ vec_capacity slots.old }
+{
+    if slots.len() < ROOM && is_after(request, slots) {
+        return;
+    }
+    sweep(slots);
+    *cursors = Cursors::new();
 }
 
 impl Table {
@@ -41,7 +77,14 @@ impl Table {
     pub fn new(alloc: Global) -> Result<Table, Memory>
         ensures { IfOk result (λ table. table ≡ []) }
     {
-        Err(Memory)
+        match Vec::with_capacity(alloc, ROOM) {
+            Ok(slots) => Ok(Table {
+                slots,
+                live: 0,
+                cursors: Cursors::new(),
+            }),
+            Err(_) => Err(Memory),
+        }
     }
 
     /// How many requests are live.
@@ -49,14 +92,14 @@ impl Table {
         ensures len { result ≡ length self.now }
         ensures order { IsOrdered self.now }
     {
-        0
+        self.live
     }
 
     /// Whether none is live.
     pub fn is_empty(&self) -> bool
         ensures { result ≡ (length self.now == 0) }
     {
-        true
+        self.live == 0
     }
 
     /// Takes in one more request, whose number is above all others and whose time is not before theirs.
@@ -66,7 +109,15 @@ impl Table {
         requires later { All (λ (q : Request). q.time ≤ request.time) self.old }
         ensures pushed { self.new ≡ self.old ++ request ∷ [] }
         ensures len { length self.new ≡ length self.old + 1 }
-    {}
+    {
+        make_room(&mut self.slots, &mut self.cursors, &request);
+        self.slots.push_reserved(Slot {
+            request,
+            has_ended: false,
+        });
+        self.live += 1;
+        self.cursors.advance(&self.slots);
+    }
 
     /// The live request of this number.
     pub fn get(&self, r: u64) -> Option<Request>
@@ -75,7 +126,10 @@ impl Table {
         ensures live { contains r (numbers_in self.now) ≡ is_some result }
         ensures place { IfSome result (λ q. (test : Place → Bool) → contains r (placed_in test self.now) ≡ test q.place) }
     {
-        None
+        match place_of(&self.slots, r) {
+            Some(place) => Some(self.slots[place].request),
+            None => None,
+        }
     }
 
     /// Lets a held request run at a pod that it is assigned to.
@@ -84,7 +138,12 @@ impl Table {
         ensures moved { self.new ≡ moved r (place.Running p true) self.old }
         ensures moves { Moves r place.Held (place.Running p true) self.old self.new }
         ensures len { length self.new ≡ length self.old }
-    {}
+    {
+        let place = place_of(&self.slots, r).unwrap();
+        self.slots[place].request.place = Place::Running(p, true);
+        self.cursors.from = 0;
+        self.cursors.advance(&self.slots);
+    }
 
     /// Lets a request run at the pod where it is queued.
     pub fn run(&mut self, r: u64)
@@ -92,7 +151,12 @@ impl Table {
         ensures begun { self.new ≡ begins r self.old }
         ensures moves { (p : ℕ) → contains r (placed_in (queues_at p) self.old) ≡ true → Moves r (place.Queued p) (place.Running p false) self.old self.new }
         ensures len { length self.new ≡ length self.old }
-    {}
+    {
+        let place = place_of(&self.slots, r).unwrap();
+        let slot = &mut self.slots[place];
+        slot.request.place = begun(slot.request.place);
+        self.cursors.advance(&self.slots);
+    }
 
     /// Takes a request out, and answers it.
     pub fn remove(&mut self, r: u64) -> Request
@@ -102,11 +166,13 @@ impl Table {
         ensures leaves { Leaves r result.place self.old self.new }
         ensures len { length self.new + 1 ≡ length self.old }
     {
-        Request {
-            number: 0,
-            time: 0,
-            place: Place::Held,
-        }
+        let place = place_of(&self.slots, r).unwrap();
+        let slot = &mut self.slots[place];
+        slot.has_ended = true;
+        let request = slot.request;
+        self.live -= 1;
+        self.cursors.advance(&self.slots);
+        request
     }
 
     /// As `remove`, for the first request at a pod that loses all of them one after the other: the next call of `first_at` for
@@ -118,11 +184,12 @@ impl Table {
         ensures leaves { Leaves r result.place self.old self.new }
         ensures len { length self.new + 1 ≡ length self.old }
     {
-        Request {
-            number: 0,
-            time: 0,
-            place: Place::Held,
+        let request = self.remove(r);
+        if let Place::Queued(p) | Place::Running(p, _) = request.place {
+            self.cursors.from = self.cursors.first_at(p, &self.slots);
+            self.cursors.pod = p;
         }
+        request
     }
 
     /// The first request that is held.
@@ -130,7 +197,7 @@ impl Table {
         ensures first { result ≡ first_of (placed_in is_held_place self.now) }
         ensures held { IfSome result (λ r. contains r (placed_in is_held_place self.now) ≡ true) }
     {
-        None
+        number_at(&self.slots, self.cursors.held)
     }
 
     /// The first request that waits: held, or queued at a pod.
@@ -138,7 +205,7 @@ impl Table {
         ensures first { result ≡ first_of (filter (λ (q : Request). waits q.place) self.now) }
         ensures live { IfSome result (λ q. contains q.number (numbers_in self.now) ≡ true) }
     {
-        None
+        request_at(&self.slots, self.cursors.waiting)
     }
 
     /// The first request that has waited at least so many milliseconds at this time.
@@ -146,7 +213,15 @@ impl Table {
         ensures first { result ≡ first_of (due_in timeout_ms time self.now) }
         ensures live { IfSome result (λ r. contains r (numbers_in self.now) ≡ true) }
     {
-        None
+        match request_at(&self.slots, self.cursors.waiting) {
+            Some(request) => {
+                if is_over(request.time, timeout_ms, time) {
+                    return Some(request.number);
+                }
+                None
+            }
+            None => None,
+        }
     }
 
     /// The first request that runs or is queued at a pod.
@@ -154,6 +229,7 @@ impl Table {
         ensures first { result ≡ first_of (placed_in (is_at p) self.now) }
         ensures live { IfSome result (λ r. contains r (numbers_in self.now) ≡ true) }
     {
-        None
+        let place = self.cursors.first_at(p, &self.slots);
+        number_at(&self.slots, place)
     }
 }

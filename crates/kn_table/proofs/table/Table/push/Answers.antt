@@ -1,0 +1,17 @@
+use Rattle.std.proofs.Common.{◌<◌, ◌≤◌, ap, arith, length, refl, subst, sym, false}
+use Rattle.kn_trace.specs.Events.{live_most}
+use Rattle.kn_table.proofs.Writes.{kept-push}
+use Rattle.kn_table.proofs.table.Table.push.Goals as goal
+
+pub invariant_of-self : goal.invariant_of-self
+invariant_of-self c =
+    let few = subst (λ l. length l < live_most) (sym c.self.view_is) c.requires.room in
+    let size = c.push_reserved.ensures.capacity in
+    let stays = c.make_room.ensures.capacity in
+    let room = c.self.invariant.room in
+    record {
+      kept = kept-push c.self.inside.slots.items c.make_room.new.slots.items c.push_reserved.new.self.items c.deref.result.now c.self.inside.live (record { request = c.args.request; has_ended = false })
+          c.self.inside.cursors c.make_room.new.cursors c.advance.new.self c.self.invariant.kept few c.make_room.ensures.live c.make_room.ensures.next c.make_room.ensures.before refl c.push_reserved.ensures.items
+          c.deref.ensures.value c.advance.ensures;
+      room = omega (arith, size, stays, room);
+    }

@@ -1,0 +1,78 @@
+//! The first request of a kind, looked for from where the last search ended.
+ghost use Rattle.std.specs.Prelude.{◌≡◌, ◌≤◌, option_map, slice_get};
+ghost use Rattle.kn_record.specs.Admission.{is_at, is_held_place, waits};
+ghost use Rattle.kn_table.specs.declared.slot.Slot.{Slot};
+ghost use Rattle.kn_table.specs.Slots.{first_placed, is_of_kind};
+
+use crate::slot::{PlaceKind, Slot};
+use kn_record::Request;
+
+/// Where the first live request stands whose place is of a kind, at this place or later; the end where there is none.
+pub fn next_placed(kind: PlaceKind, slots: &[Slot], from: usize) -> usize
+    requires { from ≤ first_placed (is_of_kind kind) slots.now }
+    ensures { result ≡ first_placed (is_of_kind kind) slots.now }
+{
+    for place in from..slots.len() {
+        if slots[place].is_placed(kind) {
+            return place;
+        }
+    }
+    slots.len()
+}
+
+/// The request at a place.
+pub fn request_at(slots: &[Slot], place: usize) -> Option<Request>
+    ensures { result ≡ option_map (λ (s : Slot). s.request) (slice_get slots.now place) }
+{
+    slots.get(place).map(|slot| slot.request)
+}
+
+/// The number of the request at a place.
+pub fn number_at(slots: &[Slot], place: usize) -> Option<u64>
+    ensures { result ≡ option_map (λ (s : Slot). s.request.number) (slice_get slots.now place) }
+{
+    slots.get(place).map(|slot| slot.request.number)
+}
+
+/// Where the first request that is held stands and the first that waits, and a place before which no live request is at one
+/// pod.
+#[derive(Drop)]
+pub struct Cursors {
+    pub held: usize,
+    pub waiting: usize,
+    pub pod: u64,
+    pub from: usize,
+}
+
+impl Cursors {
+    /// At the first slot.
+    pub fn new() -> Cursors
+        ensures { result ≡ record { held = 0; waiting = 0; pod = 0; from = 0 } }
+    {
+        Cursors {
+            held: 0,
+            waiting: 0,
+            pod: 0,
+            from: 0,
+        }
+    }
+
+    /// Moves both on to the first of its kind.
+    pub fn advance(&mut self, slots: &[Slot])
+        requires held { self.old.held ≤ first_placed is_held_place slots.now }
+        requires waiting { self.old.waiting ≤ first_placed waits slots.now }
+        ensures { self.new ≡ record self.old { held = first_placed is_held_place slots.now; waiting = first_placed waits slots.now } }
+    {
+        self.held = next_placed(PlaceKind::Held, slots, self.held);
+        self.waiting = next_placed(PlaceKind::Waiting, slots, self.waiting);
+    }
+
+    /// Where the first live request at a pod stands; the end where there is none.
+    pub fn first_at(&self, p: u64, slots: &[Slot]) -> usize
+        requires { self.now.from ≤ first_placed (is_at self.now.pod) slots.now }
+        ensures { result ≡ first_placed (is_at p) slots.now }
+    {
+        let from = if p == self.pod { self.from } else { 0 };
+        next_placed(PlaceKind::At(p), slots, from)
+    }
+}
