@@ -5,5 +5,6 @@
 
 mod admission;
 pub mod append;
+pub mod seating;
 
 pub use admission::{Place, Pod, Readiness, Request};

@@ -1,9 +1,11 @@
 -- What answers say of the record and of the row that they stand for.
-use Rattle.std.proofs.Common.{◌≡◌, ℕ, ◌<◌, Bool, true, false, cond, ◌||◌, List, [], ◌∷◌, length, get_or, map, refl, sym, ap, ◌∙◌, arith}
+use Rattle.std.proofs.Common.{◌≡◌, ℕ, ◌<◌, Bool, true, false, cond, ◌||◌, List, [], ◌∷◌, ◌++◌, length, get_or, map, reverse, refl, sym, ap, ◌∙◌, arith}
 use Rattle.std.specs.Prelude.{Some, ◌==◌}
 use Rattle.std.specs.Bool.{OnFalse, OnTrue}
 use Rattle.std.specs.List.{All, filter}
 use Rattle.std.proofs.lemmas.Bool.{eq-eqb}
+use Rattle.std.proofs.lemmas.List.{reverse-append}
+use Rattle.std.proofs.lemmas.List.Folds.{list_any-append}
 use Rattle.std.proofs.lemmas.List.Elements.{All-cons, All-head, All-nil, All-tail, filter_agree}
 use Rattle.kn_event.specs.declared.entry.Mode.{Mode}
 use Rattle.kn_event.specs.declared.event.Act.TheVariants as act
@@ -102,3 +104,35 @@ unfolding lost_with
 lost-placed c p live rise lives at_p =
     rw lives (filter_agree (λ r. contains r (at_pod c p)) (λ r. contains r (placed_in (is_at p) live)) at_p (numbers_in live))
     ∙ filter_each (λ r. contains r (placed_in (is_at p) live)) (is_at p) live (each-placed (is_at p) live rise)
+
+-- who passes a test of places is live
+pub placed_live : (r : ℕ) (test : Place → Bool) (live : List Request) → contains r (placed_in test live) ≡ true → contains r (numbers_in live) ≡ true
+placed_live r test live h = by (contains r (numbers_in live)) refl
+  where
+    by : (b : Bool) → contains r (numbers_in live) ≡ b → contains r (numbers_in live) ≡ true
+    by true e = e
+    by false e = absurd (let no : contains r (placed_in test live) ≡ false = not_placed r test live e in cc)
+
+-- who is Starting or Ready may drain
+contains-reverse : (p : ℕ) (xs : List ℕ) → contains p xs ≡ true → contains p (reverse xs) ≡ true
+contains-reverse p [] h = absurd (cc)
+contains-reverse p (x ∷ xs) h = rw (reverse-append (x ∷ []) xs, list_any-append (λ y. y == p) (reverse xs) (x ∷ [])) (by (x == p) h (λ e. contains-reverse p xs e))
+  where
+    or_true : (b : Bool) → (b || true) ≡ true
+    or_true true = refl
+    or_true false = refl
+
+    by : (m : Bool) → (m || contains p xs) ≡ true → (contains p xs ≡ true → contains p (reverse xs) ≡ true) → (contains p (reverse xs) || (m || false)) ≡ true
+    by true h rest = or_true (contains p (reverse xs))
+    by false h rest = rw (rest h) refl
+
+pub drain_member : (p : ℕ) (xs ys : List ℕ) → (contains p xs || contains p ys) ≡ true → contains p (reverse xs ++ reverse ys) ≡ true
+drain_member p xs ys h = rw (list_any-append (λ y. y == p) (reverse xs) (reverse ys)) (by (contains p xs) refl h)
+  where
+    more : (b : Bool) → (b || true) ≡ true
+    more true = refl
+    more false = refl
+
+    by : (b : Bool) → contains p xs ≡ b → (b || contains p ys) ≡ true → (contains p (reverse xs) || contains p (reverse ys)) ≡ true
+    by true e h = rw (contains-reverse p xs e) refl
+    by false e h = rw (contains-reverse p ys h) (more (contains p (reverse xs)))

@@ -5,3 +5,7 @@ pub mod Once
 pub mod Ended
 pub mod Answering
 pub mod Arriving
+pub mod Living
+pub mod Coming
+pub mod Dispatching
+pub mod Walking

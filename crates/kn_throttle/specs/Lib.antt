@@ -5,3 +5,4 @@ pub mod State
 pub mod Kept
 pub mod Rows
 pub mod Breaker
+pub mod Settling

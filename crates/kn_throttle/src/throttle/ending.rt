@@ -80,7 +80,7 @@ impl Throttle {
     }
 
     /// Ends a live request.
-    fn end(&mut self, r: u64)
+    pub(super) fn end(&mut self, r: u64)
         requires { contains r (numbers_in self.old.admission.live) ≡ true }
         ensures { self.new ≡ record self.old { admission = record self.old.admission { live = without r self.old.admission.live } } }
     {

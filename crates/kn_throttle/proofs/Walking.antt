@@ -1,0 +1,250 @@
+-- What settling finds next, and the rows that it makes of it.
+use Rattle.std.proofs.Common.{◌≡◌, ℕ, zero, suc, ◌+◌, ◌<◌, ◌≤◌, Bool, true, false, not, cond, ◌&&◌, ◌||◌, ◌⊎◌, inl, inr, List, [], ◌∷◌, ◌++◌, length, get_or, map, take, drop, nat_lt, refl, sym, ap, subst, ◌∙◌, arith, append_assoc}
+use Rattle.std.specs.Prelude.{Option, None, Some, ◌==◌, if◌then◌else◌}
+use Rattle.std.specs.List.{All, filter, list_any}
+use Rattle.std.proofs.lemmas.Bool.{eqb-true, eq-eqb}
+use Rattle.std.proofs.lemmas.List.Elements.{All-cons, All-head, All-nil, All-tail}
+use Rattle.kn_event.specs.declared.entry.Entry.{Entry}
+use Rattle.kn_event.specs.declared.entry.Row.TheVariants as row
+use Rattle.kn_event.specs.declared.revision.Spec.{Spec}
+use Rattle.kn_trace.specs.declared.candidate.Cand.{Cand}
+use Rattle.kn_trace.specs.Trace.{Trace, contains, entry, first_of, is_empty}
+use Rattle.kn_trace.specs.Choice.{chosen_pod, has_seat}
+use Rattle.kn_trace.specs.Settling.{promotions}
+use Rattle.kn_breaker.specs.Breaker as breaker
+use Rattle.kn_seats.specs.Seats as seats
+use Rattle.kn_seats.specs.Pods.{has_free_seat, pod_at, requests_at_all}
+use Rattle.kn_policy.specs.Policy as policy
+use Rattle.kn_record.specs.declared.admission.Place.TheVariants as place
+use Rattle.kn_record.specs.declared.admission.Request.{Request}
+use Rattle.kn_record.specs.declared.admission.Pod.{Pod}
+use Rattle.kn_record.specs.Admission.{Admission, begins, candidate_of, candidates_in, capacity_in, is_assigned_place, is_at, is_draining_now, is_held_place, is_ready_now, next_in, placed_in, pods_in, queues_at, runs_at, stepped}
+use Rattle.kn_record.specs.Made.{StandsFor}
+use Rattle.kn_record.specs.Views.{has_free_seat_in, is_free, is_pod_where, pod_numbered, pod_numbers}
+use Rattle.kn_record.specs.Walks.{BeginsWith, leaving_in, promoting}
+use Rattle.kn_table.specs.Moves.{Moves}
+use Rattle.kn_throttle.specs.declared.touched.Touched.{Touched}
+use Rattle.kn_throttle.specs.declared.touched.Touched.TheVariants.{Nowhere, At, Anywhere}
+use Rattle.kn_throttle.specs.Touched.{Covers, is_touched}
+use Rattle.kn_throttle.specs.Pods.{AreAscending, pods_where}
+use Rattle.kn_throttle.specs.Kept.{IsKept, can_leave, can_run, seat_of, seats_in}
+use Rattle.kn_throttle.proofs.Places.{above_first, not_named, rest_ascends}
+use Rattle.kn_throttle.proofs.Same.{at-parts, eq-sym}
+use Rattle.kn_throttle.proofs.Parts.{pod_of}
+use Rattle.kn_throttle.proofs.Living.{but}
+use Rattle.kn_throttle.proofs.Coming.{empty_from}
+use Rattle.kn_throttle.proofs.Dispatching.{FoundFirst, less_begun}
+
+-- ---- the first pod that passes
+
+-- no pod passes
+pub none_where : (test : Pod → Bool) (all : List Pod) → first_of (pods_where test all) ≡ None → All (λ (q : Pod). test q ≡ false) all
+none_where test [] f = All-nil (λ (q : Pod). test q ≡ false)
+none_where test (q ∷ all) f = by (test q) refl f (λ e. none_where test all e)
+  where
+    by : (b : Bool) → test q ≡ b → first_of (map (λ (q : Pod). q.number) (cond b (q ∷ filter test all) (filter test all))) ≡ None → (first_of (pods_where test all) ≡ None → All (λ (q : Pod). test q ≡ false) all) → All (λ (q : Pod). test q ≡ false) (q ∷ all)
+    by true e f rest = absurd (cc)
+    by false e f rest = All-cons (λ (q : Pod). test q ≡ false) q all e (rest f)
+
+pub where_none : (test : Pod → Bool) (all : List Pod) → All (λ (q : Pod). test q ≡ false) all → pods_where test all ≡ []
+where_none test [] h = refl
+where_none test (q ∷ all) h =
+    rw (All-head (λ (q : Pod). test q ≡ false) q all h) (where_none test all (All-tail (λ (q : Pod). test q ≡ false) q all h))
+
+-- then nothing need be touched
+pub covers_nowhere : (test : Pod → Bool) (all : List Pod) → first_of (pods_where test all) ≡ None → Covers test all Nowhere
+covers_nowhere test all f = record { others = λ k d h u. none_where test all f k d h; named = tt }
+
+pub nowhere_none : (test : Pod → Bool) (all : List Pod) → Covers test all Nowhere → None ≡ first_of (pods_where test all)
+nowhere_none test all c = rw (where_none test all (λ k d h. c.others k d h refl)) refl
+
+-- where one pod alone may pass
+pub at_one : (test : Pod → Bool) (all : List Pod) (p : ℕ) (b : Bool) → AreAscending all → Covers test all (At p) → is_pod_where test (pod_numbered p all) ≡ b → (if b then Some p else None) ≡ first_of (pods_where test all)
+at_one test all p b rise c h = one all rise c.others c.named h
+  where
+    one : (all : List Pod) → AreAscending all → All (λ (q : Pod). (p == q.number) ≡ false → test q ≡ false) all → contains p (pod_numbers all) ≡ true → is_pod_where test (pod_numbered p all) ≡ b → (if b then Some p else None) ≡ first_of (pods_where test all)
+    one [] rise others named h = absurd (cc)
+    one (q ∷ all) rise others named h =
+        by (q.number == p) refl named h (λ e f. one all (rest_ascends (λ (q : Pod). q.number) q all rise) (All-tail (λ (q : Pod). (p == q.number) ≡ false → test q ≡ false) q all others) e f)
+      where
+        here : (p == q.number) ≡ false → test q ≡ false
+        here = All-head (λ (q : Pod). (p == q.number) ≡ false → test q ≡ false) q all others
+
+        rest_none : q.number ≡ p → pods_where test all ≡ []
+        rest_none same = where_none test all (λ k d h.
+            let above = above_first (λ (q : Pod). q.number) q all rise k d h in
+            All-tail (λ (q : Pod). (p == q.number) ≡ false → test q ≡ false) q all others k d h (not_named p (get_or all k d).number (λ e. absurd (omega arith))))
+
+        passes : (c : Bool) → test q ≡ c → c ≡ b → q.number ≡ p → (if b then Some p else None) ≡ first_of (map (λ (q : Pod). q.number) (cond c (q ∷ filter test all) (filter test all)))
+        passes true e f same = rw (← f, same) refl
+        passes false e f same = rw (← f, rest_none same) refl
+
+        by : (m : Bool) → (q.number == p) ≡ m → (m || contains p (pod_numbers all)) ≡ true → is_pod_where test (if m then Some q else pod_numbered p all) ≡ b
+            → (contains p (pod_numbers all) ≡ true → is_pod_where test (pod_numbered p all) ≡ b → (if b then Some p else None) ≡ first_of (pods_where test all)) → (if b then Some p else None) ≡ first_of (pods_where test (q ∷ all))
+        by true e n f rest = passes (test q) refl f (eqb-true q.number p e)
+        by false e n f rest = rw (here (eq-sym p q.number ∙ e)) (rest n f)
+
+-- ---- each pod is the one of its number
+
+pub each_found : (all : List Pod) → AreAscending all → All (λ (q : Pod). pod_numbered q.number all ≡ Some q) all
+each_found [] rise = All-nil (λ (q : Pod). pod_numbered q.number [] ≡ Some q)
+each_found (q ∷ all) rise =
+    All-cons (λ (x : Pod). pod_numbered x.number (q ∷ all) ≡ Some x) q all (rw (eq-eqb q.number q.number refl) refl)
+    (λ k d h. let above = above_first (λ (q : Pod). q.number) q all rise k d h in
+        let other : (q.number == (get_or all k d).number) ≡ false = not_named q.number (get_or all k d).number (λ e. absurd (omega arith)) in
+        rw other (each_found all (rest_ascends (λ (q : Pod). q.number) q all rise) k d h))
+
+pub found_there : (p : ℕ) (all : List Pod) (q : Pod) → pod_numbered p all ≡ Some q → contains p (pod_numbers all) ≡ true
+found_there p [] q f = absurd (cc)
+found_there p (x ∷ all) q f = by (x.number == p) f (λ e. found_there p all q e)
+  where
+    by : (b : Bool) → (if b then Some x else pod_numbered p all) ≡ Some q → (pod_numbered p all ≡ Some q → contains p (pod_numbers all) ≡ true) → (b || contains p (pod_numbers all)) ≡ true
+    by true f rest = refl
+    by false f rest = rest f
+
+-- ---- the seats say what a pod may do
+
+pub run-seat : (s : Spec) (a : Admission) (b : breaker.State) (t : seats.State) (k : List Cand) (p : policy.State) (run leave : Touched) (n : ℕ) → IsKept s a b t k p run leave → contains n (pod_numbers a.pods) ≡ true
+    → is_pod_where (can_run a.live) (pod_numbered n a.pods) ≡ (has_free_seat (pod_at n t.pods) && not (is_empty (pod_at n t.pods).queued))
+run-seat s a b t k p run leave n h there =
+    let pod = pod_of a.live n a.pods there in
+    rw (h.seats, pod.seat, pod.found) refl
+
+pub idle-seat : (s : Spec) (a : Admission) (b : breaker.State) (t : seats.State) (k : List Cand) (p : policy.State) (run leave : Touched) (n : ℕ) → IsKept s a b t k p run leave → contains n (pod_numbers a.pods) ≡ true
+    → (pod_at n t.pods).running + length (pod_at n t.pods).queued ≡ length (placed_in (is_at n) a.live)
+idle-seat s a b t k p run leave n h there =
+    let pod = pod_of a.live n a.pods there in
+    let parts = at-parts pod.pod.number a.live in
+    rw (h.seats, pod.seat, ← pod.number) (sym parts)
+
+-- ---- runs
+
+-- p's run comes first, for the pods before it have none, and get none
+pub walk_run : ((s : Spec) (a : Admission) (c : Trace) (t p : ℕ) (ps : List ℕ) (r : ℕ) → StandsFor a c → first_of (placed_in (queues_at p) a.live) ≡ Some r → has_free_seat_in a p ≡ true → BeginsWith (promoting t (p ∷ ps)) t (row.Run r) a c)
+    → ((s : Spec) (a : Admission) (c : Trace) (t p : ℕ) (ps : List ℕ) → StandsFor a c → contains p (pod_numbers a.pods) ≡ true → (first_of (placed_in (queues_at p) a.live) ≡ None) ⊎ (has_free_seat_in a p ≡ false) → promoting t (p ∷ ps) c ≡ promoting t ps c)
+    → (s : Spec) (a : Admission) (c : Trace) (t p r : ℕ) (all : List Pod) → StandsFor a c → All (λ (q : Pod). pod_numbered q.number a.pods ≡ Some q) all → Moves r (place.Queued p) (place.Running p false) a.live (begins r a.live)
+    → first_of (pods_where (can_run a.live) all) ≡ Some p → first_of (placed_in (queues_at p) a.live) ≡ Some r → BeginsWith (promoting t (pod_numbers all)) t (row.Run r) a c
+unfolding stepped
+walk_run promote promoted s a c t p r [] h each m f g = absurd (cc)
+walk_run promote promoted s a c t p r (q ∷ all) h each m f g =
+    by (can_run a.live q) refl f (λ e. walk_run promote promoted s a c t p r all h (All-tail (λ (q : Pod). pod_numbered q.number a.pods ≡ Some q) q all each) m e g)
+  where
+    found : pod_numbered q.number a.pods ≡ Some q
+    found = All-head (λ (q : Pod). pod_numbered q.number a.pods ≡ Some q) q all each
+
+    there : contains q.number (pod_numbers a.pods) ≡ true
+    there = found_there q.number a.pods q found
+
+    free_part : (x y : Bool) → (x && y) ≡ true → x ≡ true
+    free_part true y h = refl
+    free_part false y h = absurd (cc)
+
+    over : (live : List Request) → can_run live q ≡ false → (first_of (placed_in (queues_at q.number) live) ≡ None) ⊎ (is_free live q ≡ false)
+    over live f = split (is_free live q) (placed_in (queues_at q.number) live) f
+      where
+        split : (b : Bool) (xs : List ℕ) → (b && not (is_empty xs)) ≡ false → (first_of xs ≡ None) ⊎ (b ≡ false)
+        split false xs f = inr refl
+        split true [] f = inl refl
+        split true (x ∷ xs) f = absurd (cc)
+
+    over_in : (live : List Request) → can_run live q ≡ false → (first_of (placed_in (queues_at q.number) live) ≡ None) ⊎ (has_free_seat_in (record a { live = live }) q.number ≡ false)
+    over_in live f = split (over live f)
+      where
+        split : (first_of (placed_in (queues_at q.number) live) ≡ None) ⊎ (is_free live q ≡ false) → (first_of (placed_in (queues_at q.number) live) ≡ None) ⊎ (has_free_seat_in (record a { live = live }) q.number ≡ false)
+        split (inl e) = inl e
+        split (inr e) = inr (rw found e)
+
+    by : (b : Bool) → can_run a.live q ≡ b → first_of (map (λ (q : Pod). q.number) (cond b (q ∷ filter (can_run a.live) all) (filter (can_run a.live) all))) ≡ Some p
+        → (first_of (pods_where (can_run a.live) all) ≡ Some p → BeginsWith (promoting t (pod_numbers all)) t (row.Run r) a c) → BeginsWith (promoting t (q.number ∷ pod_numbers all)) t (row.Run r) a c
+    by true e f rest =
+        let same : q.number ≡ p = cc in
+        let free : is_free a.live q ≡ true = free_part (is_free a.live q) _ e in
+        promote s a c t q.number (pod_numbers all) r h (rw same g) (rw found free)
+    by false e f rest =
+        let more = rest f in
+        (promoted s a c t q.number (pod_numbers all) h there (over_in a.live e) ∙ more.0
+        ∙ ap (λ (l : List Entry). entry t (row.Run r) ∷ l) (sym (promoted s (record a { live = begins r a.live }) (c ++ entry t (row.Run r) ∷ []) t q.number (pod_numbers all) more.1 there (over_in (begins r a.live) (less_begun r p a.live (begins r a.live) m q e)))), more.1)
+
+-- no pod has one
+pub walk_none : ((s : Spec) (a : Admission) (c : Trace) (t p : ℕ) (ps : List ℕ) → StandsFor a c → contains p (pod_numbers a.pods) ≡ true → (first_of (placed_in (queues_at p) a.live) ≡ None) ⊎ (has_free_seat_in a p ≡ false) → promoting t (p ∷ ps) c ≡ promoting t ps c)
+    → (s : Spec) (a : Admission) (c : Trace) (t : ℕ) (all : List Pod) → StandsFor a c → All (λ (q : Pod). pod_numbered q.number a.pods ≡ Some q) all → All (λ (q : Pod). can_run a.live q ≡ false) all → promoting t (pod_numbers all) c ≡ []
+unfolding promoting promotions
+walk_none promoted s a c t [] h each none = refl
+walk_none promoted s a c t (q ∷ all) h each none =
+    let found = All-head (λ (q : Pod). pod_numbered q.number a.pods ≡ Some q) q all each in
+    promoted s a c t q.number (pod_numbers all) h (found_there q.number a.pods q found) (by (is_free a.live q) refl (placed_in (queues_at q.number) a.live) refl (All-head (λ (q : Pod). can_run a.live q ≡ false) q all none) found)
+    ∙ walk_none promoted s a c t all h (All-tail (λ (q : Pod). pod_numbered q.number a.pods ≡ Some q) q all each) (All-tail (λ (q : Pod). can_run a.live q ≡ false) q all none)
+  where
+    by : (b : Bool) → is_free a.live q ≡ b → (xs : List ℕ) → placed_in (queues_at q.number) a.live ≡ xs → (b && not (is_empty xs)) ≡ false → pod_numbered q.number a.pods ≡ Some q → (first_of xs ≡ None) ⊎ (has_free_seat_in a q.number ≡ false)
+    by false e xs g f found = inr (rw found e)
+    by true e [] g f found = inl refl
+    by true e (x ∷ xs) g f found = absurd (cc)
+
+-- ---- assignments
+
+-- the candidates with a seat are the Ready pods with one
+pub seats-where : (live : List Request) (all : List Pod) → map (λ (k : Cand). k.pod) (filter has_seat (candidates_in live all)) ≡ pods_where (λ q. is_ready_now q.readiness && is_free live q) all
+unfolding candidates_in
+seats-where live [] = refl
+seats-where live (q ∷ all) = by (is_ready_now q.readiness) (is_free live q) refl (seats-where live all)
+  where
+    ready : List Pod
+    ready = filter (λ (q : Pod). is_ready_now q.readiness) all
+
+    by : (b f : Bool) → is_free live q ≡ f → map (λ (k : Cand). k.pod) (filter has_seat (map (candidate_of live) ready)) ≡ pods_where (λ q. is_ready_now q.readiness && is_free live q) all
+        → map (λ (k : Cand). k.pod) (filter has_seat (map (candidate_of live) (cond b (q ∷ ready) ready)))
+        ≡ map (λ (q : Pod). q.number) (cond (b && f) (q ∷ filter (λ q. is_ready_now q.readiness && is_free live q) all) (filter (λ q. is_ready_now q.readiness && is_free live q) all))
+    by true true e rest = rw (e, rest) refl
+    by true false e rest = rw e rest
+    by false f e rest = rest
+
+pub both_parts : (x y : Bool) → (x && y) ≡ true → (x ≡ true) × (y ≡ true)
+both_parts true true h = (refl, refl)
+both_parts true false h = absurd (cc)
+both_parts false y h = absurd (cc)
+
+-- ---- removals
+
+pub leaving-where : (a : Admission) → leaving_in a ≡ pods_where (can_leave a.live) a.pods
+leaving-where a = each a.pods
+  where
+    each : (all : List Pod) → filter (λ p. is_empty (placed_in (is_at p) a.live)) (pods_in is_draining_now all) ≡ pods_where (can_leave a.live) all
+    each [] = refl
+    each (q ∷ all) = by (is_draining_now q.readiness) (is_empty (placed_in (is_at q.number) a.live)) refl (each all)
+      where
+        by : (b e : Bool) → is_empty (placed_in (is_at q.number) a.live) ≡ e → filter (λ p. is_empty (placed_in (is_at p) a.live)) (pods_in is_draining_now all) ≡ pods_where (can_leave a.live) all
+            → filter (λ p. is_empty (placed_in (is_at p) a.live)) (map (λ (q : Pod). q.number) (cond b (q ∷ filter (λ (q : Pod). is_draining_now q.readiness) all) (filter (λ (q : Pod). is_draining_now q.readiness) all)))
+            ≡ map (λ (q : Pod). q.number) (cond (b && e) (q ∷ filter (can_leave a.live) all) (filter (can_leave a.live) all))
+        by true true f rest = rw (f, rest) refl
+        by true false f rest = rw f rest
+        by false e f rest = rest
+
+pub nothing_at : (xs : List ℕ) → is_empty xs ≡ true → xs ≡ []
+nothing_at [] h = refl
+nothing_at (x ∷ xs) h = absurd (cc)
+
+-- one pod goes
+pub one_gone : (p : ℕ) (all : List Pod) → AreAscending all → contains p (pod_numbers all) ≡ true → length (but p all) + 1 ≡ length all
+one_gone p [] rise h = absurd (cc)
+one_gone p (q ∷ all) rise h = rw (eq-sym p q.number) (by (q.number == p) refl h (λ e. one_gone p all (rest_ascends (λ (q : Pod). q.number) q all rise) e))
+  where
+    none_go : (all : List Pod) → All (λ (x : Pod). p < x.number) all → length (but p all) ≡ length all
+    none_go [] h = refl
+    none_go (x ∷ all) h =
+        let above : p < x.number = All-head (λ (x : Pod). p < x.number) x all h in
+        let other : (p == x.number) ≡ false = not_named p x.number (λ e. absurd (omega arith)) in
+        let rest = none_go all (All-tail (λ (x : Pod). p < x.number) x all h) in
+        rw other (omega arith)
+
+    by : (b : Bool) → (q.number == p) ≡ b → (b || contains p (pod_numbers all)) ≡ true → (contains p (pod_numbers all) ≡ true → length (but p all) + 1 ≡ length all) → length (cond (not b) (q ∷ but p all) (but p all)) + 1 ≡ length (q ∷ all)
+    by true e h rest =
+        let same : q.number ≡ p = eqb-true q.number p e in
+        let higher : All (λ (x : Pod). p < x.number) all = λ k d h. (let above = above_first (λ (q : Pod). q.number) q all rise k d h in omega arith) in
+        let none = none_go all higher in
+        omega arith
+    by false e h rest = let more = rest h in omega arith
+
+-- ---- the whole of it
+
+pub settled_logged : (old ran gave gone one two new : List Entry) → one ≡ old ++ ran → two ≡ one ++ gave → new ≡ two ++ gone → new ≡ old ++ ((ran ++ gave) ++ gone)
+settled_logged old ran gave gone one two new e f g = g ∙ ap (λ (l : List Entry). l ++ gone) (f ∙ ap (λ (l : List Entry). l ++ gave) e) ∙ simp append_assoc
