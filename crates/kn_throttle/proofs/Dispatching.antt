@@ -190,7 +190,8 @@ kept_begun s a b t u k l p run leave r n new h order len m first e count f =
     here q is =
         let named : (n == q.number) ≡ true = eq-eqb n q.number (sym is) in
         let count : length (placed_in (queues_at q.number) new) + 1 ≡ length (placed_in (queues_at q.number) a.live) + 0 = rw named at (m.counts (queues_at q.number)) in
-        let less : length (others r (placed_in (queues_at q.number) a.live)) + 1 ≡ length (placed_in (queues_at q.number) a.live) = rw (m.left (queues_at q.number) refl) at (omega arith) in
+        let gone : length (others r (placed_in (queues_at q.number) a.live)) + 1 ≡ length (placed_in (queues_at q.number) a.live) + 0 = rw (m.left (queues_at q.number) refl) at count in
+        let less : length (others r (placed_in (queues_at q.number) a.live)) + 1 ≡ length (placed_in (queues_at q.number) a.live) = omega arith in
         let once = first_once r (placed_in (queues_at q.number) a.live) (rw is first) less in
         rw (more q is, m.left (queues_at q.number) refl, once) refl
 

@@ -1,6 +1,6 @@
 -- Lists of what has a number, in ascending order: a number is looked up, and what has it is changed.
-use Rattle.std.proofs.Common.{◌≡◌, ℕ, zero, suc, ◌<◌, ◌≤◌, Bool, true, false, not, cond, ◌&&◌, ◌||◌, List, [], ◌∷◌, set, get_or, length, map, refl, sym, ap, ◌∙◌, arith, nat_eq, Option, Some, None, Result, Ok, Err, IfSome, IfNone}
-use Rattle.std.specs.List.{All, AllPairs, HoldsAt, list_any, position, position_or_len}
+use Rattle.std.proofs.Common.{◌≡◌, ℕ, zero, suc, ◌<◌, ◌≤◌, Bool, true, false, not, cond, List, [], ◌∷◌, set, get_or, length, map, refl, sym, ap, ◌∙◌, arith, nat_eq, Option, Some, None, Result, Ok, Err, IfSome, IfNone}
+use Rattle.std.specs.List.{All, AllPairs, HoldsAt, find, position, position_or_len}
 use Rattle.std.specs.List.Sorted.{IsSearchInRange, IsBinarySearchResult, IsNonDecreasingBy}
 use Rattle.std.specs.Option.{unwrap_or}
 use Rattle.std.specs.Ordering.{nat_cmp, ordering_index}
@@ -82,26 +82,17 @@ module _ {X : Type 0} (number : X → ℕ) where
       let after : (k : ℕ) → at ≤ k → k < length xs → p < number (get_or xs k e) = λ k le lt. ranked _ p _ (sym (parts.1 k e le lt)) in
       absurd (grind (arith, before k, after k, same, within))
 
-  -- whether what has the number passes a test
-  abbrev pub passes_at : ℕ → (X → Bool) → List X → Bool
-  passes_at p test xs = list_any (λ x. nat_eq (number x) p && test x) xs
-
-  pub passes_none : (p : ℕ) (test : X → Bool) (xs : List X) → HasNone p xs → passes_at p test xs ≡ false
-  passes_none p test [] none = refl
-  passes_none p test (x ∷ xs) none =
+  pub found-none : (p : ℕ) (xs : List X) → HasNone p xs → find (λ x. nat_eq (number x) p) xs ≡ None
+  found-none p [] none = refl
+  found-none p (x ∷ xs) none =
       let other : nat_eq (number x) p ≡ false = not_named (number x) p (none 0 x (omega arith)) in
-      rw other (passes_none p test xs (none_rest p x xs none))
+      rw other (found-none p xs (none_rest p x xs none))
 
-  pub passes-at : (p : ℕ) (test : X → Bool) (xs : List X) (i : ℕ) (d : X) → Ascends xs → i < length xs → number (get_or xs i d) ≡ p → passes_at p test xs ≡ test (get_or xs i d)
-  passes-at p test [] i d rise inside same = absurd (omega arith)
-  passes-at p test (x ∷ xs) zero d rise inside same =
-      rw (is_named (number x) p same, passes_none p test xs (none_after p x xs rise same)) (or_false (test x))
-    where
-      or_false : (b : Bool) → (b || false) ≡ b
-      or_false true = refl
-      or_false false = refl
-  passes-at p test (x ∷ xs) (suc i) d rise inside same =
+  pub found-at : (p : ℕ) (xs : List X) (i : ℕ) (d : X) → Ascends xs → i < length xs → number (get_or xs i d) ≡ p → find (λ x. nat_eq (number x) p) xs ≡ Some (get_or xs i d)
+  found-at p [] i d rise inside same = absurd (omega arith)
+  found-at p (x ∷ xs) zero d rise inside same = rw (is_named (number x) p same) refl
+  found-at p (x ∷ xs) (suc i) d rise inside same =
       let within : i < length xs = omega arith in
       let below = above_first x xs rise i d within in
       let other : nat_eq (number x) p ≡ false = not_named (number x) p (λ e. absurd (omega (arith, below, same, e))) in
-      rw other (passes-at p test xs i d (rest_ascends x xs rise) within same)
+      rw other (found-at p xs i d (rest_ascends x xs rise) within same)

@@ -1,7 +1,8 @@
 -- What settling finds next, and the rows that it makes of it.
-use Rattle.std.proofs.Common.{◌≡◌, ℕ, zero, suc, ◌+◌, ◌<◌, ◌≤◌, Bool, true, false, not, cond, ◌&&◌, ◌||◌, ◌⊎◌, inl, inr, List, [], ◌∷◌, ◌++◌, length, get_or, map, take, drop, nat_lt, refl, sym, ap, subst, ◌∙◌, arith, append_assoc}
+use Rattle.std.proofs.Common.{◌≡◌, ℕ, zero, suc, ◌+◌, ◌<◌, ◌≤◌, Bool, true, false, not, cond, ◌&&◌, ◌||◌, ◌⊎◌, inl, inr, List, [], ◌∷◌, ◌++◌, length, get_or, map, take, drop, nat_lt, ◌*◌, refl, sym, ap, subst, ◌∙◌, arith, append_assoc, add-one, drop-cons}
 use Rattle.std.specs.Prelude.{Option, None, Some, ◌==◌, if◌then◌else◌}
-use Rattle.std.specs.List.{All, filter, list_any}
+use Rattle.std.specs.List.{All, filter, list_any, position_or_len}
+use Rattle.std.proofs.lemmas.Bool.Decides.{nat_tests}
 use Rattle.std.proofs.lemmas.Bool.{eqb-true, eq-eqb}
 use Rattle.std.proofs.lemmas.List.Elements.{All-cons, All-head, All-nil, All-tail}
 use Rattle.kn_event.specs.declared.entry.Entry.{Entry}
@@ -9,16 +10,17 @@ use Rattle.kn_event.specs.declared.entry.Row.TheVariants as row
 use Rattle.kn_event.specs.declared.revision.Spec.{Spec}
 use Rattle.kn_trace.specs.declared.candidate.Cand.{Cand}
 use Rattle.kn_trace.specs.Trace.{Trace, contains, entry, first_of, is_empty}
-use Rattle.kn_trace.specs.Choice.{chosen_pod, has_seat}
+use Rattle.kn_trace.specs.Choice.{chosen_pod, generator_at, has_seat}
 use Rattle.kn_trace.specs.Settling.{promotions}
 use Rattle.kn_breaker.specs.Breaker as breaker
 use Rattle.kn_seats.specs.Seats as seats
 use Rattle.kn_seats.specs.Pods.{has_free_seat, pod_at, requests_at_all}
 use Rattle.kn_policy.specs.Policy as policy
+use Rattle.kn_policy.specs.Policy.{place_past, policy_at}
 use Rattle.kn_record.specs.declared.admission.Place.TheVariants as place
 use Rattle.kn_record.specs.declared.admission.Request.{Request}
 use Rattle.kn_record.specs.declared.admission.Pod.{Pod}
-use Rattle.kn_record.specs.Admission.{Admission, begins, candidate_of, candidates_in, capacity_in, is_assigned_place, is_at, is_draining_now, is_held_place, is_ready_now, next_in, placed_in, pods_in, queues_at, runs_at, stepped}
+use Rattle.kn_record.specs.Admission.{Admission, begins, candidate_of, candidates_in, capacity_in, is_assigned_place, is_at, is_draining_now, is_held_place, is_ready_now, next_in, placed_in, pods_in, queues_at, runs_at, stepped, waits}
 use Rattle.kn_record.specs.Made.{StandsFor}
 use Rattle.kn_record.specs.Views.{has_free_seat_in, is_free, is_pod_where, pod_numbered, pod_numbers}
 use Rattle.kn_record.specs.Walks.{BeginsWith, leaving_in, promoting}
@@ -27,13 +29,24 @@ use Rattle.kn_throttle.specs.declared.touched.Touched.{Touched}
 use Rattle.kn_throttle.specs.declared.touched.Touched.TheVariants.{Nowhere, At, Anywhere}
 use Rattle.kn_throttle.specs.Touched.{Covers, is_touched}
 use Rattle.kn_throttle.specs.Pods.{AreAscending, pods_where}
+use Rattle.kn_throttle.specs.Settling.{rows_left}
 use Rattle.kn_throttle.specs.Kept.{IsKept, can_leave, can_run, seat_of, seats_in}
 use Rattle.kn_throttle.proofs.Places.{above_first, not_named, rest_ascends}
-use Rattle.kn_throttle.proofs.Same.{at-parts, eq-sym}
+use Rattle.kn_throttle.proofs.Same.{at-parts, eq-sym, length-placed, through-parts}
+use Rattle.kn_throttle.proofs.Arriving.{cands-pods}
 use Rattle.kn_throttle.proofs.Parts.{pod_of}
 use Rattle.kn_throttle.proofs.Living.{but}
 use Rattle.kn_throttle.proofs.Coming.{empty_from}
-use Rattle.kn_throttle.proofs.Dispatching.{FoundFirst, less_begun}
+use Rattle.kn_throttle.proofs.Dispatching.{FoundFirst, found_where, less_begun}
+
+pub both_parts : (x y : Bool) → (x && y) ≡ true → (x ≡ true) × (y ≡ true)
+both_parts true true h = (refl, refl)
+both_parts true false h = absurd (cc)
+both_parts false y h = absurd (cc)
+
+pub nothing_at : (xs : List ℕ) → is_empty xs ≡ true → xs ≡ []
+nothing_at [] h = refl
+nothing_at (x ∷ xs) h = absurd (cc)
 
 -- ---- the first pod that passes
 
@@ -115,7 +128,97 @@ pub idle-seat : (s : Spec) (a : Admission) (b : breaker.State) (t : seats.State)
 idle-seat s a b t k p run leave n h there =
     let pod = pod_of a.live n a.pods there in
     let parts = at-parts pod.pod.number a.live in
-    rw (h.seats, pod.seat, ← pod.number) (sym parts)
+    rw (h.seats, pod.seat) (sym parts ∙ ap (λ (m : ℕ). length (placed_in (is_at m) a.live)) pod.number)
+
+pub leave-seat : (s : Spec) (a : Admission) (b : breaker.State) (t : seats.State) (k : List Cand) (p : policy.State) (run leave : Touched) (n : ℕ) → IsKept s a b t k p run leave → contains n (pod_numbers a.pods) ≡ true
+    → is_pod_where (can_leave a.live) (pod_numbered n a.pods) ≡ (is_pod_where (λ (q : Pod). is_draining_now q.readiness) (pod_numbered n a.pods) && is_empty (placed_in (is_at n) a.live))
+leave-seat s a b t k p run leave n h there =
+    let pod = pod_of a.live n a.pods there in
+    rw pod.found (ap (λ (m : ℕ). is_draining_now pod.pod.readiness && is_empty (placed_in (is_at m) a.live)) pod.number)
+
+pub no_queue : (b : Bool) (xs : List ℕ) → length xs ≡ 0 → (b && not (is_empty xs)) ≡ false
+no_queue true [] h = refl
+no_queue false [] h = refl
+no_queue b (x ∷ xs) h = absurd (omega arith)
+
+pub some_queue : (b : Bool) (xs : List ℕ) → (length xs ≡ 0 → ⊥) → b ≡ (b && not (is_empty xs))
+some_queue b [] h = absurd (h refl)
+some_queue true (x ∷ xs) h = refl
+some_queue false (x ∷ xs) h = refl
+
+pub nobody_there : (x y : ℕ) (xs : List ℕ) → x + y ≡ length xs → (x == 0 && y == 0) ≡ is_empty xs
+nobody_there x y [] h = let none : x ≡ 0 = omega arith in let nor : y ≡ 0 = omega arith in rw (none, nor) refl
+nobody_there x y (z ∷ xs) h = by (x == 0) refl
+  where
+    by : (b : Bool) → (x == 0) ≡ b → (b && y == 0) ≡ false
+    by true e = let none : x ≡ 0 = eqb-true x 0 e in not_named y 0 (λ nor. absurd (omega arith))
+    by false e = refl
+
+-- each pod of the list is one of its numbers
+pub number_at : (all : List Pod) (i : ℕ) (d : Pod) → i < length all → contains (get_or all i d).number (pod_numbers all) ≡ true
+number_at [] i d h = absurd (omega arith)
+number_at (q ∷ all) zero d h = rw (eq-eqb q.number q.number refl) refl
+number_at (q ∷ all) (suc i) d h = more (q.number == (get_or all i d).number) _ (number_at all i d (omega arith))
+  where
+    more : (m b : Bool) → b ≡ true → (m || b) ≡ true
+    more true b h = refl
+    more false b h = h
+
+-- one pod further
+pub where-drop : (test : Pod → Bool) (all : List Pod) (i : ℕ) (d : Pod) → i < length all → pods_where test (drop i all) ≡ (if test (get_or all i d) then (get_or all i d).number ∷ pods_where test (drop (i + 1) all) else pods_where test (drop (i + 1) all))
+where-drop test all i d h = rw (add-one, drop-cons all i d) (by (test (get_or all i d)))
+  where
+    by : (b : Bool) → map (λ (q : Pod). q.number) (cond b (get_or all i d ∷ filter test (drop (suc i) all)) (filter test (drop (suc i) all))) ≡ (if b then (get_or all i d).number ∷ pods_where test (drop (suc i) all) else pods_where test (drop (suc i) all))
+    by true = refl
+    by false = refl
+
+-- what is asked of the pod at a place
+pub passes-there : (test : Pod → Bool) (all : List Pod) (i : ℕ) (d : Pod) → AreAscending all → i < length all → is_pod_where test (pod_numbered (get_or all i d).number all) ≡ test (get_or all i d)
+passes-there test all i d rise h = rw (each_found all rise i d h) refl
+
+pub further : (test : Pod → Bool) (all : List Pod) (i : ℕ) (d : Pod) → AreAscending all → i < length all → is_pod_where test (pod_numbered (get_or all i d).number all) ≡ false
+    → first_of (pods_where test all) ≡ first_of (pods_where test (drop i all)) → first_of (pods_where test all) ≡ first_of (pods_where test (drop (i + 1) all))
+further test all i d rise h f e =
+    let here : test (get_or all i d) ≡ false = sym (passes-there test all i d rise h) ∙ f in
+    e ∙ ap (λ (l : List ℕ). first_of l) (where-drop test all i d h ∙ rw here refl)
+
+pub found_here : (test : Pod → Bool) (all : List Pod) (i : ℕ) (d : Pod) → AreAscending all → i < length all → is_pod_where test (pod_numbered (get_or all i d).number all) ≡ true
+    → first_of (pods_where test all) ≡ first_of (pods_where test (drop i all)) → Some (get_or all i d).number ≡ first_of (pods_where test all)
+found_here test all i d rise h f e =
+    let here : test (get_or all i d) ≡ true = sym (passes-there test all i d rise h) ∙ f in
+    let step : pods_where test (drop i all) ≡ (get_or all i d).number ∷ pods_where test (drop (i + 1) all) = where-drop test all i d h ∙ rw here refl in
+    sym (e ∙ ap (λ (l : List ℕ). first_of l) step)
+
+-- the first that passes
+pub record Passes (test : Pod → Bool) (all : List Pod) (p : ℕ) : Type 0 where
+  pub pod : Pod
+  pub number : pod.number ≡ p
+  pub passes : test pod ≡ true
+  pub there : contains p (pod_numbers all) ≡ true
+
+pub first_passes : (test : Pod → Bool) (all : List Pod) (p : ℕ) → first_of (pods_where test all) ≡ Some p → Passes test all p
+first_passes test [] p f = absurd (cc)
+first_passes test (q ∷ all) p f = by (test q) refl f (λ e. first_passes test all p e)
+  where
+    or_more : (m b : Bool) → b ≡ true → (m || b) ≡ true
+    or_more true b h = refl
+    or_more false b h = h
+
+    by : (b : Bool) → test q ≡ b → first_of (map (λ (q : Pod). q.number) (cond b (q ∷ filter test all) (filter test all))) ≡ Some p → (first_of (pods_where test all) ≡ Some p → Passes test all p) → Passes test (q ∷ all) p
+    by true e f rest = let number : q.number ≡ p = cc in record { pod = q; number = number; passes = e; there = rw (eq-eqb q.number p number) refl }
+    by false e f rest = let more = rest f in record { pod = more.pod; number = more.number; passes = more.passes; there = or_more (q.number == p) _ more.there }
+
+pub empty_at : (live : List Request) (all : List Pod) (p : ℕ) → Passes (can_leave live) all p → placed_in (is_at p) live ≡ []
+empty_at live all p h =
+    let both = both_parts (is_draining_now h.pod.readiness) (is_empty (placed_in (is_at h.pod.number) live)) h.passes in
+    nothing_at (placed_in (is_at p) live) (sym (ap (λ (m : ℕ). is_empty (placed_in (is_at m) live)) h.number) ∙ both.1)
+
+-- where no pod has anything to do, nothing need be touched
+pub kept_ran : (s : Spec) (a : Admission) (b : breaker.State) (t : seats.State) (k : List Cand) (p : policy.State) (run leave : Touched) → IsKept s a b t k p run leave → first_of (pods_where (can_run a.live) a.pods) ≡ None → IsKept s a b t k p Nowhere leave
+kept_ran s a b t k p run leave h f = record { sound = h.sound; breaker = h.breaker; seats = h.seats; placed = h.placed; candidates = h.candidates; policy = h.policy; runs = covers_nowhere (can_run a.live) a.pods f; leaves = h.leaves }
+
+pub kept_left_all : (s : Spec) (a : Admission) (b : breaker.State) (t : seats.State) (k : List Cand) (p : policy.State) (run leave : Touched) → IsKept s a b t k p run leave → first_of (pods_where (can_leave a.live) a.pods) ≡ None → IsKept s a b t k p run Nowhere
+kept_left_all s a b t k p run leave h f = record { sound = h.sound; breaker = h.breaker; seats = h.seats; placed = h.placed; candidates = h.candidates; policy = h.policy; runs = h.runs; leaves = covers_nowhere (can_leave a.live) a.pods f }
 
 -- ---- runs
 
@@ -198,10 +301,77 @@ seats-where live (q ∷ all) = by (is_ready_now q.readiness) (is_free live q) re
     by true false e rest = rw e rest
     by false f e rest = rest
 
-pub both_parts : (x y : Bool) → (x && y) ≡ true → (x ≡ true) × (y ≡ true)
-both_parts true true h = (refl, refl)
-both_parts true false h = absurd (cc)
-both_parts false y h = absurd (cc)
+pub some_there : (r : ℕ) (xs : List ℕ) → contains r xs ≡ true → 0 < length xs
+some_there r [] h = absurd (cc)
+some_there r (x ∷ xs) h = omega arith
+
+pub held_runs : (s : Spec) (a : Admission) (b : breaker.State) (t : seats.State) (k : List Cand) (p : policy.State) (run leave : Touched) (r : ℕ) → IsKept s a b t k p run leave → contains r (placed_in is_held_place a.live) ≡ true → b.running < b.in_flight
+held_runs s a b t k p run leave r h held =
+    let some = some_there r (placed_in is_held_place a.live) held in
+    let parts = through-parts a.live in
+    rw h.breaker (omega arith)
+
+pub none_free : ((cc seed place picks : ℕ) (cands : List Cand) → list_any has_seat cands ≡ false → chosen_pod cc seed place picks cands ≡ None) → (s : Spec) (a : Admission) (b : breaker.State) (t : seats.State) (k : List Cand) (p : policy.State) (run leave : Touched) → IsKept s a b t k p run leave → list_any has_seat k ≡ false → next_in s a ≡ None
+unfolding next_in
+none_free law s a b t k p run leave h none = by (nat_lt (length (placed_in is_assigned_place a.live)) (capacity_in s.slots.max a.pods))
+  where
+    by : (b : Bool) → (if b then chosen_pod s.cc s.slots.seed a.robin a.assignments (candidates_in a.live a.pods) else None) ≡ None
+    by true = law s.cc s.slots.seed a.robin a.assignments (candidates_in a.live a.pods) (rw h.candidates at none)
+    by false = refl
+
+pub none_room : (s : Spec) (a : Admission) (b : breaker.State) (t : seats.State) (k : List Cand) (p : policy.State) (run leave : Touched) → IsKept s a b t k p run leave → b.capacity ≤ b.running → next_in s a ≡ None
+unfolding next_in
+none_room s a b t k p run leave h full =
+    let used : capacity_in s.slots.max a.pods ≤ length (placed_in is_assigned_place a.live) = rw h.breaker at full in
+    let test : nat_lt (length (placed_in is_assigned_place a.live)) (capacity_in s.slots.max a.pods) ≡ false = grind (arith, nat_tests) in
+    rw test refl
+
+pub chosen_by : (s : Spec) (a : Admission) (b : breaker.State) (t : seats.State) (k : List Cand) (p : policy.State) (run leave : Touched) (n : ℕ) (l : List Cand) (o : Option ℕ) → IsKept s a b t k p run leave → l ≡ k → o ≡ Some n
+    → ((seed picks : ℕ) → p.generator ≡ generator_at seed (2 * picks) → o ≡ chosen_pod p.cc seed p.place picks l) → chosen_pod s.cc s.slots.seed a.robin a.assignments k ≡ Some n
+unfolding policy_at
+chosen_by s a b t k p run leave n l o h e f chosen =
+    let made = chosen s.slots.seed a.assignments (ap (λ (x : policy.State). x.generator) h.policy) in
+    sym (ap (λ (x : policy.State). chosen_pod x.cc s.slots.seed x.place a.assignments k) h.policy) ∙ sym (rw e at made) ∙ f
+
+pub next_some : (s : Spec) (a : Admission) (b : breaker.State) (t : seats.State) (k : List Cand) (p : policy.State) (run leave : Touched) (n : ℕ) → IsKept s a b t k p run leave → (b.capacity ≤ b.running → ⊥) → chosen_pod s.cc s.slots.seed a.robin a.assignments k ≡ Some n → next_in s a ≡ Some n
+unfolding next_in
+next_some s a b t k p run leave n h room chosen =
+    let unused : (capacity_in s.slots.max a.pods ≤ length (placed_in is_assigned_place a.live)) → ⊥ = rw h.breaker at room in
+    let test : nat_lt (length (placed_in is_assigned_place a.live)) (capacity_in s.slots.max a.pods) ≡ true = less unused in
+    rw test (rw h.candidates at chosen)
+  where
+    less : {x y : ℕ} → (y ≤ x → ⊥) → nat_lt x y ≡ true
+    less {x} {y} h = by (nat_lt x y) refl
+      where
+        by : (b : Bool) → nat_lt x y ≡ b → b ≡ true
+        by true e = refl
+        by false e = absurd (h (grind (arith, nat_tests)))
+
+-- a pod with a free seat that is Ready
+pub seat_found : ((cc seed place picks p : ℕ) (cands : List Cand) → chosen_pod cc seed place picks cands ≡ Some p → contains p (map (λ (k : Cand). k.pod) (filter has_seat cands)) ≡ true) → (s : Spec) (a : Admission) (b : breaker.State) (t : seats.State) (k : List Cand) (p : policy.State) (run leave : Touched) (n : ℕ) → IsKept s a b t k p run leave
+    → chosen_pod s.cc s.slots.seed a.robin a.assignments k ≡ Some n → FoundFirst (λ q. is_ready_now q.readiness && is_free a.live q) a.pods n
+seat_found law s a b t k p run leave n h chosen =
+    let seated = law s.cc s.slots.seed a.robin a.assignments n k chosen in
+    found_where (λ q. is_ready_now q.readiness && is_free a.live q) a.pods n h.sound.order.pods (rw (h.candidates, seats-where a.live a.pods) at seated)
+
+pub free-seat : (s : Spec) (a : Admission) (b : breaker.State) (t : seats.State) (k : List Cand) (p : policy.State) (run leave : Touched) (n : ℕ) → IsKept s a b t k p run leave → FoundFirst (λ q. is_ready_now q.readiness && is_free a.live q) a.pods n → has_free_seat (pod_at n t.pods) ≡ true
+free-seat s a b t k p run leave n h found =
+    let pod = pod_of a.live n a.pods found.there in
+    let both = both_parts (is_ready_now found.pod.readiness) (is_free a.live found.pod) found.passes in
+    rw (h.seats, pod.seat, some_same pod.pod found.pod (sym pod.found ∙ found.found)) both.1
+  where
+    some_same : (x y : Pod) → ◌≡◌ {A = Option Pod} (Some x) (Some y) → x ≡ y
+    some_same x y e = cc
+
+pub policy_after : (s : Spec) (p x : policy.State) (n robin assignments : ℕ) (l : List Cand) → ((cc seed place picks p : ℕ) (cands : List Cand) → policy.picked p cands (policy_at cc seed place picks) ≡ policy_at cc seed (place_past p cands) (picks + 1))
+    → p ≡ policy_at s.cc s.slots.seed robin assignments → x ≡ policy.picked n l p → x ≡ policy_at s.cc s.slots.seed x.place (assignments + 1)
+policy_after s p x n robin assignments l law h f =
+    let place : x.place ≡ place_past n l = ap (λ (y : policy.State). y.place) f in
+    f ∙ ap (λ (y : policy.State). policy.picked n l y) h ∙ law s.cc s.slots.seed robin assignments n l ∙ ap (λ (m : ℕ). policy_at s.cc s.slots.seed m (assignments + 1)) (sym place)
+
+pub robin-after : (live : List Request) (all : List Pod) (k : List Cand) (p x : policy.State) (n : ℕ) → k ≡ candidates_in live all → x ≡ policy.picked n k p → x.place ≡ position_or_len (λ q. q == n) (pods_in is_ready_now all) + 1
+robin-after live all k p x n h f =
+    ap (λ (y : policy.State). y.place) f ∙ ap (λ (l : List ℕ). position_or_len (λ q. q == n) l + 1) (ap (λ (l : List Cand). map (λ (k : Cand). k.pod) l) h ∙ cands-pods live all)
 
 -- ---- removals
 
@@ -218,10 +388,6 @@ leaving-where a = each a.pods
         by true true f rest = rw (f, rest) refl
         by true false f rest = rw f rest
         by false e f rest = rest
-
-pub nothing_at : (xs : List ℕ) → is_empty xs ≡ true → xs ≡ []
-nothing_at [] h = refl
-nothing_at (x ∷ xs) h = absurd (cc)
 
 -- one pod goes
 pub one_gone : (p : ℕ) (all : List Pod) → AreAscending all → contains p (pod_numbers all) ≡ true → length (but p all) + 1 ≡ length all
@@ -248,3 +414,15 @@ one_gone p (q ∷ all) rise h = rw (eq-sym p q.number) (by (q.number == p) refl 
 
 pub settled_logged : (old ran gave gone one two new : List Entry) → one ≡ old ++ ran → two ≡ one ++ gave → new ≡ two ++ gone → new ≡ old ++ ((ran ++ gave) ++ gone)
 settled_logged old ran gave gone one two new e f g = g ∙ ap (λ (l : List Entry). l ++ gone) (f ∙ ap (λ (l : List Entry). l ++ gave) e) ∙ simp append_assoc
+
+pub settled_whole : (c ran gave gone : List Entry) → ((c ++ ran) ++ gave) ++ gone ≡ c ++ ((ran ++ gave) ++ gone)
+settled_whole c ran gave gone = simp append_assoc
+
+-- no more rows are left than there is room for
+pub rows_few : (s : Spec) (a : Admission) (b : breaker.State) (t : seats.State) (k : List Cand) (p : policy.State) (run leave : Touched) → IsKept s a b t k p run leave → rows_left a ≤ 40500
+rows_few s a b t k p run leave h =
+    let sound = h.sound in
+    let few = sound.few in
+    let pods = sound.few_pods in
+    let waiting = length-placed waits a.live in
+    omega arith

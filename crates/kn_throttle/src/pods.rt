@@ -1,8 +1,9 @@
 //! The live pods.
-ghost use Rattle.std.specs.Prelude.{◌≡◌, ◌==◌, ◌≢◌, ◌<◌, [], ◌∷◌, ◌++◌, ◌&&◌, not, filter, length, IfOk, IfSome, IfNone};
-ghost use Rattle.std.specs.List.{All, HoldsAt, list_any};
+ghost use Rattle.std.specs.Prelude.{◌≡◌, ◌==◌, ◌≢◌, ◌<◌, [], ◌∷◌, ◌++◌, not, filter, length, IfOk, IfSome, IfNone};
+ghost use Rattle.std.specs.List.{All, HoldsAt};
 ghost use Rattle.kn_record.specs.declared.admission.Pod.{Pod};
 ghost use Rattle.kn_record.specs.Admission.{drained, is_draining_now, readied, with_limit, with_readiness};
+ghost use Rattle.kn_record.specs.Views.{is_pod_where, pod_numbered};
 ghost use Rattle.kn_throttle.specs.Pods.{AreAscending};
 
 use kn_event::Memory;
@@ -78,7 +79,7 @@ impl Pods {
     /// Whether pod `p` is there and drains.
     pub fn is_draining(&self, p: u64) -> bool
         requires { AreAscending self.now }
-        ensures { result ≡ list_any (λ (q : Pod). (q.number == p) && is_draining_now q.readiness) self.now }
+        ensures { result ≡ is_pod_where (λ (q : Pod). is_draining_now q.readiness) (pod_numbered p self.now) }
     {
         match place_of(&self.pods, p) {
             None => false,

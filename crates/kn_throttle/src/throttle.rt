@@ -10,6 +10,7 @@ ghost use Rattle.kn_record.specs.Views.{due_in, pod_numbers, stand_in, stand_of_
 mod arriving;
 mod ending;
 mod lifecycle;
+mod settling;
 
 
 use crate::candidates::Candidates;

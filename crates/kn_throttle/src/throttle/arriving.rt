@@ -14,7 +14,7 @@ use kn_record::append::{append_laws, order_laws};
 use kn_record::{Place, Request};
 
 /// How many requests may be live.
-const LIVE_MOST: u64 = 20_000;
+pub const LIVE_MOST: u64 = 20_000;
 
 /// What becomes of a request that comes.
 #[derive(Clone, Copy, Debug, PartialEq, Eq)]

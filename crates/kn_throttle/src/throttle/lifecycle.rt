@@ -1,5 +1,5 @@
 //! Pods come, change and go.
-ghost use Rattle.std.specs.Prelude.{◌≡◌, ℕ, ◌<◌, ◌≤◌, ◌^◌, ◌||◌, true, [], ◌∷◌, ◌++◌, length};
+ghost use Rattle.std.specs.Prelude.{◌≡◌, ℕ, ◌+◌, ◌<◌, ◌≤◌, ◌^◌, ◌||◌, true, [], ◌∷◌, ◌++◌, length};
 ghost use Rattle.kn_event.specs.declared.entry.Row.TheVariants as row;
 ghost use Rattle.kn_trace.specs.Trace.{Trace, contains, entry};
 ghost use Rattle.kn_record.specs.Admission.{is_at, is_ready_now, is_starting_now, placed_in, pods_in};
@@ -118,7 +118,8 @@ impl Throttle {
     pub(super) fn take_away(&mut self, p: u64)
         requires there { contains p (pod_numbers self.old.admission.pods) ≡ true }
         requires none { placed_in (is_at p) self.old.admission.live ≡ [] }
-        ensures { self.new ≡ with_row 0 (row.LostPod p) self.old }
+        ensures after { self.new ≡ with_row 0 (row.LostPod p) self.old }
+        ensures fewer { length self.new.admission.pods + 1 ≡ length self.old.admission.pods }
     {
         order_laws();
         self.pods.remove(p);

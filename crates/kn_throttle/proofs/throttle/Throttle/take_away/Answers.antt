@@ -5,6 +5,7 @@ use Rattle.kn_seats.specs.Pods.{without_pod}
 use Rattle.kn_record.specs.Admission.{stepped}
 use Rattle.kn_throttle.proofs.Coming.{drained_seat, drained_there, kept_gone}
 use Rattle.kn_throttle.proofs.Ended.{pod_there}
+use Rattle.kn_throttle.proofs.Walking.{one_gone}
 use Rattle.kn_throttle.proofs.throttle.Throttle.take_away.Goals as goal
 
 pub drain-requires : goal.drain-requires
@@ -33,6 +34,11 @@ invariant_of-self c =
     (kept_gone _ _ _ _ _ _ _ _ _ _ _ c.args.p c.capacity-capacity.result k (c.order_laws.ensures.step _ 0 (row.LostPod c.args.p) k.sound.order (rw (← c.self.view_is) at c.requires.none))
     (c.remove-2.ensures.removed ∙ ap (λ (x : State). record x { pods = without_pod c.args.p x.pods }) c.drain.ensures.changed) (c.remove-2.ensures.counted ∙ c.drain.ensures.counted) c.remove-3.ensures (c.capacity-capacity.ensures.value ∙ rw c.most_running.ensures refl) c.set_capacity.ensures)
 
-pub returns : goal.returns
+pub returns-clause-after : goal.returns-clause-after
 unfolding stepped
-returns c = rw (c.remove.ensures, ← c.self.view_is) refl
+returns-clause-after c = rw (c.remove.ensures, ← c.self.view_is) refl
+
+pub returns-clause-fewer : goal.returns-clause-fewer
+returns-clause-fewer c =
+    let k = c.self.invariant in
+    rw (c.remove.ensures, ← c.self.view_is) (one_gone c.args.p c.self.inside.pods k.sound.order.pods (rw (← c.self.view_is) at c.requires.there))
