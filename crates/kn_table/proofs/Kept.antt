@@ -20,9 +20,9 @@ below_without next r l all = record {
 pub below_changed : (next r : ℕ) (by : Request → Request) (l : List Request) → ((x : Request) → (by x).number ≡ x.number) → ((x : Request) → (by x).time ≡ x.time) → AreBelow next l → AreBelow next (changed r by l)
 below_changed next r by l number time all = record {
   above = All-map (λ (q : Request). q.number < next) (λ (q : Request). cond (r == q.number) (by q) q) l
-  (All-weaker (λ (q : Request). q.number < next) (λ (q : Request). (cond (r == q.number) (by q) q).number < next) (λ x h. subst (λ n. n < next) (sym (keeps (r == x.number) (λ y. y.number) x (number x))) h) l all.above);
+      (All-weaker (λ (q : Request). q.number < next) (λ (q : Request). (cond (r == q.number) (by q) q).number < next) (λ x h. subst (λ n. n < next) (sym (keeps (r == x.number) (λ y. y.number) x (number x))) h) l all.above);
   later = All-map (λ (q : Request). q.time ≤ next) (λ (q : Request). cond (r == q.number) (by q) q) l
-  (All-weaker (λ (q : Request). q.time ≤ next) (λ (q : Request). (cond (r == q.number) (by q) q).time ≤ next) (λ x h. subst (λ n. n ≤ next) (sym (keeps (r == x.number) (λ y. y.time) x (time x))) h) l all.later);
+      (All-weaker (λ (q : Request). q.time ≤ next) (λ (q : Request). (cond (r == q.number) (by q) q).time ≤ next) (λ x h. subst (λ n. n ≤ next) (sym (keeps (r == x.number) (λ y. y.time) x (time x))) h) l all.later);
 }
   where
     keeps : (b : Bool) (part : Request → ℕ) (x : Request) → part (by x) ≡ part x → part (cond b (by x) x) ≡ part x

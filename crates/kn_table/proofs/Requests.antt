@@ -80,14 +80,6 @@ none_placed test r (q ∷ l) none = by (test q.place) refl (none_placed test r l
 
 -- ---- the one that is found
 
-pub found_number : (r : ℕ) (l : List Request) (q : Request) → found r l ≡ Some q → q.number ≡ r
-found_number r [] q f = absurd (cc)
-found_number r (x ∷ l) q f = by (x.number == r) refl (found_number r l q)
-  where
-    by : (b : Bool) → (x.number == r) ≡ b → (found r l ≡ Some q → q.number ≡ r) → q.number ≡ r
-    by true e rec = let same : Some x ≡ Some q = rw e at f in ap (λ (y : Request). y.number) (let h : q ≡ x = cc in h) ∙ eqb-true x.number r e
-    by false e rec = rec (rw e at f)
-
 head_found : (r : ℕ) (x : Request) (l : List Request) (q : Request) → (r == x.number) ≡ true → found r (x ∷ l) ≡ Some q → x ≡ q
 head_found r x l q e f = let same : Some x ≡ Some q = rw (turned r x.number true e) at f in cc
 

@@ -22,14 +22,6 @@ Finds r xs o = MatchOption o (All (λ (s : Slot). s.request.number ≢ r) xs) (�
 abbrev Ascends : List Slot → Type 0
 Ascends xs = AllPairs (λ (x y : Slot). x.request.number < y.request.number) xs
 
--- a number is as far above the first as its place is, at least
-rises : (xs : List Slot) (d : Slot) (i : ℕ) → Ascends xs → i < length xs → (get_or xs 0 d).request.number + i ≤ (get_or xs i d).request.number
-rises xs d zero pairs inside = omega arith
-rises xs d (suc i) pairs inside =
-    let rec = rises xs d i pairs (omega arith) in
-    let next : (get_or xs i d).request.number < (get_or xs (suc i) d).request.number = pairs i (suc i) d (omega arith) inside in
-    omega (arith, rec, next)
-
 -- ---- a binary search
 
 module _ (xs : List Slot) (pairs : Ascends xs) (r : ℕ) where
@@ -46,36 +38,6 @@ module _ (xs : List Slot) (pairs : Ascends xs) (r : ℕ) where
       let before : k < at → (get_or xs k d).request.number < r = λ lt. ranked _ r _ (sym (parts.0 k d (omega arith) lt)) in
       let after : at ≤ k → r < (get_or xs k d).request.number = λ le. ranked _ r _ (sym (parts.1 k d le within)) in
       absurd (grind (arith, before, after, same))
-
--- ---- at the place that its number says, or before it
-
-number_default : (xs : List Slot) (i : ℕ) (d e : Slot) → i < length xs → (get_or xs i d).request.number ≡ (get_or xs i e).request.number
-number_default xs i d e inside = ap (λ (s : Slot). s.request.number) (get_or_default xs i d e inside)
-
--- none is found where all are above
-pub above_all : (r : ℕ) (xs : List Slot) (d : Slot) → Ascends xs → 0 < length xs → r < (get_or xs 0 d).request.number → Finds r xs None
-above_all r xs d pairs some low k e within same =
-    let at_first = rises xs e k pairs within in
-    let first = number_default xs 0 d e some in
-    absurd (omega (arith, at_first, first, low, same))
-
--- a search before the place that the number says is one of all, where that place has another number
-pub searched_front : (r : ℕ) (xs : List Slot) (d : Slot) (most : ℕ) (o : Option ℕ) → Ascends xs → most < length xs → (get_or xs 0 d).request.number + most ≡ r → (get_or xs most d).request.number ≢ r
-    → Finds r (take most xs) o → Finds r xs o
-searched_front r xs d most None pairs inside is other none = λ k e within same.
-    let at_first = rises xs e k pairs within in
-    let first = number_default xs 0 d e (omega (arith, inside)) in
-    let near : k ≤ most = omega (arith, at_first, first, is, same) in
-    let before : k < most → ⊥ = λ lt.
-    none k e (omega (arith, length-take most xs, lt, inside)) (ap (λ (s : Slot). s.request.number) (get_or-take most xs k e lt) ∙ same) in
-    let here : k ≡ most → ⊥ = λ at. other (number_default xs most d e inside ∙ ap (λ j. (get_or xs j e).request.number) (sym at) ∙ same) in
-    absurd (grind (arith, near, before, here))
-searched_front r xs d most (Some place) pairs inside is other there =
-    let low : place < most = omega (arith, there.inside, length-take most xs, inside) in
-    record {
-      inside = omega (arith, low, inside);
-      number = λ e. subst (λ (s : Slot). s.request.number ≡ r) (get_or-take most xs place e low) (there.number e);
-    }
 
 -- ---- the live one
 
@@ -94,39 +56,6 @@ live_is_placed r xs i d there live = record {
   number = there.number;
   live = λ e. ap (λ (s : Slot). s.has_ended) (get_or_default xs i e d there.inside) ∙ live;
 }
-
-pub order-take : (n : ℕ) (xs : List Slot) → AreInOrder xs → AreInOrder (take n xs)
-order-take n xs order = record {
-  numbers = pairs-take (λ (a b : Slot). a.request.number < b.request.number) n xs order.numbers;
-  times = pairs-take (λ (a b : Slot). a.request.time ≤ b.request.time) n xs order.times;
-}
-  where
-    pairs-take : (R : Slot → Slot → Type 0) (n : ℕ) (xs : List Slot) → AllPairs R xs → AllPairs R (take n xs)
-    pairs-take R n xs pairs i j d lt inside =
-        let short = length-take n xs in
-        let second : j < n = omega (arith, short, inside) in
-        let first : i < n = omega (arith, second, lt) in
-        subst (λ a. R a (get_or (take n xs) j d)) (sym (get_or-take n xs i d first))
-        (subst (λ b. R (get_or xs i d) b) (sym (get_or-take n xs j d second)) (pairs i j d lt (omega (arith, short, inside))))
-
--- what is read at the first place
-pub first_item : (xs : List Slot) (x : Slot) → Some x ≡ slice_get xs 0 → (0 < length xs) × ((d : Slot) → get_or xs 0 d ≡ x)
-first_item [] x is = absurd (cc)
-first_item (y ∷ ys) x is = let same : Some x ≡ Some y = is in (omega arith, λ d. (cc))
-
--- above the first number
-pub searched_beyond : (r : ℕ) (xs : List Slot) (x : Slot) (most : ℕ) (d : Slot) (o : Option ℕ) → Ascends xs → Some x ≡ slice_get xs 0 → x.request.number ≤ r → most ≡ r - x.request.number → most < length xs
-    → (get_or xs most d).request.number ≢ r → Finds r (take most xs) o → Finds r xs o
-searched_beyond r xs x most d o pairs is low most_is inside other there =
-    let head = (first_item xs x is).1 d in
-    let number : (get_or xs 0 d).request.number ≡ x.request.number = ap (λ (s : Slot). s.request.number) head in
-    searched_front r xs d most o pairs inside (omega (arith, number, low, most_is)) other there
-
-pub above_first : (r : ℕ) (xs : List Slot) (x : Slot) → Ascends xs → Some x ≡ slice_get xs 0 → r < x.request.number → Finds r xs None
-above_first r xs x pairs is low =
-    let head = first_item xs x is in
-    let number : (get_or xs 0 x).request.number ≡ x.request.number = ap (λ (s : Slot). s.request.number) (head.1 x) in
-    above_all r xs x pairs head.0 (omega (arith, number, low))
 
 -- ---- the last one
 

@@ -2,6 +2,7 @@
 #![tactic(auto)]
 
 mod cursors;
+mod hints;
 mod slot;
 mod table;
 #[cfg(test)]

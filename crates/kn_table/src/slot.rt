@@ -80,6 +80,7 @@ pub fn is_after(request: &Request, slots: &[Slot]) -> bool
 }
 
 /// Where the slot of this number stands, by a binary search.
+#[inline(never)]
 fn search(slots: &[Slot], r: u64) -> Option<usize>
     requires { AreInOrder slots.now }
     ensures { MatchOption result (All (λ (s : Slot). s.request.number ≢ r) slots.now) (λ place. IsSlotOf r slots.now place) }
@@ -89,34 +90,25 @@ fn search(slots: &[Slot], r: u64) -> Option<usize>
         .ok()
 }
 
-/// Where the slot of this number stands. Numbers ascend, so it is no further from the first slot than its number is from the
-/// first number, and just there where no number is missing.
-fn slot_of(slots: &[Slot], r: u64) -> Option<usize>
+/// Where the slot of this number stands: at the place that is looked at first, or by a search.
+#[inline]
+fn slot_of(slots: &[Slot], hint: usize, r: u64) -> Option<usize>
     requires { AreInOrder slots.now }
     ensures { MatchOption result (All (λ (s : Slot). s.request.number ≢ r) slots.now) (λ place. IsSlotOf r slots.now place) }
 {
-    let Some(first) = slots.first() else {
-        return None;
-    };
-    if r < first.request.number {
-        return None;
+    if hint < slots.len() && slots[hint].request.number == r {
+        return Some(hint);
     }
-    let most = (r - first.request.number) as usize;
-    if most >= slots.len() {
-        return search(slots, r);
-    }
-    if slots[most].request.number == r {
-        return Some(most);
-    }
-    search(&slots[..most], r)
+    search(slots, r)
 }
 
-/// Where the live request of this number stands.
-pub fn place_of(slots: &[Slot], r: u64) -> Option<usize>
+/// Where the live request of this number stands; the hint is the place that is looked at first.
+#[inline]
+pub fn place_of(slots: &[Slot], hint: usize, r: u64) -> Option<usize>
     requires { AreInOrder slots.now }
     ensures { MatchOption result (find (λ (q : Request). q.number == r) (live_of slots.now) ≡ None) (λ place. IsPlaceOf r slots.now place) }
 {
-    match slot_of(slots, r) {
+    match slot_of(slots, hint, r) {
         Some(place) => {
             if slots[place].has_ended {
                 return None;

@@ -11,6 +11,7 @@ ghost use Rattle.kn_table.specs.Order.{IsOrdered};
 ghost use Rattle.kn_table.specs.Slots.{AreBefore, AreInOrder, IsNext, live_of};
 
 use crate::cursors::{Cursors, number_at, request_at};
+use crate::hints::Hints;
 use crate::slot::{Slot, begun, is_after, place_of, sweep};
 use kn_event::Memory;
 use kn_record::{Place, Request};
@@ -27,6 +28,7 @@ const ROOM: usize = 40_000;
 #[derive(Drop)]
 pub struct Table {
     slots: Vec<Slot>,
+    hints: Hints,
     live: u64,
     cursors: Cursors,
 }
@@ -54,7 +56,7 @@ fn is_over(since: u64, timeout_ms: u64, time: u64) -> bool
 }
 
 /// Sweeps out the requests that have ended where no slot is left, or where one of them isn't before this request.
-fn make_room(slots: &mut Vec<Slot>, cursors: &mut Cursors, request: &Request)
+fn make_room(slots: &mut Vec<Slot>, hints: &mut Hints, cursors: &mut Cursors, request: &Request)
     requires order { AreInOrder slots.old.items }
     requires before { AreBefore cursors.old slots.old.items }
     requires few { length (live_of slots.old.items) < live_most }
@@ -69,6 +71,7 @@ fn make_room(slots: &mut Vec<Slot>, cursors: &mut Cursors, request: &Request)
         return;
     }
     sweep(slots);
+    hints.set_all(slots);
     *cursors = Cursors::new();
 }
 
@@ -77,9 +80,11 @@ impl Table {
     pub fn new(alloc: Global) -> Result<Table, Memory>
         ensures { IfOk result (λ table. table ≡ []) }
     {
+        let hints = Hints::new(alloc)?;
         match Vec::with_capacity(alloc, ROOM) {
             Ok(slots) => Ok(Table {
                 slots,
+                hints,
                 live: 0,
                 cursors: Cursors::new(),
             }),
@@ -110,7 +115,13 @@ impl Table {
         ensures pushed { self.new ≡ self.old ++ request ∷ [] }
         ensures len { length self.new ≡ length self.old + 1 }
     {
-        make_room(&mut self.slots, &mut self.cursors, &request);
+        make_room(
+            &mut self.slots,
+            &mut self.hints,
+            &mut self.cursors,
+            &request,
+        );
+        self.hints.set(request.number, self.slots.len());
         self.slots.push_reserved(Slot {
             request,
             has_ended: false,
@@ -126,7 +137,7 @@ impl Table {
         ensures live { contains r (numbers_in self.now) ≡ is_some result }
         ensures place { IfSome result (λ q. (test : Place → Bool) → contains r (placed_in test self.now) ≡ test q.place) }
     {
-        match place_of(&self.slots, r) {
+        match place_of(&self.slots, self.hints.get(r), r) {
             Some(place) => Some(self.slots[place].request),
             None => None,
         }
@@ -139,7 +150,7 @@ impl Table {
         ensures moves { Moves r place.Held (place.Running p true) self.old self.new }
         ensures len { length self.new ≡ length self.old }
     {
-        let place = place_of(&self.slots, r).unwrap();
+        let place = place_of(&self.slots, self.hints.get(r), r).unwrap();
         self.slots[place].request.place = Place::Running(p, true);
         self.cursors.from = 0;
         self.cursors.advance(&self.slots);
@@ -152,7 +163,7 @@ impl Table {
         ensures moves { (p : ℕ) → contains r (placed_in (queues_at p) self.old) ≡ true → Moves r (place.Queued p) (place.Running p false) self.old self.new }
         ensures len { length self.new ≡ length self.old }
     {
-        let place = place_of(&self.slots, r).unwrap();
+        let place = place_of(&self.slots, self.hints.get(r), r).unwrap();
         let slot = &mut self.slots[place];
         slot.request.place = begun(slot.request.place);
         self.cursors.advance(&self.slots);
@@ -166,7 +177,7 @@ impl Table {
         ensures leaves { Leaves r result.place self.old self.new }
         ensures len { length self.new + 1 ≡ length self.old }
     {
-        let place = place_of(&self.slots, r).unwrap();
+        let place = place_of(&self.slots, self.hints.get(r), r).unwrap();
         let slot = &mut self.slots[place];
         slot.has_ended = true;
         let request = slot.request;

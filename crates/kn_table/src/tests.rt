@@ -1,5 +1,5 @@
 //! Worked rows, a mix of calls beside a plain list, and a full table that is swept again and again.
-ghost use Rattle.std.specs.Prelude.{◌≡◌, ◌<◌, ◌≤◌, All};
+ghost use Rattle.std.specs.Prelude.{◌<◌, ◌≤◌, All};
 ghost use Rattle.kn_record.specs.declared.admission.Request.{Request};
 
 use super::Table;
@@ -106,28 +106,49 @@ fn few_rows(rt: HostRuntime) -> Result<(), Fail> {
     }
     assert_eq!(rt; run.table.len(), 5);
     assert_eq!(rt; firsts(&run.table, 7, 9), [Some(3), Some(0), None, Some(0)]);
-    assert_eq!(rt; firsts(&run.table, 8, 10), [Some(3), Some(0), Some(0), None]);
+    assert_eq!(rt;
+        firsts(&run.table, 8, 10),
+        [Some(3), Some(0), Some(0), None]
+    );
 
     assert!(rt; run.begin(0));
     assert!(rt; !run.begin(0));
-    assert_eq!(rt; firsts(&run.table, 7, 12), [Some(3), Some(3), None, Some(0)]);
+    assert_eq!(rt;
+        firsts(&run.table, 7, 12),
+        [Some(3), Some(3), None, Some(0)]
+    );
     assert_eq!(rt; run.assign(8), Some(3));
-    assert_eq!(rt; firsts(&run.table, 8, 16), [Some(6), Some(6), Some(6), Some(3)]);
-    assert_eq!(rt; run.table.get(3).map(|q| (q.number, q.time, q.place)), Some((3, 3, Place::Running(8, true))));
-    assert_eq!(rt; run.table.get(0).map(|q| q.place), Some(Place::Running(7, false)));
+    assert_eq!(rt;
+        firsts(&run.table, 8, 16),
+        [Some(6), Some(6), Some(6), Some(3)]
+    );
+    assert_eq!(rt;
+        run.table.get(3).map(|q| (q.number, q.time, q.place)),
+        Some((3, 3, Place::Running(8, true)))
+    );
+    assert_eq!(rt;
+        run.table.get(0).map(|q| q.place),
+        Some(Place::Running(7, false))
+    );
     for r in [1, 2, 13, u64::MAX] {
         assert!(rt; run.table.get(r).is_none(), "{r}");
     }
 
     assert_eq!(rt; run.end(6).map(|q| q.place), Some(Place::Held));
     assert!(rt; run.end(6).is_none());
-    assert_eq!(rt; firsts(&run.table, 7, 18), [Some(9), Some(9), None, Some(0)]);
+    assert_eq!(rt;
+        firsts(&run.table, 7, 18),
+        [Some(9), Some(9), None, Some(0)]
+    );
     assert_eq!(rt; run.lose(7).map(|q| q.number), Some(0));
     assert_eq!(rt; run.lose(8).map(|q| q.number), Some(3));
     assert!(rt; run.lose(8).is_none());
     assert_eq!(rt; run.table.len(), 2);
     assert_eq!(rt; run.assign(8), Some(9));
-    assert_eq!(rt; firsts(&run.table, 8, 22), [Some(12), Some(12), Some(12), Some(9)]);
+    assert_eq!(rt;
+        firsts(&run.table, 8, 22),
+        [Some(12), Some(12), Some(12), Some(9)]
+    );
     Ok(())
 }
 
@@ -156,7 +177,12 @@ fn plain_run(plain: &mut Vec<Request>, r: u64, place: Place) {
     }
 }
 
-fn mix_arrive(rt: &impl Abort, run: &mut Run, plain: &mut Vec<Request>, seed: u64) -> Result<(), Fail> {
+fn mix_arrive(
+    rt: &impl Abort,
+    run: &mut Run,
+    plain: &mut Vec<Request>,
+    seed: u64,
+) -> Result<(), Fail> {
     let place = if seed >> 60 < 6 {
         Place::Held
     } else {
@@ -169,7 +195,10 @@ fn mix_arrive(rt: &impl Abort, run: &mut Run, plain: &mut Vec<Request>, seed: u6
 
 fn mix_run(rt: &impl Abort, run: &mut Run, plain: &mut Vec<Request>, seed: u64) {
     let pod = (seed >> 40) % 3;
-    let first = plain.iter().find(|q| q.place == Place::Held).map(|q| q.number);
+    let first = plain
+        .iter()
+        .find(|q| q.place == Place::Held)
+        .map(|q| q.number);
     assert_eq!(rt; run.assign(pod), first);
     if let Some(r) = first {
         plain_run(plain, r, Place::Running(pod, true));
@@ -214,11 +243,18 @@ fn compare(rt: &impl Abort, table: &Table, plain: &[Request], time: u64) {
     for request in plain {
         assert_eq!(rt; table.get(request.number), Some(*request));
     }
-    let held = plain.iter().find(|q| q.place == Place::Held).map(|q| q.number);
-    let waiting = plain.iter().find(|q| !matches!(q.place, Place::Running(_, _)));
+    let held = plain
+        .iter()
+        .find(|q| q.place == Place::Held)
+        .map(|q| q.number);
+    let waiting = plain
+        .iter()
+        .find(|q| !matches!(q.place, Place::Running(_, _)));
     assert_eq!(rt; table.first_held(), held);
     assert_eq!(rt; table.first_waiting(), waiting.copied());
-    let due = waiting.filter(|q| time.saturating_sub(q.time) >= 40).map(|q| q.number);
+    let due = waiting
+        .filter(|q| time.saturating_sub(q.time) >= 40)
+        .map(|q| q.number);
     assert_eq!(rt; table.first_due(40, time), due);
     for p in 0..3 {
         let first = plain.iter().find(|q| is_at(q.place, p)).map(|q| q.number);
@@ -245,16 +281,23 @@ fn mix_beside_a_plain_list(rt: HostRuntime) -> Result<(), Fail> {
     Ok(())
 }
 
-/// One request of a pair ends, the second first, and another arrives.
-fn turn_over(rt: &impl Abort, run: &mut Run, turn: u64) {
-    let (gone, first) = if turn % 2 == 0 { (turn + 1, turn) } else { (turn - 1, turn + 1) };
+/// One request of a pair ends, the second first, and another arrives. The first that is left is due to the millisecond or one
+/// after.
+fn turn_over(rt: &impl Abort, run: &mut Run, turn: u64)
+    requires { turn < 100000 }
+{
+    let first = turn + turn % 2;
+    let gone = if turn % 2 == 0 { turn + 1 } else { turn - 1 };
     assert_eq!(rt; run.end(gone).map(|q| q.number), Some(gone));
     run.arrive(rt, Place::Held, 1);
     assert_eq!(rt; run.table.len(), 20_000);
     assert_eq!(rt; run.table.first_held(), Some(first));
-    assert_eq!(rt; run.table.first_due(20_000, turn + 20_001), if turn % 2 == 0 { Some(turn) } else { Some(turn + 1) });
+    assert_eq!(rt; run.table.first_due(20_000, turn + 20_001), Some(first));
     assert!(rt; run.table.get(gone).is_none());
-    assert_eq!(rt; run.table.get(turn + 12_345).map(|q| q.time), Some(turn + 12_345));
+    assert_eq!(rt;
+        run.table.get(turn + 12_345).map(|q| q.time),
+        Some(turn + 12_345)
+    );
 }
 
 /// A full table: each end makes room for one more, through three sweeps.
@@ -270,7 +313,10 @@ fn full_table_is_swept(rt: HostRuntime) -> Result<(), Fail> {
     for _ in 0..20_000 {
         assert!(rt; run.assign(3).is_some());
     }
-    assert_eq!(rt; firsts(&run.table, 3, 1 << 40), [None, None, None, Some(70_000)]);
+    assert_eq!(rt;
+        firsts(&run.table, 3, 1 << 40),
+        [None, None, None, Some(70_000)]
+    );
     for r in 70_000..90_000 {
         assert_eq!(rt; run.lose(3).map(|q| q.number), Some(r));
     }
