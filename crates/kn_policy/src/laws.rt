@@ -7,6 +7,6 @@ ghost use Rattle.kn_policy.specs.Policy.{picked, place_past, policy_at};
 
 /// No pod is chosen where none has a free seat. A policy that picks one more pod has picked one more, and its place is past it.
 pub fn choice_laws()
-    ensures none { (cc seed place picks : ℕ) (cands : List Cand) → list_any has_seat cands ≡ false → chosen_pod cc seed place picks cands ≡ None }
-    ensures picked { (cc seed place picks p : ℕ) (cands : List Cand) → picked p cands (policy_at cc seed place picks) ≡ policy_at cc seed (place_past p cands) (picks + 1) }
+    ensures none { (concurrency seed place picks : ℕ) (cands : List Cand) → list_any has_seat cands ≡ false → chosen_pod concurrency seed place picks cands ≡ None }
+    ensures picked { (concurrency seed place picks p : ℕ) (cands : List Cand) → picked p cands (policy_at concurrency seed place picks) ≡ policy_at concurrency seed (place_past p cands) (picks + 1) }
 {}

@@ -7,5 +7,5 @@ ghost use Rattle.kn_trace.specs.Trace.{contains};
 
 /// The pod that is chosen is one of those with a free seat.
 pub fn seating_laws()
-    ensures { (cc seed place picks p : ℕ) (cands : List Cand) → chosen_pod cc seed place picks cands ≡ Some p → contains p (map (λ (k : Cand). k.pod) (filter has_seat cands)) ≡ true }
+    ensures { (concurrency seed place picks p : ℕ) (cands : List Cand) → chosen_pod concurrency seed place picks cands ≡ Some p → contains p (map (λ (k : Cand). k.pod) (filter has_seat cands)) ≡ true }
 {}

@@ -6,9 +6,12 @@ use Rattle.std.proofs.lemmas.Bool.Decides.{nat_tests}
 use Rattle.std.proofs.lemmas.Bool.{eqb-true, eq-eqb}
 use Rattle.std.proofs.lemmas.List.Elements.{All-cons, All-head, All-nil, All-tail}
 use Rattle.kn_event.specs.declared.entry.Entry.{Entry}
+use Rattle.kn_event.specs.declared.entry.Row.{Row}
 use Rattle.kn_event.specs.declared.entry.Row.TheVariants as row
 use Rattle.kn_event.specs.declared.revision.Spec.{Spec}
 use Rattle.kn_trace.specs.declared.candidate.Cand.{Cand}
+use Rattle.kn_trace.specs.Rows.{arrived_by, created_by}
+use Rattle.kn_record.specs.Order.{AreTimed}
 use Rattle.kn_trace.specs.Trace.{Trace, contains, entry, first_of, is_empty}
 use Rattle.kn_trace.specs.Choice.{chosen_pod, generator_at, has_seat}
 use Rattle.kn_trace.specs.Settling.{promotions}
@@ -29,7 +32,7 @@ use Rattle.kn_throttle.specs.declared.touched.Touched.{Touched}
 use Rattle.kn_throttle.specs.declared.touched.Touched.TheVariants.{Nowhere, At, Anywhere}
 use Rattle.kn_throttle.specs.Touched.{Covers, is_touched}
 use Rattle.kn_throttle.specs.Pods.{AreAscending, pods_where}
-use Rattle.kn_throttle.specs.Settling.{rows_left}
+use Rattle.kn_throttle.specs.Settling.{AddsNobody, rows_left}
 use Rattle.kn_throttle.specs.Kept.{IsKept, can_leave, can_run, seat_of, seats_in}
 use Rattle.kn_throttle.proofs.Places.{above_first, not_named, rest_ascends}
 use Rattle.kn_throttle.proofs.Same.{at-parts, eq-sym, length-placed, through-parts}
@@ -426,3 +429,21 @@ rows_few s a b t k p run leave h =
     let pods = sound.few_pods in
     let waiting = length-placed waits a.live in
     omega arith
+
+-- ---- who is added
+
+pub nobody_yet : (a : Admission) → AddsNobody a a
+nobody_yet a = record { arrivals = refl; created = refl; timed = λ clock h. h }
+
+pub nobody_more : (a b c : Admission) → AddsNobody a b → AddsNobody b c → AddsNobody a c
+nobody_more a b c h g = record { arrivals = g.arrivals ∙ h.arrivals; created = g.created ∙ h.created; timed = λ clock o. g.timed clock (h.timed clock o) }
+
+-- a row that takes in no request and creates no pod
+pub nobody_by : ((a : Admission) (clock t : ℕ) (x : Row) → AreTimed clock a → clock ≤ t → AreTimed t (stepped t x a)) → (a b c : Admission) (x : Row) → arrived_by x ≡ None → created_by x ≡ None
+    → AddsNobody a b → ((t : ℕ) → c ≡ stepped t x b) → AddsNobody a c
+unfolding stepped
+nobody_by law a b c x none nor h after = nobody_more a b c h (record {
+  arrivals = ap (λ (y : Admission). y.arrivals) (after 0) ∙ rw none refl;
+  created = ap (λ (y : Admission). y.created) (after 0) ∙ rw nor refl;
+  timed = λ clock o. rw (after clock) (law b clock clock x o (omega arith));
+})

@@ -1,21 +1,24 @@
 //! A request ends.
-ghost use Rattle.std.specs.Prelude.{◌≡◌, ◌<◌, ℕ, Bool, true, [], ◌∷◌, ◌++◌, IfSome, IfNone, Some};
+ghost use Rattle.std.specs.Prelude.{◌≡◌, ◌==◌, ◌+◌, ◌<◌, ℕ, Bool, true, [], ◌∷◌, ◌++◌, find, length, IfSome, IfNone, Some};
 ghost use Rattle.std.specs.Bool.{OnTrue, OnFalse};
 ghost use Rattle.kn_event.specs.declared.entry.Row.TheVariants as row;
 ghost use Rattle.kn_event.specs.declared.event.Act.TheVariants as act;
 ghost use Rattle.kn_event.specs.declared.revision.Spec.{Spec};
 ghost use Rattle.kn_trace.specs.Trace.{Trace, contains, entry, first_of};
 ghost use Rattle.kn_trace.specs.Events.{act_row, expiries};
+ghost use Rattle.kn_record.specs.declared.admission.Request.{Request};
 ghost use Rattle.kn_record.specs.Admission.{placed_in, runs_somewhere, waits, without};
 ghost use Rattle.kn_record.specs.Made.{StandsFor};
 ghost use Rattle.kn_record.specs.Views.{due_in, numbers_in};
 ghost use Rattle.kn_record.specs.Walks.{BeginsWith};
+ghost use Rattle.kn_table.specs.Moves.{Leaves};
 ghost use Rattle.kn_throttle.specs.Breaker.{released};
 
 use super::Throttle;
 use kn_breaker::Breaker;
-use kn_record::Place;
+use kn_record::{Place, Request};
 use kn_record::append::{append_laws, order_laws, walk_laws};
+use kn_table::Table;
 
 impl Throttle {
     ghost use Rattle.kn_throttle.specs.Rows.{cancel_row, finish_row, waits_or_runs};
@@ -57,7 +60,7 @@ impl Throttle {
         match self.table.first_due(self.spec.timeout_ms, time) {
             None => None,
             Some(r) => {
-                self.end(r);
+                self.end(r, false);
                 Some(r)
             }
         }
@@ -75,17 +78,17 @@ impl Throttle {
         if is_waiting(request.place) != waiting {
             return false;
         }
-        self.end(r);
+        self.end(r, false);
         true
     }
 
-    /// Ends a live request.
-    pub(super) fn end(&mut self, r: u64)
+    /// Ends a live request, lost with its pod or not.
+    pub(super) fn end(&mut self, r: u64, is_lost: bool)
         requires { contains r (numbers_in self.old.admission.live) ≡ true }
         ensures { self.new ≡ record self.old { admission = record self.old.admission { live = without r self.old.admission.live } } }
     {
         order_laws();
-        match self.table.remove(r).place {
+        match take_out(&mut self.table, r, is_lost).place {
             Place::Held => self.breaker.leave(),
             Place::Queued(p) => {
                 self.seats.unqueue(p, r);
@@ -99,6 +102,21 @@ impl Throttle {
                 self.to_leave = self.to_leave.with(p);
             }
         }
+    }
+}
+
+/// Takes a request out of the table; one that is lost so that the next at its pod is found from there on.
+fn take_out(table: &mut Table, r: u64, is_lost: bool) -> Request
+    requires { contains r (numbers_in table.old) ≡ true }
+    ensures removed { table.new ≡ without r table.old }
+    ensures request { find (λ (q : Request). q.number == r) table.old ≡ Some result }
+    ensures leaves { Leaves r result.place table.old table.new }
+    ensures len { length table.new + 1 ≡ length table.old }
+{
+    if is_lost {
+        table.lose(r)
+    } else {
+        table.remove(r)
     }
 }
 

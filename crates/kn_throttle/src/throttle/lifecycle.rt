@@ -99,7 +99,7 @@ impl Throttle {
         ensures stands { (c : Trace) (time : ℕ) → StandsFor self.old.admission c → StandsFor self.new.admission (c ++ entry time (row.LostRequest r) ∷ []) }
     {
         append_laws();
-        self.end(r);
+        self.end(r, true);
     }
 
     /// A live pod without requests is lost: it is no longer live.

@@ -8,14 +8,14 @@ ghost use Rattle.kn_record.specs.Views.{pod_numbers};
 ghost use Rattle.kn_record.specs.Walks.{BeginsWith, promoting};
 ghost use Rattle.kn_throttle.specs.Kept.{can_leave, can_run};
 ghost use Rattle.kn_throttle.specs.Pods.{pods_where};
-ghost use Rattle.kn_throttle.specs.Settling.{can_leave_at, can_run_at, rows_left};
+ghost use Rattle.kn_throttle.specs.Settling.{AddsNobody, can_leave_at, can_run_at, rows_left};
 
 use super::Throttle;
 use super::arriving::LIVE_MOST;
 use crate::touched::Touched;
 use kn_event::{Entry, EntryLog, Row};
 use kn_policy::choice_laws;
-use kn_record::append::{append_laws, loop_laws, order_laws, walk_laws};
+use kn_record::append::{append_laws, loop_laws, order_laws, time_laws, walk_laws};
 use kn_record::seating::seating_laws;
 
 impl Throttle {
@@ -29,6 +29,7 @@ impl Throttle {
         ensures logged { (c : Trace) → StandsFor self.old.admission c → log.new ≡ log.old ++ settling self.old.spec time c }
         ensures stands { (c : Trace) → StandsFor self.old.admission c → StandsFor self.new.admission (c ++ settling self.old.spec time c) }
         ensures spec { self.new.spec ≡ self.old.spec }
+        ensures nobody { AddsNobody self.old.admission self.new.admission }
         ensures few { length log.new ≤ length log.old + 40500 }
     {
         let live = self.table.len();
@@ -43,10 +44,12 @@ impl Throttle {
         ensures logged { (c : Trace) → StandsFor self.old.admission c → log.new ≡ log.old ++ promotions time c (live_pods c) }
         ensures stands { (c : Trace) → StandsFor self.old.admission c → StandsFor self.new.admission (c ++ promotions time c (live_pods c)) }
         ensures spec { self.new.spec ≡ self.old.spec }
+        ensures nobody { AddsNobody self.old.admission self.new.admission }
         ensures room { length log.new + rows_left self.new.admission ≡ length log.old + rows_left self.old.admission }
     {
         append_laws();
         loop_laws();
+        time_laws();
         while let Some(r) = self.run_next() {
             log.put(Entry {
                 time,
@@ -60,9 +63,11 @@ impl Throttle {
         ensures logged { (c : Trace) → StandsFor self.old.admission c → log.new ≡ log.old ++ held_assignments self.old.spec time c }
         ensures stands { (c : Trace) → StandsFor self.old.admission c → StandsFor self.new.admission (c ++ held_assignments self.old.spec time c) }
         ensures spec { self.new.spec ≡ self.old.spec }
+        ensures nobody { AddsNobody self.old.admission self.new.admission }
         ensures room { length log.new + rows_left self.new.admission ≡ length log.old + rows_left self.old.admission }
     {
         loop_laws();
+        time_laws();
         while let Some((r, p)) = self.assign_next() {
             log.put(Entry {
                 time,
@@ -76,9 +81,11 @@ impl Throttle {
         ensures logged { (c : Trace) → StandsFor self.old.admission c → log.new ≡ log.old ++ removals time c }
         ensures stands { (c : Trace) → StandsFor self.old.admission c → StandsFor self.new.admission (c ++ removals time c) }
         ensures spec { self.new.spec ≡ self.old.spec }
+        ensures nobody { AddsNobody self.old.admission self.new.admission }
         ensures room { length log.new + rows_left self.new.admission ≡ length log.old + rows_left self.old.admission }
     {
         loop_laws();
+        time_laws();
         while let Some(p) = self.remove_next() {
             log.put(Entry {
                 time,

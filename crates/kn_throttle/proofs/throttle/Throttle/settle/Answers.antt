@@ -3,7 +3,7 @@ use Rattle.kn_event.specs.declared.entry.Entry.{Entry}
 use Rattle.kn_trace.specs.Trace.{Trace, live_pods}
 use Rattle.kn_trace.specs.Settling.{held_assignments, promotions, removals, settling}
 use Rattle.kn_throttle.specs.Settling.{rows_left}
-use Rattle.kn_throttle.proofs.Walking.{rows_few, settled_logged, settled_whole}
+use Rattle.kn_throttle.proofs.Walking.{nobody_more, rows_few, settled_logged, settled_whole}
 use Rattle.kn_throttle.proofs.throttle.Throttle.settle.Goals as goal
 
 pub run_all-requires : goal.run_all-requires
@@ -46,3 +46,6 @@ pub returns-clause-few : goal.returns-clause-few
 returns-clause-few c =
     let most : rows_left c.args.self.now.admission ≤ 40500 = rw (← c.self.view_is) (rows_few _ _ _ _ _ _ _ _ c.self.invariant) in
     omega (arith, c.run_all.ensures.room, c.assign_all.ensures.room, c.remove_all.ensures.room)
+
+pub returns-clause-nobody : goal.returns-clause-nobody
+returns-clause-nobody c = nobody_more _ _ _ (nobody_more _ _ _ c.run_all.ensures.nobody c.assign_all.ensures.nobody) c.remove_all.ensures.nobody
