@@ -1,9 +1,11 @@
 //! The activator's load-balancing policies: which of the Ready pods the next held request goes to.
 #![tactic(auto)]
 
+mod laws;
 mod policy;
 
 pub use kn_trace::Cand;
+pub use laws::choice_laws;
 pub use policy::Policy;
 
 #[cfg(test)]

@@ -6,5 +6,6 @@
 mod admission;
 pub mod append;
 pub mod facts;
+pub mod seating;
 
 pub use admission::{Place, Pod, Readiness, Request};

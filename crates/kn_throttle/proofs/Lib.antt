@@ -1,0 +1,11 @@
+pub mod Places
+pub mod Same
+pub mod Parts
+pub mod Once
+pub mod Ended
+pub mod Answering
+pub mod Arriving
+pub mod Living
+pub mod Coming
+pub mod Dispatching
+pub mod Walking

@@ -1,0 +1,21 @@
+use Rattle.std.proofs.Common.{◌≡◌, ◌∙◌, refl, List, ◌∷◌, [], length, length-append, sym, ap, arith}
+use Rattle.kn_event.specs.declared.entry.Entry.{Entry}
+use Rattle.kn_event.specs.declared.entry.Row.TheVariants as row
+use Rattle.kn_trace.specs.Trace.{entry}
+use Rattle.kn_record.specs.Admission.{stepped}
+use Rattle.kn_throttle.specs.State.{State}
+use Rattle.kn_throttle.proofs.Walking.{nobody_by, nobody_yet}
+use Rattle.kn_throttle.proofs.throttle.Throttle.assign_all.Goals as goal
+
+pub loop-r-preserved : goal.loop-r-preserved
+loop-r-preserved c =
+    let t = c.args.time in
+    let x = row.Assign c.in-Some.r c.in-Some.p in
+    record {
+      on = λ d h.
+          let l = c.loop-r.invariant.on d h in
+          rw (c.in-Some.ensures.after t, c.put.ensures) (c.loop_laws.ensures.more _ _ d c.loop-r.self.admission c.args.log.now c.loop-r.log t x l (rw c.loop-r.invariant.spec at (c.in-Some.ensures.begins l.here t l.stands)));
+      nobody = nobody_by c.time_laws.ensures.step c.args.self.now.admission c.loop-r.self.admission _ x refl refl c.loop-r.invariant.nobody (λ u. ap (λ (y : State). y.admission) (c.in-Some.ensures.after u));
+      spec = ap (λ (y : State). y.spec) (c.in-Some.ensures.after t) ∙ c.loop-r.invariant.spec;
+      room = rw c.put.ensures (omega (arith, length-append c.loop-r.log (entry t x ∷ []), c.in-Some.ensures.fewer));
+    }

@@ -1,0 +1,74 @@
+use Rattle.std.proofs.Common.{◌≡◌, ◌<◌, ◌^◌, ◌∙◌, ℕ, true, List, length, Some, None, inl, inr, rules, refl, sym, ap, arith}
+use Rattle.kn_event.specs.declared.entry.Row.TheVariants as row
+use Rattle.kn_trace.specs.declared.candidate.Cand.{Cand}
+use Rattle.kn_trace.specs.Trace.{first_of}
+use Rattle.kn_record.specs.Admission.{is_held_place, placed_in, stepped}
+use Rattle.kn_throttle.proofs.Parts.{cands_ascend}
+use Rattle.kn_throttle.proofs.Ended.{pod_there}
+use Rattle.kn_throttle.proofs.Dispatching.{cands_fit, kept_assigned}
+use Rattle.kn_throttle.proofs.Walking.{chosen_by, free-seat, held_runs, next_some, none_free, none_room, policy_after, robin-after, seat_found}
+use Rattle.kn_throttle.proofs.throttle.Throttle.assign_next.Goals as goal
+
+pub returns-in_default-clause-ends : goal.returns-in_default-clause-ends
+returns-in_default-clause-ends c = λ d t h.
+    let first : None ≡ first_of (placed_in is_held_place c.args.self.now.admission.live) = search rules in
+    c.walk_laws.ensures.assigned c.args.self.now.spec c.args.self.now.admission d t h (inl (sym first))
+
+pub returns-then-not-has_free_seat-clause-ends : goal.returns-then-not-has_free_seat-clause-ends
+returns-then-not-has_free_seat-clause-ends c = λ d t h.
+    rw (← c.self.view_is) (c.walk_laws.ensures.assigned c.self.inside.spec _ d t (rw (← c.self.view_is) at h) (inr (none_free c.choice_laws.ensures.none _ _ _ _ _ _ _ _ c.self.invariant (sym c.has_free_seat.ensures ∙ c.if-not-has_free_seat.true))))
+
+pub acquire-requires : goal.acquire-requires
+acquire-requires c = held_runs _ _ _ _ _ _ _ _ c.in-Some.r c.self.invariant c.in-Some.ensures.held
+
+pub returns-then-not-acquire-clause-ends : goal.returns-then-not-acquire-clause-ends
+returns-then-not-acquire-clause-ends c = λ d t h.
+    rw (← c.self.view_is) (c.walk_laws.ensures.assigned c.self.inside.spec _ d t (rw (← c.self.view_is) at h) (inr (none_room _ _ _ _ _ _ _ _ c.self.invariant (c.if-not-acquire.ensures.full.0 refl))))
+
+pub reserve_seat-requires-clause-there : goal.reserve_seat-requires-clause-there
+reserve_seat-requires-clause-there c =
+    let k = c.self.invariant in
+    let chosen = chosen_by _ _ _ _ _ _ _ _ c.unwrap-p.result c.as_slice.result.now c.pick.result k c.as_slice.ensures c.unwrap-p.ensures c.pick.ensures.chosen in
+    let found = seat_found c.seating_laws.ensures _ _ _ _ _ _ _ _ c.unwrap-p.result k chosen in
+    pod_there _ _ _ _ _ _ _ _ c.unwrap-p.result k found.there
+
+pub begin-requires-clause-order : goal.begin-requires-clause-order
+begin-requires-clause-order c =
+    let k = c.self.invariant in
+    rw k.candidates (cands_ascend c.self.inside.table c.self.inside.pods k.sound.order.pods)
+
+pub begin-requires-clause-fits : goal.begin-requires-clause-fits
+begin-requires-clause-fits c =
+    let k = c.self.invariant in
+    let few = k.sound.few in
+    let fits : length c.self.inside.table < 2 ^ 63 = omega arith in
+    rw k.candidates (cands_fit c.self.inside.table c.self.inside.pods fits)
+
+pub invariant_of-self-2 : goal.invariant_of-self-2
+unfolding stepped
+invariant_of-self-2 c =
+    let k = c.self.invariant in
+    let chosen = chosen_by _ _ _ _ _ _ _ _ c.unwrap-p.result c.as_slice.result.now c.pick.result k c.as_slice.ensures c.unwrap-p.ensures c.pick.ensures.chosen in
+    let found = seat_found c.seating_laws.ensures _ _ _ _ _ _ _ _ c.unwrap-p.result k chosen in
+    let free = c.reserve_seat.ensures.free ∙ free-seat _ _ _ _ _ _ _ _ c.unwrap-p.result k found in
+    let order = c.order_laws.ensures.step _ 0 (row.Assign c.in-Some.r c.unwrap-p.result) k.sound.order found.there in
+    let picked = rw c.unwrap-p.ensures at c.pick.ensures.picked in
+    kept_assigned _ _ _ _ _ _ _ _ _ _ _ _ c.in-Some.r c.unwrap-p.result c.assign.new.self k
+    (record { live = rw c.assign.ensures.moved order.live; arrived = rw c.assign.ensures.moved order.arrived; pods = order.pods; created = order.created; homes = rw c.assign.ensures.moved order.homes })
+    c.assign.ensures.len c.assign.ensures.moves c.if-not-acquire.ensures.acquired (rw free at c.reserve_seat.ensures.reserved) (rw free at c.reserve_seat.ensures.counted) c.begin.ensures
+    (policy_after c.self.inside.spec _ c.pick.new.self c.unwrap-p.result _ c.self.inside.assignments c.as_slice.result.now c.choice_laws.ensures.picked k.policy picked)
+
+pub returns-clause-after : goal.returns-clause-after
+unfolding stepped
+returns-clause-after c = λ t.
+    let k = c.self.invariant in
+    let picked = rw (c.unwrap-p.ensures, c.as_slice.ensures) at c.pick.ensures.picked in
+    let robin = robin-after c.self.inside.table c.self.inside.pods c.self.inside.candidates c.self.inside.policy c.pick.new.self c.unwrap-p.result k.candidates picked in
+    rw (c.assign.ensures.moved, robin, ← c.self.view_is) refl
+
+pub returns-clause-begins : goal.returns-clause-begins
+returns-clause-begins c = λ d t h.
+    let k = c.self.invariant in
+    let chosen = chosen_by _ _ _ _ _ _ _ _ c.unwrap-p.result c.as_slice.result.now c.pick.result k c.as_slice.ensures c.unwrap-p.ensures c.pick.ensures.chosen in
+    let next = next_some _ _ _ _ _ _ _ _ c.unwrap-p.result k (λ e. absurd (let no = c.if-not-acquire.ensures.full.1 e in cc)) chosen in
+    rw (← c.self.view_is) (c.walk_laws.ensures.assign c.self.inside.spec _ d t c.in-Some.r c.unwrap-p.result (rw (← c.self.view_is) at h) (sym c.in-Some.ensures.first) next)

@@ -1,0 +1,23 @@
+-- What follows without a further act, of the record.
+use Rattle.std.specs.Prelude.{◌≡◌, ℕ, Bool, ◌+◌, length}
+use Rattle.kn_record.specs.Admission.{Admission, placed_in, waits}
+use Rattle.kn_record.specs.Order.{AreTimed}
+use Rattle.kn_record.specs.Views.{is_pod_where, pod_numbered}
+use Rattle.kn_throttle.specs.Kept.{can_leave, can_run}
+
+-- whether the first queued request of pod p may run, and whether the pod drains with nothing at it
+abbrev pub can_run_at : Admission → ℕ → Bool
+can_run_at a p = is_pod_where (can_run a.live) (pod_numbered p a.pods)
+
+abbrev pub can_leave_at : Admission → ℕ → Bool
+can_leave_at a p = is_pod_where (can_leave a.live) (pod_numbered p a.pods)
+
+-- how many rows may follow at most: each is of a request that waits, or of a pod
+abbrev pub rows_left : Admission → ℕ
+rows_left a = length (placed_in waits a.live) + length a.pods
+
+-- nobody has come and no pod was created, and the live requests' times are in order as before
+pub record AddsNobody (old new : Admission) : Type 0 where
+  pub arrivals : new.arrivals ≡ old.arrivals
+  pub created : new.created ≡ old.created
+  pub timed : (clock : ℕ) → AreTimed clock old → AreTimed clock new

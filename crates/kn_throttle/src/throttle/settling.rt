@@ -1,0 +1,263 @@
+//! What follows without a further act: who waits is dispatched, and empty pods go.
+ghost use Rattle.std.specs.Prelude.{◌≡◌, ℕ, true, ◌+◌, ◌≤◌, ◌==◌, ◌||◌, ◌&&◌, [], ◌++◌, nat_lt, length, IfSome, IfNone};
+ghost use Rattle.kn_event.specs.declared.entry.Row.TheVariants as row;
+ghost use Rattle.kn_trace.specs.Trace.{Trace, contains, first_of, live_pods};
+ghost use Rattle.kn_trace.specs.Settling.{held_assignments, promotions, removals, settling};
+ghost use Rattle.kn_record.specs.Made.{StandsFor};
+ghost use Rattle.kn_record.specs.Views.{pod_numbers};
+ghost use Rattle.kn_record.specs.Walks.{BeginsWith, promoting};
+ghost use Rattle.kn_throttle.specs.Kept.{can_leave, can_run};
+ghost use Rattle.kn_throttle.specs.Pods.{pods_where};
+ghost use Rattle.kn_throttle.specs.Settling.{AddsNobody, can_leave_at, can_run_at, rows_left};
+
+use super::Throttle;
+use super::arriving::LIVE_MOST;
+use crate::touched::Touched;
+use kn_event::{Entry, EntryLog, Row};
+use kn_policy::choice_laws;
+use kn_record::append::{append_laws, loop_laws, order_laws, time_laws, walk_laws};
+use kn_record::seating::seating_laws;
+
+impl Throttle {
+    ghost use Rattle.kn_throttle.specs.State.{with_row};
+
+    /// Appends what follows from the entries so far: first the queued requests run at each live pod in order while it has a
+    /// free seat, then the held ones are assigned while a pod is chosen for the next, then each draining pod without a request
+    /// is removed. The log has at most 20,600 entries.
+    pub fn settle(&mut self, time: u64, log: &mut EntryLog)
+        requires room { length log.old ≤ 20600 }
+        ensures logged { (c : Trace) → StandsFor self.old.admission c → log.new ≡ log.old ++ settling self.old.spec time c }
+        ensures stands { (c : Trace) → StandsFor self.old.admission c → StandsFor self.new.admission (c ++ settling self.old.spec time c) }
+        ensures spec { self.new.spec ≡ self.old.spec }
+        ensures nobody { AddsNobody self.old.admission self.new.admission }
+        ensures few { length log.new ≤ length log.old + 40500 }
+    {
+        let live = self.table.len();
+        prove!(live <= LIVE_MOST);
+        self.run_all(time, log);
+        self.assign_all(time, log);
+        self.remove_all(time, log);
+    }
+
+    fn run_all(&mut self, time: u64, log: &mut EntryLog)
+        requires { length log.old + rows_left self.old.admission ≤ 61100 }
+        ensures logged { (c : Trace) → StandsFor self.old.admission c → log.new ≡ log.old ++ promotions time c (live_pods c) }
+        ensures stands { (c : Trace) → StandsFor self.old.admission c → StandsFor self.new.admission (c ++ promotions time c (live_pods c)) }
+        ensures spec { self.new.spec ≡ self.old.spec }
+        ensures nobody { AddsNobody self.old.admission self.new.admission }
+        ensures room { length log.new + rows_left self.new.admission ≡ length log.old + rows_left self.old.admission }
+    {
+        append_laws();
+        loop_laws();
+        time_laws();
+        while let Some(r) = self.run_next() {
+            log.put(Entry {
+                time,
+                row: Row::Run(r),
+            });
+        }
+    }
+
+    fn assign_all(&mut self, time: u64, log: &mut EntryLog)
+        requires { length log.old + rows_left self.old.admission ≤ 61100 }
+        ensures logged { (c : Trace) → StandsFor self.old.admission c → log.new ≡ log.old ++ held_assignments self.old.spec time c }
+        ensures stands { (c : Trace) → StandsFor self.old.admission c → StandsFor self.new.admission (c ++ held_assignments self.old.spec time c) }
+        ensures spec { self.new.spec ≡ self.old.spec }
+        ensures nobody { AddsNobody self.old.admission self.new.admission }
+        ensures room { length log.new + rows_left self.new.admission ≡ length log.old + rows_left self.old.admission }
+    {
+        loop_laws();
+        time_laws();
+        while let Some((r, p)) = self.assign_next() {
+            log.put(Entry {
+                time,
+                row: Row::Assign(r, p),
+            });
+        }
+    }
+
+    fn remove_all(&mut self, time: u64, log: &mut EntryLog)
+        requires { length log.old + rows_left self.old.admission ≤ 61100 }
+        ensures logged { (c : Trace) → StandsFor self.old.admission c → log.new ≡ log.old ++ removals time c }
+        ensures stands { (c : Trace) → StandsFor self.old.admission c → StandsFor self.new.admission (c ++ removals time c) }
+        ensures spec { self.new.spec ≡ self.old.spec }
+        ensures nobody { AddsNobody self.old.admission self.new.admission }
+        ensures room { length log.new + rows_left self.new.admission ≡ length log.old + rows_left self.old.admission }
+    {
+        loop_laws();
+        time_laws();
+        while let Some(p) = self.remove_next() {
+            log.put(Entry {
+                time,
+                row: Row::Remove(p),
+            });
+        }
+    }
+
+    /// Lets the next queued request run, and answers it.
+    fn run_next(&mut self) -> Option<u64>
+        ensures after { (time : ℕ) → IfSome result (λ r. self.new ≡ with_row time (row.Run r) self.old) }
+        ensures unchanged { IfNone result (self.new ≡ self.old) }
+        ensures fewer { IfSome result (λ r. rows_left self.new.admission + 1 ≡ rows_left self.old.admission) }
+        ensures begins { (c : Trace) (time : ℕ) → StandsFor self.old.admission c → IfSome result (λ r. BeginsWith (promoting time (pod_numbers self.old.admission.pods)) time (row.Run r) self.old.admission c) }
+        ensures ends { (c : Trace) (time : ℕ) → StandsFor self.old.admission c → IfNone result (promoting time (pod_numbers self.old.admission.pods) c ≡ []) }
+    {
+        order_laws();
+        walk_laws();
+        match self.pod_to_run() {
+            None => {
+                self.to_run = Touched::Nowhere;
+                None
+            }
+            Some(p) => {
+                let r = self.seats.promote(p).unwrap();
+                self.candidates.begin(p);
+                self.table.run(r);
+                Some(r)
+            }
+        }
+    }
+
+    /// Assigns the next held request, and answers it and its pod.
+    fn assign_next(&mut self) -> Option<(u64, u64)>
+        ensures after { (time : ℕ) → IfSome result (λ x. self.new ≡ with_row time (row.Assign x.0 x.1) self.old) }
+        ensures unchanged { IfNone result (self.new ≡ self.old) }
+        ensures fewer { IfSome result (λ x. rows_left self.new.admission + 1 ≡ rows_left self.old.admission) }
+        ensures begins { (c : Trace) (time : ℕ) → StandsFor self.old.admission c → IfSome result (λ x. BeginsWith (held_assignments self.old.spec time) time (row.Assign x.0 x.1) self.old.admission c) }
+        ensures ends { (c : Trace) (time : ℕ) → StandsFor self.old.admission c → IfNone result (held_assignments self.old.spec time c ≡ []) }
+    {
+        order_laws();
+        walk_laws();
+        choice_laws();
+        seating_laws();
+        let Some(r) = self.table.first_held() else {
+            return None;
+        };
+        if !self.candidates.has_free_seat() {
+            return None;
+        }
+        if !self.breaker.acquire() {
+            return None;
+        }
+        let p = self.policy.pick(self.candidates.as_slice()).unwrap();
+        let _ = self.seats.reserve_seat(p);
+        self.candidates.begin(p);
+        self.table.assign(r, p);
+        self.assignments += 1;
+        Some((r, p))
+    }
+
+    /// Removes the next draining pod without a request, and answers it.
+    fn remove_next(&mut self) -> Option<u64>
+        ensures after { (time : ℕ) → IfSome result (λ p. self.new ≡ with_row time (row.Remove p) self.old) }
+        ensures unchanged { IfNone result (self.new ≡ self.old) }
+        ensures fewer { IfSome result (λ p. rows_left self.new.admission + 1 ≡ rows_left self.old.admission) }
+        ensures begins { (c : Trace) (time : ℕ) → StandsFor self.old.admission c → IfSome result (λ p. BeginsWith (removals time) time (row.Remove p) self.old.admission c) }
+        ensures ends { (c : Trace) (time : ℕ) → StandsFor self.old.admission c → IfNone result (removals time c ≡ []) }
+    {
+        walk_laws();
+        match self.pod_to_leave() {
+            None => {
+                self.to_leave = Touched::Nowhere;
+                None
+            }
+            Some(p) => {
+                self.take_away(p);
+                Some(p)
+            }
+        }
+    }
+
+    /// The first pod at which a queued request may run.
+    fn pod_to_run(&self) -> Option<u64>
+        ensures { result ≡ first_of (pods_where (can_run self.now.admission.live) self.now.admission.pods) }
+    {
+        match self.to_run {
+            Touched::Nowhere => None,
+            Touched::At(p) => {
+                if self.can_run(p) {
+                    Some(p)
+                } else {
+                    None
+                }
+            }
+            Touched::Anywhere => self.first_to_run(),
+        }
+    }
+
+    fn first_to_run(&self) -> Option<u64>
+        ensures { result ≡ first_of (pods_where (can_run self.now.admission.live) self.now.admission.pods) }
+    {
+        let pods = self.pods.as_slice();
+        for pod in pods {
+            if self.can_run(pod.number) {
+                return Some(pod.number);
+            }
+        }
+        None
+    }
+
+    /// The first draining pod without a request.
+    fn pod_to_leave(&self) -> Option<u64>
+        ensures { result ≡ first_of (pods_where (can_leave self.now.admission.live) self.now.admission.pods) }
+    {
+        match self.to_leave {
+            Touched::Nowhere => None,
+            Touched::At(p) => {
+                if self.can_leave(p) {
+                    Some(p)
+                } else {
+                    None
+                }
+            }
+            Touched::Anywhere => self.first_to_leave(),
+        }
+    }
+
+    fn first_to_leave(&self) -> Option<u64>
+        ensures { result ≡ first_of (pods_where (can_leave self.now.admission.live) self.now.admission.pods) }
+    {
+        let pods = self.pods.as_slice();
+        for pod in pods {
+            if self.can_leave(pod.number) {
+                return Some(pod.number);
+            }
+        }
+        None
+    }
+
+    /// Whether a queued request may run at a pod.
+    fn can_run(&self, p: u64) -> bool
+        requires { contains p (pod_numbers self.now.admission.pods) ≡ true }
+        ensures { result ≡ can_run_at self.now.admission p }
+    {
+        if self.seats.queued(p) == 0 {
+            return false;
+        }
+        is_free(self.seats.limit(p), self.seats.running(p))
+    }
+
+    /// Whether a pod drains and no request is at it.
+    fn can_leave(&self, p: u64) -> bool
+        requires { contains p (pod_numbers self.now.admission.pods) ≡ true }
+        ensures { result ≡ can_leave_at self.now.admission p }
+    {
+        if !self.pods.is_draining(p) {
+            return false;
+        }
+        is_idle(self.seats.running(p), self.seats.queued(p))
+    }
+}
+
+/// Whether a pod of this limit has a free seat.
+fn is_free(limit: u64, running: u64) -> bool
+    ensures { result ≡ (limit == 0 || nat_lt running limit) }
+{
+    limit == 0 || running < limit
+}
+
+fn is_idle(running: u64, queued: u64) -> bool
+    ensures { result ≡ (running == 0 && queued == 0) }
+{
+    running == 0 && queued == 0
+}

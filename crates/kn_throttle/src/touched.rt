@@ -1,0 +1,34 @@
+//! Which pods may have something to do.
+ghost use Rattle.std.specs.Prelude.{◌≡◌};
+ghost use Rattle.kn_throttle.specs.Touched.{one_more, one_less};
+
+/// The pods at which something changed since all was done: none, this one, or any.
+#[derive(Clone, Copy, Debug, PartialEq, Eq)]
+pub enum Touched {
+    Nowhere,
+    At(u64),
+    Anywhere,
+}
+
+impl Touched {
+    /// With this pod too.
+    pub fn with(self, p: u64) -> Touched
+        ensures { result ≡ one_more p self }
+    {
+        match self {
+            Touched::Nowhere => Touched::At(p),
+            Touched::At(q) if q == p => Touched::At(q),
+            _ => Touched::Anywhere,
+        }
+    }
+
+    /// Once this pod is gone.
+    pub fn without(self, p: u64) -> Touched
+        ensures { result ≡ one_less p self }
+    {
+        match self {
+            Touched::At(q) if q == p => Touched::Nowhere,
+            other => other,
+        }
+    }
+}
