@@ -107,8 +107,8 @@ each_found [] rise = All-nil (λ (q : Pod). pod_numbered q.number [] ≡ Some q)
 each_found (q ∷ all) rise =
     All-cons (λ (x : Pod). pod_numbered x.number (q ∷ all) ≡ Some x) q all (rw (eq-eqb q.number q.number refl) refl)
     (λ k d h. let above = above_first (λ (q : Pod). q.number) q all rise k d h in
-        let other : (q.number == (get_or all k d).number) ≡ false = not_named q.number (get_or all k d).number (λ e. absurd (omega arith)) in
-        rw other (each_found all (rest_ascends (λ (q : Pod). q.number) q all rise) k d h))
+    let other : (q.number == (get_or all k d).number) ≡ false = not_named q.number (get_or all k d).number (λ e. absurd (omega arith)) in
+    rw other (each_found all (rest_ascends (λ (q : Pod). q.number) q all rise) k d h))
 
 pub found_there : (p : ℕ) (all : List Pod) (q : Pod) → pod_numbered p all ≡ Some q → contains p (pod_numbers all) ≡ true
 found_there p [] q f = absurd (cc)
@@ -267,9 +267,11 @@ walk_run promote promoted s a c t p r (q ∷ all) h each m f g =
         let free : is_free a.live q ≡ true = free_part (is_free a.live q) _ e in
         promote s a c t q.number (pod_numbers all) r h (rw same g) (rw found free)
     by false e f rest =
-        let more = rest f in
-        (promoted s a c t q.number (pod_numbers all) h there (over_in a.live e) ∙ more.0
-        ∙ ap (λ (l : List Entry). entry t (row.Run r) ∷ l) (sym (promoted s (record a { live = begins r a.live }) (c ++ entry t (row.Run r) ∷ []) t q.number (pod_numbers all) more.1 there (over_in (begins r a.live) (less_begun r p a.live (begins r a.live) m q e)))), more.1)
+        let more = rest f in (
+          promoted s a c t q.number (pod_numbers all) h there (over_in a.live e) ∙ more.0
+              ∙ ap (λ (l : List Entry). entry t (row.Run r) ∷ l) (sym (promoted s (record a { live = begins r a.live }) (c ++ entry t (row.Run r) ∷ []) t q.number (pod_numbers all) more.1 there (over_in (begins r a.live) (less_begun r p a.live (begins r a.live) m q e)))),
+          more.1,
+        )
 
 -- no pod has one
 pub walk_none : ((s : Spec) (a : Admission) (c : Trace) (t p : ℕ) (ps : List ℕ) → StandsFor a c → contains p (pod_numbers a.pods) ≡ true → (first_of (placed_in (queues_at p) a.live) ≡ None) ⊎ (has_free_seat_in a p ≡ false) → promoting t (p ∷ ps) c ≡ promoting t ps c)
