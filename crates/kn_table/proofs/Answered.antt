@@ -1,16 +1,16 @@
 -- What the calls that look for a first request answer.
-use Rattle.std.proofs.Common.{◌≡◌, refl, sym, ap, ◌∙◌, ℕ, ◌+◌, ◌≤◌, Bool, true, false, List, Option, Some, None, arith}
-use Rattle.std.specs.Prelude.{IfSome, is_some, nat_le, option_map, slice_get}
+use Rattle.std.proofs.Common.{◌≡◌, sym, ap, ◌∙◌, ℕ, ◌+◌, ◌≤◌, Bool, true, false, List, Option, Some, None, arith}
+use Rattle.std.specs.Prelude.{IfSome, nat_le, option_map, slice_get}
 use Rattle.std.specs.List.{AllPairs, filter}
 use Rattle.std.proofs.lemmas.Bool.Decides.{nat_tests}
 use Rattle.kn_trace.specs.Trace.{contains, first_of}
 use Rattle.kn_record.specs.declared.admission.Place.{Place}
 use Rattle.kn_record.specs.declared.admission.Request.{Request}
 use Rattle.kn_record.specs.Admission.{placed_in, waits}
-use Rattle.kn_record.specs.Views.{due_in, is_due, numbers_in}
+use Rattle.kn_record.specs.Views.{due_in, numbers_in}
 use Rattle.kn_table.specs.declared.slot.Slot.{Slot}
 use Rattle.kn_table.specs.Slots.{first_placed, live_of}
-use Rattle.kn_table.proofs.Requests.{first_listed, first_of-map, first_placed_there, placed_listed}
+use Rattle.kn_table.proofs.Requests.{first_listed, first_placed_there, placed_listed}
 use Rattle.kn_table.proofs.Firsts.{first_due, first_live, first_number, none_due, none_due_yet}
 
 -- the request, or its number, at the first place of a kind

@@ -1,17 +1,17 @@
 -- What a write to a slot, one more slot and a sweep do to the live requests, and that they keep the order.
-use Rattle.std.proofs.Common.{◌≡◌, refl, sym, ap, subst, ◌∙◌, ℕ, zero, suc, ◌+◌, ◌<◌, ◌≤◌, ◌⊎◌, inl, inr, Bool, true, false, cond, List, [], ◌∷◌, ◌++◌, length, get_or, set, arith, nat_eq, Option, Some, None}
+use Rattle.std.proofs.Common.{◌≡◌, refl, sym, ap, subst, ℕ, zero, suc, ◌<◌, ◌≤◌, Bool, true, false, cond, List, [], ◌∷◌, ◌++◌, length, get_or, set, arith, Some, None}
 use Rattle.std.specs.Prelude.{◌==◌, map}
 use Rattle.std.specs.List.{All, AllPairs, filter}
 use Rattle.std.proofs.lemmas.Bool.{eq-eqb}
 use Rattle.std.proofs.lemmas.Bool.Decides.{nat_tests}
-use Rattle.std.proofs.lemmas.List.{get_or-map, get_or-set_same, get_or-set_other, length-map, length-set}
+use Rattle.std.proofs.lemmas.List.{get_or-map, length-map, length-set}
 use Rattle.std.proofs.lemmas.List.Kept.{AllPairs-filter}
 use Rattle.std.proofs.lemmas.List.Quantifiers.{all_pairs_push}
 use Rattle.kn_record.specs.declared.admission.Request.{Request}
 use Rattle.kn_record.specs.Admission.{without}
 use Rattle.kn_table.specs.Order.{IsOrdered}
 use Rattle.kn_table.specs.declared.slot.Slot.{Slot}
-use Rattle.kn_table.specs.Slots.{AreInOrder, IsPlaceOf, is_live, live_of}
+use Rattle.kn_table.specs.Slots.{AreInOrder, is_live, live_of}
 use Rattle.kn_trace.specs.Events.{live_most}
 use Rattle.kn_table.proofs.Requests.{HasNone, changed, found, none_changed, none_found, none_without, turned}
 

@@ -1,5 +1,5 @@
 -- Facts on lists of requests whose numbers differ: which one a number finds, and what its move or its end changes.
-use Rattle.std.proofs.Common.{◌≡◌, refl, sym, ap, subst, ◌∙◌, ℕ, zero, suc, ◌+◌, ◌<◌, ◌≤◌, Bool, true, false, not, cond, ◌||◌, List, [], ◌∷◌, length, arith, nat_eq, Option, Some, None}
+use Rattle.std.proofs.Common.{◌≡◌, refl, sym, ap, subst, ◌∙◌, ℕ, suc, ◌+◌, ◌<◌, Bool, true, false, not, cond, ◌||◌, List, [], ◌∷◌, length, arith, Option, Some, None}
 use Rattle.std.specs.Prelude.{◌==◌, map, is_some, option_map}
 use Rattle.std.specs.List.{All, AllPairs, filter, find}
 use Rattle.std.proofs.lemmas.Bool.{eq-eqb, eqb-true}

@@ -1,6 +1,6 @@
 -- Finding a slot by its number.
-use Rattle.std.proofs.Common.{◌≡◌, ◌≢◌, refl, sym, ap, subst, ◌∙◌, ℕ, zero, suc, ◌+◌, ◌<◌, ◌≤◌, Bool, true, false, cond, List, [], ◌∷◌, length, get_or, take, arith, Option, Some, None, Result, Ok, Err, length-take, get_or-take}
-use Rattle.std.specs.Prelude.{◌==◌, ◌-◌, min, MatchOption, slice_get}
+use Rattle.std.proofs.Common.{◌≡◌, ◌≢◌, refl, sym, ap, ◌∙◌, ℕ, zero, suc, ◌<◌, ◌≤◌, true, false, List, [], ◌∷◌, length, get_or, arith, Option, Some, None, Result, Ok, Err}
+use Rattle.std.specs.Prelude.{◌==◌, ◌-◌, MatchOption, slice_get}
 use Rattle.std.specs.List.{All, AllPairs}
 use Rattle.std.specs.List.Sorted.{IsSearchInRange, IsBinarySearchResult, IsNonDecreasingBy}
 use Rattle.std.specs.Result.{result_ok}
@@ -9,7 +9,6 @@ use Rattle.std.proofs.lemmas.Bool.Decides.{nat_tests}
 use Rattle.std.proofs.lemmas.Cmp.{ranked}
 use Rattle.std.proofs.lemmas.List.{get_or_default}
 use Rattle.std.proofs.lemmas.List.Sorted.{IsNonDecreasingBy-from_default}
-use Rattle.kn_record.specs.declared.admission.Request.{Request}
 use Rattle.kn_table.specs.declared.slot.Slot.{Slot}
 use Rattle.kn_table.specs.Slots.{AreInOrder, IsPlaceOf, IsSlotOf, live_of}
 use Rattle.kn_table.proofs.Marks.{found_at, none_live}

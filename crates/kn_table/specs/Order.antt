@@ -1,5 +1,5 @@
 -- What a table's list of live requests keeps to, whatever is done.
-use Rattle.std.specs.Prelude.{ℕ, ◌<◌, ◌≤◌, List, length}
+use Rattle.std.specs.Prelude.{◌<◌, ◌≤◌, List, length}
 use Rattle.std.specs.List.{AllPairs}
 use Rattle.kn_trace.specs.Events.{live_most}
 use Rattle.kn_record.specs.declared.admission.Request.{Request}

@@ -1,5 +1,5 @@
 -- The slots behind a table's view: each request that came since the last sweep, those that ended with a mark.
-use Rattle.std.specs.Prelude.{◌≡◌, ℕ, Bool, true, false, not, ◌<◌, ◌≤◌, ◌&&◌, List, map, length, slice_index_or}
+use Rattle.std.specs.Prelude.{◌≡◌, ℕ, Bool, false, not, ◌<◌, ◌≤◌, ◌&&◌, List, map, length, slice_index_or}
 use Rattle.std.specs.List.{All, AllPairs, filter, position_or_len}
 use Rattle.kn_trace.specs.Events.{live_most}
 use Rattle.kn_record.specs.declared.admission.Place.{Place}

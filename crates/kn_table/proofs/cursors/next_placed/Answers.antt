@@ -1,4 +1,4 @@
-use Rattle.std.proofs.Common.{◌≡◌, ◌≤◌, length, sym, arith}
+use Rattle.std.proofs.Common.{◌≤◌, length, sym, arith}
 use Rattle.std.proofs.lemmas.List.Sums.{prefix_len-le-length}
 use Rattle.std.specs.Prelude.{not}
 use Rattle.kn_table.specs.declared.slot.Slot.{Slot}

@@ -1,4 +1,4 @@
-use Rattle.kn_table.proofs.Search.{ended_is_none, live_is_placed, none_is_found}
+use Rattle.kn_table.proofs.Search.{ended_is_none, none_is_found}
 use Rattle.kn_table.proofs.slot.place_of.Goals as goal
 
 pub returns-then-slots-place : goal.returns-then-slots-place

@@ -1,8 +1,7 @@
-use Rattle.std.proofs.Common.{◌≡◌, ◌∙◌, ◌≤◌, ap, arith, length, refl, sym, true}
+use Rattle.std.proofs.Common.{◌∙◌, ap, arith, length, refl, true}
 use Rattle.kn_record.specs.declared.admission.Place.TheVariants as place
-use Rattle.kn_record.specs.declared.admission.Request.{Request}
 use Rattle.kn_record.specs.Admission.{is_held_place, moved, waits}
-use Rattle.kn_table.specs.Slots.{IsPlaceOf, live_of}
+use Rattle.kn_table.specs.Slots.{live_of}
 use Rattle.kn_table.proofs.Firsts.{and-false}
 use Rattle.kn_table.proofs.Requests.{changed_length, is_held}
 use Rattle.kn_table.proofs.Writes.{few_live, kept-set, moved_count, moved_live, moved_moves, place_found, stands, still_before}

@@ -1,7 +1,5 @@
-use Rattle.std.proofs.Common.{◌≡◌, ◌≤◌, Some, None, subst, sym}
-use Rattle.std.specs.List.{filter}
+use Rattle.std.proofs.Common.{◌≤◌, subst, sym}
 use Rattle.kn_trace.specs.Events.{live_most}
-use Rattle.kn_trace.specs.Trace.{first_of}
 use Rattle.kn_record.specs.declared.admission.Request.{Request}
 use Rattle.kn_record.specs.Admission.{waits}
 use Rattle.kn_table.specs.Order.{IsOrdered}

@@ -1,4 +1,4 @@
-use Rattle.std.proofs.Common.{subst, sym, ◌≤◌}
+use Rattle.std.proofs.Common.{subst, ◌≤◌}
 use Rattle.kn_table.specs.Order.{IsOrdered}
 use Rattle.kn_table.proofs.Marks.{ordered}
 use Rattle.kn_trace.specs.Events.{live_most}

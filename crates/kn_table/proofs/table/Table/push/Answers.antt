@@ -1,4 +1,4 @@
-use Rattle.std.proofs.Common.{◌<◌, ◌≤◌, ap, arith, length, refl, subst, sym, false}
+use Rattle.std.proofs.Common.{◌<◌, arith, length, refl, subst, sym, false}
 use Rattle.kn_trace.specs.Events.{live_most}
 use Rattle.kn_table.proofs.Writes.{kept-push}
 use Rattle.kn_table.proofs.table.Table.push.Goals as goal

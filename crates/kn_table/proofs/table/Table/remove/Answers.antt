@@ -1,4 +1,4 @@
-use Rattle.std.proofs.Common.{◌≡◌, ◌∙◌, ◌≤◌, ◌-◌, ap, arith, length, refl, sym, true, List}
+use Rattle.std.proofs.Common.{◌∙◌, ◌-◌, ap, arith, length, refl, sym, true, List}
 use Rattle.kn_record.specs.declared.admission.Request.{Request}
 use Rattle.kn_table.specs.declared.slot.Slot.{Slot}
 use Rattle.kn_table.specs.Slots.{is_placed}

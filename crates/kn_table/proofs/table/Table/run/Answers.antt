@@ -1,6 +1,5 @@
-use Rattle.std.proofs.Common.{◌≡◌, ◌∙◌, ◌≤◌, ap, arith, length, refl, sym, false}
+use Rattle.std.proofs.Common.{◌∙◌, ap, length, refl, false}
 use Rattle.kn_record.specs.declared.admission.Place.TheVariants as place
-use Rattle.kn_record.specs.declared.admission.Request.{Request}
 use Rattle.kn_record.specs.Admission.{begins, begun, is_held_place, queues_at, waits}
 use Rattle.kn_table.specs.declared.slot.Slot.{Slot}
 use Rattle.kn_table.specs.Slots.{live_of}
