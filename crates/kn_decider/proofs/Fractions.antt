@@ -1,5 +1,5 @@
 -- The fractions that are constants.
-use Rattle.std.proofs.Common.{◌≡◌, ℕ, ◌<◌, refl}
+use Rattle.std.proofs.Common.{◌≡◌, ◌<◌}
 use Rattle.std.proofs.Math.Bridge.{le_prop}
 use Rattle.kn_event.specs.declared.units.Frac.{Frac}
 use Rattle.kn_scaling.specs.Decide.{no_load, one_request}

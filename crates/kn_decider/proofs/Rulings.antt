@@ -1,15 +1,14 @@
 -- A decision by its parts.
-use Rattle.std.proofs.Common.{◌≡◌, ℕ, Bool, refl, sym, ap, ◌∙◌, subst, List, ◌∷◌, map, Option, None, Some, ℤ}
-use Rattle.std.specs.Prelude.{option_map, unwrap_or}
+use Rattle.std.proofs.Common.{◌≡◌, ℕ, Bool, refl, subst, List, ◌∷◌, map, None, Some, ℤ}
+use Rattle.std.specs.Prelude.{unwrap_or}
 use Rattle.kn_event.specs.declared.entry.Counts.{Counts}
 use Rattle.kn_event.specs.declared.entry.Decision.{Decision}
 use Rattle.kn_event.specs.declared.entry.Mode.{Mode}
 use Rattle.kn_event.specs.declared.revision.Spec.{Spec}
 use Rattle.kn_event.specs.declared.units.Frac.{Frac}
-use Rattle.kn_scaling.specs.declared.delay.Asked.{Asked}
 use Rattle.kn_scaling.specs.declared.panic.Judged.{Judged}
 use Rattle.kn_scaling.specs.declared.zero.ZeroAnswer.{ZeroAnswer}
-use Rattle.kn_scaling.specs.Average.{Samples, second_of, window_average}
+use Rattle.kn_scaling.specs.Average.{second_of, window_average}
 use Rattle.kn_scaling.specs.Burst.{excess_burst, serving_mode}
 use Rattle.kn_scaling.specs.Decide.{Past, Ruling, asked_of, decision_at, judged_of, no_load, one_request, ruling, stable_window_ms, wake_decision_at}
 use Rattle.kn_scaling.specs.Delay.{delayed_count}
@@ -19,7 +18,7 @@ use Rattle.kn_scaling.specs.Zero.{bounded_count, zero_rule}
 use Rattle.kn_panic.specs.Stands.{PanicState, StandsFor as IsPanicOf, judged_by}
 use Rattle.kn_delay.specs.Stands.{DelayState, StandsFor as IsDelayOf, asked_by}
 use Rattle.kn_zero.specs.Zero.{ZeroState, with_answer, with_mode}
-use Rattle.kn_decider.specs.Decider.{DeciderState, StandsFor, standing_after, with_ruling, with_tick}
+use Rattle.kn_decider.specs.Decider.{DeciderState, StandsFor, with_ruling}
 
 -- what the parts answer
 pub record Parts : Type 0 where

@@ -1,15 +1,12 @@
 -- The samples of the windows, as seconds close, and what averages read of them.
-use Rattle.std.proofs.Common.{◌≡◌, ℕ, ◌+◌, ◌<◌, ◌≤◌, ◌⊎◌, inl, inr, Bool, true, false, ◌&&◌, not, refl, sym, ap, ◌∙◌, subst, arith, nat_lt, nat_le, map, List, Option, None, Some, IfSome, cond}
+use Rattle.std.proofs.Common.{◌≡◌, ℕ, ◌+◌, ◌<◌, ◌≤◌, ◌⊎◌, inl, inr, Bool, true, false, ◌&&◌, refl, sym, ap, ◌∙◌, subst, arith, nat_lt, nat_le, map, Option, None, Some, IfSome, cond}
 use Rattle.std.proofs.lemmas.Bool.{cases_lt}
 use Rattle.std.proofs.Math.Bridge.{le_prop}
 use mathlib.Core.HLevel.{Unit-prop}
 use Rattle.std.proofs.lemmas.Bool.Decides.{nat_tests}
-use Rattle.kn_event.specs.declared.entry.Counts.{Counts}
 use Rattle.kn_event.specs.declared.revision.Metric.{Metric}
-use Rattle.kn_event.specs.declared.revision.Spec.{Spec}
 use Rattle.kn_event.specs.declared.units.Frac.{Frac}
-use Rattle.kn_scaling.specs.declared.average.SampleRun.{SampleRun}
-use Rattle.kn_scaling.specs.Average.{IsAverage, Samples, is_in_run, load_after, no_samples, window_average, with_run}
+use Rattle.kn_scaling.specs.Average.{IsAverage, Samples, no_samples, window_average, with_run}
 use Rattle.kn_scaling.specs.Decide.{Past, asked_of, judged_of}
 use Rattle.kn_scaling.specs.Worked.{run_of}
 use Rattle.kn_stats.specs.declared.closed.Closed.{Closed}

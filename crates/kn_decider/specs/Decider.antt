@@ -1,13 +1,13 @@
 -- Which past a Decider stands for.
-use Rattle.std.specs.Prelude.{◌≡◌, ℕ, Bool, ◌||◌, nat_le, List, [], ◌∷◌, map, Option, None, Some}
+use Rattle.std.specs.Prelude.{◌≡◌, ℕ, Bool, ◌||◌, nat_le, [], ◌∷◌, map, Option, None, Some}
 use Rattle.kn_event.specs.declared.revision.Spec.{Spec}
-use Rattle.kn_scaling.specs.Average.{no_samples, second_of}
-use Rattle.kn_scaling.specs.Decide.{Decided, Past, Ruling, asked_of, judged_of}
+use Rattle.kn_scaling.specs.Average.{no_samples}
+use Rattle.kn_scaling.specs.Decide.{Past, Ruling, asked_of, judged_of}
 use Rattle.kn_scaling.specs.declared.zero.Standing.{Standing}
 use Rattle.kn_window.specs.Stands.{WindowState, StandsFor as IsWindowOf}
 use Rattle.kn_panic.specs.Stands.{PanicState, StandsFor as IsPanicOf}
 use Rattle.kn_delay.specs.Stands.{DelayState, StandsFor as IsDelayOf}
-use Rattle.kn_zero.specs.Zero.{ZeroState, opening_standing, settings_of, with_answer, with_mode, with_ready_pod}
+use Rattle.kn_zero.specs.Zero.{ZeroState, opening_standing, with_answer, with_mode, with_ready_pod}
 use Rattle.kn_decider.specs.Closing.{below}
 
 pub record DeciderState : Type 0 where

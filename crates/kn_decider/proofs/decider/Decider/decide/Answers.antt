@@ -1,6 +1,6 @@
 use mir.Syntax.{w64}
 use mir.Val.{SFits, of_z, to_z}
-use Rattle.std.proofs.Common.{◌≡◌, ap, ◌∙◌, ◌∷◌, map, rules, subst, ℕ}
+use Rattle.std.proofs.Common.{ap, ◌∙◌, ◌∷◌, map, rules, subst, ℕ}
 use Rattle.std.proofs.lemmas.Int.{to_z-of_z}
 use Rattle.kn_scaling.specs.declared.zero.Standing.{Standing}
 use Rattle.kn_scaling.specs.Average.{second_of}

@@ -1,4 +1,4 @@
-use Rattle.std.proofs.Common.{sym, ap, ◌∙◌, subst, nat_le}
+use Rattle.std.proofs.Common.{ap, ◌∙◌, nat_le}
 use Rattle.kn_event.specs.declared.revision.Spec.{Spec}
 use Rattle.kn_scaling.specs.Average.{no_samples}
 use Rattle.kn_zero.specs.Zero.{ZeroState, opening_standing}
