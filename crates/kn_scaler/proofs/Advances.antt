@@ -71,11 +71,11 @@ module _ (facts : TraceFacts) where
       let whole : second_of x.stats.time ≤ second_of to = let le = over.order in omega (arith, le) in
       let now : y.stats.time ≡ to = ap (λ (z : StatsState). z.time) is in
       let agree : (n : ℕ) → n < second_of to → with_closed x.decider.spec.metric closed (below (second_of x.stats.time) (samples s.metric c)) n ≡ samples s.metric c n =
-          λ n lt.
-          ap (λ (z : Spec). with_closed z.metric closed (below (second_of x.stats.time) (samples s.metric c)) n) stands.spec
-          ∙ ap (λ (k : Closed). with_closed s.metric k (below (second_of x.stats.time) (samples s.metric c)) n) eq
-          ∙ closed-samples facts s c ready x.stats.time to (record { made = made; times = stands.times; order = over.order }) is_ready
-            (λ k after. over.alike (changes_of c) (gone_pods c) k stands.stats after) (λ k after. over.quiet (changes_of c) (gone_pods c) k stands.stats after) n lt in
+      λ n lt.
+      ap (λ (z : Spec). with_closed z.metric closed (below (second_of x.stats.time) (samples s.metric c)) n) stands.spec
+      ∙ ap (λ (k : Closed). with_closed s.metric k (below (second_of x.stats.time) (samples s.metric c)) n) eq
+      ∙ closed-samples facts s c ready x.stats.time to (record { made = made; times = stands.times; order = over.order }) is_ready
+      (λ k after. over.alike (changes_of c) (gone_pods c) k stands.stats after) (λ k after. over.quiet (changes_of c) (gone_pods c) k stands.stats after) n lt in
       let taken : Past = record (past_of s c) { samples = with_closed x.decider.spec.metric closed (below (second_of x.stats.time) (samples s.metric c)) } in
       record {
         spec = ap (λ (d : DeciderState). d.spec) takes.kept ∙ stands.spec;

@@ -188,8 +188,8 @@ module _ (facts : TraceFacts) where
           ∙ ap (cond (is_sampled s.metric ready (load_by cs (second_of time)) (arrived_count cs (second_of time))) (Some (value_of s.metric (load_by cs (second_of time)) (arrived_count cs (second_of time))))) none
           ∙ is_sample s.metric ready (load_by cs (second_of time)) (arrived_count cs (second_of time))
           ∙ sample-of s.metric c time n _ _ ready passes.times (omega arith)
-            (ap (load_by cs) (sym now) ∙ load s c 0 time n passes.made passes.times)
-            (ap (arrived_count cs) (sym now) ∙ count c n) is_ready
+          (ap (load_by cs) (sym now) ∙ load s c 0 time n passes.made passes.times)
+          (ap (arrived_count cs) (sym now) ∙ count c n) is_ready
       by (inr (inl earlier)) =
           let cs = changes_of c in
           run-out s.metric ready (second_of time + 1) (second_of to) (load_by cs (second_of time + 1)) 0 n _ (inl (omega arith))
@@ -201,11 +201,11 @@ module _ (facts : TraceFacts) where
           let none : below (second_of time) (samples s.metric c) n ≡ None = rw (not_before n (second_of time) (omega arith)) refl in
           run-in s.metric ready (second_of time + 1) (second_of to) (load_by cs (second_of time + 1)) 0 n _ (omega arith) lt
           ∙ ap (cond (is_sampled s.metric ready (load_by cs (second_of time + 1)) 0) (Some (value_of s.metric (load_by cs (second_of time + 1)) 0)))
-            (run-out s.metric ready (second_of time) (end_of_first (second_of time) (second_of to)) (load_by cs (second_of time)) (arrived_count cs (second_of time)) n _ (inr (omega (arith, end))) ∙ none)
+          (run-out s.metric ready (second_of time) (end_of_first (second_of time) (second_of to)) (load_by cs (second_of time)) (arrived_count cs (second_of time)) n _ (inr (omega (arith, end))) ∙ none)
           ∙ is_sample s.metric ready (load_by cs (second_of time + 1)) 0
           ∙ sample-of s.metric c time n _ _ ready passes.times (omega arith)
-            (sym (alike n after) ∙ load s c 0 time n passes.made passes.times)
-            (ap (min counted_most) (sym (quiet n after)) ∙ count c n) is_ready
+          (sym (alike n after) ∙ load s c 0 time n passes.made passes.times)
+          (ap (min counted_most) (sym (quiet n after)) ∙ count c n) is_ready
 
   pub can_close : (s : Spec) (c : Trace) (ready : Bool) (time to end : ℕ) → Passes s c time to → to ≤ 2 ^ 42 → end ≤ second_of time → CanClose end (closed_by s.metric (changes_of c) (second_of time) (second_of to) ready)
   unfolding closed_by
@@ -227,9 +227,10 @@ pub all_over : (s : Spec) (c : Trace) (ready : Bool) (time to : ℕ) → time �
     → (let closed = closed_by s.metric (changes_of c) (second_of time) (second_of to) ready in IsOverAt (second_of to) closed.first × IsOverAt (second_of to) closed.rest)
 unfolding closed_by
 all_over s c ready time to le =
-    let ends = first_end (second_of time) (second_of to) (omega arith) in
-    (run_is_over s.metric ready (second_of time) (end_of_first (second_of time) (second_of to)) (load_by (changes_of c) (second_of time)) (arrived_count (changes_of c) (second_of time)) (second_of to) ends.2,
-    run_is_over s.metric ready (second_of time + 1) (second_of to) (load_by (changes_of c) (second_of time + 1)) 0 (second_of to) (omega arith))
+    let ends = first_end (second_of time) (second_of to) (omega arith) in (
+      run_is_over s.metric ready (second_of time) (end_of_first (second_of time) (second_of to)) (load_by (changes_of c) (second_of time)) (arrived_count (changes_of c) (second_of time)) (second_of to) ends.2,
+      run_is_over s.metric ready (second_of time + 1) (second_of to) (load_by (changes_of c) (second_of time + 1)) 0 (second_of to) (omega arith),
+    )
 
 pub ends_by : (s : Spec) (c : Trace) (ready : Bool) (time to end : ℕ) → time ≤ to → end ≤ second_of time
     → (let closed = closed_by s.metric (changes_of c) (second_of time) (second_of to) ready in end_after closed.rest (end_after closed.first end) ≤ second_of to)

@@ -86,16 +86,16 @@ silent (row.Decided d) h = absurd (cc)
 silent _ h = (refl, refl, refl)
 
 module _
-  (views : (s : Spec) (a : Admission) (c : Trace) → StandsFor a c → AreViews s a c)
-  (stands : (s : Spec) (c : Trace) → IsMade s c → StandsFor (admission c) c)
-  (append : (s : Spec) (a : Admission) (c : Trace) (t : ℕ) (x : Row) → StandsFor a c → IsProper s c x → StandsFor (stepped t x a) (c ++ entry t x ∷ []))
+    (views : (s : Spec) (a : Admission) (c : Trace) → StandsFor a c → AreViews s a c)
+    (stands : (s : Spec) (c : Trace) → IsMade s c → StandsFor (admission c) c)
+    (append : (s : Spec) (a : Admission) (c : Trace) (t : ℕ) (x : Row) → StandsFor a c → IsProper s c x → StandsFor (stepped t x a) (c ++ entry t x ∷ []))
   where
-  pub is_beside : (s : Spec) (c : Trace) (t : ℕ) (x : Row) → IsMade s c → IsProper s c x → says_scale x ≡ false → IsBeside c (entry t x)
-  unfolding count_ready stepped
-  is_beside s c t x made proper says =
-      let old = stands s c made in
-      let before = ap length (views s (admission c) c old).ready in
-      let after = ap length (views s (stepped t x (admission c)) (c ++ entry t x ∷ []) (append s (admission c) c t x old proper)).ready in
-      let less = fewer x (admission c).pods says in
-      let none = silent x says in
-      record { phase = none.0; mode = none.1; decision = none.2; ready = omega (arith, before, after, less) }
+    pub is_beside : (s : Spec) (c : Trace) (t : ℕ) (x : Row) → IsMade s c → IsProper s c x → says_scale x ≡ false → IsBeside c (entry t x)
+    unfolding count_ready stepped
+    is_beside s c t x made proper says =
+        let old = stands s c made in
+        let before = ap length (views s (admission c) c old).ready in
+        let after = ap length (views s (stepped t x (admission c)) (c ++ entry t x ∷ []) (append s (admission c) c t x old proper)).ready in
+        let less = fewer x (admission c).pods says in
+        let none = silent x says in
+        record { phase = none.0; mode = none.1; decision = none.2; ready = omega (arith, before, after, less) }

@@ -164,7 +164,7 @@ ready_past t p ready s q = by q.standing.phase q.standing.phase_since q.standing
   where
     by : (at : Phase) (since : ℕ) (way : Mode) (way_since want : ℕ)
         → (let old : Past = record q { standing = record { phase = at; phase_since = since; mode = way; mode_since = way_since; want = want } } in
-          IsSame (with_ready s t ready old) (with_entries (ready_rows_of t p (is_activating at)) old))
+        IsSame (with_ready s t ready old) (with_entries (ready_rows_of t p (is_activating at)) old))
     by phase.Activating since way way_since want = record { decisions = refl; standing = refl }
     by phase.Active since way way_since want = record { decisions = refl; standing = refl }
     by phase.Inactive since way way_since want = record { decisions = refl; standing = refl }
@@ -206,8 +206,8 @@ module _ (facts : TraceFacts) (s : Spec) (x : ScalerState) (c : Trace) (stands :
       let more = where_true b (entry t (row.Phase phase.Active) ∷ []) in
       let waits : is_same_phase phase.Activating (phase_of c) ≡ b = ap (is_same_phase phase.Activating) (stands-phase s c _ stands.phase) ∙ waits-same q.standing.phase in
       let reached : initial_reached s (c ++ e ∷ more) ≡ (initial_reached s c || nat_le s.initial ready) =
-          ap (initial_reached s) (sym (append_assoc c (e ∷ []) more)) ∙ reached-more facts s (c ++ e ∷ []) more (after_leaves t b) ∙ facts.entries.reached s c e
-          ∙ ap (λ n. initial_reached s c || nat_le s.initial n) many in
+      ap (initial_reached s) (sym (append_assoc c (e ∷ []) more)) ∙ reached-more facts s (c ++ e ∷ []) more (after_leaves t b) ∙ facts.entries.reached s c e
+      ∙ ap (λ n. initial_reached s c || nat_le s.initial n) many in
       subst (λ (k : Bool). StandsFor s (record { stats = x.stats; decider = d }) (c ++ ready_rows_of t p k)) (sym waits)
       (silent-stands facts s x c (ready_rows_of t p b) d (with_ready s t ready q) stands
       (record {
@@ -236,20 +236,20 @@ ruled-is c r p is_phase is_mode =
 
 -- what is answered of a decision, by what a Decider stands for after it
 module _ (s : Spec) (c : Trace) (d : DeciderState) (t until : ℕ) (before : Phase) (way : Mode) (answer : Ruled) (k : Decision)
-  (is : (past : Past) (next : ℕ) → IsDeciderOf d past next → answer ≡ ruled_from k before way past.standing.phase past.standing.mode)
-  (was : before ≡ (past_of s c).standing.phase) (was_way : way ≡ (past_of s c).standing.mode) (some : phase_of c ≡ Some (past_of s c).standing.phase)
+    (is : (past : Past) (next : ℕ) → IsDeciderOf d past next → answer ≡ ruled_from k before way past.standing.phase past.standing.mode)
+    (was : before ≡ (past_of s c).standing.phase) (was_way : way ≡ (past_of s c).standing.mode) (some : phase_of c ≡ Some (past_of s c).standing.phase)
   where
-  pub ruling-answer : (r : Ruling) → k ≡ r.decision → IsDeciderOf d (with_ruling t r (past_of s c)) until → answer ≡ ruled_by c r
-  ruling-answer r made stands =
-      is (with_ruling t r (past_of s c)) until stands
-      ∙ ap (λ (z : Decision). ruled_from z before way r.phase r.decision.mode) made
-      ∙ ap (λ (p : Phase). ruled_from r.decision p way r.phase r.decision.mode) was
-      ∙ ap (λ (m : Mode). ruled_from r.decision (past_of s c).standing.phase m r.phase r.decision.mode) was_way
-      ∙ ruled-is c r (past_of s c) some (stands-mode s c)
+    pub ruling-answer : (r : Ruling) → k ≡ r.decision → IsDeciderOf d (with_ruling t r (past_of s c)) until → answer ≡ ruled_by c r
+    ruling-answer r made stands =
+        is (with_ruling t r (past_of s c)) until stands
+        ∙ ap (λ (z : Decision). ruled_from z before way r.phase r.decision.mode) made
+        ∙ ap (λ (p : Phase). ruled_from r.decision p way r.phase r.decision.mode) was
+        ∙ ap (λ (m : Mode). ruled_from r.decision (past_of s c).standing.phase m r.phase r.decision.mode) was_way
+        ∙ ruled-is c r (past_of s c) some (stands-mode s c)
 
-  pub tick-answer : (o : Option Ruling) → Some k ≡ option_map (λ (r : Ruling). r.decision) o → IsDeciderOf d (with_tick t o (past_of s c)) until → Some answer ≡ option_map (ruled_by c) o
-  tick-answer None made stands = absurd (cc)
-  tick-answer (Some r) made stands = let same : k ≡ r.decision = cc in ap Some (ruling-answer r same stands)
+    pub tick-answer : (o : Option Ruling) → Some k ≡ option_map (λ (r : Ruling). r.decision) o → IsDeciderOf d (with_tick t o (past_of s c)) until → Some answer ≡ option_map (ruled_by c) o
+    tick-answer None made stands = absurd (cc)
+    tick-answer (Some r) made stands = let same : k ≡ r.decision = cc in ap Some (ruling-answer r same stands)
 
 pub no-answer : (c : Trace) (o : Option Ruling) → None ≡ option_map (λ (r : Ruling). r.decision) o → None ≡ option_map (ruled_by c) o
 no-answer c None made = refl

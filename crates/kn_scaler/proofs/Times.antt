@@ -1,5 +1,5 @@
 -- Traces whose further entries are all at one time, the latest.
-use Rattle.std.proofs.Common.{◌≡◌, ℕ, ◌+◌, ◌<◌, ◌≤◌, [], ◌∷◌, ◌++◌, arith}
+use Rattle.std.proofs.Common.{◌≡◌, ℕ, ◌<◌, ◌≤◌, [], ◌∷◌, ◌++◌, arith}
 use Rattle.kn_scaling.specs.Average.{second_of}
 use Rattle.kn_trace.specs.Trace.{Trace}
 use Rattle.kn_record.specs.Order.{AreTimesInOrder}

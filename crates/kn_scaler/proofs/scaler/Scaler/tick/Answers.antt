@@ -29,11 +29,11 @@ returns-clause-ruled c =
     let made = c.tick.ensures.decision (past_of s b) until le stands.decider in
     let at = tick-at s c.self.inside.decider b c.args.time c.args.ready stands.spec many in
     elim c.match-tick.branch [
-      in-None w ↦ w.result-is ∙ no-answer b _ (sym w.in-None.is ∙ made) ∙ ap (λ (o : Option Ruling). option_map (ruled_by b) o) at
-    | in-Some w ↦
-        w.result-is
-        ∙ tick-answer s b c.tick.new.self c.args.time until c.phase-phase.result c.mode-mode.result w.ruling_of.result w.in-Some.decision w.ruling_of.ensures
+      | in-None w ↦ w.result-is ∙ no-answer b _ (sym w.in-None.is ∙ made) ∙ ap (λ (o : Option Ruling). option_map (ruled_by b) o) at
+      | in-Some w ↦
+          w.result-is
+          ∙ tick-answer s b c.tick.new.self c.args.time until c.phase-phase.result c.mode-mode.result w.ruling_of.result w.in-Some.decision w.ruling_of.ensures
           (c.phase-phase.ensures (past_of s b) until stands.decider) (c.mode-mode.ensures (past_of s b) until stands.decider) (stands-phase s b _ stands.phase) _
           (sym w.in-Some.is ∙ made) (c.tick.ensures.stands (past_of s b) until le stands.decider)
-        ∙ ap (λ (o : Option Ruling). option_map (ruled_by b) o) at
+          ∙ ap (λ (o : Option Ruling). option_map (ruled_by b) o) at
     ])
