@@ -1,0 +1,9 @@
+pub mod Times
+pub mod Pasts
+pub mod Closings
+pub mod Steps
+pub mod Advances
+pub mod Openings
+pub mod Rulings
+pub mod Others
+pub mod Ready

@@ -1,0 +1,3 @@
+pub mod Stands
+pub mod Rows
+pub mod Facts
