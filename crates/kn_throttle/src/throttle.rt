@@ -12,21 +12,19 @@ mod ending;
 mod lifecycle;
 mod settling;
 
-
 use crate::candidates::Candidates;
 use crate::pods::Pods;
 use crate::touched::Touched;
+pub use arriving::Arrival;
 use kn_breaker::Breaker;
 use kn_event::{Memory, Spec, Stand};
 use kn_policy::Policy;
-use kn_record::append::append_laws;
 use kn_record::Place;
+use kn_record::append::append_laws;
 use kn_seats::Seats;
 use kn_table::Table;
 use std::alloc::Global;
 use std::marker::Model;
-
-pub use arriving::Arrival;
 
 /// The activator's throttler of one revision: it decides which requests are admitted, where they go, when they run, and which
 /// pods are removed.

@@ -16,8 +16,8 @@ ghost use Rattle.kn_throttle.specs.Breaker.{released};
 
 use super::Throttle;
 use kn_breaker::Breaker;
-use kn_record::{Place, Request};
 use kn_record::append::{append_laws, order_laws, walk_laws};
+use kn_record::{Place, Request};
 use kn_table::Table;
 
 impl Throttle {

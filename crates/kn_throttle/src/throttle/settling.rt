@@ -174,13 +174,7 @@ impl Throttle {
     {
         match self.to_run {
             Touched::Nowhere => None,
-            Touched::At(p) => {
-                if self.can_run(p) {
-                    Some(p)
-                } else {
-                    None
-                }
-            }
+            Touched::At(p) => { if self.can_run(p) { Some(p) } else { None } }
             Touched::Anywhere => self.first_to_run(),
         }
     }
@@ -203,13 +197,7 @@ impl Throttle {
     {
         match self.to_leave {
             Touched::Nowhere => None,
-            Touched::At(p) => {
-                if self.can_leave(p) {
-                    Some(p)
-                } else {
-                    None
-                }
-            }
+            Touched::At(p) => { if self.can_leave(p) { Some(p) } else { None } }
             Touched::Anywhere => self.first_to_leave(),
         }
     }

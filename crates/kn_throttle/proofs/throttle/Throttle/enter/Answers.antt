@@ -1,4 +1,4 @@
-use Rattle.std.proofs.Common.{◌≡◌, ◌<◌, ℕ, true, false, [], length, refl, sym, ap, ◌∙◌, arith, Some}
+use Rattle.std.proofs.Common.{◌≡◌, ◌<◌, true, false, [], length, refl, sym, ap, ◌∙◌, arith, Some}
 use Rattle.kn_event.specs.declared.entry.Row.{Row}
 use Rattle.kn_event.specs.declared.entry.Row.TheVariants as row
 use Rattle.kn_event.specs.declared.entry.Mode.TheVariants.{Serve}
@@ -54,8 +54,9 @@ returns-then-not-enter-clause-value c = λ tag.
     let few : length c.self.inside.table < live_most = omega (arith, c.len.ensures.len) in
     let none : c.args.mode ≡ Serve → pods_in is_ready_now c.self.inside.pods ≡ [] =
     elim c.match-mode.branch [
-      in-Serve+else-not-is_empty w ↦ λ m. none_ready _ _ _ _ _ _ _ _ w.as_slice-ready.result.now k w.as_slice-ready.ensures w.if-not-is_empty.ensures
-    | in_default w ↦ λ m. absurd (w.in_default.not-Serve m) ] in
+      | in-Serve+else-not-is_empty w ↦ λ m. none_ready _ _ _ _ _ _ _ _ w.as_slice-ready.result.now k w.as_slice-ready.ensures w.if-not-is_empty.ensures
+      | in_default w ↦ λ m. absurd (w.in_default.not-Serve m)
+    ] in
     rw (← c.self.view_is) (through-row c.self.inside.spec c.args.mode _ tag few none ∙ ap (λ (x : Row). Some x) (refused-row _ _ _ _ _ _ _ _ tag k (c.if-not-enter.ensures.full.0 refl)))
 
 pub invariant_of-self-2 : goal.invariant_of-self-2
@@ -72,6 +73,7 @@ returns-clause-value c = λ tag.
     let few : length c.self.inside.table < live_most = omega (arith, c.len.ensures.len) in
     let none : c.args.mode ≡ Serve → pods_in is_ready_now c.self.inside.pods ≡ [] =
     elim c.match-mode.branch [
-      in-Serve+else-not-is_empty w ↦ λ m. none_ready _ _ _ _ _ _ _ _ w.as_slice-ready.result.now k w.as_slice-ready.ensures w.if-not-is_empty.ensures
-    | in_default w ↦ λ m. absurd (w.in_default.not-Serve m) ] in
+      | in-Serve+else-not-is_empty w ↦ λ m. none_ready _ _ _ _ _ _ _ _ w.as_slice-ready.result.now k w.as_slice-ready.ensures w.if-not-is_empty.ensures
+      | in_default w ↦ λ m. absurd (w.in_default.not-Serve m)
+    ] in
     rw (← c.self.view_is) (through-row c.self.inside.spec c.args.mode _ tag few none ∙ ap (λ (x : Row). Some x) (admitted-row _ _ _ _ _ _ _ _ tag k (λ e. absurd (let no = c.if-not-enter.ensures.full.1 e in cc))))
