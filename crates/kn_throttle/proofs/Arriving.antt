@@ -1,10 +1,9 @@
 -- An arrival: the pod in turn, the row that it makes, and what is kept.
-use Rattle.std.proofs.Common.{◌≡◌, ℕ, zero, suc, ◌+◌, ◌*◌, ◌<◌, ◌≤◌, ◌%◌, ◌^◌, Bool, true, false, not, cond, ◌&&◌, ◌||◌, List, [], ◌∷◌, ◌++◌, length, get_or, map, refl, sym, ap, subst, ◌∙◌, arith, nat_le, nat_lt, append-nil, length-append}
-use Rattle.std.specs.Prelude.{Option, None, Some, ◌==◌, slice_index, if◌then◌else◌}
+use Rattle.std.proofs.Common.{◌≡◌, ℕ, zero, suc, ◌+◌, ◌<◌, ◌≤◌, ◌%◌, ◌^◌, Bool, true, false, not, cond, ◌&&◌, ◌||◌, List, [], ◌∷◌, ◌++◌, length, get_or, map, refl, sym, ap, subst, ◌∙◌, arith, nat_le, append-nil, length-append}
+use Rattle.std.specs.Prelude.{None, Some, ◌==◌, slice_index, if◌then◌else◌}
 use Rattle.std.specs.List.{filter}
-use Rattle.std.proofs.lemmas.Bool.{eqb-true, eq-eqb}
+use Rattle.std.proofs.lemmas.Bool.{eq-eqb}
 use Rattle.std.proofs.lemmas.Bool.Decides.{nat_tests}
-use Rattle.kn_event.specs.declared.entry.Row.{Row}
 use Rattle.kn_event.specs.declared.entry.Row.TheVariants as row
 use Rattle.kn_event.specs.declared.entry.Mode.{Mode}
 use Rattle.kn_event.specs.declared.entry.Mode.TheVariants as mode
@@ -19,17 +18,16 @@ use Rattle.kn_seats.specs.Pods as pods
 use Rattle.kn_seats.specs.Pods.{pod_at, requests_at_all}
 use Rattle.kn_seats.specs.declared.pod.Pod as seat
 use Rattle.kn_policy.specs.Policy as policy
-use Rattle.kn_record.specs.declared.admission.Place.{Place}
 use Rattle.kn_record.specs.declared.admission.Place.TheVariants as place
 use Rattle.kn_record.specs.declared.admission.Request.{Request}
 use Rattle.kn_record.specs.declared.admission.Pod.{Pod}
 use Rattle.kn_record.specs.Acting.{admission_row_in, arrival_row_in, row_in}
 use Rattle.kn_record.specs.Admission.{Admission, candidate_of, candidates_in, is_assigned_place, is_at, is_draining_now, is_held_place, is_ready_now, is_through, placed_in, pods_in, queues_at, runs_at}
 use Rattle.kn_record.specs.Order.{IsInOrder}
-use Rattle.kn_record.specs.Views.{is_full, is_full_in, pod_numbers}
+use Rattle.kn_record.specs.Views.{is_full_in, pod_numbers}
 use Rattle.kn_throttle.specs.declared.touched.Touched.{Touched}
-use Rattle.kn_throttle.specs.Touched.{Covers, one_more}
-use Rattle.kn_throttle.specs.Kept.{IsKept, IsSound, breaker_in, can_leave, can_run, seat_of, seats_in}
+use Rattle.kn_throttle.specs.Touched.{one_more}
+use Rattle.kn_throttle.specs.Kept.{IsKept, can_leave, can_run, seat_of}
 use Rattle.kn_throttle.proofs.Places.{not_named}
 use Rattle.kn_throttle.proofs.Same.{SameAt, at-parts, eq-sym, placed-push, same_can_leave, same_can_run, same_pushed}
 use Rattle.kn_throttle.proofs.Parts.{cands_same, covers_less, covers_more, pod_of, seats_at, seats_same}

@@ -1,7 +1,7 @@
 -- What is kept when a pod is created or becomes Ready, and when one goes.
-use Rattle.std.proofs.Common.{◌≡◌, ℕ, zero, suc, ◌+◌, ◌<◌, ◌≤◌, ◌^◌, Bool, true, false, not, cond, ◌&&◌, ◌||◌, List, [], ◌∷◌, ◌++◌, length, get_or, map, take, drop, min, nat_lt, nat_eq, refl, sym, ap, ◌∙◌, arith, append-nil, length-append}
-use Rattle.std.specs.Prelude.{Option, None, Some, ◌==◌, find, if◌then◌else◌}
-use Rattle.std.specs.List.{All, filter, insert, list_any, position_or_len}
+use Rattle.std.proofs.Common.{◌≡◌, ℕ, suc, ◌+◌, ◌<◌, ◌≤◌, Bool, true, false, not, cond, ◌&&◌, ◌||◌, List, [], ◌∷◌, ◌++◌, length, map, min, nat_lt, refl, sym, ap, ◌∙◌, arith, append-nil, length-append}
+use Rattle.std.specs.Prelude.{Some, ◌==◌, if◌then◌else◌}
+use Rattle.std.specs.List.{All, filter, insert, position_or_len}
 use Rattle.std.proofs.lemmas.Bool.{eqb-true, eq-eqb}
 use Rattle.std.proofs.lemmas.Bool.Decides.{nat_tests}
 use Rattle.std.proofs.lemmas.List.Elements.{All-cons, All-head, All-map, All-nil, All-tail, All-weaker, filter-append}
@@ -20,18 +20,18 @@ use Rattle.kn_record.specs.declared.admission.Readiness.{Readiness}
 use Rattle.kn_record.specs.declared.admission.Readiness.TheVariants as readiness
 use Rattle.kn_record.specs.declared.admission.Request.{Request}
 use Rattle.kn_record.specs.declared.admission.Pod.{Pod}
-use Rattle.kn_record.specs.Admission.{Admission, candidate_of, candidates_in, capacity_in, is_at, is_draining_now, is_held_place, is_ready_now, is_starting_now, marked, placed_in, pods_in, queues_at, readied, runs_at, with_readiness}
+use Rattle.kn_record.specs.Admission.{Admission, candidate_of, candidates_in, capacity_in, is_at, is_draining_now, is_ready_now, is_starting_now, marked, placed_in, pods_in, queues_at, readied, runs_at, with_readiness}
 use Rattle.kn_record.specs.Order.{IsAmong, IsInOrder}
 use Rattle.kn_record.specs.Views.{is_free, pod_numbered, pod_numbers}
 use Rattle.kn_throttle.specs.declared.touched.Touched.{Touched}
 use Rattle.kn_throttle.specs.declared.touched.Touched.TheVariants.{Nowhere}
-use Rattle.kn_throttle.specs.Touched.{Covers, one_less}
+use Rattle.kn_throttle.specs.Touched.{one_less}
 use Rattle.kn_throttle.specs.Candidates.{capacity_of}
 use Rattle.kn_throttle.specs.Pods.{AreAscending}
-use Rattle.kn_throttle.specs.Kept.{IsKept, IsSound, breaker_in, can_leave, can_run, pods_room, seat_of, seats_in}
+use Rattle.kn_throttle.specs.Kept.{IsKept, breaker_in, can_leave, can_run, pods_room, seat_of, seats_in}
 use Rattle.kn_throttle.proofs.Places.{above_first, not_named, rest_ascends}
 use Rattle.kn_throttle.proofs.Same.{at-parts, eq-sym}
-use Rattle.kn_throttle.proofs.Parts.{covers_less, pod_of, IsPodOf}
+use Rattle.kn_throttle.proofs.Parts.{covers_less, pod_of}
 use Rattle.kn_throttle.proofs.Living.{breaker_set, but, covers-map, covers_gone, covers_new, marked_number, seats-readied}
 
 -- ---- a pod that is created

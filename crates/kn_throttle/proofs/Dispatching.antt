@@ -1,7 +1,7 @@
 -- What is kept when a queued request runs, and when a held one is assigned.
-use Rattle.std.proofs.Common.{◌≡◌, ℕ, zero, suc, ◌+◌, ◌-◌, ◌*◌, ◌<◌, ◌≤◌, ◌^◌, Bool, true, false, not, cond, ◌&&◌, ◌||◌, List, [], ◌∷◌, length, drop, map, nat_lt, refl, sym, ap, ◌∙◌, arith}
+use Rattle.std.proofs.Common.{◌≡◌, ℕ, zero, suc, ◌+◌, ◌<◌, ◌^◌, Bool, true, false, not, cond, ◌&&◌, ◌||◌, List, [], ◌∷◌, length, drop, map, nat_lt, refl, sym, ap, ◌∙◌, arith}
 use Rattle.std.specs.Prelude.{Option, None, Some, ◌==◌, slice_get, if◌then◌else◌}
-use Rattle.std.specs.List.{All, filter, position_or_len}
+use Rattle.std.specs.List.{All, filter}
 use Rattle.std.proofs.lemmas.Bool.{eqb-true, eq-eqb}
 use Rattle.std.proofs.lemmas.Bool.Decides.{nat_tests}
 use Rattle.kn_event.specs.declared.revision.Spec.{Spec}
@@ -13,7 +13,6 @@ use Rattle.kn_seats.specs.Pods.{has_free_seat, pod_at, requests_at_all}
 use Rattle.kn_seats.specs.declared.pod.Pod as seat
 use Rattle.kn_policy.specs.Policy as policy
 use Rattle.kn_policy.specs.Policy.{policy_at}
-use Rattle.kn_record.specs.declared.admission.Place.{Place}
 use Rattle.kn_record.specs.declared.admission.Place.TheVariants as place
 use Rattle.kn_record.specs.declared.admission.Request.{Request}
 use Rattle.kn_record.specs.declared.admission.Pod.{Pod}
@@ -25,10 +24,10 @@ use Rattle.kn_throttle.specs.declared.touched.Touched.{Touched}
 use Rattle.kn_throttle.specs.Candidates as cands
 use Rattle.kn_throttle.specs.Candidates.{with_changed}
 use Rattle.kn_throttle.specs.Pods.{AreAscending, pods_where}
-use Rattle.kn_throttle.specs.Kept.{IsKept, IsSound, breaker_in, can_leave, can_run, seat_of, seats_in}
+use Rattle.kn_throttle.specs.Kept.{IsKept, can_leave, can_run, seat_of}
 use Rattle.kn_throttle.proofs.Once.{first_once, others}
 use Rattle.kn_throttle.proofs.Places.{above_first, not_named, rest_ascends}
-use Rattle.kn_throttle.proofs.Same.{SameAt, eq-sym, length-placed, same_assigned, same_begun, same_can_leave, same_can_run, through-parts}
+use Rattle.kn_throttle.proofs.Same.{SameAt, eq-sym, length-placed, same_assigned, same_begun, same_can_leave, same_can_run}
 use Rattle.kn_throttle.proofs.Parts.{cands_at, covers_less, pod_of, seats_at}
 use Rattle.kn_throttle.proofs.Coming.{below_there}
 

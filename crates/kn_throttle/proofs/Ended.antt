@@ -1,8 +1,8 @@
 -- What is kept when a request ends.
-use Rattle.std.proofs.Common.{◌≡◌, ℕ, ◌+◌, ◌-◌, ◌<◌, ◌≤◌, Bool, true, false, not, ◌&&◌, List, [], ◌∷◌, length, map, refl, sym, ap, ◌∙◌, arith}
-use Rattle.std.specs.Prelude.{◌==◌, Some, None, Option, Contains, find, if◌then◌else◌}
+use Rattle.std.proofs.Common.{◌≡◌, ℕ, ◌+◌, ◌-◌, ◌<◌, ◌≤◌, Bool, true, false, not, ◌&&◌, List, [], ◌∷◌, length, refl, sym, ap, ◌∙◌, arith}
+use Rattle.std.specs.Prelude.{◌==◌, Some, Contains, find, if◌then◌else◌}
 use Rattle.std.specs.List.{All}
-use Rattle.std.proofs.lemmas.Bool.{eqb-true, eq-eqb}
+use Rattle.std.proofs.lemmas.Bool.{eq-eqb}
 use Rattle.std.proofs.lemmas.List.Elements.{All-head, All-tail}
 use Rattle.kn_event.specs.declared.revision.Spec.{Spec}
 use Rattle.kn_trace.specs.declared.candidate.Cand.{Cand}
@@ -16,15 +16,15 @@ use Rattle.kn_record.specs.declared.admission.Place.{Place}
 use Rattle.kn_record.specs.declared.admission.Place.TheVariants as place
 use Rattle.kn_record.specs.declared.admission.Request.{Request}
 use Rattle.kn_record.specs.declared.admission.Pod.{Pod}
-use Rattle.kn_record.specs.Admission.{Admission, candidate_of, candidates_in, capacity_in, is_assigned_place, is_at, is_held_place, is_through, placed_in, queues_at, runs_at}
+use Rattle.kn_record.specs.Admission.{Admission, candidate_of, is_assigned_place, is_held_place, is_through, placed_in, queues_at, runs_at}
 use Rattle.kn_record.specs.Order.{IsAmong, IsInOrder}
 use Rattle.kn_record.specs.Views.{is_free, pod_numbers}
 use Rattle.kn_table.specs.Moves.{Leaves}
 use Rattle.kn_throttle.specs.declared.touched.Touched.{Touched}
-use Rattle.kn_throttle.specs.Touched.{Covers, one_more}
+use Rattle.kn_throttle.specs.Touched.{one_more}
 use Rattle.kn_throttle.specs.Breaker.{released}
 use Rattle.kn_throttle.specs.Candidates.{ended, with_changed}
-use Rattle.kn_throttle.specs.Kept.{IsKept, IsSound, breaker_in, can_leave, can_run, seat_of, seats_in}
+use Rattle.kn_throttle.specs.Kept.{IsKept, IsSound, breaker_in, can_leave, can_run, seat_of}
 use Rattle.kn_throttle.proofs.Once.{Contains-there, lost-there, others, without_once}
 use Rattle.kn_throttle.proofs.Same.{SameAt, eq-sym, same_can_leave, same_can_run, same_ended, through-parts}
 use Rattle.kn_throttle.proofs.Parts.{cands_at, cands_same, covers_less, covers_more, pod_of, seats-has, seats_at, seats_same}

@@ -1,40 +1,34 @@
 -- What is kept when a pod comes, changes or goes.
-use Rattle.std.proofs.Common.{◌≡◌, ℕ, zero, suc, ◌+◌, ◌<◌, ◌≤◌, ◌^◌, Bool, true, false, not, cond, ◌&&◌, ◌||◌, ◌⊎◌, inl, inr, List, [], ◌∷◌, ◌++◌, length, get_or, map, take, drop, min, nat_lt, refl, sym, ap, ◌∙◌, arith, append-nil, length-append}
-use Rattle.std.specs.Prelude.{Option, None, Some, ◌==◌, find, if◌then◌else◌}
-use Rattle.std.specs.List.{All, filter, insert, position_or_len, sum_by}
+use Rattle.std.proofs.Common.{◌≡◌, ℕ, ◌+◌, Bool, true, false, not, cond, ◌||◌, List, [], ◌∷◌, ◌++◌, length, map, min, refl, sym, ap, ◌∙◌, arith}
+use Rattle.std.specs.Prelude.{◌==◌, if◌then◌else◌}
+use Rattle.std.specs.List.{All, filter, sum_by}
 use Rattle.std.proofs.lemmas.Bool.{eqb-true, eq-eqb}
-use Rattle.std.proofs.lemmas.Bool.Decides.{nat_tests}
-use Rattle.std.proofs.lemmas.List.Elements.{All-cons, All-filter, All-head, All-map, All-nil, All-push, All-tail, All-weaker, filter-append}
+use Rattle.std.proofs.lemmas.List.Elements.{All-cons, All-head, All-map, All-nil, All-push, All-tail, All-weaker}
 use Rattle.std.proofs.lemmas.List.Sums.{sum_by-cons}
 use Rattle.kn_event.specs.declared.revision.Spec.{Spec}
 use Rattle.kn_trace.specs.declared.candidate.Cand.{Cand}
 use Rattle.kn_trace.specs.Capacity.{seats_of}
-use Rattle.kn_trace.specs.Trace.{contains, is_empty}
+use Rattle.kn_trace.specs.Trace.{contains}
 use Rattle.kn_breaker.specs.Breaker as breaker
 use Rattle.kn_seats.specs.Seats as seats
-use Rattle.kn_seats.specs.Pods.{idle_pod, pod_at, requests_at, requests_at_all, with_pod_changed, without_pod}
+use Rattle.kn_seats.specs.Pods.{requests_at_all, with_pod_changed}
 use Rattle.kn_seats.specs.declared.pod.Pod as seat
 use Rattle.kn_policy.specs.Policy as policy
-use Rattle.kn_record.specs.declared.admission.Place.{Place}
-use Rattle.kn_record.specs.declared.admission.Place.TheVariants as place
 use Rattle.kn_record.specs.declared.admission.Readiness.{Readiness}
 use Rattle.kn_record.specs.declared.admission.Readiness.TheVariants as readiness
 use Rattle.kn_record.specs.declared.admission.Request.{Request}
 use Rattle.kn_record.specs.declared.admission.Pod.{Pod}
-use Rattle.kn_record.specs.Admission.{Admission, candidate_of, candidates_in, capacity_in, drained, is_at, is_draining_now, is_ready_now, is_starting_now, limited, marked, placed_in, pods_in, queues_at, readied, runs_at, with_limit, with_readiness}
-use Rattle.kn_record.specs.Order.{IsAmong, IsInOrder}
-use Rattle.kn_record.specs.Views.{is_free, pod_numbered, pod_numbers}
+use Rattle.kn_record.specs.Admission.{Admission, candidate_of, candidates_in, capacity_in, drained, is_draining_now, is_ready_now, is_starting_now, limited, marked, pods_in, readied, with_limit, with_readiness}
+use Rattle.kn_record.specs.Order.{IsInOrder}
+use Rattle.kn_record.specs.Views.{pod_numbers}
 use Rattle.kn_throttle.specs.declared.touched.Touched.{Touched}
 use Rattle.kn_throttle.specs.declared.touched.Touched.TheVariants.{Nowhere, At, Anywhere}
 use Rattle.kn_throttle.specs.Touched.{Covers, IsOneOf, is_touched, one_less, one_more}
 use Rattle.kn_throttle.specs.Candidates as cands
 use Rattle.kn_throttle.specs.Candidates.{capacity_of, with_changed}
-use Rattle.kn_throttle.specs.Pods.{AreAscending}
-use Rattle.kn_throttle.specs.Kept.{IsKept, IsSound, breaker_in, can_leave, can_run, pods_room, seat_of, seats_in}
-use Rattle.kn_throttle.proofs.Places.{above_first, not_named, rest_ascends}
-use Rattle.kn_throttle.proofs.Same.{at-parts, eq-sym}
-use Rattle.kn_throttle.proofs.Parts.{covers_less, covers_more, pod_of}
-use Rattle.kn_throttle.proofs.Ended.{found_has}
+use Rattle.kn_throttle.specs.Kept.{IsKept, breaker_in, can_leave, can_run, seat_of}
+use Rattle.kn_throttle.proofs.Same.{eq-sym}
+use Rattle.kn_throttle.proofs.Parts.{covers_less, covers_more}
 
 -- ---- which pods are touched
 

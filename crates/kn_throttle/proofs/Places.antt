@@ -1,5 +1,5 @@
 -- Lists of what has a number, in ascending order: a number is looked up, and what has it is changed.
-use Rattle.std.proofs.Common.{◌≡◌, ℕ, zero, suc, ◌<◌, ◌≤◌, Bool, true, false, not, cond, List, [], ◌∷◌, set, get_or, length, map, refl, sym, ap, ◌∙◌, arith, nat_eq, Option, Some, None, Result, Ok, Err, IfSome, IfNone}
+use Rattle.std.proofs.Common.{◌≡◌, ℕ, zero, suc, ◌<◌, ◌≤◌, Bool, true, false, not, cond, List, [], ◌∷◌, set, get_or, length, map, refl, sym, ap, arith, nat_eq, Some, None, Result, Ok, Err, IfSome, IfNone}
 use Rattle.std.specs.List.{All, AllPairs, HoldsAt, find, position, position_or_len}
 use Rattle.std.specs.List.Sorted.{IsSearchInRange, IsBinarySearchResult, IsNonDecreasingBy}
 use Rattle.std.specs.Option.{unwrap_or}
@@ -8,7 +8,6 @@ use Rattle.std.specs.Result.{result_ok}
 use Rattle.std.proofs.lemmas.Bool.Decides.{nat_tests}
 use Rattle.std.proofs.lemmas.Cmp.{ranked}
 use Rattle.std.proofs.lemmas.Grind.{common_steps}
-use Rattle.std.proofs.lemmas.List.{get_or_default}
 use Rattle.std.proofs.lemmas.List.Sorted.{IsNonDecreasingBy-from_default}
 use Rattle.std.proofs.lemmas.List.Sums.{prefix_len-le-length}
 

@@ -1,5 +1,5 @@
 -- What settling finds next, and the rows that it makes of it.
-use Rattle.std.proofs.Common.{◌≡◌, ℕ, zero, suc, ◌+◌, ◌<◌, ◌≤◌, Bool, true, false, not, cond, ◌&&◌, ◌||◌, ◌⊎◌, inl, inr, List, [], ◌∷◌, ◌++◌, length, get_or, map, take, drop, nat_lt, ◌*◌, refl, sym, ap, subst, ◌∙◌, arith, append_assoc, add-one, drop-cons}
+use Rattle.std.proofs.Common.{◌≡◌, ℕ, zero, suc, ◌+◌, ◌<◌, ◌≤◌, Bool, true, false, not, cond, ◌&&◌, ◌||◌, ◌⊎◌, inl, inr, List, [], ◌∷◌, ◌++◌, length, get_or, map, drop, nat_lt, ◌*◌, refl, sym, ap, ◌∙◌, arith, append_assoc, add-one, drop-cons}
 use Rattle.std.specs.Prelude.{Option, None, Some, ◌==◌, if◌then◌else◌}
 use Rattle.std.specs.List.{All, filter, list_any, position_or_len}
 use Rattle.std.proofs.lemmas.Bool.Decides.{nat_tests}
@@ -17,29 +17,28 @@ use Rattle.kn_trace.specs.Choice.{chosen_pod, generator_at, has_seat}
 use Rattle.kn_trace.specs.Settling.{promotions}
 use Rattle.kn_breaker.specs.Breaker as breaker
 use Rattle.kn_seats.specs.Seats as seats
-use Rattle.kn_seats.specs.Pods.{has_free_seat, pod_at, requests_at_all}
+use Rattle.kn_seats.specs.Pods.{has_free_seat, pod_at}
 use Rattle.kn_policy.specs.Policy as policy
 use Rattle.kn_policy.specs.Policy.{place_past, policy_at}
 use Rattle.kn_record.specs.declared.admission.Place.TheVariants as place
 use Rattle.kn_record.specs.declared.admission.Request.{Request}
 use Rattle.kn_record.specs.declared.admission.Pod.{Pod}
-use Rattle.kn_record.specs.Admission.{Admission, begins, candidate_of, candidates_in, capacity_in, is_assigned_place, is_at, is_draining_now, is_held_place, is_ready_now, next_in, placed_in, pods_in, queues_at, runs_at, stepped, waits}
+use Rattle.kn_record.specs.Admission.{Admission, begins, candidate_of, candidates_in, capacity_in, is_assigned_place, is_at, is_draining_now, is_held_place, is_ready_now, next_in, placed_in, pods_in, queues_at, stepped, waits}
 use Rattle.kn_record.specs.Made.{StandsFor}
 use Rattle.kn_record.specs.Views.{has_free_seat_in, is_free, is_pod_where, pod_numbered, pod_numbers}
 use Rattle.kn_record.specs.Walks.{BeginsWith, leaving_in, promoting}
 use Rattle.kn_table.specs.Moves.{Moves}
 use Rattle.kn_throttle.specs.declared.touched.Touched.{Touched}
-use Rattle.kn_throttle.specs.declared.touched.Touched.TheVariants.{Nowhere, At, Anywhere}
-use Rattle.kn_throttle.specs.Touched.{Covers, is_touched}
+use Rattle.kn_throttle.specs.declared.touched.Touched.TheVariants.{Nowhere, At}
+use Rattle.kn_throttle.specs.Touched.{Covers}
 use Rattle.kn_throttle.specs.Pods.{AreAscending, pods_where}
 use Rattle.kn_throttle.specs.Settling.{AddsNobody, rows_left}
-use Rattle.kn_throttle.specs.Kept.{IsKept, can_leave, can_run, seat_of, seats_in}
+use Rattle.kn_throttle.specs.Kept.{IsKept, can_leave, can_run}
 use Rattle.kn_throttle.proofs.Places.{above_first, not_named, rest_ascends}
 use Rattle.kn_throttle.proofs.Same.{at-parts, eq-sym, length-placed, through-parts}
 use Rattle.kn_throttle.proofs.Arriving.{cands-pods}
 use Rattle.kn_throttle.proofs.Parts.{pod_of}
 use Rattle.kn_throttle.proofs.Living.{but}
-use Rattle.kn_throttle.proofs.Coming.{empty_from}
 use Rattle.kn_throttle.proofs.Dispatching.{FoundFirst, found_where, less_begun}
 
 pub both_parts : (x y : Bool) → (x && y) ≡ true → (x ≡ true) × (y ≡ true)

@@ -1,4 +1,4 @@
-use Rattle.std.proofs.Common.{◌≡◌, ◌∙◌, sym, ap, set, get_or, rules}
+use Rattle.std.proofs.Common.{sym}
 use Rattle.kn_trace.specs.declared.candidate.Cand.{Cand}
 use Rattle.kn_throttle.specs.Candidates.{begun}
 use Rattle.kn_throttle.proofs.Places.{changed-at, unchanged}

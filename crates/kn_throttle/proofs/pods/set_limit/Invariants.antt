@@ -1,4 +1,4 @@
-use Rattle.std.proofs.Common.{◌≡◌, ◌++◌, map, take, drop}
+use Rattle.std.proofs.Common.{◌≡◌, ◌++◌, take, drop}
 use Rattle.kn_record.specs.Admission.{with_limit}
 use Rattle.kn_throttle.proofs.pods.set_limit.Given as goal
 

@@ -1,4 +1,4 @@
-use Rattle.std.proofs.Common.{◌≡◌, ◌<◌, ◌∙◌, length, get_or, List, Some, sym, ap, refl}
+use Rattle.std.proofs.Common.{◌≡◌, ◌<◌, ◌∙◌, length, get_or, List, ap, refl}
 use Rattle.kn_record.specs.declared.admission.Pod.{Pod}
 use Rattle.kn_record.specs.Admission.{is_draining_now}
 use Rattle.kn_throttle.proofs.Places.{found-at, found-none}

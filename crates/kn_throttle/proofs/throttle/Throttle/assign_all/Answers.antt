@@ -1,10 +1,8 @@
-use Rattle.std.proofs.Common.{◌≡◌, ◌∙◌, refl, List, ◌∷◌, [], length, length-append, sym, ap, arith}
-use Rattle.kn_event.specs.declared.entry.Entry.{Entry}
+use Rattle.std.proofs.Common.{◌∙◌, refl, ◌∷◌, [], length-append, ap, arith}
 use Rattle.kn_event.specs.declared.entry.Row.TheVariants as row
 use Rattle.kn_trace.specs.Trace.{entry}
-use Rattle.kn_record.specs.Admission.{stepped}
 use Rattle.kn_throttle.specs.State.{State}
-use Rattle.kn_throttle.proofs.Walking.{nobody_by, nobody_yet}
+use Rattle.kn_throttle.proofs.Walking.{nobody_by}
 use Rattle.kn_throttle.proofs.throttle.Throttle.assign_all.Goals as goal
 
 pub loop-r-preserved : goal.loop-r-preserved

@@ -1,6 +1,5 @@
-use Rattle.std.proofs.Common.{◌≡◌, ◌<◌, ◌^◌, ◌∙◌, ℕ, true, List, length, Some, None, inl, inr, rules, refl, sym, ap, arith}
+use Rattle.std.proofs.Common.{◌≡◌, ◌<◌, ◌^◌, ◌∙◌, length, None, inl, inr, rules, refl, sym, arith}
 use Rattle.kn_event.specs.declared.entry.Row.TheVariants as row
-use Rattle.kn_trace.specs.declared.candidate.Cand.{Cand}
 use Rattle.kn_trace.specs.Trace.{first_of}
 use Rattle.kn_record.specs.Admission.{is_held_place, placed_in, stepped}
 use Rattle.kn_throttle.proofs.Parts.{cands_ascend}

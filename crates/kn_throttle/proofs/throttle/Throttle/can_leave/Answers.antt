@@ -1,7 +1,5 @@
-use Rattle.std.proofs.Common.{◌≡◌, ◌∙◌, true, refl, sym, ap}
-use Rattle.std.specs.Prelude.{◌==◌, ◌&&◌}
+use Rattle.std.proofs.Common.{◌≡◌, ◌∙◌}
 use Rattle.kn_trace.specs.Trace.{is_empty}
-use Rattle.kn_seats.specs.Pods.{pod_at}
 use Rattle.kn_record.specs.Admission.{is_at, placed_in}
 use Rattle.kn_throttle.proofs.Ended.{pod_there}
 use Rattle.kn_throttle.proofs.Walking.{idle-seat, leave-seat, nobody_there}

@@ -1,4 +1,4 @@
-use Rattle.std.proofs.Common.{◌≡◌, ◌∙◌, length, refl, sym}
+use Rattle.std.proofs.Common.{◌≡◌, ◌∙◌, refl, sym}
 use Rattle.kn_seats.specs.Pods.{has_free_seat, pod_at}
 use Rattle.kn_throttle.proofs.Ended.{pod_there}
 use Rattle.kn_throttle.proofs.Walking.{no_queue, run-seat, some_queue}

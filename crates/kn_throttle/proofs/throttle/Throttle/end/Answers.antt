@@ -1,10 +1,6 @@
-use Rattle.std.proofs.Common.{◌≡◌, true, List, length}
 use Rattle.kn_event.specs.declared.entry.Row.TheVariants as row
-use Rattle.kn_trace.specs.Trace.{contains}
 use Rattle.kn_record.specs.declared.admission.Place.TheVariants as place
 use Rattle.kn_record.specs.Admission.{stepped}
-use Rattle.kn_record.specs.Views.{pod_numbers}
-use Rattle.kn_table.specs.Moves.{Leaves}
 use Rattle.kn_throttle.proofs.Parts.{cands_ascend}
 use Rattle.kn_throttle.proofs.Ended.{assigned_runs, home_of, kept_given_back, kept_left, kept_unqueued, leaves_from, left_running, pod_there, queued_there, runs_there}
 use Rattle.kn_throttle.proofs.throttle.Throttle.end.Goals as goal

@@ -1,6 +1,5 @@
 use Rattle.std.proofs.Common.{refl}
 use Rattle.kn_policy.specs.Policy.{policy_at}
-use Rattle.kn_record.specs.Admission.{nothing_yet}
 use Rattle.kn_throttle.proofs.Coming.{kept_new}
 use Rattle.kn_throttle.proofs.throttle.Throttle.new.Goals as goal
 

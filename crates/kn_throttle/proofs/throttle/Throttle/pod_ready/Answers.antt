@@ -1,7 +1,6 @@
-use Rattle.std.proofs.Common.{◌≡◌, true, ◌<◌, length, arith, sym, ◌∙◌, refl}
+use Rattle.std.proofs.Common.{arith, ◌∙◌, refl}
 use Rattle.kn_event.specs.declared.entry.Row.TheVariants as row
-use Rattle.kn_trace.specs.Trace.{contains}
-use Rattle.kn_record.specs.Admission.{candidates_in, is_starting_now, pods_in, stepped}
+use Rattle.kn_record.specs.Admission.{stepped}
 use Rattle.kn_throttle.proofs.Coming.{candidate_there, fewer_ready, kept_readied, starting_there}
 use Rattle.kn_throttle.proofs.Ended.{pod_there}
 use Rattle.kn_throttle.proofs.throttle.Throttle.pod_ready.Goals as goal

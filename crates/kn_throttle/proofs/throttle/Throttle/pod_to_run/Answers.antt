@@ -1,4 +1,4 @@
-use Rattle.std.proofs.Common.{◌≡◌, ◌∙◌, true, false, sym}
+use Rattle.std.proofs.Common.{◌∙◌, true, false, sym}
 use Rattle.kn_throttle.specs.Kept.{can_run}
 use Rattle.kn_throttle.proofs.Walking.{at_one, nowhere_none}
 use Rattle.kn_throttle.proofs.throttle.Throttle.pod_to_run.Goals as goal

@@ -1,4 +1,4 @@
-use Rattle.std.proofs.Common.{◌≡◌, ◌∙◌, ℕ, List, length, refl, sym, ap, arith}
+use Rattle.std.proofs.Common.{◌≡◌, ◌∙◌, ℕ, List, length, sym, ap, arith}
 use Rattle.kn_trace.specs.Trace.{first_of}
 use Rattle.kn_record.specs.Admission.{placed_in, stepped, waits}
 use Rattle.kn_throttle.specs.State.{State}

@@ -1,5 +1,4 @@
-use Rattle.std.proofs.Common.{◌≡◌, ◌∙◌, refl, List, ◌∷◌, [], length, length-append, subst, ap, arith}
-use Rattle.kn_event.specs.declared.entry.Entry.{Entry}
+use Rattle.std.proofs.Common.{◌∙◌, refl, List, ◌∷◌, [], length-append, subst, ap, arith}
 use Rattle.kn_event.specs.declared.entry.Row.TheVariants as row
 use Rattle.kn_trace.specs.Trace.{entry}
 use Rattle.kn_record.specs.Admission.{stepped}
@@ -7,7 +6,7 @@ use Rattle.kn_throttle.specs.State.{State}
 use Rattle.kn_record.specs.Views.{pod_numbers}
 use Rattle.kn_record.specs.Walks.{BeginsWith, promoting}
 use Rattle.kn_record.specs.declared.admission.Pod.{Pod}
-use Rattle.kn_throttle.proofs.Walking.{nobody_by, nobody_yet}
+use Rattle.kn_throttle.proofs.Walking.{nobody_by}
 use Rattle.kn_throttle.proofs.throttle.Throttle.run_all.Goals as goal
 
 pub loop-r-preserved : goal.loop-r-preserved

@@ -1,9 +1,7 @@
-use Rattle.std.proofs.Common.{◌≡◌, ◌<◌, ◌^◌, ◌∙◌, ℕ, length, Some, None, refl, sym, ap, arith}
+use Rattle.std.proofs.Common.{◌<◌, ◌^◌, ◌∙◌, length, refl, sym, arith}
 use Rattle.kn_event.specs.declared.entry.Row.TheVariants as row
-use Rattle.kn_trace.specs.Trace.{first_of}
-use Rattle.kn_record.specs.Admission.{placed_in, queues_at, stepped, waits}
+use Rattle.kn_record.specs.Admission.{stepped, waits}
 use Rattle.kn_throttle.specs.Kept.{can_run}
-use Rattle.kn_throttle.specs.Pods.{pods_where}
 use Rattle.kn_throttle.proofs.Parts.{cands_ascend}
 use Rattle.kn_throttle.proofs.Ended.{pod_there}
 use Rattle.kn_throttle.proofs.Dispatching.{cands_fit, first_there, found_where, kept_begun, runs_next}

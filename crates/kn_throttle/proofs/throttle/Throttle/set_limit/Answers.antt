@@ -1,4 +1,4 @@
-use Rattle.std.proofs.Common.{◌≡◌, ◌∙◌, sym, refl}
+use Rattle.std.proofs.Common.{◌∙◌, refl}
 use Rattle.kn_event.specs.declared.entry.Row.TheVariants as row
 use Rattle.kn_record.specs.Admission.{stepped}
 use Rattle.kn_throttle.proofs.Parts.{cands_ascend}

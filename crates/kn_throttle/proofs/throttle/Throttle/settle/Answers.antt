@@ -1,6 +1,6 @@
-use Rattle.std.proofs.Common.{◌≡◌, ◌≤◌, ◌+◌, ◌++◌, List, length, arith, sym, ap}
+use Rattle.std.proofs.Common.{◌≤◌, ◌+◌, ◌++◌, List, length, arith}
 use Rattle.kn_event.specs.declared.entry.Entry.{Entry}
-use Rattle.kn_trace.specs.Trace.{Trace, live_pods}
+use Rattle.kn_trace.specs.Trace.{live_pods}
 use Rattle.kn_trace.specs.Settling.{held_assignments, promotions, removals, settling}
 use Rattle.kn_throttle.specs.Settling.{rows_left}
 use Rattle.kn_throttle.proofs.Walking.{nobody_more, rows_few, settled_logged, settled_whole}

@@ -1,4 +1,4 @@
-use Rattle.std.proofs.Common.{sym, rules}
+use Rattle.std.proofs.Common.{rules}
 use Rattle.kn_throttle.proofs.throttle.Throttle.stand.Goals as goal
 
 pub returns-then-r-self-clause-stand : goal.returns-then-r-self-clause-stand

@@ -1,4 +1,4 @@
-use Rattle.std.proofs.Common.{◌≡◌, ◌∙◌, ap, refl}
+use Rattle.std.proofs.Common.{◌∙◌, ap, refl}
 use Rattle.kn_event.specs.declared.entry.Row.TheVariants as row
 use Rattle.kn_seats.specs.Seats.{State}
 use Rattle.kn_seats.specs.Pods.{without_pod}
