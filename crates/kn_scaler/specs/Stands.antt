@@ -1,5 +1,5 @@
 -- Which traces a Scaler stands for.
-use Rattle.std.specs.Prelude.{◌≡◌, ℕ, ◌≤◌, List, Some}
+use Rattle.std.specs.Prelude.{◌≡◌, ℕ, ◌≤◌, List, Option, None, Some}
 use Rattle.kn_event.specs.declared.revision.Spec.{Spec}
 use Rattle.kn_scaling.specs.Average.{second_of}
 use Rattle.kn_trace.specs.Rows.{gone_by}
@@ -7,7 +7,8 @@ use Rattle.kn_trace.specs.Scale.{past_of, phase_of}
 use Rattle.kn_trace.specs.Trace.{Trace, each_row}
 use Rattle.kn_record.specs.Made.{IsMade}
 use Rattle.kn_record.specs.Order.{AreTimesInOrder}
-use Rattle.kn_stats.specs.Stands.{StatsState, StandsFor as IsStatsOf}
+use Rattle.kn_stats.specs.declared.change.Change.{Change}
+use Rattle.kn_stats.specs.Stands.{StatsState, StandsFor as IsStatsOf, changed}
 use Rattle.kn_decider.specs.Decider.{DeciderState, StandsFor as IsDeciderOf}
 use Rattle.kn_changes.specs.Changes.{changes_of}
 
@@ -27,6 +28,11 @@ pub record StandsFor (s : Spec) (x : ScalerState) (c : Trace) : Type 0 where
   pub stats : IsStatsOf x.stats (changes_of c) (gone_pods c)
   pub decider : IsDeciderOf x.decider (past_of s c) (second_of x.stats.time)
   pub phase : phase_of c ≡ Some x.decider.zero.standing.phase
+
+-- what is measured, after a row that may change it
+abbrev pub changed_if : Option Change → StatsState → StatsState
+changed_if None stats = stats
+changed_if (Some change) stats = changed change stats
 
 -- it stands for some trace that events made
 abbrev pub StandsForSome : ScalerState → Type 0

@@ -6,7 +6,7 @@ ghost use Rattle.kn_event.specs.declared.entry.Row.TheVariants as row;
 ghost use Rattle.kn_event.specs.declared.revision.Kind.TheVariants as kind;
 ghost use Rattle.kn_event.specs.declared.revision.Spec.{Spec as SpecValue};
 ghost use Rattle.kn_scaling.specs.Decide.{Past};
-ghost use Rattle.kn_stats.specs.Stands.{CanChange, IsIdle};
+ghost use Rattle.kn_stats.specs.Stands.{CanChange, IsIdle, advanced, without};
 ghost use Rattle.kn_decider.specs.Decider.{StandsFor as IsDeciderOf};
 ghost use Rattle.kn_trace.specs.Events.{opening};
 ghost use Rattle.kn_trace.specs.Load.{has_ready_pod};
@@ -16,7 +16,7 @@ ghost use Rattle.kn_trace.specs.Trace.{Trace, entry};
 ghost use Rattle.kn_record.specs.Made.{IsMade};
 ghost use Rattle.kn_changes.specs.Changes.{change_by};
 ghost use Rattle.kn_scaler.specs.Rows.{IsBeside, ready_rows, ruled_by, ruled_from, ruling_rows, tick_rulings};
-ghost use Rattle.kn_scaler.specs.Stands.{StandsFor, StandsForSome};
+ghost use Rattle.kn_scaler.specs.Stands.{StandsFor, StandsForSome, changed_if};
 
 use crate::facts::trace_facts;
 use kn_decider::Decider;
@@ -99,7 +99,7 @@ impl Scaler {
         requires range { time ≤ 2 ^ 42 }
         requires made { StandsForSome self.old }
         ensures stands { (s : SpecValue) (c : Trace) → IsMade s c → has_ready_pod c ≡ ready → StandsFor s self.old c → StandsFor s self.new c }
-        ensures time { self.new.stats.time ≡ time }
+        ensures stats { self.new.stats ≡ advanced time self.old.stats }
         ensures spec { self.new.decider.spec ≡ self.old.decider.spec }
     {
         trace_facts();
@@ -112,7 +112,7 @@ impl Scaler {
         requires { IfSome change (CanChange self.old.stats) }
         ensures stands { (s : SpecValue) (c : Trace) (x : RowValue) → change_by c x ≡ change → gone_by x ≡ None → IsBeside c (entry self.old.stats.time x) → StandsFor s self.old c
             → StandsFor s self.new (c ++ entry self.old.stats.time x ∷ []) }
-        ensures time { self.new.stats.time ≡ self.old.stats.time }
+        ensures stats { self.new.stats ≡ changed_if change self.old.stats }
         ensures decider { self.new.decider ≡ self.old.decider }
     {
         trace_facts();
@@ -127,7 +127,7 @@ impl Scaler {
         requires { IsIdle p self.old.stats }
         ensures stands { (s : SpecValue) (c : Trace) (x : RowValue) → gone_by x ≡ Some p → IsBeside c (entry self.old.stats.time x) → StandsFor s self.old c
             → StandsFor s self.new (c ++ entry self.old.stats.time x ∷ []) }
-        ensures time { self.new.stats.time ≡ self.old.stats.time }
+        ensures stats { self.new.stats ≡ without p self.old.stats }
         ensures decider { self.new.decider ≡ self.old.decider }
     {
         trace_facts();
