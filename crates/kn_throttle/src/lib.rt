@@ -3,6 +3,8 @@
 
 mod candidates;
 mod pods;
+#[cfg(test)]
+mod tests;
 mod throttle;
 mod touched;
 
