@@ -1,2 +1,1 @@
 pub mod OtherMembers
-pub mod Fractions

@@ -189,7 +189,7 @@ fn concurrency_total(cc: u64, default: Milli, target: Option<Milli>) -> Milli
 }
 
 /// What a pod is to bear: the total at this utilisation, and at least 0.01.
-#[tactic(auto, using(crate::proofs::Fractions::frac_by_parts))]
+#[tactic(auto, using(kn_event::specs::Fractions::frac_by_parts))]
 fn target(total: Milli, utilisation: Milli) -> Frac
     requires total { total.0 ≤ 1000000000 }
     requires utilisation { utilisation.0 ≤ 100000 }

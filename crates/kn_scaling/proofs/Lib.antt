@@ -2,4 +2,3 @@ pub mod Samples
 pub mod Recent
 pub mod Runs
 pub mod Quotients
-pub mod Fractions

@@ -102,7 +102,7 @@ fn window_sum(runs: &[SampleRun], count: u64, end: u64) -> u128
 }
 
 /// A sum over the milliseconds of one second and so many others, not reduced.
-#[tactic(auto, using(crate::proofs::Fractions::frac_by_parts))]
+#[tactic(auto, using(kn_event::specs::Fractions::frac_by_parts))]
 pub fn load_over(sum: u128, others: u64) -> Frac
     ensures { result ≡ load_over sum others }
 {
