@@ -1,5 +1,5 @@
 //! The throttler: what it keeps, and what it answers about it.
-ghost use Rattle.std.specs.Prelude.{◌≡◌, ℕ, IfOk, true};
+ghost use Rattle.std.specs.Prelude.{◌≡◌, ℕ, IfOk, true, length};
 ghost use Rattle.kn_event.specs.declared.revision.Spec.{Spec};
 ghost use Rattle.kn_trace.specs.Trace.{Trace, contains, first_of, live_pods, proxied, stand_of};
 ghost use Rattle.kn_trace.specs.Events.{due, lost_with};
@@ -111,6 +111,20 @@ impl Throttle {
             None => Stand::Ended,
             Some(request) => stand_of_place(request.place),
         }
+    }
+
+    /// How many requests have come, which is the number of the next one.
+    pub fn arrivals(&self) -> u64
+        ensures { result ≡ self.now.admission.arrivals }
+    {
+        self.arrivals
+    }
+
+    /// How many requests are live.
+    pub fn live(&self) -> u64
+        ensures { result ≡ length self.now.admission.live }
+    {
+        self.table.len()
     }
 
     /// Whether a request was assigned to a pod, and has not ended.
