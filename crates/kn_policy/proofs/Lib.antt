@@ -1,3 +1,4 @@
+pub mod Marking
 pub mod Found
 pub mod Words
 pub mod Places

@@ -2,6 +2,7 @@
 #![tactic(auto)]
 
 mod laws;
+mod marks;
 mod policy;
 
 pub use kn_trace::Cand;

@@ -1,9 +1,11 @@
 ghost use Rattle.std.specs.Prelude.{◌≡◌, ◌+◌, ◌*◌, ◌==◌, ℕ, map, position, IfSome, IfNone};
-ghost use Rattle.std.specs.List.{list_any};
+ghost use Rattle.std.specs.List.{count_by, list_any};
 ghost use Rattle.std.specs.Option.{is_some};
 ghost use Rattle.kn_trace.specs.Choice.{has_seat, generator_at, random_word, chosen_pod};
+ghost use Rattle.kn_policy.specs.Marks.{AreAscending, marks_of};
 ghost use Rattle.kn_policy.specs.Policy.{place_past};
 
+use crate::marks::place_by;
 use kn_trace::Cand;
 use kn_trace::choice::{choice_of_two, first_available, round_robin};
 use rand_core::SeedableRng;
@@ -65,6 +67,31 @@ impl Policy {
         let pod = pod_by(self.cc, self.place, first_word, second_word, ready)?;
         self.place = place_past(pod, ready);
         Some(pod)
+    }
+
+    /// What `pick` answers and does, of pods in order that are marked, without a walk over them: each has a mark, which is 1
+    /// where it has a free seat and else 0, and so many have one. Only a random choice where some are full walks.
+    pub fn pick_marked(&mut self, ready: &[Cand], marks: &[u8], free: usize) -> Option<u64>
+        requires order { AreAscending ready.now }
+        requires marks { marks.now ≡ marks_of ready.now }
+        requires free { free ≡ count_by has_seat ready.now }
+        ensures chosen { (seed picks : ℕ) → self.old.generator ≡ generator_at seed (2 * picks)
+            → result ≡ chosen_pod self.old.cc seed self.old.place picks ready.now }
+        ensures found { is_some result ≡ list_any has_seat ready.now }
+        ensures picked { IfSome result (λ p. self.new ≡ picked p ready.now self.old) }
+        ensures unchanged { IfNone result (self.new ≡ self.old) }
+    {
+        if free == 0 {
+            return None;
+        }
+        if self.cc == 0 && free < ready.len() {
+            return self.pick(ready);
+        }
+        let first = self.generator.next_word();
+        let second = self.generator.next_word();
+        let place = place_by(self.cc, self.place, first, second, ready, marks)?;
+        self.place = place as u64 + 1;
+        Some(ready[place].pod)
     }
 }
 

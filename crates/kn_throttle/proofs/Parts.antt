@@ -1,13 +1,15 @@
 -- Seats, candidates and touched pods, where the requests at one pod change.
-use Rattle.std.proofs.Common.{◌≡◌, ℕ, zero, suc, ◌<◌, Bool, true, false, cond, ◌||◌, List, [], ◌∷◌, length, get_or, map, refl, ap, ◌∙◌, arith}
+use Rattle.std.proofs.Common.{◌≡◌, ℕ, zero, suc, ◌<◌, Bool, true, false, cond, ◌||◌, ◌+◌, List, [], ◌∷◌, length, get_or, set, map, refl, ap, ◌∙◌, arith}
 use Rattle.std.specs.Prelude.{◌==◌, Some, if◌then◌else◌}
-use Rattle.std.specs.List.{All, filter}
+use Rattle.std.specs.List.{All, count_by, filter}
 use Rattle.std.proofs.lemmas.Bool.{eqb-true}
-use Rattle.std.proofs.lemmas.List.{length-map}
+use Rattle.std.proofs.lemmas.List.{get_or-map, length-map}
+use Rattle.std.proofs.lemmas.List.Sums.{sum_by-set}
 use Rattle.std.proofs.lemmas.List.Kept.{AllPairs-filter}
 use Rattle.std.proofs.lemmas.List.Elements.{All-head, All-tail, All-weaker}
 use Rattle.kn_trace.specs.declared.candidate.Cand.{Cand}
 use Rattle.kn_trace.specs.Trace.{contains}
+use Rattle.kn_trace.specs.Choice.{has_seat}
 use Rattle.kn_seats.specs.Pods as seats
 use Rattle.kn_seats.specs.declared.pod.Pod as seat
 use Rattle.kn_record.specs.declared.admission.Request.{Request}
@@ -18,6 +20,7 @@ use Rattle.kn_record.specs.Views.{pod_numbered, pod_numbers}
 use Rattle.kn_throttle.specs.declared.touched.Touched.{Touched}
 use Rattle.kn_throttle.specs.declared.touched.Touched.TheVariants.{Nowhere, At, Anywhere}
 use Rattle.kn_throttle.specs.Touched.{Covers, IsOneOf, is_touched, one_more}
+use Rattle.kn_policy.specs.Marks as marks
 use Rattle.kn_throttle.specs.Candidates as cands
 use Rattle.kn_throttle.specs.Candidates.{with_changed}
 use Rattle.kn_throttle.specs.Pods.{AreAscending}
@@ -99,11 +102,11 @@ pods_of_image live (q ∷ all) zero d h d2 = refl
 pods_of_image live (q ∷ all) (suc k) d h d2 = pods_of_image live all k d (omega arith) d2
 
 -- their numbers ascend too
-pub cands_ascend : (live : List Request) (all : List Pod) → AreAscending all → cands.AreAscending (candidates_in live all)
+pub cands_ascend : (live : List Request) (all : List Pod) → AreAscending all → marks.AreAscending (candidates_in live all)
 unfolding candidates_in
 cands_ascend live all rise = images (filter (λ (q : Pod). is_ready_now q.readiness) all) (AllPairs-filter (λ (x y : Pod). x.number < y.number) (λ (q : Pod). is_ready_now q.readiness) all rise)
   where
-    images : (ready : List Pod) → AreAscending ready → cands.AreAscending (map (candidate_of live) ready)
+    images : (ready : List Pod) → AreAscending ready → marks.AreAscending (map (candidate_of live) ready)
     images ready rise i j d less inside =
         let n : length (map (candidate_of live) ready) ≡ length ready = length-map ready (candidate_of live) in
         let d2 : Pod = record { number = 0; limit = 0; readiness = Starting } in
@@ -144,3 +147,17 @@ covers_less old new all t less c = record {
   others = All-weaker (λ (q : Pod). is_touched q.number t ≡ false → old q ≡ false) (λ (q : Pod). is_touched q.number t ≡ false → new q ≡ false) (λ q h u. less q (h u)) all c.others;
   named = c.named;
 }
+
+-- ---- marks
+
+pub marks-set : (k : List Cand) (i : ℕ) (x : Cand) → set (marks.marks_of k) i (marks.mark_of x) ≡ marks.marks_of (set k i x)
+marks-set [] i x = refl
+marks-set (y ∷ k) zero x = refl
+marks-set (y ∷ k) (suc i) x = ap (λ ms. marks.mark_of y ∷ ms) (marks-set k i x)
+
+pub mark-at : (k : List Cand) (i : ℕ) (d : Cand) → i < length k → get_or (marks.marks_of k) i 0 ≡ marks.mark_of (get_or k i d)
+mark-at k i d inside = get_or-map marks.mark_of k i d 0 inside
+
+-- the count with another one at a place
+pub count-set : (k : List Cand) (i : ℕ) (x d : Cand) → i < length k → count_by has_seat (set k i x) + marks.mark_of (get_or k i d) ≡ count_by has_seat k + marks.mark_of x
+count-set k i x d inside = sum_by-set marks.mark_of k i x d inside

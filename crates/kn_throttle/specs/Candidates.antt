@@ -1,12 +1,8 @@
 -- The Ready pods as a load-balancing policy sees them.
-use Rattle.std.specs.Prelude.{ℕ, ◌+◌, ◌-◌, ◌<◌, ◌==◌, List, map, min, if◌then◌else◌}
-use Rattle.std.specs.List.{AllPairs, sum_by}
+use Rattle.std.specs.Prelude.{ℕ, ◌+◌, ◌-◌, ◌==◌, List, map, min, if◌then◌else◌}
+use Rattle.std.specs.List.{sum_by}
 use Rattle.kn_trace.specs.declared.candidate.Cand.{Cand}
 use Rattle.kn_trace.specs.Capacity.{seats_of}
-
--- the numbers of their pods ascend
-abbrev pub AreAscending : List Cand → Type 0
-AreAscending cands = AllPairs (λ (j k : Cand). j.pod < k.pod) cands
 
 abbrev pub changed_at : ℕ → (Cand → Cand) → Cand → Cand
 changed_at p change k = if k.pod == p then change k else k

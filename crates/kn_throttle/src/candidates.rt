@@ -1,42 +1,62 @@
 //! The Ready pods as a load-balancing policy sees them.
-ghost use Rattle.std.specs.Prelude.{◌≡◌, ◌==◌, ◌≢◌, ◌+◌, ◌<◌, ◌≤◌, ◌^◌, [], nat_lt, not, position, length, filter, IfOk, IfSome, IfNone};
-ghost use Rattle.std.specs.List.{All, HoldsAt, insert, list_any, position_or_len};
+ghost use Rattle.std.specs.Prelude.{◌≡◌, ◌==◌, ◌≢◌, ◌+◌, ◌<◌, ◌≤◌, ◌^◌, [], nat_lt, not, position, length, filter, vec_capacity, slice_set, IfOk, IfSome, IfNone};
+ghost use Rattle.std.specs.List.{All, HoldsAt, count_by, insert, list_any, position_or_len};
 ghost use Rattle.kn_trace.specs.declared.candidate.Cand.{Cand};
 ghost use Rattle.kn_trace.specs.Capacity.{seats_of};
 ghost use Rattle.kn_trace.specs.Choice.{has_seat};
-ghost use Rattle.kn_throttle.specs.Candidates.{AreAscending, begun, capacity_of, ended, limited, with_changed};
+ghost use Rattle.kn_policy.specs.Marks.{AreAscending, mark_of, marks_of};
+ghost use Rattle.kn_throttle.specs.Candidates.{begun, capacity_of, ended, limited, with_changed};
 
 use kn_event::Memory;
+use kn_policy::choice_laws;
 use kn_trace::Cand;
 use std::alloc::Global;
 use std::marker::Model;
 
 /// Room for 20,500 candidates, taken once. Contracts see the list of them, which callers keep in the order of their pods'
-/// numbers.
+/// numbers. Each has a mark, which says whether it has a free seat, so that no pick walks over all.
 #[derive(Drop)]
 pub struct Candidates {
     cands: Vec<Cand>,
+    marks: Vec<u8>,
+    free: usize,
 }
 
 impl Model for Candidates {
-    ghost use Rattle.std.specs.Prelude.{List, ◌≤◌, vec_capacity};
+    ghost use Rattle.std.specs.Prelude.{List, ◌≤◌, ◌≡◌, length, vec_capacity};
+    ghost use Rattle.std.specs.List.{count_by};
     ghost use Rattle.kn_trace.specs.declared.candidate.Cand.{Cand};
+    ghost use Rattle.kn_trace.specs.Choice.{has_seat};
+    ghost use Rattle.kn_policy.specs.Marks.{marks_of};
 
     ghost Value = { List Cand };
 
     ghost view = { λ t. t.cands.items };
 
-    ghost invariant = { λ t. 20500 ≤ vec_capacity t.cands };
+    ghost invariant = { λ t. record {
+      reserved : 20500 ≤ vec_capacity t.cands;
+      marks_reserved : 20500 ≤ vec_capacity t.marks;
+      few : length t.cands.items ≤ 20500;
+      marks : t.marks.items ≡ marks_of t.cands.items;
+      free : t.free ≡ count_by has_seat t.cands.items;
+    } };
 }
 
 impl Candidates {
     pub fn new(alloc: Global) -> Result<Candidates, Memory>
         ensures { IfOk result (λ cands. cands ≡ []) }
     {
-        match Vec::with_capacity(alloc, 20_500) {
-            Ok(cands) => Ok(Candidates { cands }),
-            Err(_) => Err(Memory),
-        }
+        let Ok(cands) = Vec::with_capacity(alloc, 20_500) else {
+            return Err(Memory);
+        };
+        let Ok(marks) = Vec::with_capacity(alloc, 20_500) else {
+            return Err(Memory);
+        };
+        Ok(Candidates {
+            cands,
+            marks,
+            free: 0,
+        })
     }
 
     pub fn as_slice(&self) -> &[Cand]
@@ -45,13 +65,31 @@ impl Candidates {
         &self.cands
     }
 
+    /// The mark of each: 1 where it has a free seat, and else 0.
+    pub fn marks(&self) -> &[u8]
+        ensures { result.now ≡ marks_of self.now }
+    {
+        &self.marks
+    }
+
+    /// How many have a free seat.
+    pub fn free(&self) -> usize
+        ensures { result ≡ count_by has_seat self.now }
+    {
+        self.free
+    }
+
     /// One more request runs at pod `p`.
     pub fn begin(&mut self, p: u64)
         requires order { AreAscending self.old }
         requires fits { All (λ (k : Cand). k.running < 2 ^ 63) self.old }
         ensures { self.new ≡ with_changed p begun self.old }
     {
-        begin(&mut self.cands, p);
+        if let Some(i) = place_of(&self.cands, p) {
+            let mut cand = self.cands[i];
+            cand.running += 1;
+            self.replace(i, cand);
+        }
     }
 
     /// One less runs at pod `p`.
@@ -59,7 +97,11 @@ impl Candidates {
         requires { AreAscending self.old }
         ensures { self.new ≡ with_changed p ended self.old }
     {
-        end(&mut self.cands, p);
+        if let Some(i) = place_of(&self.cands, p) {
+            let mut cand = self.cands[i];
+            cand.running = cand.running.saturating_sub(1);
+            self.replace(i, cand);
+        }
     }
 
     /// The limit of pod `p` changes.
@@ -67,7 +109,22 @@ impl Candidates {
         requires { AreAscending self.old }
         ensures { self.new ≡ with_changed p (limited n) self.old }
     {
-        set_limit(&mut self.cands, p, n);
+        if let Some(i) = place_of(&self.cands, p) {
+            let mut cand = self.cands[i];
+            cand.limit = n;
+            self.replace(i, cand);
+        }
+    }
+
+    /// Another one at this place.
+    fn replace(&mut self, i: usize, cand: Cand)
+        requires { i < length self.old }
+        ensures { self.new ≡ slice_set self.old i cand }
+    {
+        let mark = mark_of(&cand);
+        self.free = self.free + mark as usize - self.marks[i] as usize;
+        self.marks[i] = mark;
+        self.cands[i] = cand;
     }
 
     /// Puts one more in, before the first one of a greater number.
@@ -77,6 +134,7 @@ impl Candidates {
     {
         let place = place_behind(&self.cands, cand.pod);
         let _ = self.cands.insert(place, cand);
+        self.free = mark_all(&self.cands, &mut self.marks);
     }
 
     /// Takes the one of pod `p` out.
@@ -84,15 +142,15 @@ impl Candidates {
         ensures { self.new ≡ filter (λ (k : Cand). not (k.pod == p)) self.old }
     {
         self.cands.retain(|k| k.pod != p);
+        self.free = mark_all(&self.cands, &mut self.marks);
     }
 
     /// Whether one has a free seat.
     pub fn has_free_seat(&self) -> bool
         ensures { result ≡ list_any has_seat self.now }
     {
-        self.cands
-            .iter()
-            .any(|k| k.limit == 0 || k.running < k.limit)
+        choice_laws();
+        self.free > 0
     }
 
     /// The smaller of this maximum and the sum of the limits, where one without a limit counts as the maximum.
@@ -104,32 +162,32 @@ impl Candidates {
     }
 }
 
-fn begin(cands: &mut [Cand], p: u64)
-    requires order { AreAscending cands.old }
-    requires fits { All (λ (k : Cand). k.running < 2 ^ 63) cands.old }
-    ensures { cands.new ≡ with_changed p begun cands.old }
+/// 1 where it has a free seat, and else 0.
+fn mark_of(cand: &Cand) -> u8
+    ensures { result ≡ mark_of cand.now }
 {
-    if let Some(i) = place_of(cands, p) {
-        cands[i].running += 1;
+    if cand.limit == 0 || cand.running < cand.limit {
+        1
+    } else {
+        0
     }
 }
 
-fn end(cands: &mut [Cand], p: u64)
-    requires { AreAscending cands.old }
-    ensures { cands.new ≡ with_changed p ended cands.old }
+/// Marks each anew. Answers how many have a free seat.
+fn mark_all(cands: &[Cand], marks: &mut Vec<u8>) -> usize
+    requires { length cands.now ≤ vec_capacity marks.old }
+    ensures marks { marks.new.items ≡ marks_of cands.now }
+    ensures room { vec_capacity marks.new ≡ vec_capacity marks.old }
+    ensures free { result ≡ count_by has_seat cands.now }
 {
-    if let Some(i) = place_of(cands, p) {
-        cands[i].running = cands[i].running.saturating_sub(1);
+    marks.clear();
+    let mut free = 0;
+    for cand in cands {
+        let mark = mark_of(cand);
+        marks.push_reserved(mark);
+        free += mark as usize;
     }
-}
-
-fn set_limit(cands: &mut [Cand], p: u64, n: u64)
-    requires { AreAscending cands.old }
-    ensures { cands.new ≡ with_changed p (limited n) cands.old }
-{
-    if let Some(i) = place_of(cands, p) {
-        cands[i].limit = n;
-    }
+    free
 }
 
 fn capacity(cands: &[Cand], most: u64) -> u64
@@ -143,13 +201,19 @@ fn capacity(cands: &[Cand], most: u64) -> u64
     total
 }
 
-/// Where the candidate of pod `p` stands.
+/// Where the candidate of pod `p` stands: as far behind the first as its number, or else before that place.
 fn place_of(cands: &[Cand], p: u64) -> Option<usize>
     requires { AreAscending cands.now }
     ensures inside { IfSome result (λ i. i < length cands.now) }
     ensures there { IfSome result (HoldsAt (λ (k : Cand). k.pod ≡ p) cands.now) }
     ensures none { IfNone result (All (λ (k : Cand). k.pod ≢ p) cands.now) }
 {
+    if let Some(first) = cands.first() {
+        let guess = p.wrapping_sub(first.pod) as usize;
+        if guess < cands.len() && cands[guess].pod == p {
+            return Some(guess);
+        }
+    }
     cands.binary_search_by_key(&p, |cand| cand.pod).ok()
 }
 

@@ -139,7 +139,14 @@ impl Throttle {
         if !self.breaker.acquire() {
             return None;
         }
-        let p = self.policy.pick(self.candidates.as_slice()).unwrap();
+        let p = self
+            .policy
+            .pick_marked(
+                self.candidates.as_slice(),
+                self.candidates.marks(),
+                self.candidates.free(),
+            )
+            .unwrap();
         let _ = self.seats.reserve_seat(p);
         self.candidates.begin(p);
         self.table.assign(r, p);

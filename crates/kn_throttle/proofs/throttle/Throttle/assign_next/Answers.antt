@@ -27,7 +27,7 @@ returns-then-not-acquire-clause-ends c = λ d t h.
 pub reserve_seat-requires-clause-there : goal.reserve_seat-requires-clause-there
 reserve_seat-requires-clause-there c =
     let k = c.self.invariant in
-    let chosen = chosen_by _ _ _ _ _ _ _ _ c.unwrap-p.result c.as_slice.result.now c.pick.result k c.as_slice.ensures c.unwrap-p.ensures c.pick.ensures.chosen in
+    let chosen = chosen_by _ _ _ _ _ _ _ _ c.unwrap-p.result c.as_slice.result.now c.pick_marked.result k c.as_slice.ensures c.unwrap-p.ensures c.pick_marked.ensures.chosen in
     let found = seat_found c.seating_laws.ensures _ _ _ _ _ _ _ _ c.unwrap-p.result k chosen in
     pod_there _ _ _ _ _ _ _ _ c.unwrap-p.result k found.there
 
@@ -47,27 +47,32 @@ pub invariant_of-self-2 : goal.invariant_of-self-2
 unfolding stepped
 invariant_of-self-2 c =
     let k = c.self.invariant in
-    let chosen = chosen_by _ _ _ _ _ _ _ _ c.unwrap-p.result c.as_slice.result.now c.pick.result k c.as_slice.ensures c.unwrap-p.ensures c.pick.ensures.chosen in
+    let chosen = chosen_by _ _ _ _ _ _ _ _ c.unwrap-p.result c.as_slice.result.now c.pick_marked.result k c.as_slice.ensures c.unwrap-p.ensures c.pick_marked.ensures.chosen in
     let found = seat_found c.seating_laws.ensures _ _ _ _ _ _ _ _ c.unwrap-p.result k chosen in
     let free = c.reserve_seat.ensures.free ∙ free-seat _ _ _ _ _ _ _ _ c.unwrap-p.result k found in
     let order = c.order_laws.ensures.step _ 0 (row.Assign c.in-Some.r c.unwrap-p.result) k.sound.order found.there in
-    let picked = rw c.unwrap-p.ensures at c.pick.ensures.picked in
+    let picked = rw c.unwrap-p.ensures at c.pick_marked.ensures.picked in
     kept_assigned _ _ _ _ _ _ _ _ _ _ _ _ c.in-Some.r c.unwrap-p.result c.assign.new.self k
     (record { live = rw c.assign.ensures.moved order.live; arrived = rw c.assign.ensures.moved order.arrived; pods = order.pods; created = order.created; homes = rw c.assign.ensures.moved order.homes })
     c.assign.ensures.len c.assign.ensures.moves c.if-not-acquire.ensures.acquired (rw free at c.reserve_seat.ensures.reserved) (rw free at c.reserve_seat.ensures.counted) c.begin.ensures
-    (policy_after c.self.inside.spec _ c.pick.new.self c.unwrap-p.result _ c.self.inside.assignments c.as_slice.result.now c.choice_laws.ensures.picked k.policy picked)
+    (policy_after c.self.inside.spec _ c.pick_marked.new.self c.unwrap-p.result _ c.self.inside.assignments c.as_slice.result.now c.choice_laws.ensures.picked k.policy picked)
 
 pub returns-clause-after : goal.returns-clause-after
 unfolding stepped
 returns-clause-after c = λ t.
     let k = c.self.invariant in
-    let picked = rw (c.unwrap-p.ensures, c.as_slice.ensures) at c.pick.ensures.picked in
-    let robin = robin-after c.self.inside.table c.self.inside.pods c.self.inside.candidates c.self.inside.policy c.pick.new.self c.unwrap-p.result k.candidates picked in
+    let picked = rw (c.unwrap-p.ensures, c.as_slice.ensures) at c.pick_marked.ensures.picked in
+    let robin = robin-after c.self.inside.table c.self.inside.pods c.self.inside.candidates c.self.inside.policy c.pick_marked.new.self c.unwrap-p.result k.candidates picked in
     rw (c.assign.ensures.moved, robin, ← c.self.view_is) refl
 
 pub returns-clause-begins : goal.returns-clause-begins
 returns-clause-begins c = λ d t h.
     let k = c.self.invariant in
-    let chosen = chosen_by _ _ _ _ _ _ _ _ c.unwrap-p.result c.as_slice.result.now c.pick.result k c.as_slice.ensures c.unwrap-p.ensures c.pick.ensures.chosen in
+    let chosen = chosen_by _ _ _ _ _ _ _ _ c.unwrap-p.result c.as_slice.result.now c.pick_marked.result k c.as_slice.ensures c.unwrap-p.ensures c.pick_marked.ensures.chosen in
     let next = next_some _ _ _ _ _ _ _ _ c.unwrap-p.result k (λ e. absurd (let no = c.if-not-acquire.ensures.full.1 e in cc)) chosen in
     rw (← c.self.view_is) (c.walk_laws.ensures.assign c.self.inside.spec _ d t c.in-Some.r c.unwrap-p.result (rw (← c.self.view_is) at h) (sym c.in-Some.ensures.first) next)
+
+pub pick_marked-requires-clause-order : goal.pick_marked-requires-clause-order
+pick_marked-requires-clause-order c =
+    let k = c.self.invariant in
+    rw (c.as_slice.ensures, k.candidates) (cands_ascend c.self.inside.table c.self.inside.pods k.sound.order.pods)
