@@ -70,7 +70,7 @@ remove_settles : (x : Row) → is_remove_row x ≡ true → is_settling_row x �
 remove_settles (row.Remove p) h = refl
 remove_settles _ h = absurd (cc)
 
-lost_ends : (t : ℕ) (rs : List ℕ) → Each is_end_row (map (λ r. entry t (row.LostRequest r)) rs)
+pub lost_ends : (t : ℕ) (rs : List ℕ) → Each is_end_row (map (λ r. entry t (row.LostRequest r)) rs)
 lost_ends t [] = tt
 lost_ends t (r ∷ rs) = (refl, lost_ends t rs)
 

@@ -1,8 +1,9 @@
 -- How many pods were created, and that each pod's number is below that.
-use Rattle.std.proofs.Common.{◌≡◌, ℕ, ◌<◌, ◌≤◌, Bool, true, false, List, [], ◌∷◌, map, refl, sym, ap, ◌∙◌, subst, arith, Option, None, Some, IfSome, IfNone}
+use Rattle.std.proofs.Common.{◌≡◌, ℕ, ◌+◌, ◌*◌, ◌^◌, ◌<◌, ◌≤◌, Bool, true, false, List, [], ◌∷◌, map, refl, sym, ap, ◌∙◌, subst, arith, Option, None, Some, IfSome, IfNone}
 use Rattle.std.specs.Prelude.{length, nat_le, nat_lt, ◌==◌}
 use Rattle.std.specs.List.{All, filter, find}
 use Rattle.std.proofs.lemmas.Bool.{leb-true}
+use Rattle.std.proofs.lemmas.List.Elements.{All-head, All-tail}
 use denote.Struct.Props.{props}
 use Rattle.std.proofs.Math.Logic.{∥∥₁_elim}
 use Rattle.kn_event.specs.declared.entry.Entry.{Entry}
@@ -67,10 +68,10 @@ found_from from (x ∷ xs) = by (nat_le from x) refl (found_from from xs)
 
 found_below : (test : Readiness → Bool) (from n : ℕ) (all : List Pod) → All (λ (q : Pod). q.number < n) all → IfSome (find (λ p. nat_le from p) (pods_in test all)) (λ p. p < n)
 found_below test from n [] h = tt
-found_below test from n (q ∷ all) h = by (test q.readiness) (nat_le from q.number) refl refl (found_below test from n all h.1)
+found_below test from n (q ∷ all) h = by (test q.readiness) (nat_le from q.number) refl refl (found_below test from n all (All-tail (λ (q : Pod). q.number < n) q all h))
   where
     by : (t b : Bool) → test q.readiness ≡ t → nat_le from q.number ≡ b → IfSome (find (λ p. nat_le from p) (pods_in test all)) (λ p. p < n) → IfSome (find (λ p. nat_le from p) (pods_in test (q ∷ all))) (λ p. p < n)
-    by true true e f rec = rw (e, f) h.0
+    by true true e f rec = rw (e, f) (All-head (λ (q : Pod). q.number < n) q all h)
     by true false e f rec = rw (e, f) rec
     by false b e f rec = rw e rec
 
@@ -92,6 +93,11 @@ next_below views order x from some =
         let below = found_below is_starting_now from a.created a.pods (order s a h.0 h.1.made h.1.admission).created in
         subst (λ (xs : List ℕ). IfSome (find (λ p. nat_le from p) xs) (λ p. p < x.pods.created)) (sym starting)
         (subst (λ (n : ℕ). IfSome (find (λ p. nat_le from p) (pods_in is_starting_now a.pods)) (λ p. p < n)) (sym created) below))
+
+-- by so many events as there can be, fewer pods than there are numbers
+pub few_created : (o : Option ℕ) (created events : ℕ) → events ≤ 2 ^ 54 → created ≤ 500 * (events + 1) → IfSome o (λ p. p < created) → IfSome o (λ p. p < 2 ^ 63)
+few_created None created events few most h = tt
+few_created (Some p) created events few most h = omega arith
 
 -- ---- where a request stands
 

@@ -72,7 +72,7 @@ took_own s c e fixed own took proper by_act takes = takes (subst (Holds (IsPrope
 
 -- the parts after departures, after the act's own row, and after settling
 pub record Course (s : Spec) (c : Trace) (e : Event) (own : Option Row) (mid took new : PartsState) : Type 0 where
-  pub took : ArePartsOf s took ((c ++ departures s c e) ++ entries_of e.time own)
+  pub did : ArePartsOf s took ((c ++ departures s c e) ++ entries_of e.time own)
   pub rows : react s c e ≡ (departures s c e ++ entries_of e.time own) ++ settling s e.time ((c ++ departures s c e) ++ entries_of e.time own)
   pub stands : ArePartsOf s new (c ++ react s c e)
 
@@ -95,7 +95,7 @@ course s c e fixed own mid took new proper gone by_act takes settles =
         ap (λ (d : Trace). d ++ settling s e.time here) (append_assoc c (departures s c e) (entries_of e.time own))
         ∙ append_assoc c (departures s c e ++ entries_of e.time own) (settling s e.time here)
         ∙ ap (λ (es : List Entry). c ++ es) (sym rows) in
-    record { took = did; rows = rows; stands = subst (ArePartsOf s new) whole all }
+    record { did = did; rows = rows; stands = subst (ArePartsOf s new) whole all }
 
 -- the log after all parts
 pub all_logged : (none one two three gone own settled : List Entry) → none ≡ [] → one ≡ none ++ gone → two ≡ one ++ own → three ≡ two ++ settled → three ≡ (gone ++ own) ++ settled
@@ -114,7 +114,7 @@ module _ (views : (s : Spec) (a : Admission) (c : Trace) → IsRecordOf a c → 
       (λ h. of_trace x.throttle.spec h.0 h.1.made h.1.pods ∙ ap (contains p) (views x.throttle.spec x.throttle.admission h.0 h.1.admission).pods)
 
   pub live_same : (s : Spec) (c : Trace) → ArePartsOf s x c → length (live c) ≡ length x.throttle.admission.live
-  live_same s c h = ap length (views s x.throttle.admission c h.admission).live ∙ length-map (λ (q : Request). q.number) x.throttle.admission.live
+  live_same s c h = ap length (views s x.throttle.admission c h.admission).live ∙ length-map x.throttle.admission.live (λ (q : Request). q.number)
 
   pub few_live : ((s : Spec) (c : Trace) → IsMade s c → length (live c) ≤ 20000) → ArePartsOfSome x → length x.throttle.admission.live ≤ 20000
   few_live most some = ∥∥₁_elim some le_prop (λ h. let same = live_same x.throttle.spec h.0 h.1 in let few = most x.throttle.spec h.0 h.1.made in omega (arith, same, few))

@@ -6,3 +6,4 @@ mod Events
 mod Acts
 mod Openings
 mod Created
+mod Losses

@@ -1,12 +1,12 @@
 -- The pods of an opening, one after the other.
-use Rattle.std.proofs.Common.{◌≡◌, ℕ, ◌+◌, ◌≤◌, List, [], ◌∷◌, ◌++◌, map, length, refl, sym, ap, ◌∙◌, subst, arith, length-append, append-nil}
+use Rattle.std.proofs.Common.{◌≡◌, ℕ, ◌+◌, ◌-◌, ◌≤◌, List, [], ◌∷◌, ◌++◌, map, length, refl, sym, ap, ◌∙◌, subst, arith, length-append, append-nil}
 use Rattle.std.specs.List.{range_with_len}
 use Rattle.std.proofs.lemmas.List.FromFn.{map-range_with_len_more}
 use Rattle.kn_event.specs.declared.entry.Row.{Row}
 use Rattle.kn_event.specs.declared.entry.Row.TheVariants as row
 use Rattle.kn_event.specs.declared.revision.Spec.{Spec}
 use Rattle.kn_trace.specs.Scale.{creations, drain_order, mode_of, phase_of, scale_rows}
-use Rattle.kn_trace.specs.Trace.{entry}
+use Rattle.kn_trace.specs.Trace.{created, entry, ready_pods, starting_pods}
 use Rattle.kn_record.specs.declared.admission.Readiness.TheVariants as readiness
 use Rattle.kn_record.specs.Admission.{Admission, stepped}
 use Rattle.kn_record.specs.Order.{AreTimed}
@@ -16,7 +16,7 @@ use Rattle.kn_core.specs.State.{IsUnscaled}
 use Rattle.kn_core.proofs.Traces.{is_unscaled_row, unscaled_more}
 
 pub creations_push : (s : Spec) (t limit n : ℕ) → s.cc ≡ limit → creations s t 0 n ++ entry t (row.Create n limit) ∷ [] ≡ creations s t 0 (n + 1)
-creations_push s t limit n e = rw (sym e) (sym (map-range_with_len_more (λ p. entry t (row.Create p s.cc)) 0 n))
+creations_push s t limit n e = rw (← e) (sym (map-range_with_len_more (λ p. entry t (row.Create p s.cc)) 0 n n (omega arith)))
 
 pub created_by_row : (t p n : ℕ) (here new : State) → new ≡ with_row t (row.Create p n) here → new.admission.created ≡ here.admission.created + 1
 unfolding stepped
@@ -44,5 +44,5 @@ creations_unscaled s t n = unscaled_more [] (creations s t 0 n) (created_unscale
 
 -- where no pod is there, a scale only creates
 pub scale_of_none : (s : Spec) (t n : ℕ) → scale_rows s t [] n ≡ creations s t 0 n
-unfolding scale_rows drain_order
-scale_of_none s t n = append-nil (creations s t 0 n)
+unfolding scale_rows drain_order starting_pods ready_pods created
+scale_of_none s t n = append-nil (creations s t 0 (n - 0)) ∙ ap (λ (k : ℕ). creations s t 0 k) (omega arith)

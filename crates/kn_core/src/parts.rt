@@ -18,7 +18,7 @@ use kn_event::{Act, EntryLog};
 use kn_laws::parts::part_laws;
 use kn_pods::Pods;
 use kn_pods::laws::row_laws;
-use kn_record::append::append_laws;
+use kn_record::append::{append_laws, walk_laws};
 use kn_throttle::Throttle;
 use std::marker::Model;
 
@@ -66,6 +66,7 @@ impl Parts {
     {
         row_laws();
         append_laws();
+        walk_laws();
         let Act::Lost(p) = act else {
             return;
         };

@@ -6,6 +6,7 @@ ghost use Rattle.kn_trace.specs.Events.{act_row, entries_of};
 ghost use Rattle.kn_trace.specs.Trace.{Trace};
 ghost use Rattle.kn_record.specs.declared.admission.Request.{Request};
 ghost use Rattle.kn_record.specs.Made.{Holds, IsProper};
+ghost use Rattle.kn_throttle.specs.Rows.{arrival_row, cancel_row, finish_row};
 ghost use Rattle.kn_core.specs.State.{ArePartsOf, ArePartsOfSome};
 ghost use Rattle.kn_core.specs.Steps.{AddsRow, IsAlone, IsWithinRange};
 
@@ -25,12 +26,8 @@ impl Parts {
         ensures adds { AddsRow time result self.old self.new }
     {
         let r = self.throttle.arrivals();
-        match self.throttle.arrive(r, time, Mode::Proxy) {
-            Arrival::Overload => Row::Overload(r),
-            Arrival::QueueFull(p) => Row::QueueFull(r, p),
-            Arrival::Direct(p) => Row::Direct(r, p),
-            Arrival::Admit => Row::Admit(r, tag),
-        }
+        let answer = self.throttle.arrive(r, time, Mode::Proxy);
+        row_of_arrival(r, tag, answer)
     }
 
     /// A request ends, well or not, if it runs.
@@ -38,11 +35,8 @@ impl Parts {
         ensures row { (s : SpecValue) (c : Trace) → ArePartsOf s self.old c → act_row s c (act.Finish r ok) ≡ Some result }
         ensures adds { (t : ℕ) → AddsRow t result self.old self.new }
     {
-        if self.throttle.finish(r) {
-            Row::Finish(r, ok)
-        } else {
-            Row::NotRunning(r)
-        }
+        let ran = self.throttle.finish(r);
+        row_of_finish(r, ok, ran)
     }
 
     /// A request is given up, if it waits.
@@ -50,11 +44,8 @@ impl Parts {
         ensures row { (s : SpecValue) (c : Trace) → ArePartsOf s self.old c → act_row s c (act.Cancel r) ≡ Some result }
         ensures adds { (t : ℕ) → AddsRow t result self.old self.new }
     {
-        if self.throttle.cancel(r) {
-            Row::Cancel(r)
-        } else {
-            Row::NotWaiting(r)
-        }
+        let waited = self.throttle.cancel(r);
+        row_of_cancel(r, waited)
     }
 
     /// A pod is said to be Ready.
@@ -131,4 +122,27 @@ impl Parts {
             Act::Pass | Act::Tick => None,
         }
     }
+}
+
+fn row_of_arrival(r: u64, tag: u64, answer: Arrival) -> Row
+    ensures { result ≡ arrival_row r tag answer }
+{
+    match answer {
+        Arrival::Overload => Row::Overload(r),
+        Arrival::QueueFull(p) => Row::QueueFull(r, p),
+        Arrival::Direct(p) => Row::Direct(r, p),
+        Arrival::Admit => Row::Admit(r, tag),
+    }
+}
+
+fn row_of_finish(r: u64, ok: bool, ran: bool) -> Row
+    ensures { result ≡ finish_row r ok ran }
+{
+    if ran { Row::Finish(r, ok) } else { Row::NotRunning(r) }
+}
+
+fn row_of_cancel(r: u64, waited: bool) -> Row
+    ensures { result ≡ cancel_row r waited }
+{
+    if waited { Row::Cancel(r) } else { Row::NotWaiting(r) }
 }

@@ -23,3 +23,10 @@ loop-r-preserved c =
       pods = pods_by t x here _ c.in-Some.ensures.after ∙ c.loop-r.invariant.pods;
       room = let room = c.loop-r.invariant.room in rw c.put.ensures (omega (arith, length-append c.loop-r.log (entry t x ∷ []), fewer, ended, room));
     }
+
+pub loop-r-smaller : goal.loop-r-smaller
+loop-r-smaller c =
+    let here = c.loop-r.throttle in
+    let fewer = first_ends (is_due here.spec.timeout_ms c.args.time) c.in-Some.r here.admission.live (sym c.in-Some.ensures.value) in
+    let ended = ap length (live_by c.args.time (row.Expire c.in-Some.r) here _ c.in-Some.ensures.after) in
+    omega (arith, fewer, ended)

@@ -5,7 +5,7 @@ use Rattle.kn_trace.specs.Trace.{entry}
 use Rattle.kn_record.specs.declared.admission.Request.{Request}
 use Rattle.kn_record.specs.Admission.{is_at, without}
 use Rattle.kn_core.proofs.Ends.{live_by, nobody_by, pods_by}
-use Rattle.kn_core.proofs.Lists.{first_ends}
+use Rattle.kn_core.proofs.Lists.{first_ends, first_is_there}
 use Rattle.kn_core.proofs.rows.lose_all.Goals as goal
 
 pub loop-r-preserved : goal.loop-r-preserved
@@ -25,3 +25,19 @@ loop-r-preserved c =
       pods = pods_by t x here _ after ∙ c.loop-r.invariant.pods;
       room = let room = c.loop-r.invariant.room in rw c.put.ensures (omega (arith, length-append c.loop-r.log (entry t x ∷ []), fewer, ended, room));
     }
+
+pub loop-r-smaller : goal.loop-r-smaller
+loop-r-smaller c =
+    let here = c.loop-r.throttle in
+    let fewer = first_ends (λ (q : Request). is_at c.args.p q.place) c.in-Some.r here.admission.live (sym c.in-Some.ensures.value) in
+    let ended = ap length (live_by c.args.time (row.LostRequest c.in-Some.r) here _ (c.lose.ensures.after c.args.time)) in
+    omega (arith, fewer, ended)
+
+pub lose-requires : goal.lose-requires
+lose-requires c = (c.args.p, first_is_there c.in-Some.r _ (sym c.in-Some.ensures.value))
+
+pub returns-clause-stands : goal.returns-clause-stands
+returns-clause-stands c = λ d h.
+    let l = c.loop-r.invariant.on d h in
+    c.loop_laws.ensures.stands _ _ d c.loop-r.throttle.admission c.args.log.now c.loop-r.log l
+    (c.walk_laws.ensures.lost c.loop-r.throttle.admission l.here c.args.time c.args.p l.stands (sym c.in_default.ensures.value))

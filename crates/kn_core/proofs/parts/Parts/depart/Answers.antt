@@ -10,13 +10,13 @@ use Rattle.kn_core.proofs.parts.Parts.depart.Goals as goal
 pub expire-requires : goal.expire-requires
 expire-requires c = c.requires.room
 
-pub lose-requires-some : goal.lose-requires-some
-lose-requires-some c =
+pub lose-requires-clause-some : goal.lose-requires-clause-some
+lose-requires-clause-some c =
     let s = c.args.self.now.throttle.spec in
     some_more c.args.self.now c.expire.new.self (expiries s c.args.e.now.time) (λ d h. c.expire.ensures.stands s d h (c.walk_laws.ensures.parts s d c.args.e.now h.made).expiries) c.requires.some
 
-pub lose-requires-room : goal.lose-requires-room
-lose-requires-room c = let room = c.requires.room in omega (arith, room, c.expire.ensures.room)
+pub lose-requires-clause-room : goal.lose-requires-clause-room
+lose-requires-clause-room c = let room = c.requires.room in omega (arith, room, c.expire.ensures.room)
 
 pub returns-clause-nobody : goal.returns-clause-nobody
 returns-clause-nobody c = nobody_then c.args.e.now.time c.args.self.now.throttle c.expire.new.self.throttle c.lose.new.self.throttle c.expire.ensures.nobody c.lose.ensures.nobody

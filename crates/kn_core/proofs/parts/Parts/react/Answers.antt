@@ -10,51 +10,51 @@ use Rattle.kn_core.proofs.parts.Parts.react.Goals as goal
 pub returns-clause-stands : goal.returns-clause-stands
 returns-clause-stands c = λ s d h.
     let gone = c.depart.ensures.stands s d h in
-    let all = course s d c.args.e.now (subst IsFixed (ap (λ (x : Spec). x.kind) h.spec) c.requires.fixed) c.take.result _ _ _
-        (c.walk_laws.ensures.parts s d c.args.e.now h.made) gone (c.take.ensures.row s _ gone) (c.take.ensures.stands s _ gone) (c.settle.ensures.stands s _) in
+    let all = course s d c.args.e.now (subst IsFixed (ap (λ (x : Spec). x.kind) h.spec) c.requires.fixed) c.take-row.result _ _ _
+        (c.walk_laws.ensures.parts s d c.args.e.now h.made) gone (c.take-row.ensures.row s _ gone) (c.take-row.ensures.stands s _ gone) (c.settle.ensures.stands s _) in
     all.stands
 
 pub returns-clause-logged : goal.returns-clause-logged
 returns-clause-logged c = λ s d h.
     let gone = c.depart.ensures.stands s d h in
-    let all = course s d c.args.e.now (subst IsFixed (ap (λ (x : Spec). x.kind) h.spec) c.requires.fixed) c.take.result _ _ _
-        (c.walk_laws.ensures.parts s d c.args.e.now h.made) gone (c.take.ensures.row s _ gone) (c.take.ensures.stands s _ gone) (c.settle.ensures.stands s _) in
-    all_logged _ _ _ _ _ _ _ c.requires.empty (c.depart.ensures.logged s d h) c.take.ensures.logged (c.settle.ensures.logged s _ all.took) ∙ sym all.rows
+    let all = course s d c.args.e.now (subst IsFixed (ap (λ (x : Spec). x.kind) h.spec) c.requires.fixed) c.take-row.result _ _ _
+        (c.walk_laws.ensures.parts s d c.args.e.now h.made) gone (c.take-row.ensures.row s _ gone) (c.take-row.ensures.stands s _ gone) (c.settle.ensures.stands s _) in
+    all_logged _ _ _ _ _ _ _ c.requires.empty (c.depart.ensures.logged s d h) c.take-row.ensures.logged (c.settle.ensures.logged s _ all.did) ∙ sym all.rows
 
 pub returns-clause-told : goal.returns-clause-told
 returns-clause-told c = λ s d h.
     let gone = c.depart.ensures.stands s d h in
     let fixed = subst IsFixed (ap (λ (x : Spec). x.kind) h.spec) c.requires.fixed in
-    let all = course s d c.args.e.now fixed c.take.result _ _ _
-        (c.walk_laws.ensures.parts s d c.args.e.now h.made) gone (c.take.ensures.row s _ gone) (c.take.ensures.stands s _ gone) (c.settle.ensures.stands s _) in
-    c.told.ensures s _ all.stands ∙ sym (told_alone s d c.args.e.now fixed c.take.result (c.take.ensures.row s _ gone))
+    let all = course s d c.args.e.now fixed c.take-row.result _ _ _
+        (c.walk_laws.ensures.parts s d c.args.e.now h.made) gone (c.take-row.ensures.row s _ gone) (c.take-row.ensures.stands s _ gone) (c.settle.ensures.stands s _) in
+    c.told.ensures s _ all.stands ∙ sym (told_alone s d c.args.e.now fixed c.take-row.result (c.take-row.ensures.row s _ gone))
 
-pub depart-requires-room : goal.depart-requires-room
-depart-requires-room c = let few = c.requires.few in let none = ap length c.requires.empty in omega (arith, few, none)
+pub depart-requires-clause-room : goal.depart-requires-clause-room
+depart-requires-clause-room c = let few = c.requires.few in let none = ap length c.requires.empty in omega (arith, few, none)
 
-pub take-requires-room : goal.take-requires-room
-take-requires-room c = let few = c.requires.few in let none = ap length c.requires.empty in omega (arith, few, none, c.depart.ensures.room)
+pub take-row-requires-clause-room : goal.take-row-requires-clause-room
+take-row-requires-clause-room c = let few = c.requires.few in let none = ap length c.requires.empty in omega (arith, few, none, c.depart.ensures.room)
 
-pub take-requires-few : goal.take-requires-few
-take-requires-few c = rw c.depart.ensures.nobody.arrivals c.requires.arrivals
+pub take-row-requires-clause-few : goal.take-row-requires-clause-few
+take-row-requires-clause-few c = rw c.depart.ensures.nobody.arrivals c.requires.arrivals
 
-pub take-requires-timed : goal.take-requires-timed
-take-requires-timed c = c.depart.ensures.nobody.timed c.requires.timed
+pub take-row-requires-clause-timed : goal.take-row-requires-clause-timed
+take-row-requires-clause-timed c = c.depart.ensures.nobody.timed c.requires.timed
 
-pub settle-requires-some : goal.settle-requires-some
-settle-requires-some c =
+pub settle-requires-clause-some : goal.settle-requires-clause-some
+settle-requires-clause-some c =
     let s = c.args.self.now.throttle.spec in
     let e = c.args.e.now in
-    some_more c.args.self.now c.take.new.self (λ (d : Trace). departures s d e ++ entries_of e.time c.take.result)
+    some_more c.args.self.now c.take-row.new.self (λ (d : Trace). departures s d e ++ entries_of e.time c.take-row.result)
     (λ d h.
         let gone = c.depart.ensures.stands s d h in
-        let own = took_own s d e c.requires.fixed c.take.result c.take.new.self (c.walk_laws.ensures.parts s d e h.made) (c.take.ensures.row s _ gone) (c.take.ensures.stands s _ gone) in
-        subst (ArePartsOf s c.take.new.self) (append_assoc d (departures s d e) (entries_of e.time c.take.result)) own)
+        let own = took_own s d e c.requires.fixed c.take-row.result c.take-row.new.self (c.walk_laws.ensures.parts s d e h.made) (c.take-row.ensures.row s _ gone) (c.take-row.ensures.stands s _ gone) in
+        subst (ArePartsOf s c.take-row.new.self) (append_assoc d (departures s d e) (entries_of e.time c.take-row.result)) own)
     c.requires.some
 
-pub settle-requires-room : goal.settle-requires-room
-settle-requires-room c =
+pub settle-requires-clause-room : goal.settle-requires-clause-room
+settle-requires-clause-room c =
     let few = c.requires.few in
     let none = ap length c.requires.empty in
-    let more = ap length c.take.ensures.logged in
-    omega (arith, few, none, more, c.depart.ensures.room, length-append c.depart.new.log (entries_of c.args.e.now.time c.take.result), one_row c.args.e.now.time c.take.result)
+    let more = ap length c.take-row.ensures.logged in
+    omega (arith, few, none, more, c.depart.ensures.room, length-append c.depart.new.log (entries_of c.args.e.now.time c.take-row.result), one_row c.args.e.now.time c.take-row.result)

@@ -1,4 +1,4 @@
-use Rattle.std.proofs.Common.{◌≡◌, refl, sym}
+use Rattle.std.proofs.Common.{◌≡◌, ◌≤◌, refl, sym, arith}
 use Rattle.kn_trace.specs.Events.{opening}
 use Rattle.kn_core.proofs.revision.Revision.new.Goals as goal
 
@@ -12,6 +12,8 @@ invariant_of-result c = record {
   spec = c.in_ok-parts.ensures.stands.spec;
   timed = c.in_ok-parts.ensures.timed;
   ranges = c.args.spec.ranges;
+  events = omega arith;
+  created = let few = c.in_ok-parts.ensures.created in omega (arith, few);
   some = ∣ (opening c.args.spec c.args.start, returns-clause-stands c) ∣₁;
 }
 
