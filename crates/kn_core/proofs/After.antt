@@ -120,20 +120,15 @@ act_unscaled (row.Phase x) h = absurd (cc)
 act_unscaled (row.Mode m) h = absurd (cc)
 act_unscaled _ h = refl
 
--- by an act's own row, if it has one
+-- by an act's own row
 module _ (makes : (s : Spec) (c : Trace) (t : ℕ) (x : Row) → IsMade s c → IsProper s c x → IsMade s (c ++ entry t x ∷ []))
     (goes : (s : Spec) (c : Trace) (t : ℕ) (x : Row) (pods : PodsState) → IsMade s c → IsProper s c x → ArePodsOf pods c → ArePodsOf (after_row x pods) (c ++ entry t x ∷ []))
     (steps : (s : Spec) (a : Admission) (c : Trace) (t : ℕ) (x : Row) → StandsFor a c → IsProper s c x → StandsFor (stepped t x a) (c ++ entry t x ∷ []))
     (s : Spec) (c : Trace) (t : ℕ) (old new : PartsState) where
-  parts_row : (x : Row) → is_act_row x ≡ true → AddsRow t x old new → IsProper s c x → ArePartsOf s old c → ArePartsOf s new (c ++ entry t x ∷ [])
+  pub parts_row : (x : Row) → is_act_row x ≡ true → AddsRow t x old new → IsProper s c x → ArePartsOf s old c → ArePartsOf s new (c ++ entry t x ∷ [])
   parts_row x is_act adds proper h =
       let here = subst (λ (y : throttle.State). StandsFor y.admission (c ++ entry t x ∷ [])) (sym adds.throttle) (steps s old.throttle.admission c t x h.admission proper) in
       parts_by makes goes s c (entry t x ∷ []) old new (act_unscaled x is_act, tt) (proper, tt) adds.pods (ap (λ (y : throttle.State). y.spec) adds.throttle) here h
-
-  pub parts_act : (a : Act) (own : Option Row) → IsActRow a own → IfSome own (λ (x : Row). AddsRow t x old new) → IfNone own (new ≡ old) → Holds (IsProper s) c (entries_of t own) → ArePartsOf s old c
-      → ArePartsOf s new (c ++ entries_of t own)
-  parts_act a None is_act adds same proper h = subst (ArePartsOf s new) (sym (append-nil c)) (subst (λ (x : PartsState). ArePartsOf s x c) (sym same) h)
-  parts_act a (Some x) is_act adds same proper h = parts_row x is_act.0 adds proper.0 h
 
 -- the parts stand for some trace where they stand for this one
 pub some_by : (s : Spec) (x : PartsState) (c : Trace) → ArePartsOf s x c → ArePartsOfSome x

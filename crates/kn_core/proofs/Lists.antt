@@ -1,8 +1,7 @@
 -- Lists of live requests and of pods.
-use Rattle.std.proofs.Common.{◌≡◌, ℕ, ◌+◌, ◌≤◌, Bool, true, false, not, List, [], ◌∷◌, ◌++◌, ◌||◌, length, map, take, drop, length-append, ◌-◌, refl, sym, ap, ◌∙◌, arith, suc, zero, Option, None, Some}
+use Rattle.std.proofs.Common.{◌≡◌, ℕ, ◌+◌, ◌≤◌, Bool, true, false, not, List, [], ◌∷◌, ◌++◌, ◌||◌, length, map, drop, refl, sym, ap, ◌∙◌, arith, suc, zero, Option, None, Some}
 use Rattle.std.specs.Prelude.{◌==◌}
 use Rattle.std.specs.List.{filter}
-use Rattle.std.proofs.lemmas.List.{take_all}
 use Rattle.std.proofs.lemmas.Bool.Decides.{nat_tests}
 use Rattle.kn_trace.specs.Trace.{contains, first_of}
 use Rattle.kn_record.specs.declared.admission.Request.{Request}
@@ -47,8 +46,8 @@ drop_whole : {X : Type 0} (xs ys : List X) → drop (length xs) (xs ++ ys) ≡ y
 drop_whole [] ys = refl
 drop_whole (x ∷ xs) ys = drop_whole xs ys
 
-pub behind : {X : Type 0} (xs ys zs : List X) → zs ≡ xs ++ ys → take (length zs - length xs) (drop (length xs) zs) ≡ ys
-behind xs ys zs e = rw (e, drop_whole xs ys) (take_all (length (xs ++ ys) - length xs) ys (omega (arith, length-append xs ys)))
+pub behind : {X : Type 0} (xs ys zs : List X) → zs ≡ xs ++ ys → drop (length xs) zs ≡ ys
+behind xs ys zs e = rw e (drop_whole xs ys)
 
 pub first_is_there : (r : ℕ) (xs : List ℕ) → first_of xs ≡ Some r → contains r xs ≡ true
 first_is_there r [] e = absurd (cc)

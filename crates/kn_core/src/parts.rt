@@ -13,7 +13,7 @@ mod event;
 mod opening;
 mod views;
 
-use crate::rows::{expire_all, lose_all, remove_all};
+use crate::rows::{expire_all, lose_all, remove_behind};
 use kn_event::{Act, EntryLog};
 use kn_laws::parts::part_laws;
 use kn_pods::Pods;
@@ -89,6 +89,6 @@ impl Parts {
         part_laws();
         let before = log.entries().len();
         self.throttle.settle(time, log);
-        remove_all(&mut self.pods, &log.entries()[before..]);
+        remove_behind(&mut self.pods, log, before);
     }
 }

@@ -1,5 +1,5 @@
 //! Rows of an event that come one after the other.
-ghost use Rattle.std.specs.Prelude.{◌≡◌, ◌+◌, ◌≤◌, [], ◌++◌, length};
+ghost use Rattle.std.specs.Prelude.{◌≡◌, ◌+◌, ◌≤◌, [], ◌++◌, drop, length};
 ghost use Rattle.kn_trace.specs.Events.{expiries};
 ghost use Rattle.kn_trace.specs.Trace.{Trace};
 ghost use Rattle.kn_record.specs.Admission.{is_at, placed_in};
@@ -58,8 +58,16 @@ pub(crate) fn lose_all(throttle: &mut Throttle, p: u64, time: u64, log: &mut Ent
     }
 }
 
+/// Takes away the pods that the entries behind the first ones remove.
+pub(crate) fn remove_behind(pods: &mut Pods, log: &EntryLog, first: usize)
+    requires { first ≤ length log.now }
+    ensures { pods.new ≡ after_removals (drop first log.now) pods.old }
+{
+    remove_all(pods, &log.entries()[first..]);
+}
+
 /// Takes away the pods that these entries remove.
-pub(crate) fn remove_all(pods: &mut Pods, entries: &[Entry])
+fn remove_all(pods: &mut Pods, entries: &[Entry])
     ensures { pods.new ≡ after_removals entries.now pods.old }
 {
     for e in entries {

@@ -1,5 +1,6 @@
 //! The pods that a revision opens with.
 ghost use Rattle.std.specs.Prelude.{◌≡◌, ℕ, ◌≤◌, [], IfOk, OnOk, OnErr};
+ghost use Rattle.kn_event.specs.Revision.{AreInRange};
 ghost use Rattle.kn_event.specs.declared.revision.Spec.{Spec as SpecValue};
 ghost use Rattle.kn_trace.specs.Events.{opening};
 ghost use Rattle.kn_trace.specs.Scale.{creations};
@@ -27,6 +28,7 @@ impl Parts {
         ensures timed { IfOk result (λ x. AreTimed start x.throttle.admission) }
         ensures created { IfOk result (λ x. x.pods.created ≤ 500) }
         ensures logged { OnOk result (log.new ≡ opening spec.now start) }
+        ensures ranges { OnOk result (AreInRange spec.now) }
         ensures err { OnErr result (log.new ≡ []) }
     {
         row_laws();
@@ -51,6 +53,7 @@ fn create_all(throttle: &mut Throttle, count: u64, limit: u64, start: u64)
     ensures stands { (s : SpecValue) → s.cc ≡ limit → StandsFor throttle.new.admission (creations s start 0 count) }
     ensures spec { throttle.new.spec ≡ throttle.old.spec }
     ensures timed { AreTimed start throttle.new.admission }
+    ensures created { throttle.new.admission.created ≡ count }
 {
     append_laws();
     time_laws();

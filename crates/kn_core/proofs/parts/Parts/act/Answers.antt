@@ -19,4 +19,4 @@ returns-in-Lost-clause-adds c = c.lose_pod.ensures.adds c.args.e.now.time
 
 pub returns-in-Pass-clause-row : goal.returns-in-Pass-clause-row
 unfolding act_row
-returns-in-Pass-clause-row c = λ s d h. ?
+returns-in-Pass-clause-row c = λ s d h. elim c.in-Pass.is [ inl e ↦ rw e refl | inr e ↦ rw e refl ]

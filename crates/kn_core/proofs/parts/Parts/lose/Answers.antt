@@ -1,4 +1,4 @@
-use Rattle.std.proofs.Common.{◌≡◌, ◌∙◌, ◌≤◌, ◌+◌, ◌++◌, refl, sym, ap, subst, List, ℕ, true, false, Bool}
+use Rattle.std.proofs.Common.{◌≡◌, ◌∙◌, ◌≤◌, ◌+◌, ◌++◌, refl, sym, ap, subst, arith, List, ℕ, true, false, Bool}
 use Rattle.kn_event.specs.declared.entry.Entry.{Entry}
 use Rattle.kn_event.specs.declared.event.Act.{Act}
 use Rattle.kn_event.specs.declared.event.Act.TheVariants as act
@@ -24,10 +24,10 @@ pub returns-in_default : goal.returns-in_default
 returns-in_default c = record {
   logged = λ s d h. logged_same _ _ (no_losses c.args.time d c.args.act c.in_default.not-Lost);
   stands = λ s d h proper. parts_same s _ d _ (no_losses c.args.time d c.args.act c.in_default.not-Lost) h;
-  nobody = nobody_yet _ _;
+  nobody = nobody_yet c.args.time c.args.self.now.throttle;
   created = refl;
   alone = nobody_alone _ _ c.in_default.not-Lost;
-  room = ?;
+  room = omega arith;
 }
 
 pub returns-then-live-clause-logged : goal.returns-then-live-clause-logged

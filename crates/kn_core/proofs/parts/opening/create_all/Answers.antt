@@ -7,7 +7,7 @@ use Rattle.kn_record.specs.Made.{StandsFor}
 use Rattle.kn_core.proofs.Openings.{created_by_row, creations_push, pods_by_row, timed_by_row}
 use Rattle.kn_core.proofs.parts.opening.create_all.Goals as goal
 
-pub loop-p-init : goal.loop-p-initial
+pub loop-p-init : goal.loop-p-init
 loop-p-init c = record {
   stands = λ s e. rw c.requires.nothing (c.append_laws.ensures.nothing s);
   created = rw c.requires.nothing refl;

@@ -11,7 +11,7 @@ invariant_of-result c = record {
   fixed = c.requires.fixed;
   spec = c.in_ok-parts.ensures.stands.spec;
   timed = c.in_ok-parts.ensures.timed;
-  ranges = c.args.spec.ranges;
+  ranges = c.in_ok-parts.ensures.ranges;
   events = omega arith;
   created = let few = c.in_ok-parts.ensures.created in omega (arith, few);
   some = ∣ (opening c.args.spec c.args.start, returns-clause-stands c) ∣₁;
