@@ -1,4 +1,4 @@
-use Rattle.std.proofs.Common.{refl}
+use Rattle.std.proofs.Common.{refl, inl, inr}
 use Rattle.kn_trace.specs.Events.{act_row}
 use Rattle.kn_core.proofs.parts.Parts.act.Goals as goal
 

@@ -26,7 +26,7 @@ returns-in_default c = record {
   stands = λ s d h proper. parts_same s _ d _ (no_losses c.args.time d c.args.act c.in_default.not-Lost) h;
   nobody = nobody_yet c.args.time c.args.self.now.throttle;
   created = refl;
-  alone = nobody_alone _ _ c.in_default.not-Lost;
+  alone = nobody_alone c.args.self.now.throttle.admission c.args.act c.in_default.not-Lost;
   room = omega arith;
 }
 

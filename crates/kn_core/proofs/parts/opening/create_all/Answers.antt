@@ -1,4 +1,4 @@
-use Rattle.std.proofs.Common.{◌≡◌, ◌+◌, ◌≤◌, ◌∙◌, ◌∷◌, ◌++◌, [], refl, sym, ap, subst, arith, length, length-append}
+use Rattle.std.proofs.Common.{◌≡◌, ℕ, ◌+◌, ◌≤◌, ◌∙◌, ◌∷◌, ◌++◌, [], refl, sym, ap, subst, arith, length, length-append}
 use Rattle.kn_event.specs.declared.entry.Row.TheVariants as row
 use Rattle.kn_event.specs.declared.revision.Spec.{Spec}
 use Rattle.kn_trace.specs.Scale.{creations}
@@ -30,3 +30,8 @@ loop-p-preserved c =
       spec = ap (λ x. x.spec) after ∙ k.spec;
       timed = timed_by_row c.time_laws.ensures.step t (row.Create c.loop-p.p c.args.limit) c.loop-p.throttle _ after k.timed;
     }
+
+pub returns-clause-stands : goal.returns-clause-stands
+returns-clause-stands c = λ s e.
+    let last : c.loop-p.p ≡ c.args.count = omega arith in
+    subst (λ (n : ℕ). StandsFor c.loop-p.throttle.admission (creations s c.args.start 0 n)) last (c.loop-p.invariant.stands s e)
