@@ -35,8 +35,8 @@ pub starting_there : ((s : Spec) (a : Admission) (c : Trace) → IsRecordOf a c 
 starting_there views x some p said =
     ∥∥₁_elim some (bool_prop (contains p (pods_in is_starting_now x.throttle.admission.pods)) true)
     (λ (h : (c : Trace) × ArePartsOf x.throttle.spec x c).
-        let found = starts x.throttle.spec h.0 p (said x.throttle.spec h.0 h.1.made h.1.pods) in
-        sym ((views x.throttle.spec x.throttle.admission h.0 h.1.admission).is_starting p found.0) ∙ found.1)
+    let found = starts x.throttle.spec h.0 p (said x.throttle.spec h.0 h.1.made h.1.pods) in
+    sym ((views x.throttle.spec x.throttle.admission h.0 h.1.admission).is_starting p found.0) ∙ found.1)
 
 pub limit_row : (s : Spec) (c : Trace) (p n : ℕ) (b : Bool) → b ≡ contains p (live_pods c) → act_row s c (act.Limit p n) ≡ Some (if b then row.Limit p n else row.NoPod p)
 unfolding act_row

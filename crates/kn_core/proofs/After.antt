@@ -138,7 +138,7 @@ some_by s x c h = ∣ (c, subst (λ (z : Spec). ArePartsOf z x c) (sym h.spec) h
 pub some_more : (old new : PartsState) (more : Trace → List Entry) → ((c : Trace) → ArePartsOf old.throttle.spec old c → ArePartsOf old.throttle.spec new (c ++ more c)) → ArePartsOfSome old → ArePartsOfSome new
 some_more old new more goes some =
     ∥∥₁_map some (λ (h : (c : Trace) × ArePartsOf old.throttle.spec old c).
-        let all = goes h.0 h.1 in (h.0 ++ more h.0, subst (λ (z : Spec). ArePartsOf z new (h.0 ++ more h.0)) (sym all.spec) all))
+    let all = goes h.0 h.1 in (h.0 ++ more h.0, subst (λ (z : Spec). ArePartsOf z new (h.0 ++ more h.0)) (sym all.spec) all))
 
 -- an act has one row at most
 pub one_row : (t : ℕ) (own : Option Row) → length (entries_of t own) ≤ 1

@@ -53,7 +53,7 @@ pub took_created : ((s : Spec) (c : Trace) (a : Act) → IsActRow a (act_row s c
 took_created is_act a t own old new some said adds same =
     ∥∥₁_elim some (number_prop new.pods.created old.pods.created)
     (λ (h : (c : Trace) × ArePartsOf old.throttle.spec old c).
-        own_created a t own old new (subst (IsActRow a) (said old.throttle.spec h.0 h.1) (is_act old.throttle.spec h.0 a)) adds same)
+    own_created a t own old new (subst (IsActRow a) (said old.throttle.spec h.0 h.1) (is_act old.throttle.spec h.0 a)) adds same)
 
 -- ---- the next Starting pod
 
@@ -85,14 +85,14 @@ pub next_below : ((s : Spec) (a : Admission) (c : Trace) → IsRecordOf a c → 
 next_below views order x from some =
     ∥∥₁_elim some (below_prop (find (λ p. nat_le from p) x.pods.starting) x.pods.created)
     (λ (h : (c : Trace) × ArePartsOf x.throttle.spec x c).
-        let s = x.throttle.spec in
-        let a = x.throttle.admission in
-        let all = views s a h.0 h.1.admission in
-        let starting : x.pods.starting ≡ pods_in is_starting_now a.pods = h.1.pods.starting ∙ all.starting in
-        let created : x.pods.created ≡ a.created = h.1.pods.created ∙ all.created in
-        let below = found_below is_starting_now from a.created a.pods (order s a h.0 h.1.made h.1.admission).created in
-        subst (λ (xs : List ℕ). IfSome (find (λ p. nat_le from p) xs) (λ p. p < x.pods.created)) (sym starting)
-        (subst (λ (n : ℕ). IfSome (find (λ p. nat_le from p) (pods_in is_starting_now a.pods)) (λ p. p < n)) (sym created) below))
+    let s = x.throttle.spec in
+    let a = x.throttle.admission in
+    let all = views s a h.0 h.1.admission in
+    let starting : x.pods.starting ≡ pods_in is_starting_now a.pods = h.1.pods.starting ∙ all.starting in
+    let created : x.pods.created ≡ a.created = h.1.pods.created ∙ all.created in
+    let below = found_below is_starting_now from a.created a.pods (order s a h.0 h.1.made h.1.admission).created in
+    subst (λ (xs : List ℕ). IfSome (find (λ p. nat_le from p) xs) (λ p. p < x.pods.created)) (sym starting)
+    (subst (λ (n : ℕ). IfSome (find (λ p. nat_le from p) (pods_in is_starting_now a.pods)) (λ p. p < n)) (sym created) below))
 
 -- by so many events as there can be, fewer pods than there are numbers
 pub few_created : (o : Option ℕ) (created events : ℕ) → events ≤ 2 ^ 54 → created ≤ 500 * (events + 1) → IfSome o (λ p. p < created) → IfSome o (λ p. p < 2 ^ 63)

@@ -82,7 +82,7 @@ pub course : (s : Spec) (c : Trace) (e : Event) (fixed : IsFixed s.kind) (own : 
     → (by_act : act_row s (c ++ departures s c e) e.act ≡ own)
     → (Holds (IsProper s) (c ++ departures s c e) (entries_of e.time own) → ArePartsOf s took ((c ++ departures s c e) ++ entries_of e.time own))
     → (ArePartsOf s took ((c ++ departures s c e) ++ entries_of e.time own) → Holds (IsProper s) ((c ++ departures s c e) ++ entries_of e.time own) (settling s e.time ((c ++ departures s c e) ++ entries_of e.time own))
-        → ArePartsOf s new (((c ++ departures s c e) ++ entries_of e.time own) ++ settling s e.time ((c ++ departures s c e) ++ entries_of e.time own)))
+    → ArePartsOf s new (((c ++ departures s c e) ++ entries_of e.time own) ++ settling s e.time ((c ++ departures s c e) ++ entries_of e.time own)))
     → Course s c e own mid took new
 course s c e fixed own mid took new proper gone by_act takes settles =
     let here : Trace = (c ++ departures s c e) ++ entries_of e.time own in
@@ -92,9 +92,9 @@ course s c e fixed own mid took new proper gone by_act takes settles =
     let rows = react_alone s c e fixed own by_act did.scaler in
     let all = settles did (subst (λ (d : Trace). Holds (IsProper s) d (settling s e.time d)) same proper.settling) in
     let whole : here ++ settling s e.time here ≡ c ++ react s c e =
-        ap (λ (d : Trace). d ++ settling s e.time here) (append_assoc c (departures s c e) (entries_of e.time own))
-        ∙ append_assoc c (departures s c e ++ entries_of e.time own) (settling s e.time here)
-        ∙ ap (λ (es : List Entry). c ++ es) (sym rows) in
+    ap (λ (d : Trace). d ++ settling s e.time here) (append_assoc c (departures s c e) (entries_of e.time own))
+    ∙ append_assoc c (departures s c e ++ entries_of e.time own) (settling s e.time here)
+    ∙ ap (λ (es : List Entry). c ++ es) (sym rows) in
     record { did = did; rows = rows; stands = subst (ArePartsOf s new) whole all }
 
 -- the log after all parts

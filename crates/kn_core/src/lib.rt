@@ -6,3 +6,6 @@ mod revision;
 mod rows;
 
 pub use revision::Revision;
+
+#[cfg(test)]
+mod tests;

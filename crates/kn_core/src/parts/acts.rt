@@ -138,11 +138,19 @@ fn row_of_arrival(r: u64, tag: u64, answer: Arrival) -> Row
 fn row_of_finish(r: u64, ok: bool, ran: bool) -> Row
     ensures { result ≡ finish_row r ok ran }
 {
-    if ran { Row::Finish(r, ok) } else { Row::NotRunning(r) }
+    if ran {
+        Row::Finish(r, ok)
+    } else {
+        Row::NotRunning(r)
+    }
 }
 
 fn row_of_cancel(r: u64, waited: bool) -> Row
     ensures { result ≡ cancel_row r waited }
 {
-    if waited { Row::Cancel(r) } else { Row::NotWaiting(r) }
+    if waited {
+        Row::Cancel(r)
+    } else {
+        Row::NotWaiting(r)
+    }
 }

@@ -21,7 +21,12 @@ use std::alloc::Global;
 
 impl Parts {
     /// The parts of a revision that opens now. The log becomes its opening.
-    pub(crate) fn open(alloc: Global, spec: &Spec, start: u64, log: &mut EntryLog) -> Result<Parts, Memory>
+    pub(crate) fn open(
+        alloc: Global,
+        spec: &Spec,
+        start: u64,
+        log: &mut EntryLog,
+    ) -> Result<Parts, Memory>
         requires empty { log.old ≡ [] }
         requires fixed { IsFixed spec.now.kind }
         ensures stands { IfOk result (λ x. ArePartsOf spec.now x (opening spec.now start)) }

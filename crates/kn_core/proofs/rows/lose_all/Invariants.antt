@@ -1,7 +1,6 @@
 use Rattle.std.proofs.Common.{◌≡◌, ◌+◌, ◌≤◌, length}
 use Rattle.kn_trace.specs.Trace.{Trace}
 use Rattle.kn_record.specs.Walks.{Leaves, losing}
-
 use Rattle.kn_record.specs.Made.{StandsFor}
 use Rattle.kn_core.specs.Steps.{AddsNobody}
 use Rattle.kn_core.proofs.rows.lose_all.Given as goal

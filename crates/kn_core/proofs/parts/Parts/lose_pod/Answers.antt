@@ -10,7 +10,7 @@ pub lose_pod-requires-clause-there : goal.lose_pod-requires-clause-there
 lose_pod-requires-clause-there c =
     let lost : c.lost.result ≡ true = search rules in
     sym (live_there c.append_laws.ensures.views _ (subst ArePartsOfSome (sym c.self.view_is) c.requires.some) c.args.p c.lost.result
-        (λ s d made pods. c.lost.ensures.value ∙ sym (c.row_laws.ensures.live s d c.args.p _ made pods)))
+    (λ s d made pods. c.lost.ensures.value ∙ sym (c.row_laws.ensures.live s d c.args.p _ made pods)))
     ∙ lost
 
 pub returns-then-lost-clause-row : goal.returns-then-lost-clause-row

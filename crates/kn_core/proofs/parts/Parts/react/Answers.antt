@@ -11,14 +11,14 @@ pub returns-clause-stands : goal.returns-clause-stands
 returns-clause-stands c = λ s d h.
     let gone = c.depart.ensures.stands s d h in
     let all = course s d c.args.e.now (subst IsFixed (ap (λ (x : Spec). x.kind) h.spec) c.requires.fixed) c.take-row.result _ _ _
-        (c.walk_laws.ensures.parts s d c.args.e.now h.made) gone (c.take-row.ensures.row s _ gone) (c.take-row.ensures.stands s _ gone) (c.settle.ensures.stands s _) in
+    (c.walk_laws.ensures.parts s d c.args.e.now h.made) gone (c.take-row.ensures.row s _ gone) (c.take-row.ensures.stands s _ gone) (c.settle.ensures.stands s _) in
     all.stands
 
 pub returns-clause-logged : goal.returns-clause-logged
 returns-clause-logged c = λ s d h.
     let gone = c.depart.ensures.stands s d h in
     let all = course s d c.args.e.now (subst IsFixed (ap (λ (x : Spec). x.kind) h.spec) c.requires.fixed) c.take-row.result _ _ _
-        (c.walk_laws.ensures.parts s d c.args.e.now h.made) gone (c.take-row.ensures.row s _ gone) (c.take-row.ensures.stands s _ gone) (c.settle.ensures.stands s _) in
+    (c.walk_laws.ensures.parts s d c.args.e.now h.made) gone (c.take-row.ensures.row s _ gone) (c.take-row.ensures.stands s _ gone) (c.settle.ensures.stands s _) in
     all_logged _ _ _ _ _ _ _ c.requires.empty (c.depart.ensures.logged s d h) c.take-row.ensures.logged (c.settle.ensures.logged s _ all.did) ∙ sym all.rows
 
 pub returns-clause-told : goal.returns-clause-told
@@ -26,7 +26,7 @@ returns-clause-told c = λ s d h.
     let gone = c.depart.ensures.stands s d h in
     let fixed = subst IsFixed (ap (λ (x : Spec). x.kind) h.spec) c.requires.fixed in
     let all = course s d c.args.e.now fixed c.take-row.result _ _ _
-        (c.walk_laws.ensures.parts s d c.args.e.now h.made) gone (c.take-row.ensures.row s _ gone) (c.take-row.ensures.stands s _ gone) (c.settle.ensures.stands s _) in
+    (c.walk_laws.ensures.parts s d c.args.e.now h.made) gone (c.take-row.ensures.row s _ gone) (c.take-row.ensures.stands s _ gone) (c.settle.ensures.stands s _) in
     c.told.ensures s _ all.stands ∙ sym (told_alone s d c.args.e.now fixed c.take-row.result (c.take-row.ensures.row s _ gone))
 
 pub depart-requires-clause-room : goal.depart-requires-clause-room
@@ -47,9 +47,9 @@ settle-requires-clause-some c =
     let e = c.args.e.now in
     some_more c.args.self.now c.take-row.new.self (λ (d : Trace). departures s d e ++ entries_of e.time c.take-row.result)
     (λ d h.
-        let gone = c.depart.ensures.stands s d h in
-        let own = took_own s d e c.requires.fixed c.take-row.result c.take-row.new.self (c.walk_laws.ensures.parts s d e h.made) (c.take-row.ensures.row s _ gone) (c.take-row.ensures.stands s _ gone) in
-        subst (ArePartsOf s c.take-row.new.self) (append_assoc d (departures s d e) (entries_of e.time c.take-row.result)) own)
+    let gone = c.depart.ensures.stands s d h in
+    let own = took_own s d e c.requires.fixed c.take-row.result c.take-row.new.self (c.walk_laws.ensures.parts s d e h.made) (c.take-row.ensures.row s _ gone) (c.take-row.ensures.stands s _ gone) in
+    subst (ArePartsOf s c.take-row.new.self) (append_assoc d (departures s d e) (entries_of e.time c.take-row.result)) own)
     c.requires.some
 
 pub settle-requires-clause-room : goal.settle-requires-clause-room

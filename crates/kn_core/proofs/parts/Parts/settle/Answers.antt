@@ -18,8 +18,8 @@ remove_behind-requires c =
     rw c.entries-before.ensures
     (∥∥₁_elim c.requires.some le_prop
     (λ h.
-        let k = subst (λ (x : PartsState). ArePartsOf c.args.self.now.throttle.spec x h.0) (sym c.self.view_is) h.1 in
-        rw (c.settle.ensures.logged h.0 k.admission) (omega (arith, length-append c.args.log.now (settling c.self.inside.throttle.spec c.args.time h.0)))))
+    let k = subst (λ (x : PartsState). ArePartsOf c.args.self.now.throttle.spec x h.0) (sym c.self.view_is) h.1 in
+    rw (c.settle.ensures.logged h.0 k.admission) (omega (arith, length-append c.args.log.now (settling c.self.inside.throttle.spec c.args.time h.0)))))
 
 pub returns-clause-logged : goal.returns-clause-logged
 returns-clause-logged c = rw (← c.self.view_is) (λ s d h. subst (λ (z : Spec). c.settle.new.log ≡ c.args.log.now ++ settling z c.args.time d) h.spec (c.settle.ensures.logged d h.admission))

@@ -23,9 +23,9 @@ react-requires-clause-timed c = timed_later _ _ _ (rw (← c.self.view_is) at c.
 
 pub returns-clause-stands : goal.returns-clause-stands
 returns-clause-stands c = rw (← c.self.view_is) (λ d h. record {
-    events = c.history_laws.ensures.step _ _ _ _ d c.args.e.now h.events (rw (← c.self.view_is) at c.requires.order);
-    parts = c.react.ensures.stands _ d h.parts;
-  })
+  events = c.history_laws.ensures.step _ _ _ _ d c.args.e.now h.events (rw (← c.self.view_is) at c.requires.order);
+  parts = c.react.ensures.stands _ d h.parts;
+})
 
 pub returns-clause-logged : goal.returns-clause-logged
 returns-clause-logged c = rw (← c.self.view_is) (λ d h. c.react.ensures.logged _ d h.parts)
@@ -51,10 +51,13 @@ invariant_of-self c = record {
   ranges = c.self.invariant.ranges;
   events = let count = rw (← c.self.view_is) at c.requires.count in omega (arith, count);
   created = let before = c.self.invariant.created in omega (arith, before, c.react.ensures.created);
-  some = ∥∥₁_map c.self.invariant.some (λ h. (h.0 ++ react c.self.inside.spec h.0 c.args.e.now, record {
-    events = c.history_laws.ensures.step _ _ _ _ h.0 c.args.e.now h.1.events (rw (← c.self.view_is) at c.requires.order);
-    parts = c.react.ensures.stands _ h.0 h.1.parts;
-  }));
+  some = ∥∥₁_map c.self.invariant.some (λ h. (
+    h.0 ++ react c.self.inside.spec h.0 c.args.e.now,
+    record {
+      events = c.history_laws.ensures.step _ _ _ _ h.0 c.args.e.now h.1.events (rw (← c.self.view_is) at c.requires.order);
+      parts = c.react.ensures.stands _ h.0 h.1.parts;
+    },
+  ));
 }
 
 pub returns-clause-grows : goal.returns-clause-grows
