@@ -1,10 +1,9 @@
 -- The parts after a list of rows.
-use Rattle.std.proofs.Common.{◌≡◌, ℕ, Bool, true, false, List, [], ◌∷◌, ◌++◌, ◌≤◌, map, length, arith, refl, sym, ap, ◌∙◌, subst, append-nil, Option, None, Some, IfSome, IfNone}
+use Rattle.std.proofs.Common.{◌≡◌, ℕ, Bool, true, false, List, [], ◌∷◌, ◌++◌, ◌≤◌, map, length, arith, refl, sym, ap, ◌∙◌, subst, Option, None, Some}
 use Rattle.std.proofs.Math.Logic.{∥∥₁_map}
 use Rattle.kn_event.specs.declared.entry.Entry.{Entry}
 use Rattle.kn_event.specs.declared.entry.Row.{Row}
 use Rattle.kn_event.specs.declared.entry.Row.TheVariants as row
-use Rattle.kn_event.specs.declared.event.Act.{Act}
 use Rattle.kn_event.specs.declared.revision.Spec.{Spec}
 use Rattle.kn_trace.specs.Events.{entries_of, expiries}
 use Rattle.kn_trace.specs.Settling.{held_assignments, promotions, removals, settling}
@@ -12,7 +11,7 @@ use Rattle.kn_trace.specs.Trace.{Trace, entry, held, live_pods}
 use Rattle.kn_record.specs.Admission.{Admission, stepped}
 use Rattle.kn_record.specs.Made.{Holds, IsMade, IsProper, StandsFor}
 use Rattle.kn_laws.specs.Facts.{PartFacts}
-use Rattle.kn_laws.specs.Kinds.{Each, IsActRow, is_act_row, is_assign_row, is_expire_row, is_remove_row, is_run_row}
+use Rattle.kn_laws.specs.Kinds.{Each, is_act_row, is_assign_row, is_expire_row, is_remove_row, is_run_row}
 use Rattle.kn_pods.specs.Pods.{PodsState, StandsFor as ArePodsOf, after_row}
 use Rattle.kn_throttle.specs.State as throttle
 use Rattle.kn_core.specs.State.{ArePartsOf, ArePartsOfSome, PartsState}

@@ -1,7 +1,7 @@
 -- How many pods were created, and that each pod's number is below that.
-use Rattle.std.proofs.Common.{◌≡◌, ℕ, ◌+◌, ◌*◌, ◌^◌, ◌<◌, ◌≤◌, Bool, true, false, List, [], ◌∷◌, map, refl, sym, ap, ◌∙◌, subst, arith, Option, None, Some, IfSome, IfNone}
+use Rattle.std.proofs.Common.{◌≡◌, ℕ, ◌+◌, ◌*◌, ◌^◌, ◌<◌, ◌≤◌, Bool, true, false, List, [], ◌∷◌, refl, sym, ap, ◌∙◌, subst, arith, Option, None, Some, IfSome, IfNone}
 use Rattle.std.specs.Prelude.{length, nat_le, nat_lt, ◌==◌}
-use Rattle.std.specs.List.{All, filter, find}
+use Rattle.std.specs.List.{All, find}
 use Rattle.std.proofs.lemmas.Bool.{leb-true}
 use Rattle.std.proofs.lemmas.List.Elements.{All-head, All-tail}
 use denote.Struct.Props.{props}

@@ -1,7 +1,6 @@
 -- One event of a revision that doesn't scale.
-use Rattle.std.proofs.Common.{◌≡◌, ℕ, Bool, true, List, [], ◌∷◌, ◌++◌, ◌≤◌, length, refl, sym, ap, ◌∙◌, subst, append-nil, append_assoc, arith, Option, None, Some}
+use Rattle.std.proofs.Common.{◌≡◌, ℕ, Bool, List, [], ◌++◌, ◌≤◌, length, refl, sym, ap, ◌∙◌, subst, append-nil, append_assoc, arith, Option, None, Some}
 use Rattle.std.proofs.lemmas.List.{length-map}
-use Rattle.std.specs.List.{All}
 use denote.Struct.Props.{props}
 use Rattle.std.proofs.Math.Bridge.{le_prop}
 use Rattle.std.proofs.Math.Logic.{∥∥₁_elim, ∥∥₁_map}
@@ -10,7 +9,6 @@ use Rattle.kn_event.specs.declared.entry.Entry.{Entry}
 use Rattle.kn_event.specs.declared.entry.Row.{Row}
 use Rattle.kn_event.specs.declared.event.Act.{Act}
 use Rattle.kn_event.specs.declared.event.Event.{Event}
-use Rattle.kn_event.specs.declared.event.Told.{Told}
 use Rattle.kn_event.specs.declared.revision.Kind.{Kind}
 use Rattle.kn_event.specs.declared.revision.Kind.TheVariants as kind
 use Rattle.kn_event.specs.declared.revision.Spec.{Spec}
@@ -22,7 +20,7 @@ use Rattle.kn_record.specs.Admission.{Admission}
 use Rattle.kn_record.specs.Made.{Holds, IsMade, IsProper, StandsFor as IsRecordOf}
 use Rattle.kn_record.specs.Walks.{ArePartsProper}
 use Rattle.kn_record.specs.Order.{AreTimed}
-use Rattle.kn_record.specs.Views.{AreViews, numbers_in, pod_numbers}
+use Rattle.kn_record.specs.Views.{AreViews, pod_numbers}
 use Rattle.kn_pods.specs.Pods.{StandsFor as ArePodsOf}
 use Rattle.kn_laws.specs.History.{IsMadeBy}
 use Rattle.kn_core.specs.State.{ArePartsOf, ArePartsOfSome, IsFixed, IsUnscaled, PartsState, RevisionState, StandsFor, StandsForSome}

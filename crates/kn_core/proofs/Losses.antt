@@ -1,10 +1,10 @@
 -- Who is lost with a pod.
-use Rattle.std.proofs.Common.{◌≡◌, ℕ, Bool, true, false, List, [], ◌∷◌, ◌++◌, map, refl, sym, ap, subst, append-nil}
+use Rattle.std.proofs.Common.{◌≡◌, ℕ, false, List, [], ◌++◌, refl, sym, append-nil}
 use Rattle.kn_event.specs.declared.entry.Entry.{Entry}
 use Rattle.kn_event.specs.declared.event.Act.{Act}
 use Rattle.kn_event.specs.declared.event.Act.TheVariants as act
 use Rattle.kn_event.specs.declared.revision.Spec.{Spec}
-use Rattle.kn_trace.specs.Events.{losses, losses_at, lost_with}
+use Rattle.kn_trace.specs.Events.{losses, lost_with}
 use Rattle.kn_trace.specs.Trace.{Trace, contains, live_pods}
 use Rattle.kn_record.specs.Admission.{Admission}
 use Rattle.kn_record.specs.Walks.{losing}

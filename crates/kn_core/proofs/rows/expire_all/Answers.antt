@@ -1,8 +1,6 @@
-use Rattle.std.proofs.Common.{◌≡◌, ◌∙◌, ◌+◌, ◌≤◌, refl, sym, ap, List, ◌∷◌, [], length, length-append, arith}
-use Rattle.kn_event.specs.declared.entry.Entry.{Entry}
+use Rattle.std.proofs.Common.{◌∙◌, refl, sym, ap, ◌∷◌, [], length, length-append, arith}
 use Rattle.kn_event.specs.declared.entry.Row.TheVariants as row
 use Rattle.kn_trace.specs.Trace.{entry}
-use Rattle.kn_record.specs.Admission.{without}
 use Rattle.kn_record.specs.Views.{is_due}
 use Rattle.kn_core.proofs.Ends.{live_by, nobody_by, pods_by}
 use Rattle.kn_core.proofs.Lists.{first_ends}

@@ -1,6 +1,5 @@
-use Rattle.std.proofs.Common.{◌≡◌, false, refl, rules, sym, ap}
-use Rattle.kn_pods.specs.Numbers.{contains, without}
-use Rattle.kn_pods.specs.Pods.{PodsState}
+use Rattle.std.proofs.Common.{◌≡◌, false, refl, rules}
+use Rattle.kn_pods.specs.Numbers.{contains}
 use Rattle.kn_core.proofs.Lists.{none_without}
 use Rattle.kn_core.proofs.rows.remove.Goals as goal
 

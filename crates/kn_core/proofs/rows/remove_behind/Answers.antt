@@ -1,4 +1,4 @@
-use Rattle.std.proofs.Common.{◌≡◌, ◌∙◌, ◌-◌, ◌≤◌, ap, arith, List, drop, length, length-drop}
+use Rattle.std.proofs.Common.{◌∙◌, ◌-◌, ap, arith, List, drop, length, length-drop}
 use Rattle.std.proofs.lemmas.List.{take_all}
 use Rattle.kn_event.specs.declared.entry.Entry.{Entry}
 use Rattle.kn_core.specs.Steps.{after_removals}

@@ -1,4 +1,4 @@
-use Rattle.std.proofs.Common.{◌≡◌, sym, subst}
+use Rattle.std.proofs.Common.{sym, subst}
 use Rattle.kn_core.specs.State.{ArePartsOf, PartsState}
 use Rattle.kn_core.proofs.Acts.{arrive_row}
 use Rattle.kn_core.proofs.parts.Parts.arrive.Goals as goal

@@ -1,4 +1,4 @@
-use Rattle.std.proofs.Common.{◌≡◌, ap, ◌∙◌, sym, subst, Some}
+use Rattle.std.proofs.Common.{ap, ◌∙◌, sym, subst, Some}
 use Rattle.kn_core.specs.State.{ArePartsOf, PartsState}
 use Rattle.kn_core.proofs.parts.Parts.cancel.Goals as goal
 

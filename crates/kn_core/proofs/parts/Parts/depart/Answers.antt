@@ -1,4 +1,4 @@
-use Rattle.std.proofs.Common.{◌≡◌, ◌≤◌, ◌+◌, ◌∙◌, refl, sym, ap, subst, List, ◌++◌, append_assoc, arith, length}
+use Rattle.std.proofs.Common.{◌∙◌, ap, subst, List, ◌++◌, append_assoc, arith}
 use Rattle.kn_event.specs.declared.entry.Entry.{Entry}
 use Rattle.kn_trace.specs.Events.{departures, expiries, losses}
 use Rattle.kn_trace.specs.Trace.{Trace}

@@ -1,8 +1,4 @@
-use Rattle.std.proofs.Common.{◌≡◌, refl, Bool, true, false, rules, sym, subst, ◌∙◌, Some}
-use Rattle.std.specs.Prelude.{if◌then◌else◌}
-use Rattle.kn_event.specs.declared.entry.Row.TheVariants as row
-use Rattle.kn_event.specs.declared.event.Act.TheVariants as act
-use Rattle.kn_trace.specs.Events.{act_row}
+use Rattle.std.proofs.Common.{◌≡◌, refl, true, false, rules, sym, subst, ◌∙◌}
 use Rattle.kn_core.specs.State.{ArePartsOf, ArePartsOfSome, PartsState}
 use Rattle.kn_core.proofs.Acts.{limit_row}
 use Rattle.kn_core.proofs.Events.{live_there}

@@ -1,14 +1,8 @@
-use Rattle.std.proofs.Common.{◌≡◌, ◌∙◌, ◌≤◌, ◌+◌, ◌++◌, refl, sym, ap, subst, arith, List, ℕ, true, false, Bool}
-use Rattle.kn_event.specs.declared.entry.Entry.{Entry}
-use Rattle.kn_event.specs.declared.event.Act.{Act}
-use Rattle.kn_event.specs.declared.event.Act.TheVariants as act
-use Rattle.kn_trace.specs.Events.{losses}
-use Rattle.kn_trace.specs.Trace.{Trace, contains, live_pods}
-use Rattle.kn_record.specs.Made.{Holds, IsProper, StandsFor}
-use Rattle.kn_record.specs.Views.{pod_numbers}
+use Rattle.std.proofs.Common.{◌∙◌, refl, sym, subst, arith}
+use Rattle.kn_trace.specs.Trace.{Trace}
+use Rattle.kn_record.specs.Made.{Holds, IsProper}
 use Rattle.kn_record.specs.Walks.{losing}
-use Rattle.kn_core.specs.State.{ArePartsOf, ArePartsOfSome}
-use Rattle.kn_core.specs.Steps.{IsAlone}
+use Rattle.kn_core.specs.State.{ArePartsOfSome}
 use Rattle.kn_core.proofs.After.{parts_end}
 use Rattle.kn_core.proofs.Ends.{nobody_yet}
 use Rattle.kn_core.proofs.Events.{live_there}

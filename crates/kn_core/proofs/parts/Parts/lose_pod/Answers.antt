@@ -1,4 +1,4 @@
-use Rattle.std.proofs.Common.{◌≡◌, refl, Bool, true, false, rules, sym, ap, subst, ◌∙◌, Some}
+use Rattle.std.proofs.Common.{◌≡◌, refl, Bool, true, false, rules, sym, subst, ◌∙◌, Some}
 use Rattle.kn_event.specs.declared.event.Act.TheVariants as act
 use Rattle.kn_trace.specs.Events.{act_row}
 use Rattle.kn_pods.specs.Pods.{lost_row}

@@ -1,4 +1,4 @@
-use Rattle.std.proofs.Common.{◌≡◌, ℕ, ◌<◌, ◌≤◌, sym, subst, Option, IfSome}
+use Rattle.std.proofs.Common.{ℕ, ◌≤◌, sym, subst, Option, IfSome}
 use Rattle.kn_core.specs.State.{ArePartsOfSome}
 use Rattle.kn_core.proofs.Created.{found_from, next_below}
 use Rattle.kn_core.proofs.parts.Parts.next_starting.Goals as goal

@@ -1,10 +1,6 @@
-use Rattle.std.proofs.Common.{◌≡◌, ◌≤◌, ◌∙◌, [], refl, sym, ap, subst, arith}
-use Rattle.kn_event.specs.declared.revision.Kind.{Kind}
-use Rattle.kn_event.specs.declared.revision.Kind.TheVariants as kind
+use Rattle.std.proofs.Common.{◌∙◌, [], sym, ap, arith}
 use Rattle.kn_event.specs.declared.revision.Spec.{Spec}
-use Rattle.kn_trace.specs.Events.{opening}
 use Rattle.kn_throttle.specs.State.{State}
-use Rattle.kn_core.specs.State.{ArePartsOf}
 use Rattle.kn_core.proofs.Openings.{opened, opened_created, opening_fixed, scaled_none, scale_of_none}
 use Rattle.kn_core.proofs.parts.Parts.open.Goals as goal
 use Rattle.kn_core.proofs.parts.Parts.open.Goals.{in-Fixed, in_default}

@@ -1,10 +1,10 @@
-use Rattle.std.proofs.Common.{◌≡◌, ◌≤◌, ◌<◌, ◌+◌, ◌^◌, ◌∙◌, refl, sym, ap, subst, List, ◌++◌, append_assoc, arith, length, length-append}
+use Rattle.std.proofs.Common.{◌∙◌, sym, ap, subst, ◌++◌, append_assoc, arith, length, length-append}
 use Rattle.kn_event.specs.declared.revision.Spec.{Spec}
 use Rattle.kn_trace.specs.Events.{departures, entries_of}
 use Rattle.kn_trace.specs.Trace.{Trace}
 use Rattle.kn_core.specs.State.{ArePartsOf, IsFixed}
 use Rattle.kn_core.proofs.After.{one_row, some_more}
-use Rattle.kn_core.proofs.Events.{Course, all_logged, course, told_alone, took_own}
+use Rattle.kn_core.proofs.Events.{all_logged, course, told_alone, took_own}
 use Rattle.kn_core.proofs.parts.Parts.react.Goals as goal
 
 pub returns-clause-stands : goal.returns-clause-stands

@@ -1,5 +1,4 @@
 use Rattle.std.proofs.Common.{◌≡◌, refl, rules, sym, subst, Some}
-use Rattle.kn_event.specs.declared.entry.Row.TheVariants as row
 use Rattle.kn_event.specs.declared.event.Act.TheVariants as act
 use Rattle.kn_trace.specs.Events.{act_row}
 use Rattle.kn_pods.specs.declared.pods.PodAnswer.{PodAnswer}

@@ -1,4 +1,4 @@
-use Rattle.std.proofs.Common.{◌≡◌, refl, sym, ap, subst, Some}
+use Rattle.std.proofs.Common.{subst, Some}
 use Rattle.kn_laws.specs.Kinds.{IsActRow}
 use Rattle.kn_core.proofs.After.{parts_row}
 use Rattle.kn_core.proofs.Created.{took_created}

@@ -1,8 +1,6 @@
-use Rattle.std.proofs.Common.{◌≡◌, ℕ, ◌+◌, ◌≤◌, ◌∙◌, ◌∷◌, ◌++◌, [], refl, sym, ap, subst, arith, length, length-append}
+use Rattle.std.proofs.Common.{◌≡◌, ℕ, ◌+◌, ◌∙◌, refl, ap, subst, arith}
 use Rattle.kn_event.specs.declared.entry.Row.TheVariants as row
-use Rattle.kn_event.specs.declared.revision.Spec.{Spec}
 use Rattle.kn_trace.specs.Scale.{creations}
-use Rattle.kn_trace.specs.Trace.{Trace, entry}
 use Rattle.kn_record.specs.Made.{StandsFor}
 use Rattle.kn_core.proofs.Openings.{created_by_row, creations_push, pods_by_row, timed_by_row}
 use Rattle.kn_core.proofs.parts.opening.create_all.Goals as goal

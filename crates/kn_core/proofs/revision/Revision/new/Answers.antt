@@ -1,4 +1,4 @@
-use Rattle.std.proofs.Common.{◌≡◌, ◌≤◌, refl, sym, arith}
+use Rattle.std.proofs.Common.{arith}
 use Rattle.kn_trace.specs.Events.{opening}
 use Rattle.kn_core.proofs.revision.Revision.new.Goals as goal
 
