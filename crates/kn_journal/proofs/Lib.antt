@@ -1,0 +1,9 @@
+pub mod Aheads
+pub mod Blocks
+pub mod Consumed
+pub mod Fronts
+pub mod LineTexts
+pub mod Pieces
+pub mod Printed
+pub mod Settings
+pub mod Tellings
