@@ -56,18 +56,18 @@ pub same_bytes : (word text : List ℕ) → bytes_eq word text ≡ true → word
 same_bytes word text h = (bytes_eq-Decides word text).0 h
 
 -- a part that is one line
-record IsOneLine {T : Type 0} (next : ℕ → List ℕ → List (List ℕ) → Result (Part T) Cause) (number : ℕ) (line : List ℕ) (p : Part T) (left : List (List ℕ)) : Type 0 where
-  all : p.left ≡ left
-  any : (later : List (List ℕ)) → next number line later ≡ Ok (part p.value p.number later)
+pub record IsOneLine {T : Type 0} (next : ℕ → List ℕ → List (List ℕ) → Result (Part T) Cause) (number : ℕ) (line : List ℕ) (p : Part T) (left : List (List ℕ)) : Type 0 where
+  pub all : p.left ≡ left
+  pub any : (later : List (List ℕ)) → next number line later ≡ Ok (part p.value p.number later)
 
-line-takes : {T : Type 0} (n : ℕ) (lines : List (List ℕ)) (next : ℕ → List ℕ → List (List ℕ) → Result (Part T) Cause) (p : Part T) (has : HasLine n lines next p)
+pub line-takes : {T : Type 0} (n : ℕ) (lines : List (List ℕ)) (next : ℕ → List ℕ → List (List ℕ) → Result (Part T) Cause) (p : Part T) (has : HasLine n lines next p)
     → IsOneLine next (n + 1) has.line p has.more → Takes (λ ls. with_line n ls next) lines p (has.line ∷ [])
 line-takes n lines next p has one = record {
   split = has.split ∙ ap (λ (x : List (List ℕ)). has.line ∷ x) (sym one.all);
   alone = λ later. with_line-fits n has.line later next has.fit ∙ one.any later;
 }
 
-part-left : {T : Type 0} (v : T) (n : ℕ) (left : List (List ℕ)) (p : Part T) (r : Result (Part T) Cause) → r ≡ Ok p → r ≡ Ok (part v n left) → (left ≡ p.left) × (v ≡ p.value) × (n ≡ p.number)
+pub part-left : {T : Type 0} (v : T) (n : ℕ) (left : List (List ℕ)) (p : Part T) (r : Result (Part T) Cause) → r ≡ Ok p → r ≡ Ok (part v n left) → (left ≡ p.left) × (v ≡ p.value) × (n ≡ p.number)
 part-left {T} v n left p r h e =
     let made : Part T = part v n left in
     let both : Result (Part T) Cause = Ok made in
@@ -109,7 +109,7 @@ word-one word number line left p h = by_test (bytes_eq line word) refl h
         )
     by_test false e g = cc
 
-word-takes : (word : List ℕ) (n : ℕ) (lines : List (List ℕ)) (p : Part ⊤) → word_part word n lines ≡ Ok p → Takes (word_part word n) lines p (word ∷ [])
+pub word-takes : (word : List ℕ) (n : ℕ) (lines : List (List ℕ)) (p : Part ⊤) → word_part word n lines ≡ Ok p → Takes (word_part word n) lines p (word ∷ [])
 unfolding word_part
 word-takes word n lines p h =
     let has = with_line-ok n lines (word_in word) p h in
@@ -119,12 +119,12 @@ word-takes word n lines p h =
 
 -- ---- a block
 
-record TakesBlock (text : List ℕ) (n : ℕ) (lines : List (List ℕ)) (p : Part (List ℕ)) : Type 0 where
-  own : List (List ℕ)
-  takes : Takes (block_part text n) lines p (own ++ codes "." ∷ [])
-  value : p.value ≡ text ++ text_of own
+pub record TakesBlock (text : List ℕ) (n : ℕ) (lines : List (List ℕ)) (p : Part (List ℕ)) : Type 0 where
+  pub own : List (List ℕ)
+  pub takes : Takes (block_part text n) lines p (own ++ codes "." ∷ [])
+  pub value : p.value ≡ text ++ text_of own
 
-block-takes : (text : List ℕ) (n : ℕ) (lines : List (List ℕ)) (p : Part (List ℕ)) → block_part text n lines ≡ Ok p → TakesBlock text n lines p
+pub block-takes : (text : List ℕ) (n : ℕ) (lines : List (List ℕ)) (p : Part (List ℕ)) → block_part text n lines ≡ Ok p → TakesBlock text n lines p
 unfolding block_part
 block-takes text n [] p h = cc
 block-takes text n (line ∷ more) p h = by_tests (fits line) (bytes_eq line (codes ".")) (fits_block (longer text line)) refl refl refl (block-takes (longer text line) (n + 1) more p) h
@@ -190,9 +190,6 @@ block_text : (word : List ℕ) (own : List (List ℕ)) → text_of (word ∷ (ow
 block_text word own =
     ap (λ (x : List ℕ). word ++ 10 ∷ x) (text_of-append own (codes "." ∷ [])) ∙ sym (append_assoc word (10 ∷ []) (text_of own ++ codes ".\n"))
 
-regroup : (a b d e rest : List ℕ) → (a ++ (b ++ (d ++ e))) ++ rest ≡ a ++ (b ++ (d ++ (e ++ rest)))
-regroup a b d e rest = simp append_assoc
-
 revision-takes : (line block : List ℕ) (slots : Slots) (config : Config) (n : ℕ) (lines : List (List ℕ)) (p : Part Setup) → revision_part line block slots config n lines ≡ Ok p
     → TakesSetup (revision_part line block slots config n) (line ++ (codes "config\n" ++ (block ++ codes ".\n"))) lines p
 unfolding revision_part
@@ -213,7 +210,6 @@ revision-takes line block slots config n lines p h =
           (then-takes (block_part [] w.number) (λ revision n left. spec_in n left (blocks_text line block revision) (spec_of config revision slots))
           w.left b p (body.own ++ codes "." ∷ []) [] body.takes (record { split = last.1; alone = last.2 }));
       text = last.0 ∙ ap (λ (x : List ℕ). blocks_text line block x) body.value
-          ∙ sym (regroup line (codes "config\n") block (codes ".\n") (codes "revision\n" ++ (text_of body.own ++ codes ".\n")))
           ∙ ap (λ (x : List ℕ). (line ++ (codes "config\n" ++ (block ++ codes ".\n"))) ++ x)
           (sym (block_text (codes "revision") body.own) ∙ ap (λ (x : List (List ℕ)). text_of (codes "revision" ∷ x)) (sym (append-nil (body.own ++ codes "." ∷ []))));
     }
@@ -251,7 +247,7 @@ pub record TakesLines (read : List (List ℕ) → Result (Part Setup) Cause) (li
   pub text : p.value.text ≡ text_of (line ∷ more)
 
 behind-takes : (n : ℕ) (line : List ℕ) (left : List (List ℕ)) (p : Part Setup) (r : Result SetupLine SetupError) → setup_line line ≡ r → fits line ≡ true
-    → behind_line (line ++ 10 ∷ []) (n + 1) left r ≡ Ok p → TakesLines (setup_part n) (line ∷ left) p
+    → behind_line (line ++ 10 ∷ []) r (n + 1) left ≡ Ok p → TakesLines (setup_part n) (line ∷ left) p
 unfolding setup_part
 behind-takes n line left p (Err why) e fit h = cc
 behind-takes n line left p (Ok (Fixed limit pods timeout slots)) e fit h =

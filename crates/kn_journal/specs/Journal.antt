@@ -11,7 +11,7 @@ use Rattle.kn_journal.specs.declared.first.FirstLine.{FirstLine}
 use Rattle.kn_journal.specs.declared.first.FirstLine.TheVariants.{Journal as JournalLine}
 use Rattle.kn_journal.specs.declared.journal.Setup.{Setup}
 use Rattle.kn_journal.specs.declared.journal.Journal.{Journal}
-use Rattle.kn_journal.specs.declared.setup.Opening.{Opening}
+use Rattle.kn_journal.specs.declared.journal.Opening.{Opening}
 use Rattle.kn_journal.specs.Lines.{fits, lines}
 use Rattle.kn_journal.specs.Causes.{Cause, after_end, bad_first_line, bad_line, line_too_long, time_back, time_too_large}
 use Rattle.kn_journal.specs.Parts.{Part, part, then_part, with_line}

@@ -62,7 +62,7 @@ spec_in number left text (Err why) = Err (bad_setup number (setup_error.Revision
 
 -- the text of a setup with blocks
 abbrev pub blocks_text : List ℕ → List ℕ → List ℕ → List ℕ
-blocks_text line config revision = line ++ (codes "config\n" ++ (config ++ (codes ".\n" ++ (codes "revision\n" ++ (revision ++ codes ".\n")))))
+blocks_text line config revision = (line ++ (codes "config\n" ++ (config ++ codes ".\n"))) ++ (codes "revision\n" ++ (revision ++ codes ".\n"))
 
 -- the configuration and the Revision over it, behind a first line with its LF
 unfoldable pub revision_part : List ℕ → List ℕ → Slots → Config → ℕ → List (List ℕ) → Result (Part Setup) Cause
@@ -77,13 +77,14 @@ blocks_part line slots n lines =
     then_part (block_part [] n lines) (λ block n lines.
     config_in n (config_of block) (λ config. revision_part line block slots config n lines)))
 
-abbrev pub behind_line : List ℕ → ℕ → List (List ℕ) → Result SetupLine SetupError → Result (Part Setup) Cause
-behind_line line n left (Ok (Fixed limit pods timeout slots)) = Ok (part (setup_of (fixed_spec limit pods timeout slots) line) n left)
-behind_line line n left (Ok (Kpa slots)) = blocks_part line slots n left
-behind_line line n left (Err why) = Err (bad_setup n why)
+-- what follows a first line that says this
+abbrev pub behind_line : List ℕ → Result SetupLine SetupError → ℕ → List (List ℕ) → Result (Part Setup) Cause
+behind_line line (Ok (Fixed limit pods timeout slots)) n left = Ok (part (setup_of (fixed_spec limit pods timeout slots) line) n left)
+behind_line line (Ok (Kpa slots)) n left = blocks_part line slots n left
+behind_line line (Err why) n left = Err (bad_setup n why)
 
 abbrev pub setup_in : ℕ → List ℕ → List (List ℕ) → Result (Part Setup) Cause
-setup_in number line left = behind_line (line ++ 10 ∷ []) number left (setup_line line)
+setup_in number line left = behind_line (line ++ 10 ∷ []) (setup_line line) number left
 
 -- a setup, after line n
 unfoldable pub setup_part : ℕ → List (List ℕ) → Result (Part Setup) Cause

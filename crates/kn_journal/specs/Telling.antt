@@ -9,7 +9,7 @@ use Rattle.kn_revision.specs.declared.error.SpecError.{SpecError}
 use Rattle.kn_revision.specs.declared.error.SpecError.TheVariants as spec_fault
 use Rattle.kn_journal.specs.declared.error.SetupError.TheVariants as setup_error
 use Rattle.kn_journal.specs.declared.journal.Setup.{Setup}
-use Rattle.kn_journal.specs.declared.setup.Opening.{Opening}
+use Rattle.kn_journal.specs.declared.journal.Opening.{Opening}
 use Rattle.kn_journal.specs.Causes.{Cause, error_of, no_end}
 use Rattle.kn_journal.specs.Lines.{fits, lines}
 use Rattle.kn_journal.specs.Parts.{Part, part}
@@ -58,10 +58,10 @@ TellsOpening read version n old new (Err e) = Refuses read e old
 
 -- a call that reads this part stopped at a fault: whole lines were taken of which none is refused, and then some first bytes
 -- of a line, maybe none
-abbrev pub TakesFront : {T : Type 0} → (List (List ℕ) → Result (Part T) Cause) → Option (List ℕ) → Option (List ℕ) → Type 0
-TakesFront read None new = ⊤
-TakesFront read (Some xs) None = ⊥
-TakesFront read (Some xs) (Some ys) = (own : List (List ℕ)) × (mid : List ℕ) × (lines xs ≡ own ++ lines mid) × (read own ≡ Err no_end) × TakesPart (Some mid) (Some ys)
+abbrev pub StopsAmid : {T : Type 0} → (List (List ℕ) → Result (Part T) Cause) → Option (List ℕ) → Option (List ℕ) → Type 0
+StopsAmid read None new = ⊤
+StopsAmid read (Some xs) None = ⊥
+StopsAmid read (Some xs) (Some ys) = (own : List (List ℕ)) × (mid : List ℕ) × (lines xs ≡ own ++ lines mid) × (read own ≡ Err no_end) × TakesPart (Some mid) (Some ys)
 
 -- the line `end` was taken, and then some first bytes of a line, maybe none
 abbrev pub TakesEnd : Option (List ℕ) → Option (List ℕ) → Type 0

@@ -8,6 +8,13 @@ pub struct Setup {
     pub text: Text,
 }
 
+/// A version and a setup.
+#[derive(Drop)]
+pub struct Opening {
+    pub version: u64,
+    pub setup: Setup,
+}
+
 /// The events of a journal, in order. Contracts see the list of them.
 pub type Events = Items<Event>;
 

@@ -3,7 +3,7 @@ ghost use Rattle.std.specs.Prelude.{◌≡◌, ◌⊎◌, ◌≢◌, ◌+◌, �
 ghost use Rattle.kn_io.specs.Causes.{Rose};
 ghost use Rattle.kn_event.specs.EventLine.{IsInJournalRange, IsInVersion};
 ghost use Rattle.kn_journal.specs.Reading.{IsBalanced, TakesPart, most_taken, unread};
-ghost use Rattle.kn_journal.specs.Telling.{OnEvent, TakesEnd, TakesFront, Tells, TellsOpening};
+ghost use Rattle.kn_journal.specs.Telling.{OnEvent, TakesEnd, StopsAmid, Tells, TellsOpening};
 ghost use Rattle.kn_journal.specs.Journal.{next_part, nothing_part, opening_part, start_part, time_most, version_of};
 
 use crate::error::JournalError;
@@ -84,7 +84,7 @@ impl JournalReader {
         ensures least { OnOk result (1 ≤ self.new.version) }
         ensures most { OnOk result (self.new.version ≤ 2) }
         ensures version { OnErr result (self.new.version ≡ self.old.version) }
-        ensures amid { self.old.failed ≡ None → result ≡ Err JournalError.ReadFault → TakesFront (opening_part version_of self.old.number) (unread self.old.input (S.left source.old)) (unread self.new.input (S.left source.new)) }
+        ensures amid { self.old.failed ≡ None → result ≡ Err JournalError.ReadFault → StopsAmid (opening_part version_of self.old.number) (unread self.old.input (S.left source.old)) (unread self.new.input (S.left source.new)) }
         ensures fault { self.old.failed ≡ None → result ≡ Err JournalError.ReadFault → Rose (S.Faulty.faults source.old) (S.Faulty.faults source.new) ⊎ (self.new.input.taken ≡ most_taken) }
         ensures again { IfSome self.old.failed (λ e. result ≡ Err e) }
         ensures still { IsSome self.old.failed → (self.new ≡ self.old) × (source.new ≡ source.old) }
