@@ -1,6 +1,8 @@
 -- The first line of bytes that lie ahead.
 use Rattle.std.proofs.Common.{◌≡◌, ◌<◌, ◌+◌, ℕ, zero, suc, Bool, true, false, List, [], ◌∷◌, ◌++◌, length, take, drop, append_assoc, refl, sym, ap, ◌∙◌, arith}
-use Rattle.std.specs.Prelude.{◌==◌, ◌&&◌, ⊤, slice_index}
+use Rattle.std.specs.Prelude.{Option, None, Some, ◌==◌, ◌&&◌, ◌↔◌, ⊤, Contains, IsTrue, is_some, slice_index}
+use Rattle.memchr.specs.Find.{IsFirstByte, is_byte}
+use Rattle.std.proofs.lemmas.Grind.{common_steps, get_or_default_zero}
 use Rattle.std.proofs.lemmas.List.{take-append-drop, drop_more}
 use Rattle.kn_journal.specs.Lines.{without_crs, lines_at_lf, lines}
 
@@ -62,3 +64,10 @@ lines_ahead len hay later lt is plain =
 pub not_so : (b : Bool) → ¬ (b ≡ true) → b ≡ false
 not_so true h = absurd (h refl)
 not_so false h = refl
+
+-- an LF is ahead exactly where the search finds one
+pub holds_lf : (hay : List ℕ) (r : Option ℕ) → IsFirstByte (is_byte 10) hay r → IsTrue (is_some r) ↔ Contains hay 10
+holds_lf hay None none = (λ t. cc, λ h. absurd (none h.0 (omega arith) h.1 (let here : slice_index hay h.0 ≡ 10 = sym (get_or_default_zero hay h.0 10 h.1) ∙ h.2 in rw here refl)))
+holds_lf hay (Some k) found =
+    let here : slice_index hay k ≡ 10 = let test : (slice_index hay k == 10) ≡ true = found.1 in grind (arith, common_steps) in
+    (λ t. (k, found.0.high, get_or_default_zero hay k 10 found.0.high ∙ here), λ h. refl)

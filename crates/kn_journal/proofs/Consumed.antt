@@ -84,10 +84,10 @@ then-takes first second lines p q own more a b = record {
   alone = λ later. rw (append_assoc own more later) (rw (a.alone (more ++ later)) (b.alone later));
 }
 
-abbrev ok_part : {T : Type 0} → T → ℕ → List (List ℕ) → Result (Part T) Cause
+abbrev pub ok_part : {T : Type 0} → T → ℕ → List (List ℕ) → Result (Part T) Cause
 ok_part v n left = Ok (part v n left)
 
-ok_part-same : {T : Type 0} (v w : T) (n m : ℕ) (left : List (List ℕ)) → v ≡ w → n ≡ m → ok_part v n left ≡ ok_part w m left
+pub ok_part-same : {T : Type 0} (v w : T) (n m : ℕ) (left : List (List ℕ)) → v ≡ w → n ≡ m → ok_part v n left ≡ ok_part w m left
 ok_part-same v w n m left e f = cc
 
 -- ---- a word

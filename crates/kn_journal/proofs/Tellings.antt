@@ -96,6 +96,17 @@ line-tells n number old new line next (Err why) h fit e j =
     let P : ℕ → Type 0 = λ m. Judges next m line (Err why) → Refuses (λ ls. with_line n ls next) why old in
     subst P (sym e) (λ k. line-refuses n old new line next why h fit k.0 k.1 k.2) j
 
+-- a line, and then what it asks for
+pub line-then : {T : Type 0} (n k : ℕ) (old mid new : Option (List ℕ)) (line : List ℕ) (next : ℕ → List ℕ → List (List ℕ) → Result (Part T) Cause) (r : Result T JournalError)
+    → TakesLine old mid true line → fits line ≡ true → Tells (next (n + 1) line) k mid new r → Tells (λ ls. with_line n ls next) k old new r
+line-then n k None mid new line next (Ok x) h fit t = tt
+line-then n k (Some xs) None new line next (Ok x) h fit t = absurd h
+line-then n k (Some xs) (Some ys) None line next (Ok x) h fit t = absurd t
+line-then n k (Some xs) (Some ys) (Some zs) line next (Ok x) h fit t = rw (h, fit) t
+line-then n k None mid new line next (Err e) h fit t = tt
+line-then n k (Some xs) None new line next (Err e) h fit t = absurd h
+line-then n k (Some xs) (Some ys) new line next (Err e) h fit t = refused-on e (next (n + 1) line (lines ys)) _ (λ cause g. rw (h, fit) g) t
+
 -- ---- one part after the other
 
 pub then-gives : {S T : Type 0} (first : List (List ℕ) → Result (Part S) Cause) (second : S → ℕ → List (List ℕ) → Result (Part T) Cause) (x : S) (m n : ℕ) (old mid new : Option (List ℕ))

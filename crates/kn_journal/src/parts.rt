@@ -1,11 +1,11 @@
 //! The parts of a journal, each read from the lines that come next.
-ghost use Rattle.std.specs.Prelude.{◌≡◌, ◌⊎◌, ◌+◌, ◌≤◌, ℕ, [], ◌∷◌, List, true, Err, Ok, None, Contains, IfOk, IfErr, OnOk, codes, length};
+ghost use Rattle.std.specs.Prelude.{◌≡◌, ◌≢◌, ◌⊎◌, ◌+◌, ◌≤◌, ◌↔◌, ℕ, [], ◌∷◌, List, true, Err, Ok, None, Contains, IfOk, IfErr, IsTrue, OnOk, codes, length};
 ghost use Rattle.kn_io.specs.Causes.{Rose};
 ghost use Rattle.kn_event.specs.EventLine.{event_of, IsInJournalRange, IsInVersion};
 ghost use Rattle.kn_journal.specs.Causes.{Cause, error_of};
 ghost use Rattle.kn_journal.specs.Lines.{fits, line_most};
 ghost use Rattle.kn_journal.specs.Reading.{Counts, IsBalanced, TakesLine, TakesPart, most_taken, unread};
-ghost use Rattle.kn_journal.specs.Telling.{IsCauseOf, Judges, Lacks, OnEvent, Tells};
+ghost use Rattle.kn_journal.specs.Telling.{IsCauseOf, Judges, Lacks, OnEvent, TakesEnd, Tells};
 ghost use Rattle.kn_journal.specs.Journal.{first_part, in_time, next_part, nothing_part, start_line_in, start_of, start_part, time_most, version_by};
 
 use crate::error::JournalError;
@@ -14,6 +14,7 @@ use crate::input::Input;
 use crate::lines::{NoLine, read_line};
 use kn_event::{Event, LineError, Memory, first_end, last_number, read_event, spellings_are_read};
 use kn_io::Source;
+use memchr::memchr;
 use std::alloc::Global;
 use std::marker::Model;
 
@@ -123,6 +124,13 @@ impl Lines {
         self.number
     }
 
+    /// Whether a whole line is ahead, with its LF.
+    pub fn holds_line(&self) -> bool
+        ensures { IsTrue result ↔ Contains self.now.input.ahead 10 }
+    {
+        memchr(b'\n', self.input.ahead()).is_some()
+    }
+
     /// Reads the next line. The source is read only where no whole line is ahead.
     #[tactic(auto, using(crate::proofs::Tellings::lacks_end, crate::proofs::Tellings::lacks_long))]
     pub fn next_line<S: Source>(&mut self, source: &mut S) -> Result<(), JournalError>
@@ -131,6 +139,7 @@ impl Lines {
         ensures fits { OnOk result (fits self.new.line ≡ true) }
         ensures count { OnOk result (self.old.input.taken + length self.new.line ≤ self.new.input.taken) }
         ensures none { IfErr result (λ e. Lacks self.old.number e (unread self.old.input (S.left source.old))) }
+        ensures memory { result ≢ Err JournalError.Memory }
         ensures amid { result ≡ Err JournalError.ReadFault → TakesPart (unread self.old.input (S.left source.old)) (unread self.new.input (S.left source.new)) }
         ensures ready { Contains self.old.input.ahead 10 → source.new ≡ source.old }
         ensures fault { result ≡ Err JournalError.ReadFault → Rose (S.Faulty.faults source.old) (S.Faulty.faults source.new) ⊎ (self.new.input.taken ≡ most_taken) }
@@ -159,6 +168,7 @@ impl Lines {
         ensures tells { Tells (first_part (version_by first) self.old.number) self.new.number (unread self.old.input (S.left source.old)) (unread self.new.input (S.left source.new)) result }
         ensures least { IfOk result (λ version. 1 ≤ version) }
         ensures most { IfOk result (λ version. version ≤ 2) }
+        ensures amid { result ≡ Err JournalError.ReadFault → TakesPart (unread self.old.input (S.left source.old)) (unread self.new.input (S.left source.new)) }
         ensures fault { result ≡ Err JournalError.ReadFault → Rose (S.Faulty.faults source.old) (S.Faulty.faults source.new) ⊎ (self.new.input.taken ≡ most_taken) }
         ensures grows { self.old.input.taken ≤ self.new.input.taken }
         ensures balance { IsBalanced self.old.input self.new.input (S.given source.old) (S.given source.new) }
@@ -175,6 +185,7 @@ impl Lines {
     pub fn start<S: Source>(&mut self, source: &mut S) -> Result<u64, JournalError>
         ensures tells { Tells (start_part self.old.number) self.new.number (unread self.old.input (S.left source.old)) (unread self.new.input (S.left source.new)) result }
         ensures most { IfOk result (λ start. start ≤ time_most) }
+        ensures memory { result ≢ Err JournalError.Memory }
         ensures amid { result ≡ Err JournalError.ReadFault → TakesPart (unread self.old.input (S.left source.old)) (unread self.new.input (S.left source.new)) }
         ensures ready { Contains self.old.input.ahead 10 → source.new ≡ source.old }
         ensures fault { result ≡ Err JournalError.ReadFault → Rose (S.Faulty.faults source.old) (S.Faulty.faults source.new) ⊎ (self.new.input.taken ≡ most_taken) }
@@ -192,6 +203,7 @@ impl Lines {
     /// Reads the end of the input, where no further line may stand.
     pub fn end<S: Source>(&mut self, source: &mut S) -> Result<(), JournalError>
         ensures tells { Tells (nothing_part self.old.number) self.new.number (unread self.old.input (S.left source.old)) (unread self.new.input (S.left source.new)) result }
+        ensures memory { result ≢ Err JournalError.Memory }
         ensures amid { result ≡ Err JournalError.ReadFault → TakesPart (unread self.old.input (S.left source.old)) (unread self.new.input (S.left source.new)) }
         ensures fault { result ≡ Err JournalError.ReadFault → Rose (S.Faulty.faults source.old) (S.Faulty.faults source.new) ⊎ (self.new.input.taken ≡ most_taken) }
         ensures grows { self.old.input.taken ≤ self.new.input.taken }
@@ -223,6 +235,9 @@ impl Lines {
         ensures range { OnEvent result (λ e. IsInJournalRange e.act) }
         ensures version { OnEvent result (λ e. IsInVersion version e.act) }
         ensures bytes { OnEvent result (λ e. self.old.input.taken + 6 ≤ self.new.input.taken) }
+        ensures memory { result ≢ Err JournalError.Memory }
+        ensures amid { result ≡ Err JournalError.ReadFault → TakesPart (unread self.old.input (S.left source.old)) (unread self.new.input (S.left source.new)) ⊎ TakesEnd (unread self.old.input (S.left source.old)) (unread self.new.input (S.left source.new)) }
+        ensures ready { OnEvent result (λ e. Contains self.old.input.ahead 10 → source.new ≡ source.old) }
         ensures fault { result ≡ Err JournalError.ReadFault → Rose (S.Faulty.faults source.old) (S.Faulty.faults source.new) ⊎ (self.new.input.taken ≡ most_taken) }
         ensures grows { self.old.input.taken ≤ self.new.input.taken }
         ensures balance { IsBalanced self.old.input self.new.input (S.given source.old) (S.given source.new) }

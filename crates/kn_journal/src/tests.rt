@@ -1,13 +1,50 @@
-use crate::{JournalError, JournalReader, Status};
-use kn_event::{Act, Event, LineError};
+use crate::{JournalError, JournalReader, SetupError, Status};
+use kn_config::{ConfigError, Key};
+use kn_event::{LineError, Memory};
 use kn_io::MemSource;
+use kn_revision::SpecError;
 use std::alloc::{AllocError, Global};
 use std::test::Fail;
 
-/// A source over these bytes, in pieces of seven, whose read of this number fails.
-fn source(alloc: Global, bytes: &[u8], fail: u64) -> Result<MemSource, AllocError> {
+/// A number of a read that no test comes to.
+const NEVER: u64 = 1 << 32;
+
+/// A source over these bytes, in pieces, whose read of this number fails.
+fn source(alloc: Global, bytes: &[u8], piece: u64, fail: u64) -> Result<MemSource, AllocError>
+    requires { 0 < piece }
+{
     let bytes = Vec::from_slice(alloc, bytes)?;
-    Ok(MemSource::in_pieces(bytes, 7, vec![in alloc; fail]?))
+    Ok(MemSource::in_pieces(bytes, piece, vec![in alloc; fail]?))
+}
+
+/// How many events came, and why no more did; after `end` nothing refused them.
+type Said = (u64, Option<JournalError>);
+
+/// Reads events until none comes. A fault that is not answered again counts as one that never came.
+fn read_events(reader: &mut JournalReader, source: &mut MemSource) -> Said {
+    for events in 0..1 << 32 {
+        match reader.next(source) {
+            Ok(Some(_)) => {}
+            Ok(None) => return (events, None),
+            Err(e) => if reader.next(source) == Err(e) {
+                return (events, Some(e));
+            } else {
+                return (events, None);
+            },
+        }
+    }
+    (0, None)
+}
+
+fn read_all(alloc: Global, source: &mut MemSource) -> Result<Said, Memory> {
+    let mut reader = JournalReader::new(alloc)?;
+    if let Err(e) = reader.setup(alloc, source) {
+        return Ok((0, Some(e)));
+    }
+    if let Err(e) = reader.start(source) {
+        return Ok((0, Some(e)));
+    }
+    Ok(read_events(&mut reader, source))
 }
 
 #[test]
@@ -27,49 +64,144 @@ fn exit_statuses(rt: HostRuntime) {
     }
 }
 
-const NEVER: u64 = 1000;
+const KPA: &[u8] = b"kact journal 1\nkpa depth=1 max=1 seed=0\nconfig\n";
 
-/// Events behind a start, and what stands in their place; each fault is answered again.
+/// Openings, and what follows them.
+const OPENINGS: [(&[u8], Said); 14] = [
+    (b"", (0, Some(JournalError::NoEnd))),
+    (b"kact journal 3\n", (0, Some(JournalError::BadFirstLine))),
+    (b"kact journal 1 \nfixed", (0, Some(JournalError::BadFirstLine))),
+    (b"kact journal 1\nslices 3\n", (0, Some(JournalError::BadSetup(2, SetupError::BadWord)))),
+    (b"kact journal 1\nfixed limit=1 depth=0 max=1 pods=1 timeout=300 seed=0\n", (0, Some(JournalError::BadSetup(2, SetupError::OutOfRange(14))))),
+    (b"kact journal 1\nfixed limit=1 depth=01 max=1 pods=1 timeout=300 seed=0\n", (0, Some(JournalError::BadSetup(2, SetupError::BadField(14))))),
+    (b"kact journal 1\nfixed limit=1001 depth=0 max=1 pods=1 timeout=300 seed=0 \n", (0, Some(JournalError::BadSetup(2, SetupError::BadField(57))))),
+    (b"kact journal 1\nfixed limit=1 depth=1 max=1 pods=501 timeout=0 seed=0\n", (0, Some(JournalError::BadSetup(2, SetupError::OutOfRange(28))))),
+    (b"kact journal 1\nkpa depth=1 max=1 seed=18446744073709551616\n", (0, Some(JournalError::BadSetup(2, SetupError::BadField(18))))),
+    (b"kact journal 1\nkpa depth=1 max=1 seed=0\nrevision\n", (0, Some(JournalError::BadSetup(3, SetupError::BadWord)))),
+    (b"kact journal 1\nkpa depth=1 max=1 seed=0\nconfig\n{}\n", (0, Some(JournalError::NoEnd))),
+    (b"kact journal 1\nfixed limit=1 depth=1 max=1 pods=1 timeout=300 seed=0\nbegin 0\n", (0, Some(JournalError::BadLine(3, LineError::BadWord)))),
+    (b"kact journal 1\nfixed limit=1 depth=1 max=1 pods=1 timeout=300 seed=0\nstart 4398046511105\n", (0, Some(JournalError::TimeTooLarge(3)))),
+    (b"kact journal 1\nfixed limit=1 depth=1 max=1 pods=1 timeout=300 seed=0\nstart 0 \n", (0, Some(JournalError::BadLine(3, LineError::Extra(7))))),
+];
+
+/// What follows a start of 0 in a journal of version 1.
+const EVENTS: [(&[u8], Said); 15] = [
+    (b"0 pass 1\nend\n", (0, Some(JournalError::BadLine(4, LineError::Extra(6))))),
+    (b"0 finish 0 maybe\nend\n", (0, Some(JournalError::BadLine(4, LineError::BadWord)))),
+    (b"0 limit 0 1001\nend\n", (0, Some(JournalError::BadLine(4, LineError::BadNumber(10))))),
+    (b"0 arrive 18446744073709551616\nend\n", (0, Some(JournalError::BadLine(4, LineError::BadNumber(9))))),
+    (b"01 pass\nend\n", (0, Some(JournalError::BadLine(4, LineError::BadTime)))),
+    (b"\nend\n", (0, Some(JournalError::BadLine(4, LineError::BadTime)))),
+    (b"1 pass\n2 lost 0\nend\n", (1, Some(JournalError::BadLine(5, LineError::BadWord)))),
+    (b"4398046511104 pass\n4398046511105 pass\nend\n", (1, Some(JournalError::TimeTooLarge(5)))),
+    (b"20 pass\n20 pass\n19 pass\nend\n", (2, Some(JournalError::TimeBack(6, 20, 19)))),
+    (b"20 pass\n19 pas\nend\n", (1, Some(JournalError::BadLine(5, LineError::BadWord)))),
+    (b"20 pass\nend\n\n", (1, Some(JournalError::AfterEnd(6)))),
+    (b"20 pass\nend\r", (1, Some(JournalError::BadLine(5, LineError::BadTime)))),
+    (b"20 pass\nend\r\r\n", (1, None)),
+    (b"20 pass\n", (1, Some(JournalError::NoEnd))),
+    (b"20 pass", (1, Some(JournalError::NoEnd))),
+];
+
+const OPENING: &[u8] = b"kact journal 1\nfixed limit=1 depth=1 max=1 pods=1 timeout=300 seed=0\nstart 0\n";
+
 #[test]
-fn starts_and_events(rt: HostRuntime) -> Result<(), Fail> {
-    let rows: [(&[u8], Result<Option<Event>, JournalError>); 9] = [
-        (
-            b"start 5\n5 limit 0 1000\nend\n",
-            Ok(Some(Event {
-                time: 5,
-                act: Act::Limit(0, 1000),
-            })),
-        ),
-        (b"start 5\r\r\nend", Ok(None)),
-        (b"start 5\nend\nend\n", Err(JournalError::AfterEnd(3))),
-        (b"start 5\n", Err(JournalError::NoEnd)),
-        (b"start 5\n4 pass\n", Err(JournalError::TimeBack(2, 5, 4))),
-        (
-            b"start 5\n4398046511105 pass\n",
-            Err(JournalError::TimeTooLarge(2)),
-        ),
-        (
-            b"start 5\n5 lost 0\n",
-            Err(JournalError::BadLine(2, LineError::BadWord)),
-        ),
-        (
-            b"start 5\n1 arrive 18446744073709551616\n",
-            Err(JournalError::BadLine(2, LineError::BadNumber(9))),
-        ),
-        (
-            b"start 5\nend\r",
-            Err(JournalError::BadLine(2, LineError::BadTime)),
-        ),
-    ];
-    for (bytes, want) in rows {
-        let mut input = source(rt.alloc(), bytes, NEVER)?;
-        let mut reader = JournalReader::new(rt.alloc())?;
-        assert_eq!(rt; reader.start(&mut input), Ok(5));
-        let first = reader.next(&mut input);
-        assert_eq!(rt; first, want);
-        if first.is_err() {
-            assert_eq!(rt; reader.next(&mut input), want);
+fn faults(rt: HostRuntime) -> Result<(), Fail> {
+    for (bytes, want) in OPENINGS {
+        let mut input = source(rt.alloc(), bytes, 7, NEVER)?;
+        assert_eq!(rt; read_all(rt.alloc(), &mut input)?, want);
+    }
+    for (bytes, want) in EVENTS {
+        let mut text = Vec::from_slice(rt.alloc(), OPENING)?;
+        text.extend_from_slice(bytes)?;
+        let mut input = source(rt.alloc(), &text, 65536, NEVER)?;
+        assert_eq!(rt; read_all(rt.alloc(), &mut input)?, want);
+    }
+    Ok(())
+}
+
+const CUT: &[u8] = b"kact journal 2\r\nfixed limit=2 depth=1 max=1 pods=1 timeout=5 seed=0\nstart 3\n3 arrive 7\r\r\n4 lost 0\nend\n";
+
+/// From how many bytes of that journal on it says what.
+const CUTS: [(usize, Said); 35] = [
+    (0, (0, Some(JournalError::NoEnd))),
+    (1, (0, Some(JournalError::BadFirstLine))),
+    (14, (0, Some(JournalError::NoEnd))),
+    (15, (0, Some(JournalError::BadFirstLine))),
+    (16, (0, Some(JournalError::NoEnd))),
+    (17, (0, Some(JournalError::BadSetup(2, SetupError::BadWord)))),
+    (21, (0, Some(JournalError::BadSetup(2, SetupError::BadField(5))))),
+    (22, (0, Some(JournalError::BadSetup(2, SetupError::BadField(6))))),
+    (29, (0, Some(JournalError::BadSetup(2, SetupError::BadField(13))))),
+    (30, (0, Some(JournalError::BadSetup(2, SetupError::BadField(14))))),
+    (37, (0, Some(JournalError::BadSetup(2, SetupError::BadField(21))))),
+    (38, (0, Some(JournalError::BadSetup(2, SetupError::BadField(22))))),
+    (43, (0, Some(JournalError::BadSetup(2, SetupError::BadField(27))))),
+    (44, (0, Some(JournalError::BadSetup(2, SetupError::BadField(28))))),
+    (50, (0, Some(JournalError::BadSetup(2, SetupError::BadField(34))))),
+    (51, (0, Some(JournalError::BadSetup(2, SetupError::BadField(35))))),
+    (60, (0, Some(JournalError::BadSetup(2, SetupError::BadField(44))))),
+    (61, (0, Some(JournalError::BadSetup(2, SetupError::BadField(45))))),
+    (67, (0, Some(JournalError::NoEnd))),
+    (69, (0, Some(JournalError::BadLine(3, LineError::BadWord)))),
+    (73, (0, Some(JournalError::BadLine(3, LineError::BadNumber(5))))),
+    (74, (0, Some(JournalError::BadLine(3, LineError::BadNumber(6))))),
+    (75, (0, Some(JournalError::NoEnd))),
+    (77, (0, Some(JournalError::BadLine(4, LineError::BadWord)))),
+    (84, (0, Some(JournalError::BadLine(4, LineError::BadNumber(8))))),
+    (85, (0, Some(JournalError::BadLine(4, LineError::BadNumber(9))))),
+    (86, (1, Some(JournalError::NoEnd))),
+    (87, (0, Some(JournalError::BadLine(4, LineError::BadNumber(9))))),
+    (89, (1, Some(JournalError::NoEnd))),
+    (90, (1, Some(JournalError::BadLine(5, LineError::BadWord)))),
+    (95, (1, Some(JournalError::BadLine(5, LineError::BadNumber(6))))),
+    (96, (1, Some(JournalError::BadLine(5, LineError::BadNumber(7))))),
+    (97, (2, Some(JournalError::NoEnd))),
+    (99, (2, Some(JournalError::BadLine(6, LineError::BadTime)))),
+    (101, (2, None)),
+];
+
+/// What the first bytes of that journal say, this many.
+fn cut_says(len: usize) -> Said {
+    let mut said = (0, None);
+    for (from, cut) in CUTS {
+        if from <= len {
+            said = cut;
         }
+    }
+    said
+}
+
+#[test]
+fn cut_after_each_byte(rt: HostRuntime) -> Result<(), Fail> {
+    for len in 0..CUT.len() + 1 {
+        for piece in [1, 2, 7, 65536] {
+            let mut input = source(rt.alloc(), &CUT[..len], piece, NEVER)?;
+            assert_eq!(rt; read_all(rt.alloc(), &mut input)?, cut_says(len), "{len} bytes in pieces of {piece}");
+        }
+    }
+    Ok(())
+}
+
+/// How many events are in the lines that were ended within these bytes of that journal: two of them, behind three lines.
+fn events_within(len: usize) -> u64 {
+    let mut lines = 0;
+    for b in &CUT[..len.min(CUT.len())] {
+        if *b == b'\n' {
+            lines += 1;
+        }
+    }
+    if lines <= 3 { 0 } else if lines == 4 { 1 } else { 2 }
+}
+
+/// The 102 bytes take 15 reads of 7, and one that finds the end.
+#[test]
+fn reads_that_fail(rt: HostRuntime) -> Result<(), Fail> {
+    for fail in 0..20 {
+        let mut input = source(rt.alloc(), CUT, 7, fail)?;
+        let refused = if fail < 16 { Some(JournalError::ReadFault) } else { None };
+        let want = (events_within(7 * fail as usize), refused);
+        assert_eq!(rt; read_all(rt.alloc(), &mut input)?, want, "read {fail}");
     }
     Ok(())
 }

@@ -1,4 +1,5 @@
 -- The law, over what kn_event says of spellings.
+use Rattle.kn_journal.proofs.Kept.{journal-kept}
 use Rattle.kn_journal.proofs.Printed.{AreSpelled, journal-read}
 use Rattle.kn_journal.proofs.laws.journals_are_read.Goals as goal
 
@@ -14,4 +15,4 @@ returns c =
       least = said.least;
       most = said.most;
     } in
-    journal-read spelled
+    record { read = journal-read spelled; kept = journal-kept spelled }

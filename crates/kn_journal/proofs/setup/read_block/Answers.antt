@@ -5,13 +5,19 @@ use Rattle.std.specs.Str.{bytes_eq}
 use Rattle.std.proofs.lemmas.Grind.{common_steps}
 use Rattle.kn_journal.specs.Reading.{unread}
 use Rattle.kn_journal.specs.Setup.{block_most}
-use Rattle.kn_journal.proofs.Blocks.{block-lacks, block-long, block-more, block-point}
+use Rattle.kn_journal.proofs.Blocks.{block-lacks, block-long, block-more, block-point, block-stops}
 use Rattle.kn_journal.proofs.setup.read_block.Goals as goal
 
 pub returns-in-Err-clause-tells : goal.returns-in-Err-clause-tells
 returns-in-Err-clause-tells g c =
     block-lacks c.args.lines.now.number c.loop.text.items c.loop.lines.number c.in-Err.e (unread c.args.lines.now.input (g.S.Source.left c.args.source.now))
     (unread c.loop.lines.input (g.S.Source.left c.loop.source)) c.loop.invariant.block c.in-Err.ensures.none
+
+pub returns-in-Err-clause-amid : goal.returns-in-Err-clause-amid
+returns-in-Err-clause-amid g c h =
+    block-stops c.args.lines.now.number c.loop.text.items c.loop.lines.number (unread c.args.lines.now.input (g.S.Source.left c.args.source.now))
+    (unread c.loop.lines.input (g.S.Source.left c.loop.source)) (unread c.next_line.new.self.input (g.S.Source.left c.next_line.new.source))
+    c.loop.invariant.block (c.in-Err.ensures.amid h)
 
 pub returns-then-eq-clause-tells : goal.returns-then-eq-clause-tells
 returns-then-eq-clause-tells g c =
