@@ -11,6 +11,7 @@ use Rattle.kn_journal.specs.Lines.{fits, lines}
 use Rattle.kn_journal.specs.Reading.{TakesLine, TakesPart}
 use Rattle.kn_journal.specs.Setup.{block_most, block_part, fits_block, longer, word_in, word_part}
 use Rattle.kn_journal.specs.Telling.{Gives, Judges, Lacks, Refuses, StopsAmid, Tells}
+use Rattle.kn_journal.proofs.Stops.{part-stops}
 use Rattle.kn_journal.proofs.Tellings.{lacks_refuses, line-tells}
 
 -- ---- a word
@@ -23,6 +24,10 @@ word-tells word n number old new line r h fit e j = line-tells n number old new 
 pub word-refuses : (word : List ℕ) (n : ℕ) (e : JournalError) (old : Option (List ℕ)) → Lacks n e old → Refuses (word_part word n) e old
 unfolding word_part
 word-refuses word n e old h = lacks_refuses n e old (word_in word) h
+
+pub word-none : (word : List ℕ) (n : ℕ) (old new : Option (List ℕ)) → TakesPart old new → StopsAmid (word_part word n) old new
+unfolding word_part
+word-none word n old new h = part-stops (word_part word n) old new refl h
 
 pub word-same : (word line : List ℕ) (number : ℕ) → bytes_eq line word ≡ true → Judges (word_in word) number line (Ok tt)
 word-same word line number h = λ left. rw h refl

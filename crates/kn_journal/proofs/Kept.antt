@@ -141,7 +141,7 @@ opening-kept bytes q h =
     let s = second.0 in
     let made = opened-is p.value s q second.2 in
     let plain : ArePlainButLast (has.line ∷ has.more) = subst ArePlainButLast has.split (plain-lines bytes) in
-    let read : setup_part 1 has.more ≡ Ok s = rw (said.number, said.all) at second.1 in
+    let read : setup_part 1 has.more ≡ Ok s = ap (λ (n : ℕ). setup_part n has.more) (sym said.number) ∙ ap (setup_part p.number) (sym said.all) ∙ second.1 in
     record {
       least = omega (arith, said.least, made.0);
       most = omega (arith, said.most, made.0);

@@ -81,6 +81,10 @@ config-on m n config r next (Some xs) (Some ys) (Ok s) h t = rw (sym h) t
 config-on m n config r next None new (Err e) h t = tt
 config-on m n config r next (Some xs) new (Err e) h t = rw (sym h) t
 
+config-stops : (n : ℕ) (config : Config) (r : Result Config ConfigError) (next : List (List ℕ) → Config → Result (Part Setup) Cause) (mid new : Option (List ℕ))
+    → Ok config ≡ r → StopsAmid (λ ls. next ls config) mid new → StopsAmid (λ ls. config_in n r (next ls)) mid new
+config-stops n config r next mid new h t = subst (λ (x : Result Config ConfigError). StopsAmid (λ ls. config_in n x (next ls)) mid new) h t
+
 -- ---- the Revision
 
 -- its block, judged
@@ -183,7 +187,8 @@ pub blocks-revision_stops : (line : List ℕ) (slots : Slots) (n m k : ℕ) (old
 unfolding blocks_part
 blocks-revision_stops line slots n m k old mid after new u block config w b c h =
     second-stops (word_part (codes "config") n) (config_block line slots) u m old mid new (word-own (codes "config") n) w
-      (second-stops (block_part [] m) (judge_config line slots) block k mid after new (block-own m) b (rw (sym c) h))
+      (second-stops (block_part [] m) (judge_config line slots) block k mid after new (block-own m) b
+        (config-stops k config (config_of block) (λ ls config. revision_part line block slots config k ls) after new c h))
 
 -- ---- a setup
 
@@ -192,14 +197,14 @@ pub setup-tells : (n number k : ℕ) (old mid new : Option (List ℕ)) (line tex
 unfolding setup_part
 setup-tells n number k old mid new line text said r h fit e is whole t =
     let told : Tells (behind_line (line ++ 10 ∷ []) (Ok said) (n + 1)) k mid new r = rw (e, whole) at t in
-    line-then n k old mid new line setup_in r h fit (rw (sym is) told)
+    line-then n k old mid new line setup_in r h fit (subst (λ (x : Result SetupLine SetupError). Tells (behind_line (line ++ 10 ∷ []) x (n + 1)) k mid new r) is told)
 
 pub setup-stops : (n number : ℕ) (old mid new : Option (List ℕ)) (line text : List ℕ) (said : SetupLine) → TakesLine old mid true line → fits line ≡ true
     → number ≡ n + 1 → Ok said ≡ setup_line line → text ≡ line ++ 10 ∷ [] → StopsAmid (behind_line text (Ok said) number) mid new → StopsAmid (setup_part n) old new
 unfolding setup_part
 setup-stops n number old mid new line text said h fit e is whole t =
     let told : StopsAmid (behind_line (line ++ 10 ∷ []) (Ok said) (n + 1)) mid new = rw (e, whole) at t in
-    line-stops n old mid new line setup_in h fit (rw (sym is) told)
+    line-stops n old mid new line setup_in h fit (subst (λ (x : Result SetupLine SetupError). StopsAmid (behind_line (line ++ 10 ∷ []) x (n + 1)) mid new) is told)
 
 pub setup-bad : (n number : ℕ) (old mid : Option (List ℕ)) (line : List ℕ) (why : SetupError) → TakesLine old mid true line → fits line ≡ true → number ≡ n + 1 → Err why ≡ setup_line line
     → Refuses (setup_part n) (error.BadSetup number why) old

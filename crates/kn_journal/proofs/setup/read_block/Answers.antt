@@ -17,7 +17,7 @@ pub returns-in-Err-clause-amid : goal.returns-in-Err-clause-amid
 returns-in-Err-clause-amid g c h =
     block-stops c.args.lines.now.number c.loop.text.items c.loop.lines.number (unread c.args.lines.now.input (g.S.Source.left c.args.source.now))
     (unread c.loop.lines.input (g.S.Source.left c.loop.source)) (unread c.next_line.new.self.input (g.S.Source.left c.next_line.new.source))
-    c.loop.invariant.block (c.in-Err.ensures.amid h)
+    c.loop.invariant.block (c.in-Err.ensures.amid cc)
 
 pub returns-then-eq-clause-tells : goal.returns-then-eq-clause-tells
 returns-then-eq-clause-tells g c =
