@@ -114,6 +114,7 @@ first-said line n left p h = by_tests (bytes_eq line (codes "kact journal 1")) (
         let made : Part ℕ = part version n left in
         let parts = part-left version n left p (Ok made) g refl in
         record { number = sym parts.2; all = sym parts.0; least = omega (arith, least, parts.1); most = omega (arith, most, parts.1) }
+
     by_tests : (a b : Bool) → version_in n left (if a then Some 1 else (if b then Some 2 else None)) ≡ Ok p → IsFirstOf n left p
     by_tests true b g = said 1 (omega arith) (omega arith) g
     by_tests false true g = said 2 (omega arith) (omega arith) g
@@ -235,6 +236,7 @@ events-kept spelled version last n (line ∷ more) = by_next (next_part version 
         let of = next-kept version last n (line ∷ more) p e h is in
         let spells = spelled.event version of.0 e of.1.said in
         (of.1.order, of.1.most, spells.range, spells.act, k e p.number)
+
     by_next : (r : Result (Part (Option Event)) Cause) → next_part version last n (line ∷ more) ≡ r
         → ((e : Event) (number : ℕ) → AreEvents version e.time (read_events version e.time number more).events)
         → AreEvents version last (then_events r (λ e number. read_events version e.time number more)).events

@@ -106,7 +106,7 @@ pub revision-tells : (line block : List ℕ) (slots : Slots) (config : Config) (
 unfolding revision_part
 revision-tells line block slots config n m k old mid new u text r w b s =
     then-gives (word_part (codes "revision") n) (revision_block line block slots config) u m k old mid new r w
-      (then-gives (block_part [] m) (judge_revision line block slots config) text k k mid new new r b s)
+    (then-gives (block_part [] m) (judge_revision line block slots config) text k k mid new new r b s)
 
 pub revision-no_word : (line block : List ℕ) (slots : Slots) (config : Config) (n : ℕ) (old : Option (List ℕ)) (e : JournalError)
     → Refuses (word_part (codes "revision") n) e old → Refuses (revision_part line block slots config n) e old
@@ -119,7 +119,7 @@ pub revision-no_block : (line block : List ℕ) (slots : Slots) (config : Config
 unfolding revision_part
 revision-no_block line block slots config n m old mid u e w h =
     then-gives (word_part (codes "revision") n) (revision_block line block slots config) u m m old mid mid (Err e) w
-      (then-refuses (block_part [] m) (judge_revision line block slots config) e mid h)
+    (then-refuses (block_part [] m) (judge_revision line block slots config) e mid h)
 
 pub revision-word_stops : (line block : List ℕ) (slots : Slots) (config : Config) (n : ℕ) (old new : Option (List ℕ))
     → StopsAmid (word_part (codes "revision") n) old new → StopsAmid (revision_part line block slots config n) old new
@@ -132,7 +132,7 @@ pub revision-block_stops : (line block : List ℕ) (slots : Slots) (config : Con
 unfolding revision_part
 revision-block_stops line block slots config n m old mid new u w h =
     second-stops (word_part (codes "revision") n) (revision_block line block slots config) u m old mid new (word-own (codes "revision") n) w
-      (first-stops (block_part [] m) (judge_revision line block slots config) mid new h)
+    (first-stops (block_part [] m) (judge_revision line block slots config) mid new h)
 
 -- ---- the configuration, and then the Revision
 
@@ -148,8 +148,8 @@ pub blocks-tells : (line : List ℕ) (slots : Slots) (n m k j : ℕ) (old mid af
 unfolding blocks_part
 blocks-tells line slots n m k j old mid after new u block config r w b c t =
     then-gives (word_part (codes "config") n) (config_block line slots) u m j old mid new r w
-      (then-gives (block_part [] m) (judge_config line slots) block k j mid after new r b
-        (config-on k j config (config_of block) (λ ls config. revision_part line block slots config k ls) after new r c t))
+    (then-gives (block_part [] m) (judge_config line slots) block k j mid after new r b
+    (config-on k j config (config_of block) (λ ls config. revision_part line block slots config k ls) after new r c t))
 
 pub blocks-no_word : (line : List ℕ) (slots : Slots) (n : ℕ) (old : Option (List ℕ)) (e : JournalError) → Refuses (word_part (codes "config") n) e old → Refuses (blocks_part line slots n) e old
 unfolding blocks_part
@@ -160,7 +160,7 @@ pub blocks-no_block : (line : List ℕ) (slots : Slots) (n m : ℕ) (old mid : O
 unfolding blocks_part
 blocks-no_block line slots n m old mid u e w h =
     then-gives (word_part (codes "config") n) (config_block line slots) u m m old mid mid (Err e) w
-      (then-refuses (block_part [] m) (judge_config line slots) e mid h)
+    (then-refuses (block_part [] m) (judge_config line slots) e mid h)
 
 pub blocks-bad : (line : List ℕ) (slots : Slots) (n m k : ℕ) (old mid after : Option (List ℕ)) (u : Unit {0}) (block : List ℕ) (e : JournalError)
     → Gives (word_part (codes "config") n) u m old mid → Gives (block_part [] m) block k mid after
@@ -168,7 +168,7 @@ pub blocks-bad : (line : List ℕ) (slots : Slots) (n m k : ℕ) (old mid after 
 unfolding blocks_part
 blocks-bad line slots n m k old mid after u block e w b h =
     then-gives (word_part (codes "config") n) (config_block line slots) u m m old mid mid (Err e) w
-      (then-gives (block_part [] m) (judge_config line slots) block k k mid after after (Err e) b h)
+    (then-gives (block_part [] m) (judge_config line slots) block k k mid after after (Err e) b h)
 
 pub blocks-word_stops : (line : List ℕ) (slots : Slots) (n : ℕ) (old new : Option (List ℕ)) → StopsAmid (word_part (codes "config") n) old new → StopsAmid (blocks_part line slots n) old new
 unfolding blocks_part
@@ -179,7 +179,7 @@ pub blocks-block_stops : (line : List ℕ) (slots : Slots) (n m : ℕ) (old mid 
 unfolding blocks_part
 blocks-block_stops line slots n m old mid new u w h =
     second-stops (word_part (codes "config") n) (config_block line slots) u m old mid new (word-own (codes "config") n) w
-      (first-stops (block_part [] m) (judge_config line slots) mid new h)
+    (first-stops (block_part [] m) (judge_config line slots) mid new h)
 
 pub blocks-revision_stops : (line : List ℕ) (slots : Slots) (n m k : ℕ) (old mid after new : Option (List ℕ)) (u : Unit {0}) (block : List ℕ) (config : Config)
     → Gives (word_part (codes "config") n) u m old mid → Gives (block_part [] m) block k mid after → Ok config ≡ config_of block
@@ -187,8 +187,8 @@ pub blocks-revision_stops : (line : List ℕ) (slots : Slots) (n m k : ℕ) (old
 unfolding blocks_part
 blocks-revision_stops line slots n m k old mid after new u block config w b c h =
     second-stops (word_part (codes "config") n) (config_block line slots) u m old mid new (word-own (codes "config") n) w
-      (second-stops (block_part [] m) (judge_config line slots) block k mid after new (block-own m) b
-        (config-stops k config (config_of block) (λ ls config. revision_part line block slots config k ls) after new c h))
+    (second-stops (block_part [] m) (judge_config line slots) block k mid after new (block-own m) b
+    (config-stops k config (config_of block) (λ ls config. revision_part line block slots config k ls) after new c h))
 
 -- ---- a setup
 
@@ -258,7 +258,7 @@ unfolding opening_part
 opening-gives known n m k version setup old mid new f s =
     let both : Opening = record { version = version; setup = setup } in
     then-gives (first_part known n) setup_behind version m k old mid new (Ok both) f
-      (then-gives (setup_part m) (opened version) setup k k mid new new (Ok both) s (opened-gives version setup k new))
+    (then-gives (setup_part m) (opened version) setup k k mid new new (Ok both) s (opened-gives version setup k new))
 
 pub opening-no_first : (known : List ℕ → Option ℕ) (n : ℕ) (old : Option (List ℕ)) (e : JournalError) → Refuses (first_part known n) e old → Refuses (opening_part known n) e old
 unfolding opening_part

@@ -75,11 +75,7 @@ impl JournalReader {
     }
 
     /// Reads the version and the setup.
-    pub fn setup<S: Source>(
-        &mut self,
-        alloc: Global,
-        source: &mut S,
-    ) -> Result<Setup, JournalError>
+    pub fn setup<S: Source>(&mut self, alloc: Global, source: &mut S) -> Result<Setup, JournalError>
         ensures tells { self.old.failed ≡ None → TellsOpening (opening_part version_of self.old.number) self.new.version self.new.number (unread self.old.input (S.left source.old)) (unread self.new.input (S.left source.new)) result }
         ensures least { OnOk result (1 ≤ self.new.version) }
         ensures most { OnOk result (self.new.version ≤ 2) }

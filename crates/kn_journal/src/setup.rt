@@ -39,11 +39,7 @@ fn judge_word(line: &[u8], number: u64, word: &[u8]) -> Result<(), JournalError>
 }
 
 /// Reads a line that is just this word.
-fn read_word<S: Source>(
-    lines: &mut Lines,
-    source: &mut S,
-    word: &[u8],
-) -> Result<(), JournalError>
+fn read_word<S: Source>(lines: &mut Lines, source: &mut S, word: &[u8]) -> Result<(), JournalError>
     ensures tells { Tells (word_part word.now lines.old.number) lines.new.number (unread lines.old.input (S.left source.old)) (unread lines.new.input (S.left source.new)) result }
     ensures amid { result ≡ Err JournalError.ReadFault → StopsAmid (word_part word.now lines.old.number) (unread lines.old.input (S.left source.old)) (unread lines.new.input (S.left source.new)) }
     ensures fault { result ≡ Err JournalError.ReadFault → Rose (S.Faulty.faults source.old) (S.Faulty.faults source.new) ⊎ (lines.new.input.taken ≡ most_taken) }

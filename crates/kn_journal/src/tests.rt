@@ -70,40 +70,116 @@ const KPA: &[u8] = b"kact journal 1\nkpa depth=1 max=1 seed=0\nconfig\n";
 const OPENINGS: [(&[u8], Said); 14] = [
     (b"", (0, Some(JournalError::NoEnd))),
     (b"kact journal 3\n", (0, Some(JournalError::BadFirstLine))),
-    (b"kact journal 1 \nfixed", (0, Some(JournalError::BadFirstLine))),
-    (b"kact journal 1\nslices 3\n", (0, Some(JournalError::BadSetup(2, SetupError::BadWord)))),
-    (b"kact journal 1\nfixed limit=1 depth=0 max=1 pods=1 timeout=300 seed=0\n", (0, Some(JournalError::BadSetup(2, SetupError::OutOfRange(14))))),
-    (b"kact journal 1\nfixed limit=1 depth=01 max=1 pods=1 timeout=300 seed=0\n", (0, Some(JournalError::BadSetup(2, SetupError::BadField(14))))),
-    (b"kact journal 1\nfixed limit=1001 depth=0 max=1 pods=1 timeout=300 seed=0 \n", (0, Some(JournalError::BadSetup(2, SetupError::BadField(57))))),
-    (b"kact journal 1\nfixed limit=1 depth=1 max=1 pods=501 timeout=0 seed=0\n", (0, Some(JournalError::BadSetup(2, SetupError::OutOfRange(28))))),
-    (b"kact journal 1\nkpa depth=1 max=1 seed=18446744073709551616\n", (0, Some(JournalError::BadSetup(2, SetupError::BadField(18))))),
-    (b"kact journal 1\nkpa depth=1 max=1 seed=0\nrevision\n", (0, Some(JournalError::BadSetup(3, SetupError::BadWord)))),
-    (b"kact journal 1\nkpa depth=1 max=1 seed=0\nconfig\n{}\n", (0, Some(JournalError::NoEnd))),
-    (b"kact journal 1\nfixed limit=1 depth=1 max=1 pods=1 timeout=300 seed=0\nbegin 0\n", (0, Some(JournalError::BadLine(3, LineError::BadWord)))),
-    (b"kact journal 1\nfixed limit=1 depth=1 max=1 pods=1 timeout=300 seed=0\nstart 4398046511105\n", (0, Some(JournalError::TimeTooLarge(3)))),
-    (b"kact journal 1\nfixed limit=1 depth=1 max=1 pods=1 timeout=300 seed=0\nstart 0 \n", (0, Some(JournalError::BadLine(3, LineError::Extra(7))))),
+    (
+        b"kact journal 1 \nfixed",
+        (0, Some(JournalError::BadFirstLine)),
+    ),
+    (
+        b"kact journal 1\nslices 3\n",
+        (0, Some(JournalError::BadSetup(2, SetupError::BadWord))),
+    ),
+    (
+        b"kact journal 1\nfixed limit=1 depth=0 max=1 pods=1 timeout=300 seed=0\n",
+        (
+            0,
+            Some(JournalError::BadSetup(2, SetupError::OutOfRange(14))),
+        ),
+    ),
+    (
+        b"kact journal 1\nfixed limit=1 depth=01 max=1 pods=1 timeout=300 seed=0\n",
+        (0, Some(JournalError::BadSetup(2, SetupError::BadField(14)))),
+    ),
+    (
+        b"kact journal 1\nfixed limit=1001 depth=0 max=1 pods=1 timeout=300 seed=0 \n",
+        (0, Some(JournalError::BadSetup(2, SetupError::BadField(57)))),
+    ),
+    (
+        b"kact journal 1\nfixed limit=1 depth=1 max=1 pods=501 timeout=0 seed=0\n",
+        (
+            0,
+            Some(JournalError::BadSetup(2, SetupError::OutOfRange(28))),
+        ),
+    ),
+    (
+        b"kact journal 1\nkpa depth=1 max=1 seed=18446744073709551616\n",
+        (0, Some(JournalError::BadSetup(2, SetupError::BadField(18)))),
+    ),
+    (
+        b"kact journal 1\nkpa depth=1 max=1 seed=0\nrevision\n",
+        (0, Some(JournalError::BadSetup(3, SetupError::BadWord))),
+    ),
+    (
+        b"kact journal 1\nkpa depth=1 max=1 seed=0\nconfig\n{}\n",
+        (0, Some(JournalError::NoEnd)),
+    ),
+    (
+        b"kact journal 1\nfixed limit=1 depth=1 max=1 pods=1 timeout=300 seed=0\nbegin 0\n",
+        (0, Some(JournalError::BadLine(3, LineError::BadWord))),
+    ),
+    (
+        b"kact journal 1\nfixed limit=1 depth=1 max=1 pods=1 timeout=300 seed=0\nstart 4398046511105\n",
+        (0, Some(JournalError::TimeTooLarge(3))),
+    ),
+    (
+        b"kact journal 1\nfixed limit=1 depth=1 max=1 pods=1 timeout=300 seed=0\nstart 0 \n",
+        (0, Some(JournalError::BadLine(3, LineError::Extra(7)))),
+    ),
 ];
 
 /// What follows a start of 0 in a journal of version 1.
 const EVENTS: [(&[u8], Said); 15] = [
-    (b"0 pass 1\nend\n", (0, Some(JournalError::BadLine(4, LineError::Extra(6))))),
-    (b"0 finish 0 maybe\nend\n", (0, Some(JournalError::BadLine(4, LineError::BadWord)))),
-    (b"0 limit 0 1001\nend\n", (0, Some(JournalError::BadLine(4, LineError::BadNumber(10))))),
-    (b"0 arrive 18446744073709551616\nend\n", (0, Some(JournalError::BadLine(4, LineError::BadNumber(9))))),
-    (b"01 pass\nend\n", (0, Some(JournalError::BadLine(4, LineError::BadTime)))),
-    (b"\nend\n", (0, Some(JournalError::BadLine(4, LineError::BadTime)))),
-    (b"1 pass\n2 lost 0\nend\n", (1, Some(JournalError::BadLine(5, LineError::BadWord)))),
-    (b"4398046511104 pass\n4398046511105 pass\nend\n", (1, Some(JournalError::TimeTooLarge(5)))),
-    (b"20 pass\n20 pass\n19 pass\nend\n", (2, Some(JournalError::TimeBack(6, 20, 19)))),
-    (b"20 pass\n19 pas\nend\n", (1, Some(JournalError::BadLine(5, LineError::BadWord)))),
+    (
+        b"0 pass 1\nend\n",
+        (0, Some(JournalError::BadLine(4, LineError::Extra(6)))),
+    ),
+    (
+        b"0 finish 0 maybe\nend\n",
+        (0, Some(JournalError::BadLine(4, LineError::BadWord))),
+    ),
+    (
+        b"0 limit 0 1001\nend\n",
+        (0, Some(JournalError::BadLine(4, LineError::BadNumber(10)))),
+    ),
+    (
+        b"0 arrive 18446744073709551616\nend\n",
+        (0, Some(JournalError::BadLine(4, LineError::BadNumber(9)))),
+    ),
+    (
+        b"01 pass\nend\n",
+        (0, Some(JournalError::BadLine(4, LineError::BadTime))),
+    ),
+    (
+        b"\nend\n",
+        (0, Some(JournalError::BadLine(4, LineError::BadTime))),
+    ),
+    (
+        b"1 pass\n2 lost 0\nend\n",
+        (1, Some(JournalError::BadLine(5, LineError::BadWord))),
+    ),
+    (
+        b"4398046511104 pass\n4398046511105 pass\nend\n",
+        (1, Some(JournalError::TimeTooLarge(5))),
+    ),
+    (
+        b"20 pass\n20 pass\n19 pass\nend\n",
+        (2, Some(JournalError::TimeBack(6, 20, 19))),
+    ),
+    (
+        b"20 pass\n19 pas\nend\n",
+        (1, Some(JournalError::BadLine(5, LineError::BadWord))),
+    ),
     (b"20 pass\nend\n\n", (1, Some(JournalError::AfterEnd(6)))),
-    (b"20 pass\nend\r", (1, Some(JournalError::BadLine(5, LineError::BadTime)))),
+    (
+        b"20 pass\nend\r",
+        (1, Some(JournalError::BadLine(5, LineError::BadTime))),
+    ),
     (b"20 pass\nend\r\r\n", (1, None)),
     (b"20 pass\n", (1, Some(JournalError::NoEnd))),
     (b"20 pass", (1, Some(JournalError::NoEnd))),
 ];
 
-const OPENING: &[u8] = b"kact journal 1\nfixed limit=1 depth=1 max=1 pods=1 timeout=300 seed=0\nstart 0\n";
+const OPENING: &[u8] =
+    b"kact journal 1\nfixed limit=1 depth=1 max=1 pods=1 timeout=300 seed=0\nstart 0\n";
 
 #[test]
 fn faults(rt: HostRuntime) -> Result<(), Fail> {
@@ -120,7 +196,8 @@ fn faults(rt: HostRuntime) -> Result<(), Fail> {
     Ok(())
 }
 
-const CUT: &[u8] = b"kact journal 2\r\nfixed limit=2 depth=1 max=1 pods=1 timeout=5 seed=0\nstart 3\n3 arrive 7\r\r\n4 lost 0\nend\n";
+const CUT: &[u8] =
+    b"kact journal 2\r\nfixed limit=2 depth=1 max=1 pods=1 timeout=5 seed=0\nstart 3\n3 arrive 7\r\r\n4 lost 0\nend\n";
 
 /// From how many bytes of that journal on it says what.
 const CUTS: [(usize, Said); 35] = [
@@ -129,33 +206,93 @@ const CUTS: [(usize, Said); 35] = [
     (14, (0, Some(JournalError::NoEnd))),
     (15, (0, Some(JournalError::BadFirstLine))),
     (16, (0, Some(JournalError::NoEnd))),
-    (17, (0, Some(JournalError::BadSetup(2, SetupError::BadWord)))),
-    (21, (0, Some(JournalError::BadSetup(2, SetupError::BadField(5))))),
-    (22, (0, Some(JournalError::BadSetup(2, SetupError::BadField(6))))),
-    (29, (0, Some(JournalError::BadSetup(2, SetupError::BadField(13))))),
-    (30, (0, Some(JournalError::BadSetup(2, SetupError::BadField(14))))),
-    (37, (0, Some(JournalError::BadSetup(2, SetupError::BadField(21))))),
-    (38, (0, Some(JournalError::BadSetup(2, SetupError::BadField(22))))),
-    (43, (0, Some(JournalError::BadSetup(2, SetupError::BadField(27))))),
-    (44, (0, Some(JournalError::BadSetup(2, SetupError::BadField(28))))),
-    (50, (0, Some(JournalError::BadSetup(2, SetupError::BadField(34))))),
-    (51, (0, Some(JournalError::BadSetup(2, SetupError::BadField(35))))),
-    (60, (0, Some(JournalError::BadSetup(2, SetupError::BadField(44))))),
-    (61, (0, Some(JournalError::BadSetup(2, SetupError::BadField(45))))),
+    (
+        17,
+        (0, Some(JournalError::BadSetup(2, SetupError::BadWord))),
+    ),
+    (
+        21,
+        (0, Some(JournalError::BadSetup(2, SetupError::BadField(5)))),
+    ),
+    (
+        22,
+        (0, Some(JournalError::BadSetup(2, SetupError::BadField(6)))),
+    ),
+    (
+        29,
+        (0, Some(JournalError::BadSetup(2, SetupError::BadField(13)))),
+    ),
+    (
+        30,
+        (0, Some(JournalError::BadSetup(2, SetupError::BadField(14)))),
+    ),
+    (
+        37,
+        (0, Some(JournalError::BadSetup(2, SetupError::BadField(21)))),
+    ),
+    (
+        38,
+        (0, Some(JournalError::BadSetup(2, SetupError::BadField(22)))),
+    ),
+    (
+        43,
+        (0, Some(JournalError::BadSetup(2, SetupError::BadField(27)))),
+    ),
+    (
+        44,
+        (0, Some(JournalError::BadSetup(2, SetupError::BadField(28)))),
+    ),
+    (
+        50,
+        (0, Some(JournalError::BadSetup(2, SetupError::BadField(34)))),
+    ),
+    (
+        51,
+        (0, Some(JournalError::BadSetup(2, SetupError::BadField(35)))),
+    ),
+    (
+        60,
+        (0, Some(JournalError::BadSetup(2, SetupError::BadField(44)))),
+    ),
+    (
+        61,
+        (0, Some(JournalError::BadSetup(2, SetupError::BadField(45)))),
+    ),
     (67, (0, Some(JournalError::NoEnd))),
     (69, (0, Some(JournalError::BadLine(3, LineError::BadWord)))),
-    (73, (0, Some(JournalError::BadLine(3, LineError::BadNumber(5))))),
-    (74, (0, Some(JournalError::BadLine(3, LineError::BadNumber(6))))),
+    (
+        73,
+        (0, Some(JournalError::BadLine(3, LineError::BadNumber(5)))),
+    ),
+    (
+        74,
+        (0, Some(JournalError::BadLine(3, LineError::BadNumber(6)))),
+    ),
     (75, (0, Some(JournalError::NoEnd))),
     (77, (0, Some(JournalError::BadLine(4, LineError::BadWord)))),
-    (84, (0, Some(JournalError::BadLine(4, LineError::BadNumber(8))))),
-    (85, (0, Some(JournalError::BadLine(4, LineError::BadNumber(9))))),
+    (
+        84,
+        (0, Some(JournalError::BadLine(4, LineError::BadNumber(8)))),
+    ),
+    (
+        85,
+        (0, Some(JournalError::BadLine(4, LineError::BadNumber(9)))),
+    ),
     (86, (1, Some(JournalError::NoEnd))),
-    (87, (0, Some(JournalError::BadLine(4, LineError::BadNumber(9))))),
+    (
+        87,
+        (0, Some(JournalError::BadLine(4, LineError::BadNumber(9)))),
+    ),
     (89, (1, Some(JournalError::NoEnd))),
     (90, (1, Some(JournalError::BadLine(5, LineError::BadWord)))),
-    (95, (1, Some(JournalError::BadLine(5, LineError::BadNumber(6))))),
-    (96, (1, Some(JournalError::BadLine(5, LineError::BadNumber(7))))),
+    (
+        95,
+        (1, Some(JournalError::BadLine(5, LineError::BadNumber(6)))),
+    ),
+    (
+        96,
+        (1, Some(JournalError::BadLine(5, LineError::BadNumber(7)))),
+    ),
     (97, (2, Some(JournalError::NoEnd))),
     (99, (2, Some(JournalError::BadLine(6, LineError::BadTime)))),
     (101, (2, None)),
@@ -177,7 +314,11 @@ fn cut_after_each_byte(rt: HostRuntime) -> Result<(), Fail> {
     for len in 0..CUT.len() + 1 {
         for piece in [1, 2, 7, 65536] {
             let mut input = source(rt.alloc(), &CUT[..len], piece, NEVER)?;
-            assert_eq!(rt; read_all(rt.alloc(), &mut input)?, cut_says(len), "{len} bytes in pieces of {piece}");
+            assert_eq!(rt;
+                read_all(rt.alloc(), &mut input)?,
+                cut_says(len),
+                "{len} bytes in pieces of {piece}"
+            );
         }
     }
     Ok(())
@@ -191,7 +332,13 @@ fn events_within(len: usize) -> u64 {
             lines += 1;
         }
     }
-    if lines <= 3 { 0 } else if lines == 4 { 1 } else { 2 }
+    if lines <= 3 {
+        0
+    } else if lines == 4 {
+        1
+    } else {
+        2
+    }
 }
 
 /// The 102 bytes take 15 reads of 7, and one that finds the end.
@@ -199,7 +346,11 @@ fn events_within(len: usize) -> u64 {
 fn reads_that_fail(rt: HostRuntime) -> Result<(), Fail> {
     for fail in 0..20 {
         let mut input = source(rt.alloc(), CUT, 7, fail)?;
-        let refused = if fail < 16 { Some(JournalError::ReadFault) } else { None };
+        let refused = if fail < 16 {
+            Some(JournalError::ReadFault)
+        } else {
+            None
+        };
         let want = (events_within(7 * fail as usize), refused);
         assert_eq!(rt; read_all(rt.alloc(), &mut input)?, want, "read {fail}");
     }
