@@ -2,6 +2,7 @@ use crate::{JournalError, JournalReader, SetupError, Status};
 use kn_config::{ConfigError, Key};
 use kn_event::{LineError, Memory};
 use kn_io::MemSource;
+use kn_num::NumError;
 use kn_revision::SpecError;
 use std::alloc::{AllocError, Global};
 use std::test::Fail;
@@ -64,10 +65,8 @@ fn exit_statuses(rt: HostRuntime) {
     }
 }
 
-const KPA: &[u8] = b"kact journal 1\nkpa depth=1 max=1 seed=0\nconfig\n";
-
 /// Openings, and what follows them.
-const OPENINGS: [(&[u8], Said); 14] = [
+const OPENINGS: [(&[u8], Said); 20] = [
     (b"", (0, Some(JournalError::NoEnd))),
     (b"kact journal 3\n", (0, Some(JournalError::BadFirstLine))),
     (
@@ -123,6 +122,54 @@ const OPENINGS: [(&[u8], Said); 14] = [
     (
         b"kact journal 1\nfixed limit=1 depth=1 max=1 pods=1 timeout=300 seed=0\nstart 0 \n",
         (0, Some(JournalError::BadLine(3, LineError::Extra(7)))),
+    ),
+    (
+        b"kact journal 1\nkpa depth=10000 max=1000 seed=0\nconfig\n[\n.\n",
+        (
+            0,
+            Some(JournalError::BadSetup(5, SetupError::Config(ConfigError::NotJson))),
+        ),
+    ),
+    (
+        b"kact journal 1\nkpa depth=10000 max=1000 seed=0\nconfig\n{\"data\":[]}\n.\n",
+        (
+            0,
+            Some(JournalError::BadSetup(5, SetupError::Config(ConfigError::DataShape))),
+        ),
+    ),
+    (
+        b"kact journal 1\nkpa depth=10000 max=1000 seed=0\nconfig\n{\"data\": {\"enable-scale-to-zero\": \"yes\"}}\n.\n",
+        (
+            0,
+            Some(JournalError::BadSetup(
+                5,
+                SetupError::Config(ConfigError::BadValue(
+                    Key::EnableScaleToZero,
+                    NumError::BadByte(0),
+                )),
+            )),
+        ),
+    ),
+    (
+        b"kact journal 1\nkpa depth=10000 max=1000 seed=0\nconfig\n{\"data\": {}}\n.\nrevision\n{\"metadata\": {\"namespace\": \"default\", \"name\": \"hello-00001\", \"annotations\": {}}, \"spec\": {\"containerConcurrency\": 1001}}\n.\n",
+        (
+            0,
+            Some(JournalError::BadSetup(
+                8,
+                SetupError::Revision(SpecError::OutOfRange(Key::ContainerConcurrency)),
+            )),
+        ),
+    ),
+    (
+        b"kact journal 1\nkpa depth=10000 max=1000 seed=0\nconfig\n{\"data\": {}}\n.\nrevision\n{\"metadata\": {\"namespace\": \"default\", \"name\": \"hello-00001\", \"annotations\": {\"autoscaling.knative.dev/initial-scale\": \"0\"}}, \"spec\": {\"containerConcurrency\": 1}}\n.\n",
+        (
+            0,
+            Some(JournalError::BadSetup(8, SetupError::Revision(SpecError::ZeroInitial))),
+        ),
+    ),
+    (
+        b"kact journal 1\nkpa depth=10000 max=1000 seed=0\nconfig\n{\"data\": {}}\n.\nrevision\n{\"metadata\": {\"namespace\": \"default\", \"name\": \"hello-00001\", \"annotations\": {}}, \"spec\": {\"containerConcurrency\": 1}}\n.\nstart 0\nend\n",
+        (0, None),
     ),
 ];
 
@@ -192,6 +239,81 @@ fn faults(rt: HostRuntime) -> Result<(), Fail> {
         text.extend_from_slice(bytes)?;
         let mut input = source(rt.alloc(), &text, 65536, NEVER)?;
         assert_eq!(rt; read_all(rt.alloc(), &mut input)?, want);
+    }
+    Ok(())
+}
+
+/// A line is counted without the CRs at its end.
+#[test]
+fn longest_lines(rt: HostRuntime) -> Result<(), Fail> {
+    for (len, refused) in [
+        (65536, JournalError::BadLine(4, LineError::BadTime)),
+        (65537, JournalError::LineTooLong(4)),
+    ] {
+        let mut text = Vec::from_slice(rt.alloc(), OPENING)?;
+        for _ in 0..len {
+            text.push(b'x')?;
+        }
+        text.extend_from_slice(b"\r\r\nend\n")?;
+        let mut input = source(rt.alloc(), &text, 65536, NEVER)?;
+        assert_eq!(rt;
+            read_all(rt.alloc(), &mut input)?,
+            (0, Some(refused)),
+            "{len}"
+        );
+    }
+    Ok(())
+}
+
+/// A configuration of 16,384 lines, 1,048,576 bytes with their LFs, and what follows it.
+#[test]
+fn longest_blocks(rt: HostRuntime) -> Result<(), Fail> {
+    for (end, why) in [
+        (b".\n".as_slice(), SetupError::Config(ConfigError::NotJson)),
+        (b"\n.\n".as_slice(), SetupError::BlockTooLong),
+    ] {
+        let mut text = Vec::from_slice(
+            rt.alloc(),
+            b"kact journal 1\nkpa depth=1 max=1 seed=0\nconfig\n",
+        )?;
+        for _ in 0..16384 {
+            text.extend_from_slice(
+                b"123456789012345678901234567890123456789012345678901234567890123\n",
+            )?;
+        }
+        text.extend_from_slice(end)?;
+        let mut input = source(rt.alloc(), &text, 65536, NEVER)?;
+        assert_eq!(rt;
+            read_all(rt.alloc(), &mut input)?,
+            (0, Some(JournalError::BadSetup(16388, why)))
+        );
+    }
+    Ok(())
+}
+
+/// A setup alone keeps its lines without the CRs at their ends.
+#[test]
+fn setup_alone(rt: HostRuntime) -> Result<(), Fail> {
+    for (after, want) in [
+        (b"".as_slice(), Ok(())),
+        (b"\n".as_slice(), Err(JournalError::AfterEnd(9))),
+    ] {
+        let mut text = Vec::from_slice(
+            rt.alloc(),
+            b"kact journal 2\nkpa depth=2 max=3 seed=4\r\nconfig\n{\r}\r\n.\nrevision\n{\"metadata\": {\"namespace\": \"a\", \"name\": \"b\"}}\r\n.\r\n",
+        )?;
+        text.extend_from_slice(after)?;
+        let mut input = source(rt.alloc(), &text, 65536, NEVER)?;
+        let mut reader = JournalReader::new(rt.alloc())?;
+        assert!(rt; !reader.holds_line());
+        let setup = reader.setup(rt.alloc(), &mut input)?;
+        assert_eq!(rt;
+            setup.text.bytes(),
+            b"kpa depth=2 max=3 seed=4\nconfig\n{\r}\n.\nrevision\n{\"metadata\": {\"namespace\": \"a\", \"name\": \"b\"}}\n.\n".as_slice()
+        );
+        assert_eq!(rt; (reader.version(), setup.spec.slots.max), (2, 3));
+        assert_eq!(rt; reader.holds_line(), want.is_err());
+        assert_eq!(rt; reader.finish_setup(&mut input), want);
     }
     Ok(())
 }
