@@ -1,3 +1,5 @@
+ghost use Rattle.std.specs.Prelude.{◌<◌};
+
 use crate::{JournalError, JournalReader, SetupError, Status};
 use kn_config::{ConfigError, Key};
 use kn_event::{LineError, Memory};
