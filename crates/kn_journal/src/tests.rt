@@ -2,7 +2,7 @@ ghost use Rattle.std.specs.Prelude.{◌<◌};
 
 use crate::{JournalError, JournalReader, SetupError, Status};
 use kn_config::{ConfigError, Key};
-use kn_event::{LineError, Memory};
+use kn_event::{Act, Event, Line, LineError, Memory, event_line};
 use kn_io::MemSource;
 use kn_num::NumError;
 use kn_revision::SpecError;
@@ -448,17 +448,11 @@ fn cut_after_each_byte(rt: HostRuntime) -> Result<(), Fail> {
     Ok(())
 }
 
-/// How many events are in the lines that were ended within these bytes of that journal: two of them, behind three lines.
+/// How many events are in the lines that were ended within so many bytes of that journal: the two end after 89 and 98 bytes.
 fn events_within(len: usize) -> u64 {
-    let mut lines = 0;
-    for b in &CUT[..len.min(CUT.len())] {
-        if *b == b'\n' {
-            lines += 1;
-        }
-    }
-    if lines <= 3 {
+    if len < 89 {
         0
-    } else if lines == 4 {
+    } else if len < 98 {
         1
     } else {
         2
@@ -478,5 +472,47 @@ fn reads_that_fail(rt: HostRuntime) -> Result<(), Fail> {
         let want = (events_within(7 * fail as usize), refused);
         assert_eq!(rt; read_all(rt.alloc(), &mut input)?, want, "read {fail}");
     }
+    Ok(())
+}
+
+/// An event of a journal with one each millisecond.
+fn event_at(i: u64) -> Event {
+    let act = match i % 4 {
+        0 => Act::Arrive(i),
+        1 => Act::Limit(i, i % 1000),
+        2 => Act::Finish(i, true),
+        _ => Act::Lost(i),
+    };
+    Event { time: i, act }
+}
+
+const MANY: u64 = 10_000;
+
+/// A journal of these events, in order.
+fn many_events(alloc: Global) -> Result<Vec<u8>, AllocError> {
+    let mut text = Vec::from_slice(
+        alloc,
+        b"kact journal 2\nfixed limit=1 depth=1 max=1 pods=1 timeout=300 seed=0\nstart 0\n",
+    )?;
+    let mut line = Line::new();
+    for i in 0..MANY {
+        event_line(&event_at(i), &mut line);
+        text.extend_from_slice(line.bytes())?;
+    }
+    text.extend_from_slice(b"end\n")?;
+    Ok(text)
+}
+
+#[test]
+fn events_both_ways(rt: HostRuntime) -> Result<(), Fail> {
+    let text = many_events(rt.alloc())?;
+    let mut input = source(rt.alloc(), &text, 100, NEVER)?;
+    let mut reader = JournalReader::new(rt.alloc())?;
+    let _ = reader.setup(rt.alloc(), &mut input)?;
+    assert_eq!(rt; reader.start(&mut input), Ok(0));
+    for i in 0..MANY {
+        assert_eq!(rt; reader.next(&mut input), Ok(Some(event_at(i))));
+    }
+    assert_eq!(rt; reader.next(&mut input), Ok(None));
     Ok(())
 }
