@@ -1,5 +1,5 @@
 -- A setup, part by part.
-use Rattle.std.proofs.Common.{◌≡◌, ◌+◌, ℕ, true, List, [], ◌∷◌, ◌++◌, refl, sym, ap, ◌∙◌, subst}
+use Rattle.std.proofs.Common.{◌≡◌, ◌+◌, ℕ, true, List, [], ◌∷◌, ◌++◌, refl, sym, ap, subst}
 use Rattle.std.specs.Prelude.{Option, None, Some, Result, Ok, Err, codes}
 use Rattle.kn_event.specs.declared.revision.Slots.{Slots}
 use Rattle.kn_event.specs.declared.revision.Spec.{Spec}
@@ -14,19 +14,18 @@ use Rattle.kn_journal.specs.declared.error.JournalError.{JournalError}
 use Rattle.kn_journal.specs.declared.error.JournalError.TheVariants as error
 use Rattle.kn_journal.specs.declared.error.SetupError.TheVariants as setup_error
 use Rattle.kn_journal.specs.declared.journal.Setup.{Setup}
-use Rattle.kn_journal.specs.Causes.{Cause, bad_setup, error_of}
+use Rattle.kn_journal.specs.Causes.{Cause, bad_setup}
 use Rattle.kn_journal.specs.declared.error.SetupError.{SetupError}
 use Rattle.kn_journal.specs.declared.journal.Opening.{Opening}
 use Rattle.kn_journal.specs.declared.setting.SetupLine.{SetupLine}
-use Rattle.kn_journal.specs.declared.setting.SetupLine.TheVariants.{Fixed, Kpa}
 use Rattle.kn_journal.specs.Journal.{first_in, first_part, opening_in, opening_part, version_in}
-use Rattle.kn_journal.specs.Lines.{fits, lines}
+use Rattle.kn_journal.specs.Lines.{fits}
 use Rattle.kn_journal.specs.Reading.{TakesLine, TakesPart}
-use Rattle.kn_journal.specs.Parts.{Part, part, then_part, with_line}
+use Rattle.kn_journal.specs.Parts.{Part, part, then_part}
 use Rattle.kn_journal.specs.Setup.{behind_line, block_part, blocks_part, blocks_text, config_in, revision_part, setup_in, setup_of, setup_part, spec_in, word_part}
 use Rattle.kn_journal.specs.SetupLine.{setup_line}
-use Rattle.kn_journal.specs.Telling.{Gives, Lacks, Refused, Refuses, StopsAmid, Tells, config_error, revision_error}
-use Rattle.kn_journal.proofs.Tellings.{lacks_refuses, line-refuses, line-then, refused-on, then-gives, then-refuses}
+use Rattle.kn_journal.specs.Telling.{Gives, Lacks, Refuses, StopsAmid, Tells, config_error, revision_error}
+use Rattle.kn_journal.proofs.Tellings.{lacks_refuses, line-refuses, line-then, then-gives, then-refuses}
 use Rattle.kn_journal.proofs.Consumed.{IsOneLine, block-takes, line-takes, ok_part-same, part-left, with_line-ok, word-takes}
 use Rattle.kn_journal.proofs.Stops.{HasOwn, first-stops, line-stops, part-stops, second-stops}
 

@@ -1,5 +1,4 @@
 -- The setup's first line and what follows it, or where it ended.
-use Rattle.std.specs.Prelude.{Ok, Err}
 use Rattle.kn_journal.specs.Reading.{unread}
 use Rattle.kn_journal.proofs.Setups.{setup-bad, setup-lacks, setup-none, setup-stops, setup-tells}
 use Rattle.kn_journal.proofs.setup.read_setup.Goals as goal
