@@ -36,5 +36,5 @@ change_in _ at through = None
 
 -- a request that ends with the row stands there after the trace, and that says whether it was assigned
 pub record IsToldOf (c : Trace) (x : Row) (at : Stand) (through : Bool) : Type 0 where
-  pub stand : (r : ℕ) → ended_by x ≡ Some r → at ≡ stand_of c r
-  pub through : (r : ℕ) → ended_by x ≡ Some r → through ≡ proxied c r
+  pub stands : (r : ℕ) → ended_by x ≡ Some r → at ≡ stand_of c r
+  pub handed : (r : ℕ) → ended_by x ≡ Some r → through ≡ proxied c r
