@@ -105,7 +105,7 @@ bit_if test (Some x) = bit (test x)
 count-option : (test : Change → Bool) (t : ℕ) (o : Option Change) → count_of test (option_to_list (option_map (timed t) o)) ≡ bit_if test o
 unfolding count_of
 count-option test t None = refl
-count-option test t (Some x) = refl
+count-option test t (Some x) = omega arith
 
 count-more : (test : Change → Bool) (t : ℕ) (o : Option Change) (cs : List TimedChange) → count_of test (cs ++ option_to_list (option_map (timed t) o)) ≡ count_of test cs + bit_if test o
 unfolding count_of

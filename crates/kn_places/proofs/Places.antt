@@ -23,7 +23,7 @@ use Rattle.kn_stats.specs.declared.change.Change.{Change}
 use Rattle.kn_stats.specs.declared.change.Change.TheVariants as change
 use Rattle.kn_changes.specs.Changes.{change_by, end_after, end_at}
 use Rattle.kn_places.specs.Ends.{IsToldOf, change_in, end_of, end_of_place}
-use Rattle.kn_places.proofs.Tallies.{IsThere, placed_there}
+use Rattle.kn_places.proofs.Tallies.{IsThere, placed_there, there_number}
 
 -- ---- of a place
 
@@ -109,3 +109,19 @@ module _ (facts : Facts) where
     ends_there s a c (row.Cancel q) r h proper is = found a waits q r (subst (λ xs. contains q xs ≡ true) (views s a c h).waiting proper) (cc)
     ends_there s a c (row.LostRequest q) r h proper is = found a (is_at proper.0) q r (sym ((views s a c h).is_at_pod proper.0 q) ∙ proper.1) (cc)
     ends_there s a c _ r h proper is = absurd (cc)
+
+    -- so a row changes what is said of it
+    pub change_is : (s : Spec) (c : Trace) (x : Row) (at : Stand) (through : Bool) → StandsFor (admission c) c → IsMade s c → IsProper s c x → IsToldOf c x at through → change_in x at through ≡ change_by c x
+    change_is s c x at through h made proper told = by x proper told
+      where
+        ended : (y : Row) (r : ℕ) → IsProper s c y → IsToldOf c y at through → ended_by y ≡ Some r → Some (end_of at through) ≡ Some (end_after c r)
+        ended y r proper told is =
+            let there = ends_there s (admission c) c y r h proper is in
+            let is_live : contains r (live c) ≡ true = subst (λ xs. contains r xs ≡ true) (sym (views s (admission c) c h).live) (there_number r there.0 (admission c).live there.1) in
+            ap Some (ap (λ z. end_of z through) (told.stands r is) ∙ ap (end_of (stand_of c r)) (told.handed r is) ∙ sym (ends_by_stand s c r made is_live))
+        by : (y : Row) → IsProper s c y → IsToldOf c y at through → change_in y at through ≡ change_by c y
+        by (row.Finish r ok) proper told = ended (row.Finish r ok) r proper told refl
+        by (row.Expire r) proper told = ended (row.Expire r) r proper told refl
+        by (row.Cancel r) proper told = ended (row.Cancel r) r proper told refl
+        by (row.LostRequest r) proper told = ended (row.LostRequest r) r proper told refl
+        by _ proper told = refl

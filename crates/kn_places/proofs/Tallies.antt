@@ -39,7 +39,7 @@ tally-last test q (x ∷ qs) =
 
 -- ---- who is there
 
-there_number : (r : ℕ) (x : Place) (qs : List Request) → IsThere r x qs → contains r (numbers_in qs) ≡ true
+pub there_number : (r : ℕ) (x : Place) (qs : List Request) → IsThere r x qs → contains r (numbers_in qs) ≡ true
 there_number r x [] h = absurd h
 there_number r x (q ∷ qs) (inl is) = rw (eq-eqb q.number r is.0) refl
 there_number r x (q ∷ qs) (inr more) = or_right (q.number == r) _ (there_number r x qs more)
@@ -48,7 +48,7 @@ there_number r x (q ∷ qs) (inr more) = or_right (q.number == r) _ (there_numbe
     or_right true b h = refl
     or_right false b h = h
 
-no_both : (b : Bool) → b ≡ false → b ≡ true → ⊥
+pub no_both : (b : Bool) → b ≡ false → b ≡ true → ⊥
 no_both true f t = cc
 no_both false f t = cc
 
@@ -60,11 +60,11 @@ other_first r x q qs none there = by (r == q.number) refl
     by false h = refl
     by true h = absurd (no_both (contains r (numbers_in qs)) (subst (λ n. contains n (numbers_in qs) ≡ false) (sym (eqb-true r q.number h)) none) (there_number r x qs there))
 
-same : (p : ℕ) → (p == p) ≡ true
+pub same : (p : ℕ) → (p == p) ≡ true
 same p = eq-eqb p p refl
 
 -- the other way round
-flip : (m n : ℕ) (b : Bool) → (m == n) ≡ b → (n == m) ≡ b
+pub flip : (m n : ℕ) (b : Bool) → (m == n) ≡ b → (n == m) ≡ b
 flip m n true h = eq-eqb n m (sym (eqb-true m n h))
 flip m n false h = by (n == m) refl
   where
@@ -72,7 +72,7 @@ flip m n false h = by (n == m) refl
     by false k = refl
     by true k = absurd (no_both (m == n) h (eq-eqb m n (sym (eqb-true n m k))))
 
-or_parts : (a b : Bool) → (a || b) ≡ false → (a ≡ false) × (b ≡ false)
+pub or_parts : (a b : Bool) → (a || b) ≡ false → (a ≡ false) × (b ≡ false)
 or_parts true b h = absurd (cc)
 or_parts false b h = (refl, h)
 

@@ -25,7 +25,7 @@ use kn_record::facts::fact_laws;
 /// is what is said of the row with these.
 pub fn place_laws()
     ensures place { (c : Trace) (r : ℕ) → end_after c r ≡ end_of_place (place_of c r) }
-    ensures record_ { (a : Admission) (c : Trace) → StandsFor a c → All (λ (q : Request). end_after c q.number ≡ end_of_place q.place) a.live }
+    ensures record_place { (a : Admission) (c : Trace) → StandsFor a c → All (λ (q : Request). end_after c q.number ≡ end_of_place q.place) a.live }
     ensures stand { (s : Spec) (c : Trace) (r : ℕ) → IsMade s c → contains r (live c) ≡ true → end_after c r ≡ end_of (stand_of c r) (proxied c r) }
     ensures change { (s : Spec) (c : Trace) (x : Row) (at : Stand) (through : Bool) → IsMade s c → IsProper s c x → IsToldOf c x at through → change_in x at through ≡ change_by c x }
 {
