@@ -23,8 +23,8 @@ use Rattle.kn_stats.specs.Changes.{TimedChange, at, count_of, ends_admitted, end
 use Rattle.kn_changes.specs.Changes.{change_by, change_of, changes_of, end_after}
 use Rattle.kn_places.specs.Counts.{AreCounted, Leave, is_past, is_past_at, is_through_at}
 use Rattle.kn_places.specs.Ends.{end_of_place}
-use Rattle.kn_places.proofs.Tallies.{IsThere, bit, placed_there, tally, tally-begins, tally-last, tally-moved, tally-out}
-use Rattle.kn_places.proofs.Places.{ends_there, record_ends, there_ends}
+use Rattle.kn_places.proofs.Tallies.{bit, tally, tally-begins, tally-last, tally-moved, tally-out}
+use Rattle.kn_places.proofs.Places.{are_distinct, assigned_there, ends_at}
 
 -- ---- tests of changes and of places that go together
 
@@ -118,11 +118,6 @@ count-none : (test : Change → Bool) → count_of test (changes_of []) ≡ 0
 unfolding count_of changes_of
 count-none test = refl
 
-held_is : (x : Place) → is_held_place x ≡ true → x ≡ place.Held
-held_is place.Held h = refl
-held_is (place.Queued p) h = absurd (cc)
-held_is (place.Running p x) h = absurd (cc)
-
 module _
     (facts : Facts)
     (views : (s : Spec) (a : Admission) (c : Trace) → StandsFor a c → AreViews s a c)
@@ -131,28 +126,12 @@ module _
     (made_more : (s : Spec) (c : Trace) (t : ℕ) (x : Row) → IsMade s c → IsProper s c x → IsMade s (c ++ entry t x ∷ []))
     (more : (c : Trace) (e : Entry) → changes_of (c ++ e ∷ []) ≡ changes_of c ++ option_to_list (change_of c e))
   where
-    open facts use {lists.{first_member}, members.{live_distinct}}
-
-    pub are_distinct : (s : Spec) (a : Admission) (c : Trace) → StandsFor a c → AreDistinct (numbers_in a.live)
-    are_distinct s a c h = subst AreDistinct (views s a c h).live (live_distinct c h.requests)
-
-    pub assigned_there : (s : Spec) (a : Admission) (c : Trace) (r p : ℕ) → StandsFor a c → IsProper s c (row.Assign r p) → IsThere r place.Held a.live
-    assigned_there s a c r p h proper =
-        let member = first_member r (held c) proper.first in
-        let there = placed_there is_held_place r a.live (subst (λ xs. contains r xs ≡ true) (views s a c h).held member) in
-        subst (λ y. IsThere r y a.live) (held_is there.0 there.1) there.2
-
-    pub ends_at : (s : Spec) (a : Admission) (c : Trace) (x : Row) (r : ℕ) → StandsFor a c → IsProper s c x → ended_by x ≡ Some r → (y : Place) × IsThere r y a.live × (end_after c r ≡ end_of_place y)
-    ends_at s a c x r h proper is =
-        let there = ends_there facts views s a c x r h proper is in
-        (there.0, there.1, there_ends r there.0 c a.live (record_ends a c h) there.1)
-
     module _ (begins ends : Change → Bool) (test : Place → Bool) (go : GoWith begins ends test) where
       ended-counts : (s : Spec) (a : Admission) (c : Trace) (x : Row) (r : ℕ) → StandsFor a c → IsProper s c x → ended_by x ≡ Some r
           → bit (begins (end_after c r)) + tally test a.live ≡ bit (ends (end_after c r)) + tally test (without r a.live)
       ended-counts s a c x r h proper is =
-          let at = ends_at s a c x r h proper is in
-          let less = tally-out test r at.0 a.live (are_distinct s a c h) at.1 in
+          let at = ends_at facts views s a c x r h proper is in
+          let less = tally-out test r at.0 a.live (are_distinct facts views s a c h) at.1 in
           let over = go.ended at.0 in
           rw at.2 (omega (arith, less, over))
 
@@ -167,8 +146,8 @@ module _
           let is = go.directed p in
           omega (arith, last, is)
       row-counts s a c t (row.Assign r p) h proper =
-          let there = assigned_there s a c r p h proper in
-          let moves = tally-moved test r place.Held (place.Running p true) a.live (are_distinct s a c h) there in
+          let there = assigned_there facts views s a c r p h proper in
+          let moves = tally-moved test r place.Held (place.Running p true) a.live (are_distinct facts views s a c h) there in
           let is = go.assigned p in
           omega (arith, moves, is)
       row-counts s a c t (row.Run r) h proper = let stay = tally-begins test go.run r a.live in omega (arith, stay)

@@ -11,14 +11,14 @@ use Rattle.kn_event.specs.declared.event.Stand.{Stand}
 use Rattle.kn_event.specs.declared.event.Stand.TheVariants as stand
 use Rattle.kn_event.specs.declared.revision.Spec.{Spec}
 use Rattle.kn_trace.specs.Rows.{ended_by, taken_by}
-use Rattle.kn_trace.specs.Trace.{Trace, arrivals, assigned, at_pod, contains, ended, has_begun, has_run, is_running, live, pod_of, proxied, stand_at, stand_of, stand_of_arrived, stand_where, waiting}
+use Rattle.kn_trace.specs.Trace.{Trace, arrivals, assigned, at_pod, contains, ended, has_begun, has_run, held, is_running, live, pod_of, proxied, stand_at, stand_of, stand_of_arrived, stand_where, waiting}
 use Rattle.kn_record.specs.declared.admission.Place.{Place}
 use Rattle.kn_record.specs.declared.admission.Place.TheVariants as place
 use Rattle.kn_record.specs.declared.admission.Request.{Request}
-use Rattle.kn_record.specs.Admission.{Admission, admission, is_at, live_requests, place_at, place_of, placed_in, request_of, runs_somewhere, waits}
+use Rattle.kn_record.specs.Admission.{Admission, admission, is_at, is_held_place, live_requests, place_at, place_of, placed_in, request_of, runs_somewhere, waits}
 use Rattle.kn_record.specs.Facts.{Facts}
-use Rattle.kn_record.specs.Made.{IsMade, IsProper, StandsFor}
-use Rattle.kn_record.specs.Views.{AreViews}
+use Rattle.kn_record.specs.Made.{AreDistinct, IsMade, IsProper, StandsFor}
+use Rattle.kn_record.specs.Views.{AreViews, numbers_in}
 use Rattle.kn_stats.specs.declared.change.Change.{Change}
 use Rattle.kn_stats.specs.declared.change.Change.TheVariants as change
 use Rattle.kn_changes.specs.Changes.{change_by, end_after, end_at}
@@ -87,8 +87,13 @@ not_over : (a b : Bool) → b ≡ false → (a && not b) ≡ a
 not_over true b h = rw h refl
 not_over false b h = refl
 
+held_is : (x : Place) → is_held_place x ≡ true → x ≡ place.Held
+held_is place.Held h = refl
+held_is (place.Queued p) h = absurd (cc)
+held_is (place.Running p x) h = absurd (cc)
+
 module _ (facts : Facts) where
-  open facts use {lists.{first_member}, members.{live_member, taken_comes}}
+  open facts use {lists.{first_member}, members.{live_distinct, live_member, taken_comes}}
 
   pub ends_by_stand : (s : Spec) (c : Trace) (r : ℕ) → IsMade s c → contains r (live c) ≡ true → end_after c r ≡ end_of (stand_of c r) (proxied c r)
   unfolding stand_of proxied
@@ -109,6 +114,20 @@ module _ (facts : Facts) where
     ends_there s a c (row.Cancel q) r h proper is = found a waits q r (subst (λ xs. contains q xs ≡ true) (views s a c h).waiting proper) (cc)
     ends_there s a c (row.LostRequest q) r h proper is = found a (is_at proper.0) q r (sym ((views s a c h).is_at_pod proper.0 q) ∙ proper.1) (cc)
     ends_there s a c _ r h proper is = absurd (cc)
+
+    pub are_distinct : (s : Spec) (a : Admission) (c : Trace) → StandsFor a c → AreDistinct (numbers_in a.live)
+    are_distinct s a c h = subst AreDistinct (views s a c h).live (live_distinct c h.requests)
+
+    pub assigned_there : (s : Spec) (a : Admission) (c : Trace) (r p : ℕ) → StandsFor a c → IsProper s c (row.Assign r p) → IsThere r place.Held a.live
+    assigned_there s a c r p h proper =
+        let member = first_member r (held c) proper.first in
+        let there = placed_there is_held_place r a.live (subst (λ xs. contains r xs ≡ true) (views s a c h).held member) in
+        subst (λ y. IsThere r y a.live) (held_is there.0 there.1) there.2
+
+    pub ends_at : (s : Spec) (a : Admission) (c : Trace) (x : Row) (r : ℕ) → StandsFor a c → IsProper s c x → ended_by x ≡ Some r → (y : Place) × IsThere r y a.live × (end_after c r ≡ end_of_place y)
+    ends_at s a c x r h proper is =
+        let there = ends_there s a c x r h proper is in
+        (there.0, there.1, there_ends r there.0 c a.live (record_ends a c h) there.1)
 
     -- so a row changes what is said of it
     pub change_is : (s : Spec) (c : Trace) (x : Row) (at : Stand) (through : Bool) → StandsFor (admission c) c → IsMade s c → IsProper s c x → IsToldOf c x at through → change_in x at through ≡ change_by c x
