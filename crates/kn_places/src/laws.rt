@@ -45,7 +45,7 @@ pub fn count_laws()
 
 /// A Stats whose pods live may take the change of any row that is proper where it comes, while there is room for the live
 /// pods; nobody is at a pod that goes. Its pods live afterwards too.
-pub fn row_laws()
+pub fn measure_laws()
     ensures change { (s : Spec) (c : Trace) (x : Row) (stats : StatsState) → IsMade s c → IsProper s c x → length (live_pods c) ≤ 20500 → IsMeasureOf stats c → IfSome (change_by c x) (CanChange stats) }
     ensures idle { (s : Spec) (c : Trace) (x : Row) (p : ℕ) (stats : StatsState) → IsMade s c → IsProper s c x → gone_by x ≡ Some p → IsMeasureOf stats c → IsIdle p stats }
     ensures changed { (s : Spec) (c : Trace) (t : ℕ) (x : Row) (change : Change) (stats : StatsState) → IsMade s c → IsProper s c x → change_by c x ≡ Some change → AreKeptOf stats.pods c → AreKeptOf (changed change stats).pods (c ++ entry t x ∷ []) }

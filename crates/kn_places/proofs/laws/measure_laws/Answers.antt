@@ -1,7 +1,7 @@
 use Rattle.kn_trace.specs.Trace.{entry}
 use Rattle.kn_places.proofs.Pods.{kept_stays, kept_without}
 use Rattle.kn_places.proofs.Allowed.{can_change, is_idle, kept_changed}
-use Rattle.kn_places.proofs.laws.row_laws.Goals as goal
+use Rattle.kn_places.proofs.laws.measure_laws.Goals as goal
 
 pub returns : goal.returns
 returns c = record {
