@@ -7,3 +7,4 @@ pub mod Openings
 pub mod Rulings
 pub mod Others
 pub mod Ready
+pub mod Nexts

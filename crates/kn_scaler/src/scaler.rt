@@ -23,6 +23,7 @@ use crate::facts::trace_facts;
 use crate::laws::row_laws;
 use kn_decider::Decider;
 use kn_event::{Decision, Memory, Mode, Phase, Row, Spec, Stand};
+use kn_places::laws::{measure_laws, place_laws};
 use kn_places::{change_of, gone_of};
 use kn_stats::{Change, Stats};
 use std::alloc::Global;
@@ -122,7 +123,8 @@ impl Scaler {
         ensures decider { self.new.decider ≡ self.old.decider }
     {
         row_laws();
-        trace_facts();
+        place_laws();
+        measure_laws();
         match gone_of(added) {
             Some(p) => self.pod_leaves(p),
             None => self.requests_change(change_of(added, at, through)),
