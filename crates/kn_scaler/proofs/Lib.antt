@@ -8,3 +8,4 @@ pub mod Rulings
 pub mod Others
 pub mod Ready
 pub mod Nexts
+pub mod Settlings

@@ -1,20 +1,24 @@
 -- Which traces a Scaler stands for.
-use Rattle.std.specs.Prelude.{◌≡◌, ℕ, ◌≤◌, Bool, List, length, Option, None, Some}
+use Rattle.std.specs.Prelude.{◌≡◌, ℕ, ◌≤◌, Bool, false, List, [], ◌∷◌, length, Option, None, Some}
+use Rattle.kn_event.specs.declared.entry.Entry.{Entry}
 use Rattle.kn_event.specs.declared.entry.Row.{Row}
 use Rattle.kn_event.specs.declared.event.Stand.{Stand}
+use Rattle.kn_event.specs.declared.event.Stand.TheVariants as stand
 use Rattle.kn_event.specs.declared.revision.Spec.{Spec}
 use Rattle.kn_scaling.specs.Average.{second_of}
 use Rattle.kn_trace.specs.Rows.{gone_by}
 use Rattle.kn_trace.specs.Scale.{past_of, phase_of}
 use Rattle.kn_trace.specs.Trace.{Trace, each_row, live_pods}
-use Rattle.kn_record.specs.Made.{IsMade, IsProper}
+use Rattle.kn_record.specs.Made.{Holds, IsMade, IsProper}
 use Rattle.kn_record.specs.Order.{AreTimesInOrder}
+use Rattle.kn_laws.specs.Kinds.{Each, EachAt}
 use Rattle.kn_stats.specs.declared.change.Change.{Change}
 use Rattle.kn_stats.specs.Stands.{StatsState, StandsFor as IsStatsOf, changed, without}
 use Rattle.kn_decider.specs.Decider.{DeciderState, StandsFor as IsDeciderOf}
 use Rattle.kn_changes.specs.Changes.{changes_of}
 use Rattle.kn_places.specs.Ends.{IsToldOf, change_in}
 use Rattle.kn_places.specs.Pods.{AreKeptOf}
+use Rattle.kn_scaler.specs.Rows.{settles}
 
 pub record ScalerState : Type 0 where
   pub stats : StatsState
@@ -52,6 +56,11 @@ after_row x at through stats = without_if (gone_by x) (changed_if (change_in x a
 abbrev pub StandsForSome : ScalerState → Type 0
 StandsForSome x = ∥ ((c : Trace) × IsMade x.decider.spec c × StandsFor x.decider.spec x c) ∥₁
 
+-- after rows with which no request ends
+abbrev pub after_rows : List Entry → StatsState → StatsState
+after_rows [] stats = stats
+after_rows (e ∷ es) stats = after_rows es (after_row e.row stand.Held false stats)
+
 -- a row that is proper after a trace that events made and that it stands for, and where a request stands that ends with it
 pub record IsNextRow (x : ScalerState) (y : Row) (at : Stand) (through : Bool) (s : Spec) (c : Trace) : Type 0 where
   pub stands : StandsFor s x c
@@ -62,6 +71,17 @@ pub record IsNextRow (x : ScalerState) (y : Row) (at : Stand) (through : Bool) (
 -- so it is after some trace, with no more live pods than there may be
 abbrev pub IsNextOfSome : ScalerState → Row → Stand → Bool → Type 0
 IsNextOfSome x y at through = ∥ ((s : Spec) × (c : Trace) × IsNextRow x y at through s c × (length (live_pods c) ≤ 20500)) ∥₁
+
+-- rows of a settling that are proper one after the other after such a trace, at the time of what is measured
+pub record AreNextRows (x : ScalerState) (es : List Entry) (s : Spec) (c : Trace) : Type 0 where
+  pub stands : StandsFor s x c
+  pub made : IsMade s c
+  pub proper : Holds (IsProper s) c es
+  pub at : EachAt x.stats.time es
+  pub kind : Each settles es
+
+abbrev pub AreNextOfSome : ScalerState → List Entry → Type 0
+AreNextOfSome x es = ∥ ((s : Spec) × (c : Trace) × AreNextRows x es s c × (length (live_pods c) ≤ 20500)) ∥₁
 
 -- nothing that was recorded lies after the second of the time
 pub record IsUpToNow (x : ScalerState) : Type 0 where

@@ -17,14 +17,16 @@ ghost use Rattle.kn_record.specs.Made.{IsMade};
 ghost use Rattle.kn_changes.specs.Changes.{change_by};
 ghost use Rattle.kn_places.specs.Pods.{AreKeptOf};
 ghost use Rattle.kn_scaler.specs.Rows.{IsBeside, ready_rows, ruled_by, ruled_from, ruling_rows, says_scale, tick_rulings};
-ghost use Rattle.kn_scaler.specs.Stands.{IsNextOfSome, IsNextRow, StandsFor, StandsForSome, after_row, changed_if};
+ghost use Rattle.kn_scaler.specs.Stands.{AreNextOfSome, AreNextRows, IsNextOfSome, IsNextRow, StandsFor, StandsForSome, after_row, after_rows, changed_if};
 
 use crate::facts::trace_facts;
 use crate::laws::row_laws;
 use kn_decider::Decider;
-use kn_event::{Decision, Memory, Mode, Phase, Row, Spec, Stand};
+use kn_event::{Decision, Entry, Memory, Mode, Phase, Row, Spec, Stand};
 use kn_places::laws::{measure_laws, place_laws};
 use kn_places::{change_of, gone_of};
+use kn_record::append::order_laws;
+use kn_record::facts::fact_laws;
 use kn_stats::{Change, Stats};
 use std::alloc::Global;
 use std::marker::Model;
@@ -128,6 +130,21 @@ impl Scaler {
         match gone_of(added) {
             Some(p) => self.pod_leaves(p),
             None => self.requests_change(change_of(added, at, through)),
+        }
+    }
+
+    /// The rows of a settling, all at this time.
+    pub fn rows(&mut self, added: &[Entry])
+        requires { AreNextOfSome self.old added.now }
+        ensures stands { (s : SpecValue) (c : Trace) → AreNextRows self.old added.now s c → StandsFor s self.new (c ++ added.now) }
+        ensures stats { self.new.stats ≡ after_rows added.now self.old.stats }
+        ensures time { self.new.stats.time ≡ self.old.stats.time }
+        ensures decider { self.new.decider ≡ self.old.decider }
+    {
+        fact_laws();
+        order_laws();
+        for e in added {
+            self.row(e.row, Stand::Held, false);
         }
     }
 
