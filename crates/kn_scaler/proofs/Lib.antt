@@ -9,3 +9,4 @@ pub mod Others
 pub mod Ready
 pub mod Nexts
 pub mod Settlings
+pub mod RowKinds

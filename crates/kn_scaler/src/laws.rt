@@ -4,10 +4,11 @@ ghost use Rattle.kn_event.specs.declared.entry.Row.{Row};
 ghost use Rattle.kn_event.specs.declared.revision.Spec.{Spec};
 ghost use Rattle.kn_scaling.specs.Decide.{Ruling};
 ghost use Rattle.kn_trace.specs.Scale.{decision_rows, scale_rows, where_true};
+ghost use Rattle.kn_trace.specs.Settling.{settling};
 ghost use Rattle.kn_trace.specs.Trace.{Trace, entry};
 ghost use Rattle.kn_record.specs.Made.{Holds, IsMade, IsProper};
 ghost use Rattle.kn_laws.specs.Kinds.{Each, EachAt};
-ghost use Rattle.kn_scaler.specs.Rows.{IsBeside, is_quiet, ruling_rows, says_scale};
+ghost use Rattle.kn_scaler.specs.Rows.{IsBeside, is_quiet, ruling_rows, says_scale, settles};
 ghost use Rattle.kn_scaler.specs.Stands.{ScalerState, StandsFor};
 
 use crate::facts::trace_facts;
@@ -31,3 +32,11 @@ pub fn quiet_laws()
     trace_facts();
     order_laws();
 }
+
+/// The rows of a settling are of its kinds, those of a scale are quiet, and each has its time.
+pub fn kind_laws()
+    ensures settling { (s : Spec) (t : ℕ) (c : Trace) → Each settles (settling s t c) }
+    ensures settling_at { (s : Spec) (t : ℕ) (c : Trace) → EachAt t (settling s t c) }
+    ensures scale { (s : Spec) (t : ℕ) (c : Trace) (want : ℕ) → Each is_quiet (scale_rows s t c want) }
+    ensures scale_at { (s : Spec) (t : ℕ) (c : Trace) (want : ℕ) → EachAt t (scale_rows s t c want) }
+{}
