@@ -30,7 +30,7 @@ use Rattle.kn_stats.specs.Stands.{CanChange, IsIdle, IsPodOf, StandsFor as IsSta
 use Rattle.kn_changes.specs.Changes.{change_by, changes_of, end_after}
 use Rattle.kn_places.specs.Counts.{AreCounted, is_past, is_past_at, is_through_at}
 use Rattle.kn_places.specs.Ends.{end_of_place}
-use Rattle.kn_places.specs.Pods.{AreKeptOf, IsMeasureOf}
+use Rattle.kn_places.specs.Pods.{AreKeptOf, HasRoomFor, IsMeasureOf}
 use Rattle.kn_places.proofs.Tallies.{IsThere, bit, same, tally, tally-both, tally-some, tally-wider}
 use Rattle.kn_places.proofs.Places.{assigned_there, ends_at}
 use Rattle.kn_places.proofs.Pods.{kept_put, kept_stays, not_gone, room_for}
@@ -202,19 +202,18 @@ module _
             let few = next.room in
             omega (arith, is, many, all, few)
 
-        module _ (few : length (live_pods c) ≤ 20500) where
-          can_come : (p : ℕ) → contains p (ready_pods c) ≡ true → length (put p (λ q. q) stats.pods) ≤ 20500
-          can_come p ready = let most = room_for facts c p stats.pods now.pods (ready_live s c p made ready) measure.pods in omega (arith, most, few)
+        can_come : (p : ℕ) → contains p (ready_pods c) ≡ true → length (live_pods c) ≤ 20500 → length (put p (λ q. q) stats.pods) ≤ 20500
+        can_come p ready few = let most = room_for facts c p stats.pods now.pods (ready_live s c p made ready) measure.pods in omega (arith, most, few)
 
-          pub can_change : (x : Row) → IsProper s c x → IfSome (change_by c x) (CanChange stats)
-          can_change (row.Admit r tag) proper = can_begin r proper.0
-          can_change (row.Direct r p) proper = (can_begin r proper.0, can_come p proper.1.ready)
-          can_change (row.Assign r p) proper = (waits_some r (assigned_there facts views s (admission c) c r p now proper), can_come p proper.ready)
-          can_change (row.Finish r ok) proper = can_ended (row.Finish r ok) r proper refl
-          can_change (row.Expire r) proper = can_ended (row.Expire r) r proper refl
-          can_change (row.Cancel r) proper = can_ended (row.Cancel r) r proper refl
-          can_change (row.LostRequest r) proper = can_ended (row.LostRequest r) r proper refl
-          can_change _ proper = tt
+        pub can_change : (x : Row) → IsProper s c x → HasRoomFor c x → IfSome (change_by c x) (CanChange stats)
+        can_change (row.Admit r tag) proper room = can_begin r proper.0
+        can_change (row.Direct r p) proper room = (can_begin r proper.0, can_come p proper.1.ready room)
+        can_change (row.Assign r p) proper room = (waits_some r (assigned_there facts views s (admission c) c r p now proper), can_come p proper.ready room)
+        can_change (row.Finish r ok) proper room = can_ended (row.Finish r ok) r proper refl
+        can_change (row.Expire r) proper room = can_ended (row.Expire r) r proper refl
+        can_change (row.Cancel r) proper room = can_ended (row.Cancel r) r proper refl
+        can_change (row.LostRequest r) proper room = can_ended (row.LostRequest r) r proper refl
+        can_change _ proper room = tt
 
         -- ---- a pod that goes
 

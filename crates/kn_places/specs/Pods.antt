@@ -1,5 +1,7 @@
 -- Which pods are kept of a trace by what is measured of it.
-use Rattle.std.specs.Prelude.{◌≡◌, ℕ, true, List, map}
+use Rattle.std.specs.Prelude.{◌≡◌, ℕ, ◌≤◌, true, List, length, map, ⊤}
+use Rattle.kn_event.specs.declared.entry.Row.{Row}
+use Rattle.kn_event.specs.declared.entry.Row.TheVariants as row
 use Rattle.kn_trace.specs.Rows.{gone_by}
 use Rattle.kn_trace.specs.Trace.{Trace, contains, each_row, live_pods}
 use Rattle.kn_stats.specs.declared.tally.PodTally.{PodTally}
@@ -19,3 +21,9 @@ pub record AreKeptOf (pods : List PodTally) (c : Trace) : Type 0 where
 pub record IsMeasureOf (stats : StatsState) (c : Trace) : Type 0 where
   pub stands : IsStatsOf stats (changes_of c) (each_row gone_by c)
   pub pods : AreKeptOf stats.pods c
+
+-- where a request comes to a pod with the row, no more pods live than there may be
+abbrev pub HasRoomFor : Trace → Row → Type 0
+HasRoomFor c (row.Assign r p) = length (live_pods c) ≤ 20500
+HasRoomFor c (row.Direct r p) = length (live_pods c) ≤ 20500
+HasRoomFor c _ = ⊤

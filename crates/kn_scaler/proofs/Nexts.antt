@@ -8,7 +8,7 @@ use Rattle.kn_event.specs.declared.entry.Row.{Row}
 use Rattle.kn_event.specs.declared.event.Stand.{Stand}
 use Rattle.kn_event.specs.declared.revision.Spec.{Spec}
 use Rattle.kn_trace.specs.Rows.{gone_by}
-use Rattle.kn_trace.specs.Trace.{Trace, entry, live_pods}
+use Rattle.kn_trace.specs.Trace.{Trace, entry}
 use Rattle.kn_record.specs.Made.{IsMade, IsProper}
 use Rattle.kn_stats.specs.declared.change.Change.{Change}
 use Rattle.kn_stats.specs.declared.change.Change.TheVariants as change
@@ -16,7 +16,7 @@ use Rattle.kn_stats.specs.declared.tally.PodTally.{PodTally}
 use Rattle.kn_stats.specs.Stands.{CanChange, IsIdle, StatsState, changed}
 use Rattle.kn_changes.specs.Changes.{change_by}
 use Rattle.kn_places.specs.Ends.{IsToldOf, change_in}
-use Rattle.kn_places.specs.Pods.{AreKeptOf, IsMeasureOf}
+use Rattle.kn_places.specs.Pods.{AreKeptOf, HasRoomFor, IsMeasureOf}
 use Rattle.kn_scaler.specs.Facts.{PodsStay}
 use Rattle.kn_scaler.specs.Stands.{IsNextOfSome, IsNextRow, ScalerState, StandsFor, changed_if}
 
@@ -53,11 +53,11 @@ module _ (said : IsSaid) where
   next_change s x c y at through o is next = sym (is ∙ said s c y at through next.made next.proper next.told)
 
   pub may_change :
-      ((s : Spec) (c : Trace) (y : Row) (stats : StatsState) → IsMade s c → IsProper s c y → length (live_pods c) ≤ 20500 → IsMeasureOf stats c → IfSome (change_by c y) (CanChange stats))
+      ((s : Spec) (c : Trace) (y : Row) (stats : StatsState) → IsMade s c → IsProper s c y → HasRoomFor c y → IsMeasureOf stats c → IfSome (change_by c y) (CanChange stats))
       → (x : ScalerState) (y : Row) (at : Stand) (through : Bool) (o : Option Change) → o ≡ change_in y at through → IsNextOfSome x y at through → IfSome o (CanChange x.stats)
   may_change can x y at through o is some =
       ∥∥₁_elim some (can_prop x.stats o)
-      (λ (f : (s : Spec) × (c : Trace) × IsNextRow x y at through s c × (length (live_pods c) ≤ 20500)).
+      (λ (f : (s : Spec) × (c : Trace) × IsNextRow x y at through s c × HasRoomFor c y).
       subst (λ z. IfSome z (CanChange x.stats)) (next_change f.0 x f.1 y at through o is f.2)
       (can f.0 f.1 y x.stats f.2.made f.2.proper f.3 (measure_of f.0 x f.1 f.2.stands)))
 
@@ -66,7 +66,7 @@ pub may_leave :
     → (x : ScalerState) (y : Row) (at : Stand) (through : Bool) (p : ℕ) → gone_by y ≡ Some p → IsNextOfSome x y at through → IsIdle p x.stats
 may_leave idle x y at through p gone some =
     ∥∥₁_elim some (idle_prop p x.stats)
-    (λ (f : (s : Spec) × (c : Trace) × IsNextRow x y at through s c × (length (live_pods c) ≤ 20500)).
+    (λ (f : (s : Spec) × (c : Trace) × IsNextRow x y at through s c × HasRoomFor c y).
     idle f.0 f.1 y p x.stats f.2.made f.2.proper gone (measure_of f.0 x f.1 f.2.stands))
 
 -- the pods that are kept after a row with which none goes

@@ -18,6 +18,7 @@ use Rattle.kn_record.specs.Facts.{Facts}
 use Rattle.kn_record.specs.Rows.{says}
 use Rattle.kn_laws.specs.Kinds.{Each, EachAt}
 use Rattle.kn_changes.specs.Changes.{change_by, changes_of}
+use Rattle.kn_places.specs.Pods.{HasRoomFor}
 use Rattle.kn_scaler.specs.Facts.{TraceFacts}
 use Rattle.kn_scaler.specs.Rows.{IsBeside, is_quiet, says_scale, settles}
 use Rattle.kn_scaler.specs.Stands.{AreNextOfSome, AreNextRows, IsNextOfSome, IsNextRow, ScalerState, StandsFor}
@@ -122,10 +123,15 @@ module _ (facts : Facts) where
       let few = f.3 in
       (f.0, f.1 ++ e ∷ [], rest_next more f.0 x y f.1 e es takes time f.2, omega (arith, fewer, few)))
 
+has_room : (c : Trace) (x : Row) → length (live_pods c) ≤ 20500 → HasRoomFor c x
+has_room c (row.Assign r p) few = few
+has_room c (row.Direct r p) few = few
+has_room c _ few = tt
+
 pub first_of_some : (x : ScalerState) (e : Entry) (es : List Entry) → AreNextOfSome x (e ∷ es) → IsNextOfSome x e.row stand.Held false
 first_of_some x e es some =
     ∥∥₁_map some
-    (λ (f : (s : Spec) × (c : Trace) × AreNextRows x (e ∷ es) s c × (length (live_pods c) ≤ 20500)). (f.0, f.1, first_next f.0 x f.1 e es f.2, f.3))
+    (λ (f : (s : Spec) × (c : Trace) × AreNextRows x (e ∷ es) s c × (length (live_pods c) ≤ 20500)). (f.0, f.1, first_next f.0 x f.1 e es f.2, has_room f.1 e.row f.3))
 
 -- the row at place i, and those after it
 pub rows_from : (es : List Entry) (i : ℕ) (e : Entry) → i < length es → e ≡ get_or es i e → drop i es ≡ e ∷ drop (i + 1) es

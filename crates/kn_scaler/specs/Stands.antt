@@ -17,7 +17,7 @@ use Rattle.kn_stats.specs.Stands.{StatsState, StandsFor as IsStatsOf, changed, w
 use Rattle.kn_decider.specs.Decider.{DeciderState, StandsFor as IsDeciderOf}
 use Rattle.kn_changes.specs.Changes.{changes_of}
 use Rattle.kn_places.specs.Ends.{IsToldOf, change_in}
-use Rattle.kn_places.specs.Pods.{AreKeptOf}
+use Rattle.kn_places.specs.Pods.{AreKeptOf, HasRoomFor}
 use Rattle.kn_scaler.specs.Rows.{settles}
 
 pub record ScalerState : Type 0 where
@@ -68,9 +68,9 @@ pub record IsNextRow (x : ScalerState) (y : Row) (at : Stand) (through : Bool) (
   pub proper : IsProper s c y
   pub told : IsToldOf c y at through
 
--- so it is after some trace, with no more live pods than there may be
+-- so it is after some trace, with room for its live pods where a request comes to one
 abbrev pub IsNextOfSome : ScalerState → Row → Stand → Bool → Type 0
-IsNextOfSome x y at through = ∥ ((s : Spec) × (c : Trace) × IsNextRow x y at through s c × (length (live_pods c) ≤ 20500)) ∥₁
+IsNextOfSome x y at through = ∥ ((s : Spec) × (c : Trace) × IsNextRow x y at through s c × HasRoomFor c y) ∥₁
 
 -- rows of a settling that are proper one after the other after such a trace, at the time of what is measured
 pub record AreNextRows (x : ScalerState) (es : List Entry) (s : Spec) (c : Trace) : Type 0 where
@@ -80,6 +80,7 @@ pub record AreNextRows (x : ScalerState) (es : List Entry) (s : Spec) (c : Trace
   pub at : EachAt x.stats.time es
   pub kind : Each settles es
 
+-- so they are after some trace, with room for its live pods
 abbrev pub AreNextOfSome : ScalerState → List Entry → Type 0
 AreNextOfSome x es = ∥ ((s : Spec) × (c : Trace) × AreNextRows x es s c × (length (live_pods c) ≤ 20500)) ∥₁
 

@@ -5,8 +5,8 @@ use Rattle.kn_places.proofs.laws.measure_laws.Goals as goal
 
 pub returns : goal.returns
 returns c = record {
-  change = λ s b x stats made proper few measure.
-      can_change c.fact_laws.ensures c.append_laws.ensures.views c.append_laws.ensures.stands c.order_laws.ensures.order c.count_laws.ensures s b stats made measure few x proper;
+  change = λ s b x stats made proper room measure.
+      can_change c.fact_laws.ensures c.append_laws.ensures.views c.append_laws.ensures.stands c.order_laws.ensures.order c.count_laws.ensures s b stats made measure x proper room;
   idle = λ s b x p stats made proper gone measure.
       is_idle c.fact_laws.ensures c.append_laws.ensures.views c.append_laws.ensures.stands c.order_laws.ensures.order c.count_laws.ensures s b stats made measure x p proper gone;
   changed = kept_changed c.fact_laws.ensures c.append_laws.ensures.views c.append_laws.ensures.stands c.order_laws.ensures.order;
