@@ -10,3 +10,4 @@ pub mod Ready
 pub mod Nexts
 pub mod Settlings
 pub mod RowKinds
+pub mod Firsts

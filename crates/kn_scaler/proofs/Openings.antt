@@ -54,7 +54,7 @@ filter-none : (t : ℕ → Bool) (xs : List ℕ) → ((x : ℕ) → t x ≡ fals
 filter-none t [] none = refl
 filter-none t (x ∷ xs) none = rw (none x) (filter-none t xs none)
 
-none-ready : (c : Trace) → each_row readied_by c ≡ [] → count_ready c ≡ 0
+pub none-ready : (c : Trace) → each_row readied_by c ≡ [] → count_ready c ≡ 0
 unfolding count_ready ready_pods is_ready
 none-ready c h = ap length (filter-none (is_ready c) _ (λ p. rw h refl))
 
