@@ -17,6 +17,7 @@ use Rattle.kn_stats.specs.Stands.{StatsState, StandsFor as IsStatsOf, advanced}
 use Rattle.kn_decider.specs.Closing.{CanClose, IsOverAt, below, end_after, with_closed}
 use Rattle.kn_decider.specs.Decider.{DeciderState, StandsFor as IsDeciderOf}
 use Rattle.kn_changes.specs.Changes.{changes_of}
+use Rattle.kn_places.specs.Pods.{AreKeptOf}
 use Rattle.kn_scaler.specs.Facts.{TraceFacts}
 use Rattle.kn_scaler.specs.Stands.{IsUpToNow, ScalerState, StandsFor, StandsForSome, gone_pods}
 use Rattle.kn_scaler.proofs.Closings.{all_over, can_close, close_prop, closed-samples, ends_by}
@@ -82,6 +83,7 @@ module _ (facts : TraceFacts) where
         metric = ap (λ (z : StatsState). z.metric) is ∙ stands.metric;
         times = times-later 0 x.stats.time y.stats.time c stands.times (let le = over.order in omega (arith, le, now));
         stats = stats;
+        pods = subst (λ (z : StatsState). AreKeptOf z.pods c) (sym is) stands.pods;
         decider = subst (λ t. IsDeciderOf y.decider (past_of s c) (second_of t)) (sym now)
             (decider-alike facts y.decider taken (past_of s c) (second_of to) agree (record { decisions = refl; standing = refl }) refl
             (takes.stands (past_of s c) (second_of x.stats.time) (second_of to) whole first rest stands.decider));

@@ -7,3 +7,7 @@ pub mod Openings
 pub mod Rulings
 pub mod Others
 pub mod Ready
+pub mod Nexts
+pub mod Settlings
+pub mod RowKinds
+pub mod Firsts

@@ -26,6 +26,7 @@ use Rattle.kn_stats.specs.Stands.{StatsState, StandsFor as IsStatsOf, opened}
 use Rattle.kn_zero.specs.Zero as zero_rule
 use Rattle.kn_decider.specs.Decider.{StandsFor as IsDeciderOf, opening_past}
 use Rattle.kn_changes.specs.Changes.{changes_of}
+use Rattle.kn_places.specs.Pods.{AreKeptOf}
 use Rattle.kn_scaler.specs.Facts.{TraceFacts}
 use Rattle.kn_scaler.specs.Stands.{ScalerState, StandsFor}
 use Rattle.kn_scaler.proofs.Times.{from_time, is_over}
@@ -53,7 +54,7 @@ filter-none : (t : ℕ → Bool) (xs : List ℕ) → ((x : ℕ) → t x ≡ fals
 filter-none t [] none = refl
 filter-none t (x ∷ xs) none = rw (none x) (filter-none t xs none)
 
-none-ready : (c : Trace) → each_row readied_by c ≡ [] → count_ready c ≡ 0
+pub none-ready : (c : Trace) → each_row readied_by c ≡ [] → count_ready c ≡ 0
 unfolding count_ready ready_pods is_ready
 none-ready c h = ap length (filter-none (is_ready c) _ (λ p. rw h refl))
 
@@ -117,6 +118,7 @@ first-stands facts s start x new =
       metric = ap (λ (z : StatsState). z.metric) new.state;
       times = subst (λ t. AreTimesInOrder 0 (first s start) t) (sym time) (omega arith, omega arith);
       stats = new.stats;
+      pods = subst (λ (z : StatsState). AreKeptOf z.pods (first s start)) (sym new.state) (record { sorted = tt; live = λ p h. absurd (cc) });
       decider = subst (λ t. IsDeciderOf x.decider (past_of s (first s start)) (second_of t)) (sym time) decider;
       phase = ap Some (sym (ap (λ (st : Standing). st.phase) decider.standing));
     }

@@ -20,6 +20,7 @@ use Rattle.kn_stats.specs.declared.change.Change.{Change}
 use Rattle.kn_stats.specs.Changes.{TimedChange, timed}
 use Rattle.kn_stats.specs.Stands.{StatsState, StandsFor as IsStatsOf, is_among}
 use Rattle.kn_changes.specs.Changes.{change_by, changes_of}
+use Rattle.kn_places.specs.Pods.{AreKeptOf}
 use Rattle.kn_scaler.specs.Facts.{TraceFacts}
 use Rattle.kn_scaler.specs.Rows.{IsBeside}
 use Rattle.kn_scaler.specs.Stands.{ScalerState, StandsFor, gone_pods}
@@ -79,7 +80,7 @@ gone-last x cs gone p stands = record {
   pods = λ q h. stands.pods q (or_swap (is_among q gone) _ (sym (list_any-append _ gone (p ∷ [])) ∙ h));
 }
 
-module _ (facts : TraceFacts) (s : Spec) (x : ScalerState) (c : Trace) (r : Row) (y : StatsState) (stands : StandsFor s x c) (is : IsBeside c (entry x.stats.time r)) (time : y.time ≡ x.stats.time) (metric : y.metric ≡ x.stats.metric) where
+module _ (facts : TraceFacts) (s : Spec) (x : ScalerState) (c : Trace) (r : Row) (y : StatsState) (stands : StandsFor s x c) (is : IsBeside c (entry x.stats.time r)) (time : y.time ≡ x.stats.time) (metric : y.metric ≡ x.stats.metric) (pods : AreKeptOf y.pods (c ++ entry x.stats.time r ∷ [])) where
   beside-stands : IsStatsOf y (changes_of (c ++ entry x.stats.time r ∷ [])) (gone_pods (c ++ entry x.stats.time r ∷ [])) → StandsFor s (record { stats = y; decider = x.decider }) (c ++ entry x.stats.time r ∷ [])
   beside-stands stats =
       let e = entry x.stats.time r in
@@ -90,7 +91,7 @@ module _ (facts : TraceFacts) (s : Spec) (x : ScalerState) (c : Trace) (r : Row)
         same = beside-same (past_of s c) c e is;
         reached = was_reached s c ∙ beside-reached facts s c e is;
         stands = stands.decider;
-      }) refl time metric stats
+      }) refl time metric stats pods
 
   pub row-stands : (change : Option Change) → change_by c r ≡ change → gone_by r ≡ None → IsStatsOf y (changes_of c ++ option_to_list (option_map (timed x.stats.time) change)) (gone_pods c)
       → StandsFor s (record { stats = y; decider = x.decider }) (c ++ entry x.stats.time r ∷ [])

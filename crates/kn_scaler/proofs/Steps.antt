@@ -23,6 +23,8 @@ use Rattle.kn_stats.specs.Stands.{StatsState, StandsFor as IsStatsOf}
 use Rattle.kn_stats.specs.declared.change.Change.{Change}
 use Rattle.kn_decider.specs.Decider.{DeciderState, StandsFor as IsDeciderOf}
 use Rattle.kn_changes.specs.Changes.{change_by, changes_of}
+use Rattle.kn_stats.specs.declared.tally.PodTally.{PodTally}
+use Rattle.kn_places.specs.Pods.{AreKeptOf}
 use Rattle.kn_scaler.specs.Facts.{TraceFacts}
 use Rattle.kn_scaler.specs.Stands.{ScalerState, StandsFor, gone_pods}
 use Rattle.kn_scaler.proofs.Times.{times-more}
@@ -63,6 +65,10 @@ module _ (facts : TraceFacts) where
       ap changes_of (sym (append_assoc c (e ∷ []) es)) ∙ silent-changes (c ++ e ∷ []) es each.1
       ∙ change-more c e None (each.0.change c) ∙ append-nil (changes_of c)
 
+  silent-pods : (pods : List PodTally) (c es : Trace) → EachIs IsSilent es → AreKeptOf pods c → AreKeptOf pods (c ++ es)
+  silent-pods pods c [] each kept = subst (AreKeptOf pods) (sym (append-nil c)) kept
+  silent-pods pods c (e ∷ es) each kept = subst (AreKeptOf pods) (append_assoc c (e ∷ []) es) (silent-pods pods (c ++ e ∷ []) es each.1 (facts.pods c e.time e.row pods each.0.gone kept))
+
   -- what is decided of further entries at the time, by a past that is theirs
   pub record Decides (s : Spec) (c es : Trace) (time : ℕ) (d : DeciderState) (p : Past) : Type 0 where
     pub at : EachAt time es
@@ -77,8 +83,8 @@ module _ (facts : TraceFacts) where
       h ∙ ap Some (ap (λ (o : Option Phase). unwrap_or o phase.Inactive) (sym h) ∙ sym (ap (λ (st : Standing). st.phase) stands.standing))
 
   pub decided-stands : (s : Spec) (x : ScalerState) (c es : Trace) (d : DeciderState) (p : Past) (y : StatsState) → StandsFor s x c → Decides s c es x.stats.time d p → d.spec ≡ x.decider.spec
-      → y.time ≡ x.stats.time → y.metric ≡ x.stats.metric → IsStatsOf y (changes_of (c ++ es)) (gone_pods (c ++ es)) → StandsFor s (record { stats = y; decider = d }) (c ++ es)
-  decided-stands s x c es d p y stands is spec time metric stats =
+      → y.time ≡ x.stats.time → y.metric ≡ x.stats.metric → IsStatsOf y (changes_of (c ++ es)) (gone_pods (c ++ es)) → AreKeptOf y.pods (c ++ es) → StandsFor s (record { stats = y; decider = d }) (c ++ es)
+  decided-stands s x c es d p y stands is spec time metric stats pods =
       let decider : IsDeciderOf d (past_of s (c ++ es)) (second_of x.stats.time) = decider-more facts s c es x.stats.time d p (not_empty c _ stands.phase) is.at is.samples is.same is.reached is.stands in
       let phase = phase-more facts c es _ stands.phase in
       record {
@@ -86,6 +92,7 @@ module _ (facts : TraceFacts) where
         metric = metric ∙ stands.metric;
         times = subst (λ t. AreTimesInOrder 0 (c ++ es) t) (sym time) (times-more 0 x.stats.time c es stands.times is.at);
         stats = stats;
+        pods = pods;
         decider = subst (λ t. IsDeciderOf d (past_of s (c ++ es)) (second_of t)) (sym time) decider;
         phase = phase-stands s (c ++ es) d (second_of x.stats.time) phase.0 phase.1 decider;
       }
@@ -96,3 +103,4 @@ module _ (facts : TraceFacts) where
   silent-stands s x c es d p stands is spec silent =
       decided-stands s x c es d p x.stats stands is spec refl refl
       (stats-same x.stats _ _ _ _ (sym (silent-changes c es silent)) (sym (silent-gone c es silent)) stands.stats)
+      (silent-pods x.stats.pods c es silent stands.pods)

@@ -29,6 +29,28 @@ says_scale (row.Mode m) = true
 says_scale (row.Decided d) = true
 says_scale _ = false
 
+-- a row that leaves live requests as they are, with which no pod goes, and that says nothing of the scale
+abbrev pub is_quiet : Row → Bool
+is_quiet (row.QueueFull r pod) = true
+is_quiet (row.Overload r) = true
+is_quiet (row.Run r) = true
+is_quiet (row.Create p n) = true
+is_quiet (row.Limit p n) = true
+is_quiet (row.Drain p) = true
+is_quiet row.NoData = true
+is_quiet (row.NotRunning r) = true
+is_quiet (row.NotWaiting r) = true
+is_quiet (row.NotStarting p) = true
+is_quiet (row.NoPod p) = true
+is_quiet _ = false
+
+-- a row of a settling
+abbrev pub settles : Row → Bool
+settles (row.Run r) = true
+settles (row.Assign r p) = true
+settles (row.Remove p) = true
+settles _ = false
+
 -- the rows of a decision but those of the pods: it, and the phase and the mode where they changed
 abbrev pub ruling_rows : ℕ → Trace → Ruling → List Entry
 ruling_rows t c made =

@@ -6,3 +6,6 @@ pub mod laws;
 mod scaler;
 
 pub use scaler::{Ruled, Scaler};
+
+#[cfg(test)]
+mod tests;

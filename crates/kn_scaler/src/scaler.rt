@@ -1,4 +1,4 @@
-ghost use Rattle.std.specs.Prelude.{◌≡◌, ℕ, ◌^◌, ◌+◌, ◌≤◌, ◌++◌, Option, None, Some, [], ◌∷◌, not, option_map, IfOk, IfSome};
+ghost use Rattle.std.specs.Prelude.{◌≡◌, ℕ, ◌^◌, ◌+◌, ◌≤◌, ◌++◌, Option, None, Some, [], ◌∷◌, false, not, option_map, IfOk, IfSome};
 ghost use Rattle.std.specs.Bool.{then_some};
 ghost use Rattle.kn_event.specs.declared.entry.Phase.TheVariants as phase;
 ghost use Rattle.kn_event.specs.declared.entry.Row.{Row as RowValue};
@@ -15,12 +15,18 @@ ghost use Rattle.kn_trace.specs.Scale.{count_ready, decision_at, is_same_mode, i
 ghost use Rattle.kn_trace.specs.Trace.{Trace, entry};
 ghost use Rattle.kn_record.specs.Made.{IsMade};
 ghost use Rattle.kn_changes.specs.Changes.{change_by};
-ghost use Rattle.kn_scaler.specs.Rows.{IsBeside, ready_rows, ruled_by, ruled_from, ruling_rows, tick_rulings};
-ghost use Rattle.kn_scaler.specs.Stands.{StandsFor, StandsForSome, changed_if};
+ghost use Rattle.kn_places.specs.Pods.{AreKeptOf};
+ghost use Rattle.kn_scaler.specs.Rows.{IsBeside, ready_rows, ruled_by, ruled_from, ruling_rows, says_scale, tick_rulings};
+ghost use Rattle.kn_scaler.specs.Stands.{AreNextOfSome, AreNextRows, IsNextOfSome, IsNextRow, StandsFor, StandsForSome, after_row, after_rows, changed_if};
 
 use crate::facts::trace_facts;
+use crate::laws::row_laws;
 use kn_decider::Decider;
-use kn_event::{Decision, Memory, Mode, Phase, Spec};
+use kn_event::{Decision, Entry, Memory, Mode, Phase, Row, Spec, Stand};
+use kn_places::laws::{measure_laws, place_laws};
+use kn_places::{change_of, gone_of};
+use kn_record::append::order_laws;
+use kn_record::facts::fact_laws;
 use kn_stats::{Change, Stats};
 use std::alloc::Global;
 use std::marker::Model;
@@ -107,10 +113,46 @@ impl Scaler {
         self.decider.closed(&closed);
     }
 
-    /// One more row at this time, by what it changes of live requests. It says nothing of the scale, and no pod goes with it.
-    pub fn row(&mut self, change: Option<Change>)
+    /// One more row at this time, of any kind but those of the scale and that of a Ready pod. Where a request ends with it, `at`
+    /// and `through` say where that stands before it, and whether the activator handed it to its pod; of other rows they say
+    /// nothing.
+    pub fn row(&mut self, added: Row, at: Stand, through: bool)
+        requires { IsNextOfSome self.old added at through }
+        ensures stands { (s : SpecValue) (c : Trace) → says_scale added ≡ false → IsNextRow self.old added at through s c
+            → StandsFor s self.new (c ++ entry self.old.stats.time added ∷ []) }
+        ensures stats { self.new.stats ≡ after_row added at through self.old.stats }
+        ensures time { self.new.stats.time ≡ self.old.stats.time }
+        ensures decider { self.new.decider ≡ self.old.decider }
+    {
+        row_laws();
+        place_laws();
+        measure_laws();
+        match gone_of(added) {
+            Some(p) => self.pod_leaves(p),
+            None => self.requests_change(change_of(added, at, through)),
+        }
+    }
+
+    /// The rows of a settling, all at this time.
+    pub fn rows(&mut self, added: &[Entry])
+        requires { AreNextOfSome self.old added.now }
+        ensures stands { (s : SpecValue) (c : Trace) → AreNextRows self.old added.now s c → StandsFor s self.new (c ++ added.now) }
+        ensures stats { self.new.stats ≡ after_rows added.now self.old.stats }
+        ensures time { self.new.stats.time ≡ self.old.stats.time }
+        ensures decider { self.new.decider ≡ self.old.decider }
+    {
+        fact_laws();
+        order_laws();
+        for e in added {
+            self.row(e.row, Stand::Held, false);
+        }
+    }
+
+    /// A row that may change live requests, and with which no pod goes.
+    fn requests_change(&mut self, change: Option<Change>)
         requires { IfSome change (CanChange self.old.stats) }
-        ensures stands { (s : SpecValue) (c : Trace) (x : RowValue) → change_by c x ≡ change → gone_by x ≡ None → IsBeside c (entry self.old.stats.time x) → StandsFor s self.old c
+        ensures stands { (s : SpecValue) (c : Trace) (x : RowValue) → change_by c x ≡ change → gone_by x ≡ None → IsBeside c (entry self.old.stats.time x)
+            → AreKeptOf self.new.stats.pods (c ++ entry self.old.stats.time x ∷ []) → StandsFor s self.old c
             → StandsFor s self.new (c ++ entry self.old.stats.time x ∷ []) }
         ensures stats { self.new.stats ≡ changed_if change self.old.stats }
         ensures decider { self.new.decider ≡ self.old.decider }
@@ -122,10 +164,11 @@ impl Scaler {
         }
     }
 
-    /// The row with which a pod goes, removed or lost, at this time.
-    pub fn pod_leaves(&mut self, p: u64)
+    /// The row with which a pod goes, removed or lost.
+    fn pod_leaves(&mut self, p: u64)
         requires { IsIdle p self.old.stats }
-        ensures stands { (s : SpecValue) (c : Trace) (x : RowValue) → gone_by x ≡ Some p → IsBeside c (entry self.old.stats.time x) → StandsFor s self.old c
+        ensures stands { (s : SpecValue) (c : Trace) (x : RowValue) → gone_by x ≡ Some p → IsBeside c (entry self.old.stats.time x)
+            → AreKeptOf self.new.stats.pods (c ++ entry self.old.stats.time x ∷ []) → StandsFor s self.old c
             → StandsFor s self.new (c ++ entry self.old.stats.time x ∷ []) }
         ensures stats { self.new.stats ≡ without p self.old.stats }
         ensures decider { self.new.decider ≡ self.old.decider }

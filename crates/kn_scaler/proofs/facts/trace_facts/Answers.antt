@@ -23,4 +23,5 @@ returns c = record {
     count = c.change_laws.ensures.count;
     more = c.step_laws.ensures.more;
   };
+  pods = c.measure_laws.ensures.stays;
 }

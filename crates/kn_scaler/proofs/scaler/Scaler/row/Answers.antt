@@ -1,23 +1,29 @@
-use Rattle.std.proofs.Common.{ap, ◌∙◌, None, Some, refl, append-nil, sym}
+use Rattle.std.proofs.Common.{◌++◌, [], ◌∷◌, sym, ◌∙◌, subst}
+use Rattle.kn_trace.specs.Trace.{entry}
 use Rattle.kn_stats.specs.Stands.{StatsState}
-use Rattle.kn_changes.specs.Changes.{changes_of}
-use Rattle.kn_scaler.specs.Stands.{gone_pods}
-use Rattle.kn_scaler.proofs.Others.{row-stands}
-use Rattle.kn_scaler.proofs.Steps.{stats-same}
+use Rattle.kn_places.specs.Pods.{AreKeptOf}
+use Rattle.kn_scaler.proofs.Nexts.{kept_after, may_change, may_leave, next_change}
 use Rattle.kn_scaler.proofs.scaler.Scaler.row.Goals as goal
 
+pub pod_leaves-requires : goal.pod_leaves-requires
+pod_leaves-requires c = may_leave c.measure_laws.ensures.idle c.args.self.now c.args.added c.args.at c.args.through c.in-Some.p (sym c.gone_of.ensures ∙ c.in-Some.is) c.requires
+
+pub requests_change-requires : goal.requests_change-requires
+requests_change-requires c = may_change c.place_laws.ensures.change c.measure_laws.ensures.change c.args.self.now c.args.added c.args.at c.args.through c.change_of.result c.change_of.ensures c.requires
+
 pub returns-in-Some-clause-stands : goal.returns-in-Some-clause-stands
-returns-in-Some-clause-stands c =
-    rw (← c.self.view_is)
-    (λ s b x makes stays is stands.
-    row-stands c.trace_facts.ensures s (record { stats = c.self.inside.stats; decider = c.self.inside.decider }) b x c.change.new.self stands is
-    (ap (λ (z : StatsState). z.time) c.change.ensures.state) (ap (λ (z : StatsState). z.metric) c.change.ensures.state) (Some c.in-Some.change) (makes ∙ c.in-Some.is) stays
-    (c.change.ensures.stands (changes_of b) (gone_pods b) stands.stats))
+returns-in-Some-clause-stands c = λ s b quiet next.
+    let old = c.args.self.now in
+    let gone = sym c.gone_of.ensures ∙ c.in-Some.is in
+    c.pod_leaves.ensures.stands s b c.args.added gone (c.row_laws.ensures.beside s b old.stats.time c.args.added next.made next.proper quiet)
+    (subst (λ (z : StatsState). AreKeptOf z.pods (b ++ entry old.stats.time c.args.added ∷ [])) (sym c.pod_leaves.ensures.stats)
+    (c.measure_laws.ensures.without b old.stats.time c.args.added c.in-Some.p old.stats.pods gone next.stands.pods)) next.stands
 
 pub returns-in-None-clause-stands : goal.returns-in-None-clause-stands
-returns-in-None-clause-stands c =
-    rw (← c.self.view_is)
-    (λ s b x makes stays is stands.
-    row-stands c.trace_facts.ensures s (record { stats = c.self.inside.stats; decider = c.self.inside.decider }) b x c.self.inside.stats stands is
-    refl refl None (makes ∙ c.in-None.is) stays
-    (stats-same c.self.inside.stats _ _ _ _ (sym (append-nil (changes_of b))) refl stands.stats))
+returns-in-None-clause-stands c = λ s b quiet next.
+    let old = c.args.self.now in
+    let stays = sym c.gone_of.ensures ∙ c.in-None.is in
+    let change = next_change c.place_laws.ensures.change s old b c.args.added c.args.at c.args.through c.change_of.result c.change_of.ensures next in
+    c.requests_change.ensures.stands s b c.args.added change stays (c.row_laws.ensures.beside s b old.stats.time c.args.added next.made next.proper quiet)
+    (subst (λ (z : StatsState). AreKeptOf z.pods (b ++ entry old.stats.time c.args.added ∷ [])) (sym c.requests_change.ensures.stats)
+    (kept_after c.measure_laws.ensures.stays c.measure_laws.ensures.changed s b old.stats.time c.args.added old.stats c.change_of.result next.made next.proper change stays next.stands.pods)) next.stands

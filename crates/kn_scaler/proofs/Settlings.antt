@@ -1,0 +1,142 @@
+-- Rows one after the other.
+use Rattle.std.proofs.Common.{◌≡◌, ℕ, ◌+◌, ◌<◌, ◌≤◌, Bool, true, false, List, [], ◌∷◌, ◌++◌, length, refl, sym, ap, ◌∙◌, subst, append-nil, append_assoc, arith, take, drop, get_or, add-one, None, Some}
+use Rattle.std.specs.Prelude.{◌||◌, not, Option}
+use Rattle.std.specs.List.{filter}
+use Rattle.std.proofs.lemmas.List.Elements.{filter_map-append}
+use Rattle.std.proofs.lemmas.List.{take_more}
+use Rattle.std.proofs.Math.Logic.{∥∥₁_map}
+use Rattle.std.proofs.Math.Seq.{drop-cons}
+use Rattle.kn_event.specs.declared.entry.Entry.{Entry}
+use Rattle.kn_event.specs.declared.entry.Row.{Row}
+use Rattle.kn_event.specs.declared.entry.Row.TheVariants as row
+use Rattle.kn_event.specs.declared.event.Stand.TheVariants as stand
+use Rattle.kn_event.specs.declared.revision.Spec.{Spec}
+use Rattle.kn_trace.specs.Rows.{created_by, ended_by, gone_by}
+use Rattle.kn_trace.specs.Trace.{Trace, contains, each_row, entry, is_live_pod, live_pods}
+use Rattle.kn_record.specs.Made.{Holds, IsMade, IsProper}
+use Rattle.kn_record.specs.Facts.{Facts}
+use Rattle.kn_record.specs.Rows.{says}
+use Rattle.kn_laws.specs.Kinds.{Each, EachAt}
+use Rattle.kn_changes.specs.Changes.{change_by, changes_of}
+use Rattle.kn_places.specs.Pods.{HasRoomFor}
+use Rattle.kn_scaler.specs.Facts.{TraceFacts}
+use Rattle.kn_scaler.specs.Rows.{IsBeside, is_quiet, says_scale, settles}
+use Rattle.kn_scaler.specs.Stands.{AreNextOfSome, AreNextRows, IsNextOfSome, IsNextRow, ScalerState, StandsFor}
+use Rattle.kn_scaler.proofs.Others.{row-stands}
+use Rattle.kn_scaler.proofs.Steps.{stats-same}
+
+-- events made the trace with one more proper row
+abbrev pub MadeMore : Type 0
+MadeMore = (s : Spec) (c : Trace) (t : ℕ) (x : Row) → IsMade s c → IsProper s c x → IsMade s (c ++ entry t x ∷ [])
+
+-- ---- rows that leave it
+
+quiet_parts : (x : Row) (c : Trace) → is_quiet x ≡ true → (change_by c x ≡ None) × (gone_by x ≡ None) × (says_scale x ≡ false)
+quiet_parts (row.QueueFull r p) c h = (refl, refl, refl)
+quiet_parts (row.Overload r) c h = (refl, refl, refl)
+quiet_parts (row.Run r) c h = (refl, refl, refl)
+quiet_parts (row.Create p n) c h = (refl, refl, refl)
+quiet_parts (row.Limit p n) c h = (refl, refl, refl)
+quiet_parts (row.Drain p) c h = (refl, refl, refl)
+quiet_parts row.NoData c h = (refl, refl, refl)
+quiet_parts (row.NotRunning r) c h = (refl, refl, refl)
+quiet_parts (row.NotWaiting r) c h = (refl, refl, refl)
+quiet_parts (row.NotStarting p) c h = (refl, refl, refl)
+quiet_parts (row.NoPod p) c h = (refl, refl, refl)
+quiet_parts _ c h = absurd (cc)
+
+module _ (facts : TraceFacts) (beside : (s : Spec) (c : Trace) (t : ℕ) (x : Row) → IsMade s c → IsProper s c x → says_scale x ≡ false → IsBeside c (entry t x)) where
+  quiet_one : (s : Spec) (x : ScalerState) (c : Trace) (r : Row) → IsMade s c → IsProper s c r → is_quiet r ≡ true → StandsFor s x c → StandsFor s x (c ++ entry x.stats.time r ∷ [])
+  quiet_one s x c r made proper quiet stands =
+      let parts = quiet_parts r c quiet in
+      row-stands facts s x c r x.stats stands (beside s c x.stats.time r made proper parts.2) refl refl (facts.pods c x.stats.time r x.stats.pods parts.1 stands.pods) None parts.0 parts.1
+      (stats-same x.stats _ _ _ _ (sym (append-nil (changes_of c))) refl stands.stats)
+
+  pub quiet_all : MadeMore → (s : Spec) (x : ScalerState) (c es : Trace) → IsMade s c → Holds (IsProper s) c es → EachAt x.stats.time es → Each is_quiet es → StandsFor s x c → StandsFor s x (c ++ es)
+  quiet_all more s x c [] made proper at quiet stands = subst (StandsFor s x) (sym (append-nil c)) stands
+  quiet_all more s x c (e ∷ es) made proper at quiet stands =
+      let one : StandsFor s x (c ++ e ∷ []) = subst (λ t. StandsFor s x (c ++ entry t e.row ∷ [])) (sym at.0) (quiet_one s x c e.row made proper.0 quiet.0 stands) in
+      subst (StandsFor s x) (append_assoc c (e ∷ []) es)
+      (quiet_all more s x (c ++ e ∷ []) es (more s c e.time e.row made proper.0) proper.1 at.1 quiet.1 one)
+
+-- ---- rows of a settling
+
+settling_parts : (x : Row) → settles x ≡ true → (says_scale x ≡ false) × (ended_by x ≡ None) × (created_by x ≡ None)
+settling_parts (row.Run r) h = (refl, refl, refl)
+settling_parts (row.Assign r p) h = (refl, refl, refl)
+settling_parts (row.Remove p) h = (refl, refl, refl)
+settling_parts _ h = absurd (cc)
+
+none_some : (o : Option ℕ) (r : ℕ) → o ≡ None → o ≡ Some r → ⊥
+none_some o r n s = cc
+
+-- the row is next, and more come after it
+pub first_next : (s : Spec) (x : ScalerState) (c : Trace) (e : Entry) (es : List Entry) → AreNextRows x (e ∷ es) s c → IsNextRow x e.row stand.Held false s c
+first_next s x c e es next =
+    let parts = settling_parts e.row next.kind.0 in
+    record {
+      stands = next.stands;
+      made = next.made;
+      proper = next.proper.0;
+      told = record { stands = λ r is. absurd (none_some _ r parts.1 is); handed = λ r is. absurd (none_some _ r parts.1 is) };
+    }
+
+-- what the call says of the row
+abbrev pub Takes : ScalerState → ScalerState → Row → Type 0
+Takes x y r = (s : Spec) (c : Trace) → says_scale r ≡ false → IsNextRow x r stand.Held false s c → StandsFor s y (c ++ entry x.stats.time r ∷ [])
+
+pub rest_next : MadeMore → (s : Spec) (x y : ScalerState) (c : Trace) (e : Entry) (es : List Entry) → Takes x y e.row → y.stats.time ≡ x.stats.time → AreNextRows x (e ∷ es) s c → AreNextRows y es s (c ++ e ∷ [])
+rest_next more s x y c e es takes time next =
+    let parts = settling_parts e.row next.kind.0 in
+    record {
+      stands = subst (λ t. StandsFor s y (c ++ entry t e.row ∷ [])) (sym next.at.0) (takes s c parts.0 (first_next s x c e es next));
+      made = more s c e.time e.row next.made next.proper.0;
+      proper = next.proper.1;
+      at = subst (λ t. EachAt t es) (sym time) next.at.1;
+      kind = next.kind.1;
+    }
+
+module _ (facts : Facts) where
+  open facts use {lists.{length-filter-more}, entries.{is_live_pod-push}}
+
+  lived : (a b : Bool) → not (a || b) ≡ true → not a ≡ true
+  lived true b h = absurd (cc)
+  lived false b h = refl
+
+  no_more_live : (c : Trace) (e : Entry) → created_by e.row ≡ None → length (live_pods (c ++ e ∷ [])) ≤ length (live_pods c)
+  unfolding live_pods is_live_pod
+  no_more_live c e none =
+      let same : each_row created_by (c ++ e ∷ []) ≡ each_row created_by c =
+      filter_map-append (λ (x : Entry). created_by x.row) c (e ∷ []) ∙ ap (λ (ps : List ℕ). each_row created_by c ++ ps) (one (created_by e.row) none) ∙ append-nil (each_row created_by c) in
+      subst (λ ps. length (filter (is_live_pod (c ++ e ∷ [])) ps) ≤ length (filter (is_live_pod c) (each_row created_by c))) (sym same)
+      (length-filter-more (is_live_pod (c ++ e ∷ [])) (is_live_pod c) (λ q h. lived (contains q (each_row gone_by c)) (says (gone_by e.row) q) (sym (is_live_pod-push c e q) ∙ h)) (each_row created_by c))
+    where
+      one : (o : Option ℕ) → o ≡ None → each_row (λ (x : Row). o) (e ∷ []) ≡ []
+      one None h = refl
+      one (Some p) h = absurd (cc)
+
+  pub rest_of_some : MadeMore → (x y : ScalerState) (e : Entry) (es : List Entry) → Takes x y e.row → y.stats.time ≡ x.stats.time → AreNextOfSome x (e ∷ es) → AreNextOfSome y es
+  rest_of_some more x y e es takes time some =
+      ∥∥₁_map some
+      (λ (f : (s : Spec) × (c : Trace) × AreNextRows x (e ∷ es) s c × (length (live_pods c) ≤ 20500)).
+      let fewer = no_more_live f.1 e (settling_parts e.row f.2.kind.0).2 in
+      let few = f.3 in
+      (f.0, f.1 ++ e ∷ [], rest_next more f.0 x y f.1 e es takes time f.2, omega (arith, fewer, few)))
+
+has_room : (c : Trace) (x : Row) → length (live_pods c) ≤ 20500 → HasRoomFor c x
+has_room c (row.Assign r p) few = few
+has_room c (row.Direct r p) few = few
+has_room c _ few = tt
+
+pub first_of_some : (x : ScalerState) (e : Entry) (es : List Entry) → AreNextOfSome x (e ∷ es) → IsNextOfSome x e.row stand.Held false
+first_of_some x e es some =
+    ∥∥₁_map some
+    (λ (f : (s : Spec) × (c : Trace) × AreNextRows x (e ∷ es) s c × (length (live_pods c) ≤ 20500)). (f.0, f.1, first_next f.0 x f.1 e es f.2, has_room f.1 e.row f.3))
+
+-- the row at place i, and those after it
+pub rows_from : (es : List Entry) (i : ℕ) (e : Entry) → i < length es → e ≡ get_or es i e → drop i es ≡ e ∷ drop (i + 1) es
+rows_from es i e lt is = rw add-one (drop-cons es i e lt) ∙ ap (λ (x : Entry). x ∷ drop (i + 1) es) (sym is)
+
+pub rows_up_to : (c es : Trace) (i : ℕ) (e : Entry) → i < length es → e ≡ get_or es i e → (c ++ take i es) ++ e ∷ [] ≡ c ++ take (i + 1) es
+rows_up_to c es i e lt is =
+    append_assoc c (take i es) (e ∷ []) ∙ ap (λ (x : Entry). c ++ (take i es ++ x ∷ [])) is ∙ ap (λ (xs : Trace). c ++ xs) (sym (take_more es i e lt))
