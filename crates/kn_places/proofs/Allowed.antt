@@ -1,6 +1,6 @@
 -- What is measured may take the change of a proper row, and nobody is at a pod that goes.
-use Rattle.std.proofs.Common.{◌≡◌, ℕ, ◌+◌, ◌<◌, ◌≤◌, ◌⊎◌, inl, inr, Bool, true, false, cond, List, [], ◌∷◌, ◌++◌, map, length, refl, sym, ap, ◌∙◌, subst, arith, None, Some}
-use Rattle.std.specs.Prelude.{◌==◌, ◌||◌, ◌&&◌, not, nat_lt, IfSome, Option, ⊤}
+use Rattle.std.proofs.Common.{◌≡◌, ℕ, ◌<◌, ◌≤◌, inl, inr, Bool, true, false, cond, List, [], ◌∷◌, ◌++◌, map, length, refl, sym, ap, ◌∙◌, subst, arith, None, Some}
+use Rattle.std.specs.Prelude.{◌==◌, ◌||◌, nat_lt, IfSome, Option, ⊤}
 use Rattle.std.specs.List.{AllByRecursion, filter}
 use Rattle.std.proofs.lemmas.List.{length-map}
 use Rattle.std.proofs.lemmas.List.Elements.{recursion_from_All}
@@ -9,7 +9,7 @@ use Rattle.kn_event.specs.declared.entry.Row.TheVariants as row
 use Rattle.kn_event.specs.declared.revision.Spec.{Spec}
 use Rattle.kn_scaling.specs.Average.{second_of}
 use Rattle.kn_trace.specs.Rows.{ended_by, gone_by}
-use Rattle.kn_trace.specs.Trace.{Trace, at_pod, contains, each_row, entry, live, live_pods, ready_pods}
+use Rattle.kn_trace.specs.Trace.{Trace, at_pod, contains, each_row, entry, live_pods, ready_pods}
 use Rattle.kn_record.specs.declared.admission.Place.{Place}
 use Rattle.kn_record.specs.declared.admission.Place.TheVariants as place
 use Rattle.kn_record.specs.declared.admission.Pod.{Pod}
@@ -22,13 +22,12 @@ use Rattle.kn_record.specs.Order.{IsAmong, IsInOrder}
 use Rattle.kn_record.specs.Views.{AreViews, pod_numbers}
 use Rattle.kn_stats.specs.declared.change.Change.{Change}
 use Rattle.kn_stats.specs.declared.change.Change.TheVariants as change
-use Rattle.kn_stats.specs.declared.tally.PodTally.{PodTally}
 use Rattle.kn_stats.specs.declared.tally.Tally.{Tally}
 use Rattle.kn_stats.specs.Changes.{TimedChange}
 use Rattle.kn_stats.specs.Pods.{anew_if, found, pod_after, put}
-use Rattle.kn_stats.specs.Stands.{CanChange, IsIdle, IsPodOf, StandsFor as IsStatsOf, StatsState, changed, left_of, live_in}
+use Rattle.kn_stats.specs.Stands.{CanChange, IsIdle, StandsFor as IsStatsOf, StatsState, changed, left_of, live_in}
 use Rattle.kn_changes.specs.Changes.{change_by, changes_of, end_after}
-use Rattle.kn_places.specs.Counts.{AreCounted, is_past, is_past_at, is_through_at}
+use Rattle.kn_places.specs.Counts.{AreCounted, is_past_at, is_through_at}
 use Rattle.kn_places.specs.Ends.{end_of_place}
 use Rattle.kn_places.specs.Pods.{AreKeptOf, HasRoomFor, IsMeasureOf}
 use Rattle.kn_places.proofs.Tallies.{IsThere, bit, same, tally, tally-both, tally-some, tally-wider}

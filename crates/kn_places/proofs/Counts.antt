@@ -1,22 +1,20 @@
 -- As many are live of each way, and at each pod, by the changes of a trace as by its record.
-use Rattle.std.proofs.Common.{◌≡◌, ℕ, ◌+◌, Bool, true, false, cond, List, [], ◌∷◌, ◌++◌, refl, sym, ap, ◌∙◌, subst, arith, append-nil, append_assoc, None, Some, length}
-use Rattle.std.specs.Prelude.{Option, option_map, ◌==◌, not, ◌&&◌}
+use Rattle.std.proofs.Common.{◌≡◌, ℕ, ◌+◌, Bool, true, List, [], ◌∷◌, ◌++◌, refl, sym, ap, ◌∙◌, subst, arith, append-nil, append_assoc, None, Some}
+use Rattle.std.specs.Prelude.{Option, option_map}
 use Rattle.std.specs.Option.{option_to_list}
-use Rattle.std.specs.List.{AllByRecursion}
 use Rattle.std.proofs.lemmas.List.Sums.{sum_by-append}
 use Rattle.kn_event.specs.declared.entry.Entry.{Entry}
 use Rattle.kn_event.specs.declared.entry.Row.{Row}
 use Rattle.kn_event.specs.declared.entry.Row.TheVariants as row
 use Rattle.kn_event.specs.declared.revision.Spec.{Spec}
 use Rattle.kn_trace.specs.Rows.{ended_by}
-use Rattle.kn_trace.specs.Trace.{Trace, contains, entry, held}
+use Rattle.kn_trace.specs.Trace.{Trace, entry}
 use Rattle.kn_record.specs.declared.admission.Place.{Place}
 use Rattle.kn_record.specs.declared.admission.Place.TheVariants as place
-use Rattle.kn_record.specs.declared.admission.Request.{Request}
 use Rattle.kn_record.specs.Admission.{Admission, admission, begun, is_held_place, is_through, live_after, live_requests, stepped, without}
 use Rattle.kn_record.specs.Facts.{Facts}
-use Rattle.kn_record.specs.Made.{AreDistinct, Holds, IsMade, IsProper, StandsFor}
-use Rattle.kn_record.specs.Views.{AreViews, numbers_in}
+use Rattle.kn_record.specs.Made.{Holds, IsMade, IsProper, StandsFor}
+use Rattle.kn_record.specs.Views.{AreViews}
 use Rattle.kn_stats.specs.declared.change.Change.{Change}
 use Rattle.kn_stats.specs.declared.change.Change.TheVariants as change
 use Rattle.kn_stats.specs.Changes.{TimedChange, at, count_of, ends_admitted, ends_assigned, ends_directed, ends_waiting, is_admitted, is_assigned, is_directed, timed}
@@ -43,6 +41,7 @@ waiting_go = record { admitted = refl; directed = λ p. refl; assigned = λ p. r
     same place.Held = refl
     same (place.Queued p) = refl
     same (place.Running p x) = refl
+
     over : (x : Place) → bit (ends_waiting (end_of_place x)) ≡ bit (is_admitted (end_of_place x)) + bit (is_held_place x)
     over place.Held = refl
     over (place.Queued p) = refl
@@ -55,6 +54,7 @@ through_go = record { admitted = refl; directed = λ p. refl; assigned = λ p. r
     same place.Held = refl
     same (place.Queued p) = refl
     same (place.Running p x) = refl
+
     over : (x : Place) → bit (ends_admitted (end_of_place x)) ≡ bit (is_admitted (end_of_place x)) + bit (is_through x)
     over place.Held = refl
     over (place.Queued p) = refl
@@ -67,6 +67,7 @@ past_go = record { admitted = refl; directed = λ p. refl; assigned = λ p. refl
     same place.Held = refl
     same (place.Queued p) = refl
     same (place.Running p x) = refl
+
     over : (x : Place) → bit (ends_directed (end_of_place x)) ≡ bit (is_directed (end_of_place x)) + bit (is_past x)
     over place.Held = refl
     over (place.Queued p) = refl
@@ -79,6 +80,7 @@ past_at_go p = record { admitted = refl; directed = λ q. omega arith; assigned 
     same place.Held = refl
     same (place.Queued q) = refl
     same (place.Running q x) = refl
+
     over : (x : Place) → bit (at ends_directed p (end_of_place x)) ≡ bit (at is_directed p (end_of_place x)) + bit (is_past_at p x)
     over place.Held = refl
     over (place.Queued q) = omega arith
@@ -91,6 +93,7 @@ through_at_go p = record { admitted = refl; directed = λ q. refl; assigned = λ
     same place.Held = refl
     same (place.Queued q) = refl
     same (place.Running q x) = refl
+
     over : (x : Place) → bit (at ends_assigned p (end_of_place x)) ≡ bit (at is_assigned p (end_of_place x)) + bit (is_through_at p x)
     over place.Held = refl
     over (place.Queued q) = refl

@@ -1,6 +1,6 @@
 -- Where a request is that ends, and what its end is then.
-use Rattle.std.proofs.Common.{◌≡◌, ℕ, ◌+◌, ◌<◌, ◌≤◌, ◌⊎◌, inl, inr, Bool, true, false, cond, List, [], ◌∷◌, ◌++◌, refl, sym, ap, ◌∙◌, subst, arith, None, Some}
-use Rattle.std.specs.Prelude.{Option, not, ◌&&◌, ◌||◌, nat_lt}
+use Rattle.std.proofs.Common.{◌≡◌, ℕ, inl, inr, Bool, true, false, List, [], ◌∷◌, refl, sym, ap, ◌∙◌, subst, arith, None, Some}
+use Rattle.std.specs.Prelude.{Option, not, ◌&&◌, nat_lt}
 use Rattle.std.specs.List.{AllByRecursion, cons_option, filter_map}
 use Rattle.std.specs.Bool.{then_some}
 use Rattle.std.proofs.lemmas.Bool.Decides.{nat_tests}
@@ -8,10 +8,9 @@ use Rattle.kn_event.specs.declared.entry.Entry.{Entry}
 use Rattle.kn_event.specs.declared.entry.Row.{Row}
 use Rattle.kn_event.specs.declared.entry.Row.TheVariants as row
 use Rattle.kn_event.specs.declared.event.Stand.{Stand}
-use Rattle.kn_event.specs.declared.event.Stand.TheVariants as stand
 use Rattle.kn_event.specs.declared.revision.Spec.{Spec}
 use Rattle.kn_trace.specs.Rows.{ended_by, taken_by}
-use Rattle.kn_trace.specs.Trace.{Trace, arrivals, assigned, at_pod, contains, ended, has_begun, has_run, held, is_running, live, pod_of, proxied, stand_at, stand_of, stand_of_arrived, stand_where, waiting}
+use Rattle.kn_trace.specs.Trace.{Trace, arrivals, assigned, contains, ended, has_begun, has_run, held, live, pod_of, proxied, stand_at, stand_of}
 use Rattle.kn_record.specs.declared.admission.Place.{Place}
 use Rattle.kn_record.specs.declared.admission.Place.TheVariants as place
 use Rattle.kn_record.specs.declared.admission.Request.{Request}
@@ -19,8 +18,6 @@ use Rattle.kn_record.specs.Admission.{Admission, admission, is_at, is_held_place
 use Rattle.kn_record.specs.Facts.{Facts}
 use Rattle.kn_record.specs.Made.{AreDistinct, IsMade, IsProper, StandsFor}
 use Rattle.kn_record.specs.Views.{AreViews, numbers_in}
-use Rattle.kn_stats.specs.declared.change.Change.{Change}
-use Rattle.kn_stats.specs.declared.change.Change.TheVariants as change
 use Rattle.kn_changes.specs.Changes.{change_by, end_after, end_at}
 use Rattle.kn_places.specs.Ends.{IsToldOf, change_in, end_of, end_of_place}
 use Rattle.kn_places.proofs.Tallies.{IsThere, placed_there, there_number}
@@ -138,6 +135,7 @@ module _ (facts : Facts) where
             let there = ends_there s (admission c) c y r h proper is in
             let is_live : contains r (live c) ≡ true = subst (λ xs. contains r xs ≡ true) (sym (views s (admission c) c h).live) (there_number r there.0 (admission c).live there.1) in
             ap Some (ap (λ z. end_of z through) (told.stands r is) ∙ ap (end_of (stand_of c r)) (told.handed r is) ∙ sym (ends_by_stand s c r made is_live))
+
         by : (y : Row) → IsProper s c y → IsToldOf c y at through → change_in y at through ≡ change_by c y
         by (row.Finish r ok) proper told = ended (row.Finish r ok) r proper told refl
         by (row.Expire r) proper told = ended (row.Expire r) r proper told refl

@@ -1,7 +1,7 @@
 -- Pods that are kept in the order of their numbers: one more, one less, and that they are no more than the live ones.
-use Rattle.std.proofs.Common.{◌≡◌, ℕ, ◌+◌, ◌<◌, ◌≤◌, ◌⊎◌, inl, inr, Bool, true, false, cond, List, [], ◌∷◌, ◌++◌, map, length, refl, sym, ap, ◌∙◌, subst, arith, None, Some}
+use Rattle.std.proofs.Common.{◌≡◌, ℕ, ◌<◌, ◌≤◌, ◌⊎◌, inl, inr, Bool, true, false, List, [], ◌∷◌, ◌++◌, length, refl, sym, ap, ◌∙◌, subst, arith, None, Some}
 use Rattle.std.specs.Prelude.{◌==◌, ◌||◌, ◌&&◌, not, nat_lt, if◌then◌else◌, Option}
-use Rattle.std.proofs.lemmas.Bool.{eqb-true, eq-eqb}
+use Rattle.std.proofs.lemmas.Bool.{eqb-true}
 use Rattle.std.proofs.lemmas.List.{length-map}
 use Rattle.kn_event.specs.declared.entry.Entry.{Entry}
 use Rattle.kn_trace.specs.Rows.{created_by, gone_by}
@@ -13,7 +13,7 @@ use Rattle.kn_record.specs.Views.{others}
 use Rattle.kn_stats.specs.declared.tally.PodTally.{PodTally}
 use Rattle.kn_stats.specs.Pods.{AreAbove, IsSorted, idle, put, without_pod}
 use Rattle.kn_places.specs.Pods.{AreKeptOf, numbers_of}
-use Rattle.kn_places.proofs.Tallies.{flip, no_both, or_parts, same}
+use Rattle.kn_places.proofs.Tallies.{flip, no_both, same}
 
 -- f keeps numbers
 abbrev pub KeepsNumbers : (PodTally → PodTally) → Type 0
@@ -162,6 +162,7 @@ module _ (facts : Facts) where
           by : (b : Bool) → (b || contains r xs) ≡ true
           by true = refl
           by false = m
+
       apart : (r : ℕ) → contains r xs ≡ true → not (x == r) ≡ true
       apart r m = by (x == r) refl
         where

@@ -3,11 +3,10 @@ use Rattle.std.proofs.Common.{◌≡◌, ℕ, ◌+◌, ◌<◌, ◌≤◌, ◌�
 use Rattle.std.specs.Prelude.{◌==◌, ◌||◌, not}
 use Rattle.std.specs.List.{filter}
 use Rattle.std.proofs.lemmas.Bool.{eqb-true, eq-eqb}
-use Rattle.std.proofs.lemmas.List.{length-map}
 use Rattle.kn_trace.specs.Trace.{contains}
 use Rattle.kn_record.specs.declared.admission.Place.{Place}
 use Rattle.kn_record.specs.declared.admission.Request.{Request}
-use Rattle.kn_record.specs.Admission.{begins, begun, begun_at, moved, moved_to, placed_in, without}
+use Rattle.kn_record.specs.Admission.{begins, begun, moved, placed_in, without}
 use Rattle.kn_record.specs.Made.{AreDistinct}
 use Rattle.kn_record.specs.Views.{numbers_in}
 

@@ -1,5 +1,5 @@
 -- The next row of some trace may be taken, and leaves no pod but live ones.
-use Rattle.std.proofs.Common.{◌≡◌, ℕ, ◌<◌, ◌≤◌, List, [], ◌∷◌, ◌++◌, length, sym, ap, ◌∙◌, subst, None, Some, true, false}
+use Rattle.std.proofs.Common.{◌≡◌, ℕ, ◌<◌, ◌≤◌, [], ◌∷◌, ◌++◌, sym, ◌∙◌, subst, None, Some, true, false}
 use Rattle.std.specs.Prelude.{Bool, IfSome, Option}
 use Rattle.std.proofs.Math.Logic.{∥∥₁_elim}
 use mathlib.Core.HLevel.{Unit-prop}
@@ -12,7 +12,6 @@ use Rattle.kn_trace.specs.Trace.{Trace, entry}
 use Rattle.kn_record.specs.Made.{IsMade, IsProper}
 use Rattle.kn_stats.specs.declared.change.Change.{Change}
 use Rattle.kn_stats.specs.declared.change.Change.TheVariants as change
-use Rattle.kn_stats.specs.declared.tally.PodTally.{PodTally}
 use Rattle.kn_stats.specs.Stands.{CanChange, IsIdle, StatsState, changed}
 use Rattle.kn_changes.specs.Changes.{change_by}
 use Rattle.kn_places.specs.Ends.{IsToldOf, change_in}

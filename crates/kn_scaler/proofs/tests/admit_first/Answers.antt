@@ -1,5 +1,5 @@
 use Rattle.kn_event.specs.declared.entry.Row.TheVariants as row
-use Rattle.std.proofs.Common.{[], ◌∷◌, ◌++◌, false, refl}
+use Rattle.std.proofs.Common.{[], ◌∷◌, ◌++◌, refl}
 use Rattle.kn_trace.specs.Events.{opening}
 use Rattle.kn_trace.specs.Trace.{entry}
 use Rattle.kn_scaler.proofs.Firsts.{first_made, first_next, first_of_some, for_some, none_ready, opening_made}

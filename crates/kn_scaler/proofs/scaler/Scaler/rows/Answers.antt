@@ -1,6 +1,5 @@
-use Rattle.std.proofs.Common.{◌≡◌, ◌+◌, List, ◌∷◌, ◌++◌, take, drop, sym, ap, ◌∙◌, subst}
+use Rattle.std.proofs.Common.{◌+◌, List, ◌++◌, take, drop, sym, ap, ◌∙◌, subst}
 use Rattle.kn_event.specs.declared.entry.Entry.{Entry}
-use Rattle.kn_trace.specs.Trace.{Trace}
 use Rattle.kn_stats.specs.Stands.{StatsState}
 use Rattle.kn_scaler.specs.Stands.{AreNextOfSome, AreNextRows, after_rows}
 use Rattle.kn_scaler.proofs.Settlings.{first_of_some, rest_next, rest_of_some, rows_from, rows_up_to}
