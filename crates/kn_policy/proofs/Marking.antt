@@ -46,13 +46,13 @@ pub first_marked : (cands : List Cand) (r : Option ℕ) → IsFirstByte (is_byte
 unfolding first_available
 first_marked cands None nowhere =
     let none : position_or_len has_seat cands ≡ length cands = position_or_len_is has_seat cands (length cands) nobody (omega arith)
-        (λ k lt. full_where (get_or cands k nobody) _ (mark-at cands k nobody lt) (nowhere k (omega arith) (omega (arith, length-marks cands, lt)))) (λ past. absurd (omega (arith, past))) in
+    (λ k lt. full_where (get_or cands k nobody) _ (mark-at cands k nobody lt) (nowhere k (omega arith) (omega (arith, length-marks cands, lt)))) (λ past. absurd (omega (arith, past))) in
     rw (find_at has_seat cands, none, slice_get_past cands (length cands) (omega arith)) refl
 first_marked cands (Some i) first =
     let inside : i < length cands = omega (arith, length-marks cands, first.0.high) in
     let here : position_or_len has_seat cands ≡ i = position_or_len_is has_seat cands i nobody (omega (arith, inside))
-        (λ k lt. full_where (get_or cands k nobody) _ (mark-at cands k nobody (omega (arith, lt, inside))) (first.0.before k (omega arith) lt))
-        (λ within. free_where (get_or cands i nobody) _ (mark-at cands i nobody within) first.1) in
+    (λ k lt. full_where (get_or cands k nobody) _ (mark-at cands k nobody (omega (arith, lt, inside))) (first.0.before k (omega arith) lt))
+    (λ within. free_where (get_or cands i nobody) _ (mark-at cands i nobody within) first.1) in
     (inside, λ d. rw (find_at has_seat cands, here, slice_get-get_or cands i d inside) refl)
 
 -- ---- once round

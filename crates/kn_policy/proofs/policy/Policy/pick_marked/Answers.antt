@@ -20,9 +20,9 @@ returns-then-free-eq0-clause-found c =
 
 pub place_by-requires-clause-all : goal.place_by-requires-clause-all
 place_by-requires-clause-all c = λ no_limit. elim c.else-self-eq0.branch [
-    else-self-eq0-via-then-self-eq0+else-free-ready w ↦ all_free c.args.ready.now (let all : length c.args.ready.now ≤ count_by has_seat c.args.ready.now = search rules in all)
+  | else-self-eq0-via-then-self-eq0+else-free-ready w ↦ all_free c.args.ready.now (let all : length c.args.ready.now ≤ count_by has_seat c.args.ready.now = search rules in all)
   | else-self-eq0-via-else-self-eq0 w ↦ absurd (w.if-self-eq0.false no_limit)
-  ]
+]
 
 pub returns-in_err-place-clause-chosen : goal.returns-in_err-place-clause-chosen
 returns-in_err-place-clause-chosen c =
