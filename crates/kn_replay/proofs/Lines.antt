@@ -6,7 +6,7 @@ use Rattle.kn_event.specs.declared.event.Event.{Event}
 use Rattle.kn_event.specs.EventLine.{event_of}
 use Rattle.kn_journal.specs.Causes.{Cause, after_end, line_too_long, no_end}
 use Rattle.kn_journal.specs.Lines.{begins_with_lf, fits, lines, lines_at_lf, onto_first, without_crs}
-use Rattle.kn_journal.specs.Parts.{Part, part}
+use Rattle.kn_journal.specs.Parts.{Part, part, then_part}
 use Rattle.kn_journal.specs.Journal.{Read, end_part, event_in, in_time, next_in, next_part, none_read, nothing_part, read_events, with_event}
 
 -- ---- events in front of what is read behind them
@@ -40,21 +40,19 @@ same_part {T} value x number m left more r h k =
     let same : one ≡ other = cc in
     record { values = ap (λ (p : Part T). p.value) same; numbers = ap (λ (p : Part T). p.number) same; lefts = ap (λ (p : Part T). p.left) same }
 
+-- what is read behind `end`
+abbrev end_after : Result (Part ⊤) Cause → Result (Part (Option Event)) Cause
+end_after r = then_part r (λ _ n left. Ok (part None n left))
+
 end_gives : (number : ℕ) (more : List (List ℕ)) (x : Option Event) (m : ℕ) (left : List (List ℕ)) → end_part number more ≡ Ok (part x m left) → (x ≡ None) × (left ≡ [])
 end_gives number [] x m left h =
     let same = same_part None x number m [] left (Ok (part None number [])) refl h in
     (sym same.values, sym same.lefts)
-end_gives number (line ∷ more) x m left h = by_fit (fits line) refl h
+end_gives number (line ∷ more) x m left h = by_fit (fits line) h
   where
-    by_fit : (f : Bool) → fits line ≡ f → end_part number (line ∷ more) ≡ Ok (part x m left) → (x ≡ None) × (left ≡ [])
-    by_fit true e g = absurd (none_ok (rw e at g))
-      where
-        none_ok : Err {T = Part (Option Event)} (after_end (number + 1)) ≡ Ok (part x m left) → ⊥
-        none_ok k = cc
-    by_fit false e g = absurd (none_ok (rw e at g))
-      where
-        none_ok : Err {T = Part (Option Event)} (line_too_long (number + 1)) ≡ Ok (part x m left) → ⊥
-        none_ok k = cc
+    by_fit : (f : Bool) → end_after (if f then Err (after_end (number + 1)) else Err (line_too_long (number + 1))) ≡ Ok (part x m left) → (x ≡ None) × (left ≡ [])
+    by_fit true g = cc
+    by_fit false g = cc
 
 some_none : (e : Event) → Some e ≡ None → ⊥
 some_none e h = cc

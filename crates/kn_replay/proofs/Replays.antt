@@ -19,19 +19,20 @@ use Rattle.kn_core.specs.Steps.{IsWithinRange}
 use Rattle.kn_journal.specs.declared.error.JournalError.{JournalError}
 use Rattle.kn_journal.specs.declared.error.JournalError.TheVariants as error
 use Rattle.kn_journal.specs.declared.journal.Journal.{Journal}
+use Rattle.kn_journal.specs.declared.journal.Opening.{Opening}
 use Rattle.kn_journal.specs.declared.journal.Setup.{Setup}
 use Rattle.kn_journal.specs.declared.status.Status.{Status}
 use Rattle.kn_journal.specs.declared.status.Status.TheVariants as status
 use Rattle.kn_journal.specs.Causes.{Cause, after_end, bad_first_line, bad_line, bad_setup, error_of, line_too_long, no_end, time_back, time_too_large}
 use Rattle.kn_journal.specs.Lines.{lines}
-use Rattle.kn_journal.specs.Journal.{Read, Verdict, bad, from_read, journal_of, next_part, none_read, read_events, verdict, verdict_on}
+use Rattle.kn_journal.specs.Journal.{Read, Verdict, bad, from_read, journal_of, next_part, none_read, opening_part, read_events, start_part, verdict, verdict_of_lines, verdict_on, version_of}
 use Rattle.kn_journal.specs.Reading.{TakesPart}
-use Rattle.kn_journal.specs.Telling.{Gives, Refused, Refuses, TakesEnd}
-use Rattle.kn_replay.specs.Replaying.{BreaksFollowing, BreaksIn, Follows, IsFollowed, IsGoodSoFar, IsReplayed, Stops, Writes, ending, rest_of_report, status_by, status_of}
+use Rattle.kn_journal.specs.Telling.{Gives, Refuses, StopsAmid, TakesEnd}
+use Rattle.kn_replay.specs.Replaying.{BreaksBefore, BreaksFollowing, BreaksIn, EndsThere, Follows, IsFollowed, IsGoodSoFar, IsReplayed, Opens, Stops, Writes, ending, rest_of_report, status_by, status_of}
 use Rattle.kn_replay.specs.Waiting.{Adds}
 use Rattle.kn_replay.proofs.Lines.{IsEventLine, end_line, next_end, next_event, next_none, next_refused, no_byte, no_line, with_events, with_events-more}
 use Rattle.kn_replay.proofs.Pieces.{prefix_more, rows_text-append, rows_text-nil}
-use Rattle.kn_replay.proofs.Waits.{adds_all, adds_some}
+use Rattle.kn_replay.proofs.Waits.{adds_all, adds_some, adds_stop}
 
 -- ---- what events add
 
@@ -224,11 +225,6 @@ some_waits : (old mid new : Option (List ℕ)) (p q x y : List ℕ) → Adds old
 some_waits old mid new p q x y h some =
     subst (AppendsPrefix old new) (ap (λ (z : List ℕ). p ++ (x ++ z)) (append-nil y)) (adds_some old mid new p q x y [] h some)
 
-some_only : (old mid new : Option (List ℕ)) (p q x : List ℕ) → Adds old mid p q x → AppendsPrefix mid new q → AppendsPrefix old new (p ++ x)
-some_only old mid new p q x h some =
-    let more : AppendsPrefix mid new (q ++ []) = subst (AppendsPrefix mid new) (sym (append-nil q)) some in
-    subst (AppendsPrefix old new) (ap (λ (z : List ℕ). p ++ z) (append-nil x)) (some_waits old mid new p q x [] h more)
-
 pub goes_cut : (version : ℕ) (s : Spec) (c : Trace) (last number : ℕ) (known : Option (List ℕ)) (waiting now : List ℕ) (old mid new : Option (List ℕ)) (es : List Event) (time m : ℕ) (rest : Option (List ℕ)) (e : Event) (n : ℕ) (left after : Option (List ℕ))
     → GoesOn version last number known es time m rest → Gives (next_part version time m) (Some e) n rest left
     → Adds old mid waiting now (rows_text (added s c es)) → AppendsPrefix mid new (now ++ rows_text (react s (c ++ added s c es) e))
@@ -258,7 +254,7 @@ fault_ends version s c last number xs left waiting now old mid new es r refused 
     (waiting ++ text, whole, (record { events = es; refused = refused }, breaks, refl))
 fault_ends version s c last number xs left waiting now old mid new es r refused result all breaks adds (inr (is, some)) =
     subst (λ (x : Status). Follows version s c last number (Some xs) left waiting old new x) (sym is)
-    (cut version s c es r _ waiting [] old new all (some_only old mid new waiting now (rows_text (added s c es)) adds some))
+    (cut version s c es r _ waiting [] old new all (adds_stop old mid new waiting now (rows_text (added s c es)) adds some))
 
 -- within a line
 breaks_within : (version last number : ℕ) (all : List (List ℕ)) (es : List Event) (time m : ℕ) (ys : List ℕ) (left : Option (List ℕ))
@@ -351,3 +347,124 @@ never_usage x h k = subst IsReplayed k h
 
 pub rose_on : (a b d : ℕ) → a ≤ b → Rose b d → Rose a d
 rose_on a b d h k = grind (arith)
+
+-- ---- whether the bytes are known
+
+-- known bytes stay known
+abbrev pub IsStill : Option (List ℕ) → Option (List ℕ) → Type 0
+IsStill None new = Unit {0}
+IsStill (Some xs) None = ⊥
+IsStill (Some xs) (Some ys) = Unit {0}
+
+pub still_begin : (a : Option (List ℕ)) → IsStill a a
+still_begin None = tt
+still_begin (Some xs) = tt
+
+pub still_more : (version last n : ℕ) (e : Event) (m : ℕ) (a b d : Option (List ℕ)) → IsStill a b → Gives (next_part version last n) (Some e) m b d → IsStill a d
+still_more version last n e m None b d h g = tt
+still_more version last n e m (Some xs) None d h g = absurd h
+still_more version last n e m (Some xs) (Some ys) None h g = absurd g
+still_more version last n e m (Some xs) (Some ys) (Some zs) h g = tt
+
+pub ends_there : (version last n m : ℕ) (a b d : Option (List ℕ)) → IsStill a b → Gives (next_part version last n) None m b d → EndsThere a d
+ends_there version last n m None b d h g = tt
+ends_there version last n m (Some xs) None d h g = absurd h
+ends_there version last n m (Some xs) (Some ys) None h g = absurd g
+ends_there version last n m (Some xs) (Some ys) (Some zs) h g = ap (λ (z : List ℕ). Some z) (no_byte zs (next_none version last n (lines ys) m (lines zs) g))
+
+-- ---- statuses
+
+pub stop_followed : (waiting : List ℕ) (old new : Option (List ℕ)) (end result : Status) → Stops waiting old new end result → IsFollowed end → IsFollowed result
+stop_followed waiting old new end result (inl (is, all)) h = subst IsFollowed (sym is) h
+stop_followed waiting old new end result (inr (is, some)) h = subst IsFollowed (sym is) tt
+
+pub stop_reads : (waiting : List ℕ) (old new : Option (List ℕ)) (end result : Status) → Stops waiting old new end result → result ≡ status.ReadFault → end ≡ status.ReadFault
+stop_reads waiting old new end result (inl (is, all)) h = sym is ∙ h
+stop_reads waiting old new end result (inr (is, some)) h = absurd (other (sym is ∙ h))
+  where
+    other : status.WriteFault ≡ status.ReadFault → ⊥
+    other e = cc
+
+pub stops_behind : (old mid new : Option (List ℕ)) (p q x : List ℕ) (end result : Status) → Adds old mid p q x → Stops q mid new end result → Stops (p ++ x) old new end result
+stops_behind old mid new p q x end result h stops =
+    subst (λ (z : List ℕ). Stops (p ++ z) old new end result) (append-nil x) (stops_after old mid new p q x [] end result h (stops_nil q mid new end result stops))
+
+pub followed_of : (e : JournalError) → (e ≡ error.Memory → ⊥) → IsFollowed (status_of e)
+followed_of error.Memory h = absurd (h refl)
+followed_of error.ReadFault h = tt
+followed_of error.BadFirstLine h = tt
+followed_of (error.BadSetup line why) h = tt
+followed_of (error.LineTooLong line) h = tt
+followed_of (error.BadLine line why) h = tt
+followed_of (error.TimeBack line before own) h = tt
+followed_of (error.TimeTooLarge line) h = tt
+followed_of error.NoEnd h = tt
+followed_of (error.AfterEnd line) h = tt
+
+pub fault_of : (e : JournalError) → status_of e ≡ status.ReadFault → e ≡ error.ReadFault
+fault_of error.ReadFault h = refl
+fault_of error.Memory h = cc
+fault_of error.BadFirstLine h = cc
+fault_of (error.BadSetup line why) h = cc
+fault_of (error.LineTooLong line) h = cc
+fault_of (error.BadLine line why) h = cc
+fault_of (error.TimeBack line before own) h = cc
+fault_of (error.TimeTooLarge line) h = cc
+fault_of error.NoEnd h = cc
+fault_of (error.AfterEnd line) h = cc
+
+pub no_write_fault : (e : JournalError) → status_of e ≡ status.WriteFault → ⊥
+no_write_fault error.ReadFault h = cc
+no_write_fault error.Memory h = cc
+no_write_fault error.BadFirstLine h = cc
+no_write_fault (error.BadSetup line why) h = cc
+no_write_fault (error.LineTooLong line) h = cc
+no_write_fault (error.BadLine line why) h = cc
+no_write_fault (error.TimeBack line before own) h = cc
+no_write_fault (error.TimeTooLarge line) h = cc
+no_write_fault error.NoEnd h = cc
+no_write_fault (error.AfterEnd line) h = cc
+
+pub either : {A B C D : Type 0} → A ⊎ B → (A → C) → (B → D) → C ⊎ D
+either (inl a) f g = inl (f a)
+either (inr b) f g = inr (g b)
+
+-- ---- what stands before the events
+
+verdict_unopened : (xs : List ℕ) (cause : Cause) → opening_part version_of 0 (lines xs) ≡ Err cause → verdict xs ≡ bad None cause
+unfolding verdict verdict_of_lines
+verdict_unopened xs cause h = rw h refl
+
+verdict_unstarted : (xs : List ℕ) (opening : Opening) (n : ℕ) (left : List (List ℕ)) (cause : Cause) → opening_part version_of 0 (lines xs) ≡ Ok (part opening n left) → start_part n left ≡ Err cause
+    → verdict xs ≡ bad None cause
+unfolding verdict verdict_of_lines
+verdict_unstarted xs opening n left cause h k = rw h (rw k refl)
+
+pub setup_fails : (known new : Option (List ℕ)) (version number : ℕ) (e : JournalError) → Refuses (opening_part version_of 0) e known
+    → (e ≡ error.ReadFault → StopsAmid (opening_part version_of 0) known new) → Opens known new version number (Err e)
+setup_fails None new version number e h amid = tt
+setup_fails (Some xs) new version number error.ReadFault h amid = inr (amid refl)
+setup_fails (Some xs) new version number error.Memory h amid = tt
+setup_fails (Some xs) new version number error.BadFirstLine (cause, is, h) amid = (cause, is, verdict_unopened xs cause h)
+setup_fails (Some xs) new version number (error.BadSetup line why) (cause, is, h) amid = (cause, is, verdict_unopened xs cause h)
+setup_fails (Some xs) new version number (error.LineTooLong line) (cause, is, h) amid = (cause, is, verdict_unopened xs cause h)
+setup_fails (Some xs) new version number (error.BadLine line why) (cause, is, h) amid = (cause, is, verdict_unopened xs cause h)
+setup_fails (Some xs) new version number (error.TimeBack line before own) (cause, is, h) amid = (cause, is, verdict_unopened xs cause h)
+setup_fails (Some xs) new version number (error.TimeTooLarge line) (cause, is, h) amid = (cause, is, verdict_unopened xs cause h)
+setup_fails (Some xs) new version number error.NoEnd (cause, is, h) amid = (cause, is, verdict_unopened xs cause h)
+setup_fails (Some xs) new version number (error.AfterEnd line) (cause, is, h) amid = (cause, is, verdict_unopened xs cause h)
+
+pub start_fails : (known mid new : Option (List ℕ)) (opening : Opening) (n version number : ℕ) (e : JournalError) → Gives (opening_part version_of 0) opening n known mid
+    → Refuses (start_part n) e mid → (e ≡ error.ReadFault → TakesPart mid new) → Opens known new version number (Err e)
+start_fails None mid new opening n version number e g h amid = tt
+start_fails (Some xs) None new opening n version number e g h amid = absurd g
+start_fails (Some xs) (Some ys) new opening n version number error.ReadFault g h amid = inl (record { opening = opening; number = n; mid = ys; read = g; rest = amid refl })
+start_fails (Some xs) (Some ys) new opening n version number error.Memory g h amid = tt
+start_fails (Some xs) (Some ys) new opening n version number error.BadFirstLine g (cause, is, h) amid = (cause, is, verdict_unstarted xs opening n (lines ys) cause g h)
+start_fails (Some xs) (Some ys) new opening n version number (error.BadSetup line why) g (cause, is, h) amid = (cause, is, verdict_unstarted xs opening n (lines ys) cause g h)
+start_fails (Some xs) (Some ys) new opening n version number (error.LineTooLong line) g (cause, is, h) amid = (cause, is, verdict_unstarted xs opening n (lines ys) cause g h)
+start_fails (Some xs) (Some ys) new opening n version number (error.BadLine line why) g (cause, is, h) amid = (cause, is, verdict_unstarted xs opening n (lines ys) cause g h)
+start_fails (Some xs) (Some ys) new opening n version number (error.TimeBack line before own) g (cause, is, h) amid = (cause, is, verdict_unstarted xs opening n (lines ys) cause g h)
+start_fails (Some xs) (Some ys) new opening n version number (error.TimeTooLarge line) g (cause, is, h) amid = (cause, is, verdict_unstarted xs opening n (lines ys) cause g h)
+start_fails (Some xs) (Some ys) new opening n version number error.NoEnd g (cause, is, h) amid = (cause, is, verdict_unstarted xs opening n (lines ys) cause g h)
+start_fails (Some xs) (Some ys) new opening n version number (error.AfterEnd line) g (cause, is, h) amid = (cause, is, verdict_unstarted xs opening n (lines ys) cause g h)

@@ -1,6 +1,6 @@
 -- Text that waits, and what is written of it.
 use Rattle.std.proofs.Common.{◌≡◌, ◌+◌, ℕ, List, [], ◌∷◌, ◌++◌, append_assoc, append-nil, refl, sym, ap, ◌∙◌, subst}
-use Rattle.std.specs.Prelude.{Option}
+use Rattle.std.specs.Prelude.{Option, Result, Ok, Err, OnErr, OnOk}
 use Rattle.std.specs.Io.KnownBytes.{Appends}
 use Rattle.std.proofs.KnownBytes.{Appends-nil, Appends-trans}
 use Rattle.kn_io.specs.Prefix.{AppendsPrefix}
@@ -49,3 +49,24 @@ adds_some a b d p q x y rest h k =
     let all : h.written ++ ((q ++ y) ++ rest) ≡ p ++ (x ++ (y ++ rest)) =
     ap (λ (z : List ℕ). h.written ++ z) (append_assoc q y rest) ∙ adds_then a b p q x (y ++ rest) h ∙ append_assoc p x (y ++ rest) in
     subst (AppendsPrefix a d) all (prefix_after a b d h.written (q ++ y) rest h.held k)
+
+-- and only waits then
+pub adds_stop : (a b d : Option (List ℕ)) (p q x : List ℕ) → Adds a b p q x → AppendsPrefix b d q → AppendsPrefix a d (p ++ x)
+adds_stop a b d p q x h k =
+    let more : AppendsPrefix b d (q ++ []) = subst (AppendsPrefix b d) (sym (append-nil q)) k in
+    let text : p ++ (x ++ ([] ++ [])) ≡ p ++ x = ap (λ (z : List ℕ). p ++ z) (append-nil x) in
+    subst (AppendsPrefix a d) text (adds_some a b d p q x [] [] h more)
+
+-- all is written, and some of a text behind it
+pub adds_cut : (a b d : Option (List ℕ)) (p q y : List ℕ) → Adds a b p q [] → q ≡ [] → AppendsPrefix b d y → AppendsPrefix a d (p ++ y)
+adds_cut a b d p q y h e k =
+    subst (λ (z : List ℕ). AppendsPrefix a d (p ++ z)) (append-nil y)
+    (adds_some a b d p q [] y [] h (subst (λ (z : List ℕ). AppendsPrefix b d (z ++ y)) (sym e) k))
+
+pub on_ok : {T E P Q : Type 0} (r : Result T E) → (P → Q) → OnOk r P → OnOk r Q
+on_ok (Ok x) f h = f h
+on_ok (Err e) f h = tt
+
+pub on_err : {T E P Q : Type 0} (r : Result T E) → (P → Q) → OnErr r P → OnErr r Q
+on_err (Ok x) f h = tt
+on_err (Err e) f h = f h

@@ -1,6 +1,6 @@
 -- What replaying a journal writes, and how it ends.
 use Rattle.std.specs.Prelude.{◌≡◌, ◌⊎◌, ℕ, ◌+◌, ◌++◌, ◌≤◌, List, [], ◌∷◌, length, Option, None, Some, Result, Ok, Err, ⊤}
-use Rattle.std.specs.Io.KnownBytes.{Appends, IsAtEnd, prepend_known}
+use Rattle.std.specs.Io.KnownBytes.{Appends, prepend_known}
 use Rattle.kn_event.specs.declared.entry.Entry.{Entry}
 use Rattle.kn_event.specs.declared.event.Event.{Event}
 use Rattle.kn_event.specs.declared.revision.Spec.{Spec}
@@ -110,6 +110,11 @@ abbrev pub Replays : Option (List ℕ) → Option (List ℕ) → Option (List �
 Replays None left old new result = ⊤
 Replays (Some xs) left old new result = Writes (report_of (judged xs)) (status_by (refusal_of (judged xs))) (BreaksAhead xs left) old new result
 
+-- nothing is left of the bytes
+abbrev pub EndsThere : Option (List ℕ) → Option (List ℕ) → Type 0
+EndsThere None new = ⊤
+EndsThere (Some xs) new = new ≡ Some []
+
 -- ---- the part behind the start
 
 -- a revision that is replayed, the counts of its trace, the entries of the last event, and the text that waits
@@ -154,7 +159,7 @@ Stops waiting old new end result = ((result ≡ end) × Appends old new waiting)
 -- behind a start no memory is wanted
 abbrev pub IsFollowed : Status → Type 0
 IsFollowed status.Memory = ⊥
-IsFollowed status = IsReplayed status
+IsFollowed x = IsReplayed x
 
 -- a setup and a start, behind which these lines are left
 pub record Opened (all : List (List ℕ)) (version : ℕ) (setup : Setup) (start number : ℕ) (left : List (List ℕ)) : Type 0 where

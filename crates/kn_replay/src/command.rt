@@ -1,13 +1,12 @@
 //! The command of `kact`: it replays a journal and writes its report.
 ghost use Rattle.std.specs.Prelude.{◌≡◌, ◌⊎◌, ◌↔◌, ◌+◌, ◌≤◌, ℕ, false, map, string_bytes, take, true};
-ghost use Rattle.std.specs.Io.KnownBytes.{IsAtEnd};
 ghost use Rattle.kn_io.specs.Causes.{Rose};
 ghost use Rattle.kn_event.specs.declared.event.Event.{Event};
 ghost use Rattle.kn_trace.specs.Events.{trace_of};
 ghost use Rattle.kn_trace.specs.Laws.{IsInert, IsLawful, IsSettled};
 ghost use Rattle.kn_journal.specs.Reading.{most_taken};
 ghost use Rattle.kn_replay.specs.Report.{OnJournalOf, trace_of_journal};
-ghost use Rattle.kn_replay.specs.Replaying.{IsReplayed, Replays, Tells};
+ghost use Rattle.kn_replay.specs.Replaying.{EndsThere, IsReplayed, Replays, Tells};
 ghost use Rattle.kn_replay.specs.Texts.{status_text};
 ghost use Rattle.kn_replay.specs.Words.{is_replay};
 
@@ -61,7 +60,7 @@ pub fn run<S: Source, O: Sink, E: Sink>(
     // The report of the bytes, and the first refused line with its cause.
     ensures report { is_replay (map string_bytes words.now) ≡ true → Replays (S.left input.old) (S.left input.new) (O.held out.old) (O.held out.new) result }
     ensures only { (result ≡ Status.Usage) ⊎ IsReplayed result }
-    ensures ended { result ≡ Status.Ok → IsAtEnd (S.left input.new) }
+    ensures ended { result ≡ Status.Ok → EndsThere (S.left input.old) (S.left input.new) }
     ensures memory { result ≡ Status.Memory → out.new ≡ out.old }
 
     // A fault comes only where its count rose, or 2^56 bytes were read.

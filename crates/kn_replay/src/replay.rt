@@ -1,6 +1,5 @@
 //! A journal that is replayed, event after event.
 ghost use Rattle.std.specs.Prelude.{◌≡◌, ◌≢◌, ◌⊎◌, ◌+◌, ◌*◌, ◌<◌, ◌≤◌, ◌^◌, [], ◌++◌, length, Err, IfOk, IfErr, OnOk, OnErr, None, Some, false};
-ghost use Rattle.std.specs.Io.KnownBytes.{Appends, IsAtEnd};
 ghost use Rattle.kn_io.specs.Causes.{HasCause, Rose};
 ghost use Rattle.kn_io.specs.Prefix.{AppendsPrefix};
 ghost use Rattle.kn_event.specs.EventLine.{IsInJournalRange};
@@ -10,7 +9,7 @@ ghost use Rattle.kn_trace.specs.Report.{last_line, rows_text, totals};
 ghost use Rattle.kn_core.specs.State.{IsFixed, StandsFor};
 ghost use Rattle.kn_journal.specs.Reading.{IsBalanced, most_taken, unread};
 ghost use Rattle.kn_journal.specs.Journal.{time_most};
-ghost use Rattle.kn_replay.specs.Replaying.{Follows, IsFollowed, IsReplayed, Opens, Replays, Stops, status_of};
+ghost use Rattle.kn_replay.specs.Replaying.{EndsThere, Follows, IsFollowed, IsReplayed, Opens, Replays, Stops, status_of};
 ghost use Rattle.kn_replay.specs.Waiting.{Adds};
 
 use crate::report::Tally;
@@ -172,7 +171,7 @@ impl Replay {
         ensures follows { (c : Trace) → StandsFor self.old.revision c → self.old.counted.totals ≡ totals c →
             Follows reader.old.version self.old.revision.spec c reader.old.last reader.old.number (unread reader.old.input (S.left source.old)) (unread reader.new.input (S.left source.new)) self.old.waiting (O.held out.old) (O.held out.new) result }
         ensures followed { IsFollowed result }
-        ensures ended { result ≡ Status.Ok → IsAtEnd (unread reader.new.input (S.left source.new)) }
+        ensures ended { result ≡ Status.Ok → EndsThere (unread reader.old.input (S.left source.old)) (unread reader.new.input (S.left source.new)) }
         ensures read_fault { result ≡ Status.ReadFault → Rose (S.Faulty.faults source.old) (S.Faulty.faults source.new) ⊎ (most_taken ≤ reader.new.input.taken) }
         ensures write_fault { result ≡ Status.WriteFault → Rose (O.Faulty.faults out.old) (O.Faulty.faults out.new) }
         ensures balance { IsBalanced reader.old.input reader.new.input (S.given source.old) (S.given source.new) }
@@ -226,7 +225,7 @@ fn open<S: Source>(
 pub fn replay_journal<S: Source, O: Sink>(alloc: Global, source: &mut S, out: &mut O) -> Status
     ensures report { Replays (S.left source.old) (S.left source.new) (O.held out.old) (O.held out.new) result }
     ensures replayed { IsReplayed result }
-    ensures ended { result ≡ Status.Ok → IsAtEnd (S.left source.new) }
+    ensures ended { result ≡ Status.Ok → EndsThere (S.left source.old) (S.left source.new) }
     ensures memory { result ≡ Status.Memory → out.new ≡ out.old }
     ensures read_fault { result ≡ Status.ReadFault → Rose (S.Faulty.faults source.old) (S.Faulty.faults source.new) ⊎ (S.given source.old + most_taken ≤ S.given source.new) }
     ensures write_fault { result ≡ Status.WriteFault → Rose (O.Faulty.faults out.old) (O.Faulty.faults out.new) }

@@ -1,22 +1,28 @@
-use Rattle.std.proofs.Common.{rules, ◌≡◌, ◌≢◌, ◌⊎◌, ◌+◌, ◌*◌, ◌<◌, ◌≤◌, ◌^◌, [], ◌++◌, length, Err, IfOk, IfErr, OnOk, OnErr, None, Some, false, ℕ, ◌-◌, ◌/◌, ◌%◌, Bool, true, nat_eq, nat_lt, List, ◌∷◌, slice_index_or, slice_set, bit_and, bit_or, Fits, w8, w32, w64, Bor, MutBor}
-use Rattle.std.specs.Io.KnownBytes.{Appends, IsAtEnd}
-use Rattle.kn_io.specs.Causes.{HasCause, Rose}
-use Rattle.kn_io.specs.Prefix.{AppendsPrefix}
-use Rattle.kn_event.specs.EventLine.{IsInJournalRange}
-use Rattle.kn_trace.specs.Trace.{Trace}
-use Rattle.kn_trace.specs.Events.{opening, react}
-use Rattle.kn_trace.specs.Report.{last_line, rows_text, totals}
-use Rattle.kn_core.specs.State.{IsFixed, StandsFor}
-use Rattle.kn_journal.specs.Reading.{IsBalanced, most_taken, unread}
-use Rattle.kn_journal.specs.Journal.{time_most}
-use Rattle.kn_replay.specs.Replaying.{Follows, IsFollowed, IsReplayed, Opens, Replays, Stops, status_of}
-use Rattle.kn_replay.specs.Waiting.{Adds}
+use Rattle.std.proofs.Common.{◌≡◌, ℕ, ap, ◌∙◌, subst}
+use Rattle.std.specs.Prelude.{Err}
+use Rattle.kn_journal.specs.declared.error.JournalError.{JournalError}
+use Rattle.kn_journal.specs.Journal.{opening_part, version_of}
+use Rattle.kn_journal.specs.Reading.{unread}
+use Rattle.kn_journal.specs.Telling.{Gives, Refuses, StopsAmid}
+use Rattle.kn_replay.proofs.Replays.{setup_fails, start_fails}
 use Rattle.kn_replay.proofs.replay.open.Goals as goal
 
--- src/replay.rt:217:23
 pub returns-in-Err-clause-opens : goal.returns-in-Err-clause-opens
-returns-in-Err-clause-opens g c = ?
+returns-in-Err-clause-opens g c =
+    let old = unread c.args.reader.now.input (g.S.Source.left c.args.source.now) in
+    let new = unread c.setup.new.self.input (g.S.Source.left c.setup.new.source) in
+    setup_fails old new c.setup.new.self.version c.setup.new.self.number c.in-Err.error
+    (subst (λ (n : ℕ). Refuses (opening_part version_of n) c.in-Err.error old) c.requires.number (c.in-Err.ensures.tells c.requires.good))
+    (λ is. subst (λ (n : ℕ). StopsAmid (opening_part version_of n) old new) c.requires.number (c.setup.ensures.amid c.requires.good (c.in-Err.is ∙ ap (λ (e : JournalError). Err e) is)))
 
--- src/replay.rt:200:1
 pub returns-in-Err-start-clause-opens : goal.returns-in-Err-start-clause-opens
-returns-in-Err-start-clause-opens g c = ?
+returns-in-Err-start-clause-opens g c =
+    let old = unread c.args.reader.now.input (g.S.Source.left c.args.source.now) in
+    let mid = unread c.setup.new.self.input (g.S.Source.left c.setup.new.source) in
+    let new = unread c.start.new.self.input (g.S.Source.left c.start.new.source) in
+    let good = c.in-Ok.ensures.good in
+    let opening = record { version = c.setup.new.self.version; setup = c.in-Ok.setup } in
+    start_fails old mid new opening c.setup.new.self.number c.start.new.self.version c.start.new.self.number c.in-Err-start.error
+    (subst (λ (n : ℕ). Gives (opening_part version_of n) opening c.setup.new.self.number old mid) c.requires.number (c.in-Ok.ensures.tells c.requires.good))
+    (c.in-Err-start.ensures.tells good)
+    (λ is. c.start.ensures.amid good (c.in-Err-start.is ∙ ap (λ (e : JournalError). Err e) is))

@@ -1,17 +1,15 @@
-use Rattle.std.proofs.Common.{rules, ◌≡◌, ℕ, ◌≤◌, List, ◌++◌, codes, length, ◌+◌, ◌-◌, ◌*◌, ◌<◌, ◌/◌, ◌%◌, Bool, true, false, nat_eq, nat_lt, [], ◌∷◌, slice_index_or, slice_set, bit_and, bit_or, Fits, w8, w32, w64, Bor, MutBor}
-use Rattle.std.specs.Fmt.{decimal}
-use Rattle.kn_config.specs.Keys.{key_text}
-use Rattle.kn_replay.specs.Texts.{at_line, config_text, error_text, fault_text, field_text, setup_text, spec_text, status_text, told}
+use Rattle.std.proofs.Common.{append_assoc}
+use Rattle.kn_replay.specs.Texts.{setup_text}
 use Rattle.kn_replay.proofs.texts.put_setup.Goals as goal
 
--- src/texts.rt:84:1
 pub returns-in-Config-clause-value : goal.returns-in-Config-clause-value
-returns-in-Config-clause-value c = ?
+unfolding setup_text
+returns-in-Config-clause-value c = rw (c.in-Config.is, c.put_config.ensures.value, c.put.ensures) (simp append_assoc)
 
--- src/texts.rt:84:1
 pub returns-in-Revision-clause-value : goal.returns-in-Revision-clause-value
-returns-in-Revision-clause-value c = ?
+unfolding setup_text
+returns-in-Revision-clause-value c = rw (c.in-Revision.is, c.put_spec.ensures.value, c.put-in-Revision.ensures) (simp append_assoc)
 
--- src/texts.rt:84:1
 pub returns-in-BadWord-clause-value : goal.returns-in-BadWord-clause-value
-returns-in-BadWord-clause-value c = ?
+unfolding setup_text
+returns-in-BadWord-clause-value c = rw c.in-BadWord.is c.put-in-BadWord.ensures

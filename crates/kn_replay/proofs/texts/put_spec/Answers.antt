@@ -1,13 +1,10 @@
-use Rattle.std.proofs.Common.{rules, ◌≡◌, ℕ, ◌≤◌, List, ◌++◌, codes, length, ◌+◌, ◌-◌, ◌*◌, ◌<◌, ◌/◌, ◌%◌, Bool, true, false, nat_eq, nat_lt, [], ◌∷◌, slice_index_or, slice_set, bit_and, bit_or, Fits, w8, w32, w64, Bor, MutBor}
-use Rattle.std.specs.Fmt.{decimal}
-use Rattle.kn_config.specs.Keys.{key_text}
-use Rattle.kn_replay.specs.Texts.{at_line, config_text, error_text, fault_text, field_text, setup_text, spec_text, status_text, told}
+use Rattle.kn_replay.specs.Texts.{spec_text}
 use Rattle.kn_replay.proofs.texts.put_spec.Goals as goal
 
--- src/texts.rt:64:1
 pub returns-in-NotText-clause-value : goal.returns-in-NotText-clause-value
-returns-in-NotText-clause-value c = ?
+unfolding spec_text
+returns-in-NotText-clause-value c = rw c.in-NotText.is c.put_key.ensures.value
 
--- src/texts.rt:64:1
 pub returns-in-OutOfRange-clause-value : goal.returns-in-OutOfRange-clause-value
-returns-in-OutOfRange-clause-value c = ?
+unfolding spec_text
+returns-in-OutOfRange-clause-value c = rw c.in-OutOfRange.is c.put_key-in-OutOfRange.ensures.value

@@ -1,9 +1,5 @@
-use Rattle.std.proofs.Common.{rules, ◌≡◌, ℕ, ◌≤◌, List, ◌++◌, codes, length, ◌+◌, ◌-◌, ◌*◌, ◌<◌, ◌/◌, ◌%◌, Bool, true, false, nat_eq, nat_lt, [], ◌∷◌, slice_index_or, slice_set, bit_and, bit_or, Fits, w8, w32, w64, Bor, MutBor}
-use Rattle.std.specs.Fmt.{decimal}
-use Rattle.kn_config.specs.Keys.{key_text}
-use Rattle.kn_replay.specs.Texts.{at_line, config_text, error_text, fault_text, field_text, setup_text, spec_text, status_text, told}
+use Rattle.std.proofs.Common.{append_assoc}
 use Rattle.kn_replay.proofs.texts.put_times.Goals as goal
 
--- src/texts.rt:132:1
 pub returns-clause-value : goal.returns-clause-value
-returns-clause-value c = ?
+returns-clause-value c = rw (c.put_integer-2.ensures.value, c.put-2.ensures, c.put_integer.ensures.value, c.put.ensures) (simp append_assoc)

@@ -1,18 +1,15 @@
-use Rattle.std.proofs.Common.{rules, ◌≡◌, ◌≢◌, ◌⊎◌, ◌+◌, ◌*◌, ◌<◌, ◌≤◌, ◌^◌, [], ◌++◌, length, Err, IfOk, IfErr, OnOk, OnErr, None, Some, false, ℕ, ◌-◌, ◌/◌, ◌%◌, Bool, true, nat_eq, nat_lt, List, ◌∷◌, slice_index_or, slice_set, bit_and, bit_or, Fits, w8, w32, w64, Bor, MutBor}
-use Rattle.std.specs.Io.KnownBytes.{Appends, IsAtEnd}
-use Rattle.kn_io.specs.Causes.{HasCause, Rose}
-use Rattle.kn_io.specs.Prefix.{AppendsPrefix}
-use Rattle.kn_event.specs.EventLine.{IsInJournalRange}
-use Rattle.kn_trace.specs.Trace.{Trace}
-use Rattle.kn_trace.specs.Events.{opening, react}
-use Rattle.kn_trace.specs.Report.{last_line, rows_text, totals}
-use Rattle.kn_core.specs.State.{IsFixed, StandsFor}
-use Rattle.kn_journal.specs.Reading.{IsBalanced, most_taken, unread}
-use Rattle.kn_journal.specs.Journal.{time_most}
-use Rattle.kn_replay.specs.Replaying.{Follows, IsFollowed, IsReplayed, Opens, Replays, Stops, status_of}
+use Rattle.std.proofs.Common.{◌≡◌, ◌++◌, List, ℕ, ap, ◌∙◌, subst}
+use Rattle.kn_trace.specs.Report.{last_line}
+use Rattle.kn_journal.specs.declared.status.Status.TheVariants as status
+use Rattle.kn_replay.specs.Replaying.{Running, Stops}
 use Rattle.kn_replay.specs.Waiting.{Adds}
+use Rattle.kn_replay.proofs.Replays.{stops_behind}
 use Rattle.kn_replay.proofs.replay.Replay.end.Goals as goal
 
--- src/replay.rt:146:5
 pub returns-clause-stops : goal.returns-clause-stops
-returns-clause-stops g c = ?
+returns-clause-stops g c =
+    let text : c.bytes.result.now ≡ last_line c.args.version c.args.events c.self.inside.tally.totals = c.bytes.ensures ∙ c.last_line.ensures in
+    let adds = subst (λ (x : List ℕ). Adds (g.O.Sink.held c.args.out.now) (g.O.Sink.held c.add.new.out) c.self.inside.waiting c.add.new.self x) text c.in-Ok.ensures.ok in
+    subst (λ (r : Running). Stops (r.waiting ++ last_line c.args.version c.args.events r.counted.totals) (g.O.Sink.held c.args.out.now) (g.O.Sink.held c.stop.new.out) status.Ok c.stop.result)
+    c.self.view_is
+    (stops_behind (g.O.Sink.held c.args.out.now) (g.O.Sink.held c.add.new.out) (g.O.Sink.held c.stop.new.out) c.self.inside.waiting c.add.new.self _ status.Ok c.stop.result adds c.stop.ensures.stops)

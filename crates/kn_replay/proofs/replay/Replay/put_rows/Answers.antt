@@ -1,18 +1,14 @@
-use Rattle.std.proofs.Common.{rules, ◌≡◌, ◌≢◌, ◌⊎◌, ◌+◌, ◌*◌, ◌<◌, ◌≤◌, ◌^◌, [], ◌++◌, length, Err, IfOk, IfErr, OnOk, OnErr, None, Some, false, ℕ, ◌-◌, ◌/◌, ◌%◌, Bool, true, nat_eq, nat_lt, List, ◌∷◌, slice_index_or, slice_set, bit_and, bit_or, Fits, w8, w32, w64, Bor, MutBor}
-use Rattle.std.specs.Io.KnownBytes.{Appends, IsAtEnd}
-use Rattle.kn_io.specs.Causes.{HasCause, Rose}
+use Rattle.std.proofs.Common.{◌++◌, subst}
+use Rattle.std.specs.Prelude.{OnErr}
 use Rattle.kn_io.specs.Prefix.{AppendsPrefix}
-use Rattle.kn_event.specs.EventLine.{IsInJournalRange}
-use Rattle.kn_trace.specs.Trace.{Trace}
-use Rattle.kn_trace.specs.Events.{opening, react}
-use Rattle.kn_trace.specs.Report.{last_line, rows_text, totals}
-use Rattle.kn_core.specs.State.{IsFixed, StandsFor}
-use Rattle.kn_journal.specs.Reading.{IsBalanced, most_taken, unread}
-use Rattle.kn_journal.specs.Journal.{time_most}
-use Rattle.kn_replay.specs.Replaying.{Follows, IsFollowed, IsReplayed, Opens, Replays, Stops, status_of}
-use Rattle.kn_replay.specs.Waiting.{Adds}
+use Rattle.kn_trace.specs.Report.{rows_text}
+use Rattle.kn_replay.specs.Replaying.{Running}
+use Rattle.kn_replay.proofs.Waits.{adds_stop, on_err}
 use Rattle.kn_replay.proofs.replay.Replay.put_rows.Goals as goal
 
--- src/replay.rt:115:5
 pub returns-clause-err : goal.returns-clause-err
-returns-clause-err g c = ?
+returns-clause-err g c =
+    subst (λ (r : Running). OnErr c.flush.result (AppendsPrefix (g.O.Sink.held c.args.out.now) (g.O.Sink.held c.flush.new.out) (r.waiting ++ rows_text r.log))) c.self.view_is
+    (on_err c.flush.result
+    (adds_stop (g.O.Sink.held c.args.out.now) (g.O.Sink.held c.add_rows.new.out) (g.O.Sink.held c.flush.new.out) c.self.inside.waiting c.add_rows.new.waiting (rows_text c.self.inside.log) c.in-Ok.ensures.ok)
+    c.flush.ensures.err)

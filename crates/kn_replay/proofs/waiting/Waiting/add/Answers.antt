@@ -1,14 +1,12 @@
-use Rattle.std.proofs.Common.{rules, ◌≡◌, ◌+◌, ◌≤◌, ◌++◌, [], length, OnOk, OnErr, ℕ, ◌-◌, ◌*◌, ◌<◌, ◌/◌, ◌%◌, Bool, true, false, nat_eq, nat_lt, List, ◌∷◌, slice_index_or, slice_set, bit_and, bit_or, Fits, w8, w32, w64, Bor, MutBor}
-use Rattle.kn_io.specs.Causes.{HasCause}
-use Rattle.kn_io.specs.Prefix.{AppendsPrefix}
-use Rattle.kn_trace.specs.Report.{rows_text}
-use Rattle.kn_replay.specs.Waiting.{Adds}
+use Rattle.kn_replay.proofs.Waits.{adds_cut, adds_past, on_err, on_ok}
 use Rattle.kn_replay.proofs.waiting.Waiting.add.Goals as goal
 
--- src/waiting.rt:72:5
 pub returns-clause-ok : goal.returns-clause-ok
-returns-clause-ok g c = ?
+returns-clause-ok g c =
+    on_ok c.put_all.result (adds_past (g.O.Sink.held c.args.out.now) (g.O.Sink.held c.flush.new.out) (g.O.Sink.held c.put_all.new.out) c.args.self.now c.flush.new.self c.args.text.now c.in-Ok.ensures.ok c.flush.ensures.empty)
+    c.put_all.ensures.ok
 
--- src/waiting.rt:72:5
 pub returns-clause-err : goal.returns-clause-err
-returns-clause-err g c = ?
+returns-clause-err g c =
+    on_err c.put_all.result (adds_cut (g.O.Sink.held c.args.out.now) (g.O.Sink.held c.flush.new.out) (g.O.Sink.held c.put_all.new.out) c.args.self.now c.flush.new.self c.args.text.now c.in-Ok.ensures.ok c.flush.ensures.empty)
+    c.put_all.ensures.err
