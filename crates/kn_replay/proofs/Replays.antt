@@ -25,13 +25,15 @@ use Rattle.kn_journal.specs.declared.status.Status.{Status}
 use Rattle.kn_journal.specs.declared.status.Status.TheVariants as status
 use Rattle.kn_journal.specs.Causes.{Cause, after_end, bad_first_line, bad_line, bad_setup, error_of, line_too_long, no_end, time_back, time_too_large}
 use Rattle.kn_journal.specs.Lines.{lines}
+use Rattle.kn_journal.specs.Parts.{part}
 use Rattle.kn_journal.specs.Journal.{Read, Verdict, bad, from_read, journal_of, next_part, none_read, opening_part, read_events, start_part, verdict, verdict_of_lines, verdict_on, version_of}
 use Rattle.kn_journal.specs.Reading.{TakesPart}
 use Rattle.kn_journal.specs.Telling.{Gives, Refuses, StopsAmid, TakesEnd}
-use Rattle.kn_replay.specs.Replaying.{BreaksBefore, BreaksFollowing, BreaksIn, EndsThere, Follows, IsFollowed, IsGoodSoFar, IsReplayed, Opens, Stops, Writes, ending, rest_of_report, status_by, status_of}
+use Rattle.kn_replay.specs.Replaying.{BreaksAhead, BreaksAmid, BreaksBefore, BreaksFollowing, BreaksIn, EndsThere, Follows, IsFollowed, IsGoodSoFar, IsReplayed, Opened, Opens, Replays, Stops, Writes, ending, refusal_of, rest_of_report, status_by, status_of}
+use Rattle.kn_replay.specs.Report.{built, journal_last_line, journal_rows, judged, not_built, report_of}
 use Rattle.kn_replay.specs.Waiting.{Adds}
 use Rattle.kn_replay.proofs.Lines.{IsEventLine, end_line, next_end, next_event, next_none, next_refused, no_byte, no_line, with_events, with_events-more}
-use Rattle.kn_replay.proofs.Pieces.{prefix_more, rows_text-append, rows_text-nil}
+use Rattle.kn_replay.proofs.Pieces.{prefix_after, prefix_more, prefix_none, rows_text-append, rows_text-nil}
 use Rattle.kn_replay.proofs.Waits.{adds_all, adds_some, adds_stop}
 
 -- ---- what events add
@@ -468,3 +470,179 @@ start_fails (Some xs) (Some ys) new opening n version number (error.TimeBack lin
 start_fails (Some xs) (Some ys) new opening n version number (error.TimeTooLarge line) g (cause, is, h) amid = (cause, is, verdict_unstarted xs opening n (lines ys) cause g h)
 start_fails (Some xs) (Some ys) new opening n version number error.NoEnd g (cause, is, h) amid = (cause, is, verdict_unstarted xs opening n (lines ys) cause g h)
 start_fails (Some xs) (Some ys) new opening n version number (error.AfterEnd line) g (cause, is, h) amid = (cause, is, verdict_unstarted xs opening n (lines ys) cause g h)
+
+-- ---- the whole
+
+opened_verdict : (xs : List ℕ) (version : ℕ) (setup : Setup) (start number : ℕ) (left : List (List ℕ)) → Opened (lines xs) version setup start number left
+    → verdict xs ≡ from_read version setup start (read_events version start number left)
+unfolding verdict verdict_of_lines
+opened_verdict xs version setup start number left h = rw h.opening (rw h.begins refl)
+
+built_fixed : (j : Journal) (refused : Option Cause) (n : ℕ) → j.setup.spec.kind ≡ kind.Fixed n → built (verdict_on j refused) ≡ verdict_on j refused
+built_fixed j None n h = rw h refl
+built_fixed j (Some cause) n h = rw h refl
+
+built_scaled : (j : Journal) (refused : Option Cause) → j.setup.spec.kind ≡ kind.Kpa → built (verdict_on j refused) ≡ not_built
+built_scaled j None h = rw h refl
+built_scaled j (Some cause) h = rw h refl
+
+judged_fixed : (xs : List ℕ) (version : ℕ) (setup : Setup) (start number n : ℕ) (left : List (List ℕ)) → setup.spec.kind ≡ kind.Fixed n → Opened (lines xs) version setup start number left
+    → judged xs ≡ from_read version setup start (read_events version start number left)
+unfolding judged
+judged_fixed xs version setup start number n left h k =
+    let r = read_events version start number left in
+    ap built (opened_verdict xs version setup start number left k) ∙ built_fixed (journal_of version setup start r.events) r.refused n h
+
+-- the report is the opening's rows and what the events add
+report_is : (version : ℕ) (setup : Setup) (start : ℕ) (r : Read)
+    → report_of (from_read version setup start r) ≡ rows_text (opening setup.spec start) ++ rest_of_report version setup.spec (opening setup.spec start) r
+unfolding rest_of_report trace_of journal_rows journal_last_line
+report_is version setup start r = by_refused r.refused
+  where
+    c : Trace
+    c = opening setup.spec start
+
+    more : Trace
+    more = added setup.spec (opening setup.spec start) r.events
+
+    by_refused : (o : Option Cause) → report_of (verdict_on (journal_of version setup start r.events) o) ≡ rows_text c ++ (rows_text more ++ ending version (c ++ more) (length r.events) o)
+    by_refused None =
+        ap (λ (z : List ℕ). z ++ last_line version (length r.events) (totals (c ++ more))) (rows_text-append c more)
+        ∙ append_assoc (rows_text c) (rows_text more) (last_line version (length r.events) (totals (c ++ more)))
+    by_refused (Some cause) = rows_text-append c more ∙ ap (λ (z : List ℕ). rows_text c ++ z) (sym (append-nil (rows_text more)))
+
+status_is : (j : Journal) (refused : Option Cause) → status_by (refusal_of (verdict_on j refused)) ≡ status_by refused
+status_is j None = refl
+status_is j (Some cause) = refl
+
+after_prefix : (x y : List ℕ) (a b d : Option (List ℕ)) → Appends a b x → AppendsPrefix b d y → AppendsPrefix a d (x ++ y)
+after_prefix x y a b d h k = subst (λ (z : List ℕ). AppendsPrefix a d (x ++ z)) (append-nil y) (prefix_after a b d x y [] h k)
+
+writes_after : (written text : List ℕ) (end : Status) (P Q : List ℕ → Type 0) (old mid new : Option (List ℕ)) (result : Status) → Appends old mid written
+    → ((front : List ℕ) → P front → Q (written ++ front)) → IsFollowed result → Writes text end P mid new result → Writes (written ++ text) end Q old new result
+writes_after written text end P Q old mid new status.Ok h f k w = (w.0, Appends-trans old mid new written text h w.1)
+writes_after written text end P Q old mid new status.Usage h f k w = absurd k
+writes_after written text end P Q old mid new (status.BadInput e) h f k w = (w.0, Appends-trans old mid new written text h w.1)
+writes_after written text end P Q old mid new (status.BadSetup e) h f k w = (w.0, Appends-trans old mid new written text h w.1)
+writes_after written text end P Q old mid new status.ReadFault h f k (front, held, p) = (written ++ front, Appends-trans old mid new written front h held, f front p)
+writes_after written text end P Q old mid new status.WriteFault h f k w = after_prefix written text old mid new h w
+writes_after written text end P Q old mid new status.Memory h f k w = absurd k
+writes_after written text end P Q old mid new (status.SlotFault slot) h f k w = absurd k
+writes_after written text end P Q old mid new status.ListenFault h f k w = absurd k
+
+-- the rows of the opening and of these events
+journal_rows-is : (version : ℕ) (setup : Setup) (start : ℕ) (es : List Event)
+    → journal_rows (journal_of version setup start es) ≡ rows_text (opening setup.spec start) ++ rows_text (added setup.spec (opening setup.spec start) es)
+unfolding journal_rows trace_of
+journal_rows-is version setup start es = rows_text-append (opening setup.spec start) (added setup.spec (opening setup.spec start) es)
+
+breaks_after : (xs : List ℕ) (version : ℕ) (setup : Setup) (start number : ℕ) (ys : List ℕ) (ahead : List ℕ) (left : Option (List ℕ)) (written waiting front : List ℕ)
+    → Opened (lines xs) version setup start number (lines ys) → rows_text (opening setup.spec start) ≡ written ++ waiting
+    → BreaksFollowing version setup.spec (opening setup.spec start) start number ys (prepend_known ahead left) waiting front
+    → BreaksAhead xs left (written ++ front)
+breaks_after xs version setup start number ys ahead left written waiting front h rows (read, breaks, is) =
+    let j : Journal = journal_of version setup start read.events in
+    let amid : BreaksAmid (lines xs) (prepend_known ahead left) j =
+    record { number = h.at; after = h.after; begun = number; more = lines ys; refused = read.refused; opening = h.opening; start = h.begins; breaks = breaks } in
+    let more = rows_text (added setup.spec (opening setup.spec start) read.events) in
+    let text : written ++ front ≡ journal_rows j =
+    ap (λ (z : List ℕ). written ++ z) is ∙ sym (append_assoc written waiting more) ∙ ap (λ (z : List ℕ). z ++ more) (sym rows) ∙ sym (journal_rows-is version setup start read.events) in
+    (ahead, inl (j, amid, text))
+
+pub journal_follows : (known rest left : Option (List ℕ)) (ahead : List ℕ) (version : ℕ) (setup : Setup) (start number n : ℕ) (old mid new : Option (List ℕ)) (waiting : List ℕ) (result : Status)
+    → setup.spec.kind ≡ kind.Fixed n → Opens known rest version number (Ok (setup, start)) → Adds old mid [] waiting (rows_text (opening setup.spec start))
+    → Follows version setup.spec (opening setup.spec start) start number rest (prepend_known ahead left) waiting mid new result → IsFollowed result
+    → Replays known left old new result
+journal_follows None rest left ahead version setup start number n old mid new waiting result is h adds follows followed = tt
+journal_follows (Some xs) None left ahead version setup start number n old mid new waiting result is h adds follows followed = absurd h
+journal_follows (Some xs) (Some ys) left ahead version setup start number n old mid new waiting result is h adds follows followed =
+    let s = setup.spec in
+    let c = opening s start in
+    let r = read_events version start number (lines ys) in
+    let P : Verdict → Type 0 = λ v. Writes (report_of v) (status_by (refusal_of v)) (BreaksAhead xs left) old new result in
+    let text : adds.written ++ (waiting ++ rest_of_report version s c r) ≡ report_of (from_read version setup start r) =
+    sym (append_assoc adds.written waiting (rest_of_report version s c r)) ∙ ap (λ (z : List ℕ). z ++ rest_of_report version s c r) (sym adds.all) ∙ sym (report_is version setup start r) in
+    let end : status_by r.refused ≡ status_by (refusal_of (from_read version setup start r)) = sym (status_is (journal_of version setup start r.events) r.refused) in
+    let all = writes_after adds.written _ _ _ (BreaksAhead xs left) old mid new result adds.held
+    (λ front breaks. breaks_after xs version setup start number ys ahead left adds.written waiting front h adds.all breaks) followed follows in
+    subst P (sym (judged_fixed xs version setup start number n (lines ys) is h))
+    (subst (λ (z : List ℕ). Writes z (status_by (refusal_of (from_read version setup start r))) (BreaksAhead xs left) old new result) text
+    (subst (λ (x : Status). Writes (adds.written ++ (waiting ++ rest_of_report version s c r)) x (BreaksAhead xs left) old new result) end all))
+
+-- the opening's rows were not all written
+pub journal_cut : (known rest left : Option (List ℕ)) (version : ℕ) (setup : Setup) (start number n : ℕ) (old new : Option (List ℕ))
+    → setup.spec.kind ≡ kind.Fixed n → Opens known rest version number (Ok (setup, start)) → AppendsPrefix old new (rows_text (opening setup.spec start))
+    → Replays known left old new status.WriteFault
+journal_cut None rest left version setup start number n old new is h some = tt
+journal_cut (Some xs) None left version setup start number n old new is h some = absurd h
+journal_cut (Some xs) (Some ys) left version setup start number n old new is h some =
+    let r = read_events version start number (lines ys) in
+    subst (λ (v : Verdict). AppendsPrefix old new (report_of v)) (sym (judged_fixed xs version setup start number n (lines ys) is h))
+    (subst (AppendsPrefix old new) (sym (report_is version setup start r)) (prefix_more old new _ (rest_of_report version setup.spec (opening setup.spec start) r) some))
+
+judged_scaled : (xs : List ℕ) (version : ℕ) (setup : Setup) (start number : ℕ) (left : List (List ℕ)) → setup.spec.kind ≡ kind.Kpa → Opened (lines xs) version setup start number left → judged xs ≡ not_built
+unfolding judged
+judged_scaled xs version setup start number left h k =
+    let r = read_events version start number left in
+    ap built (opened_verdict xs version setup start number left k) ∙ built_scaled (journal_of version setup start r.events) r.refused h
+
+-- a revision that scales
+pub journal_scales : (known rest left : Option (List ℕ)) (version : ℕ) (setup : Setup) (start number : ℕ) (out : Option (List ℕ))
+    → setup.spec.kind ≡ kind.Kpa → Opens known rest version number (Ok (setup, start)) → Replays known left out out (status_by (refusal_of not_built))
+journal_scales None rest left version setup start number out is h = tt
+journal_scales (Some xs) None left version setup start number out is h = absurd h
+journal_scales (Some xs) (Some ys) left version setup start number out is h =
+    let r = read_events version start number (lines ys) in
+    let all : judged xs ≡ not_built = judged_scaled xs version setup start number (lines ys) is h in
+    subst (λ (v : Verdict). Writes (report_of v) (status_by (refusal_of v)) (BreaksAhead xs left) out out (status_by (refusal_of not_built))) (sym all) (refl, Appends-nil out)
+
+pub journal_memory : (known left : Option (List ℕ)) (out : Option (List ℕ)) → Replays known left out out status.Memory
+journal_memory None left out = tt
+journal_memory (Some xs) left out = Appends-nil out
+
+-- no start was read
+pub journal_fails : (known left : Option (List ℕ)) (ahead : List ℕ) (version number : ℕ) (e : JournalError) (out : Option (List ℕ)) → Opens known (prepend_known ahead left) version number (Err e)
+    → Replays known left out out (status_of e)
+unfolding judged
+journal_fails None left ahead version number e out h = tt
+journal_fails (Some xs) left ahead version number error.ReadFault out h = ([], Appends-nil out, (ahead, inr (refl, h)))
+journal_fails (Some xs) left ahead version number error.Memory out h = Appends-nil out
+journal_fails (Some xs) left ahead version number error.BadFirstLine out (cause, is, h) = rw h (ap status_of (sym is), Appends-nil out)
+journal_fails (Some xs) left ahead version number (error.BadSetup line why) out (cause, is, h) = rw h (ap status_of (sym is), Appends-nil out)
+journal_fails (Some xs) left ahead version number (error.LineTooLong line) out (cause, is, h) = rw h (ap status_of (sym is), Appends-nil out)
+journal_fails (Some xs) left ahead version number (error.BadLine line why) out (cause, is, h) = rw h (ap status_of (sym is), Appends-nil out)
+journal_fails (Some xs) left ahead version number (error.TimeBack line before own) out (cause, is, h) = rw h (ap status_of (sym is), Appends-nil out)
+journal_fails (Some xs) left ahead version number (error.TimeTooLarge line) out (cause, is, h) = rw h (ap status_of (sym is), Appends-nil out)
+journal_fails (Some xs) left ahead version number error.NoEnd out (cause, is, h) = rw h (ap status_of (sym is), Appends-nil out)
+journal_fails (Some xs) left ahead version number (error.AfterEnd line) out (cause, is, h) = rw h (ap status_of (sym is), Appends-nil out)
+
+pub nothing_ahead : (ahead : List ℕ) (left : Option (List ℕ)) → ahead ≡ [] → prepend_known ahead left ≡ left
+nothing_ahead ahead None h = refl
+nothing_ahead ahead (Some xs) h = rw h refl
+
+-- nothing is left of the source
+pub ends_left : (known left : Option (List ℕ)) (ahead : List ℕ) → EndsThere known (prepend_known ahead left) → EndsThere known left
+ends_left None left ahead h = tt
+ends_left (Some xs) None ahead h = cc
+ends_left (Some xs) (Some ys) [] h = h
+ends_left (Some xs) (Some ys) (b ∷ bs) h = cc
+
+-- an opening that was read is known where the input was
+pub ends_opened : (known rest left : Option (List ℕ)) (version number : ℕ) (parts : Setup × ℕ) → Opens known rest version number (Ok parts) → EndsThere rest left → EndsThere known left
+ends_opened None rest left version number parts h k = tt
+ends_opened (Some xs) None left version number parts h k = absurd h
+ends_opened (Some xs) (Some ys) left version number parts h k = k
+
+pub never_memory : (x : Status) → IsFollowed x → x ≡ status.Memory → ⊥
+never_memory x h k = subst IsFollowed k h
+
+pub followed_replayed : (x : Status) → IsFollowed x → IsReplayed x
+followed_replayed status.Memory h = tt
+followed_replayed status.Ok h = h
+followed_replayed status.Usage h = h
+followed_replayed (status.BadInput e) h = h
+followed_replayed (status.BadSetup e) h = h
+followed_replayed status.ReadFault h = h
+followed_replayed status.WriteFault h = h
+followed_replayed (status.SlotFault slot) h = h
+followed_replayed status.ListenFault h = h

@@ -1,6 +1,7 @@
 use Rattle.std.proofs.Common.{◌≡◌, ℕ, ap, ◌∙◌, subst}
 use Rattle.std.specs.Prelude.{Err}
 use Rattle.kn_journal.specs.declared.error.JournalError.{JournalError}
+use Rattle.kn_journal.specs.declared.journal.Opening.{Opening}
 use Rattle.kn_journal.specs.Journal.{opening_part, version_of}
 use Rattle.kn_journal.specs.Reading.{unread}
 use Rattle.kn_journal.specs.Telling.{Gives, Refuses, StopsAmid}
@@ -21,7 +22,7 @@ returns-in-Err-start-clause-opens g c =
     let mid = unread c.setup.new.self.input (g.S.Source.left c.setup.new.source) in
     let new = unread c.start.new.self.input (g.S.Source.left c.start.new.source) in
     let good = c.in-Ok.ensures.good in
-    let opening = record { version = c.setup.new.self.version; setup = c.in-Ok.setup } in
+    let opening : Opening = record { version = c.setup.new.self.version; setup = c.in-Ok.setup } in
     start_fails old mid new opening c.setup.new.self.number c.start.new.self.version c.start.new.self.number c.in-Err-start.error
     (subst (λ (n : ℕ). Gives (opening_part version_of n) opening c.setup.new.self.number old mid) c.requires.number (c.in-Ok.ensures.tells c.requires.good))
     (c.in-Err-start.ensures.tells good)
