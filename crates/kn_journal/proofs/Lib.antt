@@ -1,0 +1,12 @@
+pub mod Aheads
+pub mod Blocks
+pub mod Consumed
+pub mod Fronts
+pub mod Kept
+pub mod LineTexts
+pub mod Pieces
+pub mod Printed
+pub mod Settings
+pub mod Setups
+pub mod Stops
+pub mod Tellings

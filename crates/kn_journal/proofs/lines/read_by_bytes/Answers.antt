@@ -1,0 +1,92 @@
+use Rattle.std.proofs.Common.{arith, ◌≡◌, ◌+◌, ◌∙◌, false, refl}
+use Rattle.std.specs.Prelude.{◌==◌}
+use Rattle.std.proofs.lemmas.Grind.{common_steps}
+use Rattle.kn_journal.specs.Reading.{unread}
+use Rattle.kn_journal.proofs.Fronts.{front_begin, front_added, front_lf, front_end, front_long, front_end-long, counts_begin, counts_byte, contains_some, contains_rest, part_begin, part_byte, part_stay}
+use Rattle.kn_journal.proofs.lines.read_by_bytes.Goals as goal
+
+pub loop-init : goal.loop-init
+loop-init g c = record {
+  taken = rw c.clear.ensures.items (front_begin _);
+  part = part_begin _;
+  exact = counts_begin _ _;
+  turns = grind (arith, common_steps);
+  bytes = grind (arith, common_steps);
+  most = grind (arith, common_steps);
+  ready = λ lf. (lf, refl);
+  later = grind (arith, common_steps);
+  apart = grind (arith, common_steps);
+  balance = grind (arith, common_steps);
+  short = grind (arith, common_steps);
+  room = grind (arith, common_steps);
+}
+
+pub returns-in-Ok-Some-eq10-clause-taken : goal.returns-in-Ok-Some-eq10-clause-taken
+returns-in-Ok-Some-eq10-clause-taken g c =
+    let whole = unread c.args.input.now (g.S.Source.left c.args.source.now) in
+    let left = unread c.loop.input (g.S.Source.left c.loop.source) in
+    let rest = unread c.next.new.self (g.S.Source.left c.next.new.source) in
+    let byte = rw (c.in-Ok-Some-eq10.field-0-is, c.in-Ok-Some-eq10.field-0-0-test) at c.in-Ok-Some-eq10.ensures.byte in
+    front_lf whole left rest c.loop.line.items c.loop.crs c.loop.invariant.taken byte
+
+pub returns-in-None-clause-long : goal.returns-in-None-clause-long
+returns-in-None-clause-long g c _ =
+    let whole = unread c.args.input.now (g.S.Source.left c.args.source.now) in
+    let left = unread c.loop.input (g.S.Source.left c.loop.source) in
+    let rest = unread c.next.new.self (g.S.Source.left c.next.new.source) in
+    let byte = rw c.in-Ok-Some.field-0-is at c.in-Ok-Some.ensures.byte in
+    let not_lf : (c.in-Ok-Some.byte == 10) ≡ false = grind arith in
+    let not_cr : (c.in-Ok-Some.byte == 13) ≡ false = grind arith in
+    front_long whole left rest c.loop.line.items c.loop.crs c.in-Ok-Some.byte c.loop.invariant.taken byte not_lf not_cr (grind (arith, common_steps))
+
+pub returns-then-not-add_crs-clause-long : goal.returns-then-not-add_crs-clause-long
+returns-then-not-add_crs-clause-long g c _ =
+    let whole = unread c.args.input.now (g.S.Source.left c.args.source.now) in
+    let left = unread c.loop.input (g.S.Source.left c.loop.source) in
+    let rest = unread c.next.new.self (g.S.Source.left c.next.new.source) in
+    let none = rw c.in-Ok-None.field-0-is at c.in-Ok-None.ensures.byte in
+    front_end-long whole left rest c.loop.line.items c.loop.crs c.loop.invariant.taken none (grind (arith, common_steps))
+
+pub returns-in-Ok-None-clause-taken : goal.returns-in-Ok-None-clause-taken
+returns-in-Ok-None-clause-taken g c =
+    let whole = unread c.args.input.now (g.S.Source.left c.args.source.now) in
+    let left = unread c.loop.input (g.S.Source.left c.loop.source) in
+    let rest = unread c.next.new.self (g.S.Source.left c.next.new.source) in
+    let none = rw c.in-Ok-None.field-0-is at c.in-Ok-None.ensures.byte in
+    front_end whole left rest c.loop.line.items c.add_crs.new.line.items c.loop.crs _ c.loop.invariant.taken none (grind (arith, common_steps)) (grind (arith, common_steps))
+
+pub returns-in-Err-clause-amid : goal.returns-in-Err-clause-amid
+returns-in-Err-clause-amid g c _ =
+    let whole = unread c.args.input.now (g.S.Source.left c.args.source.now) in
+    let left = unread c.loop.input (g.S.Source.left c.loop.source) in
+    let rest = unread c.next.new.self (g.S.Source.left c.next.new.source) in
+    part_stay whole left rest c.loop.invariant.part c.in-Err.ensures.left
+
+pub loop-preserved : goal.loop-preserved
+loop-preserved g c =
+    let whole = unread c.args.input.now (g.S.Source.left c.args.source.now) in
+    let left = unread c.loop.input (g.S.Source.left c.loop.source) in
+    let rest = unread c.next.new.self (g.S.Source.left c.next.new.source) in
+    let byte = rw c.in-Ok-Some.field-0-is at c.in-Ok-Some.ensures.byte in
+    let counted = rw c.in-Ok-Some.field-0-is at c.in-Ok-Some.ensures.taken in
+    let not_lf : (c.in-Ok-Some.byte == 10) ≡ false = grind arith in
+    let waits : c.in-Ok-Some.byte ≡ 13 → (c.in-Some.waiting ≡ c.loop.crs + 1) × (c.add.new.line.items ≡ c.loop.line.items) =
+    λ is. let now = c.in-Some.ensures.cr is in (cc, now.1) in
+    record {
+      taken = front_added whole left rest c.loop.line.items c.add.new.line.items c.loop.crs c.in-Some.waiting c.in-Ok-Some.byte c.loop.invariant.taken byte not_lf waits c.in-Some.ensures.other;
+      part = part_byte whole left rest c.in-Ok-Some.byte c.loop.invariant.part byte (grind arith);
+      exact = rw counted (counts_byte whole left rest c.args.input.now.taken c.loop.input.taken c.in-Ok-Some.byte c.loop.invariant.exact byte);
+      turns = grind (arith, common_steps, counted);
+      bytes = grind (arith, common_steps);
+      most = grind (arith, common_steps);
+      ready = λ lf.
+          let before = c.loop.invariant.ready lf in
+          let some = contains_some _ _ before.0 in
+          let front = rw c.in-Ok-Some.field-0-is at (c.in-Ok-Some.ensures.front some) in
+          (contains_rest _ _ _ front (grind arith) before.0, c.next.ensures.ready some ∙ before.1);
+      later = grind (arith, common_steps);
+      apart = grind (arith, common_steps);
+      balance = grind (arith, common_steps);
+      short = grind (arith, common_steps);
+      room = grind (arith, common_steps);
+    }

@@ -1,0 +1,52 @@
+-- A block, line by line.
+use Rattle.std.proofs.Common.{◌≡◌, ◌+◌, ◌<◌, ◌≤◌, ◌∙◌, ◌++◌, ◌∷◌, [], true, false, length, arith}
+use Rattle.std.specs.Prelude.{codes}
+use Rattle.std.specs.Str.{bytes_eq}
+use Rattle.std.proofs.lemmas.Grind.{common_steps}
+use Rattle.kn_journal.specs.Reading.{unread}
+use Rattle.kn_journal.specs.Setup.{block_most}
+use Rattle.kn_journal.proofs.Blocks.{block-lacks, block-long, block-more, block-point, block-stops}
+use Rattle.kn_journal.proofs.setup.read_block.Goals as goal
+
+pub returns-in-Err-clause-tells : goal.returns-in-Err-clause-tells
+returns-in-Err-clause-tells g c =
+    block-lacks c.args.lines.now.number c.loop.text.items c.loop.lines.number c.in-Err.e (unread c.args.lines.now.input (g.S.Source.left c.args.source.now))
+    (unread c.loop.lines.input (g.S.Source.left c.loop.source)) c.loop.invariant.block c.in-Err.ensures.none
+
+pub returns-in-Err-clause-amid : goal.returns-in-Err-clause-amid
+returns-in-Err-clause-amid g c h =
+    block-stops c.args.lines.now.number c.loop.text.items c.loop.lines.number (unread c.args.lines.now.input (g.S.Source.left c.args.source.now))
+    (unread c.loop.lines.input (g.S.Source.left c.loop.source)) (unread c.next_line.new.self.input (g.S.Source.left c.next_line.new.source))
+    c.loop.invariant.block (c.in-Err.ensures.amid cc)
+
+pub returns-then-eq-clause-tells : goal.returns-then-eq-clause-tells
+returns-then-eq-clause-tells g c =
+    let point : bytes_eq c.next_line.new.self.line (codes ".") ≡ true = grind (arith, common_steps) in
+    rw c.new.ensures (block-point c.args.lines.now.number c.loop.text.items c.loop.lines.number c.next_line.new.self.number (unread c.args.lines.now.input (g.S.Source.left c.args.source.now))
+    (unread c.loop.lines.input (g.S.Source.left c.loop.source)) (unread c.next_line.new.self.input (g.S.Source.left c.next_line.new.source)) c.next_line.new.self.line
+    c.loop.invariant.block c.in-Ok.ensures.line c.in-Ok.ensures.fits c.in-Ok.ensures.number point)
+
+pub returns-then-len-line-ge-BLOCK_MOST-clause-tells : goal.returns-then-len-line-ge-BLOCK_MOST-clause-tells
+returns-then-len-line-ge-BLOCK_MOST-clause-tells g c =
+    let other : bytes_eq c.next_line.new.self.line (codes ".") ≡ false = grind (arith, common_steps) in
+    let long : block_most ≤ length c.loop.text.items + length c.next_line.new.self.line = grind (arith, common_steps) in
+    block-long c.args.lines.now.number c.loop.text.items c.loop.lines.number c.number.result (unread c.args.lines.now.input (g.S.Source.left c.args.source.now))
+    (unread c.loop.lines.input (g.S.Source.left c.loop.source)) (unread c.next_line.new.self.input (g.S.Source.left c.next_line.new.source)) c.next_line.new.self.line
+    c.loop.invariant.block c.in-Ok.ensures.line c.in-Ok.ensures.fits (c.number.ensures ∙ c.in-Ok.ensures.number) other long
+
+pub loop-preserved : goal.loop-preserved
+loop-preserved g c =
+    let other : bytes_eq c.next_line.new.self.line (codes ".") ≡ false = grind (arith, common_steps) in
+    let short : length c.loop.text.items + length c.next_line.new.self.line < block_most = grind (arith, common_steps) in
+    let added : c.push.new.self.items ≡ (c.loop.text.items ++ c.next_line.new.self.line) ++ 10 ∷ [] = grind (arith, common_steps) in
+    record {
+      block = block-more c.args.lines.now.number c.loop.text.items c.push.new.self.items c.loop.lines.number c.next_line.new.self.number (unread c.args.lines.now.input (g.S.Source.left c.args.source.now))
+          (unread c.loop.lines.input (g.S.Source.left c.loop.source)) (unread c.next_line.new.self.input (g.S.Source.left c.next_line.new.source)) c.next_line.new.self.line
+          c.loop.invariant.block c.in-Ok.ensures.line c.in-Ok.ensures.fits c.in-Ok.ensures.number other short added;
+      turns = grind (arith, common_steps);
+      short = grind (arith, common_steps);
+      grows = grind (arith, common_steps);
+      balance = grind (arith, common_steps);
+      never_falls = grind (arith, common_steps);
+      apart = grind (arith, common_steps);
+    }

@@ -1,0 +1,60 @@
+-- The word, the block and the configuration, or where they ended; and then the Revision.
+use Rattle.std.specs.Prelude.{Ok, Err}
+use Rattle.kn_journal.specs.Reading.{unread}
+use Rattle.kn_config.specs.Config.{config_of}
+use Rattle.kn_journal.specs.Setup.{revision_part}
+use Rattle.kn_journal.proofs.Setups.{blocks-bad, blocks-block_stops, blocks-no_block, blocks-no_word, blocks-revision_stops, blocks-tells, blocks-word_stops, config-bad}
+use Rattle.kn_journal.proofs.setup.read_blocks.Goals as goal
+
+pub returns-in-Err-clause-tells : goal.returns-in-Err-clause-tells
+returns-in-Err-clause-tells g c =
+    blocks-no_word c.args.line.items c.args.slots c.args.lines.now.number (unread c.args.lines.now.input (g.S.Source.left c.args.source.now)) c.in-Err.e c.in-Err.ensures.tells
+
+pub returns-in-Err-clause-amid : goal.returns-in-Err-clause-amid
+returns-in-Err-clause-amid g c h =
+    blocks-word_stops c.args.line.items c.args.slots c.args.lines.now.number (unread c.args.lines.now.input (g.S.Source.left c.args.source.now))
+    (unread c.read_word.new.lines.input (g.S.Source.left c.read_word.new.source)) (c.in-Err.ensures.amid cc)
+
+pub returns-in-Err-read_block-clause-tells : goal.returns-in-Err-read_block-clause-tells
+returns-in-Err-read_block-clause-tells g c =
+    blocks-no_block c.args.line.items c.args.slots c.args.lines.now.number c.read_word.new.lines.number (unread c.args.lines.now.input (g.S.Source.left c.args.source.now))
+    (unread c.read_word.new.lines.input (g.S.Source.left c.read_word.new.source)) c.in-Ok.field-0 c.in-Err-read_block.e c.in-Ok.ensures.tells c.in-Err-read_block.ensures.tells
+
+pub returns-in-Err-read_block-clause-amid : goal.returns-in-Err-read_block-clause-amid
+returns-in-Err-read_block-clause-amid g c h =
+    blocks-block_stops c.args.line.items c.args.slots c.args.lines.now.number c.read_word.new.lines.number (unread c.args.lines.now.input (g.S.Source.left c.args.source.now))
+    (unread c.read_word.new.lines.input (g.S.Source.left c.read_word.new.source)) (unread c.read_block.new.lines.input (g.S.Source.left c.read_block.new.source))
+    c.in-Ok.field-0 c.in-Ok.ensures.tells (c.in-Err-read_block.ensures.amid cc)
+
+pub returns-in-Err-read-clause-tells : goal.returns-in-Err-read-clause-tells
+returns-in-Err-read-clause-tells g c =
+    let k = c.read_block.new.lines.number in
+    let after = unread c.read_block.new.lines.input (g.S.Source.left c.read_block.new.source) in
+    let block = c.in-Ok-read_block.block in
+    blocks-bad c.args.line.items c.args.slots c.args.lines.now.number c.read_word.new.lines.number k (unread c.args.lines.now.input (g.S.Source.left c.args.source.now))
+    (unread c.read_word.new.lines.input (g.S.Source.left c.read_word.new.source)) after c.in-Ok.field-0 block c.config_error.result c.in-Ok.ensures.tells c.in-Ok-read_block.ensures.tells
+    (rw (c.config_error.ensures, c.number.ensures) (config-bad k c.in-Err-read.why (config_of block) (λ ls config. revision_part c.args.line.items block c.args.slots config k ls) after (rw c.bytes.ensures at c.in-Err-read.ensures.gives)))
+
+pub returns-in-Ok-read_revision-clause-tells : goal.returns-in-Ok-read_revision-clause-tells
+returns-in-Ok-read_revision-clause-tells g c =
+    blocks-tells c.args.line.items c.args.slots c.args.lines.now.number c.read_word.new.lines.number c.read_block.new.lines.number c.read_revision.new.lines.number
+    (unread c.args.lines.now.input (g.S.Source.left c.args.source.now)) (unread c.read_word.new.lines.input (g.S.Source.left c.read_word.new.source))
+    (unread c.read_block.new.lines.input (g.S.Source.left c.read_block.new.source)) (unread c.read_revision.new.lines.input (g.S.Source.left c.read_revision.new.source))
+    c.in-Ok.field-0 c.in-Ok-read_block.block c.in-Ok-read.config (Ok c.in-Ok-read_revision.setup) c.in-Ok.ensures.tells c.in-Ok-read_block.ensures.tells (rw c.bytes.ensures at c.in-Ok-read.ensures.gives)
+    c.in-Ok-read_revision.ensures.tells
+
+pub returns-clause-tells : goal.returns-clause-tells
+returns-clause-tells g c =
+    blocks-tells c.args.line.items c.args.slots c.args.lines.now.number c.read_word.new.lines.number c.read_block.new.lines.number c.read_revision.new.lines.number
+    (unread c.args.lines.now.input (g.S.Source.left c.args.source.now)) (unread c.read_word.new.lines.input (g.S.Source.left c.read_word.new.source))
+    (unread c.read_block.new.lines.input (g.S.Source.left c.read_block.new.source)) (unread c.read_revision.new.lines.input (g.S.Source.left c.read_revision.new.source))
+    c.in-Ok.field-0 c.in-Ok-read_block.block c.in-Ok-read.config (Err c.in-Err-read_revision.e) c.in-Ok.ensures.tells c.in-Ok-read_block.ensures.tells (rw c.bytes.ensures at c.in-Ok-read.ensures.gives)
+    c.in-Err-read_revision.ensures.tells
+
+pub returns-clause-amid : goal.returns-clause-amid
+returns-clause-amid g c h =
+    blocks-revision_stops c.args.line.items c.args.slots c.args.lines.now.number c.read_word.new.lines.number c.read_block.new.lines.number
+    (unread c.args.lines.now.input (g.S.Source.left c.args.source.now)) (unread c.read_word.new.lines.input (g.S.Source.left c.read_word.new.source))
+    (unread c.read_block.new.lines.input (g.S.Source.left c.read_block.new.source)) (unread c.read_revision.new.lines.input (g.S.Source.left c.read_revision.new.source))
+    c.in-Ok.field-0 c.in-Ok-read_block.block c.in-Ok-read.config c.in-Ok.ensures.tells c.in-Ok-read_block.ensures.tells (rw c.bytes.ensures at c.in-Ok-read.ensures.gives)
+    (c.in-Err-read_revision.ensures.amid cc)

@@ -1,0 +1,33 @@
+-- The first line and the setup, or where they ended.
+use Rattle.kn_journal.specs.Reading.{unread}
+use Rattle.kn_journal.specs.Journal.{version_by}
+use Rattle.kn_journal.proofs.Setups.{first-none, opening-first_stops, opening-gives, opening-no_first, opening-no_setup, opening-setup_stops}
+use Rattle.kn_journal.proofs.setup.read_opening.Goals as goal
+
+pub returns-in-Err-clause-tells : goal.returns-in-Err-clause-tells
+returns-in-Err-clause-tells g c =
+    opening-no_first (version_by c.args.first) c.args.lines.now.number (unread c.args.lines.now.input (g.S.Source.left c.args.source.now)) c.in-Err.e c.in-Err.ensures.tells
+
+pub returns-in-Err-clause-amid : goal.returns-in-Err-clause-amid
+returns-in-Err-clause-amid g c h =
+    let old = unread c.args.lines.now.input (g.S.Source.left c.args.source.now) in
+    let new = unread c.first.new.self.input (g.S.Source.left c.first.new.source) in
+    opening-first_stops (version_by c.args.first) c.args.lines.now.number old new (first-none (version_by c.args.first) c.args.lines.now.number old new (c.in-Err.ensures.amid cc))
+
+pub returns-in-Ok-read_setup-clause-tells : goal.returns-in-Ok-read_setup-clause-tells
+returns-in-Ok-read_setup-clause-tells g c =
+    opening-gives (version_by c.args.first) c.args.lines.now.number c.first.new.self.number c.read_setup.new.lines.number c.in-Ok.version c.in-Ok-read_setup.setup
+    (unread c.args.lines.now.input (g.S.Source.left c.args.source.now)) (unread c.first.new.self.input (g.S.Source.left c.first.new.source))
+    (unread c.read_setup.new.lines.input (g.S.Source.left c.read_setup.new.source)) c.in-Ok.ensures.tells c.in-Ok-read_setup.ensures.tells
+
+pub returns-in-Err-read_setup-clause-tells : goal.returns-in-Err-read_setup-clause-tells
+returns-in-Err-read_setup-clause-tells g c =
+    opening-no_setup (version_by c.args.first) c.args.lines.now.number c.first.new.self.number c.in-Ok.version
+    (unread c.args.lines.now.input (g.S.Source.left c.args.source.now)) (unread c.first.new.self.input (g.S.Source.left c.first.new.source)) c.in-Err-read_setup.e
+    c.in-Ok.ensures.tells c.in-Err-read_setup.ensures.tells
+
+pub returns-in-Err-read_setup-clause-amid : goal.returns-in-Err-read_setup-clause-amid
+returns-in-Err-read_setup-clause-amid g c h =
+    opening-setup_stops (version_by c.args.first) c.args.lines.now.number c.first.new.self.number c.in-Ok.version
+    (unread c.args.lines.now.input (g.S.Source.left c.args.source.now)) (unread c.first.new.self.input (g.S.Source.left c.first.new.source))
+    (unread c.read_setup.new.lines.input (g.S.Source.left c.read_setup.new.source)) c.in-Ok.ensures.tells (c.in-Err-read_setup.ensures.amid cc)

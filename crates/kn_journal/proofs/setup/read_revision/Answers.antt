@@ -1,0 +1,50 @@
+-- The word, the block and the Revision, or where they ended.
+use Rattle.std.specs.Prelude.{Ok, Err}
+use Rattle.kn_journal.specs.Reading.{unread}
+use Rattle.kn_journal.specs.Setup.{blocks_text}
+use Rattle.kn_journal.specs.Telling.{revision_error}
+use Rattle.kn_revision.specs.Revision.{spec_of}
+use Rattle.kn_journal.proofs.Setups.{revision-block_stops, revision-no_block, revision-no_word, revision-tells, revision-word_stops, spec-bad, spec-good}
+use Rattle.kn_journal.proofs.setup.read_revision.Goals as goal
+
+pub returns-in-Err-clause-tells : goal.returns-in-Err-clause-tells
+returns-in-Err-clause-tells g c =
+    revision-no_word c.args.line.items c.args.block.now c.args.slots c.args.config.now c.args.lines.now.number (unread c.args.lines.now.input (g.S.Source.left c.args.source.now))
+    c.in-Err.e c.in-Err.ensures.tells
+
+pub returns-in-Err-clause-amid : goal.returns-in-Err-clause-amid
+returns-in-Err-clause-amid g c h =
+    revision-word_stops c.args.line.items c.args.block.now c.args.slots c.args.config.now c.args.lines.now.number (unread c.args.lines.now.input (g.S.Source.left c.args.source.now))
+    (unread c.read_word.new.lines.input (g.S.Source.left c.read_word.new.source)) (c.in-Err.ensures.amid cc)
+
+pub returns-in-Err-read_block-clause-tells : goal.returns-in-Err-read_block-clause-tells
+returns-in-Err-read_block-clause-tells g c =
+    revision-no_block c.args.line.items c.args.block.now c.args.slots c.args.config.now c.args.lines.now.number c.read_word.new.lines.number (unread c.args.lines.now.input (g.S.Source.left c.args.source.now))
+    (unread c.read_word.new.lines.input (g.S.Source.left c.read_word.new.source)) c.in-Ok.field-0 c.in-Err-read_block.e c.in-Ok.ensures.tells c.in-Err-read_block.ensures.tells
+
+pub returns-in-Err-read_block-clause-amid : goal.returns-in-Err-read_block-clause-amid
+returns-in-Err-read_block-clause-amid g c h =
+    revision-block_stops c.args.line.items c.args.block.now c.args.slots c.args.config.now c.args.lines.now.number c.read_word.new.lines.number (unread c.args.lines.now.input (g.S.Source.left c.args.source.now))
+    (unread c.read_word.new.lines.input (g.S.Source.left c.read_word.new.source)) (unread c.read_block.new.lines.input (g.S.Source.left c.read_block.new.source))
+    c.in-Ok.field-0 c.in-Ok.ensures.tells (c.in-Err-read_block.ensures.amid cc)
+
+pub returns-in-Err-resolve-clause-tells : goal.returns-in-Err-resolve-clause-tells
+returns-in-Err-resolve-clause-tells g c =
+    let k = c.read_block.new.lines.number in
+    let new = unread c.read_block.new.lines.input (g.S.Source.left c.read_block.new.source) in
+    let text = c.in-Ok-read_block.revision in
+    rw (c.revision_error.ensures, c.number.ensures) (revision-tells c.args.line.items c.args.block.now c.args.slots c.args.config.now c.args.lines.now.number c.read_word.new.lines.number k
+    (unread c.args.lines.now.input (g.S.Source.left c.args.source.now)) (unread c.read_word.new.lines.input (g.S.Source.left c.read_word.new.source)) new c.in-Ok.field-0 text (Err (revision_error k c.in-Err-resolve.why))
+    c.in-Ok.ensures.tells c.in-Ok-read_block.ensures.tells
+    (spec-bad k (blocks_text c.args.line.items c.args.block.now text) c.in-Err-resolve.why (spec_of c.args.config.now text c.args.slots) new (rw c.bytes.ensures at c.in-Err-resolve.ensures.gives)))
+
+pub returns-in-Ok-with_blocks-clause-tells : goal.returns-in-Ok-with_blocks-clause-tells
+returns-in-Ok-with_blocks-clause-tells g c =
+    let k = c.read_block.new.lines.number in
+    let new = unread c.read_block.new.lines.input (g.S.Source.left c.read_block.new.source) in
+    let text = c.in-Ok-read_block.revision in
+    revision-tells c.args.line.items c.args.block.now c.args.slots c.args.config.now c.args.lines.now.number c.read_word.new.lines.number k
+    (unread c.args.lines.now.input (g.S.Source.left c.args.source.now)) (unread c.read_word.new.lines.input (g.S.Source.left c.read_word.new.source)) new c.in-Ok.field-0 text (Ok c.in-Ok-with_blocks.setup)
+    c.in-Ok.ensures.tells c.in-Ok-read_block.ensures.tells
+    (spec-good k (blocks_text c.args.line.items c.args.block.now text) c.in-Ok-resolve.spec (spec_of c.args.config.now text c.args.slots) c.in-Ok-with_blocks.setup new (rw c.bytes.ensures at c.in-Ok-resolve.ensures.gives)
+    (rw (c.bytes-2.ensures, c.bytes-3.ensures) at c.in-Ok-with_blocks.ensures.ok))

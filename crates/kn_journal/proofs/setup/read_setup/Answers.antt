@@ -1,0 +1,33 @@
+-- The setup's first line and what follows it, or where it ended.
+use Rattle.std.specs.Prelude.{Ok, Err}
+use Rattle.kn_journal.specs.Reading.{unread}
+use Rattle.kn_journal.proofs.Setups.{setup-bad, setup-lacks, setup-none, setup-stops, setup-tells}
+use Rattle.kn_journal.proofs.setup.read_setup.Goals as goal
+
+pub returns-in-Err-clause-tells : goal.returns-in-Err-clause-tells
+returns-in-Err-clause-tells g c = setup-lacks c.args.lines.now.number c.in-Err.e (unread c.args.lines.now.input (g.S.Source.left c.args.source.now)) c.in-Err.ensures.none
+
+pub returns-in-Err-clause-amid : goal.returns-in-Err-clause-amid
+returns-in-Err-clause-amid g c h =
+    setup-none c.args.lines.now.number (unread c.args.lines.now.input (g.S.Source.left c.args.source.now))
+    (unread c.next_line.new.self.input (g.S.Source.left c.next_line.new.source)) (c.in-Err.ensures.amid cc)
+
+pub returns-in-Err-read_setup_line-clause-tells : goal.returns-in-Err-read_setup_line-clause-tells
+returns-in-Err-read_setup_line-clause-tells g c =
+    rw c.number.ensures (setup-bad c.args.lines.now.number c.next_line.new.self.number (unread c.args.lines.now.input (g.S.Source.left c.args.source.now))
+    (unread c.next_line.new.self.input (g.S.Source.left c.next_line.new.source)) c.next_line.new.self.line c.in-Err-read_setup_line.why
+    c.in-Ok.ensures.line c.in-Ok.ensures.fits c.in-Ok.ensures.number (rw c.line.ensures at c.in-Err-read_setup_line.ensures.value))
+
+pub returns-in-Ok-line_text-clause-tells : goal.returns-in-Ok-line_text-clause-tells
+returns-in-Ok-line_text-clause-tells g c =
+    setup-tells c.args.lines.now.number c.next_line.new.self.number c.read_behind.new.lines.number (unread c.args.lines.now.input (g.S.Source.left c.args.source.now))
+    (unread c.next_line.new.self.input (g.S.Source.left c.next_line.new.source)) (unread c.read_behind.new.lines.input (g.S.Source.left c.read_behind.new.source))
+    c.next_line.new.self.line c.in-Ok-line_text.text.items c.in-Ok-read_setup_line.said c.read_behind.result c.in-Ok.ensures.line c.in-Ok.ensures.fits c.in-Ok.ensures.number
+    (rw c.line.ensures at c.in-Ok-read_setup_line.ensures.value) (rw c.line-2.ensures at c.in-Ok-line_text.ensures) c.read_behind.ensures.tells
+
+pub returns-in-Ok-line_text-clause-amid : goal.returns-in-Ok-line_text-clause-amid
+returns-in-Ok-line_text-clause-amid g c h =
+    setup-stops c.args.lines.now.number c.next_line.new.self.number (unread c.args.lines.now.input (g.S.Source.left c.args.source.now))
+    (unread c.next_line.new.self.input (g.S.Source.left c.next_line.new.source)) (unread c.read_behind.new.lines.input (g.S.Source.left c.read_behind.new.source))
+    c.next_line.new.self.line c.in-Ok-line_text.text.items c.in-Ok-read_setup_line.said c.in-Ok.ensures.line c.in-Ok.ensures.fits c.in-Ok.ensures.number
+    (rw c.line.ensures at c.in-Ok-read_setup_line.ensures.value) (rw c.line-2.ensures at c.in-Ok-line_text.ensures) (c.read_behind.ensures.amid cc)

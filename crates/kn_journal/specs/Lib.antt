@@ -1,0 +1,9 @@
+pub mod Lines
+pub mod Causes
+pub mod Parts
+pub mod SetupLine
+pub mod Setup
+pub mod Journal
+pub mod Status
+pub mod Reading
+pub mod Telling

@@ -1,0 +1,39 @@
+use kn_config::ConfigError;
+use kn_event::LineError;
+use kn_revision::SpecError;
+
+/// Why a setup is refused. A place is the offset of a byte in its line, from 0.
+#[derive(Clone, Copy, Debug, PartialEq, Eq)]
+pub enum SetupError {
+    /// The field that begins here has another name or no number, or is one too many; or the line ends here and lacks one.
+    BadField(u64),
+    /// The number of the field that begins here is outside its range.
+    OutOfRange(u64),
+    Config(ConfigError),
+    Revision(SpecError),
+    /// A block has more than 1,048,576 bytes with this line.
+    BlockTooLong,
+    /// The first word is not one that may stand there.
+    BadWord,
+}
+
+/// Why a journal was not read to its end. Lines are counted from 1.
+#[derive(Clone, Copy, Debug, PartialEq, Eq)]
+pub enum JournalError {
+    /// The input failed, or 2^56 bytes were taken of it.
+    ReadFault,
+    /// The line has more than 65,536 bytes without its end.
+    LineTooLong(u64),
+    BadFirstLine,
+    BadSetup(u64, SetupError),
+    BadLine(u64, LineError),
+    /// The line's time is less than the last event's or the start: the line, the last time and its own, in milliseconds.
+    TimeBack(u64, u64, u64),
+    /// The line's time is above 4,398,046,511,104 milliseconds.
+    TimeTooLarge(u64),
+    /// The input ends before `end`.
+    NoEnd,
+    /// This line follows `end`.
+    AfterEnd(u64),
+    Memory,
+}

@@ -1,0 +1,111 @@
+//! An input that is taken byte by byte, over a source that gives it in pieces.
+ghost use Rattle.std.specs.Prelude.{◌≡◌, ◌⊎◌, ◌+◌, ◌<◌, ◌≤◌, [], Some, length, drop, IfOk, IsErr, OnErr};
+ghost use Rattle.std.specs.Io.KnownBytes.{Keeps};
+ghost use Rattle.kn_io.specs.Causes.{Rose};
+ghost use Rattle.kn_journal.specs.Reading.{IsBalanced, TakesByte, most_taken, taken_with, unread};
+
+use kn_io::{Failed, Source};
+use std::marker::Model;
+
+/// How many bytes may be taken of one input.
+pub const MOST_TAKEN: u64 = 1 << 56;
+
+/// The bytes that were read ahead of what was taken, and the count of the bytes taken.
+#[derive(Drop)]
+pub struct Input {
+    buffer: [u8; 65536],
+    start: usize,
+    end: usize,
+    taken: u64,
+}
+
+impl Model for Input {
+    ghost use Rattle.std.specs.Prelude.{◌≤◌, take, drop};
+    ghost use Rattle.kn_journal.specs.Reading.{Ahead, most_taken};
+
+    ghost Value = { Ahead };
+
+    ghost view = { λ r. record { ahead = drop r.start (take r.end r.buffer); taken = r.taken } };
+
+    ghost invariant = { λ r. record { order : r.start ≤ r.end; inside : r.end ≤ 65536; few : r.taken ≤ most_taken } };
+}
+
+impl Input {
+    /// An input of which nothing was read.
+    pub fn new() -> Input
+        ensures ahead { result.ahead ≡ [] }
+        ensures taken { result.taken ≡ 0 }
+    {
+        Input {
+            buffer: [0; 65536],
+            start: 0,
+            end: 0,
+            taken: 0,
+        }
+    }
+
+    /// The bytes that were read ahead, lent.
+    #[inline(always)]
+    pub fn ahead(&self) -> &[u8]
+        ensures { result.now ≡ self.now.ahead }
+    {
+        &self.buffer[self.start..self.end]
+    }
+
+    /// How many more bytes may be taken.
+    #[inline(always)]
+    pub fn may_take(&self) -> u64
+        ensures { self.now.taken + result ≡ most_taken }
+    {
+        MOST_TAKEN - self.taken
+    }
+
+    /// Takes bytes that were read ahead.
+    #[inline(always)]
+    pub fn skip(&mut self, n: usize)
+        requires ahead { n ≤ length self.old.ahead }
+        requires few { self.old.taken + n ≤ most_taken }
+        ensures ahead { self.new.ahead ≡ drop n self.old.ahead }
+        ensures taken { self.new.taken ≡ self.old.taken + n }
+    {
+        self.start += n;
+        self.taken += n as u64;
+    }
+
+    /// The next byte, or nothing at the end. It reads from the source only where nothing is ahead,
+    /// and after 2^56 bytes it takes no more.
+    pub fn next<S: Source>(&mut self, source: &mut S) -> Result<Option<u8>, Failed>
+        ensures byte { IfOk result (λ byte. TakesByte (unread self.old (S.left source.old)) (unread self.new (S.left source.new)) byte) }
+        ensures taken { IfOk result (λ byte. self.new.taken ≡ taken_with self.old.taken byte) }
+
+        // While there are bytes ahead, the source is left alone.
+        ensures ready { 0 < length self.old.ahead → source.new ≡ source.old }
+        ensures front { 0 < length self.old.ahead → IfOk result (λ byte. TakesByte (Some self.old.ahead) (Some self.new.ahead) byte) }
+
+        ensures failed { OnErr result (self.new ≡ self.old) }
+        ensures left { OnErr result (Keeps (unread self.old (S.left source.old)) (unread self.new (S.left source.new))) }
+        ensures cause { OnErr result (Rose (S.Faulty.faults source.old) (S.Faulty.faults source.new) ⊎ (self.new.taken ≡ most_taken)) }
+        ensures spent { OnErr result ((self.new.ahead ≡ []) ⊎ (self.new.taken ≡ most_taken)) }
+        ensures full { self.old.taken ≡ most_taken → IsErr result }
+        ensures few { self.new.taken ≤ most_taken }
+        ensures later { S.Faulty.faults source.old ≤ S.Faulty.faults source.new }
+        ensures apart { S.apart source.new ≡ S.apart source.old }
+        ensures balance { IsBalanced self.old self.new (S.given source.old) (S.given source.new) }
+    {
+        if self.taken == MOST_TAKEN {
+            return Err(Failed);
+        }
+        if self.start == self.end {
+            self.start = 0;
+            self.end = 0;
+            self.end = source.read(&mut self.buffer)?;
+        }
+        if self.start == self.end {
+            return Ok(None);
+        }
+        let byte = self.buffer[self.start];
+        self.start += 1;
+        self.taken += 1;
+        Ok(Some(byte))
+    }
+}

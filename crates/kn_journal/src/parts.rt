@@ -1,0 +1,262 @@
+//! The parts of a journal, each read from the lines that come next.
+ghost use Rattle.std.specs.Prelude.{◌≡◌, ◌≢◌, ◌⊎◌, ◌+◌, ◌≤◌, ◌↔◌, ℕ, [], ◌∷◌, List, true, Err, Ok, None, Contains, IfOk, IfErr, IsTrue, OnOk, codes, length};
+ghost use Rattle.kn_io.specs.Causes.{Rose};
+ghost use Rattle.kn_event.specs.EventLine.{event_of, IsInJournalRange, IsInVersion};
+ghost use Rattle.kn_journal.specs.Causes.{Cause, error_of};
+ghost use Rattle.kn_journal.specs.Lines.{fits, line_most};
+ghost use Rattle.kn_journal.specs.Reading.{Counts, IsBalanced, TakesLine, TakesPart, most_taken, unread};
+ghost use Rattle.kn_journal.specs.Telling.{IsCauseOf, Judges, Lacks, OnEvent, TakesEnd, Tells};
+ghost use Rattle.kn_journal.specs.Journal.{first_part, in_time, next_part, nothing_part, start_line_in, start_of, start_part, time_most, version_by};
+
+use crate::error::JournalError;
+use crate::first::{FirstLine, judge_first};
+use crate::input::Input;
+use crate::lines::{NoLine, read_line};
+use kn_event::{Event, LineError, Memory, first_end, last_number, read_event, spellings_are_read};
+use kn_io::Source;
+use memchr::memchr;
+use std::alloc::Global;
+use std::marker::Model;
+
+/// The greatest time, in milliseconds.
+const TIME_MOST: u64 = 1 << 42;
+
+/// The time of `start T`, or its first fault.
+#[tactic(auto, unfolding(crate::specs::Journal::start_of))]
+fn read_start(line: &[u8]) -> Result<u64, LineError>
+    ensures { result ≡ start_of line.now }
+{
+    let end = first_end(line);
+    if &line[..end] == b"start".as_slice() {
+        last_number(line, end)
+    } else {
+        Err(LineError::BadWord)
+    }
+}
+
+fn judge_start(line: &[u8], number: u64) -> Result<u64, JournalError>
+    ensures judges { Judges start_line_in number line.now result }
+    ensures most { IfOk result (λ t. t ≤ time_most) }
+{
+    match read_start(line) {
+        Ok(time) => if time <= TIME_MOST {
+            Ok(time)
+        } else {
+            Err(JournalError::TimeTooLarge(number))
+        },
+        Err(why) => Err(JournalError::BadLine(number, why)),
+    }
+}
+
+fn judge_event(line: &[u8], number: u64, version: u64, last: u64) -> Result<Event, JournalError>
+    requires least { 1 ≤ version }
+    requires most { version ≤ 2 }
+    ensures ok { IfOk result (λ e. in_time number last (event_of version line.now) ≡ Ok e) }
+    ensures err { IfErr result (λ e. IsCauseOf e (in_time number last (event_of version line.now))) }
+    ensures order { IfOk result (λ e. last ≤ e.time) }
+    ensures times { IfOk result (λ e. e.time ≤ time_most) }
+    ensures range { IfOk result (λ e. IsInJournalRange e.act) }
+    ensures version { IfOk result (λ e. IsInVersion version e.act) }
+    ensures bytes { IfOk result (λ e. 6 ≤ length line.now) }
+{
+    spellings_are_read();
+    match read_event(line, version) {
+        Ok(e) => if e.time > TIME_MOST {
+            Err(JournalError::TimeTooLarge(number))
+        } else if e.time < last {
+            Err(JournalError::TimeBack(number, last, e.time))
+        } else {
+            Ok(e)
+        },
+        Err(why) => Err(JournalError::BadLine(number, why)),
+    }
+}
+
+/// The lines of an input, one after the other. Contracts see the input, the line read last and its number.
+#[derive(Drop)]
+pub struct Lines {
+    input: Input,
+    line: Vec<u8>,
+    number: u64,
+}
+
+impl Model for Lines {
+    ghost use Rattle.std.specs.Prelude.{◌≤◌, vec_capacity};
+    ghost use Rattle.kn_journal.specs.Lines.{line_most};
+    ghost use Rattle.kn_journal.specs.Reading.{most_taken};
+    ghost use Rattle.kn_journal.specs.Telling.{LinesState};
+
+    ghost Value = { LinesState };
+
+    ghost view = { λ r. record { input = r.input; line = r.line.items; number = r.number } };
+
+    ghost invariant = { λ r. record { room : line_most ≤ vec_capacity r.line; few : r.number ≤ r.input.taken; most : r.number ≤ most_taken } };
+}
+
+impl Lines {
+    /// No line was read.
+    pub fn new(alloc: Global) -> Result<Lines, Memory>
+        ensures ahead { IfOk result (λ r. r.input.ahead ≡ []) }
+        ensures taken { IfOk result (λ r. r.input.taken ≡ 0) }
+        ensures number { IfOk result (λ r. r.number ≡ 0) }
+    {
+        match Vec::with_capacity(alloc, 65536) {
+            Ok(line) => Ok(Lines {
+                input: Input::new(),
+                line,
+                number: 0,
+            }),
+            Err(_) => Err(Memory),
+        }
+    }
+
+    /// The line read last, lent.
+    pub fn line(&self) -> &[u8]
+        ensures { result.now ≡ self.now.line }
+    {
+        &self.line
+    }
+
+    /// The number of the line read last, counted from 1; 0 before the first.
+    pub fn number(&self) -> u64
+        ensures { result ≡ self.now.number }
+    {
+        self.number
+    }
+
+    /// Whether a whole line is ahead, with its LF.
+    pub fn holds_line(&self) -> bool
+        ensures { IsTrue result ↔ Contains self.now.input.ahead 10 }
+    {
+        memchr(b'\n', self.input.ahead()).is_some()
+    }
+
+    /// Reads the next line. The source is read only where no whole line is ahead.
+    #[tactic(auto, using(crate::proofs::Tellings::lacks_end, crate::proofs::Tellings::lacks_long))]
+    pub fn next_line<S: Source>(&mut self, source: &mut S) -> Result<(), JournalError>
+        ensures line { OnOk result (TakesLine (unread self.old.input (S.left source.old)) (unread self.new.input (S.left source.new)) true self.new.line) }
+        ensures number { OnOk result (self.new.number ≡ self.old.number + 1) }
+        ensures fits { OnOk result (fits self.new.line ≡ true) }
+        ensures count { OnOk result (self.old.input.taken + length self.new.line ≤ self.new.input.taken) }
+        ensures none { IfErr result (λ e. Lacks self.old.number e (unread self.old.input (S.left source.old))) }
+        ensures memory { result ≢ Err JournalError.Memory }
+        ensures amid { result ≡ Err JournalError.ReadFault → TakesPart (unread self.old.input (S.left source.old)) (unread self.new.input (S.left source.new)) }
+        ensures ready { Contains self.old.input.ahead 10 → source.new ≡ source.old }
+        ensures fault { result ≡ Err JournalError.ReadFault → Rose (S.Faulty.faults source.old) (S.Faulty.faults source.new) ⊎ (self.new.input.taken ≡ most_taken) }
+        ensures grows { self.old.input.taken ≤ self.new.input.taken }
+        ensures balance { IsBalanced self.old.input self.new.input (S.given source.old) (S.given source.new) }
+        ensures never_falls { S.Faulty.faults source.old ≤ S.Faulty.faults source.new }
+        ensures apart { S.apart source.new ≡ S.apart source.old }
+    {
+        match read_line(&mut self.input, source, &mut self.line) {
+            Ok(true) => {
+                self.number += 1;
+                Ok(())
+            }
+            Ok(false) => Err(JournalError::NoEnd),
+            Err(NoLine::TooLong) => Err(JournalError::LineTooLong(self.number + 1)),
+            Err(NoLine::Fault) => Err(JournalError::ReadFault),
+        }
+    }
+
+    /// Reads a first line, and answers the version that it names.
+    pub fn first<S: Source>(
+        &mut self,
+        source: &mut S,
+        first: FirstLine,
+    ) -> Result<u64, JournalError>
+        ensures tells { Tells (first_part (version_by first) self.old.number) self.new.number (unread self.old.input (S.left source.old)) (unread self.new.input (S.left source.new)) result }
+        ensures least { IfOk result (λ version. 1 ≤ version) }
+        ensures most { IfOk result (λ version. version ≤ 2) }
+        ensures amid { result ≡ Err JournalError.ReadFault → TakesPart (unread self.old.input (S.left source.old)) (unread self.new.input (S.left source.new)) }
+        ensures fault { result ≡ Err JournalError.ReadFault → Rose (S.Faulty.faults source.old) (S.Faulty.faults source.new) ⊎ (self.new.input.taken ≡ most_taken) }
+        ensures grows { self.old.input.taken ≤ self.new.input.taken }
+        ensures balance { IsBalanced self.old.input self.new.input (S.given source.old) (S.given source.new) }
+        ensures never_falls { S.Faulty.faults source.old ≤ S.Faulty.faults source.new }
+        ensures apart { S.apart source.new ≡ S.apart source.old }
+    {
+        match self.next_line(source) {
+            Ok(()) => judge_first(&self.line, self.number, first),
+            Err(e) => Err(e),
+        }
+    }
+
+    /// Reads the start, in milliseconds.
+    pub fn start<S: Source>(&mut self, source: &mut S) -> Result<u64, JournalError>
+        ensures tells { Tells (start_part self.old.number) self.new.number (unread self.old.input (S.left source.old)) (unread self.new.input (S.left source.new)) result }
+        ensures most { IfOk result (λ start. start ≤ time_most) }
+        ensures memory { result ≢ Err JournalError.Memory }
+        ensures amid { result ≡ Err JournalError.ReadFault → TakesPart (unread self.old.input (S.left source.old)) (unread self.new.input (S.left source.new)) }
+        ensures ready { Contains self.old.input.ahead 10 → source.new ≡ source.old }
+        ensures fault { result ≡ Err JournalError.ReadFault → Rose (S.Faulty.faults source.old) (S.Faulty.faults source.new) ⊎ (self.new.input.taken ≡ most_taken) }
+        ensures grows { self.old.input.taken ≤ self.new.input.taken }
+        ensures balance { IsBalanced self.old.input self.new.input (S.given source.old) (S.given source.new) }
+        ensures never_falls { S.Faulty.faults source.old ≤ S.Faulty.faults source.new }
+        ensures apart { S.apart source.new ≡ S.apart source.old }
+    {
+        match self.next_line(source) {
+            Ok(()) => judge_start(&self.line, self.number),
+            Err(e) => Err(e),
+        }
+    }
+
+    /// Reads the end of the input, where no further line may stand.
+    pub fn end<S: Source>(&mut self, source: &mut S) -> Result<(), JournalError>
+        ensures tells { Tells (nothing_part self.old.number) self.new.number (unread self.old.input (S.left source.old)) (unread self.new.input (S.left source.new)) result }
+        ensures memory { result ≢ Err JournalError.Memory }
+        ensures amid { result ≡ Err JournalError.ReadFault → TakesPart (unread self.old.input (S.left source.old)) (unread self.new.input (S.left source.new)) }
+        ensures fault { result ≡ Err JournalError.ReadFault → Rose (S.Faulty.faults source.old) (S.Faulty.faults source.new) ⊎ (self.new.input.taken ≡ most_taken) }
+        ensures grows { self.old.input.taken ≤ self.new.input.taken }
+        ensures balance { IsBalanced self.old.input self.new.input (S.given source.old) (S.given source.new) }
+        ensures never_falls { S.Faulty.faults source.old ≤ S.Faulty.faults source.new }
+        ensures apart { S.apart source.new ≡ S.apart source.old }
+    {
+        match read_line(&mut self.input, source, &mut self.line) {
+            Ok(false) => {}
+            Ok(true) => return Err(JournalError::AfterEnd(self.number + 1)),
+            Err(NoLine::TooLong) => return Err(JournalError::LineTooLong(self.number + 1)),
+            Err(NoLine::Fault) => return Err(JournalError::ReadFault),
+        }
+        Ok(())
+    }
+
+    /// Reads the next event, at this time or later, or `end` and the end of the input.
+    pub fn next<S: Source>(
+        &mut self,
+        source: &mut S,
+        version: u64,
+        last: u64,
+    ) -> Result<Option<Event>, JournalError>
+        requires least { 1 ≤ version }
+        requires most { version ≤ 2 }
+        ensures tells { Tells (next_part version last self.old.number) self.new.number (unread self.old.input (S.left source.old)) (unread self.new.input (S.left source.new)) result }
+        ensures order { OnEvent result (λ e. last ≤ e.time) }
+        ensures times { OnEvent result (λ e. e.time ≤ time_most) }
+        ensures range { OnEvent result (λ e. IsInJournalRange e.act) }
+        ensures version { OnEvent result (λ e. IsInVersion version e.act) }
+        ensures bytes { OnEvent result (λ e. self.old.input.taken + 6 ≤ self.new.input.taken) }
+        ensures memory { result ≢ Err JournalError.Memory }
+        ensures amid { result ≡ Err JournalError.ReadFault → TakesPart (unread self.old.input (S.left source.old)) (unread self.new.input (S.left source.new)) ⊎ TakesEnd (unread self.old.input (S.left source.old)) (unread self.new.input (S.left source.new)) }
+        ensures ready { OnEvent result (λ e. Contains self.old.input.ahead 10 → source.new ≡ source.old) }
+        ensures fault { result ≡ Err JournalError.ReadFault → Rose (S.Faulty.faults source.old) (S.Faulty.faults source.new) ⊎ (self.new.input.taken ≡ most_taken) }
+        ensures grows { self.old.input.taken ≤ self.new.input.taken }
+        ensures balance { IsBalanced self.old.input self.new.input (S.given source.old) (S.given source.new) }
+        ensures never_falls { S.Faulty.faults source.old ≤ S.Faulty.faults source.new }
+        ensures apart { S.apart source.new ≡ S.apart source.old }
+    {
+        match self.next_line(source) {
+            Ok(()) => {}
+            Err(e) => return Err(e),
+        }
+        if self.line.as_slice() == b"end".as_slice() {
+            return match self.end(source) {
+                Ok(()) => Ok(None),
+                Err(e) => Err(e),
+            };
+        }
+        match judge_event(&self.line, self.number, version, last) {
+            Ok(e) => Ok(Some(e)),
+            Err(e) => Err(e),
+        }
+    }
+}
