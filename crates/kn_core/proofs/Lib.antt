@@ -1,7 +1,9 @@
-pub mod Acting
-pub mod Choosing
-pub mod Assigning
-pub mod Counting
-pub mod Keeping
-pub mod Reacting
-pub mod Made
+mod Lists
+mod Ends
+mod Traces
+mod After
+mod Events
+mod Acts
+mod Openings
+mod Created
+mod Losses

@@ -1,32 +1,76 @@
--- What contracts see of a revision, and which trace it stands for.
-use Rattle.std.specs.Prelude.{ℕ, ◌≡◌, ◌/◌, List}
-use Rattle.kn_event.specs.declared.entry.Entry.{Entry}
-use Rattle.kn_event.specs.declared.event.Event.{Event}
+-- What contracts see of a revision, and which traces it stands for.
+use Rattle.std.specs.Prelude.{◌≡◌, ℕ, ◌+◌, ◌*◌, ◌<◌, ◌≤◌, ◌^◌, Option, None, ⊤}
+use Rattle.kn_event.specs.Revision.{AreInRange}
+use Rattle.kn_event.specs.declared.entry.Mode.TheVariants as mode
+use Rattle.kn_event.specs.declared.event.Stand.{Stand}
+use Rattle.kn_event.specs.declared.event.Stand.TheVariants as stand
+use Rattle.kn_event.specs.declared.revision.Kind.{Kind}
+use Rattle.kn_event.specs.declared.revision.Kind.TheVariants as kind
 use Rattle.kn_event.specs.declared.revision.Spec.{Spec}
+use Rattle.kn_trace.specs.Scale.{mode_of, phase_of}
 use Rattle.kn_trace.specs.Trace.{Trace}
-use Rattle.kn_trace.specs.Events.{trace_of}
+use Rattle.kn_record.specs.Made.{IsMade, StandsFor as IsRecordOf}
+use Rattle.kn_record.specs.Order.{AreTimed}
+use Rattle.kn_laws.specs.History.{IsMadeBy}
+use Rattle.kn_pods.specs.Pods.{PodsState, StandsFor as ArePodsOf}
+use Rattle.kn_throttle.specs.State as throttle
 
-pub record State : Type 0 where
+pub record PartsState : Type 0 where
+  pub throttle : throttle.State
+  pub pods : PodsState
+
+pub record RevisionState : Type 0 where
   pub spec : Spec
   pub start : ℕ
   pub clock : ℕ
   pub events : ℕ
-  pub live : ℕ
-  pub room : ℕ
-  pub kept : List Entry
+  pub parts : PartsState
 
--- for how many events there is room
-abbrev pub spare : State → ℕ
-spare r = r.room / 65536
+-- a revision that doesn't scale has no phase, and its requests go through the activator
+pub record IsUnscaled (c : Trace) : Type 0 where
+  pub phase : phase_of c ≡ None
+  pub mode : mode_of c ≡ mode.Proxy
 
--- the revision's parts say what the trace says; here it is kept whole
-pub record StandsFor (r : State) (c : Trace) : Type 0 where
-  pub kept : r.kept ≡ c
+-- the revisions that are built so far
+abbrev pub IsFixed : Kind → Type 0
+IsFixed (kind.Fixed n) = ⊤
+IsFixed kind.Kpa = ⊥
 
--- events from the opening on made the trace
-abbrev pub IsMadeBy : Spec → ℕ → Trace → Type 0
-IsMadeBy s start c = ∥ ((events : List Event) × (c ≡ trace_of s start events)) ∥₁
+-- each part stands for the trace, whose rows were proper when they came
+pub record ArePartsOf (s : Spec) (x : PartsState) (c : Trace) : Type 0 where
+  pub spec : x.throttle.spec ≡ s
+  pub made : IsMade s c
+  pub admission : IsRecordOf x.throttle.admission c
+  pub pods : ArePodsOf x.pods c
+  pub scaler : IsUnscaled c
 
--- some trace is stood for, and events made it
-abbrev pub StandsForSome : State → Type 0
-StandsForSome r = ∥ ((c : Trace) × StandsFor r c × IsMadeBy r.spec r.start c) ∥₁
+-- some events made the trace, from the start up to the clock, and the parts stand for it
+pub record StandsFor (x : RevisionState) (c : Trace) : Type 0 where
+  pub events : IsMadeBy x.spec x.start x.clock x.events c
+  pub parts : ArePartsOf x.spec x.parts c
+
+-- it stands for some trace
+abbrev pub StandsForSome : RevisionState → Type 0
+StandsForSome x = ∥ ((c : Trace) × StandsFor x c) ∥₁
+
+-- the parts stand for some trace
+abbrev pub ArePartsOfSome : PartsState → Type 0
+ArePartsOfSome x = ∥ ((c : Trace) × ArePartsOf x.throttle.spec x c) ∥₁
+
+-- of so many live requests, one waits or runs
+abbrev pub IsAmongLive : Stand → ℕ → Type 0
+IsAmongLive stand.Unknown live = ⊤
+IsAmongLive stand.Ended live = ⊤
+IsAmongLive _ live = 0 < live
+
+-- what is kept of a revision
+pub record IsKept (x : RevisionState) : Type 0 where
+  pub clock : x.clock ≤ 2 ^ 42
+  pub fixed : IsFixed x.spec.kind
+  pub spec : x.parts.throttle.spec ≡ x.spec
+  pub timed : AreTimed x.clock x.parts.throttle.admission
+  pub ranges : AreInRange x.spec
+  -- an event creates 500 pods at most
+  pub events : x.events ≤ 2 ^ 54
+  pub created : x.parts.pods.created ≤ 500 * (x.events + 1)
+  pub some : StandsForSome x

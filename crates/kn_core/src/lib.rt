@@ -1,8 +1,9 @@
-//! One revision: what the activator and the breaker do at each event, over the trace of all entries.
+//! One revision in fixed memory: what the activator, the pods and the autoscaler do at each event.
 #![tactic(auto)]
 
+mod parts;
 mod revision;
-mod steps;
+mod rows;
 
 pub use revision::Revision;
 

@@ -1,67 +1,46 @@
-//! One revision, which keeps its trace.
-ghost use Rattle.std.specs.Prelude.{◌≡◌, ◌+◌, ◌<◌, ◌≤◌, ◌^◌, [], ◌++◌, length, IfOk, OnOk, OnErr};
-ghost use Rattle.kn_trace.specs.Trace.{Trace, arrivals, live, stand_of};
-ghost use Rattle.kn_trace.specs.Events.{react, told_of, opening, need_of};
-ghost use Rattle.kn_core.specs.Plain.{IsSinglePod, LosesNone};
-ghost use Rattle.kn_core.specs.State.{StandsFor, StandsForSome, spare};
+//! One revision, in memory that is taken once.
+ghost use Rattle.std.specs.Prelude.{◌≡◌, ℕ, ◌+◌, ◌<◌, ◌≤◌, ◌^◌, [], ◌++◌, length, IfOk, IfSome, OnOk, OnErr};
+ghost use Rattle.kn_trace.specs.Events.{need_of, opening, react, told_of};
+ghost use Rattle.kn_event.specs.declared.event.Event.{Event as EventValue};
+ghost use Rattle.kn_trace.specs.Laws.{IsInert, IsLawful, IsSettled};
+ghost use Rattle.kn_trace.specs.Trace.{Trace, arrivals, live, next_starting, proxied, stand_of};
+ghost use Rattle.kn_core.specs.State.{IsAmongLive, IsFixed, StandsFor, StandsForSome};
+ghost use Rattle.kn_core.specs.Steps.{IsWithinRange};
 
-use crate::steps;
-use kn_event::{Entry, EntryLog, Event, Kind, Memory, Row, Spec, Stand, Told};
-use kn_laws::laws::trace_laws;
-use kn_sizes::sizes::growth_laws;
-use kn_trace::views;
+use crate::parts::Parts;
+use kn_event::{EntryLog, Event, Memory, Spec, Stand, Told};
+use kn_laws::laws::{history_laws, step_laws};
+use kn_record::append::append_laws;
+use kn_sizes::sizes::{count_laws, entry_laws, growth_laws, size_laws};
 use std::alloc::Global;
 use std::marker::Model;
 
-/// A revision: its specification and the trace of what its events made. Contracts see a state, which stands for a trace.
+/// A revision: what the activator and the pods do at each event. Only `new` takes memory.
+///
+/// Contracts say for which traces it stands: those that some events made, as many as it took, from its start up to its
+/// clock. Times are in milliseconds, at most 2^42.
 #[derive(Drop)]
 pub struct Revision {
     spec: Spec,
     start: u64,
     clock: u64,
     events: u64,
-    entries: Vec<Entry>,
+    parts: Parts,
 }
 
 impl Model for Revision {
-    ghost use Rattle.std.specs.Prelude.{◌-◌, ◌≤◌, ◌^◌, length, vec_len, vec_capacity};
-    ghost use Rattle.kn_trace.specs.Trace.{live};
-    ghost use Rattle.kn_core.specs.State.{State, IsMadeBy};
-    ghost use Rattle.kn_core.specs.Plain.{IsPlain, IsSinglePod};
+    ghost use Rattle.kn_core.specs.State.{IsKept, RevisionState};
 
-    ghost Value = { State };
+    ghost Value = { RevisionState };
 
-    ghost view = { λ r. record { spec = r.spec; start = r.start; clock = r.clock; events = r.events; live = length (live r.entries.items); room = vec_capacity r.entries - vec_len r.entries; kept = r.entries.items } };
+    ghost view = { λ r. record { spec = r.spec; start = r.start; clock = r.clock; events = r.events; parts = r.parts } };
 
-    ghost invariant = { λ r. record { kind : IsSinglePod r.spec.kind; plain : IsPlain r.entries.items; clock : r.clock ≤ 2 ^ 42; made : IsMadeBy r.spec r.start r.entries.items } };
-}
-
-/// The entries that a fixed revision of at most one pod opens with.
-#[tactic(auto, unfolding(kn_trace::specs::Events::opening))]
-fn open(alloc: Global, spec: &Spec, start: u64, log: &mut EntryLog) -> Result<Vec<Entry>, Memory>
-    requires empty { log.old ≡ [] }
-    requires kind { IsSinglePod spec.now.kind }
-    ensures items { IfOk result (λ v. v.items ≡ opening spec.now start) }
-    ensures logged { OnOk result (log.new ≡ opening spec.now start) }
-    ensures err { OnErr result (log.new ≡ []) }
-{
-    let mut entries = match Vec::with_capacity(alloc, 1) {
-        Ok(entries) => entries,
-        Err(_) => return Err(Memory),
-    };
-    if let Kind::Fixed(1) = spec.kind {
-        let made = Entry {
-            time: start,
-            row: Row::Create(0, spec.cc),
-        };
-        steps::keep(&mut entries, made);
-        log.put(made);
-    }
-    Ok(entries)
+    ghost invariant = { λ r. IsKept (record { spec = r.spec; start = r.start; clock = r.clock; events = r.events; parts = r.parts }) };
 }
 
 impl Revision {
-    /// Opens a revision at the start, in milliseconds, at most 2^42. The log becomes its opening: its pods' entries.
+    /// Opens a fixed revision at the start, with all the memory that it will ever have. The log becomes its opening: its
+    /// pods' entries.
     pub fn new(
         alloc: Global,
         spec: Spec,
@@ -70,78 +49,101 @@ impl Revision {
     ) -> Result<Revision, Memory>
         requires empty { log.old ≡ [] }
         requires times { start ≤ 2 ^ 42 }
-        requires kind { IsSinglePod spec.kind }
+        requires fixed { IsFixed spec.kind }
         ensures stands { IfOk result (λ r. StandsFor r (opening spec start)) }
         ensures spec { IfOk result (λ r. r.spec ≡ spec) }
         ensures start { IfOk result (λ r. r.start ≡ start) }
         ensures clock { IfOk result (λ r. r.clock ≡ start) }
         ensures events { IfOk result (λ r. r.events ≡ 0) }
+        ensures lawful { IfOk result (λ r. (c : Trace) → StandsFor r c → IsLawful r.spec c) }
+        ensures settled { IfOk result (λ r. (c : Trace) → StandsFor r c → IsSettled r.spec c) }
+        ensures inert { IfOk result (λ r. (c : Trace) (e : EventValue) → StandsFor r c → IsInert r.spec c e) }
         ensures logged { OnOk result (log.new ≡ opening spec start) }
         ensures err { OnErr result (log.new ≡ []) }
     {
-        let entries = open(alloc, &spec, start, log)?;
+        history_laws();
+        let parts = Parts::open(alloc, &spec, start, log)?;
         Ok(Revision {
             spec,
             start,
             clock: start,
             events: 0,
-            entries,
+            parts,
         })
     }
 
-    /// Takes room for so many events. Want of memory changes nothing.
-    pub fn reserve(&mut self, alloc: Global, events: u64) -> Result<(), Memory>
-        ensures ok { OnOk result (events ≤ spare self.new) }
-        ensures stands { (c : Trace) → StandsFor self.old c → StandsFor self.new c }
-        ensures spec { self.new.spec ≡ self.old.spec }
-        ensures start { self.new.start ≡ self.old.start }
-        ensures clock { self.new.clock ≡ self.old.clock }
-        ensures events { self.new.events ≡ self.old.events }
-        ensures live { self.new.live ≡ self.old.live }
-        ensures err { OnErr result (self.new ≡ self.old) }
-    {
-        let _ = alloc;
-        if events > 1 << 40 {
-            return Err(Memory);
-        }
-        match self.entries.reserve(65536 * events as usize) {
-            Ok(()) => Ok(()),
-            Err(_) => Err(Memory),
-        }
-    }
-
-    /// Takes one event, of any act but a lost pod: the log becomes what it adds to the trace, and the answer is what it is told. Its time is in
-    /// milliseconds. Live requests grow by at most the need of its act less one.
+    /// Takes one event: the log becomes what it adds to the trace, and the answer is what it is told. Live requests grow by at
+    /// most the need of its act less one. A limit is at most 1,000. Each trace that it stands for afterwards is lawful and
+    /// settled, and an event that is refused then changes nothing else.
     pub fn step(&mut self, e: &Event, log: &mut EntryLog) -> Told
         requires empty { log.old ≡ [] }
         requires order { self.old.clock ≤ e.now.time }
         requires times { e.now.time ≤ 2 ^ 42 }
         requires count { self.old.events < 2 ^ 54 }
-        requires spare { 1 ≤ spare self.old }
-        requires kept_pods { LosesNone e.now.act }
+        requires limit { IsWithinRange e.now.act }
         ensures logged { (c : Trace) → StandsFor self.old c → log.new ≡ react self.old.spec c e.now }
         ensures told { (c : Trace) → StandsFor self.old c → result ≡ told_of self.old.spec c e.now }
         ensures stands { (c : Trace) → StandsFor self.old c → StandsFor self.new (c ++ react self.old.spec c e.now) }
         ensures few { length log.new ≤ 41005 }
-        ensures grows { (c : Trace) → StandsFor self.old c → self.new.live + 1 ≤ self.old.live + need_of c e.now.act }
+        ensures grows { (c : Trace) → StandsFor self.old c → length self.new.parts.throttle.admission.live + 1 ≤ length self.old.parts.throttle.admission.live + need_of c e.now.act }
+        ensures lawful { (c : Trace) → StandsFor self.new c → IsLawful self.new.spec c }
+        ensures settled { (c : Trace) → StandsFor self.new c → IsSettled self.new.spec c }
+        ensures inert { (c : Trace) (e : EventValue) → StandsFor self.new c → IsInert self.new.spec c e }
         ensures spec { self.new.spec ≡ self.old.spec }
         ensures start { self.new.start ≡ self.old.start }
         ensures clock { self.new.clock ≡ e.now.time }
         ensures events { self.new.events ≡ self.old.events + 1 }
-        ensures spares { spare self.old ≤ spare self.new + 1 }
     {
-        trace_laws();
+        history_laws();
+        step_laws();
+        size_laws();
+        count_laws();
+        entry_laws();
         growth_laws();
+        append_laws();
         self.clock = e.time;
         self.events += 1;
-        steps::react(&self.spec, e, &mut self.entries, log)
+        self.parts.react(e, log)
     }
 
-    /// Where a request stands: unknown where it has not arrived, ended where it has ended or was refused.
+    /// Where a request stands: unknown where it has not arrived, ended where it has ended or was refused. Else it is live.
     pub fn stand(&self, r: u64) -> Stand
-        ensures { (c : Trace) → StandsFor self.now c → result ≡ stand_of c r }
+        ensures stand { (c : Trace) → StandsFor self.now c → result ≡ stand_of c r }
+        ensures live { IsAmongLive result (length self.now.parts.throttle.admission.live) }
     {
-        views::stand(&self.entries, r)
+        self.parts.stand(r)
+    }
+
+    /// Whether a request was assigned to a pod, and has not ended.
+    pub fn proxied(&self, r: u64) -> bool
+        ensures { (c : Trace) → StandsFor self.now c → result ≡ proxied c r }
+    {
+        self.parts.proxied(r)
+    }
+
+    /// The least Starting pod that is not below this number; none exactly where there is none.
+    pub fn next_starting(&self, from: u64) -> Option<u64>
+        ensures pod { (c : Trace) → StandsFor self.now c → result ≡ next_starting c from }
+        ensures from { IfSome result (λ p. from ≤ p) }
+        ensures most { IfSome result (λ p. p < 2 ^ 63) }
+    {
+        self.parts.next_starting(from)
+    }
+
+    /// How many requests are live. Some trace is stood for.
+    pub fn live(&self) -> u64
+        ensures value { result ≡ length self.now.parts.throttle.admission.live }
+        ensures live { (c : Trace) → StandsFor self.now c → result ≡ length (live c) }
+        ensures some { StandsForSome self.now }
+    {
+        self.parts.live()
+    }
+
+    /// How many requests have arrived, which is the number of the next one.
+    pub fn arrivals(&self) -> u64
+        ensures { (c : Trace) → StandsFor self.now c → result ≡ arrivals c }
+    {
+        self.parts.arrivals()
     }
 
     /// The time of the last event, or the start, in milliseconds.
@@ -157,21 +159,5 @@ impl Revision {
         ensures { result ≡ self.now.events }
     {
         self.events
-    }
-
-    /// How many requests are live. Some trace is stood for, and events made it.
-    pub fn live(&self) -> u64
-        ensures value { result ≡ self.now.live }
-        ensures live { (c : Trace) → StandsFor self.now c → self.now.live ≡ length (live c) }
-        ensures some { StandsForSome self.now }
-    {
-        views::count_live(&self.entries) as u64
-    }
-
-    /// How many requests have arrived, which is the number of the next one.
-    pub fn arrivals(&self) -> u64
-        ensures { (c : Trace) → StandsFor self.now c → result ≡ arrivals c }
-    {
-        views::arrivals(&self.entries) as u64
     }
 }

@@ -68,7 +68,7 @@ fn kind_of(row: &Row) -> usize {
     }
 }
 
-/// A hundred events of this seed.
+/// Sixty events of this seed.
 fn check_mix(rt: &impl Abort, alloc: Global, seed: u64) -> Result<Run, Memory> {
     let setup = Setup {
         limit: 2,
@@ -77,7 +77,7 @@ fn check_mix(rt: &impl Abort, alloc: Global, seed: u64) -> Result<Run, Memory> {
         slots: slots(6, 4),
     };
     let mut run = Run::open(alloc, setup, 5)?;
-    for k in 0..100 {
+    for k in 0..60 {
         let word = u64::from(random_word(seed, k));
         let time = 5 + 60 * k + word % 60;
         let arrivals = run.revision().arrivals();
@@ -85,11 +85,11 @@ fn check_mix(rt: &impl Abort, alloc: Global, seed: u64) -> Result<Run, Memory> {
         compare(rt, &run);
         check_counts(rt, &run);
     }
-    assert_eq!(rt; run.revision().events(), 100);
+    assert_eq!(rt; run.revision().events(), 60);
     Ok(run)
 }
 
-/// 500 events: the trace is kept as a list, which is quadratic, so they are those of five seeds. Rows of each kind come, and
+/// Sixty events of each of five seeds. Rows of each kind come, and
 /// none of another kind.
 #[test]
 fn seeded_mix(rt: HostRuntime) -> Result<(), Fail> {

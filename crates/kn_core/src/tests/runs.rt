@@ -43,102 +43,6 @@ fn seats(limit: u64, depth: u64, max: u64, timeout_s: u64) -> Setup {
     }
 }
 
-/// No pod and no event.
-#[test]
-fn empty_journal(rt: HostRuntime) -> Result<(), Fail> {
-    let setup = Setup {
-        limit: 1,
-        pods: 0,
-        timeout_s: 300,
-        slots: slots(1, 1),
-    };
-    let run = check(&rt, rt.alloc(), setup, "", &[])?;
-    let revision = run.revision();
-    assert_eq!(rt; (revision.now(), revision.events()), (0, 0));
-    assert_eq!(rt; (revision.live(), revision.arrivals()), (0, 0));
-    assert_eq!(rt; revision.stand(0), Stand::Unknown);
-    Ok(())
-}
-
-/// One seat: the second request waits for it, the third is refused. A request that has ended is not running.
-#[test]
-fn one_seat_one_waits_and_finish_twice(rt: HostRuntime) -> Result<(), Fail> {
-    let run = check(
-        &rt,
-        rt.alloc(),
-        seats(1, 1, 1, 300),
-        "0 create 0 1\n",
-        &[
-            (0, Act::Ready(0), Told::Passed, "0 ready 0\n"),
-            (
-                1,
-                Act::Arrive(10),
-                Told::Run(0, 0),
-                "1 admit 0 10\n1 assign 0 0\n",
-            ),
-            (2, Act::Arrive(11), Told::Held(1), "2 admit 1 11\n"),
-            (3, Act::Arrive(12), Told::QueueFull(2), "3 queue-full 2 -\n"),
-            (
-                4,
-                Act::Finish(0, true),
-                Told::Done(0),
-                "4 finish 0 ok\n4 assign 1 0\n",
-            ),
-            (
-                5,
-                Act::Finish(0, true),
-                Told::NotRunning(0),
-                "5 not-running 0\n",
-            ),
-        ],
-    )?;
-    let revision = run.revision();
-    assert_eq!(rt; (revision.now(), revision.events()), (5, 6));
-    assert_eq!(rt; (revision.live(), revision.arrivals()), (1, 3));
-    assert_eq!(rt;
-        (revision.stand(0), revision.stand(1)),
-        (Stand::Ended, Stand::Running(0))
-    );
-    assert_eq!(rt;
-        (revision.stand(2), revision.stand(3)),
-        (Stand::Ended, Stand::Unknown)
-    );
-    Ok(())
-}
-
-/// Who waited too long goes before a seat is freed.
-#[test]
-fn expiry_before_finish(rt: HostRuntime) -> Result<(), Fail> {
-    let run = check(
-        &rt,
-        rt.alloc(),
-        seats(1, 2, 1, 1),
-        "0 create 0 1\n",
-        &[
-            (0, Act::Ready(0), Told::Passed, "0 ready 0\n"),
-            (
-                0,
-                Act::Arrive(1),
-                Told::Run(0, 0),
-                "0 admit 0 1\n0 assign 0 0\n",
-            ),
-            (100, Act::Arrive(2), Told::Held(1), "100 admit 1 2\n"),
-            (200, Act::Arrive(3), Told::Held(2), "200 admit 2 3\n"),
-            (
-                1100,
-                Act::Finish(0, true),
-                Told::Done(0),
-                "1100 expire 1\n1100 finish 0 ok\n1100 assign 2 0\n",
-            ),
-        ],
-    )?;
-    assert_eq!(rt;
-        (run.revision().live(), run.revision().stand(1)),
-        (1, Stand::Ended)
-    );
-    Ok(())
-}
-
 /// The other acts: a held request is given up, limits change, time passes, and what can't be is refused.
 #[test]
 fn other_acts(rt: HostRuntime) -> Result<(), Fail> {
@@ -182,5 +86,73 @@ fn other_acts(rt: HostRuntime) -> Result<(), Fail> {
         ],
     )?;
     assert_eq!(rt; (run.revision().live(), run.revision().arrivals()), (1, 4));
+    Ok(())
+}
+
+/// Two pods are lost: their requests end first, and what waits goes on to the pod that is left. Who waited too long goes
+/// before them.
+#[test]
+fn lost_before_settling(rt: HostRuntime) -> Result<(), Fail> {
+    let setup = Setup {
+        limit: 2,
+        pods: 2,
+        timeout_s: 1,
+        slots: slots(2, 3),
+    };
+    let run = check(
+        &rt,
+        rt.alloc(),
+        setup,
+        "0 create 0 2\n0 create 1 2\n",
+        &[
+            (0, Act::Ready(0), Told::Passed, "0 ready 0\n"),
+            (0, Act::Ready(1), Told::Passed, "0 ready 1\n"),
+            (
+                1,
+                Act::Arrive(10),
+                Told::Run(0, 0),
+                "1 admit 0 10\n1 assign 0 0\n",
+            ),
+            (
+                1,
+                Act::Arrive(11),
+                Told::Run(1, 0),
+                "1 admit 1 11\n1 assign 1 0\n",
+            ),
+            (
+                1,
+                Act::Arrive(12),
+                Told::Run(2, 1),
+                "1 admit 2 12\n1 assign 2 1\n",
+            ),
+            (1, Act::Arrive(13), Told::Held(3), "1 admit 3 13\n"),
+            (1, Act::Arrive(14), Told::Held(4), "1 admit 4 14\n"),
+            (
+                2,
+                Act::Lost(0),
+                Told::Passed,
+                "2 lost-request 0\n2 lost-request 1\n2 lost-pod 0\n2 assign 3 1\n",
+            ),
+            (3, Act::Arrive(15), Told::Held(5), "3 admit 5 15\n"),
+            (4, Act::Lost(0), Told::NoPod(0), "4 no-pod 0\n"),
+            (4, Act::Lost(7), Told::NoPod(7), "4 no-pod 7\n"),
+            (
+                1001,
+                Act::Lost(1),
+                Told::Passed,
+                "1001 expire 4\n1001 lost-request 2\n1001 lost-request 3\n1001 lost-pod 1\n",
+            ),
+        ],
+    )?;
+    let revision = run.revision();
+    assert_eq!(rt; (revision.live(), revision.arrivals()), (1, 6));
+    assert_eq!(rt;
+        (revision.stand(3), revision.stand(5)),
+        (Stand::Ended, Stand::Held)
+    );
+    assert_eq!(rt;
+        (revision.proxied(5), revision.next_starting(0)),
+        (false, None)
+    );
     Ok(())
 }

@@ -1,7 +1,6 @@
--- The trace that is kept is stood for, and events made it.
-use Rattle.std.proofs.Common.{subst, refl}
+use Rattle.std.proofs.Common.{subst}
 use Rattle.kn_core.specs.State.{StandsForSome}
 use Rattle.kn_core.proofs.revision.Revision.live.Goals as goal
 
 pub returns-clause-some : goal.returns-clause-some
-returns-clause-some c = subst StandsForSome c.self.view_is ∣ (c.self.inside.entries.items, record { kept = refl }, c.self.invariant.made) ∣₁
+returns-clause-some c = subst StandsForSome c.self.view_is c.self.invariant.some

@@ -1,11 +1,27 @@
-use Rattle.kn_core.proofs.Made.{IsMadeBy-opening}
-use Rattle.kn_core.proofs.Reacting.{opening-plain}
+use Rattle.std.proofs.Common.{◌≡◌, ◌≤◌, refl, sym, arith}
+use Rattle.kn_trace.specs.Events.{opening}
 use Rattle.kn_core.proofs.revision.Revision.new.Goals as goal
+
+pub returns-clause-stands : goal.returns-clause-stands
+returns-clause-stands c = record { events = c.history_laws.ensures.opening c.args.spec c.args.start; parts = c.in_ok-parts.ensures.stands }
 
 pub invariant_of-result : goal.invariant_of-result
 invariant_of-result c = record {
-  kind = c.requires.kind;
-  plain = rw c.in_ok-entries.ensures.items (opening-plain c.args.spec c.args.start c.requires.kind);
   clock = c.requires.times;
-  made = rw c.in_ok-entries.ensures.items (IsMadeBy-opening c.args.spec c.args.start);
+  fixed = c.requires.fixed;
+  spec = c.in_ok-parts.ensures.stands.spec;
+  timed = c.in_ok-parts.ensures.timed;
+  ranges = c.in_ok-parts.ensures.ranges;
+  events = omega arith;
+  created = let few = c.in_ok-parts.ensures.created in omega (arith, few);
+  some = ∣ (opening c.args.spec c.args.start, returns-clause-stands c) ∣₁;
 }
+
+pub returns-clause-lawful : goal.returns-clause-lawful
+returns-clause-lawful c = λ d h. c.history_laws.ensures.lawful _ _ _ _ d h.events
+
+pub returns-clause-settled : goal.returns-clause-settled
+returns-clause-settled c = λ d h. c.history_laws.ensures.settled _ _ _ _ d h.events
+
+pub returns-clause-inert : goal.returns-clause-inert
+returns-clause-inert c = λ d e h. c.history_laws.ensures.inert _ _ _ _ d e h.events

@@ -1,23 +1,76 @@
-use Rattle.std.proofs.Common.{◌≡◌, ap, ◌∙◌, arith, length}
-use Rattle.kn_trace.specs.Trace.{live}
-use Rattle.kn_core.specs.State.{State}
-use Rattle.kn_core.proofs.Made.{IsMadeBy-react, grows_by_need}
+use Rattle.std.proofs.Common.{◌≡◌, ◌≤◌, ◌<◌, ◌+◌, ◌^◌, ◌∙◌, ◌++◌, refl, sym, ap, subst, arith, length}
+use Rattle.std.proofs.Math.Bridge.{le_prop}
+use Rattle.std.proofs.Math.Logic.{∥∥₁_elim, ∥∥₁_map}
+use Rattle.kn_event.specs.declared.revision.Spec.{Spec}
+use Rattle.kn_trace.specs.Events.{react}
+use Rattle.kn_core.specs.State.{ArePartsOf, StandsFor}
+use Rattle.kn_core.proofs.Events.{few_live, few_arrivals, live_same, parts_of_some, timed_later}
 use Rattle.kn_core.proofs.revision.Revision.step.Goals as goal
+
+pub react-requires-clause-some : goal.react-requires-clause-some
+react-requires-clause-some c = parts_of_some _ c.self.invariant.spec c.self.invariant.some
+
+pub react-requires-clause-few : goal.react-requires-clause-few
+react-requires-clause-few c = few_live c.append_laws.ensures.views _ c.size_laws.ensures.live (parts_of_some _ c.self.invariant.spec c.self.invariant.some)
+
+pub react-requires-clause-arrivals : goal.react-requires-clause-arrivals
+react-requires-clause-arrivals c =
+    let count = rw (← c.self.view_is) at c.requires.count in
+    omega (arith, count, few_arrivals c.append_laws.ensures.views c.count_laws.ensures.arrivals _ c.self.invariant.some)
+
+pub react-requires-clause-timed : goal.react-requires-clause-timed
+react-requires-clause-timed c = timed_later _ _ _ (rw (← c.self.view_is) at c.requires.order) c.self.invariant.timed
+
+pub returns-clause-stands : goal.returns-clause-stands
+returns-clause-stands c = rw (← c.self.view_is) (λ d h. record {
+  events = c.history_laws.ensures.step _ _ _ _ d c.args.e.now h.events (rw (← c.self.view_is) at c.requires.order);
+  parts = c.react.ensures.stands _ d h.parts;
+})
+
+pub returns-clause-logged : goal.returns-clause-logged
+returns-clause-logged c = rw (← c.self.view_is) (λ d h. c.react.ensures.logged _ d h.parts)
+
+pub returns-clause-told : goal.returns-clause-told
+returns-clause-told c = rw (← c.self.view_is) (λ d h. c.react.ensures.told _ d h.parts)
+
+pub returns-clause-lawful : goal.returns-clause-lawful
+returns-clause-lawful c = λ d h. c.history_laws.ensures.lawful _ _ _ _ d h.events
+
+pub returns-clause-settled : goal.returns-clause-settled
+returns-clause-settled c = λ d h. c.history_laws.ensures.settled _ _ _ _ d h.events
+
+pub returns-clause-inert : goal.returns-clause-inert
+returns-clause-inert c = λ d e h. c.history_laws.ensures.inert _ _ _ _ d e h.events
 
 pub invariant_of-self : goal.invariant_of-self
 invariant_of-self c = record {
-  kind = c.self.invariant.kind;
-  plain = c.react.ensures.plain;
-  clock = let times = c.requires.times in omega arith;
-  made = rw c.react.ensures.items (IsMadeBy-react c.trace_laws.ensures.append _ _ _ _ c.self.invariant.made);
+  clock = c.requires.times;
+  fixed = c.self.invariant.fixed;
+  spec = c.react.ensures.spec ∙ c.self.invariant.spec;
+  timed = c.react.ensures.timed;
+  ranges = c.self.invariant.ranges;
+  events = let count = rw (← c.self.view_is) at c.requires.count in omega (arith, count);
+  created = let before = c.self.invariant.created in omega (arith, before, c.react.ensures.created);
+  some = ∥∥₁_map c.self.invariant.some (λ h. (
+    h.0 ++ react c.self.inside.spec h.0 c.args.e.now,
+    record {
+      events = c.history_laws.ensures.step _ _ _ _ h.0 c.args.e.now h.1.events (rw (← c.self.view_is) at c.requires.order);
+      parts = c.react.ensures.stands _ h.0 h.1.parts;
+    },
+  ));
 }
 
 pub returns-clause-grows : goal.returns-clause-grows
-returns-clause-grows c = λ d h.
+returns-clause-grows c = rw (← c.self.view_is) (λ d h.
     let s = c.self.inside.spec in
-    let start = c.self.inside.start in
-    let kept = c.self.inside.entries.items in
-    let was : length (live kept) ≡ c.args.self.now.live = ap (λ (r : State). r.live) c.self.view_is in
-    let same : kept ≡ d = ap (λ (r : State). r.kept) c.self.view_is ∙ h.kept in
-    let more = grows_by_need s start kept c.args.e.now (c.trace_laws.ensures.made s start) (c.growth_laws.ensures.live s kept c.args.e.now) c.self.invariant.made in
-    rw (← same, c.react.ensures.items) (omega (arith, more, was))
+    let e = c.args.e.now in
+    let more = c.growth_laws.ensures.live s d e h.parts.made in
+    let was = live_same c.append_laws.ensures.views _ s d h.parts in
+    let now = live_same c.append_laws.ensures.views _ s (d ++ react s d e) (c.react.ensures.stands s d h.parts) in
+    omega (arith, more, was, now))
+
+pub returns-clause-few : goal.returns-clause-few
+returns-clause-few c = ∥∥₁_elim c.self.invariant.some le_prop (λ h.
+    let s = c.self.inside.spec in
+    let e = c.args.e.now in
+    rw (c.react.ensures.logged s h.0 h.1.parts) (c.entry_laws.ensures.entries s h.0 e c.self.invariant.ranges h.1.parts.made (c.history_laws.ensures.settled _ _ _ _ h.0 h.1.events)))
