@@ -29,7 +29,7 @@ fn is_replay(words: &[String]) -> bool
 }
 
 /// Tells of a status, and answers it.
-fn tell<E: Sink>(status: Status, err: &mut E) -> Status
+pub fn tell<E: Sink>(status: Status, err: &mut E) -> Status
     ensures same { result ≡ status }
     ensures told { Tells (status_text result) (E.held err.old) (E.held err.new) (E.Faulty.faults err.old) (E.Faulty.faults err.new) }
 {

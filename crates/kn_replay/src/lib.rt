@@ -7,7 +7,7 @@ mod report;
 mod texts;
 mod waiting;
 
-pub use command::run;
+pub use command::{run, tell};
 pub use kn_journal::{JournalError, SetupError, Status};
 
 #[cfg(test)]

@@ -222,6 +222,7 @@ fn open<S: Source>(
 }
 
 /// Replays the journal that the source gives, and writes its report.
+#[tactic(none)]
 pub fn replay_journal<S: Source, O: Sink>(alloc: Global, source: &mut S, out: &mut O) -> Status
     ensures report { Replays (S.left source.old) (S.left source.new) (O.held out.old) (O.held out.new) result }
     ensures replayed { IsReplayed result }
