@@ -15,6 +15,7 @@ use Rattle.kn_io.specs.Prefix.{AppendsPrefix}
 use Rattle.kn_trace.specs.Trace.{Trace}
 use Rattle.kn_trace.specs.Events.{added, opening, react, trace_of}
 use Rattle.kn_trace.specs.Report.{last_line, rows_text, totals}
+use Rattle.kn_core.specs.State.{IsFixed}
 use Rattle.kn_core.specs.Steps.{IsWithinRange}
 use Rattle.kn_journal.specs.declared.error.JournalError.{JournalError}
 use Rattle.kn_journal.specs.declared.error.JournalError.TheVariants as error
@@ -646,3 +647,19 @@ followed_replayed status.ReadFault h = h
 followed_replayed status.WriteFault h = h
 followed_replayed (status.SlotFault slot) h = h
 followed_replayed status.ListenFault h = h
+
+pub fixed_kind : (k : Kind) → IsFixed k → (n : ℕ) × (k ≡ kind.Fixed n)
+fixed_kind (kind.Fixed n) h = (n, refl)
+fixed_kind kind.Kpa h = absurd h
+
+pub never_ok : (e : JournalError) → status_of e ≡ status.Ok → ⊥
+never_ok error.ReadFault h = cc
+never_ok error.Memory h = cc
+never_ok error.BadFirstLine h = cc
+never_ok (error.BadSetup line why) h = cc
+never_ok (error.LineTooLong line) h = cc
+never_ok (error.BadLine line why) h = cc
+never_ok (error.TimeBack line before own) h = cc
+never_ok (error.TimeTooLarge line) h = cc
+never_ok error.NoEnd h = cc
+never_ok (error.AfterEnd line) h = cc

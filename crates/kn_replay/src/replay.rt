@@ -1,5 +1,5 @@
 //! A journal that is replayed, event after event.
-ghost use Rattle.std.specs.Prelude.{◌≡◌, ◌≢◌, ◌⊎◌, ◌+◌, ◌*◌, ◌<◌, ◌≤◌, ◌^◌, [], ◌++◌, length, Err, IfOk, IfErr, OnOk, OnErr, None, Some, false};
+ghost use Rattle.std.specs.Prelude.{◌≡◌, ◌≢◌, ◌⊎◌, ◌+◌, ◌*◌, ◌<◌, ◌≤◌, ◌^◌, [], ◌++◌, length, Err, IfOk, IfErr, OnOk, OnErr, None, Some, false, true};
 ghost use Rattle.kn_io.specs.Causes.{HasCause, Rose};
 ghost use Rattle.kn_io.specs.Prefix.{AppendsPrefix};
 ghost use Rattle.kn_event.specs.EventLine.{IsInJournalRange};
@@ -221,6 +221,17 @@ fn open<S: Source>(
     }
 }
 
+/// Whether the revision is of a kind that is built so far.
+fn is_fixed(spec: &Spec) -> bool
+    ensures fixed { result ≡ true → IsFixed spec.now.kind }
+    ensures scaled { result ≡ false → spec.now.kind ≡ Kind.Kpa }
+{
+    match spec.kind {
+        Kind::Fixed(_) => true,
+        Kind::Kpa => false,
+    }
+}
+
 /// Replays the journal that the source gives, and writes its report.
 #[tactic(none)]
 pub fn replay_journal<S: Source, O: Sink>(alloc: Global, source: &mut S, out: &mut O) -> Status
@@ -242,9 +253,8 @@ pub fn replay_journal<S: Source, O: Sink>(alloc: Global, source: &mut S, out: &m
         Err(error) => return status_of(error),
     };
     let Setup { spec, text: _ } = setup;
-    match spec.kind {
-        Kind::Fixed(_) => {}
-        Kind::Kpa => return Status::BadSetup(JournalError::BadSetup(2, SetupError::BadWord)),
+    if !is_fixed(&spec) {
+        return Status::BadSetup(JournalError::BadSetup(2, SetupError::BadWord));
     }
     let mut replay = match Replay::new(alloc, spec, start) {
         Ok(replay) => replay,
