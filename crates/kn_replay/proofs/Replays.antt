@@ -1,30 +1,45 @@
 -- One event of a replay, and how it ends.
-use Rattle.std.proofs.Common.{◌≡◌, ◌+◌, ◌≤◌, ℕ, List, [], ◌∷◌, ◌++◌, length, length-append, append_assoc, append-nil, add-zero, zero-add, refl, sym, ap, ◌∙◌, subst, arith, inl, inr}
-use Rattle.std.specs.Prelude.{◌⊎◌, Option, None, Some, Err}
-use Rattle.std.specs.Io.KnownBytes.{Appends, prepend_known}
+use Rattle.std.proofs.Common.{◌≡◌, ◌+◌, ◌≤◌, ℕ, List, [], ◌∷◌, ◌++◌, length, length-append, append_assoc, append-nil, refl, sym, ap, ◌∙◌, subst, arith, inl, inr}
+use Rattle.std.specs.Prelude.{◌⊎◌, Option, None, Some, Err, Ok, codes, Contains}
+use Rattle.std.specs.Io.KnownBytes.{Appends, IsAtEnd, prepend_known}
 use Rattle.std.proofs.KnownBytes.{Appends-nil, Appends-trans}
+use Rattle.kn_event.specs.declared.event.Act.{Act}
+use Rattle.kn_event.specs.declared.event.Act.TheVariants as act
 use Rattle.kn_event.specs.declared.event.Event.{Event}
+use Rattle.kn_event.specs.declared.revision.Kind.{Kind}
+use Rattle.kn_event.specs.declared.revision.Kind.TheVariants as kind
 use Rattle.kn_event.specs.declared.revision.Spec.{Spec}
+use Rattle.kn_event.specs.EventLine.{IsInJournalRange}
 use Rattle.kn_io.specs.Causes.{Rose}
 use Rattle.kn_io.specs.Prefix.{AppendsPrefix}
 use Rattle.kn_trace.specs.Trace.{Trace}
 use Rattle.kn_trace.specs.Events.{added, opening, react, trace_of}
-use Rattle.kn_replay.specs.declared.journal.JournalError.TheVariants as error
-use Rattle.kn_replay.specs.declared.command.Status.{Status}
-use Rattle.kn_replay.specs.declared.command.Status.TheVariants as status
-use Rattle.kn_replay.specs.declared.journal.JournalError.{JournalError}
-use Rattle.kn_replay.specs.Reading.{Counts, most_taken}
-use Rattle.kn_replay.specs.Lines.{lines}
-use Rattle.kn_replay.specs.Journal.{Read, from_first, none_read, opened, read_events, refused_at, verdict, with_event}
-use Rattle.kn_replay.specs.Following.{EndsThere, Gives, Goes, Stops, after_event, after_opening, refused_read}
-use Rattle.kn_replay.specs.Report.{journal_last_line, journal_rows, report_of_bytes, report_of_read}
 use Rattle.kn_trace.specs.Report.{last_line, rows_text, totals}
-use Rattle.kn_replay.specs.Replaying.{AreMany, Follows, GoesOn, IsReplayed, Replays, Writes, ending, rest_of_report, status_of}
+use Rattle.kn_core.specs.State.{IsFixed}
+use Rattle.kn_core.specs.Steps.{IsWithinRange}
+use Rattle.kn_journal.specs.declared.error.JournalError.{JournalError}
+use Rattle.kn_journal.specs.declared.error.JournalError.TheVariants as error
+use Rattle.kn_journal.specs.declared.journal.Journal.{Journal}
+use Rattle.kn_journal.specs.declared.journal.Opening.{Opening}
+use Rattle.kn_journal.specs.declared.journal.Setup.{Setup}
+use Rattle.kn_journal.specs.declared.status.Status.{Status}
+use Rattle.kn_journal.specs.declared.status.Status.TheVariants as status
+use Rattle.kn_journal.specs.Causes.{Cause, after_end, bad_first_line, bad_line, bad_setup, error_of, line_too_long, no_end, time_back, time_too_large}
+use Rattle.kn_journal.specs.Lines.{lines}
+use Rattle.kn_journal.specs.Parts.{part}
+use Rattle.kn_journal.specs.Journal.{Read, Verdict, bad, from_read, journal_of, next_part, none_read, opening_part, read_events, start_part, verdict, verdict_of_lines, verdict_on, version_of}
+use Rattle.kn_journal.specs.Reading.{TakesPart}
+use Rattle.kn_journal.specs.Telling.{Gives, Refuses, StopsAmid, TakesEnd}
+use Rattle.kn_replay.specs.Replaying.{BreaksAhead, BreaksAmid, BreaksBefore, BreaksFollowing, BreaksIn, EndsThere, Follows, IsFollowed, IsGoodSoFar, IsReplayed, Opened, Opens, Replays, Stops, Writes, ending, refusal_of, rest_of_report, status_by, status_of}
+use Rattle.kn_replay.specs.Report.{built, journal_last_line, journal_rows, judged, not_built, report_of}
+use Rattle.kn_replay.specs.Waiting.{Adds}
+use Rattle.kn_replay.proofs.Lines.{IsEventLine, end_line, next_end, next_event, next_none, next_refused, no_byte, no_line, with_events, with_events-more}
 use Rattle.kn_replay.proofs.Pieces.{prefix_after, prefix_more, prefix_none, rows_text-append, rows_text-nil}
+use Rattle.kn_replay.proofs.Waits.{adds_all, adds_some, adds_stop}
 
--- ---- what is left to write
+-- ---- what events add
 
-added-nil : (s : Spec) (c : Trace) → added s c [] ≡ []
+pub added-nil : (s : Spec) (c : Trace) → added s c [] ≡ []
 unfolding added
 added-nil s c = refl
 
@@ -32,220 +47,619 @@ added-cons : (s : Spec) (c : Trace) (e : Event) (es : List Event) → added s c 
 unfolding added
 added-cons s c e es = refl
 
-pub rest-end : (s : Spec) (c : Trace) (k : ℕ) (refused : Option ℕ) → rest_of_report s c k (none_read refused) ≡ ending c k refused
-unfolding rest_of_report
-rest-end s c k refused =
-    let count : k + length (none_read refused).events ≡ k = add-zero k in
-    rw (added-nil s c, rows_text-nil, count) (ap (λ (d : Trace). ending d k refused) (append-nil c))
-
-rest-event : (s : Spec) (c : Trace) (k : ℕ) (e : Event) (r : Read) → rest_of_report s c k (with_event e r) ≡ rows_text (react s c e) ++ rest_of_report s (c ++ react s c e) (k + 1) r
-unfolding rest_of_report
-rest-event s c k e r =
+pub added-append : (s : Spec) (c : Trace) (es later : List Event) → added s c (es ++ later) ≡ added s c es ++ added s (c ++ added s c es) later
+added-append s c [] later =
+    let none = added-nil s c in
+    rw none (ap (λ (t : Trace). added s t later) (sym (append-nil c)))
+added-append s c (e ∷ es) later =
     let x = react s c e in
-    let tail = added s (c ++ x) r.events in
-    let count : k + length (with_event e r).events ≡ (k + 1) + length r.events = omega arith in
-    let m = (k + 1) + length r.events in
-    ap (λ (t : Trace). rows_text t ++ ending (c ++ t) (k + length (with_event e r).events) r.refused) (added-cons s c e r.events)
-    ∙ ap (λ (n : ℕ). rows_text (x ++ tail) ++ ending (c ++ (x ++ tail)) n r.refused) count
-    ∙ ap (λ (z : List ℕ). z ++ ending (c ++ (x ++ tail)) m r.refused) (rows_text-append x tail)
-    ∙ append_assoc (rows_text x) (rows_text tail) (ending (c ++ (x ++ tail)) m r.refused)
-    ∙ ap (λ (t : Trace). rows_text x ++ (rows_text tail ++ ending t m r.refused)) (sym (append_assoc c x tail))
+    added-cons s c e (es ++ later)
+    ∙ ap (λ (t : Trace). x ++ t) (added-append s (c ++ x) es later)
+    ∙ sym (append_assoc x (added s (c ++ x) es) (added s ((c ++ x) ++ added s (c ++ x) es) later))
+    ∙ ap (λ (t : Trace). (x ++ added s (c ++ x) es) ++ added s t later) (append_assoc c x (added s (c ++ x) es))
+    ∙ ap (λ (t : Trace). t ++ added s (c ++ t) later) (sym (added-cons s c e es))
 
--- ---- more was written before
+pub added-one : (s : Spec) (c : Trace) (e : Event) → added s c (e ∷ []) ≡ react s c e
+added-one s c e = added-cons s c e [] ∙ ap (λ (t : Trace). react s c e ++ t) (added-nil s (c ++ react s c e)) ∙ append-nil (react s c e)
 
-some_same : {xs ys : List ℕ} → Some xs ≡ Some ys → xs ≡ ys
-some_same h = cc
+pub added-more : (s : Spec) (c : Trace) (es : List Event) (e : Event) → added s c (es ++ e ∷ []) ≡ added s c es ++ react s (c ++ added s c es) e
+added-more s c es e = added-append s c es (e ∷ []) ∙ ap (λ (t : Trace). added s c es ++ t) (added-one s (c ++ added s c es) e)
 
-after_prefix : (x y : List ℕ) (a b d : Option (List ℕ)) → Appends a b x → AppendsPrefix b d y → AppendsPrefix a d (x ++ y)
-after_prefix x y a b d h k =
-    let P : List ℕ → Type 0 = λ z. AppendsPrefix a d (x ++ z) in
-    subst P (append-nil y) (prefix_after a b d x y [] h k)
+-- the trace after one event more
+pub trace-more : (s : Spec) (c : Trace) (es : List Event) (e : Event) → c ++ added s c (es ++ e ∷ []) ≡ (c ++ added s c es) ++ react s (c ++ added s c es) e
+trace-more s c es e = ap (λ (t : Trace). c ++ t) (added-more s c es e) ∙ sym (append_assoc c (added s c es) (react s (c ++ added s c es) e))
 
-writes_after : (x y : List ℕ) (refused : Option ℕ) (a b d : Option (List ℕ)) (result : Status) → Appends a b x → Writes y refused b d result → Writes (x ++ y) refused a d result
-writes_after x y refused a b d status.Ok h k = (k.0, Appends-trans a b d x y h k.1)
-writes_after x y refused a b d status.Usage h k = absurd k
-writes_after x y refused a b d (status.BadInput error.ReadFault) h k = absurd k
-writes_after x y refused a b d (status.BadInput error.Memory) h k = absurd k
-writes_after x y refused a b d (status.BadInput (error.NotBuilt n)) h k = (k.0, Appends-trans a b d x y h k.1)
-writes_after x y refused a b d (status.BadSetup e) h k = absurd k
-writes_after x y refused a b d status.ReadFault h k = after_prefix x y a b d h k
-writes_after x y refused a b d status.WriteFault h k = after_prefix x y a b d h k
-writes_after x y refused a b d status.Memory h k = after_prefix x y a b d h k
-writes_after x y refused a b d (status.SlotFault n) h k = absurd k
-writes_after x y refused a b d status.ListenFault h k = absurd k
+-- and the rows
+pub rows-more : (s : Spec) (c : Trace) (es : List Event) (e : Event) → rows_text (added s c (es ++ e ∷ [])) ≡ rows_text (added s c es) ++ rows_text (react s (c ++ added s c es) e)
+rows-more s c es e = ap rows_text (added-more s c es e) ∙ rows_text-append (added s c es) (react s (c ++ added s c es) e)
 
--- ---- the loop
+-- the report of these events, and then that of the others
+rest-split : (version : ℕ) (s : Spec) (c : Trace) (es : List Event) (r : Read)
+    → (more : List ℕ) × (rest_of_report version s c (with_events es r) ≡ rows_text (added s c es) ++ more)
+unfolding rest_of_report
+rest-split version s c es r =
+    let later = added s (c ++ added s c es) r.events in
+    let end = ending version (c ++ added s c (es ++ r.events)) (length (es ++ r.events)) r.refused in (
+      rows_text later ++ end,
+      ap (λ (t : Trace). rows_text t ++ end) (added-append s c es r.events)
+      ∙ ap (λ (z : List ℕ). z ++ end) (rows_text-append (added s c es) later)
+      ∙ append_assoc (rows_text (added s c es)) (rows_text later) end,
+    )
 
-pub goes_begin : (s : Spec) (c : Trace) (start : ℕ) (known out : Option (List ℕ)) → GoesOn s c start known out out c 0 4 start known
-goes_begin s c start None out = tt
-goes_begin s c start (Some xs) out = ([], Appends-nil out, refl, refl)
+-- ---- what was read so far
 
-pub goes_more : (s : Spec) (c : Trace) (start : ℕ) (known out new more : Option (List ℕ)) (now : Trace) (k n last : ℕ) (rest left : Option (List ℕ)) (e : Event)
-    → GoesOn s c start known out new now k n last rest → Goes (read_events n last) (after_event n (Some e)) rest left → Appends new more (rows_text (react s now e))
-    → GoesOn s c start known out more (now ++ react s now e) (k + 1) (n + 1) e.time left
-goes_more s c start None out new more now k n last rest left e h g a = tt
-goes_more s c start (Some xs) out new more now k n last None left e h g a = absurd h
-goes_more s c start (Some xs) out new more now k n last (Some ys) None e h g a = absurd g
-goes_more s c start (Some xs) out new more now k n last (Some ys) (Some zs) e (written, held, all, cause) g a = (
-  written ++ rows_text (react s now e),
-  Appends-trans _ _ _ _ _ held a,
-  all ∙ ap (λ (r : Read). written ++ rest_of_report s now k r) g ∙ ap (λ (m : List ℕ). written ++ m) (rest-event s now k e _) ∙ sym (append_assoc written (rows_text (react s now e)) _),
-  cause ∙ ap (λ (r : Read). r.refused) g,
-)
+-- lines that are these events, whatever follows them
+pub record Reads (version last number : ℕ) (all : List (List ℕ)) (es : List Event) (now m : ℕ) (left : List (List ℕ)) : Type 0 where
+  pub own : List (List ℕ)
+  pub split : all ≡ own ++ left
+  pub reads : (later : List (List ℕ)) → read_events version last number (own ++ later) ≡ with_events es (read_events version now m later)
 
--- what the bytes left still say is what is written at the end
-goes_exit : (s : Spec) (c : Trace) (start : ℕ) (known out new more : Option (List ℕ)) (now : Trace) (k n last : ℕ) (rest : Option (List ℕ)) (result : Status)
-    → GoesOn s c start known out new now k n last rest
-    → ((ys : List ℕ) → rest ≡ Some ys → Writes (rest_of_report s now k (read_events n last (lines ys))) (read_events n last (lines ys)).refused new more result)
-    → Follows s c start known out more result
-goes_exit s c start None out new more now k n last rest result h w = tt
-goes_exit s c start (Some xs) out new more now k n last None result h w = absurd h
-goes_exit s c start (Some xs) out new more now k n last (Some ys) result (written, held, all, cause) w =
-    rw (all, cause) (writes_after written _ _ out new more result held (w ys refl))
+abbrev pub GoesOn : ℕ → ℕ → ℕ → Option (List ℕ) → List Event → ℕ → ℕ → Option (List ℕ) → Type 0
+GoesOn version last number None es now m rest = Unit {0}
+GoesOn version last number (Some xs) es now m None = ⊥
+GoesOn version last number (Some xs) es now m (Some ys) = Reads version last number (lines xs) es now m (lines ys)
+
+pub goes_begin : (version last number : ℕ) (known : Option (List ℕ)) → GoesOn version last number known [] last number known
+goes_begin version last number None = tt
+goes_begin version last number (Some xs) = record { own = []; split = refl; reads = λ later. refl }
+
+reads_more : (version last number : ℕ) (all : List (List ℕ)) (es : List Event) (now m : ℕ) (left : List (List ℕ)) (e : Event) (n : ℕ) (after : List (List ℕ))
+    → Reads version last number all es now m left → IsEventLine version now m left e n after → Reads version last number all (es ++ e ∷ []) e.time n after
+reads_more version last number all es now m left e n after h k = record {
+  own = h.own ++ k.line ∷ [];
+  split = h.split ∙ ap (λ (x : List (List ℕ)). h.own ++ x) k.split ∙ sym (append_assoc h.own (k.line ∷ []) after);
+  reads = λ later.
+      ap (λ (x : List (List ℕ)). read_events version last number x) (append_assoc h.own (k.line ∷ []) later)
+      ∙ h.reads (k.line ∷ later)
+      ∙ ap (with_events es) (k.reads later)
+      ∙ with_events-more es e (read_events version e.time n later);
+}
+
+pub goes_more : (version last number : ℕ) (known : Option (List ℕ)) (es : List Event) (now m : ℕ) (rest : Option (List ℕ)) (e : Event) (n : ℕ) (left : Option (List ℕ))
+    → GoesOn version last number known es now m rest → Gives (next_part version now m) (Some e) n rest left → GoesOn version last number known (es ++ e ∷ []) e.time n left
+goes_more version last number None es now m rest e n left h g = tt
+goes_more version last number (Some xs) es now m None e n left h g = absurd h
+goes_more version last number (Some xs) es now m (Some ys) e n None h g = absurd g
+goes_more version last number (Some xs) es now m (Some ys) e n (Some zs) h g =
+    reads_more version last number (lines xs) es now m (lines ys) e n (lines zs) h (next_event version now m (lines ys) e n (lines zs) g)
+
+-- all that the lines say
+reads_all : (version last number : ℕ) (all : List (List ℕ)) (es : List Event) (now m : ℕ) (left : List (List ℕ))
+    → Reads version last number all es now m left → read_events version last number all ≡ with_events es (read_events version now m left)
+reads_all version last number all es now m left h = ap (λ (x : List (List ℕ)). read_events version last number x) h.split ∙ h.reads left
+
+-- no further event comes
+none_more : (es : List Event) (refused : Option Cause) → with_events es (none_read refused) ≡ record { events = es; refused = refused }
+none_more es refused = ap (λ (x : List Event). record { events = x; refused = refused }) (append-nil es)
+
+-- ---- how a replay stops
+
+abbrev IsPlain : Status → Type 0
+IsPlain status.Ok = Unit {0}
+IsPlain (status.BadInput e) = Unit {0}
+IsPlain (status.BadSetup e) = Unit {0}
+IsPlain _ = ⊥
+
+plain_cause : (cause : Cause) → IsPlain (status_of (error_of cause))
+plain_cause (line_too_long line) = tt
+plain_cause bad_first_line = tt
+plain_cause (bad_setup line why) = tt
+plain_cause (bad_line line why) = tt
+plain_cause (time_back line before own) = tt
+plain_cause (time_too_large line) = tt
+plain_cause no_end = tt
+plain_cause (after_end line) = tt
+
+plain_end : (refused : Option Cause) → IsPlain (status_by refused)
+plain_end None = tt
+plain_end (Some cause) = plain_cause cause
+
+writes_end : (text : List ℕ) (end : Status) (P : List ℕ → Type 0) (old new : Option (List ℕ)) → IsPlain end → Appends old new text → Writes text end P old new end
+writes_end text status.Ok P old new plain h = (refl, h)
+writes_end text status.Usage P old new plain h = absurd plain
+writes_end text (status.BadInput e) P old new plain h = (refl, h)
+writes_end text (status.BadSetup e) P old new plain h = (refl, h)
+writes_end text status.ReadFault P old new plain h = absurd plain
+writes_end text status.WriteFault P old new plain h = absurd plain
+writes_end text status.Memory P old new plain h = absurd plain
+writes_end text (status.SlotFault slot) P old new plain h = absurd plain
+writes_end text status.ListenFault P old new plain h = absurd plain
+
+writes_stop : (text : List ℕ) (end : Status) (P : List ℕ → Type 0) (old new : Option (List ℕ)) (result : Status) → IsPlain end → Stops text old new end result → Writes text end P old new result
+writes_stop text end P old new result plain (inl (is, all)) = subst (λ (x : Status). Writes text end P old new x) (sym is) (writes_end text end P old new plain all)
+writes_stop text end P old new result plain (inr (is, some)) = subst (λ (x : Status). Writes text end P old new x) (sym is) some
+
+stops_after : (old mid new : Option (List ℕ)) (p q x y : List ℕ) (end result : Status) → Adds old mid p q x → Stops (q ++ y) mid new end result → Stops (p ++ (x ++ y)) old new end result
+stops_after old mid new p q x y end result h (inl (is, all)) = inl (is, subst (Appends old new) (append_assoc p x y) (adds_all old mid new p q x y h all))
+stops_after old mid new p q x y end result h (inr (is, some)) =
+    let text : p ++ (x ++ (y ++ [])) ≡ p ++ (x ++ y) = ap (λ (z : List ℕ). p ++ (x ++ z)) (append-nil y) in
+    inr (is, subst (AppendsPrefix old new) text (adds_some old mid new p q x y [] h some))
+
+stops_nil : (waiting : List ℕ) (old new : Option (List ℕ)) (end result : Status) → Stops waiting old new end result → Stops (waiting ++ []) old new end result
+stops_nil waiting old new end result h = subst (λ (z : List ℕ). Stops z old new end result) (sym (append-nil waiting)) h
+
+-- the lines end, or one is refused
+follows_end : (version : ℕ) (s : Spec) (c : Trace) (last number : ℕ) (xs : List ℕ) (left : Option (List ℕ)) (waiting now : List ℕ) (old mid new : Option (List ℕ)) (es : List Event) (refused : Option Cause) (result : Status)
+    → read_events version last number (lines xs) ≡ record { events = es; refused = refused }
+    → Adds old mid waiting now (rows_text (added s c es))
+    → Stops (now ++ ending version (c ++ added s c es) (length es) refused) mid new (status_by refused) result
+    → Follows version s c last number (Some xs) left waiting old new result
+unfolding rest_of_report
+follows_end version s c last number xs left waiting now old mid new es refused result h adds stops =
+    let P : Read → Type 0 = λ r. Writes (waiting ++ rest_of_report version s c r) (status_by r.refused) (BreaksFollowing version s c last number xs left waiting) old new result in
+    subst P (sym h)
+    (writes_stop _ (status_by refused) _ old new result (plain_end refused) (stops_after old mid new waiting now (rows_text (added s c es)) _ _ result adds stops))
 
 -- all lines were good
-pub goes_good : (s : Spec) (c : Trace) (start : ℕ) (known out new more : Option (List ℕ)) (now : Trace) (k n last : ℕ) (rest left : Option (List ℕ)) (result : Status)
-    → GoesOn s c start known out new now k n last rest → Goes (read_events n last) (after_event n None) rest left → Writes (last_line 1 k (totals now)) None new more result
-    → Follows s c start known out more result
-goes_good s c start known out new more now k n last None left result h g w = goes_exit s c start known out new more now k n last None result h (λ ys is. cc)
-goes_good s c start known out new more now k n last (Some xs) None result h g w = absurd g
-goes_good s c start known out new more now k n last (Some xs) (Some zs) result h g w =
-    let P : Read → Type 0 = λ r. Writes (rest_of_report s now k r) r.refused new more result in
-    let Q : List ℕ → Type 0 = λ ys. P (read_events n last (lines ys)) in
-    goes_exit s c start known out new more now k n last (Some xs) result h (λ ys is. subst Q (some_same is) (subst P (sym g) (rw (rest-end s now k None) w)))
+pub goes_good : (version : ℕ) (s : Spec) (c : Trace) (last number : ℕ) (known : Option (List ℕ)) (waiting now : List ℕ) (old mid new : Option (List ℕ)) (es : List Event) (time m : ℕ) (rest : Option (List ℕ)) (n : ℕ) (left : Option (List ℕ)) (result : Status)
+    → GoesOn version last number known es time m rest → Gives (next_part version time m) None n rest left
+    → Adds old mid waiting now (rows_text (added s c es))
+    → Stops (now ++ last_line version (length es) (totals (c ++ added s c es))) mid new status.Ok result
+    → Follows version s c last number known left waiting old new result
+goes_good version s c last number None waiting now old mid new es time m rest n left result h g adds stops = tt
+goes_good version s c last number (Some xs) waiting now old mid new es time m None n left result h g adds stops = absurd h
+goes_good version s c last number (Some xs) waiting now old mid new es time m (Some ys) n None result h g adds stops = absurd g
+goes_good version s c last number (Some xs) waiting now old mid new es time m (Some ys) n (Some zs) result h g adds stops =
+    follows_end version s c last number xs (Some zs) waiting now old mid new es None result
+    (reads_all version last number (lines xs) es time m (lines ys) h ∙ ap (with_events es) (next_end version time m (lines ys) n (lines zs) g) ∙ none_more es None)
+    adds stops
 
 -- a line is refused
-pub goes_refused : (s : Spec) (c : Trace) (start : ℕ) (known out new : Option (List ℕ)) (now : Trace) (k n last : ℕ) (rest : Option (List ℕ)) (m : ℕ)
-    → GoesOn s c start known out new now k n last rest → Stops (read_events n last) (refused_read m) rest
-    → Follows s c start known out new (status.BadInput (error.NotBuilt m))
-goes_refused s c start known out new now k n last None m h g = goes_exit s c start known out new new now k n last None _ h (λ ys is. cc)
-goes_refused s c start known out new now k n last (Some xs) m h g =
-    let P : Read → Type 0 = λ r. Writes (rest_of_report s now k r) r.refused new new (status.BadInput (error.NotBuilt m)) in
-    let Q : List ℕ → Type 0 = λ ys. P (read_events n last (lines ys)) in
-    goes_exit s c start known out new new now k n last (Some xs) _ h (λ ys is. subst Q (some_same is) (subst P (sym g) (rw (rest-end s now k (Some m)) (refl, Appends-nil new))))
+goes_refused : (version : ℕ) (s : Spec) (c : Trace) (last number : ℕ) (xs : List ℕ) (waiting now : List ℕ) (old mid new : Option (List ℕ)) (es : List Event) (time m : ℕ) (ys : List ℕ) (left : Option (List ℕ)) (cause : Cause) (e : JournalError) (result : Status)
+    → Reads version last number (lines xs) es time m (lines ys) → error_of cause ≡ e → next_part version time m (lines ys) ≡ Err cause
+    → Adds old mid waiting now (rows_text (added s c es)) → Stops now mid new (status_of e) result
+    → Follows version s c last number (Some xs) left waiting old new result
+goes_refused version s c last number xs waiting now old mid new es time m ys left cause e result h is g adds stops =
+    follows_end version s c last number xs left waiting now old mid new es (Some cause) result
+    (reads_all version last number (lines xs) es time m (lines ys) h ∙ ap (with_events es) (next_refused version time m (lines ys) cause g) ∙ none_more es (Some cause))
+    adds
+    (stops_nil now mid new _ result (subst (λ (x : JournalError). Stops now mid new (status_of x) result) (sym is) stops))
 
--- nothing more could be read, or there was no memory
-pub goes_fault : (s : Spec) (c : Trace) (start : ℕ) (known out new : Option (List ℕ)) (now : Trace) (k n last : ℕ) (rest : Option (List ℕ))
-    → GoesOn s c start known out new now k n last rest → Follows s c start known out new status.ReadFault
-goes_fault s c start known out new now k n last rest h = goes_exit s c start known out new new now k n last rest _ h (λ ys is. prefix_none new _)
+-- an event's rows were not all written, or what waited
+cut : (version : ℕ) (s : Spec) (c : Trace) (es : List Event) (r : Read) (all : Read) (waiting some : List ℕ) (old new : Option (List ℕ))
+    → all ≡ with_events es r → AppendsPrefix old new (waiting ++ rows_text (added s c es)) → AppendsPrefix old new (waiting ++ rest_of_report version s c all)
+cut version s c es r all waiting some old new h k =
+    let split = rest-split version s c es r in
+    let text : (waiting ++ rows_text (added s c es)) ++ split.0 ≡ waiting ++ rest_of_report version s c all =
+    append_assoc waiting (rows_text (added s c es)) split.0 ∙ ap (λ (z : List ℕ). waiting ++ z) (sym split.1) ∙ ap (λ (x : Read). waiting ++ rest_of_report version s c x) (sym h) in
+    subst (AppendsPrefix old new) text (prefix_more old new (waiting ++ rows_text (added s c es)) split.0 k)
 
-pub goes_memory : (s : Spec) (c : Trace) (start : ℕ) (known out new : Option (List ℕ)) (now : Trace) (k n last : ℕ) (rest : Option (List ℕ))
-    → GoesOn s c start known out new now k n last rest → Follows s c start known out new status.Memory
-goes_memory s c start known out new now k n last rest h = goes_exit s c start known out new new now k n last rest _ h (λ ys is. prefix_none new _)
+some_waits : (old mid new : Option (List ℕ)) (p q x y : List ℕ) → Adds old mid p q x → AppendsPrefix mid new (q ++ y) → AppendsPrefix old new (p ++ (x ++ y))
+some_waits old mid new p q x y h some =
+    subst (AppendsPrefix old new) (ap (λ (z : List ℕ). p ++ (x ++ z)) (append-nil y)) (adds_some old mid new p q x y [] h some)
 
--- an event's entries were not all written
-pub goes_cut : (s : Spec) (c : Trace) (start : ℕ) (known out new more : Option (List ℕ)) (now : Trace) (k n last : ℕ) (rest left : Option (List ℕ)) (e : Event) (why : Status)
-    → GoesOn s c start known out new now k n last rest → Goes (read_events n last) (after_event n (Some e)) rest left → AppendsPrefix new more (rows_text (react s now e))
-    → ((text : List ℕ) (refused : Option ℕ) → AppendsPrefix new more text → Writes text refused new more why)
-    → Follows s c start known out more why
-goes_cut s c start known out new more now k n last None left e why h g p by = goes_exit s c start known out new more now k n last None _ h (λ ys is. cc)
-goes_cut s c start known out new more now k n last (Some xs) None e why h g p by = absurd g
-goes_cut s c start known out new more now k n last (Some xs) (Some zs) e why h g p by =
-    let P : Read → Type 0 = λ r. AppendsPrefix new more (rest_of_report s now k r) in
-    let some = subst P (sym g) (rw (rest-event s now k e (read_events (n + 1) e.time (lines zs))) (prefix_more new more _ _ p)) in
-    let Q : List ℕ → Type 0 = λ ys. Writes (rest_of_report s now k (read_events n last (lines ys))) (read_events n last (lines ys)).refused new more why in
-    goes_exit s c start known out new more now k n last (Some xs) _ h (λ ys is. subst Q (some_same is) (by _ _ some))
+pub goes_cut : (version : ℕ) (s : Spec) (c : Trace) (last number : ℕ) (known : Option (List ℕ)) (waiting now : List ℕ) (old mid new : Option (List ℕ)) (es : List Event) (time m : ℕ) (rest : Option (List ℕ)) (e : Event) (n : ℕ) (left after : Option (List ℕ))
+    → GoesOn version last number known es time m rest → Gives (next_part version time m) (Some e) n rest left
+    → Adds old mid waiting now (rows_text (added s c es)) → AppendsPrefix mid new (now ++ rows_text (react s (c ++ added s c es) e))
+    → Follows version s c last number known after waiting old new status.WriteFault
+goes_cut version s c last number None waiting now old mid new es time m rest e n left after h g adds some = tt
+goes_cut version s c last number (Some xs) waiting now old mid new es time m None e n left after h g adds some = absurd h
+goes_cut version s c last number (Some xs) waiting now old mid new es time m (Some ys) e n None after h g adds some = absurd g
+goes_cut version s c last number (Some xs) waiting now old mid new es time m (Some ys) e n (Some zs) after h g adds some =
+    let more = reads_more version last number (lines xs) es time m (lines ys) e n (lines zs) h (next_event version time m (lines ys) e n (lines zs) g) in
+    let all = reads_all version last number (lines xs) (es ++ e ∷ []) e.time n (lines zs) more in
+    let rows = some_waits old mid new waiting now (rows_text (added s c es)) (rows_text (react s (c ++ added s c es) e)) adds some in
+    cut version s c (es ++ e ∷ []) (read_events version e.time n (lines zs)) _ waiting [] old new all
+    (subst (λ (z : List ℕ). AppendsPrefix old new (waiting ++ z)) (sym (rows-more s c es e)) rows)
 
--- ---- the whole
+-- ---- the source failed
 
-after_opening_parts : (s : Spec) (start : ℕ) (xs : List ℕ) (r : Read) → from_first (lines xs) ≡ opened s start r → verdict xs ≡ opened s start r
-unfolding verdict
-after_opening_parts s start xs r h = h
+fault_ends : (version : ℕ) (s : Spec) (c : Trace) (last number : ℕ) (xs : List ℕ) (left : Option (List ℕ)) (waiting now : List ℕ) (old mid new : Option (List ℕ)) (es : List Event) (r : Read) (refused : Option Cause) (result : Status)
+    → read_events version last number (lines xs) ≡ with_events es r
+    → BreaksIn version last number (lines xs) left (record { events = es; refused = refused })
+    → Adds old mid waiting now (rows_text (added s c es)) → Stops now mid new status.ReadFault result
+    → Follows version s c last number (Some xs) left waiting old new result
+fault_ends version s c last number xs left waiting now old mid new es r refused result all breaks adds (inl (is, held)) =
+    let text = rows_text (added s c es) in
+    let whole : Appends old new (waiting ++ text) =
+    subst (Appends old new) (append-nil (waiting ++ text)) (adds_all old mid new waiting now text [] adds (subst (Appends mid new) (sym (append-nil now)) held)) in
+    subst (λ (x : Status). Follows version s c last number (Some xs) left waiting old new x) (sym is)
+    (waiting ++ text, whole, (record { events = es; refused = refused }, breaks, refl))
+fault_ends version s c last number xs left waiting now old mid new es r refused result all breaks adds (inr (is, some)) =
+    subst (λ (x : Status). Follows version s c last number (Some xs) left waiting old new x) (sym is)
+    (cut version s c es r _ waiting [] old new all (adds_stop old mid new waiting now (rows_text (added s c es)) adds some))
 
--- the first three lines were not read
-pub opening_fails : (old new out : Option (List ℕ)) (e : JournalError) → Gives from_first after_opening refused_at old new (Err e) → Replays old out out (status_of e)
-unfolding verdict report_of_bytes
-opening_fails None new out e h = tt
-opening_fails (Some xs) new out error.ReadFault h = prefix_none out _
-opening_fails (Some xs) new out error.Memory h = prefix_none out _
-opening_fails (Some xs) new out (error.NotBuilt n) h = rw h (refl, Appends-nil out)
+-- within a line
+breaks_within : (version last number : ℕ) (all : List (List ℕ)) (es : List Event) (time m : ℕ) (ys : List ℕ) (left : Option (List ℕ))
+    → Reads version last number all es time m (lines ys) → TakesPart (Some ys) left → BreaksIn version last number all left (record { events = es; refused = Some no_end })
+breaks_within version last number all es time m ys left h part = record {
+  own = h.own;
+  mid = ys;
+  split = h.split;
+  events =
+      ap (λ (x : List (List ℕ)). read_events version last number x) (sym (append-nil h.own))
+      ∙ h.reads [] ∙ ap (with_events es) (no_line version time m) ∙ none_more es (Some no_end);
+  good = refl;
+  rest = part;
+}
 
--- the report is the opening's rows and what the events add
-report_is : (s : Spec) (start : ℕ) (r : Read) → report_of_read (opened s start r).journal r.refused ≡ rows_text (opening s start) ++ rest_of_report s (opening s start) 0 r
-unfolding rest_of_report trace_of journal_rows journal_last_line
-report_is s start r = by_refused r.refused
+-- behind `end`
+breaks_behind : (version last number : ℕ) (all : List (List ℕ)) (es : List Event) (time m : ℕ) (ys mid : List ℕ) (left : Option (List ℕ))
+    → Reads version last number all es time m (lines ys) → lines ys ≡ codes "end" ∷ lines mid → TakesPart (Some mid) left
+    → BreaksIn version last number all left (record { events = es; refused = None })
+breaks_behind version last number all es time m ys mid left h ends part = record {
+  own = h.own ++ codes "end" ∷ [];
+  mid = mid;
+  split = h.split ∙ ap (λ (x : List (List ℕ)). h.own ++ x) ends ∙ sym (append_assoc h.own (codes "end" ∷ []) (lines mid));
+  events = h.reads (codes "end" ∷ []) ∙ ap (with_events es) (end_line version time m) ∙ none_more es None;
+  good = tt;
+  rest = part;
+}
+
+fault_at : (version : ℕ) (s : Spec) (c : Trace) (last number : ℕ) (xs : List ℕ) (waiting now : List ℕ) (old mid new : Option (List ℕ)) (es : List Event) (time m : ℕ) (ys : List ℕ) (left : Option (List ℕ)) (result : Status)
+    → Reads version last number (lines xs) es time m (lines ys) → TakesPart (Some ys) left ⊎ TakesEnd (Some ys) left
+    → Adds old mid waiting now (rows_text (added s c es)) → Stops now mid new status.ReadFault result
+    → Follows version s c last number (Some xs) left waiting old new result
+fault_at version s c last number xs waiting now old mid new es time m ys left result h (inl part) adds stops =
+    fault_ends version s c last number xs left waiting now old mid new es (read_events version time m (lines ys)) (Some no_end) result
+    (reads_all version last number (lines xs) es time m (lines ys) h) (breaks_within version last number (lines xs) es time m ys left h part) adds stops
+fault_at version s c last number xs waiting now old mid new es time m ys None result h (inr ends) adds stops = absurd ends
+fault_at version s c last number xs waiting now old mid new es time m ys (Some zs) result h (inr (between, ends, part)) adds stops =
+    fault_ends version s c last number xs (Some zs) waiting now old mid new es (read_events version time m (lines ys)) None result
+    (reads_all version last number (lines xs) es time m (lines ys) h) (breaks_behind version last number (lines xs) es time m ys between (Some zs) h ends part) adds stops
+
+-- an error of the reader
+pub goes_stop : (version : ℕ) (s : Spec) (c : Trace) (last number : ℕ) (known : Option (List ℕ)) (waiting now : List ℕ) (old mid new : Option (List ℕ)) (es : List Event) (time m : ℕ) (rest left : Option (List ℕ)) (e : JournalError) (result : Status)
+    → GoesOn version last number known es time m rest → Refuses (next_part version time m) e rest
+    → (e ≡ error.ReadFault → TakesPart rest left ⊎ TakesEnd rest left) → (e ≡ error.Memory → ⊥)
+    → Adds old mid waiting now (rows_text (added s c es)) → Stops now mid new (status_of e) result
+    → Follows version s c last number known left waiting old new result
+goes_stop version s c last number None waiting now old mid new es time m rest left e result h g amid memory adds stops = tt
+goes_stop version s c last number (Some xs) waiting now old mid new es time m None left e result h g amid memory adds stops = absurd h
+goes_stop version s c last number (Some xs) waiting now old mid new es time m (Some ys) left error.ReadFault result h g amid memory adds stops =
+    fault_at version s c last number xs waiting now old mid new es time m ys left result h (amid refl) adds stops
+goes_stop version s c last number (Some xs) waiting now old mid new es time m (Some ys) left error.Memory result h g amid memory adds stops = absurd (memory refl)
+goes_stop version s c last number (Some xs) waiting now old mid new es time m (Some ys) left error.BadFirstLine result h (cause, is, g) amid memory adds stops =
+    goes_refused version s c last number xs waiting now old mid new es time m ys left cause _ result h is g adds stops
+goes_stop version s c last number (Some xs) waiting now old mid new es time m (Some ys) left (error.BadSetup line why) result h (cause, is, g) amid memory adds stops =
+    goes_refused version s c last number xs waiting now old mid new es time m ys left cause _ result h is g adds stops
+goes_stop version s c last number (Some xs) waiting now old mid new es time m (Some ys) left (error.LineTooLong line) result h (cause, is, g) amid memory adds stops =
+    goes_refused version s c last number xs waiting now old mid new es time m ys left cause _ result h is g adds stops
+goes_stop version s c last number (Some xs) waiting now old mid new es time m (Some ys) left (error.BadLine line why) result h (cause, is, g) amid memory adds stops =
+    goes_refused version s c last number xs waiting now old mid new es time m ys left cause _ result h is g adds stops
+goes_stop version s c last number (Some xs) waiting now old mid new es time m (Some ys) left (error.TimeBack line before own) result h (cause, is, g) amid memory adds stops =
+    goes_refused version s c last number xs waiting now old mid new es time m ys left cause _ result h is g adds stops
+goes_stop version s c last number (Some xs) waiting now old mid new es time m (Some ys) left (error.TimeTooLarge line) result h (cause, is, g) amid memory adds stops =
+    goes_refused version s c last number xs waiting now old mid new es time m ys left cause _ result h is g adds stops
+goes_stop version s c last number (Some xs) waiting now old mid new es time m (Some ys) left error.NoEnd result h (cause, is, g) amid memory adds stops =
+    goes_refused version s c last number xs waiting now old mid new es time m ys left cause _ result h is g adds stops
+goes_stop version s c last number (Some xs) waiting now old mid new es time m (Some ys) left (error.AfterEnd line) result h (cause, is, g) amid memory adds stops =
+    goes_refused version s c last number xs waiting now old mid new es time m ys left cause _ result h is g adds stops
+
+no_lf : ¬ Contains {X = ℕ} [] 10
+no_lf h = omega (arith, h.1)
+
+-- no more may be taken
+pub goes_full : (version : ℕ) (s : Spec) (c : Trace) (last number : ℕ) (known : Option (List ℕ)) (waiting now : List ℕ) (old mid new : Option (List ℕ)) (es : List Event) (time m : ℕ) (rest : Option (List ℕ)) (result : Status)
+    → GoesOn version last number known es time m rest
+    → Adds old mid waiting now (rows_text (added s c es)) → Stops now mid new status.ReadFault result
+    → Follows version s c last number known rest waiting old new result
+goes_full version s c last number None waiting now old mid new es time m rest result h adds stops = tt
+goes_full version s c last number (Some xs) waiting now old mid new es time m None result h adds stops = absurd h
+goes_full version s c last number (Some xs) waiting now old mid new es time m (Some ys) result h adds stops =
+    fault_at version s c last number xs waiting now old mid new es time m ys (Some ys) result h (inl ([], refl, no_lf)) adds stops
+
+-- ---- small facts
+
+pub within_range : (a : Act) → IsInJournalRange a → IsWithinRange a
+within_range (act.Limit p n) h = h.1
+within_range _ h = tt
+
+pub never_usage : (x : Status) → IsReplayed x → x ≡ status.Usage → ⊥
+never_usage x h k = subst IsReplayed k h
+
+pub rose_on : (a b d : ℕ) → a ≤ b → Rose b d → Rose a d
+rose_on a b d h k = grind (arith)
+
+-- ---- whether the bytes are known
+
+-- known bytes stay known
+abbrev pub IsStill : Option (List ℕ) → Option (List ℕ) → Type 0
+IsStill None new = Unit {0}
+IsStill (Some xs) None = ⊥
+IsStill (Some xs) (Some ys) = Unit {0}
+
+pub still_begin : (a : Option (List ℕ)) → IsStill a a
+still_begin None = tt
+still_begin (Some xs) = tt
+
+pub still_more : (version last n : ℕ) (e : Event) (m : ℕ) (a b d : Option (List ℕ)) → IsStill a b → Gives (next_part version last n) (Some e) m b d → IsStill a d
+still_more version last n e m None b d h g = tt
+still_more version last n e m (Some xs) None d h g = absurd h
+still_more version last n e m (Some xs) (Some ys) None h g = absurd g
+still_more version last n e m (Some xs) (Some ys) (Some zs) h g = tt
+
+pub ends_there : (version last n m : ℕ) (a b d : Option (List ℕ)) → IsStill a b → Gives (next_part version last n) None m b d → EndsThere a d
+ends_there version last n m None b d h g = tt
+ends_there version last n m (Some xs) None d h g = absurd h
+ends_there version last n m (Some xs) (Some ys) None h g = absurd g
+ends_there version last n m (Some xs) (Some ys) (Some zs) h g = ap (λ (z : List ℕ). Some z) (no_byte zs (next_none version last n (lines ys) m (lines zs) g))
+
+-- ---- statuses
+
+pub stop_followed : (waiting : List ℕ) (old new : Option (List ℕ)) (end result : Status) → Stops waiting old new end result → IsFollowed end → IsFollowed result
+stop_followed waiting old new end result (inl (is, all)) h = subst IsFollowed (sym is) h
+stop_followed waiting old new end result (inr (is, some)) h = subst IsFollowed (sym is) tt
+
+pub stop_reads : (waiting : List ℕ) (old new : Option (List ℕ)) (end result : Status) → Stops waiting old new end result → result ≡ status.ReadFault → end ≡ status.ReadFault
+stop_reads waiting old new end result (inl (is, all)) h = sym is ∙ h
+stop_reads waiting old new end result (inr (is, some)) h = absurd (other (sym is ∙ h))
   where
-    c : Trace
-    c = opening s start
+    other : status.WriteFault ≡ status.ReadFault → ⊥
+    other e = cc
 
-    more : Trace
-    more = added s (opening s start) r.events
+pub stops_behind : (old mid new : Option (List ℕ)) (p q x : List ℕ) (end result : Status) → Adds old mid p q x → Stops q mid new end result → Stops (p ++ x) old new end result
+stops_behind old mid new p q x end result h stops =
+    subst (λ (z : List ℕ). Stops (p ++ z) old new end result) (append-nil x) (stops_after old mid new p q x [] end result h (stops_nil q mid new end result stops))
 
-    by_refused : (o : Option ℕ) → report_of_read (opened s start r).journal o ≡ rows_text c ++ (rows_text more ++ ending (c ++ more) (0 + length r.events) o)
-    by_refused None =
-        ap (λ (z : List ℕ). z ++ last_line 1 (length r.events) (totals (c ++ more))) (rows_text-append c more)
-        ∙ append_assoc (rows_text c) (rows_text more) (last_line 1 (length r.events) (totals (c ++ more)))
-        ∙ ap (λ (n : ℕ). rows_text c ++ (rows_text more ++ last_line 1 n (totals (c ++ more)))) (sym (zero-add (length r.events)))
-    by_refused (Some n) = rows_text-append c more ∙ ap (λ (z : List ℕ). rows_text c ++ z) (sym (append-nil (rows_text more)))
-
-report_of : (s : Spec) (start : ℕ) (xs : List ℕ) (r : Read) → from_first (lines xs) ≡ opened s start r
-    → (report_of_bytes xs ≡ rows_text (opening s start) ++ rest_of_report s (opening s start) 0 r) × ((verdict xs).refused ≡ r.refused)
-unfolding verdict report_of_bytes
-report_of s start xs r h = (rw h (report_is s start r), rw h refl)
-
--- the opening's rows were not all written
-pub opening_cut : (s : Spec) (start : ℕ) (old mid out new : Option (List ℕ)) (why : Status) → Goes from_first (after_opening (s, start)) old mid
-    → AppendsPrefix out new (rows_text (opening s start)) → ((text : List ℕ) (refused : Option ℕ) → AppendsPrefix out new text → Writes text refused out new why)
-    → Replays old out new why
-opening_cut s start None mid out new why g p by = tt
-opening_cut s start (Some xs) None out new why g p by = absurd g
-opening_cut s start (Some xs) (Some ys) out new why g p by =
-    by _ _ (rw (report_of s start xs (read_events 4 start (lines ys)) g).0 (prefix_more out new _ _ p))
-
--- the opening's rows, and then what the events say
-pub opening_then : (s : Spec) (start : ℕ) (old mid out some new : Option (List ℕ)) (result : Status) → Goes from_first (after_opening (s, start)) old mid
-    → Appends out some (rows_text (opening s start)) → Follows s (opening s start) start mid some new result → Replays old out new result
-opening_then s start None mid out some new result g a f = tt
-opening_then s start (Some xs) None out some new result g a f = absurd g
-opening_then s start (Some xs) (Some ys) out some new result g a f =
-    let is = report_of s start xs (read_events 4 start (lines ys)) g in
-    rw (is.0, is.1) (writes_after _ _ _ out some new result a f)
-
--- nothing is left of the source
-pub ends_left : (ahead : List ℕ) (old mid left : Option (List ℕ)) (x y : ℕ) → Counts old mid x y → EndsThere mid (prepend_known ahead left) → EndsThere old left
-ends_left ahead None mid left x y c h = tt
-ends_left ahead (Some xs) None left x y c h = absurd c
-ends_left ahead (Some xs) (Some ys) None x y c h = absurd h
-ends_left [] (Some xs) (Some ys) (Some zs) x y c h = h
-ends_left (b ∷ bs) (Some xs) (Some ys) (Some zs) x y c h = cc
-
-pub are_many : (ahead : List ℕ) (old left : Option (List ℕ)) (taken : ℕ) → Counts old (prepend_known ahead left) 0 taken → taken ≡ most_taken → AreMany old left
-are_many ahead None left taken c h = tt
-are_many ahead (Some xs) None taken c h = absurd c
-are_many ahead (Some xs) (Some zs) taken c h =
-    let all : 0 + length xs ≡ taken + (length ahead + length zs) = c ∙ ap (λ (n : ℕ). taken + n) (length-append ahead zs) in
-    omega (arith, all, h)
+pub followed_of : (e : JournalError) → (e ≡ error.Memory → ⊥) → IsFollowed (status_of e)
+followed_of error.Memory h = absurd (h refl)
+followed_of error.ReadFault h = tt
+followed_of error.BadFirstLine h = tt
+followed_of (error.BadSetup line why) h = tt
+followed_of (error.LineTooLong line) h = tt
+followed_of (error.BadLine line why) h = tt
+followed_of (error.TimeBack line before own) h = tt
+followed_of (error.TimeTooLarge line) h = tt
+followed_of error.NoEnd h = tt
+followed_of (error.AfterEnd line) h = tt
 
 pub fault_of : (e : JournalError) → status_of e ≡ status.ReadFault → e ≡ error.ReadFault
 fault_of error.ReadFault h = refl
 fault_of error.Memory h = cc
-fault_of (error.NotBuilt n) h = cc
+fault_of error.BadFirstLine h = cc
+fault_of (error.BadSetup line why) h = cc
+fault_of (error.LineTooLong line) h = cc
+fault_of (error.BadLine line why) h = cc
+fault_of (error.TimeBack line before own) h = cc
+fault_of (error.TimeTooLarge line) h = cc
+fault_of error.NoEnd h = cc
+fault_of (error.AfterEnd line) h = cc
 
 pub no_write_fault : (e : JournalError) → status_of e ≡ status.WriteFault → ⊥
 no_write_fault error.ReadFault h = cc
 no_write_fault error.Memory h = cc
-no_write_fault (error.NotBuilt n) h = cc
-
-pub never_ok : (e : JournalError) → status_of e ≡ status.Ok → ⊥
-never_ok error.ReadFault h = cc
-never_ok error.Memory h = cc
-never_ok (error.NotBuilt n) h = cc
-
-pub nothing_ahead : (ahead : List ℕ) (left : Option (List ℕ)) → ahead ≡ [] → prepend_known ahead left ≡ left
-nothing_ahead ahead None h = refl
-nothing_ahead ahead (Some xs) h = rw h refl
-
-pub rose_on : (a b d : ℕ) → a ≤ b → Rose b d → Rose a d
-rose_on a b d h k = grind (arith)
+no_write_fault error.BadFirstLine h = cc
+no_write_fault (error.BadSetup line why) h = cc
+no_write_fault (error.LineTooLong line) h = cc
+no_write_fault (error.BadLine line why) h = cc
+no_write_fault (error.TimeBack line before own) h = cc
+no_write_fault (error.TimeTooLarge line) h = cc
+no_write_fault error.NoEnd h = cc
+no_write_fault (error.AfterEnd line) h = cc
 
 pub either : {A B C D : Type 0} → A ⊎ B → (A → C) → (B → D) → C ⊎ D
 either (inl a) f g = inl (f a)
 either (inr b) f g = inr (g b)
 
-pub replayed : (e : JournalError) → IsReplayed (status_of e)
-replayed error.ReadFault = tt
-replayed error.Memory = tt
-replayed (error.NotBuilt n) = tt
+-- ---- what stands before the events
 
-pub never_usage : (x : Status) → IsReplayed x → x ≡ status.Usage → ⊥
-never_usage x h k = subst IsReplayed k h
+verdict_unopened : (xs : List ℕ) (cause : Cause) → opening_part version_of 0 (lines xs) ≡ Err cause → verdict xs ≡ bad None cause
+unfolding verdict verdict_of_lines
+verdict_unopened xs cause h = rw h refl
+
+verdict_unstarted : (xs : List ℕ) (opening : Opening) (n : ℕ) (left : List (List ℕ)) (cause : Cause) → opening_part version_of 0 (lines xs) ≡ Ok (part opening n left) → start_part n left ≡ Err cause
+    → verdict xs ≡ bad None cause
+unfolding verdict verdict_of_lines
+verdict_unstarted xs opening n left cause h k = rw h (rw k refl)
+
+pub setup_fails : (known new : Option (List ℕ)) (version number : ℕ) (e : JournalError) → Refuses (opening_part version_of 0) e known
+    → (e ≡ error.ReadFault → StopsAmid (opening_part version_of 0) known new) → Opens known new version number (Err e)
+setup_fails None new version number e h amid = tt
+setup_fails (Some xs) new version number error.ReadFault h amid = inr (amid refl)
+setup_fails (Some xs) new version number error.Memory h amid = tt
+setup_fails (Some xs) new version number error.BadFirstLine (cause, is, h) amid = (cause, is, verdict_unopened xs cause h)
+setup_fails (Some xs) new version number (error.BadSetup line why) (cause, is, h) amid = (cause, is, verdict_unopened xs cause h)
+setup_fails (Some xs) new version number (error.LineTooLong line) (cause, is, h) amid = (cause, is, verdict_unopened xs cause h)
+setup_fails (Some xs) new version number (error.BadLine line why) (cause, is, h) amid = (cause, is, verdict_unopened xs cause h)
+setup_fails (Some xs) new version number (error.TimeBack line before own) (cause, is, h) amid = (cause, is, verdict_unopened xs cause h)
+setup_fails (Some xs) new version number (error.TimeTooLarge line) (cause, is, h) amid = (cause, is, verdict_unopened xs cause h)
+setup_fails (Some xs) new version number error.NoEnd (cause, is, h) amid = (cause, is, verdict_unopened xs cause h)
+setup_fails (Some xs) new version number (error.AfterEnd line) (cause, is, h) amid = (cause, is, verdict_unopened xs cause h)
+
+pub start_fails : (known mid new : Option (List ℕ)) (opening : Opening) (n version number : ℕ) (e : JournalError) → Gives (opening_part version_of 0) opening n known mid
+    → Refuses (start_part n) e mid → (e ≡ error.ReadFault → TakesPart mid new) → Opens known new version number (Err e)
+start_fails None mid new opening n version number e g h amid = tt
+start_fails (Some xs) None new opening n version number e g h amid = absurd g
+start_fails (Some xs) (Some ys) new opening n version number error.ReadFault g h amid = inl (record { opening = opening; number = n; mid = ys; read = g; rest = amid refl })
+start_fails (Some xs) (Some ys) new opening n version number error.Memory g h amid = tt
+start_fails (Some xs) (Some ys) new opening n version number error.BadFirstLine g (cause, is, h) amid = (cause, is, verdict_unstarted xs opening n (lines ys) cause g h)
+start_fails (Some xs) (Some ys) new opening n version number (error.BadSetup line why) g (cause, is, h) amid = (cause, is, verdict_unstarted xs opening n (lines ys) cause g h)
+start_fails (Some xs) (Some ys) new opening n version number (error.LineTooLong line) g (cause, is, h) amid = (cause, is, verdict_unstarted xs opening n (lines ys) cause g h)
+start_fails (Some xs) (Some ys) new opening n version number (error.BadLine line why) g (cause, is, h) amid = (cause, is, verdict_unstarted xs opening n (lines ys) cause g h)
+start_fails (Some xs) (Some ys) new opening n version number (error.TimeBack line before own) g (cause, is, h) amid = (cause, is, verdict_unstarted xs opening n (lines ys) cause g h)
+start_fails (Some xs) (Some ys) new opening n version number (error.TimeTooLarge line) g (cause, is, h) amid = (cause, is, verdict_unstarted xs opening n (lines ys) cause g h)
+start_fails (Some xs) (Some ys) new opening n version number error.NoEnd g (cause, is, h) amid = (cause, is, verdict_unstarted xs opening n (lines ys) cause g h)
+start_fails (Some xs) (Some ys) new opening n version number (error.AfterEnd line) g (cause, is, h) amid = (cause, is, verdict_unstarted xs opening n (lines ys) cause g h)
+
+-- ---- the whole
+
+opened_verdict : (xs : List ℕ) (version : ℕ) (setup : Setup) (start number : ℕ) (left : List (List ℕ)) → Opened (lines xs) version setup start number left
+    → verdict xs ≡ from_read version setup start (read_events version start number left)
+unfolding verdict verdict_of_lines
+opened_verdict xs version setup start number left h = rw h.opening (rw h.begins refl)
+
+built_fixed : (j : Journal) (refused : Option Cause) (n : ℕ) → j.setup.spec.kind ≡ kind.Fixed n → built (verdict_on j refused) ≡ verdict_on j refused
+built_fixed j None n h = rw h refl
+built_fixed j (Some cause) n h = rw h refl
+
+built_scaled : (j : Journal) (refused : Option Cause) → j.setup.spec.kind ≡ kind.Kpa → built (verdict_on j refused) ≡ not_built
+built_scaled j None h = rw h refl
+built_scaled j (Some cause) h = rw h refl
+
+judged_fixed : (xs : List ℕ) (version : ℕ) (setup : Setup) (start number n : ℕ) (left : List (List ℕ)) → setup.spec.kind ≡ kind.Fixed n → Opened (lines xs) version setup start number left
+    → judged xs ≡ from_read version setup start (read_events version start number left)
+unfolding judged
+judged_fixed xs version setup start number n left h k =
+    let r = read_events version start number left in
+    ap built (opened_verdict xs version setup start number left k) ∙ built_fixed (journal_of version setup start r.events) r.refused n h
+
+-- the report is the opening's rows and what the events add
+report_is : (version : ℕ) (setup : Setup) (start : ℕ) (r : Read)
+    → report_of (from_read version setup start r) ≡ rows_text (opening setup.spec start) ++ rest_of_report version setup.spec (opening setup.spec start) r
+unfolding rest_of_report trace_of journal_rows journal_last_line
+report_is version setup start r = by_refused r.refused
+  where
+    c : Trace
+    c = opening setup.spec start
+
+    more : Trace
+    more = added setup.spec (opening setup.spec start) r.events
+
+    by_refused : (o : Option Cause) → report_of (verdict_on (journal_of version setup start r.events) o) ≡ rows_text c ++ (rows_text more ++ ending version (c ++ more) (length r.events) o)
+    by_refused None =
+        ap (λ (z : List ℕ). z ++ last_line version (length r.events) (totals (c ++ more))) (rows_text-append c more)
+        ∙ append_assoc (rows_text c) (rows_text more) (last_line version (length r.events) (totals (c ++ more)))
+    by_refused (Some cause) = rows_text-append c more ∙ ap (λ (z : List ℕ). rows_text c ++ z) (sym (append-nil (rows_text more)))
+
+status_is : (j : Journal) (refused : Option Cause) → status_by (refusal_of (verdict_on j refused)) ≡ status_by refused
+status_is j None = refl
+status_is j (Some cause) = refl
+
+after_prefix : (x y : List ℕ) (a b d : Option (List ℕ)) → Appends a b x → AppendsPrefix b d y → AppendsPrefix a d (x ++ y)
+after_prefix x y a b d h k = subst (λ (z : List ℕ). AppendsPrefix a d (x ++ z)) (append-nil y) (prefix_after a b d x y [] h k)
+
+writes_after : (written text : List ℕ) (end : Status) (P Q : List ℕ → Type 0) (old mid new : Option (List ℕ)) (result : Status) → Appends old mid written
+    → ((front : List ℕ) → P front → Q (written ++ front)) → IsFollowed result → Writes text end P mid new result → Writes (written ++ text) end Q old new result
+writes_after written text end P Q old mid new status.Ok h f k w = (w.0, Appends-trans old mid new written text h w.1)
+writes_after written text end P Q old mid new status.Usage h f k w = absurd k
+writes_after written text end P Q old mid new (status.BadInput e) h f k w = (w.0, Appends-trans old mid new written text h w.1)
+writes_after written text end P Q old mid new (status.BadSetup e) h f k w = (w.0, Appends-trans old mid new written text h w.1)
+writes_after written text end P Q old mid new status.ReadFault h f k (front, held, p) = (written ++ front, Appends-trans old mid new written front h held, f front p)
+writes_after written text end P Q old mid new status.WriteFault h f k w = after_prefix written text old mid new h w
+writes_after written text end P Q old mid new status.Memory h f k w = absurd k
+writes_after written text end P Q old mid new (status.SlotFault slot) h f k w = absurd k
+writes_after written text end P Q old mid new status.ListenFault h f k w = absurd k
+
+-- the rows of the opening and of these events
+journal_rows-is : (version : ℕ) (setup : Setup) (start : ℕ) (es : List Event)
+    → journal_rows (journal_of version setup start es) ≡ rows_text (opening setup.spec start) ++ rows_text (added setup.spec (opening setup.spec start) es)
+unfolding journal_rows trace_of
+journal_rows-is version setup start es = rows_text-append (opening setup.spec start) (added setup.spec (opening setup.spec start) es)
+
+breaks_after : (xs : List ℕ) (version : ℕ) (setup : Setup) (start number : ℕ) (ys : List ℕ) (ahead : List ℕ) (left : Option (List ℕ)) (written waiting front : List ℕ)
+    → Opened (lines xs) version setup start number (lines ys) → rows_text (opening setup.spec start) ≡ written ++ waiting
+    → BreaksFollowing version setup.spec (opening setup.spec start) start number ys (prepend_known ahead left) waiting front
+    → BreaksAhead xs left (written ++ front)
+breaks_after xs version setup start number ys ahead left written waiting front h rows (read, breaks, is) =
+    let j : Journal = journal_of version setup start read.events in
+    let amid : BreaksAmid (lines xs) (prepend_known ahead left) j =
+    record { number = h.at; after = h.after; begun = number; more = lines ys; refused = read.refused; opening = h.opening; start = h.begins; breaks = breaks } in
+    let more = rows_text (added setup.spec (opening setup.spec start) read.events) in
+    let text : written ++ front ≡ journal_rows j =
+    ap (λ (z : List ℕ). written ++ z) is ∙ sym (append_assoc written waiting more) ∙ ap (λ (z : List ℕ). z ++ more) (sym rows) ∙ sym (journal_rows-is version setup start read.events) in
+    (ahead, inl (j, amid, text))
+
+pub journal_follows : (known rest left : Option (List ℕ)) (ahead : List ℕ) (version : ℕ) (setup : Setup) (start number n : ℕ) (old mid new : Option (List ℕ)) (waiting : List ℕ) (result : Status)
+    → setup.spec.kind ≡ kind.Fixed n → Opens known rest version number (Ok (setup, start)) → Adds old mid [] waiting (rows_text (opening setup.spec start))
+    → Follows version setup.spec (opening setup.spec start) start number rest (prepend_known ahead left) waiting mid new result → IsFollowed result
+    → Replays known left old new result
+journal_follows None rest left ahead version setup start number n old mid new waiting result is h adds follows followed = tt
+journal_follows (Some xs) None left ahead version setup start number n old mid new waiting result is h adds follows followed = absurd h
+journal_follows (Some xs) (Some ys) left ahead version setup start number n old mid new waiting result is h adds follows followed =
+    let s = setup.spec in
+    let c = opening s start in
+    let r = read_events version start number (lines ys) in
+    let P : Verdict → Type 0 = λ v. Writes (report_of v) (status_by (refusal_of v)) (BreaksAhead xs left) old new result in
+    let text : adds.written ++ (waiting ++ rest_of_report version s c r) ≡ report_of (from_read version setup start r) =
+    sym (append_assoc adds.written waiting (rest_of_report version s c r)) ∙ ap (λ (z : List ℕ). z ++ rest_of_report version s c r) (sym adds.all) ∙ sym (report_is version setup start r) in
+    let end : status_by r.refused ≡ status_by (refusal_of (from_read version setup start r)) = sym (status_is (journal_of version setup start r.events) r.refused) in
+    let all = writes_after adds.written _ _ _ (BreaksAhead xs left) old mid new result adds.held
+    (λ front breaks. breaks_after xs version setup start number ys ahead left adds.written waiting front h adds.all breaks) followed follows in
+    subst P (sym (judged_fixed xs version setup start number n (lines ys) is h))
+    (subst (λ (z : List ℕ). Writes z (status_by (refusal_of (from_read version setup start r))) (BreaksAhead xs left) old new result) text
+    (subst (λ (x : Status). Writes (adds.written ++ (waiting ++ rest_of_report version s c r)) x (BreaksAhead xs left) old new result) end all))
+
+-- the opening's rows were not all written
+pub journal_cut : (known rest left : Option (List ℕ)) (version : ℕ) (setup : Setup) (start number n : ℕ) (old new : Option (List ℕ))
+    → setup.spec.kind ≡ kind.Fixed n → Opens known rest version number (Ok (setup, start)) → AppendsPrefix old new (rows_text (opening setup.spec start))
+    → Replays known left old new status.WriteFault
+journal_cut None rest left version setup start number n old new is h some = tt
+journal_cut (Some xs) None left version setup start number n old new is h some = absurd h
+journal_cut (Some xs) (Some ys) left version setup start number n old new is h some =
+    let r = read_events version start number (lines ys) in
+    subst (λ (v : Verdict). AppendsPrefix old new (report_of v)) (sym (judged_fixed xs version setup start number n (lines ys) is h))
+    (subst (AppendsPrefix old new) (sym (report_is version setup start r)) (prefix_more old new _ (rest_of_report version setup.spec (opening setup.spec start) r) some))
+
+judged_scaled : (xs : List ℕ) (version : ℕ) (setup : Setup) (start number : ℕ) (left : List (List ℕ)) → setup.spec.kind ≡ kind.Kpa → Opened (lines xs) version setup start number left → judged xs ≡ not_built
+unfolding judged
+judged_scaled xs version setup start number left h k =
+    let r = read_events version start number left in
+    ap built (opened_verdict xs version setup start number left k) ∙ built_scaled (journal_of version setup start r.events) r.refused h
+
+-- a revision that scales
+pub journal_scales : (known rest left : Option (List ℕ)) (version : ℕ) (setup : Setup) (start number : ℕ) (out : Option (List ℕ))
+    → setup.spec.kind ≡ kind.Kpa → Opens known rest version number (Ok (setup, start)) → Replays known left out out (status_by (refusal_of not_built))
+journal_scales None rest left version setup start number out is h = tt
+journal_scales (Some xs) None left version setup start number out is h = absurd h
+journal_scales (Some xs) (Some ys) left version setup start number out is h =
+    let r = read_events version start number (lines ys) in
+    let all : judged xs ≡ not_built = judged_scaled xs version setup start number (lines ys) is h in
+    subst (λ (v : Verdict). Writes (report_of v) (status_by (refusal_of v)) (BreaksAhead xs left) out out (status_by (refusal_of not_built))) (sym all) (refl, Appends-nil out)
+
+pub journal_memory : (known left : Option (List ℕ)) (out : Option (List ℕ)) → Replays known left out out status.Memory
+journal_memory None left out = tt
+journal_memory (Some xs) left out = Appends-nil out
+
+-- no start was read
+pub journal_fails : (known left : Option (List ℕ)) (ahead : List ℕ) (version number : ℕ) (e : JournalError) (out : Option (List ℕ)) → Opens known (prepend_known ahead left) version number (Err e)
+    → Replays known left out out (status_of e)
+unfolding judged
+journal_fails None left ahead version number e out h = tt
+journal_fails (Some xs) left ahead version number error.ReadFault out h = ([], Appends-nil out, (ahead, inr (refl, h)))
+journal_fails (Some xs) left ahead version number error.Memory out h = Appends-nil out
+journal_fails (Some xs) left ahead version number error.BadFirstLine out (cause, is, h) = rw h (ap status_of (sym is), Appends-nil out)
+journal_fails (Some xs) left ahead version number (error.BadSetup line why) out (cause, is, h) = rw h (ap status_of (sym is), Appends-nil out)
+journal_fails (Some xs) left ahead version number (error.LineTooLong line) out (cause, is, h) = rw h (ap status_of (sym is), Appends-nil out)
+journal_fails (Some xs) left ahead version number (error.BadLine line why) out (cause, is, h) = rw h (ap status_of (sym is), Appends-nil out)
+journal_fails (Some xs) left ahead version number (error.TimeBack line before own) out (cause, is, h) = rw h (ap status_of (sym is), Appends-nil out)
+journal_fails (Some xs) left ahead version number (error.TimeTooLarge line) out (cause, is, h) = rw h (ap status_of (sym is), Appends-nil out)
+journal_fails (Some xs) left ahead version number error.NoEnd out (cause, is, h) = rw h (ap status_of (sym is), Appends-nil out)
+journal_fails (Some xs) left ahead version number (error.AfterEnd line) out (cause, is, h) = rw h (ap status_of (sym is), Appends-nil out)
+
+pub nothing_ahead : (ahead : List ℕ) (left : Option (List ℕ)) → ahead ≡ [] → prepend_known ahead left ≡ left
+nothing_ahead ahead None h = refl
+nothing_ahead ahead (Some xs) h = rw h refl
+
+-- nothing is left of the source
+pub ends_left : (known left : Option (List ℕ)) (ahead : List ℕ) → EndsThere known (prepend_known ahead left) → EndsThere known left
+ends_left None left ahead h = tt
+ends_left (Some xs) None ahead h = cc
+ends_left (Some xs) (Some ys) [] h = h
+ends_left (Some xs) (Some ys) (b ∷ bs) h = cc
+
+-- an opening that was read is known where the input was
+pub ends_opened : (known rest left : Option (List ℕ)) (version number : ℕ) (parts : Setup × ℕ) → Opens known rest version number (Ok parts) → EndsThere rest left → EndsThere known left
+ends_opened None rest left version number parts h k = tt
+ends_opened (Some xs) None left version number parts h k = absurd h
+ends_opened (Some xs) (Some ys) left version number parts h k = k
+
+pub never_memory : (x : Status) → IsFollowed x → x ≡ status.Memory → ⊥
+never_memory x h k = subst IsFollowed k h
+
+pub followed_replayed : (x : Status) → IsFollowed x → IsReplayed x
+followed_replayed status.Memory h = tt
+followed_replayed status.Ok h = h
+followed_replayed status.Usage h = h
+followed_replayed (status.BadInput e) h = h
+followed_replayed (status.BadSetup e) h = h
+followed_replayed status.ReadFault h = h
+followed_replayed status.WriteFault h = h
+followed_replayed (status.SlotFault slot) h = h
+followed_replayed status.ListenFault h = h
+
+pub fixed_kind : (k : Kind) → IsFixed k → (n : ℕ) × (k ≡ kind.Fixed n)
+fixed_kind (kind.Fixed n) h = (n, refl)
+fixed_kind kind.Kpa h = absurd h
+
+pub never_ok : (e : JournalError) → status_of e ≡ status.Ok → ⊥
+never_ok error.ReadFault h = cc
+never_ok error.Memory h = cc
+never_ok error.BadFirstLine h = cc
+never_ok (error.BadSetup line why) h = cc
+never_ok (error.LineTooLong line) h = cc
+never_ok (error.BadLine line why) h = cc
+never_ok (error.TimeBack line before own) h = cc
+never_ok (error.TimeTooLarge line) h = cc
+never_ok error.NoEnd h = cc
+never_ok (error.AfterEnd line) h = cc

@@ -1,9 +1,6 @@
-pub mod Lines
-pub mod Setup
-pub mod Journal
-pub mod Following
 pub mod Report
 pub mod Tally
-pub mod Replaying
+pub mod Waiting
+pub mod Texts
 pub mod Words
-pub mod Reading
+pub mod Replaying

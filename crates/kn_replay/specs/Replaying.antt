@@ -1,109 +1,181 @@
--- What replaying a journal's events writes.
-use Rattle.std.specs.Prelude.{◌≡◌, ◌⊎◌, ℕ, ◌+◌, ◌++◌, ◌≤◌, List, [], length, Option, None, Some, codes, ⊤}
-use Rattle.std.specs.Io.KnownBytes.{Appends}
+-- What replaying a journal writes, and how it ends.
+use Rattle.std.specs.Prelude.{◌≡◌, ◌⊎◌, ℕ, ◌+◌, ◌++◌, ◌≤◌, List, [], ◌∷◌, length, Option, None, Some, Result, Ok, Err, ⊤}
+use Rattle.std.specs.Io.KnownBytes.{Appends, prepend_known}
+use Rattle.kn_event.specs.declared.entry.Entry.{Entry}
+use Rattle.kn_event.specs.declared.event.Event.{Event}
 use Rattle.kn_event.specs.declared.revision.Spec.{Spec}
-use Rattle.std.specs.Fmt.{decimal}
 use Rattle.kn_io.specs.Causes.{Rose}
 use Rattle.kn_io.specs.Prefix.{AppendsPrefix}
 use Rattle.kn_trace.specs.Trace.{Trace}
 use Rattle.kn_trace.specs.Events.{added}
-use Rattle.kn_core.specs.State.{State}
-use Rattle.kn_replay.specs.declared.journal.JournalError.{JournalError}
-use Rattle.kn_replay.specs.declared.journal.JournalError.TheVariants as error
-use Rattle.kn_replay.specs.declared.command.Status.{Status}
-use Rattle.kn_replay.specs.declared.command.Status.TheVariants as status
-use Rattle.kn_replay.specs.Lines.{lines}
-use Rattle.kn_replay.specs.Journal.{Read, read_events, verdict}
-use Rattle.kn_replay.specs.Reading.{most_taken}
-use Rattle.kn_replay.specs.Report.{report_of_bytes}
 use Rattle.kn_trace.specs.Report.{last_line, rows_text, totals}
+use Rattle.kn_core.specs.State.{RevisionState}
+use Rattle.kn_journal.specs.declared.error.JournalError.{JournalError}
+use Rattle.kn_journal.specs.declared.error.JournalError.TheVariants as error
+use Rattle.kn_journal.specs.declared.journal.Journal.{Journal}
+use Rattle.kn_journal.specs.declared.journal.Opening.{Opening}
+use Rattle.kn_journal.specs.declared.journal.Setup.{Setup}
+use Rattle.kn_journal.specs.declared.status.Status.{Status}
+use Rattle.kn_journal.specs.declared.status.Status.TheVariants as status
+use Rattle.kn_journal.specs.Causes.{Cause, error_of, no_end}
+use Rattle.kn_journal.specs.Journal.{Read, Verdict, bad, good, journal_of, opening_part, read_events, start_part, verdict, version_of}
+use Rattle.kn_journal.specs.Lines.{lines}
+use Rattle.kn_journal.specs.Parts.{part}
+use Rattle.kn_journal.specs.Reading.{TakesPart, most_taken}
+use Rattle.kn_journal.specs.Telling.{StopsAmid}
+use Rattle.kn_replay.specs.Report.{journal_rows, judged, report_of}
 use Rattle.kn_replay.specs.Tally.{Counted}
 
--- a revision that is replayed, and the counts of its trace
-pub record Running : Type 0 where
-  pub revision : State
-  pub counted : Counted
-
--- after so many events before these
-abbrev pub ending : Trace → ℕ → Option ℕ → List ℕ
-ending c events None = last_line 1 events (totals c)
-ending c events (Some n) = []
-
--- what the report of these events adds to that of a trace that so many events made; no last line where a line is refused
-unfoldable pub rest_of_report : Spec → Trace → ℕ → Read → List ℕ
-rest_of_report s c before r = rows_text (added s c r.events) ++ ending (c ++ added s c r.events) (before + length r.events) r.refused
-
--- what was written where all was read, where a line was refused, and after a fault
-abbrev pub Writes : List ℕ → Option ℕ → Option (List ℕ) → Option (List ℕ) → Status → Type 0
-Writes text refused old new status.Ok = (refused ≡ None) × Appends old new text
-Writes text refused old new (status.BadInput (error.NotBuilt n)) = (refused ≡ Some n) × Appends old new text
-Writes text refused old new status.ReadFault = AppendsPrefix old new text
-Writes text refused old new status.WriteFault = AppendsPrefix old new text
-Writes text refused old new status.Memory = AppendsPrefix old new text
-Writes text refused old new _ = ⊥
-
--- the same of the events that the bytes of an input hold from line 4 on
-abbrev pub Follows : Spec → Trace → ℕ → Option (List ℕ) → Option (List ℕ) → Option (List ℕ) → Status → Type 0
-Follows s c start None old new result = ⊤
-Follows s c start (Some xs) old new result =
-    let r = read_events 4 start (lines xs) in
-    Writes (rest_of_report s c 0 r) r.refused old new result
-
--- So far: what was written, and what the bytes left still add, are all.
-abbrev pub GoesOn : Spec → Trace → ℕ → Option (List ℕ) → Option (List ℕ) → Option (List ℕ) → Trace → ℕ → ℕ → ℕ → Option (List ℕ) → Type 0
-GoesOn s c start None old new now events n last rest = ⊤
-GoesOn s c start (Some xs) old new now events n last None = ⊥
-GoesOn s c start (Some xs) old new now events n last (Some ys) =
-    let r = read_events 4 start (lines xs) in
-    let more = read_events n last (lines ys) in
-    (written : List ℕ) × Appends old new written × (rest_of_report s c 0 r ≡ written ++ rest_of_report s now events more) × (r.refused ≡ more.refused)
+-- ---- how a replay ends
 
 abbrev pub status_of : JournalError → Status
 status_of error.ReadFault = status.ReadFault
 status_of error.Memory = status.Memory
-status_of (error.NotBuilt n) = status.BadInput (error.NotBuilt n)
+status_of error.BadFirstLine = status.BadSetup error.BadFirstLine
+status_of (error.BadSetup number why) = status.BadSetup (error.BadSetup number why)
+status_of e = status.BadInput e
 
--- what a replay of known bytes writes
-abbrev pub Replays : Option (List ℕ) → Option (List ℕ) → Option (List ℕ) → Status → Type 0
-Replays None old new result = ⊤
-Replays (Some xs) old new result = Writes (report_of_bytes xs) (verdict xs).refused old new result
+-- where no fault comes
+abbrev pub status_by : Option Cause → Status
+status_by None = status.Ok
+status_by (Some cause) = status_of (error_of cause)
 
--- 2^56 bytes or more were taken
-abbrev pub AreMany : Option (List ℕ) → Option (List ℕ) → Type 0
-AreMany None new = ⊤
-AreMany (Some xs) None = ⊥
-AreMany (Some xs) (Some ys) = most_taken + length ys ≤ length xs
+abbrev pub refusal_of : Verdict → Option Cause
+refusal_of (good j) = None
+refusal_of (bad j cause) = Some cause
 
--- how a replay can end
+-- a replay never ends so
 abbrev pub IsReplayed : Status → Type 0
-IsReplayed status.Ok = ⊤
-IsReplayed (status.BadInput (error.NotBuilt n)) = ⊤
-IsReplayed status.ReadFault = ⊤
-IsReplayed status.WriteFault = ⊤
-IsReplayed status.Memory = ⊤
-IsReplayed _ = ⊥
+IsReplayed status.Usage = ⊥
+IsReplayed (status.SlotFault slot) = ⊥
+IsReplayed status.ListenFault = ⊥
+IsReplayed _ = ⊤
 
--- what is told of a status
-unfoldable pub status_text : Status → List ℕ
-status_text status.Usage = codes "usage: kact replay\n"
-status_text (status.BadInput (error.NotBuilt n)) = codes "kact: line " ++ decimal n ++ codes ": not built\n"
-status_text status.ReadFault = codes "kact: read failed\n"
-status_text status.WriteFault = codes "kact: write failed\n"
-status_text status.Memory = codes "kact: out of memory\n"
-status_text _ = []
+-- ---- what is written
+
+-- of a text, and how it ends where no fault comes: all of it then; what a fault of the source leaves is said apart
+abbrev pub Writes : List ℕ → Status → (List ℕ → Type 0) → Option (List ℕ) → Option (List ℕ) → Status → Type 0
+Writes text end Breaks old new status.ReadFault = (front : List ℕ) × Appends old new front × Breaks front
+Writes text end Breaks old new status.WriteFault = AppendsPrefix old new text
+Writes text end Breaks old new status.Memory = Appends old new []
+Writes text end Breaks old new result = (result ≡ end) × Appends old new text
+
+-- ---- where the source failed: of the bytes taken, the lines that ended are all good, and no LF stands behind them
+
+abbrev pub IsGoodSoFar : Option Cause → Type 0
+IsGoodSoFar None = ⊤
+IsGoodSoFar (Some cause) = cause ≡ no_end
+
+-- these events ended before it
+pub record BreaksIn (version last number : ℕ) (all : List (List ℕ)) (left : Option (List ℕ)) (read : Read) : Type 0 where
+  pub own : List (List ℕ)
+  pub mid : List ℕ
+  pub split : all ≡ own ++ lines mid
+  pub events : read_events version last number own ≡ read
+  pub good : IsGoodSoFar read.refused
+  pub rest : TakesPart (Some mid) left
+
+-- a start was read, and behind it lines of which these events were read
+pub record BreaksAmid (all : List (List ℕ)) (left : Option (List ℕ)) (j : Journal) : Type 0 where
+  pub number : ℕ
+  pub after : List (List ℕ)
+  pub begun : ℕ
+  pub more : List (List ℕ)
+  pub refused : Option Cause
+  pub opening : opening_part version_of 0 all ≡ Ok (part (record { version = j.version; setup = j.setup }) number after)
+  pub start : start_part number after ≡ Ok (part j.start begun more)
+  pub breaks : BreaksIn j.version j.start begun more left (record { events = j.events; refused = refused })
+
+-- a setup was read, and behind it no line
+pub record BreaksBefore (all : List (List ℕ)) (left : Option (List ℕ)) : Type 0 where
+  pub opening : Opening
+  pub number : ℕ
+  pub mid : List ℕ
+  pub read : opening_part version_of 0 all ≡ Ok (part opening number (lines mid))
+  pub rest : TakesPart (Some mid) left
+
+-- what was written then: the rows of the journal's events, or nothing where its start had not ended
+abbrev pub Breaks : List ℕ → Option (List ℕ) → List ℕ → Type 0
+Breaks xs left front =
+    ((j : Journal) × BreaksAmid (lines xs) left j × (front ≡ journal_rows j))
+    ⊎ ((front ≡ []) × (BreaksBefore (lines xs) left ⊎ StopsAmid (opening_part version_of 0) (Some xs) left))
+
+-- what a reader kept ahead of what it took
+abbrev pub BreaksAhead : List ℕ → Option (List ℕ) → List ℕ → Type 0
+BreaksAhead xs left front = (ahead : List ℕ) × Breaks xs (prepend_known ahead left) front
+
+-- ---- a replay of an input with these bytes
+
+abbrev pub Replays : Option (List ℕ) → Option (List ℕ) → Option (List ℕ) → Option (List ℕ) → Status → Type 0
+Replays None left old new result = ⊤
+Replays (Some xs) left old new result = Writes (report_of (judged xs)) (status_by (refusal_of (judged xs))) (BreaksAhead xs left) old new result
+
+-- nothing is left of the bytes
+abbrev pub EndsThere : Option (List ℕ) → Option (List ℕ) → Type 0
+EndsThere None new = ⊤
+EndsThere (Some xs) new = new ≡ Some []
+
+-- ---- the part behind the start
+
+-- a revision that is replayed, the counts of its trace, the entries of the last event, and the text that waits
+pub record Running : Type 0 where
+  pub revision : RevisionState
+  pub counted : Counted
+  pub log : List Entry
+  pub waiting : List ℕ
+
+-- the last line, where all lines are good
+abbrev pub ending : ℕ → Trace → ℕ → Option Cause → List ℕ
+ending version c events None = last_line version events (totals c)
+ending version c events (Some cause) = []
+
+-- what these events add to the report of a trace
+unfoldable pub rest_of_report : ℕ → Spec → Trace → Read → List ℕ
+rest_of_report version s c r = rows_text (added s c r.events) ++ ending version (c ++ added s c r.events) (length r.events) r.refused
+
+abbrev pub BreaksFollowing : ℕ → Spec → Trace → ℕ → ℕ → List ℕ → Option (List ℕ) → List ℕ → List ℕ → Type 0
+BreaksFollowing version s c last number xs left waiting front =
+    (read : Read) × BreaksIn version last number (lines xs) left read × (front ≡ waiting ++ rows_text (added s c read.events))
+
+-- what waits, and what the events in these bytes add
+abbrev pub Follows : ℕ → Spec → Trace → ℕ → ℕ → Option (List ℕ) → Option (List ℕ) → List ℕ → Option (List ℕ) → Option (List ℕ) → Status → Type 0
+Follows version s c last number None left waiting old new result = ⊤
+Follows version s c last number (Some xs) left waiting old new result =
+    let r = read_events version last number (lines xs) in
+    Writes (waiting ++ rest_of_report version s c r) (status_by r.refused) (BreaksFollowing version s c last number xs left waiting) old new result
+
+-- ---- what is told
 
 -- all of the text was added, or some of it where the count rose
 abbrev pub Tells : List ℕ → Option (List ℕ) → Option (List ℕ) → ℕ → ℕ → Type 0
 Tells text old new before now = Appends old new text ⊎ (AppendsPrefix old new text × Rose before now)
 
--- the exit statuses
-abbrev pub code_of : Status → ℕ
-code_of status.Ok = 0
-code_of status.Usage = 2
-code_of (status.BadInput e) = 3
-code_of (status.BadSetup e) = 4
-code_of status.ReadFault = 5
-code_of status.WriteFault = 6
-code_of status.Memory = 7
-code_of (status.SlotFault k) = 8
-code_of status.ListenFault = 9
+-- ---- the parts of a replay
+
+-- what waits is written, and then the status is this one, or that failed
+abbrev pub Stops : List ℕ → Option (List ℕ) → Option (List ℕ) → Status → Status → Type 0
+Stops waiting old new end result = ((result ≡ end) × Appends old new waiting) ⊎ ((result ≡ status.WriteFault) × AppendsPrefix old new waiting)
+
+-- behind a start no memory is wanted
+abbrev pub IsFollowed : Status → Type 0
+IsFollowed status.Memory = ⊥
+IsFollowed x = IsReplayed x
+
+-- a setup and a start, behind which these lines are left
+pub record Opened (all : List (List ℕ)) (version : ℕ) (setup : Setup) (start number : ℕ) (left : List (List ℕ)) : Type 0 where
+  pub at : ℕ
+  pub after : List (List ℕ)
+  pub opening : opening_part version_of 0 all ≡ Ok (part (record { version = version; setup = setup }) at after)
+  pub begins : start_part at after ≡ Ok (part start number left)
+
+-- why there is none
+abbrev pub FailsToOpen : List ℕ → Option (List ℕ) → JournalError → Type 0
+FailsToOpen xs left error.ReadFault = BreaksBefore (lines xs) left ⊎ StopsAmid (opening_part version_of 0) (Some xs) left
+FailsToOpen xs left error.Memory = ⊤
+FailsToOpen xs left e = (cause : Cause) × (error_of cause ≡ e) × (verdict xs ≡ bad None cause)
+
+abbrev pub Opens : Option (List ℕ) → Option (List ℕ) → ℕ → ℕ → Result (Setup × ℕ) JournalError → Type 0
+Opens None new version number result = ⊤
+Opens (Some xs) new version number (Err e) = FailsToOpen xs new e
+Opens (Some xs) None version number (Ok parts) = ⊥
+Opens (Some xs) (Some ys) version number (Ok parts) = Opened (lines xs) version parts.0 parts.1 number (lines ys)

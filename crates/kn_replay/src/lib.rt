@@ -2,14 +2,13 @@
 #![tactic(auto)]
 
 mod command;
-mod input;
-mod journal;
-mod lines;
+mod replay;
 mod report;
-mod setup;
+mod texts;
+mod waiting;
 
-pub use command::{Status, run};
-pub use journal::JournalError;
+pub use command::{run, tell};
+pub use kn_journal::{JournalError, SetupError, Status};
 
 #[cfg(test)]
 mod tests;

@@ -1,31 +1,11 @@
-//! Writing a report: its rows, and the last line that counts them.
-ghost use Rattle.std.specs.Prelude.{◌≡◌, ◌+◌, ◌<◌, ◌≤◌, ◌^◌, ℕ, ◌++◌, ◌∷◌, [], length, OnOk, OnErr};
-ghost use Rattle.std.specs.Io.KnownBytes.{Appends};
-ghost use Rattle.kn_io.specs.Causes.{HasCause};
-ghost use Rattle.kn_io.specs.Prefix.{AppendsPrefix};
+//! The counts of a report, and its last line.
+ghost use Rattle.std.specs.Prelude.{◌≡◌, ◌+◌, ◌<◌, ◌≤◌, ◌^◌, ◌++◌, [], length};
 ghost use Rattle.kn_trace.specs.Trace.{Trace};
-ghost use Rattle.kn_trace.specs.Report.{rows_text, totals, named, taken_text, ended_text, refused_text, lost_text, last_line};
+ghost use Rattle.kn_trace.specs.Report.{totals, named, taken_text, ended_text, refused_text, lost_text, last_line};
 ghost use Rattle.kn_replay.specs.Tally.{with_row};
 
-use kn_event::{EntryLog, Line, Row, entry_line};
-use kn_io::{Failed, Sink, put_all};
+use kn_event::{EntryLog, Line, Row};
 use std::marker::Model;
-
-/// Writes a line for each entry, or on `Failed` some first bytes of these lines.
-pub fn write_rows<O: Sink>(log: &EntryLog, line: &mut Line, out: &mut O) -> Result<(), Failed>
-    ensures ok { OnOk result (Appends (O.held out.old) (O.held out.new) (rows_text log.now)) }
-    ensures err { OnErr result (AppendsPrefix (O.held out.old) (O.held out.new) (rows_text log.now)) }
-    ensures cause { HasCause (O.Faulty.faults out.old) (O.Faulty.faults out.new) result }
-{
-    for e in log.entries() {
-        entry_line(e, line);
-        match put_all(out, line.bytes()) {
-            Ok(()) => {}
-            Err(Failed) => return Err(Failed),
-        }
-    }
-    Ok(())
-}
 
 /// How many entries of each kind there were.
 #[derive(Drop)]

@@ -1,4 +1,5 @@
-use crate::{JournalError, Status, run};
+use crate::{JournalError, SetupError, Status, run};
+use kn_event::LineError;
 use kn_io::{MemSink, MemSource};
 use std::alloc::{AllocError, Global};
 use std::test::Fail;
@@ -74,6 +75,56 @@ const EXPIRY_BEFORE_FINISH_REPORT: &[u8] = b"0 create 0 1\n\
 1100 assign 2 0\n\
 end events=5 admitted=3 direct=0 assigned=2 finished=1 failed=0 expired=1 cancelled=0 queue-full=0 overload=0 decisions=0\n";
 
+const ROUND_ROBIN: &[u8] = b"kact journal 1\n\
+fixed limit=4 depth=5 max=9 pods=3 timeout=300 seed=0\n\
+start 0\n\
+0 ready 0\n\
+0 ready 1\n\
+0 ready 2\n\
+1 arrive 0\n\
+1 arrive 1\n\
+1 arrive 2\n\
+1 arrive 3\n\
+end\n";
+
+const ROUND_ROBIN_REPORT: &[u8] = b"0 create 0 4\n\
+0 create 1 4\n\
+0 create 2 4\n\
+0 ready 0\n\
+0 ready 1\n\
+0 ready 2\n\
+1 admit 0 0\n\
+1 assign 0 0\n\
+1 admit 1 1\n\
+1 assign 1 1\n\
+1 admit 2 2\n\
+1 assign 2 2\n\
+1 admit 3 3\n\
+1 assign 3 0\n\
+end events=7 admitted=4 direct=0 assigned=4 finished=0 failed=0 expired=0 cancelled=0 queue-full=0 overload=0 decisions=0\n";
+
+const LOST_POD: &[u8] = b"kact journal 2\n\
+fixed limit=1 depth=1 max=1 pods=1 timeout=300 seed=0\n\
+start 0\n\
+0 ready 0\n\
+1 arrive 10\n\
+2 arrive 11\n\
+3 lost 0\n\
+4 finish 0 ok\n\
+5 lost 0\n\
+end\n";
+
+const LOST_POD_REPORT: &[u8] = b"0 create 0 1\n\
+0 ready 0\n\
+1 admit 0 10\n\
+1 assign 0 0\n\
+2 admit 1 11\n\
+3 lost-request 0\n\
+3 lost-pod 0\n\
+4 not-running 0\n\
+5 no-pod 0\n\
+end events=6 admitted=2 direct=0 assigned=1 finished=0 failed=0 expired=0 cancelled=0 queue-full=0 overload=0 decisions=0 lost=1\n";
+
 /// How a command ended, and what it wrote and told.
 #[derive(Drop)]
 struct Outcome {
@@ -113,11 +164,13 @@ const NEVER: u64 = 1000;
 
 #[test]
 fn journals_and_their_reports(rt: HostRuntime) -> Result<(), Fail> {
-    let rows: [(&[u8], &[u8]); 4] = [
+    let rows: [(&[u8], &[u8]); 6] = [
         (EMPTY_JOURNAL, EMPTY_JOURNAL_REPORT),
         (ONE_SEAT_ONE_WAITS, ONE_SEAT_ONE_WAITS_REPORT),
         (FINISH_TWICE, FINISH_TWICE_REPORT),
         (EXPIRY_BEFORE_FINISH, EXPIRY_BEFORE_FINISH_REPORT),
+        (ROUND_ROBIN, ROUND_ROBIN_REPORT),
+        (LOST_POD, LOST_POD_REPORT),
     ];
     for (journal, report) in rows {
         let end = ended(rt.alloc(), "replay", journal, NEVER, NEVER)?;
@@ -130,55 +183,54 @@ fn journals_and_their_reports(rt: HostRuntime) -> Result<(), Fail> {
 
 #[test]
 fn what_is_no_good_journal(rt: HostRuntime) -> Result<(), Fail> {
-    let rows: [(&[u8], u64, &[u8], &[u8]); 9] = [
-        (b"", 1, b"", b"kact: line 1: not built\n"),
-        (b"kact journal 2\n", 1, b"", b"kact: line 1: not built\n"),
+    let rows: [(&[u8], Status, &[u8], &[u8]); 8] = [
+        (b"", Status::BadInput(JournalError::NoEnd), b"", b"kact: input ends without end\n"),
         (
-            b"kact journal 1\nkpa\n",
-            2,
+            b"kact journal 3\n",
+            Status::BadSetup(JournalError::BadFirstLine),
             b"",
-            b"kact: line 2: not built\n",
+            b"kact: line 1: not a kact journal 1 or 2\n",
         ),
         (
-            b"kact journal 1\nfixed limit=1 depth=1 max=1 pods=2 timeout=300 seed=0\n",
-            2,
+            b"kact journal 1\nround\n",
+            Status::BadSetup(JournalError::BadSetup(2, SetupError::BadWord)),
             b"",
-            b"kact: line 2: not built\n",
+            b"kact: line 2: bad setup: unknown word\n",
         ),
         (
-            b"kact journal 1\nfixed limit=1 depth=1 max=1 pods=1 timeout=300 seed=0\nstart 4398046511105\n",
-            3,
+            b"kact journal 1\nfixed limit=1 depth=0 max=1 pods=0 timeout=1 seed=0\n",
+            Status::BadSetup(JournalError::BadSetup(2, SetupError::OutOfRange(14))),
             b"",
-            b"kact: line 3: not built\n",
+            b"kact: line 2: bad setup: out of range at 14\n",
         ),
         (
-            b"kact journal 1\nfixed limit=1 depth=1 max=1 pods=1 timeout=300 seed=0\nstart 5\n4 ready 0\nend\n",
-            4,
-            b"5 create 0 1\n",
-            b"kact: line 4: not built\n",
+            b"kact journal 1\nfixed limit=1 depth=1 max=1 pods=1 timeout=300 seed=0\nstart 0\n1 limit 0 1001\nend\n",
+            Status::BadInput(JournalError::BadLine(4, LineError::BadNumber(10))),
+            b"0 create 0 1\n",
+            b"kact: line 4: bad number at 10\n",
+        ),
+        (
+            b"kact journal 1\nfixed limit=1 depth=1 max=1 pods=1 timeout=300 seed=0\nstart 20\n20 ready 0\n19 pass\nend\n",
+            Status::BadInput(JournalError::TimeBack(5, 20, 19)),
+            b"20 create 0 1\n20 ready 0\n",
+            b"kact: line 5: time goes back from 20 to 19\n",
         ),
         (
             b"kact journal 1\r\nfixed limit=1 depth=1 max=1 pods=1 timeout=300 seed=0\r\nstart 5\n5 ready 0\n5 lost 0\n",
-            5,
+            Status::BadInput(JournalError::BadLine(5, LineError::BadWord)),
             b"5 create 0 1\n5 ready 0\n",
-            b"kact: line 5: not built\n",
+            b"kact: line 5: unknown word\n",
         ),
         (
-            b"kact journal 1\nfixed limit=1 depth=1 max=1 pods=1 timeout=300 seed=0\nstart 5\n",
-            4,
+            b"kact journal 1\nfixed limit=1 depth=1 max=1 pods=1 timeout=300 seed=0\nstart 5\nend\n1 pass\n",
+            Status::BadInput(JournalError::AfterEnd(5)),
             b"5 create 0 1\n",
-            b"kact: line 4: not built\n",
-        ),
-        (
-            b"kact journal 1\nfixed limit=1 depth=1 max=1 pods=1 timeout=300 seed=0\nstart 5\nend\nend\n",
-            5,
-            b"5 create 0 1\n",
-            b"kact: line 5: not built\n",
+            b"kact: line 5: text after end\n",
         ),
     ];
-    for (journal, line, written, told) in rows {
+    for (journal, status, written, told) in rows {
         let end = ended(rt.alloc(), "replay", journal, NEVER, NEVER)?;
-        assert_eq!(rt; end.status, Status::BadInput(JournalError::NotBuilt(line)));
+        assert_eq!(rt; end.status, status);
         assert!(rt; end.written.as_slice() == written);
         assert!(rt; end.told.as_slice() == told);
     }
@@ -189,20 +241,21 @@ fn what_is_no_good_journal(rt: HostRuntime) -> Result<(), Fail> {
     Ok(())
 }
 
-/// Each call that fails is told, and what was written is the front of the report.
+/// Each call that fails is told. All rows come in one piece where the whole journal is read at once.
 #[test]
 fn failing_reads_and_writes(rt: HostRuntime) -> Result<(), Fail> {
     let end = ended(rt.alloc(), "replay", ONE_SEAT_ONE_WAITS, 0, NEVER)?;
     assert_eq!(rt; end.status, Status::ReadFault);
+    assert!(rt; end.written.is_empty());
     assert!(rt; end.told.as_slice() == b"kact: read failed\n".as_slice());
-    for k in 0..9 {
-        let end = ended(rt.alloc(), "replay", ONE_SEAT_ONE_WAITS, NEVER, k)?;
-        assert_eq!(rt; end.status, Status::WriteFault);
-        assert!(rt; ONE_SEAT_ONE_WAITS_REPORT.starts_with(&end.written));
-        assert!(rt; end.told.as_slice() == b"kact: write failed\n".as_slice());
-    }
-    let end = ended(rt.alloc(), "replay", ONE_SEAT_ONE_WAITS, NEVER, 9)?;
-    assert_eq!(rt; end.status, Status::Ok);
+    let end = ended(rt.alloc(), "replay", ONE_SEAT_ONE_WAITS, 1, NEVER)?;
+    assert_eq!(rt; end.status, Status::ReadFault);
+    assert!(rt; ONE_SEAT_ONE_WAITS_REPORT.starts_with(&end.written));
+    assert_eq!(rt; end.written.len(), ONE_SEAT_ONE_WAITS_REPORT.len() - 122);
+    let end = ended(rt.alloc(), "replay", ONE_SEAT_ONE_WAITS, NEVER, 0)?;
+    assert_eq!(rt; end.status, Status::WriteFault);
+    assert!(rt; end.written.is_empty());
+    assert!(rt; end.told.as_slice() == b"kact: write failed\n".as_slice());
     Ok(())
 }
 
@@ -221,22 +274,4 @@ fn cut_journals(rt: HostRuntime) -> Result<(), Fail> {
         }
     }
     Ok(())
-}
-
-#[test]
-fn exit_statuses(rt: HostRuntime) {
-    let rows = [
-        (Status::Ok, 0),
-        (Status::Usage, 2),
-        (Status::BadInput(JournalError::NotBuilt(1)), 3),
-        (Status::BadSetup(JournalError::Memory), 4),
-        (Status::ReadFault, 5),
-        (Status::WriteFault, 6),
-        (Status::Memory, 7),
-        (Status::SlotFault(3), 8),
-        (Status::ListenFault, 9),
-    ];
-    for (status, code) in rows {
-        assert_eq!(rt; status.code(), code);
-    }
 }

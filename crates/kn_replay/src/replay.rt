@@ -1,0 +1,268 @@
+//! A journal that is replayed, event after event.
+ghost use Rattle.std.specs.Prelude.{◌≡◌, ◌≢◌, ◌⊎◌, ◌+◌, ◌*◌, ◌<◌, ◌≤◌, ◌^◌, [], ◌++◌, length, Err, IfOk, IfErr, OnOk, OnErr, None, Some, false, true};
+ghost use Rattle.kn_io.specs.Causes.{HasCause, Rose};
+ghost use Rattle.kn_io.specs.Prefix.{AppendsPrefix};
+ghost use Rattle.kn_event.specs.EventLine.{IsInJournalRange};
+ghost use Rattle.kn_trace.specs.Trace.{Trace};
+ghost use Rattle.kn_trace.specs.Events.{opening, react};
+ghost use Rattle.kn_trace.specs.Report.{last_line, rows_text, totals};
+ghost use Rattle.kn_core.specs.State.{IsFixed, StandsFor};
+ghost use Rattle.kn_journal.specs.Reading.{IsBalanced, most_taken, unread};
+ghost use Rattle.kn_journal.specs.Journal.{time_most};
+ghost use Rattle.kn_replay.specs.Replaying.{EndsThere, Follows, IsFollowed, IsReplayed, Opens, Replays, Stops, status_of};
+ghost use Rattle.kn_replay.specs.Waiting.{Adds};
+
+use crate::report::Tally;
+use crate::waiting::{Waiting, add_rows};
+use kn_core::Revision;
+use kn_event::{EntryLog, Event, Kind, Line, Memory, Spec};
+use kn_io::{Failed, Sink, Source};
+use kn_journal::{JournalError, JournalReader, Setup, SetupError, Status};
+use std::alloc::Global;
+use std::marker::Model;
+
+/// How a replay ends that an error of its reader ends.
+pub fn status_of(error: JournalError) -> Status
+    ensures value { result ≡ status_of error }
+    ensures replayed { IsReplayed result }
+{
+    match error {
+        JournalError::ReadFault => Status::ReadFault,
+        JournalError::Memory => Status::Memory,
+        JournalError::BadFirstLine => Status::BadSetup(JournalError::BadFirstLine),
+        JournalError::BadSetup(number, why) => Status::BadSetup(JournalError::BadSetup(
+            number,
+            why,
+        )),
+        _ => Status::BadInput(error),
+    }
+}
+
+/// A revision that is replayed, with the counts of its entries, those of the last event, and the rows that wait.
+#[derive(Drop)]
+struct Replay {
+    revision: Revision,
+    tally: Tally,
+    log: EntryLog,
+    line: Line,
+    waiting: Waiting,
+}
+
+impl Model for Replay {
+    ghost use Rattle.kn_replay.specs.Replaying.{Running};
+
+    ghost Value = { Running };
+
+    ghost view = { λ r. record { revision = r.revision; counted = r.tally; log = r.log; waiting = r.waiting } };
+}
+
+impl Replay {
+    /// Opens the revision, with all the memory that it will ever have.
+    fn new(alloc: Global, spec: Spec, start: u64) -> Result<Replay, Memory>
+        requires times { start ≤ 2 ^ 42 }
+        requires fixed { IsFixed spec.kind }
+        ensures stands { IfOk result (λ r. StandsFor r.revision (opening spec start)) }
+        ensures spec { IfOk result (λ r. r.revision.spec ≡ spec) }
+        ensures clock { IfOk result (λ r. r.revision.clock ≡ start) }
+        ensures events { IfOk result (λ r. r.revision.events ≡ 0) }
+        ensures totals { IfOk result (λ r. r.counted.totals ≡ totals (opening spec start)) }
+        ensures rows { IfOk result (λ r. r.counted.rows < 2 ^ 64) }
+        ensures log { IfOk result (λ r. r.log ≡ opening spec start) }
+        ensures waiting { IfOk result (λ r. r.waiting ≡ []) }
+    {
+        let mut log = match EntryLog::new(alloc) {
+            Ok(log) => log,
+            Err(Memory) => return Err(Memory),
+        };
+        let revision = match Revision::new(alloc, spec, start, &mut log) {
+            Ok(revision) => revision,
+            Err(Memory) => return Err(Memory),
+        };
+        let mut tally = Tally::new();
+        tally.add_all(&log);
+        Ok(Replay {
+            revision,
+            tally,
+            log,
+            line: Line::new(),
+            waiting: Waiting::new(),
+        })
+    }
+
+    /// Takes one event.
+    fn take(&mut self, e: &Event)
+        requires order { self.old.revision.clock ≤ e.now.time }
+        requires times { e.now.time ≤ 2 ^ 42 }
+        requires events { self.old.revision.events < 2 ^ 54 }
+        requires few { self.old.counted.rows ≤ 2 ^ 126 }
+        requires range { IsInJournalRange e.now.act }
+        ensures stands { (c : Trace) → StandsFor self.old.revision c → StandsFor self.new.revision (c ++ react self.old.revision.spec c e.now) }
+        ensures spec { self.new.revision.spec ≡ self.old.revision.spec }
+        ensures clock { self.new.revision.clock ≡ e.now.time }
+        ensures events { self.new.revision.events ≡ self.old.revision.events + 1 }
+        ensures totals { (c : Trace) → StandsFor self.old.revision c → self.old.counted.totals ≡ totals c → self.new.counted.totals ≡ totals (c ++ react self.old.revision.spec c e.now) }
+        ensures rows { self.new.counted.rows < self.old.counted.rows + 2 ^ 64 }
+        ensures log { (c : Trace) → StandsFor self.old.revision c → self.new.log ≡ react self.old.revision.spec c e.now }
+        ensures waiting { self.new.waiting ≡ self.old.waiting }
+    {
+        self.log.clear();
+        let _ = self.revision.step(e, &mut self.log);
+        self.tally.add_all(&self.log);
+    }
+
+    /// Adds the rows of the last event behind what waits, and writes all of it unless more is to come at once.
+    fn put_rows<O: Sink>(&mut self, more: bool, out: &mut O) -> Result<(), Failed>
+        ensures ok { OnOk result (Adds (O.held out.old) (O.held out.new) self.old.waiting self.new.waiting (rows_text self.old.log)) }
+        ensures err { OnErr result (AppendsPrefix (O.held out.old) (O.held out.new) (self.old.waiting ++ rows_text self.old.log)) }
+        ensures written { more ≡ false → OnOk result (self.new.waiting ≡ []) }
+        ensures revision { self.new.revision ≡ self.old.revision }
+        ensures counted { self.new.counted ≡ self.old.counted }
+        ensures cause { HasCause (O.Faulty.faults out.old) (O.Faulty.faults out.new) result }
+    {
+        match add_rows(&self.log, &mut self.line, &mut self.waiting, out) {
+            Ok(()) => {}
+            Err(Failed) => return Err(Failed),
+        }
+        if more {
+            return Ok(());
+        }
+        self.waiting.flush(out)
+    }
+
+    /// Writes what waits, and answers the status, or that this failed.
+    fn stop<O: Sink>(&mut self, status: Status, out: &mut O) -> Status
+        ensures stops { Stops self.old.waiting (O.held out.old) (O.held out.new) status result }
+        ensures fault { result ≡ Status.WriteFault → status ≢ Status.WriteFault → Rose (O.Faulty.faults out.old) (O.Faulty.faults out.new) }
+        ensures never_falls { O.Faulty.faults out.old ≤ O.Faulty.faults out.new }
+    {
+        match self.waiting.flush(out) {
+            Ok(()) => status,
+            Err(Failed) => Status::WriteFault,
+        }
+    }
+
+    /// Writes what waits and the last line.
+    fn end<O: Sink>(&mut self, version: u64, events: u64, out: &mut O) -> Status
+        ensures stops { Stops (self.old.waiting ++ last_line version events self.old.counted.totals) (O.held out.old) (O.held out.new) Status.Ok result }
+        ensures fault { result ≡ Status.WriteFault → Rose (O.Faulty.faults out.old) (O.Faulty.faults out.new) }
+        ensures never_falls { O.Faulty.faults out.old ≤ O.Faulty.faults out.new }
+    {
+        self.tally.last_line(version, events, &mut self.line);
+        match self.waiting.add(self.line.bytes(), out) {
+            Ok(()) => {}
+            Err(Failed) => return Status::WriteFault,
+        }
+        self.stop(Status::Ok, out)
+    }
+
+    /// Takes the events of a journal behind its start, and writes the last line where all lines are good. What waits is
+    /// written before the source is read again, and before the answer.
+    fn follow<S: Source, O: Sink>(
+        &mut self,
+        reader: &mut JournalReader,
+        source: &mut S,
+        out: &mut O,
+    ) -> Status
+        requires good { reader.old.failed ≡ None }
+        requires last { reader.old.last ≡ self.old.revision.clock }
+        requires clock { self.old.revision.clock ≤ 2 ^ 42 }
+        requires events { self.old.revision.events ≡ 0 }
+        requires rows { self.old.counted.rows < 2 ^ 64 }
+        ensures follows { (c : Trace) → StandsFor self.old.revision c → self.old.counted.totals ≡ totals c →
+            Follows reader.old.version self.old.revision.spec c reader.old.last reader.old.number (unread reader.old.input (S.left source.old)) (unread reader.new.input (S.left source.new)) self.old.waiting (O.held out.old) (O.held out.new) result }
+        ensures followed { IsFollowed result }
+        ensures ended { result ≡ Status.Ok → EndsThere (unread reader.old.input (S.left source.old)) (unread reader.new.input (S.left source.new)) }
+        ensures read_fault { result ≡ Status.ReadFault → Rose (S.Faulty.faults source.old) (S.Faulty.faults source.new) ⊎ (most_taken ≤ reader.new.input.taken) }
+        ensures write_fault { result ≡ Status.WriteFault → Rose (O.Faulty.faults out.old) (O.Faulty.faults out.new) }
+        ensures balance { IsBalanced reader.old.input reader.new.input (S.given source.old) (S.given source.new) }
+        ensures never_falls { S.Faulty.faults source.old ≤ S.Faulty.faults source.new }
+        ensures out_never_falls { O.Faulty.faults out.old ≤ O.Faulty.faults out.new }
+    {
+        // Each event takes six bytes at least, so after so many 2^56 bytes were taken.
+        for count in 0..1u64 << 54 {
+            let e = match reader.next(source) {
+                Ok(Some(e)) => e,
+                Ok(None) => return self.end(reader.version(), count, out),
+                Err(error) => return self.stop(status_of(error), out),
+            };
+            self.take(&e);
+            match self.put_rows(reader.holds_line(), out) {
+                Ok(()) => {}
+                Err(Failed) => return Status::WriteFault,
+            }
+        }
+        self.stop(Status::ReadFault, out)
+    }
+}
+
+/// Reads what stands before a journal's events: the setup, and the start.
+fn open<S: Source>(
+    alloc: Global,
+    reader: &mut JournalReader,
+    source: &mut S,
+) -> Result<(Setup, u64), JournalError>
+    requires good { reader.old.failed ≡ None }
+    requires number { reader.old.number ≡ 0 }
+    ensures opens { Opens (unread reader.old.input (S.left source.old)) (unread reader.new.input (S.left source.new)) reader.new.version reader.new.number result }
+    ensures start { IfOk result (λ parts. reader.new.last ≡ parts.1) }
+    ensures most { IfOk result (λ parts. parts.1 ≤ time_most) }
+    ensures good { OnOk result (reader.new.failed ≡ None) }
+    ensures fault { result ≡ Err JournalError.ReadFault → Rose (S.Faulty.faults source.old) (S.Faulty.faults source.new) ⊎ (reader.new.input.taken ≡ most_taken) }
+    ensures balance { IsBalanced reader.old.input reader.new.input (S.given source.old) (S.given source.new) }
+    ensures never_falls { S.Faulty.faults source.old ≤ S.Faulty.faults source.new }
+{
+    let setup = match reader.setup(alloc, source) {
+        Ok(setup) => setup,
+        Err(error) => return Err(error),
+    };
+    match reader.start(source) {
+        Ok(start) => Ok((setup, start)),
+        Err(error) => Err(error),
+    }
+}
+
+/// Whether the revision is of a kind that is built so far.
+fn is_fixed(spec: &Spec) -> bool
+    ensures fixed { result ≡ true → IsFixed spec.now.kind }
+    ensures scaled { result ≡ false → spec.now.kind ≡ Kind.Kpa }
+{
+    match spec.kind {
+        Kind::Fixed(_) => true,
+        Kind::Kpa => false,
+    }
+}
+
+/// Replays the journal that the source gives, and writes its report.
+#[tactic(none)]
+pub fn replay_journal<S: Source, O: Sink>(alloc: Global, source: &mut S, out: &mut O) -> Status
+    ensures report { Replays (S.left source.old) (S.left source.new) (O.held out.old) (O.held out.new) result }
+    ensures replayed { IsReplayed result }
+    ensures ended { result ≡ Status.Ok → EndsThere (S.left source.old) (S.left source.new) }
+    ensures memory { result ≡ Status.Memory → out.new ≡ out.old }
+    ensures read_fault { result ≡ Status.ReadFault → Rose (S.Faulty.faults source.old) (S.Faulty.faults source.new) ⊎ (S.given source.old + most_taken ≤ S.given source.new) }
+    ensures write_fault { result ≡ Status.WriteFault → Rose (O.Faulty.faults out.old) (O.Faulty.faults out.new) }
+    ensures never_falls { S.Faulty.faults source.old ≤ S.Faulty.faults source.new }
+    ensures out_never_falls { O.Faulty.faults out.old ≤ O.Faulty.faults out.new }
+{
+    let mut reader = match JournalReader::new(alloc) {
+        Ok(reader) => reader,
+        Err(Memory) => return Status::Memory,
+    };
+    let (setup, start) = match open(alloc, &mut reader, source) {
+        Ok(parts) => parts,
+        Err(error) => return status_of(error),
+    };
+    let Setup { spec, text: _ } = setup;
+    if !is_fixed(&spec) {
+        return Status::BadSetup(JournalError::BadSetup(2, SetupError::BadWord));
+    }
+    let mut replay = match Replay::new(alloc, spec, start) {
+        Ok(replay) => replay,
+        Err(Memory) => return Status::Memory,
+    };
+    match replay.put_rows(reader.holds_line(), out) {
+        Ok(()) => {}
+        Err(Failed) => return Status::WriteFault,
+    }
+    replay.follow(&mut reader, source, out)
+}
