@@ -1,0 +1,96 @@
+-- Where one pass is all that there is, nobody has the turn, and the log has its numbers alone.
+use Rattle.std.proofs.Common.{◌≡◌, ◌⊎◌, inl, inr, ℕ, ◌+◌, ◌<◌, List, true, false, length, sym, ap, ◌∙◌, subst, arith}
+use Rattle.std.specs.Prelude.{cond}
+use mathlib.Core.Option as maybe
+use mathlib.Core.Option.{some, some-injective}
+use native.Mathlib.Decide.{ℕ_discrete}
+use lib.ListN.{get_elem?}
+use Rattle.atomic_table.specs.Table.{Final, Seen}
+use Rattle.atomic_table.specs.Seated.{TableId}
+use Rattle.kn_event.specs.declared.revision.Spec.{Spec}
+use Rattle.kn_laws.specs.History.{IsMadeBy}
+use Rattle.kn_core.specs.State.{RevisionState, StandsFor}
+use Rattle.kn_trace.specs.Trace.{Trace}
+use Rattle.kn_cell.specs.declared.past.Past.{Past}
+use Rattle.kn_cell.specs.declared.view.Key.{Key}
+use Rattle.kn_cell.specs.declared.view.View.{View}
+use Rattle.kn_cell.specs.State.{DeskState}
+use Rattle.kn_cell.specs.Lists.{StartsWith, Each}
+use Rattle.kn_cell.specs.History.{trace_after, clock_after, IsInBounds, IsLegal, rows_by}
+use Rattle.kn_cell.specs.Views.{opening, weight, Has, Passes}
+use Rattle.kn_cell.specs.Rule.{GoesWith, IsResting, IsTaken, IsKept}
+use Rattle.kn_cell.specs.Shown.{shown, PassView, Closes, IsNumberOf}
+use Rattle.kn_cell.proofs.ListFacts.{at_same, two_weights}
+
+module _ (key : Key) (log : List Past) (views : List View) (id : ℕ) (v : View) (p : Passes key log views) (me : get_elem? views id ≡ some v) (fresh : v.spent ≡ false)
+    (all : 1 + v.free + v.back ≡ v.key.passes) where
+  -- every other view is spent
+  only : (j : ℕ) (u : View) → get_elem? views j ≡ some u → u.spent ≡ false → j ≡ id
+  only j u at new = elim (ℕ_discrete j id) [
+    | yes e ↦ e
+    | no ne ↦
+        let two = two_weights weight views id j v u me at (λ e. ne (sym e)) in
+        let a : weight v ≡ 1 + v.free + v.back = ap (λ b. cond b 0 (1 + v.free + v.back)) fresh in
+        let b : weight u ≡ 1 + u.free + u.back = ap (λ b. cond b 0 (1 + u.free + u.back)) new in
+        let k = ap (λ (q : Key). q.passes) (p.each id v me fresh).key_is in
+        let sum = p.weights in
+        absurd (omega arith)
+  ]
+
+  pub rests : (turn : ℕ) (homes : List (maybe.Option DeskState)) → v.turn ≡ false → ((turn ≡ 0) × IsResting key log homes views) ⊎ ((turn ≡ 1) × IsTaken log homes views)
+      → IsResting key log homes views
+  rests turn homes idle phase = elim phase [
+    | inl r ↦ r.1
+    | inr t ↦
+        let here = only t.1.who t.1.holder t.1.there t.1.fresh in
+        let is = at_same views t.1.who id t.1.holder v t.1.there me here in
+        let h = t.1.has in
+        let e : t.1.holder.turn ≡ v.turn = ap (λ (x : View). x.turn) is in
+        let no : true ≡ false = sym h ∙ (e ∙ idle) in
+        cc
+  ]
+
+  pub its_number : (n : ℕ) → n < p.given → Has v n
+  its_number n low =
+      let h = p.holders n low in
+      subst (λ (x : View). Has x n) (at_same views (p.owner n) id h.view v h.there me (only (p.owner n) h.view h.there h.fresh)) h.has
+
+  pub closes_with : (t : TableId) (x : DeskState) → GoesWith key log x → Closes (shown t v) x.revision x.history
+  closes_with t x goes =
+      let mine = p.each id v me fresh in
+      let k = sym mine.key_is in
+      let h = sym goes.history in
+      record {
+        legal = subst (IsLegal (opening v.key)) h (subst (λ q. IsLegal (opening q) log) k p.legal);
+        bounds = subst (λ l. Each (λ (r : Past). IsInBounds r.event) l) h p.bounds;
+        spec = subst (λ q. x.revision.spec ≡ (opening q).spec) k goes.spec;
+        start = subst (λ q. x.revision.start ≡ (opening q).start) k goes.start;
+        stands = subst (λ q. (c : Trace) → StandsFor (opening q) c → StandsFor x.revision (trace_after (opening q).spec c x.history)) k
+            (subst (λ l. (c : Trace) → StandsFor (opening key) c → StandsFor x.revision (trace_after (opening key).spec c l)) h goes.stands);
+        clock = subst (λ q. x.revision.clock ≡ clock_after (opening q).clock x.history) k
+            (subst (λ l. x.revision.clock ≡ clock_after (opening key).clock l) h goes.clock);
+        events = subst (λ q. x.revision.events ≡ (opening q).events + length x.history) k
+            (subst (λ (l : List Past). x.revision.events ≡ (opening key).events + length l) h goes.events);
+        seen = subst (λ l. StartsWith l v.seen) h mine.knows.front;
+        mine = subst (λ l. v.mine ≡ rows_by v.number l) h mine.knows.whole;
+        others = λ i o at. let q = mine.joined i o at in subst (λ l. StartsWith l o.seen × (o.mine ≡ rows_by o.number l)) h (q.front, q.whole);
+        numbers = subst (λ l. Each (λ (r : Past). IsNumberOf (shown t v) r.pass) l) h (λ i r at. its_number r.pass (p.rows i r at));
+      }
+
+pub closes : (t : TableId) (key : Key) (id : ℕ) (v : View) (ws : List ℕ) (xs : List DeskState) (y : DeskState) → v.spent ≡ false → v.turn ≡ false → 1 + v.free + v.back ≡ v.key.passes
+    → Final (Seen (IsKept key) id v) ws xs → get_elem? xs 0 ≡ some y → Closes (shown t v) y.revision y.history
+closes t key id v ws xs y fresh idle all f at =
+    let s = f.0 in
+    let k = f.1.0 in
+    let me = f.1.1 in
+    let r = rests key k.log s.views id v k.passes me fresh all k.turn s.homes idle k.phase in
+    let there : get_elem? xs 0 ≡ some r.value = f.4 0 r.value (ap (λ l. get_elem? l 0) r.home) in
+    let is : r.value ≡ y = some-injective r.value y (sym there ∙ at) in
+    subst (λ (x : DeskState). Closes (shown t v) x.revision x.history) is (closes_with key k.log s.views id v k.passes me fresh all t r.value r.goes)
+
+-- what is so of each trace that events made is so of the trace after the whole history
+pub stays_so : (P : Spec → Trace → Type 0) → ((s : Spec) (start clock count : ℕ) (c : Trace) → IsMadeBy s start clock count c → P s c)
+    → (p : PassView) (r : RevisionState) (h : List Past) → Closes p r h → (c : Trace) → StandsFor p.opening c → P p.opening.spec (trace_after p.opening.spec c h)
+stays_so P law p r h k c s =
+    let d = trace_after p.opening.spec c h in
+    subst (λ q. P q d) k.spec (law r.spec r.start r.clock r.events d (k.stands c s).events)

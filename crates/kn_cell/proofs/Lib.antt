@@ -1,0 +1,11 @@
+pub mod Rooms
+pub mod Needs
+pub mod ListFacts
+pub mod HistoryFacts
+pub mod PassMoves
+pub mod TurnMoves
+pub mod TurnFacts
+pub mod ShownFacts
+pub mod Openings
+pub mod SeatMoves
+pub mod Closings

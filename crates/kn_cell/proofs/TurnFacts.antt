@@ -1,0 +1,124 @@
+-- What a seat with the turn does, as facts on plain data.
+use Rattle.std.proofs.Common.{◌≡◌, ℕ, ◌+◌, ◌-◌, ◌<◌, ◌≤◌, List, [], ◌∷◌, ◌++◌, false, length, refl, sym, ap, ◌∙◌, subst, arith, length-append, Result, Ok, Err, IfOk}
+use mathlib.Core.Path.{ap₂}
+use Rattle.atomic_table.specs.Table.{Me, rest}
+use Rattle.kn_event.specs.declared.event.Act.{Act}
+use Rattle.kn_event.specs.declared.event.Told.{Told}
+use Rattle.kn_core.specs.State.{StandsFor}
+use Rattle.kn_trace.specs.Events.{react, told_of, need_of}
+use Rattle.kn_trace.specs.Trace.{Trace}
+use Rattle.kn_cell.specs.declared.past.Past.{Past}
+use Rattle.kn_cell.specs.declared.past.Full.{Full}
+use Rattle.kn_cell.specs.declared.view.View.{View}
+use Rattle.kn_cell.specs.History.{trace_after, clock_after, live_of, IsInBounds, IsLegal, past}
+use Rattle.kn_cell.specs.State.{DeskState}
+use Rattle.kn_cell.specs.Desk.{Applies, Refuses, event_at, time_at}
+use Rattle.kn_cell.specs.Views.{opening}
+use Rattle.kn_cell.specs.Rule.{GoesWith, GetsTurn, recorded}
+use Rattle.kn_cell.specs.Turns.{HasTurn, WaitsForTurn, Overflows, row_of}
+use Rattle.kn_cell.proofs.TurnMoves.{first_or}
+use Rattle.kn_cell.proofs.HistoryFacts.{trace_after-one, clock_after-one, legal-one}
+
+gets_at : (v : View) (k : ℕ) (c : List (ℕ × DeskState)) (m : Me DeskState View) → v.missed ≤ k → (1 + v.free + v.back ≡ v.key.passes → k ≡ v.missed) → v.spent ≡ false → GetsTurn (record v { missed = k }, c) m → WaitsForTurn v m
+gets_at v k c m later alone fresh g = record {
+  log = g.log;
+  missed = k;
+  later = later;
+  alone = alone;
+  learns = record { bounded = g.learns.bounded; legal = g.learns.legal; longer = g.learns.longer; others = g.learns.others; own = g.learns.own };
+  view_is = ap (λ (x : Me DeskState View). x.0) g.after;
+  has = subst HasTurn (sym g.after)
+      record { turn = refl; fresh = fresh; value = g.value; slot = refl; goes = g.goes; bounded = g.learns.bounded; legal = g.learns.legal };
+}
+
+-- after some misses the turn was got
+pub waits_of : (v u : View) (c : List (ℕ × DeskState)) (m : Me DeskState View) → v.missed ≤ u.missed → (1 + v.free + v.back ≡ v.key.passes → u.missed ≡ v.missed) → v.spent ≡ false → u ≡ record v { missed = u.missed }
+    → GetsTurn (u, c) m → WaitsForTurn v m
+waits_of v u c m later alone fresh is g = gets_at v u.missed c m later alone fresh (subst (λ (x : View). GetsTurn (x, c) m) is g)
+
+-- what the slot has after an event, beside the log with its row
+pub record GoesOn (v : View) (act : Act) (time : ℕ) (told : Told) (y : DeskState) : Type 0 where
+  pub row : y.history ≡ v.seen ++ row_of v act time told ∷ []
+  pub legal : IsLegal (opening v.key) (v.seen ++ row_of v act time told ∷ [])
+  pub goes : GoesWith v.key (v.seen ++ row_of v act time told ∷ []) y
+  pub bounds : IsInBounds (row_of v act time told).event
+  pub need : (c : Trace) → StandsFor (opening v.key) c → need_of (trace_after (opening v.key).spec c v.seen) act ≤ v.key.room - length v.seen - live_of (trace_after (opening v.key).spec c v.seen)
+
+pub applied : (v : View) (x : DeskState) (act : Act) (time : ℕ) (told : Told) (y : DeskState) → GoesWith v.key v.seen x → IsLegal (opening v.key) v.seen
+    → Applies x v.number act time told y → GoesOn v act time told y
+applied v x act time told y goes legal a =
+    let h = v.seen in
+    let b = opening v.key in
+    let p = row_of v act time told in
+    let row' : y.history ≡ h ++ p ∷ [] = a.row ∙ ap₂ (λ (l : List Past) (k : ℕ). l ++ past v.number (event_at k time act) told ∷ []) goes.history goes.clock in
+    let order : clock_after b.clock h ≤ time_at (clock_after b.clock h) time = subst (λ k. k ≤ time_at k time) goes.clock a.order in
+    let answer : (c : Trace) → StandsFor b c → told ≡ told_of b.spec (trace_after b.spec c h) p.event =
+    (λ c s. subst (λ k. told ≡ told_of b.spec (trace_after b.spec c h) (event_at k time act)) goes.clock
+    (subst (λ q. told ≡ told_of q (trace_after b.spec c h) (event_at x.revision.clock time act)) goes.spec (a.answer (trace_after b.spec c h) (goes.stands c s)))) in
+    let stands : (c : Trace) → StandsFor b c → StandsFor y.revision (trace_after b.spec c (h ++ p ∷ [])) =
+    (λ c s. subst (StandsFor y.revision) (sym (trace_after-one b.spec c h p))
+    (subst (λ k. StandsFor y.revision (trace_after b.spec c h ++ react b.spec (trace_after b.spec c h) (event_at k time act))) goes.clock
+    (subst (λ q. StandsFor y.revision (trace_after b.spec c h ++ react q (trace_after b.spec c h) (event_at x.revision.clock time act))) goes.spec
+    (a.stands (trace_after b.spec c h) (goes.stands c s))))) in
+    let len = length-append h (p ∷ []) in
+    let events = a.events in
+    let before = goes.events in
+    record {
+      row = row';
+      legal = legal-one b h p legal order answer;
+      goes = record {
+        history = row';
+        room = a.room ∙ goes.room;
+        spec = a.spec ∙ goes.spec;
+        start = a.start ∙ goes.start;
+        stands = stands;
+        clock = a.clock ∙ (ap (λ k. time_at k time) goes.clock ∙ sym (clock_after-one b.clock h p));
+        events = omega arith;
+        fits = a.fits;
+      };
+      bounds = subst (λ k. IsInBounds (event_at k time act)) goes.clock a.bounds;
+      need = λ c s. subst (λ (l : List Past). need_of (trace_after b.spec c h) act ≤ v.key.room - length l - live_of (trace_after b.spec c h)) goes.history
+          (subst (λ r. need_of (trace_after b.spec c h) act ≤ r - length x.history - live_of (trace_after b.spec c h)) goes.room (a.need (trace_after b.spec c h) (goes.stands c s)));
+    }
+
+pub refused : (v : View) (x : DeskState) (act : Act) (full : Full) → GoesWith v.key v.seen x → Refuses x act full → Overflows v act full
+refused v x act full goes r =
+    let b = opening v.key in
+    record {
+      room = r.room ∙ goes.room;
+      used = r.used ∙ ap length goes.history;
+      live = λ c s. r.live (trace_after b.spec c v.seen) (goes.stands c s);
+      short = λ c s. subst (λ (l : List Past). v.key.room - length l - live_of (trace_after b.spec c v.seen) < need_of (trace_after b.spec c v.seen) act) goes.history
+          (subst (λ k. k - length x.history - live_of (trace_after b.spec c v.seen) < need_of (trace_after b.spec c v.seen) act) goes.room (r.short (trace_after b.spec c v.seen) (goes.stands c s)));
+    }
+
+-- the seat after the row was counted
+pub recorded_is : (v : View) (act : Act) (time : ℕ) (told : Told) (y : DeskState) (m w : Me DeskState View) → GoesOn v act time told y → m.0 ≡ v → m.1 ≡ (0, y) ∷ []
+    → w ≡ (recorded m.0 y.history, m.1) → w ≡ (recorded v (v.seen ++ row_of v act time told ∷ []), (0, y) ∷ [])
+recorded_is v act time told y m w on same slot is =
+    is ∙ (ap₂ (λ (u : View) (l : List (ℕ × DeskState)). (recorded u y.history, l)) same slot
+    ∙ ap (λ (h : List Past). (recorded v h, (0, y) ∷ [])) on.row)
+
+-- a slot that is held alone was taken last
+pub slot_first : (l : List (ℕ × DeskState)) (x : DeskState) → l ≡ (0, x) ∷ [] → l ≡ (0, x) ∷ rest l
+slot_first l x e = e ∙ ap (λ k. (0, x) ∷ rest k) (sym e)
+
+-- a seat with the turn that did not change can give it back
+pub has_slot : (m w : Me DeskState View) → HasTurn m → w ≡ m → (x : DeskState) × (w.1 ≡ (0, x) ∷ []) × GoesWith w.0.key w.0.seen x
+has_slot m w has same = (
+  has.value,
+  ap (λ (u : Me DeskState View). u.1) same ∙ has.slot,
+  subst (λ (u : Me DeskState View). GoesWith u.0.key u.0.seen has.value) (sym same) has.goes,
+)
+
+-- what the value in the slot became is what the seat has
+pub applied_at : (l : List (ℕ × DeskState)) (z x y : DeskState) (number : ℕ) (act : Act) (time : ℕ) (told : Told) → l ≡ (0, z) ∷ rest l → l ≡ (0, x) ∷ []
+    → Applies z number act time told y → (k : DeskState) × ((0, y) ∷ rest l ≡ (0, k) ∷ []) × Applies x number act time told k
+applied_at l z x y number act time told lent slot a =
+    let same : z ≡ x = ap (first_or z) (sym lent ∙ slot) in
+    (y, ap (λ k. (0, y) ∷ rest k) slot, subst (λ k. Applies k number act time told y) same a)
+
+pub applied_if : (l : List (ℕ × DeskState)) (z x y : DeskState) (number : ℕ) (act : Act) (time : ℕ) (r : Result Told Full) → l ≡ (0, z) ∷ rest l → l ≡ (0, x) ∷ []
+    → IfOk r (λ told. Applies z number act time told y) → IfOk r (λ told. (k : DeskState) × ((0, y) ∷ rest l ≡ (0, k) ∷ []) × Applies x number act time told k)
+applied_if l z x y number act time (Ok told) lent slot a = applied_at l z x y number act time told lent slot a
+applied_if l z x y number act time (Err full) lent slot a = a

@@ -1,0 +1,318 @@
+-- Each step on a word keeps the rule.
+use Rattle.std.proofs.Common.{◌≡◌, ◌≢◌, ◌⊎◌, inl, inr, ℕ, ◌+◌, ◌%◌, ◌^◌, ◌<◌, List, [], ◌∷◌, ◌++◌, Bool, true, false, length, refl, sym, ap, ◌∙◌, subst, arith, length-append}
+use Rattle.std.specs.Prelude.{slice_index, slice_set, cond}
+use Rattle.std.proofs.Math.Nat.{mod-eq_of_lt}
+use mathlib.Core.Option.{none, some}
+use lib.ListN.{get_elem?}
+use Rattle.atomic_table.specs.Table.{State, Me, Step, keeps, takes, gives, Allows, stepped, Valid, Act, carried_after}
+use Rattle.atomic_table.proofs.Lists.{at_set, set_here, set_else, set_again}
+use Rattle.kn_cell.specs.declared.past.Past.{Past}
+use Rattle.kn_cell.specs.declared.view.Key.{Key}
+use Rattle.kn_cell.specs.declared.view.View.{View}
+use Rattle.kn_cell.specs.State.{DeskState}
+use Rattle.kn_cell.specs.Lists.{Each}
+use Rattle.kn_cell.specs.History.{IsInBounds, IsLegal, rows_by}
+use Rattle.kn_cell.specs.Views.{opening, weight, Knows, IsBounded, Passes}
+use Rattle.kn_cell.specs.Rule.{GoesWith, IsResting, IsTaken, IsKept, Learns, with_turn, missed_one, without_turn, recorded, Takes, Records, Gives, Confirms}
+use Rattle.kn_cell.proofs.ListFacts.{at_within, at_same, whole, two_weights}
+use Rattle.kn_cell.proofs.HistoryFacts.{Knows-else, Each-one, legal-front}
+use Rattle.kn_cell.proofs.PassMoves.{IsSamePass, passes_move}
+
+-- what a step at the word i may do
+abbrev May : Key → ℕ → Me DeskState View → ℕ → (ℕ → ℕ) → (ℕ → Me DeskState View → Type 0) → State DeskState View → Type 0
+May key id me i f then s =
+    (w : View) × (a : Act DeskState) × Valid s.homes me.1 a × IsKept key (stepped s i (f (slice_index s.words i)) id me.1 w a)
+    × then (slice_index s.words i) (w, carried_after me.1 a)
+
+-- a view that changes no right
+same_pass : (v : View) (turn : Bool) (missed : ℕ) (seen mine : List Past) → v.spent ≡ false
+    → IsSamePass v (record v { turn = turn; missed = missed; seen = seen; mine = mine })
+same_pass v turn missed seen mine fresh = record { fresh = fresh; key_is = refl; number_is = refl; free_is = refl; back_is = refl; others_are = refl }
+
+knows_whole : (log : List Past) (n : ℕ) (mine : List Past) → mine ≡ rows_by n log → Knows log n log mine
+knows_whole log n mine e = record { front = whole log; own = e; whole = e }
+
+learns_of : (key : Key) (log : List Past) (views : List View) (id : ℕ) (v : View) (p : Passes key log views) → get_elem? views id ≡ some v → v.spent ≡ false → Learns v log
+learns_of key log views id v p me fresh =
+    let mine = p.each id v me fresh in
+    record {
+      bounded = subst IsBounded (sym mine.key_is) p.bounded;
+      legal = subst (λ k. IsLegal (opening k) log) (sym mine.key_is) p.legal;
+      longer = mine.knows.front;
+      others = λ k o at. (mine.joined k o at).front;
+      own = mine.knows.whole;
+    }
+
+-- ---- the swap of the turn word
+
+take_free : (key : Key) (id : ℕ) (v : View) (st : Step DeskState) (s : State DeskState View) (k : IsKept key s)
+    → get_elem? s.views id ≡ some v → v.spent ≡ false → k.turn ≡ 0 → IsResting key k.log s.homes s.views
+    → May key id (v, []) 1 (λ _. 1) (Takes st (v, [])) s
+take_free key id v st s k me fresh zero_turn rest =
+    let w = with_turn v k.log in
+    let mine = k.passes.each id v me fresh in
+    let moved : Passes key k.log (slice_set s.views id w) =
+    passes_move key k.log k.log s.views id v w k.passes me fresh (same_pass v true v.missed k.log v.mine fresh) k.passes.legal k.passes.rows k.passes.bounds
+    (knows_whole k.log v.number v.mine mine.knows.whole) (λ n seen mine' ne q. q) in
+    let only : (j : ℕ) (u : View) → get_elem? (slice_set s.views id w) j ≡ some u → u.turn ≡ true → j ≡ id =
+    (λ j u at has. elim (at_set s.views id j w u at) [
+      | inl h ↦ h.0
+      | inr h ↦ let not = rest.free j u h.1 in cc
+    ]) in
+    let found : slice_index s.words 1 ≡ 0 = ap (λ l. slice_index l 1) k.words ∙ zero_turn in (
+      w,
+      takes 0 rest.value,
+      ap (λ l. get_elem? l 0) rest.home,
+      record {
+        log = k.log;
+        turn = 1;
+        words = ap (λ l. slice_set l 1 1) k.words;
+        passes = moved;
+        phase = inr (
+          refl,
+          record {
+            out = ap (λ l. slice_set l 0 none) rest.home;
+            who = id;
+            holder = w;
+            there = set_here s.views id w (at_within s.views id v me);
+            has = refl;
+            fresh = fresh;
+            seen = refl;
+            alone = only;
+          },
+        );
+      },
+      (
+        (λ _. record {
+          log = k.log;
+          value = rest.value;
+          after = refl;
+          goes = subst (λ q. GoesWith q k.log rest.value) (sym mine.key_is) rest.goes;
+          learns = learns_of key k.log s.views id v k.passes me fresh;
+        }),
+        (λ ne. absurd (ne found)),
+      ),
+    )
+
+take_held : (key : Key) (id : ℕ) (v : View) (st : Step DeskState) (s : State DeskState View) (k : IsKept key s)
+    → get_elem? s.views id ≡ some v → v.spent ≡ false → v.turn ≡ false → k.turn ≡ 1 → IsTaken k.log s.homes s.views
+    → May key id (v, []) 1 (λ _. 1) (Takes st (v, [])) s
+take_held key id v st s k me fresh idle one_turn held =
+    let w = missed_one v in
+    let mine = k.passes.each id v me fresh in
+    let moved : Passes key k.log (slice_set s.views id w) =
+    passes_move key k.log k.log s.views id v w k.passes me fresh (same_pass v v.turn (v.missed + 1) v.seen v.mine fresh) k.passes.legal k.passes.rows k.passes.bounds
+    mine.knows (λ n seen mine' ne q. q) in
+    let found : slice_index s.words 1 ≡ 1 = ap (λ l. slice_index l 1) k.words ∙ one_turn in
+    let apart : id ≢ held.who = (λ e. let is = at_same s.views id held.who v held.holder me held.there e in let t = held.has in let t' = ap (λ (x : View). x.turn) is in cc) in
+    let two = two_weights weight s.views id held.who v held.holder me held.there apart in
+    let a : weight v ≡ 1 + v.free + v.back = ap (λ b. cond b 0 (1 + v.free + v.back)) fresh in
+    let b : weight held.holder ≡ 1 + held.holder.free + held.holder.back = ap (λ b. cond b 0 (1 + held.holder.free + held.holder.back)) held.fresh in
+    let sum = k.passes.weights in
+    let few : 1 + v.free + v.back < key.passes = omega arith in
+    let still : IsTaken k.log s.homes (slice_set s.views id w) = still_taken w held apart refl idle in (
+      w,
+      keeps,
+      tt,
+      record { log = k.log; turn = 1; words = ap (λ l. slice_set l 1 1) k.words; passes = moved; phase = inr (refl, still) },
+      (
+        (λ z. let no : 0 ≡ 1 = sym z ∙ found in absurd (omega arith)),
+        (λ _. record { after = refl; others = subst (λ (q : Key). 1 + v.free + v.back < q.passes) (sym mine.key_is) few }),
+      ),
+    )
+  where
+    still_taken : (w : View) (held : IsTaken k.log s.homes s.views) → id ≢ held.who → w.turn ≡ v.turn → v.turn ≡ false → IsTaken k.log s.homes (slice_set s.views id w)
+    still_taken w held apart same idle = record {
+      out = held.out;
+      who = held.who;
+      holder = held.holder;
+      there = set_else s.views id held.who w (λ e. apart (sym e)) ∙ held.there;
+      has = held.has;
+      fresh = held.fresh;
+      seen = held.seen;
+      alone = λ j u at has. elim (at_set s.views id j w u at) [
+        | inl h ↦ let t : w.turn ≡ u.turn = ap (λ (x : View). x.turn) h.1 in cc
+        | inr h ↦ held.alone j u h.1 has
+      ];
+    }
+
+take_from : (key : Key) (slots id : ℕ) (v : View) (st : Step DeskState) → v.turn ≡ false → v.spent ≡ false
+    → Allows (IsKept key) slots id (v, []) 1 (λ _. 1) (Takes st (v, []))
+take_from key slots id v st idle fresh s k wide me _ =
+    elim k.phase [
+      | inl p ↦ take_free key id v st s k me fresh p.0 p.1
+      | inr p ↦ take_held key id v st s k me fresh idle p.0 p.1
+    ]
+
+pub take_allows : (key : Key) (slots id : ℕ) (m : Me DeskState View) (st : Step DeskState) → m.0.turn ≡ false → m.0.spent ≡ false → m.1 ≡ []
+    → Allows (IsKept key) slots id m 1 (λ _. 1) (Takes st m)
+take_allows key slots id m st idle fresh none_held =
+    subst (λ (c : List (ℕ × DeskState)). Allows (IsKept key) slots id (m.0, c) 1 (λ _. 1) (Takes st (m.0, c)))
+    (sym none_held) (take_from key slots id m.0 st idle fresh)
+
+-- the value of the first slot
+abbrev pub first_or : DeskState → List (ℕ × DeskState) → DeskState
+first_or d [] = d
+first_or d (x ∷ xs) = x.1
+
+-- ---- the fetch_add of the count word
+
+record_held : (key : Key) (id : ℕ) (v : View) (x : DeskState) (row : Past) (st : Step DeskState) (s : State DeskState View) (k : IsKept key s)
+    → get_elem? s.views id ≡ some v → v.turn ≡ true → v.spent ≡ false → length v.seen < 2 ^ 63
+    → x.history ≡ v.seen ++ row ∷ [] → row.pass ≡ v.number → IsInBounds row.event → IsLegal (opening v.key) x.history
+    → IsTaken k.log s.homes s.views → k.turn ≡ 1
+    → May key id (v, (0, x) ∷ []) 0 (λ n. (n + 1) % 2 ^ 64) (Records st (v, (0, x) ∷ [])) s
+record_held key id v x row st s k me turn fresh small added own bounds legal held one_turn =
+    let next = x.history in
+    let w = recorded v next in
+    let mine = k.passes.each id v me fresh in
+    let here : id ≡ held.who = held.alone id v me turn in
+    let all : v.seen ≡ k.log = ap (λ (u : View). u.seen) (at_same s.views id held.who v held.holder me held.there here) ∙ held.seen in
+    let next_is : k.log ++ row ∷ [] ≡ next = ap (λ l. l ++ row ∷ []) (sym all) ∙ sym added in
+    let len : length next ≡ length v.seen + 1 = ap length added ∙ length-append v.seen (row ∷ []) in
+    let found : slice_index s.words 0 ≡ length v.seen = ap (λ l. slice_index l 0) k.words ∙ ap length (sym all) in
+    let fits : length v.seen + 1 < 2 ^ 64 = omega arith in
+    let counted : (slice_index s.words 0 + 1) % 2 ^ 64 ≡ length next =
+    ap (λ n. (n + 1) % 2 ^ 64) found ∙ (mod-eq_of_lt fits ∙ sym len) in
+    let legal' : IsLegal (opening key) next = subst (λ q. IsLegal (opening q) next) mine.key_is legal in
+    let low : row.pass < k.passes.given = subst (λ n. n < k.passes.given) (sym own) mine.own.1 in
+    let rows : Each (λ r. r.pass < k.passes.given) next = subst (λ l. Each (λ (r : Past). r.pass < k.passes.given) l) next_is
+    (Each-one (λ r. r.pass < k.passes.given) k.log row k.passes.rows low) in
+    let bounded : Each (λ r. IsInBounds r.event) next = subst (λ l. Each (λ (r : Past). IsInBounds r.event) l) next_is
+    (Each-one (λ r. IsInBounds r.event) k.log row k.passes.bounds bounds) in
+    let others : (n : ℕ) (seen mine' : List Past) → n ≢ v.number → Knows k.log n seen mine' → Knows next n seen mine' =
+    (λ n seen mine' ne q. subst (λ l. Knows l n seen mine') next_is (Knows-else k.log row n seen mine' (λ e. ne (sym e ∙ own)) q)) in
+    let moved : Passes key next (slice_set s.views id w) =
+    passes_move key k.log next s.views id v w k.passes me fresh (same_pass v v.turn v.missed next (rows_by v.number next) fresh) legal' rows bounded
+    (knows_whole next v.number (rows_by v.number next) refl) others in
+    let only : (j : ℕ) (u : View) → get_elem? (slice_set s.views id w) j ≡ some u → u.turn ≡ true → j ≡ id =
+    (λ j u at has. elim (at_set s.views id j w u at) [
+      | inl h ↦ h.0
+      | inr h ↦ held.alone j u h.1 has ∙ sym here
+    ]) in (
+      w,
+      keeps,
+      tt,
+      record {
+        log = next;
+        turn = 1;
+        words = ap (λ l. slice_set l 0 ((slice_index s.words 0 + 1) % 2 ^ 64)) k.words
+            ∙ (ap (λ n. n ∷ k.turn ∷ []) counted ∙ ap (λ t. length next ∷ t ∷ []) one_turn);
+        passes = moved;
+        phase = inr (
+          refl,
+          record {
+            out = held.out;
+            who = id;
+            holder = w;
+            there = set_here s.views id w (at_within s.views id v me);
+            has = turn;
+            fresh = fresh;
+            seen = refl;
+            alone = only;
+          },
+        );
+      },
+      (λ y e. let is : x ≡ y = ap (first_or x) e in ap (λ (z : DeskState). (recorded v z.history, (0, x) ∷ [])) is),
+    )
+
+record_from : (key : Key) (slots id : ℕ) (v : View) (x : DeskState) (row : Past) (st : Step DeskState)
+    → v.turn ≡ true → v.spent ≡ false → length v.seen < 2 ^ 63 → x.history ≡ v.seen ++ row ∷ [] → row.pass ≡ v.number → IsInBounds row.event → IsLegal (opening v.key) x.history
+    → Allows (IsKept key) slots id (v, (0, x) ∷ []) 0 (λ n. (n + 1) % 2 ^ 64) (Records st (v, (0, x) ∷ []))
+record_from key slots id v x row st turn fresh small added own bounds legal s k wide me _ =
+    elim k.phase [
+      | inl p ↦ let not = p.1.free id v me in let no : true ≡ false = sym turn ∙ not in cc
+      | inr p ↦ record_held key id v x row st s k me turn fresh small added own bounds legal p.1 p.0
+    ]
+
+pub record_allows : (key : Key) (slots id : ℕ) (m : Me DeskState View) (x : DeskState) (row : Past) (st : Step DeskState)
+    → m.0.turn ≡ true → m.0.spent ≡ false → length m.0.seen < 2 ^ 63 → m.1 ≡ (0, x) ∷ [] → x.history ≡ m.0.seen ++ row ∷ [] → row.pass ≡ m.0.number → IsInBounds row.event → IsLegal (opening m.0.key) x.history
+    → Allows (IsKept key) slots id m 0 (λ n. (n + 1) % 2 ^ 64) (Records st m)
+record_allows key slots id m x row st turn fresh small slot added own bounds legal =
+    subst (λ (c : List (ℕ × DeskState)). Allows (IsKept key) slots id (m.0, c) 0 (λ n. (n + 1) % 2 ^ 64) (Records st (m.0, c)))
+    (sym slot) (record_from key slots id m.0 x row st turn fresh small added own bounds legal)
+
+-- ---- the store of 0 to the turn word
+
+give_held : (key : Key) (id : ℕ) (v : View) (x : DeskState) (st : Step DeskState) (s : State DeskState View) (k : IsKept key s)
+    → get_elem? s.views id ≡ some v → v.turn ≡ true → v.spent ≡ false → GoesWith v.key v.seen x → IsTaken k.log s.homes s.views
+    → May key id (v, (0, x) ∷ []) 1 (λ _. 0) (λ _. Gives st (v, (0, x) ∷ []) 0) s
+give_held key id v x st s k me turn fresh goes held =
+    let w = without_turn v in
+    let mine = k.passes.each id v me fresh in
+    let here : id ≡ held.who = held.alone id v me turn in
+    let all : v.seen ≡ k.log = ap (λ (u : View). u.seen) (at_same s.views id held.who v held.holder me held.there here) ∙ held.seen in
+    let moved : Passes key k.log (slice_set s.views id w) =
+    passes_move key k.log k.log s.views id v w k.passes me fresh (same_pass v false v.missed v.seen v.mine fresh) k.passes.legal k.passes.rows k.passes.bounds
+    mine.knows (λ n seen mine' ne q. q) in
+    let none_has : (j : ℕ) (u : View) → get_elem? (slice_set s.views id w) j ≡ some u → u.turn ≡ false =
+    (λ j u at. elim (at_set s.views id j w u at) [
+      | inl h ↦ ap (λ (y : View). y.turn) (sym h.1)
+      | inr h ↦ not_turn u.turn (λ has. h.0 (held.alone j u h.1 has ∙ sym here))
+    ]) in (
+      w,
+      gives,
+      tt,
+      record {
+        log = k.log;
+        turn = 0;
+        words = ap (λ l. slice_set l 1 0) k.words;
+        passes = moved;
+        phase = inl (
+          refl,
+          record {
+            value = x;
+            home = ap (λ l. slice_set l 0 (some x)) held.out;
+            goes = subst (λ l. GoesWith key l x) all (subst (λ q. GoesWith q v.seen x) mine.key_is goes);
+            free = none_has;
+          },
+        );
+      },
+      refl,
+    )
+  where
+    not_turn : (b : Bool) → (b ≡ true → ⊥) → b ≡ false
+    not_turn true h = absurd (h refl)
+    not_turn false h = refl
+
+give_from : (key : Key) (slots id : ℕ) (v : View) (x : DeskState) (st : Step DeskState) → v.turn ≡ true → v.spent ≡ false → GoesWith v.key v.seen x
+    → Allows (IsKept key) slots id (v, (0, x) ∷ []) 1 (λ _. 0) (λ _. Gives st (v, (0, x) ∷ []) 0)
+give_from key slots id v x st turn fresh goes s k wide me _ =
+    elim k.phase [
+      | inl p ↦ let not = p.1.free id v me in let no : true ≡ false = sym turn ∙ not in cc
+      | inr p ↦ give_held key id v x st s k me turn fresh goes p.1
+    ]
+
+pub give_allows : (key : Key) (slots id : ℕ) (m : Me DeskState View) (x : DeskState) (st : Step DeskState) → m.0.turn ≡ true → m.0.spent ≡ false
+    → m.1 ≡ (0, x) ∷ [] → GoesWith m.0.key m.0.seen x → Allows (IsKept key) slots id m 1 (λ _. 0) (λ _. Gives st m 0)
+give_allows key slots id m x st turn fresh slot goes =
+    subst (λ (c : List (ℕ × DeskState)). Allows (IsKept key) slots id (m.0, c) 1 (λ _. 0) (λ _. Gives st (m.0, c) 0))
+    (sym slot) (give_from key slots id m.0 x st turn fresh goes)
+
+-- ---- a load
+
+pub confirm_allows : (key : Key) (slots id : ℕ) (m : Me DeskState View) (st : Step DeskState) → m.0.spent ≡ false
+    → Allows (IsKept key) slots id m 0 (λ n. n) (Confirms st m)
+confirm_allows key slots id m st fresh s k wide me _ =
+    let v = m.0 in
+    let mine = k.passes.each id v me fresh in
+    let same = sym (set_again s.views id v me) in (
+      v,
+      keeps,
+      tt,
+      record {
+        log = k.log;
+        turn = k.turn;
+        words = ap (λ l. slice_set l 0 (slice_index l 0)) k.words;
+        passes = subst (λ vs. Passes key k.log vs) same k.passes;
+        phase = subst (λ vs. ((k.turn ≡ 0) × IsResting key k.log s.homes vs) ⊎ ((k.turn ≡ 1) × IsTaken k.log s.homes vs)) same k.phase;
+      },
+      (
+        refl,
+        record {
+          legal = legal-front (opening v.key) k.log v.seen (subst (λ q. IsLegal (opening q) k.log) (sym mine.key_is) k.passes.legal) mine.knows.front;
+          own = mine.knows.own;
+          others = λ i o at. (mine.joined i o at).own;
+        },
+      ),
+    )

@@ -1,0 +1,12 @@
+use Rattle.std.proofs.Common.{◌≡◌, ◌≤◌, ◌+◌, []}
+use Rattle.kn_cell.proofs.turn.take_turn.Given as goal
+
+abbrev pub invariant-loop : goal.invariant-loop
+invariant-loop g l = record {
+  same : l.place.table_id ≡ l.fn.place.table_id;
+  id : l.place.id ≡ l.fn.place.id;
+  later : l.fn.place.me.0.missed ≤ l.place.me.0.missed;
+  alone : 1 + l.fn.place.me.0.free + l.fn.place.me.0.back ≡ l.fn.place.me.0.key.passes → l.place.me.0.missed ≡ l.fn.place.me.0.missed;
+  view : l.place.me.0 ≡ record l.fn.place.me.0 { missed = l.place.me.0.missed };
+  empty : l.place.me.1 ≡ [];
+}

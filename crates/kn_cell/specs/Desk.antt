@@ -1,0 +1,40 @@
+-- What taking an event in does.
+use Rattle.std.specs.Prelude.{ℕ, ◌≡◌, ◌≤◌, ◌<◌, ◌+◌, ◌-◌, ◌^◌, [], ◌∷◌, ◌++◌, length, min, max}
+use Rattle.kn_event.specs.declared.event.Act.{Act}
+use Rattle.kn_event.specs.declared.event.Event.{Event}
+use Rattle.kn_event.specs.declared.event.Told.{Told}
+use Rattle.kn_trace.specs.Events.{react, told_of, need_of}
+use Rattle.kn_trace.specs.Trace.{Trace}
+use Rattle.kn_core.specs.State.{StandsFor}
+use Rattle.kn_cell.specs.declared.past.Full.{Full}
+use Rattle.kn_cell.specs.History.{past, live_of, IsInBounds}
+use Rattle.kn_cell.specs.State.{DeskState, live_in}
+
+-- the least time that is not below `time` and the clock, or 2^42
+abbrev pub time_at : ℕ → ℕ → ℕ
+time_at clock time = min (max time clock) (2 ^ 42)
+
+abbrev pub event_at : ℕ → ℕ → Act → Event
+event_at clock time act = record { time = time_at clock time; act = act }
+
+-- the event was told what it is told after the rows that there were, and has its row
+pub record Applies (old : DeskState) (pass : ℕ) (act : Act) (time : ℕ) (told : Told) (new : DeskState) : Type 0 where
+  pub room : new.room ≡ old.room
+  pub row : new.history ≡ old.history ++ past pass (event_at old.revision.clock time act) told ∷ []
+  pub fits : length new.history + live_in new.revision ≤ new.room
+  pub order : old.revision.clock ≤ time_at old.revision.clock time
+  pub bounds : IsInBounds (event_at old.revision.clock time act)
+  pub spec : new.revision.spec ≡ old.revision.spec
+  pub start : new.revision.start ≡ old.revision.start
+  pub clock : new.revision.clock ≡ time_at old.revision.clock time
+  pub events : new.revision.events ≡ old.revision.events + 1
+  pub answer : (c : Trace) → StandsFor old.revision c → told ≡ told_of old.revision.spec c (event_at old.revision.clock time act)
+  pub stands : (c : Trace) → StandsFor old.revision c → StandsFor new.revision (c ++ react old.revision.spec c (event_at old.revision.clock time act))
+  pub need : (c : Trace) → StandsFor old.revision c → need_of c act ≤ old.room - length old.history - live_of c
+
+-- the room is too small for the act
+pub record Refuses (old : DeskState) (act : Act) (full : Full) : Type 0 where
+  pub room : full.room ≡ old.room
+  pub used : full.used ≡ length old.history
+  pub live : (c : Trace) → StandsFor old.revision c → full.live ≡ live_of c
+  pub short : (c : Trace) → StandsFor old.revision c → old.room - length old.history - live_of c < need_of c act

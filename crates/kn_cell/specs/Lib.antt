@@ -1,0 +1,9 @@
+pub mod Lists
+pub mod History
+pub mod State
+pub mod Desk
+pub mod Views
+pub mod Rule
+pub mod Turns
+pub mod Splitting
+pub mod Shown

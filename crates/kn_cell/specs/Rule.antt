@@ -1,0 +1,106 @@
+-- The rule of the cell, and what each step tells.
+use Rattle.std.specs.Prelude.{ℕ, ◌≡◌, ◌≢◌, ◌⊎◌, ◌≤◌, ◌<◌, ◌+◌, ◌-◌, List, [], ◌∷◌, true, false, length}
+use mathlib.Core.Option.{Option, none, some}
+use lib.ListN.{get_elem?}
+use Rattle.atomic_table.specs.Table.{State, Me, Step}
+use Rattle.kn_core.specs.State.{StandsFor}
+use Rattle.kn_trace.specs.Trace.{Trace}
+use Rattle.kn_cell.specs.declared.past.Past.{Past}
+use Rattle.kn_cell.specs.declared.view.Key.{Key}
+use Rattle.kn_cell.specs.declared.view.View.{View}
+use Rattle.kn_cell.specs.Lists.{StartsWith, Each}
+use Rattle.kn_cell.specs.History.{trace_after, clock_after, IsLegal, rows_by}
+use Rattle.kn_cell.specs.State.{DeskState, live_in}
+use Rattle.kn_cell.specs.Views.{opening, Passes, IsBounded}
+
+-- the value in the slot goes with the log
+pub record GoesWith (key : Key) (log : List Past) (x : DeskState) : Type 0 where
+  pub history : x.history ≡ log
+  pub room : x.room ≡ key.room
+  pub spec : x.revision.spec ≡ (opening key).spec
+  pub start : x.revision.start ≡ (opening key).start
+  pub stands : (c : Trace) → StandsFor (opening key) c → StandsFor x.revision (trace_after (opening key).spec c log)
+  pub clock : x.revision.clock ≡ clock_after (opening key).clock log
+  pub events : x.revision.events ≡ (opening key).events + length log
+  pub fits : length x.history + live_in x.revision ≤ x.room
+
+-- nobody has the turn, and the slot is at home
+pub record IsResting (key : Key) (log : List Past) (homes : List (Option DeskState)) (views : List View) : Type 0 where
+  pub value : DeskState
+  pub home : homes ≡ some value ∷ []
+  pub goes : GoesWith key log value
+  pub free : (id : ℕ) (v : View) → get_elem? views id ≡ some v → v.turn ≡ false
+
+-- one seat has the turn and the slot, and has seen the whole log
+pub record IsTaken (log : List Past) (homes : List (Option DeskState)) (views : List View) : Type 0 where
+  pub out : homes ≡ none ∷ []
+  pub who : ℕ
+  pub holder : View
+  pub there : get_elem? views who ≡ some holder
+  pub has : holder.turn ≡ true
+  pub fresh : holder.spent ≡ false
+  pub seen : holder.seen ≡ log
+  pub alone : (id : ℕ) (v : View) → get_elem? views id ≡ some v → v.turn ≡ true → id ≡ who
+
+pub record IsKept (key : Key) (s : State DeskState View) : Type 0 where
+  pub log : List Past
+  pub turn : ℕ
+  pub words : s.words ≡ length log ∷ turn ∷ []
+  pub passes : Passes key log s.views
+  pub phase : ((turn ≡ 0) × IsResting key log s.homes s.views) ⊎ ((turn ≡ 1) × IsTaken log s.homes s.views)
+
+-- what a pass learns where it takes the turn
+pub record Learns (v : View) (log : List Past) : Type 0 where
+  pub bounded : IsBounded v.key
+  pub legal : IsLegal (opening v.key) log
+  pub longer : StartsWith log v.seen
+  pub others : Each (λ o. StartsWith log o.seen) v.others
+  pub own : v.mine ≡ rows_by v.number log
+
+abbrev pub with_turn : View → List Past → View
+with_turn v log = record v { turn = true; seen = log }
+
+abbrev pub missed_one : View → View
+missed_one v = record v { missed = v.missed + 1 }
+
+abbrev pub without_turn : View → View
+without_turn v = record v { turn = false }
+
+-- the view after it has counted the rows that were added to the history
+abbrev pub recorded : View → List Past → View
+recorded v h = record v { seen = h; mine = rows_by v.number h }
+
+pub record GetsTurn (m w : Me DeskState View) : Type 0 where
+  pub log : List Past
+  pub value : DeskState
+  pub after : w ≡ (with_turn m.0 log, (0, value) ∷ [])
+  pub goes : GoesWith m.0.key log value
+  pub learns : Learns m.0 log
+
+-- another pass has the turn, so this one is not all that there is
+pub record Misses (m w : Me DeskState View) : Type 0 where
+  pub after : w ≡ (missed_one m.0, [])
+  pub others : 1 + m.0.free + m.0.back < m.0.key.passes
+
+abbrev pub Takes : Step DeskState → Me DeskState View → ℕ → Me DeskState View → Type 0
+Takes st m n w = (n ≡ 0 → GetsTurn m w) × (n ≢ 0 → Misses m w)
+
+-- what stands in the slot is what is now seen
+abbrev pub Records : Step DeskState → Me DeskState View → ℕ → Me DeskState View → Type 0
+Records st m n w = (x : DeskState) → m.1 ≡ (0, x) ∷ [] → w ≡ (recorded m.0 x.history, m.1)
+
+abbrev pub Gives : Step DeskState → Me DeskState View → ℕ → Me DeskState View → Type 0
+Gives st m n w = w ≡ (without_turn m.0, [])
+
+abbrev pub first_view : Key → View
+first_view k = record { spent = false; turn = false; key = k; number = 0; free = k.passes - 1; back = 0; missed = 0; seen = []; mine = []; others = [] }
+
+-- what is so of each view: its history is legal, and each list of own rows is what it has of them
+pub record IsSound (v : View) : Type 0 where
+  pub legal : IsLegal (opening v.key) v.seen
+  pub own : v.mine ≡ rows_by v.number v.seen
+  pub others : Each (λ o. o.mine ≡ rows_by o.number o.seen) v.others
+
+-- a load that changes nothing
+abbrev pub Confirms : Step DeskState → Me DeskState View → ℕ → Me DeskState View → Type 0
+Confirms st m n w = (w ≡ m) × IsSound m.0

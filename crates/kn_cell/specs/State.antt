@@ -1,0 +1,13 @@
+-- What contracts see of the value in the slot.
+use Rattle.std.specs.Prelude.{ℕ, List, length}
+use Rattle.kn_core.specs.State.{RevisionState}
+use Rattle.kn_cell.specs.declared.past.Past.{Past}
+
+pub record DeskState : Type 0 where
+  pub room : ℕ
+  pub revision : RevisionState
+  pub history : List Past
+
+-- how many requests are live
+abbrev pub live_in : RevisionState → ℕ
+live_in r = length r.parts.throttle.admission.live

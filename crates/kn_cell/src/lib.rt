@@ -1,0 +1,16 @@
+//! A revision that threads share: what all of them do to it is one legal history.
+#![tactic(auto)]
+
+mod cell;
+mod desk;
+mod past;
+mod rule;
+mod steps;
+mod turn;
+mod view;
+
+pub use cell::{Pass, RevisionCell};
+pub use past::{Full, History, Past, TryError};
+
+#[cfg(test)]
+mod tests;

@@ -1,0 +1,64 @@
+//! The steps on the table, each with what it asks.
+ghost use Rattle.std.specs.Prelude.{◌≡◌, ◌≢◌, ◌<◌, ◌≤◌, ◌+◌, ◌++◌, ◌∷◌, [], ◌^◌, ℕ, List, length, true, false, Bool, MatchBool, MatchResult};
+ghost use Rattle.kn_cell.specs.declared.past.Past.{Past};
+ghost use Rattle.kn_cell.specs.State.{DeskState};
+ghost use Rattle.kn_cell.specs.Views.{opening, IsBounded};
+ghost use Rattle.kn_cell.specs.History.{IsInBounds, IsLegal};
+ghost use Rattle.kn_cell.specs.Rule.{GetsTurn, Misses, GoesWith, recorded, without_turn, IsSound};
+
+use crate::desk::Desk;
+use crate::rule::{Confirm, Give, Order, Record, Take};
+use crate::view::{Key, View};
+use atomic_table::{Seat, Shared};
+
+pub type Board = Shared<Desk, View, Key, Order>;
+
+pub type Place = Seat<Desk, View>;
+
+/// Takes the turn, or finds that another has it.
+pub fn take(board: &Board, place: &mut Place) -> bool
+    requires same { place.old.table_id ≡ board.now.table_id }
+    requires sized { board.now.table_id.words ≡ 2 }
+    requires free { (place.old.me.0.turn ≡ false) × (place.old.me.0.spent ≡ false) × (place.old.me.1 ≡ []) }
+    ensures same { (place.new.table_id ≡ place.old.table_id) × (place.new.id ≡ place.old.id) }
+    ensures turn { MatchBool result (GetsTurn place.old.me place.new.me) (Misses place.old.me place.new.me) }
+{
+    board.swap::<Take>(place, 1, 1) == 0
+}
+
+/// Counts the row that was added to the history in the slot.
+pub fn record(board: &Board, place: &mut Place)
+    requires same { place.old.table_id ≡ board.now.table_id }
+    requires sized { board.now.table_id.words ≡ 2 }
+    requires turn { (place.old.me.0.turn ≡ true) × (place.old.me.0.spent ≡ false) }
+    requires added { (x : DeskState) × (row : Past) × (place.old.me.1 ≡ (0, x) ∷ []) × (x.history ≡ place.old.me.0.seen ++ row ∷ []) × (row.pass ≡ place.old.me.0.number) × IsInBounds row.event × IsLegal (opening place.old.me.0.key) x.history }
+    requires small { length place.old.me.0.seen < 2 ^ 63 }
+    ensures same { (place.new.table_id ≡ place.old.table_id) × (place.new.id ≡ place.old.id) }
+    ensures seen { (x : DeskState) → place.old.me.1 ≡ (0, x) ∷ [] → place.new.me ≡ (recorded place.old.me.0 x.history, place.old.me.1) }
+{
+    board.fetch_add::<Record>(place, 0, 1);
+}
+
+/// Gives the turn back.
+pub fn give(board: &Board, place: &mut Place)
+    requires same { place.old.table_id ≡ board.now.table_id }
+    requires sized { board.now.table_id.words ≡ 2 }
+    requires turn { (place.old.me.0.turn ≡ true) × (place.old.me.0.spent ≡ false) }
+    requires slot { (x : DeskState) × (place.old.me.1 ≡ (0, x) ∷ []) × GoesWith place.old.me.0.key place.old.me.0.seen x }
+    ensures same { (place.new.table_id ≡ place.old.table_id) × (place.new.id ≡ place.old.id) }
+    ensures free { place.new.me ≡ (without_turn place.old.me.0, []) }
+{
+    board.store::<Give>(place, 1, 0);
+    board.wake_one(1);
+}
+
+/// Changes nothing, and learns that what the seat knows is so.
+pub fn confirm(board: &Board, place: &mut Place)
+    requires same { place.old.table_id ≡ board.now.table_id }
+    requires sized { board.now.table_id.words ≡ 2 }
+    requires fresh { place.old.me.0.spent ≡ false }
+    ensures same { (place.new.table_id ≡ place.old.table_id) × (place.new.id ≡ place.old.id) × (place.new.me ≡ place.old.me) }
+    ensures so { IsSound place.old.me.0 }
+{
+    board.load::<Confirm>(place, 0);
+}

@@ -1,0 +1,112 @@
+//! What a pass does with the turn: it waits for it, and records one event.
+ghost use Rattle.std.specs.Prelude.{◌≡◌, ◌<◌, ◌≤◌, ◌+◌, ◌++◌, ◌∷◌, [], ◌^◌, ℕ, List, length, true, false, IfOk, IfErr, IfSome};
+ghost use Rattle.kn_core.specs.State.{StandsFor};
+ghost use Rattle.kn_trace.specs.Trace.{Trace, stand_of, proxied, next_starting};
+ghost use Rattle.kn_cell.specs.State.{DeskState};
+ghost use Rattle.kn_cell.specs.Desk.{Applies, Refuses};
+ghost use Rattle.kn_cell.specs.Views.{opening};
+ghost use Rattle.kn_cell.specs.History.{trace_after, MayCome};
+ghost use Rattle.kn_cell.specs.Rule.{without_turn};
+ghost use Rattle.kn_cell.specs.Turns.{HasTurn, WaitsForTurn, RecordsRow, Overflows};
+
+use crate::past::Full;
+use crate::steps::{Board, Place, give, record, take};
+use kn_event::{Act, Stand, Told};
+use std::sync::Wait;
+
+/// Waits until it has the turn.
+pub fn take_turn<R: Wait>(rt: &R, board: &Board, place: &mut Place)
+    requires same { place.old.table_id ≡ board.now.table_id }
+    requires sized { board.now.table_id.words ≡ 2 }
+    requires free { (place.old.me.0.turn ≡ false) × (place.old.me.0.spent ≡ false) × (place.old.me.1 ≡ []) }
+    ensures same { (place.new.table_id ≡ place.old.table_id) × (place.new.id ≡ place.old.id) }
+    ensures turn { WaitsForTurn place.old.me.0 place.new.me }
+{
+    for _ in rt.forever() {
+        if take(board, place) {
+            return;
+        }
+        board.park(rt, 1, 1);
+    }
+    unreachable!()
+}
+
+/// Takes the event in at the value in the slot.
+fn apply_at(
+    board: &Board,
+    place: &mut Place,
+    number: u64,
+    act: Act,
+    time: u64,
+) -> Result<Told, Full>
+    requires same { place.old.table_id ≡ board.now.table_id }
+    requires slot { (x : DeskState) × (place.old.me.1 ≡ (0, x) ∷ []) × (x.revision.events < 2 ^ 54) }
+    requires act { MayCome act }
+    ensures same { (place.new.table_id ≡ place.old.table_id) × (place.new.id ≡ place.old.id) × (place.new.me.0 ≡ place.old.me.0) }
+    ensures ok { (x : DeskState) → place.old.me.1 ≡ (0, x) ∷ [] → IfOk result (λ told. (y : DeskState) × (place.new.me.1 ≡ (0, y) ∷ []) × Applies x number act time told y) }
+    ensures err { (x : DeskState) → place.old.me.1 ≡ (0, x) ∷ [] → IfErr result (λ full. (place.new.me.1 ≡ place.old.me.1) × Refuses x act full) }
+{
+    place.slot_mut(board, 0).apply(number, act, time)
+}
+
+/// Takes the event in, records it, and gives the turn back.
+pub fn attempt(
+    board: &Board,
+    place: &mut Place,
+    number: u64,
+    act: Act,
+    time: u64,
+) -> Result<Told, Full>
+    requires same { place.old.table_id ≡ board.now.table_id }
+    requires sized { board.now.table_id.words ≡ 2 }
+    requires turn { HasTurn place.old.me }
+    requires number { place.old.me.0.number ≡ number }
+    requires act { MayCome act }
+    ensures same { (place.new.table_id ≡ place.old.table_id) × (place.new.id ≡ place.old.id) }
+    ensures ok { IfOk result (λ told. RecordsRow place.old.me.0 act time told place.new.me) }
+    ensures err { IfErr result (λ full. (place.new.me ≡ (without_turn place.old.me.0, [])) × Overflows place.old.me.0 act full) }
+{
+    match apply_at(board, place, number, act, time) {
+        Ok(told) => {
+            record(board, place);
+            give(board, place);
+            Ok(told)
+        }
+        Err(full) => {
+            give(board, place);
+            Err(full)
+        }
+    }
+}
+
+/// Where the request stands after all that is seen.
+pub fn stand_at(board: &Board, place: &mut Place, r: u64) -> Stand
+    requires same { place.old.table_id ≡ board.now.table_id }
+    requires turn { HasTurn place.old.me }
+    ensures same { (place.new.table_id ≡ place.old.table_id) × (place.new.id ≡ place.old.id) × (place.new.me ≡ place.old.me) }
+    ensures value { (c : Trace) → StandsFor (opening place.old.me.0.key) c → result ≡ stand_of (trace_after (opening place.old.me.0.key).spec c place.old.me.0.seen) r }
+{
+    place.slot_mut(board, 0).stand(r)
+}
+
+/// Whether the request is proxied, after all that is seen.
+pub fn proxied_at(board: &Board, place: &mut Place, r: u64) -> bool
+    requires same { place.old.table_id ≡ board.now.table_id }
+    requires turn { HasTurn place.old.me }
+    ensures same { (place.new.table_id ≡ place.old.table_id) × (place.new.id ≡ place.old.id) × (place.new.me ≡ place.old.me) }
+    ensures value { (c : Trace) → StandsFor (opening place.old.me.0.key) c → result ≡ proxied (trace_after (opening place.old.me.0.key).spec c place.old.me.0.seen) r }
+{
+    place.slot_mut(board, 0).proxied(r)
+}
+
+/// The least Starting pod not below this one, after all that is seen.
+pub fn starting_at(board: &Board, place: &mut Place, from: u64) -> Option<u64>
+    requires same { place.old.table_id ≡ board.now.table_id }
+    requires turn { HasTurn place.old.me }
+    ensures same { (place.new.table_id ≡ place.old.table_id) × (place.new.id ≡ place.old.id) × (place.new.me ≡ place.old.me) }
+    ensures value { (c : Trace) → StandsFor (opening place.old.me.0.key) c → result ≡ next_starting (trace_after (opening place.old.me.0.key).spec c place.old.me.0.seen) from }
+    ensures from { IfSome result (λ p. from ≤ p) }
+    ensures most { IfSome result (λ p. p < 2 ^ 63) }
+{
+    place.slot_mut(board, 0).next_starting(from)
+}
