@@ -82,8 +82,8 @@ rest-split version s c es r =
     let end = ending version (c ++ added s c (es ++ r.events)) (length (es ++ r.events)) r.refused in (
       rows_text later ++ end,
       ap (λ (t : Trace). rows_text t ++ end) (added-append s c es r.events)
-      ∙ ap (λ (z : List ℕ). z ++ end) (rows_text-append (added s c es) later)
-      ∙ append_assoc (rows_text (added s c es)) (rows_text later) end,
+          ∙ ap (λ (z : List ℕ). z ++ end) (rows_text-append (added s c es) later)
+          ∙ append_assoc (rows_text (added s c es)) (rows_text later) end,
     )
 
 -- ---- what was read so far

@@ -31,8 +31,7 @@ pub fn status_of(error: JournalError) -> Status
         JournalError::Memory => Status::Memory,
         JournalError::BadFirstLine => Status::BadSetup(JournalError::BadFirstLine),
         JournalError::BadSetup(number, why) => Status::BadSetup(JournalError::BadSetup(
-            number,
-            why,
+            number, why,
         )),
         _ => Status::BadInput(error),
     }

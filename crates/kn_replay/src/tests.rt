@@ -184,7 +184,12 @@ fn journals_and_their_reports(rt: HostRuntime) -> Result<(), Fail> {
 #[test]
 fn what_is_no_good_journal(rt: HostRuntime) -> Result<(), Fail> {
     let rows: [(&[u8], Status, &[u8], &[u8]); 8] = [
-        (b"", Status::BadInput(JournalError::NoEnd), b"", b"kact: input ends without end\n"),
+        (
+            b"",
+            Status::BadInput(JournalError::NoEnd),
+            b"",
+            b"kact: input ends without end\n",
+        ),
         (
             b"kact journal 3\n",
             Status::BadSetup(JournalError::BadFirstLine),
