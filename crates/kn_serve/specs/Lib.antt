@@ -1,0 +1,9 @@
+pub mod Laws
+pub mod Pods
+pub mod Sight
+pub mod Outside
+pub mod Answers
+pub mod Requests
+pub mod Served
+pub mod One
+pub mod Ticking
