@@ -132,7 +132,8 @@ fn four<R: Threads + Wait + Sync>(rt: &R, cell: &RevisionCell, passes: Four, wor
 fn cut(cell: &RevisionCell, first: &mut Pass) -> Four
     requires cell { first.old.cell ≡ cell.now }
     requires free { 4 ≤ first.old.free }
-    ensures same { first.new ≡ record first.old { free = first.old.free - 4 } }
+    ensures same { (first.new.cell ≡ first.old.cell) × (first.new.back ≡ first.old.back) × (first.new.passes ≡ first.old.passes) }
+    ensures free { first.new.free + 4 ≡ first.old.free }
     ensures one { (result.0.0.cell ≡ cell.now) × (result.0.0.free ≡ 0) × (result.0.0.back ≡ 0) }
     ensures two { (result.0.1.cell ≡ cell.now) × (result.0.1.free ≡ 0) × (result.0.1.back ≡ 0) }
     ensures three { (result.1.0.cell ≡ cell.now) × (result.1.0.free ≡ 0) × (result.1.0.back ≡ 0) }
@@ -152,7 +153,8 @@ fn take_in(cell: &RevisionCell, first: &mut Pass, passes: Four)
     requires two { (passes.0.1.cell ≡ cell.now) × (passes.0.1.free ≡ 0) × (passes.0.1.back ≡ 0) }
     requires three { (passes.1.0.cell ≡ cell.now) × (passes.1.0.free ≡ 0) × (passes.1.0.back ≡ 0) }
     requires four { (passes.1.1.cell ≡ cell.now) × (passes.1.1.free ≡ 0) × (passes.1.1.back ≡ 0) }
-    ensures { first.new ≡ record first.old { back = first.old.back + 4; others = first.new.others } }
+    ensures same { (first.new.cell ≡ first.old.cell) × (first.new.free ≡ first.old.free) × (first.new.passes ≡ first.old.passes) }
+    ensures back { first.new.back ≡ first.old.back + 4 }
 {
     let ((a, b), (c, d)) = passes;
     cell.join(first, a);
