@@ -231,4 +231,4 @@ is_known r q known un c s = absurd (known c s (un c s))
 
 -- the same pass, which may have seen and done more
 pub later_of : (p q : PassView) → (q ≡ p) ⊎ Looks p q → IsLater p q
-later_of p q so = elim so [ inl e ↦ ap (λ (v : PassView). record p { seen = v.seen; mine = v.mine; missed = v.missed }) (sym e) | inr l ↦ l.same ]
+later_of p q so = elim so [ inl e ↦ e ∙ ap (λ (v : PassView). record p { seen = v.seen; mine = v.mine; missed = v.missed }) (sym e) | inr l ↦ l.same ]

@@ -12,24 +12,22 @@ use Rattle.kn_serve.proofs.ticks.probe_next.Goals as goal
 pub returns-in-Err-clause-next : goal.returns-in-Err-clause-next
 returns-in-Err-clause-next g c =
     let p = c.args.pass.now in
-    let a = c.next_starting.new.pass in
-    let low = c.in-Some.ensures.small in (
-      low.1,
+    let a = c.next_starting.new.pass in (
+      c.in-Some.ensures.most,
       one_probe c.args.now c.args.from c.in-Some.pod None p a a (g.L.PodLink.told c.args.keeper.now) (g.L.PodLink.told c.probe-answer.new.self) false [] c.next_starting.ensures.looks c.next_starting.ensures.mine (inl refl)
-          c.in-Some.ensures.starting low.0 c.in-Err.ensures.recorded (sym (append-nil a.mine)) (none (IsAt c.args.now a)) refl (λ e. cc),
+          c.in-Some.ensures.starting c.in-Some.ensures.from c.in-Err.ensures.recorded (sym (append-nil a.mine)) (none (IsAt c.args.now a)) refl (λ e. cc),
     )
 
 pub returns-in-false-clause-next : goal.returns-in-false-clause-next
 returns-in-false-clause-next g c =
     let p = c.args.pass.now in
     let a = c.next_starting.new.pass in
-    let low = c.in-Some.ensures.small in
     let wire = g.L.PodLink.told c.args.keeper.now in
     let wire' = g.L.PodLink.told c.probe-answer.new.self in
     let told = subst (λ (b : Bool). Tells wire wire' (λ (link : Link). probed {E = Failed} link c.in-Some.pod (Ok b))) c.in-false.is c.in-Ok.ensures.recorded in (
-      low.1,
+      c.in-Some.ensures.most,
       one_probe c.args.now c.args.from c.in-Some.pod (Some false) p a a wire wire' false [] c.next_starting.ensures.looks c.next_starting.ensures.mine (inl refl)
-          c.in-Some.ensures.starting low.0 told (sym (append-nil a.mine)) (none (IsAt c.args.now a)) refl (λ e. cc),
+          c.in-Some.ensures.starting c.in-Some.ensures.from told (sym (append-nil a.mine)) (none (IsAt c.args.now a)) refl (λ e. cc),
     )
 
 pub returns-in-true-clause-next : goal.returns-in-true-clause-next
@@ -37,14 +35,13 @@ returns-in-true-clause-next g c =
     let p = c.args.pass.now in
     let a = c.next_starting.new.pass in
     let q = c.act_once-full.new.pass in
-    let low = c.in-Some.ensures.small in
     let wire = g.L.PodLink.told c.args.keeper.now in
     let wire' = g.L.PodLink.told c.probe-answer.new.self in
     let told = subst (λ (b : Bool). Tells wire wire' (λ (link : Link). probed {E = Failed} link c.in-Some.pod (Ok b))) c.in-true.is c.in-Ok.ensures.recorded in
     let r = ready_rows c.args.now c.in-Some.pod c.act_once-full.result a q c.act_once-full.ensures.once in (
-      low.1,
+      c.in-Some.ensures.most,
       one_probe c.args.now c.args.from c.in-Some.pod (Some true) p a q wire wire' c.act_once-full.result r.rows c.next_starting.ensures.looks c.next_starting.ensures.mine (inr c.act_once-full.ensures.looks)
-          c.in-Some.ensures.starting low.0 told r.mine r.at r.ready r.over,
+          c.in-Some.ensures.starting c.in-Some.ensures.from told r.mine r.at r.ready r.over,
     )
 
 pub returns-in-None-clause-next : goal.returns-in-None-clause-next
