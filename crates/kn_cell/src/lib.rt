@@ -11,6 +11,3 @@ mod view;
 
 pub use cell::{Pass, RevisionCell};
 pub use past::{Full, History, Past, TryError};
-
-#[cfg(test)]
-mod tests;

@@ -15,6 +15,3 @@ pub use kn_head::Answer;
 pub use one::{serve_one, serve_read};
 pub use slot::{Served, Slot, Work};
 pub use ticks::{Left, Turn, tick_turn, ticker};
-
-#[cfg(test)]
-mod tests;
