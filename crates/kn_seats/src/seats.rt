@@ -206,8 +206,21 @@ impl Seats {
         self.pods[self.place_of(p)].queued.len() as u64
     }
 
-    /// Where the pod of this number stands.
+    /// Where the pod of this number stands: as far behind the first as its number, or else where a search finds it.
     fn place_of(&self, p: u64) -> usize
+        requires { IsTrue (has_pod p self.now.pods) }
+        ensures { IsPlaceOf p self.now.pods result }
+    {
+        if let Some(first) = self.pods.first() {
+            let guess = p.wrapping_sub(first.number) as usize;
+            if guess < self.pods.len() && self.pods[guess].number == p {
+                return guess;
+            }
+        }
+        self.search(p)
+    }
+
+    fn search(&self, p: u64) -> usize
         requires { IsTrue (has_pod p self.now.pods) }
         ensures { IsPlaceOf p self.now.pods result }
     {

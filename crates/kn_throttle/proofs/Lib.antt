@@ -9,3 +9,4 @@ pub mod Living
 pub mod Coming
 pub mod Dispatching
 pub mod Walking
+pub mod Steps

@@ -1,8 +1,10 @@
 -- What follows without a further act, of the record.
-use Rattle.std.specs.Prelude.{◌≡◌, ℕ, Bool, ◌+◌, length}
+use Rattle.std.specs.Prelude.{◌≡◌, ℕ, Bool, ◌+◌, ◌++◌, List, length}
+use Rattle.kn_event.specs.declared.entry.Entry.{Entry}
 use Rattle.kn_record.specs.Admission.{Admission, placed_in, waits}
 use Rattle.kn_record.specs.Order.{AreTimed}
 use Rattle.kn_record.specs.Views.{is_pod_where, pod_numbered}
+use Rattle.kn_record.specs.Walks.{stepped_by}
 use Rattle.kn_throttle.specs.Kept.{can_leave, can_run}
 
 -- whether the first queued request of pod p may run, and whether the pod drains with nothing at it
@@ -21,3 +23,9 @@ pub record AddsNobody (old new : Admission) : Type 0 where
   pub arrivals : new.arrivals ≡ old.arrivals
   pub created : new.created ≡ old.created
   pub timed : (clock : ℕ) → AreTimed clock old → AreTimed clock new
+
+-- the log has grown by rows, and the new record is the old one after each of them
+pub record LogsSteps (old new : Admission) (before after : List Entry) : Type 0 where
+  pub rows : List Entry
+  pub logged : after ≡ before ++ rows
+  pub stepped : new ≡ stepped_by rows old

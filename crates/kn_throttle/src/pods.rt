@@ -133,12 +133,18 @@ fn is_draining(readiness: Readiness) -> bool
     matches!(readiness, Readiness::Draining)
 }
 
-/// Where pod `p` stands.
+/// Where pod `p` stands: as far behind the first as its number, or else before that place.
 fn place_of(pods: &[Pod], p: u64) -> Option<usize>
     requires { AreAscending pods.now }
     ensures inside { IfSome result (λ i. i < length pods.now) }
     ensures there { IfSome result (HoldsAt (λ (q : Pod). q.number ≡ p) pods.now) }
     ensures none { IfNone result (All (λ (q : Pod). q.number ≢ p) pods.now) }
 {
+    if let Some(first) = pods.first() {
+        let guess = p.wrapping_sub(first.number) as usize;
+        if guess < pods.len() && pods[guess].number == p {
+            return Some(guess);
+        }
+    }
     pods.binary_search_by_key(&p, |q| q.number).ok()
 }

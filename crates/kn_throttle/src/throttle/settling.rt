@@ -8,7 +8,7 @@ ghost use Rattle.kn_record.specs.Views.{pod_numbers};
 ghost use Rattle.kn_record.specs.Walks.{BeginsWith, promoting};
 ghost use Rattle.kn_throttle.specs.Kept.{can_leave, can_run};
 ghost use Rattle.kn_throttle.specs.Pods.{pods_where};
-ghost use Rattle.kn_throttle.specs.Settling.{AddsNobody, can_leave_at, can_run_at, rows_left};
+ghost use Rattle.kn_throttle.specs.Settling.{AddsNobody, LogsSteps, can_leave_at, can_run_at, rows_left};
 
 use super::Throttle;
 use super::arriving::LIVE_MOST;
@@ -29,6 +29,7 @@ impl Throttle {
         ensures logged { (c : Trace) → StandsFor self.old.admission c → log.new ≡ log.old ++ settling self.old.spec time c }
         ensures stands { (c : Trace) → StandsFor self.old.admission c → StandsFor self.new.admission (c ++ settling self.old.spec time c) }
         ensures spec { self.new.spec ≡ self.old.spec }
+        ensures steps { LogsSteps self.old.admission self.new.admission log.old log.new }
         ensures nobody { AddsNobody self.old.admission self.new.admission }
         ensures few { length log.new ≤ length log.old + 40500 }
     {
@@ -44,6 +45,7 @@ impl Throttle {
         ensures logged { (c : Trace) → StandsFor self.old.admission c → log.new ≡ log.old ++ promotions time c (live_pods c) }
         ensures stands { (c : Trace) → StandsFor self.old.admission c → StandsFor self.new.admission (c ++ promotions time c (live_pods c)) }
         ensures spec { self.new.spec ≡ self.old.spec }
+        ensures steps { LogsSteps self.old.admission self.new.admission log.old log.new }
         ensures nobody { AddsNobody self.old.admission self.new.admission }
         ensures room { length log.new + rows_left self.new.admission ≡ length log.old + rows_left self.old.admission }
     {
@@ -63,6 +65,7 @@ impl Throttle {
         ensures logged { (c : Trace) → StandsFor self.old.admission c → log.new ≡ log.old ++ held_assignments self.old.spec time c }
         ensures stands { (c : Trace) → StandsFor self.old.admission c → StandsFor self.new.admission (c ++ held_assignments self.old.spec time c) }
         ensures spec { self.new.spec ≡ self.old.spec }
+        ensures steps { LogsSteps self.old.admission self.new.admission log.old log.new }
         ensures nobody { AddsNobody self.old.admission self.new.admission }
         ensures room { length log.new + rows_left self.new.admission ≡ length log.old + rows_left self.old.admission }
     {
@@ -81,6 +84,7 @@ impl Throttle {
         ensures logged { (c : Trace) → StandsFor self.old.admission c → log.new ≡ log.old ++ removals time c }
         ensures stands { (c : Trace) → StandsFor self.old.admission c → StandsFor self.new.admission (c ++ removals time c) }
         ensures spec { self.new.spec ≡ self.old.spec }
+        ensures steps { LogsSteps self.old.admission self.new.admission log.old log.new }
         ensures nobody { AddsNobody self.old.admission self.new.admission }
         ensures room { length log.new + rows_left self.new.admission ≡ length log.old + rows_left self.old.admission }
     {

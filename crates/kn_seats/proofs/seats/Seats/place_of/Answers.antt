@@ -1,20 +1,17 @@
-use Rattle.std.proofs.Common.{◌≡◌, rules, ap}
-use Rattle.std.proofs.lemmas.List.Sorted.{answers_always}
-use Rattle.kn_seats.specs.Seats.{State}
-use Rattle.kn_seats.proofs.Places.{search_finds, search_place}
+use Rattle.std.proofs.Common.{◌+◌, ◌-◌, ◌%◌, ◌<◌, ◌∙◌, ℕ, length, sym, ap, arith}
+use Rattle.std.proofs.lemmas.Grind.{common_steps}
+use Rattle.std.proofs.lemmas.List.{get_or_default}
+use Rattle.kn_seats.specs.declared.pod.Pod.{Pod}
+use Rattle.kn_seats.proofs.Places.{StandsAt, the_place}
 use Rattle.kn_seats.proofs.seats.Seats.place_of.Goals as goal
 
--- the closure gives a pod's number, and the slice is the pods
-pub unwrap-requires : goal.unwrap-requires
-unwrap-requires c =
-    let facts = c.binary_search_by_key.ensures in
-    let by_number = facts.position (λ pod. pod.number) (answers_always _ _ _ (λ f a r g called. search rules)) in
-    let pods_are : c.self.inside.pods.items ≡ c.args.self.now.pods = ap (λ (s : State). s.pods) c.self.view_is in
-    search_finds c.deref.result.now (rw c.deref.ensures.value c.self.invariant.kept.ascending) c.args.p (rw (c.deref.ensures.value, pods_are) c.requires) _ facts.bound by_number
-
-pub returns : goal.returns
-returns c =
-    let facts = c.binary_search_by_key.ensures in
-    let by_number = facts.position (λ pod. pod.number) (answers_always _ _ _ (λ f a r g called. search rules)) in
-    rw (← c.self.view_is, ← c.deref.ensures.value)
-    (search_place c.deref.result.now (rw c.deref.ensures.value c.self.invariant.kept.ascending) c.args.p _ _ c.unwrap.ensures facts.bound by_number)
+-- at the guess there is a pod of this number
+pub returns-then-index-p : goal.returns-then-index-p
+returns-then-index-p c =
+    let guess : ℕ = (c.args.p + (18446744073709551616 - c.in-Some.first.now.number)) % 18446744073709551616 in
+    let within : guess < length c.self.inside.pods.items = grind (arith, common_steps) in
+    let stands : StandsAt c.args.p c.self.inside.pods.items guess = record {
+      inside = within;
+      number = λ d. ap (λ (q : Pod). q.number) (get_or_default c.self.inside.pods.items guess d c.index.result.now within ∙ sym c.index.ensures) ∙ c.if-index-p.true;
+    } in
+    rw (← c.self.view_is) (the_place c.args.p c.self.inside.pods.items guess c.self.invariant.kept.ascending stands)

@@ -7,6 +7,7 @@ use Rattle.kn_record.specs.Views.{pod_numbers}
 use Rattle.kn_record.specs.Walks.{BeginsWith, promoting}
 use Rattle.kn_record.specs.declared.admission.Pod.{Pod}
 use Rattle.kn_throttle.proofs.Walking.{nobody_by}
+use Rattle.kn_throttle.proofs.Steps.{steps_more}
 use Rattle.kn_throttle.proofs.throttle.Throttle.run_all.Goals as goal
 
 pub loop-r-preserved : goal.loop-r-preserved
@@ -19,6 +20,7 @@ loop-r-preserved c =
           let l = c.loop-r.invariant.on d h in
           rw (c.in-Some.ensures.after t, c.put.ensures) (c.loop_laws.ensures.more _ _ d c.loop-r.self.admission c.args.log.now c.loop-r.log t x l (subst (λ (all : List Pod). BeginsWith (promoting t (pod_numbers all)) t x c.loop-r.self.admission l.here) c.loop-r.invariant.pods (c.in-Some.ensures.begins l.here t l.stands)));
       pods = ap (λ (y : State). y.admission.pods) (c.in-Some.ensures.after t) ∙ c.loop-r.invariant.pods;
+      steps = steps_more t x _ c.loop-r.self.admission _ _ c.loop-r.log _ c.loop-r.invariant.steps (ap (λ (y : State). y.admission) (c.in-Some.ensures.after t)) c.put.ensures;
       nobody = nobody_by c.time_laws.ensures.step c.args.self.now.admission c.loop-r.self.admission _ x refl refl c.loop-r.invariant.nobody (λ u. ap (λ (y : State). y.admission) (c.in-Some.ensures.after u));
       spec = ap (λ (y : State). y.spec) (c.in-Some.ensures.after t) ∙ c.loop-r.invariant.spec;
       room = rw c.put.ensures (omega (arith, length-append c.loop-r.log (entry t x ∷ []), c.in-Some.ensures.fewer));

@@ -4,6 +4,7 @@ use Rattle.kn_trace.specs.Trace.{live_pods}
 use Rattle.kn_trace.specs.Settling.{held_assignments, promotions, removals, settling}
 use Rattle.kn_throttle.specs.Settling.{rows_left}
 use Rattle.kn_throttle.proofs.Walking.{nobody_more, rows_few, settled_logged, settled_whole}
+use Rattle.kn_throttle.proofs.Steps.{steps_join}
 use Rattle.kn_throttle.proofs.throttle.Throttle.settle.Goals as goal
 
 pub run_all-requires : goal.run_all-requires
@@ -49,3 +50,6 @@ returns-clause-few c =
 
 pub returns-clause-nobody : goal.returns-clause-nobody
 returns-clause-nobody c = nobody_more _ _ _ (nobody_more _ _ _ c.run_all.ensures.nobody c.assign_all.ensures.nobody) c.remove_all.ensures.nobody
+
+pub returns-clause-steps : goal.returns-clause-steps
+returns-clause-steps c = steps_join _ _ _ _ _ _ (steps_join _ _ _ _ _ _ c.run_all.ensures.steps c.assign_all.ensures.steps) c.remove_all.ensures.steps
