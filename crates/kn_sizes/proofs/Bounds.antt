@@ -385,6 +385,14 @@ module _ (facts : Facts) (parts : PartFacts) where
       let f = few_standing facts s c made ranges in
       omega arith
 
+  -- of which at most 20,000 drain
+  pub few_draining : (s : Spec) (c : Trace) → IsMade s c → IsSettled s c → length (draining c) ≤ 20000
+  few_draining s c made settled =
+      let b = draining-within facts parts s c made settled in
+      let d = count-live c in
+      let e = few_live facts s c made in
+      omega arith
+
   -- and so has each before its settling
   pub few_pods_before : (s : Spec) (c : Trace) (e : Event) → AreInRange s → IsMade s c → IsSettled s c → length (live_pods (c ++ before_settling s c e)) ≤ 20500
   few_pods_before s c e ranges made settled =

@@ -8,7 +8,7 @@ ghost use Rattle.kn_trace.specs.Events.{before_settling, expiries, need_of, reac
 ghost use Rattle.kn_trace.specs.Laws.{IsSettled};
 ghost use Rattle.kn_trace.specs.Scale.{drain_order, wanted};
 ghost use Rattle.kn_trace.specs.Settling.{settling};
-ghost use Rattle.kn_trace.specs.Trace.{Trace, arrivals, live, live_pods};
+ghost use Rattle.kn_trace.specs.Trace.{Trace, arrivals, draining, live, live_pods};
 ghost use Rattle.kn_laws.specs.History.{IsMadeBy};
 ghost use Rattle.kn_record.specs.Made.{IsMade};
 
@@ -17,12 +17,14 @@ use kn_laws::parts::part_laws;
 use kn_record::facts::fact_laws;
 
 /// Of any trace that events made, at most 20,000 requests are live, at most 500 pods do not drain, and at most 500 are
-/// wanted. Where it is settled, as after each event, at most 20,500 pods live, also until the next settling begins.
+/// wanted. Where it is settled, as after each event, at most 20,000 pods drain, and at most 20,500 live, also until the next
+/// settling begins.
 pub fn size_laws()
     ensures live { (s : Spec) (c : Trace) → IsMade s c → length (live c) ≤ 20000 }
     ensures standing { (s : Spec) (c : Trace) → AreInRange s → IsMade s c → length (drain_order c) ≤ 500 }
     ensures wanted { (s : Spec) (c : Trace) → AreInRange s → IsMade s c → wanted s c ≤ 500 }
     ensures pods { (s : Spec) (c : Trace) → AreInRange s → IsMade s c → IsSettled s c → length (live_pods c) ≤ 20500 }
+    ensures draining { (s : Spec) (c : Trace) → IsMade s c → IsSettled s c → length (draining c) ≤ 20000 }
     ensures pods_before { (s : Spec) (c : Trace) (e : Event) → AreInRange s → IsMade s c → IsSettled s c → length (live_pods (c ++ before_settling s c e)) ≤ 20500 }
     ensures trace_live { (s : Spec) (start : ℕ) (es : List Event) → length (live (trace_of s start es)) ≤ 20000 }
     ensures trace_pods { (s : Spec) (start : ℕ) (es : List Event) → AreInRange s → length (live_pods (trace_of s start es)) ≤ 20500 }
