@@ -17,7 +17,7 @@ use Rattle.kn_pods.specs.Pods.{StandsFor as ArePodsOf}
 use Rattle.kn_throttle.specs.declared.throttle.arriving.Arrival.{Arrival}
 use Rattle.kn_throttle.specs.Rows.{arrival_row}
 use Rattle.kn_core.specs.State.{ArePartsOf, ArePartsOfSome, PartsState}
-use Rattle.kn_core.proofs.Events.{bool_prop}
+use Rattle.kn_core.proofs.Live.{bool_prop}
 
 -- a pod whose row is Ready was Starting
 starts : (s : Spec) (c : Trace) (p : ℕ) → act_row s c (act.Ready p) ≡ Some (row.Ready p) → (contains p (live_pods c) ≡ true) × (is_starting c p ≡ true)
@@ -40,10 +40,3 @@ starting_there views x some p said =
 pub limit_row : (s : Spec) (c : Trace) (p n : ℕ) (b : Bool) → b ≡ contains p (live_pods c) → act_row s c (act.Limit p n) ≡ Some (if b then row.Limit p n else row.NoPod p)
 unfolding act_row
 limit_row s c p n b e = rw e refl
-
--- the row of an arrival where all requests go through the activator
-pub arrive_row : (x : PartsState) (s : Spec) (c : Trace) (r tag : ℕ) (answer : Arrival) (made : Row) → ArePartsOf s x c
-    → ((c : Trace) (tag : ℕ) → IsRecordOf x.throttle.admission c → mode_of c ≡ mode.Proxy → act_row x.throttle.spec c (act.Arrive tag) ≡ Some (arrival_row r tag answer))
-    → arrival_row r tag answer ≡ made → act_row s c (act.Arrive tag) ≡ Some made
-arrive_row x s c r tag answer made h said e =
-    subst (λ (z : Spec). act_row z c (act.Arrive tag) ≡ Some made) h.spec (said c tag h.admission h.scaler.mode ∙ ap Some e)

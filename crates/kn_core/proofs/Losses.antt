@@ -1,17 +1,17 @@
 -- Who is lost with a pod.
-use Rattle.std.proofs.Common.{◌≡◌, ℕ, false, List, [], ◌++◌, refl, sym, append-nil}
+use Rattle.std.proofs.Common.{◌≡◌, ℕ, Bool, true, false, List, [], ◌∷◌, ◌++◌, map, refl, sym, ap, subst, ◌∙◌, append-nil}
+use Rattle.std.proofs.Math.Logic.{∥∥₁_map}
 use Rattle.kn_event.specs.declared.entry.Entry.{Entry}
 use Rattle.kn_event.specs.declared.event.Act.{Act}
 use Rattle.kn_event.specs.declared.event.Act.TheVariants as act
 use Rattle.kn_event.specs.declared.revision.Spec.{Spec}
-use Rattle.kn_trace.specs.Events.{losses, lost_with}
+use Rattle.kn_trace.specs.Events.{losses, losses_at, lost_with}
 use Rattle.kn_trace.specs.Trace.{Trace, contains, live_pods}
 use Rattle.kn_record.specs.Admission.{Admission}
+use Rattle.kn_record.specs.Made.{Holds, IsProper}
 use Rattle.kn_record.specs.Walks.{losing}
-use Rattle.kn_laws.specs.Kinds.{Each}
 use Rattle.kn_core.specs.State.{ArePartsOf, PartsState}
-use Rattle.kn_core.specs.Steps.{IsAlone}
-use Rattle.kn_core.proofs.After.{is_end_row, lost_ends}
+use Rattle.kn_core.specs.Steps.{IsAlone, IsReadyFor}
 
 -- an act that loses no pod
 abbrev pub LosesNone : Act → Type 0
@@ -31,13 +31,16 @@ pub dead_losses : (t : ℕ) (c : Trace) (p : ℕ) → contains p (live_pods c) �
 unfolding losses
 dead_losses t c p h = rw h refl
 
-pub losing_ends : (t p : ℕ) (c : Trace) → Each is_end_row (losing t p c)
-unfolding losing
-losing_ends t p c = lost_ends t (lost_with c p)
-
 -- nothing more
 pub parts_same : (s : Spec) (x : PartsState) (c es : Trace) → es ≡ [] → ArePartsOf s x c → ArePartsOf s x (c ++ es)
 parts_same s x c es e h = rw (e, append-nil c) h
 
 pub logged_same : (log es : List Entry) → es ≡ [] → log ≡ log ++ es
 logged_same log es e = rw e (sym (append-nil log))
+
+-- the rows of a live pod that is lost are proper
+pub ready_losing : ((c : Trace) (t p : ℕ) → contains p (live_pods c) ≡ true → losses t c (act.Lost p) ≡ losing t p c) → (t p : ℕ) (a : Act) (x : PartsState) → a ≡ act.Lost p
+    → ((s : Spec) (c : Trace) → ArePartsOf s x c → contains p (live_pods c) ≡ true) → IsReadyFor (λ s c. losses t c a) x → IsReadyFor (λ s c. losing t p c) x
+ready_losing law t p a x e live some =
+    ∥∥₁_map some (λ (h : (c : Trace) × ArePartsOf x.throttle.spec x c × Holds (IsProper x.throttle.spec) c (losses t c a)).
+    (h.0, h.1, subst (λ (es : Trace). Holds (IsProper x.throttle.spec) h.0 es) (ap (losses t h.0) e ∙ law h.0 t p (live x.throttle.spec h.0 h.1)) h.2))

@@ -1,5 +1,6 @@
 -- Rows that say nothing of a kind leave what the trace says of it.
-use Rattle.std.proofs.Common.{◌≡◌, ℕ, Bool, true, false, List, [], ◌∷◌, ◌++◌, refl, sym, ap, ◌∙◌, append-nil, append_assoc, subst, Option, None}
+use Rattle.std.proofs.Common.{◌≡◌, ℕ, Bool, true, false, List, [], ◌∷◌, ◌++◌, refl, sym, ap, ◌∙◌, append-nil, append_assoc, subst, Option, None, Some}
+use Rattle.std.specs.List.{filter_map}
 use Rattle.std.proofs.lemmas.List.Elements.{filter_map-append}
 use Rattle.kn_event.specs.declared.entry.Entry.{Entry}
 use Rattle.kn_event.specs.declared.entry.Row.{Row}
@@ -11,6 +12,7 @@ use Rattle.kn_trace.specs.Trace.{Trace, each_row, entry}
 use Rattle.kn_record.specs.Made.{Holds, IsMade, IsProper}
 use Rattle.kn_laws.specs.Kinds.{Each}
 use Rattle.kn_pods.specs.Pods.{PodsState, StandsFor, after_row}
+use Rattle.kn_scaler.specs.Rows.{says_scale}
 use Rattle.kn_core.specs.State.{IsUnscaled}
 use Rattle.kn_core.specs.Steps.{after_removal, after_removals}
 
@@ -33,16 +35,26 @@ module _ {X : Type 0} (said : Row → Option X) (test : Row → Bool) (none : (x
   none_said [] h = refl
   none_said (e ∷ es) h = rw (none e.row h.0) (none_said es h.1)
 
-  same_said : (c es : Trace) → Each test es → each_row said (c ++ es) ≡ each_row said c
+  pub same_said : (c es : Trace) → Each test es → each_row said (c ++ es) ≡ each_row said c
   same_said c es h = filter_map-append (λ (e : Entry). said e.row) c es ∙ ap (λ xs. each_row said c ++ xs) (none_said es h) ∙ append-nil (each_row said c)
 
+pub phase_same : (c es : Trace) → Each is_unscaled_row es → phase_of (c ++ es) ≡ phase_of c
+unfolding phase_of
+phase_same c es each = rw (same_said phase_by is_unscaled_row no_phase c es each) refl
+
 -- so a revision that doesn't scale goes on
-pub unscaled_more : (c es : Trace) → Each is_unscaled_row es → IsUnscaled c → IsUnscaled (c ++ es)
+pub unscaled_more : (s : Spec) (c es : Trace) → Each is_unscaled_row es → IsUnscaled s c → IsUnscaled s (c ++ es)
 unfolding phase_of mode_of
-unscaled_more c es each h = record {
+unscaled_more s c es each h = record {
+  fixed = h.fixed;
   phase = rw (same_said phase_by is_unscaled_row no_phase c es each) h.phase;
   mode = rw (same_said mode_by is_unscaled_row no_mode c es each) h.mode;
 }
+
+pub says_unscaled : (x : Row) → says_scale x ≡ false → is_unscaled_row x ≡ true
+says_unscaled (row.Phase x) h = absurd (cc)
+says_unscaled (row.Mode m) h = absurd (cc)
+says_unscaled _ h = refl
 
 -- ---- proper rows, one after the other
 

@@ -4,8 +4,6 @@
 mod parts;
 mod revision;
 mod rows;
+mod scaling;
 
 pub use revision::Revision;
-
-#[cfg(test)]
-mod tests;

@@ -1,33 +1,44 @@
 //! The parts of a revision, and what each part of an event changes of them.
-ghost use Rattle.std.specs.Prelude.{◌≡◌, ◌+◌, ◌≤◌, ◌++◌, length};
+ghost use Rattle.std.specs.Prelude.{◌≡◌, ℕ, ◌+◌, ◌≤◌, ◌^◌, ◌++◌, ◌∷◌, [], false, true, length};
+ghost use Rattle.kn_event.specs.Revision.{AreInRange};
 ghost use Rattle.kn_event.specs.declared.revision.Spec.{Spec as SpecValue};
 ghost use Rattle.kn_trace.specs.Events.{expiries, losses};
+ghost use Rattle.kn_trace.specs.Scale.{scale_rows};
 ghost use Rattle.kn_trace.specs.Settling.{settling};
-ghost use Rattle.kn_trace.specs.Trace.{Trace};
+ghost use Rattle.kn_trace.specs.Trace.{Trace, contains, entry};
+ghost use Rattle.kn_record.specs.Admission.{is_at, placed_in};
 ghost use Rattle.kn_record.specs.Made.{Holds, IsProper};
-ghost use Rattle.kn_core.specs.State.{ArePartsOf, ArePartsOfSome};
-ghost use Rattle.kn_core.specs.Steps.{AddsNobody, IsAlone};
+ghost use Rattle.kn_record.specs.Views.{pod_numbers};
+ghost use Rattle.kn_record.specs.Walks.{losing};
+ghost use Rattle.kn_scaler.specs.Rows.{says_scale};
+ghost use Rattle.kn_core.specs.State.{ArePartsOf, ArePartsOfSome, IsMeasuredAt, IsMeasuredBy, IsScalerOf};
+ghost use Rattle.kn_core.specs.Steps.{AddsNobody, EndsOnly, HasFewPods, IsAlone, IsReadyFor};
 
 mod acts;
 mod event;
 mod opening;
+mod scale;
 mod views;
 
-use crate::rows::{expire_all, lose_all, remove_behind};
-use kn_event::{Act, EntryLog};
-use kn_laws::parts::part_laws;
+use crate::rows::{follow_behind, remove_behind};
+use crate::scaling;
+use kn_event::{Act, Entry, EntryLog, Row};
 use kn_pods::Pods;
 use kn_pods::laws::row_laws;
-use kn_record::append::{append_laws, walk_laws};
+use kn_record::append::{append_laws, time_laws, walk_laws};
+use kn_scaler::Scaler;
+use kn_scaler::laws::{kind_laws, quiet_laws};
+use kn_sizes::sizes::size_laws;
 use kn_throttle::Throttle;
 use std::marker::Model;
 
-/// The throttler and the pods of a revision that doesn't scale. Contracts say for which traces both stand; each part of an
-/// event adds its rows to the log, and leaves the parts standing for the trace with them.
+/// The throttler and the pods of a revision, and the autoscaler of one that scales. Contracts say for which traces all
+/// stand; each part of an event adds its rows to the log, and leaves the parts standing for the trace with them.
 #[derive(Drop)]
 pub(crate) struct Parts {
     throttle: Throttle,
     pods: Pods,
+    scaler: Option<Scaler>,
 }
 
 impl Model for Parts {
@@ -35,60 +46,164 @@ impl Model for Parts {
 
     ghost Value = { PartsState };
 
-    ghost view = { λ x. record { throttle = x.throttle; pods = x.pods } };
+    ghost view = { λ x. record { throttle = x.throttle; pods = x.pods; scaler = x.scaler } };
 }
 
 impl Parts {
+    /// Before an event, the seconds that are over count.
+    fn advance(&mut self, time: u64)
+        requires some { ArePartsOfSome self.old }
+        requires order { IsMeasuredBy time self.old.scaler }
+        requires range { time ≤ 2 ^ 42 }
+        ensures stands { (s : SpecValue) (c : Trace) → ArePartsOf s self.old c → ArePartsOf s self.new c }
+        ensures throttle { self.new.throttle ≡ self.old.throttle }
+        ensures pods { self.new.pods ≡ self.old.pods }
+        ensures measured { IsMeasuredAt time self.new.scaler }
+    {
+        let ready = self.pods.count_ready();
+        scaling::advance(&mut self.scaler, time, ready > 0);
+    }
+
+    /// What a row changes of what is measured. Where a request ends with it, that is `r`, which still stands.
+    fn measure(&mut self, row: Row, r: u64)
+        requires some { IsReadyFor (λ s c. entry 0 row ∷ []) self.old }
+        requires ends { EndsOnly row r }
+        requires few { HasFewPods self.old }
+        ensures scaler { (s : SpecValue) (c : Trace) (t : ℕ) → IsMeasuredAt t self.old.scaler → says_scale row ≡ false → ArePartsOf s self.old c → IsProper s c row → IsScalerOf s self.new.scaler (c ++ entry t row ∷ []) }
+        ensures throttle { self.new.throttle ≡ self.old.throttle }
+        ensures pods { self.new.pods ≡ self.old.pods }
+        ensures measured { (t : ℕ) → IsMeasuredAt t self.old.scaler → IsMeasuredAt t self.new.scaler }
+    {
+        append_laws();
+        let stand = self.throttle.stand(r);
+        let proxied = self.throttle.proxied(r);
+        scaling::row(&mut self.scaler, row, stand, proxied);
+    }
+
     /// First, each request that has waited for its whole timeout expires.
     fn expire(&mut self, time: u64, log: &mut EntryLog)
-        requires { length log.old + length self.old.throttle.admission.live ≤ 65536 }
-        ensures logged { (s : SpecValue) (c : Trace) → ArePartsOf s self.old c → log.new ≡ log.old ++ expiries s time c }
+        requires some { IsReadyFor (λ s c. expiries s time c) self.old }
+        requires few { HasFewPods self.old }
+        requires measured { IsMeasuredAt time self.old.scaler }
+        requires room { length log.old + length self.old.throttle.admission.live ≤ 65536 }
+        ensures logged { (s : SpecValue) (c : Trace) → ArePartsOf s self.old c → Holds (IsProper s) c (expiries s time c) → log.new ≡ log.old ++ expiries s time c }
         ensures stands { (s : SpecValue) (c : Trace) → ArePartsOf s self.old c → Holds (IsProper s) c (expiries s time c) → ArePartsOf s self.new (c ++ expiries s time c) }
         ensures nobody { AddsNobody time self.old.throttle self.new.throttle }
         ensures created { self.new.pods.created ≡ self.old.pods.created }
+        ensures pods { self.new.throttle.admission.pods ≡ self.old.throttle.admission.pods }
+        ensures measured { IsMeasuredAt time self.new.scaler }
         ensures room { length log.new + length self.new.throttle.admission.live ≤ length log.old + length self.old.throttle.admission.live }
     {
         row_laws();
-        part_laws();
-        expire_all(&mut self.throttle, time, log);
+        time_laws();
+        walk_laws();
+        while let Some(r) = self.throttle.due(time) {
+            let row = Row::Expire(r);
+            self.measure(row, r);
+            let _ = self.throttle.expire_next(time);
+            log.put(Entry { time, row });
+        }
     }
 
     /// Then, where a live pod is lost, its requests end.
     fn lose(&mut self, act: Act, time: u64, log: &mut EntryLog)
-        requires some { ArePartsOfSome self.old }
+        requires some { IsReadyFor (λ s c. losses time c act) self.old }
+        requires few { HasFewPods self.old }
+        requires measured { IsMeasuredAt time self.old.scaler }
         requires room { length log.old + length self.old.throttle.admission.live ≤ 65536 }
-        ensures logged { (s : SpecValue) (c : Trace) → ArePartsOf s self.old c → log.new ≡ log.old ++ losses time c act }
+        ensures logged { (s : SpecValue) (c : Trace) → ArePartsOf s self.old c → Holds (IsProper s) c (losses time c act) → log.new ≡ log.old ++ losses time c act }
         ensures stands { (s : SpecValue) (c : Trace) → ArePartsOf s self.old c → Holds (IsProper s) c (losses time c act) → ArePartsOf s self.new (c ++ losses time c act) }
         ensures nobody { AddsNobody time self.old.throttle self.new.throttle }
         ensures created { self.new.pods.created ≡ self.old.pods.created }
         ensures alone { IsAlone self.new.throttle.admission act }
+        ensures pods { self.new.throttle.admission.pods ≡ self.old.throttle.admission.pods }
+        ensures measured { IsMeasuredAt time self.new.scaler }
         ensures room { length log.new + length self.new.throttle.admission.live ≤ length log.old + length self.old.throttle.admission.live }
     {
-        row_laws();
         append_laws();
         walk_laws();
         let Act::Lost(p) = act else {
             return;
         };
         if self.pods.live(p) {
-            lose_all(&mut self.throttle, p, time, log);
+            self.lose_all(p, time, log);
         }
+    }
+
+    /// Ends each request that is at a live pod.
+    fn lose_all(&mut self, p: u64, time: u64, log: &mut EntryLog)
+        requires some { IsReadyFor (λ s c. losing time p c) self.old }
+        requires there { contains p (pod_numbers self.old.throttle.admission.pods) ≡ true }
+        requires few { HasFewPods self.old }
+        requires measured { IsMeasuredAt time self.old.scaler }
+        requires room { length log.old + length self.old.throttle.admission.live ≤ 65536 }
+        ensures logged { (s : SpecValue) (c : Trace) → ArePartsOf s self.old c → Holds (IsProper s) c (losing time p c) → log.new ≡ log.old ++ losing time p c }
+        ensures stands { (s : SpecValue) (c : Trace) → ArePartsOf s self.old c → Holds (IsProper s) c (losing time p c) → ArePartsOf s self.new (c ++ losing time p c) }
+        ensures nobody { AddsNobody time self.old.throttle self.new.throttle }
+        ensures created { self.new.pods.created ≡ self.old.pods.created }
+        ensures none { placed_in (is_at p) self.new.throttle.admission.live ≡ [] }
+        ensures pods { self.new.throttle.admission.pods ≡ self.old.throttle.admission.pods }
+        ensures measured { IsMeasuredAt time self.new.scaler }
+        ensures room { length log.new + length self.new.throttle.admission.live ≤ length log.old + length self.old.throttle.admission.live }
+    {
+        row_laws();
+        time_laws();
+        walk_laws();
+        while let Some(r) = self.throttle.first_at(p) {
+            let row = Row::LostRequest(r);
+            self.measure(row, r);
+            self.throttle.lose(r);
+            log.put(Entry { time, row });
+        }
+    }
+
+    /// As many pods as are wanted, of this limit.
+    fn scale(&mut self, want: u64, limit: u64, time: u64, log: &mut EntryLog)
+        requires some { ∥ ((c : Trace) × AreInRange self.old.throttle.spec × ArePartsOf self.old.throttle.spec self.old c) ∥₁ }
+        requires limit { limit ≡ self.old.throttle.spec.cc }
+        requires want { want ≤ 500 }
+        requires draining { length self.old.pods.draining ≤ 20000 }
+        requires created { self.old.pods.created + 500 ≤ 2 ^ 63 }
+        requires measured { IsMeasuredAt time self.old.scaler }
+        requires room { length log.old ≤ 65036 }
+        ensures logged { (s : SpecValue) (c : Trace) → ArePartsOf s self.old c → log.new ≡ log.old ++ scale_rows s time c want }
+        ensures stands { (s : SpecValue) (c : Trace) → ArePartsOf s self.old c → ArePartsOf s self.new (c ++ scale_rows s time c want) }
+        ensures nobody { AddsNobody time self.old.throttle self.new.throttle }
+        ensures scaler { self.new.scaler ≡ self.old.scaler }
+        ensures created { self.new.pods.created ≤ self.old.pods.created + 500 }
+        ensures most { length log.new ≤ length log.old + 500 }
+    {
+        row_laws();
+        append_laws();
+        time_laws();
+        walk_laws();
+        kind_laws();
+        quiet_laws();
+        size_laws();
+        let before = log.entries().len();
+        self.pods.apply(want, limit, time, log);
+        follow_behind(&mut self.throttle, log, before);
     }
 
     /// At last, what follows without a further act.
     fn settle(&mut self, time: u64, log: &mut EntryLog)
-        requires some { ArePartsOfSome self.old }
+        requires some { IsReadyFor (λ s c. settling s time c) self.old }
+        requires few { HasFewPods self.old }
+        requires measured { IsMeasuredAt time self.old.scaler }
         requires room { length log.old ≤ 20600 }
         ensures logged { (s : SpecValue) (c : Trace) → ArePartsOf s self.old c → log.new ≡ log.old ++ settling s time c }
         ensures stands { (s : SpecValue) (c : Trace) → ArePartsOf s self.old c → Holds (IsProper s) c (settling s time c) → ArePartsOf s self.new (c ++ settling s time c) }
         ensures nobody { AddsNobody time self.old.throttle self.new.throttle }
         ensures created { self.new.pods.created ≡ self.old.pods.created }
+        ensures measured { IsMeasuredAt time self.new.scaler }
         ensures few { length log.new ≤ length log.old + 40500 }
     {
         row_laws();
-        part_laws();
+        append_laws();
+        kind_laws();
         let before = log.entries().len();
         self.throttle.settle(time, log);
         remove_behind(&mut self.pods, log, before);
+        scaling::rows_behind(&mut self.scaler, log, before);
     }
 }

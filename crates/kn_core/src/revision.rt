@@ -4,7 +4,7 @@ ghost use Rattle.kn_trace.specs.Events.{need_of, opening, react, told_of};
 ghost use Rattle.kn_event.specs.declared.event.Event.{Event as EventValue};
 ghost use Rattle.kn_trace.specs.Laws.{IsInert, IsLawful, IsSettled};
 ghost use Rattle.kn_trace.specs.Trace.{Trace, arrivals, live, next_starting, proxied, stand_of};
-ghost use Rattle.kn_core.specs.State.{IsAmongLive, IsFixed, StandsFor, StandsForSome};
+ghost use Rattle.kn_core.specs.State.{IsAmongLive, StandsFor, StandsForSome};
 ghost use Rattle.kn_core.specs.Steps.{IsWithinRange};
 
 use crate::parts::Parts;
@@ -15,7 +15,7 @@ use kn_sizes::sizes::{count_laws, entry_laws, growth_laws, size_laws};
 use std::alloc::Global;
 use std::marker::Model;
 
-/// A revision: what the activator and the pods do at each event. Only `new` takes memory.
+/// A revision: what the activator, the pods and the autoscaler do at each event. Only `new` takes memory.
 ///
 /// Contracts say for which traces it stands: those that some events made, as many as it took, from its start up to its
 /// clock. Times are in milliseconds, at most 2^42.
@@ -39,8 +39,8 @@ impl Model for Revision {
 }
 
 impl Revision {
-    /// Opens a fixed revision at the start, with all the memory that it will ever have. The log becomes its opening: its
-    /// pods' entries.
+    /// Opens a revision at the start, with all the memory that it will ever have. The log becomes its opening: its pods'
+    /// entries, and the phase of one that scales.
     pub fn new(
         alloc: Global,
         spec: Spec,
@@ -49,7 +49,6 @@ impl Revision {
     ) -> Result<Revision, Memory>
         requires empty { log.old ≡ [] }
         requires times { start ≤ 2 ^ 42 }
-        requires fixed { IsFixed spec.kind }
         ensures stands { IfOk result (λ r. StandsFor r (opening spec start)) }
         ensures spec { IfOk result (λ r. r.spec ≡ spec) }
         ensures start { IfOk result (λ r. r.start ≡ start) }
@@ -101,9 +100,17 @@ impl Revision {
         entry_laws();
         growth_laws();
         append_laws();
+        let limit = self.limit();
         self.clock = e.time;
         self.events += 1;
-        self.parts.react(e, log)
+        self.parts.react(e, limit, log)
+    }
+
+    /// The limit of its new pods.
+    fn limit(&self) -> u64
+        ensures { result ≡ self.now.spec.cc }
+    {
+        self.spec.cc
     }
 
     /// Where a request stands: unknown where it has not arrived, ended where it has ended or was refused. Else it is live.

@@ -11,7 +11,8 @@ ghost use Rattle.kn_core.specs.State.{ArePartsOf, ArePartsOfSome};
 ghost use Rattle.kn_core.specs.Steps.{AddsRow, IsAlone, IsWithinRange};
 
 use super::Parts;
-use kn_event::{Act, Event, Mode, Row};
+use crate::scaling;
+use kn_event::{Act, Event, Row};
 use kn_pods::PodAnswer;
 use kn_pods::laws::row_laws;
 use kn_record::append::append_laws;
@@ -26,7 +27,8 @@ impl Parts {
         ensures adds { AddsRow time result self.old self.new }
     {
         let r = self.throttle.arrivals();
-        let answer = self.throttle.arrive(r, time, Mode::Proxy);
+        let mode = scaling::mode(&self.scaler);
+        let answer = self.throttle.arrive(r, time, mode);
         row_of_arrival(r, tag, answer)
     }
 

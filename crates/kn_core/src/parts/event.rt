@@ -1,30 +1,46 @@
 //! One event, part by part, and what it is told.
-ghost use Rattle.std.specs.Prelude.{◌≡◌, ◌+◌, ◌<◌, ◌≤◌, ◌^◌, [], ◌++◌, length};
+ghost use Rattle.std.specs.Prelude.{◌≡◌, ℕ, ◌+◌, ◌<◌, ◌≤◌, ◌^◌, [], ◌∷◌, ◌++◌, length, Some, true};
+ghost use Rattle.kn_event.specs.Revision.{AreInRange};
+ghost use Rattle.kn_event.specs.declared.entry.Phase.TheVariants as phase;
+ghost use Rattle.kn_event.specs.declared.entry.Row.TheVariants as row;
 ghost use Rattle.kn_event.specs.declared.revision.Spec.{Spec as SpecValue};
 ghost use Rattle.kn_trace.specs.Events.{act_row, departures, entries_of, react, told_of, told_row, told_stand};
-ghost use Rattle.kn_trace.specs.Trace.{Trace};
+ghost use Rattle.kn_trace.specs.Laws.{IsSettled};
+ghost use Rattle.kn_trace.specs.Scale.{is_same_phase, phase_of, where_true};
+ghost use Rattle.kn_trace.specs.Trace.{Trace, entry};
+ghost use Rattle.kn_laws.specs.Kinds.{is_act_row};
+ghost use Rattle.kn_pods.specs.Pods.{StandsFor as ArePodsOf};
 ghost use Rattle.kn_record.specs.Made.{Holds, IsProper};
 ghost use Rattle.kn_record.specs.Order.{AreTimed};
-ghost use Rattle.kn_core.specs.State.{ArePartsOf, ArePartsOfSome, IsFixed};
-ghost use Rattle.kn_core.specs.Steps.{AddsNobody, IsAlone, IsWithinRange};
+ghost use Rattle.kn_scaler.specs.Rows.{ready_rows};
+ghost use Rattle.kn_core.specs.Scaling.{IsNextIn, IsNextInSome};
+ghost use Rattle.kn_core.specs.State.{ArePartsOf, ArePartsOfSome, IsMeasuredAt, IsMeasuredBy, IsScalerOf};
+ghost use Rattle.kn_core.specs.Steps.{AddsNobody, ArePartsOfSettled, HasFewPods, IsAlone, IsReadyFor, IsWithinRange, ending_of, woken};
 
 use super::Parts;
-use kn_event::{Entry, EntryLog, Event, Row, Stand, Told};
+use crate::scaling;
+use kn_event::{Act, Entry, EntryLog, Event, Phase, Row, Stand, Told};
 use kn_laws::parts::part_laws;
 use kn_pods::laws::row_laws;
 use kn_record::append::{append_laws, time_laws, walk_laws};
+use kn_record::facts::fact_laws;
+use kn_scaler::laws::kind_laws;
+use kn_sizes::sizes::{entry_laws, size_laws};
 
 impl Parts {
     /// All that end before the act's own row.
     fn depart(&mut self, e: &Event, log: &mut EntryLog)
         requires some { ArePartsOfSome self.old }
+        requires few { HasFewPods self.old }
+        requires measured { IsMeasuredAt e.now.time self.old.scaler }
         requires room { length log.old + length self.old.throttle.admission.live ≤ 65536 }
         ensures logged { (s : SpecValue) (c : Trace) → ArePartsOf s self.old c → log.new ≡ log.old ++ departures s c e.now }
         ensures stands { (s : SpecValue) (c : Trace) → ArePartsOf s self.old c → ArePartsOf s self.new (c ++ departures s c e.now) }
-        ensures some { ArePartsOfSome self.new }
         ensures nobody { AddsNobody e.now.time self.old.throttle self.new.throttle }
         ensures created { self.new.pods.created ≡ self.old.pods.created }
         ensures alone { IsAlone self.new.throttle.admission e.now.act }
+        ensures few { HasFewPods self.new }
+        ensures measured { IsMeasuredAt e.now.time self.new.scaler }
         ensures room { length log.new + length self.new.throttle.admission.live ≤ length log.old + length self.old.throttle.admission.live }
     {
         walk_laws();
@@ -32,30 +48,81 @@ impl Parts {
         self.lose(e.act, e.time, log);
     }
 
-    /// The act's own row, and what it changes.
+    /// The act's own row, and what it changes. With the row of the first Ready pod that a revision waited for, it is active.
     fn take(&mut self, e: &Event, log: &mut EntryLog) -> Option<Row>
-        requires room { length log.old < 65536 }
-        requires some { ArePartsOfSome self.old }
-        requires few { self.old.throttle.admission.arrivals < 2 ^ 54 }
+        requires room { length log.old + 2 ≤ 65536 }
+        requires some { IsReadyFor (λ s c. entries_of e.now.time (act_row s c e.now.act)) self.old }
+        requires arrivals { self.old.throttle.admission.arrivals < 2 ^ 54 }
         requires timed { AreTimed e.now.time self.old.throttle.admission }
         requires range { IsWithinRange e.now.act }
         requires alone { IsAlone self.old.throttle.admission e.now.act }
+        requires few { HasFewPods self.old }
+        requires measured { IsMeasuredAt e.now.time self.old.scaler }
         ensures row { (s : SpecValue) (c : Trace) → ArePartsOf s self.old c → act_row s c e.now.act ≡ result }
-        ensures logged { log.new ≡ log.old ++ entries_of e.now.time result }
-        ensures stands { (s : SpecValue) (c : Trace) → ArePartsOf s self.old c → Holds (IsProper s) c (entries_of e.now.time result) → ArePartsOf s self.new (c ++ entries_of e.now.time result) }
+        ensures logged { (s : SpecValue) (c : Trace) → ArePartsOf s self.old c → Holds (IsProper s) c (entries_of e.now.time result)
+            → log.new ≡ log.old ++ (entries_of e.now.time result ++ woken result e.now.time (c ++ entries_of e.now.time result)) }
+        ensures stands { (s : SpecValue) (c : Trace) → ArePartsOf s self.old c → Holds (IsProper s) c (entries_of e.now.time result)
+            → ArePartsOf s self.new ((c ++ entries_of e.now.time result) ++ woken result e.now.time (c ++ entries_of e.now.time result)) }
         ensures spec { self.new.throttle.spec ≡ self.old.throttle.spec }
         ensures timed { AreTimed e.now.time self.new.throttle.admission }
         ensures created { self.new.pods.created ≡ self.old.pods.created }
+        ensures few { HasFewPods self.new }
+        ensures measured { IsMeasuredAt e.now.time self.new.scaler }
+        ensures most { length log.new ≤ length log.old + 2 }
     {
         row_laws();
         append_laws();
         time_laws();
         part_laws();
+        let r = ending(e.act);
+        let stand = self.throttle.stand(r);
+        let proxied = self.throttle.proxied(r);
         let row = self.act(e);
         if let Some(row) = row {
             log.put(Entry { time: e.time, row });
+            self.hear(row, stand, proxied, e.time, log);
         }
         row
+    }
+
+    /// What an act's own row is to the autoscaler, once the others have taken it.
+    fn hear(&mut self, row: Row, stand: Stand, proxied: bool, time: u64, log: &mut EntryLog)
+        requires next { IsNextInSome self.old.scaler row stand proxied }
+        requires measured { IsMeasuredAt time self.old.scaler }
+        requires room { length log.old < 65536 }
+        ensures throttle { self.new.throttle ≡ self.old.throttle }
+        ensures pods { self.new.pods ≡ self.old.pods }
+        ensures logged { (s : SpecValue) (c : Trace) → IsNextIn self.old.scaler row stand proxied s c → log.new ≡ log.old ++ woken (Some row) time (c ++ entry time row ∷ []) }
+        ensures scaler { (s : SpecValue) (c : Trace) → is_act_row row ≡ true → ArePodsOf self.old.pods (c ++ entry time row ∷ []) → IsNextIn self.old.scaler row stand proxied s c
+            → IsScalerOf s self.new.scaler ((c ++ entry time row ∷ []) ++ woken (Some row) time (c ++ entry time row ∷ [])) }
+        ensures measured { IsMeasuredAt time self.new.scaler }
+        ensures most { length log.new ≤ length log.old + 1 }
+    {
+        row_laws();
+        match row {
+            Row::Ready(_) => self.activate(time, log),
+            _ => scaling::row(&mut self.scaler, row, stand, proxied),
+        }
+    }
+
+    /// A pod is Ready. A revision that waited for its first one is active from then on.
+    fn activate(&mut self, time: u64, log: &mut EntryLog)
+        requires measured { IsMeasuredAt time self.old.scaler }
+        requires room { length log.old < 65536 }
+        ensures throttle { self.new.throttle ≡ self.old.throttle }
+        ensures pods { self.new.pods ≡ self.old.pods }
+        ensures logged { (s : SpecValue) (c : Trace) → IsScalerOf s self.old.scaler c → log.new ≡ log.old ++ where_true (is_same_phase phase.Activating (phase_of c)) (entry time (row.Phase phase.Active) ∷ []) }
+        ensures scaler { (s : SpecValue) (c : Trace) (p : ℕ) → ArePodsOf self.old.pods (c ++ entry time (row.Ready p) ∷ []) → IsScalerOf s self.old.scaler c → IsScalerOf s self.new.scaler (c ++ ready_rows time c p) }
+        ensures measured { IsMeasuredAt time self.new.scaler }
+        ensures most { length log.new ≤ length log.old + 1 }
+    {
+        let ready = self.pods.count_ready();
+        if scaling::pod_ready(&mut self.scaler, time, ready) {
+            log.put(Entry {
+                time,
+                row: Row::Phase(Phase::Active),
+            });
+        }
     }
 
     /// What an event is told by its act's own row, after all of its rows.
@@ -78,27 +145,51 @@ impl Parts {
         }
     }
 
-    /// One event of a revision that doesn't scale: the log becomes its rows, and the answer is what it is told.
-    pub(crate) fn react(&mut self, e: &Event, log: &mut EntryLog) -> Told
+    /// One event: the log becomes its rows, and the answer is what it is told.
+    pub(crate) fn react(&mut self, e: &Event, limit: u64, log: &mut EntryLog) -> Told
         requires empty { log.old ≡ [] }
-        requires some { ArePartsOfSome self.old }
-        requires fixed { IsFixed self.old.throttle.spec.kind }
+        requires some { ArePartsOfSettled self.old }
+        requires ranges { AreInRange self.old.throttle.spec }
+        requires limit { limit ≡ self.old.throttle.spec.cc }
+        requires order { IsMeasuredBy e.now.time self.old.scaler }
+        requires times { e.now.time ≤ 2 ^ 42 }
         requires few { length self.old.throttle.admission.live ≤ 20000 }
         requires arrivals { self.old.throttle.admission.arrivals < 2 ^ 54 }
         requires timed { AreTimed e.now.time self.old.throttle.admission }
         requires range { IsWithinRange e.now.act }
-        ensures logged { (s : SpecValue) (c : Trace) → ArePartsOf s self.old c → log.new ≡ react s c e.now }
-        ensures stands { (s : SpecValue) (c : Trace) → ArePartsOf s self.old c → ArePartsOf s self.new (c ++ react s c e.now) }
-        ensures told { (s : SpecValue) (c : Trace) → ArePartsOf s self.old c → result ≡ told_of s c e.now }
+        requires created { self.old.pods.created + 500 ≤ 2 ^ 63 }
+        ensures logged { (s : SpecValue) (c : Trace) → ArePartsOf s self.old c → IsSettled s c → log.new ≡ react s c e.now }
+        ensures stands { (s : SpecValue) (c : Trace) → ArePartsOf s self.old c → IsSettled s c → ArePartsOf s self.new (c ++ react s c e.now) }
+        ensures told { (s : SpecValue) (c : Trace) → ArePartsOf s self.old c → IsSettled s c → result ≡ told_of s c e.now }
         ensures spec { self.new.throttle.spec ≡ self.old.throttle.spec }
         ensures timed { AreTimed e.now.time self.new.throttle.admission }
         ensures created { self.new.pods.created ≤ self.old.pods.created + 500 }
+        ensures measured { IsMeasuredAt e.now.time self.new.scaler }
     {
+        append_laws();
         walk_laws();
+        fact_laws();
+        part_laws();
+        row_laws();
+        kind_laws();
+        size_laws();
+        entry_laws();
+        self.advance(e.time);
         self.depart(e, log);
-        let row = self.take(e, log);
+        let own = self.take(e, log);
+        let decided = self.decide(e.act, own, limit, e.time, log);
         self.settle(e.time, log);
-        self.told(row)
+        self.told(own.or(decided))
+    }
+}
+
+/// The request that may end with an act's own row.
+fn ending(act: Act) -> u64
+    ensures { result ≡ ending_of act }
+{
+    match act {
+        Act::Finish(r, _) | Act::Cancel(r) => r,
+        _ => 0,
     }
 }
 

@@ -1,21 +1,26 @@
-//! The pods that a revision opens with.
-ghost use Rattle.std.specs.Prelude.{◌≡◌, ℕ, ◌≤◌, [], IfOk, OnOk, OnErr};
+//! What a revision opens with.
+ghost use Rattle.std.specs.Prelude.{◌≡◌, ℕ, ◌+◌, ◌<◌, ◌≤◌, ◌^◌, [], ◌++◌, length, IfOk, OnOk, OnErr};
 ghost use Rattle.kn_event.specs.Revision.{AreInRange};
 ghost use Rattle.kn_event.specs.declared.revision.Spec.{Spec as SpecValue};
-ghost use Rattle.kn_trace.specs.Events.{opening};
-ghost use Rattle.kn_trace.specs.Scale.{creations};
-ghost use Rattle.kn_record.specs.Admission.{nothing_yet};
-ghost use Rattle.kn_record.specs.Made.{StandsFor};
+ghost use Rattle.kn_trace.specs.Events.{opening, opening_phase};
+ghost use Rattle.kn_trace.specs.Scale.{opening_scale, scale_rows};
+ghost use Rattle.kn_trace.specs.Trace.{Trace};
+ghost use Rattle.kn_record.specs.Made.{StandsFor as IsRecordOf};
 ghost use Rattle.kn_record.specs.Order.{AreTimed};
-ghost use Rattle.kn_core.specs.State.{ArePartsOf, IsFixed};
+ghost use Rattle.kn_pods.specs.Pods.{StandsFor as ArePodsOf};
+ghost use Rattle.kn_core.specs.Opening.{AreBeginning, AreBeginningOfSome, first_count, first_rows};
+ghost use Rattle.kn_core.specs.State.{ArePartsOf, IsMeasuredAt};
+ghost use Rattle.kn_core.specs.Steps.{AddsNobody};
 
 use super::Parts;
-use kn_event::{EntryLog, Kind, Memory, Spec};
+use crate::rows::follow_behind;
+use crate::scaling;
+use kn_event::{Entry, EntryLog, Kind, Memory, Phase, Row, Spec};
 use kn_laws::laws::step_laws;
-use kn_laws::parts::part_laws;
 use kn_pods::Pods;
 use kn_pods::laws::row_laws;
-use kn_record::append::{append_laws, time_laws};
+use kn_record::append::{append_laws, time_laws, walk_laws};
+use kn_sizes::sizes::size_laws;
 use kn_throttle::Throttle;
 use std::alloc::Global;
 
@@ -28,10 +33,10 @@ impl Parts {
         log: &mut EntryLog,
     ) -> Result<Parts, Memory>
         requires empty { log.old ≡ [] }
-        requires fixed { IsFixed spec.now.kind }
         ensures stands { IfOk result (λ x. ArePartsOf spec.now x (opening spec.now start)) }
         ensures timed { IfOk result (λ x. AreTimed start x.throttle.admission) }
         ensures created { IfOk result (λ x. x.pods.created ≤ 500) }
+        ensures measured { IfOk result (λ x. IsMeasuredAt start x.scaler) }
         ensures logged { OnOk result (log.new ≡ opening spec.now start) }
         ensures ranges { OnOk result (AreInRange spec.now) }
         ensures err { OnErr result (log.new ≡ []) }
@@ -42,27 +47,86 @@ impl Parts {
         step_laws();
         let mut throttle = Throttle::new(alloc, spec)?;
         let mut pods = Pods::new(alloc)?;
-        if let Kind::Fixed(count) = spec.kind {
-            pods.apply(count, spec.cc, start, log);
-            create_all(&mut throttle, count, spec.cc, start);
-        }
-        Ok(Parts { throttle, pods })
+        let scaler = scaling::open(alloc, spec, start)?;
+        let count = count_of(spec);
+        begin(spec, start, log);
+        create(&mut throttle, &mut pods, count, spec.cc, start, log);
+        Ok(Parts {
+            throttle,
+            pods,
+            scaler,
+        })
     }
 }
 
-/// Creates so many pods of this limit.
-fn create_all(throttle: &mut Throttle, count: u64, limit: u64, start: u64)
-    requires nothing { throttle.old.admission ≡ nothing_yet }
-    requires count { count ≤ 500 }
-    requires limit { limit ≤ 1000 }
-    ensures stands { (s : SpecValue) → s.cc ≡ limit → StandsFor throttle.new.admission (creations s start 0 count) }
-    ensures spec { throttle.new.spec ≡ throttle.old.spec }
-    ensures timed { AreTimed start throttle.new.admission }
-    ensures created { throttle.new.admission.created ≡ count }
+/// How many pods it opens with.
+fn count_of(spec: &Spec) -> u64
+    ensures value { result ≡ first_count spec.now.kind spec.now }
+    ensures few { result ≤ 500 }
 {
-    append_laws();
-    time_laws();
-    for p in 0..count {
-        throttle.create(p, limit);
+    match spec.kind {
+        Kind::Fixed(count) => count,
+        Kind::Kpa => scale_of(spec),
     }
+}
+
+/// The scale that one that scales opens with.
+fn scale_of(spec: &Spec) -> u64
+    ensures value { result ≡ opening_scale spec.now }
+    ensures few { result ≤ 500 }
+{
+    spec.initial.max(spec.min)
+}
+
+/// The phase that it opens with, if it scales.
+fn begin(spec: &Spec, start: u64, log: &mut EntryLog)
+    requires { length log.old < 65536 }
+    ensures { log.new ≡ log.old ++ first_rows spec.now.kind spec.now start }
+{
+    match spec.kind {
+        Kind::Fixed(_) => {}
+        Kind::Kpa => log.put(Entry {
+            time: start,
+            row: Row::Phase(phase_of(scale_of(spec))),
+        }),
+    }
+}
+
+fn phase_of(scale: u64) -> Phase
+    ensures { result ≡ opening_phase scale }
+{
+    if scale == 0 {
+        Phase::Inactive
+    } else {
+        Phase::Activating
+    }
+}
+
+/// Creates its pods.
+fn create(
+    throttle: &mut Throttle,
+    pods: &mut Pods,
+    count: u64,
+    limit: u64,
+    time: u64,
+    log: &mut EntryLog,
+)
+    requires some { AreBeginningOfSome limit throttle.old.admission pods.old }
+    requires count { count ≤ 500 }
+    requires draining { length pods.old.draining ≤ 20000 }
+    requires created { pods.old.created + 500 ≤ 2 ^ 63 }
+    requires room { length log.old ≤ 65036 }
+    ensures logged { (s : SpecValue) (c : Trace) → AreBeginning s limit throttle.old.admission pods.old c → log.new ≡ log.old ++ scale_rows s time c count }
+    ensures admission { (s : SpecValue) (c : Trace) → AreBeginning s limit throttle.old.admission pods.old c → IsRecordOf throttle.new.admission (c ++ scale_rows s time c count) }
+    ensures pods { (s : SpecValue) (c : Trace) → AreBeginning s limit throttle.old.admission pods.old c → ArePodsOf pods.new (c ++ scale_rows s time c count) }
+    ensures nobody { AddsNobody time throttle.old throttle.new }
+    ensures created { pods.new.created ≤ pods.old.created + 500 }
+{
+    row_laws();
+    append_laws();
+    walk_laws();
+    size_laws();
+    let before = log.entries().len();
+    pods.apply(count, limit, time, log);
+    follow_behind(throttle, log, before);
 }

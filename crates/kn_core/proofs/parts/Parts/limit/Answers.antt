@@ -1,7 +1,7 @@
 use Rattle.std.proofs.Common.{◌≡◌, refl, true, false, rules, sym, subst, ◌∙◌}
 use Rattle.kn_core.specs.State.{ArePartsOf, ArePartsOfSome, PartsState}
 use Rattle.kn_core.proofs.Acts.{limit_row}
-use Rattle.kn_core.proofs.Events.{live_there}
+use Rattle.kn_core.proofs.Live.{live_there}
 use Rattle.kn_core.proofs.parts.Parts.limit.Goals as goal
 
 pub set_limit-requires-clause-there : goal.set_limit-requires-clause-there
@@ -22,4 +22,4 @@ returns-else-live-clause-row c = λ s d h.
     limit_row s d c.args.p c.args.n false (sym live ∙ c.live.ensures.trace s d k.made k.pods)
 
 pub returns-then-live-clause-adds : goal.returns-then-live-clause-adds
-returns-then-live-clause-adds c = λ t. record { throttle = rw (c.set_limit.ensures.after t, ← c.self.view_is) refl; pods = rw (← c.self.view_is) refl }
+returns-then-live-clause-adds c = λ t. record { throttle = rw (c.set_limit.ensures.after t, ← c.self.view_is) refl; scaler = rw (← c.self.view_is) refl; pods = rw (← c.self.view_is) refl }

@@ -1,6 +1,6 @@
 use Rattle.std.proofs.Common.{◌∙◌, sym, subst}
 use Rattle.kn_core.specs.State.{ArePartsOf, PartsState}
-use Rattle.kn_core.proofs.Events.{live_same}
+use Rattle.kn_core.proofs.Live.{live_same}
 use Rattle.kn_core.proofs.parts.Parts.live.Goals as goal
 
 pub returns-clause-live : goal.returns-clause-live

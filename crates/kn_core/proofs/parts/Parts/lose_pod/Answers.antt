@@ -3,7 +3,7 @@ use Rattle.kn_event.specs.declared.event.Act.TheVariants as act
 use Rattle.kn_trace.specs.Events.{act_row}
 use Rattle.kn_pods.specs.Pods.{lost_row}
 use Rattle.kn_core.specs.State.{ArePartsOf, ArePartsOfSome, PartsState}
-use Rattle.kn_core.proofs.Events.{live_there}
+use Rattle.kn_core.proofs.Live.{live_there}
 use Rattle.kn_core.proofs.parts.Parts.lose_pod.Goals as goal
 
 pub lose_pod-requires-clause-there : goal.lose_pod-requires-clause-there
@@ -29,4 +29,4 @@ pub lose_pod-requires-clause-none : goal.lose_pod-requires-clause-none
 lose_pod-requires-clause-none c = let alone = rw (← c.self.view_is) at c.requires.alone in alone (lose_pod-requires-clause-there c)
 
 pub returns-then-lost-clause-adds : goal.returns-then-lost-clause-adds
-returns-then-lost-clause-adds c = λ t. record { throttle = rw (c.lose_pod.ensures.after t, ← c.self.view_is) refl; pods = let lost : c.lost.result ≡ true = search rules in rw (c.lost.ensures.changed, lost, ← c.self.view_is) refl }
+returns-then-lost-clause-adds c = λ t. record { throttle = rw (c.lose_pod.ensures.after t, ← c.self.view_is) refl; scaler = rw (← c.self.view_is) refl; pods = let lost : c.lost.result ≡ true = search rules in rw (c.lost.ensures.changed, lost, ← c.self.view_is) refl }

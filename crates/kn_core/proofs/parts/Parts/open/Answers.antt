@@ -1,42 +1,55 @@
-use Rattle.std.proofs.Common.{◌∙◌, [], sym, ap, arith}
+use Rattle.std.proofs.Common.{◌≡◌, ◌∙◌, ◌++◌, [], refl, sym, ap, subst, arith, List, length}
+use Rattle.kn_event.specs.declared.entry.Entry.{Entry}
 use Rattle.kn_event.specs.declared.revision.Spec.{Spec}
+use Rattle.kn_trace.specs.Scale.{scale_rows}
+use Rattle.kn_trace.specs.Trace.{Trace}
+use Rattle.kn_record.specs.Made.{StandsFor as IsRecordOf}
+use Rattle.kn_record.specs.Order.{AreTimed}
+use Rattle.kn_pods.specs.Pods.{StandsFor as ArePodsOf}
 use Rattle.kn_throttle.specs.State.{State}
-use Rattle.kn_core.proofs.Openings.{opened, opened_created, opening_fixed, scaled_none, scale_of_none}
+use Rattle.kn_core.specs.Opening.{first_rows}
+use Rattle.kn_core.proofs.Openings.{beginning, nothing_created, nothing_drains, opening_rows}
 use Rattle.kn_core.proofs.parts.Parts.open.Goals as goal
-use Rattle.kn_core.proofs.parts.Parts.open.Goals.{in-Fixed, in_default}
+
+pub create-requires-clause-some : goal.create-requires-clause-some
+create-requires-clause-some c =
+    let s = c.args.spec.now in
+    ∣ (
+      s,
+      first_rows s.kind s c.args.start,
+      beginning c.append_laws.ensures.nothing c.append_laws.ensures.append c.row_laws.ensures.stands s c.args.start _ _ _ (rw (← c.spec.view_is) c.spec.invariant.ranges) (ap (λ (x : Spec). x.cc) (sym c.spec.view_is)) (ap (λ (y : State). y.admission) c.in_ok-throttle.ensures) c.in_ok-pods.ensures,
+    ) ∣₁
+
+pub create-requires-clause-draining : goal.create-requires-clause-draining
+create-requires-clause-draining c = let none = nothing_drains _ c.in_ok-pods.ensures in omega (arith, none)
+
+pub create-requires-clause-created : goal.create-requires-clause-created
+create-requires-clause-created c = let none = nothing_created _ c.in_ok-pods.ensures in omega (arith, none)
 
 pub returns-clause-stands : goal.returns-clause-stands
 returns-clause-stands c =
     let s = c.args.spec.now in
-    elim c.match-spec.branch [
-      | in-Fixed w ↦
-          let fixed = ap (λ (x : Spec). x.kind) (sym c.spec.view_is) ∙ w.in-Fixed.is in
-          let cc = ap (λ (x : Spec). x.cc) (sym c.spec.view_is) in
-          let spec = w.create_all.ensures.spec ∙ ap (λ (x : State). x.spec) c.in_ok-throttle.ensures in
-          rw (w.throttle-is, w.pods-is)
-          (opened s c.args.start w.in-Fixed.count _ fixed spec (c.step_laws.ensures.opening s c.args.start) (w.create_all.ensures.stands s cc) (w.apply.ensures.stands s [] (record { rows = tt }) c.in_ok-pods.ensures cc))
-      | in_default w ↦ absurd (scaled_none s.kind c.requires.fixed (λ n e. w.in_default.not-Fixed n (ap (λ (x : Spec). x.kind) c.spec.view_is ∙ e)))
-    ]
+    let b = beginning c.append_laws.ensures.nothing c.append_laws.ensures.append c.row_laws.ensures.stands s c.args.start _ _ _ (rw (← c.spec.view_is) c.spec.invariant.ranges) (ap (λ (x : Spec). x.cc) (sym c.spec.view_is)) (ap (λ (y : State). y.admission) c.in_ok-throttle.ensures) c.in_ok-pods.ensures in
+    let rows = opening_rows s c.args.start _ _ c.count_of-count.ensures.value c.in_ok-pods.ensures b.pods in
+    record {
+      spec = c.create.ensures.nobody.spec ∙ ap (λ (y : State). y.spec) c.in_ok-throttle.ensures;
+      made = c.step_laws.ensures.opening s c.args.start;
+      admission = subst (IsRecordOf c.create.new.throttle.admission) (sym rows) (c.create.ensures.admission s (first_rows s.kind s c.args.start) b);
+      pods = subst (ArePodsOf c.create.new.pods) (sym rows) (c.create.ensures.pods s (first_rows s.kind s c.args.start) b);
+      scaler = c.in_ok-scaler.ensures.stands;
+    }
+
+pub returns-clause-timed : goal.returns-clause-timed
+returns-clause-timed c = c.create.ensures.nobody.timed (subst (λ (y : State). AreTimed c.args.start y.admission) (sym c.in_ok-throttle.ensures) (c.time_laws.ensures.nothing c.args.start))
 
 pub returns-clause-created : goal.returns-clause-created
-returns-clause-created c =
-    let s = c.args.spec.now in
-    elim c.match-spec.branch [
-      | in-Fixed w ↦
-          let fixed = ap (λ (x : Spec). x.kind) (sym c.spec.view_is) ∙ w.in-Fixed.is in
-          let few = c.spec.invariant.ranges.pods w.in-Fixed.count w.in-Fixed.is in
-          let created = opened_created c.append_laws.ensures.views s c.args.start w.in-Fixed.count _ fixed (returns-clause-stands c) (ap (λ (x : State). x.admission.created) w.throttle-is ∙ w.create_all.ensures.created) in
-          omega (arith, few, created)
-      | in_default w ↦ absurd (scaled_none s.kind c.requires.fixed (λ n e. w.in_default.not-Fixed n (ap (λ (x : Spec). x.kind) c.spec.view_is ∙ e)))
-    ]
+returns-clause-created c = let none = nothing_created _ c.in_ok-pods.ensures in omega (arith, none, c.create.ensures.created)
 
 pub returns-clause-logged : goal.returns-clause-logged
 returns-clause-logged c =
     let s = c.args.spec.now in
-    elim c.match-spec.branch [
-      | in-Fixed w ↦
-          let fixed = ap (λ (x : Spec). x.kind) (sym c.spec.view_is) ∙ w.in-Fixed.is in
-          let cc = ap (λ (x : Spec). x.cc) (sym c.spec.view_is) in
-          rw (w.log-is, w.apply.ensures.logged s [] (record { rows = tt }) c.in_ok-pods.ensures cc, c.requires.empty) (scale_of_none s c.args.start w.in-Fixed.count ∙ sym (opening_fixed s c.args.start w.in-Fixed.count fixed))
-      | in_default w ↦ absurd (scaled_none s.kind c.requires.fixed (λ n e. w.in_default.not-Fixed n (ap (λ (x : Spec). x.kind) c.spec.view_is ∙ e)))
-    ]
+    let b = beginning c.append_laws.ensures.nothing c.append_laws.ensures.append c.row_laws.ensures.stands s c.args.start _ _ _ (rw (← c.spec.view_is) c.spec.invariant.ranges) (ap (λ (x : Spec). x.cc) (sym c.spec.view_is)) (ap (λ (y : State). y.admission) c.in_ok-throttle.ensures) c.in_ok-pods.ensures in
+    let rows = opening_rows s c.args.start _ _ c.count_of-count.ensures.value c.in_ok-pods.ensures b.pods in
+    c.create.ensures.logged s (first_rows s.kind s c.args.start) b
+    ∙ ap (λ (es : List Entry). es ++ scale_rows s c.args.start (first_rows s.kind s c.args.start) c.count_of-count.result) (c.begin.ensures ∙ ap (λ (es : List Entry). es ++ first_rows s.kind s c.args.start) c.requires.empty)
+    ∙ sym rows

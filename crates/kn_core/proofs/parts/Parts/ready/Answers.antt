@@ -16,4 +16,4 @@ pod_ready-requires c =
     (λ s d made pods. subst (λ (x : PodAnswer). act_row s d (act.Ready p) ≡ Some (row_of p x)) said (c.ready.ensures.act s d made pods))
 
 pub returns-in-Done-clause-adds : goal.returns-in-Done-clause-adds
-returns-in-Done-clause-adds c = λ t. record { throttle = rw (c.pod_ready.ensures.after t, ← c.self.view_is) refl; pods = let said : c.ready.result ≡ answer.Done = search rules in rw (c.ready.ensures.changed, said, ← c.self.view_is) refl }
+returns-in-Done-clause-adds c = λ t. record { throttle = rw (c.pod_ready.ensures.after t, ← c.self.view_is) refl; scaler = rw (← c.self.view_is) refl; pods = let said : c.ready.result ≡ answer.Done = search rules in rw (c.ready.ensures.changed, said, ← c.self.view_is) refl }

@@ -1,22 +1,65 @@
-use Rattle.std.proofs.Common.{subst, Some}
+use Rattle.std.proofs.Common.{◌≡◌, ◌∙◌, ◌++◌, ◌∷◌, [], ◌≤◌, ◌+◌, refl, sym, ap, subst, arith, append_assoc, length, Some, List}
+use Rattle.kn_event.specs.declared.entry.Entry.{Entry}
+use Rattle.kn_event.specs.declared.event.Act.{Act}
+use Rattle.kn_event.specs.declared.revision.Spec.{Spec}
+use Rattle.kn_trace.specs.Events.{act_row, entries_of}
+use Rattle.kn_trace.specs.Trace.{Trace, entry, proxied, stand_of}
+use Rattle.kn_record.specs.Made.{StandsFor}
 use Rattle.kn_laws.specs.Kinds.{IsActRow}
-use Rattle.kn_core.proofs.After.{parts_row}
+use Rattle.kn_throttle.specs.State as throttle
+use Rattle.kn_core.specs.State.{ArePartsOf, PartsState}
+use Rattle.kn_core.specs.Steps.{ending_of, woken}
+use Rattle.kn_core.proofs.After.{some_of_ready}
 use Rattle.kn_core.proofs.Created.{took_created}
 use Rattle.kn_core.proofs.Openings.{timed_by_row}
+use Rattle.kn_core.proofs.Taking.{own_few, own_next, own_next_some, parts_took}
 use Rattle.kn_core.proofs.parts.Parts.take.Goals as goal
 
-pub act-row-requires-clause-order : goal.act-row-requires-clause-order
-act-row-requires-clause-order c = c.requires.timed.past
+pub act-row-requires-clause-some : goal.act-row-requires-clause-some
+act-row-requires-clause-some c = some_of_ready (λ s d. entries_of c.args.e.now.time (act_row s d c.args.e.now.act)) c.args.self.now c.requires.some
+
+pub hear-requires-clause-next : goal.hear-requires-clause-next
+hear-requires-clause-next c =
+    own_next_some c.append_laws.ensures.views c.part_laws.ensures.rows.act-facts c.args.self.now _ c.args.e.now.time c.in-Some.row c.args.e.now.act c.stand-stand.result c.proxied-proxied.result
+    c.requires.few c.in-Some.ensures.adds c.in-Some.ensures.row
+    (λ d h. c.stand-stand.ensures.stand d (subst (λ (x : PartsState). StandsFor x.throttle.admission d) (sym c.self.view_is) h) ∙ ap (stand_of d) c.ending-r.ensures)
+    (λ d h. c.proxied-proxied.ensures.proxied d (subst (λ (x : PartsState). StandsFor x.throttle.admission d) (sym c.self.view_is) h) ∙ ap (proxied d) c.ending-r.ensures)
+    c.requires.some
+
+pub returns-in-Some-clause-logged : goal.returns-in-Some-clause-logged
+returns-in-Some-clause-logged c = λ s d h proper.
+    let t = c.args.e.now.time in
+    let a = c.args.e.now.act in
+    let is_act = subst (IsActRow a) (c.in-Some.ensures.row s d h) (c.part_laws.ensures.rows.act-facts s d a) in
+    let k = subst (λ (x : PartsState). ArePartsOf s x d) (sym c.self.view_is) h in
+    let next = own_next c.args.self.now _ t c.in-Some.row a c.stand-stand.result c.proxied-proxied.result s d is_act c.in-Some.ensures.adds h proper.0
+    (c.stand-stand.ensures.stand d k.admission ∙ ap (stand_of d) c.ending-r.ensures) (c.proxied-proxied.ensures.proxied d k.admission ∙ ap (proxied d) c.ending-r.ensures) in
+    c.hear.ensures.logged s d next
+    ∙ ap (λ (es : List Entry). es ++ woken (Some c.in-Some.row) t (d ++ entry t c.in-Some.row ∷ [])) c.put.ensures
+    ∙ append_assoc c.args.log.now (entry t c.in-Some.row ∷ []) (woken (Some c.in-Some.row) t (d ++ entry t c.in-Some.row ∷ []))
 
 pub returns-in-Some-clause-stands : goal.returns-in-Some-clause-stands
 returns-in-Some-clause-stands c = λ s d h proper.
+    let t = c.args.e.now.time in
     let a = c.args.e.now.act in
     let is_act = subst (IsActRow a) (c.in-Some.ensures.row s d h) (c.part_laws.ensures.rows.act-facts s d a) in
-    parts_row c.row_laws.ensures.made c.row_laws.ensures.stands c.append_laws.ensures.append s d c.args.e.now.time _ _ c.in-Some.row is_act.0 c.in-Some.ensures.adds proper.0 h
+    let k = subst (λ (x : PartsState). ArePartsOf s x d) (sym c.self.view_is) h in
+    let next = own_next c.args.self.now _ t c.in-Some.row a c.stand-stand.result c.proxied-proxied.result s d is_act c.in-Some.ensures.adds h proper.0
+    (c.stand-stand.ensures.stand d k.admission ∙ ap (stand_of d) c.ending-r.ensures) (c.proxied-proxied.ensures.proxied d k.admission ∙ ap (proxied d) c.ending-r.ensures) in
+    parts_took c.row_laws.ensures.made c.row_laws.ensures.stands c.append_laws.ensures.append s d t c.in-Some.row c.args.self.now c.act-row.new.self c.hear.new.self proper.0 c.in-Some.ensures.adds
+    c.hear.ensures.throttle c.hear.ensures.pods (λ pods. c.hear.ensures.scaler s d is_act.0 pods next) h
 
 pub returns-in-Some-clause-timed : goal.returns-in-Some-clause-timed
-returns-in-Some-clause-timed c = timed_by_row c.time_laws.ensures.step c.args.e.now.time c.in-Some.row _ _ c.in-Some.ensures.adds.throttle c.requires.timed
+returns-in-Some-clause-timed c = timed_by_row c.time_laws.ensures.step c.args.e.now.time c.in-Some.row _ _ (c.hear.ensures.throttle ∙ c.in-Some.ensures.adds.throttle) c.requires.timed
 
 pub returns-in-Some-clause-created : goal.returns-in-Some-clause-created
 returns-in-Some-clause-created c =
-    took_created c.part_laws.ensures.rows.act-facts c.args.e.now.act c.args.e.now.time (Some c.in-Some.row) _ _ c.requires.some c.in-Some.ensures.row c.in-Some.ensures.adds tt
+    let some = some_of_ready (λ s d. entries_of c.args.e.now.time (act_row s d c.args.e.now.act)) c.args.self.now c.requires.some in
+    ap (λ p. p.created) c.hear.ensures.pods
+    ∙ took_created c.part_laws.ensures.rows.act-facts c.args.e.now.act c.args.e.now.time (Some c.in-Some.row) c.args.self.now c.act-row.new.self some c.in-Some.ensures.row c.in-Some.ensures.adds tt
+
+pub returns-in-Some-clause-few : goal.returns-in-Some-clause-few
+returns-in-Some-clause-few c =
+    let some = some_of_ready (λ s d. entries_of c.args.e.now.time (act_row s d c.args.e.now.act)) c.args.self.now c.requires.some in
+    subst (λ (y : throttle.State). length y.admission.pods ≤ 20500) (sym c.hear.ensures.throttle)
+    (own_few c.part_laws.ensures.rows.act-facts c.args.self.now c.act-row.new.self c.args.e.now.time c.in-Some.row c.args.e.now.act c.requires.few c.in-Some.ensures.adds c.in-Some.ensures.row some)

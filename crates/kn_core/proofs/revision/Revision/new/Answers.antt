@@ -1,5 +1,6 @@
 use Rattle.std.proofs.Common.{arith}
 use Rattle.kn_trace.specs.Events.{opening}
+use Rattle.kn_core.proofs.Runs.{at_least}
 use Rattle.kn_core.proofs.revision.Revision.new.Goals as goal
 
 pub returns-clause-stands : goal.returns-clause-stands
@@ -8,9 +9,9 @@ returns-clause-stands c = record { events = c.history_laws.ensures.opening c.arg
 pub invariant_of-result : goal.invariant_of-result
 invariant_of-result c = record {
   clock = c.requires.times;
-  fixed = c.requires.fixed;
   spec = c.in_ok-parts.ensures.stands.spec;
   timed = c.in_ok-parts.ensures.timed;
+  measured = at_least _ _ c.in_ok-parts.ensures.measured;
   ranges = c.in_ok-parts.ensures.ranges;
   events = omega arith;
   created = let few = c.in_ok-parts.ensures.created in omega (arith, few);

@@ -1,5 +1,5 @@
 use Rattle.kn_core.proofs.Created.{few_created}
-use Rattle.kn_core.proofs.Events.{parts_of_some}
+use Rattle.kn_core.proofs.Runs.{parts_of_some}
 use Rattle.kn_core.proofs.revision.Revision.next_starting.Goals as goal
 
 pub next_starting-requires : goal.next_starting-requires

@@ -1,12 +1,29 @@
-use Rattle.std.proofs.Common.{◌∙◌, ◌++◌, arith}
+use Rattle.std.proofs.Common.{◌∙◌, ◌++◌, sym, ap, arith}
 use Rattle.std.proofs.Math.Bridge.{le_prop}
 use Rattle.std.proofs.Math.Logic.{∥∥₁_elim, ∥∥₁_map}
+use Rattle.kn_event.specs.declared.revision.Spec.{Spec}
 use Rattle.kn_trace.specs.Events.{react}
-use Rattle.kn_core.proofs.Events.{few_live, few_arrivals, live_same, parts_of_some, timed_later}
+use Rattle.kn_core.proofs.Live.{few_live, live_same, timed_later}
+use Rattle.kn_core.proofs.Runs.{at_least, few_arrivals, measured_later, parts_of_settled, parts_of_some}
 use Rattle.kn_core.proofs.revision.Revision.step.Goals as goal
 
 pub react-requires-clause-some : goal.react-requires-clause-some
-react-requires-clause-some c = parts_of_some _ c.self.invariant.spec c.self.invariant.some
+react-requires-clause-some c = parts_of_settled c.history_laws.ensures.settled _ c.self.invariant.spec c.self.invariant.some
+
+pub react-requires-clause-ranges : goal.react-requires-clause-ranges
+react-requires-clause-ranges c = rw c.self.invariant.spec c.self.invariant.ranges
+
+pub react-requires-clause-limit : goal.react-requires-clause-limit
+react-requires-clause-limit c = (rw (← c.self.view_is) at c.limit-limit.ensures) ∙ sym (ap (λ (s : Spec). s.cc) c.self.invariant.spec)
+
+pub react-requires-clause-order : goal.react-requires-clause-order
+react-requires-clause-order c = measured_later _ _ _ (rw (← c.self.view_is) at c.requires.order) c.self.invariant.measured
+
+pub react-requires-clause-created : goal.react-requires-clause-created
+react-requires-clause-created c =
+    let count = rw (← c.self.view_is) at c.requires.count in
+    let before = c.self.invariant.created in
+    omega (arith, count, before)
 
 pub react-requires-clause-few : goal.react-requires-clause-few
 react-requires-clause-few c = few_live c.append_laws.ensures.views _ c.size_laws.ensures.live (parts_of_some _ c.self.invariant.spec c.self.invariant.some)
@@ -22,14 +39,14 @@ react-requires-clause-timed c = timed_later _ _ _ (rw (← c.self.view_is) at c.
 pub returns-clause-stands : goal.returns-clause-stands
 returns-clause-stands c = rw (← c.self.view_is) (λ d h. record {
   events = c.history_laws.ensures.step _ _ _ _ d c.args.e.now h.events (rw (← c.self.view_is) at c.requires.order);
-  parts = c.react.ensures.stands _ d h.parts;
+  parts = c.react.ensures.stands _ d h.parts (c.history_laws.ensures.settled _ _ _ _ d h.events);
 })
 
 pub returns-clause-logged : goal.returns-clause-logged
-returns-clause-logged c = rw (← c.self.view_is) (λ d h. c.react.ensures.logged _ d h.parts)
+returns-clause-logged c = rw (← c.self.view_is) (λ d h. c.react.ensures.logged _ d h.parts (c.history_laws.ensures.settled _ _ _ _ d h.events))
 
 pub returns-clause-told : goal.returns-clause-told
-returns-clause-told c = rw (← c.self.view_is) (λ d h. c.react.ensures.told _ d h.parts)
+returns-clause-told c = rw (← c.self.view_is) (λ d h. c.react.ensures.told _ d h.parts (c.history_laws.ensures.settled _ _ _ _ d h.events))
 
 pub returns-clause-lawful : goal.returns-clause-lawful
 returns-clause-lawful c = λ d h. c.history_laws.ensures.lawful _ _ _ _ d h.events
@@ -43,9 +60,9 @@ returns-clause-inert c = λ d e h. c.history_laws.ensures.inert _ _ _ _ d e h.ev
 pub invariant_of-self : goal.invariant_of-self
 invariant_of-self c = record {
   clock = c.requires.times;
-  fixed = c.self.invariant.fixed;
   spec = c.react.ensures.spec ∙ c.self.invariant.spec;
   timed = c.react.ensures.timed;
+  measured = at_least _ _ c.react.ensures.measured;
   ranges = c.self.invariant.ranges;
   events = let count = rw (← c.self.view_is) at c.requires.count in omega (arith, count);
   created = let before = c.self.invariant.created in omega (arith, before, c.react.ensures.created);
@@ -53,7 +70,7 @@ invariant_of-self c = record {
     h.0 ++ react c.self.inside.spec h.0 c.args.e.now,
     record {
       events = c.history_laws.ensures.step _ _ _ _ h.0 c.args.e.now h.1.events (rw (← c.self.view_is) at c.requires.order);
-      parts = c.react.ensures.stands _ h.0 h.1.parts;
+      parts = c.react.ensures.stands _ h.0 h.1.parts (c.history_laws.ensures.settled _ _ _ _ h.0 h.1.events);
     },
   ));
 }
@@ -64,11 +81,11 @@ returns-clause-grows c = rw (← c.self.view_is) (λ d h.
     let e = c.args.e.now in
     let more = c.growth_laws.ensures.live s d e h.parts.made in
     let was = live_same c.append_laws.ensures.views _ s d h.parts in
-    let now = live_same c.append_laws.ensures.views _ s (d ++ react s d e) (c.react.ensures.stands s d h.parts) in
+    let now = live_same c.append_laws.ensures.views _ s (d ++ react s d e) (c.react.ensures.stands s d h.parts (c.history_laws.ensures.settled _ _ _ _ d h.events)) in
     omega (arith, more, was, now))
 
 pub returns-clause-few : goal.returns-clause-few
 returns-clause-few c = ∥∥₁_elim c.self.invariant.some le_prop (λ h.
     let s = c.self.inside.spec in
     let e = c.args.e.now in
-    rw (c.react.ensures.logged s h.0 h.1.parts) (c.entry_laws.ensures.entries s h.0 e c.self.invariant.ranges h.1.parts.made (c.history_laws.ensures.settled _ _ _ _ h.0 h.1.events)))
+    rw (c.react.ensures.logged s h.0 h.1.parts (c.history_laws.ensures.settled _ _ _ _ h.0 h.1.events)) (c.entry_laws.ensures.entries s h.0 e c.self.invariant.ranges h.1.parts.made (c.history_laws.ensures.settled _ _ _ _ h.0 h.1.events)))

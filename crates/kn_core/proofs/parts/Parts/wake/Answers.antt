@@ -1,0 +1,76 @@
+use Rattle.std.proofs.Common.{◌≡◌, ℕ, ◌≤◌, ◌∙◌, ◌++◌, ◌∷◌, [], reverse, refl, sym, ap, subst, arith, length, length-append, Some, None}
+use Rattle.std.proofs.lemmas.List.{length-reverse}
+use Rattle.std.proofs.Math.Bridge.{le_prop}
+use Rattle.std.proofs.Math.Logic.{∥∥₁_elim, ∥∥₁_map}
+use Rattle.kn_event.specs.declared.entry.Row.TheVariants as row
+use Rattle.kn_trace.specs.Scale.{drain_order}
+use Rattle.kn_trace.specs.Trace.{ready_pods, starting_pods}
+use Rattle.kn_core.specs.State.{PartsState}
+use Rattle.kn_core.proofs.Ruling.{decides_first, decides_logged, decides_mid, decides_stands, decides_want, wake_decides}
+use Rattle.kn_core.proofs.parts.Parts.wake.Goals as goal
+
+pub wake-requires-clause-ready : goal.wake-requires-clause-ready
+unfolding drain_order
+wake-requires-clause-ready c =
+    rw c.count_ready-ready.ensures.value
+    (∥∥₁_elim (rw (← c.self.view_is) at c.requires.some) le_prop
+    (λ h.
+    let few = c.size_laws.ensures.standing c.self.inside.throttle.spec h.0 (rw (← c.self.view_is) at c.requires.ranges) h.1.made in
+    let all = length-append (reverse (starting_pods h.0)) (reverse (ready_pods h.0)) in
+    let same = ap length h.1.pods.ready in
+    omega (arith, few, all, same, length-reverse (ready_pods h.0))))
+
+pub rule-requires-clause-some : goal.rule-requires-clause-some
+rule-requires-clause-some c =
+    ∥∥₁_map (rw (← c.self.view_is) at c.requires.some)
+    (λ some.
+    let s = c.self.inside.throttle.spec in
+    let d = some.0 in
+    let h = some.1 in
+    let proper = some.2 in
+    let t = c.args.time in
+    let x : PartsState = record { throttle = c.self.inside.throttle; pods = c.self.inside.pods; scaler = c.self.inside.scaler } in
+    let mid : PartsState = record { throttle = c.self.inside.throttle; pods = c.self.inside.pods; scaler = c.wake.new.scaler } in
+    let ruled = c.in-Some.ruled in
+    let ready = sym (c.count_ready-ready.ensures.trace d h.pods) in
+    let dec = wake_decides c.row_laws-2.ensures.split s d t 0 0 0 ruled (c.in-Some.ensures.some s d 0 0 0 h.scaler) (c.in-Some.ensures.ruled s d ready h.scaler) in
+    let k = decides_mid c.row_laws.ensures.made c.row_laws.ensures.stands c.walk_laws.ensures.rows s d t ruled _ _ dec x mid proper refl refl (c.in-Some.ensures.stands s d ready h.scaler) h in
+    (_, rw (← c.self.view_is) at c.requires.ranges, k))
+
+pub rule-requires-clause-want : goal.rule-requires-clause-want
+rule-requires-clause-want c =
+    ∥∥₁_elim (rw (← c.self.view_is) at c.requires.some) le_prop
+    (λ some.
+    let s = c.self.inside.throttle.spec in
+    let d = some.0 in
+    let h = some.1 in
+    let proper = some.2 in
+    let t = c.args.time in
+    let x : PartsState = record { throttle = c.self.inside.throttle; pods = c.self.inside.pods; scaler = c.self.inside.scaler } in
+    let mid : PartsState = record { throttle = c.self.inside.throttle; pods = c.self.inside.pods; scaler = c.wake.new.scaler } in
+    let ruled = c.in-Some.ruled in
+    let ready = sym (c.count_ready-ready.ensures.trace d h.pods) in
+    let dec = wake_decides c.row_laws-2.ensures.split s d t 0 0 0 ruled (c.in-Some.ensures.some s d 0 0 0 h.scaler) (c.in-Some.ensures.ruled s d ready h.scaler) in
+    decides_want c.row_laws.ensures.made c.row_laws.ensures.stands c.walk_laws.ensures.rows s d t ruled _ _ dec x mid (rw (← c.self.view_is) at c.requires.ranges) proper)
+
+pub returns-in-Some-clause-logged : goal.returns-in-Some-clause-logged
+returns-in-Some-clause-logged c = rw (← c.self.view_is) (λ s d h proper.
+    let t = c.args.time in
+    let x : PartsState = record { throttle = c.self.inside.throttle; pods = c.self.inside.pods; scaler = c.self.inside.scaler } in
+    let mid : PartsState = record { throttle = c.self.inside.throttle; pods = c.self.inside.pods; scaler = c.wake.new.scaler } in
+    let ruled = c.in-Some.ruled in
+    let ready = sym (c.count_ready-ready.ensures.trace d h.pods) in
+    let dec = wake_decides c.row_laws-2.ensures.split s d t 0 0 0 ruled (c.in-Some.ensures.some s d 0 0 0 h.scaler) (c.in-Some.ensures.ruled s d ready h.scaler) in
+    let k = decides_mid c.row_laws.ensures.made c.row_laws.ensures.stands c.walk_laws.ensures.rows s d t ruled _ _ dec x mid proper refl refl (c.in-Some.ensures.stands s d ready h.scaler) h in
+    decides_logged c.row_laws.ensures.made c.row_laws.ensures.stands c.walk_laws.ensures.rows s d t ruled _ _ dec x mid c.args.log.now c.rule.new.log h k refl (c.rule.ensures.logged s _ k))
+
+pub returns-in-Some-clause-stands : goal.returns-in-Some-clause-stands
+returns-in-Some-clause-stands c = rw (← c.self.view_is) (λ s d h proper.
+    let t = c.args.time in
+    let x : PartsState = record { throttle = c.self.inside.throttle; pods = c.self.inside.pods; scaler = c.self.inside.scaler } in
+    let mid : PartsState = record { throttle = c.self.inside.throttle; pods = c.self.inside.pods; scaler = c.wake.new.scaler } in
+    let ruled = c.in-Some.ruled in
+    let ready = sym (c.count_ready-ready.ensures.trace d h.pods) in
+    let dec = wake_decides c.row_laws-2.ensures.split s d t 0 0 0 ruled (c.in-Some.ensures.some s d 0 0 0 h.scaler) (c.in-Some.ensures.ruled s d ready h.scaler) in
+    let k = decides_mid c.row_laws.ensures.made c.row_laws.ensures.stands c.walk_laws.ensures.rows s d t ruled _ _ dec x mid proper refl refl (c.in-Some.ensures.stands s d ready h.scaler) h in
+    decides_stands c.row_laws.ensures.made c.row_laws.ensures.stands c.walk_laws.ensures.rows s d t ruled _ _ dec x mid c.rule.new.self h k refl (c.rule.ensures.stands s _ k))

@@ -1,0 +1,19 @@
+-- Pods that a scale creates or drains, as a throttler takes them.
+use Rattle.std.specs.Prelude.{◌≡◌, ℕ, ◌<◌, ◌≤◌, ◌^◌, ◌||◌, true, List, [], ◌∷◌, length, ⊤}
+use Rattle.kn_event.specs.declared.entry.Entry.{Entry}
+use Rattle.kn_event.specs.declared.entry.Row.{Row}
+use Rattle.kn_event.specs.declared.entry.Row.TheVariants as row
+use Rattle.kn_trace.specs.Trace.{contains}
+use Rattle.kn_record.specs.Admission.{Admission, is_ready_now, is_starting_now, pods_in, stepped}
+use Rattle.kn_throttle.specs.Kept.{pods_room}
+
+-- a row with which a pod is created or drains, that comes next
+abbrev pub CanTake : Admission → Row → Type 0
+CanTake a (row.Create p n) = (p ≡ a.created) × (p < 2 ^ 63) × (length a.pods < pods_room) × (n ≤ 1000)
+CanTake a (row.Drain p) = (contains p (pods_in is_starting_now a.pods) || contains p (pods_in is_ready_now a.pods)) ≡ true
+CanTake a _ = ⊥
+
+-- one after the other
+abbrev pub CanFollow : Admission → List Entry → Type 0
+CanFollow a [] = ⊤
+CanFollow a (e ∷ es) = CanTake a e.row × CanFollow (stepped e.time e.row a) es
