@@ -1,6 +1,7 @@
 -- A part that is read line by line.
-use Rattle.std.proofs.Common.{◌≡◌, ◌+◌, ◌<◌, ◌≤◌, ℕ, true, false, List, [], ◌∷◌, length, refl, sym, ap, ◌∙◌, subst, arith}
+use Rattle.std.proofs.Common.{◌≡◌, ◌+◌, ◌<◌, ◌≤◌, ℕ, true, false, List, [], ◌∷◌, ◌++◌, length, take, drop, refl, sym, ap, ◌∙◌, subst, arith}
 use Rattle.std.specs.Prelude.{Option, None, Some, Result, Ok, Err, codes, nat_le}
+use Rattle.std.specs.Io.KnownBytes.{prepend_known}
 use Rattle.std.specs.Str.{bytes_eq}
 use Rattle.kn_event.specs.declared.event.Event.{Event}
 use Rattle.kn_event.specs.declared.fault.LineError.{LineError}
@@ -180,6 +181,31 @@ next-event version last n number old new line e h fit is other read =
     let P : ℕ → Type 0 = λ m. Gives (λ ls. with_line n ls (next_in version last)) (Some e) m old new in
     subst P (sym is) (line-gives n old new line (next_in version last) (Some e) h fit (λ left. rw (other, read_as) refl))
 
+-- a line that lies whole in what is ahead
+takes-ahead : (len : ℕ) (ahead : List ℕ) (left : Option (List ℕ)) → ((later : List ℕ) → lines (ahead ++ later) ≡ take len ahead ∷ lines (drop (len + 1) ahead ++ later))
+    → TakesLine (prepend_known ahead left) (prepend_known (drop (len + 1) ahead) left) true (take len ahead)
+takes-ahead len ahead None h = tt
+takes-ahead len ahead (Some ys) h = h ys
+
+pub short-fits : (line : List ℕ) → length line ≤ line_most → fits line ≡ true
+short-fits line h = grind (arith, common_steps)
+
+not_end : (line : List ℕ) → 6 ≤ length line → bytes_eq line (codes "end") ≡ false
+not_end line h = grind (arith, common_steps)
+
+length-ahead : (len : ℕ) (ahead : List ℕ) → len < length ahead → length (take len ahead) ≡ len
+length-ahead len ahead h = grind (arith, common_steps)
+
+pub ahead-event : (version last n number len : ℕ) (ahead : List ℕ) (left : Option (List ℕ)) (e : Event)
+    → ((later : List ℕ) → lines (ahead ++ later) ≡ take len ahead ∷ lines (drop (len + 1) ahead ++ later)) → len < length ahead → len ≤ line_most → 6 ≤ len → number ≡ n + 1
+    → in_time (n + 1) last (event_of version (take len ahead)) ≡ Ok e
+    → Tells (next_part version last n) number (prepend_known ahead left) (prepend_known (drop (len + 1) ahead) left) (Ok (Some e))
+ahead-event version last n number len ahead left e line inside fit bytes is read =
+    let count = length-ahead len ahead inside in
+    next-event version last n number (prepend_known ahead left) (prepend_known (drop (len + 1) ahead) left) (take len ahead) e (takes-ahead len ahead left line)
+    (short-fits (take len ahead) (omega (arith, count))) is (not_end (take len ahead) (omega (arith, count)))
+    (rw is read)
+
 pub next-refused : (version last n number : ℕ) (old new : Option (List ℕ)) (line : List ℕ) (e : JournalError) → TakesLine old new true line → fits line ≡ true → number ≡ n + 1
     → bytes_eq line (codes "end") ≡ false → IsCauseOf e (in_time number last (event_of version line)) → Refuses (next_part version last n) e old
 unfolding next_part
@@ -204,9 +230,6 @@ end-none n m x y (Some xs) (Some ys) line e h c k =
     let P : List ℕ → Type 0 = λ zs. x + length zs ≡ y + length ys in
     let none : ys ≡ [] = no_more ys x y (subst P h c) k in
     rw (h, none, lines-nil, e) refl
-
-pub short-fits : (line : List ℕ) → length line ≤ line_most → fits line ≡ true
-short-fits line h = grind (arith, common_steps)
 
 pub end-more : (n m : ℕ) (old new : Option (List ℕ)) (line : List ℕ) → m ≡ n + 1 → TakesLine old new true line → fits line ≡ true → Refuses (nothing_part n) (error.AfterEnd m) old
 end-more n m None new line e h fit = tt

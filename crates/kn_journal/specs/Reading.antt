@@ -1,5 +1,5 @@
 -- An input that is taken line by line. Of a source that does not tell its bytes nothing is said.
-use Rattle.std.specs.Prelude.{◌≡◌, ℕ, ◌+◌, ◌^◌, ◌<◌, Bool, true, false, List, [], ◌∷◌, ◌++◌, Contains, length, Option, None, Some, ⊤}
+use Rattle.std.specs.Prelude.{◌≡◌, ◌⊎◌, ℕ, ◌+◌, ◌^◌, ◌<◌, ◌≤◌, Bool, true, false, List, [], ◌∷◌, ◌++◌, Contains, length, Option, None, Some, ⊤}
 use Rattle.std.specs.Io.KnownBytes.{prepend_known}
 use Rattle.kn_journal.specs.Lines.{lines, line_most}
 
@@ -55,3 +55,7 @@ Counts (Some xs) (Some ys) before now = before + length xs ≡ now + length ys
 -- each byte that the source gave was taken or is ahead
 abbrev pub IsBalanced : Ahead → Ahead → ℕ → ℕ → Type 0
 IsBalanced old new given_before given_now = given_before + (new.taken + length new.ahead) ≡ given_now + (old.taken + length old.ahead)
+
+-- nothing is ahead, or all bytes were taken that may be
+abbrev pub IsSpent : Ahead → Type 0
+IsSpent input = (input.taken ≤ most_taken) × ((input.ahead ≡ []) ⊎ (input.taken ≡ most_taken))

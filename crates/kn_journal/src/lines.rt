@@ -2,7 +2,7 @@
 ghost use Rattle.std.specs.Prelude.{◌≡◌, ◌≢◌, ◌↔◌, ◌⊎◌, ◌+◌, ◌≤◌, ◌<◌, ℕ, List, [], ◌∷◌, ◌++◌, true, false, Contains, length, take, drop, replicate, IsSome, IsTrue, IfOk, IfSome, MatchOption, OnOk, vec_capacity, vec_len};
 ghost use Rattle.kn_io.specs.Causes.{Rose};
 ghost use Rattle.kn_journal.specs.Lines.{line_most, lines};
-ghost use Rattle.kn_journal.specs.Reading.{Counts, IsBalanced, HasLongLine, TakesLine, TakesPart, most_taken, unread};
+ghost use Rattle.kn_journal.specs.Reading.{Counts, IsBalanced, IsSpent, HasLongLine, TakesLine, TakesPart, most_taken, unread};
 
 use crate::input::{Input, MOST_TAKEN};
 use kn_io::{Failed, Source};
@@ -78,7 +78,7 @@ fn read_by_bytes<S: Source>(
 
     // At a fault no LF was taken, and nothing is ahead unless 2^56 bytes were taken.
     ensures amid { result ≡ Err NoLine.Fault → TakesPart (unread input.old (S.left source.old)) (unread input.new (S.left source.new)) }
-    ensures spent { result ≡ Err NoLine.Fault → (input.new.ahead ≡ []) ⊎ (input.new.taken ≡ most_taken) }
+    ensures spent { result ≡ Err NoLine.Fault → IsSpent input.new }
 
     // While an LF is ahead, the source is left alone.
     ensures ready { Contains input.old.ahead 10 → source.new ≡ source.old }
@@ -87,7 +87,7 @@ fn read_by_bytes<S: Source>(
     ensures exact { Counts (unread input.old (S.left source.old)) (unread input.new (S.left source.new)) input.old.taken input.new.taken }
     ensures count { OnOk result (input.old.taken + length line.new.items ≤ input.new.taken) }
     ensures strict { result ≡ Ok true → input.old.taken < input.new.taken }
-    ensures few { result ≡ Ok true → input.new.taken ≤ most_taken }
+    ensures few { input.new.taken ≤ most_taken }
     ensures grows { input.old.taken ≤ input.new.taken }
 
     ensures later { S.Faulty.faults source.old ≤ S.Faulty.faults source.new }
@@ -175,7 +175,7 @@ pub fn read_line<S: Source>(
 
     // At a fault no LF was taken, and nothing is ahead unless 2^56 bytes were taken.
     ensures amid { result ≡ Err NoLine.Fault → TakesPart (unread input.old (S.left source.old)) (unread input.new (S.left source.new)) }
-    ensures spent { result ≡ Err NoLine.Fault → (input.new.ahead ≡ []) ⊎ (input.new.taken ≡ most_taken) }
+    ensures spent { result ≡ Err NoLine.Fault → IsSpent input.new }
 
     // While an LF is ahead, the source is left alone.
     ensures ready { Contains input.old.ahead 10 → source.new ≡ source.old }
@@ -184,7 +184,7 @@ pub fn read_line<S: Source>(
     ensures exact { Counts (unread input.old (S.left source.old)) (unread input.new (S.left source.new)) input.old.taken input.new.taken }
     ensures count { OnOk result (input.old.taken + length line.new.items ≤ input.new.taken) }
     ensures strict { result ≡ Ok true → input.old.taken < input.new.taken }
-    ensures few { result ≡ Ok true → input.new.taken ≤ most_taken }
+    ensures few { input.new.taken ≤ most_taken }
     ensures grows { input.old.taken ≤ input.new.taken }
 
     ensures later { S.Faulty.faults source.old ≤ S.Faulty.faults source.new }

@@ -1,17 +1,17 @@
 //! The parts of a journal, each read from the lines that come next.
-ghost use Rattle.std.specs.Prelude.{◌≡◌, ◌≢◌, ◌⊎◌, ◌+◌, ◌≤◌, ◌↔◌, ℕ, [], ◌∷◌, List, true, Err, Ok, None, Contains, IfOk, IfErr, IsTrue, OnOk, codes, length};
+ghost use Rattle.std.specs.Prelude.{◌≡◌, ◌≢◌, ◌⊎◌, ◌+◌, ◌≤◌, ◌<◌, ◌↔◌, ℕ, [], ◌∷◌, ◌++◌, List, true, Err, Ok, None, Contains, IfOk, IfErr, IfSome, IsTrue, OnOk, codes, drop, length, take};
 ghost use Rattle.kn_io.specs.Causes.{Rose};
 ghost use Rattle.kn_event.specs.EventLine.{event_of, IsInJournalRange, IsInVersion};
 ghost use Rattle.kn_journal.specs.Causes.{Cause, error_of};
-ghost use Rattle.kn_journal.specs.Lines.{fits, line_most};
-ghost use Rattle.kn_journal.specs.Reading.{Counts, IsBalanced, TakesLine, TakesPart, most_taken, unread};
+ghost use Rattle.kn_journal.specs.Lines.{fits, line_most, lines};
+ghost use Rattle.kn_journal.specs.Reading.{Counts, IsBalanced, IsSpent, TakesLine, TakesPart, most_taken, unread};
 ghost use Rattle.kn_journal.specs.Telling.{IsCauseOf, Judges, Lacks, OnEvent, TakesEnd, Tells};
 ghost use Rattle.kn_journal.specs.Journal.{first_part, in_time, next_part, nothing_part, start_line_in, start_of, start_part, time_most, version_by};
 
 use crate::error::JournalError;
 use crate::first::{FirstLine, judge_first};
 use crate::input::Input;
-use crate::lines::{NoLine, read_line};
+use crate::lines::{NoLine, line_ahead, read_line};
 use kn_event::{Event, LineError, Memory, first_end, last_number, read_event, spellings_are_read};
 use kn_io::Source;
 use memchr::memchr;
@@ -48,6 +48,7 @@ fn judge_start(line: &[u8], number: u64) -> Result<u64, JournalError>
     }
 }
 
+#[inline(always)]
 fn judge_event(line: &[u8], number: u64, version: u64, last: u64) -> Result<Event, JournalError>
     requires least { 1 ≤ version }
     requires most { version ≤ 2 }
@@ -141,9 +142,11 @@ impl Lines {
         ensures none { IfErr result (λ e. Lacks self.old.number e (unread self.old.input (S.left source.old))) }
         ensures memory { result ≢ Err JournalError.Memory }
         ensures amid { result ≡ Err JournalError.ReadFault → TakesPart (unread self.old.input (S.left source.old)) (unread self.new.input (S.left source.new)) }
+        ensures spent { result ≡ Err JournalError.ReadFault → IsSpent self.new.input }
         ensures ready { Contains self.old.input.ahead 10 → source.new ≡ source.old }
         ensures fault { result ≡ Err JournalError.ReadFault → Rose (S.Faulty.faults source.old) (S.Faulty.faults source.new) ⊎ (self.new.input.taken ≡ most_taken) }
         ensures grows { self.old.input.taken ≤ self.new.input.taken }
+        ensures few { self.new.input.taken ≤ most_taken }
         ensures balance { IsBalanced self.old.input self.new.input (S.given source.old) (S.given source.new) }
         ensures never_falls { S.Faulty.faults source.old ≤ S.Faulty.faults source.new }
         ensures apart { S.apart source.new ≡ S.apart source.old }
@@ -169,8 +172,10 @@ impl Lines {
         ensures least { IfOk result (λ version. 1 ≤ version) }
         ensures most { IfOk result (λ version. version ≤ 2) }
         ensures amid { result ≡ Err JournalError.ReadFault → TakesPart (unread self.old.input (S.left source.old)) (unread self.new.input (S.left source.new)) }
+        ensures spent { result ≡ Err JournalError.ReadFault → IsSpent self.new.input }
         ensures fault { result ≡ Err JournalError.ReadFault → Rose (S.Faulty.faults source.old) (S.Faulty.faults source.new) ⊎ (self.new.input.taken ≡ most_taken) }
         ensures grows { self.old.input.taken ≤ self.new.input.taken }
+        ensures few { self.new.input.taken ≤ most_taken }
         ensures balance { IsBalanced self.old.input self.new.input (S.given source.old) (S.given source.new) }
         ensures never_falls { S.Faulty.faults source.old ≤ S.Faulty.faults source.new }
         ensures apart { S.apart source.new ≡ S.apart source.old }
@@ -187,9 +192,11 @@ impl Lines {
         ensures most { IfOk result (λ start. start ≤ time_most) }
         ensures memory { result ≢ Err JournalError.Memory }
         ensures amid { result ≡ Err JournalError.ReadFault → TakesPart (unread self.old.input (S.left source.old)) (unread self.new.input (S.left source.new)) }
+        ensures spent { result ≡ Err JournalError.ReadFault → IsSpent self.new.input }
         ensures ready { Contains self.old.input.ahead 10 → source.new ≡ source.old }
         ensures fault { result ≡ Err JournalError.ReadFault → Rose (S.Faulty.faults source.old) (S.Faulty.faults source.new) ⊎ (self.new.input.taken ≡ most_taken) }
         ensures grows { self.old.input.taken ≤ self.new.input.taken }
+        ensures few { self.new.input.taken ≤ most_taken }
         ensures balance { IsBalanced self.old.input self.new.input (S.given source.old) (S.given source.new) }
         ensures never_falls { S.Faulty.faults source.old ≤ S.Faulty.faults source.new }
         ensures apart { S.apart source.new ≡ S.apart source.old }
@@ -205,8 +212,10 @@ impl Lines {
         ensures tells { Tells (nothing_part self.old.number) self.new.number (unread self.old.input (S.left source.old)) (unread self.new.input (S.left source.new)) result }
         ensures memory { result ≢ Err JournalError.Memory }
         ensures amid { result ≡ Err JournalError.ReadFault → TakesPart (unread self.old.input (S.left source.old)) (unread self.new.input (S.left source.new)) }
+        ensures spent { result ≡ Err JournalError.ReadFault → IsSpent self.new.input }
         ensures fault { result ≡ Err JournalError.ReadFault → Rose (S.Faulty.faults source.old) (S.Faulty.faults source.new) ⊎ (self.new.input.taken ≡ most_taken) }
         ensures grows { self.old.input.taken ≤ self.new.input.taken }
+        ensures few { self.new.input.taken ≤ most_taken }
         ensures balance { IsBalanced self.old.input self.new.input (S.given source.old) (S.given source.new) }
         ensures never_falls { S.Faulty.faults source.old ≤ S.Faulty.faults source.new }
         ensures apart { S.apart source.new ≡ S.apart source.old }
@@ -218,6 +227,31 @@ impl Lines {
             Err(NoLine::Fault) => return Err(JournalError::ReadFault),
         }
         Ok(())
+    }
+
+    /// The next event, at this time or later, and the length of its line, where the line's LF is ahead and no CR stands before
+    /// that. None says nothing.
+    #[inline(always)]
+    fn event_ahead(&self, version: u64, last: u64) -> Option<(Event, usize)>
+        requires least { 1 ≤ version }
+        requires most { version ≤ 2 }
+        ensures line { IfSome result (λ p. (later : List ℕ) → lines (self.now.input.ahead ++ later) ≡ take p.1 self.now.input.ahead ∷ lines (drop (p.1 + 1) self.now.input.ahead ++ later)) }
+        ensures event { IfSome result (λ p. in_time (self.now.number + 1) last (event_of version (take p.1 self.now.input.ahead)) ≡ Ok p.0) }
+        ensures inside { IfSome result (λ p. p.1 < length self.now.input.ahead) }
+        ensures fits { IfSome result (λ p. p.1 ≤ line_most) }
+        ensures few { IfSome result (λ p. self.now.input.taken + p.1 < most_taken) }
+        ensures bytes { IfSome result (λ p. 6 ≤ p.1) }
+        ensures order { IfSome result (λ p. last ≤ p.0.time) }
+        ensures times { IfSome result (λ p. p.0.time ≤ time_most) }
+        ensures range { IfSome result (λ p. IsInJournalRange p.0.act) }
+        ensures version { IfSome result (λ p. IsInVersion version p.0.act) }
+    {
+        let len = line_ahead(&self.input)?;
+        let line = &self.input.ahead()[..len];
+        match judge_event(line, self.number + 1, version, last) {
+            Ok(e) => Some((e, len)),
+            Err(_) => None,
+        }
     }
 
     /// Reads the next event, at this time or later, or `end` and the end of the input.
@@ -237,13 +271,20 @@ impl Lines {
         ensures bytes { OnEvent result (λ e. self.old.input.taken + 6 ≤ self.new.input.taken) }
         ensures memory { result ≢ Err JournalError.Memory }
         ensures amid { result ≡ Err JournalError.ReadFault → TakesPart (unread self.old.input (S.left source.old)) (unread self.new.input (S.left source.new)) ⊎ TakesEnd (unread self.old.input (S.left source.old)) (unread self.new.input (S.left source.new)) }
+        ensures spent { result ≡ Err JournalError.ReadFault → IsSpent self.new.input }
         ensures ready { OnEvent result (λ e. Contains self.old.input.ahead 10 → source.new ≡ source.old) }
         ensures fault { result ≡ Err JournalError.ReadFault → Rose (S.Faulty.faults source.old) (S.Faulty.faults source.new) ⊎ (self.new.input.taken ≡ most_taken) }
         ensures grows { self.old.input.taken ≤ self.new.input.taken }
+        ensures few { self.new.input.taken ≤ most_taken }
         ensures balance { IsBalanced self.old.input self.new.input (S.given source.old) (S.given source.new) }
         ensures never_falls { S.Faulty.faults source.old ≤ S.Faulty.faults source.new }
         ensures apart { S.apart source.new ≡ S.apart source.old }
     {
+        if let Some((e, len)) = self.event_ahead(version, last) {
+            self.input.skip(len + 1);
+            self.number += 1;
+            return Ok(Some(e));
+        }
         match self.next_line(source) {
             Ok(()) => {}
             Err(e) => return Err(e),

@@ -2,7 +2,7 @@
 ghost use Rattle.std.specs.Prelude.{◌≡◌, ◌⊎◌, ◌≢◌, ◌+◌, ◌≤◌, ◌↔◌, [], Err, Ok, None, Some, Contains, IfErr, IfOk, IfSome, IsSome, IsTrue, OnErr, OnOk};
 ghost use Rattle.kn_io.specs.Causes.{Rose};
 ghost use Rattle.kn_event.specs.EventLine.{IsInJournalRange, IsInVersion};
-ghost use Rattle.kn_journal.specs.Reading.{IsBalanced, TakesPart, most_taken, unread};
+ghost use Rattle.kn_journal.specs.Reading.{IsBalanced, IsSpent, TakesPart, most_taken, unread};
 ghost use Rattle.kn_journal.specs.Telling.{OnEvent, TakesEnd, StopsAmid, Tells, TellsOpening};
 ghost use Rattle.kn_journal.specs.Journal.{next_part, nothing_part, opening_part, start_part, time_most, version_of};
 
@@ -81,6 +81,7 @@ impl JournalReader {
         ensures most { OnOk result (self.new.version ≤ 2) }
         ensures version { OnErr result (self.new.version ≡ self.old.version) }
         ensures amid { self.old.failed ≡ None → result ≡ Err JournalError.ReadFault → StopsAmid (opening_part version_of self.old.number) (unread self.old.input (S.left source.old)) (unread self.new.input (S.left source.new)) }
+        ensures spent { self.old.failed ≡ None → result ≡ Err JournalError.ReadFault → IsSpent self.new.input }
         ensures fault { self.old.failed ≡ None → result ≡ Err JournalError.ReadFault → Rose (S.Faulty.faults source.old) (S.Faulty.faults source.new) ⊎ (self.new.input.taken ≡ most_taken) }
         ensures again { IfSome self.old.failed (λ e. result ≡ Err e) }
         ensures still { IsSome self.old.failed → (self.new ≡ self.old) × (source.new ≡ source.old) }
@@ -113,6 +114,7 @@ impl JournalReader {
         ensures most { IfOk result (λ start. start ≤ time_most) }
         ensures version { self.new.version ≡ self.old.version }
         ensures amid { self.old.failed ≡ None → result ≡ Err JournalError.ReadFault → TakesPart (unread self.old.input (S.left source.old)) (unread self.new.input (S.left source.new)) }
+        ensures spent { self.old.failed ≡ None → result ≡ Err JournalError.ReadFault → IsSpent self.new.input }
         ensures ready { Contains self.old.input.ahead 10 → source.new ≡ source.old }
         ensures memory { self.old.failed ≡ None → result ≢ Err JournalError.Memory }
         ensures fault { self.old.failed ≡ None → result ≡ Err JournalError.ReadFault → Rose (S.Faulty.faults source.old) (S.Faulty.faults source.new) ⊎ (self.new.input.taken ≡ most_taken) }
@@ -121,6 +123,7 @@ impl JournalReader {
         ensures good { OnOk result (self.new.failed ≡ None) }
         ensures keeps { IfErr result (λ e. self.new.failed ≡ Some e) }
         ensures grows { self.old.input.taken ≤ self.new.input.taken }
+        ensures few { self.old.failed ≡ None → self.new.input.taken ≤ most_taken }
         ensures balance { IsBalanced self.old.input self.new.input (S.given source.old) (S.given source.new) }
         ensures never_falls { S.Faulty.faults source.old ≤ S.Faulty.faults source.new }
         ensures apart { S.apart source.new ≡ S.apart source.old }
@@ -151,6 +154,7 @@ impl JournalReader {
         ensures bytes { OnEvent result (λ e. self.old.input.taken + 6 ≤ self.new.input.taken) }
         ensures version { self.new.version ≡ self.old.version }
         ensures amid { self.old.failed ≡ None → result ≡ Err JournalError.ReadFault → TakesPart (unread self.old.input (S.left source.old)) (unread self.new.input (S.left source.new)) ⊎ TakesEnd (unread self.old.input (S.left source.old)) (unread self.new.input (S.left source.new)) }
+        ensures spent { self.old.failed ≡ None → result ≡ Err JournalError.ReadFault → IsSpent self.new.input }
         ensures ready { OnEvent result (λ e. Contains self.old.input.ahead 10 → source.new ≡ source.old) }
         ensures memory { self.old.failed ≡ None → result ≢ Err JournalError.Memory }
         ensures fault { self.old.failed ≡ None → result ≡ Err JournalError.ReadFault → Rose (S.Faulty.faults source.old) (S.Faulty.faults source.new) ⊎ (self.new.input.taken ≡ most_taken) }
@@ -159,6 +163,7 @@ impl JournalReader {
         ensures good { OnOk result (self.new.failed ≡ None) }
         ensures keeps { IfErr result (λ e. self.new.failed ≡ Some e) }
         ensures grows { self.old.input.taken ≤ self.new.input.taken }
+        ensures few { self.old.failed ≡ None → self.new.input.taken ≤ most_taken }
         ensures balance { IsBalanced self.old.input self.new.input (S.given source.old) (S.given source.new) }
         ensures never_falls { S.Faulty.faults source.old ≤ S.Faulty.faults source.new }
         ensures apart { S.apart source.new ≡ S.apart source.old }
@@ -183,6 +188,7 @@ impl JournalReader {
     pub fn finish_setup<S: Source>(&mut self, source: &mut S) -> Result<(), JournalError>
         ensures tells { self.old.failed ≡ None → Tells (nothing_part self.old.number) self.new.number (unread self.old.input (S.left source.old)) (unread self.new.input (S.left source.new)) result }
         ensures amid { self.old.failed ≡ None → result ≡ Err JournalError.ReadFault → TakesPart (unread self.old.input (S.left source.old)) (unread self.new.input (S.left source.new)) }
+        ensures spent { self.old.failed ≡ None → result ≡ Err JournalError.ReadFault → IsSpent self.new.input }
         ensures version { self.new.version ≡ self.old.version }
         ensures memory { self.old.failed ≡ None → result ≢ Err JournalError.Memory }
         ensures fault { self.old.failed ≡ None → result ≡ Err JournalError.ReadFault → Rose (S.Faulty.faults source.old) (S.Faulty.faults source.new) ⊎ (self.new.input.taken ≡ most_taken) }

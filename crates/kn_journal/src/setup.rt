@@ -7,7 +7,7 @@ ghost use Rattle.kn_event.specs.FixedSpec.{fixed_spec};
 ghost use Rattle.kn_journal.specs.Journal.{opening_part, version_by};
 ghost use Rattle.kn_journal.specs.Setup.{behind_line, block_part, blocks_part, blocks_text, revision_part, setup_of, setup_part, word_in, word_part};
 ghost use Rattle.kn_journal.specs.SetupLine.{IsSetupLine};
-ghost use Rattle.kn_journal.specs.Reading.{IsBalanced, TakesPart, most_taken, unread};
+ghost use Rattle.kn_journal.specs.Reading.{IsBalanced, IsSpent, TakesPart, most_taken, unread};
 ghost use Rattle.kn_journal.specs.Telling.{Judges, StopsAmid, Tells, config_error, revision_error};
 
 use crate::error::{JournalError, SetupError};
@@ -42,6 +42,7 @@ fn judge_word(line: &[u8], number: u64, word: &[u8]) -> Result<(), JournalError>
 fn read_word<S: Source>(lines: &mut Lines, source: &mut S, word: &[u8]) -> Result<(), JournalError>
     ensures tells { Tells (word_part word.now lines.old.number) lines.new.number (unread lines.old.input (S.left source.old)) (unread lines.new.input (S.left source.new)) result }
     ensures amid { result ≡ Err JournalError.ReadFault → StopsAmid (word_part word.now lines.old.number) (unread lines.old.input (S.left source.old)) (unread lines.new.input (S.left source.new)) }
+    ensures spent { result ≡ Err JournalError.ReadFault → IsSpent lines.new.input }
     ensures fault { result ≡ Err JournalError.ReadFault → Rose (S.Faulty.faults source.old) (S.Faulty.faults source.new) ⊎ (lines.new.input.taken ≡ most_taken) }
     ensures grows { lines.old.input.taken ≤ lines.new.input.taken }
     ensures balance { IsBalanced lines.old.input lines.new.input (S.given source.old) (S.given source.new) }
@@ -62,6 +63,7 @@ fn read_block<S: Source>(
 ) -> Result<Text, JournalError>
     ensures tells { Tells (block_part [] lines.old.number) lines.new.number (unread lines.old.input (S.left source.old)) (unread lines.new.input (S.left source.new)) result }
     ensures amid { result ≡ Err JournalError.ReadFault → StopsAmid (block_part [] lines.old.number) (unread lines.old.input (S.left source.old)) (unread lines.new.input (S.left source.new)) }
+    ensures spent { result ≡ Err JournalError.ReadFault → IsSpent lines.new.input }
     ensures fault { result ≡ Err JournalError.ReadFault → Rose (S.Faulty.faults source.old) (S.Faulty.faults source.new) ⊎ (lines.new.input.taken ≡ most_taken) }
     ensures grows { lines.old.input.taken ≤ lines.new.input.taken }
     ensures balance { IsBalanced lines.old.input lines.new.input (S.given source.old) (S.given source.new) }
@@ -173,6 +175,7 @@ fn read_revision<S: Source>(
     requires config { IsConfig config.now }
     ensures tells { Tells (revision_part line.items block.now slots config.now lines.old.number) lines.new.number (unread lines.old.input (S.left source.old)) (unread lines.new.input (S.left source.new)) result }
     ensures amid { result ≡ Err JournalError.ReadFault → StopsAmid (revision_part line.items block.now slots config.now lines.old.number) (unread lines.old.input (S.left source.old)) (unread lines.new.input (S.left source.new)) }
+    ensures spent { result ≡ Err JournalError.ReadFault → IsSpent lines.new.input }
     ensures fault { result ≡ Err JournalError.ReadFault → Rose (S.Faulty.faults source.old) (S.Faulty.faults source.new) ⊎ (lines.new.input.taken ≡ most_taken) }
     ensures grows { lines.old.input.taken ≤ lines.new.input.taken }
     ensures balance { IsBalanced lines.old.input lines.new.input (S.given source.old) (S.given source.new) }
@@ -208,6 +211,7 @@ fn read_blocks<S: Source>(
     requires { AreSlots slots }
     ensures tells { Tells (blocks_part line.items slots lines.old.number) lines.new.number (unread lines.old.input (S.left source.old)) (unread lines.new.input (S.left source.new)) result }
     ensures amid { result ≡ Err JournalError.ReadFault → StopsAmid (blocks_part line.items slots lines.old.number) (unread lines.old.input (S.left source.old)) (unread lines.new.input (S.left source.new)) }
+    ensures spent { result ≡ Err JournalError.ReadFault → IsSpent lines.new.input }
     ensures fault { result ≡ Err JournalError.ReadFault → Rose (S.Faulty.faults source.old) (S.Faulty.faults source.new) ⊎ (lines.new.input.taken ≡ most_taken) }
     ensures grows { lines.old.input.taken ≤ lines.new.input.taken }
     ensures balance { IsBalanced lines.old.input lines.new.input (S.given source.old) (S.given source.new) }
@@ -269,6 +273,7 @@ fn read_behind<S: Source>(
     requires { IsSetupLine said }
     ensures tells { Tells (behind_line text.items (Ok said) lines.old.number) lines.new.number (unread lines.old.input (S.left source.old)) (unread lines.new.input (S.left source.new)) result }
     ensures amid { result ≡ Err JournalError.ReadFault → StopsAmid (behind_line text.items (Ok said) lines.old.number) (unread lines.old.input (S.left source.old)) (unread lines.new.input (S.left source.new)) }
+    ensures spent { result ≡ Err JournalError.ReadFault → IsSpent lines.new.input }
     ensures fault { result ≡ Err JournalError.ReadFault → Rose (S.Faulty.faults source.old) (S.Faulty.faults source.new) ⊎ (lines.new.input.taken ≡ most_taken) }
     ensures grows { lines.old.input.taken ≤ lines.new.input.taken }
     ensures balance { IsBalanced lines.old.input lines.new.input (S.given source.old) (S.given source.new) }
@@ -306,6 +311,7 @@ fn read_setup<S: Source>(
 ) -> Result<Setup, JournalError>
     ensures tells { Tells (setup_part lines.old.number) lines.new.number (unread lines.old.input (S.left source.old)) (unread lines.new.input (S.left source.new)) result }
     ensures amid { result ≡ Err JournalError.ReadFault → StopsAmid (setup_part lines.old.number) (unread lines.old.input (S.left source.old)) (unread lines.new.input (S.left source.new)) }
+    ensures spent { result ≡ Err JournalError.ReadFault → IsSpent lines.new.input }
     ensures fault { result ≡ Err JournalError.ReadFault → Rose (S.Faulty.faults source.old) (S.Faulty.faults source.new) ⊎ (lines.new.input.taken ≡ most_taken) }
     ensures grows { lines.old.input.taken ≤ lines.new.input.taken }
     ensures balance { IsBalanced lines.old.input lines.new.input (S.given source.old) (S.given source.new) }
@@ -335,6 +341,7 @@ pub fn read_opening<S: Source>(
 ) -> Result<Opening, JournalError>
     ensures tells { Tells (opening_part (version_by first) lines.old.number) lines.new.number (unread lines.old.input (S.left source.old)) (unread lines.new.input (S.left source.new)) result }
     ensures amid { result ≡ Err JournalError.ReadFault → StopsAmid (opening_part (version_by first) lines.old.number) (unread lines.old.input (S.left source.old)) (unread lines.new.input (S.left source.new)) }
+    ensures spent { result ≡ Err JournalError.ReadFault → IsSpent lines.new.input }
     ensures least { IfOk result (λ opening. 1 ≤ opening.version) }
     ensures most { IfOk result (λ opening. opening.version ≤ 2) }
     ensures fault { result ≡ Err JournalError.ReadFault → Rose (S.Faulty.faults source.old) (S.Faulty.faults source.new) ⊎ (lines.new.input.taken ≡ most_taken) }
