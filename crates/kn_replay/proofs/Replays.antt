@@ -1,13 +1,11 @@
 -- One event of a replay, and how it ends.
-use Rattle.std.proofs.Common.{◌≡◌, ◌+◌, ◌≤◌, ℕ, List, [], ◌∷◌, ◌++◌, length, length-append, append_assoc, append-nil, refl, sym, ap, ◌∙◌, subst, arith, inl, inr}
+use Rattle.std.proofs.Common.{◌≡◌, ◌+◌, ◌-◌, ◌≤◌, ℕ, List, [], ◌∷◌, ◌++◌, length, length-append, append_assoc, append-nil, refl, sym, ap, ◌∙◌, subst, arith, inl, inr}
 use Rattle.std.specs.Prelude.{◌⊎◌, Option, None, Some, Err, Ok, codes, Contains}
 use Rattle.std.specs.Io.KnownBytes.{Appends, IsAtEnd, prepend_known}
 use Rattle.std.proofs.KnownBytes.{Appends-nil, Appends-trans}
 use Rattle.kn_event.specs.declared.event.Act.{Act}
 use Rattle.kn_event.specs.declared.event.Act.TheVariants as act
 use Rattle.kn_event.specs.declared.event.Event.{Event}
-use Rattle.kn_event.specs.declared.revision.Kind.{Kind}
-use Rattle.kn_event.specs.declared.revision.Kind.TheVariants as kind
 use Rattle.kn_event.specs.declared.revision.Spec.{Spec}
 use Rattle.kn_event.specs.EventLine.{IsInJournalRange}
 use Rattle.kn_io.specs.Causes.{Rose}
@@ -15,7 +13,6 @@ use Rattle.kn_io.specs.Prefix.{AppendsPrefix}
 use Rattle.kn_trace.specs.Trace.{Trace}
 use Rattle.kn_trace.specs.Events.{added, opening, react, trace_of}
 use Rattle.kn_trace.specs.Report.{last_line, rows_text, totals}
-use Rattle.kn_core.specs.State.{IsFixed}
 use Rattle.kn_core.specs.Steps.{IsWithinRange}
 use Rattle.kn_journal.specs.declared.error.JournalError.{JournalError}
 use Rattle.kn_journal.specs.declared.error.JournalError.TheVariants as error
@@ -28,10 +25,10 @@ use Rattle.kn_journal.specs.Causes.{Cause, after_end, bad_first_line, bad_line, 
 use Rattle.kn_journal.specs.Lines.{lines}
 use Rattle.kn_journal.specs.Parts.{part}
 use Rattle.kn_journal.specs.Journal.{Read, Verdict, bad, from_read, journal_of, next_part, none_read, opening_part, read_events, start_part, verdict, verdict_of_lines, verdict_on, version_of}
-use Rattle.kn_journal.specs.Reading.{TakesPart}
+use Rattle.kn_journal.specs.Reading.{Ahead, IsSpent, TakesPart, most_taken}
 use Rattle.kn_journal.specs.Telling.{Gives, Refuses, StopsAmid, TakesEnd}
-use Rattle.kn_replay.specs.Replaying.{BreaksAhead, BreaksAmid, BreaksBefore, BreaksFollowing, BreaksIn, EndsThere, Follows, IsFollowed, IsGoodSoFar, IsReplayed, Opened, Opens, Replays, Stops, Writes, ending, refusal_of, rest_of_report, status_by, status_of}
-use Rattle.kn_replay.specs.Report.{built, journal_last_line, journal_rows, judged, not_built, report_of}
+use Rattle.kn_replay.specs.Replaying.{BreaksBeyond, BreaksAmid, BreaksBefore, BreaksFollowing, BreaksIn, EndsThere, Follows, IsFollowed, IsGoodSoFar, IsReplayed, Opened, Opens, Replays, Stops, Writes, ending, refusal_of, rest_of_report, status_by, status_of}
+use Rattle.kn_replay.specs.Report.{journal_last_line, journal_rows, report_of}
 use Rattle.kn_replay.specs.Waiting.{Adds}
 use Rattle.kn_replay.proofs.Lines.{IsEventLine, end_line, next_end, next_event, next_none, next_refused, no_byte, no_line, with_events, with_events-more}
 use Rattle.kn_replay.proofs.Pieces.{prefix_after, prefix_more, prefix_none, rows_text-append, rows_text-nil}
@@ -479,21 +476,6 @@ opened_verdict : (xs : List ℕ) (version : ℕ) (setup : Setup) (start number :
 unfolding verdict verdict_of_lines
 opened_verdict xs version setup start number left h = rw h.opening (rw h.begins refl)
 
-built_fixed : (j : Journal) (refused : Option Cause) (n : ℕ) → j.setup.spec.kind ≡ kind.Fixed n → built (verdict_on j refused) ≡ verdict_on j refused
-built_fixed j None n h = rw h refl
-built_fixed j (Some cause) n h = rw h refl
-
-built_scaled : (j : Journal) (refused : Option Cause) → j.setup.spec.kind ≡ kind.Kpa → built (verdict_on j refused) ≡ not_built
-built_scaled j None h = rw h refl
-built_scaled j (Some cause) h = rw h refl
-
-judged_fixed : (xs : List ℕ) (version : ℕ) (setup : Setup) (start number n : ℕ) (left : List (List ℕ)) → setup.spec.kind ≡ kind.Fixed n → Opened (lines xs) version setup start number left
-    → judged xs ≡ from_read version setup start (read_events version start number left)
-unfolding judged
-judged_fixed xs version setup start number n left h k =
-    let r = read_events version start number left in
-    ap built (opened_verdict xs version setup start number left k) ∙ built_fixed (journal_of version setup start r.events) r.refused n h
-
 -- the report is the opening's rows and what the events add
 report_is : (version : ℕ) (setup : Setup) (start : ℕ) (r : Read)
     → report_of (from_read version setup start r) ≡ rows_text (opening setup.spec start) ++ rest_of_report version setup.spec (opening setup.spec start) r
@@ -520,12 +502,12 @@ after_prefix : (x y : List ℕ) (a b d : Option (List ℕ)) → Appends a b x �
 after_prefix x y a b d h k = subst (λ (z : List ℕ). AppendsPrefix a d (x ++ z)) (append-nil y) (prefix_after a b d x y [] h k)
 
 writes_after : (written text : List ℕ) (end : Status) (P Q : List ℕ → Type 0) (old mid new : Option (List ℕ)) (result : Status) → Appends old mid written
-    → ((front : List ℕ) → P front → Q (written ++ front)) → IsFollowed result → Writes text end P mid new result → Writes (written ++ text) end Q old new result
+    → (result ≡ status.ReadFault → (front : List ℕ) → P front → Q (written ++ front)) → IsFollowed result → Writes text end P mid new result → Writes (written ++ text) end Q old new result
 writes_after written text end P Q old mid new status.Ok h f k w = (w.0, Appends-trans old mid new written text h w.1)
 writes_after written text end P Q old mid new status.Usage h f k w = absurd k
 writes_after written text end P Q old mid new (status.BadInput e) h f k w = (w.0, Appends-trans old mid new written text h w.1)
 writes_after written text end P Q old mid new (status.BadSetup e) h f k w = (w.0, Appends-trans old mid new written text h w.1)
-writes_after written text end P Q old mid new status.ReadFault h f k (front, held, p) = (written ++ front, Appends-trans old mid new written front h held, f front p)
+writes_after written text end P Q old mid new status.ReadFault h f k (front, held, p) = (written ++ front, Appends-trans old mid new written front h held, f refl front p)
 writes_after written text end P Q old mid new status.WriteFault h f k w = after_prefix written text old mid new h w
 writes_after written text end P Q old mid new status.Memory h f k w = absurd k
 writes_after written text end P Q old mid new (status.SlotFault slot) h f k w = absurd k
@@ -537,85 +519,73 @@ journal_rows-is : (version : ℕ) (setup : Setup) (start : ℕ) (es : List Event
 unfolding journal_rows trace_of
 journal_rows-is version setup start es = rows_text-append (opening setup.spec start) (added setup.spec (opening setup.spec start) es)
 
-breaks_after : (xs : List ℕ) (version : ℕ) (setup : Setup) (start number : ℕ) (ys : List ℕ) (ahead : List ℕ) (left : Option (List ℕ)) (written waiting front : List ℕ)
-    → Opened (lines xs) version setup start number (lines ys) → rows_text (opening setup.spec start) ≡ written ++ waiting
+breaks_after : (xs : List ℕ) (version : ℕ) (setup : Setup) (start number : ℕ) (ys : List ℕ) (ahead : List ℕ) (left : Option (List ℕ)) (given : ℕ) (written waiting front : List ℕ)
+    → Opened (lines xs) version setup start number (lines ys) → rows_text (opening setup.spec start) ≡ written ++ waiting → length ahead ≡ given - most_taken
     → BreaksFollowing version setup.spec (opening setup.spec start) start number ys (prepend_known ahead left) waiting front
-    → BreaksAhead xs left (written ++ front)
-breaks_after xs version setup start number ys ahead left written waiting front h rows (read, breaks, is) =
+    → BreaksBeyond xs left given (written ++ front)
+breaks_after xs version setup start number ys ahead left given written waiting front h rows beyond (read, breaks, is) =
     let j : Journal = journal_of version setup start read.events in
     let amid : BreaksAmid (lines xs) (prepend_known ahead left) j =
     record { number = h.at; after = h.after; begun = number; more = lines ys; refused = read.refused; opening = h.opening; start = h.begins; breaks = breaks } in
     let more = rows_text (added setup.spec (opening setup.spec start) read.events) in
     let text : written ++ front ≡ journal_rows j =
     ap (λ (z : List ℕ). written ++ z) is ∙ sym (append_assoc written waiting more) ∙ ap (λ (z : List ℕ). z ++ more) (sym rows) ∙ sym (journal_rows-is version setup start read.events) in
-    (ahead, inl (j, amid, text))
+    (ahead, beyond, inl (j, amid, text))
 
-pub journal_follows : (known rest left : Option (List ℕ)) (ahead : List ℕ) (version : ℕ) (setup : Setup) (start number n : ℕ) (old mid new : Option (List ℕ)) (waiting : List ℕ) (result : Status)
-    → setup.spec.kind ≡ kind.Fixed n → Opens known rest version number (Ok (setup, start)) → Adds old mid [] waiting (rows_text (opening setup.spec start))
+pub journal_follows : (known rest left : Option (List ℕ)) (ahead : List ℕ) (given version : ℕ) (setup : Setup) (start number : ℕ) (old mid new : Option (List ℕ)) (waiting : List ℕ) (result : Status)
+    → Opens known rest version number (Ok (setup, start)) → Adds old mid [] waiting (rows_text (opening setup.spec start))
     → Follows version setup.spec (opening setup.spec start) start number rest (prepend_known ahead left) waiting mid new result → IsFollowed result
-    → Replays known left old new result
-journal_follows None rest left ahead version setup start number n old mid new waiting result is h adds follows followed = tt
-journal_follows (Some xs) None left ahead version setup start number n old mid new waiting result is h adds follows followed = absurd h
-journal_follows (Some xs) (Some ys) left ahead version setup start number n old mid new waiting result is h adds follows followed =
+    → (result ≡ status.ReadFault → length ahead ≡ given - most_taken) → Replays known left given old new result
+journal_follows None rest left ahead given version setup start number old mid new waiting result h adds follows followed beyond = tt
+journal_follows (Some xs) None left ahead given version setup start number old mid new waiting result h adds follows followed beyond = absurd h
+journal_follows (Some xs) (Some ys) left ahead given version setup start number old mid new waiting result h adds follows followed beyond =
     let s = setup.spec in
     let c = opening s start in
     let r = read_events version start number (lines ys) in
-    let P : Verdict → Type 0 = λ v. Writes (report_of v) (status_by (refusal_of v)) (BreaksAhead xs left) old new result in
+    let P : Verdict → Type 0 = λ v. Writes (report_of v) (status_by (refusal_of v)) (BreaksBeyond xs left given) old new result in
     let text : adds.written ++ (waiting ++ rest_of_report version s c r) ≡ report_of (from_read version setup start r) =
     sym (append_assoc adds.written waiting (rest_of_report version s c r)) ∙ ap (λ (z : List ℕ). z ++ rest_of_report version s c r) (sym adds.all) ∙ sym (report_is version setup start r) in
     let end : status_by r.refused ≡ status_by (refusal_of (from_read version setup start r)) = sym (status_is (journal_of version setup start r.events) r.refused) in
-    let all = writes_after adds.written _ _ _ (BreaksAhead xs left) old mid new result adds.held
-    (λ front breaks. breaks_after xs version setup start number ys ahead left adds.written waiting front h adds.all breaks) followed follows in
-    subst P (sym (judged_fixed xs version setup start number n (lines ys) is h))
-    (subst (λ (z : List ℕ). Writes z (status_by (refusal_of (from_read version setup start r))) (BreaksAhead xs left) old new result) text
-    (subst (λ (x : Status). Writes (adds.written ++ (waiting ++ rest_of_report version s c r)) x (BreaksAhead xs left) old new result) end all))
+    let all = writes_after adds.written _ _ _ (BreaksBeyond xs left given) old mid new result adds.held
+    (λ fault front breaks. breaks_after xs version setup start number ys ahead left given adds.written waiting front h adds.all (beyond fault) breaks) followed follows in
+    subst P (sym (opened_verdict xs version setup start number (lines ys) h))
+    (subst (λ (z : List ℕ). Writes z (status_by (refusal_of (from_read version setup start r))) (BreaksBeyond xs left given) old new result) text
+    (subst (λ (x : Status). Writes (adds.written ++ (waiting ++ rest_of_report version s c r)) x (BreaksBeyond xs left given) old new result) end all))
 
 -- the opening's rows were not all written
-pub journal_cut : (known rest left : Option (List ℕ)) (version : ℕ) (setup : Setup) (start number n : ℕ) (old new : Option (List ℕ))
-    → setup.spec.kind ≡ kind.Fixed n → Opens known rest version number (Ok (setup, start)) → AppendsPrefix old new (rows_text (opening setup.spec start))
-    → Replays known left old new status.WriteFault
-journal_cut None rest left version setup start number n old new is h some = tt
-journal_cut (Some xs) None left version setup start number n old new is h some = absurd h
-journal_cut (Some xs) (Some ys) left version setup start number n old new is h some =
+pub journal_cut : (known rest left : Option (List ℕ)) (given version : ℕ) (setup : Setup) (start number : ℕ) (old new : Option (List ℕ))
+    → Opens known rest version number (Ok (setup, start)) → AppendsPrefix old new (rows_text (opening setup.spec start))
+    → Replays known left given old new status.WriteFault
+journal_cut None rest left given version setup start number old new h some = tt
+journal_cut (Some xs) None left given version setup start number old new h some = absurd h
+journal_cut (Some xs) (Some ys) left given version setup start number old new h some =
     let r = read_events version start number (lines ys) in
-    subst (λ (v : Verdict). AppendsPrefix old new (report_of v)) (sym (judged_fixed xs version setup start number n (lines ys) is h))
+    subst (λ (v : Verdict). AppendsPrefix old new (report_of v)) (sym (opened_verdict xs version setup start number (lines ys) h))
     (subst (AppendsPrefix old new) (sym (report_is version setup start r)) (prefix_more old new _ (rest_of_report version setup.spec (opening setup.spec start) r) some))
 
-judged_scaled : (xs : List ℕ) (version : ℕ) (setup : Setup) (start number : ℕ) (left : List (List ℕ)) → setup.spec.kind ≡ kind.Kpa → Opened (lines xs) version setup start number left → judged xs ≡ not_built
-unfolding judged
-judged_scaled xs version setup start number left h k =
-    let r = read_events version start number left in
-    ap built (opened_verdict xs version setup start number left k) ∙ built_scaled (journal_of version setup start r.events) r.refused h
-
--- a revision that scales
-pub journal_scales : (known rest left : Option (List ℕ)) (version : ℕ) (setup : Setup) (start number : ℕ) (out : Option (List ℕ))
-    → setup.spec.kind ≡ kind.Kpa → Opens known rest version number (Ok (setup, start)) → Replays known left out out (status_by (refusal_of not_built))
-journal_scales None rest left version setup start number out is h = tt
-journal_scales (Some xs) None left version setup start number out is h = absurd h
-journal_scales (Some xs) (Some ys) left version setup start number out is h =
-    let r = read_events version start number (lines ys) in
-    let all : judged xs ≡ not_built = judged_scaled xs version setup start number (lines ys) is h in
-    subst (λ (v : Verdict). Writes (report_of v) (status_by (refusal_of v)) (BreaksAhead xs left) out out (status_by (refusal_of not_built))) (sym all) (refl, Appends-nil out)
-
-pub journal_memory : (known left : Option (List ℕ)) (out : Option (List ℕ)) → Replays known left out out status.Memory
-journal_memory None left out = tt
-journal_memory (Some xs) left out = Appends-nil out
+pub journal_memory : (known left : Option (List ℕ)) (given : ℕ) (out : Option (List ℕ)) → Replays known left given out out status.Memory
+journal_memory None left given out = tt
+journal_memory (Some xs) left given out = Appends-nil out
 
 -- no start was read
-pub journal_fails : (known left : Option (List ℕ)) (ahead : List ℕ) (version number : ℕ) (e : JournalError) (out : Option (List ℕ)) → Opens known (prepend_known ahead left) version number (Err e)
-    → Replays known left out out (status_of e)
-unfolding judged
-journal_fails None left ahead version number e out h = tt
-journal_fails (Some xs) left ahead version number error.ReadFault out h = ([], Appends-nil out, (ahead, inr (refl, h)))
-journal_fails (Some xs) left ahead version number error.Memory out h = Appends-nil out
-journal_fails (Some xs) left ahead version number error.BadFirstLine out (cause, is, h) = rw h (ap status_of (sym is), Appends-nil out)
-journal_fails (Some xs) left ahead version number (error.BadSetup line why) out (cause, is, h) = rw h (ap status_of (sym is), Appends-nil out)
-journal_fails (Some xs) left ahead version number (error.LineTooLong line) out (cause, is, h) = rw h (ap status_of (sym is), Appends-nil out)
-journal_fails (Some xs) left ahead version number (error.BadLine line why) out (cause, is, h) = rw h (ap status_of (sym is), Appends-nil out)
-journal_fails (Some xs) left ahead version number (error.TimeBack line before own) out (cause, is, h) = rw h (ap status_of (sym is), Appends-nil out)
-journal_fails (Some xs) left ahead version number (error.TimeTooLarge line) out (cause, is, h) = rw h (ap status_of (sym is), Appends-nil out)
-journal_fails (Some xs) left ahead version number error.NoEnd out (cause, is, h) = rw h (ap status_of (sym is), Appends-nil out)
-journal_fails (Some xs) left ahead version number (error.AfterEnd line) out (cause, is, h) = rw h (ap status_of (sym is), Appends-nil out)
+pub journal_fails : (known left : Option (List ℕ)) (ahead : List ℕ) (given version number : ℕ) (e : JournalError) (out : Option (List ℕ)) → Opens known (prepend_known ahead left) version number (Err e)
+    → (e ≡ error.ReadFault → length ahead ≡ given - most_taken) → Replays known left given out out (status_of e)
+journal_fails None left ahead given version number e out h beyond = tt
+journal_fails (Some xs) left ahead given version number error.ReadFault out h beyond = ([], Appends-nil out, (ahead, beyond refl, inr (refl, h)))
+journal_fails (Some xs) left ahead given version number error.Memory out h beyond = Appends-nil out
+journal_fails (Some xs) left ahead given version number error.BadFirstLine out (cause, is, h) beyond = rw h (ap status_of (sym is), Appends-nil out)
+journal_fails (Some xs) left ahead given version number (error.BadSetup line why) out (cause, is, h) beyond = rw h (ap status_of (sym is), Appends-nil out)
+journal_fails (Some xs) left ahead given version number (error.LineTooLong line) out (cause, is, h) beyond = rw h (ap status_of (sym is), Appends-nil out)
+journal_fails (Some xs) left ahead given version number (error.BadLine line why) out (cause, is, h) beyond = rw h (ap status_of (sym is), Appends-nil out)
+journal_fails (Some xs) left ahead given version number (error.TimeBack line before own) out (cause, is, h) beyond = rw h (ap status_of (sym is), Appends-nil out)
+journal_fails (Some xs) left ahead given version number (error.TimeTooLarge line) out (cause, is, h) beyond = rw h (ap status_of (sym is), Appends-nil out)
+journal_fails (Some xs) left ahead given version number error.NoEnd out (cause, is, h) beyond = rw h (ap status_of (sym is), Appends-nil out)
+journal_fails (Some xs) left ahead given version number (error.AfterEnd line) out (cause, is, h) beyond = rw h (ap status_of (sym is), Appends-nil out)
+
+-- what is ahead at a fault was given beyond 2^56 bytes
+pub beyond_is : (input : Ahead) (given : ℕ) → input.taken + length input.ahead ≡ given → IsSpent input → length input.ahead ≡ given - most_taken
+beyond_is input given h (few, inl none) = omega (arith, ap length none, few, h)
+beyond_is input given h (few, inr all) = omega (arith, all, h)
 
 pub nothing_ahead : (ahead : List ℕ) (left : Option (List ℕ)) → ahead ≡ [] → prepend_known ahead left ≡ left
 nothing_ahead ahead None h = refl
@@ -647,10 +617,6 @@ followed_replayed status.ReadFault h = h
 followed_replayed status.WriteFault h = h
 followed_replayed (status.SlotFault slot) h = h
 followed_replayed status.ListenFault h = h
-
-pub fixed_kind : (k : Kind) → IsFixed k → (n : ℕ) × (k ≡ kind.Fixed n)
-fixed_kind (kind.Fixed n) h = (n, refl)
-fixed_kind kind.Kpa h = absurd h
 
 pub never_ok : (e : JournalError) → status_of e ≡ status.Ok → ⊥
 never_ok error.ReadFault h = cc

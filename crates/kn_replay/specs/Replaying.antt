@@ -1,5 +1,5 @@
 -- What replaying a journal writes, and how it ends.
-use Rattle.std.specs.Prelude.{◌≡◌, ◌⊎◌, ℕ, ◌+◌, ◌++◌, ◌≤◌, List, [], ◌∷◌, length, Option, None, Some, Result, Ok, Err, ⊤}
+use Rattle.std.specs.Prelude.{◌≡◌, ◌⊎◌, ℕ, ◌+◌, ◌-◌, ◌++◌, ◌≤◌, List, [], ◌∷◌, length, Option, None, Some, Result, Ok, Err, ⊤}
 use Rattle.std.specs.Io.KnownBytes.{Appends, prepend_known}
 use Rattle.kn_event.specs.declared.entry.Entry.{Entry}
 use Rattle.kn_event.specs.declared.event.Event.{Event}
@@ -23,7 +23,7 @@ use Rattle.kn_journal.specs.Lines.{lines}
 use Rattle.kn_journal.specs.Parts.{part}
 use Rattle.kn_journal.specs.Reading.{TakesPart, most_taken}
 use Rattle.kn_journal.specs.Telling.{StopsAmid}
-use Rattle.kn_replay.specs.Report.{journal_rows, judged, report_of}
+use Rattle.kn_replay.specs.Report.{journal_rows, report_of}
 use Rattle.kn_replay.specs.Tally.{Counted}
 
 -- ---- how a replay ends
@@ -100,15 +100,15 @@ Breaks xs left front =
     ((j : Journal) × BreaksAmid (lines xs) left j × (front ≡ journal_rows j))
     ⊎ ((front ≡ []) × (BreaksBefore (lines xs) left ⊎ StopsAmid (opening_part version_of 0) (Some xs) left))
 
--- what a reader kept ahead of what it took
-abbrev pub BreaksAhead : List ℕ → Option (List ℕ) → List ℕ → Type 0
-BreaksAhead xs left front = (ahead : List ℕ) × Breaks xs (prepend_known ahead left) front
+-- so many bytes were given, and all of them taken but those beyond 2^56
+abbrev pub BreaksBeyond : List ℕ → Option (List ℕ) → ℕ → List ℕ → Type 0
+BreaksBeyond xs left given front = (beyond : List ℕ) × (length beyond ≡ given - most_taken) × Breaks xs (prepend_known beyond left) front
 
--- ---- a replay of an input with these bytes
+-- ---- a replay of an input with these bytes, which gave so many of them
 
-abbrev pub Replays : Option (List ℕ) → Option (List ℕ) → Option (List ℕ) → Option (List ℕ) → Status → Type 0
-Replays None left old new result = ⊤
-Replays (Some xs) left old new result = Writes (report_of (judged xs)) (status_by (refusal_of (judged xs))) (BreaksAhead xs left) old new result
+abbrev pub Replays : Option (List ℕ) → Option (List ℕ) → ℕ → Option (List ℕ) → Option (List ℕ) → Status → Type 0
+Replays None left given old new result = ⊤
+Replays (Some xs) left given old new result = Writes (report_of (verdict xs)) (status_by (refusal_of (verdict xs))) (BreaksBeyond xs left given) old new result
 
 -- nothing is left of the bytes
 abbrev pub EndsThere : Option (List ℕ) → Option (List ℕ) → Type 0

@@ -1,5 +1,5 @@
 //! The command of `kact`: it replays a journal and writes its report.
-ghost use Rattle.std.specs.Prelude.{◌≡◌, ◌⊎◌, ◌↔◌, ◌+◌, ◌≤◌, ℕ, false, map, string_bytes, take, true};
+ghost use Rattle.std.specs.Prelude.{◌≡◌, ◌⊎◌, ◌↔◌, ◌+◌, ◌-◌, ◌≤◌, ℕ, false, map, string_bytes, take, true};
 ghost use Rattle.kn_io.specs.Causes.{Rose};
 ghost use Rattle.kn_event.specs.declared.event.Event.{Event};
 ghost use Rattle.kn_trace.specs.Events.{trace_of};
@@ -58,7 +58,7 @@ pub fn run<S: Source, O: Sink, E: Sink>(
     ensures unwritten { result ≡ Status.Usage → out.new ≡ out.old }
 
     // The report of the bytes, and the first refused line with its cause.
-    ensures report { is_replay (map string_bytes words.now) ≡ true → Replays (S.left input.old) (S.left input.new) (O.held out.old) (O.held out.new) result }
+    ensures report { is_replay (map string_bytes words.now) ≡ true → Replays (S.left input.old) (S.left input.new) (S.given input.new - S.given input.old) (O.held out.old) (O.held out.new) result }
     ensures only { (result ≡ Status.Usage) ⊎ IsReplayed result }
     ensures ended { result ≡ Status.Ok → EndsThere (S.left input.old) (S.left input.new) }
     ensures memory { result ≡ Status.Memory → out.new ≡ out.old }

@@ -1,13 +1,13 @@
 //! A journal that is replayed, event after event.
-ghost use Rattle.std.specs.Prelude.{◌≡◌, ◌≢◌, ◌⊎◌, ◌+◌, ◌*◌, ◌<◌, ◌≤◌, ◌^◌, [], ◌++◌, length, Err, IfOk, IfErr, OnOk, OnErr, None, Some, false, true};
+ghost use Rattle.std.specs.Prelude.{◌≡◌, ◌≢◌, ◌⊎◌, ◌+◌, ◌-◌, ◌*◌, ◌<◌, ◌≤◌, ◌^◌, [], ◌++◌, length, Err, IfOk, IfErr, OnOk, OnErr, None, Some, false, true};
 ghost use Rattle.kn_io.specs.Causes.{HasCause, Rose};
 ghost use Rattle.kn_io.specs.Prefix.{AppendsPrefix};
 ghost use Rattle.kn_event.specs.EventLine.{IsInJournalRange};
 ghost use Rattle.kn_trace.specs.Trace.{Trace};
 ghost use Rattle.kn_trace.specs.Events.{opening, react};
 ghost use Rattle.kn_trace.specs.Report.{last_line, rows_text, totals};
-ghost use Rattle.kn_core.specs.State.{IsFixed, StandsFor};
-ghost use Rattle.kn_journal.specs.Reading.{IsBalanced, most_taken, unread};
+ghost use Rattle.kn_core.specs.State.{StandsFor};
+ghost use Rattle.kn_journal.specs.Reading.{IsBalanced, IsSpent, most_taken, unread};
 ghost use Rattle.kn_journal.specs.Journal.{time_most};
 ghost use Rattle.kn_replay.specs.Replaying.{EndsThere, Follows, IsFollowed, IsReplayed, Opens, Replays, Stops, status_of};
 ghost use Rattle.kn_replay.specs.Waiting.{Adds};
@@ -15,9 +15,9 @@ ghost use Rattle.kn_replay.specs.Waiting.{Adds};
 use crate::report::Tally;
 use crate::waiting::{Waiting, add_rows};
 use kn_core::Revision;
-use kn_event::{EntryLog, Event, Kind, Line, Memory, Spec};
+use kn_event::{EntryLog, Event, Line, Memory, Spec};
 use kn_io::{Failed, Sink, Source};
-use kn_journal::{JournalError, JournalReader, Setup, SetupError, Status};
+use kn_journal::{JournalError, JournalReader, Setup, Status};
 use std::alloc::Global;
 use std::marker::Model;
 
@@ -59,7 +59,6 @@ impl Replay {
     /// Opens the revision, with all the memory that it will ever have.
     fn new(alloc: Global, spec: Spec, start: u64) -> Result<Replay, Memory>
         requires times { start ≤ 2 ^ 42 }
-        requires fixed { IsFixed spec.kind }
         ensures stands { IfOk result (λ r. StandsFor r.revision (opening spec start)) }
         ensures spec { IfOk result (λ r. r.revision.spec ≡ spec) }
         ensures clock { IfOk result (λ r. r.revision.clock ≡ start) }
@@ -167,11 +166,13 @@ impl Replay {
         requires clock { self.old.revision.clock ≤ 2 ^ 42 }
         requires events { self.old.revision.events ≡ 0 }
         requires rows { self.old.counted.rows < 2 ^ 64 }
+        requires few { reader.old.input.taken ≤ most_taken }
         ensures follows { (c : Trace) → StandsFor self.old.revision c → self.old.counted.totals ≡ totals c →
             Follows reader.old.version self.old.revision.spec c reader.old.last reader.old.number (unread reader.old.input (S.left source.old)) (unread reader.new.input (S.left source.new)) self.old.waiting (O.held out.old) (O.held out.new) result }
         ensures followed { IsFollowed result }
         ensures ended { result ≡ Status.Ok → EndsThere (unread reader.old.input (S.left source.old)) (unread reader.new.input (S.left source.new)) }
         ensures read_fault { result ≡ Status.ReadFault → Rose (S.Faulty.faults source.old) (S.Faulty.faults source.new) ⊎ (most_taken ≤ reader.new.input.taken) }
+        ensures spent { result ≡ Status.ReadFault → IsSpent reader.new.input }
         ensures write_fault { result ≡ Status.WriteFault → Rose (O.Faulty.faults out.old) (O.Faulty.faults out.new) }
         ensures balance { IsBalanced reader.old.input reader.new.input (S.given source.old) (S.given source.new) }
         ensures never_falls { S.Faulty.faults source.old ≤ S.Faulty.faults source.new }
@@ -207,6 +208,8 @@ fn open<S: Source>(
     ensures most { IfOk result (λ parts. parts.1 ≤ time_most) }
     ensures good { OnOk result (reader.new.failed ≡ None) }
     ensures fault { result ≡ Err JournalError.ReadFault → Rose (S.Faulty.faults source.old) (S.Faulty.faults source.new) ⊎ (reader.new.input.taken ≡ most_taken) }
+    ensures spent { result ≡ Err JournalError.ReadFault → IsSpent reader.new.input }
+    ensures few { OnOk result (reader.new.input.taken ≤ most_taken) }
     ensures balance { IsBalanced reader.old.input reader.new.input (S.given source.old) (S.given source.new) }
     ensures never_falls { S.Faulty.faults source.old ≤ S.Faulty.faults source.new }
 {
@@ -220,21 +223,10 @@ fn open<S: Source>(
     }
 }
 
-/// Whether the revision is of a kind that is built so far.
-fn is_fixed(spec: &Spec) -> bool
-    ensures fixed { result ≡ true → IsFixed spec.now.kind }
-    ensures scaled { result ≡ false → spec.now.kind ≡ Kind.Kpa }
-{
-    match spec.kind {
-        Kind::Fixed(_) => true,
-        Kind::Kpa => false,
-    }
-}
-
 /// Replays the journal that the source gives, and writes its report.
 #[tactic(none)]
 pub fn replay_journal<S: Source, O: Sink>(alloc: Global, source: &mut S, out: &mut O) -> Status
-    ensures report { Replays (S.left source.old) (S.left source.new) (O.held out.old) (O.held out.new) result }
+    ensures report { Replays (S.left source.old) (S.left source.new) (S.given source.new - S.given source.old) (O.held out.old) (O.held out.new) result }
     ensures replayed { IsReplayed result }
     ensures ended { result ≡ Status.Ok → EndsThere (S.left source.old) (S.left source.new) }
     ensures memory { result ≡ Status.Memory → out.new ≡ out.old }
@@ -252,9 +244,6 @@ pub fn replay_journal<S: Source, O: Sink>(alloc: Global, source: &mut S, out: &m
         Err(error) => return status_of(error),
     };
     let Setup { spec, text: _ } = setup;
-    if !is_fixed(&spec) {
-        return Status::BadSetup(JournalError::BadSetup(2, SetupError::BadWord));
-    }
     let mut replay = match Replay::new(alloc, spec, start) {
         Ok(replay) => replay,
         Err(Memory) => return Status::Memory,

@@ -1,4 +1,4 @@
-use Rattle.std.proofs.Common.{rules, ◌≡◌, ◌≤◌, ◌+◌, ℕ, List, [], ◌++◌, length, refl, sym, ap, ◌∙◌, subst, arith, inl, inr}
+use Rattle.std.proofs.Common.{rules, ◌≡◌, ◌≤◌, ◌+◌, ◌-◌, ℕ, List, [], ◌++◌, length, refl, sym, ap, ◌∙◌, subst, arith, inl, inr}
 use Rattle.std.specs.Prelude.{Option, Result, Err, Ok}
 use Rattle.std.proofs.lemmas.Grind.{common_steps}
 use Rattle.std.proofs.KnownBytes.{Appends-nil}
@@ -7,7 +7,7 @@ use Rattle.kn_event.specs.declared.revision.Spec.{Spec}
 use Rattle.kn_io.specs.Prefix.{AppendsPrefix}
 use Rattle.kn_trace.specs.Events.{opening}
 use Rattle.kn_trace.specs.Report.{rows_text, totals}
-use Rattle.kn_core.specs.State.{IsFixed, RevisionState, StandsFor}
+use Rattle.kn_core.specs.State.{RevisionState, StandsFor}
 use Rattle.kn_journal.specs.declared.error.JournalError.{JournalError}
 use Rattle.kn_journal.specs.declared.journal.Setup.{Setup}
 use Rattle.kn_journal.specs.declared.status.Status.{Status}
@@ -16,12 +16,12 @@ use Rattle.kn_journal.specs.Reading.{unread}
 use Rattle.kn_replay.specs.Replaying.{Follows, Opens, Replays, status_of}
 use Rattle.kn_replay.specs.Tally.{Counted}
 use Rattle.kn_replay.specs.Waiting.{Adds}
-use Rattle.kn_replay.proofs.Replays.{either, ends_left, ends_opened, fault_of, fixed_kind, followed_replayed, journal_cut, journal_fails, journal_follows, journal_memory, journal_scales, never_memory, never_ok, no_write_fault, nothing_ahead, rose_on}
+use Rattle.kn_replay.proofs.Replays.{beyond_is, either, ends_left, ends_opened, fault_of, followed_replayed, journal_cut, journal_fails, journal_follows, journal_memory, never_memory, never_ok, no_write_fault, nothing_ahead, rose_on}
 use Rattle.kn_replay.proofs.replay.replay_journal.Goals as goal
 
 pub returns-in-Err-clause-report : goal.returns-in-Err-clause-report
 returns-in-Err-clause-report g c =
-    journal_memory (g.S.Source.left c.args.source.now) (g.S.Source.left c.args.source.now) (g.O.Sink.held c.args.out.now)
+    journal_memory (g.S.Source.left c.args.source.now) (g.S.Source.left c.args.source.now) (g.S.Source.given c.args.source.now - g.S.Source.given c.args.source.now) (g.O.Sink.held c.args.out.now)
 
 pub returns-in-Err-clause-ended : goal.returns-in-Err-clause-ended
 returns-in-Err-clause-ended g c is = cc
@@ -51,7 +51,8 @@ pub returns-in-Err-open-clause-report : goal.returns-in-Err-open-clause-report
 returns-in-Err-open-clause-report g c =
     let start = nothing_ahead c.in-Ok.reader.input.ahead (g.S.Source.left c.args.source.now) c.in-Ok.ensures.ahead in
     let opens = subst (λ (x : Option (List ℕ)). Opens x (unread c.open.new.reader.input (g.S.Source.left c.open.new.source)) c.open.new.reader.version c.open.new.reader.number (Err c.in-Err-open.error)) start c.in-Err-open.ensures.opens in
-    rw c.status_of.ensures.value (journal_fails (g.S.Source.left c.args.source.now) (g.S.Source.left c.open.new.source) c.open.new.reader.input.ahead c.open.new.reader.version c.open.new.reader.number c.in-Err-open.error (g.O.Sink.held c.args.out.now) opens)
+    rw c.status_of.ensures.value (journal_fails (g.S.Source.left c.args.source.now) (g.S.Source.left c.open.new.source) c.open.new.reader.input.ahead (g.S.Source.given c.open.new.source - g.S.Source.given c.args.source.now) c.open.new.reader.version c.open.new.reader.number c.in-Err-open.error (g.O.Sink.held c.args.out.now) opens
+    (λ is. beyond_is c.open.new.reader.input _ (omega (arith, c.open.ensures.balance, c.in-Ok.ensures.taken, ap length c.in-Ok.ensures.ahead)) (c.open.ensures.spent (c.in-Err-open.is ∙ ap (λ (e : JournalError). Err e) is))))
 
 pub returns-in-Err-open-clause-replayed : goal.returns-in-Err-open-clause-replayed
 returns-in-Err-open-clause-replayed g c = c.status_of.ensures.replayed
@@ -77,39 +78,12 @@ returns-in-Err-open-clause-never_falls g c = c.open.ensures.never_falls
 pub returns-in-Err-open-clause-out_never_falls : goal.returns-in-Err-open-clause-out_never_falls
 returns-in-Err-open-clause-out_never_falls g c = omega arith
 
-pub returns-then-not-is_fixed-clause-report : goal.returns-then-not-is_fixed-clause-report
-returns-then-not-is_fixed-clause-report g c =
-    let start = nothing_ahead c.in-Ok.reader.input.ahead (g.S.Source.left c.args.source.now) c.in-Ok.ensures.ahead in
-    let opens = subst (λ (x : Option (List ℕ)). Opens x (unread c.open.new.reader.input (g.S.Source.left c.open.new.source)) c.open.new.reader.version c.open.new.reader.number (Ok c.in-Ok-open.parts)) start c.in-Ok-open.ensures.opens in
-    journal_scales (g.S.Source.left c.args.source.now) (unread c.open.new.reader.input (g.S.Source.left c.open.new.source)) (g.S.Source.left c.open.new.source) c.open.new.reader.version c.in-Ok-open.parts.0 c.in-Ok-open.parts.1 c.open.new.reader.number (g.O.Sink.held c.args.out.now) (search rules) opens
-
-pub returns-then-not-is_fixed-clause-ended : goal.returns-then-not-is_fixed-clause-ended
-returns-then-not-is_fixed-clause-ended g c is = cc
-
-pub returns-then-not-is_fixed-clause-memory : goal.returns-then-not-is_fixed-clause-memory
-returns-then-not-is_fixed-clause-memory g c is = cc
-
-pub returns-then-not-is_fixed-clause-read_fault : goal.returns-then-not-is_fixed-clause-read_fault
-returns-then-not-is_fixed-clause-read_fault g c is = cc
-
-pub returns-then-not-is_fixed-clause-write_fault : goal.returns-then-not-is_fixed-clause-write_fault
-returns-then-not-is_fixed-clause-write_fault g c is = cc
-
-pub returns-then-not-is_fixed-clause-never_falls : goal.returns-then-not-is_fixed-clause-never_falls
-returns-then-not-is_fixed-clause-never_falls g c = c.open.ensures.never_falls
-
-pub returns-then-not-is_fixed-clause-out_never_falls : goal.returns-then-not-is_fixed-clause-out_never_falls
-returns-then-not-is_fixed-clause-out_never_falls g c = omega arith
-
-pub new-requires-2-clause-times : goal.new-requires-2-clause-times
-new-requires-2-clause-times g c = c.in-Ok-open.ensures.most
-
-pub new-requires-2-clause-fixed : goal.new-requires-2-clause-fixed
-new-requires-2-clause-fixed g c = search rules
+pub new-requires-2 : goal.new-requires-2
+new-requires-2 g c = record { times = c.in-Ok-open.ensures.most }
 
 pub returns-in-Err-new-clause-report : goal.returns-in-Err-new-clause-report
 returns-in-Err-new-clause-report g c =
-    journal_memory (g.S.Source.left c.args.source.now) (g.S.Source.left c.open.new.source) (g.O.Sink.held c.args.out.now)
+    journal_memory (g.S.Source.left c.args.source.now) (g.S.Source.left c.open.new.source) (g.S.Source.given c.open.new.source - g.S.Source.given c.args.source.now) (g.O.Sink.held c.args.out.now)
 
 pub returns-in-Err-new-clause-ended : goal.returns-in-Err-new-clause-ended
 returns-in-Err-new-clause-ended g c is = cc
@@ -133,10 +107,8 @@ pub returns-in-Err-put_rows-clause-report : goal.returns-in-Err-put_rows-clause-
 returns-in-Err-put_rows-clause-report g c =
     let start = nothing_ahead c.in-Ok.reader.input.ahead (g.S.Source.left c.args.source.now) c.in-Ok.ensures.ahead in
     let opens = subst (λ (x : Option (List ℕ)). Opens x (unread c.open.new.reader.input (g.S.Source.left c.open.new.source)) c.open.new.reader.version c.open.new.reader.number (Ok c.in-Ok-open.parts)) start c.in-Ok-open.ensures.opens in
-    let fixed : IsFixed c.in-Ok-open.parts.0.spec.kind = search rules in
-    let built = fixed_kind c.in-Ok-open.parts.0.spec.kind fixed in
     let some = rw (c.in-Ok-new.ensures.waiting, c.in-Ok-new.ensures.log) at c.in-Err-put_rows.ensures.err in
-    journal_cut (g.S.Source.left c.args.source.now) (unread c.open.new.reader.input (g.S.Source.left c.open.new.source)) (g.S.Source.left c.open.new.source) c.open.new.reader.version c.in-Ok-open.parts.0 c.in-Ok-open.parts.1 c.open.new.reader.number built.0 (g.O.Sink.held c.args.out.now) (g.O.Sink.held c.put_rows.new.out) built.1 opens some
+    journal_cut (g.S.Source.left c.args.source.now) (unread c.open.new.reader.input (g.S.Source.left c.open.new.source)) (g.S.Source.left c.open.new.source) (g.S.Source.given c.open.new.source - g.S.Source.given c.args.source.now) c.open.new.reader.version c.in-Ok-open.parts.0 c.in-Ok-open.parts.1 c.open.new.reader.number (g.O.Sink.held c.args.out.now) (g.O.Sink.held c.put_rows.new.out) opens some
 
 pub returns-in-Err-put_rows-clause-ended : goal.returns-in-Err-put_rows-clause-ended
 returns-in-Err-put_rows-clause-ended g c is = cc
@@ -172,6 +144,9 @@ pub follow-requires-clause-events : goal.follow-requires-clause-events
 follow-requires-clause-events g c =
     ap (λ (r : RevisionState). r.events) c.put_rows.ensures.revision ∙ c.in-Ok-new.ensures.events
 
+pub follow-requires-clause-few : goal.follow-requires-clause-few
+follow-requires-clause-few g c = c.in-Ok-open.ensures.few
+
 pub follow-requires-clause-rows : goal.follow-requires-clause-rows
 follow-requires-clause-rows g c =
     let rows = ap (λ (n : Counted). n.rows) c.put_rows.ensures.counted in
@@ -181,8 +156,6 @@ pub returns-clause-report : goal.returns-clause-report
 returns-clause-report g c =
     let start = nothing_ahead c.in-Ok.reader.input.ahead (g.S.Source.left c.args.source.now) c.in-Ok.ensures.ahead in
     let opens = subst (λ (x : Option (List ℕ)). Opens x (unread c.open.new.reader.input (g.S.Source.left c.open.new.source)) c.open.new.reader.version c.open.new.reader.number (Ok c.in-Ok-open.parts)) start c.in-Ok-open.ensures.opens in
-    let fixed : IsFixed c.in-Ok-open.parts.0.spec.kind = search rules in
-    let built = fixed_kind c.in-Ok-open.parts.0.spec.kind fixed in
     let begun = opening c.in-Ok-open.parts.0.spec c.in-Ok-open.parts.1 in
     let left = (unread c.open.new.reader.input (g.S.Source.left c.open.new.source)) in
     let rest = unread c.follow.new.reader.input (g.S.Source.left c.follow.new.source) in
@@ -192,7 +165,8 @@ returns-clause-report g c =
     let one = subst (λ (s : Spec). Follows c.open.new.reader.version s begun c.open.new.reader.last c.open.new.reader.number left rest c.put_rows.new.self.waiting (g.O.Sink.held c.put_rows.new.out) (g.O.Sink.held c.follow.new.out) c.follow.result) spec (c.follow.ensures.follows begun stands counts) in
     let follows = subst (λ (n : ℕ). Follows c.open.new.reader.version c.in-Ok-open.parts.0.spec begun n c.open.new.reader.number left rest c.put_rows.new.self.waiting (g.O.Sink.held c.put_rows.new.out) (g.O.Sink.held c.follow.new.out) c.follow.result) c.in-Ok-open.ensures.start one in
     let adds = rw (c.in-Ok-new.ensures.waiting, c.in-Ok-new.ensures.log) at c.in-Ok-put_rows.ensures.ok in
-    journal_follows (g.S.Source.left c.args.source.now) left (g.S.Source.left c.follow.new.source) c.follow.new.reader.input.ahead c.open.new.reader.version c.in-Ok-open.parts.0 c.in-Ok-open.parts.1 c.open.new.reader.number built.0 (g.O.Sink.held c.args.out.now) (g.O.Sink.held c.put_rows.new.out) (g.O.Sink.held c.follow.new.out) c.put_rows.new.self.waiting c.follow.result built.1 opens adds follows c.follow.ensures.followed
+    journal_follows (g.S.Source.left c.args.source.now) left (g.S.Source.left c.follow.new.source) c.follow.new.reader.input.ahead (g.S.Source.given c.follow.new.source - g.S.Source.given c.args.source.now) c.open.new.reader.version c.in-Ok-open.parts.0 c.in-Ok-open.parts.1 c.open.new.reader.number (g.O.Sink.held c.args.out.now) (g.O.Sink.held c.put_rows.new.out) (g.O.Sink.held c.follow.new.out) c.put_rows.new.self.waiting c.follow.result opens adds follows c.follow.ensures.followed
+    (λ is. beyond_is c.follow.new.reader.input _ (omega (arith, c.open.ensures.balance, c.follow.ensures.balance, c.in-Ok.ensures.taken, ap length c.in-Ok.ensures.ahead)) (c.follow.ensures.spent is))
 
 pub returns-clause-replayed : goal.returns-clause-replayed
 returns-clause-replayed g c = followed_replayed c.follow.result c.follow.ensures.followed
@@ -222,9 +196,6 @@ returns-clause-never_falls g c = omega (arith, c.open.ensures.never_falls, c.fol
 pub returns-clause-out_never_falls : goal.returns-clause-out_never_falls
 returns-clause-out_never_falls g c =
     omega (arith, c.put_rows.ensures.cause.never_falls, c.follow.ensures.out_never_falls)
-
-pub same-spec : goal.same-spec
-same-spec g c = refl
 
 pub same-replay : goal.same-replay
 same-replay g c = refl

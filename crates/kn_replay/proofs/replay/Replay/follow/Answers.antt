@@ -43,6 +43,7 @@ loop-count-init g c = record {
   events = c.requires.events;
   rows = c.requires.rows;
   taken = omega arith;
+  few = c.requires.few;
   balance = refl;
   read = omega arith;
   write = omega arith;
@@ -97,6 +98,11 @@ returns-in-Err-clause-read_fault g c fault =
     let kept = c.loop-count.invariant in
     let is = fault_of c.in-Err.error (stop_reads _ _ _ (status_of c.in-Err.error) c.stop.result (rw c.status_of.ensures.value at c.stop.ensures.stops) fault) in
     either (c.next.ensures.fault kept.good (c.in-Err.is ∙ ap (λ (e : JournalError). Err e) is)) (rose_on _ _ _ kept.read) (λ all. omega (arith, all))
+
+pub returns-in-Err-clause-spent : goal.returns-in-Err-clause-spent
+returns-in-Err-clause-spent g c fault =
+    let is = fault_of c.in-Err.error (stop_reads _ _ _ (status_of c.in-Err.error) c.stop.result (rw c.status_of.ensures.value at c.stop.ensures.stops) fault) in
+    c.next.ensures.spent c.loop-count.invariant.good (c.in-Err.is ∙ ap (λ (e : JournalError). Err e) is)
 
 pub returns-in-Err-clause-write_fault : goal.returns-in-Err-clause-write_fault
 returns-in-Err-clause-write_fault g c fault =
@@ -178,6 +184,7 @@ loop-count-preserved g c =
       events = grind (arith, common_steps);
       rows = grind (arith, common_steps);
       taken = omega (arith, kept.taken, bytes);
+      few = c.next.ensures.few kept.good;
       balance = omega (arith, kept.balance, c.next.ensures.balance);
       read = omega (arith, kept.read, c.next.ensures.never_falls);
       write = omega (arith, kept.write, c.put_rows.ensures.cause.never_falls);
@@ -191,6 +198,10 @@ returns-clause-follows g c d stands counts =
 
 pub returns-clause-read_fault : goal.returns-clause-read_fault
 returns-clause-read_fault g c fault = inr (omega (arith, c.loop-count.invariant.taken, c.loop-count-test.false))
+
+-- So many events have more bytes than may be taken.
+pub returns-clause-spent : goal.returns-clause-spent
+returns-clause-spent g c fault = absurd (omega (arith, c.loop-count.invariant.taken, c.loop-count.invariant.few, c.loop-count-test.false))
 
 pub returns-clause-write_fault : goal.returns-clause-write_fault
 returns-clause-write_fault g c fault = rose_on _ _ _ c.loop-count.invariant.write (c.stop-2.ensures.fault fault (λ is. cc))

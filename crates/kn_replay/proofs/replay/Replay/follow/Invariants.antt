@@ -4,7 +4,7 @@ use Rattle.kn_trace.specs.Trace.{Trace}
 use Rattle.kn_trace.specs.Events.{added}
 use Rattle.kn_trace.specs.Report.{rows_text, totals}
 use Rattle.kn_core.specs.State.{StandsFor}
-use Rattle.kn_journal.specs.Reading.{IsBalanced, unread}
+use Rattle.kn_journal.specs.Reading.{IsBalanced, most_taken, unread}
 use Rattle.kn_replay.specs.Waiting.{Adds}
 use Rattle.kn_replay.proofs.Replays.{GoesOn, IsStill}
 use Rattle.kn_replay.proofs.replay.Replay.follow.Given as goal
@@ -24,6 +24,7 @@ invariant-loop-count g l = record {
   events : l.self.revision.events ≡ l.count;
   rows : l.self.counted.rows < 2 ^ 64 * (l.count + 1);
   taken : l.fn.reader.input.taken + 6 * l.count ≤ l.reader.input.taken;
+  few : l.reader.input.taken ≤ most_taken;
   balance : IsBalanced l.fn.reader.input l.reader.input (g.S.Source.given l.fn.source) (g.S.Source.given l.source);
   read : g.S.Faulty.faults l.fn.source ≤ g.S.Faulty.faults l.source;
   write : g.O.Faulty.faults l.fn.out ≤ g.O.Faulty.faults l.out;
