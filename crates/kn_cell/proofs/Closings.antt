@@ -1,5 +1,5 @@
 -- Where one pass is all that there is, nobody has the turn, and the log has its numbers alone.
-use Rattle.std.proofs.Common.{◌≡◌, ◌⊎◌, inl, inr, ℕ, ◌+◌, ◌<◌, List, true, false, length, sym, ap, ◌∙◌, subst, arith}
+use Rattle.std.proofs.Common.{◌≡◌, ◌⊎◌, inl, inr, ℕ, ◌+◌, ◌<◌, ◌≤◌, List, [], ◌∷◌, ◌++◌, true, false, length, sym, ap, ◌∙◌, subst, arith}
 use Rattle.std.specs.Prelude.{cond}
 use mathlib.Core.Option as maybe
 use mathlib.Core.Option.{some, some-injective}
@@ -7,20 +7,23 @@ use native.Mathlib.Decide.{ℕ_discrete}
 use lib.ListN.{get_elem?}
 use Rattle.atomic_table.specs.Table.{Final, Seen}
 use Rattle.atomic_table.specs.Seated.{TableId}
+use Rattle.kn_event.specs.declared.event.Event.{Event}
 use Rattle.kn_event.specs.declared.revision.Spec.{Spec}
 use Rattle.kn_laws.specs.History.{IsMadeBy}
 use Rattle.kn_core.specs.State.{RevisionState, StandsFor}
+use Rattle.kn_trace.specs.Events.{react}
 use Rattle.kn_trace.specs.Trace.{Trace}
 use Rattle.kn_cell.specs.declared.past.Past.{Past}
 use Rattle.kn_cell.specs.declared.view.Key.{Key}
 use Rattle.kn_cell.specs.declared.view.View.{View}
 use Rattle.kn_cell.specs.State.{DeskState}
 use Rattle.kn_cell.specs.Lists.{StartsWith, Each}
-use Rattle.kn_cell.specs.History.{trace_after, clock_after, IsInBounds, IsLegal, rows_by}
+use Rattle.kn_cell.specs.History.{trace_after, clock_after, IsInBounds, IsLegal, IsLegalFrom, rows_by}
 use Rattle.kn_cell.specs.Views.{opening, weight, Has, Passes}
 use Rattle.kn_cell.specs.Rule.{GoesWith, IsResting, IsTaken, IsKept}
 use Rattle.kn_cell.specs.Shown.{shown, PassView, Closes, IsNumberOf}
 use Rattle.kn_cell.proofs.ListFacts.{at_same, two_weights}
+use Rattle.kn_cell.proofs.HistoryFacts.{legal-front}
 
 module _ (key : Key) (log : List Past) (views : List View) (id : ℕ) (v : View) (p : Passes key log views) (me : get_elem? views id ≡ some v) (fresh : v.spent ≡ false)
     (all : 1 + v.free + v.back ≡ v.key.passes) where
@@ -87,6 +90,21 @@ closes t key id v ws xs y fresh idle all f at =
     let there : get_elem? xs 0 ≡ some r.value = f.4 0 r.value (ap (λ l. get_elem? l 0) r.home) in
     let is : r.value ≡ y = some-injective r.value y (sym there ∙ at) in
     subst (λ (x : DeskState). Closes (shown t v) x.revision x.history) is (closes_with key k.log s.views id v k.passes me fresh all t r.value r.goes)
+
+-- rows that are legal go on from a trace that events made
+along_so : (P : Spec → Trace → Type 0) → ((s : Spec) (start clock count : ℕ) (c : Trace) → IsMadeBy s start clock count c → P s c)
+    → ((s : Spec) (start clock count : ℕ) (c : Trace) (e : Event) → IsMadeBy s start clock count c → clock ≤ e.time → IsMadeBy s start e.time (count + 1) (c ++ react s c e))
+    → (s : Spec) (start clock count : ℕ) (c : Trace) (h : List Past) → IsLegalFrom s clock c h → IsMadeBy s start clock count c → P s (trace_after s c h)
+along_so P law step s start clock count c [] legal made = law s start clock count c made
+along_so P law step s start clock count c (x ∷ xs) legal made =
+    along_so P law step s start x.event.time (count + 1) (c ++ react s c x.event) xs legal.2 (step s start clock count c x.event made legal.0)
+
+-- what is so of each trace that events made is so after each beginning of the history
+pub always_so : (P : Spec → Trace → Type 0) → ((s : Spec) (start clock count : ℕ) (c : Trace) → IsMadeBy s start clock count c → P s c)
+    → ((s : Spec) (start clock count : ℕ) (c : Trace) (e : Event) → IsMadeBy s start clock count c → clock ≤ e.time → IsMadeBy s start e.time (count + 1) (c ++ react s c e))
+    → (b : RevisionState) (h front : List Past) → IsLegal b h → StartsWith h front → (c : Trace) → StandsFor b c → P b.spec (trace_after b.spec c front)
+unfolding IsLegal
+always_so P law step b h front legal first c s = along_so P law step b.spec b.start b.clock b.events c front (legal-front b h front legal first c s) s.events
 
 -- what is so of each trace that events made is so of the trace after the whole history
 pub stays_so : (P : Spec → Trace → Type 0) → ((s : Spec) (start clock count : ℕ) (c : Trace) → IsMadeBy s start clock count c → P s c)

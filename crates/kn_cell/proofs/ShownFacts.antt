@@ -7,19 +7,20 @@ use Rattle.kn_event.specs.declared.event.Told.{Told}
 use Rattle.kn_cell.specs.declared.past.Past.{Past}
 use Rattle.kn_cell.specs.declared.past.Full.{Full}
 use Rattle.kn_cell.specs.declared.view.View.{View}
+use Rattle.kn_cell.specs.History.{IsInBounds}
 use Rattle.kn_cell.specs.State.{DeskState}
 use Rattle.kn_cell.specs.Rule.{Learns, without_turn}
 use Rattle.kn_cell.specs.Turns.{WaitsForTurn, RecordsRow, Overflows, row_of}
 use Rattle.kn_cell.specs.Shown.{shown, Looks, Adds, Misfits}
 use Rattle.kn_cell.proofs.ListFacts.{longer}
-use Rattle.kn_cell.proofs.HistoryFacts.{rows_by-own}
+use Rattle.kn_cell.proofs.HistoryFacts.{Each-one, rows_by-own}
 
 abbrev waited : View → List Past → ℕ → View
 waited v log k = record v { turn = true; seen = log; missed = k }
 
 -- the turn was given back with nothing recorded
 looks_still : (t : TableId) (v : View) (log : List Past) (k : ℕ) → v.missed ≤ k → (1 + v.free + v.back ≡ v.key.passes → k ≡ v.missed) → Learns v log → Looks (shown t v) (shown t (without_turn (waited v log k)))
-looks_still t v log k later alone l = record { same = refl; missed = later; alone = alone; longer = l.longer; others = l.others; legal = l.legal; own = l.own; some = l.bounded.some }
+looks_still t v log k later alone l = record { same = refl; missed = later; alone = alone; longer = l.longer; others = l.others; legal = l.legal; bounds = l.bounds; own = l.own; some = l.bounded.some }
 
 pub looks_idle : (t : TableId) (v : View) (m w : Me DeskState View) → WaitsForTurn v m → w ≡ (without_turn m.0, []) → Looks (shown t v) (shown t w.0)
 looks_idle t v m w got is =
@@ -38,6 +39,7 @@ looks_more t v log k act time told w later alone l r =
       longer = longer log v.seen (row ∷ []) l.longer;
       others = λ i o at. longer log o.seen (row ∷ []) (l.others i o at);
       legal = r.legal;
+      bounds = Each-one (λ r. IsInBounds r.event) log row l.bounds r.bounds;
       own = refl;
       some = l.bounded.some;
     }

@@ -25,7 +25,7 @@ gets_at v k c m later alone fresh g = record {
   missed = k;
   later = later;
   alone = alone;
-  learns = record { bounded = g.learns.bounded; legal = g.learns.legal; longer = g.learns.longer; others = g.learns.others; own = g.learns.own };
+  learns = record { bounded = g.learns.bounded; legal = g.learns.legal; bounds = g.learns.bounds; longer = g.learns.longer; others = g.learns.others; own = g.learns.own };
   view_is = ap (λ (x : Me DeskState View). x.0) g.after;
   has = subst HasTurn (sym g.after)
       record { turn = refl; fresh = fresh; value = g.value; slot = refl; goes = g.goes; bounded = g.learns.bounded; legal = g.learns.legal };

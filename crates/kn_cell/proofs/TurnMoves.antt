@@ -38,6 +38,7 @@ learns_of key log views id v p me fresh =
     record {
       bounded = subst IsBounded (sym mine.key_is) p.bounded;
       legal = subst (λ k. IsLegal (opening k) log) (sym mine.key_is) p.legal;
+      bounds = p.bounds;
       longer = mine.knows.front;
       others = λ k o at. (mine.joined k o at).front;
       own = mine.knows.whole;

@@ -9,7 +9,7 @@ use Rattle.kn_cell.specs.declared.past.Past.{Past}
 use Rattle.kn_cell.specs.declared.view.Key.{Key}
 use Rattle.kn_cell.specs.declared.view.View.{View}
 use Rattle.kn_cell.specs.Lists.{StartsWith, Each}
-use Rattle.kn_cell.specs.History.{trace_after, clock_after, IsLegal, rows_by}
+use Rattle.kn_cell.specs.History.{trace_after, clock_after, IsInBounds, IsLegal, rows_by}
 use Rattle.kn_cell.specs.State.{DeskState, live_in}
 use Rattle.kn_cell.specs.Views.{opening, Passes, IsBounded}
 
@@ -53,6 +53,7 @@ pub record IsKept (key : Key) (s : State DeskState View) : Type 0 where
 pub record Learns (v : View) (log : List Past) : Type 0 where
   pub bounded : IsBounded v.key
   pub legal : IsLegal (opening v.key) log
+  pub bounds : Each (λ r. IsInBounds r.event) log
   pub longer : StartsWith log v.seen
   pub others : Each (λ o. StartsWith log o.seen) v.others
   pub own : v.mine ≡ rows_by v.number log

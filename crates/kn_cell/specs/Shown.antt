@@ -58,7 +58,7 @@ pub record IsIdle (seat : Seat DeskState View) (number free passes : ℕ) : Type
   pub idle : seat.me.0.turn ≡ false
   pub empty : seat.me.1 ≡ []
 
--- the pass has seen more, and nothing else has changed but `mine` and `missed`
+-- the pass has seen more, and nothing else has changed but `mine` and `missed`. No row that it has seen lost a pod
 pub record Looks (old new : PassView) : Type 0 where
   pub same : new ≡ record old { seen = new.seen; mine = new.mine; missed = new.missed }
   pub missed : old.missed ≤ new.missed
@@ -66,6 +66,7 @@ pub record Looks (old new : PassView) : Type 0 where
   pub longer : StartsWith new.seen old.seen
   pub others : Each (λ o. StartsWith new.seen o.seen) old.others
   pub legal : IsLegal old.opening new.seen
+  pub bounds : Each (λ r. IsInBounds r.event) new.seen
   pub own : new.mine ≡ rows_by old.number new.seen
   pub some : StandsForSome old.opening
 

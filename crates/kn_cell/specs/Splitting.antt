@@ -1,5 +1,5 @@
 -- How a pass is cut in two, and how two are made one.
-use Rattle.std.specs.Prelude.{◌+◌, ◌-◌, [], ◌∷◌, ◌++◌, true, false}
+use Rattle.std.specs.Prelude.{◌+◌, ◌-◌, [], ◌∷◌, ◌++◌, None, true, false}
 use Rattle.kn_event.specs.FixedSpec.{fixed_spec}
 use Rattle.kn_event.specs.declared.revision.Slots.{Slots}
 use Rattle.kn_record.specs.Admission.{admission}
@@ -42,7 +42,7 @@ blank = record {
   start = 0;
   clock = 0;
   events = 0;
-  parts = record { throttle = record { spec = fixed_spec 0 0 0 no_slots; admission = admission [] }; pods = no_pods };
+  parts = record { throttle = record { spec = fixed_spec 0 0 0 no_slots; admission = admission [] }; pods = no_pods; scaler = None };
 }
 
 -- what is left of a pass that was joined

@@ -9,7 +9,7 @@ use Rattle.kn_trace.specs.Trace.{Trace}
 use Rattle.kn_cell.specs.declared.past.Past.{Past}
 use Rattle.kn_cell.specs.declared.past.Full.{Full}
 use Rattle.kn_cell.specs.declared.view.View.{View}
-use Rattle.kn_cell.specs.History.{trace_after, clock_after, live_of, IsLegal, past}
+use Rattle.kn_cell.specs.History.{trace_after, clock_after, live_of, IsInBounds, IsLegal, past}
 use Rattle.kn_cell.specs.State.{DeskState}
 use Rattle.kn_cell.specs.Desk.{event_at}
 use Rattle.kn_cell.specs.Views.{opening, IsBounded}
@@ -42,6 +42,7 @@ row_of v act time told = past v.number (event_at (clock_after (opening v.key).cl
 pub record RecordsRow (v : View) (act : Act) (time : ℕ) (told : Told) (m : Me DeskState View) : Type 0 where
   pub after_is : m ≡ (without_turn (recorded v (v.seen ++ row_of v act time told ∷ [])), [])
   pub legal : IsLegal (opening v.key) (v.seen ++ row_of v act time told ∷ [])
+  pub bounds : IsInBounds (row_of v act time told).event
   pub need : (c : Trace) → StandsFor (opening v.key) c → need_of (trace_after (opening v.key).spec c v.seen) act ≤ v.key.room - length v.seen - live_of (trace_after (opening v.key).spec c v.seen)
 
 pub record Overflows (v : View) (act : Act) (full : Full) : Type 0 where

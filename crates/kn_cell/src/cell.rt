@@ -1,8 +1,11 @@
 //! The cell and its passes.
-ghost use Rattle.std.specs.Prelude.{◌≡◌, ◌<◌, ◌≤◌, ◌+◌, ◌-◌, ◌^◌, ℕ, IfOk, IfErr, IfSome};
-ghost use Rattle.kn_trace.specs.Laws.{IsLawful, IsSettled};
+ghost use Rattle.std.specs.Prelude.{◌≡◌, ◌<◌, ◌≤◌, ◌+◌, ◌-◌, ◌^◌, ℕ, List, IfOk, IfErr, IfSome};
+ghost use Rattle.kn_event.specs.declared.event.Event.{Event as EventValue};
+ghost use Rattle.kn_trace.specs.Laws.{IsInert, IsLawful, IsSettled};
 ghost use Rattle.kn_trace.specs.Trace.{Trace, next_starting, proxied, stand_of};
 ghost use Rattle.kn_core.specs.State.{StandsFor};
+ghost use Rattle.kn_cell.specs.declared.past.Past.{Past};
+ghost use Rattle.kn_cell.specs.Lists.{StartsWith};
 ghost use Rattle.kn_cell.specs.History.{MayCome, live_of, rows_by, trace_after};
 ghost use Rattle.kn_cell.specs.Shown.{first_shown, Looks, Adds, Misfits, Tries, new_shown, joined_shown, Closes};
 
@@ -232,13 +235,16 @@ impl RevisionCell {
         self.table.shared.join_seat::<Glue>(&mut pass.place, place);
     }
 
-    /// Ends the cell. Every number has come back to the pass.
+    /// Ends the cell. Every number has come back to the pass. The whole history is lawful; after each beginning of it the
+    /// trace is settled, and an event that is refused changes nothing else.
     pub fn close(self, pass: Pass) -> (Revision, History)
         requires cell { pass.cell ≡ self }
         requires all { 1 + pass.free + pass.back ≡ pass.passes }
         ensures closes { Closes pass result.0 result.1 }
         ensures lawful { (c : Trace) → StandsFor pass.opening c → IsLawful pass.opening.spec (trace_after pass.opening.spec c result.1) }
         ensures settled { (c : Trace) → StandsFor pass.opening c → IsSettled pass.opening.spec (trace_after pass.opening.spec c result.1) }
+        ensures always_settled { (c : Trace) (front : List Past) → StandsFor pass.opening c → StartsWith result.1 front → IsSettled pass.opening.spec (trace_after pass.opening.spec c front) }
+        ensures inert { (c : Trace) (front : List Past) (e : EventValue) → StandsFor pass.opening c → StartsWith result.1 front → IsInert pass.opening.spec (trace_after pass.opening.spec c front) e }
     {
         history_laws();
         let RevisionCell { table } = self;

@@ -62,6 +62,7 @@ returns-in-Ok-clause-ok c =
     record {
       after_is = c.give.ensures.free ∙ ap (λ (m : Me DeskState View). (without_turn m.0, [])) is;
       legal = on.legal;
+      bounds = on.bounds;
       need = on.need;
     }
 

@@ -1,8 +1,9 @@
 use Rattle.std.proofs.Common.{◌≡◌, ◌+◌, ap, arith}
 use Rattle.std.specs.Slots.{slots_items}
 use Rattle.kn_cell.specs.Shown.{PassView}
-use Rattle.kn_trace.specs.Laws.{IsLawful, IsSettled}
-use Rattle.kn_cell.proofs.Closings.{closes, stays_so}
+use Rattle.kn_event.specs.declared.event.Event.{Event}
+use Rattle.kn_trace.specs.Laws.{IsInert, IsLawful, IsSettled}
+use Rattle.kn_cell.proofs.Closings.{always_so, closes, stays_so}
 use Rattle.kn_cell.proofs.cell.RevisionCell.close.Goals as goal
 
 pub returns-clause-closes : goal.returns-clause-closes
@@ -28,3 +29,13 @@ returns-clause-lawful c =
 pub returns-clause-settled : goal.returns-clause-settled
 returns-clause-settled c =
     stays_so (λ s d. IsSettled s d) c.history_laws.ensures.settled c.args.pass c.into_parts.result.0 c.into_parts.result.1 (returns-clause-closes c)
+
+pub returns-clause-always_settled : goal.returns-clause-always_settled
+returns-clause-always_settled c t front s first =
+    let laws = c.history_laws.ensures in
+    always_so (λ q d. IsSettled q d) laws.settled laws.step c.args.pass.opening c.into_parts.result.1 front (returns-clause-closes c).legal first t s
+
+pub returns-clause-inert : goal.returns-clause-inert
+returns-clause-inert c t front e s first =
+    let laws = c.history_laws.ensures in
+    always_so (λ q d. (x : Event) → IsInert q d x) (λ q start clock count d made x. laws.inert q start clock count d x made) laws.step c.args.pass.opening c.into_parts.result.1 front (returns-clause-closes c).legal first t s e
