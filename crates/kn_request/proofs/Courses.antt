@@ -1,0 +1,57 @@
+-- From the parts of a request's course to the whole.
+use Rattle.std.proofs.Common.{◌≡◌, inl, inr, ℕ, Bool, true, false, List, [], ◌∷◌, ◌++◌, refl, sym, ap, ◌∙◌, subst, append_assoc}
+use Rattle.std.proofs.lemmas.List.{append-nil}
+use Rattle.std.specs.Prelude.{Option, Result, is_ok}
+use Rattle.kn_event.specs.declared.event.Act.TheVariants as act
+use Rattle.kn_event.specs.declared.event.Stand.{Stand}
+use Rattle.kn_event.specs.declared.event.Stand.TheVariants as stand
+use Rattle.kn_trace.specs.Outcome.{outcome_of}
+use Rattle.kn_cell.specs.declared.past.Past.{Past}
+use Rattle.kn_cell.specs.Shown.{PassView, Looks}
+use Rattle.kn_io.specs.Links.{Link}
+use Rattle.kn_io.specs.declared.links.LinkError.{LinkError}
+use Rattle.kn_head.specs.declared.head.Head.{Head}
+use Rattle.kn_request.specs.Laws.{is_left}
+use Rattle.kn_request.specs.Sight.{IsAlone, IsLeft, StandsAt, sight}
+use Rattle.kn_request.specs.Requests.{AreCancels, CallsPod, Cancels, Finishes, WasLost, WasRun}
+use Rattle.kn_request.proofs.Later.{recorded_later}
+
+pub record CancelRows (reading : ℕ → Type 0) (due r : ℕ) (old p : PassView) : Type 0 where
+  pub rows : List Past
+  pub are : AreCancels reading due r p rows
+  pub mine : p.mine ≡ old.mine ++ rows
+
+cancel_rows : (reading : ℕ → Type 0) (due r : ℕ) (old p : PassView) → Cancels reading due r old p → CancelRows reading due r old p
+cancel_rows reading due r old p c = elim c [
+  | inl e ↦ record { rows = []; are = inl refl; mine = e ∙ sym (append-nil old.mine) }
+  | inr x ↦ record { rows = x.0.row ∷ []; are = inr (x.0, x.1, refl); mine = x.2 }
+]
+
+cancels_on : (reading : ℕ → Type 0) (due r : ℕ) (p q : PassView) (xs : List Past) → Looks p q → AreCancels reading due r p xs → AreCancels reading due r q xs
+cancels_on reading due r p q xs l c = elim c [ inl e ↦ inl e | inr x ↦ inr (recorded_later reading p q (act.Cancel r) l x.0, x.1, x.2) ]
+
+pub ran_course : (reading : ℕ → Type 0) (due : ℕ) (head : Head) (r : ℕ) (p a q : PassView) (wire wire' : Option Link) (reply : Result (List ℕ) LinkError)
+    → Looks a q → Cancels reading due r p a → CallsPod head wire wire' q r reply → Finishes reading r (is_ok reply) a q
+    → WasRun reading due head r p q wire wire' reply
+ran_course reading due head r p a q wire wire' reply m c call f =
+    let x = cancel_rows reading due r p a c in
+    record {
+      call = call;
+      cancel = x.rows;
+      cancel_is = cancels_on reading due r a q x.rows m x.are;
+      finish = f.0;
+      finish_is = f.1;
+      mine = f.2 ∙ (ap (λ l. l ++ f.0) x.mine ∙ append_assoc p.mine x.rows f.0);
+      ended = f.3;
+    }
+
+pub lost_course : (reading : ℕ → Type 0) (due r : ℕ) (p a : PassView) → Cancels reading due r p a → (IsLeft p r → IsAlone a r → IsLeft a r) → StandsAt a r stand.Ended → WasLost reading due r p a
+lost_course reading due r p a c left ended =
+    let x = cancel_rows reading due r p a c in
+    record {
+      cancel = x.rows;
+      cancel_is = x.are;
+      mine = x.mine;
+      ended = ended;
+      lapsed = λ old alone t s. subst (λ (st : Stand). is_left st (outcome_of (sight a t) r) ≡ true) (ended t s) (left old alone t s);
+    }

@@ -1,0 +1,11 @@
+pub mod LawFacts
+pub mod PodFacts
+pub mod Lists
+pub mod Later
+pub mod Finishing
+pub mod Courses
+pub mod Arrivals
+pub mod Talking
+pub mod TickFacts
+pub mod TurnFacts
+pub mod TickTimes

@@ -1,0 +1,297 @@
+-- The ticker's rows and probes.
+use Rattle.std.proofs.Common.{◌≡◌, ◌⊎◌, inl, inr, ℕ, ◌+◌, ◌-◌, ◌≤◌, ◌<◌, List, [], ◌∷◌, ◌++◌, length, Bool, true, false, suc, zero, refl, sym, ap, ◌∙◌, subst, arith, append_assoc}
+use Rattle.std.proofs.lemmas.Bool.{cases_lt}
+use Rattle.std.proofs.lemmas.List.{append-nil}
+use Rattle.std.specs.Prelude.{Option, None, Some, ◌||◌, ⊤}
+use mathlib.Core.Option.{some}
+use lib.ListN.{get_elem?}
+use Rattle.kn_event.specs.declared.event.Act.{Act}
+use Rattle.kn_event.specs.declared.event.Act.TheVariants as act
+use Rattle.kn_event.specs.declared.event.Told.{Told}
+use Rattle.kn_event.specs.declared.revision.Spec.{Spec}
+use Rattle.kn_trace.specs.Events.{need_of}
+use Rattle.kn_trace.specs.Trace.{Trace, created, next_starting}
+use Rattle.kn_core.specs.State.{RevisionState, StandsFor}
+use Rattle.kn_cell.specs.declared.past.Past.{Past}
+use Rattle.kn_cell.specs.declared.past.Full.{Full}
+use Rattle.kn_cell.specs.Lists.{StartsWith, Each}
+use Rattle.kn_cell.specs.History.{live_of, trace_after}
+use Rattle.kn_cell.specs.Shown.{PassView, Looks, Adds, Misfits}
+use Rattle.kn_io.specs.Links.{Link, Tells}
+use Rattle.kn_io.specs.declared.records.Probe.{Probe}
+use Rattle.kn_request.specs.Laws.{Made, RequestLaws}
+use Rattle.kn_request.specs.Pods.{IsStarting, PodLaws}
+use Rattle.kn_request.specs.Requests.{Recorded}
+use Rattle.kn_request.specs.Ticking.{AreAscending, AreBelow, AreReady, HasNoStarting, IsAt, Probing, ProbesOne, ReadyOf, TicksOnce, WasFull, is_probed, probed_all}
+use Rattle.kn_request.proofs.Lists.{none, one, starts_trans, trace_after-append}
+use Rattle.kn_request.proofs.Later.{along, looks_after, made_after, opening_is, recorded_later, recorded_of}
+
+-- ---- what a link tells
+
+pub tells_as : (w w' : Option Link) (f g : Link → Link) → ((l : Link) → f l ≡ g l) → Tells w w' f → Tells w w' g
+tells_as w None f g e t = tt
+tells_as None (Some b) f g e t = absurd t
+tells_as (Some a) (Some b) f g e t = t ∙ e a
+
+tells_then : (w w' w'' : Option Link) (f g : Link → Link) → Tells w w' f → Tells w' w'' g → Tells w w'' (λ l. g (f l))
+tells_then w w' None f g t u = tt
+tells_then w None (Some b) f g t u = absurd u
+tells_then None (Some a) (Some b) f g t u = absurd t
+tells_then (Some x) (Some a) (Some b) f g t u = u ∙ ap g t
+
+tells_none : (w : Option Link) → Tells w w (probed_all [])
+tells_none None = tt
+tells_none (Some l) = ap (λ ps. record l { probes = ps }) (sym (append-nil l.probes))
+
+tells_more : (w w' w'' : Option Link) (ps qs : List Probe) → Tells w w' (probed_all ps) → Tells w' w'' (probed_all qs) → Tells w w'' (probed_all (ps ++ qs))
+tells_more w w' w'' ps qs t u =
+    tells_as w w'' (λ l. probed_all qs (probed_all ps l)) (probed_all (ps ++ qs)) (λ l. ap (λ xs. record l { probes = xs }) (append_assoc l.probes ps qs)) (tells_then w w' w'' (probed_all ps) (probed_all qs) t u)
+
+-- ---- rows
+
+pub is_at : (p q : PassView) (a : Act) (time : ℕ) (told : Told) (l : Looks p q) (x : Adds p a time told q) → IsAt time q x.row
+is_at p q a time told l x =
+    let act_is : x.row.event.act ≡ a = ap (λ (y : Past). y.event.act) x.row_is in
+    subst (λ b. (y : Recorded (λ t. t ≡ time) q b) × (y.row ≡ x.row)) (sym act_is) (recorded_of (λ t. t ≡ time) p q a time told l x refl, refl)
+
+need_one : PodLaws → (c : Trace) (a : Act) → (a ≡ act.Tick) ⊎ ((p : ℕ) × (a ≡ act.Ready p)) → need_of c a ≡ 1
+need_one laws c a what = elim what [ inl e ↦ ap (need_of c) e ∙ laws.tick_need c | inr e ↦ ap (need_of c) e.1 ∙ laws.ready_need c e.0 ]
+
+pub was_full : PodLaws → (p q : PassView) (a : Act) (full : Full) → (a ≡ act.Tick) ⊎ ((k : ℕ) × (a ≡ act.Ready k)) → Looks p q → Misfits p a full q → WasFull p q
+was_full laws p q a full what l x = record {
+  front = q.seen;
+  early = ([], sym (append-nil q.seen));
+  late = l.longer;
+  none_left = λ c s. let m = x.short c s in let n = need_one laws (trace_after p.opening.spec c q.seen) a what in omega (arith, m, n);
+}
+
+at_append : {A : Type 0} (xs ys : List A) (k : ℕ) (x : A) → get_elem? (xs ++ ys) k ≡ some x → ((i : ℕ) × (get_elem? xs i ≡ some x)) ⊎ ((i : ℕ) × (get_elem? ys i ≡ some x))
+at_append [] ys k x at = inr (k, at)
+at_append (z ∷ zs) ys zero x at = inl (zero, at)
+at_append (z ∷ zs) ys (suc k) x at = elim (at_append zs ys k x at) [ inl i ↦ inl (suc i.0, i.1) | inr i ↦ inr i ]
+
+pub each_both : {A : Type 0} (P : A → Type 0) (xs ys : List A) → Each P xs → Each P ys → Each P (xs ++ ys)
+each_both P xs ys a b k x at = elim (at_append xs ys k x at) [ inl i ↦ a i.0 x i.1 | inr i ↦ b i.0 x i.1 ]
+
+pub at_later : (now : ℕ) (p q : PassView) (xs : List Past) → Looks p q → Each (IsAt now p) xs → Each (IsAt now q) xs
+at_later now p q xs l all k x at = let y = all k x at in (recorded_later (λ t. t ≡ now) p q x.event.act l y.0, y.1)
+
+-- fullness, seen from earlier and from later
+full_before : (p q s : PassView) → Looks p q → WasFull q s → WasFull p s
+full_before p q s l w =
+    let Q : RevisionState → ℕ → Type 0 = λ b r. (c : Trace) → StandsFor b c → r - length w.front - live_of (trace_after b.spec c w.front) < 1 in
+    record {
+      front = w.front;
+      early = w.early;
+      late = starts_trans p.seen q.seen w.front l.longer w.late;
+      none_left = subst (λ (b : RevisionState). Q b p.room) (opening_is p q l) (subst (Q q.opening) (ap (λ (v : PassView). v.room) l.same) w.none_left);
+    }
+
+pub full_after : (p q s : PassView) → Looks q s → WasFull p q → WasFull p s
+full_after p q s l w = record {
+  front = w.front;
+  early = starts_trans w.front q.seen s.seen w.early l.longer;
+  late = w.late;
+  none_left = w.none_left;
+}
+
+-- the rows of one Ready
+pub record ReadyRows (now pod : ℕ) (full : Bool) (p q : PassView) : Type 0 where
+  pub rows : List Past
+  pub mine : q.mine ≡ p.mine ++ rows
+  pub at : Each (IsAt now q) rows
+  pub ready : ReadyOf (Some true) pod full (λ xs. xs ≡ []) rows
+  pub over : full ≡ true → WasFull p q
+
+pub ready_rows : (now pod : ℕ) (full : Bool) (p q : PassView) → TicksOnce now (act.Ready pod) full p q → ReadyRows now pod full p q
+ready_rows now pod false p q t = record {
+  rows = t.0 ∷ [];
+  mine = t.1;
+  at = one (IsAt now q) t.0 t.3;
+  ready = inl (t.0, [], refl, t.2, refl);
+  over = λ e. cc;
+}
+ready_rows now pod true p q t = record {
+  rows = [];
+  mine = t.0 ∙ sym (append-nil p.mine);
+  at = none (IsAt now q);
+  ready = inr (refl, refl);
+  over = λ e. t.1;
+}
+
+pub one_probe : (now from pod : ℕ) (answer : Option Bool) (p a q : PassView) (wire wire' : Option Link) (full : Bool) (r : List Past) → Looks p a → a.mine ≡ p.mine → (a ≡ q) ⊎ Looks a q
+    → ((c : Trace) → StandsFor a.opening c → Some pod ≡ next_starting (trace_after a.opening.spec c a.seen) from) → from ≤ pod → Tells wire wire' (probed_all (record { pod = pod; answer = answer } ∷ []))
+    → q.mine ≡ a.mine ++ r → Each (IsAt now q) r → ReadyOf answer pod full (λ xs. xs ≡ []) r → (full ≡ true → WasFull a q) → ProbesOne now from pod full p q wire wire'
+one_probe now from pod answer p a q wire wire' full r l same then found low told mine at ready over = record {
+  mid = a.seen;
+  early = elim then [ inl e ↦ ([], ap (λ (v : PassView). v.seen) (sym e) ∙ sym (append-nil a.seen)) | inr m ↦ m.longer ];
+  late = l.longer;
+  found = subst (λ (b : RevisionState). (c : Trace) → StandsFor b c → next_starting (trace_after b.spec c a.seen) from ≡ Some pod) (opening_is p a l) (λ c s. sym (found c s));
+  low = low;
+  answer = answer;
+  told = told;
+  rows = r;
+  mine = mine ∙ ap (λ x. x ++ r) same;
+  at = at;
+  ready = ready;
+  over = λ e. full_before p a q l (over e);
+}
+
+-- ---- the probes so far
+
+asc_snoc : (lo from : ℕ) (ps : List Probe) (p : Probe) → AreAscending lo ps → AreBelow from ps → lo ≤ from → from ≤ p.pod → AreAscending lo (ps ++ p ∷ [])
+asc_snoc lo from [] p a b h k = (omega (arith, h, k), tt)
+asc_snoc lo from (x ∷ xs) p a b h k = (a.0, asc_snoc (x.pod + 1) from xs p a.1 b.1 (omega (arith, b.0)) k)
+
+below_snoc : (from : ℕ) (ps : List Probe) (p : Probe) → AreBelow from ps → from ≤ p.pod → AreBelow (p.pod + 1) (ps ++ p ∷ [])
+below_snoc from [] p b k = (omega arith, tt)
+below_snoc from (x ∷ xs) p b k = (omega (arith, b.0, k), below_snoc from xs p b.1 k)
+
+ready_of : (o : Option Bool) (pod : ℕ) (f g : Bool) (P Q : List Past → Type 0) (rows : List Past) → (f ≡ true → g ≡ true) → ((xs : List Past) → P xs → Q xs) → ReadyOf o pod f P rows → ReadyOf o pod g Q rows
+ready_of None pod f g P Q rows h k q = k rows q
+ready_of (Some false) pod f g P Q rows h k q = k rows q
+ready_of (Some true) pod f g P Q rows h k q = elim q [ inl x ↦ inl (x.0, x.1, x.2, x.3, k x.1 x.4) | inr x ↦ inr (h x.0, k rows x.1) ]
+
+ready_front : (o : Option Bool) (pod : ℕ) (f : Bool) (P Q : List Past → Type 0) (rows more : List Past) → ((xs : List Past) → P xs → Q (xs ++ more)) → ReadyOf o pod f P rows → ReadyOf o pod f Q (rows ++ more)
+ready_front None pod f P Q rows more k q = k rows q
+ready_front (Some false) pod f P Q rows more k q = k rows q
+ready_front (Some true) pod f P Q rows more k q = elim q [ inl x ↦ inl (x.0, x.1 ++ more, ap (λ l. l ++ more) x.2, x.3, k x.1 x.4) | inr x ↦ inr (x.0, k rows x.1) ]
+
+pub ready_mono : (f g : Bool) (ps : List Probe) (rows : List Past) → (f ≡ true → g ≡ true) → AreReady f ps rows → AreReady g ps rows
+ready_mono f g [] rows h r = r
+ready_mono f g (p ∷ ps) rows h r = ready_of p.answer p.pod f g (AreReady f ps) (AreReady g ps) rows h (λ xs m. ready_mono f g ps xs h m) r
+
+-- where more was probed
+ready_snoc : (full : Bool) (ps : List Probe) (p : Probe) (rows more : List Past) → AreReady full ps rows → ReadyOf p.answer p.pod full (λ xs. xs ≡ []) more → AreReady full (ps ++ p ∷ []) (rows ++ more)
+ready_snoc full [] p rows more a b = subst (λ (xs : List Past). AreReady full (p ∷ []) (xs ++ more)) (sym a) b
+ready_snoc full (x ∷ xs) p rows more a b = ready_front x.answer x.pod full (AreReady full xs) (AreReady full (xs ++ p ∷ [])) rows more (λ ys m. ready_snoc full xs p ys more m b) a
+
+gone_on : RequestLaws → PodLaws → (s : Spec) (j : ℕ) (h h' : List Past) → StartsWith h' h → (c : Trace) → Made s c → j < created (trace_after s c h) → (IsStarting (trace_after s c h) j → ⊥) → IsStarting (trace_after s c h') j → ⊥
+gone_on laws pods s j h h' more c made low not is =
+    let e : trace_after s c h' ≡ trace_after s (trace_after s c h) more.0 = ap (trace_after s c) more.1 ∙ trace_after-append s c h more.0 in
+    let P : Trace → Type 0 = λ t. (j < created t) × (IsStarting t j → ⊥) in
+    (along laws s P (λ x. ⊤) (λ t x m u n. (pods.stay s t x.event j m n.0, pods.gone s t x.event j m n.0 n.1)) more.0 (λ k x at. tt) (trace_after s c h) (made_after laws s h c made) (low, not)).1 (subst (λ t. IsStarting t j) e is)
+
+-- what starts was created, and stays so
+created_on : RequestLaws → PodLaws → (s : Spec) (j : ℕ) (h h' : List Past) → StartsWith h' h → (c : Trace) → Made s c → IsStarting (trace_after s c h) j → j < created (trace_after s c h')
+created_on laws pods s j h h' more c made is =
+    let e : trace_after s c h' ≡ trace_after s (trace_after s c h) more.0 = ap (trace_after s c) more.1 ∙ trace_after-append s c h more.0 in
+    let start : Made s (trace_after s c h) = made_after laws s h c made in
+    let P : Trace → Type 0 = λ t. j < created t in
+    subst P (sym e) (along laws s P (λ x. ⊤) (λ t x m u n. pods.stay s t x.event j m n) more.0 (λ k x at. tt) (trace_after s c h) start (pods.known s (trace_after s c h) j start is))
+
+pub opening_after : (p q : PassView) → (q ≡ p) ⊎ Looks p q → q.opening ≡ p.opening
+opening_after p q so = elim so [ inl e ↦ ap (λ (v : PassView). v.opening) e | inr l ↦ opening_is p q l ]
+
+pub probing_none : (now : ℕ) (p : PassView) (w : Option Link) → Probing now 0 false p p w w
+probing_none now p w = record {
+  later = inl refl;
+  probes = [];
+  rows = [];
+  mine = sym (append-nil p.mine);
+  at = none (IsAt now p);
+  told = tells_none w;
+  ascend = tt;
+  below = tt;
+  ready = refl;
+  over = λ e. cc;
+  starting = λ c s j low both not. omega (arith, low);
+}
+
+pub starts_after : (p q : PassView) → (q ≡ p) ⊎ Looks p q → StartsWith q.seen p.seen
+starts_after p q so = elim so [ inl e ↦ ([], ap (λ (v : PassView). v.seen) e ∙ sym (append-nil p.seen)) | inr l ↦ l.longer ]
+
+pub full_first : (p q s : PassView) → (q ≡ p) ⊎ Looks p q → WasFull q s → WasFull p s
+full_first p q s so w = elim so [ inl e ↦ subst (λ (v : PassView). WasFull v s) e w | inr l ↦ full_before p q s l w ]
+
+not_probed_front : (j : ℕ) (ps : List Probe) (p : Probe) → (is_probed j (ps ++ p ∷ []) → ⊥) → is_probed j ps → ⊥
+not_probed_front j [] p not is = is
+not_probed_front j (x ∷ xs) p not is = elim is [ inl e ↦ not (inl e) | inr m ↦ not_probed_front j xs p (λ n. not (inr n)) m ]
+
+not_probed_last : (j : ℕ) (ps : List Probe) (p : Probe) → (is_probed j (ps ++ p ∷ []) → ⊥) → p.pod ≡ j → ⊥
+not_probed_last j [] p not e = not (inl e)
+not_probed_last j (x ∷ xs) p not e = not_probed_last j xs p (λ n. not (inr n)) e
+
+pub either_true : (f g : Bool) → (f || g) ≡ true → (f ≡ true) ⊎ (g ≡ true)
+either_true true g e = inl refl
+either_true false g e = inr e
+
+pub left_true : (f g : Bool) → f ≡ true → (f || g) ≡ true
+left_true true g e = refl
+left_true false g e = cc
+
+pub right_true : (f g : Bool) → g ≡ true → (f || g) ≡ true
+right_true true g e = refl
+right_true false g e = e
+
+ready_last : (f g : Bool) (o : Option Bool) (pod : ℕ) (rows : List Past) → ReadyOf o pod f (λ xs. xs ≡ []) rows → ReadyOf o pod (f || g) (λ xs. xs ≡ []) rows
+ready_last f g o pod rows r = ready_of o pod f (f || g) (λ xs. xs ≡ []) (λ xs. xs ≡ []) rows (left_true f g) (λ xs m. m) r
+
+pub probing_more : RequestLaws → PodLaws → (now from pod : ℕ) (full f : Bool) (p q s : PassView) (w w' w'' : Option Link) → Probing now from full p q w w' → Looks q s → ProbesOne now from pod f q s w' w'' → Probing now (pod + 1) (f || full) p s w w''
+probing_more laws pods now from pod full f p q s w w' w'' m l o =
+    let pr : Probe = record { pod = pod; answer = o.answer } in
+    record {
+      later = inr (looks_after p q s m.later l);
+      probes = m.probes ++ pr ∷ [];
+      rows = m.rows ++ o.rows;
+      mine = o.mine ∙ (ap (λ x. x ++ o.rows) m.mine ∙ append_assoc p.mine m.rows o.rows);
+      at = each_both (IsAt now s) m.rows o.rows (at_later now q s m.rows l m.at) o.at;
+      told = tells_more w w' w'' m.probes (pr ∷ []) m.told o.told;
+      ascend = asc_snoc 0 from m.probes pr m.ascend m.below (omega arith) o.low;
+      below = below_snoc from m.probes pr m.below o.low;
+      ready = ready_snoc (f || full) m.probes pr m.rows o.rows (ready_mono full (f || full) m.probes m.rows (right_true f full) m.ready) (ready_last f full o.answer pod o.rows o.ready);
+      over = λ e. elim (either_true f full e) [ inl x ↦ full_first p q s m.later (o.over x) | inr x ↦ full_after p q s l (m.over x) ];
+      starting = λ c st j low both not.
+          let spec = p.opening.spec in
+          let made = laws.made p.opening c st in
+          let front = starts_after p q m.later in
+          let found = subst (λ (b : RevisionState). (d : Trace) → StandsFor b d → next_starting (trace_after b.spec d o.mid) from ≡ Some pod) (opening_after p q m.later) o.found c st in
+          let mid = starts_trans p.seen q.seen o.mid front o.late in
+          elim (cases_lt j from) [
+            | inl x ↦ gone_on laws pods spec j q.seen s.seen l.longer c made (created_on laws pods spec j p.seen q.seen front c made both.0) (λ still. m.starting c st j x (both.0, still) (not_probed_front j m.probes pr not)) both.1
+            | inr x ↦ elim (cases_lt j pod) [
+              | inl y ↦ gone_on laws pods spec j o.mid s.seen o.early c made (created_on laws pods spec j p.seen o.mid mid c made both.0) (pods.least spec (trace_after spec c o.mid) from pod j (made_after laws spec o.mid c made) found x y) both.1
+              | inr y ↦ absurd (not_probed_last j m.probes pr not (omega arith))
+            ]
+          ];
+    }
+
+pub probing_look : RequestLaws → PodLaws → (now from : ℕ) (full : Bool) (p q s : PassView) (w w' w'' : Option Link) → Probing now from full p q w w' → Looks q s → s.mine ≡ q.mine → w'' ≡ w' → Probing now from full p s w w''
+probing_look laws pods now from full p q s w w' w'' m l same wire = record {
+  later = inr (looks_after p q s m.later l);
+  probes = m.probes;
+  rows = m.rows;
+  mine = same ∙ m.mine;
+  at = at_later now q s m.rows l m.at;
+  told = subst (λ (v : Option Link). Tells w v (probed_all m.probes)) (sym wire) m.told;
+  ascend = m.ascend;
+  below = m.below;
+  ready = m.ready;
+  over = λ e. full_after p q s l (m.over e);
+  starting = λ c st j low both not.
+      let spec = p.opening.spec in
+      let made = laws.made p.opening c st in
+      gone_on laws pods spec j q.seen s.seen l.longer c made (created_on laws pods spec j p.seen q.seen (starts_after p q m.later) c made both.0) (λ still. m.starting c st j low (both.0, still) not) both.1;
+}
+
+-- none starts any more
+pub none_found : (from : ℕ) (p q : PassView) → Looks p q → ((c : Trace) → StandsFor q.opening c → None ≡ next_starting (trace_after q.opening.spec c q.seen) from) → HasNoStarting p q from
+none_found from p q l nothing = subst (λ (b : RevisionState). (c : Trace) → StandsFor b c → next_starting (trace_after b.spec c q.seen) from ≡ None) (opening_is p q l) (λ c s. sym (nothing c s))
+
+pub none_before : (from : ℕ) (p q s : PassView) → (q ≡ p) ⊎ Looks p q → HasNoStarting q s from → HasNoStarting p s from
+none_before from p q s so = subst (λ (b : RevisionState). (c : Trace) → StandsFor b c → next_starting (trace_after b.spec c s.seen) from ≡ None) (opening_after p q so)
+
+-- a pod that starts at both ends of all the probes, when none starts any more, was probed
+pub all_probed : RequestLaws → PodLaws → (to j : ℕ) (p q s : PassView) (ps : List Probe) → (q ≡ p) ⊎ Looks p q → StartsWith s.seen q.seen → (c : Trace) → StandsFor p.opening c
+    → ((d : Trace) → StandsFor q.opening d → j < to → IsStarting (trace_after q.opening.spec d q.seen) j → IsStarting (trace_after q.opening.spec d s.seen) j → (is_probed j ps → ⊥) → ⊥) → HasNoStarting q s to
+    → IsStarting (trace_after p.opening.spec c p.seen) j → IsStarting (trace_after p.opening.spec c s.seen) j → (is_probed j ps → ⊥) → ⊥
+all_probed laws pods to j p q s ps so more c st probed end before after not =
+    let spec = p.opening.spec in
+    let made = laws.made p.opening c st in
+    let same = opening_after p q so in
+    let probed' = subst (λ (b : RevisionState). (d : Trace) → StandsFor b d → j < to → IsStarting (trace_after b.spec d q.seen) j → IsStarting (trace_after b.spec d s.seen) j → (is_probed j ps → ⊥) → ⊥) same probed in
+    let end' = subst (λ (b : RevisionState). (d : Trace) → StandsFor b d → next_starting (trace_after b.spec d s.seen) to ≡ None) same end in
+    elim (cases_lt j to) [
+      | inl low ↦ gone_on laws pods spec j q.seen s.seen more c made (created_on laws pods spec j p.seen q.seen (starts_after p q so) c made before) (λ still. probed' c st low still after not) after
+      | inr high ↦ pods.none spec (trace_after spec c s.seen) to j (made_after laws spec s.seen c made) (end' c st) high after
+    ]

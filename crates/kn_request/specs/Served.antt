@@ -1,0 +1,84 @@
+-- What became of a request.
+use Rattle.std.specs.Prelude.{◌≡◌, ◌⊎◌, ◌≤◌, ◌+◌, ◌^◌, ℕ, List, [], ◌∷◌, ◌++◌, Option, Some, Ok, Err, min, false}
+use Rattle.kn_event.specs.declared.event.Act.TheVariants as act
+use Rattle.kn_event.specs.declared.event.Stand.TheVariants as stand
+use Rattle.kn_trace.specs.Outcome.{Outcome, Refused, Overload}
+use Rattle.kn_trace.specs.Trace.{Trace, stand_of}
+use Rattle.kn_sizes.specs.Told.{arrival_told}
+use Rattle.kn_sizes.specs.Course.{waits_by}
+use Rattle.kn_core.specs.State.{StandsFor}
+use Rattle.kn_cell.specs.Shown.{PassView, Looks, Misfits}
+use Rattle.kn_io.specs.Causes.{Rose}
+use Rattle.kn_io.specs.Links.{Link}
+use Rattle.kn_io.specs.declared.links.LinkError.TheVariants as link
+use Rattle.kn_head.specs.declared.head.Head.{Head}
+use Rattle.kn_request.specs.declared.meant.Meant.{Meant}
+use Rattle.kn_request.specs.declared.meant.Meant.TheVariants as meant
+use Rattle.kn_request.specs.declared.wait.Waited.{Waited}
+use Rattle.kn_request.specs.declared.wait.Waited.TheVariants as waited
+use Rattle.kn_request.specs.Sight.{EndsBy, IsLeft, StandsAt, sight}
+use Rattle.kn_request.specs.Requests.{Recorded, WasLost, WasRun}
+
+-- ---- waiting
+
+-- what was found
+abbrev pub IsFound : (ℕ → Type 0) → ℕ → PassView → ℕ → Waited → Type 0
+IsFound reading due p r (waited.Runs k) = StandsAt p r (stand.Running k)
+IsFound reading due p r waited.Ended = StandsAt p r stand.Ended
+IsFound reading due p r (waited.Late now) = (due ≤ now) × reading now
+
+abbrev pub IsWaitingNoMore : PassView → ℕ → Type 0
+IsWaitingNoMore p r = (c : Trace) → StandsFor p.opening c → waits_by (stand_of (sight p c) r) ≡ false
+
+-- ---- the whole of it
+
+-- what became of a request after its arrival, by what is meant to be answered
+abbrev pub IsCourse : (ℕ → Type 0) → ℕ → Head → ℕ → PassView → PassView → Option Link → Option Link → Meant → Type 0
+IsCourse reading due head r old new wire wire' (meant.Reply text) = WasRun reading due head r old new wire wire' (Ok text)
+IsCourse reading due head r old new wire wire' meant.LinkFault = WasRun reading due head r old new wire wire' (Err link.Failed)
+IsCourse reading due head r old new wire wire' meant.Memory = WasRun reading due head r old new wire wire' (Err link.Memory)
+IsCourse reading due head r old new wire wire' meant.Expired = (wire' ≡ wire) × WasLost reading due r old new
+IsCourse reading due head r old new wire wire' meant.QueueFull = ⊥
+IsCourse reading due head r old new wire wire' meant.Overload = ⊥
+IsCourse reading due head r old new wire wire' (meant.Full f) = ⊥
+
+-- a fault of the link has its cause
+abbrev pub MeantCause : ℕ → ℕ → Meant → Type 0
+MeantCause before now meant.LinkFault = (before ≤ now) × Rose before now
+MeantCause before now _ = before ≤ now
+
+-- which outcome a refusal is
+abbrev pub IsRefusedBy : Outcome → Meant → Type 0
+IsRefusedBy Refused m = m ≡ meant.QueueFull
+IsRefusedBy Overload m = m ≡ meant.Overload
+IsRefusedBy _ m = ⊥
+
+-- the arrival was refused: it is answered so, and nothing else happens
+pub record IsRefused (r : ℕ) (new mid : PassView) (wire wire' : Option Link) (m : Meant) : Type 0 where
+  pub outcome : Outcome
+  pub is : IsRefusedBy outcome m
+  pub same : new ≡ mid
+  pub unused : wire' ≡ wire
+  pub ended : StandsAt new r stand.Ended
+  pub by : EndsBy new r (λ o. o ≡ Some outcome)
+
+-- the request was taken in, and went its way
+pub record IsTaken (reading : ℕ → Type 0) (due : ℕ) (head : Head) (r : ℕ) (mid new : PassView) (wire wire' : Option Link) (m : Meant) : Type 0 where
+  pub taken : IsLeft mid r
+  pub course : IsCourse reading due head r mid new wire wire' m
+
+-- the arrival was recorded, and then it was refused, or went its way. `mid` is the pass just after the arrival
+pub record HasArrived (reading : ℕ → Type 0) (timeout tag : ℕ) (head : Head) (old new : PassView) (wire wire' : Option Link) (m : Meant) : Type 0 where
+  pub mid : PassView
+  pub before : Looks old mid
+  pub since : (new ≡ mid) ⊎ Looks mid new
+  pub arrive : Recorded reading mid (act.Arrive tag)
+  pub mine : mid.mine ≡ old.mine ++ arrive.row ∷ []
+  pub number : ℕ
+  pub named : arrival_told arrive.row.told ≡ Some number
+  pub way : IsRefused number new mid wire wire' m ⊎ IsTaken reading (min arrive.at (2 ^ 42) + timeout) head number mid new wire wire' m
+
+-- what one request came to: there was no room for its arrival, or it arrived
+abbrev pub IsServed : (ℕ → Type 0) → ℕ → ℕ → Head → PassView → PassView → Option Link → Option Link → Meant → Type 0
+IsServed reading timeout tag head old new wire wire' (meant.Full f) = Misfits old (act.Arrive tag) f new × (wire' ≡ wire)
+IsServed reading timeout tag head old new wire wire' m = HasArrived reading timeout tag head old new wire wire' m

@@ -1,0 +1,204 @@
+//! One request: a connection is met, its head is read, and it is answered.
+ghost use Rattle.std.specs.Prelude.{◌≡◌, ◌≢◌, ◌≤◌, ◌⊎◌, ◌^◌, [], None, MatchBool};
+ghost use Rattle.kn_cell.specs.Shown.{Looks};
+ghost use Rattle.kn_io.specs.Causes.{Rose};
+ghost use Rattle.kn_head.specs.Answers.{answer_for};
+ghost use Rattle.kn_head.specs.declared.head.Head.{Head as HeadValue};
+ghost use Rattle.kn_request.specs.Answers.{AreForms, IsFor};
+ghost use Rattle.kn_request.specs.Outside.{said};
+ghost use Rattle.kn_request.specs.One.{text_of, served_by, Writes, Refuses, IsUnread, ServesRead, ServesMet, ServesOne, CallerCause, HasCauses};
+
+use crate::forms::Forms;
+use crate::meant::Meant;
+use crate::serve::serve_event;
+use crate::slot::{Served, Slot};
+use kn_cell::{Pass, RevisionCell};
+use kn_event::Spec;
+use kn_head::{Answer, Head, HeadError, answer_bytes, read_head};
+use kn_io::{Caller, Clock, Gate, PodLink, caller_laws, put_all};
+use std::alloc::Global;
+use std::sync::Wait;
+
+/// Writes the bytes, and answers so; or answers that the caller failed.
+fn put<C: Caller>(caller: &mut C, bytes: &[u8], served: Served) -> Served
+    ensures writes { Writes (said (C.Sink.kept caller.old) (C.Sink.held caller.old)) (said (C.Sink.kept caller.new) (C.Sink.held caller.new)) result served bytes.now }
+    ensures cause { CallerCause (C.Faulty.faults caller.old) (C.Faulty.faults caller.new) served result }
+{
+    match put_all(caller, bytes) {
+        Ok(()) => served,
+        Err(_) => Served::CallerFault,
+    }
+}
+
+/// Answers what is meant.
+fn answer<C: Caller>(caller: &mut C, forms: &Forms, meant: Meant) -> Served
+    ensures writes { (head : HeadValue) → AreForms head forms.now → Writes (said (C.Sink.kept caller.old) (C.Sink.held caller.old)) (said (C.Sink.kept caller.new) (C.Sink.held caller.new)) result (served_by meant) (text_of meant) }
+    ensures cause { CallerCause (C.Faulty.faults caller.old) (C.Faulty.faults caller.new) (served_by meant) result }
+{
+    match meant {
+        Meant::Reply(text) => put(caller, text.bytes(), Served::Replied),
+        Meant::QueueFull => put(
+            caller,
+            forms.queue_full.bytes(),
+            Served::Refused(Answer::QueueFull),
+        ),
+        Meant::Overload => put(
+            caller,
+            forms.overload.bytes(),
+            Served::Refused(Answer::Overload),
+        ),
+        Meant::Expired => put(
+            caller,
+            forms.expired.bytes(),
+            Served::Refused(Answer::Expired),
+        ),
+        Meant::LinkFault => put(caller, forms.link_failed.bytes(), Served::LinkFault),
+        Meant::Full(full) => put(caller, forms.history_full.bytes(), Served::Full(full)),
+        Meant::Memory => Served::Memory,
+    }
+}
+
+/// Refuses a request of which no event is made.
+fn refuse<C: Caller>(alloc: Global, caller: &mut C, answer: Answer) -> Served
+    ensures refuses { Refuses (said (C.Sink.kept caller.old) (C.Sink.held caller.old)) (said (C.Sink.kept caller.new) (C.Sink.held caller.new)) answer result }
+    ensures never_falls { C.Faulty.faults caller.old ≤ C.Faulty.faults caller.new }
+    ensures cause { result ≡ Served.CallerFault → Rose (C.Faulty.faults caller.old) (C.Faulty.faults caller.new) }
+{
+    match answer_bytes(alloc, answer) {
+        Ok(text) => put(caller, text.bytes(), Served::Refused(answer)),
+        Err(_) => Served::Memory,
+    }
+}
+
+/// Whether the request is one to the revision.
+fn is_for(spec: &Spec, head: &Head) -> bool
+    ensures { MatchBool result (IsFor spec.now head.now) (IsFor spec.now head.now → ⊥) }
+{
+    head.namespace.bytes() == spec.namespace.bytes() && head.revision.bytes() == spec.name.bytes()
+}
+
+/// How long a request may wait.
+fn timeout(spec: &Spec) -> u64
+    ensures value { result ≡ spec.now.timeout_ms }
+    ensures short { result ≤ 2 ^ 42 }
+{
+    spec.timeout_ms
+}
+
+/// Serves a request whose head was read.
+pub fn serve_read<R: Wait, C: Caller, L: PodLink, K: Clock, G: Gate>(
+    rt: &R,
+    alloc: Global,
+    cell: &RevisionCell,
+    pass: &mut Pass,
+    spec: &Spec,
+    caller: &mut C,
+    link: &mut L,
+    head: &Head,
+    tag: u64,
+    clock: &K,
+    gate: &G,
+) -> Served
+    requires cell { pass.old.cell ≡ cell.now }
+    ensures looks { (pass.new ≡ pass.old) ⊎ Looks pass.old pass.new }
+    ensures serves { ServesRead (K.reading clock.now) spec.now.timeout_ms tag head.now pass.old pass.new (L.told link.old) (L.told link.new) (said (C.Sink.kept caller.old) (C.Sink.held caller.old)) (said (C.Sink.kept caller.new) (C.Sink.held caller.new)) result }
+    ensures causes { HasCauses (C.Faulty.faults caller.old) (C.Faulty.faults caller.new) (L.Faulty.faults link.old) (L.Faulty.faults link.new) result }
+{
+    let Ok(forms) = Forms::new(alloc, head) else {
+        return Served::Memory;
+    };
+    let meant = serve_event(
+        rt,
+        alloc,
+        cell,
+        pass,
+        timeout(spec),
+        link,
+        &forms,
+        tag,
+        clock,
+        gate,
+    );
+    answer(caller, &forms, meant)
+}
+
+/// How a head is answered that was not read, and of which nothing is written.
+fn fault_of(error: HeadError) -> Served
+    requires { answer_for error ≡ None }
+    ensures unread { IsUnread error None result [] }
+    ensures fault { result ≡ Served.CallerFault → error ≡ HeadError.ReadFault }
+    ensures link { result ≢ Served.LinkFault }
+{
+    match error {
+        HeadError::ReadFault => Served::CallerFault,
+        _ => Served::Memory,
+    }
+}
+
+/// Reads a request of the connection that was met, and serves it.
+fn serve_met<R: Wait, C: Caller, L: PodLink, K: Clock, G: Gate>(
+    rt: &R,
+    alloc: Global,
+    cell: &RevisionCell,
+    pass: &mut Pass,
+    spec: &Spec,
+    caller: &mut C,
+    link: &mut L,
+    tag: u64,
+    clock: &K,
+    gate: &G,
+) -> Served
+    requires cell { pass.old.cell ≡ cell.now }
+    ensures looks { (pass.new ≡ pass.old) ⊎ Looks pass.old pass.new }
+    ensures serves { ServesMet (K.reading clock.now) spec.now tag pass.old pass.new (L.told link.old) (L.told link.new) (C.Source.left caller.old) (said (C.Sink.kept caller.old) (C.Sink.held caller.old)) (said (C.Sink.kept caller.new) (C.Sink.held caller.new)) result }
+    ensures causes { HasCauses (C.Faulty.faults caller.old) (C.Faulty.faults caller.new) (L.Faulty.faults link.old) (L.Faulty.faults link.new) result }
+{
+    match read_head(alloc, caller) {
+        Ok(head) => match is_for(spec, &head) {
+            true => serve_read(
+                rt, alloc, cell, pass, spec, caller, link, &head, tag, clock, gate,
+            ),
+            false => refuse(alloc, caller, Answer::NoSuchRevision),
+        },
+        Err(error) => match error.answer() {
+            Some(answer) => refuse(alloc, caller, answer),
+            None => fault_of(error),
+        },
+    }
+}
+
+/// Meets a caller and serves its request.
+pub fn serve_one<R: Wait, C: Caller, L: PodLink, K: Clock, G: Gate>(
+    rt: &R,
+    alloc: Global,
+    cell: &RevisionCell,
+    pass: &mut Pass,
+    spec: &Spec,
+    slot: &mut Slot<C, L>,
+    tag: u64,
+    clock: &K,
+    gate: &G,
+) -> Served
+    requires cell { pass.old.cell ≡ cell.now }
+    ensures looks { (pass.new ≡ pass.old) ⊎ Looks pass.old pass.new }
+    ensures serves { ServesOne (K.reading clock.now) spec.now tag pass.old pass.new (L.told slot.old.link) (L.told slot.new.link) (C.Source.left slot.old.caller) (said (C.Sink.kept slot.old.caller) (C.Sink.held slot.old.caller)) (said (C.Sink.kept slot.new.caller) (C.Sink.held slot.new.caller)) result }
+    ensures causes { HasCauses (C.Faulty.faults slot.old.caller) (C.Faulty.faults slot.new.caller) (L.Faulty.faults slot.old.link) (L.Faulty.faults slot.new.link) result }
+    ensures work { slot.new.work ≡ slot.old.work }
+{
+    caller_laws();
+    match slot.caller.meet() {
+        Err(_) => Served::CallerFault,
+        Ok(()) => serve_met(
+            rt,
+            alloc,
+            cell,
+            pass,
+            spec,
+            &mut slot.caller,
+            &mut slot.link,
+            tag,
+            clock,
+            gate,
+        ),
+    }
+}

@@ -1,0 +1,130 @@
+//! A request waits, until it runs or has ended.
+ghost use Rattle.std.specs.Prelude.{◌≡◌, ◌≤◌, ℕ, IfSome, IfNone};
+ghost use Rattle.kn_event.specs.declared.event.Stand.TheVariants as stand;
+ghost use Rattle.kn_cell.specs.Shown.{Looks};
+ghost use Rattle.kn_request.specs.Sight.{StandsAt, IsKnown, IsLeft, IsAlone, IsOwn};
+ghost use Rattle.kn_request.specs.Requests.{Cancels};
+ghost use Rattle.kn_request.specs.Served.{IsFound, IsWaitingNoMore};
+
+use crate::laws::server_laws;
+use kn_cell::{Pass, RevisionCell};
+use kn_event::{Act, Stand};
+use kn_io::Clock;
+use std::sync::Wait;
+
+#[derive(Clone, Copy, Debug, PartialEq, Eq, Drop)]
+pub enum Waited {
+    /// It runs at the pod.
+    Runs(u64),
+    Ended,
+    /// It waited at a look, and the clock then was as late as this.
+    Late(u64),
+}
+
+/// Waits while the request waits, until the clock has come to the time.
+fn wait_while<R: Wait, K: Clock>(
+    rt: &R,
+    cell: &RevisionCell,
+    pass: &mut Pass,
+    r: u64,
+    due: u64,
+    clock: &K,
+) -> Waited
+    requires cell { pass.old.cell ≡ cell.now }
+    requires own { IsOwn pass.old }
+    requires known { IsKnown pass.old r }
+    ensures looks { Looks pass.old pass.new }
+    ensures mine { pass.new.mine ≡ pass.old.mine }
+    ensures found { IsFound (K.reading clock.now) due pass.new r result }
+{
+    server_laws();
+    for _ in rt.forever() {
+        match cell.look(rt, pass, r) {
+            Stand::Running(p) => return Waited::Runs(p),
+            Stand::Held => {}
+            Stand::Queued(_) => {}
+            Stand::Unknown => return Waited::Ended,
+            Stand::Ended => return Waited::Ended,
+        }
+        let now = clock.now_ms();
+        if now >= due {
+            return Waited::Late(now);
+        }
+        cell.rest(rt, pass);
+    }
+    unreachable!()
+}
+
+/// Waits until the request runs, and says where; or until it has ended. When its time is over it is cancelled.
+pub fn leave_queue<R: Wait, K: Clock>(
+    rt: &R,
+    cell: &RevisionCell,
+    pass: &mut Pass,
+    r: u64,
+    due: u64,
+    clock: &K,
+) -> Option<u64>
+    requires cell { pass.old.cell ≡ cell.now }
+    requires own { IsOwn pass.old }
+    requires known { IsKnown pass.old r }
+    ensures looks { Looks pass.old pass.new }
+    ensures cancels { Cancels (K.reading clock.now) due r pass.old pass.new }
+    ensures runs { IfSome result (λ p. StandsAt pass.new r (stand.Running p)) }
+    ensures ended { IfNone result (StandsAt pass.new r stand.Ended) }
+    ensures left { IsLeft pass.old r → IsAlone pass.new r → IsLeft pass.new r }
+{
+    server_laws();
+    match wait_while(rt, cell, pass, r, due, clock) {
+        Waited::Runs(p) => Some(p),
+        Waited::Ended => None,
+        Waited::Late(now) => {
+            cancel(rt, cell, pass, r, due, now, clock);
+            look_once(rt, cell, pass, r)
+        }
+    }
+}
+
+/// Where a request that waits no more runs, if it runs.
+fn look_once<R: Wait>(rt: &R, cell: &RevisionCell, pass: &mut Pass, r: u64) -> Option<u64>
+    requires cell { pass.old.cell ≡ cell.now }
+    requires known { IsKnown pass.old r }
+    requires left { IsWaitingNoMore pass.old r }
+    ensures looks { Looks pass.old pass.new }
+    ensures mine { pass.new.mine ≡ pass.old.mine }
+    ensures runs { IfSome result (λ p. StandsAt pass.new r (stand.Running p)) }
+    ensures ended { IfNone result (StandsAt pass.new r stand.Ended) }
+{
+    server_laws();
+    match cell.look(rt, pass, r) {
+        Stand::Running(p) => Some(p),
+        Stand::Held => None,
+        Stand::Queued(_) => None,
+        Stand::Unknown => None,
+        Stand::Ended => None,
+    }
+}
+
+/// Cancels the request. Then it waits no more, whatever was answered.
+fn cancel<R: Wait, K: Clock>(
+    rt: &R,
+    cell: &RevisionCell,
+    pass: &mut Pass,
+    r: u64,
+    due: u64,
+    now: u64,
+    clock: &K,
+)
+    requires cell { pass.old.cell ≡ cell.now }
+    requires reading { K.reading clock.now now }
+    requires late { due ≤ now }
+    ensures looks { Looks pass.old pass.new }
+    ensures cancels { Cancels (K.reading clock.now) due r pass.old pass.new }
+    ensures left { IsWaitingNoMore pass.new r }
+{
+    let _ = clock;
+    server_laws();
+    match cell.on(rt, pass, Act::Cancel(r), now) {
+        Ok(_) => {}
+        Err(_) => {}
+    }
+}
