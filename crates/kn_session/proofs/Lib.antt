@@ -1,0 +1,10 @@
+mod ListFacts
+mod LawFacts
+mod HandFacts
+mod RoundFacts
+mod Nexts
+mod OwnFacts
+mod KeeperFacts
+mod AloneFacts
+mod EndingFacts
+mod SessionFacts

@@ -1,0 +1,93 @@
+-- From a slot's rounds to the history.
+use Rattle.std.proofs.Common.{◌≡◌, ◌⊎◌, ◌<◌, inl, inr, ℕ, ◌+◌, ◌*◌, List, [], ◌∷◌, length, Bool, false, refl, sym, ap, ◌∙◌, subst, arith}
+use Rattle.std.specs.Prelude.{⊤}
+use mathlib.Core.Option.{some}
+use lib.ListN.{get_elem?}
+use Rattle.kn_event.specs.declared.revision.Spec.{Spec}
+use Rattle.kn_core.specs.State.{RevisionState}
+use Rattle.kn_cell.specs.declared.past.Past.{Past}
+use Rattle.kn_cell.specs.Lists.{Each, StartsWith}
+use Rattle.kn_cell.specs.History.{rows_by}
+use Rattle.kn_cell.specs.Shown.{PassView}
+use Rattle.kn_request.specs.declared.slot.Served.{Served}
+use Rattle.kn_session.specs.Laws.{SessionLaws}
+use Rattle.kn_session.specs.Lists.{HasOne}
+use Rattle.kn_session.specs.Own.{IsArrivalOf, IsAloneIn, Lasts, NamesOwn}
+use Rattle.kn_session.specs.Passes.{IsNew}
+use Rattle.kn_session.specs.Rounds.{AllRounds, HasTexts, IsFullOf, IsRounds, OneRound, Sides}
+use Rattle.kn_session.specs.Session.{IsPart, IsSlots, SlotServed, WasShort}
+use Rattle.kn_session.proofs.ListFacts.{each_both, in_rows, none, starts_trans}
+use Rattle.kn_session.proofs.OwnFacts.{has_grown, rounds_own}
+use Rattle.kn_session.proofs.AloneFacts.{alone_part, outcome_part}
+use Rattle.kn_session.proofs.EndingFacts.{rounds_full, rounds_texts}
+use Rattle.kn_session.proofs.Nexts.{rounds_next}
+
+-- what the pass knew after each round holds of the whole history
+pub rounds_last : SessionLaws → (h : List Past) (reading : ℕ → Type 0) (spec : Spec) (tag : ℕ) (ss : List Served) (p q : PassView) (a b : Sides)
+    → StartsWith h q.seen → ((r : ℕ) → HasOne (IsArrivalOf r) q.mine → IsAloneIn h q.number r) → IsRounds (λ _. ⊤) reading spec tag ss p q a b → IsRounds (Lasts h) reading spec tag ss p q a b
+rounds_last laws h reading spec tag [] p q a b front alone r = r
+rounds_last laws h reading spec tag (s ∷ ss) p q a b front alone r =
+    let m = r.0 in
+    let next = rounds_next (λ _. ⊤) reading spec (tag + 1) ss m q r.1 b r.3 in
+    let own = rounds_own (λ _. ⊤) reading spec (tag + 1) ss m q r.1 b r.3 in
+    let start : StartsWith h m.seen = starts_trans m.seen q.seen h next.longer front in
+    let lasts : Lasts h m = record {
+      front = start;
+      alone = λ i has. alone_part h m i start (subst (λ n. IsAloneIn h n i) next.number (alone i (has_grown (IsArrivalOf i) m q own has)));
+      outcome = λ i o ends c st. outcome_part laws h m i o start ends c st;
+    } in
+    let here : OneRound (Lasts h) reading spec tag p m a r.1 s = record { later = r.2.later; then = lasts; served = r.2.served; causes = r.2.causes } in
+    (m, r.1, here, rounds_last laws h reading spec (tag + 1) ss m q r.1 b front alone r.3)
+
+slot_of : (reading : ℕ → Type 0) (spec : Spec) (b : RevisionState) (room rounds : ℕ) (h : List Past) (i : ℕ) (p q : PassView) (s0 s1 s2 s3 : Sides) (f2 f3 m2 m3 : Bool)
+    → IsNew b room (2 + i) p → (all : AllRounds (Lasts h) reading spec (i * rounds) rounds p q s1 s2 f2 m2) → s1 ≡ s0 → s3 ≡ s2 → f3 ≡ f2 → m3 ≡ m2 → IsPart h (2 + i) q
+    → (f2 ≡ false → HasTexts rounds s1.said s2.said) → (HasOne IsFullOf all.endings → WasShort b room h) → SlotServed reading spec b room rounds h i s0 s3 f3 m3
+slot_of reading spec b room rounds h i p q s0 s1 s2 s3 f2 f3 m2 m3 new all e0 e3 ff fm part texts full =
+    let it : SlotServed reading spec b room rounds h i s1 s2 f2 m2 = record { first = p; last = q; fresh = new; all = all; part = part; texts = texts; full = full } in
+    rw (← e0, e3, ff, fm) it
+
+pub slot_served : SessionLaws → (reading : ℕ → Type 0) (spec : Spec) (b : RevisionState) (room rounds : ℕ) (h : List Past) (i : ℕ) (p q : PassView) (s0 s1 s2 s3 : Sides) (f2 f3 m2 m3 : Bool)
+    → ((n r : ℕ) → HasOne (IsArrivalOf r) (rows_by n h) → IsAloneIn h n r)
+    → IsNew b room (2 + i) p → AllRounds (λ _. ⊤) reading spec (i * rounds) rounds p q s1 s2 f2 m2 → s1 ≡ s0 → s3 ≡ s2 → f3 ≡ f2 → m3 ≡ m2 → IsPart h (2 + i) q
+    → SlotServed reading spec b room rounds h i s0 s3 f3 m3
+slot_served laws reading spec b room rounds h i p q s0 s1 s2 s3 f2 f3 m2 m3 alone new all e0 e3 ff fm part =
+    let mine : (r : ℕ) → HasOne (IsArrivalOf r) q.mine → IsAloneIn h q.number r = λ r has. subst (λ n. IsAloneIn h n r) (sym part.named) (alone (2 + i) r (subst (HasOne (IsArrivalOf r)) part.whole has)) in
+    let whole : AllRounds (Lasts h) reading spec (i * rounds) rounds p q s1 s2 f2 m2 = record {
+      endings = all.endings;
+      all = all.all;
+      rounds = rounds_last laws h reading spec (i * rounds) all.endings p q s1 s2 part.front mine all.rounds;
+      faulty = all.faulty;
+      wanting = all.wanting;
+    } in
+    slot_of reading spec b room rounds h i p q s0 s1 s2 s3 f2 f3 m2 m3 new whole e0 e3 ff fm part
+    (λ e. subst (λ n. HasTexts n s1.said s2.said) all.all (rounds_texts (λ _. ⊤) reading spec (i * rounds) all.endings p q s1 s2 (sym all.faulty ∙ e) all.rounds))
+    (rounds_full laws h b room reading spec (i * rounds) all.endings p q s1 s2 new.opening new.roomy whole.rounds)
+
+-- a first pass that did nothing has no row
+pub first_has_none : (h : List Past) (slots k : ℕ) (x : Past) → get_elem? h k ≡ some x → rows_by 0 h ≡ [] → x.pass ≡ 0 → (x.pass ≡ 1) ⊎ IsSlots slots x
+first_has_none h slots k x at e is = absurd (in_rows (λ y. ⊥) 0 h k x at is (subst (Each (λ (y : Past). ⊥)) (sym e) (none (λ (y : Past). ⊥))))
+
+pub new_as : (b b' : RevisionState) (room room' n n' : ℕ) (p : PassView) → b ≡ b' → room ≡ room' → n ≡ n' → IsNew b room n p → IsNew b' room' n' p
+new_as b b' room room' n n' p e f g x = record {
+  named = x.named ∙ g;
+  free = x.free;
+  back = x.back;
+  seen = x.seen;
+  mine = x.mine;
+  others = x.others;
+  opening = x.opening ∙ e;
+  roomy = x.roomy ∙ f;
+}
+
+-- a list that has a place has a member
+pub some_of : {A : Type 0} (xs : List A) (i : ℕ) → i < length xs → A
+some_of {A} [] i low = absurd (omega (arith, low))
+some_of {A} (x ∷ xs) i low = x
+
+-- the rows of each pass end its own requests alone
+pub own_rows : (h : List Past) (slots : ℕ) (ticks : PassView) → Each (λ x. (x.pass ≡ 1) ⊎ IsSlots slots x) h → IsPart h 1 ticks → NamesOwn ticks.mine
+    → ((i : ℕ) → i < slots → (q : PassView) × NamesOwn q.mine × IsPart h (2 + i) q) → Each (λ x. NamesOwn (rows_by x.pass h)) h
+own_rows h slots ticks rows part own each k x at = elim (rows k x at) [
+  | inl e ↦ subst NamesOwn (part.whole ∙ ap (λ n. rows_by n h) (sym e)) own
+  | inr s ↦ (let q = each s.0 s.1 in subst NamesOwn (q.2.whole ∙ ap (λ n. rows_by n h) (sym s.2)) q.1)
+]

@@ -1,0 +1,6 @@
+pub mod Laws
+pub mod Lists
+pub mod Own
+pub mod Rounds
+pub mod Passes
+pub mod Session

@@ -1,0 +1,68 @@
+-- The passes that the slots hold.
+use Rattle.std.specs.Prelude.{ℕ, ◌≡◌, List, [], ◌∷◌, Option, None, Some}
+use Rattle.atomic_table.specs.Seated.{TableId}
+use Rattle.kn_core.specs.State.{RevisionState}
+use Rattle.kn_cell.specs.Shown.{PassView, joined_shown}
+use Rattle.kn_request.specs.declared.slot.Slot.{Slot}
+
+-- a new pass with this number, of a cell over this revision with this room, which has seen and done nothing
+pub record IsNew (b : RevisionState) (room number : ℕ) (p : PassView) : Type 0 where
+  pub named : p.number ≡ number
+  pub free : p.free ≡ 0
+  pub back : p.back ≡ 0
+  pub seen : p.seen ≡ []
+  pub mine : p.mine ≡ []
+  pub others : p.others ≡ []
+  pub opening : p.opening ≡ b
+  pub roomy : p.room ≡ room
+
+-- there is a pass of the cell
+abbrev pub HasPass : TableId → Option PassView → Type 0
+HasPass cell found = (p : PassView) × (found ≡ Some p) × (p.cell ≡ cell)
+
+-- a pass of the cell with this number, which stands for itself alone
+pub record IsLone (cell : TableId) (number : ℕ) (q : PassView) : Type 0 where
+  pub of : q.cell ≡ cell
+  pub named : q.number ≡ number
+  pub free : q.free ≡ 0
+  pub back : q.back ≡ 0
+  pub others : q.others ≡ []
+
+abbrev pub HasLone : TableId → ℕ → Option PassView → Type 0
+HasLone cell number found = (q : PassView) × (found ≡ Some q) × IsLone cell number q
+
+abbrev pub IsHanded : TableId → RevisionState → ℕ → ℕ → Option PassView → Type 0
+IsHanded cell b room number found = (p : PassView) × (found ≡ Some p) × (p.cell ≡ cell) × IsNew b room number p
+
+-- all but the pass is as it was
+pub record IsKept {C L : Type 0} (s t : Slot C L) : Type 0 where
+  pub caller : t.caller ≡ s.caller
+  pub link : t.link ≡ s.link
+  pub fault : t.work.fault ≡ s.work.fault
+  pub memory : t.work.memory ≡ s.work.memory
+
+-- a slot got a new pass
+abbrev pub IsGiven : {C L : Type 0} → TableId → RevisionState → ℕ → ℕ → Slot C L → Slot C L → Type 0
+IsGiven {C} {L} cell b room number s t = IsHanded cell b room number t.work.pass × IsKept s t
+
+-- a slot gave its pass away
+abbrev pub IsEmptied : {C L : Type 0} → Slot C L → Slot C L → Type 0
+IsEmptied {C} {L} s t = (t.work.pass ≡ None) × IsKept s t
+
+-- the passes that the slots have, in order
+abbrev pub front_of : Option PassView → List PassView → List PassView
+front_of None qs = qs
+front_of (Some q) qs = q ∷ qs
+
+abbrev pub found_in : {C L : Type 0} → List (Slot C L) → List PassView
+found_in {C} {L} [] = []
+found_in {C} {L} (s ∷ xs) = front_of s.work.pass (found_in xs)
+
+-- a pass that took in these others
+abbrev pub joined_all : PassView → List PassView → PassView
+joined_all p [] = p
+joined_all p (q ∷ qs) = joined_all (joined_shown p q) qs
+
+abbrev pub where_some : Option PassView → PassView → PassView
+where_some None p = p
+where_some (Some q) p = joined_shown p q

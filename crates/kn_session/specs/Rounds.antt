@@ -1,0 +1,69 @@
+-- The rounds of one slot.
+use Rattle.std.specs.Prelude.{ℕ, ◌≡◌, ◌⊎◌, ◌+◌, List, [], ◌∷◌, ◌++◌, length, Option, Some, Bool, true, false, ◌||◌}
+use Rattle.kn_event.specs.declared.revision.Spec.{Spec}
+use Rattle.kn_cell.specs.declared.past.Full.{Full}
+use Rattle.kn_cell.specs.Shown.{PassView, Looks}
+use Rattle.kn_io.specs.Callers.{texts_of}
+use Rattle.kn_io.specs.Links.{Link}
+use Rattle.kn_request.specs.declared.slot.Served.{Served}
+use Rattle.kn_request.specs.declared.slot.Served.TheVariants as served
+use Rattle.kn_request.specs.Outside.{Said, said}
+use Rattle.kn_request.specs.One.{HasCauses, ServesOne}
+
+-- what is told of a slot's caller and of its link, and how many faults each counted
+pub record Sides : Type 0 where
+  pub left : Option (List ℕ)
+  pub said : Option Said
+  pub faults : ℕ
+  pub wire : Option Link
+  pub breaks : ℕ
+
+-- the caller's left, kept, held and faults, and the link's told and faults
+abbrev pub sides : Option (List ℕ) → Option (List (List ℕ)) → Option (List ℕ) → ℕ → Option Link → ℕ → Sides
+sides left kept held faults wire breaks = record { left = left; said = said kept held; faults = faults; wire = wire; breaks = breaks }
+
+abbrev pub is_fault : Served → Bool
+is_fault served.LinkFault = true
+is_fault served.CallerFault = true
+is_fault _ = false
+
+abbrev pub is_memory : Served → Bool
+is_memory served.Memory = true
+is_memory _ = false
+
+abbrev pub any_fault : List Served → Bool
+any_fault [] = false
+any_fault (s ∷ ss) = is_fault s || any_fault ss
+
+abbrev pub any_memory : List Served → Bool
+any_memory [] = false
+any_memory (s ∷ ss) = is_memory s || any_memory ss
+
+-- the round was answered for want of room
+abbrev pub IsFullOf : Served → Type 0
+IsFullOf s = (f : Full) × (s ≡ served.Full f)
+
+-- where the caller tells its texts, they grew by so many
+abbrev pub HasTexts : ℕ → Option Said → Option Said → Type 0
+HasTexts n from to = (a : Said) → from ≡ Some a → (b : Said) × (to ≡ Some b) × ((new : List (List ℕ)) × (length new ≡ n) × (texts_of b.kept b.text ≡ texts_of a.kept a.text ++ new))
+
+-- one round: one request was served, and what the pass knows then is as it should be
+pub record OneRound (Then : PassView → Type 0) (reading : ℕ → Type 0) (spec : Spec) (tag : ℕ) (p q : PassView) (a b : Sides) (s : Served) : Type 0 where
+  pub later : (q ≡ p) ⊎ Looks p q
+  pub then : Then q
+  pub served : ServesOne reading spec tag p q a.wire b.wire a.left a.said b.said s
+  pub causes : HasCauses a.faults b.faults a.breaks b.breaks s
+
+-- rounds with these endings, from this tag on, one after the other
+abbrev pub IsRounds : (PassView → Type 0) → (ℕ → Type 0) → Spec → ℕ → List Served → PassView → PassView → Sides → Sides → Type 0
+IsRounds Then reading spec tag [] p q a b = (q ≡ p) × (b ≡ a)
+IsRounds Then reading spec tag (s ∷ ss) p q a b =
+    (m : PassView) × (x : Sides) × OneRound Then reading spec tag p m a x s × IsRounds Then reading spec (tag + 1) ss m q x b
+
+-- so many rounds; whether one ended in a fault, or in want of memory
+pub record AllRounds (Then : PassView → Type 0) (reading : ℕ → Type 0) (spec : Spec) (tag count : ℕ) (p q : PassView) (a b : Sides) (fault memory : Bool) : Type 0 where
+  pub endings : List Served
+  pub all : length endings ≡ count
+  pub rounds : IsRounds Then reading spec tag endings p q a b
+  pub faulty : fault ≡ any_fault endings
+  pub wanting : memory ≡ any_memory endings

@@ -1,0 +1,88 @@
+-- A whole session.
+use Rattle.std.specs.Prelude.{ℕ, ◌≡◌, ◌≢◌, ◌⊎◌, ◌<◌, ◌+◌, ◌-◌, ◌*◌, List, length, Option, Some, Bool, true, false}
+use Rattle.kn_event.specs.declared.event.Act.{Act}
+use Rattle.kn_event.specs.declared.event.Act.TheVariants as act
+use Rattle.kn_event.specs.declared.revision.Spec.{Spec}
+use Rattle.kn_trace.specs.Trace.{Trace}
+use Rattle.kn_core.specs.State.{RevisionState, StandsFor}
+use Rattle.kn_cell.specs.declared.past.Past.{Past}
+use Rattle.kn_cell.specs.Lists.{Each, StartsWith}
+use Rattle.kn_cell.specs.History.{clock_after, live_of, rows_by, trace_after}
+use Rattle.kn_cell.specs.Shown.{PassView}
+use Rattle.kn_io.specs.Links.{Link, Tells}
+use Rattle.kn_io.specs.declared.records.Probe.{Probe}
+use Rattle.kn_request.specs.Ticking.{Turns, probed_all}
+use Rattle.kn_session.specs.Lists.{HasOne}
+use Rattle.kn_session.specs.Own.{Lasts}
+use Rattle.kn_session.specs.Passes.{IsNew}
+use Rattle.kn_session.specs.Rounds.{AllRounds, HasTexts, IsFullOf, Sides}
+
+-- the pass has this number, what it saw is a beginning of the history, and what it did is what the history has of it
+pub record IsPart (h : List Past) (number : ℕ) (q : PassView) : Type 0 where
+  pub named : q.number ≡ number
+  pub front : StartsWith h q.seen
+  pub whole : q.mine ≡ rows_by number h
+
+-- the revision after the history: the same one, at the last row's time, with that many events more
+pub record IsAfter (b : RevisionState) (h : List Past) (now : RevisionState) : Type 0 where
+  pub spec : now.spec ≡ b.spec
+  pub start : now.start ≡ b.start
+  pub clock : now.clock ≡ clock_after b.clock h
+  pub events : now.events ≡ b.events + length h
+  pub stands : (c : Trace) → StandsFor b c → StandsFor now (trace_after b.spec c h)
+
+-- after some beginning of the history there was no room for an arrival
+pub record WasShort (b : RevisionState) (room : ℕ) (h : List Past) : Type 0 where
+  pub front : List Past
+  pub early : StartsWith h front
+  pub short : (c : Trace) → StandsFor b c → room - length front - live_of (trace_after b.spec c front) < 2
+
+-- the row is no finish of a request that failed
+abbrev pub IsFine : Past → Type 0
+IsFine x = (r : ℕ) → x.event.act ≢ act.Finish r false
+
+-- all rounds of slot i were served, by a new pass of its own, the j-th with the tag i * rounds + j. The rows that the pass
+-- made are those of the history with its number, and what it knew after each round holds of the whole history
+pub record SlotServed (reading : ℕ → Type 0) (spec : Spec) (b : RevisionState) (room rounds : ℕ) (h : List Past) (i : ℕ) (from to : Sides) (fault memory : Bool) : Type 0 where
+  pub first : PassView
+  pub last : PassView
+  pub fresh : IsNew b room (2 + i) first
+  pub all : AllRounds (Lasts h) reading spec (i * rounds) rounds first last from to fault memory
+  pub part : IsPart h (2 + i) last
+  -- where none ended in a fault, each round wrote one text more
+  pub texts : fault ≡ false → HasTexts rounds from.said to.said
+  pub full : HasOne IsFullOf all.endings → WasShort b room h
+
+-- the ticker made its turns, by a new pass of its own
+pub record TickerServed (reading : ℕ → Type 0) (start : ℕ) (b : RevisionState) (room : ℕ) (h : List Past) (wire wire' : Option Link) : Type 0 where
+  pub first : PassView
+  pub last : PassView
+  pub fresh : IsNew b room 1 first
+  pub turns : Turns reading start first last wire wire'
+  pub part : IsPart h 1 last
+
+-- what a ticker does
+abbrev pub IsTicking : Act → Type 0
+IsTicking a = (a ≡ act.Tick) ⊎ ((p : ℕ) × (a ≡ act.Ready p))
+
+-- what a slot does
+abbrev pub IsAsking : Act → Type 0
+IsAsking a = ((tag : ℕ) × (a ≡ act.Arrive tag)) ⊎ (((r : ℕ) × (a ≡ act.Cancel r)) ⊎ ((r : ℕ) × (ok : Bool) × (a ≡ act.Finish r ok)))
+
+-- the row is of the pass of one of so many slots
+abbrev pub IsSlots : ℕ → Past → Type 0
+IsSlots slots x = (i : ℕ) × (i < slots) × (x.pass ≡ 2 + i)
+
+-- the row is the ticker's, or that of one of so many slots
+abbrev pub IsRowOf : ℕ → Past → Type 0
+IsRowOf slots x = ((x.pass ≡ 1) × IsTicking x.event.act) ⊎ (IsSlots slots x × IsAsking x.event.act)
+
+-- one of the probes found the pod there
+abbrev pub IsFound : List Probe → ℕ → Type 0
+IsFound probes pod = HasOne (λ (x : Probe). (x.pod ≡ pod) × (x.answer ≡ Some true)) probes
+
+-- what the keeper tells grew by some probes and by nothing else, and each pod that a row of the history says is Ready was found there by one of them
+pub record Probed (h : List Past) (wire wire' : Option Link) : Type 0 where
+  pub probes : List Probe
+  pub told : Tells wire wire' (probed_all probes)
+  pub found : Each (λ x. (pod : ℕ) → x.event.act ≡ act.Ready pod → IsFound probes pod) h

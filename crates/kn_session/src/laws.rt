@@ -1,0 +1,16 @@
+//! What a session needs of traces.
+ghost use Rattle.kn_session.specs.Laws.{SessionLaws};
+
+use kn_laws::laws::{history_laws, step_laws};
+use kn_sizes::server::{lasting_laws, need_laws, request_laws};
+
+/// The laws of traces, as a session cites them.
+pub fn session_laws()
+    ensures { SessionLaws }
+{
+    history_laws();
+    step_laws();
+    request_laws();
+    lasting_laws();
+    need_laws();
+}

@@ -1,0 +1,56 @@
+//! How the slots get their passes, and how these come back.
+ghost use Rattle.std.specs.Prelude.{◌≡◌, ◌≤◌, ◌<◌, ◌+◌, ◌-◌, length, []};
+ghost use Rattle.kn_session.specs.Lists.{EachDone, EachIs};
+ghost use Rattle.kn_session.specs.Passes.{HasPass, IsEmptied, IsGiven, found_in, joined_all, where_some};
+
+use kn_cell::{Pass, RevisionCell};
+use kn_request::Slot;
+
+/// Hands a pass to each slot.
+pub fn hand_out<C, L>(cell: &RevisionCell, pass: &mut Pass, slots: &mut [Slot<C, L>])
+    requires cell { pass.old.cell ≡ cell.now }
+    requires free { length slots.old ≤ pass.old.free }
+    requires low { pass.old.free ≤ pass.old.passes }
+    requires unseen { pass.old.seen ≡ [] }
+    ensures pass { pass.new ≡ record pass.old { free = pass.old.free - length slots.old } }
+    ensures slots { EachDone (λ i s t. IsGiven cell.now pass.old.opening pass.old.room (pass.old.passes - pass.old.free + i) s t) slots.old slots.new }
+{
+    for i in 0..slots.len() {
+        hand_pass(cell, pass, &mut slots[i]);
+    }
+}
+
+fn hand_pass<C, L>(cell: &RevisionCell, pass: &mut Pass, slot: &mut Slot<C, L>)
+    requires cell { pass.old.cell ≡ cell.now }
+    requires free { 0 < pass.old.free }
+    requires unseen { pass.old.seen ≡ [] }
+    ensures pass { pass.new ≡ record pass.old { free = pass.old.free - 1 } }
+    ensures given { IsGiven cell.now pass.old.opening pass.old.room (pass.old.passes - pass.old.free) slot.old slot.new }
+{
+    slot.work.pass = Some(cell.split(pass));
+}
+
+/// Takes the passes of all slots back in.
+pub fn take_back<C, L>(cell: &RevisionCell, pass: &mut Pass, slots: &mut [Slot<C, L>])
+    requires cell { pass.old.cell ≡ cell.now }
+    requires passes { EachIs (λ s. HasPass cell.now s.work.pass) slots.old }
+    ensures pass { pass.new ≡ joined_all pass.old (found_in slots.old) }
+    ensures slots { EachDone (λ i s t. IsEmptied s t) slots.old slots.new }
+{
+    for i in 0..slots.len() {
+        take_pass(cell, pass, &mut slots[i]);
+    }
+}
+
+fn take_pass<C, L>(cell: &RevisionCell, pass: &mut Pass, slot: &mut Slot<C, L>)
+    requires cell { pass.old.cell ≡ cell.now }
+    requires found { HasPass cell.now slot.old.work.pass }
+    ensures pass { pass.new ≡ where_some slot.old.work.pass pass.old }
+    ensures emptied { IsEmptied slot.old slot.new }
+    ensures cell { pass.new.cell ≡ pass.old.cell }
+{
+    match slot.work.pass.take() {
+        None => {}
+        Some(other) => cell.join(pass, other),
+    }
+}
