@@ -41,7 +41,7 @@ same_part {T} value x number m left more r h k =
     record { values = ap (λ (p : Part T). p.value) same; numbers = ap (λ (p : Part T). p.number) same; lefts = ap (λ (p : Part T). p.left) same }
 
 -- what is read behind `end`
-abbrev end_after : Result (Part ⊤) Cause → Result (Part (Option Event)) Cause
+abbrev pub end_after : Result (Part ⊤) Cause → Result (Part (Option Event)) Cause
 end_after r = then_part r (λ _ n left. Ok (part None n left))
 
 end_gives : (number : ℕ) (more : List (List ℕ)) (x : Option Event) (m : ℕ) (left : List (List ℕ)) → end_part number more ≡ Ok (part x m left) → (x ≡ None) × (left ≡ [])

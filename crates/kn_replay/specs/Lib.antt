@@ -2,5 +2,6 @@ pub mod Report
 pub mod Tally
 pub mod Waiting
 pub mod Texts
-pub mod Words
+pub mod Commands
+pub mod Generating
 pub mod Replaying

@@ -1,30 +1,67 @@
-//! The command of `kact`: it replays a journal and writes its report.
-ghost use Rattle.std.specs.Prelude.{◌≡◌, ◌⊎◌, ◌↔◌, ◌+◌, ◌-◌, ◌≤◌, ℕ, false, map, string_bytes, take, true};
+//! The commands of `kact`: it replays a journal, or generates one.
+ghost use Rattle.std.specs.Prelude.{◌≡◌, ◌⊎◌, ◌↔◌, ◌+◌, ◌-◌, ◌≤◌, ℕ, None, Some, map, string_bytes, take};
+ghost use Rattle.kn_event.specs.Numbers.{number_of};
 ghost use Rattle.kn_io.specs.Causes.{Rose};
 ghost use Rattle.kn_event.specs.declared.event.Event.{Event};
 ghost use Rattle.kn_trace.specs.Events.{trace_of};
 ghost use Rattle.kn_trace.specs.Laws.{IsInert, IsLawful, IsSettled};
+ghost use Rattle.kn_laws.specs.Losses.{LosesNothing};
 ghost use Rattle.kn_journal.specs.Reading.{most_taken};
 ghost use Rattle.kn_replay.specs.Report.{OnJournalOf, trace_of_journal};
 ghost use Rattle.kn_replay.specs.Replaying.{EndsThere, IsReplayed, Replays, Tells};
 ghost use Rattle.kn_replay.specs.Texts.{status_text};
-ghost use Rattle.kn_replay.specs.Words.{is_replay};
+ghost use Rattle.kn_replay.specs.Commands.{command_of, generate_of};
+ghost use Rattle.kn_replay.specs.Generating.{Generates};
 
+use crate::generate::generate;
+use crate::lawful::journal_laws;
 use crate::replay::replay_journal;
 use crate::texts::put_status;
-use kn_event::Line;
+use kn_event::{Line, read_number};
 use kn_io::{Sink, Source, put_all};
 use kn_journal::Status;
-use kn_laws::laws::trace_laws;
 use std::alloc::Global;
 
-/// The words are the one word `replay`.
-fn is_replay(words: &[String]) -> bool
-    ensures { result ≡ is_replay (map string_bytes words.now) }
+/// What `kact` is asked for.
+enum Command {
+    /// A journal is replayed.
+    Replay,
+    /// The journal of this seed and so many events is stepped through.
+    Generate(u64, u64),
+}
+
+/// The seed and the count of `generate`.
+fn generate_of(seed: &[u8], count: &[u8]) -> Option<Command>
+    ensures value { result ≡ generate_of (number_of seed.now) (number_of count.now) }
+    ensures range { (s n : ℕ) → result ≡ Some (Command.Generate s n) → n ≤ 1000000 }
+{
+    let seed = read_number(seed)?;
+    let count = read_number(count)?;
+    if 5 <= count && count <= 1_000_000 {
+        Some(Command::Generate(seed, count))
+    } else {
+        None
+    }
+}
+
+/// What the words ask for.
+#[tactic(auto, unfolding(crate::specs::Commands::command_of))]
+fn command_of(words: &[String]) -> Option<Command>
+    ensures value { result ≡ command_of (map string_bytes words.now) }
+    ensures range { (s n : ℕ) → result ≡ Some (Command.Generate s n) → n ≤ 1000000 }
 {
     match words {
-        [word] => word.as_str() == "replay",
-        _ => false,
+        [word] => if word.as_str() == "replay" {
+            Some(Command::Replay)
+        } else {
+            None
+        },
+        [word, seed, count] => if word.as_str() == "generate" {
+            generate_of(seed.as_bytes(), count.as_bytes())
+        } else {
+            None
+        },
+        _ => None,
     }
 }
 
@@ -45,7 +82,7 @@ pub fn tell<E: Sink>(status: Status, err: &mut E) -> Status
 /// line is good. At the first line that is refused the rows of all events before it were written. Where the input failed,
 /// the lines that ended before that are good, and the rows of their events were written. Where writing failed, some first
 /// bytes of the report were. All memory is taken before the first of them.
-#[tactic(auto, using(crate::proofs::Replays::never_usage))]
+#[tactic(none)]
 pub fn run<S: Source, O: Sink, E: Sink>(
     alloc: Global,
     words: &[String],
@@ -53,14 +90,17 @@ pub fn run<S: Source, O: Sink, E: Sink>(
     out: &mut O,
     err: &mut E,
 ) -> Status
-    ensures usage { (result ≡ Status.Usage) ↔ (is_replay (map string_bytes words.now) ≡ false) }
+    ensures usage { (result ≡ Status.Usage) ↔ (command_of (map string_bytes words.now) ≡ None) }
     ensures unread { result ≡ Status.Usage → input.new ≡ input.old }
     ensures unwritten { result ≡ Status.Usage → out.new ≡ out.old }
 
     // The report of the bytes, and the first refused line with its cause.
-    ensures report { is_replay (map string_bytes words.now) ≡ true → Replays (S.left input.old) (S.left input.new) (S.given input.new - S.given input.old) (O.held out.old) (O.held out.new) result }
+    ensures report { command_of (map string_bytes words.now) ≡ Some Command.Replay → Replays (S.left input.old) (S.left input.new) (S.given input.new - S.given input.old) (O.held out.old) (O.held out.new) result }
     ensures only { (result ≡ Status.Usage) ⊎ IsReplayed result }
-    ensures ended { result ≡ Status.Ok → EndsThere (S.left input.old) (S.left input.new) }
+    ensures ended { command_of (map string_bytes words.now) ≡ Some Command.Replay → result ≡ Status.Ok → EndsThere (S.left input.old) (S.left input.new) }
+    // The last line of the generated journal.
+    ensures generates { (seed count : ℕ) → command_of (map string_bytes words.now) ≡ Some (Command.Generate seed count) → Generates seed count (O.held out.old) (O.held out.new) result }
+    ensures untouched { (seed count : ℕ) → command_of (map string_bytes words.now) ≡ Some (Command.Generate seed count) → input.new ≡ input.old }
     ensures memory { result ≡ Status.Memory → out.new ≡ out.old }
 
     // A fault comes only where its count rose, or 2^56 bytes were read.
@@ -70,13 +110,15 @@ pub fn run<S: Source, O: Sink, E: Sink>(
     // The laws of the trace whose rows are written: over all of it, after each event, and for any event that would follow.
     ensures lawful { OnJournalOf (S.left input.old) (λ j. IsLawful j.setup.spec (trace_of_journal j)) }
     ensures settled { OnJournalOf (S.left input.old) (λ j. (n : ℕ) → IsSettled j.setup.spec (trace_of j.setup.spec j.start (take n j.events))) }
+    ensures no_loss { OnJournalOf (S.left input.old) (λ j. j.version ≡ 1 → LosesNothing (trace_of_journal j)) }
     ensures inert { OnJournalOf (S.left input.old) (λ j. (n : ℕ) (e : Event) → IsInert j.setup.spec (trace_of j.setup.spec j.start (take n j.events)) e) }
 
     ensures told { Tells (status_text result) (E.held err.old) (E.held err.new) (E.Faulty.faults err.old) (E.Faulty.faults err.new) }
 {
-    trace_laws();
-    if !is_replay(words) {
-        return tell(Status::Usage, err);
+    journal_laws();
+    match command_of(words) {
+        None => tell(Status::Usage, err),
+        Some(Command::Replay) => tell(replay_journal(alloc, input, out), err),
+        Some(Command::Generate(seed, count)) => tell(generate(alloc, seed, count, out), err),
     }
-    tell(replay_journal(alloc, input, out), err)
 }

@@ -1,7 +1,9 @@
-//! `kact replay`: from the bytes of a journal to the bytes of its report.
+//! `kact`: from the bytes of a journal to the bytes of its report, and journals that are generated.
 #![tactic(auto)]
 
 mod command;
+mod generate;
+mod lawful;
 mod replay;
 mod report;
 mod texts;

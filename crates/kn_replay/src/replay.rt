@@ -39,7 +39,7 @@ pub fn status_of(error: JournalError) -> Status
 
 /// A revision that is replayed, with the counts of its entries, those of the last event, and the rows that wait.
 #[derive(Drop)]
-struct Replay {
+pub struct Replay {
     revision: Revision,
     tally: Tally,
     log: EntryLog,
@@ -57,7 +57,7 @@ impl Model for Replay {
 
 impl Replay {
     /// Opens the revision, with all the memory that it will ever have.
-    fn new(alloc: Global, spec: Spec, start: u64) -> Result<Replay, Memory>
+    pub fn new(alloc: Global, spec: Spec, start: u64) -> Result<Replay, Memory>
         requires times { start ≤ 2 ^ 42 }
         ensures stands { IfOk result (λ r. StandsFor r.revision (opening spec start)) }
         ensures spec { IfOk result (λ r. r.revision.spec ≡ spec) }
@@ -88,7 +88,7 @@ impl Replay {
     }
 
     /// Takes one event.
-    fn take(&mut self, e: &Event)
+    pub fn take(&mut self, e: &Event)
         requires order { self.old.revision.clock ≤ e.now.time }
         requires times { e.now.time ≤ 2 ^ 42 }
         requires events { self.old.revision.events < 2 ^ 54 }
@@ -140,7 +140,7 @@ impl Replay {
     }
 
     /// Writes what waits and the last line.
-    fn end<O: Sink>(&mut self, version: u64, events: u64, out: &mut O) -> Status
+    pub fn end<O: Sink>(&mut self, version: u64, events: u64, out: &mut O) -> Status
         ensures stops { Stops (self.old.waiting ++ last_line version events self.old.counted.totals) (O.held out.old) (O.held out.new) Status.Ok result }
         ensures fault { result ≡ Status.WriteFault → Rose (O.Faulty.faults out.old) (O.Faulty.faults out.new) }
         ensures never_falls { O.Faulty.faults out.old ≤ O.Faulty.faults out.new }

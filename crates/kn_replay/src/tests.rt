@@ -242,7 +242,9 @@ fn what_is_no_good_journal(rt: HostRuntime) -> Result<(), Fail> {
     let end = ended(rt.alloc(), "reply", EMPTY_JOURNAL, NEVER, NEVER)?;
     assert_eq!(rt; end.status, Status::Usage);
     assert!(rt; end.written.is_empty());
-    assert!(rt; end.told.as_slice() == b"usage: kact replay\n".as_slice());
+    assert!(rt;
+        end.told.as_slice() == b"usage: kact replay | kact generate SEED COUNT\n".as_slice()
+    );
     Ok(())
 }
 

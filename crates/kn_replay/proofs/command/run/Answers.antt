@@ -1,36 +1,228 @@
-use Rattle.std.specs.Prelude.{take}
-use Rattle.kn_trace.specs.Events.{trace_of}
-use Rattle.kn_trace.specs.Laws.{IsInert, IsLawful, IsSettled}
-use Rattle.kn_event.specs.declared.event.Event.{Event}
-use Rattle.std.proofs.Common.{ℕ}
-use Rattle.kn_replay.specs.Report.{trace_of_journal}
-use Rattle.kn_replay.proofs.Laws.{on_any}
+use Rattle.std.proofs.Common.{◌≡◌, ◌∙◌, ◌-◌, ℕ, List, ap, sym, refl, subst, inl, inr}
+use Rattle.std.specs.Prelude.{Option, None, Some, map, string_bytes}
+use Rattle.kn_journal.specs.declared.status.Status.{Status}
+use Rattle.kn_journal.specs.declared.status.Status.TheVariants as status
+use Rattle.kn_replay.specs.declared.command.Command.{Command}
+use Rattle.kn_replay.specs.declared.command.Command.TheVariants as command
+use Rattle.kn_replay.specs.Commands.{command_of}
+use Rattle.kn_replay.specs.Generating.{Generates}
+use Rattle.kn_replay.specs.Replaying.{IsReplayed, Replays}
+use Rattle.kn_replay.proofs.Generating.{of_same}
+use Rattle.kn_replay.proofs.Replays.{never_usage}
 use Rattle.kn_replay.proofs.command.run.Goals as goal
 
-pub returns-then-not-is_replay-clause-lawful : goal.returns-then-not-is_replay-clause-lawful
-returns-then-not-is_replay-clause-lawful g c =
-    on_any (g.S.Source.left c.args.input.now) (λ j. IsLawful j.setup.spec (trace_of_journal j)) (λ j. c.trace_laws.ensures.lawful j.setup.spec j.start j.events)
+-- ---- the words ask for one thing alone
 
-pub returns-then-not-is_replay-clause-settled : goal.returns-then-not-is_replay-clause-settled
-returns-then-not-is_replay-clause-settled g c =
-    on_any (g.S.Source.left c.args.input.now) (λ j. (n : ℕ) → IsSettled j.setup.spec (trace_of j.setup.spec j.start (take n j.events)))
-    (λ j n. c.trace_laws.ensures.settled j.setup.spec j.start (take n j.events))
+none_replays : (o : Option Command) → o ≡ None → o ≡ Some command.Replay → ⊥
+none_replays o here there = cc
 
-pub returns-then-not-is_replay-clause-inert : goal.returns-then-not-is_replay-clause-inert
-returns-then-not-is_replay-clause-inert g c =
-    on_any (g.S.Source.left c.args.input.now) (λ j. (n : ℕ) (e : Event) → IsInert j.setup.spec (trace_of j.setup.spec j.start (take n j.events)) e)
-    (λ j n e. c.trace_laws.ensures.inert j.setup.spec j.start (take n j.events) e)
+none_generates : (o : Option Command) (s n : ℕ) → o ≡ None → o ≡ Some (command.Generate s n) → ⊥
+none_generates o s n here there = cc
 
-pub returns-clause-lawful : goal.returns-clause-lawful
-returns-clause-lawful g c =
-    on_any (g.S.Source.left c.args.input.now) (λ j. IsLawful j.setup.spec (trace_of_journal j)) (λ j. c.trace_laws.ensures.lawful j.setup.spec j.start j.events)
+replay_or_generate : (o : Option Command) (s n : ℕ) → o ≡ Some command.Replay → o ≡ Some (command.Generate s n) → ⊥
+replay_or_generate o s n here there = cc
 
-pub returns-clause-settled : goal.returns-clause-settled
-returns-clause-settled g c =
-    on_any (g.S.Source.left c.args.input.now) (λ j. (n : ℕ) → IsSettled j.setup.spec (trace_of j.setup.spec j.start (take n j.events)))
-    (λ j n. c.trace_laws.ensures.settled j.setup.spec j.start (take n j.events))
+-- ---- a usage fault is no other
 
-pub returns-clause-inert : goal.returns-clause-inert
-returns-clause-inert g c =
-    on_any (g.S.Source.left c.args.input.now) (λ j. (n : ℕ) (e : Event) → IsInert j.setup.spec (trace_of j.setup.spec j.start (take n j.events)) e)
-    (λ j n e. c.trace_laws.ensures.inert j.setup.spec j.start (take n j.events) e)
+usage_read : (x : Status) → x ≡ status.Usage → x ≡ status.ReadFault → ⊥
+usage_read x here there = cc
+
+usage_write : (x : Status) → x ≡ status.Usage → x ≡ status.WriteFault → ⊥
+usage_write x here there = cc
+
+pub generate-requires : goal.generate-requires
+generate-requires g c =
+    c.command_of.ensures.range c.in-Some-Generate.seed c.in-Some-Generate.count (c.in-Some-Generate.is ∙ ap (λ (k : Command). Some k) c.in-Some-Generate.field-0-is)
+
+pub returns-in-None-clause-usage : goal.returns-in-None-clause-usage
+returns-in-None-clause-usage g c =
+    (λ _. (sym c.command_of.ensures.value ∙ c.in-None.is), λ _. c.tell.ensures.same)
+
+pub returns-in-None-clause-unread : goal.returns-in-None-clause-unread
+returns-in-None-clause-unread g c is =
+    refl
+
+pub returns-in-None-clause-unwritten : goal.returns-in-None-clause-unwritten
+returns-in-None-clause-unwritten g c is =
+    refl
+
+pub returns-in-None-clause-report : goal.returns-in-None-clause-report
+returns-in-None-clause-report g c is =
+    absurd (none_replays _ (sym c.command_of.ensures.value ∙ c.in-None.is) is)
+
+pub returns-in-None-clause-only : goal.returns-in-None-clause-only
+returns-in-None-clause-only g c =
+    inl c.tell.ensures.same
+
+pub returns-in-None-clause-ended : goal.returns-in-None-clause-ended
+returns-in-None-clause-ended g c is ok =
+    absurd (none_replays _ (sym c.command_of.ensures.value ∙ c.in-None.is) is)
+
+pub returns-in-None-clause-generates : goal.returns-in-None-clause-generates
+returns-in-None-clause-generates g c s n is =
+    absurd (none_generates _ s n (sym c.command_of.ensures.value ∙ c.in-None.is) is)
+
+pub returns-in-None-clause-untouched : goal.returns-in-None-clause-untouched
+returns-in-None-clause-untouched g c s n is =
+    refl
+
+pub returns-in-None-clause-memory : goal.returns-in-None-clause-memory
+returns-in-None-clause-memory g c is =
+    refl
+
+pub returns-in-None-clause-read_fault : goal.returns-in-None-clause-read_fault
+returns-in-None-clause-read_fault g c is =
+    absurd (usage_read _ c.tell.ensures.same is)
+
+pub returns-in-None-clause-write_fault : goal.returns-in-None-clause-write_fault
+returns-in-None-clause-write_fault g c is =
+    absurd (usage_write _ c.tell.ensures.same is)
+
+pub returns-in-None-clause-lawful : goal.returns-in-None-clause-lawful
+returns-in-None-clause-lawful g c =
+    c.journal_laws.ensures.lawful (g.S.Source.left c.args.input.now)
+
+pub returns-in-None-clause-settled : goal.returns-in-None-clause-settled
+returns-in-None-clause-settled g c =
+    c.journal_laws.ensures.settled (g.S.Source.left c.args.input.now)
+
+pub returns-in-None-clause-no_loss : goal.returns-in-None-clause-no_loss
+returns-in-None-clause-no_loss g c =
+    c.journal_laws.ensures.no_loss (g.S.Source.left c.args.input.now)
+
+pub returns-in-None-clause-inert : goal.returns-in-None-clause-inert
+returns-in-None-clause-inert g c =
+    c.journal_laws.ensures.inert (g.S.Source.left c.args.input.now)
+
+pub returns-in-None-clause-told : goal.returns-in-None-clause-told
+returns-in-None-clause-told g c =
+    c.tell.ensures.told
+
+pub returns-in-Some-Replay-clause-usage : goal.returns-in-Some-Replay-clause-usage
+returns-in-Some-Replay-clause-usage g c =
+    (λ is. absurd (never_usage _ (subst IsReplayed (sym c.tell-in-Some-Replay.ensures.same) c.replay_journal.ensures.replayed) is), λ none. absurd (none_replays _ none (sym c.command_of.ensures.value ∙ c.in-Some-Replay.is ∙ ap (λ (k : Command). Some k) c.in-Some-Replay.field-0-is)))
+
+pub returns-in-Some-Replay-clause-unread : goal.returns-in-Some-Replay-clause-unread
+returns-in-Some-Replay-clause-unread g c is =
+    absurd (never_usage _ (subst IsReplayed (sym c.tell-in-Some-Replay.ensures.same) c.replay_journal.ensures.replayed) is)
+
+pub returns-in-Some-Replay-clause-unwritten : goal.returns-in-Some-Replay-clause-unwritten
+returns-in-Some-Replay-clause-unwritten g c is =
+    absurd (never_usage _ (subst IsReplayed (sym c.tell-in-Some-Replay.ensures.same) c.replay_journal.ensures.replayed) is)
+
+pub returns-in-Some-Replay-clause-only : goal.returns-in-Some-Replay-clause-only
+returns-in-Some-Replay-clause-only g c =
+    inr (subst IsReplayed (sym c.tell-in-Some-Replay.ensures.same) c.replay_journal.ensures.replayed)
+
+pub returns-in-Some-Replay-clause-memory : goal.returns-in-Some-Replay-clause-memory
+returns-in-Some-Replay-clause-memory g c is =
+    c.replay_journal.ensures.memory (sym c.tell-in-Some-Replay.ensures.same ∙ is)
+
+pub returns-in-Some-Replay-clause-write_fault : goal.returns-in-Some-Replay-clause-write_fault
+returns-in-Some-Replay-clause-write_fault g c is =
+    c.replay_journal.ensures.write_fault (sym c.tell-in-Some-Replay.ensures.same ∙ is)
+
+pub returns-in-Some-Replay-clause-report : goal.returns-in-Some-Replay-clause-report
+returns-in-Some-Replay-clause-report g c is =
+    subst (λ (x : Status). Replays (g.S.Source.left c.args.input.now) (g.S.Source.left c.replay_journal.new.source) (g.S.Source.given c.replay_journal.new.source - g.S.Source.given c.args.input.now) (g.O.Sink.held c.args.out.now) (g.O.Sink.held c.replay_journal.new.out) x) (sym c.tell-in-Some-Replay.ensures.same) c.replay_journal.ensures.report
+
+pub returns-in-Some-Replay-clause-ended : goal.returns-in-Some-Replay-clause-ended
+returns-in-Some-Replay-clause-ended g c is ok =
+    c.replay_journal.ensures.ended (sym c.tell-in-Some-Replay.ensures.same ∙ ok)
+
+pub returns-in-Some-Replay-clause-generates : goal.returns-in-Some-Replay-clause-generates
+returns-in-Some-Replay-clause-generates g c s n is =
+    absurd (replay_or_generate _ s n (sym c.command_of.ensures.value ∙ c.in-Some-Replay.is ∙ ap (λ (k : Command). Some k) c.in-Some-Replay.field-0-is) is)
+
+pub returns-in-Some-Replay-clause-untouched : goal.returns-in-Some-Replay-clause-untouched
+returns-in-Some-Replay-clause-untouched g c s n is =
+    absurd (replay_or_generate _ s n (sym c.command_of.ensures.value ∙ c.in-Some-Replay.is ∙ ap (λ (k : Command). Some k) c.in-Some-Replay.field-0-is) is)
+
+pub returns-in-Some-Replay-clause-read_fault : goal.returns-in-Some-Replay-clause-read_fault
+returns-in-Some-Replay-clause-read_fault g c is =
+    c.replay_journal.ensures.read_fault (sym c.tell-in-Some-Replay.ensures.same ∙ is)
+
+pub returns-in-Some-Replay-clause-lawful : goal.returns-in-Some-Replay-clause-lawful
+returns-in-Some-Replay-clause-lawful g c =
+    c.journal_laws.ensures.lawful (g.S.Source.left c.args.input.now)
+
+pub returns-in-Some-Replay-clause-settled : goal.returns-in-Some-Replay-clause-settled
+returns-in-Some-Replay-clause-settled g c =
+    c.journal_laws.ensures.settled (g.S.Source.left c.args.input.now)
+
+pub returns-in-Some-Replay-clause-no_loss : goal.returns-in-Some-Replay-clause-no_loss
+returns-in-Some-Replay-clause-no_loss g c =
+    c.journal_laws.ensures.no_loss (g.S.Source.left c.args.input.now)
+
+pub returns-in-Some-Replay-clause-inert : goal.returns-in-Some-Replay-clause-inert
+returns-in-Some-Replay-clause-inert g c =
+    c.journal_laws.ensures.inert (g.S.Source.left c.args.input.now)
+
+pub returns-in-Some-Replay-clause-told : goal.returns-in-Some-Replay-clause-told
+returns-in-Some-Replay-clause-told g c =
+    c.tell-in-Some-Replay.ensures.told
+
+pub returns-in-Some-Generate-clause-usage : goal.returns-in-Some-Generate-clause-usage
+returns-in-Some-Generate-clause-usage g c =
+    (λ is. absurd (never_usage _ (subst IsReplayed (sym c.tell-in-Some-Generate.ensures.same) c.generate.ensures.replayed) is), λ none. absurd (none_generates _ c.in-Some-Generate.seed c.in-Some-Generate.count none (sym c.command_of.ensures.value ∙ c.in-Some-Generate.is ∙ ap (λ (k : Command). Some k) c.in-Some-Generate.field-0-is)))
+
+pub returns-in-Some-Generate-clause-unread : goal.returns-in-Some-Generate-clause-unread
+returns-in-Some-Generate-clause-unread g c is =
+    refl
+
+pub returns-in-Some-Generate-clause-unwritten : goal.returns-in-Some-Generate-clause-unwritten
+returns-in-Some-Generate-clause-unwritten g c is =
+    absurd (never_usage _ (subst IsReplayed (sym c.tell-in-Some-Generate.ensures.same) c.generate.ensures.replayed) is)
+
+pub returns-in-Some-Generate-clause-only : goal.returns-in-Some-Generate-clause-only
+returns-in-Some-Generate-clause-only g c =
+    inr (subst IsReplayed (sym c.tell-in-Some-Generate.ensures.same) c.generate.ensures.replayed)
+
+pub returns-in-Some-Generate-clause-memory : goal.returns-in-Some-Generate-clause-memory
+returns-in-Some-Generate-clause-memory g c is =
+    c.generate.ensures.memory (sym c.tell-in-Some-Generate.ensures.same ∙ is)
+
+pub returns-in-Some-Generate-clause-write_fault : goal.returns-in-Some-Generate-clause-write_fault
+returns-in-Some-Generate-clause-write_fault g c is =
+    c.generate.ensures.write_fault (sym c.tell-in-Some-Generate.ensures.same ∙ is)
+
+pub returns-in-Some-Generate-clause-report : goal.returns-in-Some-Generate-clause-report
+returns-in-Some-Generate-clause-report g c is =
+    absurd (replay_or_generate _ c.in-Some-Generate.seed c.in-Some-Generate.count is (sym c.command_of.ensures.value ∙ c.in-Some-Generate.is ∙ ap (λ (k : Command). Some k) c.in-Some-Generate.field-0-is))
+
+pub returns-in-Some-Generate-clause-ended : goal.returns-in-Some-Generate-clause-ended
+returns-in-Some-Generate-clause-ended g c is ok =
+    absurd (replay_or_generate _ c.in-Some-Generate.seed c.in-Some-Generate.count is (sym c.command_of.ensures.value ∙ c.in-Some-Generate.is ∙ ap (λ (k : Command). Some k) c.in-Some-Generate.field-0-is))
+
+pub returns-in-Some-Generate-clause-generates : goal.returns-in-Some-Generate-clause-generates
+returns-in-Some-Generate-clause-generates g c seed count is =
+    let all = subst (λ (x : Status). Generates c.in-Some-Generate.seed c.in-Some-Generate.count (g.O.Sink.held c.args.out.now) (g.O.Sink.held c.generate.new.out) x) (sym c.tell-in-Some-Generate.ensures.same) c.generate.ensures.generates in
+    of_same (command_of (map string_bytes c.args.words.now)) c.in-Some-Generate.seed c.in-Some-Generate.count seed count (λ s n. Generates s n (g.O.Sink.held c.args.out.now) (g.O.Sink.held c.generate.new.out) c.tell-in-Some-Generate.result) (sym c.command_of.ensures.value ∙ c.in-Some-Generate.is ∙ ap (λ (k : Command). Some k) c.in-Some-Generate.field-0-is) is all
+
+pub returns-in-Some-Generate-clause-untouched : goal.returns-in-Some-Generate-clause-untouched
+returns-in-Some-Generate-clause-untouched g c s n is =
+    refl
+
+pub returns-in-Some-Generate-clause-read_fault : goal.returns-in-Some-Generate-clause-read_fault
+returns-in-Some-Generate-clause-read_fault g c is =
+    absurd (c.generate.ensures.reads_nothing (sym c.tell-in-Some-Generate.ensures.same ∙ is))
+
+pub returns-in-Some-Generate-clause-lawful : goal.returns-in-Some-Generate-clause-lawful
+returns-in-Some-Generate-clause-lawful g c =
+    c.journal_laws.ensures.lawful (g.S.Source.left c.args.input.now)
+
+pub returns-in-Some-Generate-clause-settled : goal.returns-in-Some-Generate-clause-settled
+returns-in-Some-Generate-clause-settled g c =
+    c.journal_laws.ensures.settled (g.S.Source.left c.args.input.now)
+
+pub returns-in-Some-Generate-clause-no_loss : goal.returns-in-Some-Generate-clause-no_loss
+returns-in-Some-Generate-clause-no_loss g c =
+    c.journal_laws.ensures.no_loss (g.S.Source.left c.args.input.now)
+
+pub returns-in-Some-Generate-clause-inert : goal.returns-in-Some-Generate-clause-inert
+returns-in-Some-Generate-clause-inert g c =
+    c.journal_laws.ensures.inert (g.S.Source.left c.args.input.now)
+
+pub returns-in-Some-Generate-clause-told : goal.returns-in-Some-Generate-clause-told
+returns-in-Some-Generate-clause-told g c =
+    c.tell-in-Some-Generate.ensures.told
