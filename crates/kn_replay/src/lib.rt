@@ -11,6 +11,8 @@ mod waiting;
 
 pub use command::{run, tell};
 pub use kn_journal::{JournalError, SetupError, Status};
+pub use replay::status_of;
+pub use texts::put_error;
 
 #[cfg(test)]
 mod tests;

@@ -141,8 +141,9 @@ fn put_times(last: u64, own: u64, line: &mut Line)
     line.put_integer(own);
 }
 
+/// Adds what is told of an error to the line.
 #[tactic(auto, unfolding(crate::specs::Texts::error_text))]
-fn put_error(error: &JournalError, line: &mut Line)
+pub fn put_error(error: &JournalError, line: &mut Line)
     requires { length line.old ≤ 10 }
     ensures value { line.new ≡ line.old ++ error_text error.now }
     ensures short { length line.new ≤ 300 }

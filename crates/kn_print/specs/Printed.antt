@@ -1,0 +1,26 @@
+-- The journal that a session prints.
+use Rattle.std.specs.Prelude.{ℕ, ◌<◌, ◌^◌, List, map}
+use Rattle.kn_event.specs.declared.event.Act.{Act}
+use Rattle.kn_event.specs.declared.event.Act.TheVariants as act
+use Rattle.kn_event.specs.declared.event.Event.{Event}
+use Rattle.kn_cell.specs.declared.past.Past.{Past}
+use Rattle.kn_journal.specs.declared.journal.Journal.{Journal}
+use Rattle.kn_journal.specs.declared.journal.Setup.{Setup}
+
+abbrev pub events_of : List Past → List Event
+events_of h = map (λ p. p.event) h
+
+-- a journal 1 of the setup, the start and the events of the history
+abbrev pub printed_journal : Setup → ℕ → List Past → Journal
+printed_journal setup start h = record { version = 1; setup = setup; start = start; events = events_of h }
+
+-- its numbers fit a line of a journal
+abbrev pub HasSmall : Act → Type 0
+HasSmall (act.Arrive tag) = tag < 2 ^ 64
+HasSmall (act.Finish r ok) = r < 2 ^ 64
+HasSmall (act.Cancel r) = r < 2 ^ 64
+HasSmall act.Pass = Unit {0}
+HasSmall (act.Ready p) = p < 2 ^ 64
+HasSmall (act.Limit p n) = p < 2 ^ 64
+HasSmall (act.Lost p) = p < 2 ^ 64
+HasSmall act.Tick = Unit {0}
