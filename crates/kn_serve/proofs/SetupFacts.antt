@@ -1,0 +1,89 @@
+-- A setup that stands alone, from the two calls that read it.
+use Rattle.std.proofs.Common.{◌≡◌, ◌≤◌, ◌⊎◌, ℕ, List, [], refl, sym, ap, ◌∙◌, subst, arith, inl, inr}
+use Rattle.std.specs.Prelude.{Option, None, Some, Result, Ok, Err, ⊤}
+use Rattle.std.specs.Io.KnownBytes.{prepend_known}
+use Rattle.kn_io.specs.Causes.{Rose}
+use Rattle.kn_journal.specs.declared.error.JournalError.{JournalError}
+use Rattle.kn_journal.specs.declared.error.JournalError.TheVariants as error
+use Rattle.kn_journal.specs.declared.journal.Opening.{Opening}
+use Rattle.kn_journal.specs.declared.journal.Setup.{Setup}
+use Rattle.kn_journal.specs.declared.status.Status.TheVariants as status
+use Rattle.kn_journal.specs.Causes.{Cause}
+use Rattle.kn_journal.specs.Journal.{nothing_part, opening_part, version_of}
+use Rattle.kn_journal.specs.Lines.{lines}
+use Rattle.kn_journal.specs.Parts.{Part, part, then_part}
+use Rattle.kn_journal.specs.Telling.{Gives, Refused, Refuses}
+use Rattle.kn_replay.specs.Replaying.{status_of}
+use Rattle.kn_serve.specs.Setup.{SaysSetup, nothing_behind, setup_alone}
+
+pub rose_on : (a b d : ℕ) → a ≤ b → Rose b d → Rose a d
+rose_on a b d h k = grind (arith)
+
+pub either : {A B C D : Type 0} → A ⊎ B → (A → C) → (B → D) → C ⊎ D
+either (inl a) f g = inl (f a)
+either (inr b) f g = inr (g b)
+
+pub nothing_ahead : (ahead : List ℕ) (left : Option (List ℕ)) → ahead ≡ [] → prepend_known ahead left ≡ left
+nothing_ahead ahead None h = refl
+nothing_ahead ahead (Some xs) h = rw h refl
+
+pub memory_said : (left : Option (List ℕ)) → SaysSetup left (Err error.Memory)
+memory_said None = tt
+memory_said (Some xs) = tt
+
+-- what refuses a first part refuses the whole
+refused_then : {S T : Type 0} (e : JournalError) (r : Result (Part S) Cause) (next : S → ℕ → List (List ℕ) → Result (Part T) Cause) → Refused e r → Refused e (then_part r next)
+refused_then error.ReadFault r next h = tt
+refused_then error.Memory r next h = tt
+refused_then {S} {T} _ r next h = (h.0, h.1, ap (λ (x : Result (Part S) Cause). then_part {S = S} {T = Part T} x next) h.2)
+
+pub opening_refused : (left : Option (List ℕ)) (e : JournalError) → Refuses (opening_part version_of 0) e left → SaysSetup left (Err e)
+opening_refused None e h = tt
+opening_refused (Some xs) e h = refused_then e (opening_part version_of 0 (lines xs)) nothing_behind h
+
+pub end_refused : (left mid : Option (List ℕ)) (o : Opening) (n : ℕ) (e : JournalError) → Gives (opening_part version_of 0) o n left mid → Refuses (nothing_part n) e mid → SaysSetup left (Err e)
+end_refused None mid o n e h k = tt
+end_refused (Some xs) None o n e h k = absurd h
+end_refused (Some xs) (Some ys) o n e h k =
+    let whole : setup_alone (lines xs) ≡ nothing_behind o n (lines ys) = ap (λ (r : Result (Part Opening) Cause). then_part r nothing_behind) h in
+    subst (Refused e) (sym whole) (refused_then e (nothing_part n (lines ys)) (λ _ m left. Ok (part o m left)) k)
+
+pub setup_said : (left mid new : Option (List ℕ)) (version : ℕ) (setup : Setup) (n m : ℕ) → Gives (opening_part version_of 0) (record { version = version; setup = setup }) n left mid
+    → Gives (nothing_part n) tt m mid new → SaysSetup left (Ok setup)
+setup_said None mid new version setup n m h k = tt
+setup_said (Some xs) None new version setup n m h k = absurd h
+setup_said (Some xs) (Some ys) None version setup n m h k = absurd k
+setup_said (Some xs) (Some ys) (Some zs) version setup n m h k =
+    let o : Opening = record { version = version; setup = setup } in
+    record {
+      version = version;
+      number = m;
+      left = lines zs;
+      read = ap (λ (r : Result (Part Opening) Cause). then_part r nothing_behind) h
+          ∙ ap (λ (r : Result (Part ⊤) Cause). then_part r (λ _ m left. Ok (part o m left))) k;
+    }
+
+-- which status an error makes
+pub fault_of : (e : JournalError) → status_of e ≡ status.ReadFault → e ≡ error.ReadFault
+fault_of error.ReadFault h = refl
+fault_of error.Memory h = cc
+fault_of error.BadFirstLine h = cc
+fault_of (error.BadSetup line why) h = cc
+fault_of (error.LineTooLong line) h = cc
+fault_of (error.BadLine line why) h = cc
+fault_of (error.TimeBack line before own) h = cc
+fault_of (error.TimeTooLarge line) h = cc
+fault_of error.NoEnd h = cc
+fault_of (error.AfterEnd line) h = cc
+
+pub no_write_fault : (e : JournalError) → status_of e ≡ status.WriteFault → ⊥
+no_write_fault error.ReadFault h = cc
+no_write_fault error.Memory h = cc
+no_write_fault error.BadFirstLine h = cc
+no_write_fault (error.BadSetup line why) h = cc
+no_write_fault (error.LineTooLong line) h = cc
+no_write_fault (error.BadLine line why) h = cc
+no_write_fault (error.TimeBack line before own) h = cc
+no_write_fault (error.TimeTooLarge line) h = cc
+no_write_fault error.NoEnd h = cc
+no_write_fault (error.AfterEnd line) h = cc

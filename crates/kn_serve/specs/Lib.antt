@@ -1,0 +1,6 @@
+pub mod Ending
+pub mod Opening
+pub mod Running
+pub mod Setup
+pub mod Shut
+pub mod Texts

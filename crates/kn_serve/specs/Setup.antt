@@ -1,0 +1,29 @@
+-- A setup that stands alone: a first line, a setup, and then the end of the input.
+use Rattle.std.specs.Prelude.{◌≡◌, ℕ, List, Option, None, Some, Result, Ok, Err, ⊤}
+use Rattle.kn_journal.specs.declared.error.JournalError.{JournalError}
+use Rattle.kn_journal.specs.declared.journal.Opening.{Opening}
+use Rattle.kn_journal.specs.declared.journal.Setup.{Setup}
+use Rattle.kn_journal.specs.Causes.{Cause}
+use Rattle.kn_journal.specs.Journal.{nothing_part, opening_part, version_of}
+use Rattle.kn_journal.specs.Lines.{lines}
+use Rattle.kn_journal.specs.Parts.{Part, part, then_part}
+use Rattle.kn_journal.specs.Telling.{Refused}
+
+abbrev pub nothing_behind : Opening → ℕ → List (List ℕ) → Result (Part Opening) Cause
+nothing_behind opening n lines = then_part (nothing_part n lines) (λ _ n left. Ok (part opening n left))
+
+-- no line may follow
+abbrev pub setup_alone : List (List ℕ) → Result (Part Opening) Cause
+setup_alone lines = then_part (opening_part version_of 0 lines) nothing_behind
+
+pub record IsAlone (lines : List (List ℕ)) (setup : Setup) : Type 0 where
+  pub version : ℕ
+  pub number : ℕ
+  pub left : List (List ℕ)
+  pub read : setup_alone lines ≡ Ok (part (record { version = version; setup = setup }) number left)
+
+-- what an input that is told says of the setup that was read, or of the error: the first line that is refused
+abbrev pub SaysSetup : Option (List ℕ) → Result Setup JournalError → Type 0
+SaysSetup None r = ⊤
+SaysSetup (Some xs) (Ok setup) = IsAlone (lines xs) setup
+SaysSetup (Some xs) (Err e) = Refused e (setup_alone (lines xs))

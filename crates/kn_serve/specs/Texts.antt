@@ -1,0 +1,21 @@
+-- What the program tells of a status.
+use Rattle.std.specs.Prelude.{ℕ, ◌++◌, List, [], codes}
+use Rattle.std.specs.Fmt.{decimal}
+use Rattle.kn_journal.specs.declared.status.Status.{Status}
+use Rattle.kn_journal.specs.declared.status.Status.TheVariants as status
+use Rattle.kn_replay.specs.Texts.{error_text}
+
+-- under the program's own name
+abbrev pub told_of : List ℕ → List ℕ
+told_of what = codes "kactd: " ++ (what ++ codes "\n")
+
+unfoldable pub status_text : Status → List ℕ
+status_text status.Ok = []
+status_text status.Usage = codes "usage: kactd --listen HOST:PORT --pods HOST:PORT,.. [--slots N] [--rounds N] [--room N]\n"
+status_text (status.BadInput e) = told_of (error_text e)
+status_text (status.BadSetup e) = told_of (error_text e)
+status_text status.ReadFault = codes "kactd: read failed\n"
+status_text status.WriteFault = codes "kactd: write failed\n"
+status_text status.Memory = codes "kactd: out of memory\n"
+status_text (status.SlotFault slot) = codes "kactd: slot " ++ (decimal slot ++ codes " failed\n")
+status_text status.ListenFault = codes "kactd: listen failed\n"

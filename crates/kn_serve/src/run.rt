@@ -1,0 +1,183 @@
+//! A run of a session: its setup is read, its revision opened, its slots served, and its journal printed.
+ghost use Rattle.std.specs.Prelude.{◌≡◌, ◌⊎◌, ◌≤◌, ◌+◌, ◌^◌, ℕ, false, length, slice_index_or, IfOk};
+ghost use Rattle.kn_io.specs.Causes.{Rose};
+ghost use Rattle.kn_trace.specs.Events.{opening};
+ghost use Rattle.kn_trace.specs.Trace.{Trace};
+ghost use Rattle.kn_core.specs.State.{StandsFor};
+ghost use Rattle.kn_cell.specs.History.{live_of};
+ghost use Rattle.kn_journal.specs.Reading.{most_taken};
+ghost use Rattle.kn_replay.specs.Replaying.{Tells};
+ghost use Rattle.kn_session.specs.Lists.{EachDone, EachIs};
+ghost use Rattle.kn_session.specs.Rounds.{sides};
+ghost use Rattle.kn_session.specs.Session.{Probed, SlotServed, TickerServed};
+ghost use Rattle.kn_serve.specs.Opening.{IsEmptyWork};
+ghost use Rattle.kn_serve.specs.Running.{Declines, IsInRange, IsStart, Serves};
+ghost use Rattle.kn_serve.specs.Texts.{status_text};
+
+use crate::ending::{clear, end_of};
+use crate::setups::read_setup;
+use crate::telling::tell;
+use kn_core::Revision;
+use kn_event::{EntryLog, Memory, Spec};
+use kn_io::{Caller, Clock, Failed, Gate, PodLink, Sink, Source};
+use kn_journal::{Status, journals_are_read};
+use kn_plan::Plan;
+use kn_print::print_journal;
+use kn_replay::status_of;
+use kn_request::Slot;
+use kn_session::serve_session;
+use std::alloc::Global;
+use std::sync::Wait;
+use std::thread::Threads;
+
+/// The latest time that a journal has, in milliseconds.
+const LATEST: u64 = 4_398_046_511_104;
+
+/// The clock's time, or 2^42 where that is more.
+fn start_of<K: Clock>(clock: &K) -> u64
+    ensures start { IsStart (K.reading clock.now) result }
+    ensures most { result ≤ 2 ^ 42 }
+{
+    let now = clock.now_ms();
+    if now < LATEST { now } else { LATEST }
+}
+
+/// The revision at its start, with all the memory that it will ever have.
+fn open_revision(alloc: Global, spec: &Spec, start: u64) -> Result<Revision, Memory>
+    requires { start ≤ 2 ^ 42 }
+    ensures stands { IfOk result (λ r. StandsFor r (opening spec.now start)) }
+    ensures spec { IfOk result (λ r. r.spec ≡ spec.now) }
+    ensures clock { IfOk result (λ r. r.clock ≡ start) }
+    ensures events { IfOk result (λ r. r.events ≡ 0) }
+    ensures live { IfOk result (λ r. (c : Trace) → StandsFor r c → live_of c ≡ 0) }
+{
+    let mut log = match EntryLog::new(alloc) {
+        Ok(log) => log,
+        Err(Memory) => return Err(Memory),
+    };
+    let spec = match spec.copy(alloc) {
+        Ok(spec) => spec,
+        Err(Memory) => return Err(Memory),
+    };
+    let revision = match Revision::new(alloc, spec, start, &mut log) {
+        Ok(revision) => revision,
+        Err(Memory) => return Err(Memory),
+    };
+    let live = revision.live();
+    prove!(live == 0);
+    Ok(revision)
+}
+
+/// Serves a session, and prints its journal.
+pub fn serve<
+    S: Source,
+    C: Caller + Send,
+    L: PodLink + Send,
+    K: Clock + Sync,
+    G: Gate + Sync,
+    O: Sink,
+    R: Threads + Wait + Sync,
+>(
+    rt: &R,
+    alloc: Global,
+    plan: &Plan,
+    setup: &mut S,
+    slots: &mut [Slot<C, L>],
+    keeper: &mut L,
+    clock: &K,
+    gate: &G,
+    out: &mut O,
+) -> Status
+    requires plan { IsInRange plan.now }
+    requires count { length slots.old ≡ plan.now.slots }
+    requires works { EachIs (λ s. IsEmptyWork s.work) slots.old }
+    ensures course { Declines (S.left setup.old) ((slots.new ≡ slots.old) × (keeper.new ≡ keeper.old) × (out.new ≡ out.old)) result
+        ⊎ Serves (K.reading clock.now) (length slots.old) (S.left setup.old) (O.held out.old) (O.held out.new)
+        (λ x. EachDone (λ i s t. SlotServed (K.reading clock.now) x.setup.spec x.opened plan.now.room plan.now.rounds x.history i
+        (sides (C.Source.left s.caller) (C.Sink.kept s.caller) (C.Sink.held s.caller) (C.Faulty.faults s.caller) (L.told s.link) (L.Faulty.faults s.link))
+        (sides (C.Source.left t.caller) (C.Sink.kept t.caller) (C.Sink.held t.caller) (C.Faulty.faults t.caller) (L.told t.link) (L.Faulty.faults t.link))
+        (slice_index_or x.faults i false) (slice_index_or x.wants i false)) slots.old slots.new)
+        (λ x. TickerServed (K.reading clock.now) x.start x.opened plan.now.room x.history (L.told keeper.old) (L.told keeper.new) × Probed x.history (L.told keeper.old) (L.told keeper.new)) result }
+    ensures works { EachIs (λ s. IsEmptyWork s.work) slots.new }
+    ensures read_fault { result ≡ Status.ReadFault → Rose (S.Faulty.faults setup.old) (S.Faulty.faults setup.new) ⊎ (S.given setup.old + most_taken ≤ S.given setup.new) }
+    ensures write_fault { result ≡ Status.WriteFault → Rose (O.Faulty.faults out.old) (O.Faulty.faults out.new) }
+{
+    journals_are_read();
+    let read = match read_setup(alloc, setup) {
+        Ok(read) => read,
+        Err(error) => return status_of(error),
+    };
+    let start = start_of(clock);
+    let revision = match open_revision(alloc, &read.spec, start) {
+        Ok(revision) => revision,
+        Err(Memory) => return Status::Memory,
+    };
+    let history = match serve_session(
+        rt,
+        alloc,
+        revision,
+        plan.room,
+        &read.spec,
+        slots,
+        keeper,
+        clock,
+        gate,
+        plan.rounds,
+        start,
+    ) {
+        Ok((_, history)) => history,
+        Err(Memory) => return Status::Memory,
+    };
+    let ended = end_of(slots);
+    clear(slots);
+    match print_journal(&read, start, history.items(), out) {
+        Ok(()) => ended,
+        Err(Failed) => Status::WriteFault,
+    }
+}
+
+/// Serves a session: the setup is read, the revision opened, every round of every slot served with the ticker beside them, and
+/// the history printed as a journal that `kact replay` reads, line by line and taking no memory.
+///
+/// The status is that of the setup's fault, or `Memory` at opening, and then nothing else was touched; or `WriteFault`; or
+/// `SlotFault` of the least slot with a round that ended in a fault; or `Memory`, where a round ended so; or `Ok`. What it
+/// tells is told on `err`.
+pub fn serve_run<
+    S: Source,
+    C: Caller + Send,
+    L: PodLink + Send,
+    K: Clock + Sync,
+    G: Gate + Sync,
+    O: Sink,
+    E: Sink,
+    R: Threads + Wait + Sync,
+>(
+    rt: &R,
+    alloc: Global,
+    plan: &Plan,
+    setup: &mut S,
+    slots: &mut [Slot<C, L>],
+    keeper: &mut L,
+    clock: &K,
+    gate: &G,
+    out: &mut O,
+    err: &mut E,
+) -> Status
+    requires plan { IsInRange plan.now }
+    requires count { length slots.old ≡ plan.now.slots }
+    requires works { EachIs (λ s. IsEmptyWork s.work) slots.old }
+    ensures course { Declines (S.left setup.old) ((slots.new ≡ slots.old) × (keeper.new ≡ keeper.old) × (out.new ≡ out.old)) result
+        ⊎ Serves (K.reading clock.now) (length slots.old) (S.left setup.old) (O.held out.old) (O.held out.new)
+        (λ x. EachDone (λ i s t. SlotServed (K.reading clock.now) x.setup.spec x.opened plan.now.room plan.now.rounds x.history i
+        (sides (C.Source.left s.caller) (C.Sink.kept s.caller) (C.Sink.held s.caller) (C.Faulty.faults s.caller) (L.told s.link) (L.Faulty.faults s.link))
+        (sides (C.Source.left t.caller) (C.Sink.kept t.caller) (C.Sink.held t.caller) (C.Faulty.faults t.caller) (L.told t.link) (L.Faulty.faults t.link))
+        (slice_index_or x.faults i false) (slice_index_or x.wants i false)) slots.old slots.new)
+        (λ x. TickerServed (K.reading clock.now) x.start x.opened plan.now.room x.history (L.told keeper.old) (L.told keeper.new) × Probed x.history (L.told keeper.old) (L.told keeper.new)) result }
+    ensures works { EachIs (λ s. IsEmptyWork s.work) slots.new }
+    ensures read_fault { result ≡ Status.ReadFault → Rose (S.Faulty.faults setup.old) (S.Faulty.faults setup.new) ⊎ (S.given setup.old + most_taken ≤ S.given setup.new) }
+    ensures write_fault { result ≡ Status.WriteFault → Rose (O.Faulty.faults out.old) (O.Faulty.faults out.new) }
+    ensures told { Tells (status_text result) (E.held err.old) (E.held err.new) (E.Faulty.faults err.old) (E.Faulty.faults err.new) }
+{
+    let status = serve(rt, alloc, plan, setup, slots, keeper, clock, gate, out);
+    tell(status, err)
+}

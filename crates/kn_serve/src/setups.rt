@@ -1,0 +1,30 @@
+//! The setup of a session.
+ghost use Rattle.std.specs.Prelude.{◌≡◌, ◌⊎◌, ◌+◌, ◌≤◌, Err};
+ghost use Rattle.kn_io.specs.Causes.{Rose};
+ghost use Rattle.kn_journal.specs.Reading.{most_taken};
+ghost use Rattle.kn_serve.specs.Setup.{SaysSetup};
+
+use kn_event::Memory;
+use kn_io::Source;
+use kn_journal::{JournalError, JournalReader, Setup};
+use std::alloc::Global;
+
+/// Reads a setup that stands alone: a journal's lines before its start, and then the end of the input.
+pub fn read_setup<S: Source>(alloc: Global, source: &mut S) -> Result<Setup, JournalError>
+    ensures says { SaysSetup (S.left source.old) result }
+    ensures fault { result ≡ Err JournalError.ReadFault → Rose (S.Faulty.faults source.old) (S.Faulty.faults source.new) ⊎ (S.given source.old + most_taken ≤ S.given source.new) }
+    ensures never_falls { S.Faulty.faults source.old ≤ S.Faulty.faults source.new }
+{
+    let mut reader = match JournalReader::new(alloc) {
+        Ok(reader) => reader,
+        Err(Memory) => return Err(JournalError::Memory),
+    };
+    let setup = match reader.setup(alloc, source) {
+        Ok(setup) => setup,
+        Err(error) => return Err(error),
+    };
+    match reader.finish_setup(source) {
+        Ok(()) => Ok(setup),
+        Err(error) => Err(error),
+    }
+}
