@@ -1,5 +1,7 @@
 pub mod Marking
+pub mod Counting
 pub mod Found
 pub mod Words
 pub mod Places
 pub mod Follows
+pub mod Pushing

@@ -18,7 +18,7 @@ use Rattle.kn_policy.specs.Policy.{place_past}
 
 -- ---- the first mark
 
-length-marks : (cands : List Cand) → length (marks_of cands) ≡ length cands
+pub length-marks : (cands : List Cand) → length (marks_of cands) ≡ length cands
 length-marks [] = refl
 length-marks (q ∷ cands) = ap suc (length-marks cands)
 
@@ -109,17 +109,6 @@ rest_marks place cands = rest_all place (marks_of cands) ∙ drop-marks place ca
 
 -- ---- two of all
 
-pub two_of_none : (cands : List Cand) (a b : ℕ) → length cands ≡ 0 → IsPlaceOf (choice_of_two cands a b) cands None
-unfolding choice_of_two
-two_of_none [] a b h = refl
-two_of_none (q ∷ cands) a b h = absurd (omega arith)
-
-pub two_of_one : (cands : List Cand) (a b : ℕ) → length cands ≡ 1 → IsPlaceOf (choice_of_two cands a b) cands (Some 0)
-unfolding choice_of_two
-two_of_one [] a b h = absurd (omega arith)
-two_of_one (q ∷ []) a b h = (omega arith, λ d. refl)
-two_of_one (q ∷ r ∷ cands) a b h = absurd (omega arith)
-
 -- the two places that the words name, of which the second is taken where fewer run there
 pub two_second : (cands : List Cand) (a b i j : ℕ) (d : Cand) → 2 ≤ length cands → i ≡ a % length cands → j ≡ other_position i (b % (length cands - 1)) → i < length cands → j < length cands
     → (get_or cands j d).running < (get_or cands i d).running → IsPlaceOf (choice_of_two cands a b) cands (Some j)
@@ -143,7 +132,7 @@ pub some_place : (pod : Option ℕ) (cands : List Cand) (r : Option ℕ) → IsP
 some_place pod cands None none = rw none refl
 some_place pod cands (Some i) found = rw (found.1 nobody) refl
 
-count-first : (q : Cand) (cands : List Cand) → count_by has_seat (q ∷ cands) ≡ cond (has_seat q) (suc (count_by has_seat cands)) (count_by has_seat cands)
+pub count-first : (q : Cand) (cands : List Cand) → count_by has_seat (q ∷ cands) ≡ cond (has_seat q) (suc (count_by has_seat cands)) (count_by has_seat cands)
 count-first q cands = by (has_seat q) refl
   where
     by : (b : Bool) → has_seat q ≡ b → count_by has_seat (q ∷ cands) ≡ cond b (suc (count_by has_seat cands)) (count_by has_seat cands)
@@ -174,20 +163,12 @@ counted cands = by (count_by has_seat cands) refl (list_any has_seat cands) refl
     by (suc n) e true f = sym (lt-ltb 0 (suc n) (omega arith))
     by (suc n) e false f = absurd (let no : suc n ≡ 0 = sym e ∙ none_counted cands f in omega (arith, no))
 
-pub all_free : (cands : List Cand) → length cands ≤ count_by has_seat cands → filter has_seat cands ≡ cands
-all_free [] h = refl
-all_free (q ∷ cands) h = by (has_seat q) refl (all_free cands)
-  where
-    by : (b : Bool) → has_seat q ≡ b → (length cands ≤ count_by has_seat cands → filter has_seat cands ≡ cands) → filter has_seat (q ∷ cands) ≡ q ∷ cands
-    by true e rest = let more : suc (length cands) ≤ suc (count_by has_seat cands) = rw (count-first q cands, e) at h in rw e (ap (λ l. q ∷ l) (rest (omega (arith, more))))
-    by false e rest = absurd (let more : suc (length cands) ≤ count_by has_seat cands = rw (count-first q cands, e) at h in omega (arith, more, count_by-le-length has_seat cands))
-
 -- ---- which policy it is
 
-pub chosen_two : (cc seed place picks : ℕ) (cands : List Cand) (a b : ℕ) (r : Option ℕ) → cc ≡ 0 → filter has_seat cands ≡ cands → a ≡ random_word seed (2 * picks)
-    → b ≡ random_word seed (2 * picks + 1) → IsPlaceOf (choice_of_two cands a b) cands r → IsPlaceOf (chosen_pod cc seed place picks cands) cands r
+pub chosen_two : (cc seed place picks : ℕ) (cands : List Cand) (a b : ℕ) (r : Option ℕ) → cc ≡ 0 → a ≡ random_word seed (2 * picks)
+    → b ≡ random_word seed (2 * picks + 1) → IsPlaceOf (choice_of_two (filter has_seat cands) a b) cands r → IsPlaceOf (chosen_pod cc seed place picks cands) cands r
 unfolding chosen_pod random_choice
-chosen_two n seed place picks cands a b r no_limit all x y found = rw (no_limit, all, ← x, ← y) found
+chosen_two n seed place picks cands a b r no_limit x y found = rw (no_limit, ← x, ← y) found
 
 pub chosen_first : (cc seed place picks : ℕ) (cands : List Cand) (r : Option ℕ) → 1 ≤ cc → cc ≤ 3 → IsPlaceOf (first_available cands) cands r
     → IsPlaceOf (chosen_pod cc seed place picks cands) cands r

@@ -3,6 +3,7 @@
 
 mod laws;
 mod marks;
+mod nth;
 mod policy;
 
 pub use kn_trace::Cand;

@@ -70,7 +70,7 @@ impl Policy {
     }
 
     /// What `pick` answers and does, of pods in order that are marked, without a walk over them: each has a mark, which is 1
-    /// where it has a free seat and else 0, and so many have one. Only a random choice where some are full walks.
+    /// where it has a free seat and else 0, and so many have one.
     pub fn pick_marked(&mut self, ready: &[Cand], marks: &[u8], free: usize) -> Option<u64>
         requires order { AreAscending ready.now }
         requires marks { marks.now ≡ marks_of ready.now }
@@ -84,12 +84,9 @@ impl Policy {
         if free == 0 {
             return None;
         }
-        if self.cc == 0 && free < ready.len() {
-            return self.pick(ready);
-        }
         let first = self.generator.next_word();
         let second = self.generator.next_word();
-        let place = place_by(self.cc, self.place, first, second, ready, marks)?;
+        let place = place_by(self.cc, self.place, first, second, ready, marks, free)?;
         self.place = place as u64 + 1;
         Some(ready[place].pod)
     }

@@ -1,4 +1,12 @@
+ghost use Rattle.std.specs.Prelude.{◌≡◌, ℕ, ◌<◌, length, slice_index_or};
+ghost use Rattle.std.specs.List.{count_by};
+ghost use Rattle.kn_trace.specs.declared.candidate.Cand.{Cand};
+ghost use Rattle.kn_trace.specs.Choice.{has_seat};
+ghost use Rattle.kn_policy.specs.Marks.{mark_of, marks_of};
+
 use super::{Cand, Policy};
+use std::alloc::{AllocError, Global};
+use std::test::Fail;
 
 fn cand(pod: u64, limit: u64, running: u64) -> Cand {
     Cand {
@@ -193,4 +201,88 @@ fn random_choice_pods_come_and_go(rt: HostRuntime) {
         Some(6),
         "2371632060 mod 5, and 1368306093 mod 4 past it"
     );
+}
+
+/// Pods from number 0 on, with their marks.
+#[derive(Drop)]
+struct Marked {
+    ready: Vec<Cand>,
+    marks: Vec<u8>,
+    free: usize,
+    ghost numbers: { (k : ℕ) (d : Cand) → k < length ready.items → (slice_index_or ready.items k d).pod ≡ k },
+    ghost each: { marks.items ≡ marks_of ready.items },
+    ghost counted: { free ≡ count_by has_seat ready.items },
+}
+
+impl Marked {
+    /// So many pods of this limit, at which the numbers below `limit + 2` run by turns, in another order in each round.
+    fn new(alloc: Global, count: u64, limit: u64, round: u64) -> Result<Marked, AllocError> {
+        let mut pods = Marked {
+            ready: Vec::new(alloc),
+            marks: Vec::new(alloc),
+            free: 0,
+        };
+        for i in 0..count.min(1_000) {
+            let running = (5 * i + round.min(1_000) * 3 + i / 7) % limit.saturating_add(2);
+            pods.push(limit, running)?;
+        }
+        Ok(pods)
+    }
+
+    fn push(&mut self, limit: u64, running: u64) -> Result<(), AllocError> {
+        self.ready.reserve(1)?;
+        self.marks.reserve(1)?;
+        let pod = self.ready.len() as u64;
+        let cand = Cand {
+            pod,
+            limit,
+            running,
+        };
+        let mark = mark_of(&cand);
+        self.ready.push_reserved(cand);
+        self.marks.push_reserved(mark);
+        self.free += mark as usize;
+        Ok(())
+    }
+
+    fn pick(&self, policy: &mut Policy) -> Option<u64> {
+        policy.pick_marked(&self.ready, &self.marks, self.free)
+    }
+}
+
+fn mark_of(cand: &Cand) -> u8
+    ensures { result ≡ mark_of cand.now }
+{
+    u8::from(cand.limit == 0 || cand.running < cand.limit)
+}
+
+/// Six rounds by each policy, where some or all have a free seat: the pods that a program written from the definitions of the
+/// policies and of Pcg32 picks, and `pick` too.
+#[test]
+fn marked_pods(rt: HostRuntime) -> Result<(), Fail> {
+    for (cc, limit, seed, count, wanted) in [
+        (0, 1, 0, 150, [7, 45, 63, 34, 0, 115]),
+        (0, 3, 7, 150, [45, 27, 42, 112, 135, 4]),
+        (0, 0, 7, 150, [137, 85, 60, 68, 71, 0]),
+        (0, 1, 9, 64, [24, 63, 34, 3, 0, 52]),
+        (2, 2, 7, 150, [0, 1, 2, 0, 0, 1]),
+        (4, 4, 7, 150, [0, 1, 3, 6, 7, 8]),
+    ] {
+        let mut plain = Policy::new(cc, seed);
+        let mut marked = Policy::new(cc, seed);
+        for (round, pod) in (0..6).zip(wanted) {
+            let pods = Marked::new(rt.alloc(), count, limit, round)?;
+            assert_eq!(rt;
+                plain.pick(&pods.ready),
+                Some(pod),
+                "cc {cc}, limit {limit}, round {round}"
+            );
+            assert_eq!(rt;
+                pods.pick(&mut marked),
+                Some(pod),
+                "cc {cc}, limit {limit}, round {round}"
+            );
+        }
+    }
+    Ok(())
 }

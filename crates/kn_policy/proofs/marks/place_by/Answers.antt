@@ -4,10 +4,10 @@ use Rattle.kn_policy.proofs.Marking.{chosen_first, chosen_round, chosen_two, som
 use Rattle.kn_policy.proofs.marks.place_by.Goals as goal
 
 pub returns-in-0-clause-chosen : goal.returns-in-0-clause-chosen
-returns-in-0-clause-chosen c = λ seed picks x y. chosen_two _ seed _ picks _ _ _ _ c.in-0.is (c.requires.all c.in-0.is) x y c.place_of_two.ensures
+returns-in-0-clause-chosen c = λ seed picks x y. chosen_two _ seed _ picks _ _ _ _ c.in-0.is x y c.place_of_two.ensures
 
 pub returns-in-0-clause-found : goal.returns-in-0-clause-found
-returns-in-0-clause-found c = some_place _ _ _ c.place_of_two.ensures ∙ (rw (c.requires.all c.in-0.is) at (two_found c.args.ready.now c.args.first_word c.args.second_word))
+returns-in-0-clause-found c = some_place _ _ _ c.place_of_two.ensures ∙ two_found c.args.ready.now c.args.first_word c.args.second_word
 
 pub returns-in-1-to-3-clause-chosen : goal.returns-in-1-to-3-clause-chosen
 returns-in-1-to-3-clause-chosen c = λ seed picks x y.

@@ -1,35 +1,41 @@
-use Rattle.std.proofs.Common.{◌≡◌, ◌+◌, ◌-◌, ◌%◌, ◌<◌, ◌≤◌, length, rules, slice_index_or}
+use Rattle.std.proofs.Common.{◌≡◌, ◌∙◌, ◌+◌, ◌-◌, ◌%◌, ◌<◌, ◌≤◌, sym, arith, length, rules, slice_index_or}
+use Rattle.std.specs.List.{count_by, filter}
+use Rattle.std.proofs.lemmas.List.Sums.{length-filter}
 use Rattle.kn_trace.specs.declared.candidate.Cand.{Cand}
-use Rattle.kn_trace.specs.Choice.{other_position}
-use Rattle.kn_policy.proofs.Marking.{nobody, two_first, two_of_none, two_of_one, two_second}
+use Rattle.kn_trace.specs.Choice.{has_seat, other_position}
+use Rattle.kn_policy.proofs.Counting.{first_of_free, marks-small, second_of_free, two_of_few}
+use Rattle.kn_policy.proofs.Marking.{nobody}
 use Rattle.kn_policy.proofs.marks.place_of_two.Goals as goal
 
-pub returns-then-is_empty : goal.returns-then-is_empty
-returns-then-is_empty c =
-    let none : length c.args.ready.now ≡ 0 = search rules in
-    two_of_none c.args.ready.now _ _ none
+pub returns-then-free-lt2 : goal.returns-then-free-lt2
+returns-then-free-lt2 c =
+    let few : count_by has_seat c.args.ready.now ≤ 1 = search rules in
+    rw (two_of_few c.args.ready.now c.args.first_word c.args.second_word few) c.first_place.ensures
 
-pub returns-then-ready-eq1 : goal.returns-then-ready-eq1
-returns-then-ready-eq1 c =
-    let one : length c.args.ready.now ≡ 1 = search rules in
-    two_of_one c.args.ready.now _ _ one
+pub place_among_free-requires-clause-marks : goal.place_among_free-requires-clause-marks
+place_among_free-requires-clause-marks c = rw c.requires.marks (marks-small c.args.ready.now)
 
-pub returns-then-ready-j : goal.returns-then-ready-j
-returns-then-ready-j c =
-    let many : 2 ≤ length c.args.ready.now = search rules in
-    let i : c.from.result % length c.args.ready.now ≡ c.args.first_word % length c.args.ready.now = search rules in
-    let j : c.other_position-j.result ≡ other_position (c.from.result % length c.args.ready.now) (c.args.second_word % (length c.args.ready.now - 1)) = search rules in
-    let first : c.from.result % length c.args.ready.now < length c.args.ready.now = search rules in
-    let second : c.other_position-j.result < length c.args.ready.now = search rules in
-    let less : (slice_index_or c.args.ready.now c.other_position-j.result nobody).running < (slice_index_or c.args.ready.now (c.from.result % length c.args.ready.now) nobody).running = search rules in
-    two_second c.args.ready.now c.args.first_word c.args.second_word _ _ nobody many i j first second less
+pub place_among_free-requires-2-clause-marks : goal.place_among_free-requires-2-clause-marks
+place_among_free-requires-2-clause-marks c = rw c.requires.marks (marks-small c.args.ready.now)
 
-pub returns-else-ready-j : goal.returns-else-ready-j
-returns-else-ready-j c =
-    let many : 2 ≤ length c.args.ready.now = search rules in
-    let i : c.from.result % length c.args.ready.now ≡ c.args.first_word % length c.args.ready.now = search rules in
-    let j : c.other_position-j.result ≡ other_position (c.from.result % length c.args.ready.now) (c.args.second_word % (length c.args.ready.now - 1)) = search rules in
-    let first : c.from.result % length c.args.ready.now < length c.args.ready.now = search rules in
-    let second : c.other_position-j.result < length c.args.ready.now = search rules in
-    let less : (slice_index_or c.args.ready.now (c.from.result % length c.args.ready.now) nobody).running ≤ (slice_index_or c.args.ready.now c.other_position-j.result nobody).running = search rules in
-    two_first c.args.ready.now c.args.first_word c.args.second_word _ _ nobody many i j first second less
+pub returns-then-ready-second : goal.returns-then-ready-second
+returns-then-ready-second c =
+    let free = c.requires.free in
+    let many : 2 ≤ count_by has_seat c.args.ready.now = search (rules, free) in
+    let i : c.from.result % c.args.free ≡ c.args.first_word % count_by has_seat c.args.ready.now = search (rules, free) in
+    let j : c.other_position-j.result ≡ other_position (c.from.result % c.args.free) (c.args.second_word % (count_by has_seat c.args.ready.now - 1)) = search (rules, free) in
+    let first : c.from.result % c.args.free < count_by has_seat c.args.ready.now = search (rules, free) in
+    let second : c.other_position-j.result < count_by has_seat c.args.ready.now = search (rules, free) in
+    let less : (slice_index_or c.args.ready.now c.in_ok-second.second nobody).running < (slice_index_or c.args.ready.now c.in_ok-first.first nobody).running = search rules in
+    second_of_free c.args.ready.now _ _ _ _ _ _ nobody many i j first second (rw c.requires.marks at c.in_ok-first.ensures) (rw c.requires.marks at c.in_ok-second.ensures) less
+
+pub returns-else-ready-second : goal.returns-else-ready-second
+returns-else-ready-second c =
+    let free = c.requires.free in
+    let many : 2 ≤ count_by has_seat c.args.ready.now = search (rules, free) in
+    let i : c.from.result % c.args.free ≡ c.args.first_word % count_by has_seat c.args.ready.now = search (rules, free) in
+    let j : c.other_position-j.result ≡ other_position (c.from.result % c.args.free) (c.args.second_word % (count_by has_seat c.args.ready.now - 1)) = search (rules, free) in
+    let first : c.from.result % c.args.free < count_by has_seat c.args.ready.now = search (rules, free) in
+    let second : c.other_position-j.result < count_by has_seat c.args.ready.now = search (rules, free) in
+    let less : (slice_index_or c.args.ready.now c.in_ok-first.first nobody).running ≤ (slice_index_or c.args.ready.now c.in_ok-second.second nobody).running = search rules in
+    first_of_free c.args.ready.now _ _ _ _ _ _ nobody many i j first second (rw c.requires.marks at c.in_ok-first.ensures) (rw c.requires.marks at c.in_ok-second.ensures) less

@@ -1,12 +1,11 @@
-use Rattle.std.proofs.Common.{◌≡◌, ◌∙◌, ◌<◌, ◌≤◌, ap, sym, false, length, rules}
+use Rattle.std.proofs.Common.{◌≡◌, ◌∙◌, ap, sym, false, rules}
 use Rattle.std.specs.List.{count_by, list_any}
 use Rattle.kn_trace.specs.Choice.{has_seat, chosen_pod}
 use Rattle.kn_policy.specs.Policy.{State}
 use Rattle.kn_policy.proofs.Found.{none_chosen}
-use Rattle.kn_policy.proofs.Marking.{all_free, nobody, none_counted, none_free, place_at}
+use Rattle.kn_policy.proofs.Marking.{nobody, none_counted, none_free, place_at}
 use Rattle.kn_policy.proofs.Words.{words_drawn}
 use Rattle.kn_policy.proofs.policy.Policy.pick_marked.Goals as goal
-use Rattle.kn_policy.proofs.policy.Policy.pick_marked.Goals.{else-self-eq0-via-then-self-eq0+else-free-ready, else-self-eq0-via-else-self-eq0}
 
 pub returns-then-free-eq0-clause-chosen : goal.returns-then-free-eq0-clause-chosen
 returns-then-free-eq0-clause-chosen c = λ seed picks at.
@@ -17,12 +16,6 @@ pub returns-then-free-eq0-clause-found : goal.returns-then-free-eq0-clause-found
 returns-then-free-eq0-clause-found c =
     let none : count_by has_seat c.args.ready.now ≡ 0 = search rules in
     sym (none_free c.args.ready.now none)
-
-pub place_by-requires-clause-all : goal.place_by-requires-clause-all
-place_by-requires-clause-all c = λ no_limit. elim c.else-self-eq0.branch [
-  | else-self-eq0-via-then-self-eq0+else-free-ready w ↦ all_free c.args.ready.now (let all : length c.args.ready.now ≤ count_by has_seat c.args.ready.now = search rules in all)
-  | else-self-eq0-via-else-self-eq0 w ↦ absurd (w.if-self-eq0.false no_limit)
-]
 
 pub returns-in_err-place-clause-chosen : goal.returns-in_err-place-clause-chosen
 returns-in_err-place-clause-chosen c =
