@@ -1,11 +1,11 @@
 -- The marked place that so many marked ones stand before.
-use Rattle.std.proofs.Common.{◌≡◌, ◌∙◌, sym, ap, ◌+◌, ◌*◌, ◌-◌, ◌%◌, ◌<◌, ◌≤◌, ℕ, zero, suc, Bool, true, false, List, [], ◌∷◌, length, take, drop, get_or, Option, None, Some, cond, refl, arith, length-drop, length-take}
+use Rattle.std.proofs.Common.{◌≡◌, sym, ◌+◌, ◌-◌, ◌%◌, ◌<◌, ◌≤◌, ℕ, zero, suc, Bool, true, false, List, [], ◌∷◌, length, take, drop, get_or, Option, Some, cond, refl, arith, length-drop, length-take}
 use Rattle.std.specs.Prelude.{if◌then◌else◌}
 use Rattle.std.specs.List.{All, filter, find, count_by, sum}
 use Rattle.std.specs.Option.{option_map}
 use Rattle.std.proofs.lemmas.List.{drop-take, get_or-map, take-take}
 use Rattle.std.proofs.lemmas.List.Elements.{All-take, All-drop}
-use Rattle.std.proofs.lemmas.List.Sums.{length-filter, sum-map, sum_by-cons, sum_by-le, sum_by_more, sum_by-take-drop}
+use Rattle.std.proofs.lemmas.List.Sums.{length-filter, sum-map, sum_by-le, sum_by_more, sum_by-take-drop}
 use Rattle.kn_trace.specs.declared.candidate.Cand.{Cand}
 use Rattle.kn_trace.specs.Choice.{has_seat, choice_of_two, first_available, other_position}
 use Rattle.kn_policy.specs.Marks.{IsPlaceOf, IsPlaceOfMark, mark_of, marks_of}

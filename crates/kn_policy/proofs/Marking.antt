@@ -1,18 +1,18 @@
 -- The places that the policies take, read off marks.
 use Rattle.std.proofs.Common.{◌≡◌, ◌∙◌, sym, ap, ◌+◌, ◌*◌, ◌-◌, ◌%◌, ◌<◌, ◌≤◌, ℕ, zero, suc, Bool, true, false, List, [], ◌∷◌, ◌++◌, length, take, drop, get_or, Option, None, Some, cond, refl, arith, length-drop, lt-ltb}
 use Rattle.std.specs.Prelude.{◌==◌, nat_lt, slice_index, map}
-use Rattle.std.specs.List.{filter, find, list_any, count_by, position_or_len, HoldsAt}
+use Rattle.std.specs.List.{filter, find, list_any, count_by, position_or_len}
 use Rattle.std.specs.Option.{option_map, option_or, is_some}
 use Rattle.std.proofs.lemmas.List.{get_or_default, get_or-drop, get_or-map, get_or-take, length-map, length-take, take_all}
 use Rattle.std.proofs.lemmas.List.Folds.{find-append, find_at}
-use Rattle.std.proofs.lemmas.List.Sums.{count_by-le-length, position_or_len_is}
+use Rattle.std.proofs.lemmas.List.Sums.{position_or_len_is}
 use Rattle.std.proofs.lemmas.Bool.{eq-eqb, le-ltb}
 use Rattle.std.proofs.lemmas.Bool.Decides.{nat_tests}
 use Rattle.std.proofs.lemmas.Grind.{common_steps}
 use Rattle.std.proofs.lemmas.Option.{slice_get-get_or, slice_get_past}
 use Rattle.memchr.specs.Find.{IsFirstByte, is_byte}
 use Rattle.kn_trace.specs.declared.candidate.Cand.{Cand}
-use Rattle.kn_trace.specs.Choice.{has_seat, first_available, turned_to, round_robin, choice_of_two, chosen_pod, other_position, random_choice, random_word}
+use Rattle.kn_trace.specs.Choice.{has_seat, first_available, round_robin, choice_of_two, chosen_pod, other_position, random_choice, random_word}
 use Rattle.kn_policy.specs.Marks.{AreAscending, IsPlaceOf, mark_of, marks_of}
 use Rattle.kn_policy.specs.Policy.{place_past}
 

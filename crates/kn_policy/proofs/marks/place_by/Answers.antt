@@ -1,4 +1,4 @@
-use Rattle.std.proofs.Common.{◌≡◌, ◌∙◌, ◌≤◌, rules}
+use Rattle.std.proofs.Common.{◌∙◌, ◌≤◌, rules}
 use Rattle.kn_policy.proofs.Found.{first_found, round_found, two_found}
 use Rattle.kn_policy.proofs.Marking.{chosen_first, chosen_round, chosen_two, some_place}
 use Rattle.kn_policy.proofs.marks.place_by.Goals as goal

@@ -1,7 +1,5 @@
-use Rattle.std.proofs.Common.{◌≡◌, ◌∙◌, ◌+◌, ◌-◌, ◌%◌, ◌<◌, ◌≤◌, sym, arith, length, rules, slice_index_or}
-use Rattle.std.specs.List.{count_by, filter}
-use Rattle.std.proofs.lemmas.List.Sums.{length-filter}
-use Rattle.kn_trace.specs.declared.candidate.Cand.{Cand}
+use Rattle.std.proofs.Common.{◌≡◌, ◌-◌, ◌%◌, ◌<◌, ◌≤◌, rules, slice_index_or}
+use Rattle.std.specs.List.{count_by}
 use Rattle.kn_trace.specs.Choice.{has_seat, other_position}
 use Rattle.kn_policy.proofs.Counting.{first_of_free, marks-small, second_of_free, two_of_few}
 use Rattle.kn_policy.proofs.Marking.{nobody}

@@ -1,4 +1,4 @@
-use Rattle.std.proofs.Common.{◌≡◌, ◌<◌, ◌≤◌, length, rules}
+use Rattle.std.proofs.Common.{◌<◌, ◌≤◌, length, rules}
 use Rattle.kn_policy.proofs.Marking.{rest_all, rest_marks, round_before, round_here, round_past, take-marks}
 use Rattle.kn_policy.proofs.marks.round_place.Goals as goal
 

@@ -1,5 +1,5 @@
-use Rattle.std.proofs.Common.{◌≡◌, ◌∙◌, ap, sym, false, rules}
-use Rattle.std.specs.List.{count_by, list_any}
+use Rattle.std.proofs.Common.{◌≡◌, ◌∙◌, ap, sym, rules}
+use Rattle.std.specs.List.{count_by}
 use Rattle.kn_trace.specs.Choice.{has_seat, chosen_pod}
 use Rattle.kn_policy.specs.Policy.{State}
 use Rattle.kn_policy.proofs.Found.{none_chosen}

@@ -1,4 +1,4 @@
-use Rattle.std.proofs.Common.{◌≡◌, ◌∙◌, sym, length, rules, vec_len}
+use Rattle.std.proofs.Common.{◌≡◌, length, rules}
 use Rattle.kn_trace.specs.declared.candidate.Cand.{Cand}
 use Rattle.kn_policy.proofs.Pushing.{pushed_marks, pushed_numbers, pushed_seats}
 use Rattle.kn_policy.proofs.tests.Marked.push.Goals as goal
