@@ -1,5 +1,6 @@
 //! The event of a line: the frequent ones in one pass, all others field by field.
-ghost use Rattle.std.specs.Prelude.{◌≡◌, ◌+◌, ◌≤◌, ℕ, Ok, length, drop, slice_range, IfOk, IfSome};
+ghost use Rattle.std.specs.Prelude.{◌≡◌, ◌+◌, ◌≤◌, ◌<◌, ◌^◌, ℕ, Ok, length, drop, slice_range, IfOk, IfSome};
+ghost use Rattle.std.specs.Fmt.{decimal};
 ghost use Rattle.std.specs.Int.{w64, to_le_bytes};
 ghost use Rattle.kn_event.specs.declared.event.Event.{Event};
 ghost use Rattle.kn_event.specs.EntryLine.{outcome_word};
@@ -87,24 +88,51 @@ fn finish_at(line: &[u8], at: usize) -> Option<Act>
 }
 
 #[inline(always)]
+fn whole_number(digits: &[u8]) -> Option<u64>
+    ensures text { IfSome result (λ n. digits.now ≡ decimal n) }
+    ensures small { IfSome result (λ n. n < 2 ^ 64) }
+{
+    let (n, end) = number_at(digits, 0)?;
+    if end == digits.len() { Some(n) } else { None }
+}
+
+/// The act of a text that is neither an arrival nor a finish, if it is a usual one.
+#[inline(always)]
+#[tactic(auto, unfolding(crate::specs::EventLine::act_text, crate::specs::EntryLine::with_number))]
+fn other_act(text: &[u8]) -> Option<Act>
+    ensures { IfSome result (λ a. IsActText a text.now) }
+{
+    match text {
+        b" tick" => Some(Act::Tick),
+        b" pass" => Some(Act::Pass),
+        [b' ', b'r', b'e', b'a', b'd', b'y', b' ', pod @ ..] => {
+            Some(Act::Ready(whole_number(pod)?))
+        }
+        [b' ', b'c', b'a', b'n', b'c', b'e', b'l', b' ', request @ ..] => Some(Act::Cancel(
+            whole_number(request)?,
+        )),
+        _ => None,
+    }
+}
+
+#[inline(always)]
 fn act_at(line: &[u8], at: usize) -> Option<Act>
     requires { at ≤ length line.now }
     ensures { IfSome result (λ a. IsActText a (drop at line.now)) }
 {
-    if line.len() - at < 8 {
-        return None;
+    if line.len() - at >= 8 {
+        let word = word_at(line, at);
+        if word == ARRIVE {
+            return arrival_at(line, at);
+        }
+        if word == FINISH {
+            return finish_at(line, at);
+        }
     }
-    let word = word_at(line, at);
-    if word == ARRIVE {
-        return arrival_at(line, at);
-    }
-    if word == FINISH {
-        return finish_at(line, at);
-    }
-    None
+    other_act(&line[at..])
 }
 
-/// The event of an `arrive` or `finish` line with numbers of at most 19 digits; none says nothing.
+/// The event of a line with a usual word and numbers of at most 19 digits; none says nothing.
 #[inline(always)]
 fn plain_event(line: &[u8]) -> Option<Event>
     ensures { IfSome result (λ e. (version : ℕ) → event_of version line.now ≡ Ok e) }
