@@ -1,5 +1,5 @@
 -- Numbers and words in a line that is spelled plainly.
-use Rattle.std.proofs.Common.{◌≡◌, ◌≢◌, ◌+◌, ◌-◌, ◌*◌, ◌^◌, ◌%◌, ◌<◌, ◌≤◌, ℕ, zero, suc, Bool, true, false, List, [], ◌∷◌, ◌++◌, Some, Ok, length, take, drop, get_or, append_assoc, length-append, length-drop, add_comm, add-one, add-zero, refl, sym, ap, ◌∙◌, arith, cond}
+use Rattle.std.proofs.Common.{◌≡◌, ◌+◌, ◌-◌, ◌*◌, ◌^◌, ◌%◌, ◌<◌, ◌≤◌, ℕ, Bool, true, false, List, [], ◌∷◌, ◌++◌, Some, length, take, drop, get_or, append_assoc, length-append, length-drop, add_comm, add-one, add-zero, refl, sym, ap, ◌∙◌, arith, cond}
 use Rattle.std.specs.Prelude.{◌==◌, slice_range}
 use Rattle.std.specs.List.{list_all, prefix_len}
 use Rattle.std.specs.Fmt.{decimal}
@@ -14,10 +14,9 @@ use Rattle.kn_event.specs.declared.event.Act.{Act}
 use Rattle.kn_event.specs.declared.event.Act.TheVariants as act
 use Rattle.kn_event.specs.Numbers.{is_digit, has_no_leading_zero, number_of}
 use Rattle.kn_event.specs.EntryLine.{labelled, with_number, outcome_word}
-use Rattle.kn_event.specs.EventLine.{act_text, event_at, event_of, event_text, Spells}
+use Rattle.kn_event.specs.EventLine.{act_text, event_at, event_text, Spells}
 use Rattle.kn_event.specs.PlainLine.{IsNumberAt, IsActAhead}
 use Rattle.kn_event.proofs.Numerals.{own, number_of-small, number_of-spelling}
-use Rattle.kn_event.proofs.Spelling.{Spells-event_of}
 
 -- the digits at the front are digits
 digits_taken : (bs : List ℕ) → list_all is_digit (take (prefix_len is_digit bs) bs) ≡ true
