@@ -1,11 +1,12 @@
 -- Numbers and words in a line that is spelled plainly.
-use Rattle.std.proofs.Common.{◌≡◌, ◌≢◌, ◌+◌, ◌-◌, ◌*◌, ◌^◌, ◌%◌, ◌<◌, ◌≤◌, ℕ, zero, suc, Bool, true, false, List, [], ◌∷◌, ◌++◌, Some, Ok, length, take, drop, get_or, append-nil, add_comm, add-one, add-zero, refl, sym, ap, ◌∙◌, arith, cond}
+use Rattle.std.proofs.Common.{◌≡◌, ◌+◌, ◌-◌, ◌*◌, ◌^◌, ◌%◌, ◌<◌, ◌≤◌, ℕ, Bool, true, false, List, [], ◌∷◌, ◌++◌, Some, length, take, drop, get_or, append_assoc, length-append, length-drop, add_comm, add-one, add-zero, refl, sym, ap, ◌∙◌, arith, cond}
 use Rattle.std.specs.Prelude.{◌==◌, slice_range}
 use Rattle.std.specs.List.{list_all, prefix_len}
 use Rattle.std.specs.Fmt.{decimal}
 use Rattle.std.specs.Str.Parse.{digits_value}
 use Rattle.std.proofs.lemmas.Grind.{common_steps}
-use Rattle.std.proofs.lemmas.List.{take-append-drop, get_or-take, get_or-drop}
+use Rattle.std.proofs.lemmas.List.{take-append-drop, get_or-take, get_or-drop, drop-drop}
+use Rattle.std.proofs.Math.Seq.{take-append_seam}
 use Rattle.core.specs.Float.Numeral.{digits_len}
 use Rattle.std.proofs.lemmas.Str.Parse.{digits_value_short}
 use Rattle.std.specs.Int.{w64, to_le_bytes}
@@ -13,10 +14,9 @@ use Rattle.kn_event.specs.declared.event.Act.{Act}
 use Rattle.kn_event.specs.declared.event.Act.TheVariants as act
 use Rattle.kn_event.specs.Numbers.{is_digit, has_no_leading_zero, number_of}
 use Rattle.kn_event.specs.EntryLine.{labelled, with_number, outcome_word}
-use Rattle.kn_event.specs.EventLine.{act_text, event_at, event_of, event_text, Spells}
-use Rattle.kn_event.specs.PlainLine.{IsNumberAt, IsActText}
+use Rattle.kn_event.specs.EventLine.{act_text, event_at, event_text, Spells}
+use Rattle.kn_event.specs.PlainLine.{IsNumberAt, IsActAhead}
 use Rattle.kn_event.proofs.Numerals.{own, number_of-small, number_of-spelling}
-use Rattle.kn_event.proofs.Spelling.{Spells-event_of}
 
 -- the digits at the front are digits
 digits_taken : (bs : List ℕ) → list_all is_digit (take (prefix_len is_digit bs) bs) ≡ true
@@ -58,40 +58,46 @@ number_here bs from value end within stop inside is some few lead =
       small = spelling.1;
     }
 
--- a word of eight bytes, and what stands behind it
-word_first : (bs : List ℕ) (at : ℕ) → drop at bs ≡ slice_range bs at (at + 8) ++ drop (at + 8) bs
-word_first bs at =
-    let rest : drop (at + 8 - at) (drop at bs) ≡ drop (at + 8) bs = grind (arith, common_steps) in
-    sym (take-append-drop (at + 8 - at) (drop at bs)) ∙ ap (λ (m : List ℕ). slice_range bs at (at + 8) ++ m) rest
+sum_same : (n m : ℕ) → n + (m + 1) ≡ n + m + 1
+sum_same n m = omega arith
 
-nothing_left : (bs : List ℕ) (end : ℕ) → end ≡ length bs → drop end bs ≡ []
-nothing_left bs end e = grind (arith, common_steps)
+-- a word of some bytes, and what stands behind it
+pub word_first : (bs : List ℕ) (at : ℕ) (word rest : List ℕ) → take at bs ≡ word → drop at bs ≡ rest → bs ≡ word ++ rest
+word_first bs at word rest is more =
+    sym (take-append-drop at bs) ∙ ap (λ (m : List ℕ). m ++ drop at bs) is ∙ ap (λ (m : List ℕ). word ++ m) more
 
-pub arrival : (bs : List ℕ) (at n end : ℕ) → slice_range bs at (at + 8) ≡ to_le_bytes w64 0x2065_7669_7272_6120 → IsNumberAt bs (at + 8) n end → end ≡ length bs
-    → IsActText (act.Arrive n) (drop at bs)
+pub arrival : (bs : List ℕ) (n to : ℕ) → slice_range bs 0 8 ≡ to_le_bytes w64 0x2065_7669_7272_6120 → to < length bs → drop 8 bs ≡ decimal n ++ 10 ∷ drop (to + 1) bs → n < 2 ^ 64
+    → IsActAhead bs (act.Arrive n) to
 unfolding act_text with_number
-arrival bs at n end word number ends =
-    let digits : drop (at + 8) bs ≡ decimal n = number.text ∙ ap (λ (m : List ℕ). decimal n ++ m) (nothing_left bs end ends) ∙ append-nil (decimal n) in
-    let whole : drop at bs ≡ to_le_bytes w64 0x2065_7669_7272_6120 ++ decimal n =
-    word_first bs at ∙ ap (λ (m : List ℕ). m ++ drop (at + 8) bs) word ∙ ap (λ (m : List ℕ). to_le_bytes w64 0x2065_7669_7272_6120 ++ m) digits in
-    record { text = sym whole; range = number.small; act = λ version. tt }
+arrival bs n to word inside rest small =
+    record { within = inside; text = word_first bs 8 (to_le_bytes w64 0x2065_7669_7272_6120) (decimal n ++ 10 ∷ drop (to + 1) bs) word rest; range = small; act = λ version. tt }
 
-pub finish : (bs : List ℕ) (at n end : ℕ) (ok : Bool) → slice_range bs at (at + 8) ≡ to_le_bytes w64 0x2068_7369_6e69_6620 → IsNumberAt bs (at + 8) n end
-    → drop end bs ≡ outcome_word ok → IsActText (act.Finish n ok) (drop at bs)
+pub finish : (bs : List ℕ) (n end len : ℕ) (ok : Bool) → slice_range bs 0 8 ≡ to_le_bytes w64 0x2068_7369_6e69_6620 → IsNumberAt bs 8 n end → len < length (drop end bs)
+    → drop end bs ≡ outcome_word ok ++ 10 ∷ drop (len + 1) (drop end bs) → IsActAhead bs (act.Finish n ok) (end + len)
 unfolding act_text with_number labelled
-finish bs at n end ok word number rest =
-    let digits : drop (at + 8) bs ≡ decimal n ++ outcome_word ok = number.text ∙ ap (λ (m : List ℕ). decimal n ++ m) rest in
-    let whole : drop at bs ≡ to_le_bytes w64 0x2068_7369_6e69_6620 ++ (decimal n ++ outcome_word ok) =
-    word_first bs at ∙ ap (λ (m : List ℕ). m ++ drop (at + 8) bs) word ∙ ap (λ (m : List ℕ). to_le_bytes w64 0x2068_7369_6e69_6620 ++ m) digits in
-    record { text = sym whole; range = number.small; act = λ version. tt }
+finish bs n end len ok word number inside rest =
+    let left : drop (len + 1) (drop end bs) ≡ drop (end + len + 1) bs = drop-drop (len + 1) end bs ∙ ap (λ (k : ℕ). drop k bs) (sum_same end len) in
+    let behind : drop 8 bs ≡ (decimal n ++ outcome_word ok) ++ 10 ∷ drop (end + len + 1) bs =
+    number.text ∙ ap (λ (m : List ℕ). decimal n ++ m) (rest ∙ ap (λ (m : List ℕ). outcome_word ok ++ 10 ∷ m) left) ∙ sym (append_assoc (decimal n) (outcome_word ok) (10 ∷ drop (end + len + 1) bs)) in
+    record {
+      within = grind (arith, common_steps);
+      text = word_first bs 8 (to_le_bytes w64 0x2068_7369_6e69_6620) ((decimal n ++ outcome_word ok) ++ 10 ∷ drop (end + len + 1) bs) word behind;
+      range = number.small;
+      act = λ version. tt;
+    }
 
-pub event_here : (version : ℕ) (line : List ℕ) (time at : ℕ) (a : Act) → IsNumberAt line 0 time at → IsActText a (drop at line)
-    → event_of version line ≡ Ok (event_at time a)
+-- a number and an act in front of an LF are the line of an event
+pub event_here : (bs : List ℕ) (time at len : ℕ) (a : Act) → IsNumberAt bs 0 time at → IsActAhead (drop at bs) a len → (version : ℕ) → Spells version (take (at + len) bs) (event_at time a)
 unfolding event_text
-event_here version line time at a number text =
-    Spells-event_of version line (event_at time a) (record {
-      text = ap (λ (m : List ℕ). decimal time ++ m) text.text ∙ sym number.text;
-      time = number.small;
-      range = text.range;
-      act = text.act version;
-    })
+event_here bs time at len a number text version =
+    let left : drop (len + 1) (drop at bs) ≡ drop (at + len + 1) bs = drop-drop (len + 1) at bs ∙ ap (λ (k : ℕ). drop k bs) (sum_same at len) in
+    let whole : bs ≡ (decimal time ++ act_text a) ++ 10 ∷ drop (at + len + 1) bs =
+    number.text ∙ ap (λ (m : List ℕ). decimal time ++ m) (text.text ∙ ap (λ (m : List ℕ). act_text a ++ 10 ∷ m) left) ∙ sym (append_assoc (decimal time) (act_text a) (10 ∷ drop (at + len + 1) bs)) in
+    let within : at + len < length bs = grind (arith, common_steps, text.within) in
+    let line : List ℕ = decimal time ++ act_text a in
+    let rest : List ℕ = drop (at + len + 1) bs in
+    let sizes : length bs ≡ length line + (length rest + 1) = ap length whole ∙ length-append line (10 ∷ rest) ∙ ap (λ (k : ℕ). length line + k) (omega arith) in
+    let long : length line ≡ at + len = omega (arith, sizes, within, length-drop (at + len + 1) bs) in
+    let front : take (at + len) bs ≡ line =
+    ap (λ (m : List ℕ). take (at + len) m) whole ∙ ap (λ (k : ℕ). take k (line ++ 10 ∷ rest)) (sym long) ∙ take-append_seam line (10 ∷ rest) in
+    record { text = sym front; time = number.small; range = text.range; act = text.act version }

@@ -1,5 +1,5 @@
 -- What follows is more than is due.
-use Rattle.std.proofs.Common.{◌<◌, ◌≡◌, drop, length, sym, arith}
+use Rattle.std.proofs.Common.{◌<◌, drop, length, sym, arith}
 use Rattle.std.proofs.lemmas.Grind.{common_steps}
 use Rattle.kn_event.proofs.Splitting.{end_due-more}
 use Rattle.kn_event.proofs.read.ended.Goals as goal

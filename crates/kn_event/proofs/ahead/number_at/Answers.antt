@@ -1,10 +1,10 @@
 -- The digits from there on.
-use Rattle.std.proofs.Common.{◌≡◌, ◌-◌, ◌<◌, ℕ, Bool, true, false, get_or, arith}
+use Rattle.std.proofs.Common.{◌≡◌, ◌-◌, ◌<◌, false, get_or, arith}
 use Rattle.std.specs.Prelude.{◌==◌}
 use Rattle.std.proofs.lemmas.Grind.{common_steps}
 use Rattle.kn_event.proofs.Spots.{number_here}
-use Rattle.kn_event.proofs.plain.number_at.Goals as goal
-use Rattle.kn_event.proofs.plain.number_at.Goals.{else-len-gt1-via-then-len-gt1+else-line-from-eq48, else-len-gt1-via-else-len-gt1}
+use Rattle.kn_event.proofs.ahead.number_at.Goals as goal
+use Rattle.kn_event.proofs.ahead.number_at.Goals.{else-len-gt1-via-then-len-gt1+else-line-from-eq48, else-len-gt1-via-else-len-gt1}
 
 pub returns : goal.returns
 returns c =

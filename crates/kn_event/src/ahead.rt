@@ -1,0 +1,150 @@
+//! A usual event whose line is ahead with its LF, in one pass.
+ghost use Rattle.std.specs.Prelude.{◌≡◌, ◌+◌, ◌≤◌, ◌<◌, ◌^◌, ◌∷◌, ◌++◌, ℕ, length, take, drop, slice_range, IfSome};
+ghost use Rattle.std.specs.Fmt.{decimal};
+ghost use Rattle.std.specs.Int.{w64, to_le_bytes};
+ghost use Rattle.kn_event.specs.EntryLine.{outcome_word};
+ghost use Rattle.kn_event.specs.EventLine.{Spells};
+ghost use Rattle.kn_event.specs.PlainLine.{IsNumberAt, IsActAhead};
+
+use crate::event::{Act, Event};
+use core::dec2flt::read_digits;
+
+// ` arrive ` and ` finish `, the first byte in the lowest place.
+const ARRIVE: u64 = 0x2065_7669_7272_6120;
+
+const FINISH: u64 = 0x2068_7369_6e69_6620;
+
+#[inline(always)]
+fn word_at(s: &[u8], i: usize) -> u64
+    requires { i + 8 ≤ length s.now }
+    ensures { to_le_bytes w64 result ≡ slice_range s.now i (i + 8) }
+{
+    u64::from_le_bytes([
+        s[i],
+        s[i + 1],
+        s[i + 2],
+        s[i + 3],
+        s[i + 4],
+        s[i + 5],
+        s[i + 6],
+        s[i + 7],
+    ])
+}
+
+/// A number of at most 19 digits, and where it ends.
+#[inline(always)]
+fn number_at(line: &[u8], from: usize) -> Option<(u64, usize)>
+    requires { from ≤ length line.now }
+    ensures { IfSome result (λ p. IsNumberAt line.now from p.0 p.1) }
+{
+    let (end, value) = read_digits(line, from, 0);
+    let len = end - from;
+    if len == 0 || len > 19 {
+        return None;
+    }
+    if len > 1 && line[from] == b'0' {
+        return None;
+    }
+    Some((value, end))
+}
+
+/// An outcome, and where the LF behind it stands.
+#[inline(always)]
+fn outcome_ahead(text: &[u8]) -> Option<(bool, usize)>
+    ensures inside { IfSome result (λ p. p.1 < length text.now) }
+    ensures text { IfSome result (λ p. text.now ≡ outcome_word p.0 ++ 10 ∷ drop (p.1 + 1) text.now) }
+{
+    match text {
+        [b' ', b'o', b'k', b'\n', ..] => Some((true, 3)),
+        [b' ', b'f', b'a', b'i', b'l', b'\n', ..] => Some((false, 5)),
+        _ => None,
+    }
+}
+
+/// A number at the front, and where the LF right behind it stands.
+#[inline(always)]
+fn number_ahead(text: &[u8], from: usize) -> Option<(u64, usize)>
+    requires { from ≤ length text.now }
+    ensures inside { IfSome result (λ p. p.1 < length text.now) }
+    ensures text { IfSome result (λ p. drop from text.now ≡ decimal p.0 ++ 10 ∷ drop (p.1 + 1) text.now) }
+    ensures small { IfSome result (λ p. p.0 < 2 ^ 64) }
+{
+    let (n, end) = number_at(text, from)?;
+    if end < text.len() && text[end] == b'\n' {
+        Some((n, end))
+    } else {
+        None
+    }
+}
+
+#[inline(always)]
+fn arrival_ahead(text: &[u8]) -> Option<(Act, usize)>
+    requires room { 8 ≤ length text.now }
+    requires word { slice_range text.now 0 8 ≡ to_le_bytes w64 ARRIVE }
+    ensures { IfSome result (λ p. IsActAhead text.now p.0 p.1) }
+{
+    let (n, end) = number_ahead(text, 8)?;
+    Some((Act::Arrive(n), end))
+}
+
+#[inline(always)]
+fn finish_ahead(text: &[u8]) -> Option<(Act, usize)>
+    requires room { 8 ≤ length text.now }
+    requires word { slice_range text.now 0 8 ≡ to_le_bytes w64 FINISH }
+    ensures { IfSome result (λ p. IsActAhead text.now p.0 p.1) }
+{
+    let (n, end) = number_at(text, 8)?;
+    let (ok, len) = outcome_ahead(&text[end..])?;
+    Some((Act::Finish(n, ok), end + len))
+}
+
+/// An act that is neither an arrival nor a finish, if it is a usual one.
+#[inline(always)]
+#[tactic(auto, unfolding(crate::specs::EventLine::act_text, crate::specs::EntryLine::with_number))]
+fn other_ahead(text: &[u8]) -> Option<(Act, usize)>
+    ensures { IfSome result (λ p. IsActAhead text.now p.0 p.1) }
+{
+    match text {
+        [b' ', b't', b'i', b'c', b'k', b'\n', ..] => Some((Act::Tick, 5)),
+        [b' ', b'p', b'a', b's', b's', b'\n', ..] => Some((Act::Pass, 5)),
+        [b' ', b'r', b'e', b'a', b'd', b'y', b' ', ..] => {
+            let (pod, end) = number_ahead(text, 7)?;
+            Some((Act::Ready(pod), end))
+        }
+        [b' ', b'c', b'a', b'n', b'c', b'e', b'l', b' ', ..] => {
+            let (request, end) = number_ahead(text, 8)?;
+            Some((Act::Cancel(request), end))
+        }
+        _ => None,
+    }
+}
+
+/// A usual act at the front, and where the LF behind it stands.
+#[inline(always)]
+fn act_ahead(text: &[u8]) -> Option<(Act, usize)>
+    ensures { IfSome result (λ p. IsActAhead text.now p.0 p.1) }
+{
+    if text.len() >= 8 {
+        let word = word_at(text, 0);
+        if word == ARRIVE {
+            return arrival_ahead(text);
+        }
+        if word == FINISH {
+            return finish_ahead(text);
+        }
+    }
+    other_ahead(text)
+}
+
+/// The event of the line at the front of these bytes, and how long that line is, where its LF is there, its word is a usual one and
+/// its numbers have at most 19 digits. None says nothing.
+#[inline(always)]
+pub fn event_ahead(bytes: &[u8]) -> Option<(Event, usize)>
+    ensures inside { IfSome result (λ p. p.1 < length bytes.now) }
+    ensures line { IfSome result (λ p. bytes.now ≡ take p.1 bytes.now ++ 10 ∷ drop (p.1 + 1) bytes.now) }
+    ensures spells { IfSome result (λ p. (version : ℕ) → Spells version (take p.1 bytes.now) p.0) }
+{
+    let (time, at) = number_at(bytes, 0)?;
+    let (act, len) = act_ahead(&bytes[at..])?;
+    Some((Event { time, act }, at + len))
+}
