@@ -6,9 +6,9 @@ use Rattle.kn_scaling.specs.Average.{second_of}
 use Rattle.kn_stats.specs.declared.change.Change.{Change}
 use Rattle.kn_stats.specs.declared.closed.Run.{Run}
 use Rattle.kn_stats.specs.Changes.{TimedChange, after_sum, arrived_by, at, ends_admitted, ends_assigned, ends_directed, is_admitted, is_arrival_at, is_assigned, is_directed, is_end_at, is_pod, load_by, pod_of, time_taken}
-use Rattle.kn_stats.specs.Closing.{closed_by, is_sampled, run_of}
+use Rattle.kn_stats.specs.Closing.{closed_by, end_of_first, is_sampled, run_of}
 use Rattle.kn_stats.specs.Pods.{found, fresh, so_far}
-use Rattle.kn_stats.specs.Stands.{IsWithin, StandsFor, StatsState, closed_at, is_among, left_of, live_in}
+use Rattle.kn_stats.specs.Stands.{IsWithin, StandsFor, StatsState, advanced, advanced_by, closed_at, is_among, left_of, live_in}
 use Rattle.kn_stats.proofs.Allowed.{apart_arrivals, apart_ends, apart_pod_ends, apart_starts}
 use Rattle.kn_stats.proofs.Bounds.{area_small}
 use Rattle.kn_stats.proofs.Sums.{past-arrived, so_far_is, sum-both, sum-past}
@@ -47,6 +47,39 @@ pub closed_is : (s : StatsState) (cs : List TimedChange) (gone : List ℕ) (to :
 unfolding closed_by
 closed_is s cs gone to ready is =
     rw (open_load s cs gone is, whole_load s cs gone (second_of s.time + 1) is (omega arith), ← is.arrived) refl
+
+-- ---- within the open second nothing closes
+
+none_from : (m : Metric) (ready : Bool) (from until load arrived : ℕ) → until ≤ from → run_of m ready from until load arrived ≡ None
+none_from m ready from until load arrived le = by (nat_lt from until) refl
+  where
+    run : Run
+    run = record { second = from; count = until - from; load = load; sampled = is_sampled m ready load arrived; arrived = arrived }
+
+    by : (b : Bool) → nat_lt from until ≡ b → (if b then Some run else None) ≡ None
+    by true h = absurd (grind (arith, h, le))
+    by false h = refl
+
+end_same : (from to : ℕ) → to ≤ from → end_of_first from to ≤ from
+end_same from to le = by (nat_lt from to) refl
+  where
+    by : (b : Bool) → nat_lt from to ≡ b → (if b then from + 1 else from) ≤ from
+    by true h = absurd (grind (arith, h, le))
+    by false h = omega arith
+
+pub none_closed : (s : StatsState) (to : ℕ) (ready : Bool) → second_of s.time ≡ second_of to → closed_at s to ready ≡ record { first = None; rest = None }
+none_closed s to ready same =
+    let from = second_of s.time in
+    let first = none_from s.metric ready from (end_of_first from (second_of to)) (s.activator.area + s.direct.area) s.arrived (end_same from (second_of to) (omega (arith, same))) in
+    let rest = none_from s.metric ready (from + 1) (second_of to) (1000 * live_in s) 0 (omega (arith, same)) in
+    cc
+
+pub advanced_within : (s : StatsState) (to : ℕ) → second_of s.time ≡ second_of to → record s { time = to } ≡ advanced to s
+advanced_within s to same = by (nat_lt (second_of s.time) (second_of to)) refl
+  where
+    by : (b : Bool) → nat_lt (second_of s.time) (second_of to) ≡ b → record s { time = to } ≡ advanced_by b to s
+    by true h = absurd (grind (arith, h, same))
+    by false h = refl
 
 -- no run is of more than a window takes
 pub run_fits : (m : Metric) (ready : Bool) (from until load arrived : ℕ) → load ≤ 1000000000 → arrived ≤ 1000000 → IfSome (run_of m ready from until load arrived) (λ (run : Run). (run.load ≤ 1000000000) × (run.arrived ≤ 1000000))

@@ -63,7 +63,7 @@ removed_at p (q ∷ qs) (suc i) d h inside same =
     let lt = above_at q.number qs h i d (omega (arith, inside)) in
     rw (below q.number p (omega (arith, lt, same))) (ap (λ xs. q ∷ xs) (removed_at p qs i d (sorted-tail q qs h) (omega (arith, inside)) same))
 
-is_at : (p : ℕ) (qs : List PodTally) (i : ℕ) → IsSorted qs → i < length qs → ((d : PodTally) → (get_or qs i d).number ≡ p) → IsAt p qs i
+pub is_at : (p : ℕ) (qs : List PodTally) (i : ℕ) → IsSorted qs → i < length qs → ((d : PodTally) → (get_or qs i d).number ≡ p) → IsAt p qs i
 is_at p qs i h inside same =
     let d = idle p in
     let here = found_at p qs i d h inside (same d) in

@@ -1,4 +1,5 @@
-//! The pods, in the order of their numbers. One is found by a binary search.
+//! The pods, in the order of their numbers. These are nearly consecutive, so one is looked for first as far behind the first
+//! pod as its number is above that one's, and else by a binary search.
 ghost use Rattle.std.specs.Prelude.{◌≡◌, ◌≤◌, length, vec_capacity, MatchResult};
 ghost use Rattle.kn_stats.specs.Pods.{IsSmallPod, IsSorted, found, pod_after, put, without_pod};
 ghost use Rattle.kn_stats.specs.Places.{IsAt, IsGap};
@@ -8,6 +9,20 @@ use crate::tally::PodTally;
 
 /// Where the pod stands, or would be put in.
 fn place_of(pods: &[PodTally], p: u64) -> Result<usize, usize>
+    requires { IsSorted pods.now }
+    ensures { MatchResult result (λ i. IsAt p pods.now i) (λ i. IsGap p pods.now i) }
+{
+    if let Some(first) = pods.first() {
+        let guess = p.wrapping_sub(first.number) as usize;
+        if guess < pods.len() && pods[guess].number == p {
+            return Ok(guess);
+        }
+    }
+    search(pods, p)
+}
+
+/// The same, wherever it stands.
+fn search(pods: &[PodTally], p: u64) -> Result<usize, usize>
     requires { IsSorted pods.now }
     ensures { MatchResult result (λ i. IsAt p pods.now i) (λ i. IsGap p pods.now i) }
 {

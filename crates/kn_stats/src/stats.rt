@@ -166,6 +166,14 @@ impl Stats {
         ensures stands { (cs : List TimedChange) (gone : List ℕ) → StandsFor self.old cs gone → StandsFor self.new cs gone }
         ensures state { self.new ≡ advanced to self.old }
     {
+        // (so it mostly is)
+        if self.time / 1000 == to / 1000 {
+            self.time = to;
+            return Closed {
+                first: None,
+                rest: None,
+            };
+        }
         let closed = self.closed(to, ready);
         let is_new = self.time / 1000 < to / 1000;
         self.activator = self.activator.anew_if(is_new);

@@ -1,10 +1,12 @@
-use Rattle.std.proofs.Common.{rules}
-use Rattle.std.proofs.lemmas.List.Sorted.{answers_always}
-use Rattle.kn_stats.proofs.Search.{search_ends}
+use Rattle.std.proofs.Common.{◌+◌, ◌-◌, ◌%◌, ◌∙◌, ℕ, ap}
+use Rattle.std.proofs.lemmas.List.{get_or_default}
+use Rattle.kn_stats.specs.declared.tally.PodTally.{PodTally}
+use Rattle.kn_stats.proofs.Search.{is_at}
 use Rattle.kn_stats.proofs.pods.place_of.Goals as goal
 
--- the closure gives a pod's number
-pub returns : goal.returns
-returns c =
-    let facts = c.binary_search_by_key.ensures in
-    search_ends c.args.pods.now c.requires c.args.p _ facts.bound (facts.position (λ pod. pod.number) (answers_always _ _ _ (λ f a r g called. search rules)))
+-- at the guess there is a pod of this number
+pub returns-then-pods-guess : goal.returns-then-pods-guess
+returns-then-pods-guess c =
+    let guess : ℕ = (c.args.p + (18446744073709551616 - c.in-Some.first.now.number)) % 18446744073709551616 in
+    is_at c.args.p c.args.pods.now guess c.requires c.if-guess-pods.true
+    (λ d. ap (λ (q : PodTally). q.number) (get_or_default c.args.pods.now guess d _ c.if-guess-pods.true) ∙ c.if-pods-guess.true)
