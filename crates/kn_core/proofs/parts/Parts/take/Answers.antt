@@ -1,14 +1,10 @@
-use Rattle.std.proofs.Common.{◌≡◌, ◌∙◌, ◌++◌, ◌∷◌, [], ◌≤◌, ◌+◌, refl, sym, ap, subst, arith, append_assoc, length, Some, List}
+use Rattle.std.proofs.Common.{◌∙◌, ◌++◌, ◌∷◌, [], ◌≤◌, sym, ap, subst, append_assoc, length, Some, List}
 use Rattle.kn_event.specs.declared.entry.Entry.{Entry}
-use Rattle.kn_event.specs.declared.event.Act.{Act}
-use Rattle.kn_event.specs.declared.revision.Spec.{Spec}
 use Rattle.kn_trace.specs.Events.{act_row, entries_of}
-use Rattle.kn_trace.specs.Trace.{Trace, entry, proxied, stand_of}
-use Rattle.kn_record.specs.Made.{StandsFor}
+use Rattle.kn_trace.specs.Trace.{entry}
 use Rattle.kn_laws.specs.Kinds.{IsActRow}
 use Rattle.kn_throttle.specs.State as throttle
-use Rattle.kn_core.specs.State.{ArePartsOf, PartsState}
-use Rattle.kn_core.specs.Steps.{ending_of, woken}
+use Rattle.kn_core.specs.Steps.{woken}
 use Rattle.kn_core.proofs.After.{some_of_ready}
 use Rattle.kn_core.proofs.Created.{took_created}
 use Rattle.kn_core.proofs.Openings.{timed_by_row}
