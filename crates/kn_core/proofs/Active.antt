@@ -1,7 +1,6 @@
 -- No pod is Ready while a revision waits for its first one, but at the row of that.
 use Rattle.std.proofs.Common.{◌≡◌, ℕ, ◌*◌, ◌≤◌, Bool, true, false, cond, List, [], ◌∷◌, ◌++◌, length, refl, sym, ap, ◌∙◌, subst, append-nil, append_assoc, arith, Option, None, Some}
 use Rattle.std.specs.Prelude.{not, ◌&&◌, ◌==◌, nat_lt, unwrap_or}
-use Rattle.std.specs.List.{filter}
 use Rattle.std.proofs.lemmas.Bool.Decides.{nat_tests}
 use Rattle.kn_event.specs.declared.entry.Entry.{Entry}
 use Rattle.kn_event.specs.declared.entry.Phase.{Phase}

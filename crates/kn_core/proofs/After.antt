@@ -1,5 +1,5 @@
 -- The parts after a row, and in a loop of rows.
-use Rattle.std.proofs.Common.{◌≡◌, ℕ, Bool, true, false, List, [], ◌∷◌, ◌++◌, ◌≤◌, length, refl, sym, ap, ◌∙◌, subst, append-nil, append_assoc, Option}
+use Rattle.std.proofs.Common.{◌≡◌, ℕ, Bool, true, false, List, [], ◌∷◌, ◌++◌, refl, sym, ap, ◌∙◌, subst, append-nil, append_assoc, Option}
 use Rattle.std.specs.Prelude.{⊤}
 use Rattle.std.proofs.Math.Logic.{∥∥₁_map}
 use Rattle.kn_event.specs.declared.entry.Entry.{Entry}
@@ -7,7 +7,6 @@ use Rattle.kn_event.specs.declared.entry.Row.{Row}
 use Rattle.kn_event.specs.declared.entry.Row.TheVariants as row
 use Rattle.kn_event.specs.declared.revision.Spec.{Spec}
 use Rattle.kn_trace.specs.Trace.{Trace, entry}
-use Rattle.kn_record.specs.Admission.{stepped}
 use Rattle.kn_record.specs.Made.{Holds, IsMade, IsProper, StandsFor}
 use Rattle.kn_record.specs.Walks.{BeginsWith}
 use Rattle.kn_pods.specs.Pods.{PodsState, StandsFor as ArePodsOf, after_row}

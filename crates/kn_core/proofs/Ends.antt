@@ -1,8 +1,7 @@
 -- A row with which a request ends.
-use Rattle.std.proofs.Common.{◌≡◌, ℕ, ◌≤◌, List, refl, sym, ap, subst, ◌∙◌, arith, None}
+use Rattle.std.proofs.Common.{◌≡◌, ℕ, ◌≤◌, refl, sym, ap, subst, ◌∙◌, arith, None}
 use Rattle.kn_event.specs.declared.entry.Row.{Row}
 use Rattle.kn_trace.specs.Rows.{arrived_by}
-use Rattle.kn_record.specs.declared.admission.Pod.{Pod}
 use Rattle.kn_record.specs.Admission.{Admission, live_after, pods_after, stepped}
 use Rattle.kn_record.specs.Order.{AreTimed}
 use Rattle.kn_throttle.specs.State.{State, with_row}

@@ -16,7 +16,7 @@ use Rattle.kn_trace.specs.Laws.{IsSettled}
 use Rattle.kn_trace.specs.Rows.{phase_by}
 use Rattle.kn_trace.specs.Scale.{is_same_phase, phase_of, scale_rows, where_true}
 use Rattle.kn_trace.specs.Settling.{settling}
-use Rattle.kn_trace.specs.Trace.{Trace, draining, entry, first_of, is_empty, ready_pods}
+use Rattle.kn_trace.specs.Trace.{Trace, entry, first_of, is_empty, ready_pods}
 use Rattle.std.specs.Prelude.{not, ◌&&◌}
 use Rattle.kn_record.specs.Made.{Holds, IsMade, IsProper}
 use Rattle.kn_record.specs.Rows.{or_else}
@@ -26,7 +26,7 @@ use Rattle.kn_laws.specs.Kinds.{Each, IsActRow, is_act_row, is_departure_row}
 use Rattle.kn_pods.specs.Pods.{PodsState, StandsFor, after_row}
 use Rattle.kn_scaler.specs.Rows.{is_quiet}
 use Rattle.kn_core.specs.Steps.{woken}
-use Rattle.kn_core.proofs.Active.{DrainFew, IsAwake, awake_rows, awake_settled, drains_none, each_append, each_weaker, few_rows, is_calm, none_activated, scaler_awake}
+use Rattle.kn_core.proofs.Active.{DrainFew, IsAwake, awake_rows, awake_settled, drains_none, each_weaker, few_rows, is_calm, none_activated, scaler_awake}
 use Rattle.kn_core.proofs.Scaled.{holds_behind, holds_front, made_behind}
 use Rattle.kn_core.proofs.Traces.{rows_made}
 

@@ -1,9 +1,9 @@
 -- What a throttler can take of a scale.
-use Rattle.std.proofs.Common.{◌≡◌, ℕ, ◌<◌, ◌≤◌, ◌^◌, Bool, true, false, List, [], ◌∷◌, length, refl, sym, ap, ◌∙◌, subst, arith, ◌+◌, suc, get_or, drop, add-one, drop-cons}
+use Rattle.std.proofs.Common.{◌≡◌, ℕ, ◌<◌, ◌≤◌, ◌^◌, Bool, true, List, ◌∷◌, length, refl, sym, ap, ◌∙◌, subst, ◌+◌, suc, get_or, drop, add-one, drop-cons}
 use Rattle.std.specs.Prelude.{◌||◌}
 use denote.Struct.Props.{props}
 use Rattle.std.proofs.Math.Bridge.{le_prop}
-use Rattle.std.proofs.Math.Logic.{∥∥₁_elim, ∥∥₁_map}
+use Rattle.std.proofs.Math.Logic.{∥∥₁_elim}
 use Rattle.kn_event.specs.declared.entry.Entry.{Entry}
 use Rattle.kn_event.specs.declared.entry.Row.{Row}
 use Rattle.kn_event.specs.declared.entry.Row.TheVariants as row

@@ -1,31 +1,19 @@
 -- What follows where the parts stand for some trace.
-use Rattle.std.proofs.Common.{◌≡◌, ℕ, Bool, true, List, [], ◌∷◌, ◌++◌, ◌≤◌, length, refl, sym, ap, ◌∙◌, subst, append-nil, append_assoc, arith, Option, None, Some}
+use Rattle.std.proofs.Common.{◌≡◌, ℕ, Bool, ◌≤◌, length, ap, ◌∙◌, arith}
 use Rattle.std.proofs.lemmas.List.{length-map}
-use Rattle.std.specs.List.{All}
 use denote.Struct.Props.{props}
 use Rattle.std.proofs.Math.Bridge.{le_prop}
-use Rattle.std.proofs.Math.Logic.{∥∥₁_elim, ∥∥₁_map}
+use Rattle.std.proofs.Math.Logic.{∥∥₁_elim}
 use Rattle.std.proofs.lemmas.List.Elements.{All-weaker}
-use Rattle.kn_event.specs.declared.entry.Entry.{Entry}
-use Rattle.kn_event.specs.declared.entry.Row.{Row}
-use Rattle.kn_event.specs.declared.event.Act.{Act}
-use Rattle.kn_event.specs.declared.event.Event.{Event}
-use Rattle.kn_event.specs.declared.event.Told.{Told}
-use Rattle.kn_event.specs.declared.revision.Kind.{Kind}
-use Rattle.kn_event.specs.declared.revision.Kind.TheVariants as kind
 use Rattle.kn_event.specs.declared.revision.Spec.{Spec}
-use Rattle.kn_trace.specs.Events.{act_row, act_rows, activation, before_settling, departures, entries_of, react, scaler_rows, row_of, told_of, told_row}
-use Rattle.kn_trace.specs.Settling.{settling}
-use Rattle.kn_trace.specs.Trace.{Trace, arrivals, contains, first_of, live, live_pods}
+use Rattle.kn_trace.specs.Trace.{Trace, contains, live, live_pods}
 use Rattle.kn_record.specs.declared.admission.Request.{Request}
 use Rattle.kn_record.specs.Admission.{Admission}
-use Rattle.kn_record.specs.Made.{Holds, IsMade, IsProper, StandsFor as IsRecordOf}
-use Rattle.kn_record.specs.Walks.{ArePartsProper}
+use Rattle.kn_record.specs.Made.{IsMade, StandsFor as IsRecordOf}
 use Rattle.kn_record.specs.Order.{AreTimed}
-use Rattle.kn_record.specs.Views.{AreViews, numbers_in, pod_numbers}
+use Rattle.kn_record.specs.Views.{AreViews, pod_numbers}
 use Rattle.kn_pods.specs.Pods.{StandsFor as ArePodsOf}
-use Rattle.kn_laws.specs.History.{IsMadeBy}
-use Rattle.kn_core.specs.State.{ArePartsOf, ArePartsOfSome, PartsState, RevisionState, StandsFor, StandsForSome}
+use Rattle.kn_core.specs.State.{ArePartsOf, ArePartsOfSome, PartsState}
 
 pub bool_prop : (a b : Bool) → IsProp (a ≡ b)
 bool_prop a b = hlevel props

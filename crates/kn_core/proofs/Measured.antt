@@ -1,5 +1,5 @@
 -- What comes to the autoscaler with a row.
-use Rattle.std.proofs.Common.{◌≡◌, ℕ, ◌≤◌, Bool, true, false, List, [], ◌∷◌, ◌++◌, length, refl, sym, ap, ◌∙◌, subst, arith, Option, None, Some}
+use Rattle.std.proofs.Common.{◌≡◌, ℕ, ◌≤◌, Bool, List, [], ◌∷◌, length, refl, sym, ap, ◌∙◌, arith}
 use Rattle.std.proofs.lemmas.List.{length-map}
 use Rattle.std.proofs.Math.Logic.{∥∥₁_map}
 use Rattle.kn_event.specs.declared.entry.Row.{Row}
@@ -10,15 +10,14 @@ use Rattle.kn_event.specs.declared.revision.Spec.{Spec}
 use Rattle.std.specs.Prelude.{nat_lt, not}
 use Rattle.std.proofs.lemmas.Bool.{lt-ltb}
 use Rattle.kn_trace.specs.Load.{has_ready_pod}
-use Rattle.kn_trace.specs.Rows.{ended_by}
 use Rattle.kn_trace.specs.Scale.{count_ready}
 use Rattle.kn_trace.specs.Trace.{Trace, entry, is_empty, live_pods, proxied, ready_pods, stand_of}
 use Rattle.kn_record.specs.declared.admission.Pod.{Pod}
 use Rattle.kn_record.specs.Admission.{Admission}
-use Rattle.kn_record.specs.Made.{Holds, IsMade, IsProper, StandsFor as IsRecordOf}
+use Rattle.kn_record.specs.Made.{Holds, IsProper, StandsFor as IsRecordOf}
 use Rattle.kn_record.specs.Views.{AreViews}
 use Rattle.kn_core.specs.Scaling.{IsNextIn, IsNextInSome}
-use Rattle.kn_core.specs.State.{ArePartsOf, IsScalerOf, IsScalerOfSome, PartsState, ArePartsOfSome}
+use Rattle.kn_core.specs.State.{ArePartsOf, IsScalerOfSome, PartsState, ArePartsOfSome}
 use Rattle.kn_core.specs.Steps.{EndsOnly, HasFewPods, IsReadyFor}
 
 pub next_in : (x : PartsState) (y : Row) (r : ℕ) (at : Stand) (through : Bool) (s : Spec) (c : Trace) → EndsOnly y r → ArePartsOf s x c → IsProper s c y → at ≡ stand_of c r → through ≡ proxied c r → IsNextIn x.scaler y at through s c

@@ -1,5 +1,5 @@
 -- The rows of a decision.
-use Rattle.std.proofs.Common.{◌≡◌, ℕ, ◌≤◌, Bool, true, false, List, [], ◌∷◌, ◌++◌, reverse, length, refl, sym, ap, ◌∙◌, subst, append-nil, append_assoc, Option, None, Some}
+use Rattle.std.proofs.Common.{◌≡◌, ℕ, ◌≤◌, Bool, true, false, List, [], ◌∷◌, ◌++◌, refl, sym, ap, ◌∙◌, subst, append_assoc, Option, None, Some}
 use Rattle.std.specs.Prelude.{not, option_map}
 use Rattle.std.specs.Bool.{then_some}
 use Rattle.kn_event.specs.Revision.{AreInRange}
@@ -16,7 +16,7 @@ use Rattle.kn_event.specs.declared.revision.Kind.TheVariants as kind
 use Rattle.kn_event.specs.declared.revision.Spec.{Spec}
 use Rattle.kn_trace.specs.Events.{row_of, scaler_rows}
 use Rattle.kn_scaling.specs.Decide.{Ruling}
-use Rattle.kn_trace.specs.Scale.{creations, decision_at, decision_rows, drain_order, is_same_mode, is_same_phase, mode_of, phase_of, scale_rows, tick_rows, tick_rows_of, wake_decision_at, wake_rows, where_true}
+use Rattle.kn_trace.specs.Scale.{decision_at, decision_rows, drain_order, is_same_mode, is_same_phase, mode_of, phase_of, scale_rows, tick_rows, tick_rows_of, wake_decision_at, wake_rows, where_true}
 use Rattle.kn_trace.specs.Trace.{Trace, entry, first_of}
 use Rattle.kn_record.specs.Admission.{Admission, stepped}
 use Rattle.kn_record.specs.Made.{Holds, IsMade, IsProper, StandsFor}

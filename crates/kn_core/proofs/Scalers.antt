@@ -1,5 +1,5 @@
 -- The autoscaler's place, where there is one.
-use Rattle.std.proofs.Common.{◌≡◌, ℕ, ◌≤◌, Bool, true, false, List, [], ◌∷◌, ◌++◌, length, refl, sym, ap, ◌∙◌, subst, Option, None, Some}
+use Rattle.std.proofs.Common.{◌≡◌, ℕ, ◌≤◌, Bool, true, false, List, [], ◌∷◌, ◌++◌, length, refl, sym, subst, Option, Some}
 use Rattle.std.proofs.Math.Logic.{∥∥₁_map}
 use Rattle.kn_event.specs.declared.entry.Row.{Row}
 use Rattle.kn_event.specs.declared.entry.Row.TheVariants as row
@@ -8,7 +8,7 @@ use Rattle.kn_event.specs.declared.revision.Spec.{Spec}
 use Rattle.kn_trace.specs.Trace.{Trace, entry, live_pods}
 use Rattle.kn_record.specs.Made.{IsMade}
 use Rattle.kn_scaler.specs.Rows.{ready_rows, says_scale, settles}
-use Rattle.kn_scaler.specs.Stands.{AreNextOfSome, AreNextRows, IsNextOfSome, IsNextRow, ScalerState, StandsForSome, StandsFor as IsScalerOfTrace}
+use Rattle.kn_scaler.specs.Stands.{AreNextOfSome, AreNextRows, IsNextOfSome, ScalerState, StandsForSome, StandsFor as IsScalerOfTrace}
 use Rattle.kn_event.specs.declared.entry.Entry.{Entry}
 use Rattle.kn_laws.specs.Kinds.{Each}
 use Rattle.kn_places.specs.Pods.{HasRoomFor}

@@ -1,12 +1,12 @@
 -- The parts after the rows of a settling.
-use Rattle.std.proofs.Common.{◌≡◌, ℕ, ◌≤◌, Bool, true, false, List, [], ◌∷◌, ◌++◌, length, refl, sym, ap, ◌∙◌, subst, Option}
+use Rattle.std.proofs.Common.{◌≡◌, ℕ, true, List, [], ◌∷◌, ◌++◌, refl, sym, ◌∙◌, subst}
 use Rattle.std.proofs.Math.Logic.{∥∥₁_map}
 use Rattle.kn_event.specs.declared.entry.Entry.{Entry}
 use Rattle.kn_event.specs.declared.entry.Row.{Row}
 use Rattle.kn_event.specs.declared.entry.Row.TheVariants as row
 use Rattle.kn_event.specs.declared.revision.Spec.{Spec}
 use Rattle.kn_trace.specs.Settling.{settling}
-use Rattle.kn_trace.specs.Trace.{Trace, entry, live_pods}
+use Rattle.kn_trace.specs.Trace.{Trace, entry}
 use Rattle.kn_record.specs.Admission.{Admission}
 use Rattle.kn_record.specs.Made.{Holds, IsMade, IsProper, StandsFor as IsRecordOf}
 use Rattle.kn_record.specs.Views.{AreViews}
@@ -17,7 +17,7 @@ use Rattle.kn_core.specs.Scaling.{AreNextIn, AreNextInSome}
 use Rattle.kn_core.specs.State.{ArePartsOf, IsMeasuredAt, IsScalerOf, PartsState}
 use Rattle.kn_core.specs.Steps.{HasFewPods, IsReadyFor, after_removal, after_removals}
 use Rattle.kn_core.proofs.Measured.{few_live_pods}
-use Rattle.kn_core.proofs.Traces.{after_rows, removals_alone, rows_made, rows_pods}
+use Rattle.kn_core.proofs.Traces.{removals_alone, rows_made, rows_pods}
 
 settling_alone : (x : Row) (pods : PodsState) → settles x ≡ true → after_removal x pods ≡ after_row x pods
 settling_alone (row.Run r) pods h = refl

@@ -1,8 +1,6 @@
 -- A revision that waited for its first Ready pod.
-use Rattle.std.proofs.Common.{◌≡◌, ℕ, Bool, true, false, List, [], ◌∷◌, ◌++◌, refl, sym, ap, ◌∙◌, subst, append_assoc, append-nil, Option, None, Some}
-use Rattle.std.specs.Prelude.{not, ◌&&◌}
-use Rattle.std.specs.List.{filter}
-use Rattle.kn_event.specs.declared.entry.Entry.{Entry}
+use Rattle.std.proofs.Common.{◌≡◌, ℕ, Bool, true, false, List, [], ◌∷◌, ◌++◌, refl, sym, subst, append_assoc, Some}
+use Rattle.std.specs.Prelude.{◌&&◌}
 use Rattle.kn_event.specs.declared.entry.Phase.TheVariants as phase
 use Rattle.kn_event.specs.declared.entry.Row.{Row}
 use Rattle.kn_event.specs.declared.entry.Row.TheVariants as row
@@ -14,7 +12,6 @@ use Rattle.kn_record.specs.Made.{IsMade, IsProper}
 use Rattle.kn_laws.specs.Kinds.{is_act_row}
 use Rattle.kn_pods.specs.Pods.{PodsState, StandsFor, after_row}
 use Rattle.kn_scaler.specs.Rows.{ready_rows, says_scale}
-use Rattle.kn_core.specs.State.{IsScalerOf}
 use Rattle.kn_core.specs.Steps.{woken}
 use Rattle.kn_core.proofs.Traces.{phase_same}
 

@@ -63,10 +63,10 @@ abbrev pub EndsOnly : Row → ℕ → Type 0
 EndsOnly x r = (q : ℕ) → ended_by x ≡ Some q → r ≡ q
 
 -- the request that may end with an act's own row
-abbrev pub ending_of : Act → ℕ
-ending_of (act.Finish r ok) = r
-ending_of (act.Cancel r) = r
-ending_of _ = 0
+abbrev pub ending_of : Act → Option ℕ
+ending_of (act.Finish r ok) = Some r
+ending_of (act.Cancel r) = Some r
+ending_of _ = None
 
 -- a request was admitted
 abbrev pub is_admitted : Option Row → Bool

@@ -51,6 +51,7 @@ impl Model for Parts {
 
 impl Parts {
     /// Before an event, the seconds that are over count.
+    #[inline(always)]
     fn advance(&mut self, time: u64)
         requires some { ArePartsOfSome self.old }
         requires order { IsMeasuredBy time self.old.scaler }
@@ -65,6 +66,7 @@ impl Parts {
     }
 
     /// What a row changes of what is measured. Where a request ends with it, that is `r`, which still stands.
+    #[inline(always)]
     fn measure(&mut self, row: Row, r: u64)
         requires some { IsReadyFor (λ s c. entry 0 row ∷ []) self.old }
         requires ends { EndsOnly row r }
@@ -81,6 +83,7 @@ impl Parts {
     }
 
     /// First, each request that has waited for its whole timeout expires.
+    #[inline(always)]
     fn expire(&mut self, time: u64, log: &mut EntryLog)
         requires some { IsReadyFor (λ s c. expiries s time c) self.old }
         requires few { HasFewPods self.old }
@@ -106,6 +109,7 @@ impl Parts {
     }
 
     /// Then, where a live pod is lost, its requests end.
+    #[inline(always)]
     fn lose(&mut self, act: Act, time: u64, log: &mut EntryLog)
         requires some { IsReadyFor (λ s c. losses time c act) self.old }
         requires few { HasFewPods self.old }
@@ -131,6 +135,7 @@ impl Parts {
     }
 
     /// Ends each request that is at a live pod.
+    #[inline(never)]
     fn lose_all(&mut self, p: u64, time: u64, log: &mut EntryLog)
         requires some { IsReadyFor (λ s c. losing time p c) self.old }
         requires there { contains p (pod_numbers self.old.throttle.admission.pods) ≡ true }
@@ -186,6 +191,7 @@ impl Parts {
     }
 
     /// At last, what follows without a further act.
+    #[inline(always)]
     fn settle(&mut self, time: u64, log: &mut EntryLog)
         requires some { IsReadyFor (λ s c. settling s time c) self.old }
         requires few { HasFewPods self.old }

@@ -74,6 +74,7 @@ impl Revision {
     /// Takes one event: the log becomes what it adds to the trace, and the answer is what it is told. Live requests grow by at
     /// most the need of its act less one. A limit is at most 1,000. Each trace that it stands for afterwards is lawful and
     /// settled, and an event that is refused then changes nothing else.
+    #[inline(always)]
     pub fn step(&mut self, e: &Event, log: &mut EntryLog) -> Told
         requires empty { log.old ≡ [] }
         requires order { self.old.clock ≤ e.now.time }

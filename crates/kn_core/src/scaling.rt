@@ -49,6 +49,7 @@ pub(crate) fn advance(scaler: &mut Option<Scaler>, time: u64, ready: bool)
 
 /// One more row, of any kind but those of the scale. Where a request ends with it, `at` and `through` say where that stands
 /// before it, and whether the activator handed it to its pod.
+#[inline(always)]
 pub(crate) fn row(scaler: &mut Option<Scaler>, added: Row, at: Stand, through: bool)
     requires { IsNextInSome scaler.old added at through }
     ensures stands { (s : SpecValue) (c : Trace) (t : ℕ) → IsMeasuredAt t scaler.old → says_scale added ≡ false → IsNextIn scaler.old added at through s c → IsScalerOf s scaler.new (c ++ entry t added ∷ []) }

@@ -116,6 +116,8 @@ impl Scaler {
     /// One more row at this time, of any kind but those of the scale and that of a Ready pod. Where a request ends with it, `at`
     /// and `through` say where that stands before it, and whether the activator handed it to its pod; of other rows they say
     /// nothing.
+    // (inlined: the row, which is large, then needs no memory of its own)
+    #[inline(always)]
     pub fn row(&mut self, added: Row, at: Stand, through: bool)
         requires { IsNextOfSome self.old added at through }
         ensures stands { (s : SpecValue) (c : Trace) → says_scale added ≡ false → IsNextRow self.old added at through s c
@@ -149,6 +151,7 @@ impl Scaler {
     }
 
     /// A row that may change live requests, and with which no pod goes.
+    #[inline(never)]
     fn requests_change(&mut self, change: Option<Change>)
         requires { IfSome change (CanChange self.old.stats) }
         ensures stands { (s : SpecValue) (c : Trace) (x : RowValue) → change_by c x ≡ change → gone_by x ≡ None → IsBeside c (entry self.old.stats.time x)
@@ -165,6 +168,7 @@ impl Scaler {
     }
 
     /// The row with which a pod goes, removed or lost.
+    #[inline(never)]
     fn pod_leaves(&mut self, p: u64)
         requires { IsIdle p self.old.stats }
         ensures stands { (s : SpecValue) (c : Trace) (x : RowValue) → gone_by x ≡ Some p → IsBeside c (entry self.old.stats.time x)

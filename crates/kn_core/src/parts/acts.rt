@@ -1,9 +1,9 @@
 //! An act's own row.
-ghost use Rattle.std.specs.Prelude.{◌≡◌, ℕ, ◌<◌, ◌≤◌, ◌^◌, ◌∷◌, [], ◌++◌, All, Some, IfSome, IfNone};
+ghost use Rattle.std.specs.Prelude.{◌≡◌, ℕ, ◌<◌, ◌≤◌, ◌^◌, ◌∷◌, [], ◌++◌, length, All, Some, IfSome, IfNone};
 ghost use Rattle.kn_event.specs.declared.event.Act.TheVariants as act;
 ghost use Rattle.kn_event.specs.declared.revision.Spec.{Spec as SpecValue};
 ghost use Rattle.kn_trace.specs.Events.{act_row, entries_of};
-ghost use Rattle.kn_trace.specs.Trace.{Trace};
+ghost use Rattle.kn_trace.specs.Trace.{Trace, entry};
 ghost use Rattle.kn_record.specs.declared.admission.Request.{Request};
 ghost use Rattle.kn_record.specs.Made.{Holds, IsProper};
 ghost use Rattle.kn_throttle.specs.Rows.{arrival_row, cancel_row, finish_row};
@@ -12,7 +12,7 @@ ghost use Rattle.kn_core.specs.Steps.{AddsRow, IsAlone, IsWithinRange};
 
 use super::Parts;
 use crate::scaling;
-use kn_event::{Act, Event, Row};
+use kn_event::{Act, Entry, EntryLog, Event, Row};
 use kn_pods::PodAnswer;
 use kn_pods::laws::row_laws;
 use kn_record::append::append_laws;
@@ -20,6 +20,7 @@ use kn_throttle::Arrival;
 
 impl Parts {
     /// A request arrives.
+    #[inline(always)]
     fn arrive(&mut self, time: u64, tag: u64) -> Row
         requires few { self.old.throttle.admission.arrivals < 2 ^ 54 }
         requires order { All (λ (q : Request). q.time ≤ time) self.old.throttle.admission.live }
@@ -33,6 +34,7 @@ impl Parts {
     }
 
     /// A request ends, well or not, if it runs.
+    #[inline(always)]
     fn finish(&mut self, r: u64, ok: bool) -> Row
         ensures row { (s : SpecValue) (c : Trace) → ArePartsOf s self.old c → act_row s c (act.Finish r ok) ≡ Some result }
         ensures adds { (t : ℕ) → AddsRow t result self.old self.new }
@@ -42,6 +44,7 @@ impl Parts {
     }
 
     /// A request is given up, if it waits.
+    #[inline(always)]
     fn cancel(&mut self, r: u64) -> Row
         ensures row { (s : SpecValue) (c : Trace) → ArePartsOf s self.old c → act_row s c (act.Cancel r) ≡ Some result }
         ensures adds { (t : ℕ) → AddsRow t result self.old self.new }
@@ -104,7 +107,9 @@ impl Parts {
     }
 
     /// The row of the act, if it has one.
-    pub(super) fn act(&mut self, e: &Event) -> Option<Row>
+    #[inline(always)]
+    pub(super) fn act(&mut self, e: &Event, log: &mut EntryLog) -> Option<Row>
+        requires room { length log.old < 65536 }
         requires some { ArePartsOfSome self.old }
         requires few { self.old.throttle.admission.arrivals < 2 ^ 54 }
         requires order { All (λ (q : Request). q.time ≤ e.now.time) self.old.throttle.admission.live }
@@ -113,17 +118,28 @@ impl Parts {
         ensures row { (s : SpecValue) (c : Trace) → ArePartsOf s self.old c → act_row s c e.now.act ≡ result }
         ensures adds { IfSome result (λ x. AddsRow e.now.time x self.old self.new) }
         ensures unchanged { IfNone result (self.new ≡ self.old) }
+        ensures logged { log.new ≡ log.old ++ entries_of e.now.time result }
     {
         match e.act {
-            Act::Arrive(tag) => Some(self.arrive(e.time, tag)),
-            Act::Finish(r, ok) => Some(self.finish(r, ok)),
-            Act::Cancel(r) => Some(self.cancel(r)),
-            Act::Ready(p) => Some(self.ready(p)),
-            Act::Limit(p, n) => Some(self.limit(p, n)),
-            Act::Lost(p) => Some(self.lose_pod(p)),
+            Act::Arrive(tag) => said(self.arrive(e.time, tag), e.time, log),
+            Act::Finish(r, ok) => said(self.finish(r, ok), e.time, log),
+            Act::Cancel(r) => said(self.cancel(r), e.time, log),
+            Act::Ready(p) => said(self.ready(p), e.time, log),
+            Act::Limit(p, n) => said(self.limit(p, n), e.time, log),
+            Act::Lost(p) => said(self.lose_pod(p), e.time, log),
             Act::Pass | Act::Tick => None,
         }
     }
+}
+
+/// The row, which the log has too. Each act puts its own, whose kind is known there: a row is large to hand on.
+fn said(row: Row, time: u64, log: &mut EntryLog) -> Option<Row>
+    requires { length log.old < 65536 }
+    ensures row { result ≡ Some row }
+    ensures logged { log.new ≡ log.old ++ entry time row ∷ [] }
+{
+    log.put(Entry { time, row });
+    Some(row)
 }
 
 fn row_of_arrival(r: u64, tag: u64, answer: Arrival) -> Row

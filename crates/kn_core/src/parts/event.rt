@@ -1,4 +1,5 @@
-//! One event, part by part, and what it is told.
+//! One event, part by part, and what it is told. What comes at each event is inlined into one function, in which a row needs
+//! no memory but its place in the log: rows are large.
 ghost use Rattle.std.specs.Prelude.{◌≡◌, ℕ, ◌+◌, ◌<◌, ◌≤◌, ◌^◌, [], ◌∷◌, ◌++◌, length, Some, true};
 ghost use Rattle.kn_event.specs.Revision.{AreInRange};
 ghost use Rattle.kn_event.specs.declared.entry.Phase.TheVariants as phase;
@@ -7,7 +8,7 @@ ghost use Rattle.kn_event.specs.declared.revision.Spec.{Spec as SpecValue};
 ghost use Rattle.kn_trace.specs.Events.{act_row, departures, entries_of, react, told_of, told_row, told_stand};
 ghost use Rattle.kn_trace.specs.Laws.{IsSettled};
 ghost use Rattle.kn_trace.specs.Scale.{is_same_phase, phase_of, where_true};
-ghost use Rattle.kn_trace.specs.Trace.{Trace, entry};
+ghost use Rattle.kn_trace.specs.Trace.{Trace, entry, proxied, stand_of};
 ghost use Rattle.kn_laws.specs.Kinds.{is_act_row};
 ghost use Rattle.kn_pods.specs.Pods.{StandsFor as ArePodsOf};
 ghost use Rattle.kn_record.specs.Made.{Holds, IsProper};
@@ -29,6 +30,7 @@ use kn_sizes::sizes::{entry_laws, size_laws};
 
 impl Parts {
     /// All that end before the act's own row.
+    #[inline(always)]
     fn depart(&mut self, e: &Event, log: &mut EntryLog)
         requires some { ArePartsOfSome self.old }
         requires few { HasFewPods self.old }
@@ -49,6 +51,7 @@ impl Parts {
     }
 
     /// The act's own row, and what it changes. With the row of the first Ready pod that a revision waited for, it is active.
+    #[inline(always)]
     fn take(&mut self, e: &Event, log: &mut EntryLog) -> Option<Row>
         requires room { length log.old + 2 ≤ 65536 }
         requires some { IsReadyFor (λ s c. entries_of e.now.time (act_row s c e.now.act)) self.old }
@@ -74,18 +77,28 @@ impl Parts {
         append_laws();
         time_laws();
         part_laws();
-        let r = ending(e.act);
-        let stand = self.throttle.stand(r);
-        let proxied = self.throttle.proxied(r);
-        let row = self.act(e);
+        let (stand, proxied) = self.before_end(ending(e.act));
+        let row = self.act(e, log);
         if let Some(row) = row {
-            log.put(Entry { time: e.time, row });
             self.hear(row, stand, proxied, e.time, log);
         }
         row
     }
 
+    /// Where a request stands, and whether the activator handed it to its pod. With no request it says nothing.
+    #[inline(always)]
+    fn before_end(&self, r: Option<u64>) -> (Stand, bool)
+        ensures stand { (s : SpecValue) (c : Trace) (q : ℕ) → ArePartsOf s self.now c → r ≡ Some q → result.0 ≡ stand_of c q }
+        ensures proxied { (s : SpecValue) (c : Trace) (q : ℕ) → ArePartsOf s self.now c → r ≡ Some q → result.1 ≡ proxied c q }
+    {
+        match r {
+            None => (Stand::Unknown, false),
+            Some(r) => (self.throttle.stand(r), self.throttle.proxied(r)),
+        }
+    }
+
     /// What an act's own row is to the autoscaler, once the others have taken it.
+    #[inline(always)]
     fn hear(&mut self, row: Row, stand: Stand, proxied: bool, time: u64, log: &mut EntryLog)
         requires next { IsNextInSome self.old.scaler row stand proxied }
         requires measured { IsMeasuredAt time self.old.scaler }
@@ -126,6 +139,7 @@ impl Parts {
     }
 
     /// What an event is told by its act's own row, after all of its rows.
+    #[inline(always)]
     fn told(&self, row: Option<Row>) -> Told
         ensures { (s : SpecValue) (c : Trace) → ArePartsOf s self.now c → result ≡ told_row c row }
     {
@@ -146,6 +160,7 @@ impl Parts {
     }
 
     /// One event: the log becomes its rows, and the answer is what it is told.
+    #[inline(always)]
     pub(crate) fn react(&mut self, e: &Event, limit: u64, log: &mut EntryLog) -> Told
         requires empty { log.old ≡ [] }
         requires some { ArePartsOfSettled self.old }
@@ -184,12 +199,12 @@ impl Parts {
 }
 
 /// The request that may end with an act's own row.
-fn ending(act: Act) -> u64
+fn ending(act: Act) -> Option<u64>
     ensures { result ≡ ending_of act }
 {
     match act {
-        Act::Finish(r, _) | Act::Cancel(r) => r,
-        _ => 0,
+        Act::Finish(r, _) | Act::Cancel(r) => Some(r),
+        _ => None,
     }
 }
 

@@ -23,6 +23,7 @@ use kn_sizes::sizes::size_laws;
 
 impl Parts {
     /// The decision of a tick, or of an arrival that wakes the revision, with all that follows from it. Answers the first row.
+    #[inline(always)]
     pub(super) fn decide(
         &mut self,
         act: Act,
@@ -57,6 +58,7 @@ impl Parts {
     }
 
     /// The decision of an arrival with this row, where no pod is wanted.
+    #[inline(always)]
     fn wake_by(&mut self, own: Option<Row>, limit: u64, time: u64, log: &mut EntryLog)
         requires some { IsReadyFor (λ s c. scaler_rows s.kind s time c (act.Arrive 0) own) self.old }
         requires ranges { AreInRange self.old.throttle.spec }

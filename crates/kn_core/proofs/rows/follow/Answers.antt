@@ -1,4 +1,4 @@
-use Rattle.std.proofs.Common.{◌≡◌, ℕ, ◌+◌, ◌∙◌, ◌∷◌, refl, sym, ap, subst, arith, List, drop}
+use Rattle.std.proofs.Common.{◌+◌, ◌∙◌, ◌∷◌, refl, sym, ap, subst, arith, List, drop}
 use Rattle.std.proofs.lemmas.List.{drop_all}
 use Rattle.std.proofs.Math.Logic.{∥∥₁_map}
 use Rattle.kn_event.specs.declared.entry.Entry.{Entry}

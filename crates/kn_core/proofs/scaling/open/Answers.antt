@@ -1,4 +1,4 @@
-use Rattle.std.proofs.Common.{◌≡◌, ◌∙◌, sym, ap}
+use Rattle.std.proofs.Common.{◌∙◌, sym, ap}
 use Rattle.kn_event.specs.declared.revision.Spec.{Spec}
 use Rattle.kn_core.proofs.Openings.{opening_unscaled}
 use Rattle.kn_core.proofs.scaling.open.Goals as goal

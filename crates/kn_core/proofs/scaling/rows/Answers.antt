@@ -1,4 +1,3 @@
-use Rattle.std.proofs.Common.{refl}
 use Rattle.kn_core.proofs.Scalers.{next_rows, next_rows_some, unscaled_rows}
 use Rattle.kn_core.proofs.scaling.rows.Goals as goal
 

@@ -1,4 +1,4 @@
-use Rattle.std.proofs.Common.{◌≡◌, ◌-◌, ◌≤◌, arith, List, drop, take, length, length-drop}
+use Rattle.std.proofs.Common.{◌-◌, arith, drop, length, length-drop}
 use Rattle.std.proofs.lemmas.List.{take_all}
 use Rattle.kn_core.proofs.scaling.rows_behind.Goals as goal
 

@@ -1,8 +1,6 @@
-use Rattle.std.proofs.Common.{◌≡◌, ◌∙◌, ◌++◌, ◌≤◌, ◌+◌, true, false, refl, sym, ap, arith, append-nil, length-append, length, ◌∷◌, []}
+use Rattle.std.proofs.Common.{◌≡◌, ◌∙◌, true, false, refl, sym, append-nil}
 use Rattle.kn_event.specs.declared.entry.Phase.TheVariants as phase
-use Rattle.kn_event.specs.declared.entry.Row.TheVariants as row
-use Rattle.kn_trace.specs.Scale.{is_same_phase, phase_of, where_true}
-use Rattle.kn_trace.specs.Trace.{entry}
+use Rattle.kn_trace.specs.Scale.{is_same_phase, phase_of}
 use Rattle.kn_core.proofs.parts.Parts.activate.Goals as goal
 use Rattle.kn_core.proofs.parts.Parts.activate.Goals.{then-pod_ready, else-pod_ready}
 

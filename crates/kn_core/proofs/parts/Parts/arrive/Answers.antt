@@ -2,7 +2,6 @@ use Rattle.std.proofs.Common.{◌≡◌, ◌∙◌, ap, sym, subst, Some}
 use Rattle.kn_event.specs.declared.event.Act.TheVariants as act
 use Rattle.kn_event.specs.declared.revision.Spec.{Spec}
 use Rattle.kn_trace.specs.Events.{act_row}
-use Rattle.kn_core.specs.State.{ArePartsOf, PartsState}
 use Rattle.kn_core.proofs.parts.Parts.arrive.Goals as goal
 
 pub returns-clause-row : goal.returns-clause-row

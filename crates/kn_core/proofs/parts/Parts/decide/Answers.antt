@@ -1,11 +1,7 @@
-use Rattle.std.proofs.Common.{◌≡◌, ◌∙◌, ◌++◌, ap, sym, subst, append-nil, Some, None, Option}
-use Rattle.kn_event.specs.declared.entry.Row.{Row}
-use Rattle.kn_event.specs.declared.entry.Row.TheVariants as row
+use Rattle.std.proofs.Common.{◌∙◌, ap, None}
 use Rattle.kn_event.specs.declared.event.Act.{Act}
 use Rattle.kn_event.specs.declared.event.Act.TheVariants as act
 use Rattle.kn_trace.specs.Events.{scaler_rows}
-use Rattle.kn_trace.specs.Trace.{Trace}
-use Rattle.kn_record.specs.Made.{Holds, IsProper}
 use Rattle.kn_core.proofs.After.{ready_same}
 use Rattle.kn_core.proofs.Ruling.{tick_any, wake_any}
 use Rattle.kn_core.proofs.parts.Parts.decide.Goals as goal

@@ -1,7 +1,6 @@
-use Rattle.std.proofs.Common.{◌≡◌, ◌≤◌, ◌+◌, ◌∙◌, refl, sym, ap, subst, List, ◌++◌, append_assoc, arith, length}
+use Rattle.std.proofs.Common.{◌∙◌, ap, subst, List, ◌++◌, append_assoc, arith}
 use Rattle.kn_event.specs.declared.entry.Entry.{Entry}
 use Rattle.kn_trace.specs.Events.{departures, expiries, losses}
-use Rattle.kn_trace.specs.Trace.{Trace}
 use Rattle.kn_core.specs.State.{ArePartsOf}
 use Rattle.kn_core.proofs.Ends.{nobody_then}
 use Rattle.kn_core.proofs.After.{ready_more, ready_of_some}

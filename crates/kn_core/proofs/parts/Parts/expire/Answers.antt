@@ -1,17 +1,14 @@
-use Rattle.std.proofs.Common.{◌≡◌, ℕ, ◌∙◌, ◌+◌, ◌≤◌, ◌<◌, ◌++◌, refl, sym, ap, subst, List, ◌∷◌, [], length, length-append, arith, Option, Some, None, IfSome}
+use Rattle.std.proofs.Common.{◌≡◌, ℕ, ◌∙◌, refl, sym, ap, subst, ◌∷◌, [], length, length-append, arith, Option, Some, None, IfSome}
 use Rattle.kn_event.specs.declared.entry.Row.TheVariants as row
 use Rattle.kn_event.specs.declared.revision.Spec.{Spec}
 use Rattle.kn_trace.specs.Events.{expiries}
-use Rattle.kn_trace.specs.Trace.{Trace, entry, first_of}
-use Rattle.kn_record.specs.declared.admission.Request.{Request}
-use Rattle.kn_record.specs.Admission.{is_at, placed_in}
+use Rattle.kn_trace.specs.Trace.{entry, first_of}
 use Rattle.kn_record.specs.Views.{due_in, is_due}
-use Rattle.kn_record.specs.Walks.{losing}
 use Rattle.kn_pods.specs.Pods.{PodsState}
 use Rattle.kn_throttle.specs.State.{State, with_row}
 use Rattle.kn_core.specs.State.{PartsState}
 use Rattle.kn_core.proofs.Ends.{live_by, nobody_by, nobody_yet, pods_by}
-use Rattle.kn_core.proofs.Lists.{first_ends, first_is_there, none_first}
+use Rattle.kn_core.proofs.Lists.{first_ends}
 use Rattle.kn_core.proofs.After.{Measured, ended_more, leaves_all, leaves_logged, leaves_stands, ready_row}
 use Rattle.kn_core.proofs.parts.Parts.expire.Goals as goal
 

@@ -1,8 +1,6 @@
-use Rattle.std.proofs.Common.{◌≡◌, ◌∙◌, ◌++◌, ◌≤◌, ◌+◌, ◌∷◌, [], refl, sym, ap, subst, arith, append-nil, length, Some}
-use Rattle.kn_event.specs.declared.entry.Row.TheVariants as row
-use Rattle.kn_trace.specs.Trace.{Trace, entry}
+use Rattle.std.proofs.Common.{◌++◌, ◌∷◌, [], refl, sym, subst, arith, append-nil}
+use Rattle.kn_trace.specs.Trace.{entry}
 use Rattle.kn_core.specs.State.{IsScalerOf}
-use Rattle.kn_core.specs.Steps.{woken}
 use Rattle.kn_core.proofs.Waking.{act_says, none_woken, ready_rows_of, woken_ready}
 use Rattle.kn_core.proofs.parts.Parts.hear.Goals as goal
 

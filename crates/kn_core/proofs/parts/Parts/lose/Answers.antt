@@ -1,20 +1,12 @@
-use Rattle.std.proofs.Common.{◌≡◌, ◌∙◌, ◌≤◌, ◌+◌, ◌++◌, refl, sym, ap, subst, arith, List, ℕ, true, false, Bool}
-use Rattle.kn_event.specs.declared.entry.Entry.{Entry}
-use Rattle.kn_event.specs.declared.event.Act.{Act}
-use Rattle.kn_event.specs.declared.event.Act.TheVariants as act
+use Rattle.std.proofs.Common.{◌≡◌, ◌∙◌, refl, sym, subst, arith}
 use Rattle.kn_trace.specs.Events.{losses}
 use Rattle.kn_trace.specs.Trace.{Trace, contains, live_pods}
-use Rattle.kn_record.specs.Made.{Holds, IsMade, IsProper, StandsFor}
-use Rattle.kn_record.specs.Views.{pod_numbers}
-use Rattle.kn_record.specs.Walks.{losing}
+use Rattle.kn_record.specs.Made.{Holds, IsMade, IsProper}
 use Rattle.kn_event.specs.declared.revision.Spec.{Spec}
-use Rattle.std.proofs.Math.Logic.{∥∥₁_map}
 use Rattle.kn_pods.specs.Pods.{StandsFor as ArePodsOf}
-use Rattle.kn_core.specs.State.{ArePartsOf, ArePartsOfSome, PartsState}
-use Rattle.kn_core.specs.Steps.{IsAlone}
+use Rattle.kn_core.specs.State.{PartsState}
 use Rattle.kn_core.proofs.Ends.{nobody_yet}
 use Rattle.kn_core.proofs.Live.{live_there}
-use Rattle.kn_core.specs.Steps.{IsReadyFor}
 use Rattle.kn_core.proofs.After.{some_of_ready}
 use Rattle.kn_core.proofs.Losses.{dead_losses, logged_same, no_losses, nobody_alone, parts_same, ready_losing}
 use Rattle.kn_core.proofs.parts.Parts.lose.Goals as goal

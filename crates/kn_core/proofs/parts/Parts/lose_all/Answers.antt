@@ -1,11 +1,9 @@
-use Rattle.std.proofs.Common.{◌≡◌, ℕ, ◌∙◌, ◌+◌, ◌≤◌, ◌<◌, ◌++◌, refl, sym, ap, subst, List, ◌∷◌, [], length, length-append, arith, Option, Some, None, IfSome, true}
+use Rattle.std.proofs.Common.{◌≡◌, ◌∙◌, refl, sym, ap, subst, ◌∷◌, [], length, length-append, arith, Some, None, true}
 use Rattle.kn_event.specs.declared.entry.Row.TheVariants as row
-use Rattle.kn_event.specs.declared.revision.Spec.{Spec}
-use Rattle.kn_trace.specs.Events.{expiries}
-use Rattle.kn_trace.specs.Trace.{Trace, contains, entry, first_of}
+use Rattle.kn_trace.specs.Trace.{contains, entry, first_of}
 use Rattle.kn_record.specs.declared.admission.Request.{Request}
 use Rattle.kn_record.specs.Admission.{is_at, placed_in}
-use Rattle.kn_record.specs.Views.{due_in, is_due, pod_numbers}
+use Rattle.kn_record.specs.Views.{pod_numbers}
 use Rattle.kn_record.specs.Walks.{losing}
 use Rattle.kn_pods.specs.Pods.{PodsState}
 use Rattle.kn_throttle.specs.State.{State, with_row}

@@ -1,8 +1,3 @@
-use Rattle.std.proofs.Common.{subst, sym}
-use Rattle.kn_event.specs.declared.revision.Spec.{Spec}
-use Rattle.kn_core.specs.State.{PartsState}
-use Rattle.kn_core.specs.Steps.{HasFewPods, IsReadyFor}
-use Rattle.kn_trace.specs.Trace.{Trace, entry}
 use Rattle.kn_core.proofs.Measured.{next_in, next_in_some}
 use Rattle.kn_core.proofs.parts.Parts.measure.Goals as goal
 

@@ -1,8 +1,7 @@
-use Rattle.std.proofs.Common.{◌≡◌, ◌∙◌, ◌++◌, [], refl, sym, ap, subst, arith, List, length}
+use Rattle.std.proofs.Common.{◌∙◌, ◌++◌, sym, ap, subst, arith, List}
 use Rattle.kn_event.specs.declared.entry.Entry.{Entry}
 use Rattle.kn_event.specs.declared.revision.Spec.{Spec}
 use Rattle.kn_trace.specs.Scale.{scale_rows}
-use Rattle.kn_trace.specs.Trace.{Trace}
 use Rattle.kn_record.specs.Made.{StandsFor as IsRecordOf}
 use Rattle.kn_record.specs.Order.{AreTimed}
 use Rattle.kn_pods.specs.Pods.{StandsFor as ArePodsOf}

@@ -1,4 +1,4 @@
-use Rattle.std.proofs.Common.{◌≡◌, ◌∙◌, ◌≤◌, ◌+◌, ◌^◌, ◌++◌, refl, sym, ap, subst, arith, length}
+use Rattle.std.proofs.Common.{◌∙◌, ◌++◌, sym, ap, subst, arith, length}
 use Rattle.std.proofs.Math.Bridge.{le_prop}
 use Rattle.std.proofs.Math.Logic.{∥∥₁_elim, ∥∥₁_map}
 use Rattle.std.proofs.Common.{List}
@@ -7,7 +7,6 @@ use Rattle.kn_event.specs.declared.entry.Entry.{Entry}
 use Rattle.kn_event.specs.declared.revision.Spec.{Spec}
 use Rattle.kn_trace.specs.Events.{act_row, before_settling, departures, entries_of, react, scaler_rows}
 use Rattle.kn_trace.specs.Settling.{settling}
-use Rattle.kn_trace.specs.Trace.{Trace}
 use Rattle.kn_record.specs.Made.{Holds, IsProper}
 use Rattle.kn_record.specs.Order.{AreTimed}
 use Rattle.kn_record.specs.Walks.{gone_after}

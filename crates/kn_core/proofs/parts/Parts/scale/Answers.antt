@@ -1,16 +1,14 @@
-use Rattle.std.proofs.Common.{◌≡◌, ℕ, ◌+◌, ◌^◌, ◌≤◌, ◌++◌, ◌∙◌, refl, sym, ap, subst, arith, List, drop, length, length-append}
+use Rattle.std.proofs.Common.{◌+◌, ◌^◌, ◌≤◌, ◌++◌, ◌∙◌, sym, ap, subst, arith, List, length, length-append}
 use Rattle.std.proofs.Math.Bridge.{le_prop}
 use Rattle.std.proofs.Math.Logic.{∥∥₁_elim, ∥∥₁_map}
 use Rattle.kn_event.specs.declared.entry.Entry.{Entry}
 use Rattle.kn_event.specs.declared.revision.Spec.{Spec}
 use Rattle.kn_trace.specs.Scale.{scale_rows}
-use Rattle.kn_trace.specs.Trace.{Trace}
 use Rattle.kn_record.specs.Admission.{is_draining_now, pods_in}
 use Rattle.kn_record.specs.Made.{StandsFor}
 use Rattle.kn_record.specs.Walks.{stepped_by}
 use Rattle.kn_throttle.specs.State as throttle
 use Rattle.kn_core.specs.Following.{CanFollow}
-use Rattle.kn_core.specs.State.{ArePartsOf, PartsState}
 use Rattle.kn_core.proofs.Lists.{behind}
 use Rattle.kn_core.proofs.Scaled.{made_behind, scale_few, scale_follows, scaler_quiet, stepped_created}
 use Rattle.kn_core.proofs.parts.Parts.scale.Goals as goal

@@ -1,14 +1,13 @@
-use Rattle.std.proofs.Common.{◌≡◌, ◌≤◌, ◌∙◌, sym, ap, subst, arith, List, drop, length, length-append, ◌++◌}
+use Rattle.std.proofs.Common.{◌≡◌, ◌∙◌, sym, ap, subst, arith, List, drop, length, length-append, ◌++◌}
 use Rattle.std.proofs.Math.Bridge.{le_prop}
 use Rattle.std.proofs.Math.Logic.{∥∥₁_elim}
 use Rattle.kn_event.specs.declared.entry.Entry.{Entry}
 use Rattle.kn_event.specs.declared.revision.Spec.{Spec}
 use Rattle.kn_trace.specs.Settling.{settling}
-use Rattle.kn_trace.specs.Trace.{Trace}
-use Rattle.kn_record.specs.Made.{Holds, IsProper, StandsFor}
+use Rattle.kn_record.specs.Made.{StandsFor}
 use Rattle.kn_pods.specs.Pods.{PodsState}
 use Rattle.kn_core.specs.State.{ArePartsOf, IsScalerOf, PartsState}
-use Rattle.kn_core.specs.Scaling.{AreNextIn, AreNextInSome}
+use Rattle.kn_core.specs.Scaling.{AreNextIn}
 use Rattle.kn_core.specs.Steps.{after_removals}
 use Rattle.kn_core.proofs.Created.{removals_created}
 use Rattle.kn_core.proofs.Lists.{behind}

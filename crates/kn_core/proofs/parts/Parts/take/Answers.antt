@@ -1,14 +1,10 @@
-use Rattle.std.proofs.Common.{◌≡◌, ◌∙◌, ◌++◌, ◌∷◌, [], ◌≤◌, ◌+◌, refl, sym, ap, subst, arith, append_assoc, length, Some, List}
+use Rattle.std.proofs.Common.{◌∙◌, ◌++◌, ◌∷◌, [], ◌≤◌, sym, ap, subst, append_assoc, length, Some, List}
 use Rattle.kn_event.specs.declared.entry.Entry.{Entry}
-use Rattle.kn_event.specs.declared.event.Act.{Act}
-use Rattle.kn_event.specs.declared.revision.Spec.{Spec}
 use Rattle.kn_trace.specs.Events.{act_row, entries_of}
-use Rattle.kn_trace.specs.Trace.{Trace, entry, proxied, stand_of}
-use Rattle.kn_record.specs.Made.{StandsFor}
+use Rattle.kn_trace.specs.Trace.{entry}
 use Rattle.kn_laws.specs.Kinds.{IsActRow}
 use Rattle.kn_throttle.specs.State as throttle
-use Rattle.kn_core.specs.State.{ArePartsOf, PartsState}
-use Rattle.kn_core.specs.Steps.{ending_of, woken}
+use Rattle.kn_core.specs.Steps.{woken}
 use Rattle.kn_core.proofs.After.{some_of_ready}
 use Rattle.kn_core.proofs.Created.{took_created}
 use Rattle.kn_core.proofs.Openings.{timed_by_row}
@@ -20,10 +16,10 @@ act-row-requires-clause-some c = some_of_ready (λ s d. entries_of c.args.e.now.
 
 pub hear-requires-clause-next : goal.hear-requires-clause-next
 hear-requires-clause-next c =
-    own_next_some c.append_laws.ensures.views c.part_laws.ensures.rows.act-facts c.args.self.now _ c.args.e.now.time c.in-Some.row c.args.e.now.act c.stand-stand.result c.proxied-proxied.result
+    own_next_some c.append_laws.ensures.views c.part_laws.ensures.rows.act-facts c.args.self.now _ c.args.e.now.time c.in-Some.row c.args.e.now.act c.before_end-stand.result.0 c.before_end-stand.result.1
     c.requires.few c.in-Some.ensures.adds c.in-Some.ensures.row
-    (λ d h. c.stand-stand.ensures.stand d (subst (λ (x : PartsState). StandsFor x.throttle.admission d) (sym c.self.view_is) h) ∙ ap (stand_of d) c.ending-r.ensures)
-    (λ d h. c.proxied-proxied.ensures.proxied d (subst (λ (x : PartsState). StandsFor x.throttle.admission d) (sym c.self.view_is) h) ∙ ap (proxied d) c.ending-r.ensures)
+    (λ s d q h e. c.before_end-stand.ensures.stand s d q h (c.ending.ensures ∙ e))
+    (λ s d q h e. c.before_end-stand.ensures.proxied s d q h (c.ending.ensures ∙ e))
     c.requires.some
 
 pub returns-in-Some-clause-logged : goal.returns-in-Some-clause-logged
@@ -31,11 +27,10 @@ returns-in-Some-clause-logged c = λ s d h proper.
     let t = c.args.e.now.time in
     let a = c.args.e.now.act in
     let is_act = subst (IsActRow a) (c.in-Some.ensures.row s d h) (c.part_laws.ensures.rows.act-facts s d a) in
-    let k = subst (λ (x : PartsState). ArePartsOf s x d) (sym c.self.view_is) h in
-    let next = own_next c.args.self.now _ t c.in-Some.row a c.stand-stand.result c.proxied-proxied.result s d is_act c.in-Some.ensures.adds h proper.0
-    (c.stand-stand.ensures.stand d k.admission ∙ ap (stand_of d) c.ending-r.ensures) (c.proxied-proxied.ensures.proxied d k.admission ∙ ap (proxied d) c.ending-r.ensures) in
+    let next = own_next c.args.self.now _ t c.in-Some.row a c.before_end-stand.result.0 c.before_end-stand.result.1 s d is_act c.in-Some.ensures.adds h proper.0
+    (λ q e. c.before_end-stand.ensures.stand s d q h (c.ending.ensures ∙ e)) (λ q e. c.before_end-stand.ensures.proxied s d q h (c.ending.ensures ∙ e)) in
     c.hear.ensures.logged s d next
-    ∙ ap (λ (es : List Entry). es ++ woken (Some c.in-Some.row) t (d ++ entry t c.in-Some.row ∷ [])) c.put.ensures
+    ∙ ap (λ (es : List Entry). es ++ woken (Some c.in-Some.row) t (d ++ entry t c.in-Some.row ∷ [])) c.in-Some.ensures.logged
     ∙ append_assoc c.args.log.now (entry t c.in-Some.row ∷ []) (woken (Some c.in-Some.row) t (d ++ entry t c.in-Some.row ∷ []))
 
 pub returns-in-Some-clause-stands : goal.returns-in-Some-clause-stands
@@ -43,9 +38,8 @@ returns-in-Some-clause-stands c = λ s d h proper.
     let t = c.args.e.now.time in
     let a = c.args.e.now.act in
     let is_act = subst (IsActRow a) (c.in-Some.ensures.row s d h) (c.part_laws.ensures.rows.act-facts s d a) in
-    let k = subst (λ (x : PartsState). ArePartsOf s x d) (sym c.self.view_is) h in
-    let next = own_next c.args.self.now _ t c.in-Some.row a c.stand-stand.result c.proxied-proxied.result s d is_act c.in-Some.ensures.adds h proper.0
-    (c.stand-stand.ensures.stand d k.admission ∙ ap (stand_of d) c.ending-r.ensures) (c.proxied-proxied.ensures.proxied d k.admission ∙ ap (proxied d) c.ending-r.ensures) in
+    let next = own_next c.args.self.now _ t c.in-Some.row a c.before_end-stand.result.0 c.before_end-stand.result.1 s d is_act c.in-Some.ensures.adds h proper.0
+    (λ q e. c.before_end-stand.ensures.stand s d q h (c.ending.ensures ∙ e)) (λ q e. c.before_end-stand.ensures.proxied s d q h (c.ending.ensures ∙ e)) in
     parts_took c.row_laws.ensures.made c.row_laws.ensures.stands c.append_laws.ensures.append s d t c.in-Some.row c.args.self.now c.act-row.new.self c.hear.new.self proper.0 c.in-Some.ensures.adds
     c.hear.ensures.throttle c.hear.ensures.pods (λ pods. c.hear.ensures.scaler s d is_act.0 pods next) h
 

@@ -1,4 +1,4 @@
-use Rattle.std.proofs.Common.{◌≡◌, ℕ, ◌≤◌, ◌∙◌, ◌++◌, ◌∷◌, [], reverse, refl, sym, ap, subst, arith, length, length-append, Option, Some, None}
+use Rattle.std.proofs.Common.{◌∙◌, ◌++◌, ◌∷◌, [], reverse, refl, sym, ap, subst, arith, length, length-append, Option}
 use Rattle.std.proofs.lemmas.List.{length-reverse}
 use Rattle.std.proofs.Math.Bridge.{le_prop}
 use Rattle.std.proofs.Math.Logic.{∥∥₁_elim, ∥∥₁_map}

@@ -1,12 +1,11 @@
-use Rattle.std.proofs.Common.{◌≡◌, ℕ, ◌≤◌, ◌∙◌, ◌++◌, ◌∷◌, [], reverse, refl, sym, ap, subst, arith, length, length-append, Some, None}
+use Rattle.std.proofs.Common.{reverse, refl, sym, ap, arith, length, length-append}
 use Rattle.std.proofs.lemmas.List.{length-reverse}
 use Rattle.std.proofs.Math.Bridge.{le_prop}
 use Rattle.std.proofs.Math.Logic.{∥∥₁_elim, ∥∥₁_map}
-use Rattle.kn_event.specs.declared.entry.Row.TheVariants as row
 use Rattle.kn_trace.specs.Scale.{drain_order}
 use Rattle.kn_trace.specs.Trace.{ready_pods, starting_pods}
 use Rattle.kn_core.specs.State.{PartsState}
-use Rattle.kn_core.proofs.Ruling.{decides_first, decides_logged, decides_mid, decides_stands, decides_want, wake_decides}
+use Rattle.kn_core.proofs.Ruling.{decides_logged, decides_mid, decides_stands, decides_want, wake_decides}
 use Rattle.kn_core.proofs.parts.Parts.wake.Goals as goal
 
 pub wake-requires-clause-ready : goal.wake-requires-clause-ready
