@@ -54,12 +54,16 @@ pub split_at_lf : (len : ℕ) (hay : List ℕ) → len < length hay → slice_in
 split_at_lf len hay lt is =
     sym (take-append-drop len hay) ∙ ap (λ (m : List ℕ). take len hay ++ m) (drop_more hay len 0 lt ∙ ap (λ (b : ℕ). b ∷ drop (len + 1) hay) is)
 
-pub lines_ahead : (len : ℕ) (hay later : List ℕ) → len < length hay → slice_index hay len ≡ 10 → IsPlain (take len hay)
+pub lines_split : (len : ℕ) (hay later : List ℕ) → hay ≡ take len hay ++ 10 ∷ drop (len + 1) hay → IsPlain (take len hay)
     → lines (hay ++ later) ≡ take len hay ∷ lines (drop (len + 1) hay ++ later)
-lines_ahead len hay later lt is plain =
-    ap (λ (m : List ℕ). lines (m ++ later)) (split_at_lf len hay lt is)
+lines_split len hay later split plain =
+    ap (λ (m : List ℕ). lines (m ++ later)) split
     ∙ ap lines (append_assoc (take len hay) (10 ∷ drop (len + 1) hay) later)
     ∙ lines-plain (take len hay) (drop (len + 1) hay ++ later) plain
+
+pub lines_ahead : (len : ℕ) (hay later : List ℕ) → len < length hay → slice_index hay len ≡ 10 → IsPlain (take len hay)
+    → lines (hay ++ later) ≡ take len hay ∷ lines (drop (len + 1) hay ++ later)
+lines_ahead len hay later lt is plain = lines_split len hay later (split_at_lf len hay lt is) plain
 
 pub not_so : (b : Bool) → ¬ (b ≡ true) → b ≡ false
 not_so true h = absurd (h refl)

@@ -7,10 +7,11 @@ use Rattle.kn_journal.specs.declared.error.JournalError.{JournalError}
 use Rattle.kn_journal.specs.declared.error.JournalError.TheVariants as error
 use Rattle.kn_journal.specs.declared.error.SetupError.TheVariants as setup_error
 use Rattle.kn_journal.specs.Causes.{bad_setup, line_too_long, no_end}
-use Rattle.kn_journal.specs.Lines.{fits, lines}
+use Rattle.kn_journal.specs.Lines.{ends_with_cr, fits, lines}
 use Rattle.kn_journal.specs.Reading.{TakesLine, TakesPart}
 use Rattle.kn_journal.specs.Setup.{block_most, block_part, fits_block, longer, word_in, word_part}
 use Rattle.kn_journal.specs.Telling.{Gives, Judges, Lacks, Refuses, StopsAmid, Tells}
+use Rattle.kn_journal.proofs.Plain.{cr-is-last}
 use Rattle.kn_journal.proofs.Stops.{part-stops}
 use Rattle.kn_journal.proofs.Tellings.{lacks_refuses, line-tells}
 
@@ -87,7 +88,7 @@ block-point first text n m (Some xs) None new line h k fit e is = absurd h
 block-point first text n m (Some xs) (Some ys) None line h k fit e is = absurd k
 block-point first text n m (Some xs) (Some ys) (Some zs) line h k fit e is = so_far first text n xs ys h ∙ rw (k, fit, is, ← e) refl
 
-longer-length : (text line : List ℕ) → length (longer text line) ≡ length text + length line + 1
+pub longer-length : (text line : List ℕ) → length (longer text line) ≡ length text + length line + 1
 longer-length text line = omega (arith, length-append text (line ++ 10 ∷ []), length-append line (10 ∷ []))
 
 -- one line more
@@ -117,3 +118,16 @@ block-long first text n m (Some xs) (Some ys) (Some zs) line h k fit e other lon
     let many : block_most < length (longer text line) = omega (arith, longer-length text line) in
     let none : fits_block (longer text line) ≡ false = grind (arith, common_steps) in
     (bad_setup (n + 1) setup_error.BlockTooLong, ap (λ (x : ℕ). error.BadSetup x setup_error.BlockTooLong) (sym e), so_far first text n xs ys h ∙ rw (k, fit, other, none) refl)
+
+-- a line that ends with CR, so that no line follows
+pub block-cut : (first : ℕ) (text : List ℕ) (n : ℕ) (old mid new : Option (List ℕ)) (line : List ℕ) → IsBlock first text n old mid → TakesLine mid new true line → fits line ≡ true
+    → bytes_eq line (codes ".") ≡ false → length text + length line < block_most → ends_with_cr line ≡ true → Refuses (block_part [] first) error.NoEnd old
+unfolding block_part
+block-cut first text n None mid new line h k fit other short cr = tt
+block-cut first text n (Some xs) None new line h k fit other short cr = absurd h
+block-cut first text n (Some xs) (Some ys) None line h k fit other short cr = absurd k
+block-cut first text n (Some xs) (Some ys) (Some zs) line h k fit other short cr =
+    let few : length (longer text line) ≤ block_most = omega (arith, longer-length text line) in
+    let room : fits_block (longer text line) ≡ true = grind (arith, common_steps) in
+    let last : lines ys ≡ line ∷ [] = k ∙ ap (λ (x : List (List ℕ)). line ∷ x) (cr-is-last ys line (lines zs) k cr) in
+    (no_end, refl, so_far first text n xs ys h ∙ rw (last, fit, other, room) refl)

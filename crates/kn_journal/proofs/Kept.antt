@@ -16,73 +16,9 @@ use Rattle.kn_journal.specs.Setup.{setup_part}
 use Rattle.kn_journal.specs.Journal.{AreEvents, IsJournal, IsSetup, Read, Verdict, end_part, event_in, first_in, first_part, good, in_time, journal_of, next_in, next_part, nothing_part, onward, opening_in, opening_part, or_bad, read_events, start_in, start_line_in, start_of, start_part, then_events, time_most, verdict, verdict_of_lines, verdict_on, version_in, version_of}
 use Rattle.kn_journal.proofs.Aheads.{IsPlain, lines-plain}
 use Rattle.kn_journal.proofs.Consumed.{part-left, setup-takes, then_part-ok, with_line-ok}
+use Rattle.kn_journal.proofs.Plain.{ArePlainButLast, plain-behind, plain-lines}
 use Rattle.kn_journal.proofs.Printed.{AreSpelled}
 use Rattle.kn_journal.proofs.Tellings.{lines-nil}
-
--- ---- lines without LF, of which only the last may end with CR
-
-abbrev HasNoCrLf : List ℕ → Type 0
-HasNoCrLf [] = ⊤
-HasNoCrLf (b ∷ bs) = ((b == 13 && begins_with_lf bs) ≡ false) × HasNoCrLf bs
-
-without_crs-none : (bs : List ℕ) → HasNoCrLf (without_crs bs)
-unfolding without_crs
-without_crs-none [] = tt
-without_crs-none (b ∷ bs) = by_test (b == 13 && begins_with_lf (without_crs bs)) refl (without_crs-none bs)
-  where
-    by_test : (t : Bool) → (b == 13 && begins_with_lf (without_crs bs)) ≡ t → HasNoCrLf (without_crs bs) → HasNoCrLf (cond t (without_crs bs) (b ∷ without_crs bs))
-    by_test true e h = h
-    by_test false e h = (e, h)
-
-abbrev ArePlainButLast : List (List ℕ) → Type 0
-ArePlainButLast [] = ⊤
-ArePlainButLast (l ∷ []) = ⊤
-ArePlainButLast (l ∷ m ∷ ms) = IsPlain l × ArePlainButLast (m ∷ ms)
-
-behind-empty : (ls : List (List ℕ)) → ArePlainButLast ls → ArePlainButLast ([] ∷ ls)
-behind-empty [] h = tt
-behind-empty (m ∷ ms) h = (tt, h)
-
-not_onto : (c : ℕ) (ls rest : List (List ℕ)) → onto_first c ls ≡ [] ∷ rest → ⊥
-not_onto c [] rest h = cc
-not_onto c (l ∷ ls) rest h = cc
-
-empty_first : (bs : List ℕ) (rest : List (List ℕ)) → lines_at_lf bs ≡ [] ∷ rest → begins_with_lf bs ≡ true
-unfolding lines_at_lf
-empty_first [] rest h = cc
-empty_first (c ∷ cs) rest h = by_test (c == 10) refl h
-  where
-    by_test : (t : Bool) → (c == 10) ≡ t → cond t ([] ∷ lines_at_lf cs) (onto_first c (lines_at_lf cs)) ≡ [] ∷ rest → (c == 10) ≡ true
-    by_test true e g = e
-    by_test false e g = absurd (not_onto c (lines_at_lf cs) rest g)
-
-onto-plain : (b : ℕ) (ls : List (List ℕ)) → (b == 10) ≡ false → ((rest : List (List ℕ)) → ls ≡ [] ∷ rest → (b == 13) ≡ false) → ArePlainButLast ls → ArePlainButLast (onto_first b ls)
-onto-plain b [] lf cr h = tt
-onto-plain b (l ∷ []) lf cr h = tt
-onto-plain b ([] ∷ m ∷ ms) lf cr h = ((lf, cr (m ∷ ms) refl), h.1)
-onto-plain b ((c ∷ cs) ∷ m ∷ ms) lf cr h = ((lf, h.0), h.1)
-
-no_cr : (x y : Bool) → (x && y) ≡ false → y ≡ true → x ≡ false
-no_cr false y h e = refl
-no_cr true true h e = h
-no_cr true false h e = sym e
-
-split-plain : (zs : List ℕ) → HasNoCrLf zs → ArePlainButLast (lines_at_lf zs)
-unfolding lines_at_lf
-split-plain [] h = tt
-split-plain (b ∷ bs) h = by_test (b == 10) refl (split-plain bs h.1)
-  where
-    by_test : (t : Bool) → (b == 10) ≡ t → ArePlainButLast (lines_at_lf bs) → ArePlainButLast (cond t ([] ∷ lines_at_lf bs) (onto_first b (lines_at_lf bs)))
-    by_test true e k = behind-empty (lines_at_lf bs) k
-    by_test false e k = onto-plain b (lines_at_lf bs) e (λ rest g. no_cr (b == 13) (begins_with_lf bs) h.0 (empty_first bs rest g)) k
-
-plain-lines : (bytes : List ℕ) → ArePlainButLast (lines bytes)
-unfolding lines
-plain-lines bytes = split-plain (without_crs bytes) (without_crs-none bytes)
-
-plain-behind : (l : List ℕ) (ls : List (List ℕ)) → ArePlainButLast (l ∷ ls) → ArePlainButLast ls
-plain-behind l [] h = tt
-plain-behind l (m ∷ ms) h = h.1
 
 -- lines that others follow are those of their text
 own-lines : (own : List (List ℕ)) (m : List ℕ) (ms : List (List ℕ)) → ArePlainButLast (own ++ m ∷ ms) → lines (text_of own) ≡ own

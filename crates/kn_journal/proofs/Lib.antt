@@ -1,11 +1,17 @@
 pub mod Aheads
 pub mod Blocks
+pub mod Collected
 pub mod Consumed
 pub mod Fronts
 pub mod Kept
 pub mod LineTexts
 pub mod Pieces
+pub mod Plain
 pub mod Printed
+pub mod ReadBack
+pub mod Rests
+pub mod SetupLines
+pub mod SetupRests
 pub mod Settings
 pub mod Setups
 pub mod Stops

@@ -89,7 +89,7 @@ and-right : (a b : Bool) → (a && b) ≡ true → b ≡ true
 and-right true b h = h
 and-right false b h = cc
 
-numeral-digits : (bs : List ℕ) (n : ℕ) → number_of bs ≡ Some n → list_all is_digit bs ≡ true
+pub numeral-digits : (bs : List ℕ) (n : ℕ) → number_of bs ≡ Some n → list_all is_digit bs ≡ true
 unfolding number_of
 numeral-digits bs n h =
     and-left (list_all is_digit bs) (has_no_leading_zero bs) (and-left (is_numeral bs) _ (then_some-true _ _ n h))
@@ -97,7 +97,7 @@ numeral-digits bs n h =
 digit-printable : (b : ℕ) → is_digit b ≡ true → (is_printable b ≡ true) × (is_space b ≡ false)
 digit-printable b h = (grind (arith, common_steps), grind (arith, common_steps))
 
-digits-printable : (bs : List ℕ) → list_all is_digit bs ≡ true → list_all is_printable bs ≡ true
+pub digits-printable : (bs : List ℕ) → list_all is_digit bs ≡ true → list_all is_printable bs ≡ true
 digits-printable [] h = refl
 digits-printable (b ∷ bs) h =
     rw (digit-printable b (and-left (is_digit b) (list_all is_digit bs) h)).0 (digits-printable bs (and-right (is_digit b) (list_all is_digit bs) h))
@@ -165,7 +165,7 @@ not_end spelled version line e h = by_test (bytes_eq line (codes "end")) refl
         absurd (end-refused version e (subst P (same_bytes line (codes "end") g) h))
     by_test false g = refl
 
-in_time-ok : (n last : ℕ) (e : Event) → last ≤ e.time → e.time ≤ time_most → in_time n last (Ok e) ≡ Ok e
+pub in_time-ok : (n last : ℕ) (e : Event) → last ≤ e.time → e.time ≤ time_most → in_time n last (Ok e) ≡ Ok e
 in_time-ok n last e least most =
     let small : nat_le e.time time_most ≡ true = grind (arith, common_steps) in
     let order : nat_le last e.time ≡ true = grind (arith, common_steps) in

@@ -87,16 +87,16 @@ config-stops n config r next mid new h t = subst (λ (x : Result Config ConfigEr
 -- ---- the Revision
 
 -- its block, judged
-abbrev judge_revision : List ℕ → List ℕ → Slots → Config → List ℕ → ℕ → List (List ℕ) → Result (Part Setup) Cause
+abbrev pub judge_revision : List ℕ → List ℕ → Slots → Config → List ℕ → ℕ → List (List ℕ) → Result (Part Setup) Cause
 judge_revision line block slots config text n left = spec_in n left (blocks_text line block text) (spec_of config text slots)
 
-abbrev revision_block : List ℕ → List ℕ → Slots → Config → Unit {0} → ℕ → List (List ℕ) → Result (Part Setup) Cause
+abbrev pub revision_block : List ℕ → List ℕ → Slots → Config → Unit {0} → ℕ → List (List ℕ) → Result (Part Setup) Cause
 revision_block line block slots config u n ls = then_part (block_part [] n ls) (judge_revision line block slots config)
 
-word-own : (word : List ℕ) (n : ℕ) → HasOwn (word_part word n)
+pub word-own : (word : List ℕ) (n : ℕ) → HasOwn (word_part word n)
 word-own word n = λ ls p h. (word ∷ [], word-takes word n ls p h)
 
-block-own : (n : ℕ) → HasOwn (block_part [] n)
+pub block-own : (n : ℕ) → HasOwn (block_part [] n)
 block-own n = λ ls p h. let b = block-takes [] n ls p h in (b.own ++ codes "." ∷ [], b.takes)
 
 pub revision-tells : (line block : List ℕ) (slots : Slots) (config : Config) (n m k : ℕ) (old mid new : Option (List ℕ)) (u : Unit {0}) (text : List ℕ) (r : Result Setup JournalError)
@@ -135,10 +135,10 @@ revision-block_stops line block slots config n m old mid new u w h =
 
 -- ---- the configuration, and then the Revision
 
-abbrev judge_config : List ℕ → Slots → List ℕ → ℕ → List (List ℕ) → Result (Part Setup) Cause
+abbrev pub judge_config : List ℕ → Slots → List ℕ → ℕ → List (List ℕ) → Result (Part Setup) Cause
 judge_config line slots block n ls = config_in n (config_of block) (λ config. revision_part line block slots config n ls)
 
-abbrev config_block : List ℕ → Slots → Unit {0} → ℕ → List (List ℕ) → Result (Part Setup) Cause
+abbrev pub config_block : List ℕ → Slots → Unit {0} → ℕ → List (List ℕ) → Result (Part Setup) Cause
 config_block line slots u n ls = then_part (block_part [] n ls) (judge_config line slots)
 
 pub blocks-tells : (line : List ℕ) (slots : Slots) (n m k j : ℕ) (old mid after new : Option (List ℕ)) (u : Unit {0}) (block : List ℕ) (config : Config) (r : Result Setup JournalError)
@@ -231,7 +231,7 @@ first-one known number line left p h = by_version (known line) refl h
         let parts = part-left version number left p (Ok made) g refl in
         record { all = sym parts.0; any = λ later. rw e (ok_part-same version p.value number p.number later parts.1 parts.2) }
 
-first-own : (known : List ℕ → Option ℕ) (n : ℕ) → HasOwn (first_part known n)
+pub first-own : (known : List ℕ → Option ℕ) (n : ℕ) → HasOwn (first_part known n)
 unfolding first_part
 first-own known n = λ ls p h.
     let has = with_line-ok n ls (first_in known) p h in
@@ -241,10 +241,10 @@ pub first-none : (known : List ℕ → Option ℕ) (n : ℕ) (old new : Option (
 unfolding first_part
 first-none known n old new h = part-stops (first_part known n) old new refl h
 
-abbrev opened : ℕ → Setup → ℕ → List (List ℕ) → Result (Part Opening) Cause
+abbrev pub opened : ℕ → Setup → ℕ → List (List ℕ) → Result (Part Opening) Cause
 opened version setup n left = opening_in version n left setup
 
-abbrev setup_behind : ℕ → ℕ → List (List ℕ) → Result (Part Opening) Cause
+abbrev pub setup_behind : ℕ → ℕ → List (List ℕ) → Result (Part Opening) Cause
 setup_behind version n ls = then_part (setup_part n ls) (opened version)
 
 opened-gives : (version : ℕ) (setup : Setup) (n : ℕ) (new : Option (List ℕ)) → Gives (opened version setup n) (record { version = version; setup = setup }) n new new

@@ -193,7 +193,7 @@ short-fits line h = grind (arith, common_steps)
 not_end : (line : List ℕ) → 6 ≤ length line → bytes_eq line (codes "end") ≡ false
 not_end line h = grind (arith, common_steps)
 
-length-ahead : (len : ℕ) (ahead : List ℕ) → len < length ahead → length (take len ahead) ≡ len
+pub length-ahead : (len : ℕ) (ahead : List ℕ) → len < length ahead → length (take len ahead) ≡ len
 length-ahead len ahead h = grind (arith, common_steps)
 
 pub ahead-event : (version last n number len : ℕ) (ahead : List ℕ) (left : Option (List ℕ)) (e : Event)

@@ -1,5 +1,5 @@
 -- The lines of an input.
-use Rattle.std.specs.Prelude.{ℕ, Bool, false, cond, ◌&&◌, ◌==◌, nat_le, List, [], ◌∷◌, ◌++◌, length}
+use Rattle.std.specs.Prelude.{ℕ, ◌-◌, Bool, false, cond, ◌&&◌, ◌==◌, nat_le, nat_lt, slice_index, List, [], ◌∷◌, ◌++◌, length}
 
 abbrev pub begins_with_lf : List ℕ → Bool
 begins_with_lf [] = false
@@ -32,6 +32,10 @@ line_most = 65536
 
 abbrev pub fits : List ℕ → Bool
 fits line = nat_le (length line) line_most
+
+-- of the lines of an input only the last one may end so, where no LF followed it
+abbrev pub ends_with_cr : List ℕ → Bool
+ends_with_cr line = nat_lt 0 (length line) && (slice_index line (length line - 1) == 13)
 
 -- a text of these lines, each with an LF
 abbrev pub text_of : List (List ℕ) → List ℕ

@@ -1,5 +1,5 @@
 -- A setup: its first line, and for a revision that scales a configuration and a Revision.
-use Rattle.std.specs.Prelude.{ℕ, Bool, ◌+◌, ◌++◌, nat_le, List, [], ◌∷◌, length, Result, Ok, Err, codes, if◌then◌else◌, ⊤}
+use Rattle.std.specs.Prelude.{◌≡◌, ℕ, Bool, ◌+◌, ◌++◌, nat_le, List, [], ◌∷◌, length, Result, Ok, Err, codes, if◌then◌else◌, ⊤}
 use Rattle.std.specs.Str.{bytes_eq}
 use Rattle.kn_event.specs.declared.revision.Slots.{Slots}
 use Rattle.kn_event.specs.declared.revision.Spec.{Spec}
@@ -15,7 +15,7 @@ use Rattle.kn_journal.specs.declared.setting.SetupLine.{SetupLine}
 use Rattle.kn_journal.specs.declared.setting.SetupLine.TheVariants.{Fixed, Kpa}
 use Rattle.kn_journal.specs.declared.journal.Setup.{Setup}
 use Rattle.kn_journal.specs.Causes.{Cause, bad_setup, line_too_long, no_end}
-use Rattle.kn_journal.specs.Lines.{fits}
+use Rattle.kn_journal.specs.Lines.{fits, lines}
 use Rattle.kn_journal.specs.Parts.{Part, part, then_part, with_line}
 use Rattle.kn_journal.specs.SetupLine.{setup_line}
 
@@ -89,3 +89,15 @@ setup_in number line left = behind_line (line ++ 10 ∷ []) (setup_line line) nu
 -- a setup, after line n
 unfoldable pub setup_part : ℕ → List (List ℕ) → Result (Part Setup) Cause
 setup_part n lines = with_line n lines setup_in
+
+-- ---- a text that reads as what it is the text of
+
+-- with a single point behind it, and whatever follows that, it reads as a block
+pub record IsBlockText (text : List ℕ) : Type 0 where
+  pub read : (n : ℕ) (rest : List ℕ) → (m : ℕ) × (block_part [] n (lines (text ++ (codes ".\n" ++ rest))) ≡ Ok (part text m (lines rest)))
+
+-- the setup's text is these bytes, and then what is read as this setup, with nothing left
+pub record ReadsBack (reads : ℕ → List (List ℕ) → Result (Part Setup) Cause) (before : List ℕ) (s : Setup) : Type 0 where
+  pub rest : List ℕ
+  pub text : s.text ≡ before ++ rest
+  pub read : (n : ℕ) → (m : ℕ) × (reads n (lines rest) ≡ Ok (part s m []))

@@ -69,14 +69,35 @@ TakesEnd None new = ⊤
 TakesEnd (Some xs) None = ⊥
 TakesEnd (Some xs) (Some ys) = (mid : List ℕ) × (lines xs ≡ codes "end" ∷ lines mid) × TakesPart (Some mid) (Some ys)
 
+-- why something was refused
+abbrev pub IsCauseOf : {T : Type 0} → JournalError → Result T Cause → Type 0
+IsCauseOf e r = (cause : Cause) × (error_of cause ≡ e) × (r ≡ Err cause)
+
+-- the fault of a line that was read whole
+abbrev pub IsLineFault : JournalError → Type 0
+IsLineFault error.ReadFault = ⊥
+IsLineFault (error.LineTooLong n) = ⊥
+IsLineFault error.NoEnd = ⊥
+IsLineFault error.Memory = ⊥
+IsLineFault _ = ⊤
+
+-- the fault of an event's line
+abbrev pub IsEventFault : JournalError → Type 0
+IsEventFault (error.BadLine n why) = ⊤
+IsEventFault (error.TimeBack n before own) = ⊤
+IsEventFault (error.TimeTooLarge n) = ⊤
+IsEventFault _ = ⊥
+
+-- the lines that were taken are refused so by themselves, and all that came after them is unread
+abbrev pub LeavesRest : {T : Type 0} → (List (List ℕ) → Result (Part T) Cause) → JournalError → Option (List ℕ) → Option (List ℕ) → Type 0
+LeavesRest read e None new = ⊤
+LeavesRest read e (Some xs) None = ⊥
+LeavesRest read e (Some xs) (Some ys) = (own : List (List ℕ)) × (lines xs ≡ own ++ lines ys) × IsCauseOf e (read own)
+
 -- a line by itself, with its number
 abbrev pub Judges : {T : Type 0} → (ℕ → List ℕ → List (List ℕ) → Result (Part T) Cause) → ℕ → List ℕ → Result T JournalError → Type 0
 Judges next n line (Ok x) = (left : List (List ℕ)) → next n line left ≡ Ok (part x n left)
 Judges next n line (Err e) = (cause : Cause) × (error_of cause ≡ e) × ((left : List (List ℕ)) → next n line left ≡ Err cause)
-
--- why something was refused
-abbrev pub IsCauseOf : {T : Type 0} → JournalError → Result T Cause → Type 0
-IsCauseOf e r = (cause : Cause) × (error_of cause ≡ e) × (r ≡ Err cause)
 
 -- after line n no line could be read
 abbrev pub LacksLine : ℕ → JournalError → List (List ℕ) → Type 0

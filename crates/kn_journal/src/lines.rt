@@ -73,6 +73,7 @@ fn read_by_bytes<S: Source>(
     requires { line_most ≤ vec_capacity line.old }
     ensures taken { IfOk result (λ more. TakesLine (unread input.old (S.left source.old)) (unread input.new (S.left source.new)) more line.new.items) }
     ensures fits { OnOk result (length line.new.items ≤ line_most) }
+    ensures no_lf { OnOk result (¬ Contains line.new.items 10) }
     ensures long { result ≡ Err NoLine.TooLong → HasLongLine (unread input.old (S.left source.old)) }
     ensures fault { result ≡ Err NoLine.Fault → Rose (S.Faulty.faults source.old) (S.Faulty.faults source.new) ⊎ (input.new.taken ≡ most_taken) }
 
@@ -117,11 +118,11 @@ fn read_by_bytes<S: Source>(
 }
 
 /// How long the next line is, where its LF is ahead and no CR stands before that. Nothing is taken.
-#[inline(always)]
-pub fn line_ahead(input: &Input) -> Option<usize>
+fn line_ahead(input: &Input) -> Option<usize>
     ensures line { IfSome result (λ len. (later : List ℕ) → lines (input.now.ahead ++ later) ≡ take len input.now.ahead ∷ lines (drop (len + 1) input.now.ahead ++ later)) }
     ensures inside { IfSome result (λ len. len < length input.now.ahead) }
     ensures fits { IfSome result (λ len. len ≤ line_most) }
+    ensures no_lf { IfSome result (λ len. ¬ Contains (take len input.now.ahead) 10) }
     ensures few { IfSome result (λ len. input.now.taken + len < most_taken) }
 {
     let ahead = input.ahead();
@@ -136,11 +137,11 @@ pub fn line_ahead(input: &Input) -> Option<usize>
 }
 
 /// Takes the next line where its LF is ahead and no CR stands before that. Else nothing is taken.
-#[inline(always)]
 fn take_ahead(input: &mut Input, line: &mut Vec<u8>) -> bool
     requires { line_most ≤ vec_capacity line.old }
     ensures line { IsTrue result → ((later : List ℕ) → lines (input.old.ahead ++ later) ≡ line.new.items ∷ lines (input.new.ahead ++ later)) }
     ensures fits { IsTrue result → length line.new.items ≤ line_most }
+    ensures no_lf { IsTrue result → ¬ Contains line.new.items 10 }
     ensures exact { IsTrue result → input.old.taken + length input.old.ahead ≡ input.new.taken + length input.new.ahead }
     ensures count { IsTrue result → input.old.taken + length line.new.items ≤ input.new.taken }
     ensures strict { IsTrue result → input.old.taken < input.new.taken }
@@ -170,6 +171,7 @@ pub fn read_line<S: Source>(
     requires { line_most ≤ vec_capacity line.old }
     ensures taken { IfOk result (λ more. TakesLine (unread input.old (S.left source.old)) (unread input.new (S.left source.new)) more line.new.items) }
     ensures fits { OnOk result (length line.new.items ≤ line_most) }
+    ensures no_lf { OnOk result (¬ Contains line.new.items 10) }
     ensures long { result ≡ Err NoLine.TooLong → HasLongLine (unread input.old (S.left source.old)) }
     ensures fault { result ≡ Err NoLine.Fault → Rose (S.Faulty.faults source.old) (S.Faulty.faults source.new) ⊎ (input.new.taken ≡ most_taken) }
 

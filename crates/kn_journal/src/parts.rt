@@ -5,14 +5,16 @@ ghost use Rattle.kn_event.specs.EventLine.{event_of, IsInJournalRange, IsInVersi
 ghost use Rattle.kn_journal.specs.Causes.{Cause, error_of};
 ghost use Rattle.kn_journal.specs.Lines.{fits, line_most, lines};
 ghost use Rattle.kn_journal.specs.Reading.{Counts, IsBalanced, IsSpent, TakesLine, TakesPart, most_taken, unread};
-ghost use Rattle.kn_journal.specs.Telling.{IsCauseOf, Judges, Lacks, OnEvent, TakesEnd, Tells};
+ghost use Rattle.kn_journal.specs.Telling.{IsCauseOf, IsEventFault, IsLineFault, Judges, Lacks, LeavesRest, OnEvent, TakesEnd, Tells};
 ghost use Rattle.kn_journal.specs.Journal.{first_part, in_time, next_part, nothing_part, start_line_in, start_of, start_part, time_most, version_by};
 
 use crate::error::JournalError;
 use crate::first::{FirstLine, judge_first};
 use crate::input::Input;
-use crate::lines::{NoLine, line_ahead, read_line};
-use kn_event::{Event, LineError, Memory, first_end, last_number, read_event, spellings_are_read};
+use crate::lines::{NoLine, read_line};
+use kn_event::{
+    Event, LineError, Memory, event_ahead, first_end, last_number, read_event, spellings_are_read,
+};
 use kn_io::Source;
 use memchr::memchr;
 use std::alloc::Global;
@@ -138,9 +140,11 @@ impl Lines {
         ensures line { OnOk result (TakesLine (unread self.old.input (S.left source.old)) (unread self.new.input (S.left source.new)) true self.new.line) }
         ensures number { OnOk result (self.new.number ≡ self.old.number + 1) }
         ensures fits { OnOk result (fits self.new.line ≡ true) }
+        ensures no_lf { OnOk result (¬ Contains self.new.line 10) }
         ensures count { OnOk result (self.old.input.taken + length self.new.line ≤ self.new.input.taken) }
         ensures none { IfErr result (λ e. Lacks self.old.number e (unread self.old.input (S.left source.old))) }
         ensures memory { result ≢ Err JournalError.Memory }
+        ensures short { IfErr result (λ e. ¬ IsLineFault e) }
         ensures amid { result ≡ Err JournalError.ReadFault → TakesPart (unread self.old.input (S.left source.old)) (unread self.new.input (S.left source.new)) }
         ensures spent { result ≡ Err JournalError.ReadFault → IsSpent self.new.input }
         ensures ready { Contains self.old.input.ahead 10 → source.new ≡ source.old }
@@ -169,6 +173,7 @@ impl Lines {
         first: FirstLine,
     ) -> Result<u64, JournalError>
         ensures tells { Tells (first_part (version_by first) self.old.number) self.new.number (unread self.old.input (S.left source.old)) (unread self.new.input (S.left source.new)) result }
+        ensures rest { IfErr result (λ e. IsLineFault e → LeavesRest (first_part (version_by first) self.old.number) e (unread self.old.input (S.left source.old)) (unread self.new.input (S.left source.new))) }
         ensures least { IfOk result (λ version. 1 ≤ version) }
         ensures most { IfOk result (λ version. version ≤ 2) }
         ensures amid { result ≡ Err JournalError.ReadFault → TakesPart (unread self.old.input (S.left source.old)) (unread self.new.input (S.left source.new)) }
@@ -189,6 +194,7 @@ impl Lines {
     /// Reads the start, in milliseconds.
     pub fn start<S: Source>(&mut self, source: &mut S) -> Result<u64, JournalError>
         ensures tells { Tells (start_part self.old.number) self.new.number (unread self.old.input (S.left source.old)) (unread self.new.input (S.left source.new)) result }
+        ensures rest { IfErr result (λ e. IsLineFault e → LeavesRest (start_part self.old.number) e (unread self.old.input (S.left source.old)) (unread self.new.input (S.left source.new))) }
         ensures most { IfOk result (λ start. start ≤ time_most) }
         ensures memory { result ≢ Err JournalError.Memory }
         ensures amid { result ≡ Err JournalError.ReadFault → TakesPart (unread self.old.input (S.left source.old)) (unread self.new.input (S.left source.new)) }
@@ -210,6 +216,8 @@ impl Lines {
     /// Reads the end of the input, where no further line may stand.
     pub fn end<S: Source>(&mut self, source: &mut S) -> Result<(), JournalError>
         ensures tells { Tells (nothing_part self.old.number) self.new.number (unread self.old.input (S.left source.old)) (unread self.new.input (S.left source.new)) result }
+        ensures rest { IfErr result (λ e. IsLineFault e → LeavesRest (nothing_part self.old.number) e (unread self.old.input (S.left source.old)) (unread self.new.input (S.left source.new))) }
+        ensures behind { IfErr result (λ e. ¬ IsEventFault e) }
         ensures memory { result ≢ Err JournalError.Memory }
         ensures amid { result ≡ Err JournalError.ReadFault → TakesPart (unread self.old.input (S.left source.old)) (unread self.new.input (S.left source.new)) }
         ensures spent { result ≡ Err JournalError.ReadFault → IsSpent self.new.input }
@@ -229,12 +237,10 @@ impl Lines {
         Ok(())
     }
 
-    /// The next event, at this time or later, and the length of its line, where the line's LF is ahead and no CR stands before
-    /// that. None says nothing.
+    /// The next event, at this time or later, and the length of its line, where the line is a usual one and ahead with its LF.
+    /// None says nothing.
     #[inline(always)]
     fn event_ahead(&self, version: u64, last: u64) -> Option<(Event, usize)>
-        requires least { 1 ≤ version }
-        requires most { version ≤ 2 }
         ensures line { IfSome result (λ p. (later : List ℕ) → lines (self.now.input.ahead ++ later) ≡ take p.1 self.now.input.ahead ∷ lines (drop (p.1 + 1) self.now.input.ahead ++ later)) }
         ensures event { IfSome result (λ p. in_time (self.now.number + 1) last (event_of version (take p.1 self.now.input.ahead)) ≡ Ok p.0) }
         ensures inside { IfSome result (λ p. p.1 < length self.now.input.ahead) }
@@ -246,12 +252,12 @@ impl Lines {
         ensures range { IfSome result (λ p. IsInJournalRange p.0.act) }
         ensures version { IfSome result (λ p. IsInVersion version p.0.act) }
     {
-        let len = line_ahead(&self.input)?;
-        let line = &self.input.ahead()[..len];
-        match judge_event(line, self.number + 1, version, last) {
-            Ok(e) => Some((e, len)),
-            Err(_) => None,
+        spellings_are_read();
+        let (e, len) = event_ahead(self.input.ahead())?;
+        if e.time < last || e.time > TIME_MOST || self.input.may_take() <= len as u64 {
+            return None;
         }
+        Some((e, len))
     }
 
     /// Reads the next event, at this time or later, or `end` and the end of the input.
@@ -264,6 +270,7 @@ impl Lines {
         requires least { 1 ≤ version }
         requires most { version ≤ 2 }
         ensures tells { Tells (next_part version last self.old.number) self.new.number (unread self.old.input (S.left source.old)) (unread self.new.input (S.left source.new)) result }
+        ensures rest { IfErr result (λ e. IsLineFault e → LeavesRest (next_part version last self.old.number) e (unread self.old.input (S.left source.old)) (unread self.new.input (S.left source.new))) }
         ensures order { OnEvent result (λ e. last ≤ e.time) }
         ensures times { OnEvent result (λ e. e.time ≤ time_most) }
         ensures range { OnEvent result (λ e. IsInJournalRange e.act) }
@@ -273,6 +280,7 @@ impl Lines {
         ensures amid { result ≡ Err JournalError.ReadFault → TakesPart (unread self.old.input (S.left source.old)) (unread self.new.input (S.left source.new)) ⊎ TakesEnd (unread self.old.input (S.left source.old)) (unread self.new.input (S.left source.new)) }
         ensures spent { result ≡ Err JournalError.ReadFault → IsSpent self.new.input }
         ensures ready { OnEvent result (λ e. Contains self.old.input.ahead 10 → source.new ≡ source.old) }
+        ensures refused { IfErr result (λ e. IsEventFault e → Contains self.old.input.ahead 10 → source.new ≡ source.old) }
         ensures fault { result ≡ Err JournalError.ReadFault → Rose (S.Faulty.faults source.old) (S.Faulty.faults source.new) ⊎ (self.new.input.taken ≡ most_taken) }
         ensures grows { self.old.input.taken ≤ self.new.input.taken }
         ensures few { self.new.input.taken ≤ most_taken }

@@ -4,11 +4,12 @@ ghost use Rattle.kn_io.specs.Causes.{Rose};
 ghost use Rattle.kn_event.specs.Ranges.{AreSlots};
 ghost use Rattle.kn_config.specs.Config.{IsConfig};
 ghost use Rattle.kn_event.specs.FixedSpec.{fixed_spec};
-ghost use Rattle.kn_journal.specs.Journal.{opening_part, version_by};
-ghost use Rattle.kn_journal.specs.Setup.{behind_line, block_part, blocks_part, blocks_text, revision_part, setup_of, setup_part, word_in, word_part};
+ghost use Rattle.kn_journal.specs.Journal.{IsSetup, opening_part, version_by};
+ghost use Rattle.kn_journal.specs.Setup.{IsBlockText, ReadsBack, behind_line, block_part, blocks_part, blocks_text, revision_part, setup_of, setup_part, word_in, word_part};
+ghost use Rattle.kn_journal.specs.Lines.{ends_with_cr};
 ghost use Rattle.kn_journal.specs.SetupLine.{IsSetupLine};
 ghost use Rattle.kn_journal.specs.Reading.{IsBalanced, IsSpent, TakesPart, most_taken, unread};
-ghost use Rattle.kn_journal.specs.Telling.{Judges, StopsAmid, Tells, config_error, revision_error};
+ghost use Rattle.kn_journal.specs.Telling.{IsLineFault, Judges, LeavesRest, StopsAmid, Tells, config_error, revision_error};
 
 use crate::error::{JournalError, SetupError};
 use crate::first::FirstLine;
@@ -41,6 +42,7 @@ fn judge_word(line: &[u8], number: u64, word: &[u8]) -> Result<(), JournalError>
 /// Reads a line that is just this word.
 fn read_word<S: Source>(lines: &mut Lines, source: &mut S, word: &[u8]) -> Result<(), JournalError>
     ensures tells { Tells (word_part word.now lines.old.number) lines.new.number (unread lines.old.input (S.left source.old)) (unread lines.new.input (S.left source.new)) result }
+    ensures rest { IfErr result (λ e. IsLineFault e → LeavesRest (word_part word.now lines.old.number) e (unread lines.old.input (S.left source.old)) (unread lines.new.input (S.left source.new))) }
     ensures amid { result ≡ Err JournalError.ReadFault → StopsAmid (word_part word.now lines.old.number) (unread lines.old.input (S.left source.old)) (unread lines.new.input (S.left source.new)) }
     ensures spent { result ≡ Err JournalError.ReadFault → IsSpent lines.new.input }
     ensures fault { result ≡ Err JournalError.ReadFault → Rose (S.Faulty.faults source.old) (S.Faulty.faults source.new) ⊎ (lines.new.input.taken ≡ most_taken) }
@@ -55,13 +57,22 @@ fn read_word<S: Source>(lines: &mut Lines, source: &mut S, word: &[u8]) -> Resul
     }
 }
 
+/// Whether the line ends with CR.
+fn ends_with_cr(line: &[u8]) -> bool
+    ensures { result ≡ ends_with_cr line.now }
+{
+    !line.is_empty() && line[line.len() - 1] == b'\r'
+}
+
 /// Reads the lines of a block up to a single point, each with an LF.
 fn read_block<S: Source>(
     alloc: Global,
     lines: &mut Lines,
     source: &mut S,
 ) -> Result<Text, JournalError>
+    ensures kept { IfOk result IsBlockText }
     ensures tells { Tells (block_part [] lines.old.number) lines.new.number (unread lines.old.input (S.left source.old)) (unread lines.new.input (S.left source.new)) result }
+    ensures rest { IfErr result (λ e. IsLineFault e → LeavesRest (block_part [] lines.old.number) e (unread lines.old.input (S.left source.old)) (unread lines.new.input (S.left source.new))) }
     ensures amid { result ≡ Err JournalError.ReadFault → StopsAmid (block_part [] lines.old.number) (unread lines.old.input (S.left source.old)) (unread lines.new.input (S.left source.new)) }
     ensures spent { result ≡ Err JournalError.ReadFault → IsSpent lines.new.input }
     ensures fault { result ≡ Err JournalError.ReadFault → Rose (S.Faulty.faults source.old) (S.Faulty.faults source.new) ⊎ (lines.new.input.taken ≡ most_taken) }
@@ -82,6 +93,10 @@ fn read_block<S: Source>(
         }
         if text.len() + line.len() >= BLOCK_MOST {
             return Err(JournalError::BadSetup(lines.number(), SetupError::BlockTooLong));
+        }
+        // Before an LF no CR is left, so this is the end of the input.
+        if ends_with_cr(line) {
+            return Err(JournalError::NoEnd);
         }
         if text.extend_from_slice(line).is_err() || text.push(b'\n').is_err() {
             return Err(JournalError::Memory);
@@ -173,7 +188,9 @@ fn read_revision<S: Source>(
 ) -> Result<Setup, JournalError>
     requires slots { AreSlots slots }
     requires config { IsConfig config.now }
+    ensures kept { IfOk result (ReadsBack (revision_part line.items block.now slots config.now) (line.items ++ (codes "config\n" ++ (block.now ++ codes ".\n")))) }
     ensures tells { Tells (revision_part line.items block.now slots config.now lines.old.number) lines.new.number (unread lines.old.input (S.left source.old)) (unread lines.new.input (S.left source.new)) result }
+    ensures rest { IfErr result (λ e. IsLineFault e → LeavesRest (revision_part line.items block.now slots config.now lines.old.number) e (unread lines.old.input (S.left source.old)) (unread lines.new.input (S.left source.new))) }
     ensures amid { result ≡ Err JournalError.ReadFault → StopsAmid (revision_part line.items block.now slots config.now lines.old.number) (unread lines.old.input (S.left source.old)) (unread lines.new.input (S.left source.new)) }
     ensures spent { result ≡ Err JournalError.ReadFault → IsSpent lines.new.input }
     ensures fault { result ≡ Err JournalError.ReadFault → Rose (S.Faulty.faults source.old) (S.Faulty.faults source.new) ⊎ (lines.new.input.taken ≡ most_taken) }
@@ -209,7 +226,9 @@ fn read_blocks<S: Source>(
     slots: Slots,
 ) -> Result<Setup, JournalError>
     requires { AreSlots slots }
+    ensures kept { IfOk result (ReadsBack (blocks_part line.items slots) line.items) }
     ensures tells { Tells (blocks_part line.items slots lines.old.number) lines.new.number (unread lines.old.input (S.left source.old)) (unread lines.new.input (S.left source.new)) result }
+    ensures rest { IfErr result (λ e. IsLineFault e → LeavesRest (blocks_part line.items slots lines.old.number) e (unread lines.old.input (S.left source.old)) (unread lines.new.input (S.left source.new))) }
     ensures amid { result ≡ Err JournalError.ReadFault → StopsAmid (blocks_part line.items slots lines.old.number) (unread lines.old.input (S.left source.old)) (unread lines.new.input (S.left source.new)) }
     ensures spent { result ≡ Err JournalError.ReadFault → IsSpent lines.new.input }
     ensures fault { result ≡ Err JournalError.ReadFault → Rose (S.Faulty.faults source.old) (S.Faulty.faults source.new) ⊎ (lines.new.input.taken ≡ most_taken) }
@@ -271,7 +290,9 @@ fn read_behind<S: Source>(
     said: SetupLine,
 ) -> Result<Setup, JournalError>
     requires { IsSetupLine said }
+    ensures kept { IfOk result (ReadsBack (behind_line text.items (Ok said)) text.items) }
     ensures tells { Tells (behind_line text.items (Ok said) lines.old.number) lines.new.number (unread lines.old.input (S.left source.old)) (unread lines.new.input (S.left source.new)) result }
+    ensures rest { IfErr result (λ e. IsLineFault e → LeavesRest (behind_line text.items (Ok said) lines.old.number) e (unread lines.old.input (S.left source.old)) (unread lines.new.input (S.left source.new))) }
     ensures amid { result ≡ Err JournalError.ReadFault → StopsAmid (behind_line text.items (Ok said) lines.old.number) (unread lines.old.input (S.left source.old)) (unread lines.new.input (S.left source.new)) }
     ensures spent { result ≡ Err JournalError.ReadFault → IsSpent lines.new.input }
     ensures fault { result ≡ Err JournalError.ReadFault → Rose (S.Faulty.faults source.old) (S.Faulty.faults source.new) ⊎ (lines.new.input.taken ≡ most_taken) }
@@ -309,7 +330,9 @@ fn read_setup<S: Source>(
     lines: &mut Lines,
     source: &mut S,
 ) -> Result<Setup, JournalError>
+    ensures kept { IfOk result IsSetup }
     ensures tells { Tells (setup_part lines.old.number) lines.new.number (unread lines.old.input (S.left source.old)) (unread lines.new.input (S.left source.new)) result }
+    ensures rest { IfErr result (λ e. IsLineFault e → LeavesRest (setup_part lines.old.number) e (unread lines.old.input (S.left source.old)) (unread lines.new.input (S.left source.new))) }
     ensures amid { result ≡ Err JournalError.ReadFault → StopsAmid (setup_part lines.old.number) (unread lines.old.input (S.left source.old)) (unread lines.new.input (S.left source.new)) }
     ensures spent { result ≡ Err JournalError.ReadFault → IsSpent lines.new.input }
     ensures fault { result ≡ Err JournalError.ReadFault → Rose (S.Faulty.faults source.old) (S.Faulty.faults source.new) ⊎ (lines.new.input.taken ≡ most_taken) }
@@ -339,7 +362,9 @@ pub fn read_opening<S: Source>(
     source: &mut S,
     first: FirstLine,
 ) -> Result<Opening, JournalError>
+    ensures kept { IfOk result (λ opening. IsSetup opening.setup) }
     ensures tells { Tells (opening_part (version_by first) lines.old.number) lines.new.number (unread lines.old.input (S.left source.old)) (unread lines.new.input (S.left source.new)) result }
+    ensures rest { IfErr result (λ e. IsLineFault e → LeavesRest (opening_part (version_by first) lines.old.number) e (unread lines.old.input (S.left source.old)) (unread lines.new.input (S.left source.new))) }
     ensures amid { result ≡ Err JournalError.ReadFault → StopsAmid (opening_part (version_by first) lines.old.number) (unread lines.old.input (S.left source.old)) (unread lines.new.input (S.left source.new)) }
     ensures spent { result ≡ Err JournalError.ReadFault → IsSpent lines.new.input }
     ensures least { IfOk result (λ opening. 1 ≤ opening.version) }

@@ -3,6 +3,7 @@ use Rattle.std.specs.Prelude.{◌==◌}
 use Rattle.std.proofs.lemmas.Grind.{common_steps}
 use Rattle.kn_journal.specs.Reading.{unread}
 use Rattle.kn_journal.proofs.Fronts.{front_begin, front_added, front_lf, front_end, front_long, front_end-long, counts_begin, counts_byte, contains_some, contains_rest, part_begin, part_byte, part_stay}
+use Rattle.kn_journal.proofs.Plain.{no_lf-added, no_lf-crs_after, no_lf-nil}
 use Rattle.kn_journal.proofs.lines.read_by_bytes.Goals as goal
 
 pub loop-init : goal.loop-init
@@ -17,6 +18,7 @@ loop-init g c = record {
   later = grind (arith, common_steps);
   apart = grind (arith, common_steps);
   balance = grind (arith, common_steps);
+  no_lf = rw c.clear.ensures.items no_lf-nil;
   short = grind (arith, common_steps);
   room = grind (arith, common_steps);
 }
@@ -46,6 +48,9 @@ returns-then-not-add_crs-clause-long g c _ =
     let rest = unread c.next.new.self (g.S.Source.left c.next.new.source) in
     let none = rw c.in-Ok-None.field-0-is at c.in-Ok-None.ensures.byte in
     front_end-long whole left rest c.loop.line.items c.loop.crs c.loop.invariant.taken none (grind (arith, common_steps))
+
+pub returns-in-Ok-None-clause-no_lf : goal.returns-in-Ok-None-clause-no_lf
+returns-in-Ok-None-clause-no_lf g c = no_lf-crs_after c.loop.line.items c.add_crs.new.line.items c.loop.crs c.loop.invariant.no_lf (grind (arith, common_steps))
 
 pub returns-in-Ok-None-clause-taken : goal.returns-in-Ok-None-clause-taken
 returns-in-Ok-None-clause-taken g c =
@@ -87,6 +92,7 @@ loop-preserved g c =
       later = grind (arith, common_steps);
       apart = grind (arith, common_steps);
       balance = grind (arith, common_steps);
+      no_lf = no_lf-added c.loop.line.items c.add.new.line.items c.loop.crs c.in-Ok-Some.byte c.loop.invariant.no_lf (grind arith) (λ is. (waits is).1) (λ other. (c.in-Some.ensures.other other).1);
       short = grind (arith, common_steps);
       room = grind (arith, common_steps);
     }

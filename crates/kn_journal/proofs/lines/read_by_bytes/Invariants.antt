@@ -18,6 +18,7 @@ invariant-loop g l = record {
   later : g.S.Faulty.faults l.fn.source ≤ g.S.Faulty.faults l.source;
   apart : g.S.Source.apart l.source ≡ g.S.Source.apart l.fn.source;
   balance : IsBalanced l.fn.input l.input (g.S.Source.given l.fn.source) (g.S.Source.given l.source);
+  no_lf : ¬ Contains l.line.items 10;
   short : vec_len l.line ≤ line_most;
   room : line_most ≤ vec_capacity l.line;
 }

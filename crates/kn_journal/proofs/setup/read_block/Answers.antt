@@ -4,9 +4,24 @@ use Rattle.std.specs.Prelude.{codes}
 use Rattle.std.specs.Str.{bytes_eq}
 use Rattle.std.proofs.lemmas.Grind.{common_steps}
 use Rattle.kn_journal.specs.Reading.{unread}
+use Rattle.kn_journal.specs.Lines.{ends_with_cr}
 use Rattle.kn_journal.specs.Setup.{block_most}
-use Rattle.kn_journal.proofs.Blocks.{block-lacks, block-long, block-more, block-point, block-stops}
+use Rattle.kn_journal.proofs.Blocks.{block-begin, block-cut, block-lacks, block-long, block-more, block-point, block-stops}
+use Rattle.kn_journal.proofs.ReadBack.{keeps-begin, keeps-more, keeps-point}
+use Rattle.kn_journal.proofs.SetupRests.{block-rest}
 use Rattle.kn_journal.proofs.setup.read_block.Goals as goal
+
+pub loop-init : goal.loop-init
+loop-init g c = record {
+  block = rw c.new-text.ensures.items (block-begin c.args.lines.now.number (unread c.args.lines.now.input (g.S.Source.left c.args.source.now)));
+  kept = rw c.new-text.ensures.items keeps-begin;
+  turns = grind (arith, common_steps);
+  short = grind (arith, common_steps);
+  grows = grind (arith, common_steps);
+  balance = grind (arith, common_steps);
+  never_falls = grind (arith, common_steps);
+  apart = grind (arith, common_steps);
+}
 
 pub returns-in-Err-clause-tells : goal.returns-in-Err-clause-tells
 returns-in-Err-clause-tells g c =
@@ -39,10 +54,12 @@ loop-preserved g c =
     let other : bytes_eq c.next_line.new.self.line (codes ".") ≡ false = grind (arith, common_steps) in
     let short : length c.loop.text.items + length c.next_line.new.self.line < block_most = grind (arith, common_steps) in
     let added : c.push.new.self.items ≡ (c.loop.text.items ++ c.next_line.new.self.line) ++ 10 ∷ [] = grind (arith, common_steps) in
+    let cr : ends_with_cr c.next_line.new.self.line ≡ false = grind (arith, common_steps) in
     record {
       block = block-more c.args.lines.now.number c.loop.text.items c.push.new.self.items c.loop.lines.number c.next_line.new.self.number (unread c.args.lines.now.input (g.S.Source.left c.args.source.now))
           (unread c.loop.lines.input (g.S.Source.left c.loop.source)) (unread c.next_line.new.self.input (g.S.Source.left c.next_line.new.source)) c.next_line.new.self.line
           c.loop.invariant.block c.in-Ok.ensures.line c.in-Ok.ensures.fits c.in-Ok.ensures.number other short added;
+      kept = keeps-more c.loop.text.items c.next_line.new.self.line c.push.new.self.items c.loop.invariant.kept c.in-Ok.ensures.no_lf cr c.in-Ok.ensures.fits other short added;
       turns = grind (arith, common_steps);
       short = grind (arith, common_steps);
       grows = grind (arith, common_steps);
@@ -50,3 +67,23 @@ loop-preserved g c =
       never_falls = grind (arith, common_steps);
       apart = grind (arith, common_steps);
     }
+
+pub returns-then-eq-clause-kept : goal.returns-then-eq-clause-kept
+returns-then-eq-clause-kept g c = rw c.new.ensures (keeps-point c.loop.text.items c.loop.invariant.kept)
+
+pub returns-then-ends_with_cr-clause-tells : goal.returns-then-ends_with_cr-clause-tells
+returns-then-ends_with_cr-clause-tells g c =
+    let other : bytes_eq c.next_line.new.self.line (codes ".") ≡ false = grind (arith, common_steps) in
+    let short : length c.loop.text.items + length c.next_line.new.self.line < block_most = grind (arith, common_steps) in
+    let cr : ends_with_cr c.next_line.new.self.line ≡ true = grind (arith, common_steps) in
+    block-cut c.args.lines.now.number c.loop.text.items c.loop.lines.number (unread c.args.lines.now.input (g.S.Source.left c.args.source.now))
+    (unread c.loop.lines.input (g.S.Source.left c.loop.source)) (unread c.next_line.new.self.input (g.S.Source.left c.next_line.new.source)) c.next_line.new.self.line
+    c.loop.invariant.block c.in-Ok.ensures.line c.in-Ok.ensures.fits other short cr
+
+pub returns-then-len-line-ge-BLOCK_MOST-clause-rest : goal.returns-then-len-line-ge-BLOCK_MOST-clause-rest
+returns-then-len-line-ge-BLOCK_MOST-clause-rest g c is =
+    let other : bytes_eq c.next_line.new.self.line (codes ".") ≡ false = grind (arith, common_steps) in
+    let long : block_most ≤ length c.loop.text.items + length c.next_line.new.self.line = grind (arith, common_steps) in
+    block-rest c.args.lines.now.number c.loop.text.items c.loop.lines.number c.number.result (unread c.args.lines.now.input (g.S.Source.left c.args.source.now))
+    (unread c.loop.lines.input (g.S.Source.left c.loop.source)) (unread c.next_line.new.self.input (g.S.Source.left c.next_line.new.source)) c.next_line.new.self.line
+    c.loop.invariant.block c.in-Ok.ensures.line c.in-Ok.ensures.fits (c.number.ensures ∙ c.in-Ok.ensures.number) other long

@@ -3,7 +3,10 @@ use Rattle.std.specs.Prelude.{Ok, Err}
 use Rattle.kn_journal.specs.Reading.{unread}
 use Rattle.kn_config.specs.Config.{config_of}
 use Rattle.kn_journal.specs.Setup.{revision_part}
+use Rattle.kn_journal.specs.Telling.{config_error}
+use Rattle.kn_journal.proofs.ReadBack.{blocks-kept}
 use Rattle.kn_journal.proofs.Setups.{blocks-bad, blocks-block_stops, blocks-no_block, blocks-no_word, blocks-revision_stops, blocks-tells, blocks-word_stops, config-bad}
+use Rattle.kn_journal.proofs.SetupRests.{blocks-block_rest, blocks-config_rest, blocks-word_rest, config-on_rest, config-rest}
 use Rattle.kn_journal.proofs.setup.read_blocks.Goals as goal
 
 pub returns-in-Err-clause-tells : goal.returns-in-Err-clause-tells
@@ -58,3 +61,37 @@ returns-clause-amid g c h =
     (unread c.read_block.new.lines.input (g.S.Source.left c.read_block.new.source)) (unread c.read_revision.new.lines.input (g.S.Source.left c.read_revision.new.source))
     c.in-Ok.field-0 c.in-Ok-read_block.block c.in-Ok-read.config c.in-Ok.ensures.tells c.in-Ok-read_block.ensures.tells (rw c.bytes.ensures at c.in-Ok-read.ensures.gives)
     (c.in-Err-read_revision.ensures.amid cc)
+
+pub returns-in-Ok-read_revision-clause-kept : goal.returns-in-Ok-read_revision-clause-kept
+returns-in-Ok-read_revision-clause-kept g c =
+    blocks-kept c.args.line.items c.in-Ok-read_block.block c.args.slots c.in-Ok-read.config c.in-Ok-read_revision.setup c.in-Ok-read_block.ensures.kept
+    (rw c.bytes.ensures at c.in-Ok-read.ensures.gives) c.in-Ok-read_revision.ensures.kept
+
+pub returns-in-Err-clause-rest : goal.returns-in-Err-clause-rest
+returns-in-Err-clause-rest g c is = blocks-word_rest c.args.line.items c.args.slots c.args.lines.now.number c.in-Err.e (unread c.args.lines.now.input (g.S.Source.left c.args.source.now)) (unread c.read_word.new.lines.input (g.S.Source.left c.read_word.new.source)) (c.in-Err.ensures.rest is)
+
+pub returns-in-Err-read_block-clause-rest : goal.returns-in-Err-read_block-clause-rest
+returns-in-Err-read_block-clause-rest g c is =
+    blocks-block_rest c.args.line.items c.args.slots c.args.lines.now.number c.read_word.new.lines.number c.in-Err-read_block.e (unread c.args.lines.now.input (g.S.Source.left c.args.source.now))
+    (unread c.read_word.new.lines.input (g.S.Source.left c.read_word.new.source)) (unread c.read_block.new.lines.input (g.S.Source.left c.read_block.new.source))
+    c.in-Ok.field-0 c.in-Ok.ensures.tells (c.in-Err-read_block.ensures.rest is)
+
+pub returns-in-Err-read-clause-rest : goal.returns-in-Err-read-clause-rest
+returns-in-Err-read-clause-rest g c =
+    let k = c.read_block.new.lines.number in
+    let after = unread c.read_block.new.lines.input (g.S.Source.left c.read_block.new.source) in
+    let block = c.in-Ok-read_block.block in
+    rw (c.config_error.ensures, c.number.ensures) (λ is. blocks-config_rest c.args.line.items c.args.slots c.args.lines.now.number c.read_word.new.lines.number k (config_error k c.in-Err-read.why) (unread c.args.lines.now.input (g.S.Source.left c.args.source.now))
+    (unread c.read_word.new.lines.input (g.S.Source.left c.read_word.new.source)) after after c.in-Ok.field-0 block c.in-Ok.ensures.tells c.in-Ok-read_block.ensures.tells
+    (config-rest k c.in-Err-read.why (config_of block) (λ ls config. revision_part c.args.line.items block c.args.slots config k ls) after (rw c.bytes.ensures at c.in-Err-read.ensures.gives) is))
+
+pub returns-clause-rest : goal.returns-clause-rest
+returns-clause-rest g c is =
+    let k = c.read_block.new.lines.number in
+    let after = unread c.read_block.new.lines.input (g.S.Source.left c.read_block.new.source) in
+    let new = unread c.read_revision.new.lines.input (g.S.Source.left c.read_revision.new.source) in
+    let block = c.in-Ok-read_block.block in
+    blocks-config_rest c.args.line.items c.args.slots c.args.lines.now.number c.read_word.new.lines.number k c.in-Err-read_revision.e (unread c.args.lines.now.input (g.S.Source.left c.args.source.now))
+    (unread c.read_word.new.lines.input (g.S.Source.left c.read_word.new.source)) after new c.in-Ok.field-0 block c.in-Ok.ensures.tells c.in-Ok-read_block.ensures.tells
+    (config-on_rest k c.in-Err-read_revision.e c.in-Ok-read.config (config_of block) (λ ls config. revision_part c.args.line.items block c.args.slots config k ls) after new
+    (rw c.bytes.ensures at c.in-Ok-read.ensures.gives) (c.in-Err-read_revision.ensures.rest is))

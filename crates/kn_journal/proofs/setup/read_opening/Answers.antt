@@ -2,6 +2,7 @@
 use Rattle.kn_journal.specs.Reading.{unread}
 use Rattle.kn_journal.specs.Journal.{version_by}
 use Rattle.kn_journal.proofs.Setups.{first-none, opening-first_stops, opening-gives, opening-no_first, opening-no_setup, opening-setup_stops}
+use Rattle.kn_journal.proofs.SetupRests.{opening-first_rest, opening-setup_rest}
 use Rattle.kn_journal.proofs.setup.read_opening.Goals as goal
 
 pub returns-in-Err-clause-tells : goal.returns-in-Err-clause-tells
@@ -31,3 +32,12 @@ returns-in-Err-read_setup-clause-amid g c h =
     opening-setup_stops (version_by c.args.first) c.args.lines.now.number c.first.new.self.number c.in-Ok.version
     (unread c.args.lines.now.input (g.S.Source.left c.args.source.now)) (unread c.first.new.self.input (g.S.Source.left c.first.new.source))
     (unread c.read_setup.new.lines.input (g.S.Source.left c.read_setup.new.source)) c.in-Ok.ensures.tells (c.in-Err-read_setup.ensures.amid cc)
+
+pub returns-in-Err-clause-rest : goal.returns-in-Err-clause-rest
+returns-in-Err-clause-rest g c is =
+    opening-first_rest (version_by c.args.first) c.args.lines.now.number c.in-Err.e (unread c.args.lines.now.input (g.S.Source.left c.args.source.now)) (unread c.first.new.self.input (g.S.Source.left c.first.new.source)) (c.in-Err.ensures.rest is)
+
+pub returns-in-Err-read_setup-clause-rest : goal.returns-in-Err-read_setup-clause-rest
+returns-in-Err-read_setup-clause-rest g c is =
+    opening-setup_rest (version_by c.args.first) c.args.lines.now.number c.first.new.self.number c.in-Ok.version c.in-Err-read_setup.e
+    (unread c.args.lines.now.input (g.S.Source.left c.args.source.now)) (unread c.first.new.self.input (g.S.Source.left c.first.new.source)) (unread c.read_setup.new.lines.input (g.S.Source.left c.read_setup.new.source)) c.in-Ok.ensures.tells (c.in-Err-read_setup.ensures.rest is)

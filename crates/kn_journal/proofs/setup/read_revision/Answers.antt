@@ -4,7 +4,9 @@ use Rattle.kn_journal.specs.Reading.{unread}
 use Rattle.kn_journal.specs.Setup.{blocks_text}
 use Rattle.kn_journal.specs.Telling.{revision_error}
 use Rattle.kn_revision.specs.Revision.{spec_of}
+use Rattle.kn_journal.proofs.ReadBack.{revision-kept}
 use Rattle.kn_journal.proofs.Setups.{revision-block_stops, revision-no_block, revision-no_word, revision-tells, revision-word_stops, spec-bad, spec-good}
+use Rattle.kn_journal.proofs.SetupRests.{revision-block_rest, revision-spec_rest, revision-word_rest, spec-rest}
 use Rattle.kn_journal.proofs.setup.read_revision.Goals as goal
 
 pub returns-in-Err-clause-tells : goal.returns-in-Err-clause-tells
@@ -48,3 +50,27 @@ returns-in-Ok-with_blocks-clause-tells g c =
     c.in-Ok.ensures.tells c.in-Ok-read_block.ensures.tells
     (spec-good k (blocks_text c.args.line.items c.args.block.now text) c.in-Ok-resolve.spec (spec_of c.args.config.now text c.args.slots) c.in-Ok-with_blocks.setup new (rw c.bytes.ensures at c.in-Ok-resolve.ensures.gives)
     (rw (c.bytes-2.ensures, c.bytes-3.ensures) at c.in-Ok-with_blocks.ensures.ok))
+
+pub returns-in-Ok-with_blocks-clause-kept : goal.returns-in-Ok-with_blocks-clause-kept
+returns-in-Ok-with_blocks-clause-kept g c =
+    revision-kept c.args.line.items c.args.block.now c.in-Ok-read_block.revision c.args.slots c.args.config.now c.in-Ok-resolve.spec c.in-Ok-with_blocks.setup c.in-Ok-read_block.ensures.kept
+    (rw c.bytes.ensures at c.in-Ok-resolve.ensures.gives) (rw (c.bytes-2.ensures, c.bytes-3.ensures) at c.in-Ok-with_blocks.ensures.ok)
+
+pub returns-in-Err-clause-rest : goal.returns-in-Err-clause-rest
+returns-in-Err-clause-rest g c is =
+    revision-word_rest c.args.line.items c.args.block.now c.args.slots c.args.config.now c.args.lines.now.number c.in-Err.e (unread c.args.lines.now.input (g.S.Source.left c.args.source.now)) (unread c.read_word.new.lines.input (g.S.Source.left c.read_word.new.source)) (c.in-Err.ensures.rest is)
+
+pub returns-in-Err-read_block-clause-rest : goal.returns-in-Err-read_block-clause-rest
+returns-in-Err-read_block-clause-rest g c is =
+    revision-block_rest c.args.line.items c.args.block.now c.args.slots c.args.config.now c.args.lines.now.number c.read_word.new.lines.number c.in-Err-read_block.e (unread c.args.lines.now.input (g.S.Source.left c.args.source.now))
+    (unread c.read_word.new.lines.input (g.S.Source.left c.read_word.new.source)) (unread c.read_block.new.lines.input (g.S.Source.left c.read_block.new.source))
+    c.in-Ok.field-0 c.in-Ok.ensures.tells (c.in-Err-read_block.ensures.rest is)
+
+pub returns-in-Err-resolve-clause-rest : goal.returns-in-Err-resolve-clause-rest
+returns-in-Err-resolve-clause-rest g c =
+    let k = c.read_block.new.lines.number in
+    let new = unread c.read_block.new.lines.input (g.S.Source.left c.read_block.new.source) in
+    let text = c.in-Ok-read_block.revision in
+    rw (c.revision_error.ensures, c.number.ensures) (λ is. revision-spec_rest c.args.line.items c.args.block.now c.args.slots c.args.config.now c.args.lines.now.number c.read_word.new.lines.number k (revision_error k c.in-Err-resolve.why)
+    (unread c.args.lines.now.input (g.S.Source.left c.args.source.now)) (unread c.read_word.new.lines.input (g.S.Source.left c.read_word.new.source)) new c.in-Ok.field-0 text c.in-Ok.ensures.tells c.in-Ok-read_block.ensures.tells
+    (spec-rest k (blocks_text c.args.line.items c.args.block.now text) c.in-Err-resolve.why (spec_of c.args.config.now text c.args.slots) new (rw c.bytes.ensures at c.in-Err-resolve.ensures.gives) is))

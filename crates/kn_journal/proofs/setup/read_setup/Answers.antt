@@ -1,6 +1,8 @@
 -- The setup's first line and what follows it, or where it ended.
 use Rattle.kn_journal.specs.Reading.{unread}
+use Rattle.kn_journal.proofs.ReadBack.{setup-kept_if}
 use Rattle.kn_journal.proofs.Setups.{setup-bad, setup-lacks, setup-none, setup-stops, setup-tells}
+use Rattle.kn_journal.proofs.SetupRests.{setup-bad_rest, setup-rest}
 use Rattle.kn_journal.proofs.setup.read_setup.Goals as goal
 
 pub returns-in-Err-clause-tells : goal.returns-in-Err-clause-tells
@@ -30,3 +32,21 @@ returns-in-Ok-line_text-clause-amid g c h =
     (unread c.next_line.new.self.input (g.S.Source.left c.next_line.new.source)) (unread c.read_behind.new.lines.input (g.S.Source.left c.read_behind.new.source))
     c.next_line.new.self.line c.in-Ok-line_text.text.items c.in-Ok-read_setup_line.said c.in-Ok.ensures.line c.in-Ok.ensures.fits c.in-Ok.ensures.number
     (rw c.line.ensures at c.in-Ok-read_setup_line.ensures.value) (rw c.line-2.ensures at c.in-Ok-line_text.ensures) (c.read_behind.ensures.amid cc)
+
+pub returns-in-Ok-line_text-clause-kept : goal.returns-in-Ok-line_text-clause-kept
+returns-in-Ok-line_text-clause-kept g c =
+    setup-kept_if c.next_line.new.self.line c.in-Ok-line_text.text.items c.in-Ok-read_setup_line.said c.read_behind.result c.in-Ok.ensures.fits
+    (rw c.line.ensures at c.in-Ok-read_setup_line.ensures.value) (rw c.line-2.ensures at c.in-Ok-line_text.ensures) c.read_behind.ensures.kept
+
+pub returns-in-Err-read_setup_line-clause-rest : goal.returns-in-Err-read_setup_line-clause-rest
+returns-in-Err-read_setup_line-clause-rest g c =
+    rw c.number.ensures (λ is. setup-bad_rest c.args.lines.now.number c.next_line.new.self.number (unread c.args.lines.now.input (g.S.Source.left c.args.source.now))
+    (unread c.next_line.new.self.input (g.S.Source.left c.next_line.new.source)) c.next_line.new.self.line c.in-Err-read_setup_line.why
+    c.in-Ok.ensures.line c.in-Ok.ensures.fits c.in-Ok.ensures.number (rw c.line.ensures at c.in-Err-read_setup_line.ensures.value))
+
+pub returns-in-Ok-line_text-clause-rest : goal.returns-in-Ok-line_text-clause-rest
+returns-in-Ok-line_text-clause-rest g c =
+    setup-rest c.args.lines.now.number c.next_line.new.self.number (unread c.args.lines.now.input (g.S.Source.left c.args.source.now))
+    (unread c.next_line.new.self.input (g.S.Source.left c.next_line.new.source)) (unread c.read_behind.new.lines.input (g.S.Source.left c.read_behind.new.source))
+    c.next_line.new.self.line c.in-Ok-line_text.text.items c.in-Ok-read_setup_line.said c.read_behind.result c.in-Ok.ensures.line c.in-Ok.ensures.fits c.in-Ok.ensures.number
+    (rw c.line.ensures at c.in-Ok-read_setup_line.ensures.value) (rw c.line-2.ensures at c.in-Ok-line_text.ensures) c.read_behind.ensures.rest

@@ -3,6 +3,7 @@ use Rattle.std.proofs.Common.{◌≡◌, ◌∙◌, ap}
 use Rattle.kn_journal.specs.Reading.{unread}
 use Rattle.kn_journal.specs.Telling.{LinesState}
 use Rattle.kn_journal.specs.Journal.{version_by}
+use Rattle.kn_journal.proofs.SetupRests.{version-rest}
 use Rattle.kn_journal.proofs.Tellings.{first-refuses, first-tells}
 use Rattle.kn_journal.proofs.parts.Lines.first.Goals as goal
 use Rattle.kn_journal.proofs.parts.Lines.first.Goals.{in-Ok, in-Err}
@@ -18,4 +19,17 @@ returns-clause-tells g c =
           rw w.result-is (first-tells (version_by c.args.first) c.args.self.now.number c.next_line.new.self.number old mid c.next_line.new.self.line w.judge_first.result w.in-Ok.ensures.line w.in-Ok.ensures.fits w.in-Ok.ensures.number
           (rw (line, number) at w.judge_first.ensures.judges))
       | in-Err w ↦ rw w.result-is (first-refuses (version_by c.args.first) c.args.self.now.number w.in-Err.e old w.in-Err.ensures.none)
+    ]
+
+pub returns-clause-rest : goal.returns-clause-rest
+returns-clause-rest g c =
+    let old = unread c.args.self.now.input (g.S.Source.left c.args.source.now) in
+    let mid = unread c.next_line.new.self.input (g.S.Source.left c.next_line.new.source) in
+    elim c.match-next_line.branch [
+      | in-Ok w ↦
+          let line : w.deref.result.now ≡ c.next_line.new.self.line = w.deref.ensures.value ∙ ap (λ (r : LinesState). r.line) c.self.view_is in
+          let number : c.self.inside.number ≡ c.next_line.new.self.number = ap (λ (r : LinesState). r.number) c.self.view_is in
+          rw w.result-is (version-rest (version_by c.args.first) c.args.self.now.number c.next_line.new.self.number old mid c.next_line.new.self.line w.judge_first.result w.in-Ok.ensures.line w.in-Ok.ensures.fits w.in-Ok.ensures.number
+          (rw (line, number) at w.judge_first.ensures.judges))
+      | in-Err w ↦ rw w.result-is (λ is. absurd (w.in-Err.ensures.short is))
     ]

@@ -7,6 +7,7 @@ use Rattle.std.proofs.lemmas.Grind.{common_steps}
 use Rattle.kn_journal.specs.Journal.{next_part}
 use Rattle.kn_journal.specs.Reading.{unread}
 use Rattle.kn_journal.specs.Telling.{LinesState, Tells}
+use Rattle.kn_journal.proofs.Rests.{ended-rest, event-rest}
 use Rattle.kn_journal.proofs.Stops.{end-stops}
 use Rattle.kn_journal.proofs.Tellings.{ahead-event, next-ended, next-event, next-lacks, next-more, next-refused}
 use Rattle.kn_journal.proofs.parts.Lines.next.Goals as goal
@@ -66,3 +67,26 @@ returns-in-Some-clause-tells g c =
     (sym rest)
     (ahead-event c.args.version c.args.last c.args.self.now.number (c.self.inside.number + 1) len c.args.self.now.input.ahead left c.in-Some.e
     c.in-Some.ensures.line c.in-Some.ensures.inside c.in-Some.ensures.fits c.in-Some.ensures.bytes (ap (λ (r : LinesState). r.number + 1) c.self.view_is) c.in-Some.ensures.event)
+
+pub returns-in-Err-end-clause-rest : goal.returns-in-Err-end-clause-rest
+returns-in-Err-end-clause-rest g c is =
+    let line : c.as_slice.result.now ≡ c.next_line.new.self.line = c.as_slice.ensures.value ∙ ap (λ (r : LinesState). r.line) c.self-2.view_is in
+    let ends : bytes_eq c.next_line.new.self.line (codes "end") ≡ true = grind (arith, common_steps, line) in
+    ended-rest c.args.version c.args.last c.args.self.now.number c.next_line.new.self.number (unread c.args.self.now.input (g.S.Source.left c.args.source.now))
+    (unread c.next_line.new.self.input (g.S.Source.left c.next_line.new.source)) (unread c.end.new.self.input (g.S.Source.left c.end.new.source)) c.next_line.new.self.line c.in-Err-end.e
+    c.in-Ok.ensures.line c.in-Ok.ensures.fits c.in-Ok.ensures.number ends (c.in-Err-end.ensures.rest is)
+
+pub returns-clause-rest : goal.returns-clause-rest
+returns-clause-rest g c =
+    let old = unread c.args.self.now.input (g.S.Source.left c.args.source.now) in
+    let mid = unread c.next_line.new.self.input (g.S.Source.left c.next_line.new.source) in
+    let first : c.as_slice.result.now ≡ c.next_line.new.self.line = c.as_slice.ensures.value ∙ ap (λ (r : LinesState). r.line) c.self-2.view_is in
+    let other : bytes_eq c.next_line.new.self.line (codes "end") ≡ false = grind (arith, common_steps, first) in
+    let line : c.deref.result.now ≡ c.next_line.new.self.line = c.deref.ensures.value ∙ ap (λ (r : LinesState). r.line) c.self-2.view_is in
+    let number : c.self-2.inside.number ≡ c.next_line.new.self.number = ap (λ (r : LinesState). r.number) c.self-2.view_is in
+    elim c.match-judge_event.branch [
+      | in-Ok-judge_event w ↦ rw w.result-is tt
+      | in-Err-judge_event w ↦
+          rw w.result-is (λ is. event-rest c.args.version c.args.last c.args.self.now.number c.next_line.new.self.number old mid c.next_line.new.self.line w.in-Err-judge_event.e
+          c.in-Ok.ensures.line c.in-Ok.ensures.fits c.in-Ok.ensures.number other (rw (line, number) at w.in-Err-judge_event.ensures.err))
+    ]

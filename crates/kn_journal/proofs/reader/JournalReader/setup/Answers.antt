@@ -1,7 +1,7 @@
 -- A reader that had not failed read an opening, or stopped in one.
 use Rattle.kn_journal.specs.Journal.{opening_part, version_of}
 use Rattle.kn_journal.specs.Reading.{unread}
-use Rattle.kn_journal.specs.Telling.{Gives, ReaderState, StopsAmid}
+use Rattle.kn_journal.specs.Telling.{Gives, LeavesRest, ReaderState, StopsAmid}
 use Rattle.std.proofs.Common.{subst}
 use Rattle.kn_journal.proofs.reader.JournalReader.setup.Goals as goal
 
@@ -15,3 +15,8 @@ pub returns-in-Err-clause-amid : goal.returns-in-Err-clause-amid
 returns-in-Err-clause-amid g c h k =
     let new = unread c.read_opening.new.lines.input (g.S.Source.left c.read_opening.new.source) in
     subst (λ (r : ReaderState). StopsAmid (opening_part version_of r.number) (unread r.input (g.S.Source.left c.args.source.now)) new) c.self.view_is (c.in-Err.ensures.amid cc)
+
+pub returns-in-Err-clause-rest : goal.returns-in-Err-clause-rest
+returns-in-Err-clause-rest g c h is =
+    let new = unread c.read_opening.new.lines.input (g.S.Source.left c.read_opening.new.source) in
+    subst (λ (r : ReaderState). LeavesRest (opening_part version_of r.number) c.in-Err.e (unread r.input (g.S.Source.left c.args.source.now)) new) c.self.view_is (c.in-Err.ensures.rest is)
