@@ -12,6 +12,7 @@ mod ticks;
 mod wait;
 
 pub use kn_head::Answer;
+pub use laws::server_laws;
 pub use one::{serve_one, serve_read};
 pub use slot::{Served, Slot, Work};
 pub use ticks::{Left, Turn, tick_turn, ticker};

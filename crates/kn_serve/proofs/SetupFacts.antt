@@ -1,6 +1,6 @@
 -- A setup that stands alone, from the two calls that read it.
-use Rattle.std.proofs.Common.{◌≡◌, ◌≤◌, ◌⊎◌, ℕ, List, [], refl, sym, ap, ◌∙◌, subst, arith, inl, inr}
-use Rattle.std.specs.Prelude.{Option, None, Some, Result, Ok, Err, ⊤}
+use Rattle.std.proofs.Common.{◌≡◌, ◌≤◌, ◌⊎◌, ◌+◌, ℕ, List, [], refl, sym, ap, ◌∙◌, subst, arith, inl, inr}
+use Rattle.std.specs.Prelude.{Option, None, Some, Result, Ok, Err, Bool, true, false, cond, ◌==◌, ◌&&◌, ◌∷◌, ◌++◌, if◌then◌else◌, ⊤}
 use Rattle.std.specs.Io.KnownBytes.{prepend_known}
 use Rattle.kn_io.specs.Causes.{Rose}
 use Rattle.kn_journal.specs.declared.error.JournalError.{JournalError}
@@ -8,13 +8,13 @@ use Rattle.kn_journal.specs.declared.error.JournalError.TheVariants as error
 use Rattle.kn_journal.specs.declared.journal.Opening.{Opening}
 use Rattle.kn_journal.specs.declared.journal.Setup.{Setup}
 use Rattle.kn_journal.specs.declared.status.Status.TheVariants as status
-use Rattle.kn_journal.specs.Causes.{Cause}
+use Rattle.kn_journal.specs.Causes.{Cause, after_end, line_too_long}
 use Rattle.kn_journal.specs.Journal.{nothing_part, opening_part, version_of}
-use Rattle.kn_journal.specs.Lines.{lines}
+use Rattle.kn_journal.specs.Lines.{begins_with_lf, fits, lines, lines_at_lf, onto_first, without_crs}
 use Rattle.kn_journal.specs.Parts.{Part, part, then_part}
 use Rattle.kn_journal.specs.Telling.{Gives, Refused, Refuses}
 use Rattle.kn_replay.specs.Replaying.{status_of}
-use Rattle.kn_serve.specs.Setup.{SaysSetup, nothing_behind, setup_alone}
+use Rattle.kn_serve.specs.Setup.{IsReadOut, SaysSetup, nothing_behind, setup_alone}
 
 pub rose_on : (a b d : ℕ) → a ≤ b → Rose b d → Rose a d
 rose_on a b d h k = grind (arith)
@@ -62,6 +62,60 @@ setup_said (Some xs) (Some ys) (Some zs) version setup n m h k =
       read = ap (λ (r : Result (Part Opening) Cause). then_part r nothing_behind) h
           ∙ ap (λ (r : Result (Part ⊤) Cause). then_part r (λ _ m left. Ok (part o m left))) k;
     }
+
+-- ---- bytes without a line are none
+
+some_line : (b : ℕ) (bs : List ℕ) → lines_at_lf (b ∷ bs) ≡ [] → ⊥
+unfolding lines_at_lf
+some_line b bs e = by_test (b == 10) (lines_at_lf bs) e
+  where
+    by_test : (t : Bool) (ls : List (List ℕ)) → cond t ([] ∷ ls) (onto_first b ls) ≡ [] → ⊥
+    by_test true ls e = cc
+    by_test false [] e = cc
+    by_test false (l ∷ ls) e = cc
+
+some_byte : (bs : List ℕ) → begins_with_lf bs ≡ true → bs ≡ [] → ⊥
+some_byte [] t e = cc
+some_byte (b ∷ bs) t e = cc
+
+no_crs : (bs : List ℕ) → without_crs bs ≡ [] → bs ≡ []
+unfolding without_crs
+no_crs [] e = refl
+no_crs (b ∷ bs) e = absurd (by_test (b == 13) (begins_with_lf (without_crs bs)) refl e)
+  where
+    by_test : (t u : Bool) → begins_with_lf (without_crs bs) ≡ u → cond (t && u) (without_crs bs) (b ∷ without_crs bs) ≡ [] → ⊥
+    by_test true true is e = some_byte (without_crs bs) is e
+    by_test true false is e = cc
+    by_test false u is e = cc
+
+no_lines : (bs : List ℕ) → lines bs ≡ [] → bs ≡ []
+unfolding lines
+no_lines bs e = no_crs bs (by_cases (without_crs bs) e)
+  where
+    by_cases : (xs : List ℕ) → lines_at_lf xs ≡ [] → xs ≡ []
+    by_cases [] e = refl
+    by_cases (x ∷ xs) e = absurd (some_line x xs e)
+
+nothing_left : (n m : ℕ) (ls more : List (List ℕ)) → nothing_part n ls ≡ Ok (part tt m more) → more ≡ []
+nothing_left n m [] more e = cc
+nothing_left n m (l ∷ ls) more e = by_test (fits l) e
+  where
+    by_test : (t : Bool) → if t then Err (after_end (n + 1)) else Err (line_too_long (n + 1)) ≡ Ok (part tt m more) → more ≡ []
+    by_test true e = absurd (cc)
+    by_test false e = absurd (cc)
+
+none_of_both : (xs ys : List ℕ) → xs ++ ys ≡ [] → ys ≡ []
+none_of_both [] ys e = e
+none_of_both (x ∷ xs) ys e = absurd (cc)
+
+-- after the end of the input nothing of it is left
+pub read_out : (old mid : Option (List ℕ)) (ahead : List ℕ) (left : Option (List ℕ)) (opening : Opening) (n m : ℕ) → Gives (opening_part version_of 0) opening n old mid
+    → Gives (nothing_part n) tt m mid (prepend_known ahead left) → IsReadOut old left
+read_out None mid ahead left opening n m h k = tt
+read_out (Some xs) None ahead left opening n m h k = absurd h
+read_out (Some xs) (Some ys) ahead None opening n m h k = absurd k
+read_out (Some xs) (Some ys) ahead (Some zs) opening n m h k =
+    ap (λ l. Some l) (none_of_both ahead zs (no_lines (ahead ++ zs) (nothing_left n m (lines ys) (lines (ahead ++ zs)) k)))
 
 -- which status an error makes
 pub fault_of : (e : JournalError) → status_of e ≡ status.ReadFault → e ≡ error.ReadFault

@@ -20,20 +20,20 @@ shut_by_opening words Rises open_error.Failed plan asks h = (h refl, (plan, asks
 shut_by_opening words Rises open_error.Memory plan asks h = tt
 
 -- what more follows from what became of the keeper, and from what stayed as it was
-pub serves_more : (reading : ℕ → Type 0) (count : ℕ) (left held held' : Option (List ℕ)) (Slots Ticker More : Session → Type 0) (result : Status)
-    → ((x : Session) → Ticker x → More x) → Serves reading count left held held' Slots Ticker result → Serves reading count left held held' Slots More result
-serves_more reading count left held held' Slots Ticker More result more s =
-    record { session = s.session; is = s.is; said = s.said; slots_did = s.slots_did; ticker_did = more s.session s.ticker_did; ends = s.ends }
+pub serves_more : (reading : ℕ → Type 0) (count : ℕ) (left left' held held' : Option (List ℕ)) (Slots Ticker More : Session → Type 0) (result : Status)
+    → ((x : Session) → Ticker x → More x) → Serves reading count left left' held held' Slots Ticker result → Serves reading count left left' held held' Slots More result
+serves_more reading count left left' held held' Slots Ticker More result more s =
+    record { session = s.session; is = s.is; said = s.said; whole = s.whole; slots_did = s.slots_did; ticker_did = more s.session s.ticker_did; ends = s.ends }
 
 pub declines_more : (left : Option (List ℕ)) (Same More : Type 0) (result : Status) → (Same → More) → Declines left Same result → Declines left More result
 declines_more left Same More result more d = record { error = d.error; said = d.said; status = d.status; same = more d.same }
 
-pub course_more : (reading : ℕ → Type 0) (count : ℕ) (left held held' : Option (List ℕ)) (Slots Ticker More : Session → Type 0) (Same Still : Type 0) (result : Status)
-    → Declines left Same result ⊎ Serves reading count left held held' Slots Ticker result
+pub course_more : (reading : ℕ → Type 0) (count : ℕ) (left left' held held' : Option (List ℕ)) (Slots Ticker More : Session → Type 0) (Same Still : Type 0) (result : Status)
+    → Declines left Same result ⊎ Serves reading count left left' held held' Slots Ticker result
     → ((x : Session) → Ticker x → More x) → (Same → Still)
-    → Declines left Still result ⊎ Serves reading count left held held' Slots More result
-course_more reading count left held held' Slots Ticker More Same Still result (inl d) more still = inl (declines_more left Same Still result still d)
-course_more reading count left held held' Slots Ticker More Same Still result (inr s) more still = inr (serves_more reading count left held held' Slots Ticker More result more s)
+    → Declines left Still result ⊎ Serves reading count left left' held held' Slots More result
+course_more reading count left left' held held' Slots Ticker More Same Still result (inl d) more still = inl (declines_more left Same Still result still d)
+course_more reading count left left' held held' Slots Ticker More Same Still result (inr s) more still = inr (serves_more reading count left left' held held' Slots Ticker More result more s)
 
 -- what a list is after as long a part of it was written back, which is all
 pub written_back : {A : Type 0} (n : ℕ) (xs ys : List A) → length xs ≡ length ys → n ≡ length ys → take n (xs ++ drop (length xs) ys) ≡ xs

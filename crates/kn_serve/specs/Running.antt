@@ -24,7 +24,7 @@ use Rattle.kn_session.specs.Own.{IsAloneIn, IsArrivalOf}
 use Rattle.kn_session.specs.Session.{IsFine, IsRowOf}
 use Rattle.kn_serve.specs.Ending.{status_by}
 use Rattle.kn_print.specs.Printed.{events_of, printed_journal}
-use Rattle.kn_serve.specs.Setup.{SaysSetup}
+use Rattle.kn_serve.specs.Setup.{IsReadOut, SaysSetup}
 
 -- what a session may be asked for
 pub record IsInRange (plan : Plan) : Type 0 where
@@ -83,12 +83,13 @@ pub record EndsWhole (held held' : Option (List ℕ)) (x : Session) (result : St
 abbrev pub Ends : Option (List ℕ) → Option (List ℕ) → Session → Status → Type 0
 Ends held held' x result = EndsWhole held held' x result ⊎ ((result ≡ status.WriteFault) × AppendsPrefix held held' (journal_text (journal_of x)))
 
--- a session over the setup that the input says, and how it ended. What became of the slots and of the keeper is said by these
+-- a session over the setup that the input says, which was read to its end, and how it ended. What became of the slots and of the keeper is said by these
 -- two of the session
-pub record Serves (reading : ℕ → Type 0) (slots : ℕ) (left held held' : Option (List ℕ)) (SlotsDid TickerDid : Session → Type 0) (result : Status) : Type 0 where
+pub record Serves (reading : ℕ → Type 0) (slots : ℕ) (left left' held held' : Option (List ℕ)) (SlotsDid TickerDid : Session → Type 0) (result : Status) : Type 0 where
   pub session : Session
   pub is : IsSession reading slots session
   pub said : SaysSetup left (Ok session.setup)
+  pub whole : IsReadOut left left'
   pub slots_did : SlotsDid session
   pub ticker_did : TickerDid session
   pub ends : Ends held held' session result

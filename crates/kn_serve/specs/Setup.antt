@@ -1,5 +1,5 @@
 -- A setup that stands alone: a first line, a setup, and then the end of the input.
-use Rattle.std.specs.Prelude.{◌≡◌, ℕ, List, Option, None, Some, Result, Ok, Err, ⊤}
+use Rattle.std.specs.Prelude.{◌≡◌, ℕ, List, [], Option, None, Some, Result, Ok, Err, ⊤}
 use Rattle.kn_journal.specs.declared.error.JournalError.{JournalError}
 use Rattle.kn_journal.specs.declared.journal.Opening.{Opening}
 use Rattle.kn_journal.specs.declared.journal.Setup.{Setup}
@@ -27,3 +27,8 @@ abbrev pub SaysSetup : Option (List ℕ) → Result Setup JournalError → Type 
 SaysSetup None r = ⊤
 SaysSetup (Some xs) (Ok setup) = IsAlone (lines xs) setup
 SaysSetup (Some xs) (Err e) = Refused e (setup_alone (lines xs))
+
+-- where the input was told, nothing of it is left
+abbrev pub IsReadOut : Option (List ℕ) → Option (List ℕ) → Type 0
+IsReadOut None left = ⊤
+IsReadOut (Some xs) left = left ≡ Some []

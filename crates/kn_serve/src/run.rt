@@ -92,12 +92,12 @@ pub fn serve<
     requires count { length slots.old ≡ plan.now.slots }
     requires works { EachIs (λ s. IsEmptyWork s.work) slots.old }
     ensures course { Declines (S.left setup.old) ((slots.new ≡ slots.old) × (keeper.new ≡ keeper.old) × (out.new ≡ out.old)) result
-        ⊎ Serves (K.reading clock.now) (length slots.old) (S.left setup.old) (O.held out.old) (O.held out.new)
+        ⊎ Serves (K.reading clock.now) (length slots.old) (S.left setup.old) (S.left setup.new) (O.held out.old) (O.held out.new)
         (λ x. EachDone (λ i s t. SlotServed (K.reading clock.now) x.setup.spec x.opened plan.now.room plan.now.rounds x.history i
         (sides (C.Source.left s.caller) (C.Sink.kept s.caller) (C.Sink.held s.caller) (C.Faulty.faults s.caller) (L.told s.link) (L.Faulty.faults s.link))
         (sides (C.Source.left t.caller) (C.Sink.kept t.caller) (C.Sink.held t.caller) (C.Faulty.faults t.caller) (L.told t.link) (L.Faulty.faults t.link))
         (slice_index_or x.faults i false) (slice_index_or x.wants i false)) slots.old slots.new)
-        (λ x. TickerServed (K.reading clock.now) x.start x.opened plan.now.room x.history (L.told keeper.old) (L.told keeper.new) × Probed x.history (L.told keeper.old) (L.told keeper.new)) result }
+        (λ x. TickerServed (K.reading clock.now) x.start x.opened plan.now.room x.history (L.told keeper.old) (L.told keeper.new) × Probed x.opened x.history (L.told keeper.old) (L.told keeper.new)) result }
     ensures works { EachIs (λ s. IsEmptyWork s.work) slots.new }
     ensures read_fault { result ≡ Status.ReadFault → Rose (S.Faulty.faults setup.old) (S.Faulty.faults setup.new) ⊎ (S.given setup.old + most_taken ≤ S.given setup.new) }
     ensures write_fault { result ≡ Status.WriteFault → Rose (O.Faulty.faults out.old) (O.Faulty.faults out.new) }
@@ -167,12 +167,12 @@ pub fn serve_run<
     requires count { length slots.old ≡ plan.now.slots }
     requires works { EachIs (λ s. IsEmptyWork s.work) slots.old }
     ensures course { Declines (S.left setup.old) ((slots.new ≡ slots.old) × (keeper.new ≡ keeper.old) × (out.new ≡ out.old)) result
-        ⊎ Serves (K.reading clock.now) (length slots.old) (S.left setup.old) (O.held out.old) (O.held out.new)
+        ⊎ Serves (K.reading clock.now) (length slots.old) (S.left setup.old) (S.left setup.new) (O.held out.old) (O.held out.new)
         (λ x. EachDone (λ i s t. SlotServed (K.reading clock.now) x.setup.spec x.opened plan.now.room plan.now.rounds x.history i
         (sides (C.Source.left s.caller) (C.Sink.kept s.caller) (C.Sink.held s.caller) (C.Faulty.faults s.caller) (L.told s.link) (L.Faulty.faults s.link))
         (sides (C.Source.left t.caller) (C.Sink.kept t.caller) (C.Sink.held t.caller) (C.Faulty.faults t.caller) (L.told t.link) (L.Faulty.faults t.link))
         (slice_index_or x.faults i false) (slice_index_or x.wants i false)) slots.old slots.new)
-        (λ x. TickerServed (K.reading clock.now) x.start x.opened plan.now.room x.history (L.told keeper.old) (L.told keeper.new) × Probed x.history (L.told keeper.old) (L.told keeper.new)) result }
+        (λ x. TickerServed (K.reading clock.now) x.start x.opened plan.now.room x.history (L.told keeper.old) (L.told keeper.new) × Probed x.opened x.history (L.told keeper.old) (L.told keeper.new)) result }
     ensures works { EachIs (λ s. IsEmptyWork s.work) slots.new }
     ensures read_fault { result ≡ Status.ReadFault → Rose (S.Faulty.faults setup.old) (S.Faulty.faults setup.new) ⊎ (S.given setup.old + most_taken ≤ S.given setup.new) }
     ensures write_fault { result ≡ Status.WriteFault → Rose (O.Faulty.faults out.old) (O.Faulty.faults out.new) }

@@ -1,8 +1,8 @@
 //! The setup of a session.
-ghost use Rattle.std.specs.Prelude.{◌≡◌, ◌⊎◌, ◌+◌, ◌≤◌, Err};
+ghost use Rattle.std.specs.Prelude.{◌≡◌, ◌⊎◌, ◌+◌, ◌≤◌, Err, OnOk};
 ghost use Rattle.kn_io.specs.Causes.{Rose};
 ghost use Rattle.kn_journal.specs.Reading.{most_taken};
-ghost use Rattle.kn_serve.specs.Setup.{SaysSetup};
+ghost use Rattle.kn_serve.specs.Setup.{IsReadOut, SaysSetup};
 
 use kn_event::Memory;
 use kn_io::Source;
@@ -12,6 +12,7 @@ use std::alloc::Global;
 /// Reads a setup that stands alone: a journal's lines before its start, and then the end of the input.
 pub fn read_setup<S: Source>(alloc: Global, source: &mut S) -> Result<Setup, JournalError>
     ensures says { SaysSetup (S.left source.old) result }
+    ensures whole { OnOk result (IsReadOut (S.left source.old) (S.left source.new)) }
     ensures fault { result ≡ Err JournalError.ReadFault → Rose (S.Faulty.faults source.old) (S.Faulty.faults source.new) ⊎ (S.given source.old + most_taken ≤ S.given source.new) }
     ensures never_falls { S.Faulty.faults source.old ≤ S.Faulty.faults source.new }
 {

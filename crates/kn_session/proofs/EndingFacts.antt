@@ -1,5 +1,5 @@
 -- What a round that ended so came to.
-use Rattle.std.proofs.Common.{◌≡◌, ◌⊎◌, ◌<◌, inl, inr, ℕ, ◌+◌, ◌-◌, ◌^◌, List, [], ◌∷◌, ◌++◌, Bool, true, false, refl, sym, ap, ◌∙◌, subst, append_assoc, length, length-append, arith}
+use Rattle.std.proofs.Common.{◌≡◌, ◌⊎◌, ◌<◌, ◌≤◌, inl, inr, ℕ, ◌+◌, ◌-◌, ◌^◌, List, [], ◌∷◌, ◌++◌, Bool, true, false, refl, sym, ap, ◌∙◌, subst, append_assoc, length, length-append, arith}
 use Rattle.std.specs.Prelude.{Option, None, Some, Result, Ok, Err, is_ok, min, ◌||◌}
 use Rattle.std.proofs.lemmas.List.{append-nil}
 use Rattle.kn_event.specs.declared.event.Act.TheVariants as act
@@ -11,6 +11,7 @@ use Rattle.kn_cell.specs.declared.past.Full.{Full}
 use Rattle.kn_cell.specs.Lists.{Each}
 use Rattle.kn_cell.specs.History.{live_of, trace_after}
 use Rattle.kn_cell.specs.Shown.{PassView, Misfits}
+use Rattle.kn_io.specs.Causes.{Rose}
 use Rattle.kn_io.specs.Links.{Link}
 use Rattle.kn_io.specs.declared.links.LinkError.{LinkError}
 use Rattle.kn_io.specs.declared.links.LinkError.TheVariants as link
@@ -31,7 +32,7 @@ use Rattle.kn_request.specs.One.{IsRefusal, IsUnread, IsWay, ServesOne, served_b
 use Rattle.kn_session.specs.Laws.{SessionLaws}
 use Rattle.kn_session.specs.Lists.{HasOne}
 use Rattle.kn_session.specs.Own.{Lasts}
-use Rattle.kn_session.specs.Rounds.{HasTexts, IsFullOf, IsRounds, Sides, any_fault, any_memory, is_fault, is_memory}
+use Rattle.kn_session.specs.Rounds.{HasFaulted, HasTexts, IsFullOf, IsRounds, Sides, any_fault, any_memory, is_fault, is_memory}
 use Rattle.kn_session.specs.Session.{IsFine, WasShort}
 use Rattle.kn_session.proofs.Nexts.{next_of}
 use Rattle.kn_session.proofs.ListFacts.{each_both, each_cons, none, one}
@@ -232,4 +233,60 @@ rounds_full laws h x room reading spec tag (s ∷ ss) p q a b e f r has =
           (let k = mis.short c st in let n = laws.need (trace_after p.opening.spec c m.seen) tag in omega (arith, k, n)) in
           record { front = m.seen; early = r.2.then.front; short = subst (λ v. Short v room) e (subst (λ k. Short p.opening k) f short) }
       | inr y ↦ rounds_full laws h x room reading spec (tag + 1) ss m q r.1 b (next.opening ∙ e) (next.room ∙ f) r.3 y
+    ]
+
+-- ---- a fault
+
+rose_until : (a b d : ℕ) → Rose a b → b ≤ d → Rose a d
+rose_until a b d h k = grind (arith)
+
+rose_since : (a b d : ℕ) → a ≤ b → Rose b d → Rose a d
+rose_since a b d h k = grind (arith)
+
+record FallsNot (a b : Sides) : Type 0 where
+  caller : a.faults ≤ b.faults
+  link : a.breaks ≤ b.breaks
+
+rounds_fall_not : (Then : PassView → Type 0) (reading : ℕ → Type 0) (spec : Spec) (tag : ℕ) (ss : List Served) (p q : PassView) (a b : Sides) → IsRounds Then reading spec tag ss p q a b → FallsNot a b
+rounds_fall_not Then reading spec tag [] p q a b r =
+    let e = ap (λ (v : Sides). v.faults) r.1 in
+    let f = ap (λ (v : Sides). v.breaks) r.1 in
+    record { caller = omega (arith, e); link = omega (arith, f) }
+rounds_fall_not Then reading spec tag (s ∷ ss) p q a b r =
+    let here = r.2.causes in
+    let rest = rounds_fall_not Then reading spec (tag + 1) ss r.0 q r.1 b r.3 in
+    let caller = here.caller_never_falls in
+    let caller' = rest.caller in
+    let link = here.link_never_falls in
+    let link' = rest.link in
+    record { caller = omega (arith, caller, caller'); link = omega (arith, link, link') }
+
+fault_is : (s : Served) → is_fault s ≡ true → (s ≡ served.CallerFault) ⊎ (s ≡ served.LinkFault)
+fault_is served.CallerFault e = inl refl
+fault_is served.LinkFault e = inr refl
+fault_is served.Replied e = absurd (cc)
+fault_is (served.Refused a) e = absurd (cc)
+fault_is (served.Full f) e = absurd (cc)
+fault_is served.Memory e = absurd (cc)
+
+either_true : (i j : Bool) → (i || j) ≡ true → (i ≡ true) ⊎ (j ≡ true)
+either_true true j e = inl refl
+either_true false j e = inr e
+
+-- where a round ended in a fault, a count rose
+pub rounds_cause : (Then : PassView → Type 0) (reading : ℕ → Type 0) (spec : Spec) (tag : ℕ) (ss : List Served) (p q : PassView) (a b : Sides) → any_fault ss ≡ true
+    → IsRounds Then reading spec tag ss p q a b → HasFaulted a b
+rounds_cause Then reading spec tag [] p q a b f r = absurd (cc)
+rounds_cause Then reading spec tag (s ∷ ss) p q a b f r =
+    let here = r.2.causes in
+    let rest = rounds_fall_not Then reading spec (tag + 1) ss r.0 q r.1 b r.3 in
+    elim (either_true (is_fault s) (any_fault ss) f) [
+      | inl now ↦ elim (fault_is s now) [
+        | inl e ↦ inl (rose_until a.faults r.1.faults b.faults (here.caller e) rest.caller)
+        | inr e ↦ inr (rose_until a.breaks r.1.breaks b.breaks (here.link e) rest.link)
+      ]
+      | inr later ↦ elim (rounds_cause Then reading spec (tag + 1) ss r.0 q r.1 b later r.3) [
+        | inl x ↦ inl (rose_since a.faults r.1.faults b.faults here.caller_never_falls x)
+        | inr x ↦ inr (rose_since a.breaks r.1.breaks b.breaks here.link_never_falls x)
+      ]
     ]

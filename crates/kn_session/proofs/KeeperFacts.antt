@@ -4,16 +4,21 @@ use Rattle.std.specs.Prelude.{Option, None, Some}
 use Rattle.std.proofs.lemmas.Bool.{cases_lt}
 use Rattle.std.proofs.lemmas.List.{append-nil}
 use Rattle.kn_event.specs.declared.event.Act.TheVariants as act
+use Rattle.kn_trace.specs.Trace.{Trace}
+use Rattle.kn_core.specs.State.{RevisionState, StandsFor}
 use Rattle.kn_cell.specs.declared.past.Past.{Past}
-use Rattle.kn_cell.specs.Lists.{Each}
-use Rattle.kn_cell.specs.History.{rows_by}
+use Rattle.kn_cell.specs.Lists.{Each, StartsWith}
+use Rattle.kn_cell.specs.History.{rows_by, trace_after}
 use Rattle.kn_cell.specs.Shown.{PassView}
 use Rattle.kn_io.specs.Links.{Link, Tells}
 use Rattle.kn_io.specs.declared.records.Probe.{Probe}
 use Rattle.kn_request.specs.declared.ticks.Turn.{Turn}
-use Rattle.kn_request.specs.Ticking.{AreReady, ReadyOf, TakesTurn, TurnsFrom, Turns, probed_all}
-use Rattle.kn_session.specs.Session.{IsFound, IsRowOf, Probed}
+use Rattle.kn_request.specs.Pods.{IsStarting}
+use Rattle.kn_request.specs.Ticking.{AreReady, ReadyOf, TakesTurn, TurnsFrom, Turns, is_probed, probed_all}
+use Rattle.kn_session.specs.Laws.{SessionLaws}
+use Rattle.kn_session.specs.Session.{IsFound, IsPart, IsRowOf, Probed}
 use Rattle.kn_session.proofs.ListFacts.{each_both, each_cons, in_rows, none, one}
+use Rattle.kn_session.proofs.StartFacts.{first_probed}
 
 -- ---- what a link that tells was probed for, step by step
 
@@ -102,12 +107,15 @@ turns_gain reading last (now ∷ nows) p q w w' end t =
       found = each_both (ReadyIn (m.probes ++ rest.probes)) rows rest.rows (each_left_in m.probes rest.probes rows here) (each_right_in m.probes rest.probes rest.rows rest.found);
     }
 
--- each Ready row of the history was found true by a probe that the keeper made
-pub keeper_probed : (reading : ℕ → Type 0) (start : ℕ) (h : List Past) (slots : ℕ) (p q : PassView) (w w' : Option Link) → Turns reading start p q w w' → p.mine ≡ [] → q.mine ≡ rows_by 1 h → Each (IsRowOf slots) h → Probed h w w'
-unfolding ReadyIn
-keeper_probed reading start h slots p q w w' t fresh whole rows =
+-- each Ready row of the history was found true by a probe that the keeper made, and who starts all the while was probed
+pub keeper_probed : SessionLaws → (b : RevisionState) (reading : ℕ → Type 0) (start : ℕ) (h : List Past) (slots : ℕ) (p q : PassView) (w w' : Option Link) → Turns reading start p q w w' → p.mine ≡ [] → p.seen ≡ [] → p.opening ≡ b
+    → IsPart h 1 q → Each (IsRowOf slots) h → Probed b h w w'
+unfolding ReadyIn turns_gain
+keeper_probed laws b reading start h slots p q w w' t fresh unseen opening part rows =
     let g = turns_gain reading start (t.1.first ∷ t.1.nows) p q w w' t.0 t.1.turns in
-    let mine : Each (ReadyIn g.probes) (rows_by 1 h) = subst (Each (ReadyIn g.probes)) (sym (g.mine ∙ ap (λ l. l ++ g.rows) fresh) ∙ whole) g.found in
+    let mine : Each (ReadyIn g.probes) (rows_by 1 h) = subst (Each (ReadyIn g.probes)) (sym (g.mine ∙ ap (λ l. l ++ g.rows) fresh) ∙ part.whole) g.found in
+    let Starting : RevisionState → Type 0 = λ v. (c : Trace) → StandsFor v c → (pod : ℕ) → IsStarting c pod → IsStarting (trace_after v.spec c h) pod → is_probed pod g.probes in
+    let starting : Starting p.opening = first_probed laws reading start h p q w w' (turns_gain reading t.1.turns.0.last t.1.nows t.1.turns.1 q t.1.turns.2 w' t.0 t.1.turns.5).probes t unseen part.front in
     record {
       probes = g.probes;
       told = g.told;
@@ -115,4 +123,5 @@ keeper_probed reading start h slots p q w w' t fresh whole rows =
         | inl a ↦ in_rows (ReadyIn g.probes) 1 h k x at a.0 mine pod e
         | inr s ↦ absurd (elim s.1 [ inl b ↦ (let i = b.1 in cc) | inr b ↦ elim b [ inl d ↦ (let i = d.1 in cc) | inr d ↦ (let i = d.2 in cc) ] ])
       ];
+      starting = subst Starting opening starting;
     }

@@ -1,7 +1,7 @@
 -- The laws of traces, as a session cites them.
 use Rattle.std.proofs.Common.{◌≡◌, ℕ, ◌+◌, ◌++◌, sym, ◌∙◌}
 use Rattle.std.specs.Prelude.{Some}
-use Rattle.std.proofs.Math.Logic.{∥∥₁_elim, ∥∥₁_map}
+use Rattle.std.proofs.Math.Logic.{∥∥₁_elim}
 use native.Mathlib.Nat.{ℕ_set}
 use Rattle.kn_event.specs.declared.event.Act.TheVariants as act
 use Rattle.kn_event.specs.declared.event.Event.{Event}
@@ -9,19 +9,11 @@ use Rattle.kn_event.specs.declared.revision.Spec.{Spec}
 use Rattle.kn_trace.specs.Events.{react, told_of}
 use Rattle.kn_trace.specs.Trace.{Trace, arrivals}
 use Rattle.kn_record.specs.Made.{IsMade}
-use Rattle.kn_laws.specs.History.{IsMadeBy}
 use Rattle.kn_sizes.specs.Told.{IsTold, arrival_told}
-use Rattle.kn_core.specs.State.{RevisionState, StandsFor}
 use Rattle.kn_request.specs.Laws.{Made}
 
 some_is : (a b : ℕ) → Some a ≡ Some b → a ≡ b
 some_is a b e = cc
-
-pub made_of : ((s : Spec) (start clock count : ℕ) (c : Trace) → IsMadeBy s start clock count c → ∥ IsMade s c ∥₁) → (b : RevisionState) (c : Trace) → StandsFor b c → Made b.spec c
-made_of history b c s = history b.spec b.start b.clock b.events c s.events
-
-pub keeps_of : ((s : Spec) (c : Trace) (e : Event) → IsMade s c → IsMade s (c ++ react s c e)) → (s : Spec) (c : Trace) (e : Event) → Made s c → Made s (c ++ react s c e)
-keeps_of step s c e made = ∥∥₁_map made (step s c e)
 
 pub number_of : ((s : Spec) (c : Trace) (e : Event) (tag : ℕ) → IsMade s c → e.act ≡ act.Arrive tag → IsTold s c e)
     → (s : Spec) (c : Trace) (e : Event) (tag r : ℕ) → Made s c → e.act ≡ act.Arrive tag → arrival_told (told_of s c e) ≡ Some r → r ≡ arrivals c

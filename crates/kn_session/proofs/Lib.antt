@@ -4,6 +4,7 @@ mod HandFacts
 mod RoundFacts
 mod Nexts
 mod OwnFacts
+mod StartFacts
 mod KeeperFacts
 mod AloneFacts
 mod EndingFacts

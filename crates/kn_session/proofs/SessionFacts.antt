@@ -1,5 +1,5 @@
 -- From a slot's rounds to the history.
-use Rattle.std.proofs.Common.{◌≡◌, ◌⊎◌, ◌<◌, inl, inr, ℕ, ◌+◌, ◌*◌, List, [], ◌∷◌, length, Bool, false, refl, sym, ap, ◌∙◌, subst, arith}
+use Rattle.std.proofs.Common.{◌≡◌, ◌⊎◌, ◌<◌, inl, inr, ℕ, ◌+◌, ◌*◌, List, [], ◌∷◌, length, Bool, false, true, refl, sym, ap, ◌∙◌, subst, arith}
 use Rattle.std.specs.Prelude.{⊤}
 use mathlib.Core.Option.{some}
 use lib.ListN.{get_elem?}
@@ -14,12 +14,12 @@ use Rattle.kn_session.specs.Laws.{SessionLaws}
 use Rattle.kn_session.specs.Lists.{HasOne}
 use Rattle.kn_session.specs.Own.{IsArrivalOf, IsAloneIn, Lasts, NamesOwn}
 use Rattle.kn_session.specs.Passes.{IsNew}
-use Rattle.kn_session.specs.Rounds.{AllRounds, HasTexts, IsFullOf, IsRounds, OneRound, Sides}
+use Rattle.kn_session.specs.Rounds.{AllRounds, HasFaulted, HasTexts, IsFullOf, IsRounds, OneRound, Sides}
 use Rattle.kn_session.specs.Session.{IsPart, IsSlots, SlotServed, WasShort}
 use Rattle.kn_session.proofs.ListFacts.{each_both, in_rows, none, starts_trans}
 use Rattle.kn_session.proofs.OwnFacts.{has_grown, rounds_own}
 use Rattle.kn_session.proofs.AloneFacts.{alone_part, outcome_part}
-use Rattle.kn_session.proofs.EndingFacts.{rounds_full, rounds_texts}
+use Rattle.kn_session.proofs.EndingFacts.{rounds_cause, rounds_full, rounds_texts}
 use Rattle.kn_session.proofs.Nexts.{rounds_next}
 
 -- what the pass knew after each round holds of the whole history
@@ -41,9 +41,9 @@ rounds_last laws h reading spec tag (s ∷ ss) p q a b front alone r =
 
 slot_of : (reading : ℕ → Type 0) (spec : Spec) (b : RevisionState) (room rounds : ℕ) (h : List Past) (i : ℕ) (p q : PassView) (s0 s1 s2 s3 : Sides) (f2 f3 m2 m3 : Bool)
     → IsNew b room (2 + i) p → (all : AllRounds (Lasts h) reading spec (i * rounds) rounds p q s1 s2 f2 m2) → s1 ≡ s0 → s3 ≡ s2 → f3 ≡ f2 → m3 ≡ m2 → IsPart h (2 + i) q
-    → (f2 ≡ false → HasTexts rounds s1.said s2.said) → (HasOne IsFullOf all.endings → WasShort b room h) → SlotServed reading spec b room rounds h i s0 s3 f3 m3
-slot_of reading spec b room rounds h i p q s0 s1 s2 s3 f2 f3 m2 m3 new all e0 e3 ff fm part texts full =
-    let it : SlotServed reading spec b room rounds h i s1 s2 f2 m2 = record { first = p; last = q; fresh = new; all = all; part = part; texts = texts; full = full } in
+    → (f2 ≡ false → HasTexts rounds s1.said s2.said) → (HasOne IsFullOf all.endings → WasShort b room h) → (f2 ≡ true → HasFaulted s1 s2) → SlotServed reading spec b room rounds h i s0 s3 f3 m3
+slot_of reading spec b room rounds h i p q s0 s1 s2 s3 f2 f3 m2 m3 new all e0 e3 ff fm part texts full cause =
+    let it : SlotServed reading spec b room rounds h i s1 s2 f2 m2 = record { first = p; last = q; fresh = new; all = all; part = part; texts = texts; full = full; cause = cause } in
     rw (← e0, e3, ff, fm) it
 
 pub slot_served : SessionLaws → (reading : ℕ → Type 0) (spec : Spec) (b : RevisionState) (room rounds : ℕ) (h : List Past) (i : ℕ) (p q : PassView) (s0 s1 s2 s3 : Sides) (f2 f3 m2 m3 : Bool)
@@ -62,6 +62,7 @@ slot_served laws reading spec b room rounds h i p q s0 s1 s2 s3 f2 f3 m2 m3 alon
     slot_of reading spec b room rounds h i p q s0 s1 s2 s3 f2 f3 m2 m3 new whole e0 e3 ff fm part
     (λ e. subst (λ n. HasTexts n s1.said s2.said) all.all (rounds_texts (λ _. ⊤) reading spec (i * rounds) all.endings p q s1 s2 (sym all.faulty ∙ e) all.rounds))
     (rounds_full laws h b room reading spec (i * rounds) all.endings p q s1 s2 new.opening new.roomy whole.rounds)
+    (λ e. rounds_cause (λ _. ⊤) reading spec (i * rounds) all.endings p q s1 s2 (sym all.faulty ∙ e) all.rounds)
 
 -- a first pass that did nothing has no row
 pub first_has_none : (h : List Past) (slots k : ℕ) (x : Past) → get_elem? h k ≡ some x → rows_by 0 h ≡ [] → x.pass ≡ 0 → (x.pass ≡ 1) ⊎ IsSlots slots x

@@ -9,6 +9,7 @@ use Rattle.kn_trace.specs.Trace.{Trace, arrivals}
 use Rattle.kn_sizes.specs.Told.{arrival_told}
 use Rattle.kn_core.specs.State.{RevisionState, StandsFor}
 use Rattle.kn_request.specs.Laws.{Made}
+use Rattle.kn_request.specs.Pods.{PodLaws}
 
 pub record SessionLaws : Type 0 where
   pub made : (b : RevisionState) (c : Trace) → StandsFor b c → Made b.spec c
@@ -18,3 +19,4 @@ pub record SessionLaws : Type 0 where
   pub grows : (s : Spec) (c : Trace) (e : Event) → arrivals c ≤ arrivals (c ++ react s c e)
   pub outcome : (s : Spec) (c : Trace) (e : Event) (r : ℕ) (o : Outcome) → outcome_of c r ≡ Some o → outcome_of (c ++ react s c e) r ≡ Some o
   pub need : (c : Trace) (tag : ℕ) → need_of c (act.Arrive tag) ≡ 2
+  pub pods : PodLaws

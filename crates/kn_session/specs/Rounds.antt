@@ -4,6 +4,7 @@ use Rattle.kn_event.specs.declared.revision.Spec.{Spec}
 use Rattle.kn_cell.specs.declared.past.Full.{Full}
 use Rattle.kn_cell.specs.Shown.{PassView, Looks}
 use Rattle.kn_io.specs.Callers.{texts_of}
+use Rattle.kn_io.specs.Causes.{Rose}
 use Rattle.kn_io.specs.Links.{Link}
 use Rattle.kn_request.specs.declared.slot.Served.{Served}
 use Rattle.kn_request.specs.declared.slot.Served.TheVariants as served
@@ -46,6 +47,10 @@ IsFullOf s = (f : Full) × (s ≡ served.Full f)
 -- where the caller tells its texts, they grew by so many
 abbrev pub HasTexts : ℕ → Option Said → Option Said → Type 0
 HasTexts n from to = (a : Said) → from ≡ Some a → (b : Said) × (to ≡ Some b) × ((new : List (List ℕ)) × (length new ≡ n) × (texts_of b.kept b.text ≡ texts_of a.kept a.text ++ new))
+
+-- the caller's count of faults rose, or the link's
+abbrev pub HasFaulted : Sides → Sides → Type 0
+HasFaulted a b = Rose a.faults b.faults ⊎ Rose a.breaks b.breaks
 
 -- one round: one request was served, and what the pass knows then is as it should be
 pub record OneRound (Then : PassView → Type 0) (reading : ℕ → Type 0) (spec : Spec) (tag : ℕ) (p q : PassView) (a b : Sides) (s : Served) : Type 0 where

@@ -11,11 +11,12 @@ use Rattle.kn_cell.specs.History.{clock_after, live_of, rows_by, trace_after}
 use Rattle.kn_cell.specs.Shown.{PassView}
 use Rattle.kn_io.specs.Links.{Link, Tells}
 use Rattle.kn_io.specs.declared.records.Probe.{Probe}
-use Rattle.kn_request.specs.Ticking.{Turns, probed_all}
+use Rattle.kn_request.specs.Pods.{IsStarting}
+use Rattle.kn_request.specs.Ticking.{TicksApart, Turns, is_probed, probed_all}
 use Rattle.kn_session.specs.Lists.{HasOne}
 use Rattle.kn_session.specs.Own.{Lasts}
 use Rattle.kn_session.specs.Passes.{IsNew}
-use Rattle.kn_session.specs.Rounds.{AllRounds, HasTexts, IsFullOf, Sides}
+use Rattle.kn_session.specs.Rounds.{AllRounds, HasFaulted, HasTexts, IsFullOf, Sides}
 
 -- the pass has this number, what it saw is a beginning of the history, and what it did is what the history has of it
 pub record IsPart (h : List Past) (number : ℕ) (q : PassView) : Type 0 where
@@ -52,13 +53,16 @@ pub record SlotServed (reading : ℕ → Type 0) (spec : Spec) (b : RevisionStat
   -- where none ended in a fault, each round wrote one text more
   pub texts : fault ≡ false → HasTexts rounds from.said to.said
   pub full : HasOne IsFullOf all.endings → WasShort b room h
+  -- where one ended in a fault, the slot's own count rose
+  pub cause : fault ≡ true → HasFaulted from to
 
--- the ticker made its turns, by a new pass of its own
+-- the ticker made its turns, by a new pass of its own. The readings of its Ticks are 2,000 apart, and as far above the start
 pub record TickerServed (reading : ℕ → Type 0) (start : ℕ) (b : RevisionState) (room : ℕ) (h : List Past) (wire wire' : Option Link) : Type 0 where
   pub first : PassView
   pub last : PassView
   pub fresh : IsNew b room 1 first
   pub turns : Turns reading start first last wire wire'
+  pub apart : TicksApart reading start first last
   pub part : IsPart h 1 last
 
 -- what a ticker does
@@ -81,8 +85,10 @@ IsRowOf slots x = ((x.pass ≡ 1) × IsTicking x.event.act) ⊎ (IsSlots slots x
 abbrev pub IsFound : List Probe → ℕ → Type 0
 IsFound probes pod = HasOne (λ (x : Probe). (x.pod ≡ pod) × (x.answer ≡ Some true)) probes
 
--- what the keeper tells grew by some probes and by nothing else, and each pod that a row of the history says is Ready was found there by one of them
-pub record Probed (h : List Past) (wire wire' : Option Link) : Type 0 where
+-- what the keeper tells grew by some probes and by nothing else. Each pod that a row of the history says is Ready was found
+-- there by one of them, and each pod that starts at the opening and after the whole history was probed
+pub record Probed (b : RevisionState) (h : List Past) (wire wire' : Option Link) : Type 0 where
   pub probes : List Probe
   pub told : Tells wire wire' (probed_all probes)
   pub found : Each (λ x. (pod : ℕ) → x.event.act ≡ act.Ready pod → IsFound probes pod) h
+  pub starting : (c : Trace) → StandsFor b c → (pod : ℕ) → IsStarting c pod → IsStarting (trace_after b.spec c h) pod → is_probed pod probes

@@ -1,7 +1,7 @@
 //! The slots beside each other in threads, and the ticker beside them.
 ghost use Rattle.std.specs.Prelude.{◌≡◌, ◌≤◌, ◌<◌, ◌*◌, ℕ, length, Some, ⊤};
 ghost use Rattle.kn_cell.specs.Shown.{PassView};
-ghost use Rattle.kn_request.specs.Ticking.{Turns};
+ghost use Rattle.kn_request.specs.Ticking.{TicksApart, Turns};
 ghost use Rattle.kn_session.specs.Lists.{EachDone, EachIs};
 ghost use Rattle.kn_session.specs.Passes.{HasPass};
 ghost use Rattle.kn_session.specs.Rounds.{AllRounds, sides};
@@ -127,7 +127,7 @@ pub struct Watch {
 impl<'a, L: PodLink, K: Clock, G> Attend<Shared<'a, K, G>, L> for Watch {
     ghost may = { λ x s. (p : PassView) × (s.pass ≡ Some p) × (p.cell ≡ x.cell.now) };
 
-    ghost did = { λ x s t k l. (p : PassView) → s.pass ≡ Some p → (q : PassView) × (t.pass ≡ Some q) × Turns (K.reading x.clock.now) x.start p q (L.told k) (L.told l) × (L.Faulty.faults k ≤ L.Faulty.faults l) };
+    ghost did = { λ x s t k l. (p : PassView) → s.pass ≡ Some p → (q : PassView) × (t.pass ≡ Some q) × Turns (K.reading x.clock.now) x.start p q (L.told k) (L.told l) × TicksApart (K.reading x.clock.now) x.start p q × (L.Faulty.faults k ≤ L.Faulty.faults l) };
 
     fn attend<R: Wait>(&mut self, rt: &R, shared: &Shared<'a, K, G>, keeper: &mut L) {
         match self.pass.take() {
@@ -166,6 +166,7 @@ pub fn serve_beside<
         (sides (C.Source.left s.caller) (C.Sink.kept s.caller) (C.Sink.held s.caller) (C.Faulty.faults s.caller) (L.told s.link) (L.Faulty.faults s.link))
         (sides (C.Source.left t.caller) (C.Sink.kept t.caller) (C.Sink.held t.caller) (C.Faulty.faults t.caller) (L.told t.link) (L.Faulty.faults t.link)) t.work.fault t.work.memory) slots.old slots.new }
     ensures ticker { Turns (K.reading shared.now.clock.now) shared.now.start pass result (L.told keeper.old) (L.told keeper.new) }
+    ensures apart { TicksApart (K.reading shared.now.clock.now) shared.now.start pass result }
     ensures never_falls { L.Faulty.faults keeper.old ≤ L.Faulty.faults keeper.new }
 {
     let mut watch = Watch { pass: Some(pass) };

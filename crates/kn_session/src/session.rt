@@ -90,7 +90,7 @@ pub fn serve_session<
         (sides (C.Source.left s.caller) (C.Sink.kept s.caller) (C.Sink.held s.caller) (C.Faulty.faults s.caller) (L.told s.link) (L.Faulty.faults s.link))
         (sides (C.Source.left t.caller) (C.Sink.kept t.caller) (C.Sink.held t.caller) (C.Faulty.faults t.caller) (L.told t.link) (L.Faulty.faults t.link)) t.work.fault t.work.memory) slots.old slots.new) }
     ensures ticker { IfOk result (λ r. TickerServed (K.reading clock.now) start revision room r.1 (L.told keeper.old) (L.told keeper.new)) }
-    ensures probes { IfOk result (λ r. Probed r.1 (L.told keeper.old) (L.told keeper.new)) }
+    ensures probes { IfOk result (λ r. Probed revision r.1 (L.told keeper.old) (L.told keeper.new)) }
     ensures keeper { IfOk result (λ r. L.Faulty.faults keeper.old ≤ L.Faulty.faults keeper.new) }
     ensures alone { IfOk result (λ r. (n i : ℕ) → HasOne (IsArrivalOf i) (rows_by n r.1) → IsAloneIn r.1 n i) }
     ensures rows { IfOk result (λ r. Each (IsRowOf (length slots.old)) r.1) }

@@ -49,6 +49,7 @@ returns-in-Ok-print_journal-clause-course g c =
       session = x;
       is = is;
       said = c.in-Ok.ensures.says;
+      whole = c.in-Ok.ensures.whole;
       slots_did = cleared (λ i a b f w. SlotServed reading c.in-Ok.read.spec c.in-Ok-open_revision.revision c.args.plan.now.room c.args.plan.now.rounds h i a b f w)
           (λ (a : g.row.C.Denot) (l : g.row.L.Denot). sides (g.C.Source.left a) (g.C.Sink.kept a) (g.C.Sink.held a) (g.C.Faulty.faults a) (g.L.PodLink.told l) (g.L.Faulty.faults l))
           c.args.slots.now ts c.clear.new.slots c.in-Ok-serve_session.ensures.slots c.clear.ensures;
@@ -85,6 +86,7 @@ returns-clause-course g c =
       session = x;
       is = is;
       said = c.in-Ok.ensures.says;
+      whole = c.in-Ok.ensures.whole;
       slots_did = cleared (λ i a b f w. SlotServed reading c.in-Ok.read.spec c.in-Ok-open_revision.revision c.args.plan.now.room c.args.plan.now.rounds h i a b f w)
           (λ (a : g.row.C.Denot) (l : g.row.L.Denot). sides (g.C.Source.left a) (g.C.Sink.kept a) (g.C.Sink.held a) (g.C.Faulty.faults a) (g.L.PodLink.told l) (g.L.Faulty.faults l))
           c.args.slots.now ts c.clear.new.slots c.in-Ok-serve_session.ensures.slots c.clear.ensures;

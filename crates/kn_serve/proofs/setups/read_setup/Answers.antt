@@ -6,7 +6,7 @@ use Rattle.kn_journal.specs.declared.journal.Opening.{Opening}
 use Rattle.kn_journal.specs.Journal.{nothing_part, opening_part, version_of}
 use Rattle.kn_journal.specs.Reading.{unread}
 use Rattle.kn_journal.specs.Telling.{Gives, Refuses}
-use Rattle.kn_serve.proofs.SetupFacts.{either, rose_on, nothing_ahead, memory_said, opening_refused, end_refused, setup_said}
+use Rattle.kn_serve.proofs.SetupFacts.{either, rose_on, nothing_ahead, memory_said, opening_refused, end_refused, read_out, setup_said}
 use Rattle.kn_serve.proofs.setups.read_setup.Goals as goal
 
 -- the error, or this one
@@ -37,6 +37,17 @@ returns-in-Ok-finish_setup-clause-says g c =
     let start = nothing_ahead c.in-Ok.reader.input.ahead old c.in-Ok.ensures.ahead in
     let first = subst (λ (n : ℕ). Gives (opening_part version_of n) opening c.setup.new.self.number (unread c.in-Ok.reader.input old) mid) c.in-Ok.ensures.number (c.in-Ok-setup.ensures.tells c.in-Ok.ensures.failed) in
     setup_said old mid new c.setup.new.self.version c.in-Ok-setup.setup c.setup.new.self.number c.finish_setup.new.self.number
+    (subst (λ (x : Option (List ℕ)). Gives (opening_part version_of 0) opening c.setup.new.self.number x mid) start first)
+    (c.in-Ok-finish_setup.ensures.tells c.in-Ok-setup.ensures.good)
+
+pub returns-in-Ok-finish_setup-clause-whole : goal.returns-in-Ok-finish_setup-clause-whole
+returns-in-Ok-finish_setup-clause-whole g c =
+    let old = g.S.Source.left c.args.source.now in
+    let mid = unread c.setup.new.self.input (g.S.Source.left c.setup.new.source) in
+    let opening : Opening = record { version = c.setup.new.self.version; setup = c.in-Ok-setup.setup } in
+    let start = nothing_ahead c.in-Ok.reader.input.ahead old c.in-Ok.ensures.ahead in
+    let first = subst (λ (n : ℕ). Gives (opening_part version_of n) opening c.setup.new.self.number (unread c.in-Ok.reader.input old) mid) c.in-Ok.ensures.number (c.in-Ok-setup.ensures.tells c.in-Ok.ensures.failed) in
+    read_out old mid c.finish_setup.new.self.input.ahead (g.S.Source.left c.finish_setup.new.source) opening c.setup.new.self.number c.finish_setup.new.self.number
     (subst (λ (x : Option (List ℕ)). Gives (opening_part version_of 0) opening c.setup.new.self.number x mid) start first)
     (c.in-Ok-finish_setup.ensures.tells c.in-Ok-setup.ensures.good)
 

@@ -194,6 +194,7 @@ returns-clause-ticker g c =
         roomy = ap (λ (v : PassView). v.room) is ∙ ap (λ (v : PassView). v.room) e;
       };
       turns = c.serve_beside-ticks.ensures.ticker;
+      apart = c.serve_beside-ticks.ensures.apart;
       part = c.close_session.ensures.ticker;
     }
 
@@ -233,5 +234,8 @@ returns-clause-empty g c i d low =
 
 pub returns-clause-probes : goal.returns-clause-probes
 returns-clause-probes g c =
-    keeper_probed (g.K.Clock.reading c.args.clock.now) c.args.start c.close_session.result.1 (length c.args.slots.now) c.split-ticks.result c.serve_beside-ticks.result
-    (g.L.PodLink.told c.args.keeper.now) (g.L.PodLink.told c.serve_beside-ticks.new.keeper) c.serve_beside-ticks.ensures.ticker (ap (λ (v : PassView). v.mine) c.split-ticks.ensures.new) c.close_session.ensures.ticker.whole (returns-clause-rows g c)
+    let is = c.split-ticks.ensures.new in
+    let e = c.in_ok-cell.ensures in
+    keeper_probed c.session_laws.ensures c.args.revision (g.K.Clock.reading c.args.clock.now) c.args.start c.close_session.result.1 (length c.args.slots.now) c.split-ticks.result c.serve_beside-ticks.result
+    (g.L.PodLink.told c.args.keeper.now) (g.L.PodLink.told c.serve_beside-ticks.new.keeper) c.serve_beside-ticks.ensures.ticker (ap (λ (v : PassView). v.mine) is)
+    (ap (λ (v : PassView). v.seen) is ∙ ap (λ (v : PassView). v.seen) e) (ap (λ (v : PassView). v.opening) is ∙ ap (λ (v : PassView). v.opening) e) c.close_session.ensures.ticker (returns-clause-rows g c)

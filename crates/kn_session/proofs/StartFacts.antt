@@ -1,0 +1,79 @@
+-- A pod that starts at the opening and at the end starts all the while, and so was probed in the ticker's first turn.
+use Rattle.std.proofs.Common.{◌≡◌, ◌⊎◌, ◌<◌, inl, inr, ℕ, List, [], ◌∷◌, ◌++◌, Bool, true, false, refl, sym, ap, ◌∙◌, subst}
+use Rattle.std.proofs.lemmas.Bool.{cases_eq}
+use Rattle.std.proofs.lemmas.List.{append-nil}
+use Rattle.std.specs.Prelude.{Option}
+use Rattle.kn_event.specs.declared.revision.Spec.{Spec}
+use Rattle.kn_trace.specs.Events.{react}
+use Rattle.kn_trace.specs.Trace.{Trace, contains, created, starting_pods}
+use Rattle.kn_core.specs.State.{RevisionState, StandsFor}
+use Rattle.kn_cell.specs.declared.past.Past.{Past}
+use Rattle.kn_cell.specs.Lists.{StartsWith}
+use Rattle.kn_cell.specs.History.{trace_after}
+use Rattle.kn_cell.specs.Shown.{PassView}
+use Rattle.kn_io.specs.Links.{Link}
+use Rattle.kn_io.specs.declared.records.Probe.{Probe}
+use Rattle.kn_request.specs.Laws.{Made}
+use Rattle.kn_request.specs.Pods.{IsStarting}
+use Rattle.kn_request.specs.Ticking.{Turns, TurnsFrom, is_probed}
+use Rattle.kn_session.specs.Laws.{SessionLaws}
+use Rattle.kn_session.proofs.ListFacts.{starts_trans, trace_after-append}
+
+-- ---- traces
+
+made_after : SessionLaws → (s : Spec) (h : List Past) (c : Trace) → Made s c → Made s (trace_after s c h)
+made_after laws s [] c made = made
+made_after laws s (x ∷ xs) c made = made_after laws s xs (c ++ react s c x.event) (laws.keeps s c x.event made)
+
+known_after : SessionLaws → (s : Spec) (h : List Past) (c : Trace) (pod : ℕ) → Made s c → pod < created c → pod < created (trace_after s c h)
+known_after laws s [] c pod made low = low
+known_after laws s (x ∷ xs) c pod made low =
+    known_after laws s xs (c ++ react s c x.event) pod (laws.keeps s c x.event made) (laws.pods.stay s c x.event pod made low)
+
+is_true : (b : Bool) → ((b ≡ true → ⊥) → ⊥) → b ≡ true
+is_true true some = refl
+is_true false some = absurd (some (λ e. cc))
+
+-- who starts at the end started before
+started : SessionLaws → (s : Spec) (h : List Past) (c : Trace) (pod : ℕ) → Made s c → pod < created c → IsStarting (trace_after s c h) pod → IsStarting c pod
+started laws s [] c pod made low starts = starts
+started laws s (x ∷ xs) c pod made low starts =
+    let then = started laws s xs (c ++ react s c x.event) pod (laws.keeps s c x.event made) (laws.pods.stay s c x.event pod made low) starts in
+    is_true (contains pod (starting_pods c)) (λ not. laws.pods.gone s c x.event pod made low not then)
+
+-- .. and so in between
+starts_between : SessionLaws → (s : Spec) (c : Trace) (seen h : List Past) (pod : ℕ) → Made s c → StartsWith h seen → IsStarting c pod → IsStarting (trace_after s c h) pod → IsStarting (trace_after s c seen) pod
+starts_between laws s c seen h pod made front starts end =
+    let e : trace_after s c h ≡ trace_after s (trace_after s c seen) front.0 = ap (trace_after s c) front.1 ∙ trace_after-append s c seen front.0 in
+    let known = known_after laws s seen c pod made (laws.pods.known s c pod made starts) in
+    started laws s front.0 (trace_after s c seen) pod (made_after laws s seen c made) known (subst (λ t. IsStarting t pod) e end)
+
+-- ---- probes
+
+probed_or_not : (pod : ℕ) (ps : List Probe) → is_probed pod ps ⊎ (is_probed pod ps → ⊥)
+probed_or_not pod [] = inr (λ x. x)
+probed_or_not pod (p ∷ ps) = elim (cases_eq p.pod pod) [
+  | inl e ↦ inl (inl e)
+  | inr ne ↦ elim (probed_or_not pod ps) [ inl x ↦ inl (inr x) | inr not ↦ inr (λ both. elim both [ inl e ↦ ne e | inr x ↦ not x ]) ]
+]
+
+probed_left : (pod : ℕ) (ps qs : List Probe) → is_probed pod ps → is_probed pod (ps ++ qs)
+probed_left pod [] qs is = absurd is
+probed_left pod (p ∷ ps) qs is = elim is [ inl e ↦ inl e | inr x ↦ inr (probed_left pod ps qs x) ]
+
+turns_longer : (reading : ℕ → Type 0) (last : ℕ) (nows : List ℕ) (p q : PassView) (w w' : Option Link) (end : ℕ) → TurnsFrom reading last nows p q w w' end → StartsWith q.seen p.seen
+turns_longer reading last [] p q w w' end t = ([], ap (λ (v : PassView). v.seen) t.0 ∙ sym (append-nil p.seen))
+turns_longer reading last (now ∷ nows) p q w w' end t = starts_trans p.seen t.1.seen q.seen t.4.later.longer (turns_longer reading t.0.last nows t.1 q t.2 w' end t.5)
+
+-- a pod that starts at the opening and at the end was probed in the first turn
+pub first_probed : SessionLaws → (reading : ℕ → Type 0) (start : ℕ) (h : List Past) (p q : PassView) (w w' : Option Link) (more : List Probe) → (t : Turns reading start p q w w') → p.seen ≡ [] → StartsWith h q.seen
+    → (c : Trace) → StandsFor p.opening c → (pod : ℕ) → IsStarting c pod → IsStarting (trace_after p.opening.spec c h) pod → is_probed pod (t.1.turns.4.probes ++ more)
+first_probed laws reading start h p q w w' more t fresh front c stands pod starts end =
+    let turns = t.1.turns in
+    let m = turns.1 in
+    let s = p.opening.spec in
+    let made = laws.made p.opening c stands in
+    let seen : StartsWith h m.seen = starts_trans m.seen q.seen h (turns_longer reading turns.0.last t.1.nows m q turns.2 w' t.0 turns.5) front in
+    let now : IsStarting (trace_after s c m.seen) pod = starts_between laws s c m.seen h pod made seen starts end in
+    let first : IsStarting (trace_after s c p.seen) pod = subst (λ l. IsStarting (trace_after s c l) pod) (sym fresh) starts in
+    elim (probed_or_not pod turns.4.probes) [ inl x ↦ probed_left pod turns.4.probes more x | inr not ↦ absurd (turns.4.starting c stands pod (first, now) not) ]
