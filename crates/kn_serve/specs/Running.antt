@@ -16,7 +16,7 @@ use Rattle.kn_journal.specs.declared.journal.Journal.{Journal}
 use Rattle.kn_journal.specs.declared.journal.Setup.{Setup}
 use Rattle.kn_journal.specs.declared.status.Status.{Status}
 use Rattle.kn_journal.specs.declared.status.Status.TheVariants as status
-use Rattle.kn_journal.specs.Journal.{IsSetup, good, journal_text, verdict}
+use Rattle.kn_journal.specs.Journal.{good, journal_text, verdict}
 use Rattle.kn_plan.specs.declared.plan.Plan.{Plan}
 use Rattle.kn_replay.specs.Replaying.{status_of}
 use Rattle.kn_session.specs.Lists.{HasOne}
@@ -76,7 +76,7 @@ pub record IsSession (reading : ℕ → Type 0) (slots : ℕ) (x : Session) : Ty
 -- the whole journal was printed, and what was printed reads as that journal
 pub record EndsWhole (held held' : Option (List ℕ)) (x : Session) (result : Status) : Type 0 where
   pub printed : Appends held held' (journal_text (journal_of x))
-  pub reads : IsSetup x.setup → verdict (journal_text (journal_of x)) ≡ good (journal_of x)
+  pub reads : verdict (journal_text (journal_of x)) ≡ good (journal_of x)
   pub status : result ≡ status_after x
 
 -- .. or some first bytes of it, where writing failed

@@ -1,6 +1,7 @@
 //! The setup of a session.
-ghost use Rattle.std.specs.Prelude.{◌≡◌, ◌⊎◌, ◌+◌, ◌≤◌, Err, OnOk};
+ghost use Rattle.std.specs.Prelude.{◌≡◌, ◌⊎◌, ◌+◌, ◌≤◌, Err, IfOk, OnOk};
 ghost use Rattle.kn_io.specs.Causes.{Rose};
+ghost use Rattle.kn_journal.specs.Journal.{IsSetup};
 ghost use Rattle.kn_journal.specs.Reading.{most_taken};
 ghost use Rattle.kn_serve.specs.Setup.{IsReadOut, SaysSetup};
 
@@ -12,6 +13,7 @@ use std::alloc::Global;
 /// Reads a setup that stands alone: a journal's lines before its start, and then the end of the input.
 pub fn read_setup<S: Source>(alloc: Global, source: &mut S) -> Result<Setup, JournalError>
     ensures says { SaysSetup (S.left source.old) result }
+    ensures kept { IfOk result IsSetup }
     ensures whole { OnOk result (IsReadOut (S.left source.old) (S.left source.new)) }
     ensures fault { result ≡ Err JournalError.ReadFault → Rose (S.Faulty.faults source.old) (S.Faulty.faults source.new) ⊎ (S.given source.old + most_taken ≤ S.given source.new) }
     ensures never_falls { S.Faulty.faults source.old ≤ S.Faulty.faults source.new }

@@ -56,7 +56,7 @@ returns-in-Ok-print_journal-clause-course g c =
       ticker_did = (c.in-Ok-serve_session.ensures.ticker, c.in-Ok-serve_session.ensures.probes);
       ends = inl (record {
         printed = subst (λ (r : List Past). Appends (g.O.Sink.held c.args.out.now) (g.O.Sink.held c.print_journal.new.out) (journal_text (printed_journal c.in-Ok.read c.start_of-start.result r))) c.items.ensures c.in-Ok-print_journal.ensures.ok;
-        reads = reads_back c.journals_are_read.ensures.read reading (length c.args.slots.now) x is c.start_of-start.ensures.most small;
+        reads = reads_back c.journals_are_read.ensures.read reading (length c.args.slots.now) x is c.start_of-start.ensures.most small c.in-Ok.ensures.kept;
         status = c.end_of-ended.ensures;
       });
     })
