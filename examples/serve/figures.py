@@ -14,7 +14,7 @@ import tempfile
 
 from session import FIELDS, Pod, Session, drain, fixed, outcomes, program, want
 
-CLIENTS = 10000
+CLIENTS = 9600
 
 
 def ab(port, count, at_once):
@@ -33,7 +33,7 @@ def ab(port, count, at_once):
 
 
 def measure(server, is_kactd, slots):
-    """One session of some 10,000 clients, as many at once as slots."""
+    """One session of some 9,600 clients, as many at once as slots."""
     with Pod() as pod, Session(fixed(4), [pod.port], slots, CLIENTS // slots + 10, server=server) as session:
         rate, half, most = ab(session.port, CLIENTS, slots)
         # ab opens some connections more than it counts, so that a few rounds are left for them
@@ -60,7 +60,7 @@ def main(others):
             columns = [statistics.median(column) for column in zip(*rows)]
             rate, half, most, user, time, memory = columns
             print(f"| {name} | {slots} | {rate:,.0f} | {half:.2f} | {most:.2f} | {user:.0f} | {time:.0f} | {memory:.1f} |", flush=True)
-    print(f"\nMedians of five sessions each, taken in turns; the machine's load in the end: {os.getloadavg()[0]:.1f} on {os.cpu_count()} processors.")
+    print(f"\nMedians of five sessions each, taken in turns; load {os.getloadavg()[0]:.1f} on {os.cpu_count()} processors.")
 
 
 if __name__ == "__main__":

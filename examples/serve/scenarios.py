@@ -17,10 +17,10 @@ from session import FIELDS, Pod, Session, answers, ask, drain, fixed, free_port,
 HELLO = (200, "hello")
 
 
-def head(more="", method="POST", first=""):
+def head(more="", method="POST"):
     """The bytes of a request's head to the fixed revision."""
     fields = "".join(f"{name}: {value}\r\n" for name, value in FIELDS.items())
-    return f"{method} / HTTP/1.1\r\n{first}Host: pod\r\n{fields}{more}\r\n".encode()
+    return f"{method} / HTTP/1.1\r\nHost: pod\r\n{fields}{more}\r\n".encode()
 
 
 def whole(came):
@@ -99,7 +99,7 @@ def killed_pod():
     """One of three pods is killed under load. Its requests are answered 502; none is lost."""
     with Pod() as a, Pod() as b, Pod() as c:
         with Session(fixed(3, limit=4), [a.port, b.port, c.port], rounds=500) as session:
-            threading.Timer(1.0, b.kill).start()
+            threading.Timer(0.5, b.kill).start()
             counted = load(session.port, 8000)
             want(counted[502] > 0 and counted[200] > 0, f"hey counted {dict(counted)}")
             # of the four that ran there some may have been read by the pod and not answered: that is an empty answer
