@@ -14,7 +14,7 @@ import tempfile
 
 from session import FIELDS, Pod, Session, drain, fixed, outcomes, program, want
 
-CLIENTS = 9600
+CLIENTS = 4800
 
 
 def ab(port, count, at_once):
@@ -33,10 +33,12 @@ def ab(port, count, at_once):
 
 
 def measure(server, is_kactd, slots):
-    """One session of some 9,600 clients, as many at once as slots."""
-    with Pod() as pod, Session(fixed(4), [pod.port], slots, CLIENTS // slots + 10, server=server) as session:
+    """One session of some 5,000 clients, as many at once as slots."""
+    # more rounds than ab needs: it opens some connections more than it counts, and it waits for the end of each, while a slot
+    # that has served its rounds holds its last one until the session ends
+    rounds = CLIENTS * 5 // 4 // slots
+    with Pod() as pod, Session(fixed(4), [pod.port], slots, rounds, server=server) as session:
         rate, half, most = ab(session.port, CLIENTS, slots)
-        # ab opens some connections more than it counts, so that a few rounds are left for them
         drain(session)
         if is_kactd:
             _, journal, report = session.end()
@@ -53,14 +55,14 @@ def main(others):
     print("|---|---|---|---|---|---|---|---|")
     for slots in (1, 4, 16):
         found = collections.defaultdict(list)
-        for _ in range(5):
+        for _ in range(3):
             for name, server in servers.items():
                 found[name].append(measure(server, name == "kactd", slots))
         for name, rows in found.items():
             columns = [statistics.median(column) for column in zip(*rows)]
             rate, half, most, user, time, memory = columns
             print(f"| {name} | {slots} | {rate:,.0f} | {half:.2f} | {most:.2f} | {user:.0f} | {time:.0f} | {memory:.1f} |", flush=True)
-    print(f"\nMedians of five sessions each, taken in turns; load {os.getloadavg()[0]:.1f} on {os.cpu_count()} processors.")
+    print(f"\nMedians of three sessions each, taken in turns; load {os.getloadavg()[0]:.1f} on {os.cpu_count()} processors.")
 
 
 if __name__ == "__main__":
