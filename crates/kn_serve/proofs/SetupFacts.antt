@@ -96,13 +96,17 @@ no_lines bs e = no_crs bs (by_cases (without_crs bs) e)
     by_cases [] e = refl
     by_cases (x ∷ xs) e = absurd (some_line x xs e)
 
-nothing_left : (n m : ℕ) (ls more : List (List ℕ)) → nothing_part n ls ≡ Ok (part tt m more) → more ≡ []
-nothing_left n m [] more e = cc
-nothing_left n m (l ∷ ls) more e = by_test (fits l) e
-  where
-    by_test : (t : Bool) → if t then Err (after_end (n + 1)) else Err (line_too_long (n + 1)) ≡ Ok (part tt m more) → more ≡ []
-    by_test true e = absurd (cc)
-    by_test false e = absurd (cc)
+abbrev left_in : Result (Part ⊤) Cause → List (List ℕ)
+left_in (Ok p) = p.left
+left_in (Err cause) = []
+
+refused_either : (t : Bool) (a b : Cause) (p : Part ⊤) → (if t then Err a else Err b) ≡ Ok p → ⊥
+refused_either true a b p e = cc
+refused_either false a b p e = cc
+
+nothing_left : (n m : ℕ) (ls more : List (List ℕ)) (x : ⊤) → nothing_part n ls ≡ Ok (part x m more) → more ≡ []
+nothing_left n m [] more x e = sym (ap left_in e)
+nothing_left n m (l ∷ ls) more x e = absurd (refused_either (fits l) (after_end (n + 1)) (line_too_long (n + 1)) (part x m more) e)
 
 none_of_both : (xs ys : List ℕ) → xs ++ ys ≡ [] → ys ≡ []
 none_of_both [] ys e = e
@@ -115,7 +119,7 @@ read_out None mid ahead left opening n m h k = tt
 read_out (Some xs) None ahead left opening n m h k = absurd h
 read_out (Some xs) (Some ys) ahead None opening n m h k = absurd k
 read_out (Some xs) (Some ys) ahead (Some zs) opening n m h k =
-    ap (λ l. Some l) (none_of_both ahead zs (no_lines (ahead ++ zs) (nothing_left n m (lines ys) (lines (ahead ++ zs)) k)))
+    ap (λ l. Some l) (none_of_both ahead zs (no_lines (ahead ++ zs) (nothing_left n m (lines ys) (lines (ahead ++ zs)) _ k)))
 
 -- which status an error makes
 pub fault_of : (e : JournalError) → status_of e ≡ status.ReadFault → e ≡ error.ReadFault

@@ -1,4 +1,7 @@
 //! The ticker goes on after its first turn: a client comes only once a pod was probed twice.
+ghost use Rattle.std.specs.Prelude.{◌≤◌};
+ghost use Rattle.kn_io.specs.Causes.{Rose};
+
 use super::sessions::{Sinks, expect_answer, has, serve};
 use super::{REPLY, text_of};
 use kn_event::Text;
@@ -61,6 +64,15 @@ struct LateCaller<'a, C> {
     faults: u64,
 }
 
+/// Counts a fault.
+fn fault(faults: &mut u64) -> Failed
+    ensures rose { Rose faults.old faults.new }
+    ensures never_falls { faults.old ≤ faults.new }
+{
+    *faults = faults.saturating_add(1);
+    Failed
+}
+
 fn are_two(probes: &AtomicU64) -> bool {
     for _ in 0..100_000_000u64 {
         if probes.load(Ordering::SeqCst) >= 2 {
@@ -86,11 +98,10 @@ impl<C: Caller> Source for LateCaller<'_, C> {
     ghost given = { λ c. C.Source.given c.caller };
 
     fn read(&mut self, buf: &mut [u8]) -> Result<usize, Failed> {
-        let read = self.caller.read(buf);
-        if read.is_err() {
-            self.faults = self.faults.saturating_add(1);
+        match self.caller.read(buf) {
+            Ok(n) => Ok(n),
+            Err(Failed) => Err(fault(&mut self.faults)),
         }
-        read
     }
 }
 
@@ -100,11 +111,10 @@ impl<C: Caller> Sink for LateCaller<'_, C> {
     ghost kept = { λ c. C.Sink.kept c.caller };
 
     fn write(&mut self, bytes: &[u8]) -> Result<usize, Failed> {
-        let written = self.caller.write(bytes);
-        if written.is_err() {
-            self.faults = self.faults.saturating_add(1);
+        match self.caller.write(bytes) {
+            Ok(n) => Ok(n),
+            Err(Failed) => Err(fault(&mut self.faults)),
         }
-        written
     }
 }
 
@@ -115,14 +125,12 @@ impl<C: Caller> Caller for LateCaller<'_, C> {
 
     fn meet(&mut self) -> Result<(), Failed> {
         if !are_two(self.probes) {
-            self.faults = self.faults.saturating_add(1);
-            return Err(Failed);
+            return Err(fault(&mut self.faults));
         }
-        let met = self.caller.meet();
-        if met.is_err() {
-            self.faults = self.faults.saturating_add(1);
+        match self.caller.meet() {
+            Ok(()) => Ok(()),
+            Err(Failed) => Err(fault(&mut self.faults)),
         }
-        met
     }
 }
 
