@@ -1,9 +1,10 @@
-ghost use Rattle.std.specs.Prelude.{◌<◌};
+ghost use Rattle.std.specs.Prelude.{◌<◌, IfOk, IfSome};
+ghost use Rattle.kn_journal.specs.Journal.{IsJournal};
 
-use crate::{JournalError, JournalReader, SetupError, Status};
+use crate::{Events, Journal, JournalError, JournalReader, SetupError, Status, write_journal};
 use kn_config::{ConfigError, Key};
 use kn_event::{Act, Event, Line, LineError, Memory, event_line};
-use kn_io::MemSource;
+use kn_io::{MemSink, MemSource};
 use kn_num::NumError;
 use kn_revision::SpecError;
 use std::alloc::{AllocError, Global};
@@ -514,5 +515,63 @@ fn events_both_ways(rt: HostRuntime) -> Result<(), Fail> {
         assert_eq!(rt; reader.next(&mut input), Ok(Some(event_at(i))));
     }
     assert_eq!(rt; reader.next(&mut input), Ok(None));
+    Ok(())
+}
+
+/// The journal that the source gives, where it gives one.
+fn read_journal(alloc: Global, source: &mut MemSource) -> Result<Option<Journal>, Memory>
+    ensures { IfOk result (λ read. IfSome read IsJournal) }
+{
+    let mut reader = JournalReader::new(alloc)?;
+    let Ok(setup) = reader.setup(alloc, source) else {
+        return Ok(None);
+    };
+    let Ok(start) = reader.start(source) else {
+        return Ok(None);
+    };
+    let mut events = Vec::new(alloc);
+    for _ in 0..NEVER {
+        match reader.next(source) {
+            Ok(Some(e)) => if events.push(e).is_err() {
+                return Err(Memory);
+            },
+            Ok(None) => {
+                return Ok(Some(Journal {
+                    version: reader.version(),
+                    setup,
+                    start,
+                    events: Events::new(events),
+                }));
+            }
+            Err(_) => return Ok(None),
+        }
+    }
+    Ok(None)
+}
+
+/// Writes the journal that the source gives, and says whether it was one and all of it was taken.
+fn write_back(alloc: Global, source: &mut MemSource, out: &mut MemSink) -> Result<bool, Memory> {
+    match read_journal(alloc, source) {
+        Ok(Some(journal)) => Ok(write_journal(&journal, out).is_ok()),
+        Ok(None) => Ok(false),
+        Err(Memory) => Err(Memory),
+    }
+}
+
+/// Journals of both versions and of both kinds of setup.
+const JOURNALS: [&[u8]; 3] = [
+    b"kact journal 2\nfixed limit=1 depth=1 max=1 pods=1 timeout=300 seed=0\nstart 0\n0 ready 0\n1 arrive 10\n2 arrive 11\n3 lost 0\n4 finish 0 ok\n5 lost 0\nend\n",
+    b"kact journal 1\nfixed limit=3 depth=1 max=3 pods=1 timeout=300 seed=0\nstart 0\n0 ready 0\n1 arrive 0\n1 arrive 1\n1 arrive 2\n1 arrive 3\n2 limit 0 1\n3 finish 0 ok\n4 finish 1 ok\n5 finish 2 ok\nend\n",
+    b"kact journal 1\nkpa depth=10000 max=1000 seed=0\nconfig\n{}\n.\nrevision\n{\"metadata\": {\"namespace\": \"default\", \"name\": \"hello-00001\", \"annotations\": {}}, \"spec\": {\"containerConcurrency\": 1}}\n.\nstart 0\nend\n",
+];
+
+#[test]
+fn written_back(rt: HostRuntime) -> Result<(), Fail> {
+    for bytes in JOURNALS {
+        let mut input = source(rt.alloc(), bytes, 7, NEVER)?;
+        let mut out = MemSink::new(rt.alloc(), 1 << 20, vec![in rt.alloc(); NEVER]?)?;
+        assert!(rt; write_back(rt.alloc(), &mut input, &mut out)?);
+        assert_eq!(rt; out.held(), bytes);
+    }
     Ok(())
 }
