@@ -1,2 +1,1 @@
 mod Later
-mod Fresh

@@ -3,7 +3,6 @@ mod requests;
 mod sessions;
 mod ticking;
 mod turns;
-mod words;
 
 ghost use Rattle.std.specs.Prelude.{◌≡◌, ◌+◌, IfOk};
 
