@@ -1,0 +1,58 @@
+//! A revision of which only such calls are made as may be made.
+ghost use Rattle.std.specs.Prelude.{◌≡◌, true};
+ghost use Rattle.kn_core.specs.Steps.{IsWithinRange};
+
+use kn_core::Revision;
+use kn_event::{Act, Entry, EntryLog, Event, Spec, Told};
+use std::alloc::Global;
+
+/// A revision with the entries of its last event.
+#[derive(Drop)]
+pub struct Run {
+    revision: Revision,
+    log: EntryLog,
+}
+
+impl Run {
+    /// Opens it, if memory suffices and the start is at most 2^42 milliseconds.
+    pub fn open(alloc: Global, spec: Spec, start: u64) -> Option<Run> {
+        if start > 1 << 42 {
+            return None;
+        }
+        let mut log = EntryLog::new(alloc).ok()?;
+        let revision = Revision::new(alloc, spec, start, &mut log).ok()?;
+        Some(Run { revision, log })
+    }
+
+    /// Takes an event that may come: in the order of time, at most at 2^42 milliseconds, with a limit of at most 1,000.
+    pub fn take(&mut self, event: &Event) -> Option<Told> {
+        let revision = &mut self.revision;
+        let may_come = revision.now() <= event.time
+            && event.time <= 1 << 42
+            && revision.events() < 1 << 54
+            && is_within_range(&event.act);
+        if !may_come {
+            return None;
+        }
+        self.log.clear();
+        Some(revision.step(event, &mut self.log))
+    }
+
+    pub fn revision(&self) -> &Revision {
+        &self.revision
+    }
+
+    /// The entries of the last event, or of the opening.
+    pub fn entries(&self) -> &[Entry] {
+        self.log.entries()
+    }
+}
+
+fn is_within_range(act: &Act) -> bool
+    ensures { result ≡ true → IsWithinRange act.now }
+{
+    match *act {
+        Act::Limit(_, limit) => limit <= 1000,
+        _ => true,
+    }
+}

@@ -1,0 +1,3 @@
+//! Runs that are too long for `stdin`.
+
+mod long;
