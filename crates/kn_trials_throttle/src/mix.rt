@@ -116,7 +116,7 @@ impl Mix {
     }
 }
 
-/// By each policy, with pods that are full and some that drain: all the rows of a mix of 300 calls, where a request stands after
+/// By each policy, with pods that are full and some that drain: all the rows of a mix of 400 calls, where a request stands after
 /// each, and how many are live.
 #[test]
 fn seeded_mix(rt: HostRuntime) -> Result<(), Fail> {
@@ -133,6 +133,7 @@ fn seeded_mix(rt: HostRuntime) -> Result<(), Fail> {
                 0xb4df_079f_51b4_d6b1,
                 0xc27f_11a8_afc9_1aa8,
                 0x835b_da29_d865_a0c5,
+                0x365f_b6eb_afb4_2d1b,
             ],
         ),
         (
@@ -147,6 +148,7 @@ fn seeded_mix(rt: HostRuntime) -> Result<(), Fail> {
                 0x34ed_ff0c_1d05_66a6,
                 0xa78b_d2df_89aa_6cff,
                 0xf345_78ec_a53a_daa3,
+                0xeeee_f99e_cd41_f703,
             ],
         ),
         (
@@ -161,6 +163,7 @@ fn seeded_mix(rt: HostRuntime) -> Result<(), Fail> {
                 0xd81c_1ba8_8925_e965,
                 0x9e1d_985f_b88b_513d,
                 0xa3db_170c_2420_8d85,
+                0x6443_bc04_3b41_6d4b,
             ],
         ),
         (
@@ -175,6 +178,7 @@ fn seeded_mix(rt: HostRuntime) -> Result<(), Fail> {
                 0xf63f_a38c_605c_b237,
                 0xf5c9_9dd3_22b0_747a,
                 0x0ba5_4489_9c90_3868,
+                0x82dd_e917_9eea_485a,
             ],
         ),
         (
@@ -189,6 +193,7 @@ fn seeded_mix(rt: HostRuntime) -> Result<(), Fail> {
                 0xd867_3baa_6ede_8bc8,
                 0xe31b_e8b4_9732_c641,
                 0x36be_2822_2e78_c4d2,
+                0x37f4_a90e_969a_05b0,
             ],
         ),
     ] {
