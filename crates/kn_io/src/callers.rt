@@ -20,6 +20,16 @@ pub trait Caller: Source + Sink {
         ensures given_stays { Self.Source.given self.new ≡ Self.Source.given self.old }
         ensures cause { HasCause (Self.Faulty.faults self.old) (Self.Faulty.faults self.new) result };
 
+    /// The client of the last connection is done with, so it may see the end of what was written while nobody else comes.
+    /// Nothing that is told changes.
+    fn part(&mut self)
+        ensures kept { Self.Sink.kept self.new ≡ Self.Sink.kept self.old }
+        ensures held { Self.Sink.held self.new ≡ Self.Sink.held self.old }
+        ensures left { Self.Source.left self.new ≡ Self.Source.left self.old }
+        ensures given { Self.Source.given self.new ≡ Self.Source.given self.old }
+        ensures faults { Self.Faulty.faults self.new ≡ Self.Faulty.faults self.old }
+    {}
+
     /// `kept` has an even number of members.
     ghost paired: { (c : Self) → IsPaired (Self.Sink.kept c) };
 

@@ -76,7 +76,7 @@ part-left {T} v n left p r h e =
     (ap (λ (q : Part T). q.left) same, ap (λ (q : Part T). q.value) same, ap (λ (q : Part T). q.number) same)
 
 -- one part after the other
-then-takes : {S T : Type 0} (first : List (List ℕ) → Result (Part S) Cause) (second : S → ℕ → List (List ℕ) → Result (Part T) Cause) (lines : List (List ℕ)) (p : Part S) (q : Part T)
+pub then-takes : {S T : Type 0} (first : List (List ℕ) → Result (Part S) Cause) (second : S → ℕ → List (List ℕ) → Result (Part T) Cause) (lines : List (List ℕ)) (p : Part S) (q : Part T)
     (own more : List (List ℕ)) → Takes first lines p own → Takes (second p.value p.number) p.left q more
     → Takes (λ ls. then_part (first ls) second) lines q (own ++ more)
 then-takes first second lines p q own more a b = record {

@@ -16,3 +16,4 @@ pub mod Settings
 pub mod Setups
 pub mod Stops
 pub mod Tellings
+pub mod Wholes

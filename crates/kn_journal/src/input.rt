@@ -52,6 +52,14 @@ impl Input {
         &self.buffer[self.start..self.end]
     }
 
+    /// How many bytes were read ahead.
+    pub fn ahead_len(&self) -> usize
+        ensures value { result ≡ length self.now.ahead }
+        ensures most { length self.now.ahead ≤ 65536 }
+    {
+        self.end - self.start
+    }
+
     /// How many more bytes may be taken.
     #[inline(always)]
     pub fn may_take(&self) -> u64

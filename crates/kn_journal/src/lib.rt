@@ -16,7 +16,7 @@ mod write;
 
 pub use error::{JournalError, SetupError};
 pub use journal::{Events, Journal, Setup};
-pub use laws::journals_are_read;
+pub use laws::{journals_are_read, openings_are_whole};
 pub use reader::JournalReader;
 pub use status::Status;
 pub use write::write_journal;

@@ -134,6 +134,14 @@ impl Lines {
         memchr(b'\n', self.input.ahead()).is_some()
     }
 
+    /// How many bytes were read ahead.
+    pub fn ahead_len(&self) -> usize
+        ensures value { result ≡ length self.now.input.ahead }
+        ensures most { length self.now.input.ahead ≤ 65536 }
+    {
+        self.input.ahead_len()
+    }
+
     /// Reads the next line. The source is read only where no whole line is ahead.
     #[tactic(auto, using(crate::proofs::Tellings::lacks_end, crate::proofs::Tellings::lacks_long))]
     pub fn next_line<S: Source>(&mut self, source: &mut S) -> Result<(), JournalError>

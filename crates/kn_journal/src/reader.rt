@@ -1,5 +1,5 @@
 //! A journal that is read call by call.
-ghost use Rattle.std.specs.Prelude.{◌≡◌, ◌⊎◌, ◌≢◌, ◌+◌, ◌≤◌, ◌↔◌, [], Err, Ok, None, Some, Contains, IfErr, IfOk, IfSome, IsSome, IsTrue, OnErr, OnOk};
+ghost use Rattle.std.specs.Prelude.{◌≡◌, ◌⊎◌, ◌≢◌, ◌+◌, ◌≤◌, ◌↔◌, [], Err, Ok, None, Some, Contains, IfErr, IfOk, IfSome, IsSome, IsTrue, OnErr, OnOk, length};
 ghost use Rattle.kn_io.specs.Causes.{Rose};
 ghost use Rattle.kn_event.specs.EventLine.{IsInJournalRange, IsInVersion};
 ghost use Rattle.kn_journal.specs.Reading.{IsBalanced, IsSpent, TakesPart, most_taken, unread};
@@ -72,6 +72,14 @@ impl JournalReader {
         ensures { IsTrue result ↔ Contains self.now.input.ahead 10 }
     {
         self.lines.holds_line()
+    }
+
+    /// How many bytes were read from sources ahead of what was taken, at most 65,536.
+    pub fn ahead_len(&self) -> usize
+        ensures value { result ≡ length self.now.input.ahead }
+        ensures most { length self.now.input.ahead ≤ 65536 }
+    {
+        self.lines.ahead_len()
     }
 
     /// Reads the version and the setup. The setup's text reads as that setup, also of a source that doesn't tell its bytes.

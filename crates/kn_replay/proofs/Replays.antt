@@ -494,7 +494,7 @@ report_is version setup start r = by_refused r.refused
         ∙ append_assoc (rows_text c) (rows_text more) (last_line version (length r.events) (totals (c ++ more)))
     by_refused (Some cause) = rows_text-append c more ∙ ap (λ (z : List ℕ). rows_text c ++ z) (sym (append-nil (rows_text more)))
 
-status_is : (j : Journal) (refused : Option Cause) → status_by (refusal_of (verdict_on j refused)) ≡ status_by refused
+pub status_is : (j : Journal) (refused : Option Cause) → status_by (refusal_of (verdict_on j refused)) ≡ status_by refused
 status_is j None = refl
 status_is j (Some cause) = refl
 

@@ -18,11 +18,11 @@ use Rattle.kn_journal.specs.declared.journal.Setup.{Setup}
 use Rattle.kn_journal.specs.declared.status.Status.{Status}
 use Rattle.kn_journal.specs.declared.status.Status.TheVariants as status
 use Rattle.kn_journal.specs.Causes.{Cause, error_of, no_end}
-use Rattle.kn_journal.specs.Journal.{Read, Verdict, bad, good, journal_of, opening_part, read_events, start_part, verdict, version_of}
+use Rattle.kn_journal.specs.Journal.{Read, Verdict, bad, good, journal_of, opening_part, read_events, start_part, verdict, verdict_of_lines, version_of}
 use Rattle.kn_journal.specs.Lines.{lines}
 use Rattle.kn_journal.specs.Parts.{part}
 use Rattle.kn_journal.specs.Reading.{TakesPart, most_taken}
-use Rattle.kn_journal.specs.Telling.{StopsAmid}
+use Rattle.kn_journal.specs.Telling.{IsLineFault, StopsAmid}
 use Rattle.kn_replay.specs.Report.{journal_rows, report_of}
 use Rattle.kn_replay.specs.Tally.{Counted}
 
@@ -115,6 +115,24 @@ abbrev pub EndsThere : Option (List ℕ) → Option (List ℕ) → Type 0
 EndsThere None new = ⊤
 EndsThere (Some xs) new = new ≡ Some []
 
+-- ---- what is left behind a refused line
+
+-- a line that was read whole was refused
+abbrev pub IsRefusal : Status → Type 0
+IsRefusal (status.BadInput e) = IsLineFault e
+IsRefusal (status.BadSetup e) = IsLineFault e
+IsRefusal _ = ⊥
+
+-- the lines that were taken are refused so by themselves, and all that came after them is unread
+abbrev pub IsBehind : Status → Option (List ℕ) → Option (List ℕ) → Type 0
+IsBehind result None new = ⊤
+IsBehind result (Some xs) None = ⊥
+IsBehind result (Some xs) (Some ys) = (own : List (List ℕ)) × (lines xs ≡ own ++ lines ys) × (status_by (refusal_of (verdict_of_lines own)) ≡ result)
+
+-- this stands behind them, but for at most 65,536 bytes that were read ahead
+abbrev pub LeavesBehind : Status → Option (List ℕ) → Option (List ℕ) → Type 0
+LeavesBehind result old left = (ahead : List ℕ) × (length ahead ≤ 65536) × IsBehind result old (prepend_known ahead left)
+
 -- ---- the part behind the start
 
 -- a revision that is replayed, the counts of its trace, the entries of the last event, and the text that waits
@@ -143,6 +161,12 @@ Follows version s c last number None left waiting old new result = ⊤
 Follows version s c last number (Some xs) left waiting old new result =
     let r = read_events version last number (lines xs) in
     Writes (waiting ++ rest_of_report version s c r) (status_by r.refused) (BreaksFollowing version s c last number xs left waiting) old new result
+
+-- of the lines behind a start
+abbrev pub FollowsBehind : ℕ → ℕ → ℕ → Status → Option (List ℕ) → Option (List ℕ) → Type 0
+FollowsBehind version last number result None new = ⊤
+FollowsBehind version last number result (Some xs) None = ⊥
+FollowsBehind version last number result (Some xs) (Some ys) = (own : List (List ℕ)) × (lines xs ≡ own ++ lines ys) × (status_by (read_events version last number own).refused ≡ result)
 
 -- ---- what is told
 

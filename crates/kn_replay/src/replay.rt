@@ -9,7 +9,8 @@ ghost use Rattle.kn_trace.specs.Report.{last_line, rows_text, totals};
 ghost use Rattle.kn_core.specs.State.{StandsFor};
 ghost use Rattle.kn_journal.specs.Reading.{IsBalanced, IsSpent, most_taken, unread};
 ghost use Rattle.kn_journal.specs.Journal.{time_most};
-ghost use Rattle.kn_replay.specs.Replaying.{EndsThere, Follows, IsFollowed, IsReplayed, Opens, Replays, Stops, status_of};
+ghost use Rattle.kn_journal.specs.Telling.{IsLineFault};
+ghost use Rattle.kn_replay.specs.Replaying.{EndsThere, Follows, FollowsBehind, IsBehind, IsFollowed, IsRefusal, IsReplayed, LeavesBehind, Opens, Replays, Stops, status_of};
 ghost use Rattle.kn_replay.specs.Waiting.{Adds};
 
 use crate::report::Tally;
@@ -17,7 +18,7 @@ use crate::waiting::{Waiting, add_rows};
 use kn_core::Revision;
 use kn_event::{EntryLog, Event, Line, Memory, Spec};
 use kn_io::{Failed, Sink, Source};
-use kn_journal::{JournalError, JournalReader, Setup, Status};
+use kn_journal::{JournalError, JournalReader, Setup, Status, openings_are_whole};
 use std::alloc::Global;
 use std::marker::Model;
 
@@ -169,6 +170,8 @@ impl Replay {
         requires few { reader.old.input.taken ≤ most_taken }
         ensures follows { (c : Trace) → StandsFor self.old.revision c → self.old.counted.totals ≡ totals c →
             Follows reader.old.version self.old.revision.spec c reader.old.last reader.old.number (unread reader.old.input (S.left source.old)) (unread reader.new.input (S.left source.new)) self.old.waiting (O.held out.old) (O.held out.new) result }
+        ensures rest { (c : Trace) → StandsFor self.old.revision c → self.old.counted.totals ≡ totals c → IsRefusal result →
+            FollowsBehind reader.old.version reader.old.last reader.old.number result (unread reader.old.input (S.left source.old)) (unread reader.new.input (S.left source.new)) }
         ensures followed { IsFollowed result }
         ensures ended { result ≡ Status.Ok → EndsThere (unread reader.old.input (S.left source.old)) (unread reader.new.input (S.left source.new)) }
         ensures read_fault { result ≡ Status.ReadFault → Rose (S.Faulty.faults source.old) (S.Faulty.faults source.new) ⊎ (most_taken ≤ reader.new.input.taken) }
@@ -204,6 +207,7 @@ fn open<S: Source>(
     requires good { reader.old.failed ≡ None }
     requires number { reader.old.number ≡ 0 }
     ensures opens { Opens (unread reader.old.input (S.left source.old)) (unread reader.new.input (S.left source.new)) reader.new.version reader.new.number result }
+    ensures rest { IfErr result (λ e. IsRefusal (status_of e) → IsBehind (status_of e) (unread reader.old.input (S.left source.old)) (unread reader.new.input (S.left source.new))) }
     ensures start { IfOk result (λ parts. reader.new.last ≡ parts.1) }
     ensures most { IfOk result (λ parts. parts.1 ≤ time_most) }
     ensures good { OnOk result (reader.new.failed ≡ None) }
@@ -213,6 +217,7 @@ fn open<S: Source>(
     ensures balance { IsBalanced reader.old.input reader.new.input (S.given source.old) (S.given source.new) }
     ensures never_falls { S.Faulty.faults source.old ≤ S.Faulty.faults source.new }
 {
+    openings_are_whole();
     let setup = match reader.setup(alloc, source) {
         Ok(setup) => setup,
         Err(error) => return Err(error),
@@ -228,6 +233,7 @@ fn open<S: Source>(
 pub fn replay_journal<S: Source, O: Sink>(alloc: Global, source: &mut S, out: &mut O) -> Status
     ensures report { Replays (S.left source.old) (S.left source.new) (S.given source.new - S.given source.old) (O.held out.old) (O.held out.new) result }
     ensures replayed { IsReplayed result }
+    ensures rest { IsRefusal result → LeavesBehind result (S.left source.old) (S.left source.new) }
     ensures ended { result ≡ Status.Ok → EndsThere (S.left source.old) (S.left source.new) }
     ensures memory { result ≡ Status.Memory → out.new ≡ out.old }
     ensures read_fault { result ≡ Status.ReadFault → Rose (S.Faulty.faults source.old) (S.Faulty.faults source.new) ⊎ (S.given source.old + most_taken ≤ S.given source.new) }
@@ -239,9 +245,13 @@ pub fn replay_journal<S: Source, O: Sink>(alloc: Global, source: &mut S, out: &m
         Ok(reader) => reader,
         Err(Memory) => return Status::Memory,
     };
+    openings_are_whole();
     let (setup, start) = match open(alloc, &mut reader, source) {
         Ok(parts) => parts,
-        Err(error) => return status_of(error),
+        Err(error) => {
+            let _few = reader.ahead_len();
+            return status_of(error);
+        }
     };
     let Setup { spec, text: _ } = setup;
     let mut replay = match Replay::new(alloc, spec, start) {
@@ -252,5 +262,7 @@ pub fn replay_journal<S: Source, O: Sink>(alloc: Global, source: &mut S, out: &m
         Ok(()) => {}
         Err(Failed) => return Status::WriteFault,
     }
-    replay.follow(&mut reader, source, out)
+    let status = replay.follow(&mut reader, source, out);
+    let _few = reader.ahead_len();
+    status
 }

@@ -63,6 +63,8 @@ fn serve_passes<R: Wait, C: Caller, L: PodLink, K: Clock, G: Gate>(
         fault = either(is_fault(&served), fault);
         memory = either(is_memory(&served), memory);
     }
+    // Nobody is met any more, so the last client would wait for the end of its answer until all slots are done.
+    slot.caller.part();
     (fault, memory)
 }
 

@@ -1,11 +1,11 @@
 //! Replays one journal after the other from standard input. Of each it prints its rows as a report has them, then a line
 //! for what each event is told, then a line for where each request stands at the end, and one line more of counts. It is a
-//! test of the calls of a revision: `stdin` and `stdout` hold worked rows, and mixes with what a plain program answers.
+//! test of the calls of a revision: `stdin` and `stdout` hold worked rows, and mixes with what a plain program answers. At last
+//! it says whether the long rows went as they must.
 #![tactic(auto)]
 
+mod long;
 mod run;
-#[cfg(test)]
-mod tests;
 mod texts;
 mod trial;
 
@@ -27,5 +27,8 @@ fn main(rt: HostRuntime) -> anyhow::Result<()> {
             journal.clear();
         }
     }
+    let refuses = long::breaker_refuses_9001(alloc);
+    let overloads = long::overload_at_20001(alloc);
+    println!(rt; "9001 of 20001 are refused: {refuses}, the 20001st is one too many: {overloads}")?;
     Ok(())
 }

@@ -6,7 +6,7 @@ use Rattle.kn_replay.specs.declared.command.Command.{Command}
 use Rattle.kn_replay.specs.declared.command.Command.TheVariants as command
 use Rattle.kn_replay.specs.Commands.{command_of}
 use Rattle.kn_replay.specs.Generating.{Generates}
-use Rattle.kn_replay.specs.Replaying.{IsReplayed, Replays}
+use Rattle.kn_replay.specs.Replaying.{IsRefusal, IsReplayed, LeavesBehind, Replays}
 use Rattle.kn_replay.proofs.Generating.{of_same}
 use Rattle.kn_replay.proofs.Replays.{never_usage}
 use Rattle.kn_replay.proofs.command.run.Goals as goal
@@ -53,6 +53,10 @@ returns-in-None-clause-report g c is =
 pub returns-in-None-clause-only : goal.returns-in-None-clause-only
 returns-in-None-clause-only g c =
     inl c.tell.ensures.same
+
+pub returns-in-None-clause-rest : goal.returns-in-None-clause-rest
+returns-in-None-clause-rest g c is refused =
+    absurd (none_replays _ (sym c.command_of.ensures.value ∙ c.in-None.is) is)
 
 pub returns-in-None-clause-ended : goal.returns-in-None-clause-ended
 returns-in-None-clause-ended g c is ok =
@@ -126,6 +130,12 @@ pub returns-in-Some-Replay-clause-report : goal.returns-in-Some-Replay-clause-re
 returns-in-Some-Replay-clause-report g c is =
     subst (λ (x : Status). Replays (g.S.Source.left c.args.input.now) (g.S.Source.left c.replay_journal.new.source) (g.S.Source.given c.replay_journal.new.source - g.S.Source.given c.args.input.now) (g.O.Sink.held c.args.out.now) (g.O.Sink.held c.replay_journal.new.out) x) (sym c.tell-in-Some-Replay.ensures.same) c.replay_journal.ensures.report
 
+pub returns-in-Some-Replay-clause-rest : goal.returns-in-Some-Replay-clause-rest
+returns-in-Some-Replay-clause-rest g c is refused =
+    let same = c.tell-in-Some-Replay.ensures.same in
+    let rest = c.replay_journal.ensures.rest (subst IsRefusal same refused) in
+    subst (λ (x : Status). LeavesBehind x (g.S.Source.left c.args.input.now) (g.S.Source.left c.replay_journal.new.source)) (sym same) rest
+
 pub returns-in-Some-Replay-clause-ended : goal.returns-in-Some-Replay-clause-ended
 returns-in-Some-Replay-clause-ended g c is ok =
     c.replay_journal.ensures.ended (sym c.tell-in-Some-Replay.ensures.same ∙ ok)
@@ -188,6 +198,10 @@ returns-in-Some-Generate-clause-write_fault g c is =
 
 pub returns-in-Some-Generate-clause-report : goal.returns-in-Some-Generate-clause-report
 returns-in-Some-Generate-clause-report g c is =
+    absurd (replay_or_generate _ c.in-Some-Generate.seed c.in-Some-Generate.count is (sym c.command_of.ensures.value ∙ c.in-Some-Generate.is ∙ ap (λ (k : Command). Some k) c.in-Some-Generate.field-0-is))
+
+pub returns-in-Some-Generate-clause-rest : goal.returns-in-Some-Generate-clause-rest
+returns-in-Some-Generate-clause-rest g c is refused =
     absurd (replay_or_generate _ c.in-Some-Generate.seed c.in-Some-Generate.count is (sym c.command_of.ensures.value ∙ c.in-Some-Generate.is ∙ ap (λ (k : Command). Some k) c.in-Some-Generate.field-0-is))
 
 pub returns-in-Some-Generate-clause-ended : goal.returns-in-Some-Generate-clause-ended

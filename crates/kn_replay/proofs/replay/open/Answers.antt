@@ -4,7 +4,9 @@ use Rattle.kn_journal.specs.declared.error.JournalError.{JournalError}
 use Rattle.kn_journal.specs.declared.journal.Opening.{Opening}
 use Rattle.kn_journal.specs.Journal.{opening_part, version_of}
 use Rattle.kn_journal.specs.Reading.{unread}
-use Rattle.kn_journal.specs.Telling.{Gives, Refuses, StopsAmid}
+use Rattle.kn_journal.specs.Telling.{Gives, IsLineFault, LeavesRest, Refuses, StopsAmid}
+use Rattle.kn_replay.specs.Replaying.{IsBehind, IsRefusal, status_of}
+use Rattle.kn_replay.proofs.Behind.{setup_behind, start_behind}
 use Rattle.kn_replay.proofs.Replays.{setup_fails, start_fails}
 use Rattle.kn_replay.proofs.replay.open.Goals as goal
 
@@ -15,6 +17,24 @@ returns-in-Err-clause-opens g c =
     setup_fails old new c.setup.new.self.version c.setup.new.self.number c.in-Err.error
     (subst (λ (n : ℕ). Refuses (opening_part version_of n) c.in-Err.error old) c.requires.number (c.in-Err.ensures.tells c.requires.good))
     (λ is. subst (λ (n : ℕ). StopsAmid (opening_part version_of n) old new) c.requires.number (c.setup.ensures.amid c.requires.good (c.in-Err.is ∙ ap (λ (e : JournalError). Err e) is)))
+
+pub returns-in-Err-clause-rest : goal.returns-in-Err-clause-rest
+returns-in-Err-clause-rest g c =
+    let old = unread c.args.reader.now.input (g.S.Source.left c.args.source.now) in
+    let new = unread c.setup.new.self.input (g.S.Source.left c.setup.new.source) in
+    setup_behind old new c.in-Err.error
+    (subst (λ (n : ℕ). IsLineFault c.in-Err.error → LeavesRest (opening_part version_of n) c.in-Err.error old new) c.requires.number (c.in-Err.ensures.rest c.requires.good))
+
+pub returns-in-Err-start-clause-rest : goal.returns-in-Err-start-clause-rest
+returns-in-Err-start-clause-rest g c =
+    let old = unread c.args.reader.now.input (g.S.Source.left c.args.source.now) in
+    let mid = unread c.setup.new.self.input (g.S.Source.left c.setup.new.source) in
+    let new = unread c.start.new.self.input (g.S.Source.left c.start.new.source) in
+    let good = c.in-Ok.ensures.good in
+    let opening : Opening = record { version = c.setup.new.self.version; setup = c.in-Ok.setup } in
+    start_behind old mid new opening c.setup.new.self.number c.in-Err-start.error c.openings_are_whole.ensures.opening
+    (subst (λ (n : ℕ). Gives (opening_part version_of n) opening c.setup.new.self.number old mid) c.requires.number (c.in-Ok.ensures.tells c.requires.good))
+    (c.in-Err-start.ensures.rest good)
 
 pub returns-in-Err-start-clause-opens : goal.returns-in-Err-start-clause-opens
 returns-in-Err-start-clause-opens g c =

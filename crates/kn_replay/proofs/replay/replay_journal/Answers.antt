@@ -13,9 +13,10 @@ use Rattle.kn_journal.specs.declared.journal.Setup.{Setup}
 use Rattle.kn_journal.specs.declared.status.Status.{Status}
 use Rattle.kn_journal.specs.declared.status.Status.TheVariants as status
 use Rattle.kn_journal.specs.Reading.{unread}
-use Rattle.kn_replay.specs.Replaying.{Follows, Opens, Replays, status_of}
+use Rattle.kn_replay.specs.Replaying.{Follows, FollowsBehind, IsBehind, IsRefusal, LeavesBehind, Opens, Replays, status_of}
 use Rattle.kn_replay.specs.Tally.{Counted}
 use Rattle.kn_replay.specs.Waiting.{Adds}
+use Rattle.kn_replay.proofs.Behind.{journal_behind}
 use Rattle.kn_replay.proofs.Replays.{beyond_is, either, ends_left, ends_opened, fault_of, followed_replayed, journal_cut, journal_fails, journal_follows, journal_memory, never_memory, never_ok, no_write_fault, nothing_ahead, rose_on}
 use Rattle.kn_replay.proofs.replay.replay_journal.Goals as goal
 
@@ -25,6 +26,9 @@ returns-in-Err-clause-report g c =
 
 pub returns-in-Err-clause-ended : goal.returns-in-Err-clause-ended
 returns-in-Err-clause-ended g c is = cc
+
+pub returns-in-Err-clause-rest : goal.returns-in-Err-clause-rest
+returns-in-Err-clause-rest g c refused = absurd refused
 
 pub returns-in-Err-clause-memory : goal.returns-in-Err-clause-memory
 returns-in-Err-clause-memory g c is = refl
@@ -60,6 +64,14 @@ returns-in-Err-open-clause-replayed g c = c.status_of.ensures.replayed
 pub returns-in-Err-open-clause-ended : goal.returns-in-Err-open-clause-ended
 returns-in-Err-open-clause-ended g c is = absurd (never_ok c.in-Err-open.error (sym c.status_of.ensures.value ∙ is))
 
+pub returns-in-Err-open-clause-rest : goal.returns-in-Err-open-clause-rest
+returns-in-Err-open-clause-rest g c refused =
+    let new = unread c.open.new.reader.input (g.S.Source.left c.open.new.source) in
+    let start = nothing_ahead c.in-Ok.reader.input.ahead (g.S.Source.left c.args.source.now) c.in-Ok.ensures.ahead in
+    let is = c.status_of.ensures.value in
+    let behind = subst (λ (x : Option (List ℕ)). IsBehind (status_of c.in-Err-open.error) x new) start (c.in-Err-open.ensures.rest (subst IsRefusal is refused)) in
+    (c.open.new.reader.input.ahead, c.ahead_len-few.ensures.most, subst (λ (x : Status). IsBehind x (g.S.Source.left c.args.source.now) new) (sym is) behind)
+
 pub returns-in-Err-open-clause-memory : goal.returns-in-Err-open-clause-memory
 returns-in-Err-open-clause-memory g c is = refl
 
@@ -88,6 +100,9 @@ returns-in-Err-new-clause-report g c =
 pub returns-in-Err-new-clause-ended : goal.returns-in-Err-new-clause-ended
 returns-in-Err-new-clause-ended g c is = cc
 
+pub returns-in-Err-new-clause-rest : goal.returns-in-Err-new-clause-rest
+returns-in-Err-new-clause-rest g c refused = absurd refused
+
 pub returns-in-Err-new-clause-memory : goal.returns-in-Err-new-clause-memory
 returns-in-Err-new-clause-memory g c is = refl
 
@@ -113,6 +128,9 @@ returns-in-Err-put_rows-clause-report g c =
 pub returns-in-Err-put_rows-clause-ended : goal.returns-in-Err-put_rows-clause-ended
 returns-in-Err-put_rows-clause-ended g c is = cc
 
+pub returns-in-Err-put_rows-clause-rest : goal.returns-in-Err-put_rows-clause-rest
+returns-in-Err-put_rows-clause-rest g c refused = absurd refused
+
 pub returns-in-Err-put_rows-clause-memory : goal.returns-in-Err-put_rows-clause-memory
 returns-in-Err-put_rows-clause-memory g c is = cc
 
@@ -128,27 +146,27 @@ returns-in-Err-put_rows-clause-never_falls g c = c.open.ensures.never_falls
 pub returns-in-Err-put_rows-clause-out_never_falls : goal.returns-in-Err-put_rows-clause-out_never_falls
 returns-in-Err-put_rows-clause-out_never_falls g c = c.put_rows.ensures.cause.never_falls
 
-pub follow-requires-clause-good : goal.follow-requires-clause-good
-follow-requires-clause-good g c = c.in-Ok-open.ensures.good
+pub follow-status-requires-clause-good : goal.follow-status-requires-clause-good
+follow-status-requires-clause-good g c = c.in-Ok-open.ensures.good
 
-pub follow-requires-clause-last : goal.follow-requires-clause-last
-follow-requires-clause-last g c =
+pub follow-status-requires-clause-last : goal.follow-status-requires-clause-last
+follow-status-requires-clause-last g c =
     c.in-Ok-open.ensures.start ∙ sym (ap (λ (r : RevisionState). r.clock) c.put_rows.ensures.revision ∙ c.in-Ok-new.ensures.clock)
 
-pub follow-requires-clause-clock : goal.follow-requires-clause-clock
-follow-requires-clause-clock g c =
+pub follow-status-requires-clause-clock : goal.follow-status-requires-clause-clock
+follow-status-requires-clause-clock g c =
     let clock = ap (λ (r : RevisionState). r.clock) c.put_rows.ensures.revision ∙ c.in-Ok-new.ensures.clock in
     omega (arith, clock, c.in-Ok-open.ensures.most)
 
-pub follow-requires-clause-events : goal.follow-requires-clause-events
-follow-requires-clause-events g c =
+pub follow-status-requires-clause-events : goal.follow-status-requires-clause-events
+follow-status-requires-clause-events g c =
     ap (λ (r : RevisionState). r.events) c.put_rows.ensures.revision ∙ c.in-Ok-new.ensures.events
 
-pub follow-requires-clause-few : goal.follow-requires-clause-few
-follow-requires-clause-few g c = c.in-Ok-open.ensures.few
+pub follow-status-requires-clause-few : goal.follow-status-requires-clause-few
+follow-status-requires-clause-few g c = c.in-Ok-open.ensures.few
 
-pub follow-requires-clause-rows : goal.follow-requires-clause-rows
-follow-requires-clause-rows g c =
+pub follow-status-requires-clause-rows : goal.follow-status-requires-clause-rows
+follow-status-requires-clause-rows g c =
     let rows = ap (λ (n : Counted). n.rows) c.put_rows.ensures.counted in
     omega (arith, rows, c.in-Ok-new.ensures.rows)
 
@@ -158,44 +176,59 @@ returns-clause-report g c =
     let opens = subst (λ (x : Option (List ℕ)). Opens x (unread c.open.new.reader.input (g.S.Source.left c.open.new.source)) c.open.new.reader.version c.open.new.reader.number (Ok c.in-Ok-open.parts)) start c.in-Ok-open.ensures.opens in
     let begun = opening c.in-Ok-open.parts.0.spec c.in-Ok-open.parts.1 in
     let left = (unread c.open.new.reader.input (g.S.Source.left c.open.new.source)) in
-    let rest = unread c.follow.new.reader.input (g.S.Source.left c.follow.new.source) in
+    let rest = unread c.follow-status.new.reader.input (g.S.Source.left c.follow-status.new.source) in
     let stands = subst (λ (r : RevisionState). StandsFor r begun) (sym c.put_rows.ensures.revision) c.in-Ok-new.ensures.stands in
     let counts = ap (λ (n : Counted). n.totals) c.put_rows.ensures.counted ∙ c.in-Ok-new.ensures.totals in
     let spec = ap (λ (r : RevisionState). r.spec) c.put_rows.ensures.revision ∙ c.in-Ok-new.ensures.spec in
-    let one = subst (λ (s : Spec). Follows c.open.new.reader.version s begun c.open.new.reader.last c.open.new.reader.number left rest c.put_rows.new.self.waiting (g.O.Sink.held c.put_rows.new.out) (g.O.Sink.held c.follow.new.out) c.follow.result) spec (c.follow.ensures.follows begun stands counts) in
-    let follows = subst (λ (n : ℕ). Follows c.open.new.reader.version c.in-Ok-open.parts.0.spec begun n c.open.new.reader.number left rest c.put_rows.new.self.waiting (g.O.Sink.held c.put_rows.new.out) (g.O.Sink.held c.follow.new.out) c.follow.result) c.in-Ok-open.ensures.start one in
+    let one = subst (λ (s : Spec). Follows c.open.new.reader.version s begun c.open.new.reader.last c.open.new.reader.number left rest c.put_rows.new.self.waiting (g.O.Sink.held c.put_rows.new.out) (g.O.Sink.held c.follow-status.new.out) c.follow-status.result) spec (c.follow-status.ensures.follows begun stands counts) in
+    let follows = subst (λ (n : ℕ). Follows c.open.new.reader.version c.in-Ok-open.parts.0.spec begun n c.open.new.reader.number left rest c.put_rows.new.self.waiting (g.O.Sink.held c.put_rows.new.out) (g.O.Sink.held c.follow-status.new.out) c.follow-status.result) c.in-Ok-open.ensures.start one in
     let adds = rw (c.in-Ok-new.ensures.waiting, c.in-Ok-new.ensures.log) at c.in-Ok-put_rows.ensures.ok in
-    journal_follows (g.S.Source.left c.args.source.now) left (g.S.Source.left c.follow.new.source) c.follow.new.reader.input.ahead (g.S.Source.given c.follow.new.source - g.S.Source.given c.args.source.now) c.open.new.reader.version c.in-Ok-open.parts.0 c.in-Ok-open.parts.1 c.open.new.reader.number (g.O.Sink.held c.args.out.now) (g.O.Sink.held c.put_rows.new.out) (g.O.Sink.held c.follow.new.out) c.put_rows.new.self.waiting c.follow.result opens adds follows c.follow.ensures.followed
-    (λ is. beyond_is c.follow.new.reader.input _ (omega (arith, c.open.ensures.balance, c.follow.ensures.balance, c.in-Ok.ensures.taken, ap length c.in-Ok.ensures.ahead)) (c.follow.ensures.spent is))
+    journal_follows (g.S.Source.left c.args.source.now) left (g.S.Source.left c.follow-status.new.source) c.follow-status.new.reader.input.ahead (g.S.Source.given c.follow-status.new.source - g.S.Source.given c.args.source.now) c.open.new.reader.version c.in-Ok-open.parts.0 c.in-Ok-open.parts.1 c.open.new.reader.number (g.O.Sink.held c.args.out.now) (g.O.Sink.held c.put_rows.new.out) (g.O.Sink.held c.follow-status.new.out) c.put_rows.new.self.waiting c.follow-status.result opens adds follows c.follow-status.ensures.followed
+    (λ is. beyond_is c.follow-status.new.reader.input _ (omega (arith, c.open.ensures.balance, c.follow-status.ensures.balance, c.in-Ok.ensures.taken, ap length c.in-Ok.ensures.ahead)) (c.follow-status.ensures.spent is))
 
 pub returns-clause-replayed : goal.returns-clause-replayed
-returns-clause-replayed g c = followed_replayed c.follow.result c.follow.ensures.followed
+returns-clause-replayed g c = followed_replayed c.follow-status.result c.follow-status.ensures.followed
 
 pub returns-clause-ended : goal.returns-clause-ended
 returns-clause-ended g c is =
     let start = nothing_ahead c.in-Ok.reader.input.ahead (g.S.Source.left c.args.source.now) c.in-Ok.ensures.ahead in
     let opens = subst (λ (x : Option (List ℕ)). Opens x (unread c.open.new.reader.input (g.S.Source.left c.open.new.source)) c.open.new.reader.version c.open.new.reader.number (Ok c.in-Ok-open.parts)) start c.in-Ok-open.ensures.opens in
-    ends_opened (g.S.Source.left c.args.source.now) (unread c.open.new.reader.input (g.S.Source.left c.open.new.source)) (g.S.Source.left c.follow.new.source) c.open.new.reader.version c.open.new.reader.number c.in-Ok-open.parts opens
-    (ends_left (unread c.open.new.reader.input (g.S.Source.left c.open.new.source)) (g.S.Source.left c.follow.new.source) c.follow.new.reader.input.ahead (c.follow.ensures.ended is))
+    ends_opened (g.S.Source.left c.args.source.now) (unread c.open.new.reader.input (g.S.Source.left c.open.new.source)) (g.S.Source.left c.follow-status.new.source) c.open.new.reader.version c.open.new.reader.number c.in-Ok-open.parts opens
+    (ends_left (unread c.open.new.reader.input (g.S.Source.left c.open.new.source)) (g.S.Source.left c.follow-status.new.source) c.follow-status.new.reader.input.ahead (c.follow-status.ensures.ended is))
+
+pub returns-clause-rest : goal.returns-clause-rest
+returns-clause-rest g c refused =
+    let start = nothing_ahead c.in-Ok.reader.input.ahead (g.S.Source.left c.args.source.now) c.in-Ok.ensures.ahead in
+    let opens = subst (λ (x : Option (List ℕ)). Opens x (unread c.open.new.reader.input (g.S.Source.left c.open.new.source)) c.open.new.reader.version c.open.new.reader.number (Ok c.in-Ok-open.parts)) start c.in-Ok-open.ensures.opens in
+    let begun = opening c.in-Ok-open.parts.0.spec c.in-Ok-open.parts.1 in
+    let left = (unread c.open.new.reader.input (g.S.Source.left c.open.new.source)) in
+    let rest = unread c.follow-status.new.reader.input (g.S.Source.left c.follow-status.new.source) in
+    let stands = subst (λ (r : RevisionState). StandsFor r begun) (sym c.put_rows.ensures.revision) c.in-Ok-new.ensures.stands in
+    let counts = ap (λ (n : Counted). n.totals) c.put_rows.ensures.counted ∙ c.in-Ok-new.ensures.totals in
+    let follows = subst (λ (n : ℕ). FollowsBehind c.open.new.reader.version n c.open.new.reader.number c.follow-status.result left rest) c.in-Ok-open.ensures.start (c.follow-status.ensures.rest begun stands counts refused) in (
+      c.follow-status.new.reader.input.ahead,
+      c.ahead_len-few-2.ensures.most,
+      journal_behind (g.S.Source.left c.args.source.now) left rest c.open.new.reader.version c.in-Ok-open.parts.0 c.in-Ok-open.parts.1 c.open.new.reader.number c.follow-status.result c.openings_are_whole.ensures.opening c.openings_are_whole.ensures.start opens follows,
+    )
 
 pub returns-clause-memory : goal.returns-clause-memory
-returns-clause-memory g c is = absurd (never_memory c.follow.result c.follow.ensures.followed is)
+returns-clause-memory g c is = absurd (never_memory c.follow-status.result c.follow-status.ensures.followed is)
 
 pub returns-clause-read_fault : goal.returns-clause-read_fault
 returns-clause-read_fault g c is =
-    either (c.follow.ensures.read_fault is) (rose_on _ _ _ c.open.ensures.never_falls)
-    (λ all. omega (arith, all, c.open.ensures.balance, c.follow.ensures.balance, c.in-Ok.ensures.taken, ap length c.in-Ok.ensures.ahead))
+    either (c.follow-status.ensures.read_fault is) (rose_on _ _ _ c.open.ensures.never_falls)
+    (λ all. omega (arith, all, c.open.ensures.balance, c.follow-status.ensures.balance, c.in-Ok.ensures.taken, ap length c.in-Ok.ensures.ahead))
 
 pub returns-clause-write_fault : goal.returns-clause-write_fault
 returns-clause-write_fault g c is =
-    rose_on _ _ _ c.put_rows.ensures.cause.never_falls (c.follow.ensures.write_fault is)
+    rose_on _ _ _ c.put_rows.ensures.cause.never_falls (c.follow-status.ensures.write_fault is)
 
 pub returns-clause-never_falls : goal.returns-clause-never_falls
-returns-clause-never_falls g c = omega (arith, c.open.ensures.never_falls, c.follow.ensures.never_falls)
+returns-clause-never_falls g c = omega (arith, c.open.ensures.never_falls, c.follow-status.ensures.never_falls)
 
 pub returns-clause-out_never_falls : goal.returns-clause-out_never_falls
 returns-clause-out_never_falls g c =
-    omega (arith, c.put_rows.ensures.cause.never_falls, c.follow.ensures.out_never_falls)
+    omega (arith, c.put_rows.ensures.cause.never_falls, c.follow-status.ensures.out_never_falls)
 
 pub same-replay : goal.same-replay
 same-replay g c = refl

@@ -16,6 +16,7 @@ use Rattle.kn_journal.specs.Journal.{next_part}
 use Rattle.kn_journal.specs.Telling.{Gives, Refuses}
 use Rattle.kn_replay.specs.Replaying.{Stops, status_of}
 use Rattle.kn_replay.specs.Waiting.{Adds}
+use Rattle.kn_replay.proofs.Behind.{goes_behind, stop_refused, stop_unrefused}
 use Rattle.kn_replay.proofs.Pieces.{rows_text-nil}
 use Rattle.kn_replay.proofs.Waits.{adds_nothing, adds_trans}
 use Rattle.kn_replay.proofs.Replays.{added-nil, either, ends_there, fault_of, followed_of, goes_begin, goes_cut, goes_full, goes_good, goes_more, goes_stop, no_write_fault, rose_on, rows-more, still_begin, still_more, stop_followed, stop_reads, trace-more}
@@ -58,6 +59,9 @@ returns-in-Ok-None-clause-follows g c d stands counts =
     goes_good c.args.reader.now.version c.args.self.now.revision.spec d c.args.reader.now.last c.args.reader.now.number (unread c.args.reader.now.input (g.S.Source.left c.args.source.now)) c.args.self.now.waiting c.loop-count.self.waiting (g.O.Sink.held c.args.out.now) (g.O.Sink.held c.loop-count.out) (g.O.Sink.held c.end.new.out) on.0 c.loop-count.reader.last c.loop-count.reader.number (unread c.loop-count.reader.input (g.S.Source.left c.loop-count.source)) c.next.new.self.number (unread c.next.new.self.input (g.S.Source.left c.next.new.source)) c.end.result
     on.5 gives on.4 (rw (version, ← on.3, on.2) at c.end.ensures.stops)
 
+pub returns-in-Ok-None-clause-rest : goal.returns-in-Ok-None-clause-rest
+returns-in-Ok-None-clause-rest g c d stands counts refused = absurd (stop_unrefused _ _ _ status.Ok c.end.result c.end.ensures.stops (λ h. h) refused)
+
 pub returns-in-Ok-None-clause-ended : goal.returns-in-Ok-None-clause-ended
 returns-in-Ok-None-clause-ended g c ok =
     let kept = c.loop-count.invariant in
@@ -86,6 +90,14 @@ returns-in-Err-clause-follows g c d stands counts =
     (λ is. c.next.ensures.amid kept.good (c.in-Err.is ∙ ap (λ (e : JournalError). Err e) is))
     (λ is. c.next.ensures.memory kept.good (c.in-Err.is ∙ ap (λ (e : JournalError). Err e) is))
     on.4 (rw c.status_of.ensures.value at c.stop.ensures.stops)
+
+pub returns-in-Err-clause-rest : goal.returns-in-Err-clause-rest
+returns-in-Err-clause-rest g c d stands counts refused =
+    let kept = c.loop-count.invariant in
+    let on = kept.on d stands counts in
+    let said = stop_refused _ _ _ c.in-Err.error c.stop.result (rw c.status_of.ensures.value at c.stop.ensures.stops) refused in
+    goes_behind c.args.reader.now.version c.args.reader.now.last c.args.reader.now.number (unread c.args.reader.now.input (g.S.Source.left c.args.source.now)) on.0 c.loop-count.reader.last c.loop-count.reader.number (unread c.loop-count.reader.input (g.S.Source.left c.loop-count.source)) (unread c.next.new.self.input (g.S.Source.left c.next.new.source)) c.in-Err.error c.stop.result
+    on.5 (rw kept.version at (c.in-Err.ensures.rest kept.good said.1)) said.0
 
 pub returns-in-Err-clause-followed : goal.returns-in-Err-clause-followed
 returns-in-Err-clause-followed g c =
@@ -137,6 +149,9 @@ returns-in-Err-put_rows-clause-follows g c d stands counts =
     let rows = c.take.ensures.log _ on.1 ∙ ap (λ (s : Spec). react s (d ++ added c.args.self.now.revision.spec d on.0) c.in-Ok-Some.e) kept.spec in
     goes_cut c.args.reader.now.version c.args.self.now.revision.spec d c.args.reader.now.last c.args.reader.now.number (unread c.args.reader.now.input (g.S.Source.left c.args.source.now)) c.args.self.now.waiting c.loop-count.self.waiting (g.O.Sink.held c.args.out.now) (g.O.Sink.held c.loop-count.out) (g.O.Sink.held c.put_rows.new.out) on.0 c.loop-count.reader.last c.loop-count.reader.number (unread c.loop-count.reader.input (g.S.Source.left c.loop-count.source)) c.in-Ok-Some.e c.next.new.self.number left left
     on.5 gives on.4 (rw (c.take.ensures.waiting, rows) at c.in-Err-put_rows.ensures.err)
+
+pub returns-in-Err-put_rows-clause-rest : goal.returns-in-Err-put_rows-clause-rest
+returns-in-Err-put_rows-clause-rest g c d stands counts refused = absurd refused
 
 pub returns-in-Err-put_rows-clause-write_fault : goal.returns-in-Err-put_rows-clause-write_fault
 returns-in-Err-put_rows-clause-write_fault g c is = rose_on _ _ _ c.loop-count.invariant.write c.in-Err-put_rows.ensures.cause.failed
@@ -195,6 +210,9 @@ returns-clause-follows g c d stands counts =
     let on = c.loop-count.invariant.on d stands counts in
     goes_full c.args.reader.now.version c.args.self.now.revision.spec d c.args.reader.now.last c.args.reader.now.number (unread c.args.reader.now.input (g.S.Source.left c.args.source.now)) c.args.self.now.waiting c.loop-count.self.waiting (g.O.Sink.held c.args.out.now) (g.O.Sink.held c.loop-count.out) (g.O.Sink.held c.stop-2.new.out) on.0 c.loop-count.reader.last c.loop-count.reader.number (unread c.loop-count.reader.input (g.S.Source.left c.loop-count.source)) c.stop-2.result
     on.5 on.4 c.stop-2.ensures.stops
+
+pub returns-clause-rest : goal.returns-clause-rest
+returns-clause-rest g c d stands counts refused = absurd (stop_unrefused _ _ _ status.ReadFault c.stop-2.result c.stop-2.ensures.stops (λ h. h) refused)
 
 pub returns-clause-read_fault : goal.returns-clause-read_fault
 returns-clause-read_fault g c fault = inr (omega (arith, c.loop-count.invariant.taken, c.loop-count-test.false))

@@ -1,3 +1,0 @@
-//! Runs that are too long for `stdin`.
-
-mod long;
