@@ -51,11 +51,11 @@ all_at p text xs i lt e =
 
 pub stripped : {bytes : List ℕ} {n : ℕ} (piece rest : List ℕ) (r : Option (Bor (List ℕ))) → bytes ≡ piece ++ rest → length piece ≡ n
     → MatchOption r (bytes_eq (take 2 rest) (13 ∷ 10 ∷ []) ≡ false)
-        (λ x. (bytes_eq (take 2 rest) (13 ∷ 10 ∷ []) ≡ true) × (x.now ≡ drop 2 rest) × (length x.now + 2 ≡ length rest))
+    (λ x. (bytes_eq (take 2 rest) (13 ∷ 10 ∷ []) ≡ true) × (x.now ≡ drop 2 rest) × (length x.now + 2 ≡ length rest))
     → IfSome r (λ more. (front : List ℕ) × (bytes ≡ front ++ (13 ∷ 10 ∷ more.now)) × (length front ≡ n))
 stripped piece rest None split size found = tt
 stripped {bytes} {n} piece rest (Some x) split size found =
     let front = (bytes_eq-Decides (take 2 rest) (13 ∷ 10 ∷ [])).0 found.0 in
     let whole : rest ≡ 13 ∷ 10 ∷ x.now =
-        sym (take-append-drop 2 rest) ∙ (ap (λ l. l ++ drop 2 rest) front ∙ ap (λ l. 13 ∷ 10 ∷ l) (sym found.1)) in
+    sym (take-append-drop 2 rest) ∙ (ap (λ l. l ++ drop 2 rest) front ∙ ap (λ l. 13 ∷ 10 ∷ l) (sym found.1)) in
     (piece, split ∙ ap (λ l. piece ++ l) whole, size)

@@ -7,6 +7,7 @@ use std::time::Duration;
 
 /// How many pieces that a client still sends are dropped at most, and how many bytes one has: together a MiB.
 const DROPPED_PIECES: u32 = 256;
+
 const DROPPED_PIECE: usize = 4_096;
 
 /// How many milliseconds one piece is waited for: all together about a second, as far as the system's ticks allow.

@@ -7,11 +7,10 @@ use crate::reply::is_whole;
 use kn_event::{Items, Text};
 use kn_io::{Failed, Faulty, LinkError, PIECE, PodLink, fault};
 use std::alloc::Global;
-use std::io;
 use std::io::{ErrorKind, Read, Write};
 use std::net::{Net, OpenStream, ToSocketAddrs};
-use std::str;
 use std::time::Duration;
+use std::{io, str};
 
 /// How many seconds a probe waits for a connection with one address of the pod.
 const PROBE_WAIT: u64 = 1;

@@ -212,7 +212,10 @@ fn replies_that_are_cut_are_faults(rt: HostRuntime) -> Result<(), Fail> {
     let (listener, address) = listening(&rt)?;
     let mut link = link_to(&rt, &[address.as_bytes()])?;
     let alloc = rt.alloc();
-    assert_eq!(rt; exchange(&rt, alloc, &listener, &mut link, WHOLE, 0), Some(43));
+    assert_eq!(rt;
+        exchange(&rt, alloc, &listener, &mut link, WHOLE, 0),
+        Some(43)
+    );
     assert_eq!(rt; link.faults(), 0);
     // Nothing, a part of a head, a body without its last byte, and chunks without the last one.
     let cut: [&[u8]; 4] = [
@@ -222,7 +225,11 @@ fn replies_that_are_cut_are_faults(rt: HostRuntime) -> Result<(), Fail> {
         b"HTTP/1.1 200 OK\r\nTransfer-Encoding: chunked\r\n\r\n5\r\nhello\r\n",
     ];
     for (i, reply) in cut.iter().enumerate() {
-        assert_eq!(rt; exchange(&rt, alloc, &listener, &mut link, reply, 0), None, "reply {i}");
+        assert_eq!(rt;
+            exchange(&rt, alloc, &listener, &mut link, reply, 0),
+            None,
+            "reply {i}"
+        );
         assert_eq!(rt; link.faults(), i as u64 + 1);
     }
     Ok(())
