@@ -1,17 +1,16 @@
 //! How a client's connection ends.
 
+use kn_io::PIECE;
 use std::io;
 use std::io::{ErrorKind, Read};
 use std::net::{Shutdown, TcpStream};
 use std::time::Duration;
 
-/// How many pieces that a client still sends are dropped at most, and how many bytes one has: together a MiB.
-const DROPPED_PIECES: u32 = 256;
+/// How many pieces that a client still sends are dropped at most: together a MiB.
+const DROPPED_PIECES: u32 = 128;
 
-const DROPPED_PIECE: usize = 4_096;
-
-/// How many milliseconds one piece is waited for: all together about a second, as far as the system's ticks allow.
-const DROP_WAIT: u64 = 4;
+/// How many milliseconds one of them is waited for, which the system rounds up to its ticks: together about a second.
+const DROP_WAIT: u64 = 8;
 
 /// Closes a connection. Closing one that has unread bytes resets it, and the client may then lose the end of its answer.
 /// So where there are some, the client is told that the answer has ended, and what it sends is dropped, until it closes
@@ -37,7 +36,7 @@ fn end_answer(stream: &TcpStream) -> io::Result<()> {
 
 /// Reads on, until the client closes.
 fn drop_rest<R: Read>(stream: &mut R) {
-    let mut piece = [0; DROPPED_PIECE];
+    let mut piece = [0; PIECE];
     for _ in 0..DROPPED_PIECES {
         match stream.read(&mut piece) {
             Ok(0) => break,
