@@ -3,8 +3,9 @@ ghost use Rattle.std.specs.Prelude.{◌≡◌, ◌≤◌, [], All, OnOk, length}
 ghost use Rattle.kn_serve.specs.Opening.{IsEmptyWork};
 
 use kn_event::{Items, Memory, Text};
-use kn_io::{Faulty, TcpCaller, TcpLink};
+use kn_io::Faulty;
 use kn_serve::{OpenError, Opener, Plan, Slot, Work};
+use kn_tcp::{TcpCaller, TcpLink};
 use std::alloc::Global;
 use std::net::{Net, TcpListener, TcpStream};
 use std::str;

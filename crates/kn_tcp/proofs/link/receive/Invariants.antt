@@ -1,5 +1,5 @@
 use Rattle.std.proofs.Common.{vec_len, ◌≤◌}
-use Rattle.kn_io.proofs.tcp.receive.Given as goal
+use Rattle.kn_tcp.proofs.link.receive.Given as goal
 
 abbrev pub invariant-loop : goal.invariant-loop
 invariant-loop g l = vec_len l.reply ≤ 1114112

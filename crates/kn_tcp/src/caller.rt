@@ -1,0 +1,136 @@
+//! Clients that come to a listening socket.
+ghost use Rattle.std.specs.Prelude.{◌≡◌, None};
+
+use crate::closing::finish;
+use kn_io::{Caller, Failed, Faulty, PIECE, Sink, Source, fault, read_piece};
+use std::io;
+use std::io::{ErrorKind, Write};
+use std::net::{TcpListener, TcpStream};
+use std::time::Duration;
+
+/// How many seconds one read or write of a client's connection waits.
+const CLIENT_WAIT: u64 = 60;
+
+/// How often a connection is accepted anew where the client before has gone.
+const TRIES: u32 = 10;
+
+/// A caller whose connections come to a listening socket, which other callers may share. A connection is closed before
+/// the next is taken. Each error is a fault, and so are a write of 0 bytes of a piece that isn't empty, a read or write
+/// before the first connection, and a read for which the count of the bytes given has no room.
+#[derive(Drop)]
+pub struct TcpCaller {
+    listener: TcpListener,
+    stream: Option<TcpStream>,
+    buffer: [u8; PIECE],
+    given: u128,
+    faults: u64,
+}
+
+impl TcpCaller {
+    /// A caller that takes its connections here, without faults so far.
+    pub fn new(listener: TcpListener) -> TcpCaller
+        ensures faults { ⟦<TcpCaller as Faulty>⟧.faults result ≡ 0 }
+        ensures given { ⟦<TcpCaller as Source>⟧.given result ≡ 0 }
+    {
+        TcpCaller {
+            listener,
+            stream: None,
+            buffer: [0; PIECE],
+            given: 0,
+            faults: 0,
+        }
+    }
+}
+
+/// The next connection. A client that went away before its turn is passed over, up to ten in a row.
+fn accept(listener: &TcpListener) -> io::Result<TcpStream> {
+    let mut last = io::Error::from(ErrorKind::ConnectionAborted);
+    for _ in 0..TRIES {
+        match listener.accept() {
+            Ok((stream, _)) => return Ok(stream),
+            Err(e) => last = e,
+        }
+        if last.kind() != ErrorKind::ConnectionAborted {
+            break;
+        }
+    }
+    Err(last)
+}
+
+/// The next connection, whose reads and writes don't wait for ever.
+fn accept_in_time(listener: &TcpListener) -> io::Result<TcpStream> {
+    let stream = accept(listener)?;
+    stream.set_read_timeout(Some(Duration::from_secs(CLIENT_WAIT)))?;
+    stream.set_write_timeout(Some(Duration::from_secs(CLIENT_WAIT)))?;
+    Ok(stream)
+}
+
+impl Faulty for TcpCaller {
+    ghost faults = { λ c. c.faults };
+
+    fn faults(&self) -> u64 {
+        self.faults
+    }
+}
+
+impl Source for TcpCaller {
+    ghost left = { λ _. None };
+
+    ghost apart = { λ _. None };
+
+    ghost given = { λ c. c.given };
+
+    fn read(&mut self, buf: &mut [u8]) -> Result<usize, Failed> {
+        if self.given > u128::MAX - PIECE as u128 {
+            return Err(fault(&mut self.faults));
+        }
+        let Some(stream) = &mut self.stream else {
+            return Err(fault(&mut self.faults));
+        };
+        match read_piece(stream, &mut self.buffer, buf) {
+            Ok(n) => {
+                self.given += n as u128;
+                Ok(n)
+            }
+            Err(_) => Err(fault(&mut self.faults)),
+        }
+    }
+}
+
+impl Sink for TcpCaller {
+    ghost held = { λ _. None };
+
+    ghost kept = { λ _. None };
+
+    fn write(&mut self, bytes: &[u8]) -> Result<usize, Failed> {
+        let Some(stream) = &mut self.stream else {
+            return Err(fault(&mut self.faults));
+        };
+        match stream.write(bytes) {
+            Ok(n) if n > 0 || bytes.is_empty() => Ok(n),
+            Ok(_) | Err(_) => Err(fault(&mut self.faults)),
+        }
+    }
+}
+
+impl Caller for TcpCaller {
+    ghost use Rattle.std.specs.Prelude.{[]};
+
+    ghost paired = { λ _. tt };
+
+    ghost together = { λ _ i. None };
+
+    fn meet(&mut self) -> Result<(), Failed> {
+        // The client before sees the end of its answer, also while nobody else comes.
+        if let Some(stream) = self.stream.take() {
+            finish(stream);
+        }
+        match accept_in_time(&self.listener) {
+            Ok(stream) => {
+                self.stream = Some(stream);
+                Ok(())
+            }
+            Err(_) => Err(fault(&mut self.faults)),
+        }
+    }
+}

@@ -1,0 +1,15 @@
+//! TCP as callers and as links to pods. They tell no content. What std offers of time-outs is used, so that a peer that
+//! is dead holds nobody for ever.
+#![tactic(auto)]
+
+mod caller;
+mod chunks;
+mod closing;
+mod link;
+mod reply;
+
+pub use caller::TcpCaller;
+pub use link::TcpLink;
+
+#[cfg(test)]
+mod tests;

@@ -1,0 +1,166 @@
+//! Links to pods.
+ghost use Rattle.std.specs.Prelude.{◌≡◌, ◌≤◌, ◌%◌, length, None, Err, IfOk, option_copied, slice_get};
+ghost use Rattle.kn_io.specs.Causes.{Rose};
+ghost use Rattle.kn_tcp.specs.Replies.{IsWholeReply};
+
+use crate::reply::is_whole;
+use kn_event::{Items, Text};
+use kn_io::{Failed, Faulty, LinkError, PIECE, PodLink, fault};
+use std::alloc::Global;
+use std::io::{ErrorKind, Read, Write};
+use std::net::{Net, OpenStream, ToSocketAddrs};
+use std::time::Duration;
+use std::{io, str};
+
+/// How many seconds a probe waits for a connection with one address of the pod.
+const PROBE_WAIT: u64 = 1;
+
+/// How many seconds a call waits for a connection with one address of the pod.
+const CONNECT_WAIT: u64 = 10;
+
+/// How many seconds a call waits for the pod to take or to give a further piece.
+const REPLY_WAIT: u64 = 600;
+
+/// How many bytes a reply may have.
+const MOST_REPLY: usize = 1_114_112;
+
+/// A link whose pod p is the address at position p modulo their number, each spelled as a host and a port with a colon
+/// between. Each error is a fault, and so are a pod where there is no address, a reply above 1,114,112 bytes, and one that
+/// didn't come whole.
+#[derive(Drop)]
+pub struct TcpLink<N> {
+    net: N,
+    addresses: Items<Text>,
+    faults: u64,
+}
+
+impl<N: Net> TcpLink<N> {
+    /// A link to these addresses, without faults so far.
+    pub fn new(net: N, addresses: Items<Text>) -> TcpLink<N>
+        ensures { ⟦<TcpLink<N> as Faulty>⟧.faults result ≡ 0 }
+    {
+        TcpLink {
+            net,
+            addresses,
+            faults: 0,
+        }
+    }
+}
+
+/// The address of a pod.
+fn address_of(addresses: &[Text], pod: u64) -> Option<&[u8]>
+    ensures { option_copied result ≡ slice_get addresses.now (pod % length addresses.now) }
+{
+    let count = addresses.len() as u64;
+    if count == 0 {
+        return None;
+    }
+    Some(addresses[(pod % count) as usize].bytes())
+}
+
+/// A connection with the first address of this name that takes it, in time.
+fn connect<N: Net>(net: &N, address: &[u8], seconds: u64) -> io::Result<N::Stream> {
+    let mut last = io::Error::from(ErrorKind::InvalidInput);
+    let Ok(address) = str::from_utf8(address) else {
+        return Err(last);
+    };
+    for address in address.to_socket_addrs(net)? {
+        match net.connect_timeout(address, Duration::from_secs(seconds)) {
+            Ok(stream) => return Ok(stream),
+            Err(e) => last = e,
+        }
+    }
+    Err(last)
+}
+
+/// Sends a pod the request.
+fn send<N: Net>(net: &N, address: &[u8], request: &[u8]) -> io::Result<N::Stream> {
+    let mut stream = connect(net, address, CONNECT_WAIT)?;
+    stream.set_read_timeout(Some(Duration::from_secs(REPLY_WAIT)))?;
+    stream.set_write_timeout(Some(Duration::from_secs(REPLY_WAIT)))?;
+    stream.write_all(request)?;
+    Ok(stream)
+}
+
+/// All that comes, to the end of the stream.
+fn receive<R: Read>(alloc: Global, stream: &mut R) -> Result<Text, LinkError>
+    ensures { IfOk result (λ reply. length reply ≤ 1114112) }
+{
+    let mut reply = Vec::new(alloc);
+    let mut piece = [0; PIECE];
+    for _ in 0..1u64 << 56 {
+        let Ok(n) = stream.read(&mut piece) else {
+            return Err(LinkError::Failed);
+        };
+        if n == 0 {
+            return Ok(Text::new(reply));
+        }
+        if reply.len() + n > MOST_REPLY {
+            return Err(LinkError::Failed);
+        }
+        if reply.extend_from_slice(&piece[..n]).is_err() {
+            return Err(LinkError::Memory);
+        }
+    }
+    Err(LinkError::Failed)
+}
+
+/// Sends a pod the request, and answers its reply, which came whole.
+fn exchange<N: Net>(
+    net: &N,
+    alloc: Global,
+    address: &[u8],
+    request: &[u8],
+) -> Result<Text, LinkError>
+    ensures short { IfOk result (λ reply. length reply ≤ 1114112) }
+    ensures whole { IfOk result (λ reply. IsWholeReply request.now reply) }
+{
+    let Ok(mut stream) = send(net, address, request) else {
+        return Err(LinkError::Failed);
+    };
+    let reply = receive(alloc, &mut stream)?;
+    if is_whole(request, reply.bytes()) {
+        Ok(reply)
+    } else {
+        Err(LinkError::Failed)
+    }
+}
+
+impl<N: Net> Faulty for TcpLink<N> {
+    ghost faults = { λ l. l.faults };
+
+    fn faults(&self) -> u64 {
+        self.faults
+    }
+}
+
+impl<N: Net> PodLink for TcpLink<N> {
+    ghost told = { λ _. None };
+
+    fn probe(&mut self, pod: u64) -> Result<bool, Failed> {
+        let Some(address) = address_of(self.addresses.items(), pod) else {
+            return Err(fault(&mut self.faults));
+        };
+        match connect(&self.net, address, PROBE_WAIT) {
+            Ok(_) => Ok(true),
+            Err(e) if e.kind() == ErrorKind::ConnectionRefused => Ok(false),
+            Err(_) => Err(fault(&mut self.faults)),
+        }
+    }
+
+    fn call(&mut self, alloc: Global, pod: u64, request: &[u8]) -> Result<Text, LinkError>
+        ensures short { IfOk result (λ reply. length reply ≤ 1114112) }
+        ensures whole { IfOk result (λ reply. IsWholeReply request.now reply) }
+        ensures never_falls { self.old.faults ≤ self.new.faults }
+        ensures cause { result ≡ Err LinkError.Failed → Rose self.old.faults self.new.faults }
+    {
+        let reply = match address_of(self.addresses.items(), pod) {
+            Some(address) => exchange(&self.net, alloc, address, request),
+            None => Err(LinkError::Failed),
+        };
+        if let Err(LinkError::Failed) = &reply {
+            let _ = fault(&mut self.faults);
+        }
+        reply
+    }
+}
