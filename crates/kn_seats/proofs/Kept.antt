@@ -6,8 +6,7 @@ use Rattle.std.proofs.lemmas.List.Edits.{length-remove}
 use Rattle.std.proofs.lemmas.List.Quantifiers.{all_pairs_remove}
 use Rattle.std.proofs.lemmas.List.Sums.{sum_by-set, sum_by-remove, get_or-le-sum_by, sum_by-le-sum_by}
 use Rattle.std.proofs.lemmas.Grind.{common_steps}
-use Rattle.kn_seats.specs.declared.pod.Pod.{Pod}
-use Rattle.kn_seats.specs.Pods.{requests_at, requests_at_all}
+use Rattle.kn_seats.specs.Pods.{Pod, requests_at, requests_at_all}
 use Rattle.kn_seats.specs.Kept.{IsAscending, IsKept, queued_at_all}
 
 -- one pod gives way to another of the same number

@@ -1,3 +1,10 @@
+pub mod Chains
 pub mod Queues
 pub mod Places
+pub mod Closing
+pub mod Pushed
 pub mod Kept
+pub mod Held
+pub mod Changes
+pub mod Unqueued
+pub mod Listed

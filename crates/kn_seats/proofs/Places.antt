@@ -6,16 +6,19 @@ use Rattle.std.specs.Ordering.{nat_cmp, ordering_index}
 use Rattle.std.specs.Prelude.{IsOk}
 use Rattle.std.proofs.lemmas.Bool.Decides.{nat_tests}
 use Rattle.std.proofs.lemmas.Cmp.{ranked}
-use Rattle.std.proofs.lemmas.List.{get_or_default}
+use Rattle.std.specs.Prelude.{map}
+use Rattle.std.proofs.Math.ListN.{get_or-map}
+use Rattle.std.proofs.lemmas.List.{get_or_default, length-map}
 use Rattle.std.proofs.lemmas.List.Sorted.{IsNonDecreasingBy-from_default}
-use Rattle.kn_seats.specs.declared.pod.Pod.{Pod}
-use Rattle.kn_seats.specs.Pods.{idle_pod, has_pod, pod_at, with_pod_changed, without_pod}
-use Rattle.kn_seats.specs.Kept.{IsAscending, IsPlaceOf}
+use Rattle.kn_seats.specs.Pods.{Pod, idle_pod, has_pod, pod_at, with_pod_changed, without_pod}
+use Rattle.kn_seats.specs.declared.cells.Cells.{Cells}
+use Rattle.kn_seats.specs.declared.tracker.Tracker.{Tracker}
+use Rattle.kn_seats.specs.Kept.{IsAscending, IsPlaceOf, seen}
 
-is_named : (n p : ℕ) → n ≡ p → nat_eq n p ≡ true
+pub is_named : (n p : ℕ) → n ≡ p → nat_eq n p ≡ true
 is_named n p same = grind (arith, nat_tests)
 
-not_named : (n p : ℕ) → (n ≡ p → ⊥) → nat_eq n p ≡ false
+pub not_named : (n p : ℕ) → (n ≡ p → ⊥) → nat_eq n p ≡ false
 not_named n p differ = grind (arith, nat_tests)
 
 number_of : (n p : ℕ) → nat_eq n p ≡ true → n ≡ p
@@ -114,32 +117,56 @@ the_place p pods place rise stands =
       removed = removed_at p pods place d rise stands.inside (stands.number d);
     }
 
-module _ (pods : List Pod) (rise : IsAscending pods) (p : ℕ) where
+-- a tracker's pod stands where the tracker does
+pub stands_at : (cells : Cells) (trackers : List Tracker) (p place : ℕ) (t : Tracker) → place < length trackers → t ≡ get_or trackers place t → t.number ≡ p
+    → StandsAt p (map (seen cells) trackers) place
+stands_at cells trackers p place t inside is named =
+    let within : place < length (map (seen cells) trackers) = omega (arith, length-map trackers (seen cells)) in
+    record {
+      inside = within;
+      number = λ d. ap (λ (q : Pod). q.number)
+          (get_or_default (map (seen cells) trackers) place d (seen cells t) within ∙ get_or-map (seen cells) trackers place t ∙ ap (seen cells) (sym is)) ∙ named;
+    }
+
+abbrev blank : ℕ → Tracker
+blank p = record { number = p; limit = 0; running = 0; queue = record { first = 0; last = 0; count = 0 }; draining = false }
+
+module _ (cells : Cells) (trackers : List Tracker) (rise : IsAscending (map (seen cells) trackers)) (p : ℕ) where
+  number_at : (i : ℕ) → (get_or (map (seen cells) trackers) i (seen cells (blank p))).number ≡ (get_or trackers i (blank p)).number
+  number_at i = ap (λ (q : Pod). q.number) (get_or-map (seen cells) trackers i (blank p))
+
   -- the comparisons with p rise along the list, as a binary search asks
-  comparisons_rise : IsNonDecreasingBy (λ pod. ordering_index (nat_cmp pod.number p)) pods
-  comparisons_rise = IsNonDecreasingBy-from_default (λ pod. ordering_index (nat_cmp pod.number p)) pods (idle_pod p 0) (λ i j le inside.
-      let numbers_rise : (get_or pods i (idle_pod p 0)).number ≤ (get_or pods j (idle_pod p 0)).number =
-      grind (arith, rise i j (idle_pod p 0), λ (same : i ≡ j). ap (λ k. (get_or pods k (idle_pod p 0)).number) same) in
+  comparisons_rise : IsNonDecreasingBy (λ (t : Tracker). ordering_index (nat_cmp t.number p)) trackers
+  comparisons_rise = IsNonDecreasingBy-from_default (λ (t : Tracker). ordering_index (nat_cmp t.number p)) trackers (blank p) (λ i j le inside.
+      let within : j < length (map (seen cells) trackers) = omega (arith, length-map trackers (seen cells)) in
+      let at_i = number_at i in
+      let at_j = number_at j in
+      let numbers_rise : (get_or trackers i (blank p)).number ≤ (get_or trackers j (blank p)).number =
+      grind (arith, rise i j (seen cells (blank p)), λ (same : i ≡ j). ap (λ k. (get_or trackers k (blank p)).number) same) in
       grind (arith, nat_tests))
 
   -- a binary search ends at a pod that is there
-  pub search_finds : has_pod p pods ≡ true → (r : Result ℕ ℕ) → IsSearchInRange r (length pods) → IsBinarySearchResult (λ pod. nat_cmp pod.number p) pods r → IsOk r
+  pub search_finds : has_pod p (map (seen cells) trackers) ≡ true → (r : Result ℕ ℕ) → IsSearchInRange r (length trackers) → IsBinarySearchResult (λ (t : Tracker). nat_cmp t.number p) trackers r → IsOk r
   search_finds there (Ok at) inside equal = refl
   search_finds there (Err at) inside parted =
-      let found = some_place p pods there in
-      let d = idle_pod p 0 in
-      let same = found.1.number d in
+      let found = some_place p (map (seen cells) trackers) there in
+      let same = found.1.number (seen cells (blank p)) in
+      let is_at = number_at found.0 in
       let within = found.1.inside in
+      let inside : found.0 < length trackers = omega (arith, length-map trackers (seen cells)) in
       let parts = parted comparisons_rise in
-      let before : (k : ℕ) → k < at → (get_or pods k d).number < p = λ k lt. ranked _ p _ (sym (parts.0 k d (omega arith) lt)) in
-      let after : (k : ℕ) → at ≤ k → k < length pods → p < (get_or pods k d).number = λ k le lt. ranked _ p _ (sym (parts.1 k d le lt)) in
-      absurd (grind (arith, before found.0, after found.0, same, within))
+      let before : (k : ℕ) → k < at → (get_or trackers k (blank p)).number < p = λ k lt. ranked _ p _ (sym (parts.0 k (blank p) (omega arith) lt)) in
+      let after : (k : ℕ) → at ≤ k → k < length trackers → p < (get_or trackers k (blank p)).number = λ k le lt. ranked _ p _ (sym (parts.1 k (blank p) le lt)) in
+      absurd (grind (arith, before found.0, after found.0, same, is_at, inside))
 
-  pub search_place : (r : Result ℕ ℕ) (at : ℕ) → r ≡ Ok at → IsSearchInRange r (length pods) → IsBinarySearchResult (λ pod. nat_cmp pod.number p) pods r → IsPlaceOf p pods at
+  pub search_place : (r : Result ℕ ℕ) (at : ℕ) → r ≡ Ok at → IsSearchInRange r (length trackers) → IsBinarySearchResult (λ (t : Tracker). nat_cmp t.number p) trackers r
+      → IsPlaceOf p (map (seen cells) trackers) at
   search_place (Ok n) at is inside equal =
       let same : n ≡ at = cc in
-      let stands : StandsAt p pods n = record { inside = inside; number = λ d. ranked _ p _ (sym (equal d)) } in
-      subst (IsPlaceOf p pods) same (the_place p pods n rise stands)
+      let t = get_or trackers n (blank p) in
+      let stands : StandsAt p (map (seen cells) trackers) n =
+      stands_at cells trackers p n t inside (get_or_default trackers n (blank p) t inside) (ranked _ p _ (sym (equal (blank p)))) in
+      subst (IsPlaceOf p (map (seen cells) trackers)) same (the_place p (map (seen cells) trackers) n rise stands)
   search_place (Err n) at is inside parted = absurd (cc)
 
 -- the same numbers are there after a change that keeps a pod's number

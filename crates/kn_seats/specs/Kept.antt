@@ -1,8 +1,10 @@
 -- What seats keep of the fields behind their view: the order of the pods, room, and cells for all requests.
-use Rattle.std.specs.Prelude.{◌≡◌, ℕ, ◌+◌, ◌<◌, ◌≤◌, List, length, sum_by, slice_index_or, slice_set, remove}
+use Rattle.std.specs.Prelude.{◌≡◌, ℕ, ◌+◌, ◌<◌, ◌≤◌, List, Option, Some, None, length, map, sum_by, slice_index, slice_index_or, slice_set, remove}
 use Rattle.std.specs.List.{AllPairs}
-use Rattle.kn_seats.specs.declared.pod.Pod.{Pod}
-use Rattle.kn_seats.specs.Pods.{requests_at_all, pod_at, with_pod_changed, without_pod}
+use Rattle.kn_seats.specs.declared.cells.Cells.{Cells}
+use Rattle.kn_seats.specs.declared.tracker.Tracker.{Tracker}
+use Rattle.kn_seats.specs.Pods.{Pod, requests_at_all, pod_at, with_pod_changed, without_pod}
+use Rattle.kn_seats.specs.Chains.{after, requests_in, AreApart, AreOwned}
 
 -- the numbers rise
 abbrev pub IsAscending : List Pod → Type 0
@@ -19,6 +21,43 @@ pub record IsKept (pods : List Pod) (spare pod_room request_room : ℕ) : Type 0
   pub requests_fit : requests_at_all pods ≤ request_room
   pub cells : spare + queued_at_all pods ≡ request_room
   pub most_requests : request_room ≤ 20000
+
+-- a pod as callers see it: its queue is the list of the requests in its cells
+abbrev pub seen : Cells → Tracker → Pod
+seen cells tracker = record {
+  number = tracker.number;
+  limit = tracker.limit;
+  running = tracker.running;
+  queued = requests_in cells.request.items cells.next.items tracker.queue.first tracker.queue.count;
+  draining = tracker.draining;
+}
+
+-- so many cells from the first on, all different and of one owner, and the last of them
+pub record IsLine (owner : ℕ → Option ℕ) (who : Option ℕ) (next : List ℕ) (first last count : ℕ) : Type 0 where
+  pub apart : AreApart next first count
+  pub owned : AreOwned owner who next first count
+  pub ends : (n : ℕ) → count ≡ n + 1 → after next first n ≡ last
+
+-- the cells of a pod's queue belong to it
+abbrev pub HasQueue : (ℕ → Option ℕ) → List ℕ → Tracker → Type 0
+HasQueue owner next tracker = IsLine owner (Some tracker.number) next tracker.queue.first tracker.queue.last tracker.queue.count
+
+-- each spare place is there, it is listed once, and nobody owns its cell
+pub record AreSpare (owner : ℕ → Option ℕ) (spare : List ℕ) (spares room : ℕ) : Type 0 where
+  pub inside : (i : ℕ) → i < spares → slice_index spare i < room
+  pub free : (i : ℕ) → i < spares → owner (slice_index spare i) ≡ None
+  pub apart : (i j : ℕ) → i < j → j < spares → slice_index spare i ≡ slice_index spare j → ⊥
+
+-- the pods as callers see them are kept, and each cell is spare or belongs to one pod, in whose queue it stands once
+pub record IsHeld (trackers : List Tracker) (cells : Cells) (pod_room request_room : ℕ) : Type 0 where
+  pub kept : IsKept (map (seen cells) trackers) cells.spares pod_room request_room
+  pub request : length cells.request.items ≡ request_room
+  pub next : length cells.next.items ≡ request_room
+  pub spare : length cells.spare.items ≡ request_room
+  pub owner : ℕ → Option ℕ
+  pub inside : (x p : ℕ) → owner x ≡ Some p → x < request_room
+  pub spares : AreSpare owner cells.spare.items cells.spares request_room
+  pub queues : (i : ℕ) (d : Tracker) → i < length trackers → HasQueue owner cells.next.items (slice_index_or trackers i d)
 
 -- the pod of this number stands at this place and at no other
 pub record IsPlaceOf (p : ℕ) (pods : List Pod) (place : ℕ) : Type 0 where

@@ -1,3 +1,5 @@
+pub mod Chains
 pub mod Pods
+pub mod Cells
 pub mod Seats
 pub mod Kept

@@ -1,7 +1,14 @@
 -- Pods as their trackers know them: the requests that run at each, and those that are queued there in order.
 use Rattle.std.specs.Prelude.{ℕ, Bool, false, not, ◌+◌, ◌*◌, ◌&&◌, ◌||◌, ◌==◌, nat_lt, nat_le, List, [], ◌∷◌, length, map, filter, find, sum_by, unwrap_or, if◌then◌else◌}
 use Rattle.std.specs.List.{list_any}
-use Rattle.kn_seats.specs.declared.pod.Pod.{Pod}
+
+-- a pod: its limit, how many run there, and the requests that are queued there in order
+pub record Pod : Type 0 where
+  pub number : ℕ
+  pub limit : ℕ
+  pub running : ℕ
+  pub queued : List ℕ
+  pub draining : Bool
 
 -- a pod of this number and limit that has no request
 abbrev pub idle_pod : ℕ → ℕ → Pod

@@ -1,7 +1,6 @@
 -- What contracts see of the seats: the pods in order of their numbers, and the room for pods and for requests at them.
 use Rattle.std.specs.Prelude.{ℕ, List}
-use Rattle.kn_seats.specs.declared.pod.Pod.{Pod}
-use Rattle.kn_seats.specs.Pods.{with_pod_changed}
+use Rattle.kn_seats.specs.Pods.{Pod, with_pod_changed}
 
 pub record State : Type 0 where
   pub pods : List Pod

@@ -1,51 +1,118 @@
 //! Queues whose cells were made before, so that no change of one takes memory.
-ghost use Rattle.std.specs.Prelude.{◌≡◌, ◌+◌, ◌^◌, ◌<◌, ◌++◌, ◌==◌, take, drop, length, position, Contains, IfOk};
-ghost use Rattle.std.specs.List.{position_or_len};
+ghost use Rattle.std.specs.Prelude.{◌≡◌, ℕ, ◌+◌, ◌-◌, ◌^◌, ◌<◌, ◌≤◌, drop, length, slice_index, Contains, IfOk};
+ghost use Rattle.kn_seats.specs.Pods.{without_request};
+ghost use Rattle.kn_seats.specs.Chains.{after, requests_in, Avoids, AreApart};
 
-use kn_event::Memory;
-use std::alloc::Global;
-use std::collections::LinkedList;
+use std::alloc::{AllocError, Global};
 use std::mem;
 
-/// A queue, or spare cells whose numbers mean nothing.
-pub type Cells = LinkedList<u64>;
+/// Cells for requests. What stands at one place of `request` and `next` is one cell: its request, and the place of
+/// the cell behind it. The first `spares` of `spare` are the places of the cells that are in no queue.
+#[derive(Drop)]
+pub struct Cells {
+    pub request: Vec<u64>,
+    pub next: Vec<usize>,
+    pub spare: Vec<usize>,
+    pub spares: usize,
+}
 
-/// So many spare cells.
-pub fn spare_cells(alloc: Global, count: u64) -> Result<Cells, Memory>
-    ensures { IfOk result (λ cells. length cells ≡ count) }
-{
-    let mut cells = LinkedList::new(alloc);
-    for _ in 0..count {
-        if cells.push_back(0).is_err() {
-            return Err(Memory);
+impl Cells {
+    ghost use Rattle.kn_seats.specs.Cells.{IsNew};
+
+    /// So many spare cells.
+    pub fn new(alloc: Global, count: usize) -> Result<Cells, AllocError>
+        ensures { IfOk result (λ cells. IsNew count cells) }
+    {
+        Ok(Cells {
+            request: vec![in alloc; 0; count]?,
+            next: vec![in alloc; 0; count]?,
+            spare: (0..count).collect(alloc)?,
+            spares: count,
+        })
+    }
+}
+
+/// A queue: the places of its first and last cells, and how many it has. Without any, both places mean nothing.
+#[derive(Clone, Copy)]
+pub struct Queue {
+    pub first: usize,
+    pub last: usize,
+    pub count: usize,
+}
+
+impl Queue {
+    ghost use Rattle.kn_seats.specs.Cells.{IsQueued, IsDequeued};
+
+    /// A queue without requests.
+    pub fn empty() -> Queue
+        ensures { result ≡ record { first = 0; last = 0; count = 0 } }
+    {
+        Queue {
+            first: 0,
+            last: 0,
+            count: 0,
         }
     }
-    Ok(cells)
+
+    /// Queues a request last, in a spare cell.
+    pub fn push(&mut self, r: u64, cells: &mut Cells)
+        requires some { 0 < cells.old.spares }
+        requires spares { cells.old.spares ≤ length cells.old.spare.items }
+        requires place { slice_index cells.old.spare.items (cells.old.spares - 1) < length cells.old.request.items }
+        requires last { 0 < self.old.count → self.old.last < length cells.old.next.items }
+        requires fits { self.old.count < 2 ^ 63 }
+        ensures { IsQueued r self.old cells.old self.new cells.new }
+    {
+        cells.spares -= 1;
+        let place = cells.spare[cells.spares];
+        cells.request[place] = r;
+        if self.count == 0 {
+            self.first = place;
+        } else {
+            cells.next[self.last] = place;
+        }
+        self.last = place;
+        self.count += 1;
+    }
+
+    /// Takes the first request from the queue. Its cell is spare then.
+    pub fn pop(&mut self, cells: &mut Cells) -> u64
+        requires some { 0 < self.old.count }
+        requires request { self.old.first < length cells.old.request.items }
+        requires next { self.old.first < length cells.old.next.items }
+        requires spares { cells.old.spares < length cells.old.spare.items }
+        requires fits { cells.old.spares < 2 ^ 63 }
+        ensures first { result ≡ slice_index cells.old.request.items self.old.first }
+        ensures changed { IsDequeued self.old cells.old self.new cells.new }
+    {
+        let place = self.first;
+        self.first = cells.next[place];
+        self.count -= 1;
+        cells.spare[cells.spares] = place;
+        cells.spares += 1;
+        cells.request[place]
+    }
 }
 
-/// Moves the first cell to the end of another queue.
-pub fn move_first(from: &mut Cells, to: &mut Cells)
-    requires some { 0 < length from.old }
-    requires fits { length to.old + 1 < 2 ^ 63 }
-    ensures from { from.new ≡ drop 1 from.old }
-    ensures to { to.new ≡ to.old ++ take 1 from.old }
+/// Moves the requests before this one, the first of them if it stands there twice, one cell on each. What the first
+/// cell has means nothing then.
+pub fn close_up(queue: Queue, r: u64, request: &mut [u64], next: &[usize])
+    requires queued { Contains (requests_in request.old next.now queue.first queue.count) r }
+    requires apart { AreApart next.now queue.first queue.count }
+    requires few { (length request.old < 2 ^ 32) × (length next.now < 2 ^ 32) }
+    requires request { (k : ℕ) → k < queue.count → after next.now queue.first k < length request.old }
+    requires next { (k : ℕ) → k < queue.count → after next.now queue.first k < length next.now }
+    ensures closed { drop 1 (requests_in request.new next.now queue.first queue.count)
+        ≡ without_request r (requests_in request.old next.now queue.first queue.count) }
+    ensures others { (x : ℕ) → Avoids next.now x queue.first queue.count → slice_index request.new x ≡ slice_index request.old x }
 {
-    let rest = from.split_off(1).unwrap();
-    let mut first = mem::replace(from, rest);
-    to.append(&mut first).unwrap();
-}
-
-/// The place of the first cell that has this number.
-pub fn first_place(cells: &Cells, r: u64) -> usize
-    requires { Contains cells.now r }
-    ensures place { result ≡ position_or_len (λ q. q == r) cells.now }
-    ensures inside { result < length cells.now }
-{
-    position_in(cells, r).unwrap()
-}
-
-fn position_in(cells: &Cells, r: u64) -> Option<usize>
-    ensures { result ≡ position (λ q. q == r) cells.now }
-{
-    cells.iter().position(|q| *q == r)
+    let mut place = queue.first;
+    let mut held = request[place];
+    for _ in 1..queue.count {
+        if held == r {
+            return;
+        }
+        place = next[place];
+        held = mem::replace(&mut request[place], held);
+    }
 }

@@ -2,8 +2,8 @@
 #![tactic(auto)]
 
 mod cells;
-mod pod;
 mod seats;
+mod tracker;
 
 pub use seats::Seats;
 

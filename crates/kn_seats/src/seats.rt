@@ -2,8 +2,8 @@
 ghost use Rattle.std.specs.Prelude.{true, ◌≡◌, ◌+◌, ◌-◌, ◌<◌, ◌≤◌, [], ◌∷◌, ◌++◌, None, drop, length, slice_get, IsTrue, IfOk, OnSome, IfNone, Contains, All, not, if◌then◌else◌};
 ghost use Rattle.std.specs.Bool.{OnFalse, OnTrue};
 
-use crate::cells::{Cells, spare_cells};
-use crate::pod::Pod;
+use crate::cells::{Cells, close_up};
+use crate::tracker::Tracker;
 use kn_event::Memory;
 use std::alloc::Global;
 use std::marker::Model;
@@ -15,24 +15,23 @@ use std::marker::Model;
 /// requests are at pods afterwards, since room left is a condition of `reserve_seat` and `queue_at`.
 #[derive(Drop)]
 pub struct Seats {
-    pods: Vec<Pod>,
-    spare: Cells,
+    pods: Vec<Tracker>,
+    cells: Cells,
     pod_room: u64,
     request_room: u64,
-    alloc: Global,
 }
 
 impl Model for Seats {
-    ghost use Rattle.std.specs.Prelude.{◌≤◌, length, vec_capacity};
+    ghost use Rattle.std.specs.Prelude.{◌≤◌, map, vec_capacity};
     ghost use Rattle.kn_seats.specs.Seats.{State};
-    ghost use Rattle.kn_seats.specs.Kept.{IsKept};
+    ghost use Rattle.kn_seats.specs.Kept.{IsHeld, seen};
 
     ghost Value = { State };
 
-    ghost view = { λ s. record { pods = s.pods.items; pod_room = s.pod_room; request_room = s.request_room } };
+    ghost view = { λ s. record { pods = map (seen s.cells) s.pods.items; pod_room = s.pod_room; request_room = s.request_room } };
 
     ghost invariant = { λ s. record {
-      kept : IsKept s.pods.items (length s.spare) s.pod_room s.request_room;
+      held : IsHeld s.pods.items s.cells s.pod_room s.request_room;
       reserved : s.pod_room ≤ vec_capacity s.pods;
     } };
 }
@@ -48,17 +47,18 @@ impl Seats {
         requires requests { requests ≤ 20000 }
         ensures { IfOk result (λ seats. seats ≡ record { pods = []; pod_room = pods; request_room = requests }) }
     {
-        let spare = spare_cells(alloc, requests)?;
-        match Vec::with_capacity(alloc, pods as usize) {
-            Ok(held) => Ok(Seats {
-                pods: held,
-                spare,
-                pod_room: pods,
-                request_room: requests,
-                alloc,
-            }),
-            Err(_) => Err(Memory),
-        }
+        let Ok(cells) = Cells::new(alloc, requests as usize) else {
+            return Err(Memory);
+        };
+        let Ok(held) = Vec::with_capacity(alloc, pods as usize) else {
+            return Err(Memory);
+        };
+        Ok(Seats {
+            pods: held,
+            cells,
+            pod_room: pods,
+            request_room: requests,
+        })
     }
 
     /// Adds a pod without requests. Its number is above all others.
@@ -69,7 +69,7 @@ impl Seats {
         ensures added { self.new ≡ record self.old { pods = self.old.pods ++ idle_pod p limit ∷ [] } }
         ensures counted { requests_at_all self.new.pods ≡ requests_at_all self.old.pods }
     {
-        self.pods.push_reserved(Pod::idle(self.alloc, p, limit));
+        self.pods.push_reserved(Tracker::idle(p, limit));
     }
 
     /// Changes a pod's limit; 0 is no limit. Who runs or is queued there stays.
@@ -137,7 +137,7 @@ impl Seats {
         if pod.is_full() {
             return false;
         }
-        pod.queue(r, &mut self.spare);
+        pod.queue.push(r, &mut self.cells);
         true
     }
 
@@ -151,12 +151,15 @@ impl Seats {
         ensures counted { requests_at_all self.new.pods ≡ requests_at_all self.old.pods }
     {
         let place = self.place_of(p);
-        let pod = &mut self.pods[place];
-        if pod.queued.is_empty() || !pod.has_free_seat() {
+        let tracker = &mut self.pods[place];
+        if tracker.queue.count == 0 {
             return None;
         }
-        let r = pod.dequeue(&mut self.spare);
-        pod.running += 1;
+        if !tracker.has_free_seat() {
+            return None;
+        }
+        let r = tracker.queue.pop(&mut self.cells);
+        tracker.running += 1;
         Some(r)
     }
 
@@ -168,7 +171,9 @@ impl Seats {
         ensures counted { requests_at_all self.new.pods + 1 ≡ requests_at_all self.old.pods }
     {
         let place = self.place_of(p);
-        self.pods[place].take_out(r, &mut self.spare);
+        let queue = &mut self.pods[place].queue;
+        close_up(*queue, r, &mut self.cells.request, &self.cells.next);
+        let _ = queue.pop(&mut self.cells);
     }
 
     /// Ends one that is running at a pod.
@@ -187,7 +192,7 @@ impl Seats {
         requires { IsTrue (has_pod p self.now.pods) }
         ensures { result ≡ (pod_at p self.now.pods).limit }
     {
-        self.pods[self.place_of(p)].limit
+        self.tracker(p).limit
     }
 
     /// How many run at a pod.
@@ -195,7 +200,7 @@ impl Seats {
         requires { IsTrue (has_pod p self.now.pods) }
         ensures { result ≡ (pod_at p self.now.pods).running }
     {
-        self.pods[self.place_of(p)].running
+        self.tracker(p).running
     }
 
     /// How many are queued at a pod.
@@ -203,7 +208,18 @@ impl Seats {
         requires { IsTrue (has_pod p self.now.pods) }
         ensures { result ≡ length (pod_at p self.now.pods).queued }
     {
-        self.pods[self.place_of(p)].queued.len() as u64
+        self.tracker(p).queue.count as u64
+    }
+
+    /// The tracker of the pod of this number.
+    fn tracker(&self, p: u64) -> &Tracker
+        requires { IsTrue (has_pod p self.now.pods) }
+        ensures limit { result.now.limit ≡ (pod_at p self.now.pods).limit }
+        ensures running { result.now.running ≡ (pod_at p self.now.pods).running }
+        ensures queued { result.now.queue.count ≡ length (pod_at p self.now.pods).queued }
+    {
+        let place = self.place_of(p);
+        &self.pods[place]
     }
 
     /// Where the pod of this number stands: as far behind the first as its number, or else where a search finds it.

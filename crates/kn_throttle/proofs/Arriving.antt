@@ -16,7 +16,7 @@ use Rattle.kn_breaker.specs.Breaker as breaker
 use Rattle.kn_seats.specs.Seats as seats
 use Rattle.kn_seats.specs.Pods as pods
 use Rattle.kn_seats.specs.Pods.{pod_at, requests_at_all}
-use Rattle.kn_seats.specs.declared.pod.Pod as seat
+use Rattle.kn_seats.specs.Pods as seat
 use Rattle.kn_policy.specs.Policy as policy
 use Rattle.kn_record.specs.declared.admission.Place.TheVariants as place
 use Rattle.kn_record.specs.declared.admission.Request.{Request}

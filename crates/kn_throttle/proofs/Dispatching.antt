@@ -10,7 +10,7 @@ use Rattle.kn_trace.specs.Trace.{contains, first_of, is_empty}
 use Rattle.kn_breaker.specs.Breaker as breaker
 use Rattle.kn_seats.specs.Seats as seats
 use Rattle.kn_seats.specs.Pods.{has_free_seat, pod_at, requests_at_all}
-use Rattle.kn_seats.specs.declared.pod.Pod as seat
+use Rattle.kn_seats.specs.Pods as seat
 use Rattle.kn_policy.specs.Policy as policy
 use Rattle.kn_policy.specs.Policy.{policy_at}
 use Rattle.kn_record.specs.declared.admission.Place.TheVariants as place

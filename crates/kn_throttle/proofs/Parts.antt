@@ -11,7 +11,7 @@ use Rattle.kn_trace.specs.declared.candidate.Cand.{Cand}
 use Rattle.kn_trace.specs.Trace.{contains}
 use Rattle.kn_trace.specs.Choice.{has_seat}
 use Rattle.kn_seats.specs.Pods as seats
-use Rattle.kn_seats.specs.declared.pod.Pod as seat
+use Rattle.kn_seats.specs.Pods as seat
 use Rattle.kn_record.specs.declared.admission.Request.{Request}
 use Rattle.kn_record.specs.declared.admission.Pod.{Pod}
 use Rattle.kn_record.specs.declared.admission.Readiness.TheVariants.{Starting}

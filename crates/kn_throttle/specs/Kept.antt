@@ -7,7 +7,7 @@ use Rattle.kn_trace.specs.Events.{live_most}
 use Rattle.kn_breaker.specs.Breaker as breaker
 use Rattle.kn_seats.specs.Seats as seats
 use Rattle.kn_seats.specs.Pods.{requests_at_all}
-use Rattle.kn_seats.specs.declared.pod.Pod as seat
+use Rattle.kn_seats.specs.Pods as seat
 use Rattle.kn_policy.specs.Policy as policy
 use Rattle.kn_policy.specs.Policy.{policy_at}
 use Rattle.kn_record.specs.declared.admission.Request.{Request}

@@ -1,14 +1,79 @@
-use Rattle.std.proofs.Common.{arith, refl, length}
+use Rattle.std.proofs.Common.{◌≡◌, ℕ, suc, ◌+◌, ◌-◌, ◌<◌, ◌≤◌, ◌++◌, ◌∷◌, List, [], set, get_or, length, drop, ap, refl, sym, subst, ◌∙◌, arith, true, false, not}
+use Rattle.std.specs.Prelude.{map, Contains, slice_get, None, Some}
 use Rattle.std.proofs.lemmas.Grind.{common_steps}
-use Rattle.kn_seats.proofs.Kept.{kept-set}
+use Rattle.kn_seats.specs.declared.tracker.Tracker.{Tracker}
+use Rattle.kn_seats.specs.declared.cells.Queue.{Queue}
+use Rattle.kn_seats.specs.Pods.{Pod, pod_at, requests_at, requests_at_all, has_free_seat, is_full, without_request}
+use Rattle.kn_seats.specs.Seats.{State}
+use Rattle.kn_seats.specs.Chains.{requests_in}
+use Rattle.kn_seats.specs.Kept.{IsPlaceOf, seen}
+use Rattle.kn_seats.proofs.Chains.{length_requests, first_request, no_request, answers_none, answers_refusal, answers_first}
+use Rattle.kn_seats.proofs.Kept.{queued_at_most}
+use Rattle.kn_seats.proofs.Held.{here_queued, here_requests, held-set, counted-set, changed-set}
+use Rattle.kn_seats.proofs.Changes.{pod_here, held-same, counted-same, changed-same, with_pods, last_inside, first_inside, owner_pushed, pushed_cells, queued_list, owner_popped, popped_cells, popped_list, cell_inside}
 use Rattle.kn_seats.proofs.seats.Seats.give_back.Goals as goal
+
+pub overflow_sub-index_mut : goal.overflow_sub-index_mut
+overflow_sub-index_mut c =
+    let inside = c.self.inside in
+    let held = c.self.invariant.held in
+    let place : ℕ = c.place_of-place.result in
+    let here : Tracker = c.index_mut.result.now in
+    let within : place < length inside.pods.items = grind (arith, common_steps) in
+    let is : here ≡ get_or inside.pods.items place here = c.index_mut.ensures.value in
+    let pods_are : map (seen inside.cells) inside.pods.items ≡ c.args.self.now.pods = ap (λ (s : State). s.pods) c.self.view_is in
+    let stands : IsPlaceOf c.args.p (map (seen inside.cells) inside.pods.items) place = rw pods_are c.place_of-place.ensures in
+    let pod_is : pod_at c.args.p (map (seen inside.cells) inside.pods.items) ≡ seen inside.cells here =
+    pod_here inside.pods.items inside.cells inside.pod_room inside.request_room held place here within is here refl c.args.p stands in
+    let now_is : pod_at c.args.p c.args.self.now.pods ≡ seen inside.cells here = ap (pod_at c.args.p) (sym pods_are) ∙ pod_is in
+    let some : 0 < here.running = let e = ap (λ (q : Pod). q.running) pod_is in rw (← e, pods_are) c.requires.running in
+    omega arith
 
 pub invariant_of-self : goal.invariant_of-self
 invariant_of-self c =
-    let kept = c.self.invariant.kept in
-    let all = kept.requests_fit in
-    record {
-      kept = kept-set c.self.inside.pods.items c.place_of-place.result c.index_mut.result.now _ (length c.self.inside.spare) _ _ _ kept
-          (grind (arith, common_steps)) c.index_mut.ensures.value refl (omega arith) refl;
-      reserved = c.self.invariant.reserved;
-    }
+    let inside = c.self.inside in
+    let held = c.self.invariant.held in
+    let place : ℕ = c.place_of-place.result in
+    let here : Tracker = c.index_mut.result.now in
+    let within : place < length inside.pods.items = grind (arith, common_steps) in
+    let is : here ≡ get_or inside.pods.items place here = c.index_mut.ensures.value in
+    let pods_are : map (seen inside.cells) inside.pods.items ≡ c.args.self.now.pods = ap (λ (s : State). s.pods) c.self.view_is in
+    let stands : IsPlaceOf c.args.p (map (seen inside.cells) inside.pods.items) place = rw pods_are c.place_of-place.ensures in
+    let pod_is : pod_at c.args.p (map (seen inside.cells) inside.pods.items) ≡ seen inside.cells here =
+    pod_here inside.pods.items inside.cells inside.pod_room inside.request_room held place here within is here refl c.args.p stands in
+    let now_is : pod_at c.args.p c.args.self.now.pods ≡ seen inside.cells here = ap (pod_at c.args.p) (sym pods_are) ∙ pod_is in
+    let some : 0 < here.running = let e = ap (λ (q : Pod). q.running) pod_is in rw (← e, pods_are) c.requires.running in
+    let all = held.kept.requests_fit in
+    record { held = held-same inside.pods.items inside.cells inside.pod_room inside.request_room held place here within is (record here { running = here.running - 1 }) refl refl (omega arith); reserved = c.self.invariant.reserved }
+
+pub returns-clause-changed : goal.returns-clause-changed
+returns-clause-changed c =
+    let inside = c.self.inside in
+    let held = c.self.invariant.held in
+    let place : ℕ = c.place_of-place.result in
+    let here : Tracker = c.index_mut.result.now in
+    let within : place < length inside.pods.items = grind (arith, common_steps) in
+    let is : here ≡ get_or inside.pods.items place here = c.index_mut.ensures.value in
+    let pods_are : map (seen inside.cells) inside.pods.items ≡ c.args.self.now.pods = ap (λ (s : State). s.pods) c.self.view_is in
+    let stands : IsPlaceOf c.args.p (map (seen inside.cells) inside.pods.items) place = rw pods_are c.place_of-place.ensures in
+    let pod_is : pod_at c.args.p (map (seen inside.cells) inside.pods.items) ≡ seen inside.cells here =
+    pod_here inside.pods.items inside.cells inside.pod_room inside.request_room held place here within is here refl c.args.p stands in
+    let now_is : pod_at c.args.p c.args.self.now.pods ≡ seen inside.cells here = ap (pod_at c.args.p) (sym pods_are) ∙ pod_is in
+    rw (← c.self.view_is) (ap (λ (l : List Pod). with_pods l inside.pod_room inside.request_room)
+        (changed-same inside.pods.items inside.cells inside.pod_room inside.request_room held place here within is (record here { running = here.running - 1 }) refl refl c.args.p (λ pod. record pod { running = pod.running - 1 }) stands refl))
+
+pub returns-clause-counted : goal.returns-clause-counted
+returns-clause-counted c =
+    let inside = c.self.inside in
+    let held = c.self.invariant.held in
+    let place : ℕ = c.place_of-place.result in
+    let here : Tracker = c.index_mut.result.now in
+    let within : place < length inside.pods.items = grind (arith, common_steps) in
+    let is : here ≡ get_or inside.pods.items place here = c.index_mut.ensures.value in
+    let pods_are : map (seen inside.cells) inside.pods.items ≡ c.args.self.now.pods = ap (λ (s : State). s.pods) c.self.view_is in
+    let stands : IsPlaceOf c.args.p (map (seen inside.cells) inside.pods.items) place = rw pods_are c.place_of-place.ensures in
+    let pod_is : pod_at c.args.p (map (seen inside.cells) inside.pods.items) ≡ seen inside.cells here =
+    pod_here inside.pods.items inside.cells inside.pod_room inside.request_room held place here within is here refl c.args.p stands in
+    let now_is : pod_at c.args.p c.args.self.now.pods ≡ seen inside.cells here = ap (pod_at c.args.p) (sym pods_are) ∙ pod_is in
+    let some : 0 < here.running = let e = ap (λ (q : Pod). q.running) pod_is in rw (← e, pods_are) c.requires.running in
+    rw (← c.self.view_is) (let e = counted-same inside.pods.items inside.cells inside.pod_room inside.request_room held place here within is (record here { running = here.running - 1 }) refl refl in omega arith)

@@ -1,0 +1,280 @@
+-- What each change of a pod and its queue leaves.
+use Rattle.std.proofs.Common.{◌≡◌, ℕ, zero, suc, ◌+◌, ◌-◌, ◌<◌, ◌≤◌, ◌⊎◌, inl, inr, Bool, true, false, cond, List, [], ◌∷◌, ◌++◌, set, get_or, length, drop, refl, sym, ap, subst, ◌∙◌, arith, nat_eq, get_or-set_other, get_or-set_same, length-set, Option, Some, None}
+use Rattle.std.specs.Prelude.{map}
+use Rattle.std.proofs.lemmas.Bool.{cases_eq}
+use Rattle.kn_seats.specs.declared.cells.Cells.{Cells}
+use Rattle.kn_seats.specs.declared.tracker.Tracker.{Tracker}
+use Rattle.kn_seats.specs.declared.cells.Queue.{Queue}
+use Rattle.kn_seats.specs.Pods.{Pod, pod_at, requests_at_all, with_pod_changed}
+use Rattle.kn_seats.specs.Seats.{State}
+use Rattle.kn_seats.specs.Cells.{IsQueued, IsDequeued}
+use Rattle.kn_seats.specs.Chains.{after, requests_in, Avoids}
+use Rattle.kn_seats.specs.Kept.{IsHeld, IsPlaceOf, IsLine, HasQueue, AreSpare, seen}
+use Rattle.kn_seats.proofs.Chains.{owner_at, owned-avoids}
+use Rattle.kn_seats.proofs.Places.{is_named, not_named}
+use Rattle.kn_seats.proofs.Pushed.{Pushed, pushed, line-popped, requests-popped}
+use Rattle.kn_seats.proofs.Held.{HasChanged, here_seen, here_queue, here_queued, held-set, counted-set, changed-set}
+
+-- one place has another owner
+pub with_owner : (ℕ → Option ℕ) → ℕ → Option ℕ → ℕ → Option ℕ
+with_owner owner place who x = cond (nat_eq x place) who (owner x)
+
+owner_here : (owner : ℕ → Option ℕ) (place : ℕ) (who : Option ℕ) → with_owner owner place who place ≡ who
+unfolding with_owner
+owner_here owner place who = rw (is_named place place refl) refl
+
+owner_there : (owner : ℕ → Option ℕ) (place : ℕ) (who : Option ℕ) (x : ℕ) → (x ≡ place → ⊥) → with_owner owner place who x ≡ owner x
+unfolding with_owner
+owner_there owner place who x other = rw (not_named x place other) refl
+
+not_both : (owner : ℕ → Option ℕ) (x p : ℕ) → owner x ≡ None → owner x ≡ Some p → ⊥
+not_both owner x p none some = absurd (let e : None ≡ Some p = sym none ∙ some in cc)
+
+same_owner : (owner : ℕ → Option ℕ) (x p q : ℕ) → owner x ≡ Some p → owner x ≡ Some q → q ≡ p
+same_owner owner x p q one other = let e : Some q ≡ Some p = sym other ∙ one in (cc)
+
+module _ (trackers : List Tracker) (cells : Cells) (pod_room request_room : ℕ) (held : IsHeld trackers cells pod_room request_room)
+    (place : ℕ) (here : Tracker) (within : place < length trackers) (is : here ≡ get_or trackers place here) (y : Tracker) (number : y.number ≡ here.number) where
+  line : HasQueue held.owner cells.next.items here
+  line = here_queue trackers cells pod_room request_room held place here within is
+
+  -- it is what callers see
+  pub pod_here : (p : ℕ) → IsPlaceOf p (map (seen cells) trackers) place → pod_at p (map (seen cells) trackers) ≡ seen cells here
+  pod_here p stands = sym (here_seen trackers cells pod_room request_room held place here within is ∙ stands.pod (seen cells here))
+
+  -- its queue stays
+  pub same_cells : y.queue ≡ here.queue → HasChanged cells here y cells held.owner held.owner request_room
+  same_cells queue = record {
+    number = number;
+    request = held.request;
+    next = held.next;
+    spare = held.spare;
+    inside = held.inside;
+    spares = held.spares;
+    queue = subst (λ n. IsLine held.owner (Some n) cells.next.items y.queue.first y.queue.last y.queue.count) (sym number)
+        (subst (λ q. IsLine held.owner (Some here.number) cells.next.items q.first q.last q.count) (sym queue) line);
+    keeps = λ x q other owned. (owned, refl);
+    same = λ x q other owned. refl;
+  }
+
+  pub held-same : y.queue ≡ here.queue → y.running + requests_at_all (map (seen cells) trackers) ≤ request_room + here.running
+      → IsHeld (set trackers place y) cells pod_room request_room
+  held-same queue fits =
+      let counts : y.queue.count ≡ here.queue.count = ap (λ (q : Queue). q.count) queue in
+      held-set trackers cells pod_room request_room held place here within is y cells held.owner (same_cells queue) (omega arith) (omega arith)
+
+  pub counted-same : y.queue ≡ here.queue → requests_at_all (map (seen cells) (set trackers place y)) + here.running ≡ requests_at_all (map (seen cells) trackers) + y.running
+  counted-same queue =
+      let counts : y.queue.count ≡ here.queue.count = ap (λ (q : Queue). q.count) queue in
+      omega (arith, counted-set trackers cells pod_room request_room held place here within is y cells held.owner (same_cells queue))
+
+  pub changed-same : y.queue ≡ here.queue → (p : ℕ) (by : Pod → Pod) → IsPlaceOf p (map (seen cells) trackers) place → by (seen cells here) ≡ seen cells y
+      → map (seen cells) (set trackers place y) ≡ with_pod_changed p by (map (seen cells) trackers)
+  changed-same queue = changed-set trackers cells pod_room request_room held place here within is y cells held.owner (same_cells queue)
+
+  -- requests move between its cells
+  pub closed_cells : (cells_after : Cells) → y.queue ≡ here.queue → cells_after.next.items ≡ cells.next.items → cells_after.spare.items ≡ cells.spare.items
+      → cells_after.spares ≡ cells.spares → length cells_after.request.items ≡ length cells.request.items
+      → ((x : ℕ) → Avoids cells.next.items x here.queue.first here.queue.count → get_or cells_after.request.items x 0 ≡ get_or cells.request.items x 0)
+      → HasChanged cells here y cells_after held.owner held.owner request_room
+  closed_cells cells_after queue next spare spares len others = record {
+    number = number;
+    request = len ∙ held.request;
+    next = ap (λ (l : List ℕ). length l) next ∙ held.next;
+    spare = ap (λ (l : List ℕ). length l) spare ∙ held.spare;
+    inside = held.inside;
+    spares = subst (λ l. AreSpare held.owner l cells_after.spares request_room) (sym spare)
+        (subst (λ n. AreSpare held.owner cells.spare.items n request_room) (sym spares) held.spares);
+    queue = subst (λ l. HasQueue held.owner l y) (sym next)
+        (subst (λ n. IsLine held.owner (Some n) cells.next.items y.queue.first y.queue.last y.queue.count) (sym number)
+            (subst (λ q. IsLine held.owner (Some here.number) cells.next.items q.first q.last q.count) (sym queue) line));
+    keeps = λ x q other owned. (owned, ap (λ (l : List ℕ). get_or l x 0) next);
+    same = λ x q other owned. others x (owned-avoids held.owner (Some here.number) cells.next.items x here.queue.first here.queue.count
+        (λ mine. other (same_owner held.owner x here.number q mine owned)) line.owned);
+  }
+
+  -- a cell of its queue is there
+  pub cell_inside : (n : ℕ) → n < here.queue.count → held.owner (after cells.next.items here.queue.first n) ≡ Some here.number
+  cell_inside n lt = owner_at held.owner (Some here.number) cells.next.items here.queue.first here.queue.count n line.owned lt
+
+  pub last_inside : 0 < here.queue.count → here.queue.last < length cells.next.items
+  last_inside some =
+      let n = here.queue.count - 1 in
+      let lt : n < here.queue.count = omega arith in
+      let at : held.owner here.queue.last ≡ Some here.number = ap held.owner (sym (line.ends n (omega arith))) ∙ cell_inside n lt in
+      omega (arith, held.inside here.queue.last here.number at, held.next)
+
+  pub first_inside : 0 < here.queue.count → (here.queue.first < length cells.next.items) × (held.owner here.queue.first ≡ Some here.number)
+  unfolding after
+  first_inside some =
+      let at : held.owner here.queue.first ≡ Some here.number = cell_inside 0 some in
+      (omega (arith, held.inside here.queue.first here.number at, held.next), at)
+
+  -- one more is queued
+  module _ (r : ℕ) (cells_after : Cells) (queued : IsQueued r here.queue cells y.queue cells_after) where
+    abbrev pub owner_pushed : ℕ → Option ℕ
+    owner_pushed = with_owner held.owner y.queue.last (Some here.number)
+
+    top : cells_after.spares < cells.spares
+    top = let e = queued.spares in omega arith
+
+    new_free : held.owner y.queue.last ≡ None
+    new_free = ap held.owner queued.last ∙ held.spares.free cells_after.spares top
+
+    new_inside : y.queue.last < request_room
+    new_inside = rw queued.last (held.spares.inside cells_after.spares top)
+
+    is_other : (x p : ℕ) → held.owner x ≡ Some p → x ≡ y.queue.last → ⊥
+    is_other x p owned same = not_both held.owner x p (ap held.owner same ∙ new_free) owned
+
+    stays : (x p : ℕ) → held.owner x ≡ Some p → owner_pushed x ≡ Some p
+    stays x p owned = owner_there held.owner y.queue.last (Some here.number) x (is_other x p owned) ∙ owned
+
+    request_same : (x p : ℕ) → held.owner x ≡ Some p → get_or cells_after.request.items x 0 ≡ get_or cells.request.items x 0
+    request_same x p owned = ap (λ (l : List ℕ). get_or l x 0) queued.request ∙ get_or-set_other cells.request.items y.queue.last x r 0 (is_other x p owned)
+
+    length_next : (n : ℕ) → here.queue.count ≡ n → length cells_after.next.items ≡ length cells.next.items
+    length_next zero e = ap (λ (l : List ℕ). length l) (queued.alone e).1
+    length_next (suc n) e = ap (λ (l : List ℕ). length l) (queued.behind (omega arith)).1 ∙ length-set cells.next.items here.queue.last y.queue.last
+
+    next_same : (x q : ℕ) → (q ≡ here.number → ⊥) → held.owner x ≡ Some q → (n : ℕ) → here.queue.count ≡ n → get_or cells_after.next.items x 0 ≡ get_or cells.next.items x 0
+    next_same x q other owned zero e = ap (λ (l : List ℕ). get_or l x 0) (queued.alone e).1
+    next_same x q other owned (suc n) e =
+        let mine : held.owner here.queue.last ≡ Some here.number = ap held.owner (sym (line.ends n (omega arith))) ∙ cell_inside n (omega arith) in
+        ap (λ (l : List ℕ). get_or l x 0) (queued.behind (omega arith)).1
+        ∙ get_or-set_other cells.next.items here.queue.last x y.queue.last 0 (λ same. other (same_owner held.owner x here.number q (ap held.owner same ∙ mine) owned))
+
+    pub pushed_line : IsLine owner_pushed (Some here.number) cells_after.next.items y.queue.first y.queue.last (suc here.queue.count)
+        × (requests_in cells_after.request.items cells_after.next.items y.queue.first (suc here.queue.count)
+            ≡ requests_in cells.request.items cells.next.items here.queue.first here.queue.count ++ r ∷ [])
+    unfolding Pushed
+    pushed_line = pushed held.owner owner_pushed (Some here.number) cells.request.items cells_after.request.items cells.next.items cells_after.next.items here.queue.last y.queue.last r
+        (λ x owned. stays x here.number owned) (λ owned. not_both held.owner y.queue.last here.number new_free owned)
+        (owner_here held.owner y.queue.last (Some here.number)) (λ x owned. request_same x here.number owned)
+        (ap (λ (l : List ℕ). get_or l y.queue.last 0) queued.request ∙ get_or-set_same cells.request.items y.queue.last r 0 (omega (arith, new_inside, held.request)))
+        here.queue.first y.queue.first here.queue.count (λ none. (queued.alone none).0) queued.behind last_inside line
+
+    longer : suc here.queue.count ≡ y.queue.count
+    longer = let e = queued.count in omega arith
+
+    spares_pushed : AreSpare owner_pushed cells.spare.items cells_after.spares request_room
+    spares_pushed = record {
+      inside = λ i lt. held.spares.inside i (omega (arith, top));
+      free = λ i lt. owner_there held.owner y.queue.last (Some here.number) (get_or cells.spare.items i 0)
+          (λ same. held.spares.apart i cells_after.spares lt top (same ∙ queued.last)) ∙ held.spares.free i (omega (arith, top));
+      apart = λ i j before lt. held.spares.apart i j before (omega (arith, top));
+    }
+
+    inside_pushed : (x p : ℕ) → owner_pushed x ≡ Some p → x < request_room
+    inside_pushed x p owned = elim (cases_eq x y.queue.last) [
+        inl same ↦ rw same new_inside
+      | inr other ↦ held.inside x p (sym (owner_there held.owner y.queue.last (Some here.number) x other) ∙ owned)
+    ]
+
+    pub pushed_cells : HasChanged cells here y cells_after held.owner owner_pushed request_room
+    pushed_cells = record {
+      number = number;
+      request = ap (λ (l : List ℕ). length l) queued.request ∙ length-set cells.request.items y.queue.last r ∙ held.request;
+      next = length_next here.queue.count refl ∙ held.next;
+      spare = ap (λ (l : List ℕ). length l) queued.spare ∙ held.spare;
+      inside = inside_pushed;
+      spares = subst (λ l. AreSpare owner_pushed l cells_after.spares request_room) (sym queued.spare) spares_pushed;
+      queue = subst (λ n. IsLine owner_pushed (Some n) cells_after.next.items y.queue.first y.queue.last y.queue.count) (sym number)
+          (subst (λ n. IsLine owner_pushed (Some here.number) cells_after.next.items y.queue.first y.queue.last n) longer pushed_line.0);
+      keeps = λ x q other owned. (stays x q owned, next_same x q other owned here.queue.count refl);
+      same = λ x q other owned. request_same x q owned;
+    }
+
+    pub queued_list : requests_in cells_after.request.items cells_after.next.items y.queue.first y.queue.count
+        ≡ requests_in cells.request.items cells.next.items here.queue.first here.queue.count ++ r ∷ []
+    queued_list = ap (λ n. requests_in cells_after.request.items cells_after.next.items y.queue.first n) (sym longer) ∙ pushed_line.1
+
+  -- the first is taken out
+  module _ (cells_after : Cells) (taken : IsDequeued here.queue cells y.queue cells_after) where
+    abbrev pub owner_popped : ℕ → Option ℕ
+    owner_popped = with_owner held.owner here.queue.first None
+
+    shorter : here.queue.count ≡ suc y.queue.count
+    shorter = let e = taken.count in omega arith
+
+    first_mine : held.owner here.queue.first ≡ Some here.number
+    first_mine = (first_inside (let e = shorter in omega arith)).1
+
+    popped_line : IsLine owner_popped (Some here.number) cells.next.items (get_or cells.next.items here.queue.first 0) here.queue.last y.queue.count
+    popped_line = line-popped held.owner owner_popped (Some here.number) cells.next.items here.queue.first here.queue.last y.queue.count
+        (λ x other owned. owner_there held.owner here.queue.first None x other ∙ owned)
+        (subst (λ n. IsLine held.owner (Some here.number) cells.next.items here.queue.first here.queue.last n) shorter line)
+
+    room_left : cells.spares < length cells.spare.items
+    room_left =
+        let some = shorter in
+        omega (arith, held.spare, here_queued trackers cells pod_room request_room held place here within is)
+
+    abbrev spare_popped : List ℕ
+    spare_popped = set cells.spare.items cells.spares here.queue.first
+
+    spare_old : (i : ℕ) → i < cells.spares → get_or spare_popped i 0 ≡ get_or cells.spare.items i 0
+    spare_old i lt = get_or-set_other cells.spare.items cells.spares i here.queue.first 0 (λ e. omega arith)
+
+    spare_new : (i : ℕ) → i ≡ cells.spares → get_or spare_popped i 0 ≡ here.queue.first
+    spare_new i same = ap (λ k. get_or spare_popped k 0) same ∙ get_or-set_same cells.spare.items cells.spares here.queue.first 0 room_left
+
+    first_free : (x : ℕ) → held.owner x ≡ None → owner_popped x ≡ None
+    unfolding with_owner
+    first_free x free = elim (nat_eq x here.queue.first) as (λ (b : Bool). cond b None (held.owner x) ≡ None) [ true ↦ refl | false ↦ free ]
+
+    spares_popped : AreSpare owner_popped spare_popped (cells.spares + 1) request_room
+    spares_popped = record {
+      inside = λ i lt. elim (cases_eq i cells.spares) [
+          inl same ↦ rw (spare_new i same) (held.inside here.queue.first here.number first_mine)
+        | inr other ↦ rw (spare_old i (omega arith)) (held.spares.inside i (omega arith))
+      ];
+      free = λ i lt. elim (cases_eq i cells.spares) [
+          inl same ↦ ap owner_popped (spare_new i same) ∙ owner_here held.owner here.queue.first None
+        | inr other ↦ ap owner_popped (spare_old i (omega arith)) ∙ first_free (get_or cells.spare.items i 0) (held.spares.free i (omega arith))
+      ];
+      apart = λ i j before lt alike. elim (cases_eq j cells.spares) [
+          inl same ↦ not_both held.owner here.queue.first here.number
+              (ap held.owner (sym (spare_new j same) ∙ sym alike ∙ spare_old i (omega arith)) ∙ held.spares.free i (omega arith)) first_mine
+        | inr other ↦ held.spares.apart i j before (omega arith) (sym (spare_old i (omega arith)) ∙ alike ∙ spare_old j (omega arith))
+      ];
+    }
+
+    inside_popped : (x p : ℕ) → owner_popped x ≡ Some p → x < request_room
+    inside_popped x p owned = elim (cases_eq x here.queue.first) [
+        inl same ↦ absurd (not_both owner_popped x p (ap owner_popped same ∙ owner_here held.owner here.queue.first None) owned)
+      | inr other ↦ held.inside x p (sym (owner_there held.owner here.queue.first None x other) ∙ owned)
+    ]
+
+    popped_keeps : (x q : ℕ) → (q ≡ here.number → ⊥) → held.owner x ≡ Some q → owner_popped x ≡ Some q
+    popped_keeps x q other owned =
+        owner_there held.owner here.queue.first None x (λ same. other (same_owner held.owner x here.number q (ap held.owner same ∙ first_mine) owned)) ∙ owned
+
+    pub popped_cells : HasChanged cells here y cells_after held.owner owner_popped request_room
+    popped_cells = record {
+      number = number;
+      request = ap (λ (l : List ℕ). length l) taken.request ∙ held.request;
+      next = ap (λ (l : List ℕ). length l) taken.next ∙ held.next;
+      spare = ap (λ (l : List ℕ). length l) taken.spare ∙ length-set cells.spare.items cells.spares here.queue.first ∙ held.spare;
+      inside = inside_popped;
+      spares = subst (λ l. AreSpare owner_popped l cells_after.spares request_room) (sym taken.spare)
+          (subst (λ n. AreSpare owner_popped spare_popped n request_room) (sym taken.spares) spares_popped);
+      queue = subst (λ l. HasQueue owner_popped l y) (sym taken.next)
+          (subst (λ n. IsLine owner_popped (Some n) cells.next.items y.queue.first y.queue.last y.queue.count) (sym number)
+              (subst (λ f. IsLine owner_popped (Some here.number) cells.next.items f y.queue.last y.queue.count) (sym taken.first)
+                  (subst (λ e. IsLine owner_popped (Some here.number) cells.next.items (get_or cells.next.items here.queue.first 0) e y.queue.count) (sym taken.last) popped_line)));
+      keeps = λ x q other owned. (popped_keeps x q other owned, ap (λ (l : List ℕ). get_or l x 0) taken.next);
+      same = λ x q other owned. ap (λ (l : List ℕ). get_or l x 0) taken.request;
+    }
+
+    pub popped_list : requests_in cells_after.request.items cells_after.next.items y.queue.first y.queue.count
+        ≡ drop 1 (requests_in cells.request.items cells.next.items here.queue.first here.queue.count)
+    popped_list =
+        ap (λ l. requests_in l cells_after.next.items y.queue.first y.queue.count) taken.request
+        ∙ ap (λ l. requests_in cells.request.items l y.queue.first y.queue.count) taken.next
+        ∙ ap (λ f. requests_in cells.request.items cells.next.items f y.queue.count) taken.first
+        ∙ requests-popped cells.request.items cells.next.items here.queue.first y.queue.count
+        ∙ ap (λ n. drop 1 (requests_in cells.request.items cells.next.items here.queue.first n)) (sym shorter)
+
+abbrev pub with_pods : List Pod → ℕ → ℕ → State
+with_pods pods pod_room request_room = record { pods = pods; pod_room = pod_room; request_room = request_room }

@@ -1,0 +1,61 @@
+-- A queue with one request more, and one with the first request less.
+use Rattle.std.proofs.Common.{◌≡◌, ℕ, zero, suc, ◌+◌, ◌<◌, List, [], ◌∷◌, ◌++◌, set, get_or, length, drop, refl, sym, ap, subst, ◌∙◌, arith, get_or-set_other, get_or-set_same, Option, Some}
+use Rattle.kn_seats.specs.Chains.{after, requests_in, Avoids, AreApart, AreOwned}
+use Rattle.kn_seats.specs.Kept.{IsLine}
+use Rattle.kn_seats.proofs.Chains.{owned-push, apart-push, after-push, requests-push, owned-without}
+
+-- the last of a line of so many
+line-last : (owner : ℕ → Option ℕ) (who : Option ℕ) (next : List ℕ) (first last n : ℕ) → AreApart next first (suc n) → AreOwned owner who next first (suc n)
+    → after next first n ≡ last → IsLine owner who next first last (suc n)
+line-last owner who next first last n apart owned is = record {
+  apart = apart;
+  owned = owned;
+  ends = λ m e. let same : m ≡ n = omega arith in ap (λ k. after next first k) same ∙ is;
+}
+
+module _ (owner owner_after : ℕ → Option ℕ) (who : Option ℕ) (request request_after next next_after : List ℕ) (last new r : ℕ)
+    (stays : (x : ℕ) → owner x ≡ who → owner_after x ≡ who) (fresh : owner new ≡ who → ⊥) (given : owner_after new ≡ who)
+    (same : (x : ℕ) → owner x ≡ who → get_or request_after x 0 ≡ get_or request x 0) (has : get_or request_after new 0 ≡ r) where
+  -- what a push leaves
+  unfoldable pub Pushed : ℕ → ℕ → ℕ → Type 0
+  Pushed first first_after count =
+      IsLine owner_after who next_after first_after new (suc count) × (requests_in request_after next_after first_after (suc count) ≡ requests_in request next first count ++ r ∷ [])
+
+  pushed-alone : (first_after : ℕ) → first_after ≡ new → (first : ℕ) → Pushed first first_after 0
+  unfolding Pushed AreApart Avoids AreOwned after requests_in
+  pushed-alone first_after is first =
+      (line-last owner_after who next_after first_after new 0 (tt, tt) (ap owner_after is ∙ given, tt) is
+      , ap (λ q. q ∷ []) (ap (λ p. get_or request_after p 0) is ∙ has))
+
+  pushed-behind : (first n : ℕ) → last < length next → next_after ≡ set next last new → IsLine owner who next first last (suc n) → Pushed first first (suc n)
+  unfolding Pushed
+  pushed-behind first n inside is line =
+      let others : (x : ℕ) → (x ≡ last → ⊥) → get_or next_after x 0 ≡ get_or next x 0 = λ x other. ap (λ l. get_or l x 0) is ∙ get_or-set_other next last x new 0 other in
+      let behind : get_or next_after last 0 ≡ new = ap (λ l. get_or l last 0) is ∙ get_or-set_same next last new 0 inside in
+      let ends : after next first n ≡ last = line.ends n (omega arith) in
+      (line-last owner_after who next_after first new (suc n)
+          (apart-push owner owner_after who next next_after last new stays others behind fresh given first n line.apart ends line.owned)
+          (owned-push owner owner_after who next next_after last new stays others behind fresh given first n line.apart ends line.owned)
+          (after-push owner owner_after who next next_after last new stays others behind fresh given first n line.apart ends)
+      , requests-push owner owner_after who next next_after last new stays others behind fresh given request request_after r same has first n line.apart ends line.owned)
+
+  pub pushed : (first first_after count : ℕ) → (count ≡ 0 → first_after ≡ new) → (0 < count → (first_after ≡ first) × (next_after ≡ set next last new))
+      → (0 < count → last < length next) → IsLine owner who next first last count → Pushed first first_after count
+  pushed first first_after zero alone behind inside line = pushed-alone first_after (alone refl) first
+  pushed first first_after (suc n) alone behind inside line =
+      let some : 0 < suc n = omega arith in
+      subst (λ f. Pushed first f (suc n)) (sym (behind some).0) (pushed-behind first n (inside some) (behind some).1 line)
+
+-- a line without its first cell
+pub line-popped : (owner owner_after : ℕ → Option ℕ) (who : Option ℕ) (next : List ℕ) (first last count : ℕ) → ((x : ℕ) → (x ≡ first → ⊥) → owner x ≡ who → owner_after x ≡ who)
+    → IsLine owner who next first last (suc count) → IsLine owner_after who next (get_or next first 0) last count
+unfolding AreApart AreOwned after
+line-popped owner owner_after who next first last count stays line = record {
+  apart = line.apart.1;
+  owned = owned-without owner owner_after who next first stays (get_or next first 0) count line.apart.0 line.owned.1;
+  ends = λ n e. line.ends (suc n) (omega arith);
+}
+
+pub requests-popped : (request next : List ℕ) (first count : ℕ) → requests_in request next (get_or next first 0) count ≡ drop 1 (requests_in request next first (suc count))
+unfolding requests_in
+requests-popped request next first count = refl
