@@ -1,6 +1,6 @@
 -- A journal that was read is in range, and its setup's text reads as that setup.
 use Rattle.std.proofs.Common.{◌≡◌, ◌+◌, ◌≤◌, ℕ, Bool, true, false, List, [], ◌∷◌, ◌++◌, append-nil, refl, sym, ap, ◌∙◌, subst, arith}
-use Rattle.std.specs.Prelude.{Option, None, Some, Result, Ok, Err, codes, nat_le, cond, ◌&&◌, ◌==◌, if◌then◌else◌, ⊤}
+use Rattle.std.specs.Prelude.{Option, None, Some, Result, Ok, Err, codes, nat_le, if◌then◌else◌}
 use Rattle.std.specs.Str.{bytes_eq}
 use Rattle.std.proofs.lemmas.Grind.{common_steps}
 use Rattle.kn_event.specs.declared.event.Event.{Event}
@@ -10,11 +10,11 @@ use Rattle.kn_journal.specs.declared.journal.Setup.{Setup}
 use Rattle.kn_journal.specs.declared.journal.Opening.{Opening}
 use Rattle.kn_journal.specs.declared.journal.Journal.{Journal}
 use Rattle.kn_journal.specs.Causes.{Cause, time_back, time_too_large}
-use Rattle.kn_journal.specs.Lines.{begins_with_lf, lines, lines_at_lf, onto_first, text_of, without_crs}
+use Rattle.kn_journal.specs.Lines.{lines, text_of}
 use Rattle.kn_journal.specs.Parts.{Part, part}
 use Rattle.kn_journal.specs.Setup.{setup_part}
 use Rattle.kn_journal.specs.Journal.{AreEvents, IsJournal, IsSetup, Read, Verdict, end_part, event_in, first_in, first_part, good, in_time, journal_of, next_in, next_part, nothing_part, onward, opening_in, opening_part, or_bad, read_events, start_in, start_line_in, start_of, start_part, then_events, time_most, verdict, verdict_of_lines, verdict_on, version_in, version_of}
-use Rattle.kn_journal.proofs.Aheads.{IsPlain, lines-plain}
+use Rattle.kn_journal.proofs.Aheads.{lines-plain}
 use Rattle.kn_journal.proofs.Consumed.{part-left, setup-takes, then_part-ok, with_line-ok}
 use Rattle.kn_journal.proofs.Plain.{ArePlainButLast, plain-behind, plain-lines}
 use Rattle.kn_journal.proofs.Printed.{AreSpelled}

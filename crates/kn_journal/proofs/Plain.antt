@@ -1,6 +1,6 @@
 -- Lines that no LF stands in, and of which only the last may end with CR.
-use Rattle.std.proofs.Common.{◌≡◌, ◌≢◌, ◌+◌, ◌-◌, ◌<◌, ℕ, zero, suc, Bool, true, false, List, [], ◌∷◌, ◌++◌, length, take, replicate, refl, sym, ap, ◌∙◌, subst, arith, inl, inr}
-use Rattle.std.specs.Prelude.{Contains, cond, ◌&&◌, ◌==◌, nat_lt, slice_index, slice_index_or, ⊤}
+use Rattle.std.proofs.Common.{◌≡◌, ◌≢◌, ◌+◌, ◌-◌, ◌<◌, ℕ, zero, suc, Bool, true, false, List, [], ◌∷◌, ◌++◌, length, take, replicate, refl, sym, subst, arith, inl, inr}
+use Rattle.std.specs.Prelude.{Contains, cond, ◌&&◌, ◌==◌, nat_lt, slice_index, ⊤}
 use Rattle.std.proofs.lemmas.Grind.{common_steps}
 use Rattle.std.proofs.lemmas.List.Elements.{Contains-append_cases}
 use Rattle.kn_journal.specs.Lines.{begins_with_lf, ends_with_cr, lines, lines_at_lf, onto_first, without_crs}

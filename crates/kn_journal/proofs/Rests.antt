@@ -1,5 +1,5 @@
 -- What is left behind a line that was refused.
-use Rattle.std.proofs.Common.{◌≡◌, ◌+◌, ℕ, true, false, List, [], ◌∷◌, ◌++◌, refl, sym, ap, ◌∙◌, subst}
+use Rattle.std.proofs.Common.{◌≡◌, ◌+◌, ℕ, true, false, List, [], ◌∷◌, refl, sym, ap, ◌∙◌, subst}
 use Rattle.std.specs.Prelude.{Option, None, Some, Result, Ok, Err, IfErr, codes}
 use Rattle.std.specs.Str.{bytes_eq}
 use Rattle.kn_event.specs.EventLine.{event_of}
@@ -7,7 +7,7 @@ use Rattle.kn_journal.specs.declared.error.JournalError.{JournalError}
 use Rattle.kn_journal.specs.declared.error.JournalError.TheVariants as error
 use Rattle.kn_journal.specs.Causes.{Cause, after_end, error_of}
 use Rattle.kn_journal.specs.Journal.{in_time, next_in, next_part, nothing_part, start_line_in, start_part}
-use Rattle.kn_journal.specs.Lines.{fits, lines}
+use Rattle.kn_journal.specs.Lines.{fits}
 use Rattle.kn_journal.specs.Parts.{Part, with_line}
 use Rattle.kn_journal.specs.Reading.{TakesLine}
 use Rattle.kn_journal.specs.Telling.{IsCauseOf, IsLineFault, Judges, LeavesRest}

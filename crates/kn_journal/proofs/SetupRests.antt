@@ -21,7 +21,7 @@ use Rattle.kn_journal.specs.declared.setting.SetupLine.{SetupLine}
 use Rattle.kn_journal.specs.Causes.{Cause, bad_setup, error_of}
 use Rattle.kn_journal.specs.Journal.{first_in, first_part, opening_part}
 use Rattle.kn_journal.specs.Lines.{fits, lines}
-use Rattle.kn_journal.specs.Parts.{Part, part, then_part, with_line}
+use Rattle.kn_journal.specs.Parts.{Part, part, then_part}
 use Rattle.kn_journal.specs.Reading.{TakesLine}
 use Rattle.kn_journal.specs.SetupLine.{setup_line}
 use Rattle.kn_journal.specs.Setup.{behind_line, block_most, block_part, blocks_part, blocks_text, config_in, fits_block, longer, revision_part, setup_in, setup_part, spec_in, word_in, word_part}

@@ -1,5 +1,5 @@
 //! The parts of a journal, each read from the lines that come next.
-ghost use Rattle.std.specs.Prelude.{◌≡◌, ◌≢◌, ◌⊎◌, ◌+◌, ◌≤◌, ◌<◌, ◌↔◌, ℕ, [], ◌∷◌, ◌++◌, List, true, Err, Ok, None, Contains, IfOk, IfErr, IfSome, IsTrue, OnOk, codes, drop, length, take};
+ghost use Rattle.std.specs.Prelude.{◌≡◌, ◌≢◌, ◌⊎◌, ◌+◌, ◌≤◌, ◌<◌, ◌↔◌, ℕ, [], ◌∷◌, ◌++◌, List, true, Err, Ok, None, Option, Some, Contains, IfOk, IfErr, IfSome, IsTrue, OnOk, codes, drop, length, take};
 ghost use Rattle.kn_io.specs.Causes.{Rose};
 ghost use Rattle.kn_event.specs.EventLine.{event_of, IsInJournalRange, IsInVersion};
 ghost use Rattle.kn_journal.specs.Causes.{Cause, error_of};
@@ -268,6 +268,26 @@ impl Lines {
         Some((e, len))
     }
 
+    /// Takes the next event, at this time or later, where its line is a usual one and ahead with its LF. None says nothing, and
+    /// takes nothing.
+    #[inline(always)]
+    pub fn next_ahead(&mut self, version: u64, last: u64) -> Option<Event>
+        ensures tells { IfSome result (λ e. (left : Option (List ℕ)) → Tells (next_part version last self.old.number) self.new.number (unread self.old.input left) (unread self.new.input left) (Ok (Some e))) }
+        ensures order { IfSome result (λ e. last ≤ e.time) }
+        ensures times { IfSome result (λ e. e.time ≤ time_most) }
+        ensures range { IfSome result (λ e. IsInJournalRange e.act) }
+        ensures version { IfSome result (λ e. IsInVersion version e.act) }
+        ensures bytes { IfSome result (λ e. self.old.input.taken + 6 ≤ self.new.input.taken) }
+        ensures few { IfSome result (λ e. self.new.input.taken ≤ most_taken) }
+        ensures balance { self.new.input.taken + length self.new.input.ahead ≡ self.old.input.taken + length self.old.input.ahead }
+        ensures same { result ≡ None → self.new ≡ self.old }
+    {
+        let (e, len) = self.event_ahead(version, last)?;
+        self.input.skip(len + 1);
+        self.number += 1;
+        Some(e)
+    }
+
     /// Reads the next event, at this time or later, or `end` and the end of the input.
     pub fn next<S: Source>(
         &mut self,
@@ -296,10 +316,9 @@ impl Lines {
         ensures never_falls { S.Faulty.faults source.old ≤ S.Faulty.faults source.new }
         ensures apart { S.apart source.new ≡ S.apart source.old }
     {
-        if let Some((e, len)) = self.event_ahead(version, last) {
-            self.input.skip(len + 1);
-            self.number += 1;
-            return Ok(Some(e));
+        match self.next_ahead(version, last) {
+            Some(e) => return Ok(Some(e)),
+            None => {}
         }
         match self.next_line(source) {
             Ok(()) => {}

@@ -1,5 +1,5 @@
 //! A journal that is read call by call.
-ghost use Rattle.std.specs.Prelude.{◌≡◌, ◌⊎◌, ◌≢◌, ◌+◌, ◌≤◌, ◌↔◌, [], Err, Ok, None, Some, Contains, IfErr, IfOk, IfSome, IsSome, IsTrue, OnErr, OnOk, length};
+ghost use Rattle.std.specs.Prelude.{◌≡◌, ◌⊎◌, ◌≢◌, ◌+◌, ◌≤◌, ◌↔◌, ℕ, List, [], Option, Err, Ok, None, Some, Contains, IfErr, IfOk, IfSome, IsSome, IsTrue, length, OnErr, OnOk};
 ghost use Rattle.kn_io.specs.Causes.{Rose};
 ghost use Rattle.kn_event.specs.EventLine.{IsInJournalRange, IsInVersion};
 ghost use Rattle.kn_journal.specs.Reading.{IsBalanced, IsSpent, TakesPart, most_taken, unread};
@@ -152,6 +152,32 @@ impl JournalReader {
                 Err(e)
             }
         }
+    }
+
+    /// Takes the next event, at the last time or later, where its line is a usual one and ahead with its LF. None says nothing,
+    /// and takes nothing.
+    #[inline(always)]
+    pub fn next_ahead(&mut self) -> Option<Event>
+        ensures tells { IfSome result (λ e. (left : Option (List ℕ)) → Tells (next_part self.old.version self.old.last self.old.number) self.new.number (unread self.old.input left) (unread self.new.input left) (Ok (Some e))) }
+        ensures order { IfSome result (λ e. self.old.last ≤ e.time) }
+        ensures times { IfSome result (λ e. e.time ≤ time_most) }
+        ensures last { IfSome result (λ e. self.new.last ≡ e.time) }
+        ensures range { IfSome result (λ e. IsInJournalRange e.act) }
+        ensures act { IfSome result (λ e. IsInVersion self.old.version e.act) }
+        ensures bytes { IfSome result (λ e. self.old.input.taken + 6 ≤ self.new.input.taken) }
+        ensures version { self.new.version ≡ self.old.version }
+        ensures few { IfSome result (λ e. self.new.input.taken ≤ most_taken) }
+        ensures good { IfSome result (λ e. self.old.failed ≡ None) }
+        ensures failed { self.new.failed ≡ self.old.failed }
+        ensures balance { self.new.input.taken + length self.new.input.ahead ≡ self.old.input.taken + length self.old.input.ahead }
+        ensures same { result ≡ None → self.new ≡ self.old }
+    {
+        if self.failed.is_some() {
+            return None;
+        }
+        let e = self.lines.next_ahead(self.version, self.last)?;
+        self.last = e.time;
+        Some(e)
     }
 
     /// Reads the next event, at the last time or later; `None` where `end` and then the end of the input come.

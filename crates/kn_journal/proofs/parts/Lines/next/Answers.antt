@@ -1,92 +1,89 @@
 -- An event, `end` and what follows it, or no line.
-use Rattle.std.proofs.Common.{◌≡◌, ◌+◌, ◌∙◌, ℕ, true, false, List, drop, sym, ap, subst, arith, inr}
-use Rattle.std.specs.Prelude.{Ok, Some, codes}
-use Rattle.std.specs.Io.KnownBytes.{prepend_known}
+use Rattle.std.proofs.Common.{◌≡◌, ◌∙◌, true, false, ap, refl, arith, inr}
+use Rattle.std.specs.Prelude.{codes}
 use Rattle.std.specs.Str.{bytes_eq}
 use Rattle.std.proofs.lemmas.Grind.{common_steps}
-use Rattle.kn_journal.specs.Journal.{next_part}
 use Rattle.kn_journal.specs.Reading.{unread}
-use Rattle.kn_journal.specs.Telling.{LinesState, Tells}
+use Rattle.kn_journal.specs.Telling.{LinesState}
 use Rattle.kn_journal.proofs.Rests.{ended-rest, event-rest}
 use Rattle.kn_journal.proofs.Stops.{end-stops}
-use Rattle.kn_journal.proofs.Tellings.{ahead-event, next-ended, next-event, next-lacks, next-more, next-refused}
+use Rattle.kn_journal.proofs.Tellings.{next-ended, next-event, next-lacks, next-more, next-refused}
 use Rattle.kn_journal.proofs.parts.Lines.next.Goals as goal
 use Rattle.kn_journal.proofs.parts.Lines.next.Goals.{in-Ok-judge_event, in-Err-judge_event}
 
 pub returns-in-Err-clause-tells : goal.returns-in-Err-clause-tells
 returns-in-Err-clause-tells g c =
-    next-lacks c.args.version c.args.last c.args.self.now.number c.in-Err.e (unread c.args.self.now.input (g.S.Source.left c.args.source.now)) c.in-Err.ensures.none
+    let same : c.next_ahead.new.self ≡ c.args.self.now = c.in-None.ensures.same refl in
+    next-lacks c.args.version c.args.last c.args.self.now.number c.in-Err.e (unread c.args.self.now.input (g.S.Source.left c.args.source.now)) (rw same at c.in-Err.ensures.none)
 
 pub returns-in-Ok-end-clause-tells : goal.returns-in-Ok-end-clause-tells
 returns-in-Ok-end-clause-tells g c =
-    let line : c.as_slice.result.now ≡ c.next_line.new.self.line = c.as_slice.ensures.value ∙ ap (λ (r : LinesState). r.line) c.self-2.view_is in
+    let same : c.next_ahead.new.self ≡ c.args.self.now = c.in-None.ensures.same refl in
+    let line : c.as_slice.result.now ≡ c.next_line.new.self.line = c.as_slice.ensures.value ∙ ap (λ (r : LinesState). r.line) c.self.view_is in
     let ends : bytes_eq c.next_line.new.self.line (codes "end") ≡ true = grind (arith, common_steps, line) in
     next-ended c.in-Ok-end.field-0 c.args.version c.args.last c.args.self.now.number c.next_line.new.self.number c.end.new.self.number (unread c.args.self.now.input (g.S.Source.left c.args.source.now))
     (unread c.next_line.new.self.input (g.S.Source.left c.next_line.new.source)) (unread c.end.new.self.input (g.S.Source.left c.end.new.source)) c.next_line.new.self.line
-    c.in-Ok.ensures.line c.in-Ok.ensures.fits c.in-Ok.ensures.number ends c.in-Ok-end.ensures.tells
+    (rw same at c.in-Ok.ensures.line) c.in-Ok.ensures.fits (rw same at c.in-Ok.ensures.number) ends c.in-Ok-end.ensures.tells
 
 pub returns-in-Err-end-clause-tells : goal.returns-in-Err-end-clause-tells
 returns-in-Err-end-clause-tells g c =
-    let line : c.as_slice.result.now ≡ c.next_line.new.self.line = c.as_slice.ensures.value ∙ ap (λ (r : LinesState). r.line) c.self-2.view_is in
+    let same : c.next_ahead.new.self ≡ c.args.self.now = c.in-None.ensures.same refl in
+    let line : c.as_slice.result.now ≡ c.next_line.new.self.line = c.as_slice.ensures.value ∙ ap (λ (r : LinesState). r.line) c.self.view_is in
     let ends : bytes_eq c.next_line.new.self.line (codes "end") ≡ true = grind (arith, common_steps, line) in
     next-more c.args.version c.args.last c.args.self.now.number c.next_line.new.self.number (unread c.args.self.now.input (g.S.Source.left c.args.source.now))
     (unread c.next_line.new.self.input (g.S.Source.left c.next_line.new.source)) c.next_line.new.self.line c.in-Err-end.e
-    c.in-Ok.ensures.line c.in-Ok.ensures.fits c.in-Ok.ensures.number ends c.in-Err-end.ensures.tells
+    (rw same at c.in-Ok.ensures.line) c.in-Ok.ensures.fits (rw same at c.in-Ok.ensures.number) ends c.in-Err-end.ensures.tells
 
 pub returns-in-Err-end-clause-amid : goal.returns-in-Err-end-clause-amid
 returns-in-Err-end-clause-amid g c h =
-    let line : c.as_slice.result.now ≡ c.next_line.new.self.line = c.as_slice.ensures.value ∙ ap (λ (r : LinesState). r.line) c.self-2.view_is in
+    let same : c.next_ahead.new.self ≡ c.args.self.now = c.in-None.ensures.same refl in
+    let line : c.as_slice.result.now ≡ c.next_line.new.self.line = c.as_slice.ensures.value ∙ ap (λ (r : LinesState). r.line) c.self.view_is in
     let ends : bytes_eq c.next_line.new.self.line (codes "end") ≡ true = grind (arith, common_steps, line) in
     inr (end-stops (unread c.args.self.now.input (g.S.Source.left c.args.source.now)) (unread c.next_line.new.self.input (g.S.Source.left c.next_line.new.source))
-    (unread c.end.new.self.input (g.S.Source.left c.end.new.source)) c.next_line.new.self.line c.in-Ok.ensures.line ends (c.in-Err-end.ensures.amid cc))
+    (unread c.end.new.self.input (g.S.Source.left c.end.new.source)) c.next_line.new.self.line (rw same at c.in-Ok.ensures.line) ends (c.in-Err-end.ensures.amid cc))
 
 pub returns-clause-tells : goal.returns-clause-tells
 returns-clause-tells g c =
+    let same : c.next_ahead.new.self ≡ c.args.self.now = c.in-None.ensures.same refl in
     let old = unread c.args.self.now.input (g.S.Source.left c.args.source.now) in
     let mid = unread c.next_line.new.self.input (g.S.Source.left c.next_line.new.source) in
-    let first : c.as_slice.result.now ≡ c.next_line.new.self.line = c.as_slice.ensures.value ∙ ap (λ (r : LinesState). r.line) c.self-2.view_is in
+    let first : c.as_slice.result.now ≡ c.next_line.new.self.line = c.as_slice.ensures.value ∙ ap (λ (r : LinesState). r.line) c.self.view_is in
     let other : bytes_eq c.next_line.new.self.line (codes "end") ≡ false = grind (arith, common_steps, first) in
-    let line : c.deref.result.now ≡ c.next_line.new.self.line = c.deref.ensures.value ∙ ap (λ (r : LinesState). r.line) c.self-2.view_is in
-    let number : c.self-2.inside.number ≡ c.next_line.new.self.number = ap (λ (r : LinesState). r.number) c.self-2.view_is in
+    let line : c.deref.result.now ≡ c.next_line.new.self.line = c.deref.ensures.value ∙ ap (λ (r : LinesState). r.line) c.self.view_is in
+    let number : c.self.inside.number ≡ c.next_line.new.self.number = ap (λ (r : LinesState). r.number) c.self.view_is in
     elim c.match-judge_event.branch [
       | in-Ok-judge_event w ↦
           rw w.result-is (next-event c.args.version c.args.last c.args.self.now.number c.next_line.new.self.number old mid c.next_line.new.self.line w.in-Ok-judge_event.e
-          c.in-Ok.ensures.line c.in-Ok.ensures.fits c.in-Ok.ensures.number other (rw (line, number) at w.in-Ok-judge_event.ensures.ok))
+          (rw same at c.in-Ok.ensures.line) c.in-Ok.ensures.fits (rw same at c.in-Ok.ensures.number) other (rw (line, number) at w.in-Ok-judge_event.ensures.ok))
       | in-Err-judge_event w ↦
           rw w.result-is (next-refused c.args.version c.args.last c.args.self.now.number c.next_line.new.self.number old mid c.next_line.new.self.line w.in-Err-judge_event.e
-          c.in-Ok.ensures.line c.in-Ok.ensures.fits c.in-Ok.ensures.number other (rw (line, number) at w.in-Err-judge_event.ensures.err))
+          (rw same at c.in-Ok.ensures.line) c.in-Ok.ensures.fits (rw same at c.in-Ok.ensures.number) other (rw (line, number) at w.in-Err-judge_event.ensures.err))
     ]
 
 pub returns-in-Some-clause-tells : goal.returns-in-Some-clause-tells
-returns-in-Some-clause-tells g c =
-    let left = g.S.Source.left c.args.source.now in
-    let len = c.in-Some.len in
-    let rest : c.skip.new.self.ahead ≡ drop (len + 1) c.args.self.now.input.ahead =
-    c.skip.ensures.ahead ∙ ap (λ (r : LinesState). drop (len + 1) r.input.ahead) c.self.view_is in
-    subst (λ (x : List ℕ). Tells (next_part c.args.version c.args.last c.args.self.now.number) (c.self.inside.number + 1) (unread c.args.self.now.input left) (prepend_known x left) (Ok (Some c.in-Some.e)))
-    (sym rest)
-    (ahead-event c.args.version c.args.last c.args.self.now.number (c.self.inside.number + 1) len c.args.self.now.input.ahead left c.in-Some.e
-    c.in-Some.ensures.line c.in-Some.ensures.inside c.in-Some.ensures.fits c.in-Some.ensures.bytes (ap (λ (r : LinesState). r.number + 1) c.self.view_is) c.in-Some.ensures.event)
+returns-in-Some-clause-tells g c = c.in-Some.ensures.tells (g.S.Source.left c.args.source.now)
 
 pub returns-in-Err-end-clause-rest : goal.returns-in-Err-end-clause-rest
 returns-in-Err-end-clause-rest g c is =
-    let line : c.as_slice.result.now ≡ c.next_line.new.self.line = c.as_slice.ensures.value ∙ ap (λ (r : LinesState). r.line) c.self-2.view_is in
+    let same : c.next_ahead.new.self ≡ c.args.self.now = c.in-None.ensures.same refl in
+    let line : c.as_slice.result.now ≡ c.next_line.new.self.line = c.as_slice.ensures.value ∙ ap (λ (r : LinesState). r.line) c.self.view_is in
     let ends : bytes_eq c.next_line.new.self.line (codes "end") ≡ true = grind (arith, common_steps, line) in
     ended-rest c.args.version c.args.last c.args.self.now.number c.next_line.new.self.number (unread c.args.self.now.input (g.S.Source.left c.args.source.now))
     (unread c.next_line.new.self.input (g.S.Source.left c.next_line.new.source)) (unread c.end.new.self.input (g.S.Source.left c.end.new.source)) c.next_line.new.self.line c.in-Err-end.e
-    c.in-Ok.ensures.line c.in-Ok.ensures.fits c.in-Ok.ensures.number ends (c.in-Err-end.ensures.rest is)
+    (rw same at c.in-Ok.ensures.line) c.in-Ok.ensures.fits (rw same at c.in-Ok.ensures.number) ends (c.in-Err-end.ensures.rest is)
 
 pub returns-clause-rest : goal.returns-clause-rest
 returns-clause-rest g c =
+    let same : c.next_ahead.new.self ≡ c.args.self.now = c.in-None.ensures.same refl in
     let old = unread c.args.self.now.input (g.S.Source.left c.args.source.now) in
     let mid = unread c.next_line.new.self.input (g.S.Source.left c.next_line.new.source) in
-    let first : c.as_slice.result.now ≡ c.next_line.new.self.line = c.as_slice.ensures.value ∙ ap (λ (r : LinesState). r.line) c.self-2.view_is in
+    let first : c.as_slice.result.now ≡ c.next_line.new.self.line = c.as_slice.ensures.value ∙ ap (λ (r : LinesState). r.line) c.self.view_is in
     let other : bytes_eq c.next_line.new.self.line (codes "end") ≡ false = grind (arith, common_steps, first) in
-    let line : c.deref.result.now ≡ c.next_line.new.self.line = c.deref.ensures.value ∙ ap (λ (r : LinesState). r.line) c.self-2.view_is in
-    let number : c.self-2.inside.number ≡ c.next_line.new.self.number = ap (λ (r : LinesState). r.number) c.self-2.view_is in
+    let line : c.deref.result.now ≡ c.next_line.new.self.line = c.deref.ensures.value ∙ ap (λ (r : LinesState). r.line) c.self.view_is in
+    let number : c.self.inside.number ≡ c.next_line.new.self.number = ap (λ (r : LinesState). r.number) c.self.view_is in
     elim c.match-judge_event.branch [
       | in-Ok-judge_event w ↦ rw w.result-is tt
       | in-Err-judge_event w ↦
           rw w.result-is (λ is. event-rest c.args.version c.args.last c.args.self.now.number c.next_line.new.self.number old mid c.next_line.new.self.line w.in-Err-judge_event.e
-          c.in-Ok.ensures.line c.in-Ok.ensures.fits c.in-Ok.ensures.number other (rw (line, number) at w.in-Err-judge_event.ensures.err))
+          (rw same at c.in-Ok.ensures.line) c.in-Ok.ensures.fits (rw same at c.in-Ok.ensures.number) other (rw (line, number) at w.in-Err-judge_event.ensures.err))
     ]
