@@ -34,8 +34,7 @@ def ab(port, count, at_once):
 
 def measure(server, is_kactd, slots):
     """One session of some 5,000 clients, as many at once as slots."""
-    # more rounds than ab needs: it opens some connections more than it counts, and it waits for the end of each, while a slot
-    # that has served its rounds holds its last one until the session ends
+    # more rounds than ab needs: it opens some connections more than it counts
     rounds = CLIENTS * 5 // 4 // slots
     with Pod() as pod, Session(fixed(4), [pod.port], slots, rounds, server=server) as session:
         rate, half, most = ab(session.port, CLIENTS, slots)

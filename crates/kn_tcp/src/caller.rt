@@ -122,15 +122,19 @@ impl Caller for TcpCaller {
 
     fn meet(&mut self) -> Result<(), Failed> {
         // The client before sees the end of its answer, also while nobody else comes.
-        if let Some(stream) = self.stream.take() {
-            finish(stream);
-        }
+        self.part();
         match accept_in_time(&self.listener) {
             Ok(stream) => {
                 self.stream = Some(stream);
                 Ok(())
             }
             Err(_) => Err(fault(&mut self.faults)),
+        }
+    }
+
+    fn part(&mut self) {
+        if let Some(stream) = self.stream.take() {
+            finish(stream);
         }
     }
 }
