@@ -68,9 +68,10 @@ module _ (owner owner_after : ℕ → Option ℕ) (who : Option ℕ) (next next_
   unfolding AreOwned AreApart
   apart-kept place zero owned apart = tt
   apart-kept place (suc n) owned apart =
-      let here = keeps place owned.0 in
-      (subst (λ p. Avoids next_after place p n) (sym here.1) (avoids-kept place (get_or next place 0) n owned.1 apart.0)
-      , subst (λ p. AreApart next_after p n) (sym here.1) (apart-kept (get_or next place 0) n owned.1 apart.1))
+      let here = keeps place owned.0 in (
+        subst (λ p. Avoids next_after place p n) (sym here.1) (avoids-kept place (get_or next place 0) n owned.1 apart.0),
+        subst (λ p. AreApart next_after p n) (sym here.1) (apart-kept (get_or next place 0) n owned.1 apart.1),
+      )
 
   pub after-kept : (place n : ℕ) → AreOwned owner who next place n → after next_after place n ≡ after next place n
   unfolding AreOwned after
@@ -107,26 +108,29 @@ module _ (owner owner_after : ℕ → Option ℕ) (who : Option ℕ) (next next_
       → AreOwned owner_after who next_after place (suc (suc n))
   unfolding AreOwned AreApart after
   owned-push place zero apart is owned = (stays place owned.0, (ap owner_after (leads_on place is) ∙ given, tt))
-  owned-push place (suc n) apart is owned =
-      (stays place owned.0
-      , subst (λ p. AreOwned owner_after who next_after p (suc (suc n))) (sym (leads place n apart is)) (owned-push (get_or next place 0) n apart.1 is owned.1))
+  owned-push place (suc n) apart is owned = (
+    stays place owned.0,
+    subst (λ p. AreOwned owner_after who next_after p (suc (suc n))) (sym (leads place n apart is)) (owned-push (get_or next place 0) n apart.1 is owned.1),
+  )
 
   avoids-push : (other place n : ℕ) → AreApart next place (suc n) → after next place n ≡ last → Avoids next other place (suc n) → (new ≡ other → ⊥)
       → Avoids next_after other place (suc (suc n))
   unfolding Avoids AreApart after
   avoids-push other place zero apart is avoids differ = (avoids.0, (λ e. differ (sym (leads_on place is) ∙ e), tt))
-  avoids-push other place (suc n) apart is avoids differ =
-      (avoids.0
-      , subst (λ p. Avoids next_after other p (suc (suc n))) (sym (leads place n apart is)) (avoids-push other (get_or next place 0) n apart.1 is avoids.1 differ))
+  avoids-push other place (suc n) apart is avoids differ = (
+    avoids.0,
+    subst (λ p. Avoids next_after other p (suc (suc n))) (sym (leads place n apart is)) (avoids-push other (get_or next place 0) n apart.1 is avoids.1 differ),
+  )
 
   pub apart-push : (place n : ℕ) → AreApart next place (suc n) → after next place n ≡ last → AreOwned owner who next place (suc n)
       → AreApart next_after place (suc (suc n))
   unfolding Avoids AreApart AreOwned after
   apart-push place zero apart is owned = ((λ e. fresh (ap owner (sym (leads_on place is) ∙ e) ∙ owned.0), tt), (tt, tt))
-  apart-push place (suc n) apart is owned =
-      (subst (λ p. Avoids next_after place p (suc (suc n))) (sym (leads place n apart is))
-          (avoids-push place (get_or next place 0) n apart.1 is apart.0 (λ e. fresh (ap owner e ∙ owned.0)))
-      , subst (λ p. AreApart next_after p (suc (suc n))) (sym (leads place n apart is)) (apart-push (get_or next place 0) n apart.1 is owned.1))
+  apart-push place (suc n) apart is owned = (
+    subst (λ p. Avoids next_after place p (suc (suc n))) (sym (leads place n apart is))
+        (avoids-push place (get_or next place 0) n apart.1 is apart.0 (λ e. fresh (ap owner e ∙ owned.0))),
+    subst (λ p. AreApart next_after p (suc (suc n))) (sym (leads place n apart is)) (apart-push (get_or next place 0) n apart.1 is owned.1),
+  )
 
   pub after-push : (place n : ℕ) → AreApart next place (suc n) → after next place n ≡ last → after next_after place (suc n) ≡ new
   unfolding AreApart after
@@ -173,9 +177,9 @@ requests-set request next v place (suc n) zero apart lt inside =
 requests-set request next v place (suc n) (suc k) apart lt inside =
     let within : k < n = omega arith in
     ap (λ q. q ∷ requests_in (set request (after next (get_or next place 0) k) v) next (get_or next place 0) n)
-        (get_or-set_other request (after next (get_or next place 0) k) place v 0 (λ e. avoided next place (get_or next place 0) n k apart.0 within (sym e)))
+    (get_or-set_other request (after next (get_or next place 0) k) place v 0 (λ e. avoided next place (get_or next place 0) n k apart.0 within (sym e)))
     ∙ ap (λ l. get_or request place 0 ∷ l)
-        (requests-set request next v (get_or next place 0) n k apart.1 within (λ j below. inside (suc j) (omega arith)))
+    (requests-set request next v (get_or next place 0) n k apart.1 within (λ j below. inside (suc j) (omega arith)))
 
 -- a place that a chain avoids is none of its cells
 pub apart_from : (next : List ℕ) (other place n k : ℕ) → Avoids next other place n → k < n → other ≡ after next place k → ⊥

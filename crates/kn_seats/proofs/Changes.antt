@@ -87,7 +87,7 @@ module _ (trackers : List Tracker) (cells : Cells) (pod_room request_room : ℕ)
         (subst (λ n. AreSpare held.owner cells.spare.items n request_room) (sym spares) held.spares);
     queue = subst (λ l. HasQueue held.owner l y) (sym next)
         (subst (λ n. IsLine held.owner (Some n) cells.next.items y.queue.first y.queue.last y.queue.count) (sym number)
-            (subst (λ q. IsLine held.owner (Some here.number) cells.next.items q.first q.last q.count) (sym queue) line));
+        (subst (λ q. IsLine held.owner (Some here.number) cells.next.items q.first q.last q.count) (sym queue) line));
     keeps = λ x q other owned. (owned, ap (λ (l : List ℕ). get_or l x 0) next);
     same = λ x q other owned. others x (owned-avoids held.owner (Some here.number) cells.next.items x here.queue.first here.queue.count
         (λ mine. other (same_owner held.owner x here.number q mine owned)) line.owned);
@@ -146,7 +146,7 @@ module _ (trackers : List Tracker) (cells : Cells) (pod_room request_room : ℕ)
 
     pub pushed_line : IsLine owner_pushed (Some here.number) cells_after.next.items y.queue.first y.queue.last (suc here.queue.count)
         × (requests_in cells_after.request.items cells_after.next.items y.queue.first (suc here.queue.count)
-            ≡ requests_in cells.request.items cells.next.items here.queue.first here.queue.count ++ r ∷ [])
+        ≡ requests_in cells.request.items cells.next.items here.queue.first here.queue.count ++ r ∷ [])
     unfolding Pushed
     pushed_line = pushed held.owner owner_pushed (Some here.number) cells.request.items cells_after.request.items cells.next.items cells_after.next.items here.queue.last y.queue.last r
         (λ x owned. stays x here.number owned) (λ owned. not_both held.owner y.queue.last here.number new_free owned)
@@ -167,7 +167,7 @@ module _ (trackers : List Tracker) (cells : Cells) (pod_room request_room : ℕ)
 
     inside_pushed : (x p : ℕ) → owner_pushed x ≡ Some p → x < request_room
     inside_pushed x p owned = elim (cases_eq x y.queue.last) [
-        inl same ↦ rw same new_inside
+      | inl same ↦ rw same new_inside
       | inr other ↦ held.inside x p (sym (owner_there held.owner y.queue.last (Some here.number) x other) ∙ owned)
     ]
 
@@ -226,23 +226,23 @@ module _ (trackers : List Tracker) (cells : Cells) (pod_room request_room : ℕ)
     spares_popped : AreSpare owner_popped spare_popped (cells.spares + 1) request_room
     spares_popped = record {
       inside = λ i lt. elim (cases_eq i cells.spares) [
-          inl same ↦ rw (spare_new i same) (held.inside here.queue.first here.number first_mine)
+        | inl same ↦ rw (spare_new i same) (held.inside here.queue.first here.number first_mine)
         | inr other ↦ rw (spare_old i (omega arith)) (held.spares.inside i (omega arith))
       ];
       free = λ i lt. elim (cases_eq i cells.spares) [
-          inl same ↦ ap owner_popped (spare_new i same) ∙ owner_here held.owner here.queue.first None
+        | inl same ↦ ap owner_popped (spare_new i same) ∙ owner_here held.owner here.queue.first None
         | inr other ↦ ap owner_popped (spare_old i (omega arith)) ∙ first_free (get_or cells.spare.items i 0) (held.spares.free i (omega arith))
       ];
       apart = λ i j before lt alike. elim (cases_eq j cells.spares) [
-          inl same ↦ not_both held.owner here.queue.first here.number
-              (ap held.owner (sym (spare_new j same) ∙ sym alike ∙ spare_old i (omega arith)) ∙ held.spares.free i (omega arith)) first_mine
+        | inl same ↦ not_both held.owner here.queue.first here.number
+            (ap held.owner (sym (spare_new j same) ∙ sym alike ∙ spare_old i (omega arith)) ∙ held.spares.free i (omega arith)) first_mine
         | inr other ↦ held.spares.apart i j before (omega arith) (sym (spare_old i (omega arith)) ∙ alike ∙ spare_old j (omega arith))
       ];
     }
 
     inside_popped : (x p : ℕ) → owner_popped x ≡ Some p → x < request_room
     inside_popped x p owned = elim (cases_eq x here.queue.first) [
-        inl same ↦ absurd (not_both owner_popped x p (ap owner_popped same ∙ owner_here held.owner here.queue.first None) owned)
+      | inl same ↦ absurd (not_both owner_popped x p (ap owner_popped same ∙ owner_here held.owner here.queue.first None) owned)
       | inr other ↦ held.inside x p (sym (owner_there held.owner here.queue.first None x other) ∙ owned)
     ]
 
@@ -261,8 +261,8 @@ module _ (trackers : List Tracker) (cells : Cells) (pod_room request_room : ℕ)
           (subst (λ n. AreSpare owner_popped spare_popped n request_room) (sym taken.spares) spares_popped);
       queue = subst (λ l. HasQueue owner_popped l y) (sym taken.next)
           (subst (λ n. IsLine owner_popped (Some n) cells.next.items y.queue.first y.queue.last y.queue.count) (sym number)
-              (subst (λ f. IsLine owner_popped (Some here.number) cells.next.items f y.queue.last y.queue.count) (sym taken.first)
-                  (subst (λ e. IsLine owner_popped (Some here.number) cells.next.items (get_or cells.next.items here.queue.first 0) e y.queue.count) (sym taken.last) popped_line)));
+          (subst (λ f. IsLine owner_popped (Some here.number) cells.next.items f y.queue.last y.queue.count) (sym taken.first)
+          (subst (λ e. IsLine owner_popped (Some here.number) cells.next.items (get_or cells.next.items here.queue.first 0) e y.queue.count) (sym taken.last) popped_line)));
       keeps = λ x q other owned. (popped_keeps x q other owned, ap (λ (l : List ℕ). get_or l x 0) taken.next);
       same = λ x q other owned. ap (λ (l : List ℕ). get_or l x 0) taken.request;
     }

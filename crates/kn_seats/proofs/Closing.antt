@@ -116,7 +116,7 @@ module _ (before request next : List ℕ) (first count r place held turn : ℕ) 
             ∙ ap (λ l. drop 1 l) (requests-set request next held first count (suc k) apart lt (λ j below. let fits = inside j below in omega (arith, closing.len)))
             ∙ drop-set all k held ∙ ap (λ l. set l k held) closing.moved ∙ ap (λ v. set (take k queued ++ drop (suc k) queued) k v) closing.holds ∙ shifted queued k longer;
         earlier = λ i below is. elim (cases_eq i k) [
-            inl same ↦ differ (closing.holds ∙ ap (λ j. get_or queued j 0) (sym same) ∙ is)
+          | inl same ↦ differ (closing.holds ∙ ap (λ j. get_or queued j 0) (sym same) ∙ is)
           | inr other ↦ closing.earlier i (omega arith) is
         ];
         others = λ x avoids. get_or-set_other request (get_or next place 0) x held 0 (λ e. apart_from next x first count (suc k) avoids lt (e ∙ to)) ∙ closing.others x avoids;
@@ -136,7 +136,7 @@ module _ (before request next : List ℕ) (first count r place held turn : ℕ) 
       let inside : at < length queued = there.1 in
       let value : get_or queued at 0 ≡ r = grind (arith, get_or_default queued at 0 r inside, there.2) in
       let last : at ≡ closing.steps = elim (cases_eq at closing.steps) [
-          inl same ↦ same
+        | inl same ↦ same
         | inr other ↦ absurd (closing.earlier at (omega (arith, length_requests before next first count, closing.turns, closing.inside)) value)
       ] in
       closing-found (closing.holds ∙ ap (λ j. get_or queued j 0) (sym last) ∙ value)

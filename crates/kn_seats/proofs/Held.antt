@@ -88,8 +88,8 @@ module _ (trackers : List Tracker) (cells : Cells) (pod_room request_room : ℕ)
         let t = get_or trackers i d in
         let differ = differs i d lt other in
         ap (with_queue t) (requests-kept held.owner owner_after (Some t.number) cells.next.items cells_after.next.items
-            (λ x owned. changed.keeps x t.number differ owned) cells.request.items cells_after.request.items (λ x owned. changed.same x t.number differ owned)
-            t.queue.first t.queue.count (held.queues i d lt).owned)
+        (λ x owned. changed.keeps x t.number differ owned) cells.request.items cells_after.request.items (λ x owned. changed.same x t.number differ owned)
+        t.queue.first t.queue.count (held.queues i d lt).owned)
 
     pub view : map (seen cells_after) (set trackers place y) ≡ set (map (seen cells) trackers) place (seen cells_after y)
     view = map-changed (seen cells) (seen cells_after) y trackers place seen_same within
@@ -109,10 +109,10 @@ module _ (trackers : List Tracker) (cells : Cells) (pod_room request_room : ℕ)
 
     queues_after : (i : ℕ) (d : Tracker) → i < length (set trackers place y) → HasQueue owner_after cells_after.next.items (get_or (set trackers place y) i d)
     queues_after i d lt = elim (cases_eq i place) [
-        inl same ↦ subst (λ t. HasQueue owner_after cells_after.next.items t)
-            (sym (ap (λ k. get_or (set trackers place y) k d) same ∙ get_or-set_same trackers place y d within)) changed.queue
+      | inl same ↦ subst (λ t. HasQueue owner_after cells_after.next.items t)
+          (sym (ap (λ k. get_or (set trackers place y) k d) same ∙ get_or-set_same trackers place y d within)) changed.queue
       | inr other ↦ subst (λ t. HasQueue owner_after cells_after.next.items t)
-            (sym (get_or-set_other trackers place i y d other)) (queue_kept i d (omega (arith, length-set trackers place y)) other)
+          (sym (get_or-set_other trackers place i y d other)) (queue_kept i d (omega (arith, length-set trackers place y)) other)
     ]
 
     pub held-set : y.running + y.queue.count + requests_at_all (map (seen cells) trackers) ≤ request_room + (here.running + here.queue.count)
@@ -123,7 +123,7 @@ module _ (trackers : List Tracker) (cells : Cells) (pod_room request_room : ℕ)
         record {
           kept = subst (λ l. IsKept l cells_after.spares pod_room request_room) (sym view)
               (kept-set (map (seen cells) trackers) place (seen cells here) (seen cells_after y) cells.spares cells_after.spares pod_room request_room
-                  held.kept within_seen here_seen changed.number (omega arith) (omega arith));
+              held.kept within_seen here_seen changed.number (omega arith) (omega arith));
           request = changed.request;
           next = changed.next;
           spare = changed.spare;

@@ -79,8 +79,8 @@ module _ (trackers : List Tracker) (cells : Cells) (pod_room request_room : ℕ)
     inside = held.inside;
     spares = held.spares;
     queues = λ i d lt. elim (cases_eq i (length trackers)) [
-        inl same ↦ subst (λ t. HasQueue held.owner cells.next.items t) (sym (get_or_push trackers (idle p limit) d i (sym same)))
-            (empty_line held.owner (Some p) cells.next.items 0 0 0 refl)
+      | inl same ↦ subst (λ t. HasQueue held.owner cells.next.items t) (sym (get_or_push trackers (idle p limit) d i (sym same)))
+          (empty_line held.owner (Some p) cells.next.items 0 0 0 refl)
       | inr other ↦ let within : i < length trackers = omega (arith, length_push trackers (idle p limit)) in
           subst (λ t. HasQueue held.owner cells.next.items t) (sym (get_or_append_left trackers (idle p limit ∷ []) d i within)) (held.queues i d within)
     ];
@@ -119,7 +119,7 @@ module _ (trackers : List Tracker) (cells : Cells) (pod_room request_room : ℕ)
     queues = λ i e lt.
         let fewer = length-remove trackers place within in
         elim (cases_lt i place) [
-          inl below ↦ subst (λ t. HasQueue held.owner cells.next.items t) (sym (get_or-remove_below trackers place e i below within)) (held.queues i e (omega arith))
-        | inr above ↦ subst (λ t. HasQueue held.owner cells.next.items t) (sym (get_or-remove_above trackers place e i above within)) (held.queues (i + 1) e (omega arith))
+          | inl below ↦ subst (λ t. HasQueue held.owner cells.next.items t) (sym (get_or-remove_below trackers place e i below within)) (held.queues i e (omega arith))
+          | inr above ↦ subst (λ t. HasQueue held.owner cells.next.items t) (sym (get_or-remove_above trackers place e i above within)) (held.queues (i + 1) e (omega arith))
         ];
   }

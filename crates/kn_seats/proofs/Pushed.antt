@@ -23,21 +23,23 @@ module _ (owner owner_after : ℕ → Option ℕ) (who : Option ℕ) (request re
 
   pushed-alone : (first_after : ℕ) → first_after ≡ new → (first : ℕ) → Pushed first first_after 0
   unfolding Pushed AreApart Avoids AreOwned after requests_in
-  pushed-alone first_after is first =
-      (line-last owner_after who next_after first_after new 0 (tt, tt) (ap owner_after is ∙ given, tt) is
-      , ap (λ q. q ∷ []) (ap (λ p. get_or request_after p 0) is ∙ has))
+  pushed-alone first_after is first = (
+    line-last owner_after who next_after first_after new 0 (tt, tt) (ap owner_after is ∙ given, tt) is,
+    ap (λ q. q ∷ []) (ap (λ p. get_or request_after p 0) is ∙ has),
+  )
 
   pushed-behind : (first n : ℕ) → last < length next → next_after ≡ set next last new → IsLine owner who next first last (suc n) → Pushed first first (suc n)
   unfolding Pushed
   pushed-behind first n inside is line =
       let others : (x : ℕ) → (x ≡ last → ⊥) → get_or next_after x 0 ≡ get_or next x 0 = λ x other. ap (λ l. get_or l x 0) is ∙ get_or-set_other next last x new 0 other in
       let behind : get_or next_after last 0 ≡ new = ap (λ l. get_or l last 0) is ∙ get_or-set_same next last new 0 inside in
-      let ends : after next first n ≡ last = line.ends n (omega arith) in
-      (line-last owner_after who next_after first new (suc n)
-          (apart-push owner owner_after who next next_after last new stays others behind fresh given first n line.apart ends line.owned)
-          (owned-push owner owner_after who next next_after last new stays others behind fresh given first n line.apart ends line.owned)
-          (after-push owner owner_after who next next_after last new stays others behind fresh given first n line.apart ends)
-      , requests-push owner owner_after who next next_after last new stays others behind fresh given request request_after r same has first n line.apart ends line.owned)
+      let ends : after next first n ≡ last = line.ends n (omega arith) in (
+        line-last owner_after who next_after first new (suc n)
+            (apart-push owner owner_after who next next_after last new stays others behind fresh given first n line.apart ends line.owned)
+            (owned-push owner owner_after who next next_after last new stays others behind fresh given first n line.apart ends line.owned)
+            (after-push owner owner_after who next next_after last new stays others behind fresh given first n line.apart ends),
+        requests-push owner owner_after who next next_after last new stays others behind fresh given request request_after r same has first n line.apart ends line.owned,
+      )
 
   pub pushed : (first first_after count : ℕ) → (count ≡ 0 → first_after ≡ new) → (0 < count → (first_after ≡ first) × (next_after ≡ set next last new))
       → (0 < count → last < length next) → IsLine owner who next first last count → Pushed first first_after count

@@ -39,7 +39,7 @@ returns-clause-added c =
     let held = c.self.invariant.held in
     let pods_are : map (seen inside.cells) inside.pods.items ≡ c.args.self.now.pods = ap (λ (s : State). s.pods) c.self.view_is in
     rw (← c.self.view_is, c.push_reserved.ensures.items, c.idle.ensures) (ap (λ (l : List Pod). with_pods l inside.pod_room inside.request_room)
-        (seen-add inside.pods.items inside.cells inside.pod_room inside.request_room held c.args.p c.args.limit))
+    (seen-add inside.pods.items inside.cells inside.pod_room inside.request_room held c.args.p c.args.limit))
 
 pub returns-clause-counted : goal.returns-clause-counted
 returns-clause-counted c =
@@ -47,6 +47,6 @@ returns-clause-counted c =
     let held = c.self.invariant.held in
     let pods_are : map (seen inside.cells) inside.pods.items ≡ c.args.self.now.pods = ap (λ (s : State). s.pods) c.self.view_is in
     rw (← c.self.view_is, c.push_reserved.ensures.items, c.idle.ensures) (
-        let all = ap requests_at_all (seen-add inside.pods.items inside.cells inside.pod_room inside.request_room held c.args.p c.args.limit) in
-        let sums = sum_by_push requests_at (map (seen inside.cells) inside.pods.items) (idle_pod c.args.p c.args.limit) in
-        omega arith)
+    let all = ap requests_at_all (seen-add inside.pods.items inside.cells inside.pod_room inside.request_room held c.args.p c.args.limit) in
+    let sums = sum_by_push requests_at (map (seen inside.cells) inside.pods.items) (idle_pod c.args.p c.args.limit) in
+    omega arith)

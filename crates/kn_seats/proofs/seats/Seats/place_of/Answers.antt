@@ -11,4 +11,4 @@ returns-then-index-p c =
     let guess : ℕ = (c.args.p + (18446744073709551616 - c.in-Some.first.now.number)) % 18446744073709551616 in
     let within : guess < length c.self.inside.pods.items = grind (arith, common_steps) in
     rw (← c.self.view_is) (the_place c.args.p (map (seen c.self.inside.cells) c.self.inside.pods.items) guess c.self.invariant.held.kept.ascending
-        (stands_at c.self.inside.cells c.self.inside.pods.items c.args.p guess c.index.result.now within c.index.ensures c.if-index-p.true))
+    (stands_at c.self.inside.cells c.self.inside.pods.items c.args.p guess c.index.result.now within c.index.ensures c.if-index-p.true))

@@ -46,8 +46,8 @@ returns-clause-promoted c =
     let now_is : pod_at c.args.p c.args.self.now.pods ≡ seen inside.cells here = ap (pod_at c.args.p) (sym pods_are) ∙ pod_is in
     let list = popped_list inside.pods.items inside.cells inside.pod_room inside.request_room held place here within is (record here { queue = c.pop-r.new.self; running = here.running + 1 }) refl c.pop-r.new.cells c.pop-r.ensures.changed in
     rw (← c.self.view_is) (ap (λ (l : List Pod). with_pods l inside.pod_room inside.request_room)
-        (changed-set inside.pods.items inside.cells inside.pod_room inside.request_room held place here within is (record here { queue = c.pop-r.new.self; running = here.running + 1 }) c.pop-r.new.cells (owner_popped inside.pods.items inside.cells inside.pod_room inside.request_room held place here within is (record here { queue = c.pop-r.new.self; running = here.running + 1 }) refl c.pop-r.new.cells c.pop-r.ensures.changed) (popped_cells inside.pods.items inside.cells inside.pod_room inside.request_room held place here within is (record here { queue = c.pop-r.new.self; running = here.running + 1 }) refl c.pop-r.new.cells c.pop-r.ensures.changed) c.args.p (λ pod. record pod { queued = drop 1 pod.queued; running = pod.running + 1 }) stands
-            (ap (λ (l : List ℕ). record (seen inside.cells here) { queued = l; running = here.running + 1 }) (sym list))))
+    (changed-set inside.pods.items inside.cells inside.pod_room inside.request_room held place here within is (record here { queue = c.pop-r.new.self; running = here.running + 1 }) c.pop-r.new.cells (owner_popped inside.pods.items inside.cells inside.pod_room inside.request_room held place here within is (record here { queue = c.pop-r.new.self; running = here.running + 1 }) refl c.pop-r.new.cells c.pop-r.ensures.changed) (popped_cells inside.pods.items inside.cells inside.pod_room inside.request_room held place here within is (record here { queue = c.pop-r.new.self; running = here.running + 1 }) refl c.pop-r.new.cells c.pop-r.ensures.changed) c.args.p (λ pod. record pod { queued = drop 1 pod.queued; running = pod.running + 1 }) stands
+    (ap (λ (l : List ℕ). record (seen inside.cells here) { queued = l; running = here.running + 1 }) (sym list))))
 
 pub returns-clause-counted : goal.returns-clause-counted
 returns-clause-counted c =
@@ -191,4 +191,4 @@ returns-clause-answer c =
     let now_is : pod_at c.args.p c.args.self.now.pods ≡ seen inside.cells here = ap (pod_at c.args.p) (sym pods_are) ∙ pod_is in
     let some : 0 < here.queue.count = omega arith in
     rw now_is (answers_first (has_free_seat (seen inside.cells here)) _ c.pop-r.result (c.if-not-has_free_seat.ensures inside.cells)
-        (first_request inside.cells.request.items inside.cells.next.items here.queue.first here.queue.count some ∙ ap Some (sym c.pop-r.ensures.first)))
+    (first_request inside.cells.request.items inside.cells.next.items here.queue.first here.queue.count some ∙ ap Some (sym c.pop-r.ensures.first)))

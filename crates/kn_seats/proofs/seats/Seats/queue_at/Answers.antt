@@ -178,8 +178,8 @@ returns-clause-queued c =
     let now_is : pod_at c.args.p c.args.self.now.pods ≡ seen inside.cells here = ap (pod_at c.args.p) (sym pods_are) ∙ pod_is in
     let list = queued_list inside.pods.items inside.cells inside.pod_room inside.request_room held place here within is (record here { queue = c.push.new.self }) refl c.args.r c.push.new.cells c.push.ensures in
     rw (← c.self.view_is) (ap (λ (l : List Pod). with_pods l inside.pod_room inside.request_room)
-        (changed-set inside.pods.items inside.cells inside.pod_room inside.request_room held place here within is (record here { queue = c.push.new.self }) c.push.new.cells (owner_pushed inside.pods.items inside.cells inside.pod_room inside.request_room held place here within is (record here { queue = c.push.new.self }) refl c.args.r c.push.new.cells c.push.ensures) (pushed_cells inside.pods.items inside.cells inside.pod_room inside.request_room held place here within is (record here { queue = c.push.new.self }) refl c.args.r c.push.new.cells c.push.ensures) c.args.p (λ pod. record pod { queued = pod.queued ++ c.args.r ∷ [] }) stands
-            (ap (λ (l : List ℕ). record (seen inside.cells here) { queued = l }) (sym list))))
+    (changed-set inside.pods.items inside.cells inside.pod_room inside.request_room held place here within is (record here { queue = c.push.new.self }) c.push.new.cells (owner_pushed inside.pods.items inside.cells inside.pod_room inside.request_room held place here within is (record here { queue = c.push.new.self }) refl c.args.r c.push.new.cells c.push.ensures) (pushed_cells inside.pods.items inside.cells inside.pod_room inside.request_room held place here within is (record here { queue = c.push.new.self }) refl c.args.r c.push.new.cells c.push.ensures) c.args.p (λ pod. record pod { queued = pod.queued ++ c.args.r ∷ [] }) stands
+    (ap (λ (l : List ℕ). record (seen inside.cells here) { queued = l }) (sym list))))
 
 pub returns-clause-counted : goal.returns-clause-counted
 returns-clause-counted c =

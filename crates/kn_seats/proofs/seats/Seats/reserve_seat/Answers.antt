@@ -92,7 +92,7 @@ returns-clause-reserved c =
     pod_here inside.pods.items inside.cells inside.pod_room inside.request_room held place here within is here refl c.args.p stands in
     let now_is : pod_at c.args.p c.args.self.now.pods ≡ seen inside.cells here = ap (pod_at c.args.p) (sym pods_are) ∙ pod_is in
     rw (← c.self.view_is) (ap (λ (l : List Pod). with_pods l inside.pod_room inside.request_room)
-        (changed-same inside.pods.items inside.cells inside.pod_room inside.request_room held place here within is (record here { running = here.running + 1 }) refl refl c.args.p (λ pod. record pod { running = pod.running + 1 }) stands refl))
+    (changed-same inside.pods.items inside.cells inside.pod_room inside.request_room held place here within is (record here { running = here.running + 1 }) refl refl c.args.p (λ pod. record pod { running = pod.running + 1 }) stands refl))
 
 pub returns-clause-counted : goal.returns-clause-counted
 returns-clause-counted c =

@@ -25,8 +25,8 @@ returns-clause-changed c =
     let stands : IsPlaceOf c.args.p (map (seen inside.cells) inside.pods.items) c.place_of-place.result = rw pods_are c.place_of-place.ensures in
     let within : c.place_of-place.result < length inside.pods.items = grind (arith, common_steps) in
     rw (← c.self.view_is) (ap (λ (l : List Pod). with_pods l inside.pod_room inside.request_room)
-        (changed-same inside.pods.items inside.cells inside.pod_room inside.request_room c.self.invariant.held c.place_of-place.result c.index_mut.result.now within c.index_mut.ensures.value
-            _ refl refl c.args.p (λ pod. record pod { limit = c.args.n }) stands refl))
+    (changed-same inside.pods.items inside.cells inside.pod_room inside.request_room c.self.invariant.held c.place_of-place.result c.index_mut.result.now within c.index_mut.ensures.value
+    _ refl refl c.args.p (λ pod. record pod { limit = c.args.n }) stands refl))
 
 pub returns-clause-counted : goal.returns-clause-counted
 returns-clause-counted c =
@@ -34,4 +34,4 @@ returns-clause-counted c =
     let within : c.place_of-place.result < length inside.pods.items = grind (arith, common_steps) in
     rw (← c.self.view_is)
     (let e = counted-same inside.pods.items inside.cells inside.pod_room inside.request_room c.self.invariant.held c.place_of-place.result c.index_mut.result.now within c.index_mut.ensures.value
-        (record c.index_mut.result.now { limit = c.args.n }) refl refl in omega arith)
+    (record c.index_mut.result.now { limit = c.args.n }) refl refl in omega arith)

@@ -124,8 +124,8 @@ pop-requires-clause-request c =
     ap (λ (l : List ℕ). length l) items_are ∙ c.close_up.auto.request ∙ ap (λ (l : List ℕ). length l) list_is in
     let others : (x : ℕ) → Avoids inside.cells.next.items x here.queue.first here.queue.count → get_or mid.request.items x 0 ≡ get_or inside.cells.request.items x 0 =
     λ x avoids. ap (λ (l : List ℕ). get_or l x 0) items_are
-        ∙ c.close_up.ensures.others x (subst (λ l. Avoids l x here.queue.first here.queue.count) (sym next_is) avoids)
-        ∙ ap (λ (l : List ℕ). get_or l x 0) list_is in
+    ∙ c.close_up.ensures.others x (subst (λ l. Avoids l x here.queue.first here.queue.count) (sym next_is) avoids)
+    ∙ ap (λ (l : List ℕ). get_or l x 0) list_is in
     let inside_next = (first_inside inside.pods.items inside.cells inside.pod_room inside.request_room held place here within is here refl some).0 in
     omega (arith, len, inside_next, held.request, held.next)
 
@@ -194,8 +194,8 @@ invariant_of-self c =
     ap (λ (l : List ℕ). length l) items_are ∙ c.close_up.auto.request ∙ ap (λ (l : List ℕ). length l) list_is in
     let others : (x : ℕ) → Avoids inside.cells.next.items x here.queue.first here.queue.count → get_or mid.request.items x 0 ≡ get_or inside.cells.request.items x 0 =
     λ x avoids. ap (λ (l : List ℕ). get_or l x 0) items_are
-        ∙ c.close_up.ensures.others x (subst (λ l. Avoids l x here.queue.first here.queue.count) (sym next_is) avoids)
-        ∙ ap (λ (l : List ℕ). get_or l x 0) list_is in
+    ∙ c.close_up.ensures.others x (subst (λ l. Avoids l x here.queue.first here.queue.count) (sym next_is) avoids)
+    ∙ ap (λ (l : List ℕ). get_or l x 0) list_is in
     let shorter : c.pop.new.self.count + 1 ≡ here.queue.count = c.pop.ensures.changed.count in
     let more : c.pop.new.cells.spares ≡ inside.cells.spares + 1 = c.pop.ensures.changed.spares in
     let all = held.kept.requests_fit in
@@ -226,15 +226,15 @@ returns-clause-changed c =
     ap (λ (l : List ℕ). length l) items_are ∙ c.close_up.auto.request ∙ ap (λ (l : List ℕ). length l) list_is in
     let others : (x : ℕ) → Avoids inside.cells.next.items x here.queue.first here.queue.count → get_or mid.request.items x 0 ≡ get_or inside.cells.request.items x 0 =
     λ x avoids. ap (λ (l : List ℕ). get_or l x 0) items_are
-        ∙ c.close_up.ensures.others x (subst (λ l. Avoids l x here.queue.first here.queue.count) (sym next_is) avoids)
-        ∙ ap (λ (l : List ℕ). get_or l x 0) list_is in
+    ∙ c.close_up.ensures.others x (subst (λ l. Avoids l x here.queue.first here.queue.count) (sym next_is) avoids)
+    ∙ ap (λ (l : List ℕ). get_or l x 0) list_is in
     let closing : drop 1 (requests_in mid.request.items inside.cells.next.items here.queue.first here.queue.count)
-        ≡ without_request c.args.r (requests_in inside.cells.request.items inside.cells.next.items here.queue.first here.queue.count) =
+    ≡ without_request c.args.r (requests_in inside.cells.request.items inside.cells.next.items here.queue.first here.queue.count) =
     ap (λ l. drop 1 (requests_in l inside.cells.next.items here.queue.first here.queue.count)) items_are ∙ (rw (list_is, next_is) at c.close_up.ensures.closed) in
     let list = unqueued_list inside.pods.items inside.cells inside.pod_room inside.request_room held place here within is mid refl refl refl len others (record here { queue = c.pop.new.self }) refl c.pop.new.cells c.pop.ensures.changed c.args.r closing in
     rw (← c.self.view_is) (ap (λ (l : List Pod). with_pods l inside.pod_room inside.request_room)
-        (changed-set inside.pods.items inside.cells inside.pod_room inside.request_room held place here within is (record here { queue = c.pop.new.self }) c.pop.new.cells (owner_unqueued inside.pods.items inside.cells inside.pod_room inside.request_room held place here within is mid refl refl refl len others (record here { queue = c.pop.new.self }) refl c.pop.new.cells c.pop.ensures.changed) (unqueued_cells inside.pods.items inside.cells inside.pod_room inside.request_room held place here within is mid refl refl refl len others (record here { queue = c.pop.new.self }) refl c.pop.new.cells c.pop.ensures.changed) c.args.p (λ pod. record pod { queued = without_request c.args.r pod.queued }) stands
-            (ap (λ (l : List ℕ). record (seen inside.cells here) { queued = l }) (sym list))))
+    (changed-set inside.pods.items inside.cells inside.pod_room inside.request_room held place here within is (record here { queue = c.pop.new.self }) c.pop.new.cells (owner_unqueued inside.pods.items inside.cells inside.pod_room inside.request_room held place here within is mid refl refl refl len others (record here { queue = c.pop.new.self }) refl c.pop.new.cells c.pop.ensures.changed) (unqueued_cells inside.pods.items inside.cells inside.pod_room inside.request_room held place here within is mid refl refl refl len others (record here { queue = c.pop.new.self }) refl c.pop.new.cells c.pop.ensures.changed) c.args.p (λ pod. record pod { queued = without_request c.args.r pod.queued }) stands
+    (ap (λ (l : List ℕ). record (seen inside.cells here) { queued = l }) (sym list))))
 
 pub returns-clause-counted : goal.returns-clause-counted
 returns-clause-counted c =
@@ -261,8 +261,8 @@ returns-clause-counted c =
     ap (λ (l : List ℕ). length l) items_are ∙ c.close_up.auto.request ∙ ap (λ (l : List ℕ). length l) list_is in
     let others : (x : ℕ) → Avoids inside.cells.next.items x here.queue.first here.queue.count → get_or mid.request.items x 0 ≡ get_or inside.cells.request.items x 0 =
     λ x avoids. ap (λ (l : List ℕ). get_or l x 0) items_are
-        ∙ c.close_up.ensures.others x (subst (λ l. Avoids l x here.queue.first here.queue.count) (sym next_is) avoids)
-        ∙ ap (λ (l : List ℕ). get_or l x 0) list_is in
+    ∙ c.close_up.ensures.others x (subst (λ l. Avoids l x here.queue.first here.queue.count) (sym next_is) avoids)
+    ∙ ap (λ (l : List ℕ). get_or l x 0) list_is in
     let shorter : c.pop.new.self.count + 1 ≡ here.queue.count = c.pop.ensures.changed.count in
     let more : c.pop.new.cells.spares ≡ inside.cells.spares + 1 = c.pop.ensures.changed.spares in
     rw (← c.self.view_is) (let e = counted-set inside.pods.items inside.cells inside.pod_room inside.request_room held place here within is (record here { queue = c.pop.new.self }) c.pop.new.cells (owner_unqueued inside.pods.items inside.cells inside.pod_room inside.request_room held place here within is mid refl refl refl len others (record here { queue = c.pop.new.self }) refl c.pop.new.cells c.pop.ensures.changed) (unqueued_cells inside.pods.items inside.cells inside.pod_room inside.request_room held place here within is mid refl refl refl len others (record here { queue = c.pop.new.self }) refl c.pop.new.cells c.pop.ensures.changed) in omega arith)
