@@ -1,5 +1,5 @@
 -- Chains of cells after a change of the cells.
-use Rattle.std.proofs.Common.{◌≡◌, ℕ, zero, suc, ◌+◌, ◌<◌, ◌≤◌, List, [], ◌∷◌, ◌++◌, set, get_or, length, refl, sym, ap, subst, ◌∙◌, arith, get_or-set_other, get_or-set_same, Bool, true, false, cond, Option, Some}
+use Rattle.std.proofs.Common.{◌≡◌, ℕ, zero, suc, ◌<◌, ◌≤◌, List, [], ◌∷◌, ◌++◌, set, get_or, length, refl, sym, ap, subst, ◌∙◌, arith, get_or-set_other, get_or-set_same, Bool, true, false, cond, Option, Some}
 use Rattle.std.specs.Prelude.{slice_get, None}
 use Rattle.kn_seats.specs.Chains.{after, requests_in, Avoids, AreApart, AreOwned}
 

@@ -1,5 +1,5 @@
 -- What each change of a pod and its queue leaves.
-use Rattle.std.proofs.Common.{◌≡◌, ℕ, zero, suc, ◌+◌, ◌-◌, ◌<◌, ◌≤◌, ◌⊎◌, inl, inr, Bool, true, false, cond, List, [], ◌∷◌, ◌++◌, set, get_or, length, drop, refl, sym, ap, subst, ◌∙◌, arith, nat_eq, get_or-set_other, get_or-set_same, length-set, Option, Some, None}
+use Rattle.std.proofs.Common.{◌≡◌, ℕ, zero, suc, ◌+◌, ◌-◌, ◌<◌, ◌≤◌, inl, inr, Bool, true, false, cond, List, [], ◌∷◌, ◌++◌, set, get_or, length, drop, refl, sym, ap, subst, ◌∙◌, arith, nat_eq, get_or-set_other, get_or-set_same, length-set, Option, Some, None}
 use Rattle.std.specs.Prelude.{map}
 use Rattle.std.proofs.lemmas.Bool.{cases_eq}
 use Rattle.kn_seats.specs.declared.cells.Cells.{Cells}

@@ -1,7 +1,6 @@
 -- A request is taken out of a chain: those before it move one cell on.
-use Rattle.std.proofs.Common.{◌≡◌, ℕ, zero, suc, ◌+◌, ◌<◌, ◌≤◌, ◌⊎◌, inl, inr, Bool, true, false, List, [], ◌∷◌, ◌++◌, set, get_or, take, drop, length, refl, sym, ap, ◌∙◌, arith, nat_eq, get_or-set_other, length-set}
+use Rattle.std.proofs.Common.{◌≡◌, ℕ, zero, suc, ◌+◌, ◌<◌, ◌≤◌, inl, inr, false, List, [], ◌∷◌, ◌++◌, set, get_or, take, drop, length, refl, sym, ap, ◌∙◌, arith, nat_eq, get_or-set_other, length-set}
 use Rattle.std.specs.Prelude.{Contains}
-use Rattle.std.specs.List.{position_or_len}
 use Rattle.std.proofs.lemmas.Bool.{cases_eq}
 use Rattle.std.proofs.lemmas.List.{get_or_default}
 use Rattle.kn_seats.specs.Pods.{without_request}

@@ -1,6 +1,6 @@
 -- The pods and their cells after one pod and its queue change.
-use Rattle.std.proofs.Common.{◌≡◌, ℕ, zero, suc, ◌+◌, ◌<◌, ◌≤◌, ◌⊎◌, inl, inr, List, [], ◌∷◌, set, get_or, length, refl, sym, ap, subst, ◌∙◌, arith, get_or-set_other, get_or-set_same, length-set, Option, Some}
-use Rattle.std.specs.Prelude.{map, sum_by}
+use Rattle.std.proofs.Common.{◌≡◌, ℕ, zero, suc, ◌+◌, ◌<◌, ◌≤◌, inl, inr, List, [], ◌∷◌, set, get_or, length, refl, sym, ap, subst, ◌∙◌, arith, get_or-set_other, get_or-set_same, length-set, Option, Some}
+use Rattle.std.specs.Prelude.{map}
 use Rattle.std.proofs.Math.ListN.{get_or-map}
 use Rattle.std.proofs.lemmas.Bool.{cases_eq}
 use Rattle.std.proofs.lemmas.List.{get_or_default, length-map}
@@ -8,8 +8,7 @@ use Rattle.std.proofs.lemmas.List.Sums.{sum_by-set, get_or-le-sum_by}
 use Rattle.kn_seats.specs.declared.cells.Cells.{Cells}
 use Rattle.kn_seats.specs.declared.tracker.Tracker.{Tracker}
 use Rattle.kn_seats.specs.Pods.{Pod, requests_at, requests_at_all, with_pod_changed}
-use Rattle.kn_seats.specs.Chains.{requests_in}
-use Rattle.kn_seats.specs.Kept.{IsKept, IsHeld, IsPlaceOf, HasQueue, AreSpare, seen, queued_at_all}
+use Rattle.kn_seats.specs.Kept.{IsKept, IsHeld, IsPlaceOf, HasQueue, AreSpare, seen}
 use Rattle.kn_seats.proofs.Chains.{length_requests, apart-kept, owned-kept, owned-front, after-kept, requests-kept}
 use Rattle.kn_seats.proofs.Kept.{kept-set}
 

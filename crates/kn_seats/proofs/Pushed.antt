@@ -1,5 +1,5 @@
 -- A queue with one request more, and one with the first request less.
-use Rattle.std.proofs.Common.{◌≡◌, ℕ, zero, suc, ◌+◌, ◌<◌, List, [], ◌∷◌, ◌++◌, set, get_or, length, drop, refl, sym, ap, subst, ◌∙◌, arith, get_or-set_other, get_or-set_same, Option, Some}
+use Rattle.std.proofs.Common.{◌≡◌, ℕ, zero, suc, ◌<◌, List, [], ◌∷◌, ◌++◌, set, get_or, length, drop, refl, sym, ap, subst, ◌∙◌, arith, get_or-set_other, get_or-set_same, Option}
 use Rattle.kn_seats.specs.Chains.{after, requests_in, Avoids, AreApart, AreOwned}
 use Rattle.kn_seats.specs.Kept.{IsLine}
 use Rattle.kn_seats.proofs.Chains.{owned-push, apart-push, after-push, requests-push, owned-without}

@@ -1,10 +1,10 @@
 -- A request is taken out of the middle of a queue: those before it move one cell on, and the first cell goes.
-use Rattle.std.proofs.Common.{◌≡◌, ℕ, ◌+◌, ◌<◌, ◌≤◌, List, set, get_or, length, drop, refl, sym, ap, subst, ◌∙◌, arith, Option, Some}
+use Rattle.std.proofs.Common.{◌≡◌, ℕ, ◌<◌, List, set, get_or, length, drop, refl, sym, ap, subst, ◌∙◌, arith, Option}
 use Rattle.std.specs.Prelude.{map}
 use Rattle.std.proofs.lemmas.List.{set-get_or}
 use Rattle.kn_seats.specs.declared.cells.Cells.{Cells}
 use Rattle.kn_seats.specs.declared.tracker.Tracker.{Tracker}
-use Rattle.kn_seats.specs.Pods.{Pod, without_request}
+use Rattle.kn_seats.specs.Pods.{without_request}
 use Rattle.kn_seats.specs.Cells.{IsDequeued}
 use Rattle.kn_seats.specs.Chains.{requests_in, Avoids}
 use Rattle.kn_seats.specs.Kept.{IsKept, IsHeld, HasQueue, seen}

@@ -9,7 +9,7 @@ use Rattle.std.proofs.lemmas.List.Folds.{list_all_at, list_any_at}
 use Rattle.std.proofs.Math.ListN.{get_or-map}
 use Rattle.httparse.specs.declared.spans.HeaderSpan.{HeaderSpan}
 use Rattle.httparse.specs.declared.spans.ResponseSpans.{ResponseSpans}
-use Rattle.httparse.specs.Grammar.{ChunkLine, Field, LineEnd, ReadsSection, status_code}
+use Rattle.httparse.specs.Grammar.{ChunkLine, Field, LineEnd, ReadsSection}
 use Rattle.httparse.specs.Spans.{IsChunkLineAt, IsResponseOf, header_bytes}
 use Rattle.kn_tcp.specs.Chunks.{HasChunks, last, chunk}
 use Rattle.kn_tcp.specs.Replies.{FollowsInterims, none, one_more, is_interim}

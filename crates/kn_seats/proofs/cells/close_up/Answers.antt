@@ -1,4 +1,4 @@
-use Rattle.std.proofs.Common.{◌*◌, ◌<◌, length, arith, get_or}
+use Rattle.std.proofs.Common.{◌<◌, length, arith, get_or}
 use Rattle.kn_seats.proofs.Closing.{has_cell, first_inside, closing-begin, closing-place, closing-next, closing-more, closing-found, closing-last}
 use Rattle.kn_seats.proofs.cells.close_up.Goals as goal
 

@@ -1,4 +1,4 @@
-use Rattle.std.proofs.Common.{◌≡◌, ◌<◌, List, length, ap, refl, arith, true}
+use Rattle.std.proofs.Common.{◌≡◌, ◌<◌, List, length, ap, refl, arith}
 use Rattle.std.specs.Prelude.{map}
 use Rattle.std.proofs.lemmas.Grind.{common_steps}
 use Rattle.kn_seats.specs.Pods.{Pod}
