@@ -1,5 +1,4 @@
 pub mod Chains
-pub mod Queues
 pub mod Places
 pub mod Closing
 pub mod Pushed

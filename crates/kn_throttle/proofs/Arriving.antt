@@ -16,7 +16,6 @@ use Rattle.kn_breaker.specs.Breaker as breaker
 use Rattle.kn_seats.specs.Seats as seats
 use Rattle.kn_seats.specs.Pods as pods
 use Rattle.kn_seats.specs.Pods.{pod_at, requests_at_all}
-use Rattle.kn_seats.specs.Pods as seat
 use Rattle.kn_policy.specs.Policy as policy
 use Rattle.kn_record.specs.declared.admission.Place.TheVariants as place
 use Rattle.kn_record.specs.declared.admission.Request.{Request}
@@ -187,7 +186,7 @@ kept_directed s a b t u k p run leave n time h few room there order e count =
     let held : placed_in is_held_place new ≡ placed_in is_held_place a.live = placed-push is_held_place a.live q ∙ append-nil _ in
     let held_as : length (placed_in is_held_place new) ≡ length (placed_in is_held_place a.live) = ap length held in
     let other : (m : ℕ) → (m == n) ≡ false → SameAt m a.live new = λ m f. same_pushed m a.live q (eq-sym n m ∙ f) in
-    let change : seat.Pod → seat.Pod = λ pod. record pod { queued = pod.queued ++ a.arrivals ∷ [] } in
+    let change : pods.Pod → pods.Pod = λ pod. record pod { queued = pod.queued ++ a.arrivals ∷ [] } in
     record {
       sound = record { order = order; few = omega arith; few_pods = sound.few_pods; turn = omega arith; assignments = omega arith; arrivals = omega arith };
       breaker = h.breaker ∙ rw (placed-push is_through a.live q, placed-push is_assigned_place a.live q, append-nil (placed_in is_through a.live), append-nil (placed_in is_assigned_place a.live)) refl;

@@ -11,7 +11,6 @@ use Rattle.kn_trace.specs.declared.candidate.Cand.{Cand}
 use Rattle.kn_trace.specs.Trace.{contains}
 use Rattle.kn_trace.specs.Choice.{has_seat}
 use Rattle.kn_seats.specs.Pods as seats
-use Rattle.kn_seats.specs.Pods as seat
 use Rattle.kn_record.specs.declared.admission.Request.{Request}
 use Rattle.kn_record.specs.declared.admission.Pod.{Pod}
 use Rattle.kn_record.specs.declared.admission.Readiness.TheVariants.{Starting}
@@ -21,7 +20,6 @@ use Rattle.kn_throttle.specs.declared.touched.Touched.{Touched}
 use Rattle.kn_throttle.specs.declared.touched.Touched.TheVariants.{Nowhere, At, Anywhere}
 use Rattle.kn_throttle.specs.Touched.{Covers, IsOneOf, is_touched, one_more}
 use Rattle.kn_policy.specs.Marks as marks
-use Rattle.kn_throttle.specs.Candidates as cands
 use Rattle.kn_throttle.specs.Candidates.{with_changed}
 use Rattle.kn_throttle.specs.Pods.{AreAscending}
 use Rattle.kn_throttle.specs.Kept.{seat_of}
@@ -33,7 +31,7 @@ pub seats_same : (old new : List Request) (all : List Pod) → ((n : ℕ) → Sa
 seats_same old new [] same = refl
 seats_same old new (q ∷ all) same = rw (same_seat old new q (same q.number), seats_same old new all same) refl
 
-pub seats_at : (p : ℕ) (change : seat.Pod → seat.Pod) (old new : List Request) (all : List Pod) → ((q : Pod) → q.number ≡ p → seat_of new q ≡ change (seat_of old q)) → ((n : ℕ) → (n == p) ≡ false → SameAt n old new)
+pub seats_at : (p : ℕ) (change : seats.Pod → seats.Pod) (old new : List Request) (all : List Pod) → ((q : Pod) → q.number ≡ p → seat_of new q ≡ change (seat_of old q)) → ((n : ℕ) → (n == p) ≡ false → SameAt n old new)
     → map (seat_of new) all ≡ seats.with_pod_changed p change (map (seat_of old) all)
 seats_at p change old new [] here others = refl
 seats_at p change old new (q ∷ all) here others = rw (seats_at p change old new all here others) (by (q.number == p) refl)
