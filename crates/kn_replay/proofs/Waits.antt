@@ -1,11 +1,11 @@
 -- Text that waits, and what is written of it.
-use Rattle.std.proofs.Common.{◌≡◌, ◌+◌, ℕ, List, [], ◌∷◌, ◌++◌, append_assoc, append-nil, refl, sym, ap, ◌∙◌, subst}
+use Rattle.std.proofs.Common.{◌≡◌, ℕ, List, [], ◌++◌, append_assoc, append-nil, sym, ap, ◌∙◌, subst}
 use Rattle.std.specs.Prelude.{Option, Result, Ok, Err, OnErr, OnOk}
 use Rattle.std.specs.Io.KnownBytes.{Appends}
 use Rattle.std.proofs.KnownBytes.{Appends-nil, Appends-trans}
 use Rattle.kn_io.specs.Prefix.{AppendsPrefix}
 use Rattle.kn_replay.specs.Waiting.{Adds}
-use Rattle.kn_replay.proofs.Pieces.{prefix_after, prefix_more}
+use Rattle.kn_replay.proofs.Pieces.{prefix_after}
 
 pub adds_nothing : (a : Option (List ℕ)) (p : List ℕ) → Adds a a p p []
 adds_nothing a p = record { written = []; held = Appends-nil a; all = append-nil p }
@@ -70,3 +70,7 @@ on_ok (Err e) f h = tt
 pub on_err : {T E P Q : Type 0} (r : Result T E) → (P → Q) → OnErr r P → OnErr r Q
 on_err (Ok x) f h = tt
 on_err (Err e) f h = f h
+
+-- and then what waits was written, or goes on waiting
+pub adds_on : (a b d : Option (List ℕ)) (p q r x : List ℕ) → Adds a b p q x → Adds b d q r [] → Adds a d p r x
+adds_on a b d p q r x h k = subst (Adds a d p r) (append-nil x) (adds_trans a b d p q r x [] h k)

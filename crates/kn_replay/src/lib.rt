@@ -2,10 +2,12 @@
 #![tactic(auto)]
 
 mod command;
+mod digits;
 mod generate;
 mod lawful;
 mod replay;
 mod report;
+mod rows;
 mod texts;
 mod waiting;
 

@@ -7,9 +7,9 @@ ghost use Rattle.kn_trace.specs.Trace.{Trace};
 ghost use Rattle.kn_trace.specs.Events.{opening, react};
 ghost use Rattle.kn_trace.specs.Report.{last_line, rows_text, totals};
 ghost use Rattle.kn_core.specs.State.{StandsFor};
-ghost use Rattle.kn_journal.specs.Reading.{IsBalanced, IsSpent, most_taken, unread};
-ghost use Rattle.kn_journal.specs.Journal.{time_most};
-ghost use Rattle.kn_journal.specs.Telling.{IsLineFault};
+ghost use Rattle.kn_journal.specs.Reading.{IsBalanced, IsSpent, TakesPart, most_taken, unread};
+ghost use Rattle.kn_journal.specs.Journal.{next_part, time_most};
+ghost use Rattle.kn_journal.specs.Telling.{IsLineFault, LeavesRest, OnEvent, TakesEnd, Tells};
 ghost use Rattle.kn_replay.specs.Replaying.{EndsThere, Follows, FollowsBehind, IsBehind, IsFollowed, IsRefusal, IsReplayed, LeavesBehind, Opens, Replays, Stops, status_of};
 ghost use Rattle.kn_replay.specs.Waiting.{Adds};
 
@@ -109,23 +109,73 @@ impl Replay {
         self.tally.add_all(&self.log);
     }
 
-    /// Adds the rows of the last event behind what waits, and writes all of it unless more is to come at once.
-    fn put_rows<O: Sink>(&mut self, more: bool, out: &mut O) -> Result<(), Failed>
+    /// Adds the rows of the last event behind what waits.
+    #[inline(always)]
+    fn put_rows<O: Sink>(&mut self, out: &mut O) -> Result<(), Failed>
         ensures ok { OnOk result (Adds (O.held out.old) (O.held out.new) self.old.waiting self.new.waiting (rows_text self.old.log)) }
         ensures err { OnErr result (AppendsPrefix (O.held out.old) (O.held out.new) (self.old.waiting ++ rows_text self.old.log)) }
+        ensures revision { self.new.revision ≡ self.old.revision }
+        ensures counted { self.new.counted ≡ self.old.counted }
+        ensures cause { HasCause (O.Faulty.faults out.old) (O.Faulty.faults out.new) result }
+    {
+        add_rows(&self.log, &mut self.line, &mut self.waiting, out)
+    }
+
+    /// Writes what waits, unless more is to come at once.
+    fn write_unless<O: Sink>(&mut self, more: bool, out: &mut O) -> Result<(), Failed>
+        ensures ok { OnOk result (Adds (O.held out.old) (O.held out.new) self.old.waiting self.new.waiting []) }
+        ensures err { OnErr result (AppendsPrefix (O.held out.old) (O.held out.new) self.old.waiting) }
         ensures written { more ≡ false → OnOk result (self.new.waiting ≡ []) }
         ensures revision { self.new.revision ≡ self.old.revision }
         ensures counted { self.new.counted ≡ self.old.counted }
         ensures cause { HasCause (O.Faulty.faults out.old) (O.Faulty.faults out.new) result }
     {
-        match add_rows(&self.log, &mut self.line, &mut self.waiting, out) {
-            Ok(()) => {}
-            Err(Failed) => return Err(Failed),
-        }
         if more {
             return Ok(());
         }
         self.waiting.flush(out)
+    }
+
+    /// Reads the next event. What waits is written before the source may be read; `Failed` says that this failed.
+    #[inline(always)]
+    fn next<S: Source, O: Sink>(
+        &mut self,
+        reader: &mut JournalReader,
+        source: &mut S,
+        out: &mut O,
+    ) -> Result<Result<Option<Event>, JournalError>, Failed>
+        requires { reader.old.failed ≡ None }
+        ensures adds { OnOk result (Adds (O.held out.old) (O.held out.new) self.old.waiting self.new.waiting []) }
+        ensures failed { OnErr result (AppendsPrefix (O.held out.old) (O.held out.new) self.old.waiting) }
+        ensures still { OnErr result ((reader.new ≡ reader.old) × (source.new ≡ source.old)) }
+        ensures revision { self.new.revision ≡ self.old.revision }
+        ensures counted { self.new.counted ≡ self.old.counted }
+        ensures tells { IfOk result (λ read. Tells (next_part reader.old.version reader.old.last reader.old.number) reader.new.number (unread reader.old.input (S.left source.old)) (unread reader.new.input (S.left source.new)) read) }
+        ensures rest { IfOk result (λ read. IfErr read (λ e. IsLineFault e → LeavesRest (next_part reader.old.version reader.old.last reader.old.number) e (unread reader.old.input (S.left source.old)) (unread reader.new.input (S.left source.new)))) }
+        ensures order { IfOk result (λ read. OnEvent read (λ e. reader.old.last ≤ e.time)) }
+        ensures times { IfOk result (λ read. OnEvent read (λ e. e.time ≤ time_most)) }
+        ensures last { IfOk result (λ read. OnEvent read (λ e. reader.new.last ≡ e.time)) }
+        ensures range { IfOk result (λ read. OnEvent read (λ e. IsInJournalRange e.act)) }
+        ensures bytes { IfOk result (λ read. OnEvent read (λ e. reader.old.input.taken + 6 ≤ reader.new.input.taken)) }
+        ensures version { reader.new.version ≡ reader.old.version }
+        ensures amid { IfOk result (λ read. read ≡ Err JournalError.ReadFault → TakesPart (unread reader.old.input (S.left source.old)) (unread reader.new.input (S.left source.new)) ⊎ TakesEnd (unread reader.old.input (S.left source.old)) (unread reader.new.input (S.left source.new))) }
+        ensures spent { IfOk result (λ read. read ≡ Err JournalError.ReadFault → IsSpent reader.new.input) }
+        ensures memory { IfOk result (λ read. read ≢ Err JournalError.Memory) }
+        ensures fault { IfOk result (λ read. read ≡ Err JournalError.ReadFault → Rose (S.Faulty.faults source.old) (S.Faulty.faults source.new) ⊎ (reader.new.input.taken ≡ most_taken)) }
+        ensures good { IfOk result (λ read. OnOk read (reader.new.failed ≡ None)) }
+        ensures few { OnOk result (reader.new.input.taken ≤ most_taken) }
+        ensures balance { IsBalanced reader.old.input reader.new.input (S.given source.old) (S.given source.new) }
+        ensures never_falls { S.Faulty.faults source.old ≤ S.Faulty.faults source.new }
+        ensures cause { HasCause (O.Faulty.faults out.old) (O.Faulty.faults out.new) result }
+    {
+        match reader.next_ahead() {
+            Some(e) => return Ok(Ok(Some(e))),
+            None => {}
+        }
+        match self.write_unless(reader.holds_line(), out) {
+            Ok(()) => Ok(reader.next(source)),
+            Err(Failed) => Err(Failed),
+        }
     }
 
     /// Writes what waits, and answers the status, or that this failed.
@@ -183,13 +233,20 @@ impl Replay {
     {
         // Each event takes six bytes at least, so after so many 2^56 bytes were taken.
         for count in 0..1u64 << 54 {
-            let e = match reader.next(source) {
-                Ok(Some(e)) => e,
-                Ok(None) => return self.end(reader.version(), count, out),
+            let read = match self.next(reader, source, out) {
+                Ok(read) => read,
+                Err(Failed) => return Status::WriteFault,
+            };
+            let found = match read {
+                Ok(found) => found,
                 Err(error) => return self.stop(status_of(error), out),
             };
+            let e = match found {
+                Some(e) => e,
+                None => return self.end(reader.version(), count, out),
+            };
             self.take(&e);
-            match self.put_rows(reader.holds_line(), out) {
+            match self.put_rows(out) {
                 Ok(()) => {}
                 Err(Failed) => return Status::WriteFault,
             }
@@ -258,7 +315,7 @@ pub fn replay_journal<S: Source, O: Sink>(alloc: Global, source: &mut S, out: &m
         Ok(replay) => replay,
         Err(Memory) => return Status::Memory,
     };
-    match replay.put_rows(reader.holds_line(), out) {
+    match replay.put_rows(out) {
         Ok(()) => {}
         Err(Failed) => return Status::WriteFault,
     }

@@ -1,11 +1,13 @@
 //! Text that waits to be written.
-ghost use Rattle.std.specs.Prelude.{◌≡◌, ◌+◌, ◌≤◌, ◌++◌, [], length, OnOk, OnErr};
+ghost use Rattle.std.specs.Prelude.{◌≡◌, ◌+◌, ◌≤◌, ◌++◌, [], false, length, true, OnOk, OnErr};
+ghost use Rattle.kn_event.specs.EntryLine.{entry_text};
 ghost use Rattle.kn_io.specs.Causes.{HasCause};
 ghost use Rattle.kn_io.specs.Prefix.{AppendsPrefix};
 ghost use Rattle.kn_trace.specs.Report.{rows_text};
 ghost use Rattle.kn_replay.specs.Waiting.{Adds};
 
-use kn_event::{EntryLog, Line, entry_line};
+use crate::rows::{ROW_ROOM, put_entry};
+use kn_event::{Entry, EntryLog, Line, entry_line};
 use kn_io::{Failed, Sink, put_all};
 use std::marker::Model;
 
@@ -56,6 +58,24 @@ impl Waiting {
         self.len = end;
     }
 
+    /// Adds the row of an entry behind what waits, where it is a frequent one and has room. False says that nothing was added.
+    #[inline(always)]
+    fn add_in_place(&mut self, e: &Entry) -> bool
+        ensures added { result ≡ true → self.new ≡ self.old ++ entry_text e.now }
+        ensures same { result ≡ false → self.new ≡ self.old }
+    {
+        if self.len > ROOM - ROW_ROOM {
+            return false;
+        }
+        match put_entry(&mut self.buffer, self.len, e) {
+            Some(end) => {
+                self.len = end;
+                true
+            }
+            None => false,
+        }
+    }
+
     /// Writes what waits, or on `Failed` some first of it. Nothing waits then.
     pub fn flush<O: Sink>(&mut self, out: &mut O) -> Result<(), Failed>
         ensures ok { OnOk result (Adds (O.held out.old) (O.held out.new) self.old self.new []) }
@@ -86,6 +106,25 @@ impl Waiting {
     }
 }
 
+/// Adds the row of an entry behind what waits.
+#[inline(always)]
+fn add_row<O: Sink>(
+    e: &Entry,
+    line: &mut Line,
+    waiting: &mut Waiting,
+    out: &mut O,
+) -> Result<(), Failed>
+    ensures ok { OnOk result (Adds (O.held out.old) (O.held out.new) waiting.old waiting.new (entry_text e.now)) }
+    ensures err { OnErr result (AppendsPrefix (O.held out.old) (O.held out.new) (waiting.old ++ entry_text e.now)) }
+    ensures cause { HasCause (O.Faulty.faults out.old) (O.Faulty.faults out.new) result }
+{
+    if waiting.add_in_place(e) {
+        return Ok(());
+    }
+    entry_line(e, line);
+    waiting.add(line.bytes(), out)
+}
+
 /// Adds a row for each entry behind what waits.
 pub fn add_rows<O: Sink>(
     log: &EntryLog,
@@ -98,8 +137,7 @@ pub fn add_rows<O: Sink>(
     ensures cause { HasCause (O.Faulty.faults out.old) (O.Faulty.faults out.new) result }
 {
     for e in log.entries() {
-        entry_line(e, line);
-        match waiting.add(line.bytes(), out) {
+        match add_row(e, line, waiting, out) {
             Ok(()) => {}
             Err(Failed) => return Err(Failed),
         }

@@ -3,12 +3,8 @@ use Rattle.std.specs.Prelude.{OnErr}
 use Rattle.kn_io.specs.Prefix.{AppendsPrefix}
 use Rattle.kn_trace.specs.Report.{rows_text}
 use Rattle.kn_replay.specs.Replaying.{Running}
-use Rattle.kn_replay.proofs.Waits.{adds_stop, on_err}
 use Rattle.kn_replay.proofs.replay.Replay.put_rows.Goals as goal
 
 pub returns-clause-err : goal.returns-clause-err
 returns-clause-err g c =
-    subst (λ (r : Running). OnErr c.flush.result (AppendsPrefix (g.O.Sink.held c.args.out.now) (g.O.Sink.held c.flush.new.out) (r.waiting ++ rows_text r.log))) c.self.view_is
-    (on_err c.flush.result
-    (adds_stop (g.O.Sink.held c.args.out.now) (g.O.Sink.held c.add_rows.new.out) (g.O.Sink.held c.flush.new.out) c.self.inside.waiting c.add_rows.new.waiting (rows_text c.self.inside.log) c.in-Ok.ensures.ok)
-    c.flush.ensures.err)
+    subst (λ (r : Running). OnErr c.add_rows.result (AppendsPrefix (g.O.Sink.held c.args.out.now) (g.O.Sink.held c.add_rows.new.out) (r.waiting ++ rows_text r.log))) c.self.view_is c.add_rows.ensures.err
