@@ -1,5 +1,5 @@
 -- What is left behind a refused line.
-use Rattle.std.proofs.Common.{◌≡◌, ◌≤◌, ◌+◌, ℕ, List, [], ◌∷◌, ◌++◌, length, append_assoc, refl, sym, ap, ◌∙◌, subst, inl, inr}
+use Rattle.std.proofs.Common.{◌≡◌, ℕ, List, ◌++◌, append_assoc, refl, sym, ap, ◌∙◌, subst, inl, inr}
 use Rattle.std.specs.Prelude.{Option, None, Some, Ok, Err}
 use Rattle.kn_event.specs.declared.event.Event.{Event}
 use Rattle.kn_journal.specs.declared.error.JournalError.{JournalError}
@@ -7,8 +7,7 @@ use Rattle.kn_journal.specs.declared.error.JournalError.TheVariants as error
 use Rattle.kn_journal.specs.declared.journal.Opening.{Opening}
 use Rattle.kn_journal.specs.declared.journal.Setup.{Setup}
 use Rattle.kn_journal.specs.declared.status.Status.{Status}
-use Rattle.kn_journal.specs.declared.status.Status.TheVariants as status
-use Rattle.kn_journal.specs.Causes.{Cause, error_of}
+use Rattle.kn_journal.specs.Causes.{Cause}
 use Rattle.kn_journal.specs.Lines.{lines}
 use Rattle.kn_journal.specs.Parts.{IsWhole, part}
 use Rattle.kn_journal.specs.Journal.{Read, Verdict, bad, from_read, journal_of, next_part, none_read, opening_part, read_events, start_part, verdict_of_lines, version_of}

@@ -1,5 +1,5 @@
 -- How long the texts of keys are.
-use Rattle.std.proofs.Common.{ℕ, ◌≤◌, length, arith}
+use Rattle.std.proofs.Common.{◌≤◌, length, arith}
 use Rattle.kn_config.specs.declared.key.Key.{Key}
 use Rattle.kn_config.specs.declared.key.Key.TheVariants.{Class}
 use Rattle.kn_config.specs.Keys.{key_text}

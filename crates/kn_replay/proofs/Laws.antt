@@ -12,9 +12,9 @@ use Rattle.kn_journal.specs.declared.journal.Opening.{Opening}
 use Rattle.kn_journal.specs.declared.journal.Setup.{Setup}
 use Rattle.kn_journal.specs.Causes.{Cause, line_too_long, time_back, time_too_large}
 use Rattle.kn_journal.specs.Lines.{fits, lines}
-use Rattle.kn_journal.specs.Parts.{Part, part}
+use Rattle.kn_journal.specs.Parts.{Part}
 use Rattle.kn_journal.specs.declared.journal.Journal.{Journal}
-use Rattle.kn_journal.specs.Journal.{Read, Verdict, bad, end_part, event_in, from_read, good, in_time, journal_of, next_part, none_read, nothing_part, opening_part, or_bad, read_events, start_part, then_events, time_most, verdict, verdict_of_lines, verdict_on, version_of}
+use Rattle.kn_journal.specs.Journal.{Read, Verdict, bad, end_part, event_in, from_read, good, in_time, journal_of, next_part, nothing_part, opening_part, or_bad, read_events, start_part, then_events, time_most, verdict, verdict_of_lines, verdict_on, version_of}
 use Rattle.kn_replay.specs.Report.{OnJournal, OnJournalOf}
 use Rattle.kn_replay.proofs.Lines.{end_after}
 

@@ -1,5 +1,5 @@
 -- The events of lines, one line at a time.
-use Rattle.std.proofs.Common.{◌≡◌, ◌+◌, ℕ, Bool, true, false, List, [], ◌∷◌, ◌++◌, append_assoc, append-nil, refl, sym, ap, ◌∙◌, subst, cond}
+use Rattle.std.proofs.Common.{◌≡◌, ◌+◌, ℕ, Bool, true, false, List, [], ◌∷◌, ◌++◌, append_assoc, refl, sym, ap, ◌∙◌, cond}
 use Rattle.std.specs.Prelude.{Option, None, Some, Result, Ok, Err, codes, if◌then◌else◌, ⊤, ◌&&◌, ◌==◌}
 use Rattle.std.specs.Str.{bytes_eq}
 use Rattle.kn_event.specs.declared.event.Event.{Event}
@@ -7,7 +7,7 @@ use Rattle.kn_event.specs.EventLine.{event_of}
 use Rattle.kn_journal.specs.Causes.{Cause, after_end, line_too_long, no_end}
 use Rattle.kn_journal.specs.Lines.{begins_with_lf, fits, lines, lines_at_lf, onto_first, without_crs}
 use Rattle.kn_journal.specs.Parts.{Part, part, then_part}
-use Rattle.kn_journal.specs.Journal.{Read, end_part, event_in, in_time, next_in, next_part, none_read, nothing_part, read_events, with_event}
+use Rattle.kn_journal.specs.Journal.{Read, end_part, event_in, in_time, next_part, none_read, read_events, with_event}
 
 -- ---- events in front of what is read behind them
 

@@ -1,8 +1,7 @@
 -- What replaying a journal writes, and how it ends.
-use Rattle.std.specs.Prelude.{◌≡◌, ◌⊎◌, ℕ, ◌+◌, ◌-◌, ◌++◌, ◌≤◌, List, [], ◌∷◌, length, Option, None, Some, Result, Ok, Err, ⊤}
+use Rattle.std.specs.Prelude.{◌≡◌, ◌⊎◌, ℕ, ◌-◌, ◌++◌, ◌≤◌, List, [], length, Option, None, Some, Result, Ok, Err, ⊤}
 use Rattle.std.specs.Io.KnownBytes.{Appends, prepend_known}
 use Rattle.kn_event.specs.declared.entry.Entry.{Entry}
-use Rattle.kn_event.specs.declared.event.Event.{Event}
 use Rattle.kn_event.specs.declared.revision.Spec.{Spec}
 use Rattle.kn_io.specs.Causes.{Rose}
 use Rattle.kn_io.specs.Prefix.{AppendsPrefix}
@@ -18,7 +17,7 @@ use Rattle.kn_journal.specs.declared.journal.Setup.{Setup}
 use Rattle.kn_journal.specs.declared.status.Status.{Status}
 use Rattle.kn_journal.specs.declared.status.Status.TheVariants as status
 use Rattle.kn_journal.specs.Causes.{Cause, error_of, no_end}
-use Rattle.kn_journal.specs.Journal.{Read, Verdict, bad, good, journal_of, opening_part, read_events, start_part, verdict, verdict_of_lines, version_of}
+use Rattle.kn_journal.specs.Journal.{Read, Verdict, bad, good, opening_part, read_events, start_part, verdict, verdict_of_lines, version_of}
 use Rattle.kn_journal.specs.Lines.{lines}
 use Rattle.kn_journal.specs.Parts.{part}
 use Rattle.kn_journal.specs.Reading.{TakesPart, most_taken}

@@ -4,7 +4,6 @@ use Rattle.kn_trace.specs.Report.{last_line, rows_text, totals}
 use Rattle.kn_trace.specs.Trace.{Trace}
 use Rattle.kn_trace.specs.Events.{trace_of}
 use Rattle.kn_journal.specs.declared.journal.Journal.{Journal}
-use Rattle.kn_journal.specs.Causes.{Cause}
 use Rattle.kn_journal.specs.Journal.{Verdict, bad, good, verdict}
 
 abbrev pub trace_of_journal : Journal → Trace

@@ -1,11 +1,10 @@
-use Rattle.std.proofs.Common.{◌≡◌, ℕ, ap, ◌∙◌, subst}
+use Rattle.std.proofs.Common.{ℕ, ap, ◌∙◌, subst}
 use Rattle.std.specs.Prelude.{Err}
 use Rattle.kn_journal.specs.declared.error.JournalError.{JournalError}
 use Rattle.kn_journal.specs.declared.journal.Opening.{Opening}
 use Rattle.kn_journal.specs.Journal.{opening_part, version_of}
 use Rattle.kn_journal.specs.Reading.{unread}
 use Rattle.kn_journal.specs.Telling.{Gives, IsLineFault, LeavesRest, Refuses, StopsAmid}
-use Rattle.kn_replay.specs.Replaying.{IsBehind, IsRefusal, status_of}
 use Rattle.kn_replay.proofs.Behind.{setup_behind, start_behind}
 use Rattle.kn_replay.proofs.Replays.{setup_fails, start_fails}
 use Rattle.kn_replay.proofs.replay.open.Goals as goal

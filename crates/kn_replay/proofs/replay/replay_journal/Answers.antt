@@ -1,21 +1,13 @@
-use Rattle.std.proofs.Common.{rules, ◌≡◌, ◌≤◌, ◌+◌, ◌-◌, ℕ, List, [], ◌++◌, length, refl, sym, ap, ◌∙◌, subst, arith, inl, inr}
-use Rattle.std.specs.Prelude.{Option, Result, Err, Ok}
-use Rattle.std.proofs.lemmas.Grind.{common_steps}
-use Rattle.std.proofs.KnownBytes.{Appends-nil}
-use Rattle.kn_event.specs.declared.entry.Entry.{Entry}
+use Rattle.std.proofs.Common.{◌-◌, ℕ, List, length, refl, sym, ap, ◌∙◌, subst, arith}
+use Rattle.std.specs.Prelude.{Option, Err, Ok}
 use Rattle.kn_event.specs.declared.revision.Spec.{Spec}
-use Rattle.kn_io.specs.Prefix.{AppendsPrefix}
 use Rattle.kn_trace.specs.Events.{opening}
-use Rattle.kn_trace.specs.Report.{rows_text, totals}
 use Rattle.kn_core.specs.State.{RevisionState, StandsFor}
 use Rattle.kn_journal.specs.declared.error.JournalError.{JournalError}
-use Rattle.kn_journal.specs.declared.journal.Setup.{Setup}
 use Rattle.kn_journal.specs.declared.status.Status.{Status}
-use Rattle.kn_journal.specs.declared.status.Status.TheVariants as status
 use Rattle.kn_journal.specs.Reading.{unread}
-use Rattle.kn_replay.specs.Replaying.{Follows, FollowsBehind, IsBehind, IsRefusal, LeavesBehind, Opens, Replays, status_of}
+use Rattle.kn_replay.specs.Replaying.{Follows, FollowsBehind, IsBehind, IsRefusal, Opens, status_of}
 use Rattle.kn_replay.specs.Tally.{Counted}
-use Rattle.kn_replay.specs.Waiting.{Adds}
 use Rattle.kn_replay.proofs.Behind.{journal_behind}
 use Rattle.kn_replay.proofs.Replays.{beyond_is, either, ends_left, ends_opened, fault_of, followed_replayed, journal_cut, journal_fails, journal_follows, journal_memory, never_memory, never_ok, no_write_fault, nothing_ahead, rose_on}
 use Rattle.kn_replay.proofs.replay.replay_journal.Goals as goal

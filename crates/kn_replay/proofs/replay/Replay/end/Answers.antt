@@ -1,4 +1,4 @@
-use Rattle.std.proofs.Common.{◌≡◌, ◌++◌, List, ℕ, ap, ◌∙◌, subst}
+use Rattle.std.proofs.Common.{◌≡◌, ◌++◌, List, ℕ, ◌∙◌, subst}
 use Rattle.kn_trace.specs.Report.{last_line}
 use Rattle.kn_journal.specs.declared.status.Status.TheVariants as status
 use Rattle.kn_replay.specs.Replaying.{Running, Stops}
