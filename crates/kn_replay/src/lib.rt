@@ -15,6 +15,3 @@ pub use command::{run, tell};
 pub use kn_journal::{JournalError, SetupError, Status};
 pub use replay::status_of;
 pub use texts::put_error;
-
-#[cfg(test)]
-mod tests;
