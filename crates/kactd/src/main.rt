@@ -2,6 +2,8 @@
 #![tactic(auto)]
 
 mod tcp_opener;
+#[cfg(test)]
+mod tests;
 
 use crate::tcp_opener::TcpOpener;
 use kn_io::{MachineClock, OpenGate, ReaderSource, WriterSink};

@@ -1,4 +1,5 @@
-//! Rehearsals of a session, as tests alone: whole sessions, single requests and turns of the ticker over memory.
+//! Rehearsals of a session, as tests alone: single requests, turns of the ticker and whole sessions over memory, and a
+//! session over loopback.
 #![tactic(auto)]
 
 #[cfg(test)]

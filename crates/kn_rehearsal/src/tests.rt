@@ -1,8 +1,10 @@
 //! What the rehearsals share: a revision of one pod, its requests and their answers.
+mod loopback;
 mod requests;
 mod sessions;
 mod ticking;
 mod turns;
+mod words;
 
 ghost use Rattle.std.specs.Prelude.{◌≡◌, ◌+◌, IfOk};
 
