@@ -1,5 +1,6 @@
-pub mod Places
 pub mod Same
+pub mod Places
+pub mod Totals
 pub mod Parts
 pub mod Once
 pub mod Ended

@@ -1,15 +1,13 @@
 -- Seats, candidates and touched pods, where the requests at one pod change.
-use Rattle.std.proofs.Common.{◌≡◌, ℕ, zero, suc, ◌<◌, Bool, true, false, cond, ◌||◌, ◌+◌, List, [], ◌∷◌, length, get_or, set, map, refl, ap, ◌∙◌, arith}
+use Rattle.std.proofs.Common.{◌≡◌, ℕ, zero, suc, ◌<◌, Bool, true, false, cond, ◌||◌, List, [], ◌∷◌, length, get_or, map, refl, ap, ◌∙◌, arith}
 use Rattle.std.specs.Prelude.{◌==◌, Some, if◌then◌else◌}
-use Rattle.std.specs.List.{All, count_by, filter}
+use Rattle.std.specs.List.{All, filter}
 use Rattle.std.proofs.lemmas.Bool.{eqb-true}
-use Rattle.std.proofs.lemmas.List.{get_or-map, length-map}
-use Rattle.std.proofs.lemmas.List.Sums.{sum_by-set}
+use Rattle.std.proofs.lemmas.List.{length-map}
 use Rattle.std.proofs.lemmas.List.Kept.{AllPairs-filter}
 use Rattle.std.proofs.lemmas.List.Elements.{All-head, All-tail, All-weaker}
 use Rattle.kn_trace.specs.declared.candidate.Cand.{Cand}
 use Rattle.kn_trace.specs.Trace.{contains}
-use Rattle.kn_trace.specs.Choice.{has_seat}
 use Rattle.kn_seats.specs.Pods as seats
 use Rattle.kn_record.specs.declared.admission.Request.{Request}
 use Rattle.kn_record.specs.declared.admission.Pod.{Pod}
@@ -145,17 +143,3 @@ covers_less old new all t less c = record {
   others = All-weaker (λ (q : Pod). is_touched q.number t ≡ false → old q ≡ false) (λ (q : Pod). is_touched q.number t ≡ false → new q ≡ false) (λ q h u. less q (h u)) all c.others;
   named = c.named;
 }
-
--- ---- marks
-
-pub marks-set : (k : List Cand) (i : ℕ) (x : Cand) → set (marks.marks_of k) i (marks.mark_of x) ≡ marks.marks_of (set k i x)
-marks-set [] i x = refl
-marks-set (y ∷ k) zero x = refl
-marks-set (y ∷ k) (suc i) x = ap (λ ms. marks.mark_of y ∷ ms) (marks-set k i x)
-
-pub mark-at : (k : List Cand) (i : ℕ) (d : Cand) → i < length k → get_or (marks.marks_of k) i 0 ≡ marks.mark_of (get_or k i d)
-mark-at k i d inside = get_or-map marks.mark_of k i d 0 inside
-
--- the count with another one at a place
-pub count-set : (k : List Cand) (i : ℕ) (x d : Cand) → i < length k → count_by has_seat (set k i x) + marks.mark_of (get_or k i d) ≡ count_by has_seat k + marks.mark_of x
-count-set k i x d inside = sum_by-set marks.mark_of k i x d inside

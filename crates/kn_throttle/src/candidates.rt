@@ -1,11 +1,10 @@
 //! The Ready pods as a load-balancing policy sees them.
-ghost use Rattle.std.specs.Prelude.{◌≡◌, ◌==◌, ◌≢◌, ◌+◌, ◌<◌, ◌≤◌, ◌^◌, [], nat_lt, not, position, length, filter, vec_capacity, slice_set, IfOk, IfSome, IfNone};
+ghost use Rattle.std.specs.Prelude.{◌≡◌, ◌==◌, ◌≢◌, ◌+◌, ◌<◌, ◌≤◌, ◌^◌, [], nat_lt, not, length, filter, slice_set, IfOk, IfSome, IfNone};
 ghost use Rattle.std.specs.List.{All, HoldsAt, count_by, insert, list_any, position_or_len};
 ghost use Rattle.kn_trace.specs.declared.candidate.Cand.{Cand};
-ghost use Rattle.kn_trace.specs.Capacity.{seats_of};
 ghost use Rattle.kn_trace.specs.Choice.{has_seat};
 ghost use Rattle.kn_policy.specs.Marks.{AreAscending, mark_of, marks_of};
-ghost use Rattle.kn_throttle.specs.Candidates.{begun, capacity_of, ended, limited, with_changed};
+ghost use Rattle.kn_throttle.specs.Candidates.{begun, capacity_of, ended, limited, unlimited_of, with_changed};
 
 use kn_event::Memory;
 use kn_policy::choice_laws;
@@ -14,20 +13,21 @@ use std::alloc::Global;
 use std::marker::Model;
 
 /// Room for 20,500 candidates, taken once. Contracts see the list of them, which callers keep in the order of their pods'
-/// numbers. Each has a mark, which says whether it has a free seat, so that no pick walks over all.
+/// numbers. Each has a mark, which says whether it has a free seat, and what they add up to is kept, so that no pick and
+/// no change walks over all.
 #[derive(Drop)]
 pub struct Candidates {
     cands: Vec<Cand>,
     marks: Vec<u8>,
     free: usize,
+    limits: u128,
+    unlimited: usize,
 }
 
 impl Model for Candidates {
-    ghost use Rattle.std.specs.Prelude.{List, ◌≤◌, ◌≡◌, length, vec_capacity};
-    ghost use Rattle.std.specs.List.{count_by};
+    ghost use Rattle.std.specs.Prelude.{List, ◌≤◌, length, vec_capacity};
     ghost use Rattle.kn_trace.specs.declared.candidate.Cand.{Cand};
-    ghost use Rattle.kn_trace.specs.Choice.{has_seat};
-    ghost use Rattle.kn_policy.specs.Marks.{marks_of};
+    ghost use Rattle.kn_throttle.specs.Candidates.{AreCounted};
 
     ghost Value = { List Cand };
 
@@ -37,8 +37,7 @@ impl Model for Candidates {
       reserved : 20500 ≤ vec_capacity t.cands;
       marks_reserved : 20500 ≤ vec_capacity t.marks;
       few : length t.cands.items ≤ 20500;
-      marks : t.marks.items ≡ marks_of t.cands.items;
-      free : t.free ≡ count_by has_seat t.cands.items;
+      counted : AreCounted t.cands.items t.marks.items t.free t.limits t.unlimited;
     } };
 }
 
@@ -56,6 +55,8 @@ impl Candidates {
             cands,
             marks,
             free: 0,
+            limits: 0,
+            unlimited: 0,
         })
     }
 
@@ -110,15 +111,21 @@ impl Candidates {
         ensures { self.new ≡ with_changed p (limited n) self.old }
     {
         if let Some(i) = place_of(&self.cands, p) {
-            let mut cand = self.cands[i];
-            cand.limit = n;
-            self.replace(i, cand);
+            let was = self.cands[i];
+            let cand = Cand { limit: n, ..was };
+            let mark = mark_of(&cand);
+            self.limits = self.limits + n as u128 - was.limit as u128;
+            self.unlimited = self.unlimited + unlimited(&cand) - unlimited(&was);
+            self.free = self.free + mark as usize - mark_of(&was) as usize;
+            self.marks[i] = mark;
+            self.cands[i] = cand;
         }
     }
 
-    /// Another one at this place.
+    /// Another one of the same limit at this place.
     fn replace(&mut self, i: usize, cand: Cand)
-        requires { i < length self.old }
+        requires inside { i < length self.old }
+        requires limit { HoldsAt (λ (k : Cand). k.limit ≡ cand.limit) self.old i }
         ensures { self.new ≡ slice_set self.old i cand }
     {
         let mark = mark_of(&cand);
@@ -129,20 +136,31 @@ impl Candidates {
 
     /// Puts one more in, before the first one of a greater number.
     pub fn insert(&mut self, cand: Cand)
-        requires { length self.old < 20500 }
+        requires order { AreAscending self.old }
+        requires room { length self.old < 20500 }
         ensures { self.new ≡ insert self.old (position_or_len (λ (k : Cand). nat_lt cand.pod k.pod) self.old) cand }
     {
         let place = place_behind(&self.cands, cand.pod);
+        let mark = mark_of(&cand);
+        self.limits += cand.limit as u128;
+        self.unlimited += unlimited(&cand);
+        self.free += mark as usize;
+        let _ = self.marks.insert(place, mark);
         let _ = self.cands.insert(place, cand);
-        self.free = mark_all(&self.cands, &mut self.marks);
     }
 
     /// Takes the one of pod `p` out.
     pub fn remove(&mut self, p: u64)
+        requires { AreAscending self.old }
         ensures { self.new ≡ filter (λ (k : Cand). not (k.pod == p)) self.old }
     {
-        self.cands.retain(|k| k.pod != p);
-        self.free = mark_all(&self.cands, &mut self.marks);
+        if let Some(i) = place_of(&self.cands, p) {
+            let cand = self.cands.remove(i);
+            let mark = self.marks.remove(i);
+            self.limits -= cand.limit as u128;
+            self.unlimited -= unlimited(&cand);
+            self.free -= mark as usize;
+        }
     }
 
     /// Whether one has a free seat.
@@ -158,7 +176,10 @@ impl Candidates {
         ensures value { result ≡ capacity_of most self.now }
         ensures most { result ≤ most }
     {
-        capacity(&self.cands, most)
+        if self.unlimited > 0 {
+            return most;
+        }
+        self.limits.min(most as u128) as u64
     }
 }
 
@@ -171,34 +192,6 @@ fn mark_of(cand: &Cand) -> u8
     } else {
         0
     }
-}
-
-/// Marks each anew. Answers how many have a free seat.
-fn mark_all(cands: &[Cand], marks: &mut Vec<u8>) -> usize
-    requires { length cands.now ≤ vec_capacity marks.old }
-    ensures marks { marks.new.items ≡ marks_of cands.now }
-    ensures room { vec_capacity marks.new ≡ vec_capacity marks.old }
-    ensures free { result ≡ count_by has_seat cands.now }
-{
-    marks.clear();
-    let mut free = 0;
-    for cand in cands {
-        let mark = mark_of(cand);
-        marks.push_reserved(mark);
-        free += mark as usize;
-    }
-    free
-}
-
-fn capacity(cands: &[Cand], most: u64) -> u64
-    ensures value { result ≡ capacity_of most cands.now }
-    ensures most { result ≤ most }
-{
-    let mut total = 0;
-    for cand in cands {
-        total = most.min(seats_of(most, cand.limit).saturating_add(total));
-    }
-    total
 }
 
 /// Where the candidate of pod `p` stands: as far behind the first as its number, or else before that place.
@@ -218,23 +211,17 @@ fn place_of(cands: &[Cand], p: u64) -> Option<usize>
 }
 
 /// The place of the first one of a greater number, or how many there are.
-#[tactic(auto, using(crate::proofs::Places::position_else_length))]
 fn place_behind(cands: &[Cand], p: u64) -> usize
+    requires { AreAscending cands.now }
     ensures place { result ≡ position_or_len (λ (k : Cand). nat_lt p k.pod) cands.now }
     ensures inside { result ≤ length cands.now }
 {
-    position_behind(cands, p).unwrap_or(cands.len())
+    cands.partition_point(|k| k.pod <= p)
 }
 
-fn position_behind(cands: &[Cand], p: u64) -> Option<usize>
-    ensures { result ≡ position (λ (k : Cand). nat_lt p k.pod) cands.now }
+/// 1 where it has no limit, and else 0.
+fn unlimited(cand: &Cand) -> usize
+    ensures { result ≡ unlimited_of cand.now }
 {
-    cands.iter().position(|k| p < k.pod)
-}
-
-/// The seats that a pod of this limit adds where at most `most` requests may run at all.
-fn seats_of(most: u64, limit: u64) -> u64
-    ensures { result ≡ seats_of most limit }
-{
-    if limit == 0 { most } else { limit }
+    if cand.limit == 0 { 1 } else { 0 }
 }

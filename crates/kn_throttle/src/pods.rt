@@ -52,28 +52,41 @@ impl Pods {
     }
 
     pub fn set_limit(&mut self, p: u64, n: u64)
+        requires { AreAscending self.old }
         ensures { self.new ≡ with_limit p n self.old }
     {
-        set_limit(&mut self.pods, p, n);
+        if let Some(i) = place_of(&self.pods, p) {
+            self.pods[i].limit = n;
+        }
     }
 
     /// Pod `p` is Ready. A draining one stays so.
     pub fn set_ready(&mut self, p: u64)
+        requires { AreAscending self.old }
         ensures { self.new ≡ with_readiness p readied self.old }
     {
-        set_ready(&mut self.pods, p);
+        if let Some(i) = place_of(&self.pods, p) {
+            let pod = &mut self.pods[i];
+            pod.readiness = readied(pod.readiness);
+        }
     }
 
     pub fn set_draining(&mut self, p: u64)
+        requires { AreAscending self.old }
         ensures { self.new ≡ with_readiness p drained self.old }
     {
-        set_draining(&mut self.pods, p);
+        if let Some(i) = place_of(&self.pods, p) {
+            self.pods[i].readiness = Readiness::Draining;
+        }
     }
 
     pub fn remove(&mut self, p: u64)
+        requires { AreAscending self.old }
         ensures { self.new ≡ filter (λ (q : Pod). not (p == q.number)) self.old }
     {
-        self.pods.retain(|q| p != q.number);
+        if let Some(i) = place_of(&self.pods, p) {
+            let _ = self.pods.remove(i);
+        }
     }
 
     /// Whether pod `p` is there and drains.
@@ -84,36 +97,6 @@ impl Pods {
         match place_of(&self.pods, p) {
             None => false,
             Some(i) => is_draining(self.pods[i].readiness),
-        }
-    }
-}
-
-fn set_limit(pods: &mut [Pod], p: u64, n: u64)
-    ensures { pods.new ≡ with_limit p n pods.old }
-{
-    for pod in pods.iter_mut() {
-        if p == pod.number {
-            pod.limit = n;
-        }
-    }
-}
-
-fn set_ready(pods: &mut [Pod], p: u64)
-    ensures { pods.new ≡ with_readiness p readied pods.old }
-{
-    for pod in pods.iter_mut() {
-        if p == pod.number {
-            pod.readiness = readied(pod.readiness);
-        }
-    }
-}
-
-fn set_draining(pods: &mut [Pod], p: u64)
-    ensures { pods.new ≡ with_readiness p drained pods.old }
-{
-    for pod in pods.iter_mut() {
-        if p == pod.number {
-            pod.readiness = Readiness::Draining;
         }
     }
 }

@@ -6,10 +6,16 @@ use Rattle.kn_record.specs.Admission.{stepped}
 use Rattle.kn_throttle.proofs.Answering.{drain_member}
 use Rattle.kn_throttle.proofs.Ended.{pod_there}
 use Rattle.kn_throttle.proofs.Living.{either_there, kept_drained}
+use Rattle.kn_throttle.proofs.Parts.{cands_ascend}
 use Rattle.kn_throttle.proofs.throttle.Throttle.drain.Goals as goal
 
 pub drain-requires : goal.drain-requires
 drain-requires c = record { there = pod_there _ _ _ _ _ _ _ _ c.args.p c.self.invariant (either_there c.args.p c.self.inside.pods (rw (← c.self.view_is) at c.requires)) }
+
+pub remove-requires : goal.remove-requires
+remove-requires c =
+    let k = c.self.invariant in
+    rw k.candidates (cands_ascend c.self.inside.table c.self.inside.pods k.sound.order.pods)
 
 pub invariant_of-self : goal.invariant_of-self
 unfolding stepped

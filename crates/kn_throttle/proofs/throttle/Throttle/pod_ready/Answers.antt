@@ -3,6 +3,7 @@ use Rattle.kn_event.specs.declared.entry.Row.TheVariants as row
 use Rattle.kn_record.specs.Admission.{stepped}
 use Rattle.kn_throttle.proofs.Coming.{candidate_there, fewer_ready, kept_readied, starting_there}
 use Rattle.kn_throttle.proofs.Ended.{pod_there}
+use Rattle.kn_throttle.proofs.Parts.{cands_ascend}
 use Rattle.kn_throttle.proofs.throttle.Throttle.pod_ready.Goals as goal
 
 pub limit-requires : goal.limit-requires
@@ -15,8 +16,13 @@ running-requires c =
     let starts = rw (← c.self.view_is) at c.requires in
     pod_there _ _ _ _ _ _ _ _ c.args.p c.self.invariant (starting_there c.args.p c.self.inside.pods starts)
 
-pub insert-requires : goal.insert-requires
-insert-requires c =
+pub insert-requires-clause-order : goal.insert-requires-clause-order
+insert-requires-clause-order c =
+    let k = c.self.invariant in
+    rw k.candidates (cands_ascend c.self.inside.table c.self.inside.pods k.sound.order.pods)
+
+pub insert-requires-clause-room : goal.insert-requires-clause-room
+insert-requires-clause-room c =
     let k = c.self.invariant in
     let starts = rw (← c.self.view_is) at c.requires in
     let few = k.sound.few_pods in

@@ -5,6 +5,7 @@ use Rattle.kn_seats.specs.Pods.{without_pod}
 use Rattle.kn_record.specs.Admission.{stepped}
 use Rattle.kn_throttle.proofs.Coming.{drained_seat, drained_there, kept_gone}
 use Rattle.kn_throttle.proofs.Ended.{pod_there}
+use Rattle.kn_throttle.proofs.Parts.{cands_ascend}
 use Rattle.kn_throttle.proofs.Walking.{one_gone}
 use Rattle.kn_throttle.proofs.throttle.Throttle.take_away.Goals as goal
 
@@ -25,6 +26,11 @@ pub remove-requires-2-clause-none : goal.remove-requires-2-clause-none
 remove-requires-2-clause-none c =
     let k = c.self.invariant in
     (drained_seat c.self.inside.seats c.drain.new.self c.self.inside.table c.self.inside.pods c.args.p k.seats (rw (← c.self.view_is) at c.requires.there) (rw (← c.self.view_is) at c.requires.none) c.drain.ensures.changed).1
+
+pub remove-requires-3 : goal.remove-requires-3
+remove-requires-3 c =
+    let k = c.self.invariant in
+    rw k.candidates (cands_ascend c.self.inside.table c.self.inside.pods k.sound.order.pods)
 
 pub invariant_of-self : goal.invariant_of-self
 unfolding stepped
