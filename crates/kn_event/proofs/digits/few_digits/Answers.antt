@@ -2,7 +2,7 @@
 use mathlib.Core.Path.{◌≡◌, sym, ◌∙◌}
 use native.Mathlib.Omega.{arith}
 use lib.Bits.{and_mask}
-use Rattle.core.specs.Prelude.{ℕ, zero, ◌%◌, List, [], ◌∷◌, get_or, map, bit_and}
+use Rattle.core.specs.Prelude.{ℕ, List, [], ◌∷◌, get_or, map, bit_and}
 use Rattle.core.specs.Dec2flt.Digits.{less_zero, IsEightBytes}
 use lib.Lanes.{number_l}
 use Rattle.core.proofs.dec2flt.Eight.{lanes_are, first_other, shifted_is}
