@@ -1,5 +1,5 @@
 -- Numbers and words in a line that is spelled plainly.
-use Rattle.std.proofs.Common.{◌≡◌, ◌+◌, ◌-◌, ◌*◌, ◌^◌, ◌%◌, ◌<◌, ◌≤◌, ℕ, Bool, true, false, List, [], ◌∷◌, ◌++◌, Some, length, take, drop, get_or, append_assoc, length-append, length-drop, add_comm, add-one, add-zero, refl, sym, ap, ◌∙◌, arith, cond}
+use Rattle.std.proofs.Common.{◌≡◌, ◌≢◌, ◌+◌, ◌-◌, ◌^◌, ◌<◌, ◌≤◌, ℕ, Bool, true, false, List, [], ◌∷◌, ◌++◌, Some, length, take, drop, get_or, append_assoc, length-append, length-drop, add_comm, add-one, add-zero, refl, sym, ap, ◌∙◌, arith, cond}
 use Rattle.std.specs.Prelude.{◌==◌, slice_range}
 use Rattle.std.specs.List.{list_all, prefix_len}
 use Rattle.std.specs.Fmt.{decimal}
@@ -8,6 +8,8 @@ use Rattle.std.proofs.lemmas.Grind.{common_steps}
 use Rattle.std.proofs.lemmas.List.{take-append-drop, get_or-take, get_or-drop, drop-drop}
 use Rattle.std.proofs.Math.Seq.{take-append_seam}
 use Rattle.core.specs.Float.Numeral.{digits_len}
+use Rattle.core.proofs.dec2flt.DigitsLemmas.{digits_len_short}
+use lib.Seq.{take-take}
 use Rattle.std.proofs.lemmas.Str.Parse.{digits_value_short}
 use Rattle.std.specs.Int.{w64, to_le_bytes}
 use Rattle.kn_event.specs.declared.event.Act.{Act}
@@ -33,13 +35,11 @@ leading [] some h = absurd (omega arith)
 leading (b ∷ []) some h = refl
 leading (b ∷ c ∷ bs) some h = rw (h (omega arith)) refl
 
-mod_small : (v x k : ℕ) → v ≡ (0 * k + x) % 2 ^ 64 → x < 10 ^ 19 → v ≡ x
-mod_small v x k e lt = grind (arith, common_steps)
-
-pub number_here : (bs : List ℕ) (from value end : ℕ) → from ≤ length bs → end ≡ from + digits_len (drop from bs) → end ≤ length bs
-    → value ≡ (0 * 10 ^ (end - from) + digits_value 10 (slice_range bs from end)) % 2 ^ 64
+-- digits that are all there are, worth the value unless it has wrapped, are a number
+pub number_here : (bs : List ℕ) (from value end : ℕ) → end ≡ from + digits_len (drop from bs) → end ≤ length bs
+    → (digits_value 10 (slice_range bs from end) < 2 ^ 64 → value ≡ digits_value 10 (slice_range bs from end))
     → 0 < end - from → end - from ≤ 19 → (1 < end - from → (get_or bs from 0 == 48) ≡ false) → IsNumberAt bs from value end
-number_here bs from value end within stop inside is some few lead =
+number_here bs from value end stop inside is some few lead =
     let front : List ℕ = drop from bs in
     let ds : List ℕ = take (end - from) front in
     let len : end - from ≡ prefix_len is_digit front = omega (arith, stop) in
@@ -48,7 +48,7 @@ number_here bs from value end within stop inside is some few lead =
     let first : 0 < end - from → get_or ds 0 0 ≡ get_or bs from 0 = λ l. get_or-take (end - from) front 0 0 l ∙ get_or-drop from bs 0 0 ∙ ap (λ (i : ℕ). get_or bs i 0) (add-zero from) in
     let no_zero : has_no_leading_zero ds ≡ true = leading ds (omega (arith, count)) (λ l. rw (first some) (lead (omega (arith, count)))) in
     let small : digits_value 10 ds < 10 ^ 19 = digits_value_short own ds 19 all (omega (arith, count)) in
-    let same : value ≡ digits_value 10 ds = mod_small value (digits_value 10 ds) (10 ^ (end - from)) is small in
+    let same : value ≡ digits_value 10 ds = is (omega (arith, small)) in
     let said : number_of ds ≡ Some value = number_of-small ds (rw (all, no_zero) refl) (omega (arith, small)) ∙ ap Some (sym same) in
     let spelling = number_of-spelling ds value said in
     let rest : drop (end - from) front ≡ drop end bs = grind (arith, common_steps) in
@@ -57,6 +57,18 @@ number_here bs from value end within stop inside is some few lead =
       text = sym (take-append-drop (end - from) front) ∙ ap (λ (m : List ℕ). m ++ drop (end - from) front) spelling.0 ∙ ap (λ (m : List ℕ). decimal value ++ m) rest;
       small = spelling.1;
     }
+
+-- the same of one to seven digits in eight bytes
+pub few_here : (bs : List ℕ) (from value len : ℕ) → from + 8 ≤ length bs → 0 < len → len < 8 → len ≡ digits_len (take 8 (drop from bs))
+    → value ≡ digits_value 10 (take len (take 8 (drop from bs))) → get_or (take 8 (drop from bs)) 0 0 ≢ 48 → IsNumberAt bs from value (from + len)
+few_here bs from value len room some few stop is lead =
+    let front : List ℕ = drop from bs in
+    let count : from + len - from ≡ len = omega arith in
+    let whole : digits_len front ≡ len = digits_len_short front 8 (omega (arith, stop)) ∙ sym stop in
+    let first : get_or (take 8 front) 0 0 ≡ get_or bs from 0 = get_or-take 8 front 0 0 (omega arith) ∙ get_or-drop from bs 0 0 ∙ ap (λ (i : ℕ). get_or bs i 0) (add-zero from) in
+    let worth : value ≡ digits_value 10 (slice_range bs from (from + len)) = rw count (is ∙ ap (digits_value 10) (take-take len 8 front (omega arith))) in
+    let no_zero : (get_or bs from 0 == 48) ≡ false = grind (arith, common_steps, first, lead) in
+    number_here bs from value (from + len) (omega (arith, whole)) (omega arith) (λ small. worth) (omega arith) (omega arith) (λ l. no_zero)
 
 sum_same : (n m : ℕ) → n + (m + 1) ≡ n + m + 1
 sum_same n m = omega arith

@@ -1,11 +1,15 @@
 //! A usual event whose line is ahead with its LF, in one pass.
-ghost use Rattle.std.specs.Prelude.{◌≡◌, ◌+◌, ◌≤◌, ◌<◌, ◌^◌, ◌∷◌, ◌++◌, ℕ, length, take, drop, slice_range, IfSome};
+ghost use Rattle.core.specs.Float.Numeral.{digits_len};
+ghost use Rattle.core.specs.Slice.Scan.{little_endian};
+ghost use Rattle.std.specs.Prelude.{◌≡◌, ◌+◌, ◌%◌, ◌≤◌, ◌<◌, ◌^◌, ◌∷◌, ◌++◌, ℕ, length, take, drop, slice_range, IfSome};
 ghost use Rattle.std.specs.Fmt.{decimal};
-ghost use Rattle.std.specs.Int.{w64, to_le_bytes};
+ghost use Rattle.std.specs.Int.{w32, w64, to_le_bytes};
+ghost use Rattle.std.specs.Str.Parse.{digits_value};
 ghost use Rattle.kn_event.specs.EntryLine.{outcome_word};
 ghost use Rattle.kn_event.specs.EventLine.{Spells};
 ghost use Rattle.kn_event.specs.PlainLine.{IsNumberAt, IsActAhead};
 
+use crate::digits::few_digits;
 use crate::event::{Act, Event};
 use core::dec2flt::read_digits;
 
@@ -14,10 +18,22 @@ const ARRIVE: u64 = 0x2065_7669_7272_6120;
 
 const FINISH: u64 = 0x2068_7369_6e69_6620;
 
+// ` ok` and the LF.
+const OK: u32 = 0x0a6b_6f20;
+
+#[inline(always)]
+fn half_at(s: &[u8], i: usize) -> u32
+    requires { i + 4 ≤ length s.now }
+    ensures { to_le_bytes w32 result ≡ slice_range s.now i (i + 4) }
+{
+    u32::from_le_bytes([s[i], s[i + 1], s[i + 2], s[i + 3]])
+}
+
 #[inline(always)]
 fn word_at(s: &[u8], i: usize) -> u64
     requires { i + 8 ≤ length s.now }
-    ensures { to_le_bytes w64 result ≡ slice_range s.now i (i + 8) }
+    ensures bytes { to_le_bytes w64 result ≡ slice_range s.now i (i + 8) }
+    ensures value { result ≡ little_endian s.now i }
 {
     u64::from_le_bytes([
         s[i],
@@ -31,13 +47,29 @@ fn word_at(s: &[u8], i: usize) -> u64
     ])
 }
 
-/// A number of at most 19 digits, and where it ends.
+/// The digits from there on: where they end, and the number that they write modulo 2^64.
+#[inline(never)]
+fn digits_at(line: &[u8], from: usize) -> (usize, u64)
+    requires { from ≤ length line.now }
+    ensures end { result.0 ≡ from + digits_len (drop from line.now) }
+    ensures within { result.0 ≤ length line.now }
+    ensures value { result.1 ≡ digits_value 10 (slice_range line.now from result.0) % 2 ^ 64 }
+{
+    read_digits(line, from, 0)
+}
+
+/// A number of at most 19 digits, and where it ends. Most have one to seven.
 #[inline(always)]
 fn number_at(line: &[u8], from: usize) -> Option<(u64, usize)>
     requires { from ≤ length line.now }
     ensures { IfSome result (λ p. IsNumberAt line.now from p.0 p.1) }
 {
-    let (end, value) = read_digits(line, from, 0);
+    if line.len() - from >= 8 {
+        if let Some((len, value)) = few_digits(word_at(line, from)) {
+            return Some((value, from + len));
+        }
+    }
+    let (end, value) = digits_at(line, from);
     let len = end - from;
     if len == 0 || len > 19 {
         return None;
@@ -54,8 +86,10 @@ fn outcome_ahead(text: &[u8]) -> Option<(bool, usize)>
     ensures inside { IfSome result (λ p. p.1 < length text.now) }
     ensures text { IfSome result (λ p. text.now ≡ outcome_word p.0 ++ 10 ∷ drop (p.1 + 1) text.now) }
 {
+    if text.len() >= 4 && half_at(text, 0) == OK {
+        return Some((true, 3));
+    }
     match text {
-        [b' ', b'o', b'k', b'\n', ..] => Some((true, 3)),
         [b' ', b'f', b'a', b'i', b'l', b'\n', ..] => Some((false, 5)),
         _ => None,
     }
