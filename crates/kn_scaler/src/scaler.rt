@@ -130,9 +130,14 @@ impl Scaler {
         row_laws();
         place_laws();
         measure_laws();
-        match gone_of(added) {
-            Some(p) => self.pod_leaves(p),
-            None => self.requests_change(change_of(added, at, through)),
+        let change = change_of(added, at, through);
+        match change {
+            Some(_) => self.requests_change(change),
+            // (a pod goes with no row that changes requests)
+            None => match gone_of(added) {
+                Some(p) => self.pod_leaves(p),
+                None => self.requests_change(None),
+            },
         }
     }
 
