@@ -73,6 +73,7 @@ impl Decider {
     }
 
     /// Seconds that closed, if any: samples, where they are.
+    #[inline(always)]
     fn record(&mut self, run: Option<Run>)
         requires { IfSome run (CanFollow self.old.stable.end) }
         ensures stable { (samples : Samples) → IsWindowOf self.old.stable samples → IsWindowOf self.new.stable (with_closed_run self.old.spec.metric run samples) }
@@ -91,6 +92,7 @@ impl Decider {
 
     /// Seconds that closed, as measured: those that are samples count, by the metric. They come after all that closed before,
     /// below 2^42; their load is at most 20,000,000, and at most 1,000,000 requests came in one.
+    #[inline(always)]
     pub fn closed(&mut self, c: &Closed)
         requires { CanClose self.old.stable.end c.now }
         ensures stands { (past : Past) (until next : ℕ) → until ≤ next → IsOverAt next c.now.first → IsOverAt next c.now.rest → StandsFor self.old past until

@@ -1,10 +1,11 @@
 -- The next row of some trace may be taken, and leaves no pod but live ones.
-use Rattle.std.proofs.Common.{◌≡◌, ℕ, ◌<◌, ◌≤◌, [], ◌∷◌, ◌++◌, sym, ◌∙◌, subst, None, Some, true, false}
+use Rattle.std.proofs.Common.{◌≡◌, refl, ℕ, ◌<◌, ◌≤◌, [], ◌∷◌, ◌++◌, sym, ◌∙◌, subst, None, Some, true, false}
 use Rattle.std.specs.Prelude.{Bool, IfSome, Option}
 use Rattle.std.proofs.Math.Logic.{∥∥₁_elim}
 use mathlib.Core.HLevel.{Unit-prop}
 use denote.Struct.Props.{props}
 use Rattle.kn_event.specs.declared.entry.Row.{Row}
+use Rattle.kn_event.specs.declared.entry.Row.TheVariants as row
 use Rattle.kn_event.specs.declared.event.Stand.{Stand}
 use Rattle.kn_event.specs.declared.revision.Spec.{Spec}
 use Rattle.kn_trace.specs.Rows.{gone_by}
@@ -39,6 +40,12 @@ can_prop x (Some (change.Directed p)) a b = λ i. (lt_prop _ _ a.0 b.0 i, le_pro
 can_prop x (Some change.EndedHeld) a b = lt_prop _ _ a b
 can_prop x (Some (change.EndedAt p true)) a b = lt_prop _ _ a b
 can_prop x (Some (change.EndedAt p false)) a b = lt_prop _ _ a b
+
+-- no pod goes with a row that changes requests
+pub none_goes : (y : Row) (at : Stand) (through : Bool) (d : Change) → change_in y at through ≡ Some d → gone_by y ≡ None
+none_goes (row.Remove p) at through d h = absurd (cc)
+none_goes (row.LostPod p) at through d h = absurd (cc)
+none_goes _ at through d h = refl
 
 measure_of : (s : Spec) (x : ScalerState) (c : Trace) → StandsFor s x c → IsMeasureOf x.stats c
 measure_of s x c h = record { stands = h.stats; pods = h.pods }

@@ -100,6 +100,7 @@ impl Scaler {
     }
 
     /// Time passes, before the rows of an event: the seconds that are over count. `ready` says whether a pod is Ready.
+    #[inline(always)]
     pub fn advance(&mut self, time: u64, ready: bool)
         requires order { self.old.stats.time ≤ time }
         requires range { time ≤ 2 ^ 42 }
@@ -129,9 +130,14 @@ impl Scaler {
         row_laws();
         place_laws();
         measure_laws();
-        match gone_of(added) {
-            Some(p) => self.pod_leaves(p),
-            None => self.requests_change(change_of(added, at, through)),
+        let change = change_of(added, at, through);
+        match change {
+            Some(_) => self.requests_change(change),
+            // (a pod goes with no row that changes requests)
+            None => match gone_of(added) {
+                Some(p) => self.pod_leaves(p),
+                None => self.requests_change(None),
+            },
         }
     }
 
@@ -151,7 +157,7 @@ impl Scaler {
     }
 
     /// A row that may change live requests, and with which no pod goes.
-    #[inline(never)]
+    #[inline(always)]
     fn requests_change(&mut self, change: Option<Change>)
         requires { IfSome change (CanChange self.old.stats) }
         ensures stands { (s : SpecValue) (c : Trace) (x : RowValue) → change_by c x ≡ change → gone_by x ≡ None → IsBeside c (entry self.old.stats.time x)

@@ -442,3 +442,8 @@ module _ (s : StatsState) (to : ℕ) (later : s.time ≤ to) where
             };
         room = within.room;
       }
+
+  pub within_new : second_of s.time < second_of to → IsWithin s → IsWithin (advanced_by true to s)
+  within_new new within =
+      let new_one : nat_lt (second_of s.time) (second_of to) ≡ true = grind (arith, new) in
+      subst (λ b. IsWithin (advanced_by b to s)) new_one (within_advanced within)

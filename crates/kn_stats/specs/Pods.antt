@@ -1,6 +1,7 @@
 -- What is kept of each pod, in the order of their numbers.
-use Rattle.std.specs.Prelude.{ℕ, Bool, ◌+◌, ◌-◌, ◌*◌, ◌<◌, ◌≤◌, ◌==◌, nat_lt, List, [], ◌∷◌, ⊤, if◌then◌else◌}
+use Rattle.std.specs.Prelude.{ℕ, Bool, true, false, ◌+◌, ◌-◌, ◌*◌, ◌<◌, ◌≤◌, ◌==◌, nat_lt, List, [], ◌∷◌, ⊤, if◌then◌else◌}
 use Rattle.kn_stats.specs.declared.change.Change.{Change}
+use Rattle.kn_stats.specs.declared.change.Change.TheVariants as change
 use Rattle.kn_stats.specs.declared.tally.Tally.{Tally}
 use Rattle.kn_stats.specs.declared.tally.PodTally.{PodTally}
 use Rattle.kn_stats.specs.Changes.{ends_assigned, ends_directed, is_assigned, is_directed}
@@ -61,6 +62,12 @@ pod_after second left c q =
       direct = tally_after (is_directed c) (ends_directed c) left f.direct;
       proxied = tally_after (is_assigned c) (ends_assigned c) left f.proxied;
     }
+
+-- a request of the kind that the change ends is at the pod, if it ends one there
+abbrev pub CanEnd : Change → PodTally → Type 0
+CanEnd (change.EndedAt p true) q = 0 < q.proxied.count
+CanEnd (change.EndedAt p false) q = 0 < q.direct.count
+CanEnd _ q = ⊤
 
 -- each number is above this one, and they rise
 abbrev pub AreAbove : ℕ → List PodTally → Type 0

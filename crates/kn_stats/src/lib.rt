@@ -2,6 +2,7 @@
 #![tactic(auto)]
 
 mod change;
+mod clock;
 mod closed;
 mod pods;
 mod stats;

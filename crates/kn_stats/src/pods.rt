@@ -1,13 +1,14 @@
 //! The pods, in the order of their numbers. These are nearly consecutive, so one is looked for first as far behind the first
 //! pod as its number is above that one's, and else by a binary search.
-ghost use Rattle.std.specs.Prelude.{◌≡◌, ◌≤◌, length, vec_capacity, MatchResult};
-ghost use Rattle.kn_stats.specs.Pods.{IsSmallPod, IsSorted, found, pod_after, put, without_pod};
+ghost use Rattle.std.specs.Prelude.{◌≡◌, ◌≤◌, ◌<◌, length, vec_capacity, insert, MatchResult};
+ghost use Rattle.kn_stats.specs.Pods.{CanEnd, IsSmallPod, IsSorted, found, pod_after, put, without_pod};
 ghost use Rattle.kn_stats.specs.Places.{IsAt, IsGap};
 
 use crate::Change;
 use crate::tally::PodTally;
 
 /// Where the pod stands, or would be put in.
+#[inline(always)]
 fn place_of(pods: &[PodTally], p: u64) -> Result<usize, usize>
     requires { IsSorted pods.now }
     ensures { MatchResult result (λ i. IsAt p pods.now i) (λ i. IsGap p pods.now i) }
@@ -22,6 +23,7 @@ fn place_of(pods: &[PodTally], p: u64) -> Result<usize, usize>
 }
 
 /// The same, wherever it stands.
+#[inline(never)]
 fn search(pods: &[PodTally], p: u64) -> Result<usize, usize>
     requires { IsSorted pods.now }
     ensures { MatchResult result (λ i. IsAt p pods.now i) (λ i. IsGap p pods.now i) }
@@ -41,23 +43,35 @@ pub(crate) fn found(pods: &[PodTally], p: u64) -> PodTally
 }
 
 /// A change that names the pod, which is put in where it isn't there.
+#[inline(always)]
 pub(crate) fn update(pods: &mut Vec<PodTally>, p: u64, c: Change, second: u64, left: u64)
     requires sorted { IsSorted pods.old.items }
     requires small { IsSmallPod second left (found p pods.old.items) }
     requires left { left ≤ 1000 }
+    requires ends { CanEnd c (found p pods.old.items) }
     requires room { length (put p (λ q. q) pods.old.items) ≤ vec_capacity pods.old }
     ensures put { pods.new.items ≡ put p (pod_after second left c) pods.old.items }
     ensures capacity { vec_capacity pods.old ≤ vec_capacity pods.new }
 {
     match place_of(pods, p) {
-        Ok(i) => {
-            let pod = pods[i].after(c, second, left);
-            pods[i] = pod;
+        Ok(i) => pods[i].change(c, second, left),
+        Err(i) => {
+            let mut pod = PodTally::idle(p);
+            pod.change(c, second, left);
+            insert(pods, i, pod);
         }
-        Err(i) => pods
-            .insert(i, PodTally::idle(p).after(c, second, left))
-            .unwrap(),
     }
+}
+
+/// Puts a pod in, where there is room for it.
+#[inline(never)]
+fn insert(pods: &mut Vec<PodTally>, i: usize, pod: PodTally)
+    requires inside { i ≤ length pods.old.items }
+    requires room { length pods.old.items < vec_capacity pods.old }
+    ensures items { pods.new.items ≡ insert pods.old.items i pod }
+    ensures capacity { vec_capacity pods.old ≤ vec_capacity pods.new }
+{
+    pods.insert(i, pod).unwrap();
 }
 
 /// Forgets the pod.

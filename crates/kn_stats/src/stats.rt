@@ -1,10 +1,10 @@
-ghost use Rattle.std.specs.Prelude.{◌≡◌, ◌≤◌, ◌<◌, ◌+◌, ◌-◌, ◌*◌, false, min, ℕ, List, [], ◌∷◌, ◌++◌, nat_lt, vec_capacity, length, Some, IfOk, IfSome, if◌then◌else◌};
+ghost use Rattle.std.specs.Prelude.{◌≡◌, ◌≤◌, ◌<◌, ◌+◌, ◌-◌, ◌*◌, false, min, ℕ, List, [], ◌∷◌, ◌++◌, IfOk, IfSome};
 ghost use Rattle.kn_scaling.specs.Average.{second_of};
-ghost use Rattle.kn_stats.specs.Changes.{TimedChange, arrived_by, at, ends_assigned, is_arrival_at, is_assigned, is_end_at, load_by, pod_of, time_taken, timed};
+ghost use Rattle.kn_stats.specs.Changes.{TimedChange, arrived_by, at, ends_assigned, is_arrival_at, is_assigned, is_end_at, load_by, time_taken, timed};
 ghost use Rattle.kn_stats.specs.Closing.{closed_by, end_of_first};
-ghost use Rattle.kn_stats.specs.Pods.{IsSmallPod, IsSorted, found, put};
-ghost use Rattle.kn_stats.specs.Stands.{CanChange, IsIdle, StandsFor, advanced, arrived_after, changed, closed_at, is_among, left_of, opened, pods_by, waiting_after, without};
+ghost use Rattle.kn_stats.specs.Stands.{CanChange, IsIdle, IsWithin, StandsFor, advanced, changed, closed_at, is_among, opened, without};
 
+use crate::clock::Clock;
 use crate::closed::run_of;
 use crate::tally::{PodTally, Tally};
 use crate::{Change, Closed, pods};
@@ -27,7 +27,7 @@ pub struct PodArea {
 #[derive(Drop)]
 pub struct Stats {
     metric: Metric,
-    time: u64,
+    clock: Clock,
     waiting: u64,
     activator: Tally,
     direct: Tally,
@@ -41,53 +41,21 @@ impl Model for Stats {
 
     ghost Value = { StatsState };
 
-    ghost view = { λ s. record { metric = s.metric; time = s.time; waiting = s.waiting; activator = s.activator; direct = s.direct; arrived = s.arrived; pods = s.pods.items } };
+    ghost view = { λ s. record { metric = s.metric; time = s.clock; waiting = s.waiting; activator = s.activator; direct = s.direct; arrived = s.arrived; pods = s.pods.items } };
 
     ghost invariant = { λ s. record {
-      within : IsWithin (record { metric = s.metric; time = s.time; waiting = s.waiting; activator = s.activator; direct = s.direct; arrived = s.arrived; pods = s.pods.items });
+      within : IsWithin (record { metric = s.metric; time = s.clock; waiting = s.waiting; activator = s.activator; direct = s.direct; arrived = s.arrived; pods = s.pods.items });
       room : 20500 ≤ vec_capacity s.pods;
     } };
 }
 
-/// Milliseconds of the second that lie after this time.
-fn left_of(time: u64) -> u64
-    ensures left { result ≡ left_of time }
-    ensures most { result ≤ 1000 }
-{
-    1000 - time % 1000
-}
-
-/// How many wait at the activator after a change.
-fn waiting_after(c: Change, waiting: u64) -> u64
-    requires { waiting ≤ 20000 }
-    ensures { result ≡ waiting_after c waiting }
-{
-    if c.is_admitted() {
-        waiting + 1
-    } else if c.ends_waiting() {
-        waiting.saturating_sub(1)
-    } else {
-        waiting
-    }
-}
-
-/// How many came in the second after a change.
-fn arrived_after(c: Change, arrived: u64) -> u64
+/// One more came in the open second.
+#[inline(always)]
+fn one_more(arrived: u64) -> u64
     requires { arrived ≤ 1000000 }
-    ensures { result ≡ arrived_after c arrived }
+    ensures { result ≡ min 1000000 (arrived + 1) }
 {
-    if c.is_admitted() || c.is_directed() {
-        1_000_000.min(arrived + 1)
-    } else {
-        arrived
-    }
-}
-
-/// In a new second none came yet.
-fn none_if(is_new: bool, arrived: u64) -> u64
-    ensures { result ≡ (if is_new then 0 else arrived) }
-{
-    if is_new { 0 } else { arrived }
+    1_000_000.min(arrived + 1)
 }
 
 /// Where the open second ends, if it closed.
@@ -95,19 +63,6 @@ fn end_of_first(from: u64, to: u64) -> u64
     ensures { result ≡ end_of_first from to }
 {
     if from < to { from + 1 } else { from }
-}
-
-/// A change of the pod that it names, if it names one.
-fn update_pods(pods: &mut Vec<PodTally>, c: Change, time: u64)
-    requires sorted { IsSorted pods.old.items }
-    requires small { (p : ℕ) → IsSmallPod (second_of time) (left_of time) (found p pods.old.items) }
-    requires room { (p : ℕ) → pod_of c ≡ Some p → length (put p (λ q. q) pods.old.items) ≤ vec_capacity pods.old }
-    ensures pods { pods.new.items ≡ pods_by (pod_of c) time c pods.old.items }
-    ensures capacity { vec_capacity pods.old ≤ vec_capacity pods.new }
-{
-    if let Some(p) = c.pod() {
-        pods::update(pods, p, c, time / 1000, left_of(time));
-    }
 }
 
 impl Stats {
@@ -119,7 +74,7 @@ impl Stats {
         match Vec::with_capacity(alloc, 20_500) {
             Ok(pods) => Ok(Stats {
                 metric,
-                time: start,
+                clock: Clock::at(start),
                 waiting: 0,
                 activator: Tally::none(),
                 direct: Tally::none(),
@@ -131,19 +86,52 @@ impl Stats {
     }
 
     /// One change, at the time of the last advance, or at the start before there is one.
+    #[inline(always)]
     pub fn change(&mut self, c: Change)
         requires { CanChange self.old c }
         ensures stands { (cs : List TimedChange) (gone : List ℕ) → StandsFor self.old cs gone → StandsFor self.new (cs ++ timed self.old.time c ∷ []) gone }
         ensures state { self.new ≡ changed c self.old }
     {
-        let left = left_of(self.time);
-        self.waiting = waiting_after(c, self.waiting);
-        self.activator = self
-            .activator
-            .after(c.is_admitted(), c.ends_admitted(), left);
-        self.direct = self.direct.after(c.is_directed(), c.ends_directed(), left);
-        self.arrived = arrived_after(c, self.arrived);
-        update_pods(&mut self.pods, c, self.time);
+        self.count(c);
+    }
+
+    /// What it changes of the counts.
+    #[inline(always)]
+    fn count(&mut self, c: Change)
+        requires { CanChange self.old c }
+        ensures within { IsWithin self.old }
+        ensures state { self.new ≡ changed c self.old }
+    {
+        let second = self.clock.second();
+        let left = self.clock.left();
+        match c {
+            Change::Admitted => {
+                self.waiting += 1;
+                self.activator.begin(left);
+                self.arrived = one_more(self.arrived);
+            }
+            Change::Assigned(p) => {
+                self.waiting -= 1;
+                pods::update(&mut self.pods, p, c, second, left);
+            }
+            Change::Directed(p) => {
+                self.direct.begin(left);
+                self.arrived = one_more(self.arrived);
+                pods::update(&mut self.pods, p, c, second, left);
+            }
+            Change::EndedHeld => {
+                self.waiting -= 1;
+                self.activator.end(left);
+            }
+            Change::EndedAt(p, true) => {
+                self.activator.end(left);
+                pods::update(&mut self.pods, p, c, second, left);
+            }
+            Change::EndedAt(p, false) => {
+                self.direct.end(left);
+                pods::update(&mut self.pods, p, c, second, left);
+            }
+        }
     }
 
     /// A pod at which nothing is leaves. What it took of the open second still counts.
@@ -156,6 +144,7 @@ impl Stats {
     }
 
     /// Time passes. Answers the seconds that are over: each whole second after the open one has the same load.
+    #[inline(always)]
     pub fn advance(&mut self, to: u64, ready: bool) -> Closed
         requires { self.old.time ≤ to }
         ensures closed { (cs : List TimedChange) (gone : List ℕ) → StandsFor self.old cs gone → result ≡ closed_by self.old.metric cs (second_of self.old.time) (second_of to) ready }
@@ -167,19 +156,28 @@ impl Stats {
         ensures state { self.new ≡ advanced to self.old }
     {
         // (so it mostly is)
-        if self.time / 1000 == to / 1000 {
-            self.time = to;
+        if self.clock.has_second_of(to) {
+            self.clock.go_on(to);
             return Closed {
                 first: None,
                 rest: None,
             };
         }
+        self.begin_second(to, ready)
+    }
+
+    /// Time passes into a later second.
+    #[inline(never)]
+    fn begin_second(&mut self, to: u64, ready: bool) -> Closed
+        requires { second_of self.old.time < second_of to }
+        ensures closed { result ≡ closed_at self.old to ready }
+        ensures state { self.new ≡ advanced to self.old }
+    {
         let closed = self.closed(to, ready);
-        let is_new = self.time / 1000 < to / 1000;
-        self.activator = self.activator.anew_if(is_new);
-        self.direct = self.direct.anew_if(is_new);
-        self.arrived = none_if(is_new, self.arrived);
-        self.time = to;
+        self.activator.renew();
+        self.direct.renew();
+        self.arrived = 0;
+        self.clock = Clock::at(to);
         closed
     }
 
@@ -190,8 +188,9 @@ impl Stats {
         ensures proxied { (cs : List TimedChange) (gone : List ℕ) → StandsFor self.now cs gone → is_among p gone ≡ false
             → result.proxied ≡ time_taken (at is_assigned p) (at ends_assigned p) (1000 * second_of self.now.time) self.now.time cs }
     {
-        let left = left_of(self.time);
-        let pod = pods::found(&self.pods, p).fresh(self.time / 1000, left);
+        let left = self.clock.left();
+        let mut pod = pods::found(&self.pods, p);
+        pod.refresh(self.clock.second(), left);
         let proxied = pod.proxied.so_far(left);
         PodArea {
             area: pod.direct.so_far(left) + proxied,
@@ -204,7 +203,7 @@ impl Stats {
         requires { self.now.time ≤ to }
         ensures { result ≡ closed_at self.now to ready }
     {
-        let (from, until) = (self.time / 1000, to / 1000);
+        let (from, until) = (self.clock.second(), to / 1000);
         let load = self.activator.area + self.direct.area;
         let whole = 1000 * (self.activator.count + self.direct.count);
         let first_end = end_of_first(from, until);

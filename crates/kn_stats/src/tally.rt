@@ -1,4 +1,4 @@
-ghost use Rattle.std.specs.Prelude.{◌≡◌, ◌≤◌};
+ghost use Rattle.std.specs.Prelude.{◌≡◌, ◌≤◌, ◌<◌, true, false};
 
 use crate::Change;
 
@@ -11,7 +11,7 @@ pub(crate) struct Tally {
 }
 
 impl Tally {
-    ghost use Rattle.kn_stats.specs.Pods.{IsSmall, anew_if, no_tally, so_far, tally_after};
+    ghost use Rattle.kn_stats.specs.Pods.{IsSmall, anew, no_tally, so_far, tally_after};
 
     pub(crate) fn none() -> Tally
         ensures { result ≡ no_tally }
@@ -19,40 +19,35 @@ impl Tally {
         Tally { count: 0, area: 0 }
     }
 
-    /// One begins with so much of the second left, or one ends, or neither.
-    pub(crate) fn after(self, begins: bool, ends: bool, left: u64) -> Tally
-        requires small { IsSmall left self }
+    /// One begins with so much of the second left.
+    #[inline(always)]
+    pub(crate) fn begin(&mut self, left: u64)
+        requires small { IsSmall left self.old }
         requires left { left ≤ 1000 }
-        ensures { result ≡ tally_after begins ends left self }
+        ensures { self.new ≡ tally_after true false left self.old }
     {
-        if begins {
-            Tally {
-                count: self.count + 1,
-                area: self.area + left,
-            }
-        } else if ends {
-            Tally {
-                count: self.count.saturating_sub(1),
-                area: self.area.saturating_sub(left),
-            }
-        } else {
-            self
-        }
+        self.count += 1;
+        self.area += left;
+    }
+
+    /// One ends with so much of the second left.
+    #[inline(always)]
+    #[tactic(auto, using(crate::proofs::Bounds::left_inside))]
+    pub(crate) fn end(&mut self, left: u64)
+        requires some { 0 < self.old.count }
+        requires small { IsSmall left self.old }
+        ensures { self.new ≡ tally_after false true left self.old }
+    {
+        self.count -= 1;
+        self.area -= left;
     }
 
     /// In a new second all are there from its begin.
-    pub(crate) fn anew_if(self, is_new: bool) -> Tally
-        requires { self.count ≤ 20000 }
-        ensures { result ≡ anew_if is_new self }
+    pub(crate) fn renew(&mut self)
+        requires { self.old.count ≤ 20000 }
+        ensures { self.new ≡ anew self.old }
     {
-        if is_new {
-            Tally {
-                count: self.count,
-                area: 1000 * self.count,
-            }
-        } else {
-            self
-        }
+        self.area = 1000 * self.count;
     }
 
     /// What was taken with so much of the second left.
@@ -79,7 +74,7 @@ pub(crate) struct PodTally {
 }
 
 impl PodTally {
-    ghost use Rattle.kn_stats.specs.Pods.{IsSmallPod, fresh, idle, pod_after};
+    ghost use Rattle.kn_stats.specs.Pods.{CanEnd, IsSmallPod, fresh, idle, pod_after};
 
     pub(crate) fn idle(p: u64) -> PodTally
         ensures { result ≡ idle p }
@@ -93,32 +88,34 @@ impl PodTally {
     }
 
     /// What is kept, as it is in this second.
+    #[inline(always)]
     #[tactic(auto, using(crate::proofs::Bounds::fresh_counts))]
-    pub(crate) fn fresh(self, second: u64, left: u64) -> PodTally
-        requires { IsSmallPod second left self }
-        ensures { result ≡ fresh second self }
+    pub(crate) fn refresh(&mut self, second: u64, left: u64)
+        requires { IsSmallPod second left self.old }
+        ensures { self.new ≡ fresh second self.old }
     {
-        let is_new = self.second < second;
-        PodTally {
-            number: self.number,
-            second,
-            direct: self.direct.anew_if(is_new),
-            proxied: self.proxied.anew_if(is_new),
+        if self.second < second {
+            self.second = second;
+            self.direct.renew();
+            self.proxied.renew();
         }
     }
 
-    /// After a change that names it, with so much of the second left.
-    pub(crate) fn after(self, c: Change, second: u64, left: u64) -> PodTally
-        requires small { IsSmallPod second left self }
+    /// A change that names it, with so much of the second left.
+    #[inline(always)]
+    pub(crate) fn change(&mut self, c: Change, second: u64, left: u64)
+        requires small { IsSmallPod second left self.old }
         requires left { left ≤ 1000 }
-        ensures { result ≡ pod_after second left c self }
+        requires ends { CanEnd c self.old }
+        ensures { self.new ≡ pod_after second left c self.old }
     {
-        let pod = self.fresh(second, left);
-        PodTally {
-            number: pod.number,
-            second,
-            direct: pod.direct.after(c.is_directed(), c.ends_directed(), left),
-            proxied: pod.proxied.after(c.is_assigned(), c.ends_assigned(), left),
+        self.refresh(second, left);
+        match c {
+            Change::Assigned(_) => self.proxied.begin(left),
+            Change::Directed(_) => self.direct.begin(left),
+            Change::EndedAt(_, true) => self.proxied.end(left),
+            Change::EndedAt(_, false) => self.direct.end(left),
+            Change::Admitted | Change::EndedHeld => {}
         }
     }
 }

@@ -36,7 +36,7 @@ fn make_change(rt: &impl Abort, stats: &mut Stats, c: Change) {
 
 /// Time passes, and not backwards.
 fn pass_time(rt: &impl Abort, stats: &mut Stats, to: u64, ready: bool) -> Closed {
-    assert!(rt; stats.time <= to);
+    assert!(rt; stats.clock.time() <= to);
     stats.advance(to, ready)
 }
 
