@@ -92,12 +92,14 @@ impl Parts {
         ensures stand { (s : SpecValue) (c : Trace) (q : ℕ) → IsSome self.now.scaler → ArePartsOf s self.now c → r ≡ Some q → result.0 ≡ stand_of c q }
         ensures proxied { (s : SpecValue) (c : Trace) (q : ℕ) → IsSome self.now.scaler → ArePartsOf s self.now c → r ≡ Some q → result.1 ≡ proxied c q }
     {
-        if self.scaler.is_none() {
-            return (Stand::Unknown, false);
-        }
         match r {
             None => (Stand::Unknown, false),
-            Some(r) => (self.throttle.stand(r), self.throttle.proxied(r)),
+            Some(r) => {
+                if self.scaler.is_none() {
+                    return (Stand::Unknown, false);
+                }
+                (self.throttle.stand(r), self.throttle.proxied(r))
+            }
         }
     }
 
