@@ -1,12 +1,17 @@
 -- Lists of live requests and of pods.
-use Rattle.std.proofs.Common.{◌≡◌, ℕ, ◌+◌, ◌≤◌, Bool, true, false, List, [], ◌∷◌, ◌++◌, length, map, drop, refl, ap, arith, None, Some}
+use Rattle.std.proofs.Common.{◌≡◌, ℕ, ◌+◌, ◌≤◌, Bool, true, false, List, [], ◌∷◌, ◌++◌, length, map, drop, refl, sym, ap, ◌∙◌, arith, None, Some}
 use Rattle.std.specs.Prelude.{◌==◌}
 use Rattle.std.specs.List.{filter}
 use Rattle.std.proofs.lemmas.Bool.Decides.{nat_tests}
+use Rattle.kn_event.specs.declared.entry.Entry.{Entry}
+use Rattle.kn_event.specs.declared.entry.Row.{Row}
+use Rattle.kn_event.specs.declared.entry.Row.TheVariants as row
 use Rattle.kn_trace.specs.Trace.{contains, first_of}
 use Rattle.kn_record.specs.declared.admission.Request.{Request}
 use Rattle.kn_record.specs.Admission.{without}
 use Rattle.kn_pods.specs.Numbers as numbers
+use Rattle.kn_pods.specs.Pods.{PodsState}
+use Rattle.kn_core.specs.Steps.{after_removal, after_removals}
 
 without_few : (r : ℕ) (live : List Request) → length (without r live) ≤ length live
 without_few r [] = omega arith
@@ -40,6 +45,19 @@ none_without p (q ∷ xs) h = by (q == p) refl h (none_without p xs)
     by false e f rec =
         let other : (p == q) ≡ false = grind (arith, nat_tests, e) in
         rw other (ap (λ ys. q ∷ ys) (rec (rw e at f)))
+
+pub none_left : {X : Type 0} (xs : List X) → length xs ≡ 0 → xs ≡ []
+none_left [] h = refl
+none_left (x ∷ xs) h = absurd (omega (arith, h))
+
+-- rows take no pod out where none drains
+pub none_removed : (es : List Entry) (pods : PodsState) → pods.draining ≡ [] → after_removals es pods ≡ pods
+none_removed [] pods none = refl
+none_removed (e ∷ es) pods none = rw (by e.row) (none_removed es pods none)
+  where
+    by : (x : Row) → after_removal x pods ≡ pods
+    by (row.Remove p) = ap (λ ds. record pods { draining = ds }) (ap (numbers.without p) none ∙ sym none)
+    by _ = refl
 
 -- what comes after a list
 drop_whole : {X : Type 0} (xs ys : List X) → drop (length xs) (xs ++ ys) ≡ ys

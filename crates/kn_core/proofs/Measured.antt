@@ -1,5 +1,5 @@
 -- What comes to the autoscaler with a row.
-use Rattle.std.proofs.Common.{◌≡◌, ℕ, ◌≤◌, Bool, List, [], ◌∷◌, length, refl, sym, ap, ◌∙◌, arith}
+use Rattle.std.proofs.Common.{◌≡◌, ℕ, ◌≤◌, Bool, List, [], ◌∷◌, length, refl, sym, ap, ◌∙◌, arith, Option, None, Some}
 use Rattle.std.proofs.lemmas.List.{length-map}
 use Rattle.std.proofs.Math.Logic.{∥∥₁_map}
 use Rattle.kn_event.specs.declared.entry.Row.{Row}
@@ -7,7 +7,7 @@ use Rattle.kn_event.specs.declared.entry.Row.TheVariants as row
 use Rattle.kn_places.specs.Pods.{HasRoomFor}
 use Rattle.kn_event.specs.declared.event.Stand.{Stand}
 use Rattle.kn_event.specs.declared.revision.Spec.{Spec}
-use Rattle.std.specs.Prelude.{nat_lt, not}
+use Rattle.std.specs.Prelude.{IsSome, nat_lt, not}
 use Rattle.std.proofs.lemmas.Bool.{lt-ltb}
 use Rattle.kn_trace.specs.Load.{has_ready_pod}
 use Rattle.kn_trace.specs.Scale.{count_ready}
@@ -16,18 +16,25 @@ use Rattle.kn_record.specs.declared.admission.Pod.{Pod}
 use Rattle.kn_record.specs.Admission.{Admission}
 use Rattle.kn_record.specs.Made.{Holds, IsProper, StandsFor as IsRecordOf}
 use Rattle.kn_record.specs.Views.{AreViews}
-use Rattle.kn_core.specs.Scaling.{IsNextIn, IsNextInSome}
+use Rattle.kn_places.specs.Ends.{IsToldOf}
+use Rattle.kn_scaler.specs.Stands.{ScalerState}
+use Rattle.kn_core.specs.Scaling.{IsHeardOf, IsNextIn, IsNextInSome}
 use Rattle.kn_core.specs.State.{ArePartsOf, IsScalerOfSome, PartsState, ArePartsOfSome}
 use Rattle.kn_core.specs.Steps.{EndsOnly, HasFewPods, IsReadyFor}
+
+-- only an autoscaler that is there is told
+pub heard : (o : Option ScalerState) (y : Row) (at : Stand) (through : Bool) (c : Trace) → (IsSome o → IsToldOf c y at through) → IsHeardOf o c y at through
+heard None y at through c told = tt
+heard (Some z) y at through c told = told refl
 
 pub next_in : (x : PartsState) (y : Row) (r : ℕ) (at : Stand) (through : Bool) (s : Spec) (c : Trace) → EndsOnly y r → ArePartsOf s x c → IsProper s c y → at ≡ stand_of c r → through ≡ proxied c r → IsNextIn x.scaler y at through s c
 next_in x y r at through s c ends h proper stands handed = record {
   made = h.made;
   proper = proper;
-  told = record {
+  told = heard x.scaler y at through c (λ some. record {
     stands = λ q e. stands ∙ ap (stand_of c) (ends q e);
     handed = λ q e. handed ∙ ap (proxied c) (ends q e);
-  };
+  });
   scaler = h.scaler;
 }
 

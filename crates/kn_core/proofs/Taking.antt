@@ -1,6 +1,6 @@
 -- An act's own row, of all parts.
 use Rattle.std.proofs.Common.{◌≡◌, ℕ, ◌≤◌, Bool, true, false, List, [], ◌∷◌, ◌++◌, length, refl, sym, ap, ◌∙◌, subst, append-nil, arith, Option, Some}
-use Rattle.std.specs.Prelude.{not, ◌==◌, ◌&&◌}
+use Rattle.std.specs.Prelude.{IsSome, not, ◌==◌, ◌&&◌}
 use Rattle.std.specs.List.{filter}
 use Rattle.std.proofs.lemmas.List.{length-map}
 use Rattle.std.proofs.Math.Bridge.{le_prop}
@@ -26,7 +26,7 @@ use Rattle.kn_throttle.specs.State as throttle
 use Rattle.kn_core.specs.Scaling.{IsNextIn, IsNextInSome}
 use Rattle.kn_core.specs.State.{ArePartsOf, ArePartsOfSome, IsScalerOf, PartsState}
 use Rattle.kn_core.specs.Steps.{AddsRow, HasFewPods, IsReadyFor, ending_of, woken}
-use Rattle.kn_core.proofs.Measured.{few_live_pods, has_room}
+use Rattle.kn_core.proofs.Measured.{few_live_pods, has_room, heard}
 
 -- who ends with an act's own row is whom the act names
 own_ends : (a : Act) (x : Row) → IsActRow a (Some x) → (q : ℕ) → ended_by x ≡ Some q → ending_of a ≡ Some q
@@ -78,27 +78,27 @@ module _ (makes : (s : Spec) (c : Trace) (t : ℕ) (x : Row) → IsMade s c → 
 
 -- what the autoscaler hears
 pub own_next : (old mid : PartsState) (t : ℕ) (x : Row) (a : Act) (at : Stand) (through : Bool) (s : Spec) (c : Trace) → IsActRow a (Some x) → AddsRow t x old mid → ArePartsOf s old c → IsProper s c x
-    → ((q : ℕ) → ending_of a ≡ Some q → at ≡ stand_of c q) → ((q : ℕ) → ending_of a ≡ Some q → through ≡ proxied c q) → IsNextIn mid.scaler x at through s c
+    → (IsSome old.scaler → (q : ℕ) → ending_of a ≡ Some q → at ≡ stand_of c q) → (IsSome old.scaler → (q : ℕ) → ending_of a ≡ Some q → through ≡ proxied c q) → IsNextIn mid.scaler x at through s c
 own_next old mid t x a at through s c is_act adds h proper stands handed =
     subst (λ (o : Option ScalerState). IsNextIn o x at through s c) (sym adds.scaler) (record {
       made = h.made;
       proper = proper;
-      told = record {
-        stands = λ q e. stands q (own_ends a x is_act q e);
-        handed = λ q e. handed q (own_ends a x is_act q e);
-      };
+      told = heard old.scaler x at through c (λ some. record {
+        stands = λ q e. stands some q (own_ends a x is_act q e);
+        handed = λ q e. handed some q (own_ends a x is_act q e);
+      });
       scaler = h.scaler;
     })
 
 pub own_next_some : ((s : Spec) (a : Admission) (c : Trace) → StandsFor a c → AreViews s a c) → ((s : Spec) (c : Trace) (a : Act) → IsActRow a (act_row s c a)) → (old mid : PartsState) (t : ℕ) (x : Row) (a : Act) (at : Stand) (through : Bool)
     → HasFewPods old → AddsRow t x old mid → ((s : Spec) (c : Trace) → ArePartsOf s old c → act_row s c a ≡ Some x)
-    → ((s : Spec) (c : Trace) (q : ℕ) → ArePartsOf s old c → ending_of a ≡ Some q → at ≡ stand_of c q) → ((s : Spec) (c : Trace) (q : ℕ) → ArePartsOf s old c → ending_of a ≡ Some q → through ≡ proxied c q)
+    → ((s : Spec) (c : Trace) (q : ℕ) → IsSome old.scaler → ArePartsOf s old c → ending_of a ≡ Some q → at ≡ stand_of c q) → ((s : Spec) (c : Trace) (q : ℕ) → IsSome old.scaler → ArePartsOf s old c → ending_of a ≡ Some q → through ≡ proxied c q)
     → IsReadyFor (λ s c. entries_of t (act_row s c a)) old → IsNextInSome mid.scaler x at through
 own_next_some views acts old mid t x a at through few adds said stands handed some =
     ∥∥₁_map some (λ (h : (c : Trace) × ArePartsOf old.throttle.spec old c × Holds (IsProper old.throttle.spec) c (entries_of t (act_row old.throttle.spec c a))).
     let s = old.throttle.spec in
     let proper = (subst (λ (o : Option Row). Holds (IsProper s) h.0 (entries_of t o)) (said s h.0 h.1) h.2).0 in
-    (s, h.0, own_next old mid t x a at through s h.0 (subst (IsActRow a) (said s h.0 h.1) (acts s h.0 a)) adds h.1 proper (λ q. stands s h.0 q h.1) (λ q. handed s h.0 q h.1), has_room h.0 x (few_live_pods views old s h.0 few h.1)))
+    (s, h.0, own_next old mid t x a at through s h.0 (subst (IsActRow a) (said s h.0 h.1) (acts s h.0 a)) adds h.1 proper (λ one q. stands s h.0 q one h.1) (λ one q. handed s h.0 q one h.1), has_room h.0 x (few_live_pods views old s h.0 few h.1)))
 
 -- no more pods than before
 fewer : (p : ℕ) (all : List Pod) → length (filter (λ (q : Pod). not (p == q.number)) all) ≤ length all

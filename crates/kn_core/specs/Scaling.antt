@@ -1,5 +1,5 @@
 -- The rows that come to an autoscaler, where the revision has one.
-use Rattle.std.specs.Prelude.{ℕ, ◌≤◌, Bool, List, length, Option}
+use Rattle.std.specs.Prelude.{ℕ, ◌≤◌, Bool, List, length, Option, None, Some, ⊤}
 use Rattle.kn_event.specs.declared.entry.Entry.{Entry}
 use Rattle.kn_event.specs.declared.entry.Row.{Row}
 use Rattle.kn_event.specs.declared.event.Stand.{Stand}
@@ -13,11 +13,16 @@ use Rattle.kn_scaler.specs.Rows.{settles}
 use Rattle.kn_scaler.specs.Stands.{ScalerState}
 use Rattle.kn_core.specs.State.{IsMeasuredAt, IsScalerOf}
 
+-- where a request stands that ends with the row, as an autoscaler is told
+abbrev pub IsHeardOf : Option ScalerState → Trace → Row → Stand → Bool → Type 0
+IsHeardOf None c x at through = ⊤
+IsHeardOf (Some y) c x at through = IsToldOf c x at through
+
 -- a row that is proper after a trace that events made, and where a request stands that ends with it
 pub record IsNextIn (o : Option ScalerState) (x : Row) (at : Stand) (through : Bool) (s : Spec) (c : Trace) : Type 0 where
   pub made : IsMade s c
   pub proper : IsProper s c x
-  pub told : IsToldOf c x at through
+  pub told : IsHeardOf o c x at through
   pub scaler : IsScalerOf s o c
 
 abbrev pub IsNextInSome : Option ScalerState → Row → Stand → Bool → Type 0

@@ -16,7 +16,9 @@ pub(crate) fn remove_behind(pods: &mut Pods, log: &EntryLog, first: usize)
     requires { first ≤ length log.now }
     ensures { pods.new ≡ after_removals (drop first log.now) pods.old }
 {
-    remove_all(pods, &log.entries()[first..]);
+    if pods.count_draining() > 0 {
+        remove_all(pods, &log.entries()[first..]);
+    }
 }
 
 /// Takes away the pods that these entries remove.

@@ -1,6 +1,6 @@
 -- The first that passes a test, among slots and among requests.
-use Rattle.std.proofs.Common.{◌≡◌, refl, sym, ap, ◌∙◌, ℕ, zero, suc, ◌+◌, ◌<◌, ◌≤◌, Bool, true, false, not, cond, List, [], ◌∷◌, ◌++◌, length, get_or, set, arith, Option, Some, None}
-use Rattle.std.specs.Prelude.{map, nat_le, option_map, slice_get, ◌&&◌}
+use Rattle.std.proofs.Common.{◌≡◌, ◌≢◌, refl, sym, ap, ◌∙◌, ℕ, zero, suc, ◌+◌, ◌<◌, ◌≤◌, Bool, true, false, not, cond, List, [], ◌∷◌, ◌++◌, length, get_or, set, arith, Option, Some, None}
+use Rattle.std.specs.Prelude.{◌==◌, map, nat_le, option_map, slice_get, ◌&&◌}
 use Rattle.std.specs.List.{All, AllPairs, filter, find, position_or_len}
 use Rattle.std.proofs.lemmas.Bool.Decides.{nat_tests}
 use Rattle.std.proofs.lemmas.List.Elements.{All-head, All-tail}
@@ -12,7 +12,7 @@ use Rattle.kn_record.specs.declared.admission.Request.{Request}
 use Rattle.kn_record.specs.Admission.{placed_in, waits}
 use Rattle.kn_record.specs.Views.{due_in, is_due}
 use Rattle.kn_table.specs.declared.slot.Slot.{Slot}
-use Rattle.kn_table.specs.Slots.{first_placed, is_placed, live_of}
+use Rattle.kn_table.specs.Slots.{first_placed, is_placed, live_of, passed}
 use Rattle.kn_table.proofs.Requests.{first_of-map}
 
 pub and-false : (b : Bool) → (b && false) ≡ false
@@ -48,6 +48,58 @@ first-set p (x ∷ xs) (suc i) y fails = by (p x) (first-set p xs i y fails)
     by : (b : Bool) → position_or_len p xs ≤ position_or_len p (set xs i y) → cond (not b) (1 + position_or_len p xs) 0 ≤ cond (not b) (1 + position_or_len p (set xs i y)) 0
     by true le = omega arith
     by false le = omega arith
+
+-- a write of one that fails leaves the first where it stands elsewhere
+pub first-elsewhere : {X : Type 0} (p : X → Bool) (xs : List X) (i : ℕ) (y : X) → p y ≡ false → position_or_len p xs ≢ i → position_or_len p (set xs i y) ≡ position_or_len p xs
+first-elsewhere p [] i y fails other = refl
+first-elsewhere p (x ∷ xs) zero y fails other = rw fails (by (p x) other)
+  where
+    by : (b : Bool) → cond (not b) (1 + position_or_len p xs) 0 ≢ 0 → 1 + position_or_len p xs ≡ cond (not b) (1 + position_or_len p xs) 0
+    by true other = absurd (other refl)
+    by false other = refl
+first-elsewhere p (x ∷ xs) (suc i) y fails other = by (p x) (first-elsewhere p xs i y fails) other
+  where
+    by : (b : Bool) → (position_or_len p xs ≢ i → position_or_len p (set xs i y) ≡ position_or_len p xs) → cond (not b) (1 + position_or_len p xs) 0 ≢ suc i
+        → cond (not b) (1 + position_or_len p (set xs i y)) 0 ≡ cond (not b) (1 + position_or_len p xs) 0
+    by true rec other = refl
+    by false rec other = ap (λ n. 1 + n) (rec (λ same. other (omega (arith, same))))
+
+-- the first once one more stands at the end
+pub first-passed : {X : Type 0} (p : X → Bool) (xs : List X) (y : X) → position_or_len p (xs ++ y ∷ []) ≡ passed (p y) (length xs) (position_or_len p xs)
+first-passed p [] y = by (p y)
+  where
+    by : (b : Bool) → cond (not b) 1 0 ≡ passed b 0 0
+    by true = refl
+    by false = refl
+first-passed p (x ∷ xs) y = by (p x) (first-passed p xs y)
+  where
+    next : (b : Bool) (n f : ℕ) → 1 + passed b n f ≡ passed b (suc n) (1 + f)
+    next true n f = go (f == n) (1 + f == suc n)
+      where
+        go : (e g : Bool) → 1 + cond (e && false) (n + 1) f ≡ cond (g && false) (suc n + 1) (1 + f)
+        go true true = refl
+        go true false = refl
+        go false true = refl
+        go false false = refl
+    next false n f = go (f == n) (1 + f == suc n) refl refl
+      where
+        go : (e g : Bool) → (f == n) ≡ e → (1 + f == suc n) ≡ g → 1 + cond (e && true) (n + 1) f ≡ cond (g && true) (suc n + 1) (1 + f)
+        go true true h k = omega arith
+        go true false h k = absurd (grind (arith, nat_tests, h, k))
+        go false true h k = absurd (grind (arith, nat_tests, h, k))
+        go false false h k = refl
+
+    by : (b : Bool) → position_or_len p (xs ++ y ∷ []) ≡ passed (p y) (length xs) (position_or_len p xs)
+        → cond (not b) (1 + position_or_len p (xs ++ y ∷ [])) 0 ≡ passed (p y) (suc (length xs)) (cond (not b) (1 + position_or_len p xs) 0)
+    by true rec = none (p y) (length xs)
+      where
+        none : (b : Bool) (n : ℕ) → 0 ≡ passed b (suc n) 0
+        none b n = go (0 == suc n) refl
+          where
+            go : (e : Bool) → (0 == suc n) ≡ e → 0 ≡ cond (e && not b) (suc n + 1) 0
+            go true h = absurd (grind (arith, nat_tests, h))
+            go false h = refl
+    by false rec = ap (λ n. 1 + n) rec ∙ next (p y) (length xs) (position_or_len p xs)
 
 pub first-push : {X : Type 0} (p : X → Bool) (xs : List X) (y : X) → position_or_len p xs ≤ position_or_len p (xs ++ y ∷ [])
 first-push p [] y = omega arith

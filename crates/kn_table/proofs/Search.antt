@@ -1,42 +1,60 @@
 -- Finding a slot by its number.
-use Rattle.std.proofs.Common.{◌≡◌, ◌≢◌, refl, sym, ap, ◌∙◌, ℕ, zero, suc, ◌<◌, ◌≤◌, true, false, List, [], ◌∷◌, length, get_or, arith, Option, Some, None, Result, Ok, Err}
-use Rattle.std.specs.Prelude.{◌==◌, ◌-◌, MatchOption, slice_get}
+use Rattle.std.proofs.Common.{◌≡◌, ◌≢◌, refl, sym, ap, ◌∙◌, ℕ, zero, suc, ◌+◌, ◌<◌, ◌≤◌, true, false, List, [], ◌∷◌, length, get_or, arith, Some, None}
+use Rattle.std.specs.Prelude.{◌==◌, ◌-◌, slice_get}
 use Rattle.std.specs.List.{All, AllPairs}
-use Rattle.std.specs.List.Sorted.{IsSearchInRange, IsBinarySearchResult, IsNonDecreasingBy}
-use Rattle.std.specs.Result.{result_ok}
-use Rattle.std.specs.Ordering.{nat_cmp, ordering_index}
 use Rattle.std.proofs.lemmas.Bool.Decides.{nat_tests}
-use Rattle.std.proofs.lemmas.Cmp.{ranked}
 use Rattle.std.proofs.lemmas.List.{get_or_default}
-use Rattle.std.proofs.lemmas.List.Sorted.{IsNonDecreasingBy-from_default}
 use Rattle.kn_table.specs.declared.slot.Slot.{Slot}
-use Rattle.kn_table.specs.Slots.{AreInOrder, IsPlaceOf, IsSlotOf, live_of}
+use Rattle.kn_table.specs.Slots.{AreInOrder, IsPlaceOf, IsSlotOf, IsWithin, live_of}
 use Rattle.kn_table.proofs.Marks.{found_at, none_live}
 use Rattle.kn_table.proofs.Requests.{found, none_found}
-
--- what a search among the slots answers
-abbrev pub Finds : ℕ → List Slot → Option ℕ → Type 0
-Finds r xs o = MatchOption o (All (λ (s : Slot). s.request.number ≢ r) xs) (λ place. IsSlotOf r xs place)
 
 abbrev Ascends : List Slot → Type 0
 Ascends xs = AllPairs (λ (x y : Slot). x.request.number < y.request.number) xs
 
 -- ---- a binary search
 
-module _ (xs : List Slot) (pairs : Ascends xs) (r : ℕ) where
-  comparisons_rise : Slot → IsNonDecreasingBy (λ (s : Slot). ordering_index (nat_cmp s.request.number r)) xs
-  comparisons_rise e = IsNonDecreasingBy-from_default (λ (s : Slot). ordering_index (nat_cmp s.request.number r)) xs e (λ i j le inside.
-      let numbers_rise : (get_or xs i e).request.number ≤ (get_or xs j e).request.number =
-      grind (arith, pairs i j e, λ (same : i ≡ j). ap (λ k. (get_or xs k e).request.number) same) in
-      grind (arith, nat_tests))
+-- the halves of a part: where the slot in the middle is not above the number, and where it is
+module _ (r : ℕ) (xs : List Slot) (pairs : Ascends xs) (from len half : ℕ) (within : IsWithin r xs from len) (most : half + half ≤ len) (d : Slot) where
+  pub upper_half : (get_or xs (from + half) d).request.number ≤ r → IsWithin r xs (from + half) (len - half)
+  upper_half low =
+      let some = within.some in
+      let end = within.inside in
+      record {
+        some = omega (arith, some, most);
+        inside = omega (arith, some, most, end);
+        only = λ place there.
+            let old = within.only place there in
+            let number = there.number d in
+            let before : place < from + half → (get_or xs place d).request.number < (get_or xs (from + half) d).request.number = λ lt. pairs place (from + half) d lt (omega (arith, some, most, end)) in
+            let first : from + half ≤ place = grind (arith, before, number, low) in
+            (first, omega (arith, old.1, some, most));
+      }
 
-  pub searched : (o : Result ℕ ℕ) → IsSearchInRange o (length xs) → IsBinarySearchResult (λ (s : Slot). nat_cmp s.request.number r) xs o → Finds r xs (result_ok o)
-  searched (Ok at) inside equal = record { inside = inside; number = λ d. ranked _ r _ (sym (equal d)) }
-  searched (Err at) inside parted = λ k d within same.
-      let parts = parted (comparisons_rise d) in
-      let before : k < at → (get_or xs k d).request.number < r = λ lt. ranked _ r _ (sym (parts.0 k d (omega arith) lt)) in
-      let after : at ≤ k → r < (get_or xs k d).request.number = λ le. ranked _ r _ (sym (parts.1 k d le within)) in
-      absurd (grind (arith, before, after, same))
+  pub lower_half : r < (get_or xs (from + half) d).request.number → IsWithin r xs from (len - half)
+  lower_half high =
+      let some = within.some in
+      let end = within.inside in
+      record {
+        some = omega (arith, some, most);
+        inside = omega (arith, end);
+        only = λ place there.
+            let old = within.only place there in
+            let number = there.number d in
+            let inside = there.inside in
+            let after : from + half < place → (get_or xs (from + half) d).request.number < (get_or xs place d).request.number = λ lt. pairs (from + half) place d lt inside in
+            let here : from + half ≡ place → (get_or xs (from + half) d).request.number ≡ (get_or xs place d).request.number = λ at. ap (λ k. (get_or xs k d).request.number) at in
+            let last : place < from + half = grind (arith, after, here, number, high) in
+            (old.0, omega (arith, last, most));
+      }
+
+-- where the only slot that may have it has another, none has it
+pub none_within : (r : ℕ) (xs : List Slot) (from len : ℕ) (d : Slot) → IsWithin r xs from len → len ≤ 1 → (get_or xs from d).request.number ≢ r → All (λ (s : Slot). s.request.number ≢ r) xs
+none_within r xs from len d within one other k e inside same =
+    let there : IsSlotOf r xs k = record { inside = inside; number = λ f. ap (λ (s : Slot). s.request.number) (get_or_default xs k f e inside) ∙ same } in
+    let only = within.only k there in
+    let at : k ≡ from = omega (arith, only.0, only.1, one) in
+    other (ap (λ i. (get_or xs i d).request.number) (sym at) ∙ there.number d)
 
 -- ---- the live one
 

@@ -2,7 +2,7 @@
 use Rattle.std.proofs.Common.{◌≡◌, refl, sym, ap, subst, ◌∙◌, ℕ, ◌+◌, ◌<◌, ◌≤◌, Bool, true, false, not, List, [], ◌∷◌, ◌++◌, length, get_or, set, arith, Option, Some, None}
 use Rattle.std.specs.Prelude.{◌&&◌, MatchOption, IsSome, is_some}
 use Rattle.std.specs.List.{All, filter}
-use Rattle.std.proofs.lemmas.List.{get_or_default, length-map, length_push}
+use Rattle.std.proofs.lemmas.List.{get_or-set_same, get_or_default, length-map, length-set, length_push}
 use Rattle.std.proofs.lemmas.List.Folds.{position_or_len-set}
 use Rattle.kn_trace.specs.Events.{live_most}
 use Rattle.kn_trace.specs.Trace.{contains}
@@ -14,9 +14,9 @@ use Rattle.kn_record.specs.Views.{numbers_in}
 use Rattle.kn_table.specs.Moves.{Leaves, Moves}
 use Rattle.kn_table.specs.declared.cursors.Cursors.{Cursors}
 use Rattle.kn_table.specs.declared.slot.Slot.{Slot}
-use Rattle.kn_table.specs.Slots.{AreBefore, AreInOrder, AreKept, IsNext, IsPlaceOf, first_placed, is_live, is_placed, live_of}
+use Rattle.kn_table.specs.Slots.{AreFirst, AreInOrder, AreKept, IsLeftAt, IsNext, IsPlaceOf, first_placed, is_live, is_placed, live_of, passed}
 use Rattle.kn_table.proofs.Requests.{AreApart, apart, changed, changed_length, contains_found, found, leaves, listed_one, moves, placed_found, placed_one, without_length}
-use Rattle.kn_table.proofs.Firsts.{and-false, first-push, first-set}
+use Rattle.kn_table.proofs.Firsts.{and-false, first-elsewhere, first-passed, first-push, first-set, first_beyond}
 use Rattle.kn_table.proofs.Marks.{all_swept, found_at, live_of-changed, live_of-ended, live_of-push, order-push, order-set, order-swept, ordered}
 
 -- the live requests of slots in order have numbers that differ
@@ -37,12 +37,18 @@ found_request r xs i d order there = found_at r xs i d order.numbers there.insid
 
 -- ---- the write
 
--- one that fails brings no cursor nearer
-pub still_before : (test : Place → Bool) (xs zs : List Slot) (i : ℕ) (y : Slot) (cursor : ℕ) → cursor ≡ first_placed test xs → zs ≡ set xs i y → is_placed test y ≡ false → cursor ≤ first_placed test zs
-still_before test xs zs i y cursor at is fails =
-    let le = first-set (is_placed test) xs i y fails in
+-- one that fails leaves each cursor where it stands but the one that stands there
+pub left_at : (test : Place → Bool) (xs zs : List Slot) (i : ℕ) (y : Slot) (cursor : ℕ) → i < length xs → cursor ≡ first_placed test xs → zs ≡ set xs i y → is_placed test y ≡ false → IsLeftAt i (first_placed test zs) cursor
+left_at test xs zs i y cursor inside at is fails =
     let same : first_placed test zs ≡ first_placed test (set xs i y) = ap (first_placed test) is in
-    omega (arith, at, same, le)
+    let le = first-set (is_placed test) xs i y fails in
+    let long = length-set xs i y in
+    record {
+      here = λ there.
+          let beyond = first_beyond (is_placed test) (set xs i y) i y (omega (arith, there, at, le)) (omega (arith, inside, long)) (ap (is_placed test) (get_or-set_same xs i y y inside) ∙ fails) in
+          omega (arith, beyond, same);
+      elsewhere = λ other. at ∙ sym (first-elsewhere (is_placed test) xs i y fails (λ first. other (at ∙ first))) ∙ sym same;
+    }
 
 -- what is kept, where number and time stay
 pub kept-set : (xs zs : List Slot) (live less i : ℕ) (x y : Slot) (cursors at : Cursors) (pod from : ℕ) → AreKept xs live cursors → i < length xs → x ≡ get_or xs i x
@@ -53,6 +59,7 @@ kept-set xs zs live less i x y cursors at pod from kept inside read number time 
   order = order-set xs i y kept.order inside
       (λ e. number ∙ ap (λ (s : Slot). s.request.number) (read ∙ get_or_default xs i x e inside))
       (λ e. time ∙ ap (λ (s : Slot). s.request.time) (read ∙ get_or_default xs i x e inside));
+  short = subst (λ n. n ≤ 40000) (sym (length-set xs i y)) kept.short;
   counted = counted;
   few = few;
   held = ap (λ (k : Cursors). k.held) at_is ∙ ap (first_placed is_held_place) is;
@@ -183,24 +190,33 @@ next_swept request xs order few above later = record {
   room = let long = length-map (filter is_live xs) (λ (s : Slot). s.request) in omega (arith, long, few);
 }
 
-pub kept-push : (xs ys zs us : List Slot) (live : ℕ) (y : Slot) (cursors before at : Cursors) → AreKept xs live cursors → length (live_of xs) < live_most → live_of ys ≡ live_of xs → IsNext y.request ys → AreBefore before ys
-    → y.has_ended ≡ false → zs ≡ ys ++ y ∷ [] → us ≡ zs → at ≡ record { held = first_placed is_held_place us; waiting = first_placed waits us; pod = before.pod; from = before.from } → AreKept zs (live + 1) at
-kept-push xs ys zs us live y cursors before at kept few same next low lives is us_is at_is =
+-- where the first of a kind stands once one more is pushed
+pushed_first : (test : Place → Bool) (ys : List Slot) (y : Slot) → y.has_ended ≡ false → passed (test y.request.place) (length ys) (first_placed test ys) ≡ first_placed test (ys ++ y ∷ [])
+pushed_first test ys y lives =
+    ap (λ e. passed (not e && test y.request.place) (length ys) (first_placed test ys)) (sym lives) ∙ sym (first-passed (is_placed test) ys y)
+
+pub kept-push : (xs ys zs : List Slot) (live end : ℕ) (y : Slot) (cursors before at : Cursors) → AreKept xs live cursors → length (live_of xs) < live_most → live_of ys ≡ live_of xs → IsNext y.request ys → AreFirst before ys
+    → y.has_ended ≡ false → zs ≡ ys ++ y ∷ [] → end ≡ length ys
+    → at ≡ record { held = passed (is_held_place y.request.place) end before.held; waiting = passed (waits y.request.place) end before.waiting; pod = before.pod; from = before.from } → AreKept zs (live + 1) at
+kept-push xs ys zs live end y cursors before at kept few same next first lives is end_is at_is =
+    let room = next.room in
+    let long = ap (λ (ws : List Slot). length ws) is ∙ length_push ys y in
     let counted = kept.counted in
     let more : length (live_of zs) ≡ length (live_of ys) + 1 =
     ap (λ ws. length (live_of ws)) is ∙ ap (λ (l : List Request). length l) (live_of-push ys y lives) ∙ length_push (live_of ys) y.request in
     let stays : length (live_of ys) ≡ length (live_of xs) = ap (λ (l : List Request). length l) same in
     record {
       order = subst AreInOrder (sym is) (order-push ys y next.order next.above next.later);
+      short = omega (arith, long, room);
       counted = omega (arith, counted, more, stays);
       few = omega (arith, counted, few);
-      held = ap (λ (k : Cursors). k.held) at_is ∙ ap (first_placed is_held_place) us_is;
-      waiting = ap (λ (k : Cursors). k.waiting) at_is ∙ ap (first_placed waits) us_is;
+      held = ap (λ (k : Cursors). k.held) at_is ∙ ap (passed (is_held_place y.request.place) end) first.held ∙ ap (λ n. passed (is_held_place y.request.place) n (first_placed is_held_place ys)) end_is ∙ pushed_first is_held_place ys y lives ∙ ap (first_placed is_held_place) (sym is);
+      waiting = ap (λ (k : Cursors). k.waiting) at_is ∙ ap (passed (waits y.request.place) end) first.waiting ∙ ap (λ n. passed (waits y.request.place) n (first_placed waits ys)) end_is ∙ pushed_first waits ys y lives ∙ ap (first_placed waits) (sym is);
       at_pod =
           let same_from : at.from ≡ before.from = ap (λ (k : Cursors). k.from) at_is in
           let same_pod : at.pod ≡ before.pod = ap (λ (k : Cursors). k.pod) at_is in
           let same_first : first_placed (is_at at.pod) zs ≡ first_placed (is_at before.pod) (ys ++ y ∷ []) = ap (λ p. first_placed (is_at p) zs) same_pod ∙ ap (first_placed (is_at before.pod)) is in
           let further = first-push (is_placed (is_at before.pod)) ys y in
-          let below = low.at_pod in
+          let below = first.at_pod in
           omega (arith, same_from, same_first, further, below);
     }

@@ -1,5 +1,5 @@
 -- The slots behind a table's view: each request that came since the last sweep, those that ended with a mark.
-use Rattle.std.specs.Prelude.{◌≡◌, ℕ, Bool, false, not, ◌<◌, ◌≤◌, ◌&&◌, List, map, length, slice_index_or}
+use Rattle.std.specs.Prelude.{◌≡◌, ◌≢◌, ◌==◌, ℕ, Bool, false, not, ◌+◌, ◌<◌, ◌≤◌, ◌&&◌, List, map, length, slice_index_or, if◌then◌else◌}
 use Rattle.std.specs.List.{All, AllPairs, filter, position_or_len}
 use Rattle.kn_trace.specs.Events.{live_most}
 use Rattle.kn_record.specs.declared.admission.Place.{Place}
@@ -25,6 +25,15 @@ is_placed test s = is_live s && test s.request.place
 abbrev pub first_placed : (Place → Bool) → List Slot → ℕ
 first_placed test slots = position_or_len (is_placed test) slots
 
+-- where the first of a kind stands once one more slot does, which is of the kind or not
+abbrev pub passed : Bool → ℕ → ℕ → ℕ
+passed of_kind end first = if (first == end) && not of_kind then end + 1 else first
+
+-- a cursor stands at the first of its kind, but where it stands at this place, whose slot is no longer of the kind
+pub record IsLeftAt (place first cursor : ℕ) : Type 0 where
+  pub here : cursor ≡ place → place + 1 ≤ first
+  pub elsewhere : cursor ≢ place → cursor ≡ first
+
 -- the places of a kind
 abbrev pub is_of_kind : PlaceKind → Place → Bool
 is_of_kind kind.Held = is_held_place
@@ -41,6 +50,12 @@ pub record IsSlotOf (r : ℕ) (slots : List Slot) (place : ℕ) : Type 0 where
   pub inside : place < length slots
   pub number : (d : Slot) → (slice_index_or slots place d).request.number ≡ r
 
+-- a slot of this number stands nowhere but among so many from a place on
+pub record IsWithin (r : ℕ) (slots : List Slot) (from len : ℕ) : Type 0 where
+  pub some : 0 < len
+  pub inside : from + len ≤ length slots
+  pub only : (place : ℕ) → IsSlotOf r slots place → (from ≤ place) × (place < from + len)
+
 -- the live request of this number stands at this place
 pub record IsPlaceOf (r : ℕ) (slots : List Slot) (place : ℕ) : Type 0 where
   pub inside : place < length slots
@@ -54,16 +69,16 @@ pub record IsNext (request : Request) (slots : List Slot) : Type 0 where
   pub later : All (λ (s : Slot). s.request.time ≤ request.time) slots
   pub room : length slots < 40000
 
--- no cursor is beyond what it looks for
-pub record AreBefore (cursors : Cursors) (slots : List Slot) : Type 0 where
-  pub held : cursors.held ≤ first_placed is_held_place slots
-  pub waiting : cursors.waiting ≤ first_placed waits slots
+-- where the first that is held and the first that waits stand, and a place before which no live request is at one pod
+pub record AreFirst (cursors : Cursors) (slots : List Slot) : Type 0 where
+  pub held : cursors.held ≡ first_placed is_held_place slots
+  pub waiting : cursors.waiting ≡ first_placed waits slots
   pub at_pod : cursors.from ≤ first_placed (is_at cursors.pod) slots
 
--- what is kept beside the slots: how many are live, where the first that is held and the first that waits stand, and a place
--- before which no live request is at one pod
+-- what is kept beside the slots: how many are live, and the cursors
 pub record AreKept (slots : List Slot) (live : ℕ) (cursors : Cursors) : Type 0 where
   pub order : AreInOrder slots
+  pub short : length slots ≤ 40000
   pub counted : live ≡ length (live_of slots)
   pub few : live ≤ live_most
   pub held : cursors.held ≡ first_placed is_held_place slots

@@ -1,11 +1,11 @@
 //! The first request of a kind, looked for from where the last search ended.
-ghost use Rattle.std.specs.Prelude.{◌≡◌, ◌≤◌, option_map, slice_get};
+ghost use Rattle.std.specs.Prelude.{◌≡◌, ◌<◌, ◌≤◌, option_map, slice_get};
 ghost use Rattle.kn_record.specs.Admission.{is_at, is_held_place, waits};
 ghost use Rattle.kn_table.specs.declared.slot.Slot.{Slot};
-ghost use Rattle.kn_table.specs.Slots.{first_placed, is_of_kind};
+ghost use Rattle.kn_table.specs.Slots.{IsLeftAt, first_placed, is_of_kind, passed};
 
 use crate::slot::{PlaceKind, Slot};
-use kn_record::Request;
+use kn_record::{Place, Request};
 
 /// Where the first live request stands whose place is of a kind, at this place or later; the end where there is none.
 pub fn next_placed(kind: PlaceKind, slots: &[Slot], from: usize) -> usize
@@ -18,6 +18,18 @@ pub fn next_placed(kind: PlaceKind, slots: &[Slot], from: usize) -> usize
         }
     }
     slots.len()
+}
+
+/// Where the first of a kind stands once one more slot does, which is of the kind or not.
+fn passed(is_of_kind: bool, end: usize, first: usize) -> usize
+    requires { end < 40000 }
+    ensures { result ≡ passed is_of_kind end first }
+{
+    if first == end && !is_of_kind {
+        end + 1
+    } else {
+        first
+    }
 }
 
 /// The request at a place.
@@ -65,6 +77,32 @@ impl Cursors {
     {
         self.held = next_placed(PlaceKind::Held, slots, self.held);
         self.waiting = next_placed(PlaceKind::Waiting, slots, self.waiting);
+    }
+
+    /// One more slot stands at the end, of a live request at this place.
+    #[inline(always)]
+    pub fn pass(&mut self, end: usize, place: Place)
+        requires { end < 40000 }
+        ensures { self.new ≡ record self.old { held = passed (is_held_place place) end self.old.held; waiting = passed (waits place) end self.old.waiting } }
+    {
+        self.held = passed(PlaceKind::Held.includes(place), end, self.held);
+        self.waiting = passed(PlaceKind::Waiting.includes(place), end, self.waiting);
+    }
+
+    /// Those that stand at this place, whose slot is no longer of their kind, move on.
+    #[inline(always)]
+    pub fn leave(&mut self, place: usize, slots: &[Slot])
+        requires held { IsLeftAt place (first_placed is_held_place slots.now) self.old.held }
+        requires waiting { IsLeftAt place (first_placed waits slots.now) self.old.waiting }
+        requires few { place < 40000 }
+        ensures { self.new ≡ record self.old { held = first_placed is_held_place slots.now; waiting = first_placed waits slots.now } }
+    {
+        if self.held == place {
+            self.held = next_placed(PlaceKind::Held, slots, place + 1);
+        }
+        if self.waiting == place {
+            self.waiting = next_placed(PlaceKind::Waiting, slots, place + 1);
+        }
     }
 
     /// Where the first live request at a pod stands; the end where there is none.

@@ -1,9 +1,9 @@
 //! Slots, and how one is found by its number.
-ghost use Rattle.std.specs.Prelude.{◌≡◌, ◌≢◌, ◌==◌, ◌<◌, ◌≤◌, None, All, IsTrue, MatchOption, filter, find, vec_capacity};
+ghost use Rattle.std.specs.Prelude.{◌≡◌, ◌≢◌, ◌==◌, ◌*◌, ◌<◌, ◌≤◌, ℕ, None, All, IsTrue, MatchOption, filter, find, length, vec_capacity};
 ghost use Rattle.kn_record.specs.declared.admission.Request.{Request};
 ghost use Rattle.kn_record.specs.Admission.{begun, is_at};
 ghost use Rattle.kn_table.specs.declared.slot.Slot.{Slot};
-ghost use Rattle.kn_table.specs.Slots.{AreInOrder, IsPlaceOf, IsSlotOf, is_live, is_of_kind, is_placed, live_of};
+ghost use Rattle.kn_table.specs.Slots.{AreInOrder, IsPlaceOf, IsSlotOf, IsWithin, is_live, is_of_kind, is_placed, live_of};
 
 use kn_record::{Place, Request};
 
@@ -79,21 +79,79 @@ pub fn is_after(request: &Request, slots: &[Slot]) -> bool
     }
 }
 
-/// Where the slot of this number stands, by a binary search.
+/// Some of the slots: so many of them, from a place on.
+#[derive(Clone, Copy)]
+struct Part {
+    from: usize,
+    len: usize,
+}
+
+/// The half of a part that has the slot of a number, if any has it.
+#[inline(always)]
+fn half(slots: &[Slot], r: u64, part: Part) -> Part
+    requires order { AreInOrder slots.now }
+    requires within { IsWithin r slots.now part.from part.len }
+    ensures within { IsWithin r slots.now result.from result.len }
+    ensures fewer { (n : ℕ) → part.len ≤ 2 * n → result.len ≤ n }
+{
+    let half = part.len / 2;
+    let middle = part.from + half;
+    let from = if slots[middle].request.number <= r {
+        middle
+    } else {
+        part.from
+    };
+    Part {
+        from,
+        len: part.len - half,
+    }
+}
+
+/// The sixteenth of a part that has the slot of a number, if any has it.
+#[inline(always)]
+fn sixteenth(slots: &[Slot], r: u64, part: Part) -> Part
+    requires order { AreInOrder slots.now }
+    requires within { IsWithin r slots.now part.from part.len }
+    ensures within { IsWithin r slots.now result.from result.len }
+    ensures fewer { (n : ℕ) → part.len ≤ 16 * n → result.len ≤ n }
+{
+    let part = half(slots, r, part);
+    let part = half(slots, r, part);
+    let part = half(slots, r, part);
+    half(slots, r, part)
+}
+
+/// Where the slot of this number stands, by a binary search. It has no loop, so that the compiler can leave a search out
+/// whose answer nobody uses.
 #[inline(never)]
 fn search(slots: &[Slot], r: u64) -> Option<usize>
-    requires { AreInOrder slots.now }
+    requires order { AreInOrder slots.now }
+    requires few { length slots.now ≤ 65536 }
     ensures { MatchOption result (All (λ (s : Slot). s.request.number ≢ r) slots.now) (λ place. IsSlotOf r slots.now place) }
 {
-    slots
-        .binary_search_by_key(&r, |slot| slot.request.number)
-        .ok()
+    if slots.is_empty() {
+        return None;
+    }
+    let all = Part {
+        from: 0,
+        len: slots.len(),
+    };
+    let part = sixteenth(slots, r, all);
+    let part = sixteenth(slots, r, part);
+    let part = sixteenth(slots, r, part);
+    let one = sixteenth(slots, r, part);
+    if slots[one.from].request.number == r {
+        Some(one.from)
+    } else {
+        None
+    }
 }
 
 /// Where the slot of this number stands: at the place that is looked at first, or by a search.
 #[inline]
 fn slot_of(slots: &[Slot], hint: usize, r: u64) -> Option<usize>
-    requires { AreInOrder slots.now }
+    requires order { AreInOrder slots.now }
+    requires few { length slots.now ≤ 65536 }
     ensures { MatchOption result (All (λ (s : Slot). s.request.number ≢ r) slots.now) (λ place. IsSlotOf r slots.now place) }
 {
     if hint < slots.len() && slots[hint].request.number == r {
@@ -105,7 +163,8 @@ fn slot_of(slots: &[Slot], hint: usize, r: u64) -> Option<usize>
 /// Where the live request of this number stands; the hint is the place that is looked at first.
 #[inline]
 pub fn place_of(slots: &[Slot], hint: usize, r: u64) -> Option<usize>
-    requires { AreInOrder slots.now }
+    requires order { AreInOrder slots.now }
+    requires few { length slots.now ≤ 65536 }
     ensures { MatchOption result (find (λ (q : Request). q.number == r) (live_of slots.now) ≡ None) (λ place. IsPlaceOf r slots.now place) }
 {
     match slot_of(slots, hint, r) {

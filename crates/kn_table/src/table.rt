@@ -8,7 +8,7 @@ ghost use Rattle.kn_record.specs.Admission.{begins, is_at, is_held_place, moved,
 ghost use Rattle.kn_record.specs.Views.{due_in, numbers_in};
 ghost use Rattle.kn_table.specs.Moves.{Leaves, Moves};
 ghost use Rattle.kn_table.specs.Order.{IsOrdered};
-ghost use Rattle.kn_table.specs.Slots.{AreBefore, AreInOrder, IsNext, live_of};
+ghost use Rattle.kn_table.specs.Slots.{AreFirst, AreInOrder, IsNext, is_live, live_of};
 
 use crate::cursors::{Cursors, number_at, request_at};
 use crate::hints::Hints;
@@ -55,24 +55,37 @@ fn is_over(since: u64, timeout_ms: u64, time: u64) -> bool
     timeout_ms <= time && since <= time - timeout_ms
 }
 
-/// Sweeps out the requests that have ended where no slot is left, or where one of them isn't before this request.
+/// Sweeps out the requests that have ended, where no slot is left, or where one of them isn't before this request.
+#[inline(always)]
 fn make_room(slots: &mut Vec<Slot>, hints: &mut Hints, cursors: &mut Cursors, request: &Request)
     requires order { AreInOrder slots.old.items }
-    requires before { AreBefore cursors.old slots.old.items }
+    requires first { AreFirst cursors.old slots.old.items }
     requires few { length (live_of slots.old.items) < live_most }
     requires above { All (λ (q : Request). q.number < request.now.number) (live_of slots.old.items) }
     requires later { All (λ (q : Request). q.time ≤ request.now.time) (live_of slots.old.items) }
     ensures live { live_of slots.new.items ≡ live_of slots.old.items }
     ensures next { IsNext request.now slots.new.items }
-    ensures before { AreBefore cursors.new slots.new.items }
+    ensures first { AreFirst cursors.new slots.new.items }
     ensures capacity { vec_capacity slots.new ≡ vec_capacity slots.old }
 {
     if slots.len() < ROOM && is_after(request, slots) {
         return;
     }
+    sweep_out(slots, hints, cursors);
+}
+
+/// Sweeps out the requests that have ended.
+#[inline(never)]
+fn sweep_out(slots: &mut Vec<Slot>, hints: &mut Hints, cursors: &mut Cursors)
+    requires { length (live_of slots.old.items) ≤ live_most }
+    ensures items { slots.new.items ≡ filter is_live slots.old.items }
+    ensures first { AreFirst cursors.new slots.new.items }
+    ensures capacity { vec_capacity slots.new ≡ vec_capacity slots.old }
+{
     sweep(slots);
     hints.set_all(slots);
     *cursors = Cursors::new();
+    cursors.advance(slots);
 }
 
 impl Table {
@@ -108,6 +121,7 @@ impl Table {
     }
 
     /// Takes in one more request, whose number is above all others and whose time is not before theirs.
+    #[inline(always)]
     pub fn push(&mut self, request: Request)
         requires room { length self.old < live_most }
         requires above { All (λ (q : Request). q.number < request.number) self.old }
@@ -121,13 +135,14 @@ impl Table {
             &mut self.cursors,
             &request,
         );
-        self.hints.set(request.number, self.slots.len());
+        let end = self.slots.len();
+        self.hints.set(request.number, end);
         self.slots.push_reserved(Slot {
             request,
             has_ended: false,
         });
         self.live += 1;
-        self.cursors.advance(&self.slots);
+        self.cursors.pass(end, request.place);
     }
 
     /// The live request of this number.
@@ -153,7 +168,7 @@ impl Table {
         let place = place_of(&self.slots, self.hints.get(r), r).unwrap();
         self.slots[place].request.place = Place::Running(p, true);
         self.cursors.from = 0;
-        self.cursors.advance(&self.slots);
+        self.cursors.leave(place, &self.slots);
     }
 
     /// Lets a request run at the pod where it is queued.
@@ -166,10 +181,11 @@ impl Table {
         let place = place_of(&self.slots, self.hints.get(r), r).unwrap();
         let slot = &mut self.slots[place];
         slot.request.place = begun(slot.request.place);
-        self.cursors.advance(&self.slots);
+        self.cursors.leave(place, &self.slots);
     }
 
     /// Takes a request out, and answers it.
+    #[inline(always)]
     pub fn remove(&mut self, r: u64) -> Request
         requires { contains r (numbers_in self.old) ≡ true }
         ensures removed { self.new ≡ without r self.old }
@@ -182,7 +198,7 @@ impl Table {
         slot.has_ended = true;
         let request = slot.request;
         self.live -= 1;
-        self.cursors.advance(&self.slots);
+        self.cursors.leave(place, &self.slots);
         request
     }
 

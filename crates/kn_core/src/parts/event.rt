@@ -1,6 +1,6 @@
 //! One event, part by part, and what it is told. What comes at each event is inlined into one function, in which a row needs
 //! no memory but its place in the log: rows are large.
-ghost use Rattle.std.specs.Prelude.{◌≡◌, ℕ, ◌+◌, ◌<◌, ◌≤◌, ◌^◌, [], ◌∷◌, ◌++◌, length, Some, true};
+ghost use Rattle.std.specs.Prelude.{◌≡◌, ℕ, ◌+◌, ◌<◌, ◌≤◌, ◌^◌, [], ◌∷◌, ◌++◌, length, IsSome, Some, true};
 ghost use Rattle.kn_event.specs.Revision.{AreInRange};
 ghost use Rattle.kn_event.specs.declared.entry.Phase.TheVariants as phase;
 ghost use Rattle.kn_event.specs.declared.entry.Row.TheVariants as row;
@@ -85,15 +85,21 @@ impl Parts {
         row
     }
 
-    /// Where a request stands, and whether the activator handed it to its pod. With no request it says nothing.
+    /// Where a request stands, and whether the activator handed it to its pod. With no request, or no autoscaler that is to
+    /// hear of it, it says nothing.
     #[inline(always)]
     fn before_end(&self, r: Option<u64>) -> (Stand, bool)
-        ensures stand { (s : SpecValue) (c : Trace) (q : ℕ) → ArePartsOf s self.now c → r ≡ Some q → result.0 ≡ stand_of c q }
-        ensures proxied { (s : SpecValue) (c : Trace) (q : ℕ) → ArePartsOf s self.now c → r ≡ Some q → result.1 ≡ proxied c q }
+        ensures stand { (s : SpecValue) (c : Trace) (q : ℕ) → IsSome self.now.scaler → ArePartsOf s self.now c → r ≡ Some q → result.0 ≡ stand_of c q }
+        ensures proxied { (s : SpecValue) (c : Trace) (q : ℕ) → IsSome self.now.scaler → ArePartsOf s self.now c → r ≡ Some q → result.1 ≡ proxied c q }
     {
         match r {
             None => (Stand::Unknown, false),
-            Some(r) => (self.throttle.stand(r), self.throttle.proxied(r)),
+            Some(r) => {
+                if self.scaler.is_none() {
+                    return (Stand::Unknown, false);
+                }
+                (self.throttle.stand(r), self.throttle.proxied(r))
+            }
         }
     }
 

@@ -2,7 +2,7 @@ use Rattle.kn_table.proofs.Search.{ended_is_none, none_is_found}
 use Rattle.kn_table.proofs.slot.place_of.Goals as goal
 
 pub returns-then-slots-place : goal.returns-then-slots-place
-returns-then-slots-place c = ended_is_none c.args.r c.args.slots.now c.in-Some.place _ c.requires.numbers c.in-Some.ensures c.if-slots-place.true
+returns-then-slots-place c = ended_is_none c.args.r c.args.slots.now c.in-Some.place _ c.requires.order.numbers c.in-Some.ensures c.if-slots-place.true
 
 pub returns-in-None : goal.returns-in-None
 returns-in-None c = none_is_found c.args.r c.args.slots.now c.in-None.ensures

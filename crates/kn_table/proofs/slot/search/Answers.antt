@@ -1,12 +1,12 @@
-use Rattle.std.proofs.Common.{rules, sym, subst}
-use Rattle.std.proofs.lemmas.List.Sorted.{answers_always}
-use Rattle.kn_table.specs.declared.slot.Slot.{Slot}
-use Rattle.kn_table.proofs.Search.{Finds, searched}
+use Rattle.std.proofs.Common.{◌≤◌, arith}
+use Rattle.kn_table.proofs.Search.{none_within}
 use Rattle.kn_table.proofs.slot.search.Goals as goal
 
--- the closure gives a slot's number
-pub returns : goal.returns
-returns c =
-    let facts = c.binary_search_by_key.ensures in
-    let by_number = facts.position (λ (s : Slot). s.request.number) (answers_always _ _ _ (λ f a r g called. search rules)) in
-    subst (Finds c.args.r c.args.slots.now) (sym c.ok.ensures.value) (searched c.args.slots.now c.requires.numbers c.args.r c.binary_search_by_key.result facts.bound by_number)
+pub returns-else-slots-one : goal.returns-else-slots-one
+returns-else-slots-one c =
+    let most = c.requires.few in
+    let first : c.sixteenth-part.result.len ≤ 4096 = c.sixteenth-part.ensures.fewer 4096 (omega (arith, most)) in
+    let second : c.sixteenth-part-2.result.len ≤ 256 = c.sixteenth-part-2.ensures.fewer 256 (omega (arith, first)) in
+    let third : c.sixteenth-part-3.result.len ≤ 16 = c.sixteenth-part-3.ensures.fewer 16 (omega (arith, second)) in
+    let one : c.sixteenth-one.result.len ≤ 1 = c.sixteenth-one.ensures.fewer 1 (omega (arith, third)) in
+    none_within c.args.r c.args.slots.now c.sixteenth-one.result.from c.sixteenth-one.result.len _ c.sixteenth-one.ensures.within one c.if-slots-one.false

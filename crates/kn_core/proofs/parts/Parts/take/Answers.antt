@@ -18,8 +18,8 @@ pub hear-requires-clause-next : goal.hear-requires-clause-next
 hear-requires-clause-next c =
     own_next_some c.append_laws.ensures.views c.part_laws.ensures.rows.act-facts c.args.self.now _ c.args.e.now.time c.in-Some.row c.args.e.now.act c.before_end-stand.result.0 c.before_end-stand.result.1
     c.requires.few c.in-Some.ensures.adds c.in-Some.ensures.row
-    (λ s d q h e. c.before_end-stand.ensures.stand s d q h (c.ending.ensures ∙ e))
-    (λ s d q h e. c.before_end-stand.ensures.proxied s d q h (c.ending.ensures ∙ e))
+    (λ s d q some h e. c.before_end-stand.ensures.stand s d q some h (c.ending.ensures ∙ e))
+    (λ s d q some h e. c.before_end-stand.ensures.proxied s d q some h (c.ending.ensures ∙ e))
     c.requires.some
 
 pub returns-in-Some-clause-logged : goal.returns-in-Some-clause-logged
@@ -28,7 +28,7 @@ returns-in-Some-clause-logged c = λ s d h proper.
     let a = c.args.e.now.act in
     let is_act = subst (IsActRow a) (c.in-Some.ensures.row s d h) (c.part_laws.ensures.rows.act-facts s d a) in
     let next = own_next c.args.self.now _ t c.in-Some.row a c.before_end-stand.result.0 c.before_end-stand.result.1 s d is_act c.in-Some.ensures.adds h proper.0
-    (λ q e. c.before_end-stand.ensures.stand s d q h (c.ending.ensures ∙ e)) (λ q e. c.before_end-stand.ensures.proxied s d q h (c.ending.ensures ∙ e)) in
+    (λ some q e. c.before_end-stand.ensures.stand s d q some h (c.ending.ensures ∙ e)) (λ some q e. c.before_end-stand.ensures.proxied s d q some h (c.ending.ensures ∙ e)) in
     c.hear.ensures.logged s d next
     ∙ ap (λ (es : List Entry). es ++ woken (Some c.in-Some.row) t (d ++ entry t c.in-Some.row ∷ [])) c.in-Some.ensures.logged
     ∙ append_assoc c.args.log.now (entry t c.in-Some.row ∷ []) (woken (Some c.in-Some.row) t (d ++ entry t c.in-Some.row ∷ []))
@@ -39,7 +39,7 @@ returns-in-Some-clause-stands c = λ s d h proper.
     let a = c.args.e.now.act in
     let is_act = subst (IsActRow a) (c.in-Some.ensures.row s d h) (c.part_laws.ensures.rows.act-facts s d a) in
     let next = own_next c.args.self.now _ t c.in-Some.row a c.before_end-stand.result.0 c.before_end-stand.result.1 s d is_act c.in-Some.ensures.adds h proper.0
-    (λ q e. c.before_end-stand.ensures.stand s d q h (c.ending.ensures ∙ e)) (λ q e. c.before_end-stand.ensures.proxied s d q h (c.ending.ensures ∙ e)) in
+    (λ some q e. c.before_end-stand.ensures.stand s d q some h (c.ending.ensures ∙ e)) (λ some q e. c.before_end-stand.ensures.proxied s d q some h (c.ending.ensures ∙ e)) in
     parts_took c.row_laws.ensures.made c.row_laws.ensures.stands c.append_laws.ensures.append s d t c.in-Some.row c.args.self.now c.act-row.new.self c.hear.new.self proper.0 c.in-Some.ensures.adds
     c.hear.ensures.throttle c.hear.ensures.pods (λ pods. c.hear.ensures.scaler s d is_act.0 pods next) h
 

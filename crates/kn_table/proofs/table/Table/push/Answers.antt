@@ -10,8 +10,8 @@ invariant_of-self c =
     let stays = c.make_room.ensures.capacity in
     let room = c.self.invariant.room in
     record {
-      kept = kept-push c.self.inside.slots.items c.make_room.new.slots.items c.push_reserved.new.self.items c.deref.result.now c.self.inside.live (record { request = c.args.request; has_ended = false })
-          c.self.inside.cursors c.make_room.new.cursors c.advance.new.self c.self.invariant.kept few c.make_room.ensures.live c.make_room.ensures.next c.make_room.ensures.before refl c.push_reserved.ensures.items
-          c.deref.ensures.value c.advance.ensures;
+      kept = kept-push c.self.inside.slots.items c.make_room.new.slots.items c.push_reserved.new.self.items c.self.inside.live c.len-end.result (record { request = c.args.request; has_ended = false })
+          c.self.inside.cursors c.make_room.new.cursors c.pass.new.self c.self.invariant.kept few c.make_room.ensures.live c.make_room.ensures.next c.make_room.ensures.first refl c.push_reserved.ensures.items
+          (let end = c.len-end.ensures in omega (arith, end)) c.pass.ensures;
       room = omega (arith, size, stays, room);
     }

@@ -5,17 +5,21 @@ use Rattle.kn_table.specs.Slots.{is_placed}
 use Rattle.kn_table.proofs.Requests.{found}
 use Rattle.kn_record.specs.Admission.{is_at, is_held_place, waits, without}
 use Rattle.kn_table.proofs.Firsts.{first-set}
-use Rattle.kn_table.proofs.Writes.{few_live, kept-set, ended_count, ended_leaves, ended_live, read_found, listed_found, stands, still_before}
+use Rattle.kn_table.proofs.Writes.{few_live, kept-set, ended_count, ended_leaves, ended_live, read_found, listed_found, stands, left_at}
 use Rattle.kn_table.proofs.table.Table.remove.Goals as goal
 
 pub unwrap-place-requires : goal.unwrap-place-requires
 unwrap-place-requires c = listed_found c.args.r c.self.inside.slots.items c.deref.result.now c.args.self.now _ c.self.view_is c.deref.ensures.value c.requires c.place_of.ensures
 
-pub advance-requires-clause-held : goal.advance-requires-clause-held
-advance-requires-clause-held c = still_before is_held_place c.self.inside.slots.items _ c.unwrap-place.result _ _ c.self.invariant.kept.held c.deref-2.ensures.value refl
+pub leave-requires-clause-held : goal.leave-requires-clause-held
+leave-requires-clause-held c =
+    let there = stands c.args.r c.self.inside.slots.items c.deref.result.now c.unwrap-place.result c.place_of.result c.deref.ensures.value c.unwrap-place.ensures c.place_of.ensures in
+    left_at is_held_place c.self.inside.slots.items _ c.unwrap-place.result _ _ there.inside c.self.invariant.kept.held c.deref-2.ensures.value refl
 
-pub advance-requires-clause-waiting : goal.advance-requires-clause-waiting
-advance-requires-clause-waiting c = still_before waits c.self.inside.slots.items _ c.unwrap-place.result _ _ c.self.invariant.kept.waiting c.deref-2.ensures.value refl
+pub leave-requires-clause-waiting : goal.leave-requires-clause-waiting
+leave-requires-clause-waiting c =
+    let there = stands c.args.r c.self.inside.slots.items c.deref.result.now c.unwrap-place.result c.place_of.result c.deref.ensures.value c.unwrap-place.ensures c.place_of.ensures in
+    left_at waits c.self.inside.slots.items _ c.unwrap-place.result _ _ there.inside c.self.invariant.kept.waiting c.deref-2.ensures.value refl
 
 pub invariant_of-self : goal.invariant_of-self
 invariant_of-self c =
@@ -30,8 +34,8 @@ invariant_of-self c =
     let most = kept.few in
     let before = kept.at_pod in
     record {
-      kept = kept-set xs c.deref-2.result.now c.self.inside.live (c.self.inside.live - 1) c.unwrap-place.result c.index_mut-slot.result.now y at c.advance.new.self at.pod at.from kept
-          there.inside c.index_mut-slot.ensures.value refl refl c.deref-2.ensures.value c.advance.ensures
+      kept = kept-set xs c.deref-2.result.now c.self.inside.live (c.self.inside.live - 1) c.unwrap-place.result c.index_mut-slot.result.now y at c.leave.new.self at.pod at.from kept
+          there.inside c.index_mut-slot.ensures.value refl refl c.deref-2.ensures.value c.leave.ensures
           (omega (arith, no_nearer, before)) (omega (arith, less, counted)) (omega (arith, most));
       room = c.self.invariant.room;
     }
