@@ -169,6 +169,18 @@ module _ (cells : Cells) (trackers : List Tracker) (rise : IsAscending (map (see
       subst (IsPlaceOf p (map (seen cells) trackers)) same (the_place p (map (seen cells) trackers) n rise stands)
   search_place (Err n) at is inside parted = absurd (cc)
 
+-- the pod of a number is changed
+pub pod_at-changed : (p : ℕ) (by : Pod → Pod) → ((x : Pod) → (by x).number ≡ x.number) → (pods : List Pod) → has_pod p pods ≡ true → pod_at p (with_pod_changed p by pods) ≡ by (pod_at p pods)
+pod_at-changed p by keeps [] there = absurd (let h : false ≡ true = there in cc)
+pod_at-changed p by keeps (x ∷ xs) there = case (nat_eq x.number p) refl there (λ h. pod_at-changed p by keeps xs h)
+  where
+    case : (b : Bool) → nat_eq x.number p ≡ b → (b || has_pod p xs) ≡ true → (has_pod p xs ≡ true → pod_at p (with_pod_changed p by xs) ≡ by (pod_at p xs))
+        → pod_at p (with_pod_changed p by (x ∷ xs)) ≡ by (pod_at p (x ∷ xs))
+    case true e h rest =
+        let named : nat_eq (by x).number p ≡ true = rw (keeps x) e in
+        rw (e, named) refl
+    case false e h rest = rw (e, e) (rest h)
+
 -- the same numbers are there after a change that keeps a pod's number
 number-changed : (x y : Pod) (here : Bool) → y.number ≡ x.number → (cond here y x).number ≡ x.number
 number-changed x y true keeps = keeps

@@ -5,7 +5,7 @@ mod cells;
 mod seats;
 mod tracker;
 
-pub use seats::Seats;
+pub use seats::{Freed, Seats};
 
 #[cfg(test)]
 mod tests;

@@ -1,5 +1,5 @@
 //! The seats at all pods. A pod is found by a binary search over the numbers, which rise.
-ghost use Rattle.std.specs.Prelude.{true, ◌≡◌, ◌+◌, ◌-◌, ◌<◌, ◌≤◌, [], ◌∷◌, ◌++◌, None, drop, length, slice_get, IsTrue, IfOk, OnSome, IfNone, Contains, All, not, if◌then◌else◌};
+ghost use Rattle.std.specs.Prelude.{true, ◌≡◌, ◌+◌, ◌-◌, ◌<◌, ◌≤◌, [], ◌∷◌, ◌++◌, None, drop, length, slice_get, IsTrue, IfOk, OnSome, IfNone, Contains, All, not, nat_lt, ◌&&◌, if◌then◌else◌};
 ghost use Rattle.std.specs.Bool.{OnFalse, OnTrue};
 
 use crate::cells::{Cells, close_up};
@@ -7,6 +7,13 @@ use crate::tracker::Tracker;
 use kn_event::Memory;
 use std::alloc::Global;
 use std::marker::Model;
+
+/// A pod at which one has ended: whether the first that is queued there may run, and whether the pod drains.
+#[derive(Clone, Copy)]
+pub struct Freed {
+    pub next: bool,
+    pub draining: bool,
+}
 
 /// Pods, and the requests that run and are queued at each. Room for pods and requests is taken once.
 ///
@@ -176,15 +183,22 @@ impl Seats {
         let _ = queue.pop(&mut self.cells);
     }
 
-    /// Ends one that is running at a pod.
-    pub fn give_back(&mut self, p: u64)
+    /// Ends one that is running at a pod, and answers what may follow there.
+    pub fn give_back(&mut self, p: u64) -> Freed
         requires there { IsTrue (has_pod p self.old.pods) }
         requires running { 0 < (pod_at p self.old.pods).running }
         ensures changed { self.new ≡ change p (λ pod. record pod { running = pod.running - 1 }) self.old }
         ensures counted { requests_at_all self.new.pods + 1 ≡ requests_at_all self.old.pods }
+        ensures next { result.next ≡ (has_free_seat (pod_at p self.new.pods) && nat_lt 0 (length (pod_at p self.new.pods).queued)) }
+        ensures draining { result.draining ≡ (pod_at p self.new.pods).draining }
     {
         let place = self.place_of(p);
-        self.pods[place].running -= 1;
+        let pod = &mut self.pods[place];
+        pod.running -= 1;
+        Freed {
+            next: pod.has_next(),
+            draining: pod.draining,
+        }
     }
 
     /// A pod's limit; 0 is no limit.

@@ -10,7 +10,8 @@ fn pod_queue_depth(rt: HostRuntime) -> Result<(), Fail> {
     assert!(rt; !seats.reserve_seat(0));
     assert!(rt; seats.queue_at(0, 5));
     assert_eq!(rt; seats.promote(0), None);
-    seats.give_back(0);
+    let freed = seats.give_back(0);
+    assert!(rt; freed.next && !freed.draining);
     assert_eq!(rt; seats.promote(0), Some(5));
     for r in 6..16 {
         assert!(rt; seats.queue_at(0, r), "request {r}");
@@ -42,8 +43,9 @@ fn one_pod_is_changed(rt: HostRuntime) -> Result<(), Fail> {
         (0, 0, 1)
     );
     assert_eq!(rt; seats.promote(7), Some(9));
-    seats.give_back(7);
     seats.drain(7);
+    let freed = seats.give_back(7);
+    assert!(rt; !freed.next && freed.draining);
     seats.remove(7);
     seats.add(8, 0);
     assert_eq!(rt; (seats.running(3), seats.running(8)), (2, 0));

@@ -1,5 +1,5 @@
 //! One pod: who runs there and who is queued.
-ghost use Rattle.std.specs.Prelude.{false, ◌≡◌, ◌+◌, ◌^◌, ◌<◌};
+ghost use Rattle.std.specs.Prelude.{false, ◌≡◌, ◌+◌, ◌^◌, ◌<◌, ◌&&◌, nat_lt, length};
 
 use crate::cells::Queue;
 
@@ -36,6 +36,13 @@ impl Tracker {
         ensures { (cells : Cells) → result ≡ has_free_seat (seen cells self.now) }
     {
         self.limit == 0 || self.running < self.limit
+    }
+
+    /// Whether one is queued that may run.
+    pub fn has_next(&self) -> bool
+        ensures { (cells : Cells) → result ≡ (has_free_seat (seen cells self.now) && nat_lt 0 (length (seen cells self.now).queued)) }
+    {
+        self.has_free_seat() && self.queue.count > 0
     }
 
     /// Whether ten are queued for each that may run. A pod without a limit is never full.

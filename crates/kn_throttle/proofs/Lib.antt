@@ -10,4 +10,5 @@ pub mod Living
 pub mod Coming
 pub mod Dispatching
 pub mod Walking
+pub mod Freed
 pub mod Steps

@@ -1,5 +1,5 @@
 //! Which pods may have something to do.
-ghost use Rattle.std.specs.Prelude.{◌≡◌};
+ghost use Rattle.std.specs.Prelude.{◌≡◌, if◌then◌else◌};
 ghost use Rattle.kn_throttle.specs.Touched.{one_more, one_less};
 
 /// The pods at which something changed since all was done: none, this one, or any.
@@ -20,6 +20,13 @@ impl Touched {
             Touched::At(q) if q == p => Touched::At(q),
             _ => Touched::Anywhere,
         }
+    }
+
+    /// With this pod too, where it may have something to do.
+    pub fn with_if(self, p: u64, busy: bool) -> Touched
+        ensures { result ≡ (if busy then one_more p self else self) }
+    {
+        if busy { self.with(p) } else { self }
     }
 
     /// Once this pod is gone.

@@ -96,10 +96,10 @@ impl Throttle {
             }
             Place::Running(p, assigned) => {
                 release(&mut self.breaker, assigned);
-                self.seats.give_back(p);
+                let freed = self.seats.give_back(p);
                 self.candidates.end(p);
-                self.to_run = self.to_run.with(p);
-                self.to_leave = self.to_leave.with(p);
+                self.to_run = self.to_run.with_if(p, freed.next);
+                self.to_leave = self.to_leave.with_if(p, freed.draining);
             }
         }
     }

@@ -2,7 +2,8 @@ use Rattle.kn_event.specs.declared.entry.Row.TheVariants as row
 use Rattle.kn_record.specs.declared.admission.Place.TheVariants as place
 use Rattle.kn_record.specs.Admission.{stepped}
 use Rattle.kn_throttle.proofs.Parts.{cands_ascend}
-use Rattle.kn_throttle.proofs.Ended.{assigned_runs, home_of, kept_given_back, kept_left, kept_unqueued, leaves_from, left_running, pod_there, queued_there, runs_there}
+use Rattle.kn_throttle.proofs.Ended.{assigned_runs, home_of, kept_left, kept_unqueued, leaves_from, left_running, pod_there, queued_there, runs_there}
+use Rattle.kn_throttle.proofs.Freed.{kept_freed}
 use Rattle.kn_throttle.proofs.throttle.Throttle.end.Goals as goal
 
 pub leave-requires : goal.leave-requires
@@ -34,13 +35,13 @@ invariant_of-self-in-Queued c =
 pub release-requires : goal.release-requires
 release-requires c = assigned_runs _ _ _ _ _ _ _ _ c.args.r c.in-Running.p c.in-Running.assigned c.take_out.new.table c.self.invariant (leaves_from _ _ _ _ _ c.take_out.ensures.leaves c.in-Running.is)
 
-pub give_back-requires-clause-there : goal.give_back-requires-clause-there
-give_back-requires-clause-there c =
+pub give_back-freed-requires-clause-there : goal.give_back-freed-requires-clause-there
+give_back-freed-requires-clause-there c =
     let k = c.self.invariant in
     pod_there _ _ _ _ _ _ _ _ c.in-Running.p k (home_of _ c.args.r c.take_out.result (place.Running c.in-Running.p c.in-Running.assigned) k.sound.order c.take_out.ensures.request c.in-Running.is)
 
-pub give_back-requires-clause-running : goal.give_back-requires-clause-running
-give_back-requires-clause-running c =
+pub give_back-freed-requires-clause-running : goal.give_back-freed-requires-clause-running
+give_back-freed-requires-clause-running c =
     let k = c.self.invariant in
     runs_there _ _ _ _ _ _ _ _ c.args.r c.in-Running.p c.in-Running.assigned c.take_out.new.table k (home_of _ c.args.r c.take_out.result (place.Running c.in-Running.p c.in-Running.assigned) k.sound.order c.take_out.ensures.request c.in-Running.is)
     (leaves_from _ _ _ _ _ c.take_out.ensures.leaves c.in-Running.is)
@@ -54,7 +55,7 @@ pub invariant_of-self-in-Running : goal.invariant_of-self-in-Running
 unfolding stepped
 invariant_of-self-in-Running c =
     let k = c.self.invariant in
-    rw (c.with-self-inside-in-Running.ensures, c.with-self-inside-in-Running-2.ensures, c.end.ensures)
-    (kept_given_back _ _ _ _ _ _ _ _ _ _ c.args.r c.in-Running.p c.in-Running.assigned c.take_out.new.table k (rw c.take_out.ensures.removed (c.order_laws.ensures.step _ 0 (row.Expire c.args.r) k.sound.order tt)) c.take_out.ensures.len
+    rw (c.with_if-self-inside.ensures, c.with_if-self-inside-in-Running.ensures, c.end.ensures)
+    (kept_freed _ _ _ _ _ _ _ _ _ _ c.args.r c.in-Running.p c.in-Running.assigned c.give_back-freed.result.next c.give_back-freed.result.draining c.take_out.new.table k (rw c.take_out.ensures.removed (c.order_laws.ensures.step _ 0 (row.Expire c.args.r) k.sound.order tt)) c.take_out.ensures.len
     (leaves_from _ _ _ _ _ c.take_out.ensures.leaves c.in-Running.is) (home_of _ c.args.r c.take_out.result (place.Running c.in-Running.p c.in-Running.assigned) k.sound.order c.take_out.ensures.request c.in-Running.is)
-    c.release.ensures c.give_back.ensures.changed c.give_back.ensures.counted)
+    c.release.ensures c.give_back-freed.ensures.changed c.give_back-freed.ensures.counted c.give_back-freed.ensures.next c.give_back-freed.ensures.draining)
