@@ -59,16 +59,32 @@ number_here bs from value end stop inside is some few lead =
     }
 
 -- the same of one to seven digits in eight bytes
-pub few_here : (bs : List ℕ) (from value len : ℕ) → from + 8 ≤ length bs → 0 < len → len < 8 → len ≡ digits_len (take 8 (drop from bs))
-    → value ≡ digits_value 10 (take len (take 8 (drop from bs))) → get_or (take 8 (drop from bs)) 0 0 ≢ 48 → IsNumberAt bs from value (from + len)
-few_here bs from value len room some few stop is lead =
+pub few_here : (bs : List ℕ) (from value len end : ℕ) → end ≡ from + len → from + 8 ≤ length bs → 0 < len → len < 8 → len ≡ digits_len (take 8 (drop from bs))
+    → value ≡ digits_value 10 (take len (take 8 (drop from bs))) → get_or (take 8 (drop from bs)) 0 0 ≢ 48 → IsNumberAt bs from value end
+few_here bs from value len end to room some few stop is lead =
     let front : List ℕ = drop from bs in
-    let count : from + len - from ≡ len = omega arith in
+    let count : end - from ≡ len = omega arith in
     let whole : digits_len front ≡ len = digits_len_short front 8 (omega (arith, stop)) ∙ sym stop in
     let first : get_or (take 8 front) 0 0 ≡ get_or bs from 0 = get_or-take 8 front 0 0 (omega arith) ∙ get_or-drop from bs 0 0 ∙ ap (λ (i : ℕ). get_or bs i 0) (add-zero from) in
-    let worth : value ≡ digits_value 10 (slice_range bs from (from + len)) = rw count (is ∙ ap (digits_value 10) (take-take len 8 front (omega arith))) in
+    let worth : value ≡ digits_value 10 (slice_range bs from end) = rw count (is ∙ ap (digits_value 10) (take-take len 8 front (omega arith))) in
     let no_zero : (get_or bs from 0 == 48) ≡ false = grind (arith, common_steps, first, lead) in
-    number_here bs from value (from + len) (omega (arith, whole)) (omega arith) (λ small. worth) (omega arith) (omega arith) (λ l. no_zero)
+    number_here bs from value end (omega (arith, whole)) (omega arith) (λ small. worth) (omega arith) (omega arith) (λ l. no_zero)
+
+-- the first bytes of eight in front spell a number
+pub front_here : (bs : List ℕ) (len n : ℕ) → len < 8 → 8 ≤ length bs → n < 2 ^ 64 → take len (take 8 (drop 0 bs)) ≡ decimal n → IsNumberAt bs 0 n len
+front_here bs len n few room small spelled =
+    record {
+      within = omega arith;
+      text = sym (take-append-drop len bs) ∙ ap (λ (m : List ℕ). m ++ drop len bs) (sym (take-take len 8 bs (omega arith)) ∙ spelled);
+      small = small;
+    }
+
+-- and a number in front is spelled by them
+pub front_spelled : (bs : List ℕ) (len n : ℕ) → len < 8 → 8 ≤ length bs → IsNumberAt bs 0 n len → take len (take 8 (drop 0 bs)) ≡ decimal n
+front_spelled bs len n few room number =
+    let sizes : length bs ≡ length (decimal n) + length (drop len bs) = ap length number.text ∙ length-append (decimal n) (drop len bs) in
+    let long : length (decimal n) ≡ len = omega (arith, sizes, length-drop len bs, room) in
+    take-take len 8 bs (omega arith) ∙ ap (λ (m : List ℕ). take len m) number.text ∙ ap (λ (k : ℕ). take k (decimal n ++ drop len bs)) (sym long) ∙ take-append_seam (decimal n) (drop len bs)
 
 sum_same : (n m : ℕ) → n + (m + 1) ≡ n + m + 1
 sum_same n m = omega arith

@@ -1,7 +1,9 @@
 //! A usual event whose line is ahead with its LF, in one pass.
+ghost use lib.Lanes.{number_l};
+ghost use Rattle.core.specs.Dec2flt.Digits.{IsEightBytes};
 ghost use Rattle.core.specs.Float.Numeral.{digits_len};
 ghost use Rattle.core.specs.Slice.Scan.{little_endian};
-ghost use Rattle.std.specs.Prelude.{◌≡◌, ◌+◌, ◌%◌, ◌≤◌, ◌<◌, ◌^◌, ◌∷◌, ◌++◌, ℕ, length, take, drop, slice_range, IfSome};
+ghost use Rattle.std.specs.Prelude.{◌≡◌, ◌+◌, ◌%◌, ◌≤◌, ◌<◌, ◌^◌, ◌∷◌, ◌++◌, ℕ, length, List, take, drop, slice_range, IfSome};
 ghost use Rattle.std.specs.Fmt.{decimal};
 ghost use Rattle.std.specs.Int.{w32, w64, to_le_bytes};
 ghost use Rattle.std.specs.Str.Parse.{digits_value};
@@ -12,6 +14,7 @@ ghost use Rattle.kn_event.specs.PlainLine.{IsNumberAt, IsActAhead};
 use crate::digits::few_digits;
 use crate::event::{Act, Event};
 use core::dec2flt::read_digits;
+use std::marker::Model;
 
 // ` arrive ` and ` finish `, the first byte in the lowest place.
 const ARRIVE: u64 = 0x2065_7669_7272_6120;
@@ -58,7 +61,24 @@ fn digits_at(line: &[u8], from: usize) -> (usize, u64)
     read_digits(line, from, 0)
 }
 
-/// A number of at most 19 digits, and where it ends. Most have one to seven.
+/// A number of at most 19 digits, and where it ends.
+#[inline(always)]
+fn long_number_at(line: &[u8], from: usize) -> Option<(u64, usize)>
+    requires { from ≤ length line.now }
+    ensures { IfSome result (λ p. IsNumberAt line.now from p.0 p.1) }
+{
+    let (end, value) = digits_at(line, from);
+    let len = end - from;
+    if len == 0 || len > 19 {
+        return None;
+    }
+    if len > 1 && line[from] == b'0' {
+        return None;
+    }
+    Some((value, end))
+}
+
+/// The same. Most have one to seven digits.
 #[inline(always)]
 fn number_at(line: &[u8], from: usize) -> Option<(u64, usize)>
     requires { from ≤ length line.now }
@@ -69,15 +89,7 @@ fn number_at(line: &[u8], from: usize) -> Option<(u64, usize)>
             return Some((value, from + len));
         }
     }
-    let (end, value) = digits_at(line, from);
-    let len = end - from;
-    if len == 0 || len > 19 {
-        return None;
-    }
-    if len > 1 && line[from] == b'0' {
-        return None;
-    }
-    Some((value, end))
+    long_number_at(line, from)
 }
 
 /// An outcome, and where the LF behind it stands.
@@ -170,15 +182,98 @@ fn act_ahead(text: &[u8]) -> Option<(Act, usize)>
     other_ahead(text)
 }
 
+/// A time of one to seven digits and its bytes, which the next line mostly begins with again.
+#[derive(Drop)]
+pub struct LastTime {
+    time: u64,
+    len: usize,
+    // A word that begins with those bytes, and no other, gives `word` when it is multiplied by `scale`.
+    scale: u64,
+    word: u64,
+}
+
+impl Model for LastTime {
+    ghost use Rattle.core.specs.Dec2flt.Digits.{IsEightBytes};
+    ghost use Rattle.std.specs.Prelude.{⊤, ◌≡◌, ◌*◌, ◌%◌, ◌^◌, ◌<◌, ℕ, List, take};
+    ghost use Rattle.std.specs.Fmt.{decimal};
+    ghost use lib.Lanes.{number_l};
+
+    ghost Value = { ⊤ };
+
+    ghost view = { λ r. tt };
+
+    ghost invariant = { λ r. record {
+      few : r.len < 8;
+      small : r.time < 2 ^ 64;
+      spelled : (xs : List ℕ) → IsEightBytes xs → number_l 256 xs * r.scale % 2 ^ 64 ≡ r.word → take r.len xs ≡ decimal r.time;
+    } };
+}
+
+impl LastTime {
+    /// No time as yet: no word times 0 is 1.
+    pub fn new() -> LastTime {
+        LastTime {
+            time: 0,
+            len: 0,
+            scale: 0,
+            word: 1,
+        }
+    }
+
+    /// The time that these first bytes of a word spell.
+    #[inline(always)]
+    fn keep(&mut self, time: u64, len: usize, word: u64)
+        requires some { 0 < len }
+        requires few { len < 8 }
+        requires spelled { (ys : List ℕ) × IsEightBytes ys × (word ≡ number_l 256 ys) × (take len ys ≡ decimal time) }
+    {
+        let scale = 1u64 << (64 - 8 * len as u32);
+        *self = LastTime {
+            time,
+            len,
+            scale,
+            word: word.wrapping_mul(scale),
+        };
+    }
+
+    /// The number at the front, and where it ends.
+    #[inline(always)]
+    fn front(&mut self, line: &[u8]) -> Option<(u64, usize)>
+        ensures { IfSome result (λ p. IsNumberAt line.now 0 p.0 p.1) }
+    {
+        if line.len() >= 8 {
+            let word = word_at(line, 0);
+            if word.wrapping_mul(self.scale) == self.word {
+                return Some((self.time, self.len));
+            }
+            if let Some((len, value)) = few_digits(word) {
+                self.keep(value, len, word);
+                return Some((value, len));
+            }
+        }
+        long_number_at(line, 0)
+    }
+
+    /// The event of the line at the front of these bytes, and how long that line is, where its LF is there, its word is a usual one
+    /// and its numbers have at most 19 digits. None says nothing. Its time is kept.
+    #[inline(always)]
+    pub fn event_ahead(&mut self, bytes: &[u8]) -> Option<(Event, usize)>
+        ensures inside { IfSome result (λ p. p.1 < length bytes.now) }
+        ensures line { IfSome result (λ p. bytes.now ≡ take p.1 bytes.now ++ 10 ∷ drop (p.1 + 1) bytes.now) }
+        ensures spells { IfSome result (λ p. (version : ℕ) → Spells version (take p.1 bytes.now) p.0) }
+    {
+        let (time, at) = self.front(bytes)?;
+        let (act, len) = act_ahead(&bytes[at..])?;
+        Some((Event { time, act }, at + len))
+    }
+}
+
 /// The event of the line at the front of these bytes, and how long that line is, where its LF is there, its word is a usual one and
 /// its numbers have at most 19 digits. None says nothing.
-#[inline(always)]
 pub fn event_ahead(bytes: &[u8]) -> Option<(Event, usize)>
     ensures inside { IfSome result (λ p. p.1 < length bytes.now) }
     ensures line { IfSome result (λ p. bytes.now ≡ take p.1 bytes.now ++ 10 ∷ drop (p.1 + 1) bytes.now) }
     ensures spells { IfSome result (λ p. (version : ℕ) → Spells version (take p.1 bytes.now) p.0) }
 {
-    let (time, at) = number_at(bytes, 0)?;
-    let (act, len) = act_ahead(&bytes[at..])?;
-    Some((Event { time, act }, at + len))
+    LastTime::new().event_ahead(bytes)
 }

@@ -13,7 +13,7 @@ use crate::first::{FirstLine, judge_first};
 use crate::input::Input;
 use crate::lines::{NoLine, read_line};
 use kn_event::{
-    Event, LineError, Memory, event_ahead, first_end, last_number, read_event, spellings_are_read,
+    Event, LastTime, LineError, Memory, first_end, last_number, read_event, spellings_are_read,
 };
 use kn_io::Source;
 use memchr::memchr;
@@ -81,6 +81,7 @@ pub struct Lines {
     input: Input,
     line: Vec<u8>,
     number: u64,
+    time: LastTime,
 }
 
 impl Model for Lines {
@@ -108,6 +109,7 @@ impl Lines {
                 input: Input::new(),
                 line,
                 number: 0,
+                time: LastTime::new(),
             }),
             Err(_) => Err(Memory),
         }
@@ -248,20 +250,21 @@ impl Lines {
     /// The next event, at this time or later, and the length of its line, where the line is a usual one and ahead with its LF.
     /// None says nothing.
     #[inline(always)]
-    fn event_ahead(&self, version: u64, last: u64) -> Option<(Event, usize)>
-        ensures line { IfSome result (λ p. (later : List ℕ) → lines (self.now.input.ahead ++ later) ≡ take p.1 self.now.input.ahead ∷ lines (drop (p.1 + 1) self.now.input.ahead ++ later)) }
-        ensures event { IfSome result (λ p. in_time (self.now.number + 1) last (event_of version (take p.1 self.now.input.ahead)) ≡ Ok p.0) }
-        ensures inside { IfSome result (λ p. p.1 < length self.now.input.ahead) }
+    fn event_ahead(&mut self, version: u64, last: u64) -> Option<(Event, usize)>
+        ensures line { IfSome result (λ p. (later : List ℕ) → lines (self.old.input.ahead ++ later) ≡ take p.1 self.old.input.ahead ∷ lines (drop (p.1 + 1) self.old.input.ahead ++ later)) }
+        ensures event { IfSome result (λ p. in_time (self.old.number + 1) last (event_of version (take p.1 self.old.input.ahead)) ≡ Ok p.0) }
+        ensures inside { IfSome result (λ p. p.1 < length self.old.input.ahead) }
         ensures fits { IfSome result (λ p. p.1 ≤ line_most) }
-        ensures few { IfSome result (λ p. self.now.input.taken + p.1 < most_taken) }
+        ensures few { IfSome result (λ p. self.old.input.taken + p.1 < most_taken) }
         ensures bytes { IfSome result (λ p. 6 ≤ p.1) }
         ensures order { IfSome result (λ p. last ≤ p.0.time) }
         ensures times { IfSome result (λ p. p.0.time ≤ time_most) }
         ensures range { IfSome result (λ p. IsInJournalRange p.0.act) }
         ensures version { IfSome result (λ p. IsInVersion version p.0.act) }
+        ensures same { self.new ≡ self.old }
     {
         spellings_are_read();
-        let (e, len) = event_ahead(self.input.ahead())?;
+        let (e, len) = self.time.event_ahead(self.input.ahead())?;
         if e.time < last || e.time > TIME_MOST || self.input.may_take() <= len as u64 {
             return None;
         }

@@ -2,7 +2,7 @@
 use Rattle.std.proofs.Common.{arith}
 use Rattle.std.proofs.lemmas.Grind.{common_steps}
 use Rattle.kn_event.proofs.Spots.{event_here}
-use Rattle.kn_event.proofs.ahead.event_ahead.Goals as goal
+use Rattle.kn_event.proofs.ahead.LastTime.event_ahead.Goals as goal
 
 pub returns-clause-spells : goal.returns-clause-spells
 returns-clause-spells c =
