@@ -1,5 +1,5 @@
 -- The rows of a decision.
-use Rattle.std.proofs.Common.{◌≡◌, ℕ, ◌≤◌, Bool, true, false, List, [], ◌∷◌, ◌++◌, refl, sym, ap, ◌∙◌, subst, append_assoc, Option, None, Some}
+use Rattle.std.proofs.Common.{◌≡◌, ℕ, ◌≤◌, Bool, true, false, List, [], ◌∷◌, ◌++◌, refl, sym, ap, ◌∙◌, subst, append_assoc, Option, None, Some, inl, inr}
 use Rattle.std.specs.Prelude.{not, option_map}
 use Rattle.std.specs.Bool.{then_some}
 use Rattle.kn_event.specs.Revision.{AreInRange}
@@ -21,12 +21,12 @@ use Rattle.kn_trace.specs.Trace.{Trace, entry, first_of}
 use Rattle.kn_record.specs.Admission.{Admission, stepped}
 use Rattle.kn_record.specs.Made.{Holds, IsMade, IsProper, StandsFor}
 use Rattle.kn_record.specs.Walks.{stepped_by}
-use Rattle.kn_laws.specs.Kinds.{Each}
+use Rattle.kn_laws.specs.Kinds.{Each, IsActRow}
 use Rattle.kn_pods.specs.Pods.{PodsState, StandsFor as ArePodsOf, after_row}
 use Rattle.kn_throttle.specs.State as throttle
 use Rattle.kn_scaler.specs.Rows.{ruled_by, ruling_rows, tick_rulings}
 use Rattle.kn_scaler.specs.declared.scaler.Ruled.{Ruled}
-use Rattle.kn_core.specs.Steps.{is_admitted}
+use Rattle.kn_core.specs.Steps.{is_admitted, is_own_of}
 use Rattle.kn_core.specs.Ruled.{mode_said, phase_said, said_rows}
 use Rattle.kn_core.specs.State.{ArePartsOf, IsFixed, IsScalerOf, PartsState}
 use Rattle.kn_core.proofs.Scaled.{holds_front}
@@ -218,8 +218,38 @@ refused_none (kind.Fixed n) s t c own h = refl
 refused_none kind.Kpa s t c (Some (row.Admit r g)) h = absurd (cc)
 refused_none kind.Kpa s t c _ h = refl
 
-pub other_none : (k : Kind) (s : Spec) (t : ℕ) (c : Trace) (a : Act) (own : Option Row) → (a ≡ act.Tick → ⊥) → ((tag : ℕ) → a ≡ act.Arrive tag → ⊥) → scaler_rows k s t c a own ≡ []
-other_none (kind.Fixed n) s t c a own ticks arrives = refl
-other_none kind.Kpa s t c act.Tick own ticks arrives = absurd (ticks refl)
-other_none kind.Kpa s t c (act.Arrive tag) own ticks arrives = absurd (arrives tag refl)
-other_none kind.Kpa s t c _ own ticks arrives = refl
+pub no_tick : (k : Kind) (s : Spec) (t : ℕ) (c : Trace) (a : Act) → (a ≡ act.Tick → ⊥) → scaler_rows k s t c a None ≡ []
+no_tick (kind.Fixed n) s t c a other = refl
+no_tick kind.Kpa s t c act.Tick other = absurd (other refl)
+no_tick kind.Kpa s t c _ other = refl
+
+-- an act with a row of its own adds what an arrival with that row does
+own_rows : (k : Kind) (s : Spec) (t : ℕ) (c : Trace) (a : Act) (x : Row) → is_own_of a (Some x) ≡ true → scaler_rows k s t c a (Some x) ≡ scaler_rows k s t c (act.Arrive 0) (Some x)
+own_rows (kind.Fixed n) s t c a x h = refl
+own_rows kind.Kpa s t c act.Tick x h = absurd (cc)
+own_rows kind.Kpa s t c (act.Arrive tag) x h = wake_any kind.Kpa s t c tag (Some x)
+own_rows kind.Kpa s t c _ (row.Admit r tag) h = absurd (cc)
+own_rows kind.Kpa s t c _ _ h = refl
+
+pub own_adds : (k : Kind) (s : Spec) (t : ℕ) (c : Trace) (a : Act) (own : Option Row) (x : Row) → own ≡ Some x → is_own_of a own ≡ true → scaler_rows k s t c a own ≡ scaler_rows k s t c (act.Arrive 0) own
+own_adds k s t c a own x is fits =
+    ap (λ o. scaler_rows k s t c a o) is ∙ own_rows k s t c a x (subst (λ o. is_own_of a o ≡ true) is fits) ∙ ap (λ o. scaler_rows k s t c (act.Arrive 0) o) (sym is)
+
+-- the row of an act is so
+pub own_fits : (a : Act) (own : Option Row) → IsActRow a own → is_own_of a own ≡ true
+own_fits act.Tick None h = refl
+own_fits _ None h = refl
+own_fits a (Some (row.Admit r tag)) h = rw h.1 refl
+own_fits a (Some (row.QueueFull r pod)) h = rw h.1.1 refl
+own_fits a (Some (row.Overload r)) h = rw h.1.1 refl
+own_fits a (Some (row.Direct r p)) h = rw h.1.1 refl
+own_fits a (Some (row.Finish r ok)) h = rw h.1 refl
+own_fits a (Some (row.NotRunning r)) h = rw h.1.1 refl
+own_fits a (Some (row.Cancel r)) h = rw h.1 refl
+own_fits a (Some (row.NotWaiting r)) h = rw h.1 refl
+own_fits a (Some (row.Ready p)) h = rw h.1 refl
+own_fits a (Some (row.NotStarting p)) h = rw h.1 refl
+own_fits a (Some (row.Limit p n)) h = rw h.1 refl
+own_fits a (Some (row.LostPod p)) h = rw h.1 refl
+own_fits a (Some (row.NoPod p)) h = elim h.1 [ inl e ↦ rw e refl | inr f ↦ elim f [ inl g ↦ rw g.1 refl | inr g ↦ rw g refl ] ]
+own_fits a (Some x) h = absurd (let g = h.0 in cc)

@@ -73,6 +73,13 @@ abbrev pub is_admitted : Option Row → Bool
 is_admitted (Some (row.Admit r tag)) = true
 is_admitted _ = false
 
+-- an act's own row, as far as the autoscaler tells acts apart by it: a tick has none, and only an arrival is admitted
+abbrev pub is_own_of : Act → Option Row → Bool
+is_own_of act.Tick (Some x) = false
+is_own_of (act.Arrive tag) own = true
+is_own_of a (Some (row.Admit r tag)) = false
+is_own_of a own = true
+
 -- the parts stand for some trace that is settled, as before each event
 abbrev pub ArePartsOfSettled : PartsState → Type 0
 ArePartsOfSettled x = ∥ ((c : Trace) × ArePartsOf x.throttle.spec x c × IsSettled x.throttle.spec c) ∥₁

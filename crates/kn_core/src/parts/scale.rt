@@ -1,5 +1,5 @@
 //! What the autoscaler adds to an act.
-ghost use Rattle.std.specs.Prelude.{◌≡◌, None, Some, ◌+◌, ◌≤◌, ◌^◌, ◌++◌, length};
+ghost use Rattle.std.specs.Prelude.{◌≡◌, None, Some, true, ◌+◌, ◌≤◌, ◌^◌, ◌++◌, length};
 ghost use Rattle.kn_event.specs.Revision.{AreInRange};
 ghost use Rattle.kn_event.specs.declared.revision.Spec.{Spec as SpecValue};
 ghost use Rattle.kn_trace.specs.Scale.{scale_rows, where_true};
@@ -10,7 +10,7 @@ ghost use Rattle.kn_trace.specs.Trace.{Trace, first_of};
 ghost use Rattle.kn_record.specs.Made.{Holds, IsProper};
 ghost use Rattle.kn_core.specs.Ruled.{said_rows};
 ghost use Rattle.kn_core.specs.State.{ArePartsOf, IsMeasuredAt};
-ghost use Rattle.kn_core.specs.Steps.{AddsNobody, IsReadyFor, is_admitted};
+ghost use Rattle.kn_core.specs.Steps.{AddsNobody, IsReadyFor, is_admitted, is_own_of};
 
 use super::Parts;
 use crate::scaling;
@@ -23,6 +23,7 @@ use kn_sizes::sizes::size_laws;
 
 impl Parts {
     /// The decision of a tick, or of an arrival that wakes the revision, with all that follows from it. Answers the first row.
+    /// The act's own row is looked at first: it's at hand, and tells most acts apart.
     #[inline(always)]
     pub(super) fn decide(
         &mut self,
@@ -33,6 +34,7 @@ impl Parts {
         log: &mut EntryLog,
     ) -> Option<Row>
         requires some { IsReadyFor (λ s c. scaler_rows s.kind s time c act own) self.old }
+        requires own { is_own_of act own ≡ true }
         requires ranges { AreInRange self.old.throttle.spec }
         requires limit { limit ≡ self.old.throttle.spec.cc }
         requires draining { length self.old.pods.draining ≤ 20000 }
@@ -47,12 +49,35 @@ impl Parts {
         ensures most { length log.new ≤ length log.old + 503 }
         ensures row { own ≡ None → (s : SpecValue) (c : Trace) → ArePartsOf s self.old c → result ≡ row_of (first_of (scaler_rows s.kind s time c act own)) }
     {
-        match act {
-            Act::Tick => self.tick(limit, time, log),
-            Act::Arrive(_) => {
+        match own {
+            None => self.tick_by(act, limit, time, log),
+            Some(_) => {
                 self.wake_by(own, limit, time, log);
                 None
             }
+        }
+    }
+
+    /// The decision of an act without a row of its own, if that is a tick. Answers the first row.
+    #[inline(always)]
+    fn tick_by(&mut self, act: Act, limit: u64, time: u64, log: &mut EntryLog) -> Option<Row>
+        requires some { IsReadyFor (λ s c. scaler_rows s.kind s time c act None) self.old }
+        requires ranges { AreInRange self.old.throttle.spec }
+        requires limit { limit ≡ self.old.throttle.spec.cc }
+        requires draining { length self.old.pods.draining ≤ 20000 }
+        requires created { self.old.pods.created + 500 ≤ 2 ^ 63 }
+        requires measured { IsMeasuredAt time self.old.scaler }
+        requires room { length log.old ≤ 65033 }
+        ensures logged { (s : SpecValue) (c : Trace) → ArePartsOf s self.old c → Holds (IsProper s) c (scaler_rows s.kind s time c act None) → log.new ≡ log.old ++ scaler_rows s.kind s time c act None }
+        ensures stands { (s : SpecValue) (c : Trace) → ArePartsOf s self.old c → Holds (IsProper s) c (scaler_rows s.kind s time c act None) → ArePartsOf s self.new (c ++ scaler_rows s.kind s time c act None) }
+        ensures nobody { AddsNobody time self.old.throttle self.new.throttle }
+        ensures created { self.new.pods.created ≤ self.old.pods.created + 500 }
+        ensures measured { IsMeasuredAt time self.new.scaler }
+        ensures most { length log.new ≤ length log.old + 503 }
+        ensures row { (s : SpecValue) (c : Trace) → ArePartsOf s self.old c → result ≡ row_of (first_of (scaler_rows s.kind s time c act None)) }
+    {
+        match act {
+            Act::Tick => self.tick(limit, time, log),
             _ => None,
         }
     }

@@ -10,10 +10,13 @@ use Rattle.kn_trace.specs.Settling.{settling}
 use Rattle.kn_record.specs.Made.{Holds, IsProper}
 use Rattle.kn_record.specs.Order.{AreTimed}
 use Rattle.kn_record.specs.Walks.{gone_after}
+use Rattle.kn_laws.specs.Kinds.{IsActRow}
 use Rattle.kn_throttle.specs.State as throttle
 use Rattle.kn_core.specs.State.{ArePartsOf}
 use Rattle.kn_core.proofs.After.{ready_more}
 use Rattle.kn_core.proofs.Events.{log_before, ruled_after, told_same, woken_after}
+use Rattle.kn_core.proofs.Live.{bool_prop}
+use Rattle.kn_core.proofs.Ruling.{own_fits}
 use Rattle.kn_core.proofs.Reacting.{few_settled, own_ready, pods_same, settled_mid, some_of_settled, went}
 use Rattle.kn_core.proofs.parts.Parts.react.Goals as goal
 
@@ -76,6 +79,17 @@ decide-decided-requires-clause-some c =
       subst (λ (z : Spec). ArePartsOf z c.take-own.new.self (woken_after s d e c.take-own.result)) (sym w.stands.spec) w.stands,
       subst (λ (z : Spec). Holds (IsProper z) (woken_after s d e c.take-own.result) (scaler_rows z.kind z e.time (woken_after s d e c.take-own.result) e.act c.take-own.result)) (sym w.stands.spec) w.rows.ruled,
     ))
+
+pub decide-decided-requires-clause-own : goal.decide-decided-requires-clause-own
+decide-decided-requires-clause-own c =
+    ∥∥₁_elim c.requires.some (bool_prop _ _)
+    (λ some.
+    let s = c.args.self.now.throttle.spec in
+    let d = some.0 in
+    let e = c.args.e.now in
+    let gone = gone_after s d e in
+    let h = c.advance.ensures.stands s d some.1 in
+    own_fits e.act c.take-own.result (subst (IsActRow e.act) (c.take-own.ensures.row s gone (c.depart.ensures.stands s d h)) (c.part_laws.ensures.rows.act-facts s gone e.act)))
 
 pub decide-decided-requires-clause-draining : goal.decide-decided-requires-clause-draining
 decide-decided-requires-clause-draining c =
