@@ -1,5 +1,5 @@
 -- The first bytes of a word, told by a multiplication that moves them up to its end.
-use Rattle.core.specs.Prelude.{◌≡◌, ℕ, zero, suc, ◌+◌, ◌-◌, ◌*◌, ◌/◌, ◌%◌, ◌^◌, ◌<◌, List, [], ◌∷◌, length, take}
+use Rattle.core.specs.Prelude.{◌≡◌, ℕ, zero, suc, ◌+◌, ◌-◌, ◌*◌, ◌/◌, ◌%◌, ◌^◌, ◌<◌, ◌≤◌, List, [], ◌∷◌, length, take}
 use mathlib.Core.Path.{refl, sym, ap, ◌∙◌}
 use native.Mathlib.Nat.{mul-div_cancel, mul-mod_left, add-zero, pow-suc, zero-mod}
 use native.Mathlib.Omega.{arith}
@@ -7,6 +7,7 @@ use lib.Arith.{digits_div, digits_mod, mod-mul}
 use lib.Dec.{eqb, eqb→eq}
 use lib.Lanes.{number_l}
 use lib.Pow.{pow-add}
+use lib.Seq.{take-take}
 use Rattle.std.specs.Fmt.{decimal}
 use Rattle.core.specs.Int.Digits.{AllBelowBase}
 use Rattle.core.specs.Dec2flt.Digits.{IsEightBytes}
@@ -14,9 +15,8 @@ use Rattle.core.proofs.dec2flt.DigitsLemmas.{every_below}
 use Rattle.core.proofs.dec2flt.LimbsLemmas.{power_pos}
 
 -- the shift is a multiplication by a power of 256
-scale_is : (n : ℕ) → 0 < n → n < 8 → 1 * 2 ^ (64 - 8 * n) % 2 ^ 64 ≡ 256 ^ (8 - n)
-scale_is zero some few = absurd (omega arith)
-scale_is (suc n) some few = eqb→eq _ _ (every_below (λ k. eqb (1 * 2 ^ (64 - 8 * suc k) % 2 ^ 64) (256 ^ (8 - suc k))) 7 tt n (omega arith))
+scale_is : (n : ℕ) → n < 8 → 1 * 2 ^ (56 - 8 * n) % 2 ^ 64 ≡ 256 ^ (8 - (n + 1))
+scale_is n few = eqb→eq _ _ (every_below (λ k. eqb (1 * 2 ^ (56 - 8 * k) % 2 ^ 64) (256 ^ (8 - (k + 1)))) 8 tt n few)
 
 front : (xs : List ℕ) (n : ℕ) → AllBelowBase 256 xs → number_l 256 xs % 256 ^ n ≡ number_l 256 (take n xs)
 front xs zero h = omega arith
@@ -43,7 +43,7 @@ same_bytes (suc n) (x ∷ xs) (y ∷ ys) hx hy l e =
     λ i. first i ∷ rest i
 
 -- words that agree once their first n bytes are moved up have the same first n bytes
-same_front : (xs ys : List ℕ) (n : ℕ) → IsEightBytes xs → IsEightBytes ys → n < 8 → number_l 256 xs * 256 ^ (8 - n) % 2 ^ 64 ≡ number_l 256 ys * 256 ^ (8 - n) % 2 ^ 64 → take n xs ≡ take n ys
+same_front : (xs ys : List ℕ) (n : ℕ) → IsEightBytes xs → IsEightBytes ys → n ≤ 8 → number_l 256 xs * 256 ^ (8 - n) % 2 ^ 64 ≡ number_l 256 ys * 256 ^ (8 - n) % 2 ^ 64 → take n xs ≡ take n ys
 same_front xs ys n hx hy few e =
     let byte : 0 < 256 = omega arith in
     let low = power_pos 256 n byte in
@@ -53,11 +53,12 @@ same_front xs ys n hx hy few e =
     λ zs hz. rw (← all, moved (number_l 256 zs) (256 ^ n) (256 ^ (8 - n)) low high, front zs n hz.1) refl in
     same_bytes n xs ys hx.1 hy.1 (hx.0 ∙ sym hy.0) (cancel _ _ (256 ^ (8 - n)) high (sym (each xs hx) ∙ e ∙ each ys hy))
 
--- what is kept of the bytes that spell a time tells them again
-pub told : (time len word : ℕ) → 0 < len → len < 8 → (kept : (ys : List ℕ) × IsEightBytes ys × (word ≡ number_l 256 ys) × (take len ys ≡ decimal time))
-    → (xs : List ℕ) → IsEightBytes xs → number_l 256 xs * (1 * 2 ^ (64 - 8 * len) % 2 ^ 64) % 2 ^ 64 ≡ word * (1 * 2 ^ (64 - 8 * len) % 2 ^ 64) % 2 ^ 64 → take len xs ≡ decimal time
-told time len word some few kept xs eight e =
-    let scale = scale_is len some few in
-    let same : number_l 256 xs * 256 ^ (8 - len) % 2 ^ 64 ≡ number_l 256 kept.0 * 256 ^ (8 - len) % 2 ^ 64 =
-    ap (λ k. number_l 256 xs * k % 2 ^ 64) (sym scale) ∙ e ∙ ap (λ k. word * k % 2 ^ 64) scale ∙ ap (λ w. w * 256 ^ (8 - len) % 2 ^ 64) kept.2 in
-    same_front xs kept.0 len eight kept.1 few same ∙ kept.3
+-- what is kept of the bytes that spell a time, and of the byte behind them, tells them again
+pub told : (time len word : ℕ) → len < 8 → (kept : (ys : List ℕ) × IsEightBytes ys × (word ≡ number_l 256 ys) × (take len ys ≡ decimal time))
+    → (xs : List ℕ) → IsEightBytes xs → number_l 256 xs * (1 * 2 ^ (56 - 8 * len) % 2 ^ 64) % 2 ^ 64 ≡ word * (1 * 2 ^ (56 - 8 * len) % 2 ^ 64) % 2 ^ 64 → take len xs ≡ decimal time
+told time len word few kept xs eight e =
+    let scale = scale_is len few in
+    let same : number_l 256 xs * 256 ^ (8 - (len + 1)) % 2 ^ 64 ≡ number_l 256 kept.0 * 256 ^ (8 - (len + 1)) % 2 ^ 64 =
+    ap (λ k. number_l 256 xs * k % 2 ^ 64) (sym scale) ∙ e ∙ ap (λ k. word * k % 2 ^ 64) scale ∙ ap (λ w. w * 256 ^ (8 - (len + 1)) % 2 ^ 64) kept.2 in
+    let more : take (len + 1) xs ≡ take (len + 1) kept.0 = same_front xs kept.0 (len + 1) eight kept.1 (omega arith) same in
+    sym (take-take len (len + 1) xs (omega arith)) ∙ ap (take len) more ∙ take-take len (len + 1) kept.0 (omega arith) ∙ kept.3

@@ -187,7 +187,8 @@ fn act_ahead(text: &[u8]) -> Option<(Act, usize)>
 pub struct LastTime {
     time: u64,
     len: usize,
-    // A word that begins with those bytes, and no other, gives `word` when it is multiplied by `scale`.
+    // A word times `scale` is `word` only where it begins with those bytes and the byte that stood behind them: else 1 would be
+    // taken for the time of a line of 10.
     scale: u64,
     word: u64,
 }
@@ -223,11 +224,10 @@ impl LastTime {
     /// The time that these first bytes of a word spell.
     #[inline(always)]
     fn keep(&mut self, time: u64, len: usize, word: u64)
-        requires some { 0 < len }
         requires few { len < 8 }
         requires spelled { (ys : List ℕ) × IsEightBytes ys × (word ≡ number_l 256 ys) × (take len ys ≡ decimal time) }
     {
-        let scale = 1u64 << (64 - 8 * len as u32);
+        let scale = 1u64 << (56 - 8 * len as u32);
         *self = LastTime {
             time,
             len,
