@@ -41,6 +41,7 @@ word-other word line number h = (bad_setup number setup_error.BadWord, refl, λ 
 pub record IsBegun (first : ℕ) (text : List ℕ) (n : ℕ) (xs ys : List ℕ) : Type 0 where
   pub own : List (List ℕ)
   pub split : lines xs ≡ own ++ lines ys
+  pub count : first + length own ≡ n
   pub same : (later : List (List ℕ)) → block_part [] first (own ++ later) ≡ block_part text n later
 
 abbrev pub IsBlock : ℕ → List ℕ → ℕ → Option (List ℕ) → Option (List ℕ) → Type 0
@@ -50,7 +51,7 @@ IsBlock first text n (Some xs) (Some ys) = IsBegun first text n xs ys
 
 pub block-begin : (n : ℕ) (old : Option (List ℕ)) → IsBlock n [] n old old
 block-begin n None = tt
-block-begin n (Some xs) = record { own = []; split = refl; same = λ later. refl }
+block-begin n (Some xs) = record { own = []; split = refl; count = omega arith; same = λ later. refl }
 
 so_far : (first : ℕ) (text : List ℕ) (n : ℕ) (xs ys : List ℕ) → IsBegun first text n xs ys → block_part [] first (lines xs) ≡ block_part text n (lines ys)
 so_far first text n xs ys h = ap (block_part [] first) h.split ∙ h.same (lines ys)
@@ -105,6 +106,7 @@ block-more first text after n m (Some xs) (Some ys) (Some zs) line h k fit e oth
     record {
       own = h.own ++ line ∷ [];
       split = h.split ∙ ap (λ (x : List (List ℕ)). h.own ++ x) k ∙ sym (append_assoc h.own (line ∷ []) (lines zs));
+      count = omega (arith, h.count, e, length-append h.own (line ∷ []));
       same = λ later. ap (block_part [] first) (append_assoc h.own (line ∷ []) later) ∙ h.same (line ∷ later) ∙ rw (fit, other, room) (rw (same, e) refl);
     }
 

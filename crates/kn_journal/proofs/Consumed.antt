@@ -1,5 +1,5 @@
 -- The lines that a part of a journal takes.
-use Rattle.std.proofs.Common.{◌≡◌, ◌+◌, ℕ, Bool, true, false, List, [], ◌∷◌, ◌++◌, append_assoc, append-nil, refl, sym, ap, ◌∙◌, subst}
+use Rattle.std.proofs.Common.{◌≡◌, ◌+◌, ℕ, Bool, true, false, List, [], ◌∷◌, ◌++◌, length, length-append, append_assoc, append-nil, refl, sym, ap, ◌∙◌, subst, arith}
 use Rattle.std.specs.Prelude.{Result, Ok, Err, codes, if◌then◌else◌, ⊤}
 use Rattle.std.specs.Str.{bytes_eq}
 use Rattle.std.proofs.lemmas.Slice.Eq.{bytes_eq-Decides}
@@ -57,6 +57,7 @@ same_bytes word text h = (bytes_eq-Decides word text).0 h
 
 -- a part that is one line
 pub record IsOneLine {T : Type 0} (next : ℕ → List ℕ → List (List ℕ) → Result (Part T) Cause) (number : ℕ) (line : List ℕ) (p : Part T) (left : List (List ℕ)) : Type 0 where
+  pub count : number ≡ p.number
   pub all : p.left ≡ left
   pub any : (later : List (List ℕ)) → next number line later ≡ Ok (part p.value p.number later)
 
@@ -103,25 +104,27 @@ word-one word number line left p h = by_test (bytes_eq line word) refl h
         let parts = part-left tt number left p (Ok made) g refl in (
           same_bytes line word e,
           record {
+            count = parts.2;
             all = sym parts.0;
             any = λ later. rw e (ap (λ (m : ℕ). Ok (part tt m later)) parts.2);
           },
         )
     by_test false e g = cc
 
-pub word-takes : (word : List ℕ) (n : ℕ) (lines : List (List ℕ)) (p : Part ⊤) → word_part word n lines ≡ Ok p → Takes (word_part word n) lines p (word ∷ [])
+pub word-takes : (word : List ℕ) (n : ℕ) (lines : List (List ℕ)) (p : Part ⊤) → word_part word n lines ≡ Ok p → (n + 1 ≡ p.number) × Takes (word_part word n) lines p (word ∷ [])
 unfolding word_part
 word-takes word n lines p h =
     let has = with_line-ok n lines (word_in word) p h in
     let one = word-one word (n + 1) has.line has.more p has.rest in
     let P : List ℕ → Type 0 = λ x. Takes (λ ls. with_line n ls (word_in word)) lines p (x ∷ []) in
-    subst P one.0 (line-takes n lines (word_in word) p has one.1)
+    (one.1.count, subst P one.0 (line-takes n lines (word_in word) p has one.1))
 
 -- ---- a block
 
 pub record TakesBlock (text : List ℕ) (n : ℕ) (lines : List (List ℕ)) (p : Part (List ℕ)) : Type 0 where
   pub own : List (List ℕ)
   pub takes : Takes (block_part text n) lines p (own ++ codes "." ∷ [])
+  pub count : n + length own + 1 ≡ p.number
   pub value : p.value ≡ text ++ text_of own
 
 pub block-takes : (text : List ℕ) (n : ℕ) (lines : List (List ℕ)) (p : Part (List ℕ)) → block_part text n lines ≡ Ok p → TakesBlock text n lines p
@@ -144,6 +147,7 @@ block-takes text n (line ∷ more) p h = by_tests (fits line) (bytes_eq line (co
             split = ap (λ (x : List ℕ). x ∷ more) is ∙ ap (λ (x : List (List ℕ)). codes "." ∷ x) parts.0;
             alone = λ after. ok_part-same text p.value (n + 1) p.number after parts.1 parts.2;
           };
+          count = omega (arith, parts.2);
           value = sym parts.1 ∙ sym (append-nil text);
         }
     by_tests true false false e g k later h = cc
@@ -155,14 +159,16 @@ block-takes text n (line ∷ more) p h = by_tests (fits line) (bytes_eq line (co
             split = ap (λ (x : List (List ℕ)). line ∷ x) rest.takes.split;
             alone = λ after. rw (e, g, k) (rest.takes.alone after);
           };
+          count = omega (arith, rest.count);
           value = rest.value ∙ append_assoc text (line ++ 10 ∷ []) (text_of rest.own) ∙ ap (λ (x : List ℕ). text ++ x) (append_assoc line (10 ∷ []) (text_of rest.own));
         }
 
 -- ---- a setup
 
-record TakesSetup (read : List (List ℕ) → Result (Part Setup) Cause) (before : List ℕ) (lines : List (List ℕ)) (p : Part Setup) : Type 0 where
+record TakesSetup (n : ℕ) (read : List (List ℕ) → Result (Part Setup) Cause) (before : List ℕ) (lines : List (List ℕ)) (p : Part Setup) : Type 0 where
   own : List (List ℕ)
   takes : Takes read lines p own
+  count : n + length own ≡ p.number
   text : p.value.text ≡ before ++ text_of own
 
 text_of-append : (xs ys : List (List ℕ)) → text_of (xs ++ ys) ≡ text_of xs ++ text_of ys
@@ -170,11 +176,11 @@ text_of-append [] ys = refl
 text_of-append (x ∷ xs) ys = ap (λ (y : List ℕ). x ++ 10 ∷ y) (text_of-append xs ys) ∙ sym (append_assoc x (10 ∷ text_of xs) (text_of ys))
 
 spec_in-ok : (number : ℕ) (left : List (List ℕ)) (text : List ℕ) (r : Result Spec SpecError) (p : Part Setup) → spec_in number left text r ≡ Ok p
-    → (p.value.text ≡ text) × (left ≡ p.left) × ((later : List (List ℕ)) → spec_in number later text r ≡ Ok (part p.value p.number later))
+    → (p.value.text ≡ text) × (left ≡ p.left) × (number ≡ p.number) × ((later : List (List ℕ)) → spec_in number later text r ≡ Ok (part p.value p.number later))
 spec_in-ok number left text (Err why) p h = cc
 spec_in-ok number left text (Ok spec) p h =
     let parts = part-left (setup_of spec text) number left p (Ok (part (setup_of spec text) number left)) h refl in
-    (ap (λ (x : Setup). x.text) (sym parts.1), parts.0, λ later. ok_part-same (setup_of spec text) p.value number p.number later parts.1 parts.2)
+    (ap (λ (x : Setup). x.text) (sym parts.1), parts.0, parts.2, λ later. ok_part-same (setup_of spec text) p.value number p.number later parts.1 parts.2)
 
 config_in-ok : (number : ℕ) (r : Result Config ConfigError) (next : Config → Result (Part Setup) Cause) (p : Part Setup) → config_in number r next ≡ Ok p
     → (config : Config) × (r ≡ Ok config) × (next config ≡ Ok p)
@@ -190,8 +196,13 @@ block_text : (word : List ℕ) (own : List (List ℕ)) → text_of (word ∷ (ow
 block_text word own =
     ap (λ (x : List ℕ). word ++ 10 ∷ x) (text_of-append own (codes "." ∷ [])) ∙ sym (append_assoc word (10 ∷ []) (text_of own ++ codes ".\n"))
 
+-- how many lines a word, a block with its point, and what follows them are
+block_count : (n m k j : ℕ) (word : List ℕ) (own more : List (List ℕ)) → n + 1 ≡ m → m + length own + 1 ≡ k → k + length more ≡ j
+    → n + length ((word ∷ []) ++ ((own ++ codes "." ∷ []) ++ more)) ≡ j
+block_count n m k j word own more a b d = omega (arith, length-append (own ++ codes "." ∷ []) more, length-append own (codes "." ∷ []))
+
 revision-takes : (line block : List ℕ) (slots : Slots) (config : Config) (n : ℕ) (lines : List (List ℕ)) (p : Part Setup) → revision_part line block slots config n lines ≡ Ok p
-    → TakesSetup (revision_part line block slots config n) (line ++ (codes "config\n" ++ (block ++ codes ".\n"))) lines p
+    → TakesSetup n (revision_part line block slots config n) (line ++ (codes "config\n" ++ (block ++ codes ".\n"))) lines p
 unfolding revision_part
 revision-takes line block slots config n lines p h =
     let first = then_part-ok (word_part (codes "revision") n lines) _ p h in
@@ -205,17 +216,18 @@ revision-takes line block slots config n lines p h =
     let body = block-takes [] w.number w.left b second.1 in
     record {
       own = (codes "revision" ∷ []) ++ ((body.own ++ codes "." ∷ []) ++ []);
+      count = block_count n w.number b.number p.number (codes "revision") body.own [] word.0 body.count (omega (arith, last.2));
       takes = then-takes (word_part (codes "revision") n) (λ _ n lines. then_part (block_part [] n lines) (λ revision n left. spec_in n left (blocks_text line block revision) (spec_of config revision slots)))
-          lines w p (codes "revision" ∷ []) ((body.own ++ codes "." ∷ []) ++ []) word
+          lines w p (codes "revision" ∷ []) ((body.own ++ codes "." ∷ []) ++ []) word.1
           (then-takes (block_part [] w.number) (λ revision n left. spec_in n left (blocks_text line block revision) (spec_of config revision slots))
-          w.left b p (body.own ++ codes "." ∷ []) [] body.takes (record { split = last.1; alone = last.2 }));
+          w.left b p (body.own ++ codes "." ∷ []) [] body.takes (record { split = last.1; alone = last.3 }));
       text = last.0 ∙ ap (λ (x : List ℕ). blocks_text line block x) body.value
           ∙ ap (λ (x : List ℕ). (line ++ (codes "config\n" ++ (block ++ codes ".\n"))) ++ x)
           (sym (block_text (codes "revision") body.own) ∙ ap (λ (x : List (List ℕ)). text_of (codes "revision" ∷ x)) (sym (append-nil (body.own ++ codes "." ∷ []))));
     }
 
 blocks-takes : (line : List ℕ) (slots : Slots) (n : ℕ) (lines : List (List ℕ)) (p : Part Setup) → blocks_part line slots n lines ≡ Ok p
-    → TakesSetup (blocks_part line slots n) line lines p
+    → TakesSetup n (blocks_part line slots n) line lines p
 unfolding blocks_part
 blocks-takes line slots n lines p h =
     let first = then_part-ok (word_part (codes "config") n lines) _ p h in
@@ -230,8 +242,9 @@ blocks-takes line slots n lines p h =
     record { split = rest.takes.split; alone = λ later. config_in-same b.number (config_of b.value) judged.0 (λ config. revision_part line b.value slots config b.number (rest.own ++ later)) (part p.value p.number later) judged.1 (rest.takes.alone later) } in
     record {
       own = (codes "config" ∷ []) ++ ((body.own ++ codes "." ∷ []) ++ rest.own);
+      count = block_count n w.number b.number p.number (codes "config") body.own rest.own word.0 body.count rest.count;
       takes = then-takes (word_part (codes "config") n) (λ _ n lines. then_part (block_part [] n lines) (λ block n lines. config_in n (config_of block) (λ config. revision_part line block slots config n lines)))
-          lines w p (codes "config" ∷ []) ((body.own ++ codes "." ∷ []) ++ rest.own) word
+          lines w p (codes "config" ∷ []) ((body.own ++ codes "." ∷ []) ++ rest.own) word.1
           (then-takes (block_part [] w.number) (λ block n lines. config_in n (config_of block) (λ config. revision_part line block slots config n lines))
           w.left b p (body.own ++ codes "." ∷ []) rest.own body.takes after);
       text = rest.text ∙ ap (λ (x : List ℕ). (line ++ (codes "config\n" ++ (x ++ codes ".\n"))) ++ text_of rest.own) body.value
@@ -240,14 +253,15 @@ blocks-takes line slots n lines p h =
           ∙ ap (λ (x : List ℕ). line ++ x) (sym (text_of-append (codes "config" ∷ (body.own ++ codes "." ∷ [])) rest.own));
     }
 
-pub record TakesLines (read : List (List ℕ) → Result (Part Setup) Cause) (lines : List (List ℕ)) (p : Part Setup) : Type 0 where
+pub record TakesLines (n : ℕ) (read : List (List ℕ) → Result (Part Setup) Cause) (lines : List (List ℕ)) (p : Part Setup) : Type 0 where
   pub line : List ℕ
   pub more : List (List ℕ)
   pub takes : Takes read lines p (line ∷ more)
+  pub count : n + length (line ∷ more) ≡ p.number
   pub text : p.value.text ≡ text_of (line ∷ more)
 
 behind-takes : (n : ℕ) (line : List ℕ) (left : List (List ℕ)) (p : Part Setup) (r : Result SetupLine SetupError) → setup_line line ≡ r → fits line ≡ true
-    → behind_line (line ++ 10 ∷ []) r (n + 1) left ≡ Ok p → TakesLines (setup_part n) (line ∷ left) p
+    → behind_line (line ++ 10 ∷ []) r (n + 1) left ≡ Ok p → TakesLines n (setup_part n) (line ∷ left) p
 unfolding setup_part
 behind-takes n line left p (Err why) e fit h = cc
 behind-takes n line left p (Ok (Fixed limit pods timeout slots)) e fit h =
@@ -256,6 +270,7 @@ behind-takes n line left p (Ok (Fixed limit pods timeout slots)) e fit h =
     record {
       line = line;
       more = [];
+      count = omega (arith, parts.2);
       takes = record {
         split = ap (λ (x : List (List ℕ)). line ∷ x) parts.0;
         alone = λ later. with_line-fits n line later setup_in fit ∙ rw e (ok_part-same made p.value (n + 1) p.number later parts.1 parts.2);
@@ -267,6 +282,7 @@ behind-takes n line left p (Ok (Kpa slots)) e fit h =
     record {
       line = line;
       more = rest.own;
+      count = omega (arith, rest.count);
       takes = record {
         split = ap (λ (x : List (List ℕ)). line ∷ x) rest.takes.split;
         alone = λ later. with_line-fits n line (rest.own ++ later) setup_in fit ∙ rw e (rest.takes.alone later);
@@ -275,9 +291,9 @@ behind-takes n line left p (Ok (Kpa slots)) e fit h =
     }
 
 -- a setup takes one line or more, and its text is these lines
-pub setup-takes : (n : ℕ) (lines : List (List ℕ)) (p : Part Setup) → setup_part n lines ≡ Ok p → TakesLines (setup_part n) lines p
+pub setup-takes : (n : ℕ) (lines : List (List ℕ)) (p : Part Setup) → setup_part n lines ≡ Ok p → TakesLines n (setup_part n) lines p
 unfolding setup_part
 setup-takes n lines p h =
     let has = with_line-ok n lines setup_in p h in
-    let P : List (List ℕ) → Type 0 = λ x. TakesLines (setup_part n) x p in
+    let P : List (List ℕ) → Type 0 = λ x. TakesLines n (setup_part n) x p in
     subst P (sym has.split) (behind-takes n has.line has.more p (setup_line has.line) refl has.fit has.rest)

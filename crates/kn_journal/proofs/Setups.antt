@@ -1,5 +1,5 @@
 -- A setup, part by part.
-use Rattle.std.proofs.Common.{◌≡◌, ◌+◌, ℕ, true, List, [], ◌∷◌, ◌++◌, refl, sym, ap, subst}
+use Rattle.std.proofs.Common.{◌≡◌, ◌+◌, ℕ, true, List, [], ◌∷◌, ◌++◌, length-append, refl, sym, ap, subst, arith}
 use Rattle.std.specs.Prelude.{Option, None, Some, Result, Ok, Err, codes}
 use Rattle.kn_event.specs.declared.revision.Slots.{Slots}
 use Rattle.kn_event.specs.declared.revision.Spec.{Spec}
@@ -93,11 +93,13 @@ judge_revision line block slots config text n left = spec_in n left (blocks_text
 abbrev pub revision_block : List ℕ → List ℕ → Slots → Config → Unit {0} → ℕ → List (List ℕ) → Result (Part Setup) Cause
 revision_block line block slots config u n ls = then_part (block_part [] n ls) (judge_revision line block slots config)
 
-pub word-own : (word : List ℕ) (n : ℕ) → HasOwn (word_part word n)
-word-own word n = λ ls p h. (word ∷ [], word-takes word n ls p h)
+pub word-own : (word : List ℕ) (n : ℕ) → HasOwn n (word_part word n)
+word-own word n = λ ls p h. let w = word-takes word n ls p h in (word ∷ [], omega (arith, w.0), w.1)
 
-pub block-own : (n : ℕ) → HasOwn (block_part [] n)
-block-own n = λ ls p h. let b = block-takes [] n ls p h in (b.own ++ codes "." ∷ [], b.takes)
+pub block-own : (n : ℕ) → HasOwn n (block_part [] n)
+block-own n = λ ls p h.
+    let b = block-takes [] n ls p h in
+    (b.own ++ codes "." ∷ [], omega (arith, b.count, length-append b.own (codes "." ∷ [])), b.takes)
 
 pub revision-tells : (line block : List ℕ) (slots : Slots) (config : Config) (n m k : ℕ) (old mid new : Option (List ℕ)) (u : Unit {0}) (text : List ℕ) (r : Result Setup JournalError)
     → Gives (word_part (codes "revision") n) u m old mid → Gives (block_part [] m) text k mid new
@@ -130,7 +132,7 @@ pub revision-block_stops : (line block : List ℕ) (slots : Slots) (config : Con
     → Gives (word_part (codes "revision") n) u m old mid → StopsAmid (block_part [] m) mid new → StopsAmid (revision_part line block slots config n) old new
 unfolding revision_part
 revision-block_stops line block slots config n m old mid new u w h =
-    second-stops (word_part (codes "revision") n) (revision_block line block slots config) u m old mid new (word-own (codes "revision") n) w
+    second-stops (word_part (codes "revision") n) (revision_block line block slots config) u n m old mid new (word-own (codes "revision") n) w
     (first-stops (block_part [] m) (judge_revision line block slots config) mid new h)
 
 -- ---- the configuration, and then the Revision
@@ -177,7 +179,7 @@ pub blocks-block_stops : (line : List ℕ) (slots : Slots) (n m : ℕ) (old mid 
     → Gives (word_part (codes "config") n) u m old mid → StopsAmid (block_part [] m) mid new → StopsAmid (blocks_part line slots n) old new
 unfolding blocks_part
 blocks-block_stops line slots n m old mid new u w h =
-    second-stops (word_part (codes "config") n) (config_block line slots) u m old mid new (word-own (codes "config") n) w
+    second-stops (word_part (codes "config") n) (config_block line slots) u n m old mid new (word-own (codes "config") n) w
     (first-stops (block_part [] m) (judge_config line slots) mid new h)
 
 pub blocks-revision_stops : (line : List ℕ) (slots : Slots) (n m k : ℕ) (old mid after new : Option (List ℕ)) (u : Unit {0}) (block : List ℕ) (config : Config)
@@ -185,8 +187,8 @@ pub blocks-revision_stops : (line : List ℕ) (slots : Slots) (n m k : ℕ) (old
     → StopsAmid (revision_part line block slots config k) after new → StopsAmid (blocks_part line slots n) old new
 unfolding blocks_part
 blocks-revision_stops line slots n m k old mid after new u block config w b c h =
-    second-stops (word_part (codes "config") n) (config_block line slots) u m old mid new (word-own (codes "config") n) w
-    (second-stops (block_part [] m) (judge_config line slots) block k mid after new (block-own m) b
+    second-stops (word_part (codes "config") n) (config_block line slots) u n m old mid new (word-own (codes "config") n) w
+    (second-stops (block_part [] m) (judge_config line slots) block m k mid after new (block-own m) b
     (config-stops k config (config_of block) (λ ls config. revision_part line block slots config k ls) after new c h))
 
 -- ---- a setup
@@ -229,13 +231,14 @@ first-one known number line left p h = by_version (known line) refl h
     by_version (Some version) e g =
         let made : Part ℕ = part version number left in
         let parts = part-left version number left p (Ok made) g refl in
-        record { all = sym parts.0; any = λ later. rw e (ok_part-same version p.value number p.number later parts.1 parts.2) }
+        record { count = parts.2; all = sym parts.0; any = λ later. rw e (ok_part-same version p.value number p.number later parts.1 parts.2) }
 
-pub first-own : (known : List ℕ → Option ℕ) (n : ℕ) → HasOwn (first_part known n)
+pub first-own : (known : List ℕ → Option ℕ) (n : ℕ) → HasOwn n (first_part known n)
 unfolding first_part
 first-own known n = λ ls p h.
     let has = with_line-ok n ls (first_in known) p h in
-    (has.line ∷ [], line-takes n ls (first_in known) p has (first-one known (n + 1) has.line has.more p has.rest))
+    let one = first-one known (n + 1) has.line has.more p has.rest in
+    (has.line ∷ [], omega (arith, one.count), line-takes n ls (first_in known) p has one)
 
 pub first-none : (known : List ℕ → Option ℕ) (n : ℕ) (old new : Option (List ℕ)) → TakesPart old new → StopsAmid (first_part known n) old new
 unfolding first_part
@@ -277,4 +280,4 @@ pub opening-setup_stops : (known : List ℕ → Option ℕ) (n m version : ℕ) 
     → StopsAmid (opening_part known n) old new
 unfolding opening_part
 opening-setup_stops known n m version old mid new f h =
-    second-stops (first_part known n) setup_behind version m old mid new (first-own known n) f (first-stops (setup_part m) (opened version) mid new h)
+    second-stops (first_part known n) setup_behind version n m old mid new (first-own known n) f (first-stops (setup_part m) (opened version) mid new h)

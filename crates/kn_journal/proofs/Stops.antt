@@ -1,5 +1,5 @@
 -- A part that stopped at a fault.
-use Rattle.std.proofs.Common.{◌≡◌, ◌+◌, ℕ, true, List, [], ◌∷◌, ◌++◌, append_assoc, refl, sym, ap, ◌∙◌}
+use Rattle.std.proofs.Common.{◌≡◌, ◌+◌, ℕ, true, List, [], ◌∷◌, ◌++◌, length, append_assoc, refl, sym, ap, ◌∙◌}
 use Rattle.std.specs.Prelude.{Option, None, Some, Result, Ok, Err, codes}
 use Rattle.std.specs.Str.{bytes_eq}
 use Rattle.kn_journal.specs.Causes.{Cause, no_end}
@@ -31,20 +31,20 @@ first-stops first second None new h = tt
 first-stops first second (Some xs) None h = absurd h
 first-stops first second (Some xs) (Some ys) (own, bytes, split, none, rest) = (own, bytes, split, rw none refl, rest)
 
--- each part that is read takes lines of its own
-abbrev pub HasOwn : {T : Type 0} → (List (List ℕ) → Result (Part T) Cause) → Type 0
-HasOwn {T} read = (ls : List (List ℕ)) (p : Part T) → read ls ≡ Ok p → (own : List (List ℕ)) × Takes read ls p own
+-- each part that is read after line n takes lines of its own, up to the line whose number it has
+abbrev pub HasOwn : {T : Type 0} → ℕ → (List (List ℕ) → Result (Part T) Cause) → Type 0
+HasOwn {T} n read = (ls : List (List ℕ)) (p : Part T) → read ls ≡ Ok p → (own : List (List ℕ)) × (n + length own ≡ p.number) × Takes read ls p own
 
 -- the first one was read, and the second one stopped
-pub second-stops : {S T : Type 0} (first : List (List ℕ) → Result (Part S) Cause) (second : S → ℕ → List (List ℕ) → Result (Part T) Cause) (x : S) (m : ℕ) (old mid new : Option (List ℕ))
-    → HasOwn first → Gives first x m old mid → StopsAmid (second x m) mid new → StopsAmid (λ ls. then_part (first ls) second) old new
-second-stops first second x m None mid new takes g h = tt
-second-stops first second x m (Some xs) None new takes g h = absurd g
-second-stops first second x m (Some xs) (Some ys) None takes g h = absurd h
-second-stops first second x m (Some xs) (Some ys) (Some zs) takes g (more, bytes, split, none, rest) =
+pub second-stops : {S T : Type 0} (first : List (List ℕ) → Result (Part S) Cause) (second : S → ℕ → List (List ℕ) → Result (Part T) Cause) (x : S) (n m : ℕ) (old mid new : Option (List ℕ))
+    → HasOwn n first → Gives first x m old mid → StopsAmid (second x m) mid new → StopsAmid (λ ls. then_part (first ls) second) old new
+second-stops first second x n m None mid new takes g h = tt
+second-stops first second x n m (Some xs) None new takes g h = absurd g
+second-stops first second x n m (Some xs) (Some ys) None takes g h = absurd h
+second-stops first second x n m (Some xs) (Some ys) (Some zs) takes g (more, bytes, split, none, rest) =
     let all = takes (lines xs) (part x m (lines ys)) g in
     let own = all.0 in
-    let taken = all.1 in (
+    let taken = all.2 in (
       own ++ more,
       bytes,
       taken.split ∙ ap (λ (y : List (List ℕ)). own ++ y) split ∙ sym (append_assoc own more (lines bytes)),

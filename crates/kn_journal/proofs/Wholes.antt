@@ -1,5 +1,5 @@
 -- What stands before the events is read by itself.
-use Rattle.std.proofs.Common.{◌≡◌, ◌+◌, ℕ, Bool, true, false, List, [], ◌∷◌, ◌++◌, refl, sym, ap, ◌∙◌}
+use Rattle.std.proofs.Common.{◌≡◌, ◌+◌, ℕ, Bool, true, false, List, [], ◌∷◌, ◌++◌, length, length-append, refl, sym, ap, ◌∙◌, arith}
 use Rattle.std.specs.Prelude.{Result, Ok, Err, nat_le, if◌then◌else◌}
 use Rattle.kn_event.specs.declared.fault.LineError.{LineError}
 use Rattle.kn_journal.specs.declared.journal.Opening.{Opening}
@@ -11,21 +11,24 @@ use Rattle.kn_journal.specs.Setup.{setup_part}
 use Rattle.kn_journal.proofs.Consumed.{IsOneLine, Takes, line-takes, ok_part-same, part-left, setup-takes, then-takes, then_part-ok, with_line-ok}
 use Rattle.kn_journal.proofs.Setups.{first-own, opened, setup_behind}
 
-takes-whole : {T : Type 0} (read : List (List ℕ) → Result (Part T) Cause) (ls : List (List ℕ)) (x : T) (n : ℕ) (left own : List (List ℕ)) → Takes read ls (part x n left) own → IsWhole read ls x n left
-takes-whole read ls x n left own h = record { own = own; split = h.split; alone = h.alone }
+takes-whole : {T : Type 0} (m : ℕ) (read : List (List ℕ) → Result (Part T) Cause) (ls : List (List ℕ)) (x : T) (n : ℕ) (left own : List (List ℕ)) → m + length own ≡ n → Takes read ls (part x n left) own
+    → IsWhole m read ls x n left
+takes-whole m read ls x n left own k h = record { own = own; split = h.split; count = k; alone = h.alone }
 
 -- the setup, and the version with it
 behind-takes : (version n : ℕ) (ls : List (List ℕ)) (s : Part Setup) (q : Part Opening) (own : List (List ℕ)) → Takes (setup_part n) ls s own → opened version s.value s.number s.left ≡ Ok q
-    → Takes (setup_behind version n) ls q own
+    → (s.number ≡ q.number) × Takes (setup_behind version n) ls q own
 behind-takes version n ls s q own h g =
     let made : Opening = record { version = version; setup = s.value } in
-    let parts = part-left made s.number s.left q (Ok q) refl (sym g) in
-    record {
-      split = h.split ∙ ap (λ (x : List (List ℕ)). own ++ x) parts.0;
-      alone = λ later. rw (h.alone later) (ok_part-same made q.value s.number q.number later parts.1 parts.2);
-    }
+    let parts = part-left made s.number s.left q (Ok q) refl (sym g) in (
+      parts.2,
+      record {
+        split = h.split ∙ ap (λ (x : List (List ℕ)). own ++ x) parts.0;
+        alone = λ later. rw (h.alone later) (ok_part-same made q.value s.number q.number later parts.1 parts.2);
+      },
+    )
 
-opening-takes : (ls : List (List ℕ)) (q : Part Opening) → opening_part version_of 0 ls ≡ Ok q → (own : List (List ℕ)) × Takes (opening_part version_of 0) ls q own
+opening-takes : (ls : List (List ℕ)) (q : Part Opening) → opening_part version_of 0 ls ≡ Ok q → (own : List (List ℕ)) × (0 + length own ≡ q.number) × Takes (opening_part version_of 0) ls q own
 unfolding opening_part
 opening-takes ls q h =
     let first = then_part-ok (first_part version_of 0 ls) setup_behind q h in
@@ -35,12 +38,16 @@ opening-takes ls q h =
     let s = second.0 in
     let two = setup-takes p.number p.left s second.1 in
     let own = two.line ∷ two.more in
-    (one.0 ++ own, then-takes (first_part version_of 0) setup_behind ls p q one.0 own one.1 (behind-takes p.value p.number p.left s q own two.takes second.2))
+    let behind = behind-takes p.value p.number p.left s q own two.takes second.2 in (
+      one.0 ++ own,
+      omega (arith, one.1, two.count, behind.0, length-append one.0 own),
+      then-takes (first_part version_of 0) setup_behind ls p q one.0 own one.2 behind.1,
+    )
 
-pub opening-whole : (ls left : List (List ℕ)) (o : Opening) (n : ℕ) → opening_part version_of 0 ls ≡ Ok (part o n left) → IsWhole (opening_part version_of 0) ls o n left
+pub opening-whole : (ls left : List (List ℕ)) (o : Opening) (n : ℕ) → opening_part version_of 0 ls ≡ Ok (part o n left) → IsWhole 0 (opening_part version_of 0) ls o n left
 opening-whole ls left o n h =
     let taken = opening-takes ls (part o n left) h in
-    takes-whole (opening_part version_of 0) ls o n left taken.0 taken.1
+    takes-whole 0 (opening_part version_of 0) ls o n left taken.0 taken.1 taken.2
 
 -- ---- the start
 
@@ -55,11 +62,12 @@ start-one number line left p h = by_time (start_of line) refl h
         by_test true f k =
             let made : Part ℕ = part time number left in
             let parts = part-left time number left p (Ok made) k refl in
-            record { all = sym parts.0; any = λ later. rw (e, f) (ok_part-same time p.value number p.number later parts.1 parts.2) }
+            record { count = parts.2; all = sym parts.0; any = λ later. rw (e, f) (ok_part-same time p.value number p.number later parts.1 parts.2) }
         by_test false f k = cc
 
-pub start-whole : (m : ℕ) (ls left : List (List ℕ)) (time n : ℕ) → start_part m ls ≡ Ok (part time n left) → IsWhole (start_part m) ls time n left
+pub start-whole : (m : ℕ) (ls left : List (List ℕ)) (time n : ℕ) → start_part m ls ≡ Ok (part time n left) → IsWhole m (start_part m) ls time n left
 unfolding start_part
 start-whole m ls left time n h =
     let has = with_line-ok m ls start_line_in (part time n left) h in
-    takes-whole (start_part m) ls time n left (has.line ∷ []) (line-takes m ls start_line_in (part time n left) has (start-one (m + 1) has.line has.more (part time n left) has.rest))
+    let one = start-one (m + 1) has.line has.more (part time n left) has.rest in
+    takes-whole m (start_part m) ls time n left (has.line ∷ []) (omega (arith, one.count)) (line-takes m ls start_line_in (part time n left) has one)

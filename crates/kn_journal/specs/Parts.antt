@@ -1,5 +1,5 @@
 -- Parts of a journal, read from its lines one after the other.
-use Rattle.std.specs.Prelude.{◌≡◌, ℕ, ◌+◌, ◌++◌, List, [], ◌∷◌, Result, Ok, Err, if◌then◌else◌}
+use Rattle.std.specs.Prelude.{◌≡◌, ℕ, ◌+◌, ◌++◌, List, [], ◌∷◌, length, Result, Ok, Err, if◌then◌else◌}
 use Rattle.kn_journal.specs.Lines.{fits}
 use Rattle.kn_journal.specs.Causes.{Cause, line_too_long, no_end}
 
@@ -22,8 +22,10 @@ abbrev pub then_part : {S T : Type 0} → Result (Part S) Cause → (S → ℕ �
 then_part (Ok p) next = next p.value p.number p.left
 then_part (Err cause) next = Err cause
 
--- these lines give this, up to line n, and leave those; the lines before them give it by themselves, whatever follows
-pub record IsWhole {T : Type 0} (read : List (List ℕ) → Result (Part T) Cause) (ls : List (List ℕ)) (x : T) (n : ℕ) (left : List (List ℕ)) : Type 0 where
+-- these lines, which stand after line m, give this, up to line n, and leave those; the lines before them give it by themselves,
+-- whatever follows
+pub record IsWhole {T : Type 0} (m : ℕ) (read : List (List ℕ) → Result (Part T) Cause) (ls : List (List ℕ)) (x : T) (n : ℕ) (left : List (List ℕ)) : Type 0 where
   pub own : List (List ℕ)
   pub split : ls ≡ own ++ left
+  pub count : m + length own ≡ n
   pub alone : (later : List (List ℕ)) → read (own ++ later) ≡ Ok (part x n later)

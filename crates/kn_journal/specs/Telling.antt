@@ -1,5 +1,5 @@
 -- What a call of the reader tells of its input. Of an input that isn't known nothing is said.
-use Rattle.std.specs.Prelude.{◌≡◌, ℕ, ◌+◌, ◌++◌, false, List, [], ◌∷◌, Option, None, Some, Result, Ok, Err, codes, ⊤}
+use Rattle.std.specs.Prelude.{◌≡◌, ℕ, ◌+◌, ◌++◌, false, List, [], ◌∷◌, length, Option, None, Some, Result, Ok, Err, codes, ⊤}
 use Rattle.kn_event.specs.declared.event.Event.{Event}
 use Rattle.kn_journal.specs.declared.error.JournalError.{JournalError}
 use Rattle.kn_journal.specs.declared.error.JournalError.TheVariants as error
@@ -88,11 +88,25 @@ IsEventFault (error.TimeBack n before own) = ⊤
 IsEventFault (error.TimeTooLarge n) = ⊤
 IsEventFault _ = ⊥
 
--- the lines that were taken are refused so by themselves, and all that came after them is unread
-abbrev pub LeavesRest : {T : Type 0} → (List (List ℕ) → Result (Part T) Cause) → JournalError → Option (List ℕ) → Option (List ℕ) → Type 0
-LeavesRest read e None new = ⊤
-LeavesRest read e (Some xs) None = ⊥
-LeavesRest read e (Some xs) (Some ys) = (own : List (List ℕ)) × (lines xs ≡ own ++ lines ys) × IsCauseOf e (read own)
+-- the line that an error names, if it names one; a bad first line is this one
+abbrev pub refused_line : Option ℕ → JournalError → Option ℕ
+refused_line first error.ReadFault = None
+refused_line first (error.LineTooLong n) = Some n
+refused_line first error.BadFirstLine = first
+refused_line first (error.BadSetup n why) = Some n
+refused_line first (error.BadLine n why) = Some n
+refused_line first (error.TimeBack n before own) = Some n
+refused_line first (error.TimeTooLarge n) = Some n
+refused_line first error.NoEnd = None
+refused_line first (error.AfterEnd n) = Some n
+refused_line first error.Memory = None
+
+-- after line n some lines were taken, of which the refused one is the last. They are refused so by themselves, and all that came
+-- after them is unread
+abbrev pub LeavesRest : {T : Type 0} → (List (List ℕ) → Result (Part T) Cause) → ℕ → Option ℕ → JournalError → Option (List ℕ) → Option (List ℕ) → Type 0
+LeavesRest read n first e None new = ⊤
+LeavesRest read n first e (Some xs) None = ⊥
+LeavesRest read n first e (Some xs) (Some ys) = (own : List (List ℕ)) × (lines xs ≡ own ++ lines ys) × (refused_line first e ≡ Some (n + length own)) × IsCauseOf e (read own)
 
 -- a line by itself, with its number
 abbrev pub Judges : {T : Type 0} → (ℕ → List ℕ → List (List ℕ) → Result (Part T) Cause) → ℕ → List ℕ → Result T JournalError → Type 0

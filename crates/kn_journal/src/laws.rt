@@ -18,6 +18,6 @@ pub fn journals_are_read()
 
 /// What stands before the events is read from lines of its own, whatever follows them.
 pub fn openings_are_whole()
-    ensures opening { (ls left : List (List ℕ)) (o : Opening) (n : ℕ) → opening_part version_of 0 ls ≡ Ok (part o n left) → IsWhole (opening_part version_of 0) ls o n left }
-    ensures start { (m : ℕ) (ls left : List (List ℕ)) (time n : ℕ) → start_part m ls ≡ Ok (part time n left) → IsWhole (start_part m) ls time n left }
+    ensures opening { (ls left : List (List ℕ)) (o : Opening) (n : ℕ) → opening_part version_of 0 ls ≡ Ok (part o n left) → IsWhole 0 (opening_part version_of 0) ls o n left }
+    ensures start { (m : ℕ) (ls left : List (List ℕ)) (time n : ℕ) → start_part m ls ≡ Ok (part time n left) → IsWhole m (start_part m) ls time n left }
 {}

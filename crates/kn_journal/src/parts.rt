@@ -181,7 +181,7 @@ impl Lines {
         first: FirstLine,
     ) -> Result<u64, JournalError>
         ensures tells { Tells (first_part (version_by first) self.old.number) self.new.number (unread self.old.input (S.left source.old)) (unread self.new.input (S.left source.new)) result }
-        ensures rest { IfErr result (λ e. IsLineFault e → LeavesRest (first_part (version_by first) self.old.number) e (unread self.old.input (S.left source.old)) (unread self.new.input (S.left source.new))) }
+        ensures rest { IfErr result (λ e. IsLineFault e → LeavesRest (first_part (version_by first) self.old.number) self.old.number (Some (self.old.number + 1)) e (unread self.old.input (S.left source.old)) (unread self.new.input (S.left source.new))) }
         ensures least { IfOk result (λ version. 1 ≤ version) }
         ensures most { IfOk result (λ version. version ≤ 2) }
         ensures amid { result ≡ Err JournalError.ReadFault → TakesPart (unread self.old.input (S.left source.old)) (unread self.new.input (S.left source.new)) }
@@ -202,7 +202,7 @@ impl Lines {
     /// Reads the start, in milliseconds.
     pub fn start<S: Source>(&mut self, source: &mut S) -> Result<u64, JournalError>
         ensures tells { Tells (start_part self.old.number) self.new.number (unread self.old.input (S.left source.old)) (unread self.new.input (S.left source.new)) result }
-        ensures rest { IfErr result (λ e. IsLineFault e → LeavesRest (start_part self.old.number) e (unread self.old.input (S.left source.old)) (unread self.new.input (S.left source.new))) }
+        ensures rest { IfErr result (λ e. IsLineFault e → LeavesRest (start_part self.old.number) self.old.number None e (unread self.old.input (S.left source.old)) (unread self.new.input (S.left source.new))) }
         ensures most { IfOk result (λ start. start ≤ time_most) }
         ensures memory { result ≢ Err JournalError.Memory }
         ensures amid { result ≡ Err JournalError.ReadFault → TakesPart (unread self.old.input (S.left source.old)) (unread self.new.input (S.left source.new)) }
@@ -224,7 +224,7 @@ impl Lines {
     /// Reads the end of the input, where no further line may stand.
     pub fn end<S: Source>(&mut self, source: &mut S) -> Result<(), JournalError>
         ensures tells { Tells (nothing_part self.old.number) self.new.number (unread self.old.input (S.left source.old)) (unread self.new.input (S.left source.new)) result }
-        ensures rest { IfErr result (λ e. IsLineFault e → LeavesRest (nothing_part self.old.number) e (unread self.old.input (S.left source.old)) (unread self.new.input (S.left source.new))) }
+        ensures rest { IfErr result (λ e. IsLineFault e → LeavesRest (nothing_part self.old.number) self.old.number None e (unread self.old.input (S.left source.old)) (unread self.new.input (S.left source.new))) }
         ensures behind { IfErr result (λ e. ¬ IsEventFault e) }
         ensures memory { result ≢ Err JournalError.Memory }
         ensures amid { result ≡ Err JournalError.ReadFault → TakesPart (unread self.old.input (S.left source.old)) (unread self.new.input (S.left source.new)) }
@@ -298,7 +298,7 @@ impl Lines {
         requires least { 1 ≤ version }
         requires most { version ≤ 2 }
         ensures tells { Tells (next_part version last self.old.number) self.new.number (unread self.old.input (S.left source.old)) (unread self.new.input (S.left source.new)) result }
-        ensures rest { IfErr result (λ e. IsLineFault e → LeavesRest (next_part version last self.old.number) e (unread self.old.input (S.left source.old)) (unread self.new.input (S.left source.new))) }
+        ensures rest { IfErr result (λ e. IsLineFault e → LeavesRest (next_part version last self.old.number) self.old.number None e (unread self.old.input (S.left source.old)) (unread self.new.input (S.left source.new))) }
         ensures order { OnEvent result (λ e. last ≤ e.time) }
         ensures times { OnEvent result (λ e. e.time ≤ time_most) }
         ensures range { OnEvent result (λ e. IsInJournalRange e.act) }

@@ -85,7 +85,7 @@ impl JournalReader {
     /// Reads the version and the setup. The setup's text reads as that setup, also of a source that doesn't tell its bytes.
     pub fn setup<S: Source>(&mut self, alloc: Global, source: &mut S) -> Result<Setup, JournalError>
         ensures tells { self.old.failed ≡ None → TellsOpening (opening_part version_of self.old.number) self.new.version self.new.number (unread self.old.input (S.left source.old)) (unread self.new.input (S.left source.new)) result }
-        ensures rest { self.old.failed ≡ None → IfErr result (λ e. IsLineFault e → LeavesRest (opening_part version_of self.old.number) e (unread self.old.input (S.left source.old)) (unread self.new.input (S.left source.new))) }
+        ensures rest { self.old.failed ≡ None → IfErr result (λ e. IsLineFault e → LeavesRest (opening_part version_of self.old.number) self.old.number (Some (self.old.number + 1)) e (unread self.old.input (S.left source.old)) (unread self.new.input (S.left source.new))) }
         ensures kept { IfOk result IsSetup }
         ensures least { OnOk result (1 ≤ self.new.version) }
         ensures most { OnOk result (self.new.version ≤ 2) }
@@ -120,7 +120,7 @@ impl JournalReader {
     /// Reads the start, in milliseconds, after the setup.
     pub fn start<S: Source>(&mut self, source: &mut S) -> Result<u64, JournalError>
         ensures tells { self.old.failed ≡ None → Tells (start_part self.old.number) self.new.number (unread self.old.input (S.left source.old)) (unread self.new.input (S.left source.new)) result }
-        ensures rest { self.old.failed ≡ None → IfErr result (λ e. IsLineFault e → LeavesRest (start_part self.old.number) e (unread self.old.input (S.left source.old)) (unread self.new.input (S.left source.new))) }
+        ensures rest { self.old.failed ≡ None → IfErr result (λ e. IsLineFault e → LeavesRest (start_part self.old.number) self.old.number None e (unread self.old.input (S.left source.old)) (unread self.new.input (S.left source.new))) }
         ensures start { IfOk result (λ start. self.new.last ≡ start) }
         ensures most { IfOk result (λ start. start ≤ time_most) }
         ensures version { self.new.version ≡ self.old.version }
@@ -183,7 +183,7 @@ impl JournalReader {
     /// Reads the next event, at the last time or later; `None` where `end` and then the end of the input come.
     pub fn next<S: Source>(&mut self, source: &mut S) -> Result<Option<Event>, JournalError>
         ensures tells { self.old.failed ≡ None → Tells (next_part self.old.version self.old.last self.old.number) self.new.number (unread self.old.input (S.left source.old)) (unread self.new.input (S.left source.new)) result }
-        ensures rest { self.old.failed ≡ None → IfErr result (λ e. IsLineFault e → LeavesRest (next_part self.old.version self.old.last self.old.number) e (unread self.old.input (S.left source.old)) (unread self.new.input (S.left source.new))) }
+        ensures rest { self.old.failed ≡ None → IfErr result (λ e. IsLineFault e → LeavesRest (next_part self.old.version self.old.last self.old.number) self.old.number None e (unread self.old.input (S.left source.old)) (unread self.new.input (S.left source.new))) }
         ensures order { OnEvent result (λ e. self.old.last ≤ e.time) }
         ensures times { OnEvent result (λ e. e.time ≤ time_most) }
         ensures last { OnEvent result (λ e. self.new.last ≡ e.time) }
@@ -226,7 +226,7 @@ impl JournalReader {
     /// Reads the end of the input, in place of the start: after a setup that stands alone no line may follow.
     pub fn finish_setup<S: Source>(&mut self, source: &mut S) -> Result<(), JournalError>
         ensures tells { self.old.failed ≡ None → Tells (nothing_part self.old.number) self.new.number (unread self.old.input (S.left source.old)) (unread self.new.input (S.left source.new)) result }
-        ensures rest { self.old.failed ≡ None → IfErr result (λ e. IsLineFault e → LeavesRest (nothing_part self.old.number) e (unread self.old.input (S.left source.old)) (unread self.new.input (S.left source.new))) }
+        ensures rest { self.old.failed ≡ None → IfErr result (λ e. IsLineFault e → LeavesRest (nothing_part self.old.number) self.old.number None e (unread self.old.input (S.left source.old)) (unread self.new.input (S.left source.new))) }
         ensures amid { self.old.failed ≡ None → result ≡ Err JournalError.ReadFault → TakesPart (unread self.old.input (S.left source.old)) (unread self.new.input (S.left source.new)) }
         ensures spent { self.old.failed ≡ None → result ≡ Err JournalError.ReadFault → IsSpent self.new.input }
         ensures version { self.new.version ≡ self.old.version }

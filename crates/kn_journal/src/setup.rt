@@ -1,5 +1,5 @@
 //! A setup, read from the lines that come next: its first line, and for a revision that scales two blocks.
-ghost use Rattle.std.specs.Prelude.{◌≡◌, ◌⊎◌, ◌≤◌, ◌++◌, ◌∷◌, [], Err, Ok, IfErr, IfOk, OnOk, codes};
+ghost use Rattle.std.specs.Prelude.{◌≡◌, ◌⊎◌, ◌+◌, ◌≤◌, ◌++◌, ◌∷◌, [], Err, None, Ok, Some, IfErr, IfOk, OnOk, codes};
 ghost use Rattle.kn_io.specs.Causes.{Rose};
 ghost use Rattle.kn_event.specs.Ranges.{AreSlots};
 ghost use Rattle.kn_config.specs.Config.{IsConfig};
@@ -42,7 +42,7 @@ fn judge_word(line: &[u8], number: u64, word: &[u8]) -> Result<(), JournalError>
 /// Reads a line that is just this word.
 fn read_word<S: Source>(lines: &mut Lines, source: &mut S, word: &[u8]) -> Result<(), JournalError>
     ensures tells { Tells (word_part word.now lines.old.number) lines.new.number (unread lines.old.input (S.left source.old)) (unread lines.new.input (S.left source.new)) result }
-    ensures rest { IfErr result (λ e. IsLineFault e → LeavesRest (word_part word.now lines.old.number) e (unread lines.old.input (S.left source.old)) (unread lines.new.input (S.left source.new))) }
+    ensures rest { IfErr result (λ e. IsLineFault e → LeavesRest (word_part word.now lines.old.number) lines.old.number None e (unread lines.old.input (S.left source.old)) (unread lines.new.input (S.left source.new))) }
     ensures amid { result ≡ Err JournalError.ReadFault → StopsAmid (word_part word.now lines.old.number) (unread lines.old.input (S.left source.old)) (unread lines.new.input (S.left source.new)) }
     ensures spent { result ≡ Err JournalError.ReadFault → IsSpent lines.new.input }
     ensures fault { result ≡ Err JournalError.ReadFault → Rose (S.Faulty.faults source.old) (S.Faulty.faults source.new) ⊎ (lines.new.input.taken ≡ most_taken) }
@@ -72,7 +72,7 @@ fn read_block<S: Source>(
 ) -> Result<Text, JournalError>
     ensures kept { IfOk result IsBlockText }
     ensures tells { Tells (block_part [] lines.old.number) lines.new.number (unread lines.old.input (S.left source.old)) (unread lines.new.input (S.left source.new)) result }
-    ensures rest { IfErr result (λ e. IsLineFault e → LeavesRest (block_part [] lines.old.number) e (unread lines.old.input (S.left source.old)) (unread lines.new.input (S.left source.new))) }
+    ensures rest { IfErr result (λ e. IsLineFault e → LeavesRest (block_part [] lines.old.number) lines.old.number None e (unread lines.old.input (S.left source.old)) (unread lines.new.input (S.left source.new))) }
     ensures amid { result ≡ Err JournalError.ReadFault → StopsAmid (block_part [] lines.old.number) (unread lines.old.input (S.left source.old)) (unread lines.new.input (S.left source.new)) }
     ensures spent { result ≡ Err JournalError.ReadFault → IsSpent lines.new.input }
     ensures fault { result ≡ Err JournalError.ReadFault → Rose (S.Faulty.faults source.old) (S.Faulty.faults source.new) ⊎ (lines.new.input.taken ≡ most_taken) }
@@ -190,7 +190,7 @@ fn read_revision<S: Source>(
     requires config { IsConfig config.now }
     ensures kept { IfOk result (ReadsBack (revision_part line.items block.now slots config.now) (line.items ++ (codes "config\n" ++ (block.now ++ codes ".\n")))) }
     ensures tells { Tells (revision_part line.items block.now slots config.now lines.old.number) lines.new.number (unread lines.old.input (S.left source.old)) (unread lines.new.input (S.left source.new)) result }
-    ensures rest { IfErr result (λ e. IsLineFault e → LeavesRest (revision_part line.items block.now slots config.now lines.old.number) e (unread lines.old.input (S.left source.old)) (unread lines.new.input (S.left source.new))) }
+    ensures rest { IfErr result (λ e. IsLineFault e → LeavesRest (revision_part line.items block.now slots config.now lines.old.number) lines.old.number None e (unread lines.old.input (S.left source.old)) (unread lines.new.input (S.left source.new))) }
     ensures amid { result ≡ Err JournalError.ReadFault → StopsAmid (revision_part line.items block.now slots config.now lines.old.number) (unread lines.old.input (S.left source.old)) (unread lines.new.input (S.left source.new)) }
     ensures spent { result ≡ Err JournalError.ReadFault → IsSpent lines.new.input }
     ensures fault { result ≡ Err JournalError.ReadFault → Rose (S.Faulty.faults source.old) (S.Faulty.faults source.new) ⊎ (lines.new.input.taken ≡ most_taken) }
@@ -228,7 +228,7 @@ fn read_blocks<S: Source>(
     requires { AreSlots slots }
     ensures kept { IfOk result (ReadsBack (blocks_part line.items slots) line.items) }
     ensures tells { Tells (blocks_part line.items slots lines.old.number) lines.new.number (unread lines.old.input (S.left source.old)) (unread lines.new.input (S.left source.new)) result }
-    ensures rest { IfErr result (λ e. IsLineFault e → LeavesRest (blocks_part line.items slots lines.old.number) e (unread lines.old.input (S.left source.old)) (unread lines.new.input (S.left source.new))) }
+    ensures rest { IfErr result (λ e. IsLineFault e → LeavesRest (blocks_part line.items slots lines.old.number) lines.old.number None e (unread lines.old.input (S.left source.old)) (unread lines.new.input (S.left source.new))) }
     ensures amid { result ≡ Err JournalError.ReadFault → StopsAmid (blocks_part line.items slots lines.old.number) (unread lines.old.input (S.left source.old)) (unread lines.new.input (S.left source.new)) }
     ensures spent { result ≡ Err JournalError.ReadFault → IsSpent lines.new.input }
     ensures fault { result ≡ Err JournalError.ReadFault → Rose (S.Faulty.faults source.old) (S.Faulty.faults source.new) ⊎ (lines.new.input.taken ≡ most_taken) }
@@ -292,7 +292,7 @@ fn read_behind<S: Source>(
     requires { IsSetupLine said }
     ensures kept { IfOk result (ReadsBack (behind_line text.items (Ok said)) text.items) }
     ensures tells { Tells (behind_line text.items (Ok said) lines.old.number) lines.new.number (unread lines.old.input (S.left source.old)) (unread lines.new.input (S.left source.new)) result }
-    ensures rest { IfErr result (λ e. IsLineFault e → LeavesRest (behind_line text.items (Ok said) lines.old.number) e (unread lines.old.input (S.left source.old)) (unread lines.new.input (S.left source.new))) }
+    ensures rest { IfErr result (λ e. IsLineFault e → LeavesRest (behind_line text.items (Ok said) lines.old.number) lines.old.number None e (unread lines.old.input (S.left source.old)) (unread lines.new.input (S.left source.new))) }
     ensures amid { result ≡ Err JournalError.ReadFault → StopsAmid (behind_line text.items (Ok said) lines.old.number) (unread lines.old.input (S.left source.old)) (unread lines.new.input (S.left source.new)) }
     ensures spent { result ≡ Err JournalError.ReadFault → IsSpent lines.new.input }
     ensures fault { result ≡ Err JournalError.ReadFault → Rose (S.Faulty.faults source.old) (S.Faulty.faults source.new) ⊎ (lines.new.input.taken ≡ most_taken) }
@@ -332,7 +332,7 @@ fn read_setup<S: Source>(
 ) -> Result<Setup, JournalError>
     ensures kept { IfOk result IsSetup }
     ensures tells { Tells (setup_part lines.old.number) lines.new.number (unread lines.old.input (S.left source.old)) (unread lines.new.input (S.left source.new)) result }
-    ensures rest { IfErr result (λ e. IsLineFault e → LeavesRest (setup_part lines.old.number) e (unread lines.old.input (S.left source.old)) (unread lines.new.input (S.left source.new))) }
+    ensures rest { IfErr result (λ e. IsLineFault e → LeavesRest (setup_part lines.old.number) lines.old.number None e (unread lines.old.input (S.left source.old)) (unread lines.new.input (S.left source.new))) }
     ensures amid { result ≡ Err JournalError.ReadFault → StopsAmid (setup_part lines.old.number) (unread lines.old.input (S.left source.old)) (unread lines.new.input (S.left source.new)) }
     ensures spent { result ≡ Err JournalError.ReadFault → IsSpent lines.new.input }
     ensures fault { result ≡ Err JournalError.ReadFault → Rose (S.Faulty.faults source.old) (S.Faulty.faults source.new) ⊎ (lines.new.input.taken ≡ most_taken) }
@@ -364,7 +364,7 @@ pub fn read_opening<S: Source>(
 ) -> Result<Opening, JournalError>
     ensures kept { IfOk result (λ opening. IsSetup opening.setup) }
     ensures tells { Tells (opening_part (version_by first) lines.old.number) lines.new.number (unread lines.old.input (S.left source.old)) (unread lines.new.input (S.left source.new)) result }
-    ensures rest { IfErr result (λ e. IsLineFault e → LeavesRest (opening_part (version_by first) lines.old.number) e (unread lines.old.input (S.left source.old)) (unread lines.new.input (S.left source.new))) }
+    ensures rest { IfErr result (λ e. IsLineFault e → LeavesRest (opening_part (version_by first) lines.old.number) lines.old.number (Some (lines.old.number + 1)) e (unread lines.old.input (S.left source.old)) (unread lines.new.input (S.left source.new))) }
     ensures amid { result ≡ Err JournalError.ReadFault → StopsAmid (opening_part (version_by first) lines.old.number) (unread lines.old.input (S.left source.old)) (unread lines.new.input (S.left source.new)) }
     ensures spent { result ≡ Err JournalError.ReadFault → IsSpent lines.new.input }
     ensures least { IfOk result (λ opening. 1 ≤ opening.version) }

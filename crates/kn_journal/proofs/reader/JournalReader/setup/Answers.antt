@@ -2,7 +2,8 @@
 use Rattle.kn_journal.specs.Journal.{opening_part, version_of}
 use Rattle.kn_journal.specs.Reading.{unread}
 use Rattle.kn_journal.specs.Telling.{Gives, LeavesRest, ReaderState, StopsAmid}
-use Rattle.std.proofs.Common.{subst}
+use Rattle.std.proofs.Common.{◌+◌, subst}
+use Rattle.std.specs.Prelude.{Some}
 use Rattle.kn_journal.proofs.reader.JournalReader.setup.Goals as goal
 
 pub returns-in-Ok-clause-tells : goal.returns-in-Ok-clause-tells
@@ -19,4 +20,4 @@ returns-in-Err-clause-amid g c h k =
 pub returns-in-Err-clause-rest : goal.returns-in-Err-clause-rest
 returns-in-Err-clause-rest g c h is =
     let new = unread c.read_opening.new.lines.input (g.S.Source.left c.read_opening.new.source) in
-    subst (λ (r : ReaderState). LeavesRest (opening_part version_of r.number) c.in-Err.e (unread r.input (g.S.Source.left c.args.source.now)) new) c.self.view_is (c.in-Err.ensures.rest is)
+    subst (λ (r : ReaderState). LeavesRest (opening_part version_of r.number) r.number (Some (r.number + 1)) c.in-Err.e (unread r.input (g.S.Source.left c.args.source.now)) new) c.self.view_is (c.in-Err.ensures.rest is)
