@@ -23,6 +23,7 @@ with_events-more es e r = ap (λ (x : List Event). record { events = x; refused 
 pub record IsEventLine (version last number : ℕ) (all : List (List ℕ)) (e : Event) (m : ℕ) (left : List (List ℕ)) : Type 0 where
   pub line : List ℕ
   pub split : all ≡ line ∷ left
+  pub count : number + 1 ≡ m
   pub reads : (later : List (List ℕ)) → read_events version last number (line ∷ later) ≡ with_event e (read_events version e.time m later)
 
 record IsPart {T : Type 0} (value : T) (number : ℕ) (left : List (List ℕ)) (x : T) (m : ℕ) (more : List (List ℕ)) : Type 0 where
@@ -78,6 +79,7 @@ next_event version last n (line ∷ more) e m left h =
         record {
           line = line;
           split = ap (λ (x : List (List ℕ)). line ∷ x) same.lefts;
+          count = same.numbers;
           reads = λ later. rw (p, q, s) (rw (same_some d e same.values, same.numbers) refl);
         }
 

@@ -1,5 +1,5 @@
 -- One event of a replay, and how it ends.
-use Rattle.std.proofs.Common.{◌≡◌, ◌+◌, ◌-◌, ◌≤◌, ℕ, List, [], ◌∷◌, ◌++◌, length, append_assoc, append-nil, refl, sym, ap, ◌∙◌, subst, arith, inl, inr}
+use Rattle.std.proofs.Common.{◌≡◌, ◌+◌, ◌-◌, ◌≤◌, ℕ, List, [], ◌∷◌, ◌++◌, length, length-append, append_assoc, append-nil, refl, sym, ap, ◌∙◌, subst, arith, inl, inr}
 use Rattle.std.specs.Prelude.{◌⊎◌, Option, None, Some, Err, Ok, codes, Contains}
 use Rattle.std.specs.Io.KnownBytes.{Appends, prepend_known}
 use Rattle.std.proofs.KnownBytes.{Appends-nil, Appends-trans}
@@ -89,6 +89,7 @@ rest-split version s c es r =
 pub record Reads (version last number : ℕ) (all : List (List ℕ)) (es : List Event) (now m : ℕ) (left : List (List ℕ)) : Type 0 where
   pub own : List (List ℕ)
   pub split : all ≡ own ++ left
+  pub count : number + length own ≡ m
   pub reads : (later : List (List ℕ)) → read_events version last number (own ++ later) ≡ with_events es (read_events version now m later)
 
 abbrev pub GoesOn : ℕ → ℕ → ℕ → Option (List ℕ) → List Event → ℕ → ℕ → Option (List ℕ) → Type 0
@@ -98,13 +99,14 @@ GoesOn version last number (Some xs) es now m (Some ys) = Reads version last num
 
 pub goes_begin : (version last number : ℕ) (known : Option (List ℕ)) → GoesOn version last number known [] last number known
 goes_begin version last number None = tt
-goes_begin version last number (Some xs) = record { own = []; split = refl; reads = λ later. refl }
+goes_begin version last number (Some xs) = record { own = []; split = refl; count = omega arith; reads = λ later. refl }
 
 reads_more : (version last number : ℕ) (all : List (List ℕ)) (es : List Event) (now m : ℕ) (left : List (List ℕ)) (e : Event) (n : ℕ) (after : List (List ℕ))
     → Reads version last number all es now m left → IsEventLine version now m left e n after → Reads version last number all (es ++ e ∷ []) e.time n after
 reads_more version last number all es now m left e n after h k = record {
   own = h.own ++ k.line ∷ [];
   split = h.split ∙ ap (λ (x : List (List ℕ)). h.own ++ x) k.split ∙ sym (append_assoc h.own (k.line ∷ []) after);
+  count = omega (arith, h.count, k.count, length-append h.own (k.line ∷ []));
   reads = λ later.
       ap (λ (x : List (List ℕ)). read_events version last number x) (append_assoc h.own (k.line ∷ []) later)
       ∙ h.reads (k.line ∷ later)

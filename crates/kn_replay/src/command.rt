@@ -98,7 +98,7 @@ pub fn run<S: Source, O: Sink, E: Sink>(
     ensures report { command_of (map string_bytes words.now) ≡ Some Command.Replay → Replays (S.left input.old) (S.left input.new) (S.given input.new - S.given input.old) (O.held out.old) (O.held out.new) result }
     ensures only { (result ≡ Status.Usage) ⊎ IsReplayed result }
     ensures ended { command_of (map string_bytes words.now) ≡ Some Command.Replay → result ≡ Status.Ok → EndsThere (S.left input.old) (S.left input.new) }
-    // Behind a refused line nothing is read but what a reader had read ahead.
+    // The lines taken are those up to the refused one, and behind it at most 65,536 bytes were read ahead.
     ensures rest { command_of (map string_bytes words.now) ≡ Some Command.Replay → IsRefusal result → LeavesBehind result (S.left input.old) (S.left input.new) }
 
     // The last line of the generated journal.

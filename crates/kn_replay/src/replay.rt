@@ -151,7 +151,7 @@ impl Replay {
         ensures revision { self.new.revision ≡ self.old.revision }
         ensures counted { self.new.counted ≡ self.old.counted }
         ensures tells { IfOk result (λ read. Tells (next_part reader.old.version reader.old.last reader.old.number) reader.new.number (unread reader.old.input (S.left source.old)) (unread reader.new.input (S.left source.new)) read) }
-        ensures rest { IfOk result (λ read. IfErr read (λ e. IsLineFault e → LeavesRest (next_part reader.old.version reader.old.last reader.old.number) e (unread reader.old.input (S.left source.old)) (unread reader.new.input (S.left source.new)))) }
+        ensures rest { IfOk result (λ read. IfErr read (λ e. IsLineFault e → LeavesRest (next_part reader.old.version reader.old.last reader.old.number) reader.old.number None e (unread reader.old.input (S.left source.old)) (unread reader.new.input (S.left source.new)))) }
         ensures order { IfOk result (λ read. OnEvent read (λ e. reader.old.last ≤ e.time)) }
         ensures times { IfOk result (λ read. OnEvent read (λ e. e.time ≤ time_most)) }
         ensures last { IfOk result (λ read. OnEvent read (λ e. reader.new.last ≡ e.time)) }
