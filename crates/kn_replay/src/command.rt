@@ -99,9 +99,9 @@ pub fn run<S: Source, O: Sink, E: Sink>(
     ensures report { command_of (map string_bytes words.now) ≡ Some Command.Replay → Replays (S.left input.old) (S.left input.new) (S.given input.new - S.given input.old) (O.held out.old) (O.held out.new) result }
     ensures only { (result ≡ Status.Usage) ⊎ IsReplayed result }
     ensures ended { command_of (map string_bytes words.now) ≡ Some Command.Replay → result ≡ Status.Ok → EndsThere (S.left input.old) (S.left input.new) }
-    // The lines up to the refused one were taken, and of what is behind it only what a reader had read ahead.
+    // The lines taken are those up to the refused one, and behind it at most 65,536 bytes were read ahead.
     ensures rest { command_of (map string_bytes words.now) ≡ Some Command.Replay → IsRefusal result → LeavesBehind result (S.left input.old) (S.left input.new) }
-    // Where writing failed too: the rows of all events that were read, but the last one, were written, but for 65,536 bytes at most.
+    // Where writing failed, all rows of the events that were taken were written, but the last event's and 65,536 bytes at most.
     ensures cut { command_of (map string_bytes words.now) ≡ Some Command.Replay → result ≡ Status.WriteFault → LeavesCut (S.left input.old) (S.left input.new) (O.held out.old) (O.held out.new) }
 
     // The last line of the generated journal.
