@@ -23,6 +23,7 @@ with_events-more es e r = ap (λ (x : List Event). record { events = x; refused 
 pub record IsEventLine (version last number : ℕ) (all : List (List ℕ)) (e : Event) (m : ℕ) (left : List (List ℕ)) : Type 0 where
   pub line : List ℕ
   pub split : all ≡ line ∷ left
+  pub count : number + 1 ≡ m
   pub reads : (later : List (List ℕ)) → read_events version last number (line ∷ later) ≡ with_event e (read_events version e.time m later)
 
 record IsPart {T : Type 0} (value : T) (number : ℕ) (left : List (List ℕ)) (x : T) (m : ℕ) (more : List (List ℕ)) : Type 0 where
@@ -54,6 +55,14 @@ end_gives number (line ∷ more) x m left h = by_fit (fits line) h
     by_fit true g = cc
     by_fit false g = cc
 
+end_last : (number : ℕ) (more : List (List ℕ)) (x : Option Event) (m : ℕ) (left : List (List ℕ)) → end_part number more ≡ Ok (part x m left) → more ≡ left
+end_last number [] x m left h = (same_part None x number m [] left (Ok (part None number [])) refl h).lefts
+end_last number (line ∷ more) x m left h = by_fit (fits line) h
+  where
+    by_fit : (f : Bool) → end_after (if f then Err (after_end (number + 1)) else Err (line_too_long (number + 1))) ≡ Ok (part x m left) → line ∷ more ≡ left
+    by_fit true g = cc
+    by_fit false g = cc
+
 some_none : (e : Event) → Some e ≡ None → ⊥
 some_none e h = cc
 
@@ -78,6 +87,7 @@ next_event version last n (line ∷ more) e m left h =
         record {
           line = line;
           split = ap (λ (x : List (List ℕ)). line ∷ x) same.lefts;
+          count = same.numbers;
           reads = λ later. rw (p, q, s) (rw (same_some d e same.values, same.numbers) refl);
         }
 
@@ -90,6 +100,20 @@ pub next_end : (version last n : ℕ) (all : List (List ℕ)) (m : ℕ) (left : 
 unfolding read_events
 next_end version last n [] m left h = rw h refl
 next_end version last n (line ∷ more) m left h = rw h refl
+
+-- `end` is one line, and behind it no line is left
+pub next_last : (version last n : ℕ) (all : List (List ℕ)) (m : ℕ) (left : List (List ℕ)) → next_part version last n all ≡ Ok (part None m left) → (line : List ℕ) × (all ≡ line ∷ left)
+unfolding next_part
+next_last version last n [] m left h = cc
+next_last version last n (line ∷ more) m left h =
+    by_tests (fits line) (bytes_eq line (codes "end")) (in_time (n + 1) last (event_of version line)) h
+  where
+    by_tests : (f d : Bool) (r : Result Event Cause)
+        → (if f then (if d then end_part (n + 1) more else event_in (n + 1) more r) else Err (line_too_long (n + 1))) ≡ Ok (part None m left) → (x : List ℕ) × (line ∷ more ≡ x ∷ left)
+    by_tests false d r g = cc
+    by_tests true true r g = (line, ap (λ (x : List (List ℕ)). line ∷ x) (end_last (n + 1) more None m left g))
+    by_tests true false (Err cause) g = cc
+    by_tests true false (Ok d) g = absurd (some_none d (same_part (Some d) None (n + 1) m more left (Ok (part (Some d) (n + 1) more)) refl g).values)
 
 -- after `end` no line is left
 pub next_none : (version last n : ℕ) (all : List (List ℕ)) (m : ℕ) (left : List (List ℕ)) → next_part version last n all ≡ Ok (part None m left) → left ≡ []

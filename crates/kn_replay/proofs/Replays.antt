@@ -1,5 +1,5 @@
 -- One event of a replay, and how it ends.
-use Rattle.std.proofs.Common.{◌≡◌, ◌+◌, ◌-◌, ◌≤◌, ℕ, List, [], ◌∷◌, ◌++◌, length, append_assoc, append-nil, refl, sym, ap, ◌∙◌, subst, arith, inl, inr}
+use Rattle.std.proofs.Common.{◌≡◌, ◌+◌, ◌-◌, ◌≤◌, ℕ, List, [], ◌∷◌, ◌++◌, length, length-append, append_assoc, append-nil, refl, sym, ap, ◌∙◌, subst, arith, inl, inr}
 use Rattle.std.specs.Prelude.{◌⊎◌, Option, None, Some, Err, Ok, codes, Contains}
 use Rattle.std.specs.Io.KnownBytes.{Appends, prepend_known}
 use Rattle.std.proofs.KnownBytes.{Appends-nil, Appends-trans}
@@ -89,6 +89,7 @@ rest-split version s c es r =
 pub record Reads (version last number : ℕ) (all : List (List ℕ)) (es : List Event) (now m : ℕ) (left : List (List ℕ)) : Type 0 where
   pub own : List (List ℕ)
   pub split : all ≡ own ++ left
+  pub count : number + length own ≡ m
   pub reads : (later : List (List ℕ)) → read_events version last number (own ++ later) ≡ with_events es (read_events version now m later)
 
 abbrev pub GoesOn : ℕ → ℕ → ℕ → Option (List ℕ) → List Event → ℕ → ℕ → Option (List ℕ) → Type 0
@@ -98,13 +99,14 @@ GoesOn version last number (Some xs) es now m (Some ys) = Reads version last num
 
 pub goes_begin : (version last number : ℕ) (known : Option (List ℕ)) → GoesOn version last number known [] last number known
 goes_begin version last number None = tt
-goes_begin version last number (Some xs) = record { own = []; split = refl; reads = λ later. refl }
+goes_begin version last number (Some xs) = record { own = []; split = refl; count = omega arith; reads = λ later. refl }
 
-reads_more : (version last number : ℕ) (all : List (List ℕ)) (es : List Event) (now m : ℕ) (left : List (List ℕ)) (e : Event) (n : ℕ) (after : List (List ℕ))
+pub reads_more : (version last number : ℕ) (all : List (List ℕ)) (es : List Event) (now m : ℕ) (left : List (List ℕ)) (e : Event) (n : ℕ) (after : List (List ℕ))
     → Reads version last number all es now m left → IsEventLine version now m left e n after → Reads version last number all (es ++ e ∷ []) e.time n after
 reads_more version last number all es now m left e n after h k = record {
   own = h.own ++ k.line ∷ [];
   split = h.split ∙ ap (λ (x : List (List ℕ)). h.own ++ x) k.split ∙ sym (append_assoc h.own (k.line ∷ []) after);
+  count = omega (arith, h.count, k.count, length-append h.own (k.line ∷ []));
   reads = λ later.
       ap (λ (x : List (List ℕ)). read_events version last number x) (append_assoc h.own (k.line ∷ []) later)
       ∙ h.reads (k.line ∷ later)
@@ -126,7 +128,7 @@ reads_all : (version last number : ℕ) (all : List (List ℕ)) (es : List Event
 reads_all version last number all es now m left h = ap (λ (x : List (List ℕ)). read_events version last number x) h.split ∙ h.reads left
 
 -- no further event comes
-none_more : (es : List Event) (refused : Option Cause) → with_events es (none_read refused) ≡ record { events = es; refused = refused }
+pub none_more : (es : List Event) (refused : Option Cause) → with_events es (none_read refused) ≡ record { events = es; refused = refused }
 none_more es refused = ap (λ (x : List Event). record { events = x; refused = refused }) (append-nil es)
 
 -- ---- how a replay stops
@@ -323,7 +325,7 @@ goes_stop version s c last number (Some xs) waiting now old mid new es time m (S
 goes_stop version s c last number (Some xs) waiting now old mid new es time m (Some ys) left (error.AfterEnd line) result h (cause, is, g) amid memory adds stops =
     goes_refused version s c last number xs waiting now old mid new es time m ys left cause _ result h is g adds stops
 
-no_lf : ¬ Contains {X = ℕ} [] 10
+pub no_lf : ¬ Contains {X = ℕ} [] 10
 no_lf h = omega (arith, h.1)
 
 -- no more may be taken
@@ -514,7 +516,7 @@ writes_after written text end P Q old mid new (status.SlotFault slot) h f k w = 
 writes_after written text end P Q old mid new status.ListenFault h f k w = absurd k
 
 -- the rows of the opening and of these events
-journal_rows-is : (version : ℕ) (setup : Setup) (start : ℕ) (es : List Event)
+pub journal_rows-is : (version : ℕ) (setup : Setup) (start : ℕ) (es : List Event)
     → journal_rows (journal_of version setup start es) ≡ rows_text (opening setup.spec start) ++ rows_text (added setup.spec (opening setup.spec start) es)
 unfolding journal_rows trace_of
 journal_rows-is version setup start es = rows_text-append (opening setup.spec start) (added setup.spec (opening setup.spec start) es)

@@ -5,3 +5,4 @@ pub mod Texts
 pub mod Commands
 pub mod Generating
 pub mod Replaying
+pub mod Cutting

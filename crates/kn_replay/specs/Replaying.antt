@@ -1,5 +1,5 @@
 -- What replaying a journal writes, and how it ends.
-use Rattle.std.specs.Prelude.{◌≡◌, ◌⊎◌, ℕ, ◌-◌, ◌++◌, ◌≤◌, List, [], length, Option, None, Some, Result, Ok, Err, ⊤}
+use Rattle.std.specs.Prelude.{◌≡◌, ◌⊎◌, ℕ, ◌+◌, ◌-◌, ◌++◌, ◌≤◌, List, [], length, Option, None, Some, Result, Ok, Err, ⊤}
 use Rattle.std.specs.Io.KnownBytes.{Appends, prepend_known}
 use Rattle.kn_event.specs.declared.entry.Entry.{Entry}
 use Rattle.kn_event.specs.declared.revision.Spec.{Spec}
@@ -21,7 +21,7 @@ use Rattle.kn_journal.specs.Journal.{Read, Verdict, bad, good, opening_part, rea
 use Rattle.kn_journal.specs.Lines.{lines}
 use Rattle.kn_journal.specs.Parts.{part}
 use Rattle.kn_journal.specs.Reading.{TakesPart, most_taken}
-use Rattle.kn_journal.specs.Telling.{IsLineFault, StopsAmid}
+use Rattle.kn_journal.specs.Telling.{IsLineFault, StopsAmid, refused_line}
 use Rattle.kn_replay.specs.Report.{journal_rows, report_of}
 use Rattle.kn_replay.specs.Tally.{Counted}
 
@@ -122,13 +122,19 @@ IsRefusal (status.BadInput e) = IsLineFault e
 IsRefusal (status.BadSetup e) = IsLineFault e
 IsRefusal _ = ⊥
 
--- the lines that were taken are refused so by themselves, and all that came after them is unread
+-- the line that it names; a bad first line is line 1
+abbrev pub line_of : Status → Option ℕ
+line_of (status.BadInput e) = refused_line (Some 1) e
+line_of (status.BadSetup e) = refused_line (Some 1) e
+line_of _ = None
+
+-- the lines up to that one were taken, which are refused so by themselves, and all that came after them is unread
 abbrev pub IsBehind : Status → Option (List ℕ) → Option (List ℕ) → Type 0
 IsBehind result None new = ⊤
 IsBehind result (Some xs) None = ⊥
-IsBehind result (Some xs) (Some ys) = (own : List (List ℕ)) × (lines xs ≡ own ++ lines ys) × (status_by (refusal_of (verdict_of_lines own)) ≡ result)
+IsBehind result (Some xs) (Some ys) = (own : List (List ℕ)) × (lines xs ≡ own ++ lines ys) × (line_of result ≡ Some (length own)) × (status_by (refusal_of (verdict_of_lines own)) ≡ result)
 
--- this stands behind them, but for at most 65,536 bytes that were read ahead
+-- so what is left of the bytes stands behind that line and at most 65,536 bytes more, which were read ahead
 abbrev pub LeavesBehind : Status → Option (List ℕ) → Option (List ℕ) → Type 0
 LeavesBehind result old left = (ahead : List ℕ) × (length ahead ≤ 65536) × IsBehind result old (prepend_known ahead left)
 
@@ -161,11 +167,11 @@ Follows version s c last number (Some xs) left waiting old new result =
     let r = read_events version last number (lines xs) in
     Writes (waiting ++ rest_of_report version s c r) (status_by r.refused) (BreaksFollowing version s c last number xs left waiting) old new result
 
--- of the lines behind a start
+-- of the lines behind a start, which is in the line of this number
 abbrev pub FollowsBehind : ℕ → ℕ → ℕ → Status → Option (List ℕ) → Option (List ℕ) → Type 0
 FollowsBehind version last number result None new = ⊤
 FollowsBehind version last number result (Some xs) None = ⊥
-FollowsBehind version last number result (Some xs) (Some ys) = (own : List (List ℕ)) × (lines xs ≡ own ++ lines ys) × (status_by (read_events version last number own).refused ≡ result)
+FollowsBehind version last number result (Some xs) (Some ys) = (own : List (List ℕ)) × (lines xs ≡ own ++ lines ys) × (line_of result ≡ Some (number + length own)) × (status_by (read_events version last number own).refused ≡ result)
 
 -- ---- what is told
 

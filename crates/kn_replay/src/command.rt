@@ -8,6 +8,7 @@ ghost use Rattle.kn_trace.specs.Laws.{IsInert, IsLawful, IsSettled};
 ghost use Rattle.kn_laws.specs.Losses.{LosesNothing};
 ghost use Rattle.kn_journal.specs.Reading.{most_taken};
 ghost use Rattle.kn_replay.specs.Report.{OnJournalOf, trace_of_journal};
+ghost use Rattle.kn_replay.specs.Cutting.{LeavesCut};
 ghost use Rattle.kn_replay.specs.Replaying.{EndsThere, IsRefusal, IsReplayed, LeavesBehind, Replays, Tells};
 ghost use Rattle.kn_replay.specs.Texts.{status_text};
 ghost use Rattle.kn_replay.specs.Commands.{command_of, generate_of};
@@ -98,8 +99,10 @@ pub fn run<S: Source, O: Sink, E: Sink>(
     ensures report { command_of (map string_bytes words.now) ≡ Some Command.Replay → Replays (S.left input.old) (S.left input.new) (S.given input.new - S.given input.old) (O.held out.old) (O.held out.new) result }
     ensures only { (result ≡ Status.Usage) ⊎ IsReplayed result }
     ensures ended { command_of (map string_bytes words.now) ≡ Some Command.Replay → result ≡ Status.Ok → EndsThere (S.left input.old) (S.left input.new) }
-    // Behind a refused line nothing is read but what a reader had read ahead.
+    // The lines taken are those up to the refused one, and behind it at most 65,536 bytes were read ahead.
     ensures rest { command_of (map string_bytes words.now) ≡ Some Command.Replay → IsRefusal result → LeavesBehind result (S.left input.old) (S.left input.new) }
+    // Where writing failed, all rows of the events that were taken were written, but the last event's and 65,536 bytes at most.
+    ensures cut { command_of (map string_bytes words.now) ≡ Some Command.Replay → result ≡ Status.WriteFault → LeavesCut (S.left input.old) (S.left input.new) (O.held out.old) (O.held out.new) }
 
     // The last line of the generated journal.
     ensures generates { (seed count : ℕ) → command_of (map string_bytes words.now) ≡ Some (Command.Generate seed count) → Generates seed count (O.held out.old) (O.held out.new) result }

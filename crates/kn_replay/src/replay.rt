@@ -10,6 +10,7 @@ ghost use Rattle.kn_core.specs.State.{StandsFor};
 ghost use Rattle.kn_journal.specs.Reading.{IsBalanced, IsSpent, TakesPart, most_taken, unread};
 ghost use Rattle.kn_journal.specs.Journal.{next_part, time_most};
 ghost use Rattle.kn_journal.specs.Telling.{IsLineFault, LeavesRest, OnEvent, TakesEnd, Tells};
+ghost use Rattle.kn_replay.specs.Cutting.{FollowsCut, LeavesCut};
 ghost use Rattle.kn_replay.specs.Replaying.{EndsThere, Follows, FollowsBehind, IsBehind, IsFollowed, IsRefusal, IsReplayed, LeavesBehind, Opens, Replays, Stops, status_of};
 ghost use Rattle.kn_replay.specs.Waiting.{Adds};
 
@@ -126,10 +127,13 @@ impl Replay {
         ensures ok { OnOk result (Adds (O.held out.old) (O.held out.new) self.old.waiting self.new.waiting []) }
         ensures err { OnErr result (AppendsPrefix (O.held out.old) (O.held out.new) self.old.waiting) }
         ensures written { more ≡ false → OnOk result (self.new.waiting ≡ []) }
+        ensures few { length self.old.waiting ≤ 65536 }
+        ensures fits { length self.new.waiting ≤ 65536 }
         ensures revision { self.new.revision ≡ self.old.revision }
         ensures counted { self.new.counted ≡ self.old.counted }
         ensures cause { HasCause (O.Faulty.faults out.old) (O.Faulty.faults out.new) result }
     {
+        let _few = self.waiting.len();
         if more {
             return Ok(());
         }
@@ -148,10 +152,12 @@ impl Replay {
         ensures adds { OnOk result (Adds (O.held out.old) (O.held out.new) self.old.waiting self.new.waiting []) }
         ensures failed { OnErr result (AppendsPrefix (O.held out.old) (O.held out.new) self.old.waiting) }
         ensures still { OnErr result ((reader.new ≡ reader.old) × (source.new ≡ source.old)) }
+        ensures room { length self.old.waiting ≤ 65536 }
+        ensures fits { length self.new.waiting ≤ 65536 }
         ensures revision { self.new.revision ≡ self.old.revision }
         ensures counted { self.new.counted ≡ self.old.counted }
         ensures tells { IfOk result (λ read. Tells (next_part reader.old.version reader.old.last reader.old.number) reader.new.number (unread reader.old.input (S.left source.old)) (unread reader.new.input (S.left source.new)) read) }
-        ensures rest { IfOk result (λ read. IfErr read (λ e. IsLineFault e → LeavesRest (next_part reader.old.version reader.old.last reader.old.number) e (unread reader.old.input (S.left source.old)) (unread reader.new.input (S.left source.new)))) }
+        ensures rest { IfOk result (λ read. IfErr read (λ e. IsLineFault e → LeavesRest (next_part reader.old.version reader.old.last reader.old.number) reader.old.number None e (unread reader.old.input (S.left source.old)) (unread reader.new.input (S.left source.new)))) }
         ensures order { IfOk result (λ read. OnEvent read (λ e. reader.old.last ≤ e.time)) }
         ensures times { IfOk result (λ read. OnEvent read (λ e. e.time ≤ time_most)) }
         ensures last { IfOk result (λ read. OnEvent read (λ e. reader.new.last ≡ e.time)) }
@@ -168,6 +174,7 @@ impl Replay {
         ensures never_falls { S.Faulty.faults source.old ≤ S.Faulty.faults source.new }
         ensures cause { HasCause (O.Faulty.faults out.old) (O.Faulty.faults out.new) result }
     {
+        let _few = self.waiting.len();
         match reader.next_ahead() {
             Some(e) => return Ok(Ok(Some(e))),
             None => {}
@@ -222,6 +229,8 @@ impl Replay {
             Follows reader.old.version self.old.revision.spec c reader.old.last reader.old.number (unread reader.old.input (S.left source.old)) (unread reader.new.input (S.left source.new)) self.old.waiting (O.held out.old) (O.held out.new) result }
         ensures rest { (c : Trace) → StandsFor self.old.revision c → self.old.counted.totals ≡ totals c → IsRefusal result →
             FollowsBehind reader.old.version reader.old.last reader.old.number result (unread reader.old.input (S.left source.old)) (unread reader.new.input (S.left source.new)) }
+        ensures cut { (c : Trace) → StandsFor self.old.revision c → self.old.counted.totals ≡ totals c → result ≡ Status.WriteFault →
+            FollowsCut reader.old.version self.old.revision.spec c reader.old.last reader.old.number (unread reader.old.input (S.left source.old)) (unread reader.new.input (S.left source.new)) self.old.waiting (O.held out.old) (O.held out.new) }
         ensures followed { IsFollowed result }
         ensures ended { result ≡ Status.Ok → EndsThere (unread reader.old.input (S.left source.old)) (unread reader.new.input (S.left source.new)) }
         ensures read_fault { result ≡ Status.ReadFault → Rose (S.Faulty.faults source.old) (S.Faulty.faults source.new) ⊎ (most_taken ≤ reader.new.input.taken) }
@@ -291,6 +300,7 @@ pub fn replay_journal<S: Source, O: Sink>(alloc: Global, source: &mut S, out: &m
     ensures report { Replays (S.left source.old) (S.left source.new) (S.given source.new - S.given source.old) (O.held out.old) (O.held out.new) result }
     ensures replayed { IsReplayed result }
     ensures rest { IsRefusal result → LeavesBehind result (S.left source.old) (S.left source.new) }
+    ensures cut { result ≡ Status.WriteFault → LeavesCut (S.left source.old) (S.left source.new) (O.held out.old) (O.held out.new) }
     ensures ended { result ≡ Status.Ok → EndsThere (S.left source.old) (S.left source.new) }
     ensures memory { result ≡ Status.Memory → out.new ≡ out.old }
     ensures read_fault { result ≡ Status.ReadFault → Rose (S.Faulty.faults source.old) (S.Faulty.faults source.new) ⊎ (S.given source.old + most_taken ≤ S.given source.new) }
@@ -317,7 +327,10 @@ pub fn replay_journal<S: Source, O: Sink>(alloc: Global, source: &mut S, out: &m
     };
     match replay.put_rows(out) {
         Ok(()) => {}
-        Err(Failed) => return Status::WriteFault,
+        Err(Failed) => {
+            let _few = reader.ahead_len();
+            return Status::WriteFault;
+        }
     }
     let status = replay.follow(&mut reader, source, out);
     let _few = reader.ahead_len();

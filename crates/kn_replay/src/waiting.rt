@@ -49,6 +49,15 @@ impl Waiting {
         &self.buffer[..self.len]
     }
 
+    /// How many bytes wait.
+    #[inline(always)]
+    pub fn len(&self) -> usize
+        ensures value { result ≡ length self.now }
+        ensures most { length self.now ≤ 65536 }
+    {
+        self.bytes().len()
+    }
+
     fn put(&mut self, bytes: &[u8])
         requires { length self.old + length bytes.now ≤ 65536 }
         ensures { self.new ≡ self.old ++ bytes.now }

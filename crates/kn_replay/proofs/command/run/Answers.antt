@@ -58,6 +58,10 @@ pub returns-in-None-clause-rest : goal.returns-in-None-clause-rest
 returns-in-None-clause-rest g c is refused =
     absurd (none_replays _ (sym c.command_of.ensures.value ∙ c.in-None.is) is)
 
+pub returns-in-None-clause-cut : goal.returns-in-None-clause-cut
+returns-in-None-clause-cut g c is fault =
+    absurd (none_replays _ (sym c.command_of.ensures.value ∙ c.in-None.is) is)
+
 pub returns-in-None-clause-ended : goal.returns-in-None-clause-ended
 returns-in-None-clause-ended g c is ok =
     absurd (none_replays _ (sym c.command_of.ensures.value ∙ c.in-None.is) is)
@@ -136,6 +140,10 @@ returns-in-Some-Replay-clause-rest g c is refused =
     let rest = c.replay_journal.ensures.rest (subst IsRefusal same refused) in
     subst (λ (x : Status). LeavesBehind x (g.S.Source.left c.args.input.now) (g.S.Source.left c.replay_journal.new.source)) (sym same) rest
 
+pub returns-in-Some-Replay-clause-cut : goal.returns-in-Some-Replay-clause-cut
+returns-in-Some-Replay-clause-cut g c is fault =
+    c.replay_journal.ensures.cut (sym c.tell-in-Some-Replay.ensures.same ∙ fault)
+
 pub returns-in-Some-Replay-clause-ended : goal.returns-in-Some-Replay-clause-ended
 returns-in-Some-Replay-clause-ended g c is ok =
     c.replay_journal.ensures.ended (sym c.tell-in-Some-Replay.ensures.same ∙ ok)
@@ -202,6 +210,10 @@ returns-in-Some-Generate-clause-report g c is =
 
 pub returns-in-Some-Generate-clause-rest : goal.returns-in-Some-Generate-clause-rest
 returns-in-Some-Generate-clause-rest g c is refused =
+    absurd (replay_or_generate _ c.in-Some-Generate.seed c.in-Some-Generate.count is (sym c.command_of.ensures.value ∙ c.in-Some-Generate.is ∙ ap (λ (k : Command). Some k) c.in-Some-Generate.field-0-is))
+
+pub returns-in-Some-Generate-clause-cut : goal.returns-in-Some-Generate-clause-cut
+returns-in-Some-Generate-clause-cut g c is fault =
     absurd (replay_or_generate _ c.in-Some-Generate.seed c.in-Some-Generate.count is (sym c.command_of.ensures.value ∙ c.in-Some-Generate.is ∙ ap (λ (k : Command). Some k) c.in-Some-Generate.field-0-is))
 
 pub returns-in-Some-Generate-clause-ended : goal.returns-in-Some-Generate-clause-ended

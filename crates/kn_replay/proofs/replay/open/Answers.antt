@@ -1,5 +1,5 @@
-use Rattle.std.proofs.Common.{ℕ, ap, ◌∙◌, subst}
-use Rattle.std.specs.Prelude.{Err}
+use Rattle.std.proofs.Common.{ℕ, ◌+◌, ap, ◌∙◌, subst}
+use Rattle.std.specs.Prelude.{Err, Some}
 use Rattle.kn_journal.specs.declared.error.JournalError.{JournalError}
 use Rattle.kn_journal.specs.declared.journal.Opening.{Opening}
 use Rattle.kn_journal.specs.Journal.{opening_part, version_of}
@@ -22,7 +22,7 @@ returns-in-Err-clause-rest g c =
     let old = unread c.args.reader.now.input (g.S.Source.left c.args.source.now) in
     let new = unread c.setup.new.self.input (g.S.Source.left c.setup.new.source) in
     setup_behind old new c.in-Err.error
-    (subst (λ (n : ℕ). IsLineFault c.in-Err.error → LeavesRest (opening_part version_of n) c.in-Err.error old new) c.requires.number (c.in-Err.ensures.rest c.requires.good))
+    (subst (λ (n : ℕ). IsLineFault c.in-Err.error → LeavesRest (opening_part version_of n) n (Some (n + 1)) c.in-Err.error old new) c.requires.number (c.in-Err.ensures.rest c.requires.good))
 
 pub returns-in-Err-start-clause-rest : goal.returns-in-Err-start-clause-rest
 returns-in-Err-start-clause-rest g c =

@@ -6,9 +6,11 @@ use Rattle.kn_core.specs.State.{RevisionState, StandsFor}
 use Rattle.kn_journal.specs.declared.error.JournalError.{JournalError}
 use Rattle.kn_journal.specs.declared.status.Status.{Status}
 use Rattle.kn_journal.specs.Reading.{unread}
+use Rattle.kn_replay.specs.Cutting.{FollowsCut}
 use Rattle.kn_replay.specs.Replaying.{Follows, FollowsBehind, IsBehind, IsRefusal, Opens, status_of}
 use Rattle.kn_replay.specs.Tally.{Counted}
 use Rattle.kn_replay.proofs.Behind.{journal_behind}
+use Rattle.kn_replay.proofs.Cuts.{journal_follows_cut, opening_cut}
 use Rattle.kn_replay.proofs.Replays.{beyond_is, either, ends_left, ends_opened, fault_of, followed_replayed, journal_cut, journal_fails, journal_follows, journal_memory, never_memory, never_ok, no_write_fault, nothing_ahead, rose_on}
 use Rattle.kn_replay.proofs.replay.replay_journal.Goals as goal
 
@@ -21,6 +23,9 @@ returns-in-Err-clause-ended g c is = cc
 
 pub returns-in-Err-clause-rest : goal.returns-in-Err-clause-rest
 returns-in-Err-clause-rest g c refused = absurd refused
+
+pub returns-in-Err-clause-cut : goal.returns-in-Err-clause-cut
+returns-in-Err-clause-cut g c is = cc
 
 pub returns-in-Err-clause-memory : goal.returns-in-Err-clause-memory
 returns-in-Err-clause-memory g c is = refl
@@ -64,6 +69,9 @@ returns-in-Err-open-clause-rest g c refused =
     let behind = subst (λ (x : Option (List ℕ)). IsBehind (status_of c.in-Err-open.error) x new) start (c.in-Err-open.ensures.rest (subst IsRefusal is refused)) in
     (c.open.new.reader.input.ahead, c.ahead_len-few.ensures.most, subst (λ (x : Status). IsBehind x (g.S.Source.left c.args.source.now) new) (sym is) behind)
 
+pub returns-in-Err-open-clause-cut : goal.returns-in-Err-open-clause-cut
+returns-in-Err-open-clause-cut g c is = absurd (no_write_fault c.in-Err-open.error (sym c.status_of.ensures.value ∙ is))
+
 pub returns-in-Err-open-clause-memory : goal.returns-in-Err-open-clause-memory
 returns-in-Err-open-clause-memory g c is = refl
 
@@ -95,6 +103,9 @@ returns-in-Err-new-clause-ended g c is = cc
 pub returns-in-Err-new-clause-rest : goal.returns-in-Err-new-clause-rest
 returns-in-Err-new-clause-rest g c refused = absurd refused
 
+pub returns-in-Err-new-clause-cut : goal.returns-in-Err-new-clause-cut
+returns-in-Err-new-clause-cut g c is = cc
+
 pub returns-in-Err-new-clause-memory : goal.returns-in-Err-new-clause-memory
 returns-in-Err-new-clause-memory g c is = refl
 
@@ -122,6 +133,15 @@ returns-in-Err-put_rows-clause-ended g c is = cc
 
 pub returns-in-Err-put_rows-clause-rest : goal.returns-in-Err-put_rows-clause-rest
 returns-in-Err-put_rows-clause-rest g c refused = absurd refused
+
+pub returns-in-Err-put_rows-clause-cut : goal.returns-in-Err-put_rows-clause-cut
+returns-in-Err-put_rows-clause-cut g c is =
+    let start = nothing_ahead c.in-Ok.reader.input.ahead (g.S.Source.left c.args.source.now) c.in-Ok.ensures.ahead in
+    let opens = subst (λ (x : Option (List ℕ)). Opens x (unread c.open.new.reader.input (g.S.Source.left c.open.new.source)) c.open.new.reader.version c.open.new.reader.number (Ok c.in-Ok-open.parts)) start c.in-Ok-open.ensures.opens in (
+      c.open.new.reader.input.ahead,
+      c.ahead_len-few-in-Err-put_rows.ensures.most,
+      opening_cut (g.S.Source.left c.args.source.now) (unread c.open.new.reader.input (g.S.Source.left c.open.new.source)) c.open.new.reader.version c.in-Ok-open.parts.0 c.in-Ok-open.parts.1 c.open.new.reader.number _ (g.O.Sink.held c.args.out.now) (g.O.Sink.held c.put_rows.new.out) c.openings_are_whole.ensures.opening c.openings_are_whole.ensures.start opens c.in-Err-put_rows.ensures.err,
+    )
 
 pub returns-in-Err-put_rows-clause-memory : goal.returns-in-Err-put_rows-clause-memory
 returns-in-Err-put_rows-clause-memory g c is = cc
@@ -201,6 +221,24 @@ returns-clause-rest g c refused =
       c.follow-status.new.reader.input.ahead,
       c.ahead_len-few-2.ensures.most,
       journal_behind (g.S.Source.left c.args.source.now) left rest c.open.new.reader.version c.in-Ok-open.parts.0 c.in-Ok-open.parts.1 c.open.new.reader.number c.follow-status.result c.openings_are_whole.ensures.opening c.openings_are_whole.ensures.start opens follows,
+    )
+
+pub returns-clause-cut : goal.returns-clause-cut
+returns-clause-cut g c is =
+    let start = nothing_ahead c.in-Ok.reader.input.ahead (g.S.Source.left c.args.source.now) c.in-Ok.ensures.ahead in
+    let opens = subst (λ (x : Option (List ℕ)). Opens x (unread c.open.new.reader.input (g.S.Source.left c.open.new.source)) c.open.new.reader.version c.open.new.reader.number (Ok c.in-Ok-open.parts)) start c.in-Ok-open.ensures.opens in
+    let begun = opening c.in-Ok-open.parts.0.spec c.in-Ok-open.parts.1 in
+    let left = (unread c.open.new.reader.input (g.S.Source.left c.open.new.source)) in
+    let rest = unread c.follow-status.new.reader.input (g.S.Source.left c.follow-status.new.source) in
+    let stands = subst (λ (r : RevisionState). StandsFor r begun) (sym c.put_rows.ensures.revision) c.in-Ok-new.ensures.stands in
+    let counts = ap (λ (n : Counted). n.totals) c.put_rows.ensures.counted ∙ c.in-Ok-new.ensures.totals in
+    let spec = ap (λ (r : RevisionState). r.spec) c.put_rows.ensures.revision ∙ c.in-Ok-new.ensures.spec in
+    let one = subst (λ (s : Spec). FollowsCut c.open.new.reader.version s begun c.open.new.reader.last c.open.new.reader.number left rest c.put_rows.new.self.waiting (g.O.Sink.held c.put_rows.new.out) (g.O.Sink.held c.follow-status.new.out)) spec (c.follow-status.ensures.cut begun stands counts is) in
+    let cut = subst (λ (n : ℕ). FollowsCut c.open.new.reader.version c.in-Ok-open.parts.0.spec begun n c.open.new.reader.number left rest c.put_rows.new.self.waiting (g.O.Sink.held c.put_rows.new.out) (g.O.Sink.held c.follow-status.new.out)) c.in-Ok-open.ensures.start one in
+    let adds = rw (c.in-Ok-new.ensures.waiting, c.in-Ok-new.ensures.log) at c.in-Ok-put_rows.ensures.ok in (
+      c.follow-status.new.reader.input.ahead,
+      c.ahead_len-few-2.ensures.most,
+      journal_follows_cut (g.S.Source.left c.args.source.now) left rest c.open.new.reader.version c.in-Ok-open.parts.0 c.in-Ok-open.parts.1 c.open.new.reader.number c.put_rows.new.self.waiting (g.O.Sink.held c.args.out.now) (g.O.Sink.held c.put_rows.new.out) (g.O.Sink.held c.follow-status.new.out) c.openings_are_whole.ensures.opening c.openings_are_whole.ensures.start opens adds cut,
     )
 
 pub returns-clause-memory : goal.returns-clause-memory

@@ -12,6 +12,7 @@ use Rattle.kn_journal.specs.Reading.{unread}
 use Rattle.kn_replay.specs.Replaying.{status_of}
 use Rattle.kn_replay.specs.Tally.{Counted}
 use Rattle.kn_replay.specs.Waiting.{Adds}
+use Rattle.kn_replay.proofs.Cuts.{cut_event, cut_full, cut_good, cut_stop, stop_cut}
 use Rattle.kn_replay.proofs.Behind.{goes_behind, stop_refused, stop_unrefused}
 use Rattle.kn_replay.proofs.Pieces.{rows_text-nil}
 use Rattle.kn_replay.proofs.Waits.{adds_nothing, adds_on, adds_trans}
@@ -56,6 +57,13 @@ returns-in-Err-clause-follows g c d stands counts =
 pub returns-in-Err-clause-rest : goal.returns-in-Err-clause-rest
 returns-in-Err-clause-rest g c d stands counts refused = absurd refused
 
+pub returns-in-Err-clause-cut : goal.returns-in-Err-clause-cut
+returns-in-Err-clause-cut g c d stands counts fault =
+    let on = c.loop-count.invariant.on d stands counts in
+    rw (c.in-Err.ensures.still.0, c.in-Err.ensures.still.1)
+    (cut_full c.args.reader.now.version c.args.self.now.revision.spec d c.args.reader.now.last c.args.reader.now.number (unread c.args.reader.now.input (g.S.Source.left c.args.source.now)) c.args.self.now.waiting c.loop-count.self.waiting (g.O.Sink.held c.args.out.now) (g.O.Sink.held c.loop-count.out) (g.O.Sink.held c.next.new.out) on.0 c.loop-count.reader.last c.loop-count.reader.number (unread c.loop-count.reader.input (g.S.Source.left c.loop-count.source))
+    on.5 on.4 c.in-Err.ensures.failed c.next.ensures.room)
+
 pub returns-in-Err-clause-write_fault : goal.returns-in-Err-clause-write_fault
 returns-in-Err-clause-write_fault g c is = rose_on _ _ _ c.loop-count.invariant.write c.in-Err.ensures.cause.failed
 
@@ -80,6 +88,16 @@ returns-in-None-clause-follows g c d stands counts =
 
 pub returns-in-None-clause-rest : goal.returns-in-None-clause-rest
 returns-in-None-clause-rest g c d stands counts refused = absurd (stop_unrefused _ _ _ status.Ok c.end.result c.end.ensures.stops (λ h. h) refused)
+
+pub returns-in-None-clause-cut : goal.returns-in-None-clause-cut
+returns-in-None-clause-cut g c d stands counts fault =
+    let kept = c.loop-count.invariant in
+    let on = kept.on d stands counts in
+    let adds = adds_on (g.O.Sink.held c.args.out.now) (g.O.Sink.held c.loop-count.out) (g.O.Sink.held c.next.new.out) c.args.self.now.waiting c.loop-count.self.waiting c.next.new.self.waiting (rows_text (added c.args.self.now.revision.spec d on.0)) on.4 c.in-Ok.ensures.adds in
+    let gives = rw (c.in-Ok-read.is, c.in-None.is, kept.version) at c.in-Ok.ensures.tells in
+    let some = stop_cut _ _ _ status.Ok c.end.result c.end.ensures.stops fault (λ is. cc) in
+    cut_good c.args.reader.now.version c.args.self.now.revision.spec d c.args.reader.now.last c.args.reader.now.number (unread c.args.reader.now.input (g.S.Source.left c.args.source.now)) c.args.self.now.waiting c.next.new.self.waiting _ (g.O.Sink.held c.args.out.now) (g.O.Sink.held c.next.new.out) (g.O.Sink.held c.end.new.out) on.0 c.loop-count.reader.last c.loop-count.reader.number (unread c.loop-count.reader.input (g.S.Source.left c.loop-count.source)) c.next.new.reader.number (unread c.next.new.reader.input (g.S.Source.left c.next.new.source))
+    on.5 gives adds some c.next.ensures.fits
 
 pub returns-in-None-clause-ended : goal.returns-in-None-clause-ended
 returns-in-None-clause-ended g c ok =
@@ -118,6 +136,18 @@ returns-in-Err-read-clause-rest g c d stands counts refused =
     let said = stop_refused _ _ _ c.in-Err-read.error c.stop.result (rw c.status_of.ensures.value at c.stop.ensures.stops) refused in
     goes_behind c.args.reader.now.version c.args.reader.now.last c.args.reader.now.number (unread c.args.reader.now.input (g.S.Source.left c.args.source.now)) on.0 c.loop-count.reader.last c.loop-count.reader.number (unread c.loop-count.reader.input (g.S.Source.left c.loop-count.source)) (unread c.next.new.reader.input (g.S.Source.left c.next.new.source)) c.in-Err-read.error c.stop.result
     on.5 (rw (c.in-Err-read.is, kept.version) at c.in-Ok.ensures.rest said.1) said.0
+
+pub returns-in-Err-read-clause-cut : goal.returns-in-Err-read-clause-cut
+returns-in-Err-read-clause-cut g c d stands counts fault =
+    let kept = c.loop-count.invariant in
+    let on = kept.on d stands counts in
+    let adds = adds_on (g.O.Sink.held c.args.out.now) (g.O.Sink.held c.loop-count.out) (g.O.Sink.held c.next.new.out) c.args.self.now.waiting c.loop-count.self.waiting c.next.new.self.waiting (rows_text (added c.args.self.now.revision.spec d on.0)) on.4 c.in-Ok.ensures.adds in
+    let some = stop_cut _ _ _ (status_of c.in-Err-read.error) c.stop.result (rw c.status_of.ensures.value at c.stop.ensures.stops) fault (no_write_fault c.in-Err-read.error) in
+    cut_stop c.args.reader.now.version c.args.self.now.revision.spec d c.args.reader.now.last c.args.reader.now.number (unread c.args.reader.now.input (g.S.Source.left c.args.source.now)) c.args.self.now.waiting c.next.new.self.waiting _ (g.O.Sink.held c.args.out.now) (g.O.Sink.held c.next.new.out) (g.O.Sink.held c.stop.new.out) on.0 c.loop-count.reader.last c.loop-count.reader.number (unread c.loop-count.reader.input (g.S.Source.left c.loop-count.source)) (unread c.next.new.reader.input (g.S.Source.left c.next.new.source)) c.in-Err-read.error
+    on.5 (rw (c.in-Err-read.is, kept.version) at c.in-Ok.ensures.tells)
+    (λ is. c.in-Ok.ensures.amid (c.in-Err-read.is ∙ ap (λ (e : JournalError). Err e) is))
+    (λ is. c.in-Ok.ensures.memory (c.in-Err-read.is ∙ ap (λ (e : JournalError). Err e) is))
+    (rw (c.in-Err-read.is, kept.version) at c.in-Ok.ensures.rest) adds some c.next.ensures.fits
 
 pub returns-in-Err-read-clause-followed : goal.returns-in-Err-read-clause-followed
 returns-in-Err-read-clause-followed g c =
@@ -175,6 +205,15 @@ returns-in-Err-put_rows-clause-follows g c d stands counts =
 
 pub returns-in-Err-put_rows-clause-rest : goal.returns-in-Err-put_rows-clause-rest
 returns-in-Err-put_rows-clause-rest g c d stands counts refused = absurd refused
+
+pub returns-in-Err-put_rows-clause-cut : goal.returns-in-Err-put_rows-clause-cut
+returns-in-Err-put_rows-clause-cut g c d stands counts fault =
+    let kept = c.loop-count.invariant in
+    let on = kept.on d stands counts in
+    let adds = adds_on (g.O.Sink.held c.args.out.now) (g.O.Sink.held c.loop-count.out) (g.O.Sink.held c.next.new.out) c.args.self.now.waiting c.loop-count.self.waiting c.next.new.self.waiting (rows_text (added c.args.self.now.revision.spec d on.0)) on.4 c.in-Ok.ensures.adds in
+    let gives = rw (c.in-Ok-read.is, c.in-Some.is, kept.version) at c.in-Ok.ensures.tells in
+    cut_event c.args.reader.now.version c.args.self.now.revision.spec d c.args.reader.now.last c.args.reader.now.number (unread c.args.reader.now.input (g.S.Source.left c.args.source.now)) c.args.self.now.waiting c.next.new.self.waiting _ (g.O.Sink.held c.args.out.now) (g.O.Sink.held c.next.new.out) (g.O.Sink.held c.put_rows.new.out) on.0 c.loop-count.reader.last c.loop-count.reader.number (unread c.loop-count.reader.input (g.S.Source.left c.loop-count.source)) c.in-Some.e c.next.new.reader.number (unread c.next.new.reader.input (g.S.Source.left c.next.new.source))
+    on.5 gives adds (rw c.take.ensures.waiting at c.in-Err-put_rows.ensures.err) c.next.ensures.fits
 
 pub returns-in-Err-put_rows-clause-write_fault : goal.returns-in-Err-put_rows-clause-write_fault
 returns-in-Err-put_rows-clause-write_fault g c is = rose_on _ _ _ (le_trans c.loop-count.invariant.write c.next.ensures.cause.never_falls) c.in-Err-put_rows.ensures.cause.failed
@@ -245,6 +284,9 @@ pub returns-clause-read_fault : goal.returns-clause-read_fault
 returns-clause-read_fault g c fault = inr (omega (arith, c.loop-count.invariant.taken, c.loop-count-test.false))
 
 -- So many events have more bytes than may be taken.
+pub returns-clause-cut : goal.returns-clause-cut
+returns-clause-cut g c d stands counts fault = absurd (omega (arith, c.loop-count.invariant.taken, c.loop-count.invariant.few, c.loop-count-test.false))
+
 pub returns-clause-spent : goal.returns-clause-spent
 returns-clause-spent g c fault = absurd (omega (arith, c.loop-count.invariant.taken, c.loop-count.invariant.few, c.loop-count-test.false))
 
