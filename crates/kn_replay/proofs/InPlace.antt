@@ -1,7 +1,10 @@
 -- Text that is written in place, and the digits of a number in pairs.
-use Rattle.std.proofs.Common.{◌≡◌, ◌+◌, ◌*◌, ◌/◌, ◌%◌, ◌-◌, ◌<◌, ◌≤◌, ℕ, zero, suc, Bool, true, ◌&&◌, T, eqb, eqb→eq, List, [], ◌∷◌, ◌++◌, length, get_or, set, take, append_assoc, length-append, length-set, eq-zero-or-pos, inl, inr, refl, sym, ap, ◌∙◌, arith}
+use Rattle.std.proofs.Common.{◌≡◌, ◌+◌, ◌*◌, ◌/◌, ◌%◌, ◌-◌, ◌<◌, ◌≤◌, ◌^◌, ℕ, zero, suc, Bool, true, ◌&&◌, T, eqb, eqb→eq, List, [], ◌∷◌, ◌++◌, length, get_or, set, take, drop, append_assoc, length-append, length-set, eq-zero-or-pos, inl, inr, sym, ap, ◌∙◌, arith}
 use Rattle.std.specs.Prelude.{Option, None, Some, IfSome}
-use Rattle.std.proofs.lemmas.List.{take-take, take_at, take_more_set, length-take-le}
+use Rattle.std.specs.Fmt.{decimal}
+use Rattle.std.proofs.lemmas.List.{drop-take, take-take, take_at, take_more_set, length-take-le}
+use Rattle.std.proofs.Math.Seq.{drop-append_seam, take-append-add}
+use Rattle.itoa.proofs.Decimal.{decimal_four, pair}
 use Rattle.kn_event.specs.declared.entry.Row.{Row}
 use Rattle.kn_event.specs.EntryLine.{row_text}
 use Rattle.kn_replay.specs.declared.digits.TheConstants.{PAIRS}
@@ -37,17 +40,41 @@ two_set room at x y fits =
 pub two_in_a_row : (start a b one two text : List ℕ) → one ≡ start ++ a → two ≡ one ++ b → text ≡ a ++ b → two ≡ start ++ text
 two_in_a_row start a b one two text p q is = q ∙ ap (λ (m : List ℕ). m ++ b) p ∙ append_assoc start a b ∙ ap (λ (m : List ℕ). start ++ m) (sym is)
 
-pub three_in_a_row : (start a b c one two three text : List ℕ) → one ≡ start ++ a → two ≡ one ++ b → three ≡ two ++ c → text ≡ a ++ (b ++ c) → three ≡ start ++ text
-three_in_a_row start a b c one two three text p q r is =
-    two_in_a_row start a (b ++ c) one three text p (two_in_a_row one b c two three (b ++ c) q r refl) is
+-- the digits of a number from its ten thousands on, and its last four
+pub and_four : (start one two : List ℕ) (n : ℕ) → 10000 ≤ n → n < 2 ^ 64 → one ≡ start ++ decimal (n / 10000)
+    → two ≡ one ++ (48 + n % 10000 / 1000) ∷ (48 + n % 10000 / 100 % 10) ∷ (48 + n % 10000 % 100 / 10) ∷ (48 + n % 10000 % 10) ∷ [] → two ≡ start ++ decimal n
+and_four start one two n lo hi p q =
+    let thousands : n % 10000 / 1000 ≡ n % 10000 / 100 / 10 = omega arith in
+    let ones : n % 10000 % 10 ≡ n % 10000 % 100 % 10 = omega arith in
+    two_in_a_row start (decimal (n / 10000)) (pair (n % 10000 / 100) ++ pair (n % 10000 % 100)) one two (decimal n) p (rw (thousands, ones) at q) (decimal_four n lo hi)
+
+-- where a text ends
+pub text_end : (old new text : List ℕ) (at end : ℕ) → at ≤ length old → end ≤ length new → take end new ≡ take at old ++ text → end ≡ at + length text
+text_end old new text at end first within is =
+    sym (length-take-le end new within) ∙ ap length is ∙ length-append (take at old) text ∙ ap (λ (n : ℕ). n + length text) (length-take-le at old first)
 
 -- bytes that stand before a text stay
 pub stays_before : (old mid new text : List ℕ) (at behind : ℕ) → at ≤ length old → behind ≤ length mid → take behind mid ≡ take at old ++ text → take behind new ≡ take behind mid
     → take at new ≡ take at old
 stays_before old mid new text at behind first within is same =
-    let front : length (take at old) ≡ at = length-take-le at old first in
-    let long : behind ≡ at + length text = sym (length-take-le behind mid within) ∙ ap length is ∙ length-append (take at old) text ∙ ap (λ (n : ℕ). n + length text) front in
-    sym (take-take at behind new (omega arith)) ∙ ap (take at) (same ∙ is) ∙ take_at (take at old) text at front
+    let long : behind ≡ at + length text = text_end old mid text at behind first within is in
+    sym (take-take at behind new (omega arith)) ∙ ap (take at) (same ∙ is) ∙ take_at (take at old) text at (length-take-le at old first)
+
+-- ---- a text that is kept
+
+-- the first bytes of a text that was written
+pub front_of : (old new text : List ℕ) (at n m : ℕ) → at ≤ length old → n ≤ m → take (at + m) new ≡ take at old ++ text → take (at + n) new ≡ take at old ++ take n text
+front_of old new text at n m first few is =
+    sym (take-take (at + n) (at + m) new (omega arith)) ∙ ap (take (at + n)) is
+    ∙ ap (λ (k : ℕ). take (k + n) (take at old ++ text)) (sym (length-take-le at old first))
+    ∙ take-append-add (take at old) text n
+
+-- a text that was written, and what is kept of it
+pub kept : (old new text : List ℕ) (at n m : ℕ) → at ≤ length old → n ≤ m → take (at + n) new ≡ take at old ++ text → take n (take m (drop at new)) ≡ text
+kept old new text at n m first few is =
+    take-take n m (drop at new) few ∙ sym (drop-take at n new) ∙ ap (drop at) is
+    ∙ ap (λ (k : ℕ). drop k (take at old ++ text)) (sym (length-take-le at old first))
+    ∙ drop-append_seam (take at old) text
 
 -- ---- rows
 

@@ -1,5 +1,5 @@
 -- The counts of the last line while a report is written.
-use Rattle.std.specs.Prelude.{ℕ, ◌+◌, ◌≤◌, true, false}
+use Rattle.std.specs.Prelude.{◌≡◌, ℕ, ◌+◌, true, false}
 use Rattle.kn_event.specs.declared.entry.Row.{Row}
 use Rattle.kn_event.specs.declared.entry.Row.TheVariants as row
 use Rattle.kn_trace.specs.Report.{Totals}
@@ -8,20 +8,6 @@ use Rattle.kn_trace.specs.Report.{Totals}
 pub record Counted : Type 0 where
   pub rows : ℕ
   pub totals : Totals
-
--- no kind has more entries than there were
-pub record AreWithin (rows : ℕ) (t : Totals) : Type 0 where
-  pub admitted : t.admitted ≤ rows
-  pub direct : t.direct ≤ rows
-  pub assigned : t.assigned ≤ rows
-  pub finished : t.finished ≤ rows
-  pub failed : t.failed ≤ rows
-  pub expired : t.expired ≤ rows
-  pub cancelled : t.cancelled ≤ rows
-  pub queue_full : t.queue_full ≤ rows
-  pub overload : t.overload ≤ rows
-  pub decisions : t.decisions ≤ rows
-  pub lost : t.lost ≤ rows
 
 -- one more entry
 abbrev pub with_row : Row → Totals → Totals
@@ -37,3 +23,8 @@ with_row (row.Overload r) t = record t { overload = t.overload + 1 }
 with_row (row.LostRequest r) t = record t { lost = t.lost + 1 }
 with_row (row.Decided d) t = record t { decisions = t.decisions + 1 }
 with_row _ t = t
+
+-- the counts with one more entry
+pub record CountsRow (row : Row) (old new : Counted) : Type 0 where
+  pub rows : new.rows ≡ old.rows + 1
+  pub totals : new.totals ≡ with_row row old.totals

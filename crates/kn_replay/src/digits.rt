@@ -14,9 +14,10 @@ pub fn put_word(room: &mut [u8], at: usize, word: &[u8]) -> usize
     ensures text { take result room.new ≡ take at room.old ++ word.now }
     ensures end { result ≡ at + length word.now }
 {
-    let end = at + word.len();
-    room[at..end].copy_from_slice(word);
-    end
+    for i in 0..word.len() {
+        room[at + i] = word[i];
+    }
+    at + word.len()
 }
 
 /// Two digits.
@@ -47,6 +48,24 @@ fn put_few(room: &mut [u8], at: usize, n: u64) -> usize
     put_pair(room, at, n)
 }
 
+/// How many hundreds there are, by a multiplication.
+#[inline(always)]
+fn hundreds(n: u64) -> u64
+    requires { n < 10000 }
+    ensures value { result ≡ n / 100 }
+{
+    (n * 5243) >> 19
+}
+
+/// How many ten thousands there are, by a multiplication.
+#[inline(always)]
+fn ten_thousands(n: u64) -> u64
+    requires { n < 100000000 }
+    ensures value { result ≡ n / 10000 }
+{
+    (n * 109951163) >> 40
+}
+
 /// A number of up to four digits.
 #[inline(always)]
 fn put_four(room: &mut [u8], at: usize, n: u64) -> usize
@@ -57,24 +76,45 @@ fn put_four(room: &mut [u8], at: usize, n: u64) -> usize
     if n < 100 {
         return put_few(room, at, n);
     }
-    let at = put_few(room, at, n / 100);
-    put_pair(room, at, n % 100)
+    let high = hundreds(n);
+    let at = put_few(room, at, high);
+    put_pair(room, at, n - high * 100)
 }
 
-/// A number of up to eight digits.
+/// Four digits.
+#[inline(always)]
+fn put_pairs(room: &mut [u8], at: usize, n: u64) -> usize
+    requires { (n < 10000) × (at + 4 ≤ length room.old) }
+    ensures text { take result room.new ≡ take at room.old ++ (48 + n / 1000) ∷ (48 + n / 100 % 10) ∷ (48 + n % 100 / 10) ∷ (48 + n % 10) ∷ [] }
+    ensures end { result ≡ at + 4 }
+{
+    let high = hundreds(n);
+    let at = put_pair(room, at, high);
+    put_pair(room, at, n - high * 100)
+}
+
+/// A number of five or six digits.
+#[inline(always)]
+fn put_six(room: &mut [u8], at: usize, n: u64) -> usize
+    requires { (10000 ≤ n) × (n < 1000000) × (at + 6 ≤ length room.old) }
+    ensures text { take result room.new ≡ take at room.old ++ decimal n }
+    ensures end { result ≤ at + 6 }
+{
+    let high = ten_thousands(n);
+    let at = put_few(room, at, high);
+    put_pairs(room, at, n - high * 10000)
+}
+
+/// A number of five digits to eight.
 #[inline(always)]
 fn put_eight(room: &mut [u8], at: usize, n: u64) -> usize
-    requires { (n < 100000000) × (at + 8 ≤ length room.old) }
+    requires { (10000 ≤ n) × (n < 100000000) × (at + 8 ≤ length room.old) }
     ensures text { take result room.new ≡ take at room.old ++ decimal n }
     ensures end { result ≤ at + 8 }
 {
-    if n < 10_000 {
-        return put_four(room, at, n);
-    }
-    let at = put_four(room, at, n / 10_000);
-    let rest = n % 10_000;
-    let at = put_pair(room, at, rest / 100);
-    put_pair(room, at, rest % 100)
+    let high = ten_thousands(n);
+    let at = put_four(room, at, high);
+    put_pairs(room, at, n - high * 10000)
 }
 
 /// Any number, by way of a buffer.
@@ -95,9 +135,14 @@ pub fn put_number(room: &mut [u8], at: usize, n: u64) -> usize
     ensures text { take result room.new ≡ take at room.old ++ decimal n }
     ensures end { result ≤ at + 20 }
 {
-    if n < 100_000_000 {
-        put_eight(room, at, n)
-    } else {
-        put_long(room, at, n)
+    if n < 10_000 {
+        return put_four(room, at, n);
     }
+    if n < 1_000_000 {
+        return put_six(room, at, n);
+    }
+    if n < 100_000_000 {
+        return put_eight(room, at, n);
+    }
+    put_long(room, at, n)
 }

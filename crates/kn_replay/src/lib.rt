@@ -8,6 +8,7 @@ mod lawful;
 mod replay;
 mod report;
 mod rows;
+mod stamp;
 mod texts;
 mod waiting;
 

@@ -105,13 +105,31 @@ impl Replay {
         ensures log { (c : Trace) → StandsFor self.old.revision c → self.new.log ≡ react self.old.revision.spec c e.now }
         ensures waiting { self.new.waiting ≡ self.old.waiting }
     {
-        self.log.clear();
-        let _ = self.revision.step(e, &mut self.log);
+        self.step(e);
         self.tally.add_all(&self.log);
     }
 
-    /// Adds the rows of the last event behind what waits.
-    #[inline(always)]
+    /// Takes one event, whose entries are still to be counted.
+    #[inline(never)]
+    fn step(&mut self, e: &Event)
+        requires order { self.old.revision.clock ≤ e.now.time }
+        requires times { e.now.time ≤ 2 ^ 42 }
+        requires events { self.old.revision.events < 2 ^ 54 }
+        requires range { IsInJournalRange e.now.act }
+        ensures stands { (c : Trace) → StandsFor self.old.revision c → StandsFor self.new.revision (c ++ react self.old.revision.spec c e.now) }
+        ensures spec { self.new.revision.spec ≡ self.old.revision.spec }
+        ensures clock { self.new.revision.clock ≡ e.now.time }
+        ensures events { self.new.revision.events ≡ self.old.revision.events + 1 }
+        ensures counted { self.new.counted ≡ self.old.counted }
+        ensures log { (c : Trace) → StandsFor self.old.revision c → self.new.log ≡ react self.old.revision.spec c e.now }
+        ensures waiting { self.new.waiting ≡ self.old.waiting }
+    {
+        self.log.clear();
+        let _ = self.revision.step(e, &mut self.log);
+    }
+
+    /// Adds the rows of the last event behind what waits. They were counted before.
+    #[inline(never)]
     fn put_rows<O: Sink>(&mut self, out: &mut O) -> Result<(), Failed>
         ensures ok { OnOk result (Adds (O.held out.old) (O.held out.new) self.old.waiting self.new.waiting (rows_text self.old.log)) }
         ensures err { OnErr result (AppendsPrefix (O.held out.old) (O.held out.new) (self.old.waiting ++ rows_text self.old.log)) }
@@ -119,7 +137,34 @@ impl Replay {
         ensures counted { self.new.counted ≡ self.old.counted }
         ensures cause { HasCause (O.Faulty.faults out.old) (O.Faulty.faults out.new) result }
     {
-        add_rows(&self.log, &mut self.line, &mut self.waiting, out)
+        let mut again = Tally::new();
+        add_rows(
+            &self.log,
+            &mut again,
+            &mut self.line,
+            &mut self.waiting,
+            out,
+        )
+    }
+
+    /// Adds the rows of the last event behind what waits, and counts them.
+    #[inline(always)]
+    fn count_and_put<O: Sink>(&mut self, out: &mut O) -> Result<(), Failed>
+        requires few { self.old.counted.rows ≤ 2 ^ 126 }
+        ensures ok { OnOk result (Adds (O.held out.old) (O.held out.new) self.old.waiting self.new.waiting (rows_text self.old.log)) }
+        ensures err { OnErr result (AppendsPrefix (O.held out.old) (O.held out.new) (self.old.waiting ++ rows_text self.old.log)) }
+        ensures revision { self.new.revision ≡ self.old.revision }
+        ensures rows { OnOk result (self.new.counted.rows < self.old.counted.rows + 2 ^ 64) }
+        ensures totals { (c : Trace) → self.old.counted.totals ≡ totals c → OnOk result (self.new.counted.totals ≡ totals (c ++ self.old.log)) }
+        ensures cause { HasCause (O.Faulty.faults out.old) (O.Faulty.faults out.new) result }
+    {
+        add_rows(
+            &self.log,
+            &mut self.tally,
+            &mut self.line,
+            &mut self.waiting,
+            out,
+        )
     }
 
     /// Writes what waits, unless more is to come at once.
@@ -254,8 +299,8 @@ impl Replay {
                 Some(e) => e,
                 None => return self.end(reader.version(), count, out),
             };
-            self.take(&e);
-            match self.put_rows(out) {
+            self.step(&e);
+            match self.count_and_put(out) {
                 Ok(()) => {}
                 Err(Failed) => return Status::WriteFault,
             }

@@ -2,15 +2,14 @@
 ghost use Rattle.std.specs.Prelude.{◌≡◌, ◌+◌, ◌<◌, ◌≤◌, ◌^◌, ◌++◌, [], length};
 ghost use Rattle.kn_trace.specs.Trace.{Trace};
 ghost use Rattle.kn_trace.specs.Report.{totals, named, taken_text, ended_text, refused_text, lost_text, last_line};
-ghost use Rattle.kn_replay.specs.Tally.{with_row};
+ghost use Rattle.kn_replay.specs.Tally.{CountsRow};
 
 use kn_event::{EntryLog, Line, Row};
 use std::marker::Model;
 
-/// How many entries of each kind there were.
+/// How many entries of each kind there were, and of all other kinds.
 #[derive(Drop)]
 pub struct Tally {
-    rows: u128,
     admitted: u128,
     direct: u128,
     assigned: u128,
@@ -22,17 +21,16 @@ pub struct Tally {
     overload: u128,
     decisions: u128,
     lost: u128,
+    others: u128,
 }
 
 impl Model for Tally {
-    ghost use Rattle.std.specs.Prelude.{◌≤◌};
-    ghost use Rattle.kn_replay.specs.Tally.{Counted, AreWithin};
+    ghost use Rattle.std.specs.Prelude.{◌+◌};
+    ghost use Rattle.kn_replay.specs.Tally.{Counted};
 
     ghost Value = { Counted };
 
-    ghost view = { λ t. record { rows = t.rows; totals = record { admitted = t.admitted; direct = t.direct; assigned = t.assigned; finished = t.finished; failed = t.failed; expired = t.expired; cancelled = t.cancelled; queue_full = t.queue_full; overload = t.overload; decisions = t.decisions; lost = t.lost } } };
-
-    ghost invariant = { λ t. AreWithin t.rows (record { admitted = t.admitted; direct = t.direct; assigned = t.assigned; finished = t.finished; failed = t.failed; expired = t.expired; cancelled = t.cancelled; queue_full = t.queue_full; overload = t.overload; decisions = t.decisions; lost = t.lost }) };
+    ghost view = { λ t. record { rows = t.admitted + t.direct + t.assigned + t.finished + t.failed + t.expired + t.cancelled + t.queue_full + t.overload + t.decisions + t.lost + t.others; totals = record { admitted = t.admitted; direct = t.direct; assigned = t.assigned; finished = t.finished; failed = t.failed; expired = t.expired; cancelled = t.cancelled; queue_full = t.queue_full; overload = t.overload; decisions = t.decisions; lost = t.lost } } };
 }
 
 impl Tally {
@@ -43,7 +41,6 @@ impl Tally {
         ensures totals { result.totals ≡ totals [] }
     {
         Tally {
-            rows: 0,
             admitted: 0,
             direct: 0,
             assigned: 0,
@@ -55,16 +52,16 @@ impl Tally {
             overload: 0,
             decisions: 0,
             lost: 0,
+            others: 0,
         }
     }
 
     /// Counts one entry more.
-    fn add(&mut self, row: &Row)
+    #[inline(always)]
+    pub fn add(&mut self, row: &Row)
         requires { self.old.rows < 2 ^ 127 }
-        ensures rows { self.new.rows ≡ self.old.rows + 1 }
-        ensures totals { self.new.totals ≡ with_row row.now self.old.totals }
+        ensures counted { CountsRow row.now self.old self.new }
     {
-        self.rows += 1;
         match *row {
             Row::Admit(_, _) => self.admitted += 1,
             Row::Direct(_, _) => self.direct += 1,
@@ -77,7 +74,7 @@ impl Tally {
             Row::Overload(_) => self.overload += 1,
             Row::LostRequest(_) => self.lost += 1,
             Row::Decided(_) => self.decisions += 1,
-            _ => {}
+            _ => self.others += 1,
         }
     }
 

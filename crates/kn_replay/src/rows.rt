@@ -1,9 +1,12 @@
 //! Rows of the report that are written in place.
-ghost use Rattle.std.specs.Prelude.{◌≡◌, ◌+◌, ◌≤◌, ◌++◌, ◌∷◌, [], length, take, IfSome, None};
+ghost use Rattle.std.specs.Prelude.{◌≡◌, ◌+◌, ◌<◌, ◌≤◌, ◌^◌, ◌++◌, ◌∷◌, [], length, take, IfSome, None};
 ghost use Rattle.std.specs.Fmt.{decimal};
 ghost use Rattle.kn_event.specs.EntryLine.{entry_text, row_text};
+ghost use Rattle.kn_replay.specs.Tally.{CountsRow};
 
 use crate::digits::{put_number, put_word};
+use crate::report::Tally;
+use crate::stamp::Stamp;
 use kn_event::{Entry, Row};
 
 /// How much room a row in place asks for.
@@ -43,37 +46,77 @@ fn put_queue_full(room: &mut [u8], at: usize, request: u64, pod: Option<u64>) ->
     }
 }
 
-/// What stands after the time of a frequent row, with its LF.
+/// Writes what stands after the time of a frequent row, with its LF, and counts it. Each kind is counted where it is
+/// written, so that the kind is looked at once.
 #[inline(always)]
-fn put_row(room: &mut [u8], at: usize, row: &Row) -> Option<usize>
-    requires { at + 100 ≤ length room.old }
+fn put_row(room: &mut [u8], at: usize, row: &Row, tally: &mut Tally) -> Option<usize>
+    requires room { at + 100 ≤ length room.old }
+    requires few { tally.old.rows < 2 ^ 127 }
     ensures text { IfSome result (λ end. take end room.new ≡ take at room.old ++ (row_text row.now ++ 10 ∷ [])) }
     ensures inside { IfSome result (λ end. end ≤ length room.old) }
     ensures before { result ≡ None → take at room.new ≡ take at room.old }
+    ensures counted { IfSome result (λ end. CountsRow row.now tally.old tally.new) }
+    ensures uncounted { result ≡ None → tally.new ≡ tally.old }
 {
     Some(match *row {
-        Row::Admit(request, tag) => put_two(room, at, b" admit ", request, tag),
-        Row::QueueFull(request, pod) => put_queue_full(room, at, request, pod),
-        Row::Assign(request, pod) => put_two(room, at, b" assign ", request, pod),
-        Row::Direct(request, pod) => put_two(room, at, b" direct ", request, pod),
-        Row::Run(request) => put_one(room, at, b" run ", request, b"\n"),
-        Row::Finish(request, true) => put_one(room, at, b" finish ", request, b" ok\n"),
-        Row::Finish(request, false) => put_one(room, at, b" finish ", request, b" fail\n"),
-        Row::Expire(request) => put_one(room, at, b" expire ", request, b"\n"),
-        Row::Cancel(request) => put_one(room, at, b" cancel ", request, b"\n"),
+        Row::Admit(request, tag) => {
+            tally.add(row);
+            put_two(room, at, b" admit ", request, tag)
+        }
+        Row::QueueFull(request, pod) => {
+            tally.add(row);
+            put_queue_full(room, at, request, pod)
+        }
+        Row::Assign(request, pod) => {
+            tally.add(row);
+            put_two(room, at, b" assign ", request, pod)
+        }
+        Row::Direct(request, pod) => {
+            tally.add(row);
+            put_two(room, at, b" direct ", request, pod)
+        }
+        Row::Run(request) => {
+            tally.add(row);
+            put_one(room, at, b" run ", request, b"\n")
+        }
+        Row::Finish(request, true) => {
+            tally.add(row);
+            put_one(room, at, b" finish ", request, b" ok\n")
+        }
+        Row::Finish(request, false) => {
+            tally.add(row);
+            put_one(room, at, b" finish ", request, b" fail\n")
+        }
+        Row::Expire(request) => {
+            tally.add(row);
+            put_one(room, at, b" expire ", request, b"\n")
+        }
+        Row::Cancel(request) => {
+            tally.add(row);
+            put_one(room, at, b" cancel ", request, b"\n")
+        }
         _ => return None,
     })
 }
 
-/// Writes the row of an entry, with its LF, behind the first bytes of the room, and answers where it ends. None says that it
-/// is no frequent row, and leaves those bytes.
+/// Writes the row of an entry, with its LF, behind the first bytes of the room, counts it, and answers where it ends. None
+/// says that it is no frequent row, and leaves those bytes and the counts.
 #[inline(always)]
-pub fn put_entry(room: &mut [u8], at: usize, e: &Entry) -> Option<usize>
-    requires { at + 128 ≤ length room.old }
+pub fn put_entry(
+    room: &mut [u8],
+    at: usize,
+    e: &Entry,
+    stamp: &mut Stamp,
+    tally: &mut Tally,
+) -> Option<usize>
+    requires room { at + 128 ≤ length room.old }
+    requires few { tally.old.rows < 2 ^ 127 }
     ensures text { IfSome result (λ end. take end room.new ≡ take at room.old ++ entry_text e.now) }
     ensures inside { IfSome result (λ end. end ≤ length room.old) }
     ensures before { result ≡ None → take at room.new ≡ take at room.old }
+    ensures counted { IfSome result (λ end. CountsRow e.now.row tally.old tally.new) }
+    ensures uncounted { result ≡ None → tally.new ≡ tally.old }
 {
-    let behind = put_number(room, at, e.time);
-    put_row(room, behind, &e.row)
+    let behind = stamp.put(room, at, e.time);
+    put_row(room, behind, &e.row, tally)
 }

@@ -1,24 +1,29 @@
 //! Text that waits to be written.
-ghost use Rattle.std.specs.Prelude.{◌≡◌, ◌+◌, ◌≤◌, ◌++◌, [], false, length, true, OnOk, OnErr};
+ghost use Rattle.std.specs.Prelude.{◌≡◌, ◌+◌, ◌<◌, ◌≤◌, ◌^◌, ◌++◌, [], false, length, true, OnOk, OnErr};
 ghost use Rattle.kn_event.specs.EntryLine.{entry_text};
 ghost use Rattle.kn_io.specs.Causes.{HasCause};
 ghost use Rattle.kn_io.specs.Prefix.{AppendsPrefix};
-ghost use Rattle.kn_trace.specs.Report.{rows_text};
+ghost use Rattle.kn_trace.specs.Report.{rows_text, totals};
+ghost use Rattle.kn_trace.specs.Trace.{Trace};
+ghost use Rattle.kn_replay.specs.Tally.{CountsRow};
 ghost use Rattle.kn_replay.specs.Waiting.{Adds};
 
+use crate::report::Tally;
 use crate::rows::{ROW_ROOM, put_entry};
+use crate::stamp::Stamp;
 use kn_event::{Entry, EntryLog, Line, entry_line};
 use kn_io::{Failed, Sink, put_all};
 use std::marker::Model;
 
 /// How much may wait.
-const ROOM: usize = 65536;
+const ROOM: usize = 16384;
 
-/// Text that waits to be written, at most 65,536 bytes. Contracts see the bytes.
+/// Text that waits to be written, at most 16,384 bytes, and the text of a time. Contracts see the bytes that wait.
 #[derive(Drop)]
 pub struct Waiting {
-    buffer: [u8; 65536],
+    buffer: [u8; 16384],
     len: usize,
+    stamp: Stamp,
 }
 
 impl Model for Waiting {
@@ -28,7 +33,7 @@ impl Model for Waiting {
 
     ghost view = { λ w. take w.len w.buffer };
 
-    ghost invariant = { λ w. w.len ≤ 65536 };
+    ghost invariant = { λ w. w.len ≤ 16384 };
 }
 
 impl Waiting {
@@ -37,14 +42,15 @@ impl Waiting {
         ensures { result ≡ [] }
     {
         Waiting {
-            buffer: [0; 65536],
+            buffer: [0; 16384],
             len: 0,
+            stamp: Stamp::new(),
         }
     }
 
     fn bytes(&self) -> &[u8]
         ensures value { result.now ≡ self.now }
-        ensures most { length self.now ≤ 65536 }
+        ensures most { length self.now ≤ 16384 }
     {
         &self.buffer[..self.len]
     }
@@ -59,7 +65,7 @@ impl Waiting {
     }
 
     fn put(&mut self, bytes: &[u8])
-        requires { length self.old + length bytes.now ≤ 65536 }
+        requires { length self.old + length bytes.now ≤ 16384 }
         ensures { self.new ≡ self.old ++ bytes.now }
     {
         let end = self.len + bytes.len();
@@ -67,16 +73,20 @@ impl Waiting {
         self.len = end;
     }
 
-    /// Adds the row of an entry behind what waits, where it is a frequent one and has room. False says that nothing was added.
+    /// Adds the row of an entry behind what waits, and counts it, where it is a frequent one and has room. False says that
+    /// nothing was added.
     #[inline(always)]
-    fn add_in_place(&mut self, e: &Entry) -> bool
+    fn add_in_place(&mut self, e: &Entry, tally: &mut Tally) -> bool
+        requires few { tally.old.rows < 2 ^ 127 }
         ensures added { result ≡ true → self.new ≡ self.old ++ entry_text e.now }
+        ensures counted { result ≡ true → CountsRow e.now.row tally.old tally.new }
         ensures same { result ≡ false → self.new ≡ self.old }
+        ensures uncounted { result ≡ false → tally.new ≡ tally.old }
     {
         if self.len > ROOM - ROW_ROOM {
             return false;
         }
-        match put_entry(&mut self.buffer, self.len, e) {
+        match put_entry(&mut self.buffer, self.len, e, &mut self.stamp, tally) {
             Some(end) => {
                 self.len = end;
                 true
@@ -115,38 +125,65 @@ impl Waiting {
     }
 }
 
-/// Adds the row of an entry behind what waits.
+/// Adds the row of an entry behind what waits, and counts it.
 #[inline(always)]
 fn add_row<O: Sink>(
     e: &Entry,
+    tally: &mut Tally,
     line: &mut Line,
     waiting: &mut Waiting,
     out: &mut O,
 ) -> Result<(), Failed>
+    requires few { tally.old.rows < 2 ^ 127 }
     ensures ok { OnOk result (Adds (O.held out.old) (O.held out.new) waiting.old waiting.new (entry_text e.now)) }
     ensures err { OnErr result (AppendsPrefix (O.held out.old) (O.held out.new) (waiting.old ++ entry_text e.now)) }
     ensures cause { HasCause (O.Faulty.faults out.old) (O.Faulty.faults out.new) result }
+    ensures counted { CountsRow e.now.row tally.old tally.new }
 {
-    if waiting.add_in_place(e) {
+    if waiting.add_in_place(e, tally) {
         return Ok(());
     }
+    add_by_line(e, tally, line, waiting, out)
+}
+
+/// Adds the row of an entry behind what waits by way of a line, and counts it.
+#[inline(never)]
+fn add_by_line<O: Sink>(
+    e: &Entry,
+    tally: &mut Tally,
+    line: &mut Line,
+    waiting: &mut Waiting,
+    out: &mut O,
+) -> Result<(), Failed>
+    requires few { tally.old.rows < 2 ^ 127 }
+    ensures ok { OnOk result (Adds (O.held out.old) (O.held out.new) waiting.old waiting.new (entry_text e.now)) }
+    ensures err { OnErr result (AppendsPrefix (O.held out.old) (O.held out.new) (waiting.old ++ entry_text e.now)) }
+    ensures cause { HasCause (O.Faulty.faults out.old) (O.Faulty.faults out.new) result }
+    ensures counted { CountsRow e.now.row tally.old tally.new }
+{
+    tally.add(&e.row);
     entry_line(e, line);
     waiting.add(line.bytes(), out)
 }
 
-/// Adds a row for each entry behind what waits.
+/// Adds a row for each entry behind what waits, and counts them.
+#[inline(always)]
 pub fn add_rows<O: Sink>(
     log: &EntryLog,
+    tally: &mut Tally,
     line: &mut Line,
     waiting: &mut Waiting,
     out: &mut O,
 ) -> Result<(), Failed>
+    requires few { tally.old.rows ≤ 2 ^ 126 }
     ensures ok { OnOk result (Adds (O.held out.old) (O.held out.new) waiting.old waiting.new (rows_text log.now)) }
     ensures err { OnErr result (AppendsPrefix (O.held out.old) (O.held out.new) (waiting.old ++ rows_text log.now)) }
     ensures cause { HasCause (O.Faulty.faults out.old) (O.Faulty.faults out.new) result }
+    ensures rows { OnOk result (tally.new.rows < tally.old.rows + 2 ^ 64) }
+    ensures totals { (c : Trace) → tally.old.totals ≡ totals c → OnOk result (tally.new.totals ≡ totals (c ++ log.now)) }
 {
     for e in log.entries() {
-        match add_row(e, line, waiting, out) {
+        match add_row(e, tally, line, waiting, out) {
             Ok(()) => {}
             Err(Failed) => return Err(Failed),
         }

@@ -1,11 +1,9 @@
-use Rattle.std.proofs.Common.{◌/◌, ◌%◌, take, arith}
-use Rattle.std.specs.Fmt.{decimal}
-use Rattle.itoa.proofs.Decimal.{decimal_four, pair}
-use Rattle.kn_replay.proofs.InPlace.{three_in_a_row}
+use Rattle.std.proofs.Common.{◌≡◌, ◌%◌, ◌-◌, ◌*◌, ◌/◌, take, arith}
+use Rattle.kn_replay.proofs.InPlace.{and_four}
 use Rattle.kn_replay.proofs.digits.put_eight.Goals as goal
 
 pub returns-clause-text : goal.returns-clause-text
 returns-clause-text c =
-    three_in_a_row (take c.args.at c.args.room.now) (decimal (c.args.n / 10000)) (pair (c.args.n % 10000 / 100)) (pair (c.args.n % 10000 % 100))
-    (take c.put_four-at.result c.put_four-at.new.room) (take c.put_pair-at.result c.put_pair-at.new.room) (take c.put_pair.result c.put_pair.new.room) (decimal c.args.n)
-    c.put_four-at.ensures.text c.put_pair-at.ensures.text c.put_pair.ensures.text (decimal_four c.args.n (omega arith) (omega arith))
+    let low : c.args.n - c.args.n / 10000 * 10000 ≡ c.args.n % 10000 = omega arith in
+    and_four (take c.args.at c.args.room.now) (take c.put_four-at.result c.put_four-at.new.room) (take c.put_pairs.result c.put_pairs.new.room) c.args.n c.requires.0 (omega arith)
+    (rw c.ten_thousands-high.ensures.value at c.put_four-at.ensures.text) (rw (c.ten_thousands-high.ensures.value, low) at c.put_pairs.ensures.text)

@@ -9,11 +9,11 @@ unfolding entry_text
 returns-clause-text c =
     on_some c.put_row.result
     (λ end said. two_in_a_row (take c.args.at c.args.room.now) (decimal c.args.e.now.time) (row_text c.args.e.now.row ++ 10 ∷ [])
-    (take c.put_number-behind.result c.put_number-behind.new.room) (take end c.put_row.new.room) _
-    c.put_number-behind.ensures.text said (append_assoc (decimal c.args.e.now.time) (row_text c.args.e.now.row) (10 ∷ [])))
+    (take c.put-behind.result c.put-behind.new.room) (take end c.put_row.new.room) _
+    c.put-behind.ensures.text said (append_assoc (decimal c.args.e.now.time) (row_text c.args.e.now.row) (10 ∷ [])))
     c.put_row.ensures.text
 
 pub returns-clause-before : goal.returns-clause-before
 returns-clause-before c none =
-    stays_before c.args.room.now c.put_number-behind.new.room c.put_row.new.room (decimal c.args.e.now.time) c.args.at c.put_number-behind.result (omega arith) (omega arith)
-    c.put_number-behind.ensures.text (c.put_row.ensures.before none)
+    stays_before c.args.room.now c.put-behind.new.room c.put_row.new.room (decimal c.args.e.now.time) c.args.at c.put-behind.result (omega arith) (omega arith)
+    c.put-behind.ensures.text (c.put_row.ensures.before none)

@@ -179,19 +179,20 @@ returns-in-Err-read-clause-never_falls g c = omega (arith, c.loop-count.invarian
 pub returns-in-Err-read-clause-out_never_falls : goal.returns-in-Err-read-clause-out_never_falls
 returns-in-Err-read-clause-out_never_falls g c = omega (arith, c.loop-count.invariant.write, c.next.ensures.cause.never_falls, c.stop.ensures.never_falls)
 
-pub take-requires-clause-order : goal.take-requires-clause-order
-take-requires-clause-order g c =
+pub step-requires-clause-order : goal.step-requires-clause-order
+step-requires-clause-order g c =
     let order = rw (c.in-Ok-read.is, c.in-Some.is) at c.in-Ok.ensures.order in
     omega (arith, order, c.loop-count.invariant.last, ap (λ (x : RevisionState). x.clock) c.next.ensures.revision)
 
-pub take-requires-clause-events : goal.take-requires-clause-events
-take-requires-clause-events g c = omega (arith, c.loop-count.invariant.events, c.loop-count-test.true, ap (λ (x : RevisionState). x.events) c.next.ensures.revision)
+pub step-requires-clause-events : goal.step-requires-clause-events
+step-requires-clause-events g c = omega (arith, c.loop-count.invariant.events, c.loop-count-test.true, ap (λ (x : RevisionState). x.events) c.next.ensures.revision)
 
-pub take-requires-clause-few : goal.take-requires-clause-few
-take-requires-clause-few g c = omega (arith, c.loop-count.invariant.rows, c.loop-count-test.true, ap (λ (x : Counted). x.rows) c.next.ensures.counted)
+pub count_and_put-requires : goal.count_and_put-requires
+count_and_put-requires g c =
+    omega (arith, c.loop-count.invariant.rows, c.loop-count-test.true, ap (λ (x : Counted). x.rows) c.next.ensures.counted, ap (λ (x : Counted). x.rows) c.step.ensures.counted)
 
-pub returns-in-Err-put_rows-clause-follows : goal.returns-in-Err-put_rows-clause-follows
-returns-in-Err-put_rows-clause-follows g c d stands counts =
+pub returns-in-Err-count_and_put-clause-follows : goal.returns-in-Err-count_and_put-clause-follows
+returns-in-Err-count_and_put-clause-follows g c d stands counts =
     let kept = c.loop-count.invariant in
     let on = kept.on d stands counts in
     let adds = adds_on (g.O.Sink.held c.args.out.now) (g.O.Sink.held c.loop-count.out) (g.O.Sink.held c.next.new.out) c.args.self.now.waiting c.loop-count.self.waiting c.next.new.self.waiting (rows_text (added c.args.self.now.revision.spec d on.0)) on.4 c.in-Ok.ensures.adds in
@@ -199,33 +200,33 @@ returns-in-Err-put_rows-clause-follows g c d stands counts =
     let gives = rw (c.in-Ok-read.is, c.in-Some.is, kept.version) at c.in-Ok.ensures.tells in
     let now = d ++ added c.args.self.now.revision.spec d on.0 in
     let stood = subst (λ (x : RevisionState). StandsFor x now) (sym c.next.ensures.revision) on.1 in
-    let rows = c.take.ensures.log now stood ∙ ap (λ (x : RevisionState). react x.spec now c.in-Some.e) c.next.ensures.revision ∙ ap (λ (x : Spec). react x now c.in-Some.e) kept.spec in
-    goes_cut c.args.reader.now.version c.args.self.now.revision.spec d c.args.reader.now.last c.args.reader.now.number (unread c.args.reader.now.input (g.S.Source.left c.args.source.now)) c.args.self.now.waiting c.next.new.self.waiting (g.O.Sink.held c.args.out.now) (g.O.Sink.held c.next.new.out) (g.O.Sink.held c.put_rows.new.out) on.0 c.loop-count.reader.last c.loop-count.reader.number (unread c.loop-count.reader.input (g.S.Source.left c.loop-count.source)) c.in-Some.e c.next.new.reader.number left left
-    on.5 gives adds (rw (c.take.ensures.waiting, rows) at c.in-Err-put_rows.ensures.err)
+    let rows = c.step.ensures.log now stood ∙ ap (λ (x : RevisionState). react x.spec now c.in-Some.e) c.next.ensures.revision ∙ ap (λ (x : Spec). react x now c.in-Some.e) kept.spec in
+    goes_cut c.args.reader.now.version c.args.self.now.revision.spec d c.args.reader.now.last c.args.reader.now.number (unread c.args.reader.now.input (g.S.Source.left c.args.source.now)) c.args.self.now.waiting c.next.new.self.waiting (g.O.Sink.held c.args.out.now) (g.O.Sink.held c.next.new.out) (g.O.Sink.held c.count_and_put.new.out) on.0 c.loop-count.reader.last c.loop-count.reader.number (unread c.loop-count.reader.input (g.S.Source.left c.loop-count.source)) c.in-Some.e c.next.new.reader.number left left
+    on.5 gives adds (rw (c.step.ensures.waiting, rows) at c.in-Err-count_and_put.ensures.err)
 
-pub returns-in-Err-put_rows-clause-rest : goal.returns-in-Err-put_rows-clause-rest
-returns-in-Err-put_rows-clause-rest g c d stands counts refused = absurd refused
+pub returns-in-Err-count_and_put-clause-rest : goal.returns-in-Err-count_and_put-clause-rest
+returns-in-Err-count_and_put-clause-rest g c d stands counts refused = absurd refused
 
-pub returns-in-Err-put_rows-clause-cut : goal.returns-in-Err-put_rows-clause-cut
-returns-in-Err-put_rows-clause-cut g c d stands counts fault =
+pub returns-in-Err-count_and_put-clause-cut : goal.returns-in-Err-count_and_put-clause-cut
+returns-in-Err-count_and_put-clause-cut g c d stands counts fault =
     let kept = c.loop-count.invariant in
     let on = kept.on d stands counts in
     let adds = adds_on (g.O.Sink.held c.args.out.now) (g.O.Sink.held c.loop-count.out) (g.O.Sink.held c.next.new.out) c.args.self.now.waiting c.loop-count.self.waiting c.next.new.self.waiting (rows_text (added c.args.self.now.revision.spec d on.0)) on.4 c.in-Ok.ensures.adds in
     let gives = rw (c.in-Ok-read.is, c.in-Some.is, kept.version) at c.in-Ok.ensures.tells in
-    cut_event c.args.reader.now.version c.args.self.now.revision.spec d c.args.reader.now.last c.args.reader.now.number (unread c.args.reader.now.input (g.S.Source.left c.args.source.now)) c.args.self.now.waiting c.next.new.self.waiting _ (g.O.Sink.held c.args.out.now) (g.O.Sink.held c.next.new.out) (g.O.Sink.held c.put_rows.new.out) on.0 c.loop-count.reader.last c.loop-count.reader.number (unread c.loop-count.reader.input (g.S.Source.left c.loop-count.source)) c.in-Some.e c.next.new.reader.number (unread c.next.new.reader.input (g.S.Source.left c.next.new.source))
-    on.5 gives adds (rw c.take.ensures.waiting at c.in-Err-put_rows.ensures.err) c.next.ensures.fits
+    cut_event c.args.reader.now.version c.args.self.now.revision.spec d c.args.reader.now.last c.args.reader.now.number (unread c.args.reader.now.input (g.S.Source.left c.args.source.now)) c.args.self.now.waiting c.next.new.self.waiting _ (g.O.Sink.held c.args.out.now) (g.O.Sink.held c.next.new.out) (g.O.Sink.held c.count_and_put.new.out) on.0 c.loop-count.reader.last c.loop-count.reader.number (unread c.loop-count.reader.input (g.S.Source.left c.loop-count.source)) c.in-Some.e c.next.new.reader.number (unread c.next.new.reader.input (g.S.Source.left c.next.new.source))
+    on.5 gives adds (rw c.step.ensures.waiting at c.in-Err-count_and_put.ensures.err) c.next.ensures.fits
 
-pub returns-in-Err-put_rows-clause-write_fault : goal.returns-in-Err-put_rows-clause-write_fault
-returns-in-Err-put_rows-clause-write_fault g c is = rose_on _ _ _ (le_trans c.loop-count.invariant.write c.next.ensures.cause.never_falls) c.in-Err-put_rows.ensures.cause.failed
+pub returns-in-Err-count_and_put-clause-write_fault : goal.returns-in-Err-count_and_put-clause-write_fault
+returns-in-Err-count_and_put-clause-write_fault g c is = rose_on _ _ _ (le_trans c.loop-count.invariant.write c.next.ensures.cause.never_falls) c.in-Err-count_and_put.ensures.cause.failed
 
-pub returns-in-Err-put_rows-clause-balance : goal.returns-in-Err-put_rows-clause-balance
-returns-in-Err-put_rows-clause-balance g c = omega (arith, c.loop-count.invariant.balance, c.next.ensures.balance)
+pub returns-in-Err-count_and_put-clause-balance : goal.returns-in-Err-count_and_put-clause-balance
+returns-in-Err-count_and_put-clause-balance g c = omega (arith, c.loop-count.invariant.balance, c.next.ensures.balance)
 
-pub returns-in-Err-put_rows-clause-never_falls : goal.returns-in-Err-put_rows-clause-never_falls
-returns-in-Err-put_rows-clause-never_falls g c = omega (arith, c.loop-count.invariant.read, c.next.ensures.never_falls)
+pub returns-in-Err-count_and_put-clause-never_falls : goal.returns-in-Err-count_and_put-clause-never_falls
+returns-in-Err-count_and_put-clause-never_falls g c = omega (arith, c.loop-count.invariant.read, c.next.ensures.never_falls)
 
-pub returns-in-Err-put_rows-clause-out_never_falls : goal.returns-in-Err-put_rows-clause-out_never_falls
-returns-in-Err-put_rows-clause-out_never_falls g c = omega (arith, c.loop-count.invariant.write, c.next.ensures.cause.never_falls, c.put_rows.ensures.cause.never_falls)
+pub returns-in-Err-count_and_put-clause-out_never_falls : goal.returns-in-Err-count_and_put-clause-out_never_falls
+returns-in-Err-count_and_put-clause-out_never_falls g c = omega (arith, c.loop-count.invariant.write, c.next.ensures.cause.never_falls, c.count_and_put.ensures.cause.never_falls)
 
 pub loop-count-preserved : goal.loop-count-preserved
 loop-count-preserved g c =
@@ -245,30 +246,31 @@ loop-count-preserved g c =
           let stood = subst (λ (x : RevisionState). StandsFor x now) (sym c.next.ensures.revision) on.1 in
           let totalled = ap (λ (x : Counted). x.totals) c.next.ensures.counted ∙ on.2 in
           let whole : d ++ added s d (on.0 ++ e ∷ []) ≡ now ++ react s now e = trace-more s d on.0 e in
-          let after = subst (λ (x : Spec). StandsFor c.take.new.self.revision (now ++ react x now e)) spec (c.take.ensures.stands now stood) in
-          let counted = subst (λ (x : Spec). c.take.new.self.counted.totals ≡ totals (now ++ react x now e)) spec (c.take.ensures.totals now stood totalled) in
-          let rows = c.take.ensures.log now stood ∙ ap (λ (x : Spec). react x now e) spec in
-          let wrote = rw (c.take.ensures.waiting, rows) at c.in-Ok-put_rows.ensures.ok in (
+          let after = subst (λ (x : Spec). StandsFor c.step.new.self.revision (now ++ react x now e)) spec (c.step.ensures.stands now stood) in
+          let rows = c.step.ensures.log now stood ∙ ap (λ (x : Spec). react x now e) spec in
+          let counted = c.in-Ok-count_and_put.ensures.totals now (ap (λ (x : Counted). x.totals) c.step.ensures.counted ∙ totalled) ∙ ap (λ (t : Trace). totals (now ++ t)) rows in
+          let wrote = rw (c.step.ensures.waiting, rows) at c.in-Ok-count_and_put.ensures.ok in (
             on.0 ++ e ∷ [],
-            rw (c.in-Ok-put_rows.ensures.revision, whole) after,
-            rw (c.in-Ok-put_rows.ensures.counted, whole) counted,
+            rw (c.in-Ok-count_and_put.ensures.revision, whole) after,
+            rw whole counted,
             length-append on.0 (e ∷ []) ∙ ap (λ (n : ℕ). n + 1) on.3,
             rw (rows-more s d on.0 e) (adds_trans _ _ _ _ _ _ _ _ adds wrote),
             rw last (goes_more c.args.reader.now.version c.args.reader.now.last c.args.reader.now.number _ on.0 c.loop-count.reader.last c.loop-count.reader.number _ e c.next.new.reader.number _ on.5 (rw kept.version at given)),
           );
       still = still_more c.loop-count.reader.version c.loop-count.reader.last c.loop-count.reader.number e c.next.new.reader.number _ _ _ kept.still given;
-      spec = ap (λ (x : RevisionState). x.spec) c.in-Ok-put_rows.ensures.revision ∙ c.take.ensures.spec ∙ spec;
+      spec = ap (λ (x : RevisionState). x.spec) c.in-Ok-count_and_put.ensures.revision ∙ c.step.ensures.spec ∙ spec;
       good = rw c.in-Ok-read.is at c.in-Ok.ensures.good;
       version = c.next.ensures.version ∙ kept.version;
       last = grind (arith, common_steps, last);
       clock = grind (arith, common_steps, times);
       events = grind (arith, common_steps);
-      rows = grind (arith, common_steps);
+      rows =
+          omega (arith, kept.rows, ap (λ (x : Counted). x.rows) c.next.ensures.counted, ap (λ (x : Counted). x.rows) c.step.ensures.counted, c.in-Ok-count_and_put.ensures.rows);
       taken = omega (arith, kept.taken, bytes);
       few = c.in-Ok.ensures.few;
       balance = omega (arith, kept.balance, c.next.ensures.balance);
       read = omega (arith, kept.read, c.next.ensures.never_falls);
-      write = omega (arith, kept.write, c.next.ensures.cause.never_falls, c.put_rows.ensures.cause.never_falls);
+      write = omega (arith, kept.write, c.next.ensures.cause.never_falls, c.count_and_put.ensures.cause.never_falls);
     }
 
 pub returns-clause-follows : goal.returns-clause-follows
