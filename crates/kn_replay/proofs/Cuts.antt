@@ -108,6 +108,7 @@ soon_refused version last n ys left cause e is h rest = by_near (next_near versi
     by_left : (k : ℕ) (d : Option (List ℕ)) → refused_line None e ≡ Some k → k ≤ n + 2 → LeavesRest (next_part version last n) n None e (Some ys) d → StopsSoon (lines ys) d
     by_left k None named near r = absurd r
     by_left k (Some zs) named near (own, split, count, why) = soon_counted n k e ys zs own named near split count
+
     by_near : IsNear n (lines ys) cause → StopsSoon (lines ys) left
     by_near (inl soon) = soon left
     by_near (inr (fault, k, named, near)) =
