@@ -11,4 +11,5 @@ pub mod Coming
 pub mod Dispatching
 pub mod Walking
 pub mod Freed
+pub mod Running
 pub mod Steps

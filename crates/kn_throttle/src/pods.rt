@@ -110,7 +110,8 @@ fn readied(readiness: Readiness) -> Readiness
     }
 }
 
-fn is_draining(readiness: Readiness) -> bool
+/// Whether it drains.
+pub fn is_draining(readiness: Readiness) -> bool
     ensures { result ≡ is_draining_now readiness }
 {
     matches!(readiness, Readiness::Draining)

@@ -23,10 +23,12 @@ impl Touched {
     }
 
     /// With this pod too, where it may have something to do.
-    pub fn with_if(self, p: u64, busy: bool) -> Touched
-        ensures { result ≡ (if busy then one_more p self else self) }
+    pub fn add_if(&mut self, p: u64, busy: bool)
+        ensures { self.new ≡ (if busy then one_more p self.old else self.old) }
     {
-        if busy { self.with(p) } else { self }
+        if busy {
+            *self = self.with(p);
+        }
     }
 
     /// Once this pod is gone.

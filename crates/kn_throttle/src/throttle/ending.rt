@@ -98,8 +98,8 @@ impl Throttle {
                 release(&mut self.breaker, assigned);
                 let freed = self.seats.give_back(p);
                 self.candidates.end(p);
-                self.to_run = self.to_run.with_if(p, freed.next);
-                self.to_leave = self.to_leave.with_if(p, freed.draining);
+                self.to_run.add_if(p, freed.next);
+                self.to_leave.add_if(p, freed.draining);
             }
         }
     }

@@ -1,5 +1,5 @@
 //! What follows without a further act: who waits is dispatched, and empty pods go.
-ghost use Rattle.std.specs.Prelude.{◌≡◌, ℕ, true, ◌+◌, ◌≤◌, ◌==◌, ◌||◌, ◌&&◌, [], ◌++◌, nat_lt, length, IfSome, IfNone};
+ghost use Rattle.std.specs.Prelude.{◌≡◌, ℕ, true, ◌+◌, ◌≤◌, ◌==◌, ◌||◌, ◌&&◌, [], ◌++◌, nat_lt, length, IfSome, IfNone, Some, None, if◌then◌else◌};
 ghost use Rattle.kn_event.specs.declared.entry.Row.TheVariants as row;
 ghost use Rattle.kn_trace.specs.Trace.{Trace, contains, first_of, live_pods};
 ghost use Rattle.kn_trace.specs.Settling.{held_assignments, promotions, removals, settling};
@@ -12,6 +12,7 @@ ghost use Rattle.kn_throttle.specs.Settling.{AddsNobody, LogsSteps, can_leave_at
 
 use super::Throttle;
 use super::arriving::LIVE_MOST;
+use crate::pods::is_draining;
 use crate::touched::Touched;
 use kn_event::{Entry, EntryLog, Row};
 use kn_policy::choice_laws;
@@ -108,13 +109,16 @@ impl Throttle {
     {
         order_laws();
         walk_laws();
-        match self.pod_to_run() {
+        let Some(p) = self.pod_to_run() else {
+            self.to_run = Touched::Nowhere;
+            return None;
+        };
+        match self.seats.promote(p) {
             None => {
                 self.to_run = Touched::Nowhere;
                 None
             }
-            Some(p) => {
-                let r = self.seats.promote(p).unwrap();
+            Some(r) => {
                 self.candidates.begin(p);
                 self.table.run(r);
                 Some(r)
@@ -179,13 +183,15 @@ impl Throttle {
         }
     }
 
-    /// The first pod at which a queued request may run.
+    /// The pod at which a queued request may run next, if one may at all.
     fn pod_to_run(&self) -> Option<u64>
-        ensures { result ≡ first_of (pods_where (can_run self.now.admission.live) self.now.admission.pods) }
+        ensures there { IfSome result (λ p. contains p (pod_numbers self.now.admission.pods) ≡ true) }
+        ensures first { IfSome result (λ p. first_of (pods_where (can_run self.now.admission.live) self.now.admission.pods) ≡ (if can_run_at self.now.admission p then Some p else None)) }
+        ensures none { IfNone result (first_of (pods_where (can_run self.now.admission.live) self.now.admission.pods) ≡ None) }
     {
         match self.to_run {
             Touched::Nowhere => None,
-            Touched::At(p) => { if self.can_run(p) { Some(p) } else { None } }
+            Touched::At(p) => Some(p),
             Touched::Anywhere => self.first_to_run(),
         }
     }
@@ -218,6 +224,9 @@ impl Throttle {
     {
         let pods = self.pods.as_slice();
         for pod in pods {
+            if !is_draining(pod.readiness) {
+                continue;
+            }
             if self.can_leave(pod.number) {
                 return Some(pod.number);
             }

@@ -55,7 +55,7 @@ pub invariant_of-self-in-Running : goal.invariant_of-self-in-Running
 unfolding stepped
 invariant_of-self-in-Running c =
     let k = c.self.invariant in
-    rw (c.with_if-self-inside.ensures, c.with_if-self-inside-in-Running.ensures, c.end.ensures)
+    rw (c.add_if.ensures, c.add_if-in-Running.ensures, c.end.ensures)
     (kept_freed _ _ _ _ _ _ _ _ _ _ c.args.r c.in-Running.p c.in-Running.assigned c.give_back-freed.result.next c.give_back-freed.result.draining c.take_out.new.table k (rw c.take_out.ensures.removed (c.order_laws.ensures.step _ 0 (row.Expire c.args.r) k.sound.order tt)) c.take_out.ensures.len
     (leaves_from _ _ _ _ _ c.take_out.ensures.leaves c.in-Running.is) (home_of _ c.args.r c.take_out.result (place.Running c.in-Running.p c.in-Running.assigned) k.sound.order c.take_out.ensures.request c.in-Running.is)
     c.release.ensures c.give_back-freed.ensures.changed c.give_back-freed.ensures.counted c.give_back-freed.ensures.next c.give_back-freed.ensures.draining)
