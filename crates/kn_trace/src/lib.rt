@@ -6,7 +6,6 @@
 
 mod candidate;
 pub mod choice;
-pub mod rows;
 pub mod worked;
 
 pub use candidate::Cand;
