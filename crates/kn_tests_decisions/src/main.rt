@@ -1,6 +1,6 @@
 //! Tests of what a scaling decision is made from, by the public calls of its parts. Each line of standard input that is not indented opens a subject;
 //! each indented one is a call of it, which is printed with its answer. `stdout` has what must be answered. Then long mixes are
-//! compared with plain programs, and a few sequences are calls in the code.
+//! compared with a plain program.
 #![tactic(auto)]
 
 mod decisions;
@@ -10,9 +10,7 @@ mod panics;
 mod past;
 mod parts;
 mod plain;
-mod pods;
 mod scale;
-mod scalers;
 mod subject;
 mod texts;
 mod windows;
@@ -42,7 +40,5 @@ fn main(rt: HostRuntime) -> anyhow::Result<()> {
         println!(rt; "{text}")?;
     }
     mixes::compare(&rt)?;
-    pods::most_pods(&rt)?;
-    scalers::cases(&rt)?;
     Ok(())
 }

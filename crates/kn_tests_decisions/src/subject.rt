@@ -1,7 +1,6 @@
 //! What the lines speak of.
 use crate::decisions::Decisions;
 use crate::delays::Delays;
-use crate::pods::Scaled;
 use crate::scale::Scale;
 use crate::windows::Windows;
 use crate::words::Words;
@@ -17,7 +16,6 @@ pub enum Subject {
     Delay(Delays),
     Window(Windows),
     Zero(Zero),
-    Pods(Scaled),
     Decisions(Decisions),
 }
 
@@ -30,7 +28,6 @@ impl Subject {
             "panic" => Some(Subject::Panic(Panic::new())),
             "delay" => Some(Subject::Delay(Delays::new(alloc, words.number()?)?)),
             "window" => Some(Subject::Window(Windows::new(alloc, words.number()?)?)),
-            "pods" => Some(Subject::Pods(Scaled::new(alloc)?)),
             "zero" => {
                 let start = words.number()?;
                 let spec = Scale::read(&mut words)?.spec(alloc)?;
@@ -53,7 +50,6 @@ impl Subject {
             Subject::Delay(delay) => delay.answer(alloc, &mut words),
             Subject::Window(window) => window.answer(alloc, &mut words),
             Subject::Zero(zero) => zeros::answer(alloc, zero, &mut words),
-            Subject::Pods(pods) => pods.answer(alloc, &mut words),
             Subject::Decisions(decisions) => decisions.answer(alloc, &mut words),
         }
     }

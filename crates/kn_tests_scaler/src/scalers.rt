@@ -4,9 +4,8 @@ ghost use Rattle.kn_event.specs.declared.revision.Kind.TheVariants as kind;
 ghost use Rattle.kn_trace.specs.Events.{opening};
 ghost use Rattle.kn_scaler.specs.Stands.{StandsFor, StandsForSome};
 
-use crate::scale::Scale;
 use kn_case::case;
-use kn_event::{Decision, Frac, Mode, Phase, Row, Spec, Stand};
+use kn_event::{Decision, Frac, Kind, Mode, Phase, Row, Slots, Spec, Stand};
 use kn_laws::parts::part_laws;
 use kn_record::append::order_laws;
 use kn_record::facts::fact_laws;
@@ -53,15 +52,23 @@ fn two_pods(num: u128, den: u128) -> Decision
     }
 }
 
-/// A revision of containerConcurrency 1 that opens with so many pods.
+/// A scaled revision of containerConcurrency 1 by the default configuration, that opens with so many pods.
 fn scaled(alloc: Global, initial: u64) -> Option<Spec>
-    ensures { IfSome result (λ spec. spec.kind ≡ kind.Kpa) }
+    requires { initial ≤ 1 }
+    ensures kind { IfSome result (λ spec. spec.kind ≡ kind.Kpa) }
+    ensures slots { IfSome result (λ spec. 0 < spec.slots.depth + spec.slots.max) }
 {
-    let scale = Scale {
-        initial,
-        ..Scale::of(1)
+    let slots = Slots {
+        depth: 10_000,
+        max: 1000,
+        seed: 0,
     };
-    scale.spec(alloc)
+    let Ok(mut spec) = Spec::fixed(alloc, 1, 0, 300, slots) else {
+        return None;
+    };
+    spec.kind = Kind::Kpa;
+    spec.initial = initial;
+    Some(spec)
 }
 
 /// What one that opens with no pod says of itself: phase, mode, pods wanted, and the decision of a tick.
@@ -77,9 +84,6 @@ fn opened(alloc: Global) -> Option<(Phase, Mode, u64, Option<Ruled>)> {
 /// With no pod wanted, the first request that is admitted wakes the revision; then a pod is Ready.
 fn woken(alloc: Global) -> Option<(Ruled, bool)> {
     let spec = scaled(alloc, 0)?;
-    if spec.slots.depth == 0 {
-        return None;
-    }
     let Ok(mut scaler) = Scaler::new(alloc, &spec, 0) else {
         return None;
     };
@@ -91,9 +95,6 @@ fn woken(alloc: Global) -> Option<(Ruled, bool)> {
 /// A request that is held from half a second on takes half of that one and all of the next.
 fn held(alloc: Global) -> Option<Ruled> {
     let spec = scaled(alloc, 1)?;
-    if spec.slots.depth == 0 {
-        return None;
-    }
     let Ok(mut scaler) = Scaler::new(alloc, &spec, 0) else {
         return None;
     };

@@ -2,8 +2,8 @@ use Rattle.kn_event.specs.declared.entry.Row.TheVariants as row
 use Rattle.std.proofs.Common.{[], ◌∷◌, ◌++◌, refl}
 use Rattle.kn_trace.specs.Events.{opening}
 use Rattle.kn_trace.specs.Trace.{entry}
-use Rattle.kn_tests_decisions.proofs.Firsts.{first_made, first_next, first_of_some, for_some, none_ready, opening_made}
-use Rattle.kn_tests_decisions.proofs.scalers.admit_first.Goals as goal
+use Rattle.kn_tests_scaler.proofs.Firsts.{first_made, first_next, first_of_some, for_some, none_ready, opening_made}
+use Rattle.kn_tests_scaler.proofs.scalers.admit_first.Goals as goal
 
 pub advance-requires-clause-made : goal.advance-requires-clause-made
 advance-requires-clause-made c =

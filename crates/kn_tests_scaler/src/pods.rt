@@ -1,11 +1,20 @@
 //! The pods of a revision. Each has a limit of 7, and each call is made at time 5.
-use crate::texts::{entry_text, text};
-use crate::words::Words;
 use kn_case::case;
-use kn_event::EntryLog;
+use kn_event::{Entry, EntryLog, Line, entry_line};
 use kn_pods::{PodAnswer, Pods};
 use std::alloc::Global;
 use std::io;
+
+fn text(alloc: Global, text: &str) -> Option<String> {
+    String::from_str(alloc, text).ok()
+}
+
+/// The entry as a report has it.
+fn entry_text(alloc: Global, entry: &Entry) -> Option<String> {
+    let mut line = Line::new();
+    entry_line(entry, &mut line);
+    text(alloc, str::from_utf8(line.bytes()).ok()?.trim_end())
+}
 
 /// Pods, and the rows of the last scale.
 #[derive(Drop)]
@@ -49,11 +58,16 @@ impl Scaled {
             }
             rows.push_str(entry_text(alloc, entry)?.as_str()).ok()?;
         }
+        if rows.is_empty() {
+            return text(alloc, "none");
+        }
         Some(rows)
     }
 
-    pub fn answer(&mut self, alloc: Global, words: &mut Words) -> Option<String> {
-        let (verb, number) = (words.word(), words.number()?);
+    /// The answer to a call and its number; none where it is no call, or memory is lacking.
+    pub fn answer(&mut self, alloc: Global, line: &str) -> Option<String> {
+        let (verb, number) = line.trim_start().split_once(' ')?;
+        let number = number.parse().ok()?;
         match verb {
             "scale" => {
                 self.scale(number);
