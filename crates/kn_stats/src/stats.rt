@@ -12,9 +12,6 @@ use kn_event::{Memory, Metric};
 use std::alloc::Global;
 use std::marker::Model;
 
-#[cfg(test)]
-mod tests;
-
 /// What requests at one pod took of the open second, up to the last advance, in milliseconds.
 #[derive(Clone, Copy, Debug, PartialEq, Eq)]
 pub struct PodArea {
