@@ -1,6 +1,5 @@
 pub mod Aheads
 pub mod Blocks
-pub mod Collected
 pub mod Consumed
 pub mod Fronts
 pub mod Kept

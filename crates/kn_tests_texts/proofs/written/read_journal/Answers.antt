@@ -3,8 +3,8 @@ use Rattle.std.proofs.Common.{◌≡◌, ◌≤◌, ◌∷◌, ◌++◌, [], ari
 use Rattle.std.proofs.lemmas.Grind.{common_steps}
 use Rattle.kn_event.specs.EventLine.{IsInJournalRange, IsInVersion}
 use Rattle.kn_journal.specs.Journal.{time_most}
-use Rattle.kn_journal.proofs.Collected.{collected, last_collected}
-use Rattle.kn_journal.proofs.tests.read_journal.Goals as goal
+use Rattle.kn_tests_texts.proofs.Collected.{collected, last_collected}
+use Rattle.kn_tests_texts.proofs.written.read_journal.Goals as goal
 
 pub loop-preserved : goal.loop-preserved
 loop-preserved c =

@@ -1,8 +1,8 @@
 -- The events so far are those of a journal.
 use Rattle.std.proofs.Common.{◌≡◌, ◌≤◌}
 use Rattle.kn_journal.specs.Journal.{AreEvents}
-use Rattle.kn_journal.proofs.Collected.{last_time}
-use Rattle.kn_journal.proofs.tests.read_journal.Given as goal
+use Rattle.kn_tests_texts.proofs.Collected.{last_time}
+use Rattle.kn_tests_texts.proofs.written.read_journal.Given as goal
 
 abbrev pub invariant-loop : goal.invariant-loop
 invariant-loop l = record {
