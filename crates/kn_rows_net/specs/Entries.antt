@@ -1,4 +1,4 @@
--- What some entries say: views of two short traces that no events made, and no report shows.
+-- What some entries say: views of two short traces, which are given entry by entry.
 use Rattle.std.specs.Prelude.{◌≡◌, ℕ, [], ◌∷◌, ◌++◌, map, length, true, false, None, Some}
 use Rattle.kn_event.specs.declared.entry.Row.TheVariants as row
 use Rattle.kn_event.specs.declared.event.Stand.TheVariants as stand
