@@ -136,20 +136,29 @@ fn settled(alloc: Global, settings: &[u8], text: &str, key: Key) -> Result<u128,
 pub fn annotation(alloc: Global, settings: &[u8], text: &str) -> Result<String, AllocError> {
     let (name, value) = first_word(text);
     let text = annotated(alloc, name, value)?;
-    said(alloc, &settled(alloc, settings, text.as_str(), key_of(name)))
+    said(
+        alloc,
+        &settled(alloc, settings, text.as_str(), key_of(name)),
+    )
 }
 
 /// What a limit comes to, by its name and its text.
 pub fn limit(alloc: Global, settings: &[u8], text: &str) -> Result<String, AllocError> {
     let (name, value) = first_word(text);
     let text = limited(alloc, name, value)?;
-    said(alloc, &settled(alloc, settings, text.as_str(), key_of(name)))
+    said(
+        alloc,
+        &settled(alloc, settings, text.as_str(), key_of(name)),
+    )
 }
 
 /// What an annotation or a limit comes to where it is missing.
 pub fn without(alloc: Global, settings: &[u8], name: &str) -> Result<String, AllocError> {
     let text = annotated(alloc, "other", "")?;
-    said(alloc, &settled(alloc, settings, text.as_str(), key_of(name)))
+    said(
+        alloc,
+        &settled(alloc, settings, text.as_str(), key_of(name)),
+    )
 }
 
 /// Slots, if these may be.
