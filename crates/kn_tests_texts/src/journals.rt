@@ -145,8 +145,8 @@ pub fn failing(alloc: Global, bytes: &[u8]) -> Result<String, AllocError> {
     changes(alloc, &answers)
 }
 
-/// What a setup that stands alone says: its text, the version and the maximum; whether a line is ahead before it is read, and
-/// after that; and what its end says.
+/// What a setup that stands alone says: its text, the version and the maximum; whether a line is ahead before it is
+/// read, and after that; and what its end says.
 pub fn setup(alloc: Global, bytes: &[u8]) -> Result<String, AllocError> {
     let mut source = source(alloc, bytes, 65536, NEVER)?;
     let Ok(mut reader) = JournalReader::new(alloc) else {

@@ -47,7 +47,8 @@ pub fn ahead(alloc: Global, text: &[u8]) -> Result<String, AllocError> {
     }
 }
 
-/// Lines, each in its turn after the one before: of the same time, a later one, and ones that begin with the digits before.
+/// Lines, each in its turn after the one before: of the same time, a later one, and ones that begin with the digits
+/// before.
 const TURNS: [&str; 13] = [
     "1 arrive 7\n",
     "1 finish 7 ok\n",

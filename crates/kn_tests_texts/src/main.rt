@@ -1,5 +1,7 @@
-//! Prints what texts come to: each line of standard input has a subject and a text, and is printed with the answer. A line
-//! `over SETTINGS SUBJECT TEXT` is about a Revision over a ConfigMap. After the lines come the cases that are no texts.
+//! Prints what texts come to. Each line of standard input has a subject and a text, or is `over SETTINGS SUBJECT TEXT`, of
+//! a Revision over a ConfigMap; it is printed with the answer. After the lines come the cases that are no texts.
+//!
+//! In a text `\n` is LF, `\r` CR, `\x20` a byte and `\[3:x]` is `xxx`; `@NAME` is the file of that name in data/.
 #![tactic(auto)]
 
 mod holders;

@@ -42,24 +42,25 @@ fn rates_text(alloc: Global, spec: &Spec) -> Result<String, AllocError> {
     )
 }
 
-/// The bounds, what is said of zero, and the times.
+/// The bounds, and what is kept when no request comes.
 fn bounds_text(alloc: Global, spec: &Spec) -> Result<String, AllocError> {
     let (min, max, initial, to_zero) = (spec.min, spec.max, spec.initial, spec.to_zero);
     let (grace_ms, retention_ms) = (spec.grace_ms, spec.retention_ms);
-    let timeout_ms = spec.timeout_ms;
     format!(in alloc;
-        "min={min} max={max} initial={initial} to_zero={to_zero} grace_ms={grace_ms} retention_ms={retention_ms} timeout_ms={timeout_ms}"
+        "min={min} max={max} initial={initial} to_zero={to_zero} grace_ms={grace_ms} retention_ms={retention_ms}"
     )
 }
 
 /// All parts of a specification.
 fn parts_text(alloc: Global, spec: &Spec) -> Result<String, AllocError> {
     let (namespace, name) = (text_of(spec.namespace.bytes()), text_of(spec.name.bytes()));
-    let (kind, cc, slots) = (spec.kind, spec.cc, spec.slots);
+    let (kind, cc, timeout_ms, slots) = (spec.kind, spec.cc, spec.timeout_ms, spec.slots);
     let target = target_text(alloc, spec)?;
     let rates = rates_text(alloc, spec)?;
     let bounds = bounds_text(alloc, spec)?;
-    format!(in alloc; "{kind:?} {namespace}/{name} cc={cc} {target} {rates} {bounds} {slots:?}")
+    format!(in alloc;
+        "{kind:?} {namespace}/{name} cc={cc} {target} {rates} {bounds} timeout_ms={timeout_ms} {slots:?}"
+    )
 }
 
 /// What the autoscaler aims at.
@@ -78,25 +79,21 @@ pub fn parts(alloc: Global, settings: &[u8], text: &[u8]) -> Result<String, Allo
     }
 }
 
-/// What stands before the name of an annotation or a limit, between it and its value, and after that.
-#[derive(Clone, Copy)]
-struct Form {
-    before: &'static str,
-    between: &'static str,
-    after: &'static str,
+/// What stands before the name of an annotation.
+const ANNOTATIONS: &str =
+    r#"{"metadata":{"namespace":"default","name":"hello-00001","annotations":{"autoscaling.knative.dev/"#;
+
+/// A Revision that has this annotation alone.
+fn annotated(alloc: Global, name: &str, value: &str) -> Result<String, AllocError> {
+    format!(in alloc; r#"{ANNOTATIONS}{name}":"{value}"}}}}}}"#)
 }
 
-const ANNOTATION: Form = Form {
-    before: r#"{"metadata":{"namespace":"default","name":"hello-00001","annotations":{"autoscaling.knative.dev/"#,
-    between: r#"":""#,
-    after: r#""}}}"#,
-};
-
-const LIMIT: Form = Form {
-    before: r#"{"metadata":{"namespace":"default","name":"hello-00001"},"spec":{""#,
-    between: r#"":"#,
-    after: "}}",
-};
+/// A Revision that has this limit alone.
+fn limited(alloc: Global, name: &str, value: &str) -> Result<String, AllocError> {
+    format!(in alloc;
+        r#"{{"metadata":{{"namespace":"default","name":"hello-00001"}},"spec":{{"{name}":{value}}}}}"#
+    )
+}
 
 /// The part of a specification that a key settles: of the metric 1 for requests per second, of the utilisation the target
 /// over 10^8, of the panic window its seconds, of the timeout its milliseconds.
@@ -127,18 +124,8 @@ fn part(spec: &Spec, key: Key) -> u128 {
     }
 }
 
-/// The key's part of a Revision that has this annotation or limit alone.
-fn settled(
-    alloc: Global,
-    settings: &[u8],
-    form: Form,
-    key: Key,
-    (name, value): (&str, &str),
-) -> Result<u128, SpecError> {
-    let (before, between, after) = (form.before, form.between, form.after);
-    let Ok(text) = format!(in alloc; "{before}{name}{between}{value}{after}") else {
-        return Err(SpecError::Memory);
-    };
+/// The key's part of a Revision.
+fn settled(alloc: Global, settings: &[u8], text: &str, key: Key) -> Result<u128, SpecError> {
     match resolved(alloc, settings, text.as_bytes()) {
         Ok(spec) => Ok(part(&spec, key)),
         Err(fault) => Err(fault),
@@ -148,21 +135,30 @@ fn settled(
 /// What an annotation comes to, by its name and its text.
 pub fn annotation(alloc: Global, settings: &[u8], text: &str) -> Result<String, AllocError> {
     let (name, value) = first_word(text);
-    let settled = settled(alloc, settings, ANNOTATION, key_of(name), (name, value));
-    said(alloc, &settled)
+    let text = annotated(alloc, name, value)?;
+    said(
+        alloc,
+        &settled(alloc, settings, text.as_str(), key_of(name)),
+    )
 }
 
 /// What a limit comes to, by its name and its text.
 pub fn limit(alloc: Global, settings: &[u8], text: &str) -> Result<String, AllocError> {
     let (name, value) = first_word(text);
-    let settled = settled(alloc, settings, LIMIT, key_of(name), (name, value));
-    said(alloc, &settled)
+    let text = limited(alloc, name, value)?;
+    said(
+        alloc,
+        &settled(alloc, settings, text.as_str(), key_of(name)),
+    )
 }
 
 /// What an annotation or a limit comes to where it is missing.
 pub fn without(alloc: Global, settings: &[u8], name: &str) -> Result<String, AllocError> {
-    let settled = settled(alloc, settings, ANNOTATION, key_of(name), ("other", ""));
-    said(alloc, &settled)
+    let text = annotated(alloc, "other", "")?;
+    said(
+        alloc,
+        &settled(alloc, settings, text.as_str(), key_of(name)),
+    )
 }
 
 /// Slots, if these may be.

@@ -49,7 +49,7 @@ fn add_repeated(part: &str, bytes: &mut Vec<u8>) -> Result<(), AllocError> {
     add_escaped(rest, bytes)
 }
 
-/// The bytes of a row's text: `@NAME` is the file of that name in data/, and in any other text `\[3:x]` is `xxx`.
+/// The bytes that a row's text stands for.
 pub fn bytes_of<R: Files + AllocGlobal>(rt: &R, text: &str) -> anyhow::Result<Vec<u8>> {
     if let Some(name) = text.strip_prefix('@') {
         return Ok(fs::read(rt, name)?);
