@@ -1,5 +1,5 @@
-//! What a scaling decision is: definitions over plain arguments, which say nothing of a trace, and the types that they speak
-//! of. `rows` has worked rows, which the checker computes.
+//! What a scaling decision is: definitions over plain arguments, which say nothing of a trace, and the types that
+//! they speak of. `rows` has worked rows, which the checker computes.
 #![tactic(auto)]
 
 mod average;

@@ -101,7 +101,10 @@ impl Decisions {
                 self.close(words.number()?, words.number()?, words.number()?);
                 text(alloc, "done")
             }
-            "ready" => format!(in alloc; "{}", self.pod_ready(words.number()?, words.number()?)).ok(),
+            "ready" => format!(in alloc;
+                "{}",
+                self.pod_ready(words.number()?, words.number()?)
+            ).ok(),
             "phase" => text(alloc, phase_word(self.decider.phase())),
             "mode" => text(alloc, mode_word(self.decider.mode())),
             "want" => format!(in alloc; "{}", self.decider.want()).ok(),

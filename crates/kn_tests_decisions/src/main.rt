@@ -1,14 +1,14 @@
-//! Tests of what a scaling decision is made from, by the public calls of its parts. Each line of standard input that is not indented opens a subject;
-//! each indented one is a call of it, which is printed with its answer. `stdout` has what must be answered. Then long mixes are
-//! compared with a plain program.
+//! Tests of what a scaling decision is made from, by the public calls of its parts. Each line of standard input
+//! that is not indented opens a subject; each indented one is a call of it, which is printed with its answer.
+//! `stdout` has what must be answered. Then long mixes are compared with a plain program.
 #![tactic(auto)]
 
 mod decisions;
 mod delays;
 mod mixes;
 mod panics;
-mod past;
 mod parts;
+mod past;
 mod plain;
 mod scale;
 mod subject;

@@ -162,5 +162,8 @@ pub fn compare<R: Print + AllocGlobal>(rt: &R) -> io::Result<()> {
         println!(rt; "a window of {seconds}: {agreed} of 150 agree")?;
     }
     let (agreed, decided) = turns_agreeing(rt.alloc()).unwrap_or((0, 0));
-    println!(rt; "decisions: {agreed} of 500 turns agree, more than 300 decided: {}", decided > 300)
+    println!(rt;
+        "decisions: {agreed} of 500 turns agree, more than 300 decided: {}",
+        decided > 300
+    )
 }

@@ -18,6 +18,10 @@ pub fn answer(alloc: Global, panic: &mut Panic, words: &mut Words) -> Option<Str
         over,
     };
     let panicked = panic.take(time, &counts, 60_000);
-    let word = if panicked.panicking { "panicking" } else { "calm" };
+    let word = if panicked.panicking {
+        "panicking"
+    } else {
+        "calm"
+    };
     format!(in alloc; "{word} {}", panicked.count).ok()
 }

@@ -49,10 +49,7 @@ fn counts_text(alloc: Global, words: &mut Words) -> Option<String> {
     let over = if counts.over { "over" } else { "calm" };
     format!(in alloc;
         "{} {} {} {} {over}",
-        counts.dspc,
-        counts.dppc,
-        counts.stable_count,
-        counts.panic_count
+        counts.dspc, counts.dppc, counts.stable_count, counts.panic_count
     )
     .ok()
 }

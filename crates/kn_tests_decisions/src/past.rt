@@ -105,7 +105,14 @@ impl Past {
     ) -> Result<Decision, AllocError> {
         let counts = plain::desired_counts(spec, ready, stable, panic);
         let window_ms = spec.stable_s.saturating_mul(1000);
-        let (undelayed, delayed) = self.ask(spec, Judged { time, counts, window_ms })?;
+        let (undelayed, delayed) = self.ask(
+            spec,
+            Judged {
+                time,
+                counts,
+                window_ms,
+            },
+        )?;
         let bounded = plain::bounded_count(spec, self.reached, delayed);
         let answer = plain::zero_rule(spec, time, ready, bounded, &self.standing);
         let is_through = answer.want == 0 || excess < 0 || answer.phase == Phase::Activating;

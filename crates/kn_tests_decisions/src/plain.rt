@@ -1,4 +1,5 @@
-//! A plain slow program of the definitions: each decision looks at all that went by. Lists of decisions have the latest first.
+//! A plain slow program of the definitions: each decision looks at all that went by. Lists of decisions have the
+//! latest first.
 use kn_event::{Counts, Frac, Mode, Phase, Spec};
 use kn_scaling::{Asked, Judged, SampleRun, Standing, ZeroAnswer};
 
@@ -176,7 +177,13 @@ const fn zero_answer(want: u64, applied: bool, phase: Phase) -> ZeroAnswer {
 }
 
 /// What a decision wants where the count within the bounds is this one.
-pub fn zero_rule(spec: &Spec, time: u64, ready: u64, bounded: u64, standing: &Standing) -> ZeroAnswer {
+pub fn zero_rule(
+    spec: &Spec,
+    time: u64,
+    ready: u64,
+    bounded: u64,
+    standing: &Standing,
+) -> ZeroAnswer {
     let phase = if 0 < ready {
         Phase::Active
     } else {
@@ -188,7 +195,11 @@ pub fn zero_rule(spec: &Spec, time: u64, ready: u64, bounded: u64, standing: &St
     match standing.phase {
         Phase::Activating => zero_answer(standing.want, false, Phase::Activating),
         Phase::Active => {
-            if has_lasted(standing.phase_since, spec.stable_s.saturating_mul(1000), time) {
+            if has_lasted(
+                standing.phase_since,
+                spec.stable_s.saturating_mul(1000),
+                time,
+            ) {
                 zero_answer(0, false, Phase::Inactive)
             } else {
                 zero_answer(1, true, phase)

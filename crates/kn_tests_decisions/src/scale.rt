@@ -1,11 +1,12 @@
 //! A scaled revision, by a few settings.
-ghost use Rattle.std.specs.Prelude.{◌≡◌, IfSome};
+ghost use Rattle.std.specs.Prelude.{◌≡◌, ◌≤◌, ◌<◌, IfSome};
+ghost use Rattle.kn_event.specs.Ranges.{IsTotal};
 
 use crate::words::Words;
 use kn_event::{Burst, Frac, Kind, Metric, Milli, Slots, Spec};
 use std::alloc::Global;
 
-/// What is set beside the default configuration. Times are in seconds, but for `grace` and `retention`, in milliseconds; rates,
+/// What is set beside the default configuration. Times are in seconds, `grace` and `retention` in milliseconds; rates,
 /// capacities and the total are thousandths.
 #[derive(Clone, Copy)]
 pub struct Scale {
@@ -114,6 +115,8 @@ impl Scale {
             return None;
         };
         spec.kind = Kind::Kpa;
+        spec.total = total_or(self.total, spec.total);
+        spec.target = target_or(self.target, spec.target);
         spec.min = self.min.min(500);
         spec.max = self.most_pods(self.min.min(500));
         spec.initial = self.initial.min(500);
@@ -126,24 +129,35 @@ impl Scale {
         spec.burst = Burst::Capacity(Milli(self.burst.min(1_000_000_000)));
         spec.up = Milli(self.up.clamp(1001, 1_000_000_000));
         spec.metric = self.metric();
-        if let Some(total) = self.total {
-            spec.total = Milli(total.clamp(10, 1_000_000_000));
-        }
-        if let Some(target) = self.target {
-            spec.target = target_of(target);
-        }
         Some(spec)
     }
 }
 
-/// A target in hundred-millionths of a request.
-fn target_of(target: u64) -> Frac
+/// A total in thousandths of a request, or this one.
+fn total_or(total: Option<u64>, default: Milli) -> Milli
+    requires { IsTotal default }
+    ensures { IsTotal result }
+{
+    match total {
+        None => default,
+        Some(total) => Milli(total.clamp(10, 1_000_000_000)),
+    }
+}
+
+/// A target in hundred-millionths of a request, or this one.
+fn target_or(target: Option<u64>, default: Frac) -> Frac
+    requires den { default.den ≡ 100000000 }
+    requires least { 1000000 ≤ default.num }
+    requires most { default.num ≤ 100000000000000 }
     ensures den { result.den ≡ 100000000 }
     ensures least { 1000000 ≤ result.num }
     ensures most { result.num ≤ 100000000000000 }
 {
-    Frac {
-        num: u128::from(target.clamp(1_000_000, 100_000_000_000_000)),
-        den: 100_000_000,
+    match target {
+        None => default,
+        Some(target) => Frac {
+            num: u128::from(target.clamp(1_000_000, 100_000_000_000_000)),
+            den: 100_000_000,
+        },
     }
 }

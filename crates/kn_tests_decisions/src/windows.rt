@@ -34,7 +34,12 @@ impl Windows {
     /// Samples that come after all before.
     pub fn record(&mut self, run: &SampleRun) -> Option<()> {
         let (second, count, load) = (run.second, run.count, run.load);
-        if second < self.end || second > MOST || count == 0 || count > MOST || load > 1_000_000_000 {
+        if second < self.end
+            || second > MOST
+            || count == 0
+            || count > MOST
+            || load > 1_000_000_000
+        {
             return None;
         }
         self.window.record_run(second, count, load);

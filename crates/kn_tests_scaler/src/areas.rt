@@ -102,6 +102,17 @@ fn after_arrivals(sampled: bool, arrived: u64) -> Option<Closed> {
     Some(closed(Some(first), Some(rest)))
 }
 
+/// What two pods took by 250 where 20,500 are named: one with a request, the last to be named, and one whose request ended.
+fn most_pods(alloc: Global) -> Option<[u64; 2]> {
+    let mut meter = Meter::new(alloc, 0, Metric::Concurrency)?;
+    for k in 0..20_499 {
+        let _ = meter.direct_until(k * 7919 % 20_500, 0, false)?;
+    }
+    meter.direct(20_499 * 7919 % 20_500)?;
+    let _ = meter.advance(250, false)?;
+    Some([meter.area(12_581).area, meter.area(20_499).area])
+}
+
 fn arrivals<R: Print + AllocGlobal>(rt: &R) -> io::Result<()> {
     let (alloc, rps, concurrency) = (rt.alloc(), Metric::Rps, Metric::Concurrency);
     case(rt, "one arrival by rps", &after_bursts(alloc, rps, 1), &after_arrivals(true, 1))?;
@@ -128,5 +139,6 @@ pub fn cases<R: Print + AllocGlobal>(rt: &R) -> io::Result<()> {
     case(rt, "a pod's areas", &one_pod(alloc), &Some(areas))?;
     let left = closed(run(0, 400, 1), None);
     case(rt, "a pod that left", &pod_that_left(alloc), &Some(left))?;
+    case(rt, "room for 20,500 pods", &most_pods(alloc), &Some([250, 0]))?;
     arrivals(rt)
 }

@@ -1,6 +1,7 @@
-//! Tests of what a revision's autoscaler measures, of its pods, and of it as a whole, by their public calls. Each line of standard
-//! input that is not indented opens a set of pods; each indented one is a call of it, which is printed with its answer. `stdout` has what
-//! must be answered. Then sequences of calls in the code say whether each went as it must, and a long mix is compared with a recount.
+//! Tests of what a revision's autoscaler measures, of its pods, and of it as a whole, by their public calls. Each
+//! line of standard input that is not indented opens a set of pods; each indented one is a call of it, which is
+//! printed with its answer. `stdout` has what must be answered. Then sequences of calls in the code say whether
+//! each went as it must, and long mixes are compared with a recount.
 #![tactic(auto)]
 
 mod areas;

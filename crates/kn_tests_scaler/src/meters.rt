@@ -6,20 +6,23 @@ use kn_event::Metric;
 use kn_stats::{Change, Closed, PodArea, Stats};
 use std::alloc::Global;
 
-/// No change is made after so many, so that there is room for each.
-const MOST: u64 = 19_998;
+/// How many requests may be live, and how many pods named.
+const LIVE_MOST: u64 = 20_000;
 
-/// A measure, its time, how many requests wait, and a bound for the live ones and the pods.
+const NAMED_MOST: u64 = 20_500;
+
+/// A measure, its time, how many requests wait, and bounds for the live ones and for the pods that were named.
 #[derive(Drop)]
 pub struct Meter {
     stats: Stats,
     time: u64,
     waiting: u64,
-    changes: u64,
+    live: u64,
+    named: u64,
     ghost now: { stats.time ≡ time },
     ghost held: { stats.waiting ≡ waiting },
-    ghost few: { length stats.pods ≤ changes },
-    ghost live: { live_in stats ≤ changes },
+    ghost few_live: { live_in stats ≤ live },
+    ghost few_named: { length stats.pods ≤ named },
 }
 
 impl Meter {
@@ -31,7 +34,8 @@ impl Meter {
             stats,
             time: start,
             waiting: 0,
-            changes: 0,
+            live: 0,
+            named: 0,
         })
     }
 
@@ -51,34 +55,35 @@ impl Meter {
 
     pub fn admit(&mut self) -> Option<()> {
         let waiting = self.waiting.checked_add(1)?;
-        if self.changes >= MOST {
+        if self.live >= LIVE_MOST {
             return None;
         }
         self.stats.change(Change::Admitted);
         self.waiting = waiting;
-        self.changes += 1;
+        self.live += 1;
         Some(())
     }
 
     /// One that waits goes to the pod.
     #[tactic(auto, using(crate::proofs::Meters::length_put_most))]
     pub fn assign(&mut self, p: u64) -> Option<()> {
-        if self.waiting == 0 || self.changes >= MOST {
+        if self.waiting == 0 || self.named >= NAMED_MOST {
             return None;
         }
         self.stats.change(Change::Assigned(p));
         self.waiting -= 1;
-        self.changes += 1;
+        self.named += 1;
         Some(())
     }
 
     #[tactic(auto, using(crate::proofs::Meters::length_put_most))]
     pub fn direct(&mut self, p: u64) -> Option<()> {
-        if self.changes >= MOST {
+        if self.live >= LIVE_MOST || self.named >= NAMED_MOST {
             return None;
         }
         self.stats.change(Change::Directed(p));
-        self.changes += 1;
+        self.live += 1;
+        self.named += 1;
         Some(())
     }
 
@@ -95,21 +100,21 @@ impl Meter {
     /// One goes straight to the pod, and ends there at a later time. Answers what closes until then.
     #[tactic(auto, using(crate::proofs::Meters::length_put_most))]
     pub fn direct_until(&mut self, p: u64, to: u64, ready: bool) -> Option<Closed> {
-        if self.changes >= MOST || to < self.time {
+        if self.live >= LIVE_MOST || self.named >= NAMED_MOST || to < self.time {
             return None;
         }
         self.stats.change(Change::Directed(p));
         let closed = self.stats.advance(to, ready);
         self.stats.change(Change::EndedAt(p, false));
         self.time = to;
-        self.changes += 2;
+        self.named += 1;
         Some(closed)
     }
 
     /// One that waits goes to the pod, and ends there at a later time. Answers what closes until then.
     #[tactic(auto, using(crate::proofs::Meters::length_put_most))]
     pub fn assign_until(&mut self, p: u64, to: u64, ready: bool) -> Option<Closed> {
-        if self.waiting == 0 || self.changes >= MOST || to < self.time {
+        if self.waiting == 0 || self.named >= NAMED_MOST || to < self.time {
             return None;
         }
         self.stats.change(Change::Assigned(p));
@@ -117,7 +122,7 @@ impl Meter {
         self.stats.change(Change::EndedAt(p, true));
         self.waiting -= 1;
         self.time = to;
-        self.changes += 2;
+        self.named += 1;
         Some(closed)
     }
 
