@@ -2,6 +2,7 @@ pub mod Aheads
 pub mod Blocks
 pub mod Collected
 pub mod Consumed
+pub mod Drawings
 pub mod Fronts
 pub mod Kept
 pub mod LineTexts
