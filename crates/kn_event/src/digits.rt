@@ -2,8 +2,9 @@
 ghost use Rattle.core.specs.Dec2flt.Digits.{IsEightBytes, IsEightDigits};
 ghost use Rattle.core.specs.Float.Numeral.{digits_len};
 ghost use Rattle.core.specs.Int.Digits.{number_from_digits};
+ghost use Rattle.core.specs.Prelude.{bit_xor};
 ghost use Rattle.core.specs.Slice.Scan.{digits_from, flag_word};
-ghost use Rattle.std.specs.Prelude.{◌≡◌, ◌≢◌, ℕ, ◌-◌, ◌*◌, ◌%◌, ◌^◌, ◌<◌, ◌≤◌, ◌++◌, true, List, get_or, take, nat_le, IfSome};
+ghost use Rattle.std.specs.Prelude.{◌≡◌, ◌≢◌, ℕ, ◌-◌, ◌*◌, ◌%◌, ◌^◌, ◌<◌, ◌≤◌, ◌++◌, List, get_or, take, nat_le, IfSome};
 ghost use Rattle.std.specs.Str.Parse.{digits_value};
 ghost use lib.Lanes.{number_l};
 
@@ -42,23 +43,15 @@ fn keep_first(word: u64, count: u32) -> u64
     word << (56 - 8 * count) << 8
 }
 
-/// Whether the first byte is a `0`.
+/// How many digits a word begins with, from the lowest byte on, and the number that they write, where they are at most seven. These
+/// are its lanes: each byte without a `0`'s bits, so that a digit's is its value.
 #[inline(always)]
-fn begins_with_zero(word: u64) -> bool
-    ensures { (xs : List ℕ) → IsEightBytes xs → word ≡ number_l 256 xs → get_or xs 0 0 ≡ 48 → result ≡ true }
-{
-    (word ^ ZEROS) & 0xff == 0
-}
-
-/// How many digits the word begins with, from the lowest byte on, and the number that they write, where they are at most seven.
-#[inline(always)]
-fn leading_digits(word: u64) -> Option<(usize, u64)>
+fn leading_digits(lanes: u64) -> Option<(usize, u64)>
     ensures few { IfSome result (λ p. p.0 < 8) }
     ensures small { IfSome result (λ p. p.1 < 2 ^ 32) }
-    ensures read { IfSome result (λ p. (xs : List ℕ) → IsEightBytes xs → word ≡ number_l 256 xs
+    ensures read { IfSome result (λ p. (word : ℕ) (xs : List ℕ) → lanes ≡ bit_xor word ZEROS → IsEightBytes xs → word ≡ number_l 256 xs
         → (p.0 ≡ digits_len xs) × (p.1 ≡ digits_value 10 (take p.0 xs))) }
 {
-    let lanes = word ^ ZEROS;
     let others = flags_from_ten(lanes);
     if others == 0 {
         return None;
@@ -67,20 +60,21 @@ fn leading_digits(word: u64) -> Option<(usize, u64)>
     Some((count as usize, value_of_eight(keep_first(lanes, count))))
 }
 
-/// The number that all eight bytes write, where they are digits.
+/// The number that all eight bytes of a word write, where they are digits.
 #[inline(always)]
-fn eight_digits(word: u64) -> Option<u64>
+fn eight_digits(lanes: u64) -> Option<u64>
     ensures small { IfSome result (λ n. n < 2 ^ 32) }
-    ensures read { IfSome result (λ n. (xs : List ℕ) → IsEightBytes xs → word ≡ number_l 256 xs → (digits_len xs ≡ 8) × (n ≡ digits_value 10 xs)) }
+    ensures read { IfSome result (λ n. (word : ℕ) (xs : List ℕ) → lanes ≡ bit_xor word ZEROS → IsEightBytes xs → word ≡ number_l 256 xs
+        → (digits_len xs ≡ 8) × (n ≡ digits_value 10 xs)) }
 {
-    let lanes = word ^ ZEROS;
     if flags_from_ten(lanes) != 0 {
         return None;
     }
     Some(value_of_eight(lanes))
 }
 
-/// The same of the digits that the word begins with, where they are one to seven and the first is no 0.
+/// How many digits the word begins with, from the lowest byte on, and the number that they write, where they are one to seven and
+/// the first is no 0.
 #[inline(always)]
 pub fn few_digits(word: u64) -> Option<(usize, u64)>
     ensures some { IfSome result (λ p. 0 < p.0) }
@@ -89,10 +83,11 @@ pub fn few_digits(word: u64) -> Option<(usize, u64)>
     ensures read { IfSome result (λ p. (xs : List ℕ) → IsEightBytes xs → word ≡ number_l 256 xs
         → (p.0 ≡ digits_len xs) × (p.1 ≡ digits_value 10 (take p.0 xs))) }
 {
-    if begins_with_zero(word) {
+    let lanes = word ^ ZEROS;
+    if lanes & 0xff == 0 {
         return None;
     }
-    let (len, value) = leading_digits(word)?;
+    let (len, value) = leading_digits(lanes)?;
     if len == 0 {
         return None;
     }
@@ -108,10 +103,11 @@ pub fn many_digits(first: u64, second: u64) -> Option<(usize, u64)>
     ensures read { IfSome result (λ p. (xs ys : List ℕ) → IsEightBytes xs → IsEightBytes ys → first ≡ number_l 256 xs → second ≡ number_l 256 ys
         → (p.0 ≡ digits_len (xs ++ ys)) × (p.1 ≡ digits_value 10 (take p.0 (xs ++ ys)))) }
 {
-    if begins_with_zero(first) {
+    let lanes = first ^ ZEROS;
+    if lanes & 0xff == 0 {
         return None;
     }
-    let high = eight_digits(first)?;
-    let (len, low) = leading_digits(second)?;
+    let high = eight_digits(lanes)?;
+    let (len, low) = leading_digits(second ^ ZEROS)?;
     Some((8 + len, high * ten_to(len as u64) + low))
 }

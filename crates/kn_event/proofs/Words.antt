@@ -1,13 +1,21 @@
--- The digits of a word of eight and of a word behind it.
-use Rattle.core.specs.Prelude.{◌≡◌, ℕ, ◌+◌, ◌*◌, ◌^◌, ◌<◌, ◌≤◌, leb, List, ◌++◌, length, take, drop}
+-- The digits of words of eight bytes.
+use Rattle.core.specs.Prelude.{◌≡◌, ℕ, ◌+◌, ◌*◌, ◌^◌, ◌<◌, ◌≤◌, leb, List, [], ◌∷◌, ◌++◌, length, get_or, map, take, drop, bit_and}
 use mathlib.Core.Path.{sym, ap, ◌∙◌}
 use native.Mathlib.Nat.{mul-le-mul_left}
 use native.Mathlib.Omega.{arith}
+use lib.Bits.{and_mask}
 use lib.Dec.{leb→le}
+use lib.Lanes.{number_l}
 use lib.Seq.{length-take-le, take_all, take-append-le, take-append-add, drop-append_seam}
+use Rattle.core.specs.Dec2flt.Digits.{less_zero, IsEightBytes}
 use Rattle.core.specs.Float.Numeral.{digits_len}
 use Rattle.core.specs.Str.Parse.{digits_value}
 use Rattle.core.proofs.dec2flt.DigitsLemmas.{digits_len-take, digits_value-append, every_below}
+
+-- a 0 in front leaves the lowest lane empty
+pub empty_lane : (xs : List ℕ) → IsEightBytes xs → get_or xs 0 0 ≡ 48 → bit_and (number_l 256 (map less_zero xs)) 0xff ≡ 0
+empty_lane [] eight is = absurd (omega arith)
+empty_lane (x ∷ xs) eight is = and_mask (number_l 256 (map less_zero (x ∷ xs))) 8 ∙ rw is (omega arith)
 
 -- eight digits and those of a word behind them
 pub joined : (xs ys : List ℕ) (high len low : ℕ) → length xs ≡ 8 → length ys ≡ 8 → digits_len xs ≡ 8 → high ≡ digits_value 10 xs → len < 8 → len ≡ digits_len ys → low ≡ digits_value 10 (take len ys)
