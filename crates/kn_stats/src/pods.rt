@@ -42,7 +42,14 @@ pub(crate) fn found(pods: &[PodTally], hints: &PlaceHints, p: u64) -> PodTally
 
 /// A change that names the pod, which is put in where it isn't there.
 #[inline(always)]
-pub(crate) fn update(pods: &mut Vec<PodTally>, hints: &mut PlaceHints, p: u64, c: Change, second: u64, left: u64)
+pub(crate) fn update(
+    pods: &mut Vec<PodTally>,
+    hints: &mut PlaceHints,
+    p: u64,
+    c: Change,
+    second: u64,
+    left: u64,
+)
     requires sorted { IsSorted pods.old.items }
     requires small { IsSmallPod second left (found p pods.old.items) }
     requires left { left ≤ 1000 }
