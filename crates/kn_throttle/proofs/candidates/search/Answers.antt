@@ -2,7 +2,7 @@ use Rattle.std.proofs.Common.{rules}
 use Rattle.std.proofs.lemmas.List.Sorted.{answers_always}
 use Rattle.kn_trace.specs.declared.candidate.Cand.{Cand}
 use Rattle.kn_throttle.proofs.Places.{search_none, search_there}
-use Rattle.kn_throttle.proofs.candidates.place_of.Goals as goal
+use Rattle.kn_throttle.proofs.candidates.search.Goals as goal
 
 -- the closure gives the number
 pub returns-clause-there : goal.returns-clause-there
