@@ -75,6 +75,7 @@ impl Scaled {
             }
             "ready" => text(alloc, ready_word(self.pods.ready(number))),
             "next-starting" => next_text(alloc, self.pods.next_starting(number)),
+            "count-ready" => format!(in alloc; "{}", self.pods.count_ready()).ok(),
             "live" => format!(in alloc; "{}", self.pods.live(number)).ok(),
             "lost" => {
                 let lost = self.pods.lost(number);
