@@ -186,10 +186,20 @@ pub fn four_threads<R: Print + AllocGlobal + Threads + Wait + Sync>(rt: &R) -> a
         bail!("memory is lacking");
     };
     let rows = outcome.history.items();
-    case(rt, "four threads, the pod is Ready", &outcome.ready, &Some(Ok(Told::Passed)))?;
+    case(
+        rt,
+        "four threads, the pod is Ready",
+        &outcome.ready,
+        &Some(Ok(Told::Passed)),
+    )?;
     case(rt, "four threads, rows", &rows.len(), &801)?;
     let of_each = [0, 1, 2, 3, 4].map(|pass| brought(rows, pass));
-    case(rt, "four threads, rows of each", &of_each, &[1, 200, 200, 200, 200])?;
+    case(
+        rt,
+        "four threads, rows of each",
+        &of_each,
+        &[1, 200, 200, 200, 200],
+    )?;
     case(rt, "four threads, arrivals", &outcome.left.arrivals, &400)?;
     case(rt, "four threads, live requests", &outcome.left.live, &0)?;
     Ok(())
@@ -233,12 +243,22 @@ pub fn replayed_by_one<R: Print + AllocGlobal + Threads + Wait + Sync>(
         bail!("memory is lacking");
     };
     let rows = outcome.history.items();
-    case(rt, "eight threads, the pod is Ready", &outcome.ready, &Some(Ok(Told::Passed)))?;
+    case(
+        rt,
+        "eight threads, the pod is Ready",
+        &outcome.ready,
+        &Some(Ok(Told::Passed)),
+    )?;
     case(rt, "eight threads, rows", &rows.len(), &481)?;
     let Some((count, again)) = replay_new(rt.alloc(), rows) else {
         bail!("memory is lacking");
     };
     case(rt, "eight threads, events replayed by one", &count, &481)?;
-    case(rt, "eight threads, what is left", &(again == outcome.left), &true)?;
+    case(
+        rt,
+        "eight threads, what is left",
+        &(again == outcome.left),
+        &true,
+    )?;
     Ok(())
 }

@@ -224,7 +224,12 @@ pub fn takes_turns<R: Print + AllocGlobal + Wait>(rt: &R) -> anyhow::Result<()> 
     case(rt, "turns, no wrong answer", &outcome.wrong, &None)?;
     let rows = passes_and_times(rt.alloc(), outcome.history.items())?;
     let wanted = [(0, 10), (1, 10), (0, 11), (1, 1 << 42)];
-    case(rt, "turns, passes and times", &rows.as_slice(), &wanted.as_slice())?;
+    case(
+        rt,
+        "turns, passes and times",
+        &rows.as_slice(),
+        &wanted.as_slice(),
+    )?;
     case(rt, "turns, the last time", &outcome.left.now, &(1 << 42))?;
     Ok(())
 }
