@@ -77,10 +77,7 @@ impl Scaled {
             "next-starting" => next_text(alloc, self.pods.next_starting(number)),
             "count-ready" => format!(in alloc; "{}", self.pods.count_ready()).ok(),
             "live" => format!(in alloc; "{}", self.pods.live(number)).ok(),
-            "lost" => {
-                let lost = self.pods.lost(number);
-                format!(in alloc; "{lost}, {} ready", self.pods.count_ready()).ok()
-            }
+            "lost" => format!(in alloc; "{}", self.pods.lost(number)).ok(),
             "remove" => {
                 let (before, after) = self.remove(number);
                 format!(in alloc; "draining {before}, then {after}").ok()
