@@ -78,11 +78,12 @@ pub fn open(alloc: Global, source: &mut MemSource) -> Result<JournalReader, Jour
     Ok(reader)
 }
 
-/// What a journal says, if it says the same in pieces of each size.
+/// What a journal says, if it says the same in pieces of each size; a long one is read in few pieces alone.
 fn says(alloc: Global, bytes: &[u8]) -> Result<Option<Said>, AllocError> {
     let first = read_all(alloc, &mut source(alloc, bytes, u64::MAX, NEVER)?);
     for piece in PIECES {
-        if read_all(alloc, &mut source(alloc, bytes, piece, NEVER)?) != first {
+        let few = bytes.len() as u64 <= piece.saturating_mul(1024);
+        if few && read_all(alloc, &mut source(alloc, bytes, piece, NEVER)?) != first {
             return Ok(None);
         }
     }
