@@ -1,12 +1,8 @@
 //! `kactd`: serves clients through the pods of one revision, and prints the journal of what it did.
 #![tactic(auto)]
 
-mod tcp_opener;
-#[cfg(test)]
-mod tests;
-
-use crate::tcp_opener::TcpOpener;
 use kn_io::{MachineClock, OpenGate, ReaderSource, WriterSink};
+use kn_opener::TcpOpener;
 use kn_serve::kactd_run;
 use std::env;
 use std::process::ExitCode;

@@ -4,6 +4,3 @@
 mod breaker;
 
 pub use breaker::Breaker;
-
-#[cfg(test)]
-mod tests;

@@ -10,6 +10,3 @@ pub use config::{Config, ConfigError, other_keys_are_ignored};
 pub use json::{JsonError, read_json};
 pub use key::{Key, Rule};
 pub use value::KeyError;
-
-#[cfg(test)]
-mod tests;

@@ -6,6 +6,3 @@ pub mod laws;
 mod parts;
 
 pub use decider::Decider;
-
-#[cfg(test)]
-mod tests;

@@ -65,6 +65,3 @@ impl Delay {
         greatest_with(&mut self.peaks, self.seconds, second, count)
     }
 }
-
-#[cfg(test)]
-mod tests;

@@ -1,5 +1,5 @@
 -- The first bytes of a word, told by a multiplication that moves them up to its end.
-use Rattle.core.specs.Prelude.{◌≡◌, ℕ, zero, suc, ◌+◌, ◌-◌, ◌*◌, ◌/◌, ◌%◌, ◌^◌, ◌<◌, ◌≤◌, List, [], ◌∷◌, length, take}
+use Rattle.core.specs.Prelude.{◌≡◌, ℕ, zero, suc, ◌+◌, ◌-◌, ◌*◌, ◌/◌, ◌%◌, ◌^◌, ◌<◌, ◌≤◌, List, [], ◌∷◌, ◌++◌, length, take}
 use mathlib.Core.Path.{refl, sym, ap, ◌∙◌}
 use native.Mathlib.Nat.{mul-div_cancel, mul-mod_left, add-zero, pow-suc, zero-mod}
 use native.Mathlib.Omega.{arith}
@@ -7,16 +7,16 @@ use lib.Arith.{digits_div, digits_mod, mod-mul}
 use lib.Dec.{eqb, eqb→eq}
 use lib.Lanes.{number_l}
 use lib.Pow.{pow-add}
-use lib.Seq.{take-take}
-use Rattle.std.specs.Fmt.{decimal}
+use lib.Seq.{take-take, take_all, take-append-le, take-append-add}
 use Rattle.core.specs.Int.Digits.{AllBelowBase}
 use Rattle.core.specs.Dec2flt.Digits.{IsEightBytes}
 use Rattle.core.proofs.dec2flt.DigitsLemmas.{every_below}
 use Rattle.core.proofs.dec2flt.LimbsLemmas.{power_pos}
 
 -- the shift is a multiplication by a power of 256
-scale_is : (n : ℕ) → n < 8 → 1 * 2 ^ (56 - 8 * n) % 2 ^ 64 ≡ 256 ^ (8 - (n + 1))
-scale_is n few = eqb→eq _ _ (every_below (λ k. eqb (1 * 2 ^ (56 - 8 * k) % 2 ^ 64) (256 ^ (8 - (k + 1)))) 8 tt n few)
+scale_is : (n : ℕ) → 0 < n → n ≤ 8 → 1 * 2 ^ (64 - 8 * n) % 2 ^ 64 ≡ 256 ^ (8 - n)
+scale_is zero some few = absurd (omega arith)
+scale_is (suc n) some few = eqb→eq _ _ (every_below (λ k. eqb (1 * 2 ^ (64 - 8 * suc k) % 2 ^ 64) (256 ^ (8 - suc k))) 8 tt n (omega arith))
 
 front : (xs : List ℕ) (n : ℕ) → AllBelowBase 256 xs → number_l 256 xs % 256 ^ n ≡ number_l 256 (take n xs)
 front xs zero h = omega arith
@@ -53,12 +53,27 @@ same_front xs ys n hx hy few e =
     λ zs hz. rw (← all, moved (number_l 256 zs) (256 ^ n) (256 ^ (8 - n)) low high, front zs n hz.1) refl in
     same_bytes n xs ys hx.1 hy.1 (hx.0 ∙ sym hy.0) (cancel _ _ (256 ^ (8 - n)) high (sym (each xs hx) ∙ e ∙ each ys hy))
 
--- what is kept of the bytes that spell a time, and of the byte behind them, tells them again
-pub told : (time len word : ℕ) → len < 8 → (kept : (ys : List ℕ) × IsEightBytes ys × (word ≡ number_l 256 ys) × (take len ys ≡ decimal time))
-    → (xs : List ℕ) → IsEightBytes xs → number_l 256 xs * (1 * 2 ^ (56 - 8 * len) % 2 ^ 64) % 2 ^ 64 ≡ word * (1 * 2 ^ (56 - 8 * len) % 2 ^ 64) % 2 ^ 64 → take len xs ≡ decimal time
-told time len word few kept xs eight e =
-    let scale = scale_is len few in
-    let same : number_l 256 xs * 256 ^ (8 - (len + 1)) % 2 ^ 64 ≡ number_l 256 kept.0 * 256 ^ (8 - (len + 1)) % 2 ^ 64 =
-    ap (λ k. number_l 256 xs * k % 2 ^ 64) (sym scale) ∙ e ∙ ap (λ k. word * k % 2 ^ 64) scale ∙ ap (λ w. w * 256 ^ (8 - (len + 1)) % 2 ^ 64) kept.2 in
-    let more : take (len + 1) xs ≡ take (len + 1) kept.0 = same_front xs kept.0 (len + 1) eight kept.1 (omega arith) same in
-    sym (take-take len (len + 1) xs (omega arith)) ∙ ap (take len) more ∙ take-take len (len + 1) kept.0 (omega arith) ∙ kept.3
+-- of two words that are moved up alike, the one has the bytes of the other
+pub same_start : (word n : ℕ) → 0 < n → n ≤ 8 → (xs ys : List ℕ) → IsEightBytes xs → IsEightBytes ys → word ≡ number_l 256 ys
+    → number_l 256 xs * (1 * 2 ^ (64 - 8 * n) % 2 ^ 64) % 2 ^ 64 ≡ word * (1 * 2 ^ (64 - 8 * n) % 2 ^ 64) % 2 ^ 64 → take n xs ≡ take n ys
+same_start word n some few xs ys hx hy is e =
+    let scale = scale_is n some few in
+    same_front xs ys n hx hy few (ap (λ k. number_l 256 xs * k % 2 ^ 64) (sym scale) ∙ e ∙ ap (λ k. word * k % 2 ^ 64) scale ∙ ap (λ w. w * 256 ^ (8 - n) % 2 ^ 64) is)
+
+-- bytes that agree with one of eight as far as the byte behind its first ones have these too
+pub few_told : (len : ℕ) (zs xs ys : List ℕ) → len < 8 → IsEightBytes xs → take (len + 1) xs ≡ take (len + 1) zs → take len (xs ++ ys) ≡ take len zs
+few_told len zs xs ys few hx same =
+    take-append-le len xs ys (omega (arith, hx.0)) ∙ sym (take-take len (len + 1) xs (omega arith)) ∙ ap (take len) same ∙ take-take len (len + 1) zs (omega arith)
+
+-- the first bytes of sixteen, of which there are eight or more
+parts : (len : ℕ) (xs ys : List ℕ) → 8 ≤ len → IsEightBytes xs → take len (xs ++ ys) ≡ xs ++ take (len - 8) ys
+parts len xs ys many hx = ap (λ k. take k (xs ++ ys)) (omega (arith, hx.0)) ∙ take-append-add xs ys (len - 8)
+
+-- the same of sixteen
+pub many_told : (len : ℕ) (vs ws xs ys : List ℕ) → 8 ≤ len → IsEightBytes vs → IsEightBytes xs → take 8 xs ≡ take 8 vs → take (len - 7) ys ≡ take (len - 7) ws
+    → take len (xs ++ ys) ≡ take len (vs ++ ws)
+many_told len vs ws xs ys many hv hx first second =
+    let front : xs ≡ vs = sym (take_all 8 xs (omega (arith, hx.0))) ∙ first ∙ take_all 8 vs (omega (arith, hv.0)) in
+    let back : take (len - 8) ys ≡ take (len - 8) ws =
+    sym (take-take (len - 8) (len - 7) ys (omega arith)) ∙ ap (take (len - 8)) second ∙ take-take (len - 8) (len - 7) ws (omega arith) in
+    parts len xs ys many hx ∙ ap (λ l. l ++ take (len - 8) ys) front ∙ ap (λ l. vs ++ l) back ∙ sym (parts len vs ws many hv)

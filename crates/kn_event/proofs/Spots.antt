@@ -9,7 +9,7 @@ use Rattle.std.proofs.lemmas.List.{take-append-drop, get_or-take, get_or-drop, d
 use Rattle.std.proofs.Math.Seq.{take-append_seam}
 use Rattle.core.specs.Float.Numeral.{digits_len}
 use Rattle.core.proofs.dec2flt.DigitsLemmas.{digits_len_short}
-use lib.Seq.{take-take}
+use lib.Seq.{take-add, take-take}
 use Rattle.std.proofs.lemmas.Str.Parse.{digits_value_short}
 use Rattle.std.specs.Int.{w64, to_le_bytes}
 use Rattle.kn_event.specs.declared.event.Act.{Act}
@@ -58,33 +58,52 @@ number_here bs from value end stop inside is some few lead =
       small = spelling.1;
     }
 
--- the same of one to seven digits in eight bytes
-pub few_here : (bs : List ℕ) (from value len end : ℕ) → end ≡ from + len → from + 8 ≤ length bs → 0 < len → len < 8 → len ≡ digits_len (take 8 (drop from bs))
-    → value ≡ digits_value 10 (take len (take 8 (drop from bs))) → get_or (take 8 (drop from bs)) 0 0 ≢ 48 → IsNumberAt bs from value end
-few_here bs from value len end to room some few stop is lead =
+-- the same of digits in a front that has more bytes than they
+pub front_here : (bs : List ℕ) (room from value len end : ℕ) → end ≡ from + len → from + room ≤ length bs → 0 < len → len < room → room ≤ 20
+    → len ≡ digits_len (take room (drop from bs)) → value ≡ digits_value 10 (take len (take room (drop from bs))) → get_or (take room (drop from bs)) 0 0 ≢ 48 → IsNumberAt bs from value end
+front_here bs room from value len end to inside some few short stop is lead =
     let front : List ℕ = drop from bs in
     let count : end - from ≡ len = omega arith in
-    let whole : digits_len front ≡ len = digits_len_short front 8 (omega (arith, stop)) ∙ sym stop in
-    let first : get_or (take 8 front) 0 0 ≡ get_or bs from 0 = get_or-take 8 front 0 0 (omega arith) ∙ get_or-drop from bs 0 0 ∙ ap (λ (i : ℕ). get_or bs i 0) (add-zero from) in
-    let worth : value ≡ digits_value 10 (slice_range bs from end) = rw count (is ∙ ap (digits_value 10) (take-take len 8 front (omega arith))) in
+    let whole : digits_len front ≡ len = digits_len_short front room (omega (arith, stop)) ∙ sym stop in
+    let first : get_or (take room front) 0 0 ≡ get_or bs from 0 = get_or-take room front 0 0 (omega arith) ∙ get_or-drop from bs 0 0 ∙ ap (λ (i : ℕ). get_or bs i 0) (add-zero from) in
+    let worth : value ≡ digits_value 10 (slice_range bs from end) = rw count (is ∙ ap (digits_value 10) (take-take len room front (omega arith))) in
     let no_zero : (get_or bs from 0 == 48) ≡ false = grind (arith, common_steps, first, lead) in
     number_here bs from value end (omega (arith, whole)) (omega arith) (λ small. worth) (omega arith) (omega arith) (λ l. no_zero)
 
--- the first bytes of eight in front spell a number
-pub front_here : (bs : List ℕ) (len n : ℕ) → len < 8 → 8 ≤ length bs → n < 2 ^ 64 → take len (take 8 (drop 0 bs)) ≡ decimal n → IsNumberAt bs 0 n len
-front_here bs len n few room small spelled =
+-- in eight bytes one to seven digits
+pub few_here : (bs : List ℕ) (from value len end : ℕ) → end ≡ from + len → from + 8 ≤ length bs → 0 < len → len < 8 → len ≡ digits_len (take 8 (drop from bs))
+    → value ≡ digits_value 10 (take len (take 8 (drop from bs))) → get_or (take 8 (drop from bs)) 0 0 ≢ 48 → IsNumberAt bs from value end
+few_here bs from value len end to inside some few = front_here bs 8 from value len end to inside some few (omega arith)
+
+-- sixteen bytes are eight and eight
+pub two_words : (bs : List ℕ) (from : ℕ) → take 16 (drop from bs) ≡ take 8 (drop from bs) ++ take 8 (drop (from + 8) bs)
+two_words bs from = take-add 8 8 (drop from bs) ∙ ap (λ (m : List ℕ). take 8 (drop from bs) ++ take 8 m) (drop-drop 8 from bs)
+
+-- and in sixteen up to fifteen
+pub many_here : (bs : List ℕ) (from value len end : ℕ) → end ≡ from + len → from + 16 ≤ length bs → 8 ≤ len → len < 16 → len ≡ digits_len (take 8 (drop from bs) ++ take 8 (drop (from + 8) bs))
+    → value ≡ digits_value 10 (take len (take 8 (drop from bs) ++ take 8 (drop (from + 8) bs))) → get_or (take 8 (drop from bs)) 0 0 ≢ 48 → IsNumberAt bs from value end
+many_here bs from value len end to inside many most stop is lead =
+    let front : List ℕ = drop from bs in
+    let both = two_words bs from in
+    let first : get_or (take 16 front) 0 0 ≡ get_or (take 8 front) 0 0 = get_or-take 16 front 0 0 (omega arith) ∙ sym (get_or-take 8 front 0 0 (omega arith)) in
+    front_here bs 16 from value len end to inside (omega arith) most (omega arith) (stop ∙ ap digits_len (sym both)) (is ∙ ap (λ (m : List ℕ). digits_value 10 (take len m)) (sym both))
+    (λ zero. lead (sym first ∙ zero))
+
+-- first bytes in front that spell a number
+pub spelled_here : (bs : List ℕ) (room len n : ℕ) → len < room → room ≤ length bs → n < 2 ^ 64 → take len (take room bs) ≡ decimal n → IsNumberAt bs 0 n len
+spelled_here bs room len n few inside small spelled =
     record {
       within = omega arith;
-      text = sym (take-append-drop len bs) ∙ ap (λ (m : List ℕ). m ++ drop len bs) (sym (take-take len 8 bs (omega arith)) ∙ spelled);
+      text = sym (take-append-drop len bs) ∙ ap (λ (m : List ℕ). m ++ drop len bs) (sym (take-take len room bs (omega arith)) ∙ spelled);
       small = small;
     }
 
 -- and a number in front is spelled by them
-pub front_spelled : (bs : List ℕ) (len n : ℕ) → len < 8 → 8 ≤ length bs → IsNumberAt bs 0 n len → take len (take 8 (drop 0 bs)) ≡ decimal n
-front_spelled bs len n few room number =
+pub front_spelled : (bs : List ℕ) (room len n : ℕ) → len < room → room ≤ length bs → IsNumberAt bs 0 n len → take len (take room bs) ≡ decimal n
+front_spelled bs room len n few inside number =
     let sizes : length bs ≡ length (decimal n) + length (drop len bs) = ap length number.text ∙ length-append (decimal n) (drop len bs) in
-    let long : length (decimal n) ≡ len = omega (arith, sizes, length-drop len bs, room) in
-    take-take len 8 bs (omega arith) ∙ ap (λ (m : List ℕ). take len m) number.text ∙ ap (λ (k : ℕ). take k (decimal n ++ drop len bs)) (sym long) ∙ take-append_seam (decimal n) (drop len bs)
+    let long : length (decimal n) ≡ len = omega (arith, sizes, length-drop len bs, inside) in
+    take-take len room bs (omega arith) ∙ ap (λ (m : List ℕ). take len m) number.text ∙ ap (λ (k : ℕ). take k (decimal n ++ drop len bs)) (sym long) ∙ take-append_seam (decimal n) (drop len bs)
 
 sum_same : (n m : ℕ) → n + (m + 1) ≡ n + m + 1
 sum_same n m = omega arith

@@ -11,8 +11,9 @@ ghost use Rattle.kn_event.specs.EntryLine.{outcome_word};
 ghost use Rattle.kn_event.specs.EventLine.{Spells};
 ghost use Rattle.kn_event.specs.PlainLine.{IsNumberAt, IsActAhead};
 
-use crate::digits::few_digits;
+use crate::digits::{few_digits, many_digits};
 use crate::event::{Act, Event};
+use crate::front::Front;
 use core::dec2flt::read_digits;
 use std::marker::Model;
 
@@ -78,6 +79,20 @@ fn long_number_at(line: &[u8], from: usize) -> Option<(u64, usize)>
     Some((value, end))
 }
 
+/// The same, for those that have eight digits or more.
+#[inline(never)]
+fn many_number_at(line: &[u8], from: usize) -> Option<(u64, usize)>
+    requires { from ≤ length line.now }
+    ensures { IfSome result (λ p. IsNumberAt line.now from p.0 p.1) }
+{
+    if line.len() - from >= 16 {
+        if let Some((len, value)) = many_digits(word_at(line, from), word_at(line, from + 8)) {
+            return Some((value, from + len));
+        }
+    }
+    long_number_at(line, from)
+}
+
 /// The same. Most have one to seven digits.
 #[inline(always)]
 fn number_at(line: &[u8], from: usize) -> Option<(u64, usize)>
@@ -89,7 +104,7 @@ fn number_at(line: &[u8], from: usize) -> Option<(u64, usize)>
             return Some((value, from + len));
         }
     }
-    long_number_at(line, from)
+    many_number_at(line, from)
 }
 
 /// An outcome, and where the LF behind it stands.
@@ -182,20 +197,20 @@ fn act_ahead(text: &[u8]) -> Option<(Act, usize)>
     other_ahead(text)
 }
 
-/// A time of one to seven digits and its bytes, which the next line mostly begins with again.
+/// A time of one to fifteen digits and its bytes, which the next line mostly begins with again.
 #[derive(Drop)]
 pub struct LastTime {
     time: u64,
     len: usize,
-    // A word times `scale` is `word` only where it begins with those bytes and the byte that stood behind them: else 1 would be
-    // taken for the time of a line of 10.
-    scale: u64,
-    word: u64,
+    // The bytes of the first two words of its line, as far as the byte behind the time: else 1 would be taken for the time of a
+    // line of 10.
+    first: Front,
+    second: Front,
 }
 
 impl Model for LastTime {
     ghost use Rattle.core.specs.Dec2flt.Digits.{IsEightBytes};
-    ghost use Rattle.std.specs.Prelude.{⊤, ◌≡◌, ◌*◌, ◌%◌, ◌^◌, ◌<◌, ℕ, List, take};
+    ghost use Rattle.std.specs.Prelude.{⊤, ◌≡◌, ◌*◌, ◌%◌, ◌^◌, ◌<◌, ◌++◌, ℕ, List, take};
     ghost use Rattle.std.specs.Fmt.{decimal};
     ghost use lib.Lanes.{number_l};
 
@@ -204,35 +219,51 @@ impl Model for LastTime {
     ghost view = { λ r. tt };
 
     ghost invariant = { λ r. record {
-      few : r.len < 8;
+      few : r.len < 16;
       small : r.time < 2 ^ 64;
-      spelled : (xs : List ℕ) → IsEightBytes xs → number_l 256 xs * r.scale % 2 ^ 64 ≡ r.word → take r.len xs ≡ decimal r.time;
+      spelled : (xs ys : List ℕ) → IsEightBytes xs → IsEightBytes ys → number_l 256 xs * r.first.scale % 2 ^ 64 ≡ r.first.moved
+          → number_l 256 ys * r.second.scale % 2 ^ 64 ≡ r.second.moved → take r.len (xs ++ ys) ≡ decimal r.time;
     } };
 }
 
 impl LastTime {
-    /// No time as yet: no word times 0 is 1.
+    /// No time as yet.
     pub fn new() -> LastTime {
         LastTime {
             time: 0,
             len: 0,
-            scale: 0,
-            word: 1,
+            first: Front::of_none(),
+            second: Front::of_any(),
         }
     }
 
     /// The time that these first bytes of a word spell.
     #[inline(always)]
-    fn keep(&mut self, time: u64, len: usize, word: u64)
+    fn keep_few(&mut self, time: u64, len: usize, word: u64)
         requires few { len < 8 }
-        requires spelled { (ys : List ℕ) × IsEightBytes ys × (word ≡ number_l 256 ys) × (take len ys ≡ decimal time) }
+        requires spelled { (xs : List ℕ) × IsEightBytes xs × (word ≡ number_l 256 xs) × (take len xs ≡ decimal time) }
     {
-        let scale = 1u64 << (56 - 8 * len as u32);
         *self = LastTime {
             time,
             len,
-            scale,
-            word: word.wrapping_mul(scale),
+            first: Front::of(word, len + 1),
+            second: Front::of_any(),
+        };
+    }
+
+    /// The time that these first bytes of two words spell.
+    #[inline(always)]
+    fn keep_many(&mut self, time: u64, len: usize, first: u64, second: u64)
+        requires many { 8 ≤ len }
+        requires most { len < 16 }
+        requires spelled { (xs : List ℕ) × (ys : List ℕ) × IsEightBytes xs × IsEightBytes ys × (first ≡ number_l 256 xs) × (second ≡ number_l 256 ys)
+            × (take len (xs ++ ys) ≡ decimal time) }
+    {
+        *self = LastTime {
+            time,
+            len,
+            first: Front::of(first, 8),
+            second: Front::of(second, len - 7),
         };
     }
 
@@ -241,13 +272,18 @@ impl LastTime {
     fn front(&mut self, line: &[u8]) -> Option<(u64, usize)>
         ensures { IfSome result (λ p. IsNumberAt line.now 0 p.0 p.1) }
     {
-        if line.len() >= 8 {
-            let word = word_at(line, 0);
-            if word.wrapping_mul(self.scale) == self.word {
+        if line.len() >= 16 {
+            let first = word_at(line, 0);
+            let second = word_at(line, 8);
+            if self.first.begins(first) && self.second.begins(second) {
                 return Some((self.time, self.len));
             }
-            if let Some((len, value)) = few_digits(word) {
-                self.keep(value, len, word);
+            if let Some((len, value)) = few_digits(first) {
+                self.keep_few(value, len, first);
+                return Some((value, len));
+            }
+            if let Some((len, value)) = many_digits(first, second) {
+                self.keep_many(value, len, first, second);
                 return Some((value, len));
             }
         }

@@ -1,16 +1,23 @@
-//! The digits that a word of eight bytes begins with.
+//! The digits that a word of eight bytes begins with, or two such words.
 ghost use Rattle.core.specs.Dec2flt.Digits.{IsEightBytes, IsEightDigits};
 ghost use Rattle.core.specs.Float.Numeral.{digits_len};
 ghost use Rattle.core.specs.Int.Digits.{number_from_digits};
+ghost use Rattle.core.specs.Prelude.{bit_xor};
 ghost use Rattle.core.specs.Slice.Scan.{digits_from, flag_word};
-ghost use Rattle.std.specs.Prelude.{◌≡◌, ◌≢◌, ℕ, ◌-◌, ◌*◌, ◌%◌, ◌^◌, ◌<◌, List, get_or, take, nat_le, IfSome};
+ghost use Rattle.std.specs.Prelude.{◌≡◌, ◌≢◌, ℕ, ◌-◌, ◌*◌, ◌%◌, ◌^◌, ◌<◌, ◌≤◌, ◌++◌, List, get_or, take, nat_le, IfSome};
 ghost use Rattle.std.specs.Str.Parse.{digits_value};
 ghost use lib.Lanes.{number_l};
+
+use core::dec2flt::ten_to;
+
+// A `0` in each byte.
+const ZEROS: u64 = 0x3030_3030_3030_3030;
 
 /// The number that eight digits write, the first of them in the lowest byte.
 #[inline(always)]
 fn value_of_eight(word: u64) -> u64
-    ensures { (ds : List ℕ) → IsEightDigits ds → word ≡ number_l 256 ds → result ≡ number_from_digits 10 ds }
+    ensures value { (ds : List ℕ) → IsEightDigits ds → word ≡ number_l 256 ds → result ≡ number_from_digits 10 ds }
+    ensures small { result < 2 ^ 32 }
 {
     let pairs = word.wrapping_mul(10).wrapping_add(word >> 8);
     let first = (pairs & 0x0000_00ff_0000_00ff).wrapping_mul(100 + (1_000_000 << 32));
@@ -36,6 +43,36 @@ fn keep_first(word: u64, count: u32) -> u64
     word << (56 - 8 * count) << 8
 }
 
+/// How many digits a word begins with, from the lowest byte on, and the number that they write, where they are at most seven. These
+/// are its lanes: each byte without a `0`'s bits, so that a digit's is its value.
+#[inline(always)]
+fn leading_digits(lanes: u64) -> Option<(usize, u64)>
+    ensures few { IfSome result (λ p. p.0 < 8) }
+    ensures small { IfSome result (λ p. p.1 < 2 ^ 32) }
+    ensures read { IfSome result (λ p. (word : ℕ) (xs : List ℕ) → lanes ≡ bit_xor word ZEROS → IsEightBytes xs → word ≡ number_l 256 xs
+        → (p.0 ≡ digits_len xs) × (p.1 ≡ digits_value 10 (take p.0 xs))) }
+{
+    let others = flags_from_ten(lanes);
+    if others == 0 {
+        return None;
+    }
+    let count = others.trailing_zeros() / 8;
+    Some((count as usize, value_of_eight(keep_first(lanes, count))))
+}
+
+/// The number that all eight bytes of a word write, where they are digits.
+#[inline(always)]
+fn eight_digits(lanes: u64) -> Option<u64>
+    ensures small { IfSome result (λ n. n < 2 ^ 32) }
+    ensures read { IfSome result (λ n. (word : ℕ) (xs : List ℕ) → lanes ≡ bit_xor word ZEROS → IsEightBytes xs → word ≡ number_l 256 xs
+        → (digits_len xs ≡ 8) × (n ≡ digits_value 10 xs)) }
+{
+    if flags_from_ten(lanes) != 0 {
+        return None;
+    }
+    Some(value_of_eight(lanes))
+}
+
 /// How many digits the word begins with, from the lowest byte on, and the number that they write, where they are one to seven and
 /// the first is no 0.
 #[inline(always)]
@@ -46,17 +83,31 @@ pub fn few_digits(word: u64) -> Option<(usize, u64)>
     ensures read { IfSome result (λ p. (xs : List ℕ) → IsEightBytes xs → word ≡ number_l 256 xs
         → (p.0 ≡ digits_len xs) × (p.1 ≡ digits_value 10 (take p.0 xs))) }
 {
-    let lanes = word ^ 0x3030_3030_3030_3030;
+    let lanes = word ^ ZEROS;
     if lanes & 0xff == 0 {
         return None;
     }
-    let others = flags_from_ten(lanes);
-    if others == 0 {
+    let (len, value) = leading_digits(lanes)?;
+    if len == 0 {
         return None;
     }
-    let count = others.trailing_zeros() / 8;
-    if count == 0 {
+    Some((len, value))
+}
+
+/// The same of two words, where they begin with 8 to 15 digits and the first is no 0.
+#[inline(always)]
+pub fn many_digits(first: u64, second: u64) -> Option<(usize, u64)>
+    ensures many { IfSome result (λ p. 8 ≤ p.0) }
+    ensures most { IfSome result (λ p. p.0 < 16) }
+    ensures lead { IfSome result (λ p. (xs : List ℕ) → IsEightBytes xs → first ≡ number_l 256 xs → get_or xs 0 0 ≢ 48) }
+    ensures read { IfSome result (λ p. (xs ys : List ℕ) → IsEightBytes xs → IsEightBytes ys → first ≡ number_l 256 xs → second ≡ number_l 256 ys
+        → (p.0 ≡ digits_len (xs ++ ys)) × (p.1 ≡ digits_value 10 (take p.0 (xs ++ ys)))) }
+{
+    let lanes = first ^ ZEROS;
+    if lanes & 0xff == 0 {
         return None;
     }
-    Some((count as usize, value_of_eight(keep_first(lanes, count))))
+    let high = eight_digits(lanes)?;
+    let (len, low) = leading_digits(second ^ ZEROS)?;
+    Some((8 + len, high * ten_to(len as u64) + low))
 }

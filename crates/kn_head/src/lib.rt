@@ -19,6 +19,3 @@ pub use forward::forward_bytes;
 pub use head::{Head, HeadError, Headers};
 pub use laws::answers_are_determined;
 pub use read::read_head;
-
-#[cfg(test)]
-mod tests;

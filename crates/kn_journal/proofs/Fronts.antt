@@ -213,6 +213,12 @@ counts_byte (Some xs) None c n m x h k = absurd h
 counts_byte (Some xs) (Some ys) None n m x h k = absurd k
 counts_byte (Some xs) (Some ys) (Some zs) n m x h k = omega (arith, h, ap length k)
 
+pub counts_end : (a b c : Option (List ℕ)) (n m : ℕ) → Counts a b n m → TakesByte b c None → Counts a c n m
+counts_end None b c n m h k = tt
+counts_end (Some xs) None c n m h k = absurd h
+counts_end (Some xs) (Some ys) None n m h k = absurd k
+counts_end (Some xs) (Some ys) (Some zs) n m h k = omega (arith, h, ap length k.0, ap length k.1)
+
 -- an LF that was not the first byte is still there
 
 pub contains_some : (xs : List ℕ) (x : ℕ) → Contains xs x → 0 < length xs

@@ -1,7 +1,7 @@
 pub mod Aheads
 pub mod Blocks
-pub mod Collected
 pub mod Consumed
+pub mod Drawings
 pub mod Fronts
 pub mod Kept
 pub mod LineTexts

@@ -34,6 +34,10 @@ pub lacks_long : (n m : ℕ) (old : Option (List ℕ)) → m ≡ n + 1 → HasLo
 lacks_long n m None e h = tt
 lacks_long n m (Some xs) e (l, ls, all, long) = (e, l, ls, all, no_fit l long)
 
+pub lacks_fault : (n : ℕ) (old : Option (List ℕ)) → Lacks n error.ReadFault old
+lacks_fault n None = tt
+lacks_fault n (Some xs) = tt
+
 pub lacks_refuses : {T : Type 0} (n : ℕ) (e : JournalError) (old : Option (List ℕ)) (next : ℕ → List ℕ → List (List ℕ) → Result (Part T) Cause) → Lacks n e old
     → Refuses (λ ls. with_line n ls next) e old
 lacks_refuses n e None next h = tt
@@ -48,6 +52,10 @@ lacks_refuses n (error.TimeTooLarge m) (Some xs) next h = absurd h
 lacks_refuses n error.NoEnd (Some xs) next h = (no_end, refl, rw h refl)
 lacks_refuses n (error.AfterEnd m) (Some xs) next h = absurd h
 lacks_refuses n error.Memory (Some xs) next h = absurd h
+
+pub memory-refuses : {T : Type 0} (read : List (List ℕ) → Result (Part T) Cause) (old : Option (List ℕ)) → Refuses read error.Memory old
+memory-refuses read None = tt
+memory-refuses read (Some xs) = tt
 
 -- ---- a line that is judged
 

@@ -1,5 +1,6 @@
 pub mod Lines
 pub mod Causes
+pub mod Drawing
 pub mod Parts
 pub mod SetupLine
 pub mod Setup

@@ -1,8 +1,8 @@
 //! An input that is taken byte by byte, over a source that gives it in pieces.
 ghost use Rattle.std.specs.Prelude.{◌≡◌, ◌⊎◌, ◌+◌, ◌<◌, ◌≤◌, [], Some, length, drop, IfOk, IsErr, OnErr};
 ghost use Rattle.std.specs.Io.KnownBytes.{Keeps};
-ghost use Rattle.kn_io.specs.Causes.{Rose};
-ghost use Rattle.kn_journal.specs.Reading.{IsBalanced, TakesByte, most_taken, taken_with, unread};
+ghost use Rattle.kn_journal.specs.Drawing.{Draws, byte_error};
+ghost use Rattle.kn_journal.specs.Reading.{TakesByte, most_taken, taken_with, unread};
 
 use kn_io::{Failed, Source};
 use std::marker::Model;
@@ -90,15 +90,12 @@ impl Input {
         ensures ready { 0 < length self.old.ahead → source.new ≡ source.old }
         ensures front { 0 < length self.old.ahead → IfOk result (λ byte. TakesByte (Some self.old.ahead) (Some self.new.ahead) byte) }
 
+        // At a fault nothing was taken.
         ensures failed { OnErr result (self.new ≡ self.old) }
-        ensures left { OnErr result (Keeps (unread self.old (S.left source.old)) (unread self.new (S.left source.new))) }
-        ensures cause { OnErr result (Rose (S.Faulty.faults source.old) (S.Faulty.faults source.new) ⊎ (self.new.taken ≡ most_taken)) }
-        ensures spent { OnErr result ((self.new.ahead ≡ []) ⊎ (self.new.taken ≡ most_taken)) }
+        ensures source { Draws Keeps (byte_error result) self.old self.new S.Source.own S.Faulty source.old source.new }
+
         ensures full { self.old.taken ≡ most_taken → IsErr result }
         ensures few { self.new.taken ≤ most_taken }
-        ensures later { S.Faulty.faults source.old ≤ S.Faulty.faults source.new }
-        ensures apart { S.apart source.new ≡ S.apart source.old }
-        ensures balance { IsBalanced self.old self.new (S.given source.old) (S.given source.new) }
     {
         if self.taken == MOST_TAKEN {
             return Err(Failed);

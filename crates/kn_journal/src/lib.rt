@@ -20,6 +20,3 @@ pub use laws::{journals_are_read, openings_are_whole};
 pub use reader::JournalReader;
 pub use status::Status;
 pub use write::write_journal;
-
-#[cfg(test)]
-mod tests;

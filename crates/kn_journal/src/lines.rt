@@ -1,8 +1,8 @@
 //! The lines of an input, one at a time.
 ghost use Rattle.std.specs.Prelude.{◌≡◌, ◌≢◌, ◌↔◌, ◌⊎◌, ◌+◌, ◌≤◌, ◌<◌, ℕ, List, [], ◌∷◌, ◌++◌, true, false, Contains, length, take, drop, replicate, IsSome, IsTrue, IfOk, IfSome, MatchOption, OnOk, vec_capacity, vec_len};
-ghost use Rattle.kn_io.specs.Causes.{Rose};
+ghost use Rattle.kn_journal.specs.Drawing.{Draws, line_error};
 ghost use Rattle.kn_journal.specs.Lines.{line_most, lines};
-ghost use Rattle.kn_journal.specs.Reading.{Counts, IsBalanced, IsSpent, HasLongLine, TakesLine, TakesPart, most_taken, unread};
+ghost use Rattle.kn_journal.specs.Reading.{Counts, HasLongLine, TakesLine, TakesPart, most_taken, unread};
 
 use crate::input::{Input, MOST_TAKEN};
 use kn_io::{Failed, Source};
@@ -75,11 +75,9 @@ fn read_by_bytes<S: Source>(
     ensures fits { OnOk result (length line.new.items ≤ line_most) }
     ensures no_lf { OnOk result (¬ Contains line.new.items 10) }
     ensures long { result ≡ Err NoLine.TooLong → HasLongLine (unread input.old (S.left source.old)) }
-    ensures fault { result ≡ Err NoLine.Fault → Rose (S.Faulty.faults source.old) (S.Faulty.faults source.new) ⊎ (input.new.taken ≡ most_taken) }
 
-    // At a fault no LF was taken, and nothing is ahead unless 2^56 bytes were taken.
-    ensures amid { result ≡ Err NoLine.Fault → TakesPart (unread input.old (S.left source.old)) (unread input.new (S.left source.new)) }
-    ensures spent { result ≡ Err NoLine.Fault → IsSpent input.new }
+    // At a fault no LF was taken.
+    ensures source { Draws TakesPart (line_error result) input.old input.new S.Source.own S.Faulty source.old source.new }
 
     // While an LF is ahead, the source is left alone.
     ensures ready { Contains input.old.ahead 10 → source.new ≡ source.old }
@@ -89,12 +87,8 @@ fn read_by_bytes<S: Source>(
     ensures count { OnOk result (input.old.taken + length line.new.items ≤ input.new.taken) }
     ensures strict { result ≡ Ok true → input.old.taken < input.new.taken }
     ensures few { input.new.taken ≤ most_taken }
-    ensures grows { input.old.taken ≤ input.new.taken }
 
-    ensures later { S.Faulty.faults source.old ≤ S.Faulty.faults source.new }
-    ensures apart { S.apart source.new ≡ S.apart source.old }
     ensures capacity { line_most ≤ vec_capacity line.new }
-    ensures balance { IsBalanced input.old input.new (S.given source.old) (S.given source.new) }
 {
     line.clear();
     let mut crs = 0;
@@ -173,11 +167,9 @@ pub fn read_line<S: Source>(
     ensures fits { OnOk result (length line.new.items ≤ line_most) }
     ensures no_lf { OnOk result (¬ Contains line.new.items 10) }
     ensures long { result ≡ Err NoLine.TooLong → HasLongLine (unread input.old (S.left source.old)) }
-    ensures fault { result ≡ Err NoLine.Fault → Rose (S.Faulty.faults source.old) (S.Faulty.faults source.new) ⊎ (input.new.taken ≡ most_taken) }
 
-    // At a fault no LF was taken, and nothing is ahead unless 2^56 bytes were taken.
-    ensures amid { result ≡ Err NoLine.Fault → TakesPart (unread input.old (S.left source.old)) (unread input.new (S.left source.new)) }
-    ensures spent { result ≡ Err NoLine.Fault → IsSpent input.new }
+    // At a fault no LF was taken.
+    ensures source { Draws TakesPart (line_error result) input.old input.new S.Source.own S.Faulty source.old source.new }
 
     // While an LF is ahead, the source is left alone.
     ensures ready { Contains input.old.ahead 10 → source.new ≡ source.old }
@@ -187,12 +179,8 @@ pub fn read_line<S: Source>(
     ensures count { OnOk result (input.old.taken + length line.new.items ≤ input.new.taken) }
     ensures strict { result ≡ Ok true → input.old.taken < input.new.taken }
     ensures few { input.new.taken ≤ most_taken }
-    ensures grows { input.old.taken ≤ input.new.taken }
 
-    ensures later { S.Faulty.faults source.old ≤ S.Faulty.faults source.new }
-    ensures apart { S.apart source.new ≡ S.apart source.old }
     ensures capacity { line_most ≤ vec_capacity line.new }
-    ensures balance { IsBalanced input.old input.new (S.given source.old) (S.given source.new) }
 {
     if take_ahead(input, line) {
         return Ok(true);

@@ -5,6 +5,7 @@ ghost use Rattle.kn_event.specs.EventLine.{event_of, IsInJournalRange, IsInVersi
 ghost use Rattle.kn_journal.specs.Causes.{Cause, error_of};
 ghost use Rattle.kn_journal.specs.Lines.{fits, line_most, lines};
 ghost use Rattle.kn_journal.specs.Reading.{Counts, IsBalanced, IsSpent, TakesLine, TakesPart, most_taken, unread};
+ghost use Rattle.kn_journal.specs.Drawing.{Draws, error_in};
 ghost use Rattle.kn_journal.specs.Telling.{IsCauseOf, IsEventFault, IsLineFault, Judges, Lacks, LeavesRest, OnEvent, TakesEnd, Tells};
 ghost use Rattle.kn_journal.specs.Journal.{first_part, in_time, next_part, nothing_part, start_line_in, start_of, start_part, time_most, version_by};
 
@@ -145,7 +146,6 @@ impl Lines {
     }
 
     /// Reads the next line. The source is read only where no whole line is ahead.
-    #[tactic(auto, using(crate::proofs::Tellings::lacks_end, crate::proofs::Tellings::lacks_long))]
     pub fn next_line<S: Source>(&mut self, source: &mut S) -> Result<(), JournalError>
         ensures line { OnOk result (TakesLine (unread self.old.input (S.left source.old)) (unread self.new.input (S.left source.new)) true self.new.line) }
         ensures number { OnOk result (self.new.number ≡ self.old.number + 1) }
@@ -155,15 +155,9 @@ impl Lines {
         ensures none { IfErr result (λ e. Lacks self.old.number e (unread self.old.input (S.left source.old))) }
         ensures memory { result ≢ Err JournalError.Memory }
         ensures short { IfErr result (λ e. ¬ IsLineFault e) }
-        ensures amid { result ≡ Err JournalError.ReadFault → TakesPart (unread self.old.input (S.left source.old)) (unread self.new.input (S.left source.new)) }
-        ensures spent { result ≡ Err JournalError.ReadFault → IsSpent self.new.input }
+        ensures source { Draws TakesPart (error_in result) self.old.input self.new.input S.Source.own S.Faulty source.old source.new }
         ensures ready { Contains self.old.input.ahead 10 → source.new ≡ source.old }
-        ensures fault { result ≡ Err JournalError.ReadFault → Rose (S.Faulty.faults source.old) (S.Faulty.faults source.new) ⊎ (self.new.input.taken ≡ most_taken) }
-        ensures grows { self.old.input.taken ≤ self.new.input.taken }
         ensures few { self.new.input.taken ≤ most_taken }
-        ensures balance { IsBalanced self.old.input self.new.input (S.given source.old) (S.given source.new) }
-        ensures never_falls { S.Faulty.faults source.old ≤ S.Faulty.faults source.new }
-        ensures apart { S.apart source.new ≡ S.apart source.old }
     {
         match read_line(&mut self.input, source, &mut self.line) {
             Ok(true) => {
@@ -186,14 +180,8 @@ impl Lines {
         ensures rest { IfErr result (λ e. IsLineFault e → LeavesRest (first_part (version_by first) self.old.number) self.old.number (Some (self.old.number + 1)) e (unread self.old.input (S.left source.old)) (unread self.new.input (S.left source.new))) }
         ensures least { IfOk result (λ version. 1 ≤ version) }
         ensures most { IfOk result (λ version. version ≤ 2) }
-        ensures amid { result ≡ Err JournalError.ReadFault → TakesPart (unread self.old.input (S.left source.old)) (unread self.new.input (S.left source.new)) }
-        ensures spent { result ≡ Err JournalError.ReadFault → IsSpent self.new.input }
-        ensures fault { result ≡ Err JournalError.ReadFault → Rose (S.Faulty.faults source.old) (S.Faulty.faults source.new) ⊎ (self.new.input.taken ≡ most_taken) }
-        ensures grows { self.old.input.taken ≤ self.new.input.taken }
+        ensures source { Draws TakesPart (error_in result) self.old.input self.new.input S.Source.own S.Faulty source.old source.new }
         ensures few { self.new.input.taken ≤ most_taken }
-        ensures balance { IsBalanced self.old.input self.new.input (S.given source.old) (S.given source.new) }
-        ensures never_falls { S.Faulty.faults source.old ≤ S.Faulty.faults source.new }
-        ensures apart { S.apart source.new ≡ S.apart source.old }
     {
         match self.next_line(source) {
             Ok(()) => judge_first(&self.line, self.number, first),
@@ -207,15 +195,9 @@ impl Lines {
         ensures rest { IfErr result (λ e. IsLineFault e → LeavesRest (start_part self.old.number) self.old.number None e (unread self.old.input (S.left source.old)) (unread self.new.input (S.left source.new))) }
         ensures most { IfOk result (λ start. start ≤ time_most) }
         ensures memory { result ≢ Err JournalError.Memory }
-        ensures amid { result ≡ Err JournalError.ReadFault → TakesPart (unread self.old.input (S.left source.old)) (unread self.new.input (S.left source.new)) }
-        ensures spent { result ≡ Err JournalError.ReadFault → IsSpent self.new.input }
+        ensures source { Draws TakesPart (error_in result) self.old.input self.new.input S.Source.own S.Faulty source.old source.new }
         ensures ready { Contains self.old.input.ahead 10 → source.new ≡ source.old }
-        ensures fault { result ≡ Err JournalError.ReadFault → Rose (S.Faulty.faults source.old) (S.Faulty.faults source.new) ⊎ (self.new.input.taken ≡ most_taken) }
-        ensures grows { self.old.input.taken ≤ self.new.input.taken }
         ensures few { self.new.input.taken ≤ most_taken }
-        ensures balance { IsBalanced self.old.input self.new.input (S.given source.old) (S.given source.new) }
-        ensures never_falls { S.Faulty.faults source.old ≤ S.Faulty.faults source.new }
-        ensures apart { S.apart source.new ≡ S.apart source.old }
     {
         match self.next_line(source) {
             Ok(()) => judge_start(&self.line, self.number),
@@ -229,14 +211,8 @@ impl Lines {
         ensures rest { IfErr result (λ e. IsLineFault e → LeavesRest (nothing_part self.old.number) self.old.number None e (unread self.old.input (S.left source.old)) (unread self.new.input (S.left source.new))) }
         ensures behind { IfErr result (λ e. ¬ IsEventFault e) }
         ensures memory { result ≢ Err JournalError.Memory }
-        ensures amid { result ≡ Err JournalError.ReadFault → TakesPart (unread self.old.input (S.left source.old)) (unread self.new.input (S.left source.new)) }
-        ensures spent { result ≡ Err JournalError.ReadFault → IsSpent self.new.input }
-        ensures fault { result ≡ Err JournalError.ReadFault → Rose (S.Faulty.faults source.old) (S.Faulty.faults source.new) ⊎ (self.new.input.taken ≡ most_taken) }
-        ensures grows { self.old.input.taken ≤ self.new.input.taken }
+        ensures source { Draws TakesPart (error_in result) self.old.input self.new.input S.Source.own S.Faulty source.old source.new }
         ensures few { self.new.input.taken ≤ most_taken }
-        ensures balance { IsBalanced self.old.input self.new.input (S.given source.old) (S.given source.new) }
-        ensures never_falls { S.Faulty.faults source.old ≤ S.Faulty.faults source.new }
-        ensures apart { S.apart source.new ≡ S.apart source.old }
     {
         match read_line(&mut self.input, source, &mut self.line) {
             Ok(false) => {}
@@ -308,16 +284,10 @@ impl Lines {
         ensures version { OnEvent result (λ e. IsInVersion version e.act) }
         ensures bytes { OnEvent result (λ e. self.old.input.taken + 6 ≤ self.new.input.taken) }
         ensures memory { result ≢ Err JournalError.Memory }
-        ensures amid { result ≡ Err JournalError.ReadFault → TakesPart (unread self.old.input (S.left source.old)) (unread self.new.input (S.left source.new)) ⊎ TakesEnd (unread self.old.input (S.left source.old)) (unread self.new.input (S.left source.new)) }
-        ensures spent { result ≡ Err JournalError.ReadFault → IsSpent self.new.input }
+        ensures source { Draws (λ old new. TakesPart old new ⊎ TakesEnd old new) (error_in result) self.old.input self.new.input S.Source.own S.Faulty source.old source.new }
         ensures ready { OnEvent result (λ e. Contains self.old.input.ahead 10 → source.new ≡ source.old) }
         ensures refused { IfErr result (λ e. IsEventFault e → Contains self.old.input.ahead 10 → source.new ≡ source.old) }
-        ensures fault { result ≡ Err JournalError.ReadFault → Rose (S.Faulty.faults source.old) (S.Faulty.faults source.new) ⊎ (self.new.input.taken ≡ most_taken) }
-        ensures grows { self.old.input.taken ≤ self.new.input.taken }
         ensures few { self.new.input.taken ≤ most_taken }
-        ensures balance { IsBalanced self.old.input self.new.input (S.given source.old) (S.given source.new) }
-        ensures never_falls { S.Faulty.faults source.old ≤ S.Faulty.faults source.new }
-        ensures apart { S.apart source.new ≡ S.apart source.old }
     {
         match self.next_ahead(version, last) {
             Some(e) => return Ok(Some(e)),

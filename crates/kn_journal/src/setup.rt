@@ -9,6 +9,7 @@ ghost use Rattle.kn_journal.specs.Setup.{IsBlockText, ReadsBack, behind_line, bl
 ghost use Rattle.kn_journal.specs.Lines.{ends_with_cr};
 ghost use Rattle.kn_journal.specs.SetupLine.{IsSetupLine};
 ghost use Rattle.kn_journal.specs.Reading.{IsBalanced, IsSpent, TakesPart, most_taken, unread};
+ghost use Rattle.kn_journal.specs.Drawing.{Draws, error_in};
 ghost use Rattle.kn_journal.specs.Telling.{IsLineFault, Judges, LeavesRest, StopsAmid, Tells, config_error, revision_error};
 
 use crate::error::{JournalError, SetupError};
@@ -43,13 +44,7 @@ fn judge_word(line: &[u8], number: u64, word: &[u8]) -> Result<(), JournalError>
 fn read_word<S: Source>(lines: &mut Lines, source: &mut S, word: &[u8]) -> Result<(), JournalError>
     ensures tells { Tells (word_part word.now lines.old.number) lines.new.number (unread lines.old.input (S.left source.old)) (unread lines.new.input (S.left source.new)) result }
     ensures rest { IfErr result (λ e. IsLineFault e → LeavesRest (word_part word.now lines.old.number) lines.old.number None e (unread lines.old.input (S.left source.old)) (unread lines.new.input (S.left source.new))) }
-    ensures amid { result ≡ Err JournalError.ReadFault → StopsAmid (word_part word.now lines.old.number) (unread lines.old.input (S.left source.old)) (unread lines.new.input (S.left source.new)) }
-    ensures spent { result ≡ Err JournalError.ReadFault → IsSpent lines.new.input }
-    ensures fault { result ≡ Err JournalError.ReadFault → Rose (S.Faulty.faults source.old) (S.Faulty.faults source.new) ⊎ (lines.new.input.taken ≡ most_taken) }
-    ensures grows { lines.old.input.taken ≤ lines.new.input.taken }
-    ensures balance { IsBalanced lines.old.input lines.new.input (S.given source.old) (S.given source.new) }
-    ensures never_falls { S.Faulty.faults source.old ≤ S.Faulty.faults source.new }
-    ensures apart { S.apart source.new ≡ S.apart source.old }
+    ensures source { Draws (StopsAmid (word_part word.now lines.old.number)) (error_in result) lines.old.input lines.new.input S.Source.own S.Faulty source.old source.new }
 {
     match lines.next_line(source) {
         Ok(()) => judge_word(lines.line(), lines.number(), word),
@@ -73,13 +68,7 @@ fn read_block<S: Source>(
     ensures kept { IfOk result IsBlockText }
     ensures tells { Tells (block_part [] lines.old.number) lines.new.number (unread lines.old.input (S.left source.old)) (unread lines.new.input (S.left source.new)) result }
     ensures rest { IfErr result (λ e. IsLineFault e → LeavesRest (block_part [] lines.old.number) lines.old.number None e (unread lines.old.input (S.left source.old)) (unread lines.new.input (S.left source.new))) }
-    ensures amid { result ≡ Err JournalError.ReadFault → StopsAmid (block_part [] lines.old.number) (unread lines.old.input (S.left source.old)) (unread lines.new.input (S.left source.new)) }
-    ensures spent { result ≡ Err JournalError.ReadFault → IsSpent lines.new.input }
-    ensures fault { result ≡ Err JournalError.ReadFault → Rose (S.Faulty.faults source.old) (S.Faulty.faults source.new) ⊎ (lines.new.input.taken ≡ most_taken) }
-    ensures grows { lines.old.input.taken ≤ lines.new.input.taken }
-    ensures balance { IsBalanced lines.old.input lines.new.input (S.given source.old) (S.given source.new) }
-    ensures never_falls { S.Faulty.faults source.old ≤ S.Faulty.faults source.new }
-    ensures apart { S.apart source.new ≡ S.apart source.old }
+    ensures source { Draws (StopsAmid (block_part [] lines.old.number)) (error_in result) lines.old.input lines.new.input S.Source.own S.Faulty source.old source.new }
 {
     let mut text = Vec::new(alloc);
     for _ in 0..BLOCK_LINES {
@@ -191,13 +180,7 @@ fn read_revision<S: Source>(
     ensures kept { IfOk result (ReadsBack (revision_part line.items block.now slots config.now) (line.items ++ (codes "config\n" ++ (block.now ++ codes ".\n")))) }
     ensures tells { Tells (revision_part line.items block.now slots config.now lines.old.number) lines.new.number (unread lines.old.input (S.left source.old)) (unread lines.new.input (S.left source.new)) result }
     ensures rest { IfErr result (λ e. IsLineFault e → LeavesRest (revision_part line.items block.now slots config.now lines.old.number) lines.old.number None e (unread lines.old.input (S.left source.old)) (unread lines.new.input (S.left source.new))) }
-    ensures amid { result ≡ Err JournalError.ReadFault → StopsAmid (revision_part line.items block.now slots config.now lines.old.number) (unread lines.old.input (S.left source.old)) (unread lines.new.input (S.left source.new)) }
-    ensures spent { result ≡ Err JournalError.ReadFault → IsSpent lines.new.input }
-    ensures fault { result ≡ Err JournalError.ReadFault → Rose (S.Faulty.faults source.old) (S.Faulty.faults source.new) ⊎ (lines.new.input.taken ≡ most_taken) }
-    ensures grows { lines.old.input.taken ≤ lines.new.input.taken }
-    ensures balance { IsBalanced lines.old.input lines.new.input (S.given source.old) (S.given source.new) }
-    ensures never_falls { S.Faulty.faults source.old ≤ S.Faulty.faults source.new }
-    ensures apart { S.apart source.new ≡ S.apart source.old }
+    ensures source { Draws (StopsAmid (revision_part line.items block.now slots config.now lines.old.number)) (error_in result) lines.old.input lines.new.input S.Source.own S.Faulty source.old source.new }
 {
     match read_word(lines, source, b"revision") {
         Ok(()) => {}
@@ -229,13 +212,7 @@ fn read_blocks<S: Source>(
     ensures kept { IfOk result (ReadsBack (blocks_part line.items slots) line.items) }
     ensures tells { Tells (blocks_part line.items slots lines.old.number) lines.new.number (unread lines.old.input (S.left source.old)) (unread lines.new.input (S.left source.new)) result }
     ensures rest { IfErr result (λ e. IsLineFault e → LeavesRest (blocks_part line.items slots lines.old.number) lines.old.number None e (unread lines.old.input (S.left source.old)) (unread lines.new.input (S.left source.new))) }
-    ensures amid { result ≡ Err JournalError.ReadFault → StopsAmid (blocks_part line.items slots lines.old.number) (unread lines.old.input (S.left source.old)) (unread lines.new.input (S.left source.new)) }
-    ensures spent { result ≡ Err JournalError.ReadFault → IsSpent lines.new.input }
-    ensures fault { result ≡ Err JournalError.ReadFault → Rose (S.Faulty.faults source.old) (S.Faulty.faults source.new) ⊎ (lines.new.input.taken ≡ most_taken) }
-    ensures grows { lines.old.input.taken ≤ lines.new.input.taken }
-    ensures balance { IsBalanced lines.old.input lines.new.input (S.given source.old) (S.given source.new) }
-    ensures never_falls { S.Faulty.faults source.old ≤ S.Faulty.faults source.new }
-    ensures apart { S.apart source.new ≡ S.apart source.old }
+    ensures source { Draws (StopsAmid (blocks_part line.items slots lines.old.number)) (error_in result) lines.old.input lines.new.input S.Source.own S.Faulty source.old source.new }
 {
     match read_word(lines, source, b"config") {
         Ok(()) => {}
@@ -293,13 +270,7 @@ fn read_behind<S: Source>(
     ensures kept { IfOk result (ReadsBack (behind_line text.items (Ok said)) text.items) }
     ensures tells { Tells (behind_line text.items (Ok said) lines.old.number) lines.new.number (unread lines.old.input (S.left source.old)) (unread lines.new.input (S.left source.new)) result }
     ensures rest { IfErr result (λ e. IsLineFault e → LeavesRest (behind_line text.items (Ok said) lines.old.number) lines.old.number None e (unread lines.old.input (S.left source.old)) (unread lines.new.input (S.left source.new))) }
-    ensures amid { result ≡ Err JournalError.ReadFault → StopsAmid (behind_line text.items (Ok said) lines.old.number) (unread lines.old.input (S.left source.old)) (unread lines.new.input (S.left source.new)) }
-    ensures spent { result ≡ Err JournalError.ReadFault → IsSpent lines.new.input }
-    ensures fault { result ≡ Err JournalError.ReadFault → Rose (S.Faulty.faults source.old) (S.Faulty.faults source.new) ⊎ (lines.new.input.taken ≡ most_taken) }
-    ensures grows { lines.old.input.taken ≤ lines.new.input.taken }
-    ensures balance { IsBalanced lines.old.input lines.new.input (S.given source.old) (S.given source.new) }
-    ensures never_falls { S.Faulty.faults source.old ≤ S.Faulty.faults source.new }
-    ensures apart { S.apart source.new ≡ S.apart source.old }
+    ensures source { Draws (StopsAmid (behind_line text.items (Ok said) lines.old.number)) (error_in result) lines.old.input lines.new.input S.Source.own S.Faulty source.old source.new }
 {
     match said {
         SetupLine::Fixed(limit, pods, timeout_s, slots) => {
@@ -333,13 +304,7 @@ fn read_setup<S: Source>(
     ensures kept { IfOk result IsSetup }
     ensures tells { Tells (setup_part lines.old.number) lines.new.number (unread lines.old.input (S.left source.old)) (unread lines.new.input (S.left source.new)) result }
     ensures rest { IfErr result (λ e. IsLineFault e → LeavesRest (setup_part lines.old.number) lines.old.number None e (unread lines.old.input (S.left source.old)) (unread lines.new.input (S.left source.new))) }
-    ensures amid { result ≡ Err JournalError.ReadFault → StopsAmid (setup_part lines.old.number) (unread lines.old.input (S.left source.old)) (unread lines.new.input (S.left source.new)) }
-    ensures spent { result ≡ Err JournalError.ReadFault → IsSpent lines.new.input }
-    ensures fault { result ≡ Err JournalError.ReadFault → Rose (S.Faulty.faults source.old) (S.Faulty.faults source.new) ⊎ (lines.new.input.taken ≡ most_taken) }
-    ensures grows { lines.old.input.taken ≤ lines.new.input.taken }
-    ensures balance { IsBalanced lines.old.input lines.new.input (S.given source.old) (S.given source.new) }
-    ensures never_falls { S.Faulty.faults source.old ≤ S.Faulty.faults source.new }
-    ensures apart { S.apart source.new ≡ S.apart source.old }
+    ensures source { Draws (StopsAmid (setup_part lines.old.number)) (error_in result) lines.old.input lines.new.input S.Source.own S.Faulty source.old source.new }
 {
     match lines.next_line(source) {
         Ok(()) => {}
@@ -365,15 +330,9 @@ pub fn read_opening<S: Source>(
     ensures kept { IfOk result (λ opening. IsSetup opening.setup) }
     ensures tells { Tells (opening_part (version_by first) lines.old.number) lines.new.number (unread lines.old.input (S.left source.old)) (unread lines.new.input (S.left source.new)) result }
     ensures rest { IfErr result (λ e. IsLineFault e → LeavesRest (opening_part (version_by first) lines.old.number) lines.old.number (Some (lines.old.number + 1)) e (unread lines.old.input (S.left source.old)) (unread lines.new.input (S.left source.new))) }
-    ensures amid { result ≡ Err JournalError.ReadFault → StopsAmid (opening_part (version_by first) lines.old.number) (unread lines.old.input (S.left source.old)) (unread lines.new.input (S.left source.new)) }
-    ensures spent { result ≡ Err JournalError.ReadFault → IsSpent lines.new.input }
+    ensures source { Draws (StopsAmid (opening_part (version_by first) lines.old.number)) (error_in result) lines.old.input lines.new.input S.Source.own S.Faulty source.old source.new }
     ensures least { IfOk result (λ opening. 1 ≤ opening.version) }
     ensures most { IfOk result (λ opening. opening.version ≤ 2) }
-    ensures fault { result ≡ Err JournalError.ReadFault → Rose (S.Faulty.faults source.old) (S.Faulty.faults source.new) ⊎ (lines.new.input.taken ≡ most_taken) }
-    ensures grows { lines.old.input.taken ≤ lines.new.input.taken }
-    ensures balance { IsBalanced lines.old.input lines.new.input (S.given source.old) (S.given source.new) }
-    ensures never_falls { S.Faulty.faults source.old ≤ S.Faulty.faults source.new }
-    ensures apart { S.apart source.new ≡ S.apart source.old }
 {
     let version = match lines.first(source, first) {
         Ok(version) => version,

@@ -10,6 +10,3 @@ pub use duration::{durations_are_spelled, read_duration_ms};
 pub use error::NumError;
 pub use number::{numbers_are_spelled, read_milli, read_whole};
 pub use quotient::{ceil_div, floor_div};
-
-#[cfg(test)]
-mod tests;

@@ -8,6 +8,3 @@ mod plan_error;
 
 pub use plan::{Hosts, Plan, plan_of};
 pub use plan_error::PlanError;
-
-#[cfg(test)]
-mod tests;

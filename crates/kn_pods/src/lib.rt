@@ -6,6 +6,3 @@ mod numbers;
 mod pods;
 
 pub use pods::{PodAnswer, Pods};
-
-#[cfg(test)]
-mod tests;

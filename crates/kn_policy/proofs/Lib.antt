@@ -4,4 +4,3 @@ pub mod Found
 pub mod Words
 pub mod Places
 pub mod Follows
-pub mod Pushing

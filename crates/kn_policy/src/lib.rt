@@ -9,6 +9,3 @@ mod policy;
 pub use kn_trace::Cand;
 pub use laws::choice_laws;
 pub use policy::Policy;
-
-#[cfg(test)]
-mod tests;

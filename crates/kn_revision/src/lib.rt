@@ -9,6 +9,3 @@ mod specification;
 
 pub use error::{Field, SpecError};
 pub use specification::{defaults_are_those_of_fixed_pods, other_members_are_ignored, resolve};
-
-#[cfg(test)]
-mod tests;

@@ -10,4 +10,3 @@ pub mod Ready
 pub mod Nexts
 pub mod Settlings
 pub mod RowKinds
-pub mod Firsts

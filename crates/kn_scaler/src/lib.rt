@@ -6,6 +6,3 @@ pub mod laws;
 mod scaler;
 
 pub use scaler::{Ruled, Scaler};
-
-#[cfg(test)]
-mod tests;

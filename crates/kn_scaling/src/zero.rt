@@ -1,6 +1,6 @@
-//! The bounds of a count, and the scale-to-zero rule, line by line.
+//! The bounds of a count, and what the scale-to-zero rule reads and answers.
 ghost use Rattle.std.specs.Prelude.{◌≡◌};
-ghost use Rattle.kn_scaling.specs.Zero.{bounded_count, has_lasted, is_proxy, lower_bound, may_go, no_pods, not_above_max, some_pods, zero_rule, zero_rule_in};
+ghost use Rattle.kn_scaling.specs.Zero.{bounded_count, lower_bound, not_above_max};
 
 use kn_event::{Mode, Phase, Spec};
 
@@ -65,95 +65,4 @@ pub fn bounded_count(spec: &Spec, reached: bool, count: u64) -> u64
         not_above_max(spec, count)
     };
     PODS_MOST.min(bounded)
-}
-
-/// Whether so many milliseconds went by.
-fn has_lasted(since: u64, ms: u64, time: u64) -> bool
-    ensures { result ≡ has_lasted since ms time }
-{
-    ms <= time && since <= time - ms
-}
-
-fn is_proxy(mode: Mode) -> bool
-    ensures { result ≡ is_proxy mode }
-{
-    match mode {
-        Mode::Proxy => true,
-        Mode::Serve => false,
-    }
-}
-
-/// Inactive for the larger of grace and retention, or for retention and through the activator for grace.
-#[tactic(auto, unfolding(crate::specs::Zero::may_go))]
-fn may_go(spec: &Spec, time: u64, standing: &Standing) -> bool
-    ensures { result ≡ may_go spec.now time standing.now }
-{
-    let inactive = standing.phase_since;
-    has_lasted(inactive, spec.grace_ms.max(spec.retention_ms), time)
-        || (has_lasted(inactive, spec.retention_ms, time)
-            && is_proxy(standing.mode)
-            && has_lasted(standing.mode_since, spec.grace_ms, time))
-}
-
-/// Applied, and then active where a pod is Ready, else activating.
-fn some_pods(ready: u64, want: u64) -> ZeroAnswer
-    ensures { result ≡ some_pods ready want }
-{
-    ZeroAnswer {
-        want,
-        applied: true,
-        phase: if 0 < ready {
-            Phase::Active
-        } else {
-            Phase::Activating
-        },
-    }
-}
-
-fn no_pods(applied: bool) -> ZeroAnswer
-    ensures { result ≡ no_pods applied }
-{
-    ZeroAnswer {
-        want: 0,
-        applied,
-        phase: Phase::Inactive,
-    }
-}
-
-/// By the phase, where nothing is wanted any more.
-fn zero_rule_in(spec: &Spec, time: u64, ready: u64, standing: &Standing) -> ZeroAnswer
-    ensures { result ≡ zero_rule_in standing.now.phase spec.now time ready standing.now }
-{
-    let is_over = has_lasted(standing.phase_since, 1000 * spec.stable_s, time);
-    match standing.phase {
-        Phase::Activating => ZeroAnswer {
-            want: standing.want,
-            applied: false,
-            phase: Phase::Activating,
-        },
-        Phase::Active if is_over => no_pods(false),
-        Phase::Active => some_pods(ready, 1),
-        Phase::Inactive => no_pods(may_go(spec, time, standing)),
-    }
-}
-
-/// What a decision of this time wants where the count within the bounds is this one: itself, if it is above 0; one pod, if
-/// scale to zero is disabled; else it goes by the phase. Times are in milliseconds, `ready` counts the Ready pods.
-#[tactic(auto, unfolding(crate::specs::Zero::zero_rule))]
-pub fn zero_rule(
-    spec: &Spec,
-    time: u64,
-    ready: u64,
-    bounded: u64,
-    standing: &Standing,
-) -> ZeroAnswer
-    ensures { result ≡ zero_rule spec.now time ready bounded standing.now }
-{
-    if 0 < bounded {
-        some_pods(ready, bounded)
-    } else if spec.to_zero {
-        zero_rule_in(spec, time, ready, standing)
-    } else {
-        some_pods(ready, 1)
-    }
 }

@@ -180,14 +180,3 @@ pod_at-changed p by keeps (x ∷ xs) there = case (nat_eq x.number p) refl there
         let named : nat_eq (by x).number p ≡ true = rw (keeps x) e in
         rw (e, named) refl
     case false e h rest = rw (e, e) (rest h)
-
--- the same numbers are there after a change that keeps a pod's number
-number-changed : (x y : Pod) (here : Bool) → y.number ≡ x.number → (cond here y x).number ≡ x.number
-number-changed x y true keeps = keeps
-number-changed x y false keeps = refl
-
-pub has_pod-changed : (q p : ℕ) (by : Pod → Pod) → ((x : Pod) → (by x).number ≡ x.number) → (pods : List Pod) → has_pod q (with_pod_changed p by pods) ≡ has_pod q pods
-has_pod-changed q p by keeps [] = refl
-has_pod-changed q p by keeps (x ∷ xs) =
-    ap (λ n. nat_eq n q || has_pod q (with_pod_changed p by xs)) (number-changed x (by x) (nat_eq x.number p) (keeps x))
-    ∙ ap (λ b. nat_eq x.number q || b) (has_pod-changed q p by keeps xs)

@@ -6,6 +6,3 @@ mod seats;
 mod tracker;
 
 pub use seats::{Freed, Seats};
-
-#[cfg(test)]
-mod tests;

@@ -1,10 +1,10 @@
-//! The seats at all pods. A pod is found by a binary search over the numbers, which rise.
+//! The seats at all pods. A pod is found by a hint, or else by a binary search over the numbers, which rise.
 ghost use Rattle.std.specs.Prelude.{true, ◌≡◌, ◌+◌, ◌-◌, ◌<◌, ◌≤◌, [], ◌∷◌, ◌++◌, None, drop, length, slice_get, IsTrue, IfOk, OnSome, IfNone, Contains, All, not, nat_lt, ◌&&◌, if◌then◌else◌};
 ghost use Rattle.std.specs.Bool.{OnFalse, OnTrue};
 
 use crate::cells::{Cells, close_up};
 use crate::tracker::Tracker;
-use kn_event::Memory;
+use kn_event::{Memory, PlaceHints};
 use std::alloc::Global;
 use std::marker::Model;
 
@@ -23,6 +23,7 @@ pub struct Freed {
 #[derive(Drop)]
 pub struct Seats {
     pods: Vec<Tracker>,
+    hints: PlaceHints,
     cells: Cells,
     pod_room: u64,
     request_room: u64,
@@ -60,8 +61,10 @@ impl Seats {
         let Ok(held) = Vec::with_capacity(alloc, pods as usize) else {
             return Err(Memory);
         };
+        let hints = PlaceHints::new(alloc)?;
         Ok(Seats {
             pods: held,
+            hints,
             cells,
             pod_room: pods,
             request_room: requests,
@@ -76,6 +79,7 @@ impl Seats {
         ensures added { self.new ≡ record self.old { pods = self.old.pods ++ idle_pod p limit ∷ [] } }
         ensures counted { requests_at_all self.new.pods ≡ requests_at_all self.old.pods }
     {
+        self.hints.set(p, self.pods.len());
         self.pods.push_reserved(Tracker::idle(p, limit));
     }
 
@@ -110,6 +114,7 @@ impl Seats {
     {
         let place = self.place_of(p);
         let _ = self.pods.remove(place);
+        hint_from(&self.pods, place, &mut self.hints);
     }
 
     /// Lets one more request run at a pod, where a seat is free there.
@@ -236,20 +241,20 @@ impl Seats {
         &self.pods[place]
     }
 
-    /// Where the pod of this number stands: as far behind the first as its number, or else where a search finds it.
+    /// Where the pod of this number stands: where the hint says, or else where a search finds it.
+    #[inline(always)]
     fn place_of(&self, p: u64) -> usize
         requires { IsTrue (has_pod p self.now.pods) }
         ensures { IsPlaceOf p self.now.pods result }
     {
-        if let Some(first) = self.pods.first() {
-            let guess = p.wrapping_sub(first.number) as usize;
-            if guess < self.pods.len() && self.pods[guess].number == p {
-                return guess;
-            }
+        let guess = self.hints.get(p);
+        if guess < self.pods.len() && self.pods[guess].number == p {
+            return guess;
         }
         self.search(p)
     }
 
+    #[inline(never)]
     fn search(&self, p: u64) -> usize
         requires { IsTrue (has_pod p self.now.pods) }
         ensures { IsPlaceOf p self.now.pods result }
@@ -257,5 +262,12 @@ impl Seats {
         self.pods
             .binary_search_by_key(&p, |pod| pod.number)
             .unwrap()
+    }
+}
+
+/// The pods from this place on stand where they stand now.
+fn hint_from(pods: &[Tracker], place: usize, hints: &mut PlaceHints) {
+    for i in place..pods.len() {
+        hints.set(pods[i].number, i);
     }
 }

@@ -8,12 +8,9 @@ use crate::clock::Clock;
 use crate::closed::run_of;
 use crate::tally::{PodTally, Tally};
 use crate::{Change, Closed, pods};
-use kn_event::{Memory, Metric};
+use kn_event::{Memory, Metric, PlaceHints};
 use std::alloc::Global;
 use std::marker::Model;
-
-#[cfg(test)]
-mod tests;
 
 /// What requests at one pod took of the open second, up to the last advance, in milliseconds.
 #[derive(Clone, Copy, Debug, PartialEq, Eq)]
@@ -33,6 +30,7 @@ pub struct Stats {
     direct: Tally,
     arrived: u64,
     pods: Vec<PodTally>,
+    hints: PlaceHints,
 }
 
 impl Model for Stats {
@@ -71,18 +69,20 @@ impl Stats {
         ensures stands { IfOk result (λ s. StandsFor s [] []) }
         ensures state { IfOk result (λ s. s ≡ opened metric start) }
     {
-        match Vec::with_capacity(alloc, 20_500) {
-            Ok(pods) => Ok(Stats {
-                metric,
-                clock: Clock::at(start),
-                waiting: 0,
-                activator: Tally::none(),
-                direct: Tally::none(),
-                arrived: 0,
-                pods,
-            }),
-            Err(_) => Err(Memory),
-        }
+        let Ok(pods) = Vec::with_capacity(alloc, 20_500) else {
+            return Err(Memory);
+        };
+        let hints = PlaceHints::new(alloc)?;
+        Ok(Stats {
+            metric,
+            clock: Clock::at(start),
+            waiting: 0,
+            activator: Tally::none(),
+            direct: Tally::none(),
+            arrived: 0,
+            pods,
+            hints,
+        })
     }
 
     /// One change, at the time of the last advance, or at the start before there is one.
@@ -112,12 +112,12 @@ impl Stats {
             }
             Change::Assigned(p) => {
                 self.waiting -= 1;
-                pods::update(&mut self.pods, p, c, second, left);
+                pods::update(&mut self.pods, &mut self.hints, p, c, second, left);
             }
             Change::Directed(p) => {
                 self.direct.begin(left);
                 self.arrived = one_more(self.arrived);
-                pods::update(&mut self.pods, p, c, second, left);
+                pods::update(&mut self.pods, &mut self.hints, p, c, second, left);
             }
             Change::EndedHeld => {
                 self.waiting -= 1;
@@ -125,11 +125,11 @@ impl Stats {
             }
             Change::EndedAt(p, true) => {
                 self.activator.end(left);
-                pods::update(&mut self.pods, p, c, second, left);
+                pods::update(&mut self.pods, &mut self.hints, p, c, second, left);
             }
             Change::EndedAt(p, false) => {
                 self.direct.end(left);
-                pods::update(&mut self.pods, p, c, second, left);
+                pods::update(&mut self.pods, &mut self.hints, p, c, second, left);
             }
         }
     }
@@ -140,7 +140,7 @@ impl Stats {
         ensures stands { (cs : List TimedChange) (gone : List ℕ) → StandsFor self.old cs gone → StandsFor self.new cs (p ∷ gone) }
         ensures state { self.new ≡ without p self.old }
     {
-        pods::remove(&mut self.pods, p);
+        pods::remove(&mut self.pods, &mut self.hints, p);
     }
 
     /// Time passes. Answers the seconds that are over: each whole second after the open one has the same load.
@@ -189,7 +189,7 @@ impl Stats {
             → result.proxied ≡ time_taken (at is_assigned p) (at ends_assigned p) (1000 * second_of self.now.time) self.now.time cs }
     {
         let left = self.clock.left();
-        let mut pod = pods::found(&self.pods, p);
+        let mut pod = pods::found(&self.pods, &self.hints, p);
         pod.refresh(self.clock.second(), left);
         let proxied = pod.proxied.so_far(left);
         PodArea {

@@ -4,4 +4,3 @@ pub mod Marks
 pub mod Search
 pub mod Writes
 pub mod Answered
-pub mod Kept

@@ -5,7 +5,5 @@ mod cursors;
 mod hints;
 mod slot;
 mod table;
-#[cfg(test)]
-mod tests;
 
 pub use table::Table;

@@ -10,6 +10,3 @@ mod reply;
 
 pub use caller::TcpCaller;
 pub use link::TcpLink;
-
-#[cfg(test)]
-mod tests;

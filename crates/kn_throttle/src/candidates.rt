@@ -6,7 +6,7 @@ ghost use Rattle.kn_trace.specs.Choice.{has_seat};
 ghost use Rattle.kn_policy.specs.Marks.{AreAscending, mark_of, marks_of};
 ghost use Rattle.kn_throttle.specs.Candidates.{begun, capacity_of, ended, limited, unlimited_of, with_changed};
 
-use kn_event::Memory;
+use kn_event::{Memory, PlaceHints};
 use kn_policy::choice_laws;
 use kn_trace::Cand;
 use std::alloc::Global;
@@ -18,6 +18,7 @@ use std::marker::Model;
 #[derive(Drop)]
 pub struct Candidates {
     cands: Vec<Cand>,
+    hints: PlaceHints,
     marks: Vec<u8>,
     free: usize,
     limits: u128,
@@ -51,8 +52,10 @@ impl Candidates {
         let Ok(marks) = Vec::with_capacity(alloc, 20_500) else {
             return Err(Memory);
         };
+        let hints = PlaceHints::new(alloc)?;
         Ok(Candidates {
             cands,
+            hints,
             marks,
             free: 0,
             limits: 0,
@@ -86,7 +89,7 @@ impl Candidates {
         requires fits { All (λ (k : Cand). k.running < 2 ^ 63) self.old }
         ensures { self.new ≡ with_changed p begun self.old }
     {
-        if let Some(i) = place_of(&self.cands, p) {
+        if let Some(i) = place_of(&self.cands, &self.hints, p) {
             let mut cand = self.cands[i];
             cand.running += 1;
             self.replace(i, cand);
@@ -98,7 +101,7 @@ impl Candidates {
         requires { AreAscending self.old }
         ensures { self.new ≡ with_changed p ended self.old }
     {
-        if let Some(i) = place_of(&self.cands, p) {
+        if let Some(i) = place_of(&self.cands, &self.hints, p) {
             let mut cand = self.cands[i];
             cand.running = cand.running.saturating_sub(1);
             self.replace(i, cand);
@@ -110,7 +113,7 @@ impl Candidates {
         requires { AreAscending self.old }
         ensures { self.new ≡ with_changed p (limited n) self.old }
     {
-        if let Some(i) = place_of(&self.cands, p) {
+        if let Some(i) = place_of(&self.cands, &self.hints, p) {
             let was = self.cands[i];
             let cand = Cand { limit: n, ..was };
             let mark = mark_of(&cand);
@@ -147,6 +150,7 @@ impl Candidates {
         self.free += mark as usize;
         let _ = self.marks.insert(place, mark);
         let _ = self.cands.insert(place, cand);
+        hint_from(&self.cands, place, &mut self.hints);
     }
 
     /// Takes the one of pod `p` out.
@@ -154,12 +158,13 @@ impl Candidates {
         requires { AreAscending self.old }
         ensures { self.new ≡ filter (λ (k : Cand). not (k.pod == p)) self.old }
     {
-        if let Some(i) = place_of(&self.cands, p) {
+        if let Some(i) = place_of(&self.cands, &self.hints, p) {
             let cand = self.cands.remove(i);
             let mark = self.marks.remove(i);
             self.limits -= cand.limit as u128;
             self.unlimited -= unlimited(&cand);
             self.free -= mark as usize;
+            hint_from(&self.cands, i, &mut self.hints);
         }
     }
 
@@ -194,20 +199,36 @@ fn mark_of(cand: &Cand) -> u8
     }
 }
 
-/// Where the candidate of pod `p` stands: as far behind the first as its number, or else before that place.
-fn place_of(cands: &[Cand], p: u64) -> Option<usize>
+/// Where the candidate of pod `p` stands: where the hint says, or else where a search finds it.
+#[inline(always)]
+fn place_of(cands: &[Cand], hints: &PlaceHints, p: u64) -> Option<usize>
     requires { AreAscending cands.now }
     ensures inside { IfSome result (λ i. i < length cands.now) }
     ensures there { IfSome result (HoldsAt (λ (k : Cand). k.pod ≡ p) cands.now) }
     ensures none { IfNone result (All (λ (k : Cand). k.pod ≢ p) cands.now) }
 {
-    if let Some(first) = cands.first() {
-        let guess = p.wrapping_sub(first.pod) as usize;
-        if guess < cands.len() && cands[guess].pod == p {
-            return Some(guess);
-        }
+    let guess = hints.get(p);
+    if guess < cands.len() && cands[guess].pod == p {
+        return Some(guess);
     }
+    search(cands, p)
+}
+
+#[inline(never)]
+fn search(cands: &[Cand], p: u64) -> Option<usize>
+    requires { AreAscending cands.now }
+    ensures inside { IfSome result (λ i. i < length cands.now) }
+    ensures there { IfSome result (HoldsAt (λ (k : Cand). k.pod ≡ p) cands.now) }
+    ensures none { IfNone result (All (λ (k : Cand). k.pod ≢ p) cands.now) }
+{
     cands.binary_search_by_key(&p, |cand| cand.pod).ok()
+}
+
+/// The candidates from this place on stand where they stand now.
+fn hint_from(cands: &[Cand], place: usize, hints: &mut PlaceHints) {
+    for i in place..cands.len() {
+        hints.set(cands[i].pod, i);
+    }
 }
 
 /// The place of the first one of a greater number, or how many there are.

@@ -3,8 +3,6 @@
 
 mod candidates;
 mod pods;
-#[cfg(test)]
-mod tests;
 mod throttle;
 mod touched;
 

@@ -6,7 +6,7 @@ ghost use Rattle.kn_record.specs.Admission.{drained, is_draining_now, readied, w
 ghost use Rattle.kn_record.specs.Views.{is_pod_where, pod_numbered};
 ghost use Rattle.kn_throttle.specs.Pods.{AreAscending};
 
-use kn_event::Memory;
+use kn_event::{Memory, PlaceHints};
 use kn_record::{Pod, Readiness};
 use std::alloc::Global;
 use std::marker::Model;
@@ -15,6 +15,7 @@ use std::marker::Model;
 #[derive(Drop)]
 pub struct Pods {
     pods: Vec<Pod>,
+    hints: PlaceHints,
 }
 
 impl Model for Pods {
@@ -32,10 +33,11 @@ impl Pods {
     pub fn new(alloc: Global) -> Result<Pods, Memory>
         ensures { IfOk result (λ pods. pods ≡ []) }
     {
-        match Vec::with_capacity(alloc, 20_500) {
-            Ok(pods) => Ok(Pods { pods }),
-            Err(_) => Err(Memory),
-        }
+        let Ok(pods) = Vec::with_capacity(alloc, 20_500) else {
+            return Err(Memory);
+        };
+        let hints = PlaceHints::new(alloc)?;
+        Ok(Pods { pods, hints })
     }
 
     pub fn as_slice(&self) -> &[Pod]
@@ -48,6 +50,7 @@ impl Pods {
         requires { length self.old < 20500 }
         ensures { self.new ≡ self.old ++ pod ∷ [] }
     {
+        self.hints.set(pod.number, self.pods.len());
         self.pods.push_reserved(pod);
     }
 
@@ -55,7 +58,7 @@ impl Pods {
         requires { AreAscending self.old }
         ensures { self.new ≡ with_limit p n self.old }
     {
-        if let Some(i) = place_of(&self.pods, p) {
+        if let Some(i) = place_of(&self.pods, &self.hints, p) {
             self.pods[i].limit = n;
         }
     }
@@ -65,7 +68,7 @@ impl Pods {
         requires { AreAscending self.old }
         ensures { self.new ≡ with_readiness p readied self.old }
     {
-        if let Some(i) = place_of(&self.pods, p) {
+        if let Some(i) = place_of(&self.pods, &self.hints, p) {
             let pod = &mut self.pods[i];
             pod.readiness = readied(pod.readiness);
         }
@@ -75,7 +78,7 @@ impl Pods {
         requires { AreAscending self.old }
         ensures { self.new ≡ with_readiness p drained self.old }
     {
-        if let Some(i) = place_of(&self.pods, p) {
+        if let Some(i) = place_of(&self.pods, &self.hints, p) {
             self.pods[i].readiness = Readiness::Draining;
         }
     }
@@ -84,8 +87,9 @@ impl Pods {
         requires { AreAscending self.old }
         ensures { self.new ≡ filter (λ (q : Pod). not (p == q.number)) self.old }
     {
-        if let Some(i) = place_of(&self.pods, p) {
+        if let Some(i) = place_of(&self.pods, &self.hints, p) {
             let _ = self.pods.remove(i);
+            hint_from(&self.pods, i, &mut self.hints);
         }
     }
 
@@ -94,7 +98,7 @@ impl Pods {
         requires { AreAscending self.now }
         ensures { result ≡ is_pod_where (λ (q : Pod). is_draining_now q.readiness) (pod_numbered p self.now) }
     {
-        match place_of(&self.pods, p) {
+        match place_of(&self.pods, &self.hints, p) {
             None => false,
             Some(i) => is_draining(self.pods[i].readiness),
         }
@@ -117,18 +121,23 @@ pub fn is_draining(readiness: Readiness) -> bool
     matches!(readiness, Readiness::Draining)
 }
 
-/// Where pod `p` stands: as far behind the first as its number, or else before that place.
-fn place_of(pods: &[Pod], p: u64) -> Option<usize>
+/// Where pod `p` stands: where the hint says, or else where a search finds it.
+fn place_of(pods: &[Pod], hints: &PlaceHints, p: u64) -> Option<usize>
     requires { AreAscending pods.now }
     ensures inside { IfSome result (λ i. i < length pods.now) }
     ensures there { IfSome result (HoldsAt (λ (q : Pod). q.number ≡ p) pods.now) }
     ensures none { IfNone result (All (λ (q : Pod). q.number ≢ p) pods.now) }
 {
-    if let Some(first) = pods.first() {
-        let guess = p.wrapping_sub(first.number) as usize;
-        if guess < pods.len() && pods[guess].number == p {
-            return Some(guess);
-        }
+    let guess = hints.get(p);
+    if guess < pods.len() && pods[guess].number == p {
+        return Some(guess);
     }
     pods.binary_search_by_key(&p, |q| q.number).ok()
+}
+
+/// The pods from this place on stand where they stand now.
+fn hint_from(pods: &[Pod], place: usize, hints: &mut PlaceHints) {
+    for i in place..pods.len() {
+        hints.set(pods[i].number, i);
+    }
 }

@@ -594,7 +594,7 @@ abbrev pub FirstWordsOfZero : Type 0
 FirstWordsOfZero = map (random_word 0) (0 ∷ 1 ∷ []) ≡ 298703107 ∷ 4236525527 ∷ []
 
 -- ---- overload where requests go past the activator: 20,000 live ones are too many to compute a run, so these are its last
--- two steps, of every trace. The crate kn_runs proves the whole run
+-- two steps, of every trace. The crate kn_rows_runs proves the whole run
 
 -- with 20,000 live requests an arrival is refused, in serve mode too and whichever pods are Ready
 abbrev pub OverloadComesFirst : Type 0

@@ -1,12 +1,9 @@
-//! The load-balancing policies over all Ready pods, in order. None of these functions takes memory.
-ghost use Rattle.std.specs.Prelude.{◌≡◌, ◌+◌, ◌*◌, ◌<◌, ◌≤◌, ◌^◌, ℕ, length, slice_get, Option};
+//! The load-balancing policies over all Ready pods, in order, as plain walks. None of these functions takes memory.
+ghost use Rattle.std.specs.Prelude.{◌≡◌, ◌<◌, ◌≤◌, ◌^◌, length, slice_get};
 ghost use Rattle.std.specs.List.{filter};
-ghost use Rattle.kn_trace.specs.Choice.{has_seat, first_available, round_robin, generator_at, random_word, other_position, less_busy, choice_of_two, random_choice, chosen_pod};
+ghost use Rattle.kn_trace.specs.Choice.{has_seat, first_available, round_robin, other_position, less_busy, choice_of_two};
 
 use crate::candidate::Cand;
-use rand_core::SeedableRng;
-use rand_core::utils::NextWord;
-use rand_pcg::Pcg32;
 
 fn has_seat(cand: &Cand) -> bool
     ensures { result ≡ has_seat cand.now }
@@ -110,34 +107,5 @@ pub fn choice_of_two(cands: &[Cand], first_word: u32, second_word: u32) -> Optio
         first_available(cands)
     } else {
         one_of_two(cands, free, first_word, second_word)
-    }
-}
-
-/// The word at place `k`, counted from 0, of Pcg32 seeded by the number.
-#[tactic(auto, unfolding(crate::specs::Choice::generator_at))]
-pub fn random_word(seed: u64, k: u64) -> u32
-    ensures { result ≡ random_word seed k }
-{
-    let mut generator = Pcg32::seed_from_u64(seed);
-    for _ in 0..k {
-        generator.next_word();
-    }
-    generator.next_word()
-}
-
-/// The pod that the policy of the containerConcurrency takes, after so many assignments: 0 takes the random choice of two,
-/// 1 to 3 the first available, 4 and more round robin from the place.
-#[tactic(auto, unfolding(crate::specs::Choice::chosen_pod, crate::specs::Choice::random_choice))]
-pub fn chosen_pod(cc: u64, seed: u64, place: u64, assigns: u64, cands: &[Cand]) -> Option<u64>
-    requires { assigns < 2 ^ 62 }
-    ensures { result ≡ chosen_pod cc seed place assigns cands.now }
-{
-    match cc {
-        0 => {
-            let first_word = random_word(seed, 2 * assigns);
-            choice_of_two(cands, first_word, random_word(seed, 2 * assigns + 1))
-        }
-        1..=3 => first_available(cands),
-        _ => round_robin(place, cands),
     }
 }

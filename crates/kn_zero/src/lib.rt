@@ -19,6 +19,3 @@ pub fn bounds(spec: &Spec, reached: bool, n: u64) -> u64
 {
     bounded_count(spec, reached, n)
 }
-
-#[cfg(test)]
-mod tests;

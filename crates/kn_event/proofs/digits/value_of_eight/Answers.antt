@@ -1,5 +1,5 @@
 use Rattle.core.proofs.dec2flt.Eight.{eight_is}
 use Rattle.kn_event.proofs.digits.value_of_eight.Goals as goal
 
-pub returns : goal.returns
-returns c ds eight e = eight_is ds c.args.word eight e
+pub returns-clause-value : goal.returns-clause-value
+returns-clause-value c ds eight e = eight_is ds c.args.word eight e

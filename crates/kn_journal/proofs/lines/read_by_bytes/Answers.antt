@@ -2,7 +2,8 @@ use Rattle.std.proofs.Common.{arith, ◌≡◌, ◌+◌, ◌∙◌, false, refl}
 use Rattle.std.specs.Prelude.{◌==◌}
 use Rattle.std.proofs.lemmas.Grind.{common_steps}
 use Rattle.kn_journal.specs.Reading.{unread}
-use Rattle.kn_journal.proofs.Fronts.{front_begin, front_added, front_lf, front_end, front_long, front_end-long, counts_begin, counts_byte, contains_some, contains_rest, part_begin, part_byte, part_stay}
+use Rattle.kn_journal.proofs.Drawings.{draws_all, draws_both, draws_more, draws_none}
+use Rattle.kn_journal.proofs.Fronts.{front_begin, front_added, front_lf, front_end, front_long, front_end-long, counts_begin, counts_byte, counts_end, contains_some, contains_rest, part_begin, part_byte, part_stay}
 use Rattle.kn_journal.proofs.Plain.{no_lf-added, no_lf-crs_after, no_lf-nil}
 use Rattle.kn_journal.proofs.lines.read_by_bytes.Goals as goal
 
@@ -15,9 +16,7 @@ loop-init g c = record {
   bytes = grind (arith, common_steps);
   most = grind (arith, common_steps);
   ready = λ lf. (lf, refl);
-  later = grind (arith, common_steps);
-  apart = grind (arith, common_steps);
-  balance = grind (arith, common_steps);
+  source = draws_none _ _;
   no_lf = rw c.clear.ensures.items no_lf-nil;
   short = grind (arith, common_steps);
   room = grind (arith, common_steps);
@@ -60,12 +59,91 @@ returns-in-Ok-None-clause-taken g c =
     let none = rw c.in-Ok-None.field-0-is at c.in-Ok-None.ensures.byte in
     front_end whole left rest c.loop.line.items c.add_crs.new.line.items c.loop.crs _ c.loop.invariant.taken none (grind (arith, common_steps)) (grind (arith, common_steps))
 
-pub returns-in-Err-clause-amid : goal.returns-in-Err-clause-amid
-returns-in-Err-clause-amid g c _ =
+pub returns-in-Ok-Some-eq10-clause-source : goal.returns-in-Ok-Some-eq10-clause-source
+returns-in-Ok-Some-eq10-clause-source g c = draws_both c.loop.invariant.source c.in-Ok-Some-eq10.ensures.source
+
+pub returns-in-None-clause-source : goal.returns-in-None-clause-source
+returns-in-None-clause-source g c = draws_both c.loop.invariant.source c.in-Ok-Some.ensures.source
+
+pub returns-then-not-add_crs-clause-source : goal.returns-then-not-add_crs-clause-source
+returns-then-not-add_crs-clause-source g c = draws_both c.loop.invariant.source c.in-Ok-None.ensures.source
+
+pub returns-in-Ok-None-clause-source : goal.returns-in-Ok-None-clause-source
+returns-in-Ok-None-clause-source g c = draws_both c.loop.invariant.source c.in-Ok-None.ensures.source
+
+pub returns-in-Err-clause-source : goal.returns-in-Err-clause-source
+returns-in-Err-clause-source g c =
+    draws_more c.loop.invariant.source c.in-Err.ensures.source (λ h.
+    part_stay (unread c.args.input.now (g.S.Source.left c.args.source.now)) (unread c.loop.input (g.S.Source.left c.loop.source)) (unread c.next.new.self (g.S.Source.left c.next.new.source))
+    c.loop.invariant.part (c.in-Err.ensures.source.amid h))
+
+pub returns-clause-source : goal.returns-clause-source
+returns-clause-source g c = draws_all c.loop.invariant.source (grind (arith, common_steps)) c.loop.invariant.part
+
+-- while an LF is ahead, so is one after each byte
+
+pub returns-in-Ok-Some-eq10-clause-ready : goal.returns-in-Ok-Some-eq10-clause-ready
+returns-in-Ok-Some-eq10-clause-ready g c lf =
+    let before = c.loop.invariant.ready lf in
+    c.next.ensures.ready (contains_some _ _ before.0) ∙ before.1
+
+pub returns-in-None-clause-ready : goal.returns-in-None-clause-ready
+returns-in-None-clause-ready g c lf =
+    let before = c.loop.invariant.ready lf in
+    c.next.ensures.ready (contains_some _ _ before.0) ∙ before.1
+
+pub returns-then-not-add_crs-clause-ready : goal.returns-then-not-add_crs-clause-ready
+returns-then-not-add_crs-clause-ready g c lf =
+    let before = c.loop.invariant.ready lf in
+    c.next.ensures.ready (contains_some _ _ before.0) ∙ before.1
+
+pub returns-in-Ok-None-clause-ready : goal.returns-in-Ok-None-clause-ready
+returns-in-Ok-None-clause-ready g c lf =
+    let before = c.loop.invariant.ready lf in
+    c.next.ensures.ready (contains_some _ _ before.0) ∙ before.1
+
+pub returns-in-Err-clause-ready : goal.returns-in-Err-clause-ready
+returns-in-Err-clause-ready g c lf =
+    let before = c.loop.invariant.ready lf in
+    c.next.ensures.ready (contains_some _ _ before.0) ∙ before.1
+
+-- each byte that is gone was counted
+
+pub returns-in-Ok-Some-eq10-clause-exact : goal.returns-in-Ok-Some-eq10-clause-exact
+returns-in-Ok-Some-eq10-clause-exact g c =
     let whole = unread c.args.input.now (g.S.Source.left c.args.source.now) in
     let left = unread c.loop.input (g.S.Source.left c.loop.source) in
     let rest = unread c.next.new.self (g.S.Source.left c.next.new.source) in
-    part_stay whole left rest c.loop.invariant.part c.in-Err.ensures.left
+    let byte = rw (c.in-Ok-Some-eq10.field-0-is, c.in-Ok-Some-eq10.field-0-0-test) at c.in-Ok-Some-eq10.ensures.byte in
+    let counted = rw c.in-Ok-Some-eq10.field-0-is at c.in-Ok-Some-eq10.ensures.taken in
+    rw counted (counts_byte whole left rest c.args.input.now.taken c.loop.input.taken 10 c.loop.invariant.exact byte)
+
+pub returns-in-None-clause-exact : goal.returns-in-None-clause-exact
+returns-in-None-clause-exact g c =
+    let whole = unread c.args.input.now (g.S.Source.left c.args.source.now) in
+    let left = unread c.loop.input (g.S.Source.left c.loop.source) in
+    let rest = unread c.next.new.self (g.S.Source.left c.next.new.source) in
+    let byte = rw c.in-Ok-Some.field-0-is at c.in-Ok-Some.ensures.byte in
+    let counted = rw c.in-Ok-Some.field-0-is at c.in-Ok-Some.ensures.taken in
+    rw counted (counts_byte whole left rest c.args.input.now.taken c.loop.input.taken c.in-Ok-Some.byte c.loop.invariant.exact byte)
+
+pub returns-then-not-add_crs-clause-exact : goal.returns-then-not-add_crs-clause-exact
+returns-then-not-add_crs-clause-exact g c =
+    let whole = unread c.args.input.now (g.S.Source.left c.args.source.now) in
+    let left = unread c.loop.input (g.S.Source.left c.loop.source) in
+    let rest = unread c.next.new.self (g.S.Source.left c.next.new.source) in
+    let none = rw c.in-Ok-None.field-0-is at c.in-Ok-None.ensures.byte in
+    let counted = rw c.in-Ok-None.field-0-is at c.in-Ok-None.ensures.taken in
+    rw counted (counts_end whole left rest c.args.input.now.taken c.loop.input.taken c.loop.invariant.exact none)
+
+pub returns-in-Ok-None-clause-exact : goal.returns-in-Ok-None-clause-exact
+returns-in-Ok-None-clause-exact g c =
+    let whole = unread c.args.input.now (g.S.Source.left c.args.source.now) in
+    let left = unread c.loop.input (g.S.Source.left c.loop.source) in
+    let rest = unread c.next.new.self (g.S.Source.left c.next.new.source) in
+    let none = rw c.in-Ok-None.field-0-is at c.in-Ok-None.ensures.byte in
+    let counted = rw c.in-Ok-None.field-0-is at c.in-Ok-None.ensures.taken in
+    rw counted (counts_end whole left rest c.args.input.now.taken c.loop.input.taken c.loop.invariant.exact none)
 
 pub loop-preserved : goal.loop-preserved
 loop-preserved g c =
@@ -89,9 +167,7 @@ loop-preserved g c =
           let some = contains_some _ _ before.0 in
           let front = rw c.in-Ok-Some.field-0-is at (c.in-Ok-Some.ensures.front some) in
           (contains_rest _ _ _ front (grind arith) before.0, c.next.ensures.ready some ∙ before.1);
-      later = grind (arith, common_steps);
-      apart = grind (arith, common_steps);
-      balance = grind (arith, common_steps);
+      source = draws_both c.loop.invariant.source c.in-Ok-Some.ensures.source;
       no_lf = no_lf-added c.loop.line.items c.add.new.line.items c.loop.crs c.in-Ok-Some.byte c.loop.invariant.no_lf (grind arith) (λ is. (waits is).1) (λ other. (c.in-Some.ensures.other other).1);
       short = grind (arith, common_steps);
       room = grind (arith, common_steps);

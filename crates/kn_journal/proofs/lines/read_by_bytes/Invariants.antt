@@ -1,7 +1,8 @@
-use Rattle.std.proofs.Common.{◌≡◌, ◌+◌, ◌<◌, ◌≤◌, vec_len, vec_capacity}
+use Rattle.std.proofs.Common.{◌≡◌, ◌+◌, ◌<◌, ◌≤◌, None, vec_len, vec_capacity}
 use Rattle.std.specs.Prelude.{Contains}
+use Rattle.kn_journal.specs.Drawing.{Draws}
 use Rattle.kn_journal.specs.Lines.{line_most}
-use Rattle.kn_journal.specs.Reading.{Counts, IsBalanced, TakesPart, most_taken, unread}
+use Rattle.kn_journal.specs.Reading.{Counts, TakesPart, most_taken, unread}
 use Rattle.kn_journal.proofs.Fronts.{TakesFront}
 use Rattle.kn_journal.proofs.lines.read_by_bytes.Given as goal
 
@@ -15,9 +16,7 @@ invariant-loop g l = record {
   bytes : vec_len l.line + l.crs ≡ l.counter;
   most : 0 < l.counter → l.input.taken ≤ most_taken;
   ready : Contains l.fn.input.ahead 10 → Contains l.input.ahead 10 × (l.source ≡ l.fn.source);
-  later : g.S.Faulty.faults l.fn.source ≤ g.S.Faulty.faults l.source;
-  apart : g.S.Source.apart l.source ≡ g.S.Source.apart l.fn.source;
-  balance : IsBalanced l.fn.input l.input (g.S.Source.given l.fn.source) (g.S.Source.given l.source);
+  source : Draws TakesPart None l.fn.input l.input g.S.Source g.S.Faulty l.fn.source l.source;
   no_lf : ¬ Contains l.line.items 10;
   short : vec_len l.line ≤ line_most;
   room : line_most ≤ vec_capacity l.line;

@@ -5,10 +5,12 @@ use Rattle.std.specs.Str.{bytes_eq}
 use Rattle.std.proofs.lemmas.Grind.{common_steps}
 use Rattle.kn_journal.specs.Reading.{unread}
 use Rattle.kn_journal.specs.Lines.{ends_with_cr}
-use Rattle.kn_journal.specs.Setup.{block_most}
+use Rattle.kn_journal.specs.Setup.{block_most, block_part}
+use Rattle.kn_journal.proofs.Drawings.{draws_both, draws_more, draws_none, draws_well}
 use Rattle.kn_journal.proofs.Blocks.{block-begin, block-cut, block-lacks, block-long, block-more, block-point, block-stops}
 use Rattle.kn_journal.proofs.ReadBack.{keeps-begin, keeps-more, keeps-point}
 use Rattle.kn_journal.proofs.SetupRests.{block-rest}
+use Rattle.kn_journal.proofs.Tellings.{memory-refuses}
 use Rattle.kn_journal.proofs.setup.read_block.Goals as goal
 
 pub loop-init : goal.loop-init
@@ -17,10 +19,7 @@ loop-init g c = record {
   kept = rw c.new-text.ensures.items keeps-begin;
   turns = grind (arith, common_steps);
   short = grind (arith, common_steps);
-  grows = grind (arith, common_steps);
-  balance = grind (arith, common_steps);
-  never_falls = grind (arith, common_steps);
-  apart = grind (arith, common_steps);
+  source = draws_none _ _;
 }
 
 pub returns-in-Err-clause-tells : goal.returns-in-Err-clause-tells
@@ -28,11 +27,12 @@ returns-in-Err-clause-tells g c =
     block-lacks c.args.lines.now.number c.loop.text.items c.loop.lines.number c.in-Err.e (unread c.args.lines.now.input (g.S.Source.left c.args.source.now))
     (unread c.loop.lines.input (g.S.Source.left c.loop.source)) c.loop.invariant.block c.in-Err.ensures.none
 
-pub returns-in-Err-clause-amid : goal.returns-in-Err-clause-amid
-returns-in-Err-clause-amid g c h =
+pub returns-in-Err-clause-source : goal.returns-in-Err-clause-source
+returns-in-Err-clause-source g c =
+    draws_more c.loop.invariant.source c.in-Err.ensures.source (λ h.
     block-stops c.args.lines.now.number c.loop.text.items c.loop.lines.number (unread c.args.lines.now.input (g.S.Source.left c.args.source.now))
     (unread c.loop.lines.input (g.S.Source.left c.loop.source)) (unread c.next_line.new.self.input (g.S.Source.left c.next_line.new.source))
-    c.loop.invariant.block (c.in-Err.ensures.amid cc)
+    c.loop.invariant.block (c.in-Err.ensures.source.amid h))
 
 pub returns-then-eq-clause-tells : goal.returns-then-eq-clause-tells
 returns-then-eq-clause-tells g c =
@@ -62,10 +62,7 @@ loop-preserved g c =
       kept = keeps-more c.loop.text.items c.next_line.new.self.line c.push.new.self.items c.loop.invariant.kept c.in-Ok.ensures.no_lf cr c.in-Ok.ensures.fits other short added;
       turns = grind (arith, common_steps);
       short = grind (arith, common_steps);
-      grows = grind (arith, common_steps);
-      balance = grind (arith, common_steps);
-      never_falls = grind (arith, common_steps);
-      apart = grind (arith, common_steps);
+      source = draws_both c.loop.invariant.source c.in-Ok.ensures.source;
     }
 
 pub returns-then-eq-clause-kept : goal.returns-then-eq-clause-kept
@@ -87,3 +84,21 @@ returns-then-len-line-ge-BLOCK_MOST-clause-rest g c is =
     block-rest c.args.lines.now.number c.loop.text.items c.loop.lines.number c.number.result (unread c.args.lines.now.input (g.S.Source.left c.args.source.now))
     (unread c.loop.lines.input (g.S.Source.left c.loop.source)) (unread c.next_line.new.self.input (g.S.Source.left c.next_line.new.source)) c.next_line.new.self.line
     c.loop.invariant.block c.in-Ok.ensures.line c.in-Ok.ensures.fits (c.number.ensures ∙ c.in-Ok.ensures.number) other long
+
+pub returns-then-eq-clause-source : goal.returns-then-eq-clause-source
+returns-then-eq-clause-source g c = draws_well tt (draws_both c.loop.invariant.source c.in-Ok.ensures.source)
+
+pub returns-then-len-line-ge-BLOCK_MOST-clause-source : goal.returns-then-len-line-ge-BLOCK_MOST-clause-source
+returns-then-len-line-ge-BLOCK_MOST-clause-source g c = draws_well tt (draws_both c.loop.invariant.source c.in-Ok.ensures.source)
+
+pub returns-then-ends_with_cr-clause-source : goal.returns-then-ends_with_cr-clause-source
+returns-then-ends_with_cr-clause-source g c = draws_well tt (draws_both c.loop.invariant.source c.in-Ok.ensures.source)
+
+pub returns-clause-source : goal.returns-clause-source
+returns-clause-source g c = draws_well tt c.loop.invariant.source
+
+pub returns-then-is_err-clause-source : goal.returns-then-is_err-clause-source
+returns-then-is_err-clause-source g c = draws_well tt (draws_both c.loop.invariant.source c.in-Ok.ensures.source)
+
+pub returns-then-is_err-clause-tells : goal.returns-then-is_err-clause-tells
+returns-then-is_err-clause-tells g c = memory-refuses (block_part [] c.args.lines.now.number) (unread c.args.lines.now.input (g.S.Source.left c.args.source.now))

@@ -1,6 +1,7 @@
 -- The lines so far are the block's text.
-use Rattle.std.proofs.Common.{◌≡◌, ◌≤◌, vec_len}
-use Rattle.kn_journal.specs.Reading.{IsBalanced, unread}
+use Rattle.std.proofs.Common.{◌≤◌, None, vec_len}
+use Rattle.kn_journal.specs.Drawing.{Draws}
+use Rattle.kn_journal.specs.Reading.{TakesPart, unread}
 use Rattle.kn_journal.proofs.Blocks.{IsBlock}
 use Rattle.kn_journal.proofs.ReadBack.{KeepsBlock}
 use Rattle.kn_journal.proofs.setup.read_block.Given as goal
@@ -11,8 +12,5 @@ invariant-loop g l = record {
   kept : KeepsBlock l.text.items;
   turns : l.counter ≤ vec_len l.text;
   short : vec_len l.text ≤ 1048576;
-  grows : l.fn.lines.input.taken ≤ l.lines.input.taken;
-  balance : IsBalanced l.fn.lines.input l.lines.input (g.S.Source.given l.fn.source) (g.S.Source.given l.source);
-  never_falls : g.S.Faulty.faults l.fn.source ≤ g.S.Faulty.faults l.source;
-  apart : g.S.Source.apart l.source ≡ g.S.Source.apart l.fn.source;
+  source : Draws TakesPart None l.fn.lines.input l.lines.input g.S.Source g.S.Faulty l.fn.source l.source;
 }

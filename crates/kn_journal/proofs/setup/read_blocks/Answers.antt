@@ -4,6 +4,7 @@ use Rattle.kn_journal.specs.Reading.{unread}
 use Rattle.kn_config.specs.Config.{config_of}
 use Rattle.kn_journal.specs.Setup.{revision_part}
 use Rattle.kn_journal.specs.Telling.{config_error}
+use Rattle.kn_journal.proofs.Drawings.{config-no_fault, draws_both, draws_in, draws_more, draws_well}
 use Rattle.kn_journal.proofs.ReadBack.{blocks-kept}
 use Rattle.kn_journal.proofs.Setups.{blocks-bad, blocks-block_stops, blocks-no_block, blocks-no_word, blocks-revision_stops, blocks-tells, blocks-word_stops, config-bad}
 use Rattle.kn_journal.proofs.SetupRests.{blocks-block_rest, blocks-config_rest, blocks-word_rest, config-on_rest, config-rest}
@@ -13,21 +14,23 @@ pub returns-in-Err-clause-tells : goal.returns-in-Err-clause-tells
 returns-in-Err-clause-tells g c =
     blocks-no_word c.args.line.items c.args.slots c.args.lines.now.number (unread c.args.lines.now.input (g.S.Source.left c.args.source.now)) c.in-Err.e c.in-Err.ensures.tells
 
-pub returns-in-Err-clause-amid : goal.returns-in-Err-clause-amid
-returns-in-Err-clause-amid g c h =
+pub returns-in-Err-clause-source : goal.returns-in-Err-clause-source
+returns-in-Err-clause-source g c =
+    draws_in c.in-Err.ensures.source (λ h.
     blocks-word_stops c.args.line.items c.args.slots c.args.lines.now.number (unread c.args.lines.now.input (g.S.Source.left c.args.source.now))
-    (unread c.read_word.new.lines.input (g.S.Source.left c.read_word.new.source)) (c.in-Err.ensures.amid cc)
+    (unread c.read_word.new.lines.input (g.S.Source.left c.read_word.new.source)) h)
 
 pub returns-in-Err-read_block-clause-tells : goal.returns-in-Err-read_block-clause-tells
 returns-in-Err-read_block-clause-tells g c =
     blocks-no_block c.args.line.items c.args.slots c.args.lines.now.number c.read_word.new.lines.number (unread c.args.lines.now.input (g.S.Source.left c.args.source.now))
     (unread c.read_word.new.lines.input (g.S.Source.left c.read_word.new.source)) c.in-Ok.field-0 c.in-Err-read_block.e c.in-Ok.ensures.tells c.in-Err-read_block.ensures.tells
 
-pub returns-in-Err-read_block-clause-amid : goal.returns-in-Err-read_block-clause-amid
-returns-in-Err-read_block-clause-amid g c h =
+pub returns-in-Err-read_block-clause-source : goal.returns-in-Err-read_block-clause-source
+returns-in-Err-read_block-clause-source g c =
+    draws_more c.in-Ok.ensures.source c.in-Err-read_block.ensures.source (λ h.
     blocks-block_stops c.args.line.items c.args.slots c.args.lines.now.number c.read_word.new.lines.number (unread c.args.lines.now.input (g.S.Source.left c.args.source.now))
     (unread c.read_word.new.lines.input (g.S.Source.left c.read_word.new.source)) (unread c.read_block.new.lines.input (g.S.Source.left c.read_block.new.source))
-    c.in-Ok.field-0 c.in-Ok.ensures.tells (c.in-Err-read_block.ensures.amid cc)
+    c.in-Ok.field-0 c.in-Ok.ensures.tells (c.in-Err-read_block.ensures.source.amid h))
 
 pub returns-in-Err-read-clause-tells : goal.returns-in-Err-read-clause-tells
 returns-in-Err-read-clause-tells g c =
@@ -54,13 +57,14 @@ returns-clause-tells g c =
     c.in-Ok.field-0 c.in-Ok-read_block.block c.in-Ok-read.config (Err c.in-Err-read_revision.e) c.in-Ok.ensures.tells c.in-Ok-read_block.ensures.tells (rw c.bytes.ensures at c.in-Ok-read.ensures.gives)
     c.in-Err-read_revision.ensures.tells
 
-pub returns-clause-amid : goal.returns-clause-amid
-returns-clause-amid g c h =
+pub returns-clause-source : goal.returns-clause-source
+returns-clause-source g c =
+    draws_more (draws_both c.in-Ok.ensures.source c.in-Ok-read_block.ensures.source) c.in-Err-read_revision.ensures.source (λ h.
     blocks-revision_stops c.args.line.items c.args.slots c.args.lines.now.number c.read_word.new.lines.number c.read_block.new.lines.number
     (unread c.args.lines.now.input (g.S.Source.left c.args.source.now)) (unread c.read_word.new.lines.input (g.S.Source.left c.read_word.new.source))
     (unread c.read_block.new.lines.input (g.S.Source.left c.read_block.new.source)) (unread c.read_revision.new.lines.input (g.S.Source.left c.read_revision.new.source))
     c.in-Ok.field-0 c.in-Ok-read_block.block c.in-Ok-read.config c.in-Ok.ensures.tells c.in-Ok-read_block.ensures.tells (rw c.bytes.ensures at c.in-Ok-read.ensures.gives)
-    (c.in-Err-read_revision.ensures.amid cc)
+    (c.in-Err-read_revision.ensures.source.amid h))
 
 pub returns-in-Ok-read_revision-clause-kept : goal.returns-in-Ok-read_revision-clause-kept
 returns-in-Ok-read_revision-clause-kept g c =
@@ -95,3 +99,11 @@ returns-clause-rest g c is =
     (unread c.read_word.new.lines.input (g.S.Source.left c.read_word.new.source)) after new c.in-Ok.field-0 block c.in-Ok.ensures.tells c.in-Ok-read_block.ensures.tells
     (config-on_rest k c.in-Err-read_revision.e c.in-Ok-read.config (config_of block) (λ ls config. revision_part c.args.line.items block c.args.slots config k ls) after new
     (rw c.bytes.ensures at c.in-Ok-read.ensures.gives) (c.in-Err-read_revision.ensures.rest is))
+
+pub returns-in-Err-read-clause-source : goal.returns-in-Err-read-clause-source
+returns-in-Err-read-clause-source g c =
+    draws_well (rw c.config_error.ensures (config-no_fault c.number.result c.in-Err-read.why)) (draws_both c.in-Ok.ensures.source c.in-Ok-read_block.ensures.source)
+
+pub returns-in-Ok-read_revision-clause-source : goal.returns-in-Ok-read_revision-clause-source
+returns-in-Ok-read_revision-clause-source g c =
+    draws_well tt (draws_both (draws_both c.in-Ok.ensures.source c.in-Ok-read_block.ensures.source) c.in-Ok-read_revision.ensures.source)

@@ -1,9 +1,12 @@
 -- The word, the block and the Revision, or where they ended.
-use Rattle.std.specs.Prelude.{Ok, Err}
+use Rattle.std.proofs.Common.{subst, sym}
+use Rattle.std.specs.Prelude.{Ok, Err, Some}
+use Rattle.kn_journal.specs.declared.error.JournalError.{JournalError}
 use Rattle.kn_journal.specs.Reading.{unread}
 use Rattle.kn_journal.specs.Setup.{blocks_text}
 use Rattle.kn_journal.specs.Telling.{revision_error}
 use Rattle.kn_revision.specs.Revision.{spec_of}
+use Rattle.kn_journal.proofs.Drawings.{IsNoFault, draws_both, draws_in, draws_more, draws_well, revision-no_fault}
 use Rattle.kn_journal.proofs.ReadBack.{revision-kept}
 use Rattle.kn_journal.proofs.Setups.{revision-block_stops, revision-no_block, revision-no_word, revision-tells, revision-word_stops, spec-bad, spec-good}
 use Rattle.kn_journal.proofs.SetupRests.{revision-block_rest, revision-spec_rest, revision-word_rest, spec-rest}
@@ -14,21 +17,23 @@ returns-in-Err-clause-tells g c =
     revision-no_word c.args.line.items c.args.block.now c.args.slots c.args.config.now c.args.lines.now.number (unread c.args.lines.now.input (g.S.Source.left c.args.source.now))
     c.in-Err.e c.in-Err.ensures.tells
 
-pub returns-in-Err-clause-amid : goal.returns-in-Err-clause-amid
-returns-in-Err-clause-amid g c h =
+pub returns-in-Err-clause-source : goal.returns-in-Err-clause-source
+returns-in-Err-clause-source g c =
+    draws_in c.in-Err.ensures.source (λ h.
     revision-word_stops c.args.line.items c.args.block.now c.args.slots c.args.config.now c.args.lines.now.number (unread c.args.lines.now.input (g.S.Source.left c.args.source.now))
-    (unread c.read_word.new.lines.input (g.S.Source.left c.read_word.new.source)) (c.in-Err.ensures.amid cc)
+    (unread c.read_word.new.lines.input (g.S.Source.left c.read_word.new.source)) h)
 
 pub returns-in-Err-read_block-clause-tells : goal.returns-in-Err-read_block-clause-tells
 returns-in-Err-read_block-clause-tells g c =
     revision-no_block c.args.line.items c.args.block.now c.args.slots c.args.config.now c.args.lines.now.number c.read_word.new.lines.number (unread c.args.lines.now.input (g.S.Source.left c.args.source.now))
     (unread c.read_word.new.lines.input (g.S.Source.left c.read_word.new.source)) c.in-Ok.field-0 c.in-Err-read_block.e c.in-Ok.ensures.tells c.in-Err-read_block.ensures.tells
 
-pub returns-in-Err-read_block-clause-amid : goal.returns-in-Err-read_block-clause-amid
-returns-in-Err-read_block-clause-amid g c h =
+pub returns-in-Err-read_block-clause-source : goal.returns-in-Err-read_block-clause-source
+returns-in-Err-read_block-clause-source g c =
+    draws_more c.in-Ok.ensures.source c.in-Err-read_block.ensures.source (λ h.
     revision-block_stops c.args.line.items c.args.block.now c.args.slots c.args.config.now c.args.lines.now.number c.read_word.new.lines.number (unread c.args.lines.now.input (g.S.Source.left c.args.source.now))
     (unread c.read_word.new.lines.input (g.S.Source.left c.read_word.new.source)) (unread c.read_block.new.lines.input (g.S.Source.left c.read_block.new.source))
-    c.in-Ok.field-0 c.in-Ok.ensures.tells (c.in-Err-read_block.ensures.amid cc)
+    c.in-Ok.field-0 c.in-Ok.ensures.tells (c.in-Err-read_block.ensures.source.amid h))
 
 pub returns-in-Err-resolve-clause-tells : goal.returns-in-Err-resolve-clause-tells
 returns-in-Err-resolve-clause-tells g c =
@@ -74,3 +79,14 @@ returns-in-Err-resolve-clause-rest g c =
     rw (c.revision_error.ensures, c.number.ensures) (λ is. revision-spec_rest c.args.line.items c.args.block.now c.args.slots c.args.config.now c.args.lines.now.number c.read_word.new.lines.number k (revision_error k c.in-Err-resolve.why)
     (unread c.args.lines.now.input (g.S.Source.left c.args.source.now)) (unread c.read_word.new.lines.input (g.S.Source.left c.read_word.new.source)) new c.in-Ok.field-0 text c.in-Ok.ensures.tells c.in-Ok-read_block.ensures.tells
     (spec-rest k (blocks_text c.args.line.items c.args.block.now text) c.in-Err-resolve.why (spec_of c.args.config.now text c.args.slots) new (rw c.bytes.ensures at c.in-Err-resolve.ensures.gives) is))
+
+pub returns-in-Err-resolve-clause-source : goal.returns-in-Err-resolve-clause-source
+returns-in-Err-resolve-clause-source g c =
+    draws_well (rw c.revision_error.ensures (revision-no_fault c.number.result c.in-Err-resolve.why)) (draws_both c.in-Ok.ensures.source c.in-Ok-read_block.ensures.source)
+
+pub returns-in-Ok-with_blocks-clause-source : goal.returns-in-Ok-with_blocks-clause-source
+returns-in-Ok-with_blocks-clause-source g c = draws_well tt (draws_both c.in-Ok.ensures.source c.in-Ok-read_block.ensures.source)
+
+pub returns-clause-source : goal.returns-clause-source
+returns-clause-source g c =
+    draws_well (subst (λ (x : JournalError). IsNoFault (Some x)) (sym c.in-Err-with_blocks.ensures.err) tt) (draws_both c.in-Ok.ensures.source c.in-Ok-read_block.ensures.source)

@@ -2,8 +2,9 @@
 use Rattle.std.proofs.Common.{◌≡◌, ◌∙◌, ap}
 use Rattle.kn_journal.specs.Reading.{unread}
 use Rattle.kn_journal.specs.Telling.{LinesState}
-use Rattle.kn_journal.specs.Journal.{version_by}
+use Rattle.kn_journal.specs.Journal.{first_in, version_by}
 use Rattle.kn_journal.proofs.SetupRests.{version-rest}
+use Rattle.kn_journal.proofs.Drawings.{draws_well, judged-no_fault}
 use Rattle.kn_journal.proofs.Tellings.{first-refuses, first-tells}
 use Rattle.kn_journal.proofs.parts.Lines.first.Goals as goal
 use Rattle.kn_journal.proofs.parts.Lines.first.Goals.{in-Ok, in-Err}
@@ -32,4 +33,12 @@ returns-clause-rest g c =
           rw w.result-is (version-rest (version_by c.args.first) c.args.self.now.number c.next_line.new.self.number old mid c.next_line.new.self.line w.judge_first.result w.in-Ok.ensures.line w.in-Ok.ensures.fits w.in-Ok.ensures.number
           (rw (line, number) at w.judge_first.ensures.judges))
       | in-Err w ↦ rw w.result-is (λ is. absurd (w.in-Err.ensures.short is))
+    ]
+
+pub returns-clause-source : goal.returns-clause-source
+returns-clause-source g c =
+    elim c.match-next_line.branch [
+      | in-Ok w ↦
+          rw w.result-is (draws_well (judged-no_fault (first_in (version_by c.args.first)) c.self.inside.number w.deref.result.now w.judge_first.result w.judge_first.ensures.judges) w.in-Ok.ensures.source)
+      | in-Err w ↦ rw w.result-is w.in-Err.ensures.source
     ]

@@ -1,11 +1,13 @@
 -- An event, `end` and what follows it, or no line.
-use Rattle.std.proofs.Common.{◌≡◌, ◌∙◌, true, false, ap, refl, arith, inr}
+use Rattle.std.proofs.Common.{◌≡◌, ◌∙◌, Some, true, false, ap, refl, subst, arith, inl, inr}
 use Rattle.std.specs.Prelude.{codes}
 use Rattle.std.specs.Str.{bytes_eq}
 use Rattle.std.proofs.lemmas.Grind.{common_steps}
 use Rattle.kn_journal.specs.Reading.{unread}
 use Rattle.kn_journal.specs.Telling.{LinesState}
 use Rattle.kn_journal.proofs.Rests.{ended-rest, event-rest}
+use Rattle.kn_journal.specs.declared.error.JournalError.{JournalError}
+use Rattle.kn_journal.proofs.Drawings.{IsNoFault, cause-no_fault, draws_ahead, draws_both, draws_in, draws_more, draws_well}
 use Rattle.kn_journal.proofs.Stops.{end-stops}
 use Rattle.kn_journal.proofs.Tellings.{next-ended, next-event, next-lacks, next-more, next-refused}
 use Rattle.kn_journal.proofs.parts.Lines.next.Goals as goal
@@ -33,14 +35,6 @@ returns-in-Err-end-clause-tells g c =
     next-more c.args.version c.args.last c.args.self.now.number c.next_line.new.self.number (unread c.args.self.now.input (g.S.Source.left c.args.source.now))
     (unread c.next_line.new.self.input (g.S.Source.left c.next_line.new.source)) c.next_line.new.self.line c.in-Err-end.e
     (rw same at c.in-Ok.ensures.line) c.in-Ok.ensures.fits (rw same at c.in-Ok.ensures.number) ends c.in-Err-end.ensures.tells
-
-pub returns-in-Err-end-clause-amid : goal.returns-in-Err-end-clause-amid
-returns-in-Err-end-clause-amid g c h =
-    let same : c.next_ahead.new.self ≡ c.args.self.now = c.in-None.ensures.same refl in
-    let line : c.as_slice.result.now ≡ c.next_line.new.self.line = c.as_slice.ensures.value ∙ ap (λ (r : LinesState). r.line) c.self.view_is in
-    let ends : bytes_eq c.next_line.new.self.line (codes "end") ≡ true = grind (arith, common_steps, line) in
-    inr (end-stops (unread c.args.self.now.input (g.S.Source.left c.args.source.now)) (unread c.next_line.new.self.input (g.S.Source.left c.next_line.new.source))
-    (unread c.end.new.self.input (g.S.Source.left c.end.new.source)) c.next_line.new.self.line (rw same at c.in-Ok.ensures.line) ends (c.in-Err-end.ensures.amid cc))
 
 pub returns-clause-tells : goal.returns-clause-tells
 returns-clause-tells g c =
@@ -86,4 +80,65 @@ returns-clause-rest g c =
       | in-Err-judge_event w ↦
           rw w.result-is (λ is. event-rest c.args.version c.args.last c.args.self.now.number c.next_line.new.self.number old mid c.next_line.new.self.line w.in-Err-judge_event.e
           (rw same at c.in-Ok.ensures.line) c.in-Ok.ensures.fits (rw same at c.in-Ok.ensures.number) other (rw (line, number) at w.in-Err-judge_event.ensures.err))
+    ]
+
+pub returns-in-Err-end-clause-source : goal.returns-in-Err-end-clause-source
+returns-in-Err-end-clause-source g c =
+    let same : c.next_ahead.new.self ≡ c.args.self.now = c.in-None.ensures.same refl in
+    let line : c.as_slice.result.now ≡ c.next_line.new.self.line = c.as_slice.ensures.value ∙ ap (λ (r : LinesState). r.line) c.self.view_is in
+    let ends : bytes_eq c.next_line.new.self.line (codes "end") ≡ true = grind (arith, common_steps, line) in
+    draws_more (rw same at c.in-Ok.ensures.source) c.in-Err-end.ensures.source
+    (λ h. inr (end-stops (unread c.args.self.now.input (g.S.Source.left c.args.source.now)) (unread c.next_line.new.self.input (g.S.Source.left c.next_line.new.source))
+    (unread c.end.new.self.input (g.S.Source.left c.end.new.source)) c.next_line.new.self.line (rw same at c.in-Ok.ensures.line) ends (c.in-Err-end.ensures.source.amid h)))
+
+pub returns-in-Some-clause-source : goal.returns-in-Some-clause-source
+returns-in-Some-clause-source g c =
+    draws_ahead c.args.self.now.input c.next_ahead.new.self.input c.args.source.now (omega (arith, c.in-Some.ensures.bytes)) c.next_ahead.ensures.balance
+
+pub returns-in-Err-clause-source : goal.returns-in-Err-clause-source
+returns-in-Err-clause-source g c =
+    let same : c.next_ahead.new.self ≡ c.args.self.now = c.in-None.ensures.same refl in
+    draws_in (rw same at c.in-Err.ensures.source) (λ part. inl part)
+
+pub returns-in-Ok-end-clause-source : goal.returns-in-Ok-end-clause-source
+returns-in-Ok-end-clause-source g c =
+    let same : c.next_ahead.new.self ≡ c.args.self.now = c.in-None.ensures.same refl in
+    draws_well tt (draws_both (rw same at c.in-Ok.ensures.source) c.in-Ok-end.ensures.source)
+
+pub returns-clause-source : goal.returns-clause-source
+returns-clause-source g c =
+    let same : c.next_ahead.new.self ≡ c.args.self.now = c.in-None.ensures.same refl in
+    elim c.match-judge_event.branch [
+      | in-Ok-judge_event w ↦ rw w.result-is (draws_well tt (rw same at c.in-Ok.ensures.source))
+      | in-Err-judge_event w ↦
+          let why = w.in-Err-judge_event.ensures.err in
+          rw w.result-is (draws_well (subst (λ (x : JournalError). IsNoFault (Some x)) why.1 (cause-no_fault why.0)) (rw same at c.in-Ok.ensures.source))
+    ]
+
+pub returns-clause-order : goal.returns-clause-order
+returns-clause-order g c =
+    elim c.match-judge_event.branch [
+      | in-Ok-judge_event w ↦ rw w.result-is w.in-Ok-judge_event.ensures.order
+      | in-Err-judge_event w ↦ rw w.result-is tt
+    ]
+
+pub returns-clause-times : goal.returns-clause-times
+returns-clause-times g c =
+    elim c.match-judge_event.branch [
+      | in-Ok-judge_event w ↦ rw w.result-is w.in-Ok-judge_event.ensures.times
+      | in-Err-judge_event w ↦ rw w.result-is tt
+    ]
+
+pub returns-clause-range : goal.returns-clause-range
+returns-clause-range g c =
+    elim c.match-judge_event.branch [
+      | in-Ok-judge_event w ↦ rw w.result-is w.in-Ok-judge_event.ensures.range
+      | in-Err-judge_event w ↦ rw w.result-is tt
+    ]
+
+pub returns-clause-version : goal.returns-clause-version
+returns-clause-version g c =
+    elim c.match-judge_event.branch [
+      | in-Ok-judge_event w ↦ rw w.result-is w.in-Ok-judge_event.ensures.version
+      | in-Err-judge_event w ↦ rw w.result-is tt
     ]

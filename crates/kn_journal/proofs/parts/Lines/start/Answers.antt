@@ -2,7 +2,9 @@
 use Rattle.std.proofs.Common.{◌≡◌, ◌∙◌, ap}
 use Rattle.kn_journal.specs.Reading.{unread}
 use Rattle.kn_journal.specs.Telling.{LinesState}
+use Rattle.kn_journal.specs.Journal.{start_line_in}
 use Rattle.kn_journal.proofs.Rests.{start-rest}
+use Rattle.kn_journal.proofs.Drawings.{draws_well, judged-no_fault}
 use Rattle.kn_journal.proofs.Tellings.{start-refuses, start-tells}
 use Rattle.kn_journal.proofs.parts.Lines.start.Goals as goal
 use Rattle.kn_journal.proofs.parts.Lines.start.Goals.{in-Ok, in-Err}
@@ -31,4 +33,12 @@ returns-clause-rest g c =
           rw w.result-is (start-rest c.args.self.now.number c.next_line.new.self.number old mid c.next_line.new.self.line w.judge_start.result w.in-Ok.ensures.line w.in-Ok.ensures.fits w.in-Ok.ensures.number
           (rw (line, number) at w.judge_start.ensures.judges))
       | in-Err w ↦ rw w.result-is (λ is. absurd (w.in-Err.ensures.short is))
+    ]
+
+pub returns-clause-source : goal.returns-clause-source
+returns-clause-source g c =
+    elim c.match-next_line.branch [
+      | in-Ok w ↦
+          rw w.result-is (draws_well (judged-no_fault start_line_in c.self.inside.number w.deref.result.now w.judge_start.result w.judge_start.ensures.judges) w.in-Ok.ensures.source)
+      | in-Err w ↦ rw w.result-is w.in-Err.ensures.source
     ]

@@ -15,7 +15,7 @@ returns-in-Ok-clause-tells g c h =
 pub returns-in-Err-clause-amid : goal.returns-in-Err-clause-amid
 returns-in-Err-clause-amid g c h k =
     let new = unread c.read_opening.new.lines.input (g.S.Source.left c.read_opening.new.source) in
-    subst (λ (r : ReaderState). StopsAmid (opening_part version_of r.number) (unread r.input (g.S.Source.left c.args.source.now)) new) c.self.view_is (c.in-Err.ensures.amid cc)
+    subst (λ (r : ReaderState). StopsAmid (opening_part version_of r.number) (unread r.input (g.S.Source.left c.args.source.now)) new) c.self.view_is (c.in-Err.ensures.source.amid cc)
 
 pub returns-in-Err-clause-rest : goal.returns-in-Err-clause-rest
 returns-in-Err-clause-rest g c h is =

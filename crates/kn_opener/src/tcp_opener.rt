@@ -1,0 +1,124 @@
+//! What listens for clients, and reaches pods over TCP.
+ghost use Rattle.std.specs.Prelude.{◌≡◌, ◌≤◌, [], All, OnOk, length};
+ghost use Rattle.kn_serve.specs.Opening.{IsEmptyWork};
+
+use kn_event::{Items, Memory, Text};
+use kn_io::Faulty;
+use kn_serve::{OpenError, Opener, Plan, Slot, Work};
+use kn_tcp::{TcpCaller, TcpLink};
+use std::alloc::Global;
+use std::net::{Net, TcpListener, TcpStream};
+use std::str;
+
+/// An opener that listens on the plan's address, with all callers on the one socket. It tells no content.
+#[derive(Drop)]
+pub struct TcpOpener<'a, N> {
+    net: &'a N,
+    faults: u64,
+}
+
+impl<'a, N: Net<Listener = TcpListener, Stream = TcpStream>> TcpOpener<'a, N> {
+    /// An opener without faults so far.
+    pub fn new(net: &'a N) -> TcpOpener<'a, N>
+        ensures { ⟦<TcpOpener<'a, N> as Faulty>⟧.faults result ≡ 0 }
+    {
+        TcpOpener { net, faults: 0 }
+    }
+
+    /// The socket that is listened on.
+    fn listen(&self, plan: &Plan) -> Option<TcpListener> {
+        let address = str::from_utf8(plan.listen.bytes()).ok()?;
+        TcpListener::bind(self.net, address).ok()
+    }
+}
+
+/// The texts, copied.
+fn copies(alloc: Global, texts: &Items<Text>) -> Result<Items<Text>, Memory> {
+    let mut copied = Vec::new(alloc);
+    for text in texts.items() {
+        if copied.push(text.copy(alloc)?).is_err() {
+            return Err(Memory);
+        }
+    }
+    Ok(Items::new(copied))
+}
+
+impl<N> Faulty for TcpOpener<'_, N> {
+    ghost faults = { λ o. o.faults };
+
+    fn faults(&self) -> u64 {
+        self.faults
+    }
+}
+
+impl<'a, N: Net<Listener = TcpListener, Stream = TcpStream>> Opener<TcpCaller, TcpLink<&'a N>>
+    for TcpOpener<'a, N> {
+    fn open(
+        &mut self,
+        alloc: Global,
+        plan: &Plan,
+        slots: &mut Vec<Slot<TcpCaller, TcpLink<&'a N>>>,
+        keeper: &mut Option<TcpLink<&'a N>>,
+    ) -> Result<(), OpenError> {
+        let Some(listener) = self.listen(plan) else {
+            self.faults = self.faults.saturating_add(1);
+            return Err(OpenError::Failed);
+        };
+        match fill(alloc, self.net, &listener, plan, slots) {
+            Ok(link) => {
+                *keeper = Some(link);
+                Ok(())
+            }
+            Err(error) => {
+                if error == OpenError::Failed {
+                    self.faults = self.faults.saturating_add(1);
+                }
+                slots.clear();
+                Err(error)
+            }
+        }
+    }
+}
+
+/// Makes the slots, and answers the keeper.
+fn fill<'a, N: Net<Listener = TcpListener, Stream = TcpStream>>(
+    alloc: Global,
+    net: &'a N,
+    listener: &TcpListener,
+    plan: &Plan,
+    slots: &mut Vec<Slot<TcpCaller, TcpLink<&'a N>>>,
+) -> Result<TcpLink<&'a N>, OpenError>
+    requires { slots.old.items ≡ [] }
+    ensures made { OnOk result (length slots.new.items ≡ plan.now.slots) }
+    ensures works { OnOk result (All (λ s. IsEmptyWork s.work) slots.new.items) }
+{
+    for _ in 0..plan.slots {
+        let slot = Slot {
+            caller: caller(listener)?,
+            link: link(alloc, net, plan)?,
+            work: Work::new(),
+        };
+        if slots.push(slot).is_err() {
+            return Err(OpenError::Memory);
+        }
+    }
+    link(alloc, net, plan)
+}
+
+fn caller(listener: &TcpListener) -> Result<TcpCaller, OpenError> {
+    match listener.try_clone() {
+        Ok(listener) => Ok(TcpCaller::new(listener)),
+        Err(_) => Err(OpenError::Failed),
+    }
+}
+
+fn link<'a, N: Net<Listener = TcpListener, Stream = TcpStream>>(
+    alloc: Global,
+    net: &'a N,
+    plan: &Plan,
+) -> Result<TcpLink<&'a N>, OpenError> {
+    match copies(alloc, &plan.pods) {
+        Ok(addresses) => Ok(TcpLink::new(net, addresses)),
+        Err(Memory) => Err(OpenError::Memory),
+    }
+}

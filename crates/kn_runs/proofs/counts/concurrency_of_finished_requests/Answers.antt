@@ -1,5 +1,0 @@
-use Rattle.kn_runs.proofs.Counting.{concurrency-finished-run}
-use Rattle.kn_runs.proofs.counts.concurrency_of_finished_requests.Goals as goal
-
-pub returns : goal.returns
-returns c = concurrency-finished-run c.trace_laws.ensures.append

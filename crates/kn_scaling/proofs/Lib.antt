@@ -1,4 +1,0 @@
-pub mod Samples
-pub mod Recent
-pub mod Runs
-pub mod Quotients

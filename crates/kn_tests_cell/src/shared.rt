@@ -1,0 +1,101 @@
+//! What the tests share. What calls the cell stands in small functions that say no more than that a pass still has its
+//! numbers, so that a test's proof sees nothing of what was seen. They test when they run what a call wants, and are
+//! none where it isn't so.
+
+ghost use Rattle.std.specs.Prelude.{◌≡◌, ◌+◌, ◌≤◌, true, IfSome};
+ghost use Rattle.kn_core.specs.Steps.{IsWithinRange};
+ghost use Rattle.kn_cell.specs.History.{MayCome};
+ghost use Rattle.kn_tests_cell.specs.Numbers.{IsFirst, IsStill};
+
+use kn_cell::{Full, History, Pass, RevisionCell};
+use kn_core::Revision;
+use kn_event::{Act, EntryLog, Slots, Spec, Told};
+use std::alloc::Global;
+use std::sync::Wait;
+
+/// A new fixed revision of one pod, which starts, with so many seats and a breaker of this depth and maximum.
+pub fn one_pod(alloc: Global, seats: u64, breaker: u64) -> Option<Revision> {
+    if seats > 1000 || breaker < 1 || breaker > 1000 {
+        return None;
+    }
+    let slots = Slots {
+        depth: breaker,
+        max: breaker,
+        seed: 0,
+    };
+    let spec = Spec::fixed(alloc, seats, 1, 300, slots).ok()?;
+    let mut log = EntryLog::new(alloc).ok()?;
+    Revision::new(alloc, spec, 0, &mut log).ok()
+}
+
+/// A cell over such a revision, and the first of so many passes.
+pub fn open(
+    alloc: Global,
+    seats: u64,
+    breaker: u64,
+    room: u64,
+    passes: u64,
+) -> Option<(RevisionCell, Pass)>
+    ensures { IfSome result (λ r. IsFirst r.0 passes r.1) }
+{
+    let revision = one_pod(alloc, seats, breaker)?;
+    if revision.live() > 0 || revision.events() >= 1 << 53 {
+        return None;
+    }
+    if room > 1_000_000 || passes < 1 || passes > 1000 {
+        return None;
+    }
+    RevisionCell::new(alloc, revision, room, passes).ok()
+}
+
+/// What is left of a revision, in numbers, so that no test's proof has to see one.
+#[derive(Clone, Copy, Debug, PartialEq)]
+pub struct Left {
+    pub now: u64,
+    pub arrivals: u64,
+    pub live: u64,
+}
+
+pub fn left_of(revision: &Revision) -> Left {
+    Left {
+        now: revision.now(),
+        arrivals: revision.arrivals(),
+        live: revision.live(),
+    }
+}
+
+pub fn close(cell: RevisionCell, pass: Pass) -> (Left, History)
+    requires cell { pass.cell ≡ cell }
+    requires all { 1 + pass.free + pass.back ≡ pass.passes }
+{
+    let (revision, history) = cell.close(pass);
+    (left_of(&revision), history)
+}
+
+/// Whether the act may come to a cell, and to a revision.
+pub fn may_come(act: &Act) -> bool
+    ensures cell { result ≡ true → MayCome act.now }
+    ensures revision { result ≡ true → IsWithinRange act.now }
+{
+    match *act {
+        Act::Limit(_, limit) => limit <= 1000,
+        Act::Lost(_) => false,
+        _ => true,
+    }
+}
+
+pub fn on<R: Wait>(
+    rt: &R,
+    cell: &RevisionCell,
+    pass: &mut Pass,
+    act: Act,
+    time: u64,
+) -> Option<Result<Told, Full>>
+    requires { pass.old.cell ≡ cell.now }
+    ensures { IsStill pass.old pass.new }
+{
+    if !may_come(&act) {
+        return None;
+    }
+    Some(cell.on(rt, pass, act, time))
+}

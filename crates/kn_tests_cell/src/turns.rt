@@ -1,0 +1,230 @@
+//! Two passes by turns on one thread.
+ghost use Rattle.std.specs.Prelude.{◌≡◌};
+ghost use Rattle.kn_tests_cell.specs.Numbers.{IsStill};
+
+use crate::shared::{Left, close, may_come, on, open};
+use anyhow::bail;
+use kn_case::case;
+use kn_cell::{Full, History, Pass, Past, RevisionCell, TryError};
+use kn_event::{Act, Stand, Told};
+use std::alloc::{AllocError, Global};
+use std::sync::Wait;
+
+fn try_on(
+    cell: &RevisionCell,
+    pass: &mut Pass,
+    act: Act,
+    time: u64,
+) -> Option<Result<Told, TryError>>
+    requires { pass.old.cell ≡ cell.now }
+    ensures { IsStill pass.old pass.new }
+{
+    if !may_come(&act) {
+        return None;
+    }
+    Some(cell.try_on(pass, act, time))
+}
+
+fn look<R: Wait>(rt: &R, cell: &RevisionCell, pass: &mut Pass, request: u64) -> Stand
+    requires { pass.old.cell ≡ cell.now }
+    ensures { IsStill pass.old pass.new }
+{
+    cell.look(rt, pass, request)
+}
+
+fn proxied<R: Wait>(rt: &R, cell: &RevisionCell, pass: &mut Pass, request: u64) -> bool
+    requires { pass.old.cell ≡ cell.now }
+    ensures { IsStill pass.old pass.new }
+{
+    cell.proxied(rt, pass, request)
+}
+
+fn next_starting<R: Wait>(rt: &R, cell: &RevisionCell, pass: &mut Pass, from: u64) -> Option<u64>
+    requires { pass.old.cell ≡ cell.now }
+    ensures { IsStill pass.old pass.new }
+{
+    cell.next_starting(rt, pass, from)
+}
+
+fn rest<R: Wait>(rt: &R, cell: &RevisionCell, pass: &mut Pass)
+    requires { pass.old.cell ≡ cell.now }
+    ensures { IsStill pass.old pass.new }
+{
+    cell.rest(rt, pass);
+}
+
+/// A call, and what it is to answer.
+#[derive(Clone, Copy)]
+enum Call {
+    On(Act, u64, Result<Told, Full>),
+    Try(Act, u64, Result<Told, TryError>),
+    Look(u64, Stand),
+    Proxied(u64, bool),
+    NextStarting(u64, Option<u64>),
+    Rest,
+}
+
+/// Makes the call, and says whether it answers so.
+fn make<R: Wait>(rt: &R, cell: &RevisionCell, pass: &mut Pass, call: &Call) -> bool
+    requires { pass.old.cell ≡ cell.now }
+    ensures { IsStill pass.old pass.new }
+{
+    match *call {
+        Call::On(act, time, told) => on(rt, cell, pass, act, time) == Some(told),
+        Call::Try(act, time, told) => try_on(cell, pass, act, time) == Some(told),
+        Call::Look(request, stand) => look(rt, cell, pass, request) == stand,
+        Call::Proxied(request, is) => proxied(rt, cell, pass, request) == is,
+        Call::NextStarting(from, pod) => next_starting(rt, cell, pass, from) == pod,
+        Call::Rest => {
+            rest(rt, cell, pass);
+            true
+        }
+    }
+}
+
+/// One of two passes makes the call.
+fn make_by<R: Wait>(
+    rt: &R,
+    cell: &RevisionCell,
+    first: &mut Pass,
+    second: &mut Pass,
+    by_second: bool,
+    call: &Call,
+) -> bool
+    requires first { first.old.cell ≡ cell.now }
+    requires second { second.old.cell ≡ cell.now }
+    ensures first { IsStill first.old first.new }
+    ensures second { IsStill second.old second.new }
+{
+    if by_second {
+        make(rt, cell, second, call)
+    } else {
+        make(rt, cell, first, call)
+    }
+}
+
+/// Two passes make the calls by turns. Answers the place of the first one that isn't answered as it is to be.
+fn make_all<R: Wait>(
+    rt: &R,
+    cell: &RevisionCell,
+    first: &mut Pass,
+    second: &mut Pass,
+    calls: &[Call],
+) -> Option<usize>
+    requires first { first.old.cell ≡ cell.now }
+    requires second { second.old.cell ≡ cell.now }
+    ensures first { IsStill first.old first.new }
+    ensures second { IsStill second.old second.new }
+{
+    for (i, call) in calls.iter().enumerate() {
+        if !make_by(rt, cell, first, second, i % 2 == 1, call) {
+            return Some(i);
+        }
+    }
+    None
+}
+
+/// What comes of calls: the place of the first one that wasn't answered as it is to be, and what is left.
+#[derive(Drop)]
+struct Outcome {
+    wrong: Option<usize>,
+    left: Left,
+    history: History,
+}
+
+/// What comes of calls that two passes make by turns to a cell over one pod of one seat.
+fn by_turns<R: Wait>(rt: &R, alloc: Global, room: u64, calls: &[Call]) -> Option<Outcome> {
+    let (cell, mut first) = open(alloc, 1, 1, room, 2)?;
+    let mut second = cell.split(&mut first);
+    let wrong = make_all(rt, &cell, &mut first, &mut second, calls);
+    cell.join(&mut first, second);
+    let (left, history) = close(cell, first);
+    Some(Outcome {
+        wrong,
+        left,
+        history,
+    })
+}
+
+/// No room is left for a request that comes, for it and its end, nor then for a tick, beside the request that runs.
+const ROOM: [Call; 14] = [
+    Call::NextStarting(0, Some(0)),
+    Call::On(Act::Ready(0), 0, Ok(Told::Passed)),
+    Call::NextStarting(0, None),
+    Call::On(Act::Arrive(10), 0, Ok(Told::Run(0, 0))),
+    Call::Proxied(0, true),
+    Call::On(
+        Act::Arrive(11),
+        0,
+        Err(Full {
+            room: 4,
+            used: 2,
+            live: 1,
+        }),
+    ),
+    Call::On(Act::Tick, 0, Ok(Told::Passed)),
+    Call::On(
+        Act::Tick,
+        0,
+        Err(Full {
+            room: 4,
+            used: 3,
+            live: 1,
+        }),
+    ),
+    Call::On(Act::Finish(0, true), 0, Ok(Told::Done(0))),
+    Call::Try(
+        Act::Tick,
+        0,
+        Err(TryError::Full(Full {
+            room: 4,
+            used: 4,
+            live: 0,
+        })),
+    ),
+    Call::Look(0, Stand::Ended),
+    Call::Look(5, Stand::Unknown),
+    Call::Proxied(0, false),
+    Call::Rest,
+];
+
+/// The room is for rows and for the ends of live requests.
+pub fn history_room<R: Print + AllocGlobal + Wait>(rt: &R) -> anyhow::Result<()> {
+    let Some(outcome) = by_turns(rt, rt.alloc(), 4, &ROOM) else {
+        bail!("memory is lacking");
+    };
+    case(rt, "no room, no wrong answer", &outcome.wrong, &None)?;
+    case(rt, "no room, rows", &outcome.history.items().len(), &4)?;
+    case(rt, "no room, live requests", &outcome.left.live, &0)?;
+    Ok(())
+}
+
+/// Neither pass is ever busy.
+const TURNS: [Call; 4] = [
+    Call::Try(Act::Ready(0), 10, Ok(Told::Passed)),
+    Call::Try(Act::Arrive(7), 5, Ok(Told::Run(0, 0))),
+    Call::Try(Act::Arrive(8), 11, Ok(Told::Held(1))),
+    Call::Try(Act::Pass, u64::MAX, Ok(Told::Passed)),
+];
+
+/// The passes and the times of the rows.
+fn passes_and_times(alloc: Global, rows: &[Past]) -> Result<Vec<(u64, u64)>, AllocError> {
+    let mut all = Vec::new(alloc);
+    for row in rows {
+        all.push((row.pass, row.event.time))?;
+    }
+    Ok(all)
+}
+
+/// Two passes by turns. No time falls, and none is above 2^42.
+pub fn takes_turns<R: Print + AllocGlobal + Wait>(rt: &R) -> anyhow::Result<()> {
+    let Some(outcome) = by_turns(rt, rt.alloc(), 100, &TURNS) else {
+        bail!("memory is lacking");
+    };
+    case(rt, "turns, no wrong answer", &outcome.wrong, &None)?;
+    let rows = passes_and_times(rt.alloc(), outcome.history.items())?;
+    let wanted = [(0, 10), (1, 10), (0, 11), (1, 1 << 42)];
+    case(rt, "turns, passes and times", &rows.as_slice(), &wanted.as_slice())?;
+    case(rt, "turns, the last time", &outcome.left.now, &(1 << 42))?;
+    Ok(())
+}

@@ -1,0 +1,49 @@
+//! The answers that are made here.
+
+use kn_case::shown;
+use kn_head::{Answer, HeadError, answer_bytes};
+use std::alloc::{AllocError, Global};
+use std::io;
+
+/// What is sent, with escapes.
+fn bytes_of(alloc: Global, answer: Answer) -> Result<String, AllocError> {
+    match answer_bytes(alloc, answer) {
+        Ok(text) => shown(alloc, text.bytes()),
+        Err(_) => Err(AllocError),
+    }
+}
+
+/// Prints each answer.
+pub fn made<R: Print + AllocGlobal>(rt: &R) -> io::Result<()> {
+    let all = [
+        Answer::BadHead,
+        Answer::NoSuchRevision,
+        Answer::BodyTooLong,
+        Answer::HeadTooLong,
+        Answer::BadCoding,
+        Answer::LinkFailed,
+        Answer::QueueFull,
+        Answer::Overload,
+        Answer::Expired,
+        Answer::HistoryFull,
+    ];
+    for answer in all {
+        let bytes = bytes_of(rt.alloc(), answer)?;
+        println!(rt; "{answer:?}: {bytes}")?;
+    }
+    Ok(())
+}
+
+/// Prints how a request is answered that is refused.
+pub fn of_faults<R: Print>(rt: &R) -> io::Result<()> {
+    let all = [
+        HeadError::NoRevision,
+        HeadError::BadCoding,
+        HeadError::ReadFault,
+    ];
+    for error in all {
+        let answer = error.answer();
+        println!(rt; "{error:?} is answered with {answer:?}")?;
+    }
+    Ok(())
+}

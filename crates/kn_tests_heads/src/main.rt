@@ -1,0 +1,44 @@
+//! Requests as they are read, refused and sent on. Each line of standard input has a way to try and what a client sends, and
+//! below it is printed what comes of it:
+//!
+//! - `direct` and `activator`: what is sent on, not through the activator or through it;
+//! - `pieces`, `fronts`, `reads`: the same through it for reads of each size, for each front of the bytes, and where one
+//!   read after another fails;
+//! - `length`: how long the body is.
+//!
+//! Of the requests that name their client, those of curl, Python and Wget are as these sent them once; those of Go's
+//! client and of wrk (the last one) are written after their sources.
+//!
+//! At last the answers that are made here are printed.
+#![tactic(auto)]
+
+mod answers;
+mod input;
+mod outcome;
+mod sweeps;
+
+use std::io;
+
+/// Says what comes of a line.
+fn show<R: Print + AllocGlobal>(rt: &R, line: &str) -> io::Result<()> {
+    println!(rt; "{line}")?;
+    let (way, text) = line.split_once('|').unwrap_or((line, ""));
+    let input = input::input_of(rt.alloc(), text)?;
+    match way {
+        "direct" => outcome::sent(rt, &input, false),
+        "activator" => outcome::sent(rt, &input, true),
+        "pieces" => sweeps::pieces(rt, &input),
+        "fronts" => sweeps::fronts(rt, &input),
+        "reads" => sweeps::reads(rt, &input),
+        "length" => outcome::length(rt, &input),
+        _ => println!(rt; "  no way"),
+    }
+}
+
+fn main(rt: HostRuntime) -> io::Result<()> {
+    for line in rt.lines(rt.alloc()) {
+        show(&rt, line?.as_str())?;
+    }
+    answers::made(&rt)?;
+    answers::of_faults(&rt)
+}

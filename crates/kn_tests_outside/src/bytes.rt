@@ -1,0 +1,124 @@
+//! Bytes in memory, to read and to write.
+ghost use Rattle.std.specs.Prelude.{◌<◌};
+
+use crate::had;
+use kn_case::case;
+use kn_io::{Failed, Faulty, MemSink, MemSource, Sink, Source, put_all};
+use std::alloc::{AllocError, Global};
+use std::{io, str};
+
+/// A sink that takes one byte at a time.
+#[derive(Drop)]
+struct OneByte {
+    sink: MemSink,
+}
+
+impl Faulty for OneByte {
+    ghost faults = { λ s. s.sink.plan.faults };
+
+    fn faults(&self) -> u64 {
+        self.sink.faults()
+    }
+}
+
+impl Sink for OneByte {
+    ghost use Rattle.std.specs.Prelude.{Some, []};
+
+    ghost held = { λ s. Some s.sink.held };
+
+    ghost kept = { λ _. Some [] };
+
+    fn write(&mut self, bytes: &[u8]) -> Result<usize, Failed> {
+        if bytes.len() > 1 {
+            self.sink.write(&bytes[..1])
+        } else {
+            self.sink.write(bytes)
+        }
+    }
+}
+
+fn shown(bytes: &[u8]) -> &str {
+    str::from_utf8(bytes).unwrap_or("no text")
+}
+
+/// Reads into a buffer of two bytes, and prints the byte count, the buffer and the faults so far.
+pub fn read_two<R: Print, S: Source>(rt: &R, name: &str, source: &mut S) -> io::Result<()> {
+    let mut buf = [b'-'; 2];
+    let answer = source.read(&mut buf);
+    let faults = source.faults();
+    let text = shown(&buf);
+    println!(rt; "{name}: {answer:?}, {text}, faults {faults}")
+}
+
+/// Writes all of it, and prints how that went and the faults so far.
+pub fn put<R: Print, O: Sink>(rt: &R, name: &str, out: &mut O, word: &str) -> io::Result<()> {
+    let answer = put_all(out, word.as_bytes());
+    let faults = out.faults();
+    println!(rt; "{name} {word:?}: {answer:?}, faults {faults}")
+}
+
+fn holds<R: Print>(rt: &R, name: &str, sink: &MemSink) -> io::Result<()> {
+    let text = shown(sink.held());
+    println!(rt; "{name} holds {text:?}")
+}
+
+/// Reads 1 and 3 fail.
+fn failing_reads<R: Print + AllocGlobal>(rt: &R) -> io::Result<()> {
+    let alloc = rt.alloc();
+    let bytes = Vec::from_slice(alloc, b"abcde")?;
+    let mut source = MemSource::new(bytes, vec![in alloc; 1, 3]?);
+    for _ in 0..7 {
+        read_two(rt, "read", &mut source)?;
+    }
+    Ok(())
+}
+
+/// Writes 0 and 2 fail, and there is room for three bytes.
+fn failing_writes<R: Print + AllocGlobal>(rt: &R) -> io::Result<()> {
+    let alloc = rt.alloc();
+    let mut sink = had(MemSink::new(alloc, 3, vec![in alloc; 0, 2]?))?;
+    for word in ["ab", "ab", "cd", "cd", ""] {
+        put(rt, "write", &mut sink, word)?;
+        holds(rt, "it", &sink)?;
+    }
+    case(rt, "nothing has room", &sink.write(b""), &Err(Failed))
+}
+
+/// How many bytes three reads of five bytes give in pieces of this size.
+fn sizes(alloc: Global, piece: u64) -> Result<[Result<usize, Failed>; 3], AllocError>
+    requires { 0 < piece }
+{
+    let bytes = Vec::from_slice(alloc, b"abcde")?;
+    let mut source = MemSource::in_pieces(bytes, piece, Vec::new(alloc));
+    let mut buf = [0; 9];
+    Ok([
+        source.read(&mut buf),
+        source.read(&mut buf),
+        source.read(&mut buf),
+    ])
+}
+
+fn pieces<R: Print + AllocGlobal>(rt: &R) -> io::Result<()> {
+    let alloc = rt.alloc();
+    case(rt, "pieces of 1", &sizes(alloc, 1)?, &[Ok(1), Ok(1), Ok(1)])?;
+    case(rt, "pieces of 2", &sizes(alloc, 2)?, &[Ok(2), Ok(2), Ok(1)])?;
+    let large = sizes(alloc, 65_536)?;
+    case(rt, "pieces of 65,536", &large, &[Ok(5), Ok(0), Ok(0)])
+}
+
+/// All is put byte by byte, until the fifth write fails.
+fn single_bytes<R: Print + AllocGlobal>(rt: &R) -> io::Result<()> {
+    let alloc = rt.alloc();
+    let sink = had(MemSink::new(alloc, 8, vec![in alloc; 4]?))?;
+    let mut out = OneByte { sink };
+    put(rt, "byte by byte", &mut out, "abc")?;
+    put(rt, "byte by byte", &mut out, "def")?;
+    holds(rt, "byte by byte", &out.sink)
+}
+
+pub fn all<R: Print + AllocGlobal>(rt: &R) -> io::Result<()> {
+    failing_reads(rt)?;
+    failing_writes(rt)?;
+    pieces(rt)?;
+    single_bytes(rt)
+}

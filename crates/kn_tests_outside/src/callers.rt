@@ -1,0 +1,120 @@
+//! Callers in memory.
+
+use crate::{goes, had, text_of};
+use kn_case::case;
+use kn_io::{Caller, Failed, Faulty, MemCaller, Sink, Source, caller_laws};
+use std::alloc::{AllocError, Global};
+use std::{io, str};
+
+/// A caller of two inputs, `abcde` and `f`, with room for eight bytes, which gives two at a time.
+fn two_inputs(alloc: Global, fail: Vec<u64>) -> Result<MemCaller, AllocError> {
+    let inputs = vec![in alloc; text_of(alloc, b"abcde")?, text_of(alloc, b"f")?]?;
+    had(MemCaller::in_pieces(alloc, inputs, 8, 2, fail))
+}
+
+/// Its text at this place, or a question mark.
+fn text_at(caller: &MemCaller, k: u64) -> &str {
+    if k < caller.texts() {
+        str::from_utf8(caller.text(k)).unwrap_or("no text")
+    } else {
+        "?"
+    }
+}
+
+/// Takes a connection, reads it to its end, and writes this; how many bytes were read.
+fn talk<C: Caller>(caller: &mut C, bytes: &[u8]) -> Result<usize, Failed> {
+    let mut buf = [0; 9];
+    let mut all = 0usize;
+    caller.meet()?;
+    for _ in 0..100 {
+        all = all.saturating_add(caller.read(&mut buf)?);
+    }
+    caller.write(bytes)?;
+    Ok(all)
+}
+
+/// Which of six calls failed: a connection is taken, read and written to, twice.
+fn failed_calls<C: Caller>(caller: &mut C) -> [bool; 6] {
+    let mut buf = [0; 1];
+    [
+        caller.meet().is_err(),
+        caller.read(&mut buf).is_err(),
+        caller.write(b"x").is_err(),
+        caller.meet().is_err(),
+        caller.read(&mut buf).is_err(),
+        caller.write(b"x").is_err(),
+    ]
+}
+
+/// What a caller has written to each connection so far.
+fn show_texts<R: Print>(rt: &R, caller: &MemCaller) -> io::Result<()> {
+    for k in 0..caller.texts() {
+        let text = text_at(caller, k);
+        println!(rt; "text {k}: {text:?}")?;
+    }
+    Ok(())
+}
+
+/// Eight bytes in all have room, and there are two inputs.
+fn connections_in_turn<R: Print + AllocGlobal>(rt: &R) -> io::Result<()> {
+    let alloc = rt.alloc();
+    let mut caller = two_inputs(alloc, Vec::new(alloc))?;
+    case(rt, "before a connection", &caller.read(&mut [0; 3]), &Ok(0))?;
+    show_texts(rt, &caller)?;
+    case(rt, "first connection", &talk(&mut caller, b"12345"), &Ok(5))?;
+    show_texts(rt, &caller)?;
+    case(rt, "second connection", &talk(&mut caller, b"6789"), &Ok(1))?;
+    case(rt, "no more room", &caller.write(b"9"), &Err(Failed))?;
+    case(rt, "no third connection", &caller.meet(), &Err(Failed))?;
+    case(rt, "two faults", &caller.faults(), &2)?;
+    show_texts(rt, &caller)?;
+    caller_laws();
+    goes(&caller);
+    Ok(())
+}
+
+/// Each of six calls fails in turn, and no other does.
+fn failing_calls<R: Print + AllocGlobal>(rt: &R) -> io::Result<()> {
+    let alloc = rt.alloc();
+    for k in 0..6u64 {
+        let mut caller = two_inputs(alloc, vec![in alloc; k]?)?;
+        let failed = failed_calls(&mut caller);
+        let faults = caller.faults();
+        println!(rt; "call {k} fails: {failed:?}, faults {faults}")?;
+    }
+    Ok(())
+}
+
+/// A caller of 200 inputs of 500 bytes, with room for 4,000.
+fn many_inputs(alloc: Global) -> Result<MemCaller, AllocError> {
+    let mut inputs = Vec::new(alloc);
+    for _ in 0..200 {
+        inputs.push(text_of(alloc, &[b'y'; 500])?)?;
+    }
+    had(MemCaller::new(alloc, inputs, 4_000, Vec::new(alloc)))
+}
+
+/// In how many of so many connections 500 bytes were read.
+fn talks(caller: &mut MemCaller, rounds: u32) -> u32 {
+    let mut right = 0u32;
+    for _ in 0..rounds {
+        if talk(caller, b"a line of 20 bytes.\n") == Ok(500) {
+            right = right.saturating_add(1);
+        }
+    }
+    right
+}
+
+fn many_connections<R: Print + AllocGlobal>(rt: &R) -> io::Result<()> {
+    let mut caller = many_inputs(rt.alloc())?;
+    case(rt, "200 connections", &talks(&mut caller, 200), &200)?;
+    case(rt, "201 texts", &caller.texts(), &201)?;
+    case(rt, "the last text", &text_at(&caller, 200).len(), &20)?;
+    case(rt, "no more", &talk(&mut caller, b"z"), &Err(Failed))
+}
+
+pub fn all<R: Print + AllocGlobal>(rt: &R) -> io::Result<()> {
+    connections_in_turn(rt)?;
+    failing_calls(rt)?;
+    many_connections(rt)
+}

@@ -1,0 +1,74 @@
+//! Links in memory.
+
+use crate::{goes, had, text_of};
+use kn_case::case;
+use kn_io::{Failed, Faulty, LinkError, MemLink, PodLink};
+use std::alloc::{AllocError, Global};
+use std::io;
+
+/// A link with one reply of four bytes.
+fn one_reply(alloc: Global, fail: Vec<u64>) -> Result<MemLink, AllocError> {
+    let replies = vec![in alloc; text_of(alloc, b"okay")?]?;
+    had(MemLink::new(alloc, replies, fail))
+}
+
+/// Whether a pod is reached, and the length of its reply.
+fn ask<L: PodLink>(link: &mut L, alloc: Global, pod: u64) -> (Result<bool, Failed>, Option<usize>) {
+    let reached = link.probe(pod);
+    match link.call(alloc, pod, b"ask") {
+        Ok(reply) => (reached, Some(reply.bytes().len())),
+        Err(LinkError::Failed | LinkError::Memory) => (reached, None),
+    }
+}
+
+/// The last call that it tells of: the pod, the length of the request and that of the reply.
+fn last_call(link: &MemLink) -> Option<(u64, usize, Option<usize>)> {
+    let call = link.calls()?.last()?;
+    let reply = match &call.reply {
+        Some(reply) => Some(reply.bytes().len()),
+        None => None,
+    };
+    Some((call.pod, call.request.bytes().len(), reply))
+}
+
+/// The last probe that it tells of.
+fn last_probe(link: &MemLink) -> Option<(u64, Option<bool>)> {
+    let probe = link.probes()?.last()?;
+    Some((probe.pod, probe.answer))
+}
+
+/// Probes and calls a pod, and prints the answers, and the last probe and the last call that the link tells of.
+fn show<R: Print + AllocGlobal>(rt: &R, link: &mut MemLink, pod: u64) -> io::Result<()> {
+    let (reached, reply) = ask(link, rt.alloc(), pod);
+    let probe = last_probe(link);
+    let call = last_call(link);
+    println!(rt; "pod {pod}: {reached:?}, {reply:?}, told {probe:?}, {call:?}")
+}
+
+/// Calls 1 and 2 fail, and there is no second reply.
+fn failing_calls<R: Print + AllocGlobal>(rt: &R) -> io::Result<()> {
+    let alloc = rt.alloc();
+    let mut link = one_reply(alloc, vec![in alloc; 1, 2]?)?;
+    for pod in 7..10 {
+        show(rt, &mut link, pod)?;
+    }
+    case(rt, "three faults", &link.faults(), &3)?;
+    goes(&link);
+    Ok(())
+}
+
+/// A link stops telling once it has no room for a probe.
+fn past_the_room<R: Print + AllocGlobal>(rt: &R) -> io::Result<()> {
+    let mut link = one_reply(rt.alloc(), Vec::new(rt.alloc()))?;
+    for pod in 0..4_096 {
+        let _ = link.probe(pod);
+    }
+    let last = last_probe(&link);
+    case(rt, "4,096 probes", &last, &Some((4_095, Some(true))))?;
+    show(rt, &mut link, 9)
+}
+
+pub fn all<R: Print + AllocGlobal>(rt: &R) -> io::Result<()> {
+    failing_calls(rt)?;
+    past_the_room(rt)
+}

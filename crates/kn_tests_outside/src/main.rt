@@ -1,0 +1,47 @@
+//! The outside as sources, sinks, callers, links and clocks, where no contract says what they do; then command lines of
+//! `kactd`. Each line of standard input is one of these, and what it asks for is printed.
+#![tactic(auto)]
+
+mod bytes;
+mod callers;
+mod links;
+mod plans;
+mod streams;
+mod times;
+
+use kn_event::{Memory, Text};
+use std::alloc::{AllocError, Global};
+use std::io;
+
+/// What was had, or want of memory as std has it.
+fn had<T>(answer: Result<T, Memory>) -> Result<T, AllocError> {
+    match answer {
+        Ok(value) => Ok(value),
+        Err(Memory) => Err(AllocError),
+    }
+}
+
+/// A text of these bytes.
+fn text_of(alloc: Global, bytes: &[u8]) -> Result<Text, AllocError> {
+    Ok(Text::new(Vec::from_slice(alloc, bytes)?))
+}
+
+/// Such a value may go to another thread.
+fn goes<T: Send>(_value: &T) {}
+
+/// Such a value may be shared among threads.
+fn shares<T: Sync>(_value: &T) {}
+
+fn main(rt: HostRuntime) -> io::Result<()> {
+    bytes::all(&rt)?;
+    streams::all(&rt)?;
+    streams::standard(&rt, rt.stdin(), rt.stdout(), rt.stderr())?;
+    callers::all(&rt)?;
+    links::all(&rt)?;
+    times::all(&rt)?;
+    times::machine(&rt, &rt)?;
+    for line in rt.lines(rt.alloc()) {
+        plans::show(&rt, line?.as_str())?;
+    }
+    Ok(())
+}

@@ -1,0 +1,45 @@
+//! Command lines of `kactd`.
+
+use kn_plan::{Plan, plan_of};
+use std::alloc::{AllocError, Global};
+use std::{io, str};
+
+/// The words of a line.
+fn words_of(alloc: Global, line: &str) -> Result<Vec<String>, AllocError> {
+    let mut words = Vec::new(alloc);
+    for word in line.split_ascii_whitespace() {
+        words.push(String::from_str(alloc, word)?)?;
+    }
+    Ok(words)
+}
+
+fn shown(bytes: &[u8]) -> &str {
+    str::from_utf8(bytes).unwrap_or("no text")
+}
+
+/// Prints what is to be served, with a word for each pod.
+fn show_plan<R: Print>(rt: &R, plan: &Plan) -> io::Result<()> {
+    let listen = shown(plan.listen.bytes());
+    print!(rt; "  listen {listen}, pods")?;
+    for pod in plan.pods.items() {
+        let address = shown(pod.bytes());
+        print!(rt; " {address}")?;
+    }
+    let Plan {
+        slots,
+        rounds,
+        room,
+        ..
+    } = plan;
+    println!(rt; ", slots {slots}, rounds {rounds}, room {room}")
+}
+
+/// Prints a command line, and what it asks for, or why it is refused.
+pub fn show<R: Print + AllocGlobal>(rt: &R, line: &str) -> io::Result<()> {
+    let alloc = rt.alloc();
+    println!(rt; "kactd {line}")?;
+    match plan_of(alloc, &words_of(alloc, line)?) {
+        Ok(plan) => show_plan(rt, &plan),
+        Err(error) => println!(rt; "  {error}"),
+    }
+}

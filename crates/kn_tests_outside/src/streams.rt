@@ -1,0 +1,88 @@
+//! Readers and writers of std, and the standard streams.
+
+use crate::bytes::{put, read_two};
+use kn_case::case;
+use kn_io::{ReaderSource, Sink, Source, WriterSink};
+use std::io;
+use std::io::{Cursor, Read, Write};
+
+/// A reader and a writer that fail.
+#[derive(Drop)]
+struct Broken;
+
+impl Read for Broken {
+    fn read(&mut self, _buf: &mut [u8]) -> io::Result<usize> {
+        Err(io::Error::from(io::ErrorKind::Other))
+    }
+}
+
+impl Write for Broken {
+    fn write(&mut self, _buf: &[u8]) -> io::Result<usize> {
+        Err(io::Error::from(io::ErrorKind::Other))
+    }
+
+    fn flush(&mut self) -> io::Result<()> {
+        Ok(())
+    }
+}
+
+/// A writer that takes nothing.
+#[derive(Drop)]
+struct Stuck;
+
+impl Write for Stuck {
+    fn write(&mut self, _buf: &[u8]) -> io::Result<usize> {
+        Ok(0)
+    }
+
+    fn flush(&mut self) -> io::Result<()> {
+        Ok(())
+    }
+}
+
+fn readers<R: Print>(rt: &R) -> io::Result<()> {
+    let mut source = ReaderSource::new(Cursor::new(b"abc".as_slice()));
+    for _ in 0..3 {
+        read_two(rt, "reader", &mut source)?;
+    }
+    let mut broken = ReaderSource::new(Broken);
+    for _ in 0..2 {
+        read_two(rt, "broken reader", &mut broken)?;
+    }
+    Ok(())
+}
+
+fn writers<R: Print + AllocGlobal>(rt: &R) -> io::Result<()> {
+    let mut taken = WriterSink::new(Vec::<u8>::new(rt.alloc()));
+    put(rt, "writer", &mut taken, "abc")?;
+    let mut broken = WriterSink::new(Broken);
+    put(rt, "broken writer", &mut broken, "abc")?;
+    let mut stuck = WriterSink::new(Stuck);
+    case(rt, "stuck writer, nothing", &stuck.write(b""), &Ok(0))?;
+    put(rt, "stuck writer", &mut stuck, "abc")
+}
+
+pub fn all<R: Print + AllocGlobal>(rt: &R) -> io::Result<()> {
+    readers(rt)?;
+    writers(rt)
+}
+
+/// Nothing is written there, in two ways.
+fn nothing<R: Print, W: Write + Drop>(rt: &R, name: &str, writer: W) -> io::Result<()> {
+    let mut out = WriterSink::new(writer);
+    put(rt, name, &mut out, "")?;
+    case(rt, name, &out.write(b""), &Ok(0))
+}
+
+/// Nothing is read from and written to the standard streams.
+pub fn standard<R: Print, I: Read + Drop, O: Write + Drop, E: Write + Drop>(
+    rt: &R,
+    input: I,
+    output: O,
+    error: E,
+) -> io::Result<()> {
+    let mut input = ReaderSource::new(input);
+    case(rt, "standard input", &input.read(&mut []), &Ok(0))?;
+    nothing(rt, "standard output", output)?;
+    nothing(rt, "standard error", error)
+}

@@ -1,0 +1,3 @@
+pub mod Below
+pub mod Pods
+pub mod Pushing

@@ -1,0 +1,171 @@
+//! A mix of calls of the table beside a plain list.
+use crate::run::Run;
+use anyhow::bail;
+use kn_case::case;
+use kn_record::{Place, Request};
+use kn_table::Table;
+use std::alloc::AllocError;
+
+/// Some number that no one can tell in advance.
+fn scrambled(seed: u64) -> u64 {
+    seed.wrapping_mul(6_364_136_223_846_793_005)
+        .wrapping_add(1_442_695_040_888_963_407)
+}
+
+/// The request that stands at such a place, and any number where there is none.
+fn picked(plain: &[Request], seed: u64) -> u64 {
+    let place = (seed >> 20) as usize;
+    if place % 8 < plain.len() && !plain.is_empty() {
+        plain[place % plain.len()].number
+    } else {
+        seed >> 50
+    }
+}
+
+/// Moves the request of this number, as an assignment or a run does.
+fn plain_run(plain: &mut Vec<Request>, r: u64, place: Place) {
+    for request in plain.iter_mut() {
+        if request.number == r {
+            request.place = place;
+        }
+    }
+}
+
+/// Whether one more request comes.
+fn arrives(run: &mut Run, plain: &mut Vec<Request>, seed: u64) -> Result<bool, AllocError> {
+    let place = if seed >> 60 < 6 {
+        Place::Held
+    } else {
+        Place::Queued((seed >> 40) % 3)
+    };
+    match run.arrive(place, 1 + (seed >> 62)) {
+        Some(request) => {
+            plain.push(request)?;
+            Ok(true)
+        }
+        None => Ok(false),
+    }
+}
+
+/// Whether the list's first held request is assigned. One more request runs, if it can.
+fn assigns(run: &mut Run, plain: &mut Vec<Request>, seed: u64) -> bool {
+    let pod = (seed >> 40) % 3;
+    let first = plain
+        .iter()
+        .find(|q| q.place == Place::Held)
+        .map(|q| q.number);
+    let assigned = run.assign(pod);
+    if let Some(r) = first {
+        plain_run(plain, r, Place::Running(pod, true));
+    }
+    let r = picked(plain, seed);
+    if run.begin(r) {
+        let queued = plain.iter().find(|q| q.number == r).map(|q| q.place);
+        for p in 0..3 {
+            if queued == Some(Place::Queued(p)) {
+                plain_run(plain, r, Place::Running(p, false));
+            }
+        }
+    }
+    assigned == first
+}
+
+fn is_at(place: Place, p: u64) -> bool {
+    match place {
+        Place::Held => false,
+        Place::Queued(q) => q == p,
+        Place::Running(q, _) => q == p,
+    }
+}
+
+/// Whether a request ends as the list says.
+fn ends(run: &mut Run, plain: &mut Vec<Request>, seed: u64) -> bool {
+    let r = picked(plain, seed);
+    let request = plain.iter().find(|q| q.number == r).copied();
+    let ended = run.end(r);
+    plain.retain(|q| q.number != r);
+    ended == request && (seed >> 60 != 0 || loses(run, plain, (seed >> 40) % 3))
+}
+
+/// Whether the list's first request at the pod is lost.
+fn loses(run: &mut Run, plain: &mut Vec<Request>, pod: u64) -> bool {
+    let first = plain.iter().find(|q| is_at(q.place, pod)).copied();
+    let lost = run.lose(pod);
+    if let Some(request) = first {
+        plain.retain(|q| q.number != request.number);
+    }
+    lost == first
+}
+
+/// Whether the table answers what the list has of requests that are held, wait and are due.
+fn agrees_on_waiting(table: &Table, plain: &[Request], time: u64) -> bool {
+    let held = plain
+        .iter()
+        .find(|q| q.place == Place::Held)
+        .map(|q| q.number);
+    let waiting = plain
+        .iter()
+        .find(|q| !matches!(q.place, Place::Running(_, _)));
+    let due = waiting
+        .filter(|q| time.saturating_sub(q.time) >= 40)
+        .map(|q| q.number);
+    table.first_held() == held
+        && table.first_waiting() == waiting.copied()
+        && table.first_due(40, time) == due
+}
+
+/// Whether the table has at this pod who is there by the list.
+fn agrees_at(table: &Table, plain: &[Request], p: u64) -> bool {
+    let first = plain.iter().find(|q| is_at(q.place, p)).map(|q| q.number);
+    table.first_at(p) == first
+}
+
+/// Whether the table answers what the plain list has.
+fn agrees(table: &Table, plain: &[Request], time: u64) -> bool {
+    table.len() == plain.len() as u64
+        && plain.iter().all(|q| table.get(q.number) == Some(*q))
+        && agrees_on_waiting(table, plain, time)
+        && (0..3).all(|p| agrees_at(table, plain, p))
+}
+
+/// One call, and whether it goes as by the list.
+fn call(run: &mut Run, plain: &mut Vec<Request>, seed: u64) -> Result<bool, AllocError> {
+    match (seed >> 33) % 7 {
+        0..3 => arrives(run, plain, seed),
+        3 => Ok(assigns(run, plain, seed)),
+        _ => Ok(ends(run, plain, seed)),
+    }
+}
+
+/// How many of so many calls in a scrambled order go as by the list, one after the other: arrivals, assignments, runs, ends and
+/// losses.
+fn calls_that_agree(
+    run: &mut Run,
+    plain: &mut Vec<Request>,
+    calls: u64,
+) -> Result<u64, AllocError> {
+    let mut seed = 1;
+    for k in 0..calls {
+        seed = scrambled(seed);
+        if !call(run, plain, seed)? || !agrees(&run.table, plain, run.next) {
+            return Ok(k);
+        }
+    }
+    Ok(calls)
+}
+
+pub fn beside_a_plain_list<R: Print + AllocGlobal>(rt: &R) -> anyhow::Result<()> {
+    let Ok(mut run) = Run::new(rt.alloc()) else {
+        bail!("memory is lacking");
+    };
+    let mut plain = Vec::new(rt.alloc());
+    let agree = calls_that_agree(&mut run, &mut plain, 2_500)?;
+    case(rt, "table, 2500 calls beside a plain list", &agree, &2_500)?;
+    case(
+        rt,
+        "table, above 1500 came in number",
+        &(run.next > 1_500),
+        &true,
+    )?;
+    Ok(())
+}

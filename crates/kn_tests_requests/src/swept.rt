@@ -1,0 +1,63 @@
+//! A full table that is swept again and again.
+use crate::run::{Run, firsts};
+use anyhow::bail;
+use kn_case::case;
+use kn_record::Place;
+
+/// Whether so many requests come, one after the other.
+fn fills(run: &mut Run, count: u64) -> bool {
+    (0..count).all(|_| run.arrive(Place::Held, 1).is_some())
+}
+
+/// Whether all goes well as one request of a pair ends, the second first, and another arrives. The first that is left is due to
+/// the millisecond or one after.
+fn turns_over(run: &mut Run, turn: u64) -> bool
+    requires { turn < 100000 }
+{
+    let first = turn + turn % 2;
+    let gone = if turn % 2 == 0 { turn + 1 } else { turn - 1 };
+    run.end(gone).map(|q| q.number) == Some(gone)
+        && run.arrive(Place::Held, 1).is_some()
+        && run.table.len() == 20_000
+        && run.table.first_held() == Some(first)
+        && run.table.first_due(20_000, turn + 20_001) == Some(first)
+        && run.table.get(gone).is_none()
+        && run.table.get(turn + 12_345).map(|q| q.time) == Some(turn + 12_345)
+}
+
+/// How many turns go well, one after the other.
+fn turns_that_go_well(run: &mut Run) -> u64 {
+    for turn in 0..70_000 {
+        if !turns_over(run, turn) {
+            return turn;
+        }
+    }
+    70_000
+}
+
+/// Each end makes room for one more, through three sweeps.
+pub fn is_swept<R: Print + AllocGlobal>(rt: &R) -> anyhow::Result<()> {
+    let Ok(mut run) = Run::new(rt.alloc()) else {
+        bail!("memory is lacking");
+    };
+    case(rt, "table, 20000 come", &fills(&mut run, 20_000), &true)?;
+    case(
+        rt,
+        "table, 70000 turns over",
+        &turns_that_go_well(&mut run),
+        &70_000,
+    )?;
+    let assigned = (0..20_000).all(|_| run.assign(3).is_some());
+    case(rt, "table, 20000 are assigned", &assigned, &true)?;
+    let firsts = firsts(&run.table, 3, 1 << 40);
+    case(
+        rt,
+        "table, all run at pod 3",
+        &firsts,
+        &[None, None, None, Some(70_000)],
+    )?;
+    let lost = (70_000..90_000).all(|r| run.lose(3).map(|q| q.number) == Some(r));
+    case(rt, "table, all of pod 3 are lost in order", &lost, &true)?;
+    case(rt, "table, none is left", &run.table.is_empty(), &true)?;
+    Ok(())
+}

@@ -1,0 +1,6 @@
+use Rattle.std.proofs.Common.{◌≡◌}
+use Rattle.kn_tests_scaler.specs.Areas.{IsEmpty}
+use Rattle.kn_tests_scaler.proofs.areas.after_bursts.Given as goal
+
+abbrev pub invariant-loop : goal.invariant-loop
+invariant-loop l = IsEmpty l.stats × (l.stats.time ≡ 300)

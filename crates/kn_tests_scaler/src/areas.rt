@@ -1,0 +1,144 @@
+//! What live requests take of each second: worked rows.
+ghost use Rattle.std.specs.Prelude.{◌≡◌};
+ghost use Rattle.kn_tests_scaler.specs.Areas.{IsEmpty};
+
+use crate::meters::Meter;
+use kn_case::case;
+use kn_event::Metric;
+use kn_stats::{Change, Closed, PodArea, Run, Stats};
+use std::alloc::Global;
+use std::io;
+
+const fn run(second: u64, load: u64, arrived: u64) -> Option<Run> {
+    Some(Run {
+        second,
+        count: 1,
+        load,
+        sampled: true,
+        arrived,
+    })
+}
+
+const fn closed(first: Option<Run>, rest: Option<Run>) -> Closed {
+    Closed { first, rest }
+}
+
+/// What closes with each advance, where one request is admitted at 500, assigned at 700 and ends at 2,500.
+fn one_request(alloc: Global) -> Option<[Closed; 4]> {
+    let mut meter = Meter::new(alloc, 0, Metric::Concurrency)?;
+    let before = meter.advance(500, true)?;
+    meter.admit()?;
+    let held = meter.advance(700, true)?;
+    let over = meter.assign_until(0, 2500, true)?;
+    Some([before, held, over, meter.advance(3000, true)?])
+}
+
+/// What pod 0 took at 900, at 950 and at 1,100, with one request from 700 on and one straight from 900 on.
+fn one_pod(alloc: Global) -> Option<[PodArea; 3]> {
+    let mut meter = Meter::new(alloc, 0, Metric::Concurrency)?;
+    let _ = meter.advance(500, true)?;
+    meter.admit()?;
+    let _ = meter.advance(700, true)?;
+    meter.assign(0)?;
+    let _ = meter.advance(900, true)?;
+    let early = meter.area(0);
+    meter.direct(0)?;
+    let _ = meter.advance(950, true)?;
+    let late = meter.area(0);
+    let _ = meter.advance(1100, true)?;
+    Some([early, late, meter.area(0)])
+}
+
+/// What closes where a pod left that had a request from 500 to 900.
+fn pod_that_left(alloc: Global) -> Option<Closed> {
+    let Ok(mut stats) = Stats::new(alloc, 0, Metric::Concurrency) else {
+        return None;
+    };
+    let _ = stats.advance(500, true);
+    stats.change(Change::Directed(3));
+    let _ = stats.advance(900, true);
+    stats.change(Change::EndedAt(3, false));
+    stats.pod_leaves(3);
+    Some(stats.advance(1000, true))
+}
+
+/// A request comes and ends at once.
+fn burst(stats: &mut Stats)
+    requires { IsEmpty stats.old }
+    ensures none { IsEmpty stats.new }
+    ensures time { stats.new.time ≡ stats.old.time }
+{
+    stats.change(Change::Admitted);
+    stats.change(Change::EndedHeld);
+}
+
+/// What closes at 5,000 after so many requests came and ended at 300, with no pod Ready.
+fn after_bursts(alloc: Global, metric: Metric, requests: u64) -> Option<Closed> {
+    let Ok(mut stats) = Stats::new(alloc, 300, metric) else {
+        return None;
+    };
+    for _ in 0..requests {
+        burst(&mut stats);
+    }
+    Some(stats.advance(5000, false))
+}
+
+/// A second with so many arrivals, and four without any, which are no samples.
+fn after_arrivals(sampled: bool, arrived: u64) -> Option<Closed> {
+    let first = Run {
+        second: 0,
+        count: 1,
+        load: 0,
+        sampled,
+        arrived,
+    };
+    let rest = Run {
+        second: 1,
+        count: 4,
+        load: 0,
+        sampled: false,
+        arrived: 0,
+    };
+    Some(closed(Some(first), Some(rest)))
+}
+
+/// What two pods took by 250 where 20,500 are named: one with a request, the last to be named, and one whose request ended.
+fn most_pods(alloc: Global) -> Option<[u64; 2]> {
+    let mut meter = Meter::new(alloc, 0, Metric::Concurrency)?;
+    for k in 0..20_499 {
+        let _ = meter.direct_until(k * 7919 % 20_500, 0, false)?;
+    }
+    meter.direct(20_499 * 7919 % 20_500)?;
+    let _ = meter.advance(250, false)?;
+    Some([meter.area(12_581).area, meter.area(20_499).area])
+}
+
+fn arrivals<R: Print + AllocGlobal>(rt: &R) -> io::Result<()> {
+    let (alloc, rps, concurrency) = (rt.alloc(), Metric::Rps, Metric::Concurrency);
+    case(rt, "one arrival by rps", &after_bursts(alloc, rps, 1), &after_arrivals(true, 1))?;
+    case(rt, "one arrival by concurrency", &after_bursts(alloc, concurrency, 1), &after_arrivals(false, 1))?;
+    case(rt, "no arrival by rps", &after_bursts(alloc, rps, 0), &after_arrivals(false, 0))?;
+    let most = after_bursts(alloc, rps, 1_000_001);
+    case(rt, "a million arrivals are counted at most", &most, &after_arrivals(true, 1_000_000))
+}
+
+const fn area(area: u64, proxied: u64) -> PodArea {
+    PodArea { area, proxied }
+}
+
+pub fn cases<R: Print + AllocGlobal>(rt: &R) -> io::Result<()> {
+    let alloc = rt.alloc();
+    let seconds = [
+        closed(None, None),
+        closed(None, None),
+        closed(run(0, 500, 1), run(1, 1000, 0)),
+        closed(run(2, 500, 0), None),
+    ];
+    case(rt, "one request's seconds", &one_request(alloc), &Some(seconds))?;
+    let areas = [area(200, 200), area(300, 250), area(200, 100)];
+    case(rt, "a pod's areas", &one_pod(alloc), &Some(areas))?;
+    let left = closed(run(0, 400, 1), None);
+    case(rt, "a pod that left", &pod_that_left(alloc), &Some(left))?;
+    case(rt, "room for 20,500 pods", &most_pods(alloc), &Some([250, 0]))?;
+    arrivals(rt)
+}

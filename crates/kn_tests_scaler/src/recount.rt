@@ -1,0 +1,238 @@
+//! A mix of changes of live requests, beside a recount of all requests.
+use crate::meters::Meter;
+use kn_event::Metric;
+use kn_stats::{Closed, PodArea, Run};
+use std::alloc::Global;
+use std::io;
+
+/// One request with its times, in milliseconds.
+#[derive(Clone, Copy)]
+struct Request {
+    start: u64,
+    end: Option<u64>,
+    /// The pod, and when it came there.
+    pod: Option<(u64, u64)>,
+    proxied: bool,
+}
+
+fn overlap(from: u64, until: u64, start: u64, end: Option<u64>) -> u64 {
+    end.map_or(until, |end| end.min(until))
+        .saturating_sub(start.max(from))
+}
+
+/// What all of them took of this stretch.
+fn taken(requests: &[Request], from: u64, until: u64) -> u64 {
+    let mut sum: u64 = 0;
+    for r in requests {
+        sum = sum.saturating_add(overlap(from, until, r.start, r.end));
+    }
+    sum
+}
+
+/// What those at this pod took of it, all or those that came through the activator.
+fn taken_at(requests: &[Request], p: u64, all: bool, from: u64, until: u64) -> u64 {
+    let mut sum: u64 = 0;
+    for r in requests {
+        if let Some((pod, came)) = r.pod
+            && pod == p
+            && (all || r.proxied)
+        {
+            sum = sum.saturating_add(overlap(from, until, came, r.end));
+        }
+    }
+    sum
+}
+
+/// Some bits that depend on each bit of the number.
+fn mixed(k: u64) -> u64 {
+    k.wrapping_mul(0x9E37_79B9_7F4A_7C15) >> 40
+}
+
+/// Some bits of a word say how long until the next change: mostly less than a second, now and then some seconds.
+fn pause(word: u64) -> u64 {
+    if word.is_multiple_of(16) {
+        word / 16 % 5000
+    } else {
+        word / 16 % 300
+    }
+}
+
+/// All requests so far beside what is measured of them, and how many answers were right and wrong.
+#[derive(Drop)]
+struct Recount {
+    metric: Metric,
+    meter: Meter,
+    requests: Vec<Request>,
+    right: u64,
+    wrong: u64,
+}
+
+impl Recount {
+    fn new(alloc: Global, metric: Metric) -> Option<Recount> {
+        Some(Recount {
+            metric,
+            meter: Meter::new(alloc, 1234, metric)?,
+            requests: Vec::new(alloc),
+            right: 0,
+            wrong: 0,
+        })
+    }
+
+    fn judge(&mut self, is_right: bool) {
+        if is_right {
+            self.right = self.right.saturating_add(1);
+        } else {
+            self.wrong = self.wrong.saturating_add(1);
+        }
+    }
+
+    /// The seconds from one up to another, each with the load of this one.
+    fn expected(&self, from: u64, until: u64, ready: bool) -> Option<Run> {
+        if from >= until {
+            return None;
+        }
+        let begin = from.saturating_mul(1000);
+        let load = taken(&self.requests, begin, begin.saturating_add(1000));
+        let arrived = self.requests.iter().filter(|r| r.start / 1000 == from).count() as u64;
+        let sampled = load > 0 || ready || arrived > 0 && self.metric == Metric::Rps;
+        Some(Run {
+            second: from,
+            count: until - from,
+            load,
+            sampled,
+            arrived,
+        })
+    }
+
+    /// Whether this closes between two times.
+    fn is_right(&self, before: u64, after: u64, ready: bool, closed: Closed) -> bool {
+        let (from, to) = (before / 1000, after / 1000);
+        let first = self.expected(from, to.min(from + 1), ready);
+        let rest = self.expected(from + 1, to, ready);
+        let last = self.expected(to.saturating_sub(1), to, ready);
+        let is_last_alike = match (closed.rest, last) {
+            (Some(rest), Some(last)) => rest.load == last.load,
+            (rest, _) => rest.is_none(),
+        };
+        closed.first == first && closed.rest == rest && is_last_alike
+    }
+
+    /// Compares what closed since this time, and then the areas of four pods.
+    fn compare(&mut self, before: u64, ready: bool, closed: Closed) {
+        let time = self.meter.time();
+        let is_right = self.is_right(before, time, ready, closed);
+        self.judge(is_right);
+        let from = time - time % 1000;
+        for p in 0..4 {
+            let area = taken_at(&self.requests, p, true, from, time);
+            let proxied = taken_at(&self.requests, p, false, from, time);
+            let is_right = self.meter.area(p) == PodArea { area, proxied };
+            self.judge(is_right);
+        }
+    }
+
+    /// Time passes.
+    fn pass(&mut self, word: u64, ready: bool) -> Option<()> {
+        let before = self.meter.time();
+        let closed = self.meter.advance(before.saturating_add(pause(word)), ready)?;
+        self.compare(before, ready, closed);
+        Some(())
+    }
+
+    /// The place of the first request that waits.
+    fn first_waiting(&self) -> Option<usize> {
+        self.requests
+            .iter()
+            .position(|r| r.end.is_none() && r.pod.is_none())
+    }
+
+    /// One more request, that came now.
+    fn begin(&mut self, pod: Option<u64>) -> Option<()> {
+        let start = self.meter.time();
+        let request = Request {
+            start,
+            end: None,
+            pod: pod.map(|p| (p, start)),
+            proxied: pod.is_none(),
+        };
+        self.requests.push(request).ok()
+    }
+
+    /// The first that waits goes to the pod, if one does.
+    fn assign(&mut self, p: u64) -> Option<()> {
+        let time = self.meter.time();
+        if let Some(i) = self.first_waiting() {
+            self.meter.assign(p)?;
+            self.requests.get_mut(i)?.pod = Some((p, time));
+        }
+        Some(())
+    }
+
+    /// The first that waits ends, if one does.
+    fn end_held(&mut self) -> Option<()> {
+        let time = self.meter.time();
+        if let Some(i) = self.first_waiting() {
+            self.meter.end_held()?;
+            self.requests.get_mut(i)?.end = Some(time);
+        }
+        Some(())
+    }
+
+    /// One goes to the pod, straight or as the first that waits, and ends there after a pause.
+    fn visit(&mut self, p: u64, straight: bool, word: u64, ready: bool) -> Option<()> {
+        let before = self.meter.time();
+        let to = before.saturating_add(pause(word));
+        let i = match self.first_waiting() {
+            Some(i) if !straight => i,
+            _ => self.requests.len(),
+        };
+        let closed = if i < self.requests.len() {
+            self.requests.get_mut(i)?.pod = Some((p, before));
+            self.meter.assign_until(p, to, ready)?
+        } else {
+            self.begin(Some(p))?;
+            self.meter.direct_until(p, to, ready)?
+        };
+        self.requests.get_mut(i)?.end = Some(to);
+        self.compare(before, ready, closed);
+        Some(())
+    }
+
+    /// The change that the word picks.
+    fn pick(&mut self, word: u64, ready: bool) -> Option<()> {
+        let p = word / 8 % 3;
+        match word % 8 {
+            0 | 1 => {
+                self.meter.admit()?;
+                self.begin(None)
+            }
+            2 => {
+                self.meter.direct(p)?;
+                self.begin(Some(p))
+            }
+            3 | 4 => self.assign(p),
+            5 => self.end_held(),
+            _ => self.visit(p, word % 8 == 6, word / 32, ready),
+        }
+    }
+}
+
+/// How many answers were right and wrong in 400 turns: some time, and a change.
+fn recounted(alloc: Global, metric: Metric) -> Option<(u64, u64)> {
+    let mut recount = Recount::new(alloc, metric)?;
+    for k in 0..400 {
+        let word = mixed(k);
+        let ready = word / 4096 % 2 == 0;
+        recount.pass(word, ready)?;
+        recount.pick(word / 64, ready)?;
+    }
+    Some((recount.right, recount.wrong))
+}
+
+pub fn compare<R: Print + AllocGlobal>(rt: &R) -> io::Result<()> {
+    for (name, metric) in [("concurrency", Metric::Concurrency), ("rps", Metric::Rps)] {
+        let (right, wrong) = recounted(rt.alloc(), metric).unwrap_or((0, 0));
+        println!(rt; "requests by {name}: {wrong} wrong, more than 2000 right: {}", right > 2000)?;
+    }
+    Ok(())
+}

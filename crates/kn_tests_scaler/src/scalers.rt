@@ -1,0 +1,122 @@
+//! An autoscaler: an opening, a start from zero, one held request.
+ghost use Rattle.std.specs.Prelude.{◌≡◌, ◌^◌, ◌+◌, ◌<◌, ◌≤◌, IfSome};
+ghost use Rattle.kn_event.specs.declared.revision.Kind.TheVariants as kind;
+ghost use Rattle.kn_trace.specs.Events.{opening};
+ghost use Rattle.kn_scaler.specs.Stands.{StandsFor, StandsForSome};
+
+use kn_case::case;
+use kn_event::{Decision, Frac, Kind, Mode, Phase, Row, Slots, Spec, Stand};
+use kn_laws::parts::part_laws;
+use kn_record::append::order_laws;
+use kn_record::facts::fact_laws;
+use kn_scaler::{Ruled, Scaler};
+use std::alloc::Global;
+use std::io;
+
+/// The first request is admitted at this time.
+fn admit_first(scaler: &mut Scaler, spec: &Spec, time: u64)
+    requires stands { StandsFor spec.now scaler.old (opening spec.now 0) }
+    requires order { scaler.old.stats.time ≤ time }
+    requires range { time ≤ 2 ^ 42 }
+    requires slots { 0 < spec.now.slots.depth + spec.now.slots.max }
+    ensures some { StandsForSome scaler.new }
+    ensures time { scaler.new.stats.time ≡ time }
+{
+    fact_laws();
+    part_laws();
+    order_laws();
+    scaler.advance(time, false);
+    scaler.row(Row::Admit(0, 9), Stand::Unknown, false);
+}
+
+/// What two pods for one request and more are decided by, with these averages.
+fn two_pods(num: u128, den: u128) -> Decision
+    requires { 0 < den }
+{
+    let average = Frac { num, den };
+    Decision {
+        stable: average,
+        panic: average,
+        ready: 0,
+        dspc: 2,
+        dppc: 2,
+        over: true,
+        panicking: true,
+        undelayed: 2,
+        delayed: 2,
+        excess: -212,
+        bounded: 2,
+        want: 2,
+        applied: true,
+        mode: Mode::Proxy,
+    }
+}
+
+/// A scaled revision of containerConcurrency 1 by the default configuration, that opens with so many pods.
+fn scaled(alloc: Global, initial: u64) -> Option<Spec>
+    requires { initial ≤ 1 }
+    ensures kind { IfSome result (λ spec. spec.kind ≡ kind.Kpa) }
+    ensures slots { IfSome result (λ spec. 0 < spec.slots.depth + spec.slots.max) }
+{
+    let slots = Slots {
+        depth: 10_000,
+        max: 1000,
+        seed: 0,
+    };
+    let Ok(mut spec) = Spec::fixed(alloc, 1, 0, 300, slots) else {
+        return None;
+    };
+    spec.kind = Kind::Kpa;
+    spec.initial = initial;
+    Some(spec)
+}
+
+/// What one that opens with no pod says of itself: phase, mode, pods wanted, and the decision of a tick.
+fn opened(alloc: Global) -> Option<(Phase, Mode, u64, Option<Ruled>)> {
+    let spec = scaled(alloc, 0)?;
+    let Ok(mut scaler) = Scaler::new(alloc, &spec, 0) else {
+        return None;
+    };
+    let (phase, mode, want) = (scaler.phase(), scaler.mode(), scaler.want());
+    Some((phase, mode, want, scaler.tick(0, 0)))
+}
+
+/// With no pod wanted, the first request that is admitted wakes the revision; then a pod is Ready.
+fn woken(alloc: Global) -> Option<(Ruled, bool)> {
+    let spec = scaled(alloc, 0)?;
+    let Ok(mut scaler) = Scaler::new(alloc, &spec, 0) else {
+        return None;
+    };
+    admit_first(&mut scaler, &spec, 500);
+    let ruled = scaler.wake(500, 0);
+    Some((ruled, scaler.pod_ready(500, 1)))
+}
+
+/// A request that is held from half a second on takes half of that one and all of the next.
+fn held(alloc: Global) -> Option<Ruled> {
+    let spec = scaled(alloc, 1)?;
+    let Ok(mut scaler) = Scaler::new(alloc, &spec, 0) else {
+        return None;
+    };
+    admit_first(&mut scaler, &spec, 500);
+    scaler.advance(2000, false);
+    scaler.tick(2000, 0)
+}
+
+pub fn cases<R: Print + AllocGlobal>(rt: &R) -> io::Result<()> {
+    let alloc = rt.alloc();
+    let nothing = (Phase::Inactive, Mode::Proxy, 0, None);
+    case(rt, "opens with no pod", &opened(alloc), &Some(nothing))?;
+    let waking = Ruled {
+        decision: two_pods(1, 1),
+        phase: Some(Phase::Activating),
+        mode: None,
+    };
+    case(rt, "scale from zero", &woken(alloc), &Some((waking, true)))?;
+    let holding = Ruled {
+        decision: two_pods(1500, 2000),
+        phase: None,
+        mode: None,
+    };
+    case(rt, "areas of one request", &held(alloc), &Some(holding))
+}

@@ -1,0 +1,79 @@
+//! Sockets on loopback.
+
+use kn_event::{Items, Text};
+use kn_io::{LinkError, PodLink};
+use kn_tcp::TcpLink;
+use std::alloc::Global;
+use std::io::{Read, Write};
+use std::net::{Net, TcpListener, TcpStream};
+use std::thread::Threads;
+use std::time::Duration;
+use std::{io, thread};
+
+/// A listening socket, and its address.
+pub fn listening<R: Net<Listener = TcpListener, Stream = TcpStream> + AllocGlobal>(
+    rt: &R,
+) -> io::Result<(TcpListener, String)> {
+    let listener = TcpListener::bind(rt, "127.0.0.1:0")?;
+    let port = listener.local_addr()?.port();
+    Ok((listener, format!(in rt.alloc(); "127.0.0.1:{port}")?))
+}
+
+/// A client that waits ten seconds at most for each read and write.
+pub fn client<R: Net<Stream = TcpStream>>(rt: &R, address: &str) -> io::Result<TcpStream> {
+    let stream = TcpStream::connect(rt, address)?;
+    stream.set_read_timeout(Some(Duration::from_secs(10)))?;
+    stream.set_write_timeout(Some(Duration::from_secs(10)))?;
+    Ok(stream)
+}
+
+/// A link to these addresses.
+pub fn link_to<'a, R: Net + AllocGlobal>(
+    rt: &'a R,
+    addresses: &[&[u8]],
+) -> io::Result<TcpLink<&'a R>> {
+    let mut texts = Vec::new(rt.alloc());
+    for address in addresses {
+        texts.push(Text::new(Vec::from_slice(rt.alloc(), address)?))?;
+    }
+    Ok(TcpLink::new(rt, Items::new(texts)))
+}
+
+/// What a pod is asked, and what it answers: these bytes, and then so many pieces of 8,192 bytes.
+#[derive(Clone, Copy)]
+pub struct Talk<'a> {
+    pub request: &'a [u8],
+    pub reply: &'a [u8],
+    pub pieces: usize,
+}
+
+/// A pod that takes one connection, reads the request, answers, and closes.
+fn pod(alloc: Global, listener: &TcpListener, talk: Talk<'_>) -> io::Result<()> {
+    let (mut stream, _) = listener.accept()?;
+    let mut request = vec![in alloc; 0; talk.request.len()]?;
+    stream.read_exact(&mut request)?;
+    stream.write_all(talk.reply)?;
+    for _ in 0..talk.pieces {
+        stream.write_all(&[b'r'; 8_192])?;
+    }
+    Ok(())
+}
+
+/// The length of the reply that the link gives of such a pod.
+pub fn exchange<R: Threads, L: PodLink>(
+    rt: &R,
+    alloc: Global,
+    listener: &TcpListener,
+    link: &mut L,
+    talk: Talk<'_>,
+) -> Option<usize> {
+    let served = thread::join(
+        rt,
+        || pod(alloc, listener, talk),
+        || link.call(alloc, 0, talk.request),
+    );
+    match &served.1 {
+        Ok(reply) => Some(reply.bytes().len()),
+        Err(LinkError::Failed | LinkError::Memory) => None,
+    }
+}

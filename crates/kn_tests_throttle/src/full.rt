@@ -1,0 +1,127 @@
+//! The table of live requests when it is full, and after many have ended.
+use crate::driver::{Call, Driver, Setting};
+use anyhow::bail;
+use kn_case::case;
+use kn_event::{Memory, Row, Slots, Stand};
+use std::alloc::Global;
+
+/// Three Ready pods of this limit, which is the containerConcurrency too, where so many may wait and one may run.
+fn open(alloc: Global, limit: u64, depth: u64) -> Result<Driver, Memory> {
+    let setting = Setting {
+        pods: 3,
+        limit,
+        drains: 0,
+        cc: limit,
+        slots: Slots {
+            depth,
+            max: 1,
+            seed: 7,
+        },
+    };
+    Driver::open(alloc, &setting)
+}
+
+/// How many of so many requests run at the pods by turns, one after the other.
+fn run_by_turns(driver: &mut Driver, count: u64) -> u64 {
+    for r in 0..count {
+        if !driver.makes(Call::Direct, Row::Direct(r, r % 3)) || !driver.follows_one() {
+            return r;
+        }
+    }
+    count
+}
+
+/// Whether the oldest request ends once, and makes room for one more, which runs.
+fn turns_over(driver: &mut Driver, oldest: u64, next: u64, pod: u64) -> bool {
+    driver.makes(Call::Finish(oldest), Row::Finish(oldest, true))
+        && driver.makes(Call::Finish(oldest), Row::NotRunning(oldest))
+        && driver.stand(oldest) == Stand::Ended
+        && driver.makes(Call::Direct, Row::Direct(next, pod))
+        && driver.follows_one()
+}
+
+/// How many of so many more requests come so, one after the other. Request 20,000 was refused.
+fn turn_over_by_turns(driver: &mut Driver, count: u64) -> u64
+    requires { count < 100000 }
+{
+    for k in 0..count {
+        let oldest = if k < 20_000 { k } else { k + 1 };
+        if !turns_over(driver, oldest, 20_001 + k, (20_000 + k) % 3) {
+            return k;
+        }
+    }
+    count
+}
+
+/// At pods without a limit 20,000 run, and the next one is refused. Then each that ends makes room for one, for 50,000
+/// more: the table is swept on the way, and each request is found before and after.
+pub fn full_and_swept<R: Print + AllocGlobal>(rt: &R) -> anyhow::Result<()> {
+    let Ok(mut driver) = open(rt.alloc(), 0, 1) else {
+        bail!("memory is lacking");
+    };
+    case(rt, "full table, 20000 run", &run_by_turns(&mut driver, 20_000), &20_000)?;
+    let refused = driver.call(Call::Direct);
+    case(rt, "full table, the next one is refused", &refused, &Some(Row::Overload(20_000)))?;
+    case(rt, "full table, 20000 are live", &driver.live(), &20_000)?;
+    let turned = turn_over_by_turns(&mut driver, 50_000);
+    case(rt, "full table, 50000 more run", &turned, &50_000)?;
+    case(rt, "full table, 20000 are live still", &driver.live(), &20_000)?;
+    let stands = [20_000, 50_000, 50_001, 70_000, 70_001].map(|r| driver.stand(r));
+    let wanted = [
+        Stand::Ended,
+        Stand::Ended,
+        Stand::Running(2),
+        Stand::Running(0),
+        Stand::Unknown,
+    ];
+    case(rt, "full table, where requests stand", &stands, &wanted)?;
+    Ok(())
+}
+
+/// How many of so many requests are held or run, one after the other.
+fn admitted(driver: &mut Driver, count: u64) -> u64 {
+    for r in 0..count {
+        if !driver.makes(Call::Proxied, Row::Admit(r, 0)) {
+            return r;
+        }
+        let _ = driver.settle();
+    }
+    count
+}
+
+/// Whether request `r` ends, and the one after it gives up before, so that the one after both runs.
+fn passes_one(driver: &mut Driver, r: u64) -> bool
+    requires { r < 100000 }
+{
+    driver.makes(Call::Cancel(r + 1), Row::Cancel(r + 1))
+        && driver.makes(Call::Finish(r), Row::Finish(r, true))
+        && driver.follows_one()
+        && driver.stand(r + 2) == Stand::Running(0)
+}
+
+/// How many of so many pairs are passed so, one after the other.
+fn passed(driver: &mut Driver, pairs: u64) -> u64
+    requires { pairs < 1000 }
+{
+    for k in 0..pairs {
+        if !passes_one(driver, 2 * k) {
+            return k;
+        }
+    }
+    pairs
+}
+
+/// One may run in all, and a thousand come: of each two the later gives up and the earlier is assigned when the slot
+/// is free, so the first that is held is found past those that gave up.
+pub fn cursors_pass_who_gave_up<R: Print + AllocGlobal>(rt: &R) -> anyhow::Result<()> {
+    let Ok(mut driver) = open(rt.alloc(), 1, 2_000) else {
+        bail!("memory is lacking");
+    };
+    case(rt, "cursors, 1000 come", &admitted(&mut driver, 1_000), &1_000)?;
+    case(rt, "cursors, 499 pairs are passed", &passed(&mut driver, 499), &499)?;
+    case(rt, "cursors, two are live", &driver.live(), &2)?;
+    let last = driver.call(Call::Proxied);
+    case(rt, "cursors, one more is admitted", &last, &Some(Row::Admit(1_000, 0)))?;
+    case(rt, "cursors, it is held", &driver.stand(1_000), &Stand::Held)?;
+    Ok(())
+}

@@ -1,0 +1,95 @@
+//! A pod comes, its limit is cut, and it is lost with its request.
+ghost use Rattle.std.specs.Prelude.{◌≡◌, [], true, IfOk};
+ghost use Rattle.kn_trace.specs.Trace.{contains};
+ghost use Rattle.kn_record.specs.Admission.{nothing_yet};
+ghost use Rattle.kn_record.specs.Views.{pod_numbers};
+
+use anyhow::bail;
+use kn_case::case;
+use kn_event::{EntryLog, Memory, Mode, Slots, Spec};
+use kn_throttle::{Arrival, Throttle};
+use std::alloc::Global;
+
+/// Pod 0 is Ready, with one seat in place of two.
+#[tactic(auto, unfolding(kn_record::specs::Admission::stepped))]
+fn begin_pod(throttle: &mut Throttle)
+    requires { throttle.old.admission ≡ nothing_yet }
+    ensures there { contains 0 (pod_numbers throttle.new.admission.pods) ≡ true }
+    ensures arrivals { throttle.new.admission.arrivals ≡ 0 }
+    ensures live { throttle.new.admission.live ≡ [] }
+{
+    throttle.create(0, 2);
+    throttle.set_limit(0, 1);
+    throttle.pod_ready(0);
+}
+
+/// The first request at the pod is lost.
+#[tactic(auto, unfolding(kn_record::specs::Admission::stepped))]
+fn lose_first(throttle: &mut Throttle, p: u64) -> Option<u64>
+    requires { contains p (pod_numbers throttle.old.admission.pods) ≡ true }
+    ensures { throttle.new.admission.pods ≡ throttle.old.admission.pods }
+{
+    let r = throttle.first_at(p)?;
+    throttle.lose(r);
+    Some(r)
+}
+
+/// The pod is lost where no request is there.
+fn lose_empty(throttle: &mut Throttle, p: u64) -> bool
+    requires { contains p (pod_numbers throttle.old.admission.pods) ≡ true }
+{
+    if throttle.first_at(p).is_some() {
+        return false;
+    }
+    throttle.lose_pod(p);
+    true
+}
+
+/// A request comes straight to pod 0.
+#[tactic(auto, unfolding(kn_record::specs::Admission::stepped))]
+fn send_first(throttle: &mut Throttle) -> Arrival
+    requires there { contains 0 (pod_numbers throttle.old.admission.pods) ≡ true }
+    requires arrivals { throttle.old.admission.arrivals ≡ 0 }
+    requires live { throttle.old.admission.live ≡ [] }
+    ensures { throttle.new.admission.pods ≡ throttle.old.admission.pods }
+{
+    throttle.arrive(0, 0, Mode::Serve)
+}
+
+/// How many rows follow.
+fn settle(throttle: &mut Throttle, log: &mut EntryLog) -> usize {
+    log.clear();
+    throttle.settle(0, log);
+    log.entries().len()
+}
+
+fn new_throttle(alloc: Global) -> Result<Throttle, Memory>
+    ensures { IfOk result (λ t. t.admission ≡ nothing_yet) }
+{
+    let slots = Slots {
+        depth: 1,
+        max: 1,
+        seed: 7,
+    };
+    let spec = Spec::fixed(alloc, 1, 1, 300, slots)?;
+    Throttle::new(alloc, &spec)
+}
+
+pub fn pod_is_lost<R: Print + AllocGlobal>(rt: &R) -> anyhow::Result<()> {
+    let Ok(mut log) = EntryLog::new(rt.alloc()) else {
+        bail!("memory is lacking");
+    };
+    let Ok(mut throttle) = new_throttle(rt.alloc()) else {
+        bail!("memory is lacking");
+    };
+    begin_pod(&mut throttle);
+    let arrival = send_first(&mut throttle);
+    case(rt, "lost pod, a request comes to it", &arrival, &Arrival::Direct(0))?;
+    let first = lose_first(&mut throttle, 0);
+    case(rt, "lost pod, its request is lost", &first, &Some(0))?;
+    let second = lose_first(&mut throttle, 0);
+    case(rt, "lost pod, it has no more", &second, &None)?;
+    case(rt, "lost pod, it is lost", &lose_empty(&mut throttle, 0), &true)?;
+    case(rt, "lost pod, no row follows", &settle(&mut throttle, &mut log), &0)?;
+    Ok(())
+}
