@@ -10,7 +10,7 @@ use kn_event::{Act, Stand, Told};
 use std::alloc::{AllocError, Global};
 use std::sync::Wait;
 
-fn try_on(
+pub fn try_on(
     cell: &RevisionCell,
     pass: &mut Pass,
     act: Act,
@@ -25,7 +25,7 @@ fn try_on(
     Some(cell.try_on(pass, act, time))
 }
 
-fn look<R: Wait>(rt: &R, cell: &RevisionCell, pass: &mut Pass, request: u64) -> Stand
+pub fn look<R: Wait>(rt: &R, cell: &RevisionCell, pass: &mut Pass, request: u64) -> Stand
     requires { pass.old.cell ≡ cell.now }
     ensures { IsStill pass.old pass.new }
 {
@@ -224,7 +224,12 @@ pub fn takes_turns<R: Print + AllocGlobal + Wait>(rt: &R) -> anyhow::Result<()> 
     case(rt, "turns, no wrong answer", &outcome.wrong, &None)?;
     let rows = passes_and_times(rt.alloc(), outcome.history.items())?;
     let wanted = [(0, 10), (1, 10), (0, 11), (1, 1 << 42)];
-    case(rt, "turns, passes and times", &rows.as_slice(), &wanted.as_slice())?;
+    case(
+        rt,
+        "turns, passes and times",
+        &rows.as_slice(),
+        &wanted.as_slice(),
+    )?;
     case(rt, "turns, the last time", &outcome.left.now, &(1 << 42))?;
     Ok(())
 }
