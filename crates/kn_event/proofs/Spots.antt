@@ -1,11 +1,13 @@
 -- Numbers and words in a line that is spelled plainly.
 use Rattle.std.proofs.Common.{◌≡◌, ◌≢◌, ◌+◌, ◌-◌, ◌^◌, ◌<◌, ◌≤◌, ℕ, Bool, true, false, List, [], ◌∷◌, ◌++◌, Some, length, take, drop, get_or, append_assoc, length-append, length-drop, add_comm, add-one, add-zero, refl, sym, ap, ◌∙◌, arith, cond}
-use Rattle.std.specs.Prelude.{◌==◌, slice_range}
-use Rattle.std.specs.List.{list_all, prefix_len}
+use Rattle.std.specs.Prelude.{◌==◌, codes, nat_eq, slice_range}
+use Rattle.std.specs.List.{list_all, prefix_len, starts_with}
 use Rattle.std.specs.Fmt.{decimal}
 use Rattle.std.specs.Str.Parse.{digits_value}
+use Rattle.std.proofs.lemmas.Bool.Decides.{Decides-eqb}
 use Rattle.std.proofs.lemmas.Grind.{common_steps}
 use Rattle.std.proofs.lemmas.List.{take-append-drop, get_or-take, get_or-drop, drop-drop}
+use Rattle.std.proofs.lemmas.Slice.Eq.{starts_is}
 use Rattle.std.proofs.Math.Seq.{take-append_seam}
 use Rattle.core.specs.Float.Numeral.{digits_len}
 use Rattle.core.proofs.dec2flt.DigitsLemmas.{digits_len_short}
@@ -118,6 +120,30 @@ pub arrival : (bs : List ℕ) (n to : ℕ) → slice_range bs 0 8 ≡ to_le_byte
 unfolding act_text with_number
 arrival bs n to word inside rest small =
     record { within = inside; text = word_first bs 8 (to_le_bytes w64 0x2065_7669_7272_6120) (decimal n ++ 10 ∷ drop (to + 1) bs) word rest; range = small; act = λ version. tt }
+
+-- these bytes begin so
+pub begins : (bs word : List ℕ) → starts_with nat_eq bs word ≡ true → bs ≡ word ++ drop (length word) bs
+begins bs word h = (starts_is Decides-eqb bs word true (sym h)).0 refl
+
+pub tick : (bs : List ℕ) → starts_with nat_eq bs (codes " tick\n") ≡ true → 6 ≤ length bs → IsActAhead bs act.Tick 5
+unfolding act_text
+tick bs word room = record { within = omega arith; text = begins bs (codes " tick\n") word; range = tt; act = λ version. tt }
+
+pub pass : (bs : List ℕ) → starts_with nat_eq bs (codes " pass\n") ≡ true → 6 ≤ length bs → IsActAhead bs act.Pass 5
+unfolding act_text
+pass bs word room = record { within = omega arith; text = begins bs (codes " pass\n") word; range = tt; act = λ version. tt }
+
+pub readiness : (bs : List ℕ) (n to : ℕ) → starts_with nat_eq bs (codes " ready ") ≡ true → to < length bs → drop 7 bs ≡ decimal n ++ 10 ∷ drop (to + 1) bs → n < 2 ^ 64
+    → IsActAhead bs (act.Ready n) to
+unfolding act_text with_number
+readiness bs n to word inside rest small =
+    record { within = inside; text = begins bs (codes " ready ") word ∙ ap (λ (m : List ℕ). codes " ready " ++ m) rest; range = small; act = λ version. tt }
+
+pub cancellation : (bs : List ℕ) (n to : ℕ) → starts_with nat_eq bs (codes " cancel ") ≡ true → to < length bs → drop 8 bs ≡ decimal n ++ 10 ∷ drop (to + 1) bs → n < 2 ^ 64
+    → IsActAhead bs (act.Cancel n) to
+unfolding act_text with_number
+cancellation bs n to word inside rest small =
+    record { within = inside; text = begins bs (codes " cancel ") word ∙ ap (λ (m : List ℕ). codes " cancel " ++ m) rest; range = small; act = λ version. tt }
 
 pub finish : (bs : List ℕ) (n end len : ℕ) (ok : Bool) → slice_range bs 0 8 ≡ to_le_bytes w64 0x2068_7369_6e69_6620 → IsNumberAt bs 8 n end → len < length (drop end bs)
     → drop end bs ≡ outcome_word ok ++ 10 ∷ drop (len + 1) (drop end bs) → IsActAhead bs (act.Finish n ok) (end + len)

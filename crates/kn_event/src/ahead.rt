@@ -116,9 +116,10 @@ fn outcome_ahead(text: &[u8]) -> Option<(bool, usize)>
     if text.len() >= 4 && half_at(text, 0) == OK {
         return Some((true, 3));
     }
-    match text {
-        [b' ', b'f', b'a', b'i', b'l', b'\n', ..] => Some((false, 5)),
-        _ => None,
+    if text.starts_with(b" fail\n") {
+        Some((false, 5))
+    } else {
+        None
     }
 }
 
@@ -161,23 +162,24 @@ fn finish_ahead(text: &[u8]) -> Option<(Act, usize)>
 
 /// An act that is neither an arrival nor a finish, if it is a usual one.
 #[inline(always)]
-#[tactic(auto, unfolding(crate::specs::EventLine::act_text, crate::specs::EntryLine::with_number))]
 fn other_ahead(text: &[u8]) -> Option<(Act, usize)>
     ensures { IfSome result (λ p. IsActAhead text.now p.0 p.1) }
 {
-    match text {
-        [b' ', b't', b'i', b'c', b'k', b'\n', ..] => Some((Act::Tick, 5)),
-        [b' ', b'p', b'a', b's', b's', b'\n', ..] => Some((Act::Pass, 5)),
-        [b' ', b'r', b'e', b'a', b'd', b'y', b' ', ..] => {
-            let (pod, end) = number_ahead(text, 7)?;
-            Some((Act::Ready(pod), end))
-        }
-        [b' ', b'c', b'a', b'n', b'c', b'e', b'l', b' ', ..] => {
-            let (request, end) = number_ahead(text, 8)?;
-            Some((Act::Cancel(request), end))
-        }
-        _ => None,
+    if text.starts_with(b" tick\n") {
+        return Some((Act::Tick, 5));
     }
+    if text.starts_with(b" pass\n") {
+        return Some((Act::Pass, 5));
+    }
+    if text.starts_with(b" ready ") {
+        let (pod, end) = number_ahead(text, 7)?;
+        return Some((Act::Ready(pod), end));
+    }
+    if text.starts_with(b" cancel ") {
+        let (request, end) = number_ahead(text, 8)?;
+        return Some((Act::Cancel(request), end));
+    }
+    None
 }
 
 /// A usual act at the front, and where the LF behind it stands.

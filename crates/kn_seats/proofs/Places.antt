@@ -1,5 +1,5 @@
 -- What a pod's place among pods whose numbers rise says of looking it up, changing it and removing it.
-use Rattle.std.proofs.Common.{◌≡◌, ℕ, zero, suc, ◌<◌, ◌≤◌, Bool, true, false, ◌||◌, List, [], ◌∷◌, set, get_or, length, refl, sym, ap, subst, ◌∙◌, arith, nat_eq, Some, Option, unwrap_or, Result, Ok, Err, cond}
+use Rattle.std.proofs.Common.{◌≡◌, ℕ, zero, suc, ◌<◌, ◌≤◌, Bool, true, false, ◌||◌, List, [], ◌∷◌, set, get_or, length, refl, sym, ap, subst, ◌∙◌, arith, nat_eq, Some, Option, unwrap_or, Result, Ok, Err}
 use Rattle.std.specs.List.{find, remove}
 use Rattle.std.specs.List.Sorted.{IsSearchInRange, IsBinarySearchResult, IsNonDecreasingBy}
 use Rattle.std.specs.Ordering.{nat_cmp, ordering_index}

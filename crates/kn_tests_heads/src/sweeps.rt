@@ -19,7 +19,7 @@ pub fn pieces<R: Print + AllocGlobal>(rt: &R, input: &[u8]) -> io::Result<()> {
     tally.print(rt)
 }
 
-/// The stream ends before the first byte, before the second, and so on to the last, and reads give at most so many bytes.
+/// The stream ends before the first byte, before the second, and so on, and reads give at most so many bytes.
 fn count_fronts(
     alloc: Global,
     tally: &mut Tally,

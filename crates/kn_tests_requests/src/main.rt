@@ -1,7 +1,8 @@
-//! Tests of the breaker, the seats, the policies, the table of live requests, and of a throttler to which nothing has come.
+//! Tests of the breaker, the seats, the policies, the table of live requests, and of a throttler to which nothing has
+//! come.
 //!
-//! Each line of standard input is a call of a policy or of the table, and is printed with what the call answers; a line that
-//! begins with # says what the next ones show. Then it says how longer runs of calls went.
+//! Each line of standard input is a call of a policy or of the table, and is printed with what the call answers; a
+//! line that begins with # says what the next ones show. Then it says how longer runs of calls went.
 #![tactic(auto)]
 
 mod breaker;

@@ -61,7 +61,8 @@ fn mark_of(cand: &Cand) -> u8
     u8::from(cand.limit == 0 || cand.running < cand.limit)
 }
 
-/// Six rounds of a policy, in which some or all of so many pods have a free seat: whom it picks without marks and with them.
+/// Six rounds of a policy, in which some or all of so many pods have a free seat: whom it picks without marks and with
+/// them.
 pub fn six_rounds(
     alloc: Global,
     cc: u64,
@@ -89,8 +90,8 @@ fn unlimited(pod: u64, running: u64) -> Cand {
     }
 }
 
-/// Whether the second of two requests that come to two pods, at each of which so many run, gets the pod that the first didn't
-/// get.
+/// Whether the second of two requests that come to two pods, at each of which so many run, gets the pod that the first
+/// didn't get.
 fn gets_the_other(policy: &mut Policy, running: u64) -> bool
     requires { running < 10 }
 {
@@ -100,8 +101,8 @@ fn gets_the_other(policy: &mut Policy, running: u64) -> bool
     second == Some(one)
 }
 
-/// Whether, by the random choice, the second request gets the pod that the first didn't get, and the fourth the one that the
-/// third didn't get; so two run at each in the end.
+/// Whether, by the random choice, the second request gets the pod that the first didn't get, and the fourth the one
+/// that the third didn't get; so two run at each in the end.
 pub fn four_at_two(seed: u64) -> bool {
     let mut policy = Policy::new(0, seed);
     gets_the_other(&mut policy, 0) && gets_the_other(&mut policy, 1)

@@ -137,8 +137,8 @@ fn call(run: &mut Run, plain: &mut Vec<Request>, seed: u64) -> Result<bool, Allo
     }
 }
 
-/// How many of so many calls in a scrambled order go as by the list, one after the other: arrivals, assignments, runs, ends and
-/// losses.
+/// How many of so many calls in a scrambled order go as by the list, one after the other: arrivals, assignments, runs,
+/// ends and losses.
 fn calls_that_agree(
     run: &mut Run,
     plain: &mut Vec<Request>,

@@ -22,8 +22,8 @@ impl Run {
         Ok(Run { table, next: 0 })
     }
 
-    /// Takes in the next request; the one after it has a number that is so much higher. None where the table is full, or there
-    /// is no such number.
+    /// Takes in the next request; the one after it has a number that is so much higher. None where the table is full,
+    /// or there is no such number.
     pub fn arrive(&mut self, place: Place, step: u64) -> Option<Request> {
         let number = self.next;
         let next = number.checked_add(step)?;
@@ -82,8 +82,8 @@ impl Run {
     }
 }
 
-/// What the calls that only look answer: who is the first that is held, that waits, that is due after ten milliseconds, and that
-/// is at the pod.
+/// What the calls that only look answer: who is the first that is held, that waits, that is due after ten
+/// milliseconds, and that is at the pod.
 pub fn firsts(table: &Table, p: u64, time: u64) -> [Option<u64>; 4] {
     [
         table.first_held(),

@@ -1,4 +1,6 @@
 //! A full table that is swept again and again.
+ghost use Rattle.std.specs.Prelude.{◌<◌};
+
 use crate::run::{Run, firsts};
 use anyhow::bail;
 use kn_case::case;
@@ -9,8 +11,8 @@ fn fills(run: &mut Run, count: u64) -> bool {
     (0..count).all(|_| run.arrive(Place::Held, 1).is_some())
 }
 
-/// Whether all goes well as one request of a pair ends, the second first, and another arrives. The first that is left is due to
-/// the millisecond or one after.
+/// Whether all goes well as one request of a pair ends, the second first, and another arrives. The first that is left
+/// is due to the millisecond or one after.
 fn turns_over(run: &mut Run, turn: u64) -> bool
     requires { turn < 100000 }
 {

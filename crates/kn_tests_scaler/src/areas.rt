@@ -1,6 +1,6 @@
 //! What live requests take of each second: worked rows.
 ghost use Rattle.std.specs.Prelude.{◌≡◌};
-ghost use Rattle.kn_tests_scaler.specs.Areas.{IsEmpty};
+ghost use Rattle.kn_tests_scaler.specs.Empty.{IsEmpty};
 
 use crate::meters::Meter;
 use kn_case::case;
@@ -115,11 +115,31 @@ fn most_pods(alloc: Global) -> Option<[u64; 2]> {
 
 fn arrivals<R: Print + AllocGlobal>(rt: &R) -> io::Result<()> {
     let (alloc, rps, concurrency) = (rt.alloc(), Metric::Rps, Metric::Concurrency);
-    case(rt, "one arrival by rps", &after_bursts(alloc, rps, 1), &after_arrivals(true, 1))?;
-    case(rt, "one arrival by concurrency", &after_bursts(alloc, concurrency, 1), &after_arrivals(false, 1))?;
-    case(rt, "no arrival by rps", &after_bursts(alloc, rps, 0), &after_arrivals(false, 0))?;
+    case(
+        rt,
+        "one arrival by rps",
+        &after_bursts(alloc, rps, 1),
+        &after_arrivals(true, 1),
+    )?;
+    case(
+        rt,
+        "one arrival by concurrency",
+        &after_bursts(alloc, concurrency, 1),
+        &after_arrivals(false, 1),
+    )?;
+    case(
+        rt,
+        "no arrival by rps",
+        &after_bursts(alloc, rps, 0),
+        &after_arrivals(false, 0),
+    )?;
     let most = after_bursts(alloc, rps, 1_000_001);
-    case(rt, "a million arrivals are counted at most", &most, &after_arrivals(true, 1_000_000))
+    case(
+        rt,
+        "a million arrivals are counted at most",
+        &most,
+        &after_arrivals(true, 1_000_000),
+    )
 }
 
 const fn area(area: u64, proxied: u64) -> PodArea {
@@ -134,11 +154,21 @@ pub fn cases<R: Print + AllocGlobal>(rt: &R) -> io::Result<()> {
         closed(run(0, 500, 1), run(1, 1000, 0)),
         closed(run(2, 500, 0), None),
     ];
-    case(rt, "one request's seconds", &one_request(alloc), &Some(seconds))?;
+    case(
+        rt,
+        "one request's seconds",
+        &one_request(alloc),
+        &Some(seconds),
+    )?;
     let areas = [area(200, 200), area(300, 250), area(200, 100)];
     case(rt, "a pod's areas", &one_pod(alloc), &Some(areas))?;
     let left = closed(run(0, 400, 1), None);
     case(rt, "a pod that left", &pod_that_left(alloc), &Some(left))?;
-    case(rt, "room for 20,500 pods", &most_pods(alloc), &Some([250, 0]))?;
+    case(
+        rt,
+        "room for 20,500 pods",
+        &most_pods(alloc),
+        &Some([250, 0]),
+    )?;
     arrivals(rt)
 }

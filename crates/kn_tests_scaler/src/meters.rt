@@ -65,7 +65,7 @@ impl Meter {
     }
 
     /// One that waits goes to the pod.
-    #[tactic(auto, using(crate::proofs::Meters::length_put_most))]
+    #[tactic(auto, using(crate::proofs::Lists::length_put_most))]
     pub fn assign(&mut self, p: u64) -> Option<()> {
         if self.waiting == 0 || self.named >= NAMED_MOST {
             return None;
@@ -76,7 +76,7 @@ impl Meter {
         Some(())
     }
 
-    #[tactic(auto, using(crate::proofs::Meters::length_put_most))]
+    #[tactic(auto, using(crate::proofs::Lists::length_put_most))]
     pub fn direct(&mut self, p: u64) -> Option<()> {
         if self.live >= LIVE_MOST || self.named >= NAMED_MOST {
             return None;
@@ -98,7 +98,7 @@ impl Meter {
     }
 
     /// One goes straight to the pod, and ends there at a later time. Answers what closes until then.
-    #[tactic(auto, using(crate::proofs::Meters::length_put_most))]
+    #[tactic(auto, using(crate::proofs::Lists::length_put_most))]
     pub fn direct_until(&mut self, p: u64, to: u64, ready: bool) -> Option<Closed> {
         if self.live >= LIVE_MOST || self.named >= NAMED_MOST || to < self.time {
             return None;
@@ -112,7 +112,7 @@ impl Meter {
     }
 
     /// One that waits goes to the pod, and ends there at a later time. Answers what closes until then.
-    #[tactic(auto, using(crate::proofs::Meters::length_put_most))]
+    #[tactic(auto, using(crate::proofs::Lists::length_put_most))]
     pub fn assign_until(&mut self, p: u64, to: u64, ready: bool) -> Option<Closed> {
         if self.waiting == 0 || self.named >= NAMED_MOST || to < self.time {
             return None;

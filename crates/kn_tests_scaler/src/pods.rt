@@ -75,6 +75,7 @@ impl Scaled {
             }
             "ready" => text(alloc, ready_word(self.pods.ready(number))),
             "next-starting" => next_text(alloc, self.pods.next_starting(number)),
+            "count-ready" => format!(in alloc; "{}", self.pods.count_ready()).ok(),
             "live" => format!(in alloc; "{}", self.pods.live(number)).ok(),
             "lost" => {
                 let lost = self.pods.lost(number);
@@ -133,9 +134,24 @@ pub fn most_pods<R: Print + AllocGlobal>(rt: &R) -> io::Result<()> {
         return println!(rt; "most pods: no memory");
     };
     case(rt, "most pods, scales", &turn_over(&mut scaled, 82), &82)?;
-    case(rt, "most pods, created", &scaled.pods.count_created(), &20_500)?;
-    case(rt, "most pods, draining", &scaled.pods.count_draining(), &20_500)?;
-    case(rt, "most pods, removed", &remove_all(&mut scaled, 20_500), &20_500)?;
+    case(
+        rt,
+        "most pods, created",
+        &scaled.pods.count_created(),
+        &20_500,
+    )?;
+    case(
+        rt,
+        "most pods, draining",
+        &scaled.pods.count_draining(),
+        &20_500,
+    )?;
+    case(
+        rt,
+        "most pods, removed",
+        &remove_all(&mut scaled, 20_500),
+        &20_500,
+    )?;
     case(rt, "most pods, left", &scaled.pods.count_draining(), &0)?;
     scaled.scale(1);
     let row = scaled.rows(rt.alloc());

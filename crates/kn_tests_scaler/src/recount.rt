@@ -93,7 +93,11 @@ impl Recount {
         }
         let begin = from.saturating_mul(1000);
         let load = taken(&self.requests, begin, begin.saturating_add(1000));
-        let arrived = self.requests.iter().filter(|r| r.start / 1000 == from).count() as u64;
+        let arrived = self
+            .requests
+            .iter()
+            .filter(|r| r.start / 1000 == from)
+            .count() as u64;
         let sampled = load > 0 || ready || arrived > 0 && self.metric == Metric::Rps;
         Some(Run {
             second: from,
@@ -134,7 +138,9 @@ impl Recount {
     /// Time passes.
     fn pass(&mut self, word: u64, ready: bool) -> Option<()> {
         let before = self.meter.time();
-        let closed = self.meter.advance(before.saturating_add(pause(word)), ready)?;
+        let closed = self
+            .meter
+            .advance(before.saturating_add(pause(word)), ready)?;
         self.compare(before, ready, closed);
         Some(())
     }
@@ -232,7 +238,10 @@ fn recounted(alloc: Global, metric: Metric) -> Option<(u64, u64)> {
 pub fn compare<R: Print + AllocGlobal>(rt: &R) -> io::Result<()> {
     for (name, metric) in [("concurrency", Metric::Concurrency), ("rps", Metric::Rps)] {
         let (right, wrong) = recounted(rt.alloc(), metric).unwrap_or((0, 0));
-        println!(rt; "requests by {name}: {wrong} wrong, more than 2000 right: {}", right > 2000)?;
+        println!(rt;
+            "requests by {name}: {wrong} wrong, more than 2000 right: {}",
+            right > 2000
+        )?;
     }
     Ok(())
 }

@@ -73,7 +73,7 @@ fn clock_of(alloc: Global, words: &str) -> Result<ListClock, AllocError> {
     Ok(ListClock::new(times))
 }
 
-/// Serves the request over a new cell, with room for 100 rows and a pod that is Ready where the words don't say otherwise.
+/// Serves the request over a new cell, with room for 100 rows and a Ready pod where the words don't say otherwise.
 /// Answers how, and the history's letters.
 fn run<R: Wait>(
     rt: &R,

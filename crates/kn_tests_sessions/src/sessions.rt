@@ -171,7 +171,7 @@ fn show_found<R: Print + AllocGlobal>(rt: &R, bytes: &[u8], texts: &str) -> io::
     Ok(())
 }
 
-/// Prints whether a session's journal is whole, how many lines it has, and which texts are found in it and in its report.
+/// Prints whether a session's journal is whole, how many lines it has, and which texts it and its report have.
 fn show_journal<R: Print + AllocGlobal>(rt: &R, journal: &[u8], texts: &str) -> io::Result<()> {
     let framed = is_framed(journal);
     let lines = journal.iter().filter(|byte| **byte == b'\n').count();

@@ -1,4 +1,6 @@
 //! The table of live requests when it is full, and after many have ended.
+ghost use Rattle.std.specs.Prelude.{◌<◌};
+
 use crate::driver::{Call, Driver, Setting};
 use anyhow::bail;
 use kn_case::case;
@@ -59,13 +61,28 @@ pub fn full_and_swept<R: Print + AllocGlobal>(rt: &R) -> anyhow::Result<()> {
     let Ok(mut driver) = open(rt.alloc(), 0, 1) else {
         bail!("memory is lacking");
     };
-    case(rt, "full table, 20000 run", &run_by_turns(&mut driver, 20_000), &20_000)?;
+    case(
+        rt,
+        "full table, 20000 run",
+        &run_by_turns(&mut driver, 20_000),
+        &20_000,
+    )?;
     let refused = driver.call(Call::Direct);
-    case(rt, "full table, the next one is refused", &refused, &Some(Row::Overload(20_000)))?;
+    case(
+        rt,
+        "full table, the next one is refused",
+        &refused,
+        &Some(Row::Overload(20_000)),
+    )?;
     case(rt, "full table, 20000 are live", &driver.live(), &20_000)?;
     let turned = turn_over_by_turns(&mut driver, 50_000);
     case(rt, "full table, 50000 more run", &turned, &50_000)?;
-    case(rt, "full table, 20000 are live still", &driver.live(), &20_000)?;
+    case(
+        rt,
+        "full table, 20000 are live still",
+        &driver.live(),
+        &20_000,
+    )?;
     let stands = [20_000, 50_000, 50_001, 70_000, 70_001].map(|r| driver.stand(r));
     let wanted = [
         Stand::Ended,
@@ -117,11 +134,31 @@ pub fn cursors_pass_who_gave_up<R: Print + AllocGlobal>(rt: &R) -> anyhow::Resul
     let Ok(mut driver) = open(rt.alloc(), 1, 2_000) else {
         bail!("memory is lacking");
     };
-    case(rt, "cursors, 1000 come", &admitted(&mut driver, 1_000), &1_000)?;
-    case(rt, "cursors, 499 pairs are passed", &passed(&mut driver, 499), &499)?;
+    case(
+        rt,
+        "cursors, 1000 come",
+        &admitted(&mut driver, 1_000),
+        &1_000,
+    )?;
+    case(
+        rt,
+        "cursors, 499 pairs are passed",
+        &passed(&mut driver, 499),
+        &499,
+    )?;
     case(rt, "cursors, two are live", &driver.live(), &2)?;
     let last = driver.call(Call::Proxied);
-    case(rt, "cursors, one more is admitted", &last, &Some(Row::Admit(1_000, 0)))?;
-    case(rt, "cursors, it is held", &driver.stand(1_000), &Stand::Held)?;
+    case(
+        rt,
+        "cursors, one more is admitted",
+        &last,
+        &Some(Row::Admit(1_000, 0)),
+    )?;
+    case(
+        rt,
+        "cursors, it is held",
+        &driver.stand(1_000),
+        &Stand::Held,
+    )?;
     Ok(())
 }

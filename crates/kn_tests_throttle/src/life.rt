@@ -84,12 +84,27 @@ pub fn pod_is_lost<R: Print + AllocGlobal>(rt: &R) -> anyhow::Result<()> {
     };
     begin_pod(&mut throttle);
     let arrival = send_first(&mut throttle);
-    case(rt, "lost pod, a request comes to it", &arrival, &Arrival::Direct(0))?;
+    case(
+        rt,
+        "lost pod, a request comes to it",
+        &arrival,
+        &Arrival::Direct(0),
+    )?;
     let first = lose_first(&mut throttle, 0);
     case(rt, "lost pod, its request is lost", &first, &Some(0))?;
     let second = lose_first(&mut throttle, 0);
     case(rt, "lost pod, it has no more", &second, &None)?;
-    case(rt, "lost pod, it is lost", &lose_empty(&mut throttle, 0), &true)?;
-    case(rt, "lost pod, no row follows", &settle(&mut throttle, &mut log), &0)?;
+    case(
+        rt,
+        "lost pod, it is lost",
+        &lose_empty(&mut throttle, 0),
+        &true,
+    )?;
+    case(
+        rt,
+        "lost pod, no row follows",
+        &settle(&mut throttle, &mut log),
+        &0,
+    )?;
     Ok(())
 }

@@ -1,4 +1,6 @@
 //! The calls that lines of standard input name, and what they make.
+ghost use Rattle.std.specs.Prelude.{◌<◌};
+
 use crate::driver::{Call, Driver, Setting};
 use crate::mix::digests;
 use kn_event::{Memory, Slots};

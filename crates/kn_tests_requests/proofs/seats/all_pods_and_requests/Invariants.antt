@@ -4,7 +4,7 @@ use Rattle.kn_seats.specs.Pods.{has_pod, requests_at_all}
 use Rattle.kn_tests_requests.proofs.seats.all_pods_and_requests.Given as goal
 
 abbrev pub invariant-loop-p : goal.invariant-loop-p
-invariant-loop-p g l = record {
+invariant-loop-p l = record {
   pods : length l.seats.pods ≡ l.p;
   below : All (λ pod. pod.number < l.p) l.seats.pods;
   none : requests_at_all l.seats.pods ≡ 0;
@@ -13,11 +13,11 @@ invariant-loop-p g l = record {
 }
 
 abbrev pub invariant-loop-r : goal.invariant-loop-r
-invariant-loop-r g l = record {
+invariant-loop-r l = record {
   there : IsTrue (has_pod 20499 l.seats.pods);
-  counted : requests_at_all l.seats.pods ≡ l.r;
+  counted : requests_at_all l.seats.pods ≡ l.r-counter;
   room : l.seats.request_room ≡ 20000;
 }
 
 abbrev pub invariant-loop-r-2 : goal.invariant-loop-r-2
-invariant-loop-r-2 g l = IsTrue (has_pod 20499 l.seats.pods)
+invariant-loop-r-2 l = IsTrue (has_pod 20499 l.seats.pods)

@@ -4,7 +4,7 @@ use Rattle.kn_tests_requests.proofs.Pods.{has_pod-changed}
 use Rattle.kn_tests_requests.proofs.seats.pod_queue_depth.Goals as goal
 
 pub loop-r-preserved : goal.loop-r-preserved
-loop-r-preserved g c =
+loop-r-preserved c =
     let same = has_pod-changed 0 0 (λ pod. record pod { queued = pod.queued ++ c.loop-r.r-counter ∷ [] }) (λ _. refl) c.loop-r.seats.pods in
     record {
       there = grind (arith, common_steps, same, c.queue_at-in-loop-r.ensures.queued, c.loop-r.invariant.there);

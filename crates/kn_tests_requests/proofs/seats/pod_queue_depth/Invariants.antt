@@ -4,7 +4,7 @@ use Rattle.kn_seats.specs.Pods.{has_pod, requests_at_all}
 use Rattle.kn_tests_requests.proofs.seats.pod_queue_depth.Given as goal
 
 abbrev pub invariant-loop-r : goal.invariant-loop-r
-invariant-loop-r g l = record {
+invariant-loop-r l = record {
   there : IsTrue (has_pod 0 l.seats.pods);
   counted : requests_at_all l.seats.pods + 5 ≡ l.r-counter;
   room : l.seats.request_room ≡ 20;

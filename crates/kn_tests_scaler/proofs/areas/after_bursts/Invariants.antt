@@ -1,5 +1,5 @@
 use Rattle.std.proofs.Common.{◌≡◌}
-use Rattle.kn_tests_scaler.specs.Areas.{IsEmpty}
+use Rattle.kn_tests_scaler.specs.Empty.{IsEmpty}
 use Rattle.kn_tests_scaler.proofs.areas.after_bursts.Given as goal
 
 abbrev pub invariant-loop : goal.invariant-loop
