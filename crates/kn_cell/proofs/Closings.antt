@@ -1,5 +1,5 @@
 -- Where one pass is all that there is, nobody has the turn, and the log has its numbers alone.
-use Rattle.std.proofs.Common.{◌≡◌, ◌⊎◌, inl, inr, ℕ, ◌+◌, ◌<◌, ◌≤◌, List, [], ◌∷◌, ◌++◌, true, false, length, sym, ap, ◌∙◌, subst, arith}
+use Rattle.std.proofs.Common.{◌≡◌, ◌≢◌, ◌⊎◌, inl, inr, ℕ, ◌+◌, ◌<◌, ◌≤◌, List, [], ◌∷◌, ◌++◌, true, false, length, sym, ap, ◌∙◌, subst, arith}
 use Rattle.std.specs.Prelude.{cond}
 use mathlib.Core.Option as maybe
 use mathlib.Core.Option.{some, some-injective}
@@ -40,7 +40,7 @@ module _ (key : Key) (log : List Past) (views : List View) (id : ℕ) (v : View)
         absurd (omega arith)
   ]
 
-  pub rests : (turn : ℕ) (homes : List (maybe.Option DeskState)) → v.turn ≡ false → ((turn ≡ 0) × IsResting key log homes views) ⊎ ((turn ≡ 1) × IsTaken log homes views)
+  pub rests : (turn : ℕ) (homes : List (maybe.Option DeskState)) → v.turn ≡ false → ((turn ≡ 0) × IsResting key log homes views) ⊎ ((turn ≢ 0) × IsTaken log homes views)
       → IsResting key log homes views
   rests turn homes idle phase = elim phase [
     | inl r ↦ r.1

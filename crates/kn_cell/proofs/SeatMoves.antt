@@ -24,7 +24,7 @@ use Rattle.kn_cell.proofs.PassMoves.{held_on}
 -- ---- the phase, where the views with the turn stay what they are
 
 abbrev Phase : Key → List Past → ℕ → List (Option DeskState) → List View → Type 0
-Phase key log turn homes views = ((turn ≡ 0) × IsResting key log homes views) ⊎ ((turn ≡ 1) × IsTaken log homes views)
+Phase key log turn homes views = ((turn ≡ 0) × IsResting key log homes views) ⊎ ((turn ≢ 0) × IsTaken log homes views)
 
 not_turn : (b : Bool) → (b ≡ true → ⊥) → b ≡ false
 not_turn true h = absurd (h refl)

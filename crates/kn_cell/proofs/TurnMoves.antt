@@ -1,8 +1,9 @@
 -- Each step on a word keeps the rule.
-use Rattle.std.proofs.Common.{◌≡◌, ◌≢◌, ◌⊎◌, inl, inr, ℕ, ◌+◌, ◌%◌, ◌^◌, ◌<◌, List, [], ◌∷◌, ◌++◌, Bool, true, false, length, refl, sym, ap, ◌∙◌, subst, arith, length-append}
+use Rattle.std.proofs.Common.{◌≡◌, ◌≢◌, ◌⊎◌, inl, inr, ℕ, zero, suc, ◌==◌, ◌+◌, ◌%◌, ◌^◌, ◌<◌, List, [], ◌∷◌, ◌++◌, Bool, true, false, length, refl, sym, ap, ◌∙◌, subst, arith, length-append, ne_eqb}
 use Rattle.std.specs.Prelude.{slice_index, slice_set, cond}
 use Rattle.std.proofs.Math.Nat.{mod-eq_of_lt}
 use mathlib.Core.Option.{none, some}
+use prog.Atomic.{either}
 use lib.ListN.{get_elem?}
 use Rattle.atomic_table.specs.Table.{State, Me, Step, keeps, takes, gives, Allows, stepped, Valid, Act, carried_after}
 use Rattle.atomic_table.proofs.Lists.{at_set, set_here, set_else, set_again}
@@ -44,12 +45,12 @@ learns_of key log views id v p me fresh =
       own = mine.knows.whole;
     }
 
--- ---- the swap of the turn word
+-- ---- the steps that take the turn: the word is never 0 after one
 
-take_free : (key : Key) (id : ℕ) (v : View) (st : Step DeskState) (s : State DeskState View) (k : IsKept key s)
-    → get_elem? s.views id ≡ some v → v.spent ≡ false → k.turn ≡ 0 → IsResting key k.log s.homes s.views
-    → May key id (v, []) 1 (λ _. 1) (Takes st (v, [])) s
-take_free key id v st s k me fresh zero_turn rest =
+take_free : (key : Key) (id : ℕ) (v : View) (st : Step DeskState) (f : ℕ → ℕ) (s : State DeskState View) (k : IsKept key s)
+    → ((n : ℕ) → f n ≢ 0) → get_elem? s.views id ≡ some v → v.spent ≡ false → k.turn ≡ 0 → IsResting key k.log s.homes s.views
+    → May key id (v, []) 1 f (Takes st (v, [])) s
+take_free key id v st f s k never me fresh zero_turn rest =
     let w = with_turn v k.log in
     let mine = k.passes.each id v me fresh in
     let moved : Passes key k.log (slice_set s.views id w) =
@@ -66,11 +67,11 @@ take_free key id v st s k me fresh zero_turn rest =
       ap (λ l. get_elem? l 0) rest.home,
       record {
         log = k.log;
-        turn = 1;
-        words = ap (λ l. slice_set l 1 1) k.words;
+        turn = f k.turn;
+        words = ap (λ l. slice_set l 1 (f (slice_index l 1))) k.words;
         passes = moved;
         phase = inr (
-          refl,
+          never k.turn,
           record {
             out = ap (λ l. slice_set l 0 none) rest.home;
             who = id;
@@ -95,16 +96,16 @@ take_free key id v st s k me fresh zero_turn rest =
       ),
     )
 
-take_held : (key : Key) (id : ℕ) (v : View) (st : Step DeskState) (s : State DeskState View) (k : IsKept key s)
-    → get_elem? s.views id ≡ some v → v.spent ≡ false → v.turn ≡ false → k.turn ≡ 1 → IsTaken k.log s.homes s.views
-    → May key id (v, []) 1 (λ _. 1) (Takes st (v, [])) s
-take_held key id v st s k me fresh idle one_turn held =
+take_held : (key : Key) (id : ℕ) (v : View) (st : Step DeskState) (f : ℕ → ℕ) (s : State DeskState View) (k : IsKept key s)
+    → ((n : ℕ) → f n ≢ 0) → get_elem? s.views id ≡ some v → v.spent ≡ false → v.turn ≡ false → k.turn ≢ 0 → IsTaken k.log s.homes s.views
+    → May key id (v, []) 1 f (Takes st (v, [])) s
+take_held key id v st f s k never me fresh idle has_turn held =
     let w = missed_one v in
     let mine = k.passes.each id v me fresh in
     let moved : Passes key k.log (slice_set s.views id w) =
     passes_move key k.log k.log s.views id v w k.passes me fresh (same_pass v v.turn (v.missed + 1) v.seen v.mine fresh) k.passes.legal k.passes.rows k.passes.bounds
     mine.knows (λ n seen mine' ne q. q) in
-    let found : slice_index s.words 1 ≡ 1 = ap (λ l. slice_index l 1) k.words ∙ one_turn in
+    let found : slice_index s.words 1 ≡ k.turn = ap (λ l. slice_index l 1) k.words in
     let apart : id ≢ held.who = (λ e. let is = at_same s.views id held.who v held.holder me held.there e in let t = held.has in let t' = ap (λ (x : View). x.turn) is in cc) in
     let two = two_weights weight s.views id held.who v held.holder me held.there apart in
     let a : weight v ≡ 1 + v.free + v.back = ap (λ b. cond b 0 (1 + v.free + v.back)) fresh in
@@ -115,9 +116,9 @@ take_held key id v st s k me fresh idle one_turn held =
       w,
       keeps,
       tt,
-      record { log = k.log; turn = 1; words = ap (λ l. slice_set l 1 1) k.words; passes = moved; phase = inr (refl, still) },
+      record { log = k.log; turn = f k.turn; words = ap (λ l. slice_set l 1 (f (slice_index l 1))) k.words; passes = moved; phase = inr (never k.turn, still) },
       (
-        (λ z. let no : 0 ≡ 1 = sym z ∙ found in absurd (omega arith)),
+        (λ z. absurd (has_turn (sym found ∙ z))),
         (λ _. record { after = refl; others = subst (λ (q : Key). 1 + v.free + v.back < q.passes) (sym mine.key_is) few }),
       ),
     )
@@ -137,19 +138,26 @@ take_held key id v st s k me fresh idle one_turn held =
       ];
     }
 
-take_from : (key : Key) (slots id : ℕ) (v : View) (st : Step DeskState) → v.turn ≡ false → v.spent ≡ false
-    → Allows (IsKept key) slots id (v, []) 1 (λ _. 1) (Takes st (v, []))
-take_from key slots id v st idle fresh s k wide me _ =
+take_from : (key : Key) (slots id : ℕ) (v : View) (st : Step DeskState) (f : ℕ → ℕ) → ((n : ℕ) → f n ≢ 0) → v.turn ≡ false → v.spent ≡ false
+    → Allows (IsKept key) slots id (v, []) 1 f (Takes st (v, []))
+take_from key slots id v st f never idle fresh s k wide me _ =
     elim k.phase [
-      | inl p ↦ take_free key id v st s k me fresh p.0 p.1
-      | inr p ↦ take_held key id v st s k me fresh idle p.0 p.1
+      | inl p ↦ take_free key id v st f s k never me fresh p.0 p.1
+      | inr p ↦ take_held key id v st f s k never me fresh idle p.0 p.1
     ]
 
-pub take_allows : (key : Key) (slots id : ℕ) (m : Me DeskState View) (st : Step DeskState) → m.0.turn ≡ false → m.0.spent ≡ false → m.1 ≡ []
-    → Allows (IsKept key) slots id m 1 (λ _. 1) (Takes st m)
-take_allows key slots id m st idle fresh none_held =
-    subst (λ (c : List (ℕ × DeskState)). Allows (IsKept key) slots id (m.0, c) 1 (λ _. 1) (Takes st (m.0, c)))
-    (sym none_held) (take_from key slots id m.0 st idle fresh)
+pub take_allows : (key : Key) (slots id : ℕ) (m : Me DeskState View) (st : Step DeskState) (f : ℕ → ℕ) → ((n : ℕ) → f n ≢ 0) → m.0.turn ≡ false → m.0.spent ≡ false → m.1 ≡ []
+    → Allows (IsKept key) slots id m 1 f (Takes st m)
+take_allows key slots id m st f never idle fresh none_held =
+    subst (λ (c : List (ℕ × DeskState)). Allows (IsKept key) slots id (m.0, c) 1 f (Takes st (m.0, c)))
+    (sym none_held) (take_from key slots id m.0 st f never idle fresh)
+
+-- a compare-exchange of 0 to 1
+pub one_for_none : (n : ℕ) → either (n == 0) 1 n ≢ 0
+one_for_none zero = λ e. let no : 1 ≡ 0 = e in absurd (omega arith)
+one_for_none (suc n) =
+    let no : suc n ≢ 0 = (λ e. absurd (omega (arith, e))) in
+    subst (λ b. either b 1 (suc n) ≢ 0) (sym (ne_eqb (suc n) 0 no)) no
 
 -- the value of the first slot
 abbrev pub first_or : DeskState → List (ℕ × DeskState) → DeskState
@@ -161,9 +169,9 @@ first_or d (x ∷ xs) = x.1
 record_held : (key : Key) (id : ℕ) (v : View) (x : DeskState) (row : Past) (st : Step DeskState) (s : State DeskState View) (k : IsKept key s)
     → get_elem? s.views id ≡ some v → v.turn ≡ true → v.spent ≡ false → length v.seen < 2 ^ 63
     → x.history ≡ v.seen ++ row ∷ [] → row.pass ≡ v.number → IsInBounds row.event → IsLegal (opening v.key) x.history
-    → IsTaken k.log s.homes s.views → k.turn ≡ 1
+    → IsTaken k.log s.homes s.views → k.turn ≢ 0
     → May key id (v, (0, x) ∷ []) 0 (λ n. (n + 1) % 2 ^ 64) (Records st (v, (0, x) ∷ [])) s
-record_held key id v x row st s k me turn fresh small added own bounds legal held one_turn =
+record_held key id v x row st s k me turn fresh small added own bounds legal held has_turn =
     let next = x.history in
     let w = recorded v next in
     let mine = k.passes.each id v me fresh in
@@ -196,12 +204,11 @@ record_held key id v x row st s k me turn fresh small added own bounds legal hel
       tt,
       record {
         log = next;
-        turn = 1;
-        words = ap (λ l. slice_set l 0 ((slice_index s.words 0 + 1) % 2 ^ 64)) k.words
-            ∙ (ap (λ n. n ∷ k.turn ∷ []) counted ∙ ap (λ t. length next ∷ t ∷ []) one_turn);
+        turn = k.turn;
+        words = ap (λ l. slice_set l 0 ((slice_index s.words 0 + 1) % 2 ^ 64)) k.words ∙ ap (λ n. n ∷ k.turn ∷ []) counted;
         passes = moved;
         phase = inr (
-          refl,
+          has_turn,
           record {
             out = held.out;
             who = id;
@@ -233,11 +240,11 @@ record_allows key slots id m x row st turn fresh small slot added own bounds leg
     subst (λ (c : List (ℕ × DeskState)). Allows (IsKept key) slots id (m.0, c) 0 (λ n. (n + 1) % 2 ^ 64) (Records st (m.0, c)))
     (sym slot) (record_from key slots id m.0 x row st turn fresh small added own bounds legal)
 
--- ---- the store of 0 to the turn word
+-- ---- the swap of 0 into the turn word
 
 give_held : (key : Key) (id : ℕ) (v : View) (x : DeskState) (st : Step DeskState) (s : State DeskState View) (k : IsKept key s)
     → get_elem? s.views id ≡ some v → v.turn ≡ true → v.spent ≡ false → GoesWith v.key v.seen x → IsTaken k.log s.homes s.views
-    → May key id (v, (0, x) ∷ []) 1 (λ _. 0) (λ _. Gives st (v, (0, x) ∷ []) 0) s
+    → May key id (v, (0, x) ∷ []) 1 (λ _. 0) (Gives st (v, (0, x) ∷ [])) s
 give_held key id v x st s k me turn fresh goes held =
     let w = without_turn v in
     let mine = k.passes.each id v me fresh in
@@ -277,7 +284,7 @@ give_held key id v x st s k me turn fresh goes held =
     not_turn false h = refl
 
 give_from : (key : Key) (slots id : ℕ) (v : View) (x : DeskState) (st : Step DeskState) → v.turn ≡ true → v.spent ≡ false → GoesWith v.key v.seen x
-    → Allows (IsKept key) slots id (v, (0, x) ∷ []) 1 (λ _. 0) (λ _. Gives st (v, (0, x) ∷ []) 0)
+    → Allows (IsKept key) slots id (v, (0, x) ∷ []) 1 (λ _. 0) (Gives st (v, (0, x) ∷ []))
 give_from key slots id v x st turn fresh goes s k wide me _ =
     elim k.phase [
       | inl p ↦ let not = p.1.free id v me in let no : true ≡ false = sym turn ∙ not in cc
@@ -285,9 +292,9 @@ give_from key slots id v x st turn fresh goes s k wide me _ =
     ]
 
 pub give_allows : (key : Key) (slots id : ℕ) (m : Me DeskState View) (x : DeskState) (st : Step DeskState) → m.0.turn ≡ true → m.0.spent ≡ false
-    → m.1 ≡ (0, x) ∷ [] → GoesWith m.0.key m.0.seen x → Allows (IsKept key) slots id m 1 (λ _. 0) (λ _. Gives st m 0)
+    → m.1 ≡ (0, x) ∷ [] → GoesWith m.0.key m.0.seen x → Allows (IsKept key) slots id m 1 (λ _. 0) (Gives st m)
 give_allows key slots id m x st turn fresh slot goes =
-    subst (λ (c : List (ℕ × DeskState)). Allows (IsKept key) slots id (m.0, c) 1 (λ _. 0) (λ _. Gives st (m.0, c) 0))
+    subst (λ (c : List (ℕ × DeskState)). Allows (IsKept key) slots id (m.0, c) 1 (λ _. 0) (Gives st (m.0, c)))
     (sym slot) (give_from key slots id m.0 x st turn fresh goes)
 
 -- ---- a load
@@ -306,7 +313,7 @@ confirm_allows key slots id m st fresh s k wide me _ =
         turn = k.turn;
         words = ap (λ l. slice_set l 0 (slice_index l 0)) k.words;
         passes = subst (λ vs. Passes key k.log vs) same k.passes;
-        phase = subst (λ vs. ((k.turn ≡ 0) × IsResting key k.log s.homes vs) ⊎ ((k.turn ≡ 1) × IsTaken k.log s.homes vs)) same k.phase;
+        phase = subst (λ vs. ((k.turn ≡ 0) × IsResting key k.log s.homes vs) ⊎ ((k.turn ≢ 0) × IsTaken k.log s.homes vs)) same k.phase;
       },
       (
         refl,

@@ -47,7 +47,7 @@ pub record IsKept (key : Key) (s : State DeskState View) : Type 0 where
   pub turn : ℕ
   pub words : s.words ≡ length log ∷ turn ∷ []
   pub passes : Passes key log s.views
-  pub phase : ((turn ≡ 0) × IsResting key log s.homes s.views) ⊎ ((turn ≡ 1) × IsTaken log s.homes s.views)
+  pub phase : ((turn ≡ 0) × IsResting key log s.homes s.views) ⊎ ((turn ≢ 0) × IsTaken log s.homes s.views)
 
 -- what a pass learns where it takes the turn
 pub record Learns (v : View) (log : List Past) : Type 0 where

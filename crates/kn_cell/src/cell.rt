@@ -12,7 +12,7 @@ ghost use Rattle.kn_cell.specs.Shown.{first_shown, Looks, Adds, Misfits, Tries, 
 use crate::desk::Desk;
 use crate::past::{Full, History, TryError};
 use crate::rule::{Cut, Glue, Order};
-use crate::steps::{Place, confirm, give, take};
+use crate::steps::{AWAITED, Place, confirm, give, take};
 use crate::turn::{attempt, proxied_at, stand_at, starting_at, take_turn};
 use crate::view::{Key, View};
 use atomic_table::{Refused, Table};
@@ -127,7 +127,8 @@ impl RevisionCell {
         let board = &self.table.shared;
         let number = pass.number;
         let place = &mut pass.place;
-        if !take(board, place) {
+        // A mark of AWAITED erases no other's; at worst it wakes one for nothing.
+        if take(board, place, AWAITED) != 0 {
             return Err(TryError::Busy);
         }
         match attempt(board, place, number, act, time) {

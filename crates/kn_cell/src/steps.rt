@@ -15,15 +15,22 @@ pub type Board = Shared<Desk, View, Key, Order>;
 
 pub type Place = Seat<Desk, View>;
 
-/// Takes the turn, or finds that another has it.
-pub fn take(board: &Board, place: &mut Place) -> bool
+// What the word of the turn says, where it isn't 0: somebody has the turn; somebody has it, and others may be parked until it is given back.
+pub const TAKEN: u64 = 1;
+
+pub const AWAITED: u64 = 2;
+
+/// Takes the turn and leaves this mark, and answers what the word said before: 0 where the turn was free. Else another has the turn.
+pub fn take(board: &Board, place: &mut Place, mark: u64) -> u64
     requires same { place.old.table_id ≡ board.now.table_id }
     requires sized { board.now.table_id.words ≡ 2 }
+    requires mark { mark ≢ 0 }
     requires free { (place.old.me.0.turn ≡ false) × (place.old.me.0.spent ≡ false) × (place.old.me.1 ≡ []) }
     ensures same { (place.new.table_id ≡ place.old.table_id) × (place.new.id ≡ place.old.id) }
-    ensures turn { MatchBool result (GetsTurn place.old.me place.new.me) (Misses place.old.me place.new.me) }
+    ensures turn { result ≡ 0 → GetsTurn place.old.me place.new.me }
+    ensures held { result ≢ 0 → Misses place.old.me place.new.me }
 {
-    board.swap::<Take>(place, 1, 1) == 0
+    board.swap::<Take>(place, 1, mark)
 }
 
 /// Counts the row that was added to the history in the slot.
@@ -39,7 +46,7 @@ pub fn record(board: &Board, place: &mut Place)
     board.fetch_add::<Record>(place, 0, 1);
 }
 
-/// Gives the turn back.
+/// Gives the turn back, and wakes one where somebody may be parked.
 pub fn give(board: &Board, place: &mut Place)
     requires same { place.old.table_id ≡ board.now.table_id }
     requires sized { board.now.table_id.words ≡ 2 }
@@ -48,8 +55,9 @@ pub fn give(board: &Board, place: &mut Place)
     ensures same { (place.new.table_id ≡ place.old.table_id) × (place.new.id ≡ place.old.id) }
     ensures free { place.new.me ≡ (without_turn place.old.me.0, []) }
 {
-    board.store::<Give>(place, 1, 0);
-    board.wake_one(1);
+    if board.swap::<Give>(place, 1, 0) == AWAITED {
+        board.wake_one(1);
+    }
 }
 
 /// Changes nothing, and learns that what the seat knows is so.

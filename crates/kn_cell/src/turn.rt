@@ -10,9 +10,12 @@ ghost use Rattle.kn_cell.specs.Rule.{without_turn};
 ghost use Rattle.kn_cell.specs.Turns.{HasTurn, WaitsForTurn, RecordsRow, Overflows};
 
 use crate::past::Full;
-use crate::steps::{Board, Place, give, record, take};
+use crate::steps::{AWAITED, Board, Place, TAKEN, give, record, take};
 use kn_event::{Act, Stand, Told};
 use std::sync::Wait;
+
+// How often a pass looks again before it parks, since most turns are short.
+const LOOKS: u64 = 100;
 
 /// Waits until it has the turn.
 pub fn take_turn<R: Wait>(rt: &R, board: &Board, place: &mut Place)
@@ -22,11 +25,28 @@ pub fn take_turn<R: Wait>(rt: &R, board: &Board, place: &mut Place)
     ensures same { (place.new.table_id ≡ place.old.table_id) × (place.new.id ≡ place.old.id) }
     ensures turn { WaitsForTurn place.old.me.0 place.new.me }
 {
+    let mut found = take(board, place, TAKEN);
+    if found == 0 {
+        return;
+    }
+    for _ in 0..LOOKS {
+        if found != TAKEN {
+            // A mark of one that is parked was overwritten: the swaps below put it back.
+            break;
+        }
+        std::hint::spin_loop();
+        if board.peek(1) == 0 {
+            found = take(board, place, TAKEN);
+            if found == 0 {
+                return;
+            }
+        }
+    }
     for _ in rt.forever() {
-        if take(board, place) {
+        if take(board, place, AWAITED) == 0 {
             return;
         }
-        board.park(rt, 1, 1);
+        board.park(rt, 1, AWAITED);
     }
     unreachable!()
 }

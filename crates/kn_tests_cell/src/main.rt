@@ -2,6 +2,7 @@
 //! doesn't depend on which thread comes first.
 #![tactic(auto)]
 
+mod meeting;
 mod shared;
 mod threads;
 mod turns;
@@ -10,5 +11,7 @@ fn main(rt: HostRuntime) -> anyhow::Result<()> {
     turns::history_room(&rt)?;
     turns::takes_turns(&rt)?;
     threads::four_threads(&rt)?;
-    threads::replayed_by_one(&rt)
+    threads::replayed_by_one(&rt)?;
+    meeting::crowd(&rt)?;
+    meeting::busy(&rt)
 }

@@ -2,6 +2,7 @@
 ghost use Rattle.std.specs.Prelude.{◌≡◌, ◌+◌, ◌≤◌, All, IfOk, OnOk, vec_len};
 ghost use Rattle.kn_tests_cell.specs.Numbers.{IsLeaf, IsStill};
 
+use crate::meeting::{look_on, try_until_busy};
 use crate::shared::{Left, close, left_of, may_come, on, one_pod, open};
 use anyhow::bail;
 use kn_case::case;
@@ -10,16 +11,39 @@ use kn_core::Revision;
 use kn_event::{Act, EntryLog, Event, Told};
 use std::alloc::{AllocError, Global};
 use std::sync::Wait;
-use std::sync::atomic::{AtomicU64, Ordering};
+use std::sync::atomic::{AtomicBool, AtomicU64, Ordering};
 use std::thread::{Threads, map_vec};
 
 /// What a thread does.
 #[derive(Clone, Copy)]
-enum Work {
-    /// 100 arrivals, each of which is finished.
-    Serve,
+pub enum Work {
+    /// So many arrivals, each of which is finished.
+    Serve(u64),
     /// 60 mixed acts.
     Mix,
+    /// The first thread looks until the second, which tries, is told that it has the turn.
+    Meet,
+}
+
+/// What the threads share beside the cell.
+#[derive(Drop)]
+pub struct Notes {
+    /// How many threads have a number of their own.
+    numbers: AtomicU64,
+    /// Whether one has begun to look.
+    pub looks: AtomicBool,
+    /// Whether one was told that another has the turn.
+    pub busy: AtomicBool,
+}
+
+impl Notes {
+    fn new() -> Notes {
+        Notes {
+            numbers: AtomicU64::new(1),
+            looks: AtomicBool::new(false),
+            busy: AtomicBool::new(false),
+        }
+    }
 }
 
 /// The word picks an act; about as many requests arrive as end.
@@ -46,11 +70,11 @@ fn serve_one<R: Wait>(rt: &R, cell: &RevisionCell, pass: &mut Pass, tag: u64)
     }
 }
 
-fn serve<R: Wait>(rt: &R, cell: &RevisionCell, pass: &mut Pass)
+fn serve<R: Wait>(rt: &R, cell: &RevisionCell, pass: &mut Pass, count: u64)
     requires { pass.old.cell ≡ cell.now }
     ensures { IsStill pass.old pass.new }
 {
-    for i in 0..100 {
+    for i in 0..count {
         serve_one(rt, cell, pass, i);
     }
 }
@@ -68,23 +92,23 @@ fn mix<R: Wait>(rt: &R, cell: &RevisionCell, pass: &mut Pass, seed: u64)
     }
 }
 
-/// A thread's work with its pass. The counter gives each thread another seed.
+/// A thread's work with its pass. Each thread has another number.
 fn work_with<R: Wait>(
     rt: &R,
     cell: &RevisionCell,
     mut pass: Pass,
     work: Work,
-    seeds: &AtomicU64,
+    notes: &Notes,
 ) -> Pass
     requires { IsLeaf cell.now pass }
     ensures { IsLeaf cell.now result }
 {
+    let number = notes.numbers.fetch_add(1, Ordering::SeqCst);
     match work {
-        Work::Serve => serve(rt, cell, &mut pass),
-        Work::Mix => {
-            let seed = seeds.fetch_add(1, Ordering::SeqCst);
-            mix(rt, cell, &mut pass, seed);
-        }
+        Work::Serve(count) => serve(rt, cell, &mut pass, count),
+        Work::Mix => mix(rt, cell, &mut pass, number),
+        Work::Meet if number == 1 => look_on(rt, cell, &mut pass, notes),
+        Work::Meet => try_until_busy(cell, &mut pass, notes),
     }
     pass
 }
@@ -128,50 +152,54 @@ fn work_all<R: Threads + Wait + Sync>(
     cell: &RevisionCell,
     passes: Vec<Pass>,
     work: Work,
+    notes: &Notes,
 ) -> Result<Vec<Pass>, AllocError>
     requires { All (IsLeaf cell.now) passes.items }
     ensures len { IfOk result (λ v. vec_len v ≡ vec_len passes) }
     ensures each { IfOk result (λ v. All (IsLeaf cell.now) v.items) }
 {
-    let seeds = AtomicU64::new(1);
     map_vec(
         rt,
         passes,
         &|pass: Pass| -> Pass
             requires { IsLeaf cell.now pass }
             ensures { IsLeaf cell.entry.now result }
-        { work_with(rt, cell, pass, work, &seeds) },
+        { work_with(rt, cell, pass, work, notes) },
     )
 }
 
-/// What comes of several threads: what is told as the pod gets Ready, and what is left.
+/// What comes of several threads: what is told as the pod gets Ready, what is left, and whether one was told Busy.
 #[derive(Drop)]
-struct Outcome {
+pub struct Outcome {
     ready: Option<Result<Told, Full>>,
-    left: Left,
-    history: History,
+    pub left: Left,
+    pub history: History,
+    pub busy: bool,
 }
 
-/// So many threads, each with its own pass, over a revision whose pod is Ready at once.
-fn by_threads<R: Threads + Wait + Sync>(
+/// So many threads, each with its own pass, over a revision whose pod is Ready at once, with room for so many rows.
+pub fn by_threads<R: Threads + Wait + Sync>(
     rt: &R,
     alloc: Global,
     seats: u64,
+    room: u64,
     n: usize,
     work: Work,
 ) -> Option<Outcome>
     requires { n ≤ 999 }
 {
-    let (cell, mut first) = open(alloc, seats, 10, 1000, n as u64 + 1)?;
+    let notes = Notes::new();
+    let (cell, mut first) = open(alloc, seats, 10, room, n as u64 + 1)?;
     let ready = on(rt, &cell, &mut first, Act::Ready(0), 0);
     let passes = cut(alloc, &cell, &mut first, n).ok()?;
-    let passes = work_all(rt, &cell, passes, work).ok()?;
+    let passes = work_all(rt, &cell, passes, work, &notes).ok()?;
     take_in(&cell, &mut first, passes);
     let (left, history) = close(cell, first);
     Some(Outcome {
         ready,
         left,
         history,
+        busy: notes.busy.load(Ordering::SeqCst),
     })
 }
 
@@ -182,7 +210,7 @@ fn brought(rows: &[Past], pass: u64) -> usize {
 
 /// Each request of four threads runs at once and ends. Beside the row of the Ready pod there are 200 of each thread.
 pub fn four_threads<R: Print + AllocGlobal + Threads + Wait + Sync>(rt: &R) -> anyhow::Result<()> {
-    let Some(outcome) = by_threads(rt, rt.alloc(), 0, 4, Work::Serve) else {
+    let Some(outcome) = by_threads(rt, rt.alloc(), 0, 1000, 4, Work::Serve(100)) else {
         bail!("memory is lacking");
     };
     let rows = outcome.history.items();
@@ -239,7 +267,7 @@ fn replay_new(alloc: Global, rows: &[Past]) -> Option<(usize, Left)> {
 pub fn replayed_by_one<R: Print + AllocGlobal + Threads + Wait + Sync>(
     rt: &R,
 ) -> anyhow::Result<()> {
-    let Some(outcome) = by_threads(rt, rt.alloc(), 2, 8, Work::Mix) else {
+    let Some(outcome) = by_threads(rt, rt.alloc(), 2, 1000, 8, Work::Mix) else {
         bail!("memory is lacking");
     };
     let rows = outcome.history.items();

@@ -10,7 +10,7 @@ use kn_event::{Act, Stand, Told};
 use std::alloc::{AllocError, Global};
 use std::sync::Wait;
 
-fn try_on(
+pub fn try_on(
     cell: &RevisionCell,
     pass: &mut Pass,
     act: Act,
@@ -25,7 +25,7 @@ fn try_on(
     Some(cell.try_on(pass, act, time))
 }
 
-fn look<R: Wait>(rt: &R, cell: &RevisionCell, pass: &mut Pass, request: u64) -> Stand
+pub fn look<R: Wait>(rt: &R, cell: &RevisionCell, pass: &mut Pass, request: u64) -> Stand
     requires { pass.old.cell ≡ cell.now }
     ensures { IsStill pass.old pass.new }
 {

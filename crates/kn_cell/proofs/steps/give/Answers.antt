@@ -4,8 +4,8 @@ use Rattle.atomic_table.specs.Table.{step}
 use Rattle.kn_cell.proofs.TurnMoves.{give_allows}
 use Rattle.kn_cell.proofs.steps.give.Goals as goal
 
-pub store-requires : goal.store-requires
-store-requires c =
+pub swap-requires : goal.swap-requires
+swap-requires c =
     let board = c.args.board.now in
     let place = c.args.place.now in
     let a = c.requires.slot in (

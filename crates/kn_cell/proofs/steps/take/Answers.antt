@@ -8,5 +8,8 @@ pub swap-requires : goal.swap-requires
 swap-requires c =
     let board = c.args.board.now in
     let place = c.args.place.now in
-    let free = c.requires.free in
-    (c.requires.same, omega arith, take_allows board.key board.table_id.slots place.id place.me (step board.table_id.slots 1 1 0 none) free.0 free.1 free.2)
+    let free = c.requires.free in (
+      c.requires.same,
+      omega arith,
+      take_allows board.key board.table_id.slots place.id place.me (step board.table_id.slots 1 c.args.mark 0 none) (λ _. c.args.mark) (λ _. c.requires.mark) free.0 free.1 free.2,
+    )

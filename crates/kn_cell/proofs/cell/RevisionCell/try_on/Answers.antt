@@ -15,7 +15,7 @@ returns c =
     let v = place.me.0 in
     let m = c.take.new.place.me in
     let w = c.attempt.new.place.me in
-    let turn : GetsTurn place.me m = c.if-not-take.ensures.turn in
+    let turn : GetsTurn place.me m = c.take.ensures.turn c.if-take-ne0.false in
     let same : v.missed ≤ v.missed = omega arith in
     let got = waits_of v v place.me.1 m same (λ _. refl) c.pass.invariant.fresh refl turn in
     let kept : m.0.missed ≡ v.missed = ap (λ (x : Me DeskState View). x.0.missed) turn.after in
@@ -41,6 +41,6 @@ attempt-requires-clause-turn c =
     let place = c.pass.inside.place in
     let v = place.me.0 in
     let m = c.take.new.place.me in
-    let turn : GetsTurn place.me m = c.if-not-take.ensures.turn in
+    let turn : GetsTurn place.me m = c.take.ensures.turn c.if-take-ne0.false in
     let same : v.missed ≤ v.missed = omega arith in
     (waits_of v v place.me.1 m same (λ _. refl) c.pass.invariant.fresh refl turn).has
