@@ -1,5 +1,5 @@
-//! What a client sends, as a line spells it: parts with `|` between them. A part `START` or `CODED` stands for the lines
-//! below, and `N*TEXT` for so many times the text.
+//! What a client sends, as a line spells it: parts with `|` between them. A part `START` or `CODED` stands for the
+//! lines below, and `N*TEXT` for so many times the text.
 use kn_case::spelled;
 use std::alloc::{AllocError, Global};
 

@@ -1,5 +1,5 @@
-//! Requests as they are read, refused and sent on. Each line of standard input has a way to try and what a client sends,
-//! and below it is printed what comes of it:
+//! Requests as they are read, refused and sent on. Each line of standard input has a way to try and what a client
+//! sends, and below it is printed what comes of it:
 //!
 //! - `direct` and `activator`: what is sent on, not through the activator or through it;
 //! - `pieces`, `fronts`, `reads`: the same through it for reads of each size, for each front of the bytes, and where one

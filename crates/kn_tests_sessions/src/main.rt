@@ -1,4 +1,4 @@
-//! Rehearsals of what `kactd` does. Each line of standard input is one over memory, and what comes of it is printed below:
+//! Rehearsals of what `kactd` does. Each line of standard input is one over memory, and what comes of it is printed:
 //!
 //! - `request INPUT ..`: a single request by `serve_one`;
 //! - `session ROOM INPUT ..|TEXT|..||TEXT`: a session of a slot for each input, the texts that are looked for in its
@@ -6,8 +6,8 @@
 //! - `opens WORDS` and `fails WORDS`: `kactd_run` with these words, where listening goes well or fails.
 //!
 //! An input is `good`, `other` (it names another revision) or `cut`. Behind it, or in a session behind a `/`, stands
-//! which call of its caller or of its link fails, as `caller=0`. Then come turns of the ticker, and sessions over a gate,
-//! a ticker that goes on, callers that fail, and TCP on loopback; at last what is opened there.
+//! which call of its caller or of its link fails, as `caller=0`. Then come turns of the ticker, and sessions over a
+//! gate, a ticker that goes on, callers that fail, and TCP on loopback; at last what is opened there.
 #![tactic(auto)]
 
 mod faults;

@@ -1,5 +1,5 @@
-//! Callers and links over TCP on loopback. Each line of standard input is a request and a pod's reply with `|` between them,
-//! and below it is printed whether the reply came whole.
+//! Callers and links over TCP on loopback. Each line of standard input is a request and a pod's reply with `|` between
+//! them, and below it is printed whether the reply came whole.
 #![tactic(auto)]
 
 mod callers;
