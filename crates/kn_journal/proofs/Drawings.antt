@@ -1,5 +1,5 @@
 -- Calls that read, one after the other.
-use Rattle.std.proofs.Common.{◌≡◌, ◌∙◌, ◌⊎◌, ◌+◌, ◌≤◌, inr, refl, subst, sym, ℕ, List, length, Option, None, Some, arith}
+use Rattle.std.proofs.Common.{◌≡◌, ◌∙◌, ◌+◌, ◌≤◌, inr, refl, subst, sym, ℕ, List, length, Option, None, Some, arith}
 use Rattle.std.specs.Prelude.{Result, Ok, Err, IfErr}
 use Rattle.std.proofs.lemmas.Grind.{common_steps}
 use Rattle.kn_io.specs.declared.traits.Source.{Ghosts}

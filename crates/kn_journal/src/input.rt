@@ -1,5 +1,5 @@
 //! An input that is taken byte by byte, over a source that gives it in pieces.
-ghost use Rattle.std.specs.Prelude.{◌≡◌, ◌⊎◌, ◌+◌, ◌<◌, ◌≤◌, [], Some, length, drop, IfOk, IsErr, OnErr};
+ghost use Rattle.std.specs.Prelude.{◌≡◌, ◌+◌, ◌<◌, ◌≤◌, [], Some, length, drop, IfOk, IsErr, OnErr};
 ghost use Rattle.std.specs.Io.KnownBytes.{Keeps};
 ghost use Rattle.kn_journal.specs.Drawing.{Draws, byte_error};
 ghost use Rattle.kn_journal.specs.Reading.{TakesByte, most_taken, taken_with, unread};

@@ -1,5 +1,5 @@
 //! The lines of an input, one at a time.
-ghost use Rattle.std.specs.Prelude.{◌≡◌, ◌≢◌, ◌↔◌, ◌⊎◌, ◌+◌, ◌≤◌, ◌<◌, ℕ, List, [], ◌∷◌, ◌++◌, true, false, Contains, length, take, drop, replicate, IsSome, IsTrue, IfOk, IfSome, MatchOption, OnOk, vec_capacity, vec_len};
+ghost use Rattle.std.specs.Prelude.{◌≡◌, ◌≢◌, ◌↔◌, ◌+◌, ◌≤◌, ◌<◌, ℕ, List, [], ◌∷◌, ◌++◌, true, false, Contains, length, take, drop, replicate, IsSome, IsTrue, IfOk, IfSome, MatchOption, OnOk, vec_capacity, vec_len};
 ghost use Rattle.kn_journal.specs.Drawing.{Draws, line_error};
 ghost use Rattle.kn_journal.specs.Lines.{line_most, lines};
 ghost use Rattle.kn_journal.specs.Reading.{Counts, HasLongLine, TakesLine, TakesPart, most_taken, unread};

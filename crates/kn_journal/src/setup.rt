@@ -1,6 +1,5 @@
 //! A setup, read from the lines that come next: its first line, and for a revision that scales two blocks.
-ghost use Rattle.std.specs.Prelude.{◌≡◌, ◌⊎◌, ◌+◌, ◌≤◌, ◌++◌, ◌∷◌, [], Err, None, Ok, Some, IfErr, IfOk, OnOk, codes};
-ghost use Rattle.kn_io.specs.Causes.{Rose};
+ghost use Rattle.std.specs.Prelude.{◌≡◌, ◌+◌, ◌≤◌, ◌++◌, ◌∷◌, [], Err, None, Ok, Some, IfErr, IfOk, OnOk, codes};
 ghost use Rattle.kn_event.specs.Ranges.{AreSlots};
 ghost use Rattle.kn_config.specs.Config.{IsConfig};
 ghost use Rattle.kn_event.specs.FixedSpec.{fixed_spec};
@@ -8,7 +7,7 @@ ghost use Rattle.kn_journal.specs.Journal.{IsSetup, opening_part, version_by};
 ghost use Rattle.kn_journal.specs.Setup.{IsBlockText, ReadsBack, behind_line, block_part, blocks_part, blocks_text, revision_part, setup_of, setup_part, word_in, word_part};
 ghost use Rattle.kn_journal.specs.Lines.{ends_with_cr};
 ghost use Rattle.kn_journal.specs.SetupLine.{IsSetupLine};
-ghost use Rattle.kn_journal.specs.Reading.{IsBalanced, IsSpent, TakesPart, most_taken, unread};
+ghost use Rattle.kn_journal.specs.Reading.{TakesPart, unread};
 ghost use Rattle.kn_journal.specs.Drawing.{Draws, error_in};
 ghost use Rattle.kn_journal.specs.Telling.{IsLineFault, Judges, LeavesRest, StopsAmid, Tells, config_error, revision_error};
 

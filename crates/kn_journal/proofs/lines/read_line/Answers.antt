@@ -1,5 +1,5 @@
 -- A line that was ahead, or one that is read byte by byte.
-use Rattle.std.proofs.Common.{◌≡◌, sym, arith}
+use Rattle.std.proofs.Common.{sym, arith}
 use Rattle.kn_journal.proofs.Drawings.{draws_ahead}
 use Rattle.kn_journal.proofs.lines.read_line.Goals as goal
 
