@@ -403,6 +403,15 @@ followed_of (error.TimeTooLarge line) h = tt
 followed_of error.NoEnd h = tt
 followed_of (error.AfterEnd line) h = tt
 
+-- an end that is no other one
+abbrev pub IsMemory : Status → Type 0
+IsMemory status.Memory = Unit {0}
+IsMemory _ = ⊥
+
+abbrev pub IsWriteFault : Status → Type 0
+IsWriteFault status.WriteFault = Unit {0}
+IsWriteFault _ = ⊥
+
 pub fault_of : (e : JournalError) → status_of e ≡ status.ReadFault → e ≡ error.ReadFault
 fault_of error.ReadFault h = refl
 fault_of error.Memory h = cc

@@ -11,7 +11,7 @@ use Rattle.kn_replay.specs.Replaying.{Follows, FollowsBehind, IsBehind, IsRefusa
 use Rattle.kn_replay.specs.Tally.{Counted}
 use Rattle.kn_replay.proofs.Behind.{journal_behind}
 use Rattle.kn_replay.proofs.Cuts.{journal_follows_cut, opening_cut}
-use Rattle.kn_replay.proofs.Replays.{beyond_is, either, ends_left, ends_opened, fault_of, followed_replayed, journal_cut, journal_fails, journal_follows, journal_memory, never_memory, never_ok, no_write_fault, nothing_ahead, rose_on}
+use Rattle.kn_replay.proofs.Replays.{IsMemory, IsWriteFault, beyond_is, either, ends_left, ends_opened, fault_of, followed_replayed, journal_cut, journal_fails, journal_follows, journal_memory, never_memory, never_ok, no_write_fault, nothing_ahead, rose_on}
 use Rattle.kn_replay.proofs.replay.replay_journal.Goals as goal
 
 pub returns-in-Err-clause-report : goal.returns-in-Err-clause-report
@@ -19,22 +19,22 @@ returns-in-Err-clause-report g c =
     journal_memory (g.S.Source.left c.args.source.now) (g.S.Source.left c.args.source.now) (g.S.Source.given c.args.source.now - g.S.Source.given c.args.source.now) (g.O.Sink.held c.args.out.now)
 
 pub returns-in-Err-clause-ended : goal.returns-in-Err-clause-ended
-returns-in-Err-clause-ended g c is = cc
+returns-in-Err-clause-ended g c is = absurd (subst IsMemory is tt)
 
 pub returns-in-Err-clause-rest : goal.returns-in-Err-clause-rest
 returns-in-Err-clause-rest g c refused = absurd refused
 
 pub returns-in-Err-clause-cut : goal.returns-in-Err-clause-cut
-returns-in-Err-clause-cut g c is = cc
+returns-in-Err-clause-cut g c is = absurd (subst IsMemory is tt)
 
 pub returns-in-Err-clause-memory : goal.returns-in-Err-clause-memory
 returns-in-Err-clause-memory g c is = refl
 
 pub returns-in-Err-clause-read_fault : goal.returns-in-Err-clause-read_fault
-returns-in-Err-clause-read_fault g c is = cc
+returns-in-Err-clause-read_fault g c is = absurd (subst IsMemory is tt)
 
 pub returns-in-Err-clause-write_fault : goal.returns-in-Err-clause-write_fault
-returns-in-Err-clause-write_fault g c is = cc
+returns-in-Err-clause-write_fault g c is = absurd (subst IsMemory is tt)
 
 pub returns-in-Err-clause-never_falls : goal.returns-in-Err-clause-never_falls
 returns-in-Err-clause-never_falls g c = omega arith
@@ -98,22 +98,22 @@ returns-in-Err-new-clause-report g c =
     journal_memory (g.S.Source.left c.args.source.now) (g.S.Source.left c.open.new.source) (g.S.Source.given c.open.new.source - g.S.Source.given c.args.source.now) (g.O.Sink.held c.args.out.now)
 
 pub returns-in-Err-new-clause-ended : goal.returns-in-Err-new-clause-ended
-returns-in-Err-new-clause-ended g c is = cc
+returns-in-Err-new-clause-ended g c is = absurd (subst IsMemory is tt)
 
 pub returns-in-Err-new-clause-rest : goal.returns-in-Err-new-clause-rest
 returns-in-Err-new-clause-rest g c refused = absurd refused
 
 pub returns-in-Err-new-clause-cut : goal.returns-in-Err-new-clause-cut
-returns-in-Err-new-clause-cut g c is = cc
+returns-in-Err-new-clause-cut g c is = absurd (subst IsMemory is tt)
 
 pub returns-in-Err-new-clause-memory : goal.returns-in-Err-new-clause-memory
 returns-in-Err-new-clause-memory g c is = refl
 
 pub returns-in-Err-new-clause-read_fault : goal.returns-in-Err-new-clause-read_fault
-returns-in-Err-new-clause-read_fault g c is = cc
+returns-in-Err-new-clause-read_fault g c is = absurd (subst IsMemory is tt)
 
 pub returns-in-Err-new-clause-write_fault : goal.returns-in-Err-new-clause-write_fault
-returns-in-Err-new-clause-write_fault g c is = cc
+returns-in-Err-new-clause-write_fault g c is = absurd (subst IsMemory is tt)
 
 pub returns-in-Err-new-clause-never_falls : goal.returns-in-Err-new-clause-never_falls
 returns-in-Err-new-clause-never_falls g c = c.open.ensures.never_falls
@@ -129,7 +129,7 @@ returns-in-Err-put_rows-clause-report g c =
     journal_cut (g.S.Source.left c.args.source.now) (unread c.open.new.reader.input (g.S.Source.left c.open.new.source)) (g.S.Source.left c.open.new.source) (g.S.Source.given c.open.new.source - g.S.Source.given c.args.source.now) c.open.new.reader.version c.in-Ok-open.parts.0 c.in-Ok-open.parts.1 c.open.new.reader.number (g.O.Sink.held c.args.out.now) (g.O.Sink.held c.put_rows.new.out) opens some
 
 pub returns-in-Err-put_rows-clause-ended : goal.returns-in-Err-put_rows-clause-ended
-returns-in-Err-put_rows-clause-ended g c is = cc
+returns-in-Err-put_rows-clause-ended g c is = absurd (subst IsWriteFault is tt)
 
 pub returns-in-Err-put_rows-clause-rest : goal.returns-in-Err-put_rows-clause-rest
 returns-in-Err-put_rows-clause-rest g c refused = absurd refused
@@ -144,10 +144,10 @@ returns-in-Err-put_rows-clause-cut g c is =
     )
 
 pub returns-in-Err-put_rows-clause-memory : goal.returns-in-Err-put_rows-clause-memory
-returns-in-Err-put_rows-clause-memory g c is = cc
+returns-in-Err-put_rows-clause-memory g c is = absurd (subst IsWriteFault is tt)
 
 pub returns-in-Err-put_rows-clause-read_fault : goal.returns-in-Err-put_rows-clause-read_fault
-returns-in-Err-put_rows-clause-read_fault g c is = cc
+returns-in-Err-put_rows-clause-read_fault g c is = absurd (subst IsWriteFault is tt)
 
 pub returns-in-Err-put_rows-clause-write_fault : goal.returns-in-Err-put_rows-clause-write_fault
 returns-in-Err-put_rows-clause-write_fault g c is = c.in-Err-put_rows.ensures.cause.failed

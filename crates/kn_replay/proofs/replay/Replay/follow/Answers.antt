@@ -16,7 +16,7 @@ use Rattle.kn_replay.proofs.Cuts.{cut_event, cut_full, cut_good, cut_stop, stop_
 use Rattle.kn_replay.proofs.Behind.{goes_behind, stop_refused, stop_unrefused}
 use Rattle.kn_replay.proofs.Pieces.{rows_text-nil}
 use Rattle.kn_replay.proofs.Waits.{adds_nothing, adds_on, adds_trans}
-use Rattle.kn_replay.proofs.Replays.{added-nil, either, ends_there, fault_of, followed_of, goes_begin, goes_cut, goes_full, goes_good, goes_more, goes_stop, no_write_fault, rose_on, rows-more, still_begin, still_more, stop_followed, stop_reads, trace-more}
+use Rattle.kn_replay.proofs.Replays.{IsWriteFault, added-nil, either, ends_there, fault_of, followed_of, goes_begin, goes_cut, goes_full, goes_good, goes_more, goes_stop, no_write_fault, rose_on, rows-more, still_begin, still_more, stop_followed, stop_reads, trace-more}
 use Rattle.kn_replay.proofs.replay.Replay.follow.Goals as goal
 
 pub loop-count-init : goal.loop-count-init
@@ -95,7 +95,7 @@ returns-in-None-clause-cut g c d stands counts fault =
     let on = kept.on d stands counts in
     let adds = adds_on (g.O.Sink.held c.args.out.now) (g.O.Sink.held c.loop-count.out) (g.O.Sink.held c.next.new.out) c.args.self.now.waiting c.loop-count.self.waiting c.next.new.self.waiting (rows_text (added c.args.self.now.revision.spec d on.0)) on.4 c.in-Ok.ensures.adds in
     let gives = rw (c.in-Ok-read.is, c.in-None.is, kept.version) at c.in-Ok.ensures.tells in
-    let some = stop_cut _ _ _ status.Ok c.end.result c.end.ensures.stops fault (λ is. cc) in
+    let some = stop_cut _ _ _ status.Ok c.end.result c.end.ensures.stops fault (λ is. subst IsWriteFault (sym is) tt) in
     cut_good c.args.reader.now.version c.args.self.now.revision.spec d c.args.reader.now.last c.args.reader.now.number (unread c.args.reader.now.input (g.S.Source.left c.args.source.now)) c.args.self.now.waiting c.next.new.self.waiting _ (g.O.Sink.held c.args.out.now) (g.O.Sink.held c.next.new.out) (g.O.Sink.held c.end.new.out) on.0 c.loop-count.reader.last c.loop-count.reader.number (unread c.loop-count.reader.input (g.S.Source.left c.loop-count.source)) c.next.new.reader.number (unread c.next.new.reader.input (g.S.Source.left c.next.new.source))
     on.5 gives adds some c.next.ensures.fits
 
@@ -293,7 +293,7 @@ pub returns-clause-spent : goal.returns-clause-spent
 returns-clause-spent g c fault = absurd (omega (arith, c.loop-count.invariant.taken, c.loop-count.invariant.few, c.loop-count-test.false))
 
 pub returns-clause-write_fault : goal.returns-clause-write_fault
-returns-clause-write_fault g c fault = rose_on _ _ _ c.loop-count.invariant.write (c.stop-2.ensures.fault fault (λ is. cc))
+returns-clause-write_fault g c fault = rose_on _ _ _ c.loop-count.invariant.write (c.stop-2.ensures.fault fault (λ is. subst IsWriteFault (sym is) tt))
 
 pub returns-clause-balance : goal.returns-clause-balance
 returns-clause-balance g c = c.loop-count.invariant.balance
