@@ -123,6 +123,8 @@ impl<C: Caller> Caller for LateCaller<'_, C> {
 
     ghost together = { λ c. C.together c.caller };
 
+    ghost heard = { λ c. C.heard c.caller };
+
     fn meet(&mut self) -> Result<(), Failed> {
         if !are_two(self.probes) {
             return Err(fault(&mut self.faults));
