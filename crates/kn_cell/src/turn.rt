@@ -46,7 +46,7 @@ pub fn take_turn<R: Wait>(rt: &R, board: &Board, place: &mut Place)
         if take(board, place, AWAITED) == 0 {
             return;
         }
-        board.park(rt, 1, AWAITED);
+        board.park(rt, 1, AWAITED as u32);
     }
     unreachable!()
 }
