@@ -193,21 +193,24 @@ impl Decider {
 
     /// The phase now.
     pub fn phase(&self) -> Phase
-        ensures { (past : Past) (until : ℕ) → StandsFor self.now past until → result ≡ past.standing.phase }
+        ensures value { result ≡ self.now.zero.standing.phase }
+        ensures past { (past : Past) (until : ℕ) → StandsFor self.now past until → result ≡ past.standing.phase }
     {
         self.zero.standing().phase
     }
 
     /// How requests reach the pods now.
     pub fn mode(&self) -> Mode
-        ensures { (past : Past) (until : ℕ) → StandsFor self.now past until → result ≡ past.standing.mode }
+        ensures value { result ≡ self.now.zero.standing.mode }
+        ensures past { (past : Past) (until : ℕ) → StandsFor self.now past until → result ≡ past.standing.mode }
     {
         self.zero.standing().mode
     }
 
     /// The pods wanted now.
     pub fn want(&self) -> u64
-        ensures { (past : Past) (until : ℕ) → StandsFor self.now past until → result ≡ past.standing.want }
+        ensures value { result ≡ self.now.zero.standing.want }
+        ensures past { (past : Past) (until : ℕ) → StandsFor self.now past until → result ≡ past.standing.want }
     {
         self.zero.standing().want
     }

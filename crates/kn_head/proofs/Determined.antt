@@ -29,7 +29,7 @@ beyond bytes more k m short =
     ap (λ l. l ++ more) (sym (take-append-drop k (take m bytes)) ∙ ap (λ l. l ++ drop k (take m bytes)) (take-take k m bytes short))
     ∙ append_assoc (take k bytes) (drop k (take m bytes)) more
 
-all_beyond : (bytes more : List ℕ) (k : ℕ) → bytes ++ more ≡ take k bytes ++ (drop k bytes ++ more)
+pub all_beyond : (bytes more : List ℕ) (k : ℕ) → bytes ++ more ≡ take k bytes ++ (drop k bytes ++ more)
 all_beyond bytes more k = ap (λ l. l ++ more) (sym (take-append-drop k bytes)) ∙ append_assoc (take k bytes) (drop k bytes) more
 
 -- ---- heads
@@ -134,7 +134,7 @@ heads_alike bytes error.BadChunk f x fails = absurd x
 
 -- ---- chunks
 
-size_unique : (b : List ℕ) (m n : ℕ) (r q : List ℕ) → IsSizeLine b m r → IsSizeLine b n q → (m ≡ n) × (r ≡ q)
+pub size_unique : (b : List ℕ) (m n : ℕ) (r q : List ℕ) → IsSizeLine b m r → IsSizeLine b n q → (m ≡ n) × (r ≡ q)
 size_unique b m n r q x y =
     let same = chunk_line_unique b x.0 y.0 r q x.1 y.1 in
     (sym x.2 ∙ (ap chunk_size same.0 ∙ y.2), same.1)
@@ -142,7 +142,7 @@ size_unique b m n r q x y =
 trailer_unique : (b r q : List ℕ) → IsTrailer b r → IsTrailer b q → r ≡ q
 trailer_unique b r q x y = (section_unique b x.0 y.0 x.1 y.1 r q x.2 y.2).2
 
-front_same : (d e x y : List ℕ) → length d ≡ length e → d ++ x ≡ e ++ y → (d ≡ e) × (x ≡ y)
+pub front_same : (d e x y : List ℕ) → length d ≡ length e → d ++ x ≡ e ++ y → (d ≡ e) × (x ≡ y)
 front_same [] [] x y n h = (refl, h)
 front_same [] (b ∷ e) x y n h = absurd (omega arith)
 front_same (a ∷ d) [] x y n h = absurd (omega arith)
@@ -166,7 +166,7 @@ one_body b v w r q (chunk {value = v'} d m s some c) (chunk {value = w'} e n s' 
     let rec = one_body n v' w' r q (subst (λ l. IsChunked l v' r) rest c) c' in
     (ap₂ ◌++◌ cut.0 rec.0, rec.1)
 
-size_there : (b rest : List ℕ) (n : ℕ) (e : HeadError) → IsSizeLine b n rest → SizeFails b e → IsUntold e
+pub size_there : (b rest : List ℕ) (n : ℕ) (e : HeadError) → IsSizeLine b n rest → SizeFails b e → IsUntold e
 size_there b rest n error.BadChunk line (inl (k, short, never)) =
     absurd (never (drop k b) line.0 rest (subst (λ l. ReadsChunkLine l line.0 rest) (sym (take-append-drop k b)) line.1))
 size_there b rest n error.BadChunk line (inr (long, none)) =
@@ -199,7 +199,7 @@ trailer_there b rest error.BodyTooLong t fails = absurd fails
 trailer_there b rest error.Memory t fails = absurd fails
 trailer_there b rest error.BadCoding t fails = absurd fails
 
-bytes_there : (n : ℕ) (b : List ℕ) (e : HeadError) → n ≤ length b → BytesFail n b e → IsUntold e
+pub bytes_there : (n : ℕ) (b : List ℕ) (e : HeadError) → n ≤ length b → BytesFail n b e → IsUntold e
 bytes_there n b error.EndedEarly enough few = absurd (omega (arith, enough, few))
 bytes_there n b error.ReadFault enough fails = tt
 bytes_there n b error.Malformed enough fails = absurd fails
@@ -211,7 +211,7 @@ bytes_there n b error.Memory enough fails = tt
 bytes_there n b error.BadCoding enough fails = absurd fails
 bytes_there n b error.BadChunk enough fails = absurd fails
 
-end_there : (b rest : List ℕ) (e : HeadError) → b ≡ 13 ∷ 10 ∷ rest → LineEndFails b e → IsUntold e
+pub end_there : (b rest : List ℕ) (e : HeadError) → b ≡ 13 ∷ 10 ∷ rest → LineEndFails b e → IsUntold e
 end_there b rest error.BadChunk same lacks = absurd (lacks [] rest (append-nil b ∙ same))
 end_there b rest error.EndedEarly same (inl none) = cc
 end_there b rest error.EndedEarly same (inr half) = cc

@@ -9,3 +9,4 @@ pub mod Taking
 pub mod Values
 pub mod Whole
 pub mod Determined
+pub mod Faults

@@ -47,3 +47,7 @@ abbrev pub AreAlike : List ℕ → HeadError → HeadError → Type 0
 AreAlike bytes e f =
     (e ≡ f) ⊎ ((IsUntold e ⊎ IsUntold f)
     ⊎ (((e ≡ error.Malformed) × MayStandForMalformed bytes f) ⊎ ((f ≡ error.Malformed) × MayStandForMalformed bytes e)))
+
+-- two faults are the same, unless the source failed or memory was lacking at one of them
+abbrev pub AreSameUnlessUntold : HeadError → HeadError → Type 0
+AreSameUnlessUntold e f = (e ≡ f) ⊎ (IsUntold e ⊎ IsUntold f)

@@ -12,6 +12,12 @@ abbrev pub IsPaired : Option (List (List ℕ)) → Type 0
 IsPaired None = ⊤
 IsPaired (Some texts) = (n : ℕ) × (length texts ≡ n + n)
 
+-- where texts are told, the input is told too
+abbrev pub IsHeard : Option (List (List ℕ)) → Option (List ℕ) → Type 0
+IsHeard None left = ⊤
+IsHeard (Some texts) None = ⊥
+IsHeard (Some texts) (Some input) = ⊤
+
 -- these bytes, where bytes are told
 abbrev pub told_as : List ℕ → Option (List ℕ) → Option (List ℕ)
 told_as bytes known = option_map (λ _. bytes) known

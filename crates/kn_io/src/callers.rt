@@ -1,7 +1,7 @@
 //! Clients, which come one after another.
 ghost use Rattle.std.specs.Prelude.{◌≡◌, ℕ, ◌+◌, List, [], ◌∷◌, ◌++◌, length, Some, OnOk, OnErr};
 ghost use Rattle.kn_io.specs.Causes.{HasCause};
-ghost use Rattle.kn_io.specs.Callers.{IsPaired, Meets, followed, streams_of, texts_of};
+ghost use Rattle.kn_io.specs.Callers.{IsHeard, IsPaired, Meets, followed, streams_of, texts_of};
 
 use crate::traits::{Failed, Sink, Source};
 
@@ -35,6 +35,9 @@ pub trait Caller: Source + Sink {
 
     /// What stands beside the input is what stands beside the output, and then the output.
     ghost together: { (c : Self) → Self.Source.apart c ≡ followed (Self.Sink.kept c) (Self.Sink.held c) };
+
+    /// One that tells its texts tells its input.
+    ghost heard: { (c : Self) → IsHeard (Self.Sink.kept c) (Self.Source.left c) };
 }
 
 /// The laws of texts and streams: before the first connection there is one empty text and no stream, and a connection

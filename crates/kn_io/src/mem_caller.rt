@@ -292,6 +292,8 @@ impl Caller for MemCaller {
 
     ghost together = { λ c. λ i. followed (Some (kept_of c.met)) (Some c.held) };
 
+    ghost heard = { λ _. tt };
+
     fn meet(&mut self) -> Result<(), Failed>
         ensures met { OnOk result (Meets (Some (kept_of self.old.met)) (Some (kept_of self.new.met)) (Some self.old.held) (Some self.new.held) (Some self.old.left) (Some self.new.left)) }
         ensures cause { HasCause self.old.plan.faults self.new.plan.faults result }

@@ -1,6 +1,7 @@
 -- The rows of a call, one after the other.
 use Rattle.std.proofs.Common.{◌≡◌, ℕ, zero, suc, ◌+◌, ◌-◌, ◌<◌, ◌≤◌, List, [], ◌∷◌, ◌++◌, length, map, take, drop, refl, sym, ap, ◌∙◌, subst, arith, append-nil, append_assoc, reverse, Option, None, Some, IfNone, IsSome, add-one, length-append, true, false}
 use Rattle.std.specs.List.{All}
+use Rattle.std.proofs.lemmas.Bool.{le-ltb, lt-ltb}
 use Rattle.std.proofs.lemmas.List.{length-reverse, map-append, reverse-append}
 use Rattle.std.proofs.lemmas.List.Elements.{All-filter}
 use Rattle.std.proofs.lemmas.List.FromFn.{length-map-range_with_len, map-range_with_len_more}
@@ -13,7 +14,7 @@ use Rattle.kn_trace.specs.Scale.{drain_order, scale_rows}
 use Rattle.kn_trace.specs.Trace.{Trace, created, entry, ready_pods}
 use Rattle.kn_record.specs.Made.{IsMade, IsProper}
 use Rattle.kn_pods.specs.Numbers.{contains, inserted, without}
-use Rattle.kn_pods.specs.Pods.{GoesOn, PodsState, StandsFor, after_row, creations, drain_order_of, drains, with_drained}
+use Rattle.kn_pods.specs.Pods.{GoesOn, PodsState, StandsFor, after_row, after_rows, creations, drain_order_of, drains, rows_of_scale, with_drained}
 use Rattle.kn_pods.proofs.Places.{is_same}
 
 pub came_without : (n p : ℕ) (xs : List ℕ) → All (λ q. q < n) xs → All (λ q. q < n) (without p xs)
@@ -28,6 +29,22 @@ pub goes_then : (a b d : PodsState) (es fs : List Entry) → GoesOn a b es → G
 goes_then a b d es fs first then = λ s c made stands.
     let one = first s c made stands in
     let two = then s (c ++ es) one.0 one.1 in (subst (IsMade s) (append_assoc c es fs) two.0, subst (StandsFor d) (append_assoc c es fs) two.1)
+
+-- ---- by one more row
+
+pub after_rows-more : (es : List Entry) (e : Entry) (pods : PodsState) → after_rows (es ++ e ∷ []) pods ≡ after_row e.row (after_rows es pods)
+after_rows-more [] e pods = refl
+after_rows-more (x ∷ xs) e pods = after_rows-more xs e (after_row x.row pods)
+
+pub rows_after : (es fs : List Entry) (e : Entry) (first old new : PodsState) → fs ≡ es ++ e ∷ [] → old ≡ after_rows es first → new ≡ after_row e.row old → new ≡ after_rows fs first
+rows_after es fs e first old new more before now = now ∙ ap (after_row e.row) before ∙ sym (after_rows-more es e first) ∙ ap (λ (l : List Entry). after_rows l first) (sym more)
+
+-- the rows of a scale, by how many pods don't drain
+pub scale-creates : (want limit t n : ℕ) (pods : PodsState) → n ≡ length (drain_order_of pods) → n < want → rows_of_scale want limit t pods ≡ creations limit t pods.created (want - n)
+scale-creates want limit t n pods is lt = rw (lt-ltb (length (drain_order_of pods)) want (omega (arith, is, lt)), is) refl
+
+pub scale-drains : (want limit t n : ℕ) (pods : PodsState) → n ≡ length (drain_order_of pods) → want ≤ n → rows_of_scale want limit t pods ≡ drains t (take (n - want) (drain_order_of pods))
+scale-drains want limit t n pods is le = rw (le-ltb (length (drain_order_of pods)) want (omega (arith, is, le)), is) refl
 
 -- by a row that is proper wherever the pods stand
 module _ (makes : (s : Spec) (c : Trace) (t : ℕ) (x : Row) → IsMade s c → IsProper s c x → IsMade s (c ++ entry t x ∷ []))

@@ -1,5 +1,5 @@
 -- The pods of a trace, by how far they are, and what a row changes of them.
-use Rattle.std.specs.Prelude.{◌≡◌, ℕ, Bool, true, false, ◌+◌, ◌||◌, List, [], ◌∷◌, ◌++◌, map, reverse, if◌then◌else◌}
+use Rattle.std.specs.Prelude.{◌≡◌, ℕ, Bool, true, false, ◌+◌, ◌-◌, ◌||◌, nat_lt, List, [], ◌∷◌, ◌++◌, length, map, reverse, take, if◌then◌else◌}
 use Rattle.std.specs.List.{range_with_len}
 use Rattle.kn_event.specs.declared.entry.Entry.{Entry}
 use Rattle.kn_event.specs.declared.entry.Row.{Row}
@@ -51,6 +51,11 @@ after_row (row.LostPod p) state = record state {
 }
 after_row _ state = state
 
+-- after these rows, one after the other
+abbrev pub after_rows : List Entry → PodsState → PodsState
+after_rows [] state = state
+after_rows (e ∷ es) state = after_rows es (after_row e.row state)
+
 -- wherever the old pods stand for a trace that events made, these entries leave it one that events make, and the new pods
 -- stand for it
 abbrev pub GoesOn : PodsState → PodsState → List Entry → Type 0
@@ -77,3 +82,9 @@ creations limit t from n = map (λ p. entry t (row.Create p limit)) (range_with_
 
 abbrev pub drains : ℕ → List ℕ → List Entry
 drains t ps = map (λ p. entry t (row.Drain p)) ps
+
+-- what a scale adds: so many new pods as are wanted beyond those that don't drain, or the drains of those beyond what is wanted
+abbrev pub rows_of_scale : ℕ → ℕ → ℕ → PodsState → List Entry
+rows_of_scale want limit t state =
+    if nat_lt (length (drain_order_of state)) want then creations limit t state.created (want - length (drain_order_of state))
+    else drains t (take (length (drain_order_of state) - want) (drain_order_of state))

@@ -6,7 +6,7 @@ ghost use Rattle.kn_trace.specs.Events.{act_row};
 ghost use Rattle.kn_trace.specs.Scale.{count_ready, scale_rows};
 ghost use Rattle.kn_trace.specs.Trace.{Trace, contains, entry, live_pods, next_starting};
 ghost use Rattle.kn_record.specs.Made.{IsMade, IsProper};
-ghost use Rattle.kn_pods.specs.Pods.{GoesOn, StandsFor, after_row, creations, drain_order_of, drains, is_live, lost_row, ready_row};
+ghost use Rattle.kn_pods.specs.Pods.{GoesOn, StandsFor, after_row, after_rows, creations, drain_order_of, drains, is_live, lost_row, ready_row, rows_of_scale};
 
 use crate::laws::row_laws;
 use crate::numbers::Numbers;
@@ -88,6 +88,7 @@ impl Pods {
         ensures number { result ≡ self.old.created }
         ensures standing { length (drain_order_of self.new) ≡ length (drain_order_of self.old) + 1 }
         ensures created { self.new.created ≡ self.old.created + 1 }
+        ensures changed { (limit : ℕ) → self.new ≡ after_row (row.Create result limit) self.old }
         ensures goes { (t limit : ℕ) → GoesOn self.old self.new (entry t (row.Create result limit) ∷ []) }
     {
         row_laws();
@@ -104,6 +105,7 @@ impl Pods {
         requires room { length self.old.draining < 20500 }
         ensures first { drain_order_of self.old ≡ result ∷ drain_order_of self.new }
         ensures draining { length self.new.draining ≤ length self.old.draining + 1 }
+        ensures changed { self.new ≡ after_row (row.Drain result) self.old }
         ensures goes { (t : ℕ) → GoesOn self.old self.new (entry t (row.Drain result) ∷ []) }
     {
         row_laws();
@@ -125,6 +127,7 @@ impl Pods {
         requires created { self.old.created + count < 2 ^ 64 }
         requires room { length log.old + count ≤ 65536 }
         ensures logged { log.new ≡ log.old ++ creations limit time self.old.created count }
+        ensures changed { self.new ≡ after_rows (creations limit time self.old.created count) self.old }
         ensures goes { GoesOn self.old self.new (creations limit time self.old.created count) }
     {
         for _ in 0..count {
@@ -141,6 +144,7 @@ impl Pods {
         requires draining { length self.old.draining + count ≤ 20500 }
         requires room { length log.old + count ≤ 65536 }
         ensures logged { log.new ≡ log.old ++ drains time (take count (drain_order_of self.old)) }
+        ensures changed { self.new ≡ after_rows (drains time (take count (drain_order_of self.old))) self.old }
         ensures goes { GoesOn self.old self.new (drains time (take count (drain_order_of self.old))) }
     {
         for _ in 0..count {
@@ -160,6 +164,8 @@ impl Pods {
         requires draining { length self.old.draining ≤ 20000 }
         requires created { self.old.created < 2 ^ 63 }
         requires room { length log.old ≤ 65036 }
+        ensures rows { log.new ≡ log.old ++ rows_of_scale want limit time self.old }
+        ensures changed { self.new ≡ after_rows (rows_of_scale want limit time self.old) self.old }
         ensures logged { (s : Spec) (c : Trace) → IsMade s c → StandsFor self.old c → s.cc ≡ limit → log.new ≡ log.old ++ scale_rows s time c want }
         ensures made { (s : Spec) (c : Trace) → IsMade s c → StandsFor self.old c → s.cc ≡ limit → IsMade s (c ++ scale_rows s time c want) }
         ensures stands { (s : Spec) (c : Trace) → IsMade s c → StandsFor self.old c → s.cc ≡ limit → StandsFor self.new (c ++ scale_rows s time c want) }

@@ -239,21 +239,24 @@ impl Scaler {
 
     /// The phase now.
     pub fn phase(&self) -> Phase
-        ensures { (s : SpecValue) (c : Trace) → StandsFor s self.now c → phase_of c ≡ Some result }
+        ensures value { result ≡ self.now.decider.zero.standing.phase }
+        ensures trace { (s : SpecValue) (c : Trace) → StandsFor s self.now c → phase_of c ≡ Some result }
     {
         self.decider.phase()
     }
 
     /// How requests reach the pods now.
     pub fn mode(&self) -> Mode
-        ensures { (s : SpecValue) (c : Trace) → StandsFor s self.now c → result ≡ mode_of c }
+        ensures value { result ≡ self.now.decider.zero.standing.mode }
+        ensures trace { (s : SpecValue) (c : Trace) → StandsFor s self.now c → result ≡ mode_of c }
     {
         self.decider.mode()
     }
 
     /// The pods wanted now.
     pub fn want(&self) -> u64
-        ensures { (s : SpecValue) (c : Trace) → StandsFor s self.now c → result ≡ wanted s c }
+        ensures value { result ≡ self.now.decider.zero.standing.want }
+        ensures trace { (s : SpecValue) (c : Trace) → StandsFor s self.now c → result ≡ wanted s c }
     {
         self.decider.want()
     }

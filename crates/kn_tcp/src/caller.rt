@@ -120,6 +120,8 @@ impl Caller for TcpCaller {
 
     ghost together = { λ _ i. None };
 
+    ghost heard = { λ _. tt };
+
     fn meet(&mut self) -> Result<(), Failed> {
         // The client before sees the end of its answer, also while nobody else comes.
         self.part();

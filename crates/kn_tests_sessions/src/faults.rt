@@ -1,8 +1,8 @@
 //! Each call of a session's caller fails in turn, until none is left that could.
 
-use crate::sessions::{Sinks, has, replayed, serve_mem, slots_of};
+use crate::sessions::{Sinks, Size, has, replayed, serve_mem, slots_of};
 use kn_case::case;
-use kn_io::OpenGate;
+use kn_io::{ListClock, OpenGate};
 use kn_journal::Status;
 use std::alloc::{AllocError, Global};
 use std::io;
@@ -24,7 +24,9 @@ fn fail_at<R: Threads + Wait + Sync>(rt: &R, alloc: Global, call: u64) -> Result
     let words = format!(in alloc; "good/caller={call}")?;
     let mut slots = slots_of(alloc, words.as_str())?;
     let mut sinks = Sinks::new(alloc)?;
-    let status = serve_mem(rt, alloc, &mut slots, 100, &OpenGate, &mut sinks)?;
+    let clock = ListClock::new(vec![in alloc; 0]?);
+    let size = Size::once(100);
+    let status = serve_mem(rt, alloc, &mut slots, size, &clock, &OpenGate, &mut sinks)?;
     let report = replayed(alloc, sinks.out.held())?;
     let finished = has(&report, b" admitted=1 ") && has(&report, b" finished=1 ");
     match status {

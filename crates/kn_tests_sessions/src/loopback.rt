@@ -1,5 +1,5 @@
 //! A session over TCP on this machine: a client, the parts that `kactd` serves with, and a pod.
-use crate::sessions::{Sinks, has, replayed, serve};
+use crate::sessions::{Sinks, Size, has, replayed, serve};
 use crate::setting::{FORWARDED, REPLY, REQUEST, one_text};
 use kn_case::case;
 use kn_event::Items;
@@ -101,7 +101,7 @@ fn session<
         SETUP,
         &mut slots,
         &mut keeper,
-        100,
+        Size::once(100),
         &clock,
         &OpenGate,
         sinks,

@@ -12,10 +12,13 @@
 
 mod faults;
 mod gates;
+mod hooks;
 mod lines;
 mod loopback;
 mod opener;
+mod readings;
 mod requests;
+mod rounds;
 mod sessions;
 mod setting;
 mod ticking;
@@ -47,7 +50,9 @@ fn main(rt: HostRuntime) -> io::Result<()> {
     turns::show(&rt)?;
     faults::show(&rt)?;
     gates::show(&rt)?;
+    rounds::show(&rt)?;
     ticking::show(&rt)?;
+    readings::show(&rt)?;
     loopback::show(&rt)?;
     opener::show(&rt)
 }

@@ -1,4 +1,4 @@
-//! Whole sessions of one round a slot. The clock stands still, and the ticker makes the pod Ready.
+//! Whole sessions, most of one round a slot. The clock stands still, and the ticker makes the pod Ready.
 ghost use Rattle.std.specs.Prelude.{◌≡◌, true, length};
 ghost use Rattle.kn_session.specs.Lists.{EachIs};
 ghost use Rattle.kn_serve.specs.Opening.{IsEmptyWork};
@@ -59,13 +59,27 @@ fn is_in_range(plan: &Plan) -> bool
     slots && rounds && room
 }
 
-fn plan_of(alloc: Global, slots: u64, room: u64) -> Result<Plan, AllocError> {
+/// How many rounds each slot has, and how many rows there is room for.
+#[derive(Clone, Copy)]
+pub struct Size {
+    pub rounds: u64,
+    pub room: u64,
+}
+
+impl Size {
+    /// One round.
+    pub fn once(room: u64) -> Size {
+        Size { rounds: 1, room }
+    }
+}
+
+fn plan_of(alloc: Global, slots: u64, size: Size) -> Result<Plan, AllocError> {
     Ok(Plan {
         listen: text_of(alloc, b"h:1")?,
         pods: Hosts::new(one_text(alloc, b"h:2")?),
         slots,
-        rounds: 1,
-        room,
+        rounds: size.rounds,
+        room: size.room,
     })
 }
 
@@ -82,12 +96,12 @@ pub fn serve<
     setup: &[u8],
     slots: &mut [Slot<C, L>],
     keeper: &mut L,
-    room: u64,
+    size: Size,
     clock: &K,
     gate: &G,
     sinks: &mut Sinks,
 ) -> Result<Option<Status>, AllocError> {
-    let plan = plan_of(alloc, slots.len() as u64, room)?;
+    let plan = plan_of(alloc, slots.len() as u64, size)?;
     let mut setup = MemSource::new(Vec::from_slice(alloc, setup)?, Vec::new(alloc));
     if !is_in_range(&plan) || plan.slots != slots.len() as u64 || !are_empty(slots) {
         return Ok(None);
@@ -108,24 +122,24 @@ pub fn serve<
 }
 
 /// Serves a session over memory, with a keeper that finds each pod.
-pub fn serve_mem<G: Gate + Sync, R: Threads + Wait + Sync>(
+pub fn serve_mem<K: Clock + Sync, G: Gate + Sync, R: Threads + Wait + Sync>(
     rt: &R,
     alloc: Global,
     slots: &mut [MemSlot],
-    room: u64,
+    size: Size,
+    clock: &K,
     gate: &G,
     sinks: &mut Sinks,
 ) -> Result<Option<Status>, AllocError> {
     let mut keeper = had(MemLink::new(alloc, Vec::new(alloc), Vec::new(alloc)))?;
-    let clock = ListClock::new(vec![in alloc; 0]?);
     serve(
         rt,
         alloc,
         SETUP,
         slots,
         &mut keeper,
-        room,
-        &clock,
+        size,
+        clock,
         gate,
         sinks,
     )
@@ -188,8 +202,9 @@ pub fn show<R: Threads + Wait + Sync + Print + AllocGlobal>(rt: &R, line: &str) 
     let (room, inputs) = head.split_once(' ').unwrap_or((head, ""));
     let mut slots = slots_of(alloc, inputs)?;
     let mut sinks = Sinks::new(alloc)?;
-    let room = room.parse().unwrap_or(0);
-    let status = serve_mem(rt, alloc, &mut slots, room, &OpenGate, &mut sinks)?;
+    let size = Size::once(room.parse().unwrap_or(0));
+    let clock = ListClock::new(vec![in alloc; 0]?);
+    let status = serve_mem(rt, alloc, &mut slots, size, &clock, &OpenGate, &mut sinks)?;
     let told = shown(alloc, sinks.err.held())?;
     println!(rt; "  {status:?}, tells \"{told}\"")?;
     for slot in &slots {

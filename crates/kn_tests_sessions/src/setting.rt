@@ -20,6 +20,9 @@ pub const SETUP: &[u8] =
 pub const REQUEST: &[u8] =
     b"GET /a HTTP/1.1\r\nHost: h\r\nKnative-Serving-Namespace: default\r\nKnative-Serving-Revision: fixed\r\nConnection: keep-alive\r\n\r\n";
 
+const SECOND_REQUEST: &[u8] =
+    b"POST /b HTTP/1.1\r\nHost: h\r\nKnative-Serving-Namespace: default\r\nKnative-Serving-Revision: fixed\r\nContent-Length: 3\r\n\r\nxyz";
+
 const OTHER_REQUEST: &[u8] =
     b"GET /a HTTP/1.1\r\nHost: h\r\nKnative-Serving-Namespace: default\r\nKnative-Serving-Revision: other\r\nConnection: keep-alive\r\n\r\n";
 
@@ -39,6 +42,7 @@ pub fn request_of(name: &str) -> &'static [u8] {
     match name {
         "other" => OTHER_REQUEST,
         "cut" => CUT_REQUEST,
+        "second" => SECOND_REQUEST,
         _ => REQUEST,
     }
 }
@@ -60,8 +64,8 @@ pub fn one_text(alloc: Global, bytes: &[u8]) -> Result<Vec<Text>, AllocError> {
     Ok(vec![in alloc; text_of(alloc, bytes)?]?)
 }
 
-/// A slot that nobody used.
-fn slot(
+/// A slot that nobody used, with a connection for each input. It says which calls of the caller and of the link fail.
+pub fn slot(
     alloc: Global,
     inputs: Vec<Text>,
     caller_fails: Vec<u64>,

@@ -1,16 +1,10 @@
 //! The ticker goes on after its first turn: a client comes only once a pod was probed twice.
-ghost use Rattle.std.specs.Prelude.{◌≤◌};
-ghost use Rattle.kn_io.specs.Causes.{Rose};
-
+use crate::hooks::{Hook, HookedCaller, HookedLink};
 use crate::lines::show_answer;
-use crate::sessions::{Sinks, has, serve};
+use crate::sessions::{Sinks, Size, has, serve};
 use crate::setting::{REPLY, had, one_text};
 use kn_case::case;
-use kn_event::Text;
-use kn_io::{
-    Caller, Failed, Faulty, LinkError, ListClock, MemCaller, MemLink, OpenGate, PodLink, Sink,
-    Source,
-};
+use kn_io::{ListClock, MemCaller, MemLink, OpenGate};
 use kn_journal::Status;
 use kn_serve::{Slot, Work};
 use std::alloc::{AllocError, Global};
@@ -31,127 +25,41 @@ revision\n\
 const REQUEST: &[u8] =
     b"GET /a HTTP/1.1\r\nHost: h\r\nKnative-Serving-Namespace: default\r\nKnative-Serving-Revision: hello-00001\r\n\r\n";
 
-/// A link that counts its probes in a place that is shared.
+/// Nobody is met until two probes were made. Where they aren't for long, the caller fails.
 #[derive(Drop)]
-struct CountedLink<'a, L> {
-    link: L,
-    probes: &'a AtomicU64,
+struct Probes {
+    count: AtomicU64,
 }
 
-impl<L: PodLink> Faulty for CountedLink<'_, L> {
-    ghost faults = { λ l. L.Faulty.faults l.link };
-
-    fn faults(&self) -> u64 {
-        self.link.faults()
-    }
-}
-
-impl<L: PodLink> PodLink for CountedLink<'_, L> {
-    ghost told = { λ l. L.told l.link };
-
-    fn probe(&mut self, pod: u64) -> Result<bool, Failed> {
-        let answer = self.link.probe(pod);
-        self.probes.fetch_add(1, Ordering::SeqCst);
-        answer
-    }
-
-    fn call(&mut self, alloc: Global, pod: u64, request: &[u8]) -> Result<Text, LinkError> {
-        self.link.call(alloc, pod, request)
-    }
-}
-
-/// A caller that meets nobody until two probes were made. Where they aren't for long, it fails.
-#[derive(Drop)]
-struct LateCaller<'a, C> {
-    caller: C,
-    probes: &'a AtomicU64,
-    faults: u64,
-}
-
-/// Counts a fault.
-fn fault(faults: &mut u64) -> Failed
-    ensures rose { Rose faults.old faults.new }
-    ensures never_falls { faults.old ≤ faults.new }
-{
-    *faults = faults.saturating_add(1);
-    Failed
-}
-
-fn are_two(probes: &AtomicU64) -> bool {
-    for _ in 0..100_000_000u64 {
-        if probes.load(Ordering::SeqCst) >= 2 {
-            return true;
+impl Hook for Probes {
+    fn meets(&self) -> bool {
+        for _ in 0..100_000_000u64 {
+            if self.count.load(Ordering::SeqCst) >= 2 {
+                return true;
+            }
         }
+        false
     }
-    false
-}
 
-impl<C: Caller> Faulty for LateCaller<'_, C> {
-    ghost faults = { λ c. c.faults };
-
-    fn faults(&self) -> u64 {
-        self.faults
+    fn has_probed(&self) {
+        self.count.fetch_add(1, Ordering::SeqCst);
     }
 }
 
-impl<C: Caller> Source for LateCaller<'_, C> {
-    ghost left = { λ c. C.Source.left c.caller };
+type LateSlot<'a> = Slot<HookedCaller<'a, MemCaller, Probes>, HookedLink<'a, MemLink, Probes>>;
 
-    ghost apart = { λ c. C.Source.apart c.caller };
-
-    ghost given = { λ c. C.Source.given c.caller };
-
-    fn read(&mut self, buf: &mut [u8]) -> Result<usize, Failed> {
-        match self.caller.read(buf) {
-            Ok(n) => Ok(n),
-            Err(Failed) => Err(fault(&mut self.faults)),
-        }
-    }
-}
-
-impl<C: Caller> Sink for LateCaller<'_, C> {
-    ghost held = { λ c. C.Sink.held c.caller };
-
-    ghost kept = { λ c. C.Sink.kept c.caller };
-
-    fn write(&mut self, bytes: &[u8]) -> Result<usize, Failed> {
-        match self.caller.write(bytes) {
-            Ok(n) => Ok(n),
-            Err(Failed) => Err(fault(&mut self.faults)),
-        }
-    }
-}
-
-impl<C: Caller> Caller for LateCaller<'_, C> {
-    ghost paired = { λ c. C.paired c.caller };
-
-    ghost together = { λ c. C.together c.caller };
-
-    fn meet(&mut self) -> Result<(), Failed> {
-        if !are_two(self.probes) {
-            return Err(fault(&mut self.faults));
-        }
-        match self.caller.meet() {
-            Ok(()) => Ok(()),
-            Err(Failed) => Err(fault(&mut self.faults)),
-        }
-    }
-}
-
-type LateSlot<'a> = Slot<LateCaller<'a, MemCaller>, CountedLink<'a, MemLink>>;
-
-fn slot_of<'a>(alloc: Global, probes: &'a AtomicU64) -> Result<LateSlot<'a>, AllocError> {
+fn slot_of<'a>(alloc: Global, probes: &'a Probes) -> Result<LateSlot<'a>, AllocError> {
     let inputs = one_text(alloc, REQUEST)?;
     let replies = one_text(alloc, REPLY)?;
     let caller = had(MemCaller::new(alloc, inputs, 10000, Vec::new(alloc)))?;
     let link = had(MemLink::new(alloc, replies, Vec::new(alloc)))?;
     Ok(Slot {
-        caller: LateCaller {
+        caller: HookedCaller {
             caller,
-            probes,
+            hook: probes,
             faults: 0,
         },
-        link: CountedLink { link, probes },
+        link: HookedLink { link, hook: probes },
         work: Work::new(),
     })
 }
@@ -161,12 +69,12 @@ fn slot_of<'a>(alloc: Global, probes: &'a AtomicU64) -> Result<LateSlot<'a>, All
 fn tick_on<'a, R: Threads + Wait + Sync>(
     rt: &R,
     alloc: Global,
-    probes: &'a AtomicU64,
+    probes: &'a Probes,
     slots: &mut [LateSlot<'a>],
     sinks: &mut Sinks,
 ) -> Result<Option<Status>, AllocError> {
     let link = had(MemLink::new(alloc, Vec::new(alloc), vec![in alloc; 0]?))?;
-    let mut keeper = CountedLink { link, probes };
+    let mut keeper = HookedLink { link, hook: probes };
     let clock = ListClock::new(vec![in alloc; 0, 2000]?);
     serve(
         rt,
@@ -174,7 +82,7 @@ fn tick_on<'a, R: Threads + Wait + Sync>(
         SETUP,
         slots,
         &mut keeper,
-        100,
+        Size::once(100),
         &clock,
         &OpenGate,
         sinks,
@@ -183,7 +91,9 @@ fn tick_on<'a, R: Threads + Wait + Sync>(
 
 pub fn show<R: Threads + Wait + Sync + Print + AllocGlobal>(rt: &R) -> io::Result<()> {
     let alloc = rt.alloc();
-    let probes = AtomicU64::new(0);
+    let probes = Probes {
+        count: AtomicU64::new(0),
+    };
     let mut slots = [slot_of(alloc, &probes)?];
     let mut sinks = Sinks::new(alloc)?;
     let status = tick_on(rt, alloc, &probes, &mut slots, &mut sinks)?;

@@ -1,4 +1,5 @@
 use Rattle.kn_head.proofs.Determined.{head_unique, no_head_there, heads_alike, one_body, answer_there}
+use Rattle.kn_head.proofs.Faults.{faults_same}
 use Rattle.kn_head.proofs.laws.answers_are_determined.Goals as goal
 
 pub returns-clause-request : goal.returns-clause-request
@@ -15,3 +16,6 @@ returns-clause-faults c bytes e f x y = heads_alike bytes e f x y
 
 pub returns-clause-chunked : goal.returns-clause-chunked
 returns-clause-chunked c b v w r q x y = one_body b v w r q x y
+
+pub returns-clause-behind : goal.returns-clause-behind
+returns-clause-behind c bytes rest h e f begins x y = faults_same bytes rest h e f begins x y

@@ -2,7 +2,7 @@ use Rattle.std.proofs.Common.{◌≡◌, ◌+◌, ◌++◌, ◌∷◌, [], arith
 use Rattle.kn_event.specs.declared.entry.Row.TheVariants as row
 use Rattle.kn_trace.specs.Trace.{entry}
 use Rattle.kn_pods.specs.Pods.{GoesOn, creations}
-use Rattle.kn_pods.proofs.Steps.{creations_more, goes_then, length-logged, logged_more}
+use Rattle.kn_pods.proofs.Steps.{creations_more, goes_then, length-logged, logged_more, rows_after}
 use Rattle.kn_pods.proofs.pods.Pods.create.Goals as goal
 
 pub put-requires : goal.put-requires
@@ -18,6 +18,7 @@ loop-preserved c = record {
   logged = logged_more c.args.log.now c.loop.log c.put.new.self _ _ _ c.loop.invariant.logged c.put.ensures (next c);
   created = let a = c.create_next-p.ensures.created in let b = c.loop.invariant.created in omega arith;
   standing = let a = c.create_next-p.ensures.standing in let b = c.loop.invariant.standing in omega arith;
+  changed = rows_after _ _ (entry c.args.time (row.Create c.create_next-p.result c.args.limit)) c.args.self.now c.loop.self c.create_next-p.new.self (next c) c.loop.invariant.changed (c.create_next-p.ensures.changed c.args.limit);
   goes =
       subst (GoesOn c.args.self.now c.create_next-p.new.self) (sym (next c))
       (goes_then c.args.self.now c.loop.self c.create_next-p.new.self _ _ c.loop.invariant.goes (c.create_next-p.ensures.goes c.args.time c.args.limit));

@@ -10,16 +10,19 @@ unwrap-p-requires c =
     let lt = rw (← c.self.view_is) at c.requires.some in
     some_popped c.self.inside.ready.items c.pop-in-None.result c.pop-in-None.ensures.none (some_ready c.self.inside.starting.items c.self.inside.ready.items c.in-None.ensures.none lt)
 
+pub returns-in-Some-clause-changed : goal.returns-in-Some-clause-changed
+returns-in-Some-clause-changed c =
+    let view : PodsState = record { created = c.self.inside.created; starting = c.self.inside.starting.items; ready = c.self.inside.ready.items; draining = c.self.inside.draining.items } in
+    drained_starting view c.in-Some.p c.pop.new.self.items c.insert.new.self.items c.in-Some.ensures.there c.in-Some.ensures.without (ap (λ (n : NumbersState). n.items) c.insert.ensures.inserted)
+    ∙ ap (after_row (row.Drain c.in-Some.p)) c.self.view_is
+
 pub returns-in-Some-clause-goes : goal.returns-in-Some-clause-goes
 returns-in-Some-clause-goes c = λ t.
     let view : PodsState = record { created = c.self.inside.created; starting = c.self.inside.starting.items; ready = c.self.inside.ready.items; draining = c.self.inside.draining.items } in
     let new : PodsState = record view { starting = c.pop.new.self.items; draining = c.insert.new.self.items } in
     let first : drain_order_of c.args.self.now ≡ c.in-Some.p ∷ drain_order_of new =
     rw (← c.self.view_is) (first_starting c.self.inside.starting.items c.pop.new.self.items c.self.inside.ready.items c.in-Some.p c.in-Some.ensures.popped) in
-    let e : new ≡ after_row (row.Drain c.in-Some.p) c.args.self.now =
-    drained_starting view c.in-Some.p c.pop.new.self.items c.insert.new.self.items c.in-Some.ensures.there c.in-Some.ensures.without (ap (λ (n : NumbersState). n.items) c.insert.ensures.inserted)
-    ∙ ap (after_row (row.Drain c.in-Some.p)) c.self.view_is in
-    goes_by c.row_laws.ensures.made c.row_laws.ensures.stands c.args.self.now new t (row.Drain c.in-Some.p) e (λ s d made stands. drain_proper c.args.self.now s d c.in-Some.p _ first stands)
+    goes_by c.row_laws.ensures.made c.row_laws.ensures.stands c.args.self.now new t (row.Drain c.in-Some.p) (returns-in-Some-clause-changed c) (λ s d made stands. drain_proper c.args.self.now s d c.in-Some.p _ first stands)
 
 -- without a Starting pod none is left of them
 none_left : (c : goal.After-insert-in-None) → c.pop.new.self.items ≡ []
@@ -37,13 +40,16 @@ first c =
 pub returns-in-None-clause-first : goal.returns-in-None-clause-first
 returns-in-None-clause-first c = first c
 
+pub returns-in-None-clause-changed : goal.returns-in-None-clause-changed
+returns-in-None-clause-changed c =
+    let view : PodsState = record { created = c.self.inside.created; starting = c.self.inside.starting.items; ready = c.self.inside.ready.items; draining = c.self.inside.draining.items } in
+    let without = rw c.unwrap-p.ensures at c.pop-in-None.ensures.without in
+    drained_ready view c.unwrap-p.result c.pop.new.self.items c.pop-in-None.new.self.items c.insert-in-None.new.self.items c.in-None.ensures.none (none_left c) without
+    (ap (λ (n : NumbersState). n.items) c.insert-in-None.ensures.inserted)
+    ∙ ap (after_row (row.Drain c.unwrap-p.result)) c.self.view_is
+
 pub returns-in-None-clause-goes : goal.returns-in-None-clause-goes
 returns-in-None-clause-goes c = λ t.
     let view : PodsState = record { created = c.self.inside.created; starting = c.self.inside.starting.items; ready = c.self.inside.ready.items; draining = c.self.inside.draining.items } in
     let new : PodsState = record view { starting = c.pop.new.self.items; ready = c.pop-in-None.new.self.items; draining = c.insert-in-None.new.self.items } in
-    let without = rw c.unwrap-p.ensures at c.pop-in-None.ensures.without in
-    let e : new ≡ after_row (row.Drain c.unwrap-p.result) c.args.self.now =
-    drained_ready view c.unwrap-p.result c.pop.new.self.items c.pop-in-None.new.self.items c.insert-in-None.new.self.items c.in-None.ensures.none (none_left c) without
-    (ap (λ (n : NumbersState). n.items) c.insert-in-None.ensures.inserted)
-    ∙ ap (after_row (row.Drain c.unwrap-p.result)) c.self.view_is in
-    goes_by c.row_laws.ensures.made c.row_laws.ensures.stands c.args.self.now new t (row.Drain c.unwrap-p.result) e (λ s d made stands. drain_proper c.args.self.now s d c.unwrap-p.result _ (first c) stands)
+    goes_by c.row_laws.ensures.made c.row_laws.ensures.stands c.args.self.now new t (row.Drain c.unwrap-p.result) (returns-in-None-clause-changed c) (λ s d made stands. drain_proper c.args.self.now s d c.unwrap-p.result _ (first c) stands)

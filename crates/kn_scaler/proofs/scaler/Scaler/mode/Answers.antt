@@ -4,5 +4,5 @@ use Rattle.kn_trace.specs.Scale.{past_of}
 use Rattle.kn_scaler.proofs.Rulings.{stands-mode}
 use Rattle.kn_scaler.proofs.scaler.Scaler.mode.Goals as goal
 
-pub returns : goal.returns
-returns c = rw (← c.self.view_is) (λ s b stands. c.mode.ensures (past_of s b) (second_of c.self.inside.stats.time) stands.decider ∙ sym (stands-mode s b))
+pub returns-clause-trace : goal.returns-clause-trace
+returns-clause-trace c = rw (← c.self.view_is) (λ s b stands. c.mode.ensures.past (past_of s b) (second_of c.self.inside.stats.time) stands.decider ∙ sym (stands-mode s b))

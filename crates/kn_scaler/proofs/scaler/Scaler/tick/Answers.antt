@@ -33,7 +33,7 @@ returns-clause-ruled c =
       | in-Some w ↦
           w.result-is
           ∙ tick-answer s b c.tick.new.self c.args.time until c.phase-phase.result c.mode-mode.result w.ruling_of.result w.in-Some.decision w.ruling_of.ensures
-          (c.phase-phase.ensures (past_of s b) until stands.decider) (c.mode-mode.ensures (past_of s b) until stands.decider) (stands-phase s b _ stands.phase) _
+          (c.phase-phase.ensures.past (past_of s b) until stands.decider) (c.mode-mode.ensures.past (past_of s b) until stands.decider) (stands-phase s b _ stands.phase) _
           (sym w.in-Some.is ∙ made) (c.tick.ensures.stands (past_of s b) until le stands.decider)
           ∙ ap (λ (o : Option Ruling). option_map (ruled_by b) o) at
     ])

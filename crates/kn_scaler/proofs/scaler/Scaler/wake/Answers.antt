@@ -24,7 +24,7 @@ returns-clause-ruled c =
     (λ s b many stands.
     let until = second_of c.self.inside.stats.time in
     ruling-answer s b c.poke-decision.new.self c.args.time until c.phase-phase.result c.mode-mode.result c.ruling_of.result c.poke-decision.result c.ruling_of.ensures
-    (c.phase-phase.ensures (past_of s b) until stands.decider) (c.mode-mode.ensures (past_of s b) until stands.decider) (stands-phase s b _ stands.phase)
+    (c.phase-phase.ensures.past (past_of s b) until stands.decider) (c.mode-mode.ensures.past (past_of s b) until stands.decider) (stands-phase s b _ stands.phase)
     (scaling.wake_decision_at c.self.inside.decider.spec (past_of s b) c.args.time c.args.ready)
     (c.poke-decision.ensures.decision (past_of s b) until stands.decider) (c.poke-decision.ensures.stands (past_of s b) until stands.decider)
     ∙ ap (ruled_by b) (wake-at s c.self.inside.decider b c.args.time c.args.ready stands.spec many))
