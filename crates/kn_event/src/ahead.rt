@@ -204,8 +204,8 @@ fn act_ahead(text: &[u8]) -> Option<(Act, usize)>
 pub struct LastTime {
     time: u64,
     len: usize,
-    // The bytes of the first two words of its line, as far as the byte behind the time: else 1 would be taken for the time of a
-    // line of 10.
+    // The bytes of the first two words of its line, as far as the byte behind the time: else 1 would be taken for the
+    // time of a line of 10.
     first: Front,
     second: Front,
 }
@@ -223,8 +223,10 @@ impl Model for LastTime {
     ghost invariant = { λ r. record {
       few : r.len < 16;
       small : r.time < 2 ^ 64;
-      spelled : (xs ys : List ℕ) → IsEightBytes xs → IsEightBytes ys → number_l 256 xs * r.first.scale % 2 ^ 64 ≡ r.first.moved
-          → number_l 256 ys * r.second.scale % 2 ^ 64 ≡ r.second.moved → take r.len (xs ++ ys) ≡ decimal r.time;
+      spelled : (xs ys : List ℕ) → IsEightBytes xs → IsEightBytes ys
+          → number_l 256 xs * r.first.scale % 2 ^ 64 ≡ r.first.moved
+          → number_l 256 ys * r.second.scale % 2 ^ 64 ≡ r.second.moved
+          → take r.len (xs ++ ys) ≡ decimal r.time;
     } };
 }
 
@@ -258,8 +260,8 @@ impl LastTime {
     fn keep_many(&mut self, time: u64, len: usize, first: u64, second: u64)
         requires many { 8 ≤ len }
         requires most { len < 16 }
-        requires spelled { (xs : List ℕ) × (ys : List ℕ) × IsEightBytes xs × IsEightBytes ys × (first ≡ number_l 256 xs) × (second ≡ number_l 256 ys)
-            × (take len (xs ++ ys) ≡ decimal time) }
+        requires spelled { (xs : List ℕ) × (ys : List ℕ) × IsEightBytes xs × IsEightBytes ys
+            × (first ≡ number_l 256 xs) × (second ≡ number_l 256 ys) × (take len (xs ++ ys) ≡ decimal time) }
     {
         *self = LastTime {
             time,

@@ -10,7 +10,8 @@ ghost use lib.Lanes.{number_l};
 
 use core::dec2flt::ten_to;
 
-// A `0` in each byte.
+// A `0` in each byte. The lanes of a word are its bytes with this taken off, so that a digit's lane is its value. Lanes
+// are handed on and not the word, since the compiler reads a word at once only where nothing looks at one byte of it.
 const ZEROS: u64 = 0x3030_3030_3030_3030;
 
 /// The number that eight digits write, the first of them in the lowest byte.
@@ -43,14 +44,14 @@ fn keep_first(word: u64, count: u32) -> u64
     word << (56 - 8 * count) << 8
 }
 
-/// How many digits a word begins with, from the lowest byte on, and the number that they write, where they are at most seven. These
-/// are its lanes: each byte without a `0`'s bits, so that a digit's is its value.
+/// How many digits the word of these lanes begins with, from the lowest byte on, and the number that they write, where
+/// they are at most seven.
 #[inline(always)]
 fn leading_digits(lanes: u64) -> Option<(usize, u64)>
     ensures few { IfSome result (λ p. p.0 < 8) }
     ensures small { IfSome result (λ p. p.1 < 2 ^ 32) }
-    ensures read { IfSome result (λ p. (word : ℕ) (xs : List ℕ) → lanes ≡ bit_xor word ZEROS → IsEightBytes xs → word ≡ number_l 256 xs
-        → (p.0 ≡ digits_len xs) × (p.1 ≡ digits_value 10 (take p.0 xs))) }
+    ensures read { IfSome result (λ p. (word : ℕ) (xs : List ℕ) → lanes ≡ bit_xor word ZEROS → IsEightBytes xs
+        → word ≡ number_l 256 xs → (p.0 ≡ digits_len xs) × (p.1 ≡ digits_value 10 (take p.0 xs))) }
 {
     let others = flags_from_ten(lanes);
     if others == 0 {
@@ -60,12 +61,12 @@ fn leading_digits(lanes: u64) -> Option<(usize, u64)>
     Some((count as usize, value_of_eight(keep_first(lanes, count))))
 }
 
-/// The number that all eight bytes of a word write, where they are digits.
+/// The number that all eight bytes of the word of these lanes write, where they are digits.
 #[inline(always)]
 fn eight_digits(lanes: u64) -> Option<u64>
     ensures small { IfSome result (λ n. n < 2 ^ 32) }
-    ensures read { IfSome result (λ n. (word : ℕ) (xs : List ℕ) → lanes ≡ bit_xor word ZEROS → IsEightBytes xs → word ≡ number_l 256 xs
-        → (digits_len xs ≡ 8) × (n ≡ digits_value 10 xs)) }
+    ensures read { IfSome result (λ n. (word : ℕ) (xs : List ℕ) → lanes ≡ bit_xor word ZEROS → IsEightBytes xs
+        → word ≡ number_l 256 xs → (digits_len xs ≡ 8) × (n ≡ digits_value 10 xs)) }
 {
     if flags_from_ten(lanes) != 0 {
         return None;
@@ -100,8 +101,8 @@ pub fn many_digits(first: u64, second: u64) -> Option<(usize, u64)>
     ensures many { IfSome result (λ p. 8 ≤ p.0) }
     ensures most { IfSome result (λ p. p.0 < 16) }
     ensures lead { IfSome result (λ p. (xs : List ℕ) → IsEightBytes xs → first ≡ number_l 256 xs → get_or xs 0 0 ≢ 48) }
-    ensures read { IfSome result (λ p. (xs ys : List ℕ) → IsEightBytes xs → IsEightBytes ys → first ≡ number_l 256 xs → second ≡ number_l 256 ys
-        → (p.0 ≡ digits_len (xs ++ ys)) × (p.1 ≡ digits_value 10 (take p.0 (xs ++ ys)))) }
+    ensures read { IfSome result (λ p. (xs ys : List ℕ) → IsEightBytes xs → IsEightBytes ys → first ≡ number_l 256 xs
+        → second ≡ number_l 256 ys → (p.0 ≡ digits_len (xs ++ ys)) × (p.1 ≡ digits_value 10 (take p.0 (xs ++ ys)))) }
 {
     let lanes = first ^ ZEROS;
     if lanes & 0xff == 0 {

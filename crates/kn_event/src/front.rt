@@ -3,8 +3,8 @@ ghost use Rattle.core.specs.Dec2flt.Digits.{IsEightBytes};
 ghost use Rattle.std.specs.Prelude.{◌≡◌, ◌↔◌, ◌*◌, ◌%◌, ◌^◌, ◌<◌, ◌≤◌, ℕ, List, take, IsTrue};
 ghost use lib.Lanes.{number_l};
 
-/// Some first bytes, told by one multiplication, which moves them up to the word's end: only a word that begins with them gives
-/// `moved` when it is multiplied by `scale`.
+/// Some first bytes, told by one multiplication, which moves them up to the word's end: only a word that begins with
+/// them gives `moved` when it is multiplied by `scale`.
 #[derive(Clone, Copy)]
 pub struct Front {
     pub scale: u64,
@@ -35,8 +35,8 @@ impl Front {
     pub fn of(word: u64, count: usize) -> Front
         requires some { 0 < count }
         requires most { count ≤ 8 }
-        ensures { (xs ys : List ℕ) → IsEightBytes xs → IsEightBytes ys → word ≡ number_l 256 ys → number_l 256 xs * result.scale % 2 ^ 64 ≡ result.moved
-            → take count xs ≡ take count ys }
+        ensures { (xs ys : List ℕ) → IsEightBytes xs → IsEightBytes ys → word ≡ number_l 256 ys
+            → number_l 256 xs * result.scale % 2 ^ 64 ≡ result.moved → take count xs ≡ take count ys }
     {
         let scale = 1u64 << (64 - 8 * count as u32);
         Front {

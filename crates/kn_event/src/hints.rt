@@ -4,10 +4,11 @@ use crate::log::Memory;
 use std::alloc::Global;
 use std::marker::Model;
 
-/// A place for each number by its low 15 bits, so that a pod is mostly found with no search, whatever gaps the numbers have.
+/// A place for each number by its low 15 bits, so that a pod is mostly found with no search, whatever gaps the numbers
+/// have.
 ///
-/// Contracts see nothing of it, and none of its calls says what it answers. The pod at that place may be another one, or
-/// there may be none. Whoever asks compares the number there before it trusts the place, and else searches.
+/// Contracts see nothing of it, and no call says what it answers: at that place there may be another pod, or none.
+/// Whoever asks compares the number there before it trusts the place, and else searches.
 #[derive(Drop)]
 pub struct PlaceHints {
     places: Vec<u16>,

@@ -1,5 +1,5 @@
 -- The kept time, or one to fifteen digits.
-use Rattle.std.proofs.Common.{◌≡◌, ◌*◌, ◌%◌, ◌^◌, ◌∙◌, ℕ, List, drop, take, sym, ap, arith}
+use Rattle.std.proofs.Common.{◌*◌, ◌%◌, ◌^◌, ◌∙◌, ℕ, drop, take, sym, ap, arith}
 use Rattle.core.proofs.dec2flt.Eight.{eight_at, word_at}
 use Rattle.kn_event.proofs.Spots.{few_here, many_here, spelled_here, front_spelled, two_words}
 use Rattle.kn_event.proofs.ahead.LastTime.front.Goals as goal
