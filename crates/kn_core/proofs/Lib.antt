@@ -19,3 +19,4 @@ mod Active
 mod Events
 mod Reacting
 mod Runs
+pub mod Refused

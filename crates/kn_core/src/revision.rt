@@ -3,6 +3,7 @@ ghost use Rattle.std.specs.Prelude.{◌≡◌, ℕ, ◌+◌, ◌<◌, ◌≤◌,
 ghost use Rattle.kn_trace.specs.Events.{need_of, opening, react, told_of};
 ghost use Rattle.kn_event.specs.declared.event.Event.{Event as EventValue};
 ghost use Rattle.kn_trace.specs.Laws.{IsInert, IsLawful, IsSettled};
+ghost use Rattle.kn_core.specs.Refused.{LeavesByAnswer};
 ghost use Rattle.kn_trace.specs.Trace.{Trace, arrivals, live, next_starting, proxied, stand_of};
 ghost use Rattle.kn_core.specs.State.{IsAmongLive, StandsFor, StandsForSome};
 ghost use Rattle.kn_core.specs.Steps.{IsWithinRange};
@@ -40,7 +41,7 @@ impl Model for Revision {
 
 impl Revision {
     /// Opens a revision at the start, with all the memory that it will ever have. The log becomes its opening: its pods'
-    /// entries, and the phase of one that scales.
+    /// entries, and the phase of one that scales. It is lawful and settled, and an event that is refused then changes nothing else.
     pub fn new(
         alloc: Global,
         spec: Spec,
@@ -57,10 +58,12 @@ impl Revision {
         ensures lawful { IfOk result (λ r. (c : Trace) → StandsFor r c → IsLawful r.spec c) }
         ensures settled { IfOk result (λ r. (c : Trace) → StandsFor r c → IsSettled r.spec c) }
         ensures inert { IfOk result (λ r. (c : Trace) (e : EventValue) → StandsFor r c → IsInert r.spec c e) }
+        ensures beside { IfOk result (λ r. (c : Trace) (e : EventValue) → StandsFor r c → LeavesByAnswer r.spec c e) }
         ensures logged { OnOk result (log.new ≡ opening spec start) }
         ensures err { OnErr result (log.new ≡ []) }
     {
         history_laws();
+        step_laws();
         let parts = Parts::open(alloc, &spec, start, log)?;
         Ok(Revision {
             spec,
@@ -89,6 +92,7 @@ impl Revision {
         ensures lawful { (c : Trace) → StandsFor self.new c → IsLawful self.new.spec c }
         ensures settled { (c : Trace) → StandsFor self.new c → IsSettled self.new.spec c }
         ensures inert { (c : Trace) (e : EventValue) → StandsFor self.new c → IsInert self.new.spec c e }
+        ensures beside { (c : Trace) (e : EventValue) → StandsFor self.new c → LeavesByAnswer self.new.spec c e }
         ensures spec { self.new.spec ≡ self.old.spec }
         ensures start { self.new.start ≡ self.old.start }
         ensures clock { self.new.clock ≡ e.now.time }

@@ -1,6 +1,7 @@
 use Rattle.std.proofs.Common.{arith}
 use Rattle.kn_trace.specs.Events.{opening}
 use Rattle.kn_core.proofs.Runs.{at_least}
+use Rattle.kn_core.proofs.Refused.{leaves_all}
 use Rattle.kn_core.proofs.revision.Revision.new.Goals as goal
 
 pub returns-clause-stands : goal.returns-clause-stands
@@ -26,3 +27,6 @@ returns-clause-settled c = λ d h. c.history_laws.ensures.settled _ _ _ _ d h.ev
 
 pub returns-clause-inert : goal.returns-clause-inert
 returns-clause-inert c = λ d e h. c.history_laws.ensures.inert _ _ _ _ d e h.events
+
+pub returns-clause-beside : goal.returns-clause-beside
+returns-clause-beside c = λ d e h. leaves_all c.step_laws.ensures.answers c.step_laws.ensures.beside _ d e h.parts.made (c.history_laws.ensures.settled _ _ _ _ d h.events)

@@ -5,6 +5,7 @@ use Rattle.kn_event.specs.declared.revision.Spec.{Spec}
 use Rattle.kn_trace.specs.Events.{react}
 use Rattle.kn_core.proofs.Live.{few_live, live_same, timed_later}
 use Rattle.kn_core.proofs.Runs.{at_least, few_arrivals, measured_later, parts_of_settled, parts_of_some}
+use Rattle.kn_core.proofs.Refused.{leaves_all}
 use Rattle.kn_core.proofs.revision.Revision.step.Goals as goal
 
 pub react-requires-clause-some : goal.react-requires-clause-some
@@ -89,3 +90,6 @@ returns-clause-few c = ∥∥₁_elim c.self.invariant.some le_prop (λ h.
     let s = c.self.inside.spec in
     let e = c.args.e.now in
     rw (c.react.ensures.logged s h.0 h.1.parts (c.history_laws.ensures.settled _ _ _ _ h.0 h.1.events)) (c.entry_laws.ensures.entries s h.0 e c.self.invariant.ranges h.1.parts.made (c.history_laws.ensures.settled _ _ _ _ h.0 h.1.events)))
+
+pub returns-clause-beside : goal.returns-clause-beside
+returns-clause-beside c = λ d e h. leaves_all c.step_laws.ensures.answers c.step_laws.ensures.beside _ d e h.parts.made (c.history_laws.ensures.settled _ _ _ _ d h.events)
