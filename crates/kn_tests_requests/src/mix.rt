@@ -22,6 +22,59 @@ fn picked(plain: &[Request], seed: u64) -> u64 {
     }
 }
 
+/// The list's request of this number.
+fn plain_get(plain: &[Request], r: u64) -> Option<Request> {
+    for request in plain {
+        if request.number == r {
+            return Some(*request);
+        }
+    }
+    None
+}
+
+/// The list's first request that is held.
+fn plain_held(plain: &[Request]) -> Option<u64> {
+    for request in plain {
+        if request.place == Place::Held {
+            return Some(request.number);
+        }
+    }
+    None
+}
+
+/// The list's first request that waits.
+fn plain_waiting(plain: &[Request]) -> Option<Request> {
+    for request in plain {
+        match request.place {
+            Place::Running(_, _) => {}
+            Place::Held | Place::Queued(_) => return Some(*request),
+        }
+    }
+    None
+}
+
+/// The list's first request at a pod.
+fn plain_at(plain: &[Request], p: u64) -> Option<Request> {
+    for request in plain {
+        if is_at(request.place, p) {
+            return Some(*request);
+        }
+    }
+    None
+}
+
+fn is_at(place: Place, p: u64) -> bool {
+    match place {
+        Place::Held => false,
+        Place::Queued(q) => q == p,
+        Place::Running(q, _) => q == p,
+    }
+}
+
+fn plain_remove(plain: &mut Vec<Request>, r: u64) {
+    plain.retain(|request| request.number != r);
+}
+
 /// Moves the request of this number, as an assignment or a run does.
 fn plain_run(plain: &mut Vec<Request>, r: u64, place: Place) {
     for request in plain.iter_mut() {
@@ -47,92 +100,96 @@ fn arrives(run: &mut Run, plain: &mut Vec<Request>, seed: u64) -> Result<bool, A
     }
 }
 
-/// Whether the list's first held request is assigned. One more request runs, if it can.
-fn assigns(run: &mut Run, plain: &mut Vec<Request>, seed: u64) -> bool {
-    let pod = (seed >> 40) % 3;
-    let first = plain
-        .iter()
-        .find(|q| q.place == Place::Held)
-        .map(|q| q.number);
-    let assigned = run.assign(pod);
+/// Whether the list's first held request is assigned.
+fn assigns(run: &mut Run, plain: &mut Vec<Request>, pod: u64) -> bool {
+    let first = plain_held(plain);
     if let Some(r) = first {
         plain_run(plain, r, Place::Running(pod, true));
     }
-    let r = picked(plain, seed);
+    run.assign(pod) == first
+}
+
+/// Lets a request run, if it is queued.
+fn begins(run: &mut Run, plain: &mut Vec<Request>, r: u64) {
     if run.begin(r) {
-        let queued = plain.iter().find(|q| q.number == r).map(|q| q.place);
-        for p in 0..3 {
-            if queued == Some(Place::Queued(p)) {
-                plain_run(plain, r, Place::Running(p, false));
+        if let Some(request) = plain_get(plain, r) {
+            if let Place::Queued(pod) = request.place {
+                plain_run(plain, r, Place::Running(pod, false));
             }
         }
     }
-    assigned == first
 }
 
-fn is_at(place: Place, p: u64) -> bool {
-    match place {
-        Place::Held => false,
-        Place::Queued(q) => q == p,
-        Place::Running(q, _) => q == p,
-    }
+/// Whether the list's first held request is assigned. One more request runs, if it can.
+fn assigns_and_begins(run: &mut Run, plain: &mut Vec<Request>, seed: u64) -> bool {
+    let assigned = assigns(run, plain, (seed >> 40) % 3);
+    let r = picked(plain, seed);
+    begins(run, plain, r);
+    assigned
 }
 
 /// Whether a request ends as the list says.
 fn ends(run: &mut Run, plain: &mut Vec<Request>, seed: u64) -> bool {
     let r = picked(plain, seed);
-    let request = plain.iter().find(|q| q.number == r).copied();
-    let ended = run.end(r);
-    plain.retain(|q| q.number != r);
-    ended == request && (seed >> 60 != 0 || loses(run, plain, (seed >> 40) % 3))
+    let request = plain_get(plain, r);
+    plain_remove(plain, r);
+    run.end(r) == request && (seed >> 60 != 0 || loses(run, plain, (seed >> 40) % 3))
 }
 
 /// Whether the list's first request at the pod is lost.
 fn loses(run: &mut Run, plain: &mut Vec<Request>, pod: u64) -> bool {
-    let first = plain.iter().find(|q| is_at(q.place, pod)).copied();
-    let lost = run.lose(pod);
+    let first = plain_at(plain, pod);
     if let Some(request) = first {
-        plain.retain(|q| q.number != request.number);
+        plain_remove(plain, request.number);
     }
-    lost == first
+    run.lose(pod) == first
 }
 
 /// Whether the table answers what the list has of requests that are held, wait and are due.
 fn agrees_on_waiting(table: &Table, plain: &[Request], time: u64) -> bool {
-    let held = plain
-        .iter()
-        .find(|q| q.place == Place::Held)
-        .map(|q| q.number);
-    let waiting = plain
-        .iter()
-        .find(|q| !matches!(q.place, Place::Running(_, _)));
-    let due = waiting
-        .filter(|q| time.saturating_sub(q.time) >= 40)
-        .map(|q| q.number);
-    table.first_held() == held
-        && table.first_waiting() == waiting.copied()
+    let waiting = plain_waiting(plain);
+    let due = match waiting {
+        Some(request) if time.saturating_sub(request.time) >= 40 => Some(request.number),
+        _ => None,
+    };
+    table.first_held() == plain_held(plain)
+        && table.first_waiting() == waiting
         && table.first_due(40, time) == due
 }
 
 /// Whether the table has at this pod who is there by the list.
 fn agrees_at(table: &Table, plain: &[Request], p: u64) -> bool {
-    let first = plain.iter().find(|q| is_at(q.place, p)).map(|q| q.number);
-    table.first_at(p) == first
+    match plain_at(plain, p) {
+        Some(request) => table.first_at(p) == Some(request.number),
+        None => table.first_at(p).is_none(),
+    }
+}
+
+/// Whether the table has each request of the list, as it is there.
+fn has_all(table: &Table, plain: &[Request]) -> bool {
+    for request in plain {
+        if table.get(request.number) != Some(*request) {
+            return false;
+        }
+    }
+    true
 }
 
 /// Whether the table answers what the plain list has.
 fn agrees(table: &Table, plain: &[Request], time: u64) -> bool {
     table.len() == plain.len() as u64
-        && plain.iter().all(|q| table.get(q.number) == Some(*q))
+        && has_all(table, plain)
         && agrees_on_waiting(table, plain, time)
-        && (0..3).all(|p| agrees_at(table, plain, p))
+        && agrees_at(table, plain, 0)
+        && agrees_at(table, plain, 1)
+        && agrees_at(table, plain, 2)
 }
 
 /// One call, and whether it goes as by the list.
 fn call(run: &mut Run, plain: &mut Vec<Request>, seed: u64) -> Result<bool, AllocError> {
     match (seed >> 33) % 7 {
         0..3 => arrives(run, plain, seed),
-        3 => Ok(assigns(run, plain, seed)),
+        3 => Ok(assigns_and_begins(run, plain, seed)),
         _ => Ok(ends(run, plain, seed)),
     }
 }

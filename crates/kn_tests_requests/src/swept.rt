@@ -4,11 +4,26 @@ ghost use Rattle.std.specs.Prelude.{◌<◌};
 use crate::run::{Run, firsts};
 use anyhow::bail;
 use kn_case::case;
-use kn_record::Place;
+use kn_record::{Place, Request};
+use std::ops::Range;
 
 /// Whether so many requests come, one after the other.
 fn fills(run: &mut Run, count: u64) -> bool {
-    (0..count).all(|_| run.arrive(Place::Held, 1).is_some())
+    for _ in 0..count {
+        if run.arrive(Place::Held, 1).is_none() {
+            return false;
+        }
+    }
+    true
+}
+
+/// Who comes when a request of this number does: it is held, and its time is its number.
+fn held(number: u64) -> Request {
+    Request {
+        number,
+        time: number,
+        place: Place::Held,
+    }
 }
 
 /// Whether all goes well as one request of a pair ends, the second first, and another arrives. The first that is left
@@ -18,13 +33,13 @@ fn turns_over(run: &mut Run, turn: u64) -> bool
 {
     let first = turn + turn % 2;
     let gone = if turn % 2 == 0 { turn + 1 } else { turn - 1 };
-    run.end(gone).map(|q| q.number) == Some(gone)
+    run.end(gone) == Some(held(gone))
         && run.arrive(Place::Held, 1).is_some()
         && run.table.len() == 20_000
         && run.table.first_held() == Some(first)
         && run.table.first_due(20_000, turn + 20_001) == Some(first)
         && run.table.get(gone).is_none()
-        && run.table.get(turn + 12_345).map(|q| q.time) == Some(turn + 12_345)
+        && run.table.get(turn + 12_345) == Some(held(turn + 12_345))
 }
 
 /// How many turns go well, one after the other.
@@ -35,6 +50,27 @@ fn turns_that_go_well(run: &mut Run) -> u64 {
         }
     }
     70_000
+}
+
+/// Whether so many requests are assigned to a pod, one after the other.
+fn assigns(run: &mut Run, pod: u64, count: u64) -> bool {
+    for _ in 0..count {
+        if run.assign(pod).is_none() {
+            return false;
+        }
+    }
+    true
+}
+
+/// Whether the requests of a pod are lost in the order of these numbers.
+fn loses(run: &mut Run, pod: u64, numbers: Range<u64>) -> bool {
+    for r in numbers {
+        match run.lose(pod) {
+            Some(request) if request.number == r => {}
+            _ => return false,
+        }
+    }
+    true
 }
 
 /// Each end makes room for one more, through three sweeps.
@@ -49,7 +85,7 @@ pub fn is_swept<R: Print + AllocGlobal>(rt: &R) -> anyhow::Result<()> {
         &turns_that_go_well(&mut run),
         &70_000,
     )?;
-    let assigned = (0..20_000).all(|_| run.assign(3).is_some());
+    let assigned = assigns(&mut run, 3, 20_000);
     case(rt, "table, 20000 are assigned", &assigned, &true)?;
     let firsts = firsts(&run.table, 3, 1 << 40);
     case(
@@ -58,7 +94,7 @@ pub fn is_swept<R: Print + AllocGlobal>(rt: &R) -> anyhow::Result<()> {
         &firsts,
         &[None, None, None, Some(70_000)],
     )?;
-    let lost = (70_000..90_000).all(|r| run.lose(3).map(|q| q.number) == Some(r));
+    let lost = loses(&mut run, 3, 70_000..90_000);
     case(rt, "table, all of pod 3 are lost in order", &lost, &true)?;
     case(rt, "table, none is left", &run.table.is_empty(), &true)?;
     Ok(())

@@ -17,7 +17,10 @@ fn one_seat(alloc: Global) -> Result<Throttle, Memory> {
 
 /// Nothing is known of a request that has not come, and nothing follows from nothing.
 pub fn empty<R: Print + AllocGlobal>(rt: &R) -> anyhow::Result<()> {
-    let (Ok(mut log), Ok(mut throttle)) = (EntryLog::new(rt.alloc()), one_seat(rt.alloc())) else {
+    let Ok(mut log) = EntryLog::new(rt.alloc()) else {
+        bail!("memory is lacking");
+    };
+    let Ok(mut throttle) = one_seat(rt.alloc()) else {
         bail!("memory is lacking");
     };
     throttle.settle(0, &mut log);

@@ -135,20 +135,12 @@ impl Driver {
         self.throttle.stand(r)
     }
 
-    pub fn proxied(&self, r: u64) -> bool {
-        self.throttle.proxied(r)
-    }
-
     pub fn arrivals(&self) -> u64 {
         self.throttle.arrivals()
     }
 
     pub fn live(&self) -> u64 {
         self.throttle.live()
-    }
-
-    pub fn due(&self) -> Option<u64> {
-        self.throttle.due(self.clock)
     }
 }
 

@@ -3,7 +3,7 @@ ghost use Rattle.std.specs.Prelude.{◌<◌};
 
 use crate::driver::{Call, Driver, Setting};
 use crate::mix::digests;
-use kn_event::{Memory, Slots};
+use kn_event::Slots;
 use std::alloc::{AllocError, Global};
 
 fn word(line: &str, place: usize) -> &str {
@@ -57,12 +57,15 @@ fn made(alloc: Global, driver: &mut Driver, call: Call) -> Result<String, AllocE
 
 /// The digests of a mix.
 fn mixed(alloc: Global, line: &str) -> Result<String, AllocError> {
-    match digests(alloc, &setting(line, 3), number(line, 2)) {
-        Ok([first, second, third, fourth]) => {
-            format!(in alloc; "{first:016x} {second:016x} {third:016x} {fourth:016x}")
-        }
-        Err(Memory) => Err(AllocError),
-    }
+    let digests = digests(alloc, &setting(line, 3), number(line, 2)).or(Err(AllocError))?;
+    format!(
+        in alloc;
+        "{:016x} {:016x} {:016x} {:016x}",
+        digests[0],
+        digests[1],
+        digests[2],
+        digests[3]
+    )
 }
 
 /// What a line's call makes of the throttler.
