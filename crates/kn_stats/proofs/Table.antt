@@ -199,13 +199,3 @@ out-same-by p q qs more above rest false h = found-next p q more h ∙ rest
 pub found-out-same : (p : ℕ) (qs : List PodTally) → IsSorted qs → found p (without_pod p qs) ≡ idle p
 found-out-same p [] h = refl
 found-out-same p (q ∷ qs) h = out-same-by p q qs (without_pod p qs) h (found-out-same p qs (sorted-tail q qs h)) (q.number == p) refl
-
-put-long-by : (p : ℕ) (f : PodTally → PodTally) (q : PodTally) (qs more : List PodTally) → length more ≤ length qs + 1 → (b l : Bool) → length (chosen b l p f q qs more) ≤ length (q ∷ qs) + 1
-put-long-by p f q qs more rest true l = omega arith
-put-long-by p f q qs more rest false true = omega arith
-put-long-by p f q qs more rest false false = omega (arith, rest)
-
--- at most one more
-pub length_put_most : (p : ℕ) (f : PodTally → PodTally) (qs : List PodTally) → length (put p f qs) ≤ length qs + 1
-length_put_most p f [] = omega arith
-length_put_most p f (q ∷ qs) = put-long-by p f q qs (put p f qs) (length_put_most p f qs) (q.number == p) (nat_lt p q.number)

@@ -1,6 +1,7 @@
 -- The first request after the opening.
-use Rattle.std.proofs.Common.{◌≡◌, ℕ, ◌+◌, ◌<◌, false, List, [], ◌∷◌, ◌++◌, length, refl, sym, subst, arith, zero, suc}
+use Rattle.std.proofs.Common.{◌≡◌, ℕ, ◌+◌, ◌<◌, Bool, false, List, [], ◌∷◌, ◌++◌, refl, sym, ap, subst, arith, zero, suc}
 use Rattle.std.specs.Prelude.{not, ◌==◌}
+use Rattle.std.specs.List.{filter}
 use Rattle.std.proofs.lemmas.Bool.Decides.{nat_tests}
 use Rattle.kn_event.specs.declared.entry.Row.TheVariants as row
 use Rattle.kn_event.specs.declared.event.Stand.TheVariants as stand
@@ -9,18 +10,19 @@ use Rattle.kn_trace.specs.Capacity.{breaker_full}
 use Rattle.kn_trace.specs.Events.{opening}
 use Rattle.kn_trace.specs.Load.{has_ready_pod}
 use Rattle.kn_trace.specs.Rows.{admitted_by, arrived_by, readied_by, taken_by}
-use Rattle.kn_trace.specs.Scale.{count_ready}
-use Rattle.kn_trace.specs.Trace.{Trace, arrivals, entry, in_breaker, is_empty, live, ready_pods}
+use Rattle.kn_trace.specs.Trace.{Trace, arrivals, each_row, entry, in_breaker, is_empty, is_ready, live, ready_pods}
 use Rattle.kn_record.specs.Facts.{Facts}
 use Rattle.kn_record.specs.Made.{IsMade, IsProper}
 use Rattle.kn_laws.specs.Facts.{PartFacts}
 use Rattle.kn_scaler.specs.Stands.{IsNextOfSome, IsNextRow, ScalerState, StandsFor, StandsForSome}
-use Rattle.kn_scaler.proofs.Openings.{none-ready}
-use Rattle.kn_scaler.proofs.Settlings.{MadeMore}
 
-no_length : (xs : List ℕ) → length xs ≡ 0 → not (is_empty xs) ≡ false
-no_length [] h = refl
-no_length (x ∷ xs) h = absurd (omega (arith, h))
+filter-none : (t : ℕ → Bool) (xs : List ℕ) → ((x : ℕ) → t x ≡ false) → filter t xs ≡ []
+filter-none t [] none = refl
+filter-none t (x ∷ xs) none = rw (none x) (filter-none t xs none)
+
+none-ready : (c : Trace) → each_row readied_by c ≡ [] → ready_pods c ≡ []
+unfolding ready_pods is_ready
+none-ready c h = filter-none (is_ready c) _ (λ p. rw h refl)
 
 none_other : (n : ℕ) → 0 < n → (0 == n) ≡ false
 none_other zero h = absurd (omega (arith, h))
@@ -30,8 +32,7 @@ module _ (facts : Facts) (parts : PartFacts) (s : Spec) (start : ℕ) where
   open parts use {rows.{opening_none}}
 
   pub none_ready : has_ready_pod (opening s start) ≡ false
-  unfolding count_ready
-  none_ready = no_length (ready_pods (opening s start)) (none-ready (opening s start) (opening_none readied_by (λ p n. refl) (λ x. refl) s start))
+  none_ready = ap (λ ps. not (is_empty ps)) (none-ready (opening s start) (opening_none readied_by (λ p n. refl) (λ x. refl) s start))
 
   pub first_proper : (tag : ℕ) → 0 < s.slots.depth + s.slots.max → IsProper s (opening s start) (row.Admit 0 tag)
   unfolding arrivals live breaker_full in_breaker
@@ -56,8 +57,8 @@ module _ (facts : Facts) (parts : PartFacts) (s : Spec) (start : ℕ) where
   pub first_of_some : (x : ScalerState) (tag : ℕ) → 0 < s.slots.depth + s.slots.max → StandsFor s x (opening s start) → IsNextOfSome x (row.Admit 0 tag) stand.Unknown false
   first_of_some x tag some stands = ∣ (s, opening s start, first_next x tag some stands, tt) ∣₁
 
-  pub first_made : MadeMore → (t tag : ℕ) → 0 < s.slots.depth + s.slots.max → IsMade s (opening s start ++ entry t (row.Admit 0 tag) ∷ [])
-  first_made more t tag some = more s (opening s start) t (row.Admit 0 tag) opening_made (first_proper tag some)
+  pub first_made : (t tag : ℕ) → 0 < s.slots.depth + s.slots.max → IsMade s (opening s start ++ entry t (row.Admit 0 tag) ∷ [])
+  first_made t tag some = facts.proper.made_more s (opening s start) (entry t (row.Admit 0 tag) ∷ []) opening_made (first_proper tag some, tt)
 
 pub for_some : (s : Spec) (x : ScalerState) (c : Trace) → IsMade s c → StandsFor s x c → StandsForSome x
 for_some s x c made stands =

@@ -23,30 +23,37 @@ const fn closed(first: Option<Run>, rest: Option<Run>) -> Closed {
     Closed { first, rest }
 }
 
-/// What closes with each advance, where one request is admitted at 500, assigned at 700 and ends at 2,500.
+/// A change at a later time. Answers what closed before it.
+fn step(meter: &mut Meter, time: u64, change: Change) -> Option<Closed> {
+    let closed = meter.advance(time, true)?;
+    meter.change(change)?;
+    Some(closed)
+}
+
+/// What closes with each step of one request.
 fn one_request(alloc: Global) -> Option<[Closed; 4]> {
     let mut meter = Meter::new(alloc, 0, Metric::Concurrency)?;
-    let before = meter.advance(500, true)?;
-    meter.admit()?;
-    let held = meter.advance(700, true)?;
-    let over = meter.assign_until(0, 2500, true)?;
+    let before = step(&mut meter, 500, Change::Admitted)?;
+    let held = step(&mut meter, 700, Change::Assigned(0))?;
+    let over = step(&mut meter, 2500, Change::EndedAt(0, true))?;
     Some([before, held, over, meter.advance(3000, true)?])
+}
+
+/// The area of pod 0 at a later time.
+fn area_at(meter: &mut Meter, time: u64) -> Option<PodArea> {
+    let _ = meter.advance(time, true)?;
+    Some(meter.area(0))
 }
 
 /// What pod 0 took at 900, at 950 and at 1,100, with one request from 700 on and one straight from 900 on.
 fn one_pod(alloc: Global) -> Option<[PodArea; 3]> {
     let mut meter = Meter::new(alloc, 0, Metric::Concurrency)?;
-    let _ = meter.advance(500, true)?;
-    meter.admit()?;
-    let _ = meter.advance(700, true)?;
-    meter.assign(0)?;
-    let _ = meter.advance(900, true)?;
-    let early = meter.area(0);
-    meter.direct(0)?;
-    let _ = meter.advance(950, true)?;
-    let late = meter.area(0);
-    let _ = meter.advance(1100, true)?;
-    Some([early, late, meter.area(0)])
+    let _ = step(&mut meter, 500, Change::Admitted)?;
+    let _ = step(&mut meter, 700, Change::Assigned(0))?;
+    let early = area_at(&mut meter, 900)?;
+    meter.change(Change::Directed(0))?;
+    let late = area_at(&mut meter, 950)?;
+    Some([early, late, area_at(&mut meter, 1100)?])
 }
 
 /// What closes where a pod left that had a request from 500 to 900.
@@ -106,9 +113,11 @@ fn after_arrivals(sampled: bool, arrived: u64) -> Option<Closed> {
 fn most_pods(alloc: Global) -> Option<[u64; 2]> {
     let mut meter = Meter::new(alloc, 0, Metric::Concurrency)?;
     for k in 0..20_499 {
-        let _ = meter.direct_until(k * 7919 % 20_500, 0, false)?;
+        let p = k * 7919 % 20_500;
+        meter.change(Change::Directed(p))?;
+        meter.change(Change::EndedAt(p, false))?;
     }
-    meter.direct(20_499 * 7919 % 20_500)?;
+    meter.change(Change::Directed(20_499 * 7919 % 20_500))?;
     let _ = meter.advance(250, false)?;
     Some([meter.area(12_581).area, meter.area(20_499).area])
 }

@@ -1,6 +1,7 @@
-//! A measure of live requests that makes only such changes as are known to be allowed.
-ghost use Rattle.std.specs.Prelude.{◌≡◌, ◌≤◌, length};
-ghost use Rattle.kn_stats.specs.Stands.{live_in};
+//! A measure of live requests that makes only such changes as are allowed, by counts of its own.
+ghost use Rattle.std.specs.Prelude.{◌≡◌, ◌+◌, ◌<◌, ◌≤◌, true, length};
+ghost use Rattle.kn_stats.specs.Pods.{IsSorted};
+ghost use Rattle.kn_tests_scaler.specs.Counts.{AreKept, sorted_prop};
 
 use kn_event::Metric;
 use kn_stats::{Change, Closed, PodArea, Stats};
@@ -11,22 +12,39 @@ const LIVE_MOST: u64 = 20_000;
 
 const NAMED_MOST: u64 = 20_500;
 
-/// A measure, its time, how many requests wait, and bounds for the live ones and for the pods that were named.
+/// A measure, its time, how many requests wait, and how many are live of those that came through the activator and of
+/// those that came straight; at most how many pods were named, and how many of either kind are at each pod.
 #[derive(Drop)]
 pub struct Meter {
     stats: Stats,
     time: u64,
     waiting: u64,
-    live: u64,
+    through: u64,
+    straight: u64,
     named: u64,
+    straight_at: Vec<u64>,
+    through_at: Vec<u64>,
     ghost now: { stats.time ≡ time },
     ghost held: { stats.waiting ≡ waiting },
-    ghost few_live: { live_in stats ≤ live },
+    ghost by_activator: { stats.activator.count ≡ through },
+    ghost past_it: { stats.direct.count ≡ straight },
     ghost few_named: { length stats.pods ≤ named },
+    ghost sorted: { IsSorted stats.pods } by { sorted_prop stats.pods },
+    ghost kept: { AreKept straight_at.items through_at.items stats.pods },
+}
+
+/// Whether one more may be live.
+fn has_place(through: u64, straight: u64) -> bool
+    ensures { result ≡ true → through + straight < 20000 }
+{
+    through < LIVE_MOST && straight < LIVE_MOST - through
 }
 
 impl Meter {
+    #[tactic(auto, using(crate::proofs::Counts::kept_none))]
     pub fn new(alloc: Global, start: u64, metric: Metric) -> Option<Meter> {
+        let straight_at = vec![in alloc; 0; 20_500].ok()?;
+        let through_at = vec![in alloc; 0; 20_500].ok()?;
         let Ok(stats) = Stats::new(alloc, start, metric) else {
             return None;
         };
@@ -34,8 +52,11 @@ impl Meter {
             stats,
             time: start,
             waiting: 0,
-            live: 0,
+            through: 0,
+            straight: 0,
             named: 0,
+            straight_at,
+            through_at,
         })
     }
 
@@ -53,77 +74,91 @@ impl Meter {
         Some(closed)
     }
 
-    pub fn admit(&mut self) -> Option<()> {
-        let waiting = self.waiting.checked_add(1)?;
-        if self.live >= LIVE_MOST {
+    /// The change, where it is known to be allowed.
+    pub fn change(&mut self, change: Change) -> Option<()> {
+        match change {
+            Change::Admitted => self.admit(),
+            Change::Assigned(p) => self.assign(p as usize),
+            Change::Directed(p) => self.direct(p as usize),
+            Change::EndedHeld => self.end_held(),
+            Change::EndedAt(p, true) => self.end_assigned(p as usize),
+            Change::EndedAt(p, false) => self.end_directed(p as usize),
+        }
+    }
+
+    fn admit(&mut self) -> Option<()> {
+        if !has_place(self.through, self.straight) || self.waiting >= LIVE_MOST {
             return None;
         }
         self.stats.change(Change::Admitted);
-        self.waiting = waiting;
-        self.live += 1;
+        self.waiting += 1;
+        self.through += 1;
         Some(())
     }
 
     /// One that waits goes to the pod.
-    #[tactic(auto, using(crate::proofs::Lists::length_put_most))]
-    pub fn assign(&mut self, p: u64) -> Option<()> {
-        if self.waiting == 0 || self.named >= NAMED_MOST {
+    #[tactic(auto, using(crate::proofs::Lists::length_put_most, crate::proofs::Counts::kept_assigned, crate::proofs::Counts::sorted_changed))]
+    fn assign(&mut self, p: usize) -> Option<()> {
+        let count = *self.through_at.get(p)?;
+        if self.waiting == 0 || self.named >= NAMED_MOST || count >= LIVE_MOST {
             return None;
         }
-        self.stats.change(Change::Assigned(p));
+        self.stats.change(Change::Assigned(p as u64));
         self.waiting -= 1;
         self.named += 1;
+        self.through_at[p] = count + 1;
         Some(())
     }
 
-    #[tactic(auto, using(crate::proofs::Lists::length_put_most))]
-    pub fn direct(&mut self, p: u64) -> Option<()> {
-        if self.live >= LIVE_MOST || self.named >= NAMED_MOST {
+    #[tactic(auto, using(crate::proofs::Lists::length_put_most, crate::proofs::Counts::kept_directed, crate::proofs::Counts::sorted_changed))]
+    fn direct(&mut self, p: usize) -> Option<()> {
+        let count = *self.straight_at.get(p)?;
+        if !has_place(self.through, self.straight) || self.named >= NAMED_MOST || count >= LIVE_MOST
+        {
             return None;
         }
-        self.stats.change(Change::Directed(p));
-        self.live += 1;
+        self.stats.change(Change::Directed(p as u64));
+        self.straight += 1;
         self.named += 1;
+        self.straight_at[p] = count + 1;
         Some(())
     }
 
     /// One that waits ends.
-    pub fn end_held(&mut self) -> Option<()> {
-        if self.waiting == 0 {
+    fn end_held(&mut self) -> Option<()> {
+        if self.waiting == 0 || self.through == 0 {
             return None;
         }
         self.stats.change(Change::EndedHeld);
         self.waiting -= 1;
+        self.through -= 1;
         Some(())
     }
 
-    /// One goes straight to the pod, and ends there at a later time. Answers what closes until then.
-    #[tactic(auto, using(crate::proofs::Lists::length_put_most))]
-    pub fn direct_until(&mut self, p: u64, to: u64, ready: bool) -> Option<Closed> {
-        if self.live >= LIVE_MOST || self.named >= NAMED_MOST || to < self.time {
+    /// One that was handed to the pod ends there.
+    #[tactic(auto, using(crate::proofs::Counts::kept_proxied, crate::proofs::Counts::sorted_changed, crate::proofs::Counts::proxied_length))]
+    fn end_assigned(&mut self, p: usize) -> Option<()> {
+        let count = *self.through_at.get(p)?;
+        if self.through == 0 || count == 0 {
             return None;
         }
-        self.stats.change(Change::Directed(p));
-        let closed = self.stats.advance(to, ready);
-        self.stats.change(Change::EndedAt(p, false));
-        self.time = to;
-        self.named += 1;
-        Some(closed)
+        self.stats.change(Change::EndedAt(p as u64, true));
+        self.through -= 1;
+        self.through_at[p] = count - 1;
+        Some(())
     }
 
-    /// One that waits goes to the pod, and ends there at a later time. Answers what closes until then.
-    #[tactic(auto, using(crate::proofs::Lists::length_put_most))]
-    pub fn assign_until(&mut self, p: u64, to: u64, ready: bool) -> Option<Closed> {
-        if self.waiting == 0 || self.named >= NAMED_MOST || to < self.time {
+    /// One that came straight to the pod ends there.
+    #[tactic(auto, using(crate::proofs::Counts::kept_straight, crate::proofs::Counts::sorted_changed, crate::proofs::Counts::straight_length))]
+    fn end_directed(&mut self, p: usize) -> Option<()> {
+        let count = *self.straight_at.get(p)?;
+        if self.straight == 0 || count == 0 {
             return None;
         }
-        self.stats.change(Change::Assigned(p));
-        let closed = self.stats.advance(to, ready);
-        self.stats.change(Change::EndedAt(p, true));
-        self.waiting -= 1;
-        self.time = to;
-        self.named += 1;
-        Some(closed)
+        self.stats.change(Change::EndedAt(p as u64, false));
+        self.straight -= 1;
+        self.straight_at[p] = count - 1;
+        Some(())
     }
 
     /// What requests at the pod took of the open second.

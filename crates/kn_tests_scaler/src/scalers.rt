@@ -7,7 +7,6 @@ ghost use Rattle.kn_scaler.specs.Stands.{StandsFor, StandsForSome};
 use kn_case::case;
 use kn_event::{Decision, Frac, Kind, Mode, Phase, Row, Slots, Spec, Stand};
 use kn_laws::parts::part_laws;
-use kn_record::append::order_laws;
 use kn_record::facts::fact_laws;
 use kn_scaler::{Ruled, Scaler};
 use std::alloc::Global;
@@ -24,7 +23,6 @@ fn admit_first(scaler: &mut Scaler, spec: &Spec, time: u64)
 {
     fact_laws();
     part_laws();
-    order_laws();
     scaler.advance(time, false);
     scaler.row(Row::Admit(0, 9), Stand::Unknown, false);
 }

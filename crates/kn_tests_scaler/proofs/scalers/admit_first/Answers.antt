@@ -24,5 +24,5 @@ returns-clause-some c =
     let x = c.advance.new.self in
     let stands = c.advance.ensures.stands s (opening s 0) (opening_made facts parts s 0) (none_ready facts parts s 0) c.requires.stands in
     for_some s c.row.new.self (opening s 0 ++ entry x.stats.time (row.Admit 0 9) ∷ [])
-    (first_made facts parts s 0 c.order_laws.ensures.row x.stats.time 9 c.requires.slots)
+    (first_made facts parts s 0 x.stats.time 9 c.requires.slots)
     (c.row.ensures.stands s (opening s 0) refl (first_next facts parts s 0 x 9 c.requires.slots stands))
