@@ -113,7 +113,9 @@ impl Meter {
     #[tactic(auto, using(crate::proofs::Lists::length_put_most, crate::proofs::Counts::kept_directed, crate::proofs::Counts::sorted_changed))]
     fn direct(&mut self, p: usize) -> Option<()> {
         let count = *self.straight_at.get(p)?;
-        if !has_place(self.through, self.straight) || self.named >= NAMED_MOST || count >= LIVE_MOST
+        if !has_place(self.through, self.straight)
+            || self.named >= NAMED_MOST
+            || count >= LIVE_MOST
         {
             return None;
         }
