@@ -39,13 +39,6 @@ impl Clock {
         }
     }
 
-    #[cfg(test)]
-    pub(crate) fn time(&self) -> u64
-        ensures { result ≡ self.now }
-    {
-        self.time
-    }
-
     /// Whether this later time lies in the same second.
     #[inline(always)]
     pub(crate) fn has_second_of(&self, to: u64) -> bool
