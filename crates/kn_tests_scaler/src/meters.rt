@@ -129,7 +129,9 @@ impl Meter {
             return None;
         }
         let count = self.straight_at[p];
-        if !has_place(self.through, self.straight) || self.named >= NAMED_MOST || count >= LIVE_MOST
+        if !has_place(self.through, self.straight)
+            || self.named >= NAMED_MOST
+            || count >= LIVE_MOST
         {
             return None;
         }
