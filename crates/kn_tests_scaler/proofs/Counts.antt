@@ -1,8 +1,9 @@
 -- What a change makes of counts of the requests at each pod.
-use Rattle.std.proofs.Common.{◌≡◌, refl, sym, ap, ◌∙◌, subst, ℕ, ◌+◌, ◌-◌, ◌≤◌, ◌<◌, Bool, true, false, List, [], length, get_or, arith}
+use Rattle.std.proofs.Common.{◌≡◌, refl, sym, ap, ◌∙◌, subst, ℕ, ◌+◌, ◌-◌, ◌≤◌, ◌<◌, Bool, true, false, List, [], length, get_or, arith, zero, suc}
 use Rattle.std.specs.Prelude.{◌==◌, nat_lt, set}
 use Rattle.std.proofs.lemmas.Bool.{eqb-true, eqb-false}
-use Rattle.std.proofs.Math.ListN.{length-set, length-replicate, get_or-replicate, get_or-set_same, get_or-set_other, replicate}
+use Rattle.std.proofs.Math.ListN.{replicate}
+use Rattle.std.proofs.lemmas.List.{length-set, get_or-set_same, get_or-set_other}
 use Rattle.kn_scaling.specs.Average.{second_of}
 use Rattle.kn_stats.specs.declared.change.Change.{Change}
 use Rattle.kn_stats.specs.declared.change.Change.TheVariants as change
@@ -11,7 +12,7 @@ use Rattle.kn_stats.specs.declared.tally.Tally.{Tally}
 use Rattle.kn_stats.specs.Pods.{IsSorted, anew_if, found, pod_after, put}
 use Rattle.kn_stats.specs.Stands.{StatsState, changed, left_of}
 use Rattle.kn_tests_scaler.specs.Counts.{AreCounted, AreKept, direct_count, proxied_count}
-use Rattle.kn_tests_scaler.proofs.Lists.{KeepsNumbers, found-put, found-put-other, length-put, length-there, sorted-put}
+use Rattle.kn_tests_scaler.proofs.Lists.{KeepsNumbers, found-put, found-put-other, length-put, length-there, length_put_most, sorted-put}
 
 anew_count : (b : Bool) (t : Tally) → (anew_if b t).count ≡ t.count
 anew_count true t = refl
@@ -92,9 +93,44 @@ module _ (s : StatsState) (d x : List ℕ) (p : ℕ) (sorted : IsSorted s.pods) 
       length-put p (pod_after (second_of s.time) (left_of s.time) (change.EndedAt p true)) (λ q. q) s.pods
       ∙ length-there proxied_count p s.pods refl sorted (subst (λ n. 0 < n) (sym (kept.proxied.each p lt)) some)
 
+pub zeros : (n p : ℕ) → ◌≡◌ {A = ℕ} (get_or (replicate n 0) p 0) 0
+zeros zero p = refl
+zeros (suc n) zero = refl
+zeros (suc n) (suc p) = zeros n p
+
 -- before any pod is named
-pub kept_none : (n m : ℕ) → AreKept (replicate n 0) (replicate m 0) []
-kept_none n m = record {
-  direct = record { each = λ p h. sym (get_or-replicate n p 0 0 (subst (λ z. p < z) (length-replicate n 0) h)) };
-  proxied = record { each = λ p h. sym (get_or-replicate m p 0 0 (subst (λ z. p < z) (length-replicate m 0) h)) };
-}
+pub kept_zero : (a b : List ℕ) → ((p : ℕ) → get_or a p 0 ≡ 0) → ((p : ℕ) → get_or b p 0 ≡ 0) → AreKept a b []
+kept_zero a b none_a none_b = record { direct = record { each = λ p h. sym (none_a p) }; proxied = record { each = λ p h. sym (none_b p) } }
+
+-- ---- what a function's answer needs, where the state after the change is known by an equation
+
+module _ (s t : StatsState) (d x : List ℕ) (p n : ℕ) (sorted : IsSorted s.pods) (kept : AreKept d x s.pods) where
+  pub after_directed : p < length d → n ≡ get_or d p 0 → t ≡ changed (change.Directed p) s → AreKept (set d p (n + 1)) x t.pods
+  after_directed lt is e = rw (e, is) (kept_directed s d x p sorted kept lt)
+
+  pub after_assigned : p < length x → n ≡ get_or x p 0 → t ≡ changed (change.Assigned p) s → AreKept d (set x p (n + 1)) t.pods
+  after_assigned lt is e = rw (e, is) (kept_assigned s d x p sorted kept lt)
+
+  pub after_straight : p < length d → n ≡ get_or d p 0 → t ≡ changed (change.EndedAt p false) s → AreKept (set d p (n - 1)) x t.pods
+  after_straight lt is e = rw (e, is) (kept_straight s d x p sorted kept lt)
+
+  pub after_proxied : p < length x → n ≡ get_or x p 0 → t ≡ changed (change.EndedAt p true) s → AreKept d (set x p (n - 1)) t.pods
+  after_proxied lt is e = rw (e, is) (kept_proxied s d x p sorted kept lt)
+
+  pub some_straight : p < length d → n ≡ get_or d p 0 → 0 < n → 0 < (found p s.pods).direct.count
+  some_straight lt is some = subst (λ m. 0 < m) (is ∙ sym (kept.direct.each p lt)) some
+
+  pub some_proxied : p < length x → n ≡ get_or x p 0 → 0 < n → 0 < (found p s.pods).proxied.count
+  some_proxied lt is some = subst (λ m. 0 < m) (is ∙ sym (kept.proxied.each p lt)) some
+
+  pub length_directed : t ≡ changed (change.Directed p) s → length t.pods ≤ length s.pods + 1
+  length_directed e = rw e (length_put_most p (pod_after (second_of s.time) (left_of s.time) (change.Directed p)) s.pods)
+
+  pub length_assigned : t ≡ changed (change.Assigned p) s → length t.pods ≤ length s.pods + 1
+  length_assigned e = rw e (length_put_most p (pod_after (second_of s.time) (left_of s.time) (change.Assigned p)) s.pods)
+
+  pub length_straight : p < length d → n ≡ get_or d p 0 → 0 < n → t ≡ changed (change.EndedAt p false) s → length t.pods ≡ length s.pods
+  length_straight lt is some e = rw e (straight_length s d x p sorted kept lt (subst (λ m. 0 < m) is some))
+
+  pub length_proxied : p < length x → n ≡ get_or x p 0 → 0 < n → t ≡ changed (change.EndedAt p true) s → length t.pods ≡ length s.pods
+  length_proxied lt is some e = rw e (proxied_length s d x p sorted kept lt (subst (λ m. 0 < m) is some))

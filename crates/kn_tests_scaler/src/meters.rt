@@ -1,5 +1,5 @@
 //! A measure of live requests that makes only such changes as are allowed, by counts of its own.
-ghost use Rattle.std.specs.Prelude.{◌≡◌, ◌+◌, ◌<◌, ◌≤◌, true, length};
+ghost use Rattle.std.specs.Prelude.{◌≡◌, ◌+◌, ◌<◌, ◌≤◌, ℕ, IfSome, get_or, true, length};
 ghost use Rattle.kn_stats.specs.Pods.{IsSorted};
 ghost use Rattle.kn_tests_scaler.specs.Counts.{AreKept, sorted_prop};
 
@@ -40,11 +40,21 @@ fn has_place(through: u64, straight: u64) -> bool
     through < LIVE_MOST && straight < LIVE_MOST - through
 }
 
+/// No request at any of so many pods.
+#[tactic(auto, using(crate::proofs::Counts::zeros))]
+fn no_counts(alloc: Global, pods: usize) -> Option<Vec<u64>>
+    ensures { IfSome result (λ counts. (p : ℕ) → get_or counts.items p 0 ≡ 0) }
+{
+    match vec![in alloc; 0; pods] {
+        Ok(counts) => Some(counts),
+        Err(_) => None,
+    }
+}
+
 impl Meter {
-    #[tactic(auto, using(crate::proofs::Counts::kept_none))]
     pub fn new(alloc: Global, start: u64, metric: Metric) -> Option<Meter> {
-        let straight_at = vec![in alloc; 0; 20_500].ok()?;
-        let through_at = vec![in alloc; 0; 20_500].ok()?;
+        let straight_at = no_counts(alloc, 20_500)?;
+        let through_at = no_counts(alloc, 20_500)?;
         let Ok(stats) = Stats::new(alloc, start, metric) else {
             return None;
         };
@@ -97,9 +107,12 @@ impl Meter {
     }
 
     /// One that waits goes to the pod.
-    #[tactic(auto, using(crate::proofs::Lists::length_put_most, crate::proofs::Counts::kept_assigned, crate::proofs::Counts::sorted_changed))]
+    #[tactic(auto, using(crate::proofs::Lists::length_put_most, crate::proofs::Counts::sorted_changed, crate::proofs::Counts::after_assigned))]
     fn assign(&mut self, p: usize) -> Option<()> {
-        let count = *self.through_at.get(p)?;
+        if p >= self.through_at.len() {
+            return None;
+        }
+        let count = self.through_at[p];
         if self.waiting == 0 || self.named >= NAMED_MOST || count >= LIVE_MOST {
             return None;
         }
@@ -110,9 +123,12 @@ impl Meter {
         Some(())
     }
 
-    #[tactic(auto, using(crate::proofs::Lists::length_put_most, crate::proofs::Counts::kept_directed, crate::proofs::Counts::sorted_changed))]
+    #[tactic(auto, using(crate::proofs::Lists::length_put_most, crate::proofs::Counts::sorted_changed, crate::proofs::Counts::after_directed))]
     fn direct(&mut self, p: usize) -> Option<()> {
-        let count = *self.straight_at.get(p)?;
+        if p >= self.straight_at.len() {
+            return None;
+        }
+        let count = self.straight_at[p];
         if !has_place(self.through, self.straight)
             || self.named >= NAMED_MOST
             || count >= LIVE_MOST
@@ -140,7 +156,10 @@ impl Meter {
     /// One that was handed to the pod ends there.
     #[tactic(auto, using(crate::proofs::Counts::kept_proxied, crate::proofs::Counts::sorted_changed, crate::proofs::Counts::proxied_length))]
     fn end_assigned(&mut self, p: usize) -> Option<()> {
-        let count = *self.through_at.get(p)?;
+        if p >= self.through_at.len() {
+            return None;
+        }
+        let count = self.through_at[p];
         if self.through == 0 || count == 0 {
             return None;
         }
@@ -153,7 +172,10 @@ impl Meter {
     /// One that came straight to the pod ends there.
     #[tactic(auto, using(crate::proofs::Counts::kept_straight, crate::proofs::Counts::sorted_changed, crate::proofs::Counts::straight_length))]
     fn end_directed(&mut self, p: usize) -> Option<()> {
-        let count = *self.straight_at.get(p)?;
+        if p >= self.straight_at.len() {
+            return None;
+        }
+        let count = self.straight_at[p];
         if self.straight == 0 || count == 0 {
             return None;
         }
