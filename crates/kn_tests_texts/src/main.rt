@@ -1,5 +1,5 @@
-//! Prints what texts come to. Each line of standard input has a subject and a text, or is `over SETTINGS SUBJECT TEXT`, of
-//! a Revision over a ConfigMap; it is printed with the answer. After the lines come the cases that are no texts.
+//! Prints what texts come to. Each line of standard input has a subject and a text, or is `over SETTINGS SUBJECT TEXT`,
+//! of a Revision over a ConfigMap; it is printed with the answer. After the lines come the cases that are no texts.
 //!
 //! In a text `\n` is LF, `\r` CR, `\x20` a byte and `\[3:x]` is `xxx`; `@NAME` is the file of that name in data/.
 #![tactic(auto)]

@@ -95,8 +95,8 @@ fn limited(alloc: Global, name: &str, value: &str) -> Result<String, AllocError>
     )
 }
 
-/// The part of a specification that a key settles: of the metric 1 for requests per second, of the utilisation the target
-/// over 10^8, of the panic window its seconds, of the timeout its milliseconds.
+/// The part of a specification that a key settles: of the metric 1 for requests per second, of the utilisation the
+/// target over 10^8, of the panic window its seconds, of the timeout its milliseconds.
 fn part(spec: &Spec, key: Key) -> u128 {
     match key {
         Key::Metric => match spec.metric {
