@@ -34,12 +34,7 @@ pub fn empty<R: Print + AllocGlobal>(rt: &R) -> anyhow::Result<()> {
 
 fn no_request_stands(rt: &impl Print, throttle: &Throttle) -> io::Result<()> {
     let stand = throttle.stand(0);
-    case(
-        rt,
-        "throttle, stand of no request",
-        &stand,
-        &Stand::Unknown,
-    )?;
+    case(rt, "throttle, stand of no request", &stand, &Stand::Unknown)?;
     let proxied = throttle.proxied(0);
     case(rt, "throttle, no request is proxied", &proxied, &false)
 }

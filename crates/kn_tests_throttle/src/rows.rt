@@ -58,13 +58,9 @@ fn made(alloc: Global, driver: &mut Driver, call: Call) -> Result<String, AllocE
 /// The digests of a mix.
 fn mixed(alloc: Global, line: &str) -> Result<String, AllocError> {
     let digests = digests(alloc, &setting(line, 3), number(line, 2)).or(Err(AllocError))?;
-    format!(
-        in alloc;
+    format!(in alloc;
         "{:016x} {:016x} {:016x} {:016x}",
-        digests[0],
-        digests[1],
-        digests[2],
-        digests[3]
+        digests[0], digests[1], digests[2], digests[3]
     )
 }
 
