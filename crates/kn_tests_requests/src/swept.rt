@@ -5,6 +5,7 @@ use crate::run::{Run, firsts};
 use anyhow::bail;
 use kn_case::case;
 use kn_record::{Place, Request};
+use std::io;
 use std::ops::Range;
 
 /// Whether so many requests come, one after the other.
@@ -78,14 +79,20 @@ pub fn is_swept<R: Print + AllocGlobal>(rt: &R) -> anyhow::Result<()> {
     let Ok(mut run) = Run::new(rt.alloc()) else {
         bail!("memory is lacking");
     };
-    case(rt, "table, 20000 come", &fills(&mut run, 20_000), &true)?;
-    case(
-        rt,
-        "table, 70000 turns over",
-        &turns_that_go_well(&mut run),
-        &70_000,
-    )?;
-    let assigned = assigns(&mut run, 3, 20_000);
+    turns_over_when_full(rt, &mut run)?;
+    ends_at_one_pod(rt, &mut run)?;
+    Ok(())
+}
+
+fn turns_over_when_full(rt: &impl Print, run: &mut Run) -> io::Result<()> {
+    let filled = fills(run, 20_000);
+    case(rt, "table, 20000 come", &filled, &true)?;
+    let turns = turns_that_go_well(run);
+    case(rt, "table, 70000 turns over", &turns, &70_000)
+}
+
+fn ends_at_one_pod(rt: &impl Print, run: &mut Run) -> io::Result<()> {
+    let assigned = assigns(run, 3, 20_000);
     case(rt, "table, 20000 are assigned", &assigned, &true)?;
     let firsts = firsts(&run.table, 3, 1 << 40);
     case(
@@ -94,8 +101,7 @@ pub fn is_swept<R: Print + AllocGlobal>(rt: &R) -> anyhow::Result<()> {
         &firsts,
         &[None, None, None, Some(70_000)],
     )?;
-    let lost = loses(&mut run, 3, 70_000..90_000);
+    let lost = loses(run, 3, 70_000..90_000);
     case(rt, "table, all of pod 3 are lost in order", &lost, &true)?;
-    case(rt, "table, none is left", &run.table.is_empty(), &true)?;
-    Ok(())
+    case(rt, "table, none is left", &run.table.is_empty(), &true)
 }

@@ -4,6 +4,7 @@ use kn_case::case;
 use kn_event::{EntryLog, Memory, Slots, Spec, Stand};
 use kn_throttle::Throttle;
 use std::alloc::Global;
+use std::io;
 
 fn one_seat(alloc: Global) -> Result<Throttle, Memory> {
     let slots = Slots {
@@ -25,41 +26,29 @@ pub fn empty<R: Print + AllocGlobal>(rt: &R) -> anyhow::Result<()> {
     };
     throttle.settle(0, &mut log);
     case(rt, "throttle, rows from nothing", &log.entries().len(), &0)?;
-    case(
-        rt,
-        "throttle, stand of no request",
-        &throttle.stand(0),
-        &Stand::Unknown,
-    )?;
-    case(
-        rt,
-        "throttle, no request is proxied",
-        &throttle.proxied(0),
-        &false,
-    )?;
-    case(
-        rt,
-        "throttle, no request finishes",
-        &throttle.finish(0),
-        &false,
-    )?;
-    case(
-        rt,
-        "throttle, no request is cancelled",
-        &throttle.cancel(0),
-        &false,
-    )?;
-    case(
-        rt,
-        "throttle, no request is due",
-        &throttle.due(u64::MAX),
-        &None,
-    )?;
-    case(
-        rt,
-        "throttle, no request expires",
-        &throttle.expire_next(u64::MAX),
-        &None,
-    )?;
+    no_request_stands(rt, &throttle)?;
+    no_request_ends(rt, &mut throttle)?;
+    no_request_is_due(rt, &mut throttle)?;
     Ok(())
+}
+
+fn no_request_stands(rt: &impl Print, throttle: &Throttle) -> io::Result<()> {
+    let stand = throttle.stand(0);
+    case(rt, "throttle, stand of no request", &stand, &Stand::Unknown)?;
+    let proxied = throttle.proxied(0);
+    case(rt, "throttle, no request is proxied", &proxied, &false)
+}
+
+fn no_request_ends(rt: &impl Print, throttle: &mut Throttle) -> io::Result<()> {
+    let finished = throttle.finish(0);
+    case(rt, "throttle, no request finishes", &finished, &false)?;
+    let cancelled = throttle.cancel(0);
+    case(rt, "throttle, no request is cancelled", &cancelled, &false)
+}
+
+fn no_request_is_due(rt: &impl Print, throttle: &mut Throttle) -> io::Result<()> {
+    let due = throttle.due(u64::MAX);
+    case(rt, "throttle, no request is due", &due, &None)?;
+    let expired = throttle.expire_next(u64::MAX);
+    case(rt, "throttle, no request expires", &expired, &None)
 }

@@ -78,7 +78,7 @@ impl Driver {
             Call::Direct => self.arrive(Mode::Serve),
             Call::Finish(r) => Some(self.finish(r)),
             Call::Cancel(r) => Some(self.cancel(r)),
-            Call::Expire => self.expire_next().map(Row::Expire),
+            Call::Expire => Some(Row::Expire(self.expire_next()?)),
         }
     }
 

@@ -6,6 +6,7 @@ use anyhow::bail;
 use kn_case::case;
 use kn_event::{Memory, Row, Slots, Stand};
 use std::alloc::Global;
+use std::io;
 
 /// Three Ready pods of this limit, which is the containerConcurrency too, where so many may wait and one may run.
 fn open(alloc: Global, limit: u64, depth: u64) -> Result<Driver, Memory> {
@@ -61,12 +62,15 @@ pub fn full_and_swept<R: Print + AllocGlobal>(rt: &R) -> anyhow::Result<()> {
     let Ok(mut driver) = open(rt.alloc(), 0, 1) else {
         bail!("memory is lacking");
     };
-    case(
-        rt,
-        "full table, 20000 run",
-        &run_by_turns(&mut driver, 20_000),
-        &20_000,
-    )?;
+    fills(rt, &mut driver)?;
+    is_swept(rt, &mut driver)?;
+    requests_stand(rt, &driver)?;
+    Ok(())
+}
+
+fn fills(rt: &impl Print, driver: &mut Driver) -> io::Result<()> {
+    let runs = run_by_turns(driver, 20_000);
+    case(rt, "full table, 20000 run", &runs, &20_000)?;
     let refused = driver.call(Call::Direct);
     case(
         rt,
@@ -74,16 +78,28 @@ pub fn full_and_swept<R: Print + AllocGlobal>(rt: &R) -> anyhow::Result<()> {
         &refused,
         &Some(Row::Overload(20_000)),
     )?;
-    case(rt, "full table, 20000 are live", &driver.live(), &20_000)?;
-    let turned = turn_over_by_turns(&mut driver, 50_000);
+    case(rt, "full table, 20000 are live", &driver.live(), &20_000)
+}
+
+fn is_swept(rt: &impl Print, driver: &mut Driver) -> io::Result<()> {
+    let turned = turn_over_by_turns(driver, 50_000);
     case(rt, "full table, 50000 more run", &turned, &50_000)?;
     case(
         rt,
         "full table, 20000 are live still",
         &driver.live(),
         &20_000,
-    )?;
-    let stands = [20_000, 50_000, 50_001, 70_000, 70_001].map(|r| driver.stand(r));
+    )
+}
+
+fn requests_stand(rt: &impl Print, driver: &Driver) -> io::Result<()> {
+    let stands = [
+        driver.stand(20_000),
+        driver.stand(50_000),
+        driver.stand(50_001),
+        driver.stand(70_000),
+        driver.stand(70_001),
+    ];
     let wanted = [
         Stand::Ended,
         Stand::Ended,
@@ -91,8 +107,7 @@ pub fn full_and_swept<R: Print + AllocGlobal>(rt: &R) -> anyhow::Result<()> {
         Stand::Running(0),
         Stand::Unknown,
     ];
-    case(rt, "full table, where requests stand", &stands, &wanted)?;
-    Ok(())
+    case(rt, "full table, where requests stand", &stands, &wanted)
 }
 
 /// How many of so many requests are held or run, one after the other.
@@ -134,19 +149,20 @@ pub fn cursors_pass_who_gave_up<R: Print + AllocGlobal>(rt: &R) -> anyhow::Resul
     let Ok(mut driver) = open(rt.alloc(), 1, 2_000) else {
         bail!("memory is lacking");
     };
-    case(
-        rt,
-        "cursors, 1000 come",
-        &admitted(&mut driver, 1_000),
-        &1_000,
-    )?;
-    case(
-        rt,
-        "cursors, 499 pairs are passed",
-        &passed(&mut driver, 499),
-        &499,
-    )?;
-    case(rt, "cursors, two are live", &driver.live(), &2)?;
+    gives_up_by_pairs(rt, &mut driver)?;
+    holds_one_more(rt, &mut driver)?;
+    Ok(())
+}
+
+fn gives_up_by_pairs(rt: &impl Print, driver: &mut Driver) -> io::Result<()> {
+    let come = admitted(driver, 1_000);
+    case(rt, "cursors, 1000 come", &come, &1_000)?;
+    let pairs = passed(driver, 499);
+    case(rt, "cursors, 499 pairs are passed", &pairs, &499)?;
+    case(rt, "cursors, two are live", &driver.live(), &2)
+}
+
+fn holds_one_more(rt: &impl Print, driver: &mut Driver) -> io::Result<()> {
     let last = driver.call(Call::Proxied);
     case(
         rt,
@@ -154,11 +170,6 @@ pub fn cursors_pass_who_gave_up<R: Print + AllocGlobal>(rt: &R) -> anyhow::Resul
         &last,
         &Some(Row::Admit(1_000, 0)),
     )?;
-    case(
-        rt,
-        "cursors, it is held",
-        &driver.stand(1_000),
-        &Stand::Held,
-    )?;
-    Ok(())
+    let stand = driver.stand(1_000);
+    case(rt, "cursors, it is held", &stand, &Stand::Held)
 }

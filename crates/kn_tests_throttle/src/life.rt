@@ -9,6 +9,7 @@ use kn_case::case;
 use kn_event::{EntryLog, Memory, Mode, Slots, Spec};
 use kn_throttle::{Arrival, Throttle};
 use std::alloc::Global;
+use std::io;
 
 /// Pod 0 is Ready, with one seat in place of two.
 #[tactic(auto, unfolding(kn_record::specs::Admission::stepped))]
@@ -82,29 +83,27 @@ pub fn pod_is_lost<R: Print + AllocGlobal>(rt: &R) -> anyhow::Result<()> {
     let Ok(mut throttle) = new_throttle(rt.alloc()) else {
         bail!("memory is lacking");
     };
-    begin_pod(&mut throttle);
-    let arrival = send_first(&mut throttle);
+    serves_and_loses(rt, &mut throttle)?;
+    let rows = settle(&mut throttle, &mut log);
+    case(rt, "lost pod, no row follows", &rows, &0)?;
+    Ok(())
+}
+
+fn serves_and_loses(rt: &impl Print, throttle: &mut Throttle) -> io::Result<()>
+    requires { throttle.old.admission ≡ nothing_yet }
+{
+    begin_pod(throttle);
+    let arrival = send_first(throttle);
     case(
         rt,
         "lost pod, a request comes to it",
         &arrival,
         &Arrival::Direct(0),
     )?;
-    let first = lose_first(&mut throttle, 0);
+    let first = lose_first(throttle, 0);
     case(rt, "lost pod, its request is lost", &first, &Some(0))?;
-    let second = lose_first(&mut throttle, 0);
+    let second = lose_first(throttle, 0);
     case(rt, "lost pod, it has no more", &second, &None)?;
-    case(
-        rt,
-        "lost pod, it is lost",
-        &lose_empty(&mut throttle, 0),
-        &true,
-    )?;
-    case(
-        rt,
-        "lost pod, no row follows",
-        &settle(&mut throttle, &mut log),
-        &0,
-    )?;
-    Ok(())
+    let lost = lose_empty(throttle, 0);
+    case(rt, "lost pod, it is lost", &lost, &true)
 }
