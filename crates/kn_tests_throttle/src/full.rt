@@ -56,50 +56,73 @@ fn turn_over_by_turns(driver: &mut Driver, count: u64) -> u64
     count
 }
 
-/// At pods without a limit 20,000 run, and the next one is refused. Then each that ends makes room for one, for 50,000
-/// more: the table is swept on the way, and each request is found before and after.
-pub fn full_and_swept<R: Print + AllocGlobal>(rt: &R) -> anyhow::Result<()> {
-    let Ok(mut driver) = open(rt.alloc(), 0, 1) else {
-        bail!("memory is lacking");
-    };
-    fills(rt, &mut driver)?;
-    is_swept(rt, &mut driver)?;
-    requests_stand(rt, &driver)?;
-    Ok(())
+/// How a full table went.
+#[derive(Clone, Copy)]
+struct Swept {
+    runs: u64,
+    refused: Option<Row>,
+    live: u64,
+    turned: u64,
+    live_still: u64,
+    stands: [Stand; 5],
 }
 
-fn fills(rt: &impl Print, driver: &mut Driver) -> io::Result<()> {
-    let runs = run_by_turns(driver, 20_000);
-    case(rt, "full table, 20000 run", &runs, &20_000)?;
-    let refused = driver.call(Call::Direct);
-    case(
-        rt,
-        "full table, the next one is refused",
-        &refused,
-        &Some(Row::Overload(20_000)),
-    )?;
-    case(rt, "full table, 20000 are live", &driver.live(), &20_000)
-}
-
-fn is_swept(rt: &impl Print, driver: &mut Driver) -> io::Result<()> {
-    let turned = turn_over_by_turns(driver, 50_000);
-    case(rt, "full table, 50000 more run", &turned, &50_000)?;
-    case(
-        rt,
-        "full table, 20000 are live still",
-        &driver.live(),
-        &20_000,
-    )
-}
-
-fn requests_stand(rt: &impl Print, driver: &Driver) -> io::Result<()> {
-    let stands = [
+fn stands(driver: &Driver) -> [Stand; 5] {
+    [
         driver.stand(20_000),
         driver.stand(50_000),
         driver.stand(50_001),
         driver.stand(70_000),
         driver.stand(70_001),
-    ];
+    ]
+}
+
+fn sweep(driver: &mut Driver) -> Swept {
+    Swept {
+        runs: run_by_turns(driver, 20_000),
+        refused: driver.call(Call::Direct),
+        live: driver.live(),
+        turned: turn_over_by_turns(driver, 50_000),
+        live_still: driver.live(),
+        stands: stands(driver),
+    }
+}
+
+fn sweep_all(alloc: Global) -> Result<Swept, Memory> {
+    let mut driver = open(alloc, 0, 1)?;
+    Ok(sweep(&mut driver))
+}
+
+/// At pods without a limit 20,000 run, and the next one is refused. Then each that ends makes room for one, for 50,000
+/// more: the table is swept on the way, and each request is found before and after.
+pub fn full_and_swept<R: Print + AllocGlobal>(rt: &R) -> anyhow::Result<()> {
+    let Ok(swept) = sweep_all(rt.alloc()) else {
+        bail!("memory is lacking");
+    };
+    tell_full(rt, &swept)?;
+    tell_swept(rt, &swept)?;
+    Ok(())
+}
+
+fn tell_full(rt: &impl Print, swept: &Swept) -> io::Result<()> {
+    case(rt, "full table, 20000 run", &swept.runs, &20_000)?;
+    case(
+        rt,
+        "full table, the next one is refused",
+        &swept.refused,
+        &Some(Row::Overload(20_000)),
+    )?;
+    case(rt, "full table, 20000 are live", &swept.live, &20_000)
+}
+
+fn tell_swept(rt: &impl Print, swept: &Swept) -> io::Result<()> {
+    case(rt, "full table, 50000 more run", &swept.turned, &50_000)?;
+    case(
+        rt,
+        "full table, 20000 are live still",
+        &swept.live_still,
+        &20_000,
+    )?;
     let wanted = [
         Stand::Ended,
         Stand::Ended,
@@ -107,7 +130,12 @@ fn requests_stand(rt: &impl Print, driver: &Driver) -> io::Result<()> {
         Stand::Running(0),
         Stand::Unknown,
     ];
-    case(rt, "full table, where requests stand", &stands, &wanted)
+    case(
+        rt,
+        "full table, where requests stand",
+        &swept.stands,
+        &wanted,
+    )
 }
 
 /// How many of so many requests are held or run, one after the other.
@@ -132,7 +160,7 @@ fn passes_one(driver: &mut Driver, r: u64) -> bool
 }
 
 /// How many of so many pairs are passed so, one after the other.
-fn passed(driver: &mut Driver, pairs: u64) -> u64
+fn pairs_passed(driver: &mut Driver, pairs: u64) -> u64
     requires { pairs < 1000 }
 {
     for k in 0..pairs {
@@ -143,33 +171,54 @@ fn passed(driver: &mut Driver, pairs: u64) -> u64
     pairs
 }
 
+/// How those went who came and gave up.
+#[derive(Clone, Copy)]
+struct Passed {
+    come: u64,
+    pairs: u64,
+    live: u64,
+    last: Option<Row>,
+    stand: Stand,
+}
+
+fn pass(driver: &mut Driver) -> Passed {
+    Passed {
+        come: admitted(driver, 1_000),
+        pairs: pairs_passed(driver, 499),
+        live: driver.live(),
+        last: driver.call(Call::Proxied),
+        stand: driver.stand(1_000),
+    }
+}
+
+fn pass_all(alloc: Global) -> Result<Passed, Memory> {
+    let mut driver = open(alloc, 1, 2_000)?;
+    Ok(pass(&mut driver))
+}
+
 /// One may run in all, and a thousand come: of each two the later gives up and the earlier is assigned when the slot
 /// is free, so the first that is held is found past those that gave up.
 pub fn cursors_pass_who_gave_up<R: Print + AllocGlobal>(rt: &R) -> anyhow::Result<()> {
-    let Ok(mut driver) = open(rt.alloc(), 1, 2_000) else {
+    let Ok(passed) = pass_all(rt.alloc()) else {
         bail!("memory is lacking");
     };
-    gives_up_by_pairs(rt, &mut driver)?;
-    holds_one_more(rt, &mut driver)?;
+    tell_passed(rt, &passed)?;
+    tell_last(rt, &passed)?;
     Ok(())
 }
 
-fn gives_up_by_pairs(rt: &impl Print, driver: &mut Driver) -> io::Result<()> {
-    let come = admitted(driver, 1_000);
-    case(rt, "cursors, 1000 come", &come, &1_000)?;
-    let pairs = passed(driver, 499);
-    case(rt, "cursors, 499 pairs are passed", &pairs, &499)?;
-    case(rt, "cursors, two are live", &driver.live(), &2)
+fn tell_passed(rt: &impl Print, passed: &Passed) -> io::Result<()> {
+    case(rt, "cursors, 1000 come", &passed.come, &1_000)?;
+    case(rt, "cursors, 499 pairs are passed", &passed.pairs, &499)?;
+    case(rt, "cursors, two are live", &passed.live, &2)
 }
 
-fn holds_one_more(rt: &impl Print, driver: &mut Driver) -> io::Result<()> {
-    let last = driver.call(Call::Proxied);
+fn tell_last(rt: &impl Print, passed: &Passed) -> io::Result<()> {
     case(
         rt,
         "cursors, one more is admitted",
-        &last,
+        &passed.last,
         &Some(Row::Admit(1_000, 0)),
     )?;
-    let stand = driver.stand(1_000);
-    case(rt, "cursors, it is held", &stand, &Stand::Held)
+    case(rt, "cursors, it is held", &passed.stand, &Stand::Held)
 }

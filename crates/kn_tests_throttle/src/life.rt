@@ -58,10 +58,10 @@ fn send_first(throttle: &mut Throttle) -> Arrival
 }
 
 /// How many rows follow.
-fn settle(throttle: &mut Throttle, log: &mut EntryLog) -> usize {
-    log.clear();
-    throttle.settle(0, log);
-    log.entries().len()
+fn settle(alloc: Global, throttle: &mut Throttle) -> Result<usize, Memory> {
+    let mut log = EntryLog::new(alloc)?;
+    throttle.settle(0, &mut log);
+    Ok(log.entries().len())
 }
 
 fn new_throttle(alloc: Global) -> Result<Throttle, Memory>
@@ -76,34 +76,52 @@ fn new_throttle(alloc: Global) -> Result<Throttle, Memory>
     Throttle::new(alloc, &spec)
 }
 
-pub fn pod_is_lost<R: Print + AllocGlobal>(rt: &R) -> anyhow::Result<()> {
-    let Ok(mut log) = EntryLog::new(rt.alloc()) else {
-        bail!("memory is lacking");
-    };
-    let Ok(mut throttle) = new_throttle(rt.alloc()) else {
-        bail!("memory is lacking");
-    };
-    serves_and_loses(rt, &mut throttle)?;
-    let rows = settle(&mut throttle, &mut log);
-    case(rt, "lost pod, no row follows", &rows, &0)?;
-    Ok(())
+/// What became of the pod and its request.
+#[derive(Clone, Copy)]
+struct Lost {
+    arrival: Arrival,
+    first: Option<u64>,
+    second: Option<u64>,
+    pod: bool,
 }
 
-fn serves_and_loses(rt: &impl Print, throttle: &mut Throttle) -> io::Result<()>
+fn serve_and_lose(throttle: &mut Throttle) -> Lost
     requires { throttle.old.admission ≡ nothing_yet }
 {
     begin_pod(throttle);
-    let arrival = send_first(throttle);
+    Lost {
+        arrival: send_first(throttle),
+        first: lose_first(throttle, 0),
+        second: lose_first(throttle, 0),
+        pod: lose_empty(throttle, 0),
+    }
+}
+
+/// What became of them, and how many rows followed.
+fn lost_and_rows(alloc: Global) -> Result<(Lost, usize), Memory> {
+    let mut throttle = new_throttle(alloc)?;
+    let lost = serve_and_lose(&mut throttle);
+    let rows = settle(alloc, &mut throttle)?;
+    Ok((lost, rows))
+}
+
+fn tell(rt: &impl Print, lost: &Lost) -> io::Result<()> {
     case(
         rt,
         "lost pod, a request comes to it",
-        &arrival,
+        &lost.arrival,
         &Arrival::Direct(0),
     )?;
-    let first = lose_first(throttle, 0);
-    case(rt, "lost pod, its request is lost", &first, &Some(0))?;
-    let second = lose_first(throttle, 0);
-    case(rt, "lost pod, it has no more", &second, &None)?;
-    let lost = lose_empty(throttle, 0);
-    case(rt, "lost pod, it is lost", &lost, &true)
+    case(rt, "lost pod, its request is lost", &lost.first, &Some(0))?;
+    case(rt, "lost pod, it has no more", &lost.second, &None)?;
+    case(rt, "lost pod, it is lost", &lost.pod, &true)
+}
+
+pub fn pod_is_lost<R: Print + AllocGlobal>(rt: &R) -> anyhow::Result<()> {
+    let Ok((lost, rows)) = lost_and_rows(rt.alloc()) else {
+        bail!("memory is lacking");
+    };
+    tell(rt, &lost)?;
+    case(rt, "lost pod, no row follows", &rows, &0)?;
+    Ok(())
 }
