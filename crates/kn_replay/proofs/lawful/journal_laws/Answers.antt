@@ -4,6 +4,8 @@ use Rattle.kn_event.specs.declared.event.Event.{Event}
 use Rattle.kn_trace.specs.Events.{trace_of}
 use Rattle.kn_trace.specs.Laws.{IsInert, IsLawful, IsSettled}
 use Rattle.kn_laws.specs.Losses.{LosesNothing}
+use Rattle.kn_core.specs.Refused.{LeavesByAnswer}
+use Rattle.kn_core.proofs.Refused.{leaves_by}
 use Rattle.kn_replay.specs.Report.{trace_of_journal}
 use Rattle.kn_replay.proofs.Laws.{on_any, on_version}
 use Rattle.kn_replay.proofs.lawful.journal_laws.Goals as goal
@@ -21,6 +23,12 @@ pub returns-clause-inert : goal.returns-clause-inert
 returns-clause-inert c bytes =
     on_any bytes (λ j. (n : ℕ) (e : Event) → IsInert j.setup.spec (trace_of j.setup.spec j.start (take n j.events)) e)
     (λ j n e. c.trace_laws.ensures.inert j.setup.spec j.start (take n j.events) e)
+
+pub returns-clause-beside : goal.returns-clause-beside
+returns-clause-beside c bytes =
+    on_any bytes (λ j. (n : ℕ) (e : Event) → LeavesByAnswer j.setup.spec (trace_of j.setup.spec j.start (take n j.events)) e)
+    (λ j n e. leaves_by j.setup.spec (trace_of j.setup.spec j.start (take n j.events)) e (c.trace_laws.ensures.answers j.setup.spec j.start (take n j.events) e)
+    (c.trace_laws.ensures.beside j.setup.spec j.start (take n j.events) e))
 
 pub returns-clause-no_loss : goal.returns-clause-no_loss
 returns-clause-no_loss c bytes =
