@@ -53,6 +53,8 @@ impl<N> Faulty for TcpOpener<'_, N> {
 
 impl<'a, N: Net<Listener = TcpListener, Stream = TcpStream>> Opener<TcpCaller, TcpLink<&'a N>>
     for TcpOpener<'a, N> {
+    ghost gives = { λ _ _ _ _ _. Unit {0} };
+
     fn open(
         &mut self,
         alloc: Global,

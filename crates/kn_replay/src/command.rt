@@ -6,6 +6,7 @@ ghost use Rattle.kn_event.specs.declared.event.Event.{Event};
 ghost use Rattle.kn_trace.specs.Events.{trace_of};
 ghost use Rattle.kn_trace.specs.Laws.{IsInert, IsLawful, IsSettled};
 ghost use Rattle.kn_laws.specs.Losses.{LosesNothing};
+ghost use Rattle.kn_core.specs.Refused.{LeavesByAnswer};
 ghost use Rattle.kn_journal.specs.Reading.{most_taken};
 ghost use Rattle.kn_replay.specs.Report.{OnJournalOf, trace_of_journal};
 ghost use Rattle.kn_replay.specs.Cutting.{LeavesCut};
@@ -118,6 +119,8 @@ pub fn run<S: Source, O: Sink, E: Sink>(
     ensures settled { OnJournalOf (S.left input.old) (λ j. (n : ℕ) → IsSettled j.setup.spec (trace_of j.setup.spec j.start (take n j.events))) }
     ensures no_loss { OnJournalOf (S.left input.old) (λ j. j.version ≡ 1 → LosesNothing (trace_of_journal j)) }
     ensures inert { OnJournalOf (S.left input.old) (λ j. (n : ℕ) (e : Event) → IsInert j.setup.spec (trace_of j.setup.spec j.start (take n j.events)) e) }
+    // One that is told a refusal moves no counter but its own, and leaves pods and scale as they were.
+    ensures beside { OnJournalOf (S.left input.old) (λ j. (n : ℕ) (e : Event) → LeavesByAnswer j.setup.spec (trace_of j.setup.spec j.start (take n j.events)) e) }
 
     ensures told { Tells (status_text result) (E.held err.old) (E.held err.new) (E.Faulty.faults err.old) (E.Faulty.faults err.new) }
 {

@@ -13,8 +13,12 @@ use Rattle.kn_sizes.specs.Stays.{Stays}
 use Rattle.kn_request.specs.Laws.{Made}
 use Rattle.kn_request.specs.Pods.{IsStarting}
 use native.Mathlib.Bridge.{le_prop}
+use mathlib.Core.Bool.{Bool-set}
 
 module _ (next : (s : Spec) (c : Trace) (from : ℕ) → IsMade s c → IsLeastFrom from (starting_pods c) (next_starting c from)) where
+  pub next_of : (s : Spec) (c : Trace) (k p : ℕ) → Made s c → next_starting c k ≡ Some p → IsStarting c p
+  next_of s c k p made is = ∥∥₁_elim made (Bool-set (contains p (starting_pods c)) true) (λ (m : IsMade s c). ((next s c k m).found p is).0)
+
   pub least_of : (s : Spec) (c : Trace) (k p j : ℕ) → Made s c → next_starting c k ≡ Some p → k ≤ j → j < p → IsStarting c j → ⊥
   least_of s c k p j made is low below starts = ∥∥₁_elim made (λ u v. absurd u) (λ (m : IsMade s c).
       let least = (next s c k m).least p is j starts low in omega (arith, least, below))

@@ -5,7 +5,7 @@ use Rattle.std.specs.Prelude.{Option, None, Some, IfSome, Result, Ok, Err, take,
 use Rattle.std.specs.Io.KnownBytes.{Appends}
 use Rattle.kn_event.specs.declared.revision.Spec.{Spec}
 use Rattle.kn_cell.specs.Shown.{PassView}
-use Rattle.kn_io.specs.Callers.{IsPaired, Meets, every_second, followed, streams_of, texts_of, told_as}
+use Rattle.kn_io.specs.Callers.{IsHeard, IsPaired, Meets, every_second, followed, streams_of, texts_of, told_as}
 use Rattle.kn_io.specs.Links.{Link}
 use Rattle.kn_io.specs.Prefix.{AppendsPrefix}
 use Rattle.kn_head.specs.declared.head.Head.{Head}
@@ -109,9 +109,12 @@ said_stays (Some k) (Some k') (Some h) (Some h') e =
 
 -- ---- meeting
 
-input_read : (left left' : Option (List ℕ)) (input : List ℕ) (h : Result Head HeadError) → left' ≡ told_as input left → IfSome left' (λ bytes. Reads bytes h) → IfSome left (λ _. Reads input h)
-input_read None left' input h e reads = tt
-input_read (Some l) left' input h e reads = subst (λ t. IfSome t (λ bytes. Reads bytes h)) e reads
+-- the texts were told, so the input is
+input_read : (kept : Option (List (List ℕ))) (left left' : Option (List ℕ)) (texts : List (List ℕ)) (input : List ℕ) (h : Result Head HeadError) → kept ≡ Some texts → IsHeard kept left → left' ≡ told_as input left
+    → IfSome left' (λ bytes. Reads bytes h) → Reads input h
+input_read None left left' texts input h told heard e reads = absurd (cc)
+input_read (Some t) None left' texts input h told heard e reads = absurd heard
+input_read (Some t) (Some l) left' texts input h told heard e reads = subst (λ o. IfSome o (λ bytes. Reads bytes h)) e reads
 
 answered_of : (a b : Option Said) (result meant : Served) (text : List ℕ) → Writes a b result meant text → (result ≡ meant) ⊎ (result ≡ served.CallerFault)
 answered_of a b result meant text w = elim w [ inl g ↦ inl g.0 | inr g ↦ inr g.0 ]
@@ -119,8 +122,8 @@ answered_of a b result meant text w = elim w [ inl g ↦ inl g.0 | inr g ↦ inr
 module _ (law_texts : (kept : List (List ℕ)) (held input : List ℕ) → IsPaired (Some kept) → texts_of (kept ++ held ∷ input ∷ []) [] ≡ texts_of kept held ++ [] ∷ [])
     (law_streams : (kept : List (List ℕ)) (held input : List ℕ) → IsPaired (Some kept) → streams_of (kept ++ held ∷ input ∷ []) ≡ streams_of kept ++ input ∷ []) where
   -- one text and one stream more
-  talk : (left : Option (List ℕ)) (h : Result Head HeadError) (a b : Said) (input : List ℕ) → IsPaired (Some a.kept) → b.kept ≡ a.kept ++ a.text ∷ input ∷ [] → IfSome left (λ _. Reads input h) → Talks left h a b
-  talk left h a b input paired kept reads = record {
+  talk : (h : Result Head HeadError) (a b : Said) (input : List ℕ) → IsPaired (Some a.kept) → b.kept ≡ a.kept ++ a.text ∷ input ∷ [] → Reads input h → Talks h a b
+  talk h a b input paired kept reads = record {
     input = input;
     kept = kept;
     texts =
@@ -130,9 +133,9 @@ module _ (law_texts : (kept : List (List ℕ)) (held input : List ℕ) → IsPai
     head = reads;
   }
 
-  talks_of : (k0 k1 : Option (List (List ℕ))) (h0 h1 l0 l1 : Option (List ℕ)) (s3 : Option Said) (h : Result Head HeadError) (result meant : Served) (text : List ℕ) → IsPaired k0 → Meets k0 k1 h0 h1 l0 l1
-      → IfSome l1 (λ bytes. Reads bytes h) → Writes (said k1 h1) s3 result meant text → Tells (said k0 h0) s3 (λ a b. Talks l0 h a b × IsText result meant text b.text)
-  talks_of k0 k1 h0 h1 l0 l1 s3 h result meant text paired m reads w a e =
+  talks_of : (k0 k1 : Option (List (List ℕ))) (h0 h1 l0 l1 : Option (List ℕ)) (s3 : Option Said) (h : Result Head HeadError) (result meant : Served) (text : List ℕ) → IsPaired k0 → IsHeard k0 l0 → Meets k0 k1 h0 h1 l0 l1
+      → IfSome l1 (λ bytes. Reads bytes h) → Writes (said k1 h1) s3 result meant text → Tells (said k0 h0) s3 (λ a b. Talks h a b × IsText result meant text b.text)
+  talks_of k0 k1 h0 h1 l0 l1 s3 h result meant text paired heard m reads w a e =
       let input = m.0 in
       let ke = kept_is k0 h0 a e in
       let te = text_is k0 h0 a e in
@@ -142,25 +145,25 @@ module _ (law_texts : (kept : List (List ℕ)) (held input : List ℕ) → IsPai
       let met : Said = record { kept = k; text = [] } in
       let is : said k1 h1 ≡ Some met = said_is k1 h1 k [] kept1 held1 in
       let pair : IsPaired (Some a.kept) = subst IsPaired ke paired in
-      let has = input_read l0 l1 input h m.1.filled reads in
+      let has = input_read k0 l0 l1 a.kept input h ke heard m.1.filled reads in
       elim w [
         | inl g ↦
             let z = g.1 met is in
             let kz : z.0.kept ≡ a.kept ++ a.text ∷ input ∷ [] = ap (λ (s : Said). s.kept) z.2 ∙ append_assoc a.kept (a.text ∷ []) (input ∷ []) in
-            (z.0, z.1, (talk l0 h a z.0 input pair kz has, inl (g.0, ap (λ (s : Said). s.text) z.2)))
+            (z.0, z.1, (talk h a z.0 input pair kz has, inl (g.0, ap (λ (s : Said). s.text) z.2)))
         | inr g ↦
             let z = g.1 met is in
             let kz : z.0.kept ≡ a.kept ++ a.text ∷ input ∷ [] = ap (λ (s : Said). s.kept) z.2.1 ∙ append_assoc a.kept (a.text ∷ []) (input ∷ []) in
-            (z.0, z.1, (talk l0 h a z.0 input pair kz has, inr (g.0, (z.2.0, ap (λ (s : Said). s.text) z.2.1))))
+            (z.0, z.1, (talk h a z.0 input pair kz has, inr (g.0, (z.2.0, ap (λ (s : Said). s.text) z.2.1))))
       ]
 
   pub met_of : (reading : ℕ → Type 0) (spec : Spec) (tag : ℕ) (p q : PassView) (wire wire' : Option Link) (k0 k1 : Option (List (List ℕ))) (h0 h1 l0 l1 : Option (List ℕ)) (s3 : Option Said) (result : Served)
-      → IsPaired k0 → Meets k0 k1 h0 h1 l0 l1 → ServesMet reading spec tag p q wire wire' l1 (said k1 h1) s3 result → HasMet reading spec tag p q wire wire' l0 (said k0 h0) s3 result
-  met_of reading spec tag p q wire wire' k0 k1 h0 h1 l0 l1 s3 result paired m x = record {
+      → IsPaired k0 → IsHeard k0 l0 → Meets k0 k1 h0 h1 l0 l1 → ServesMet reading spec tag p q wire wire' l1 (said k1 h1) s3 result → HasMet reading spec tag p q wire wire' (said k0 h0) s3 result
+  met_of reading spec tag p q wire wire' k0 k1 h0 h1 l0 l1 s3 result paired heard m x = record {
     found = x.found;
     meant = x.meant;
     text = x.text;
     way = x.way;
     answers = answered_of (said k1 h1) s3 result x.meant x.text x.writes;
-    talks = talks_of k0 k1 h0 h1 l0 l1 s3 x.found result x.meant x.text paired m x.reads x.writes;
+    talks = talks_of k0 k1 h0 h1 l0 l1 s3 x.found result x.meant x.text paired heard m x.reads x.writes;
   }

@@ -22,7 +22,7 @@ use Rattle.kn_io.specs.declared.records.Probe.{Probe}
 use Rattle.kn_request.specs.Laws.{Made, RequestLaws}
 use Rattle.kn_request.specs.Pods.{IsStarting, PodLaws}
 use Rattle.kn_request.specs.Requests.{Recorded}
-use Rattle.kn_request.specs.Ticking.{AreAscending, AreBelow, AreReady, HasNoStarting, IsAt, Probing, ProbesOne, ReadyOf, TicksOnce, WasFull, is_probed, probed_all}
+use Rattle.kn_request.specs.Ticking.{AreAscending, AreBelow, AreReady, HasNoStarting, IsAt, Probing, ProbesOne, ReadyOf, TicksOnce, WasFull, WasStarting, is_probed, probed_all}
 use Rattle.kn_request.proofs.Lists.{none, one, starts_trans, trace_after-append}
 use Rattle.kn_request.proofs.Later.{along, looks_after, made_after, opening_is, recorded_later, recorded_of}
 
@@ -183,6 +183,33 @@ created_on laws pods s j h h' more c made is =
 pub opening_after : (p q : PassView) → (q ≡ p) ⊎ Looks p q → q.opening ≡ p.opening
 opening_after p q so = elim so [ inl e ↦ ap (λ (v : PassView). v.opening) e | inr l ↦ opening_is p q l ]
 
+pub starts_after : (p q : PassView) → (q ≡ p) ⊎ Looks p q → StartsWith q.seen p.seen
+starts_after p q so = elim so [ inl e ↦ ([], ap (λ (v : PassView). v.seen) e ∙ sym (append-nil p.seen)) | inr l ↦ l.longer ]
+
+-- that a pod was starting, seen from earlier and from later
+pub starting_before : (p q s : PassView) (pod : ℕ) → (q ≡ p) ⊎ Looks p q → WasStarting q s pod → WasStarting p s pod
+starting_before p q s pod so w = record {
+  front = w.front;
+  early = w.early;
+  late = starts_trans p.seen q.seen w.front (starts_after p q so) w.late;
+  starts = subst (λ (b : RevisionState). (c : Trace) → StandsFor b c → IsStarting (trace_after b.spec c w.front) pod) (opening_after p q so) w.starts;
+}
+
+starting_later : (p q s : PassView) (pod : ℕ) → Looks q s → WasStarting p q pod → WasStarting p s pod
+starting_later p q s pod l w = record { front = w.front; early = starts_trans w.front q.seen s.seen w.early l.longer; late = w.late; starts = w.starts }
+
+all_later : (p q s : PassView) (ps : List Probe) → Looks q s → Each (λ x. WasStarting p q x.pod) ps → Each (λ x. WasStarting p s x.pod) ps
+all_later p q s ps l all k x at = starting_later p q s x.pod l (all k x at)
+
+-- the pod that was probed next
+found_starting : RequestLaws → PodLaws → (now from pod : ℕ) (f : Bool) (p q s : PassView) (w w' : Option Link) → (q ≡ p) ⊎ Looks p q → ProbesOne now from pod f q s w w' → WasStarting p s pod
+found_starting laws pods now from pod f p q s w w' so o = starting_before p q s pod so (record {
+  front = o.mid;
+  early = o.early;
+  late = o.late;
+  starts = λ c st. pods.next q.opening.spec (trace_after q.opening.spec c o.mid) from pod (made_after laws q.opening.spec o.mid c (laws.made q.opening c st)) (o.found c st);
+})
+
 pub probing_none : (now : ℕ) (p : PassView) (w : Option Link) → Probing now 0 false p p w w
 probing_none now p w = record {
   later = inl refl;
@@ -193,13 +220,11 @@ probing_none now p w = record {
   told = tells_none w;
   ascend = tt;
   below = tt;
+  only = none (λ (x : Probe). WasStarting p p x.pod);
   ready = refl;
   over = λ e. cc;
   starting = λ c s j low both not. omega (arith, low);
 }
-
-pub starts_after : (p q : PassView) → (q ≡ p) ⊎ Looks p q → StartsWith q.seen p.seen
-starts_after p q so = elim so [ inl e ↦ ([], ap (λ (v : PassView). v.seen) e ∙ sym (append-nil p.seen)) | inr l ↦ l.longer ]
 
 pub full_first : (p q s : PassView) → (q ≡ p) ⊎ Looks p q → WasFull q s → WasFull p s
 full_first p q s so w = elim so [ inl e ↦ subst (λ (v : PassView). WasFull v s) e w | inr l ↦ full_before p q s l w ]
@@ -239,6 +264,7 @@ probing_more laws pods now from pod full f p q s w w' w'' m l o =
       told = tells_more w w' w'' m.probes (pr ∷ []) m.told o.told;
       ascend = asc_snoc 0 from m.probes pr m.ascend m.below (omega arith) o.low;
       below = below_snoc from m.probes pr m.below o.low;
+      only = each_both (λ (x : Probe). WasStarting p s x.pod) m.probes (pr ∷ []) (all_later p q s m.probes l m.only) (one (λ (x : Probe). WasStarting p s x.pod) pr (found_starting laws pods now from pod f p q s w' w'' m.later o));
       ready = ready_snoc (f || full) m.probes pr m.rows o.rows (ready_mono full (f || full) m.probes m.rows (right_true f full) m.ready) (ready_last f full o.answer pod o.rows o.ready);
       over = λ e. elim (either_true f full e) [ inl x ↦ full_first p q s m.later (o.over x) | inr x ↦ full_after p q s l (m.over x) ];
       starting = λ c st j low both not.
@@ -266,6 +292,7 @@ probing_look laws pods now from full p q s w w' w'' m l same wire = record {
   told = subst (λ (v : Option Link). Tells w v (probed_all m.probes)) (sym wire) m.told;
   ascend = m.ascend;
   below = m.below;
+  only = all_later p q s m.probes l m.only;
   ready = m.ready;
   over = λ e. full_after p q s l (m.over e);
   starting = λ c st j low both not.

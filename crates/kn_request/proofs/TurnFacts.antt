@@ -11,7 +11,7 @@ use Rattle.kn_request.specs.Pods.{PodLaws}
 use Rattle.kn_request.specs.Ticking.{IsAt, ProbesAll, TakesTurn, Ticks, TicksOnce, TurnsFrom, TurnsTo}
 use Rattle.kn_request.proofs.Lists.{none, one}
 use Rattle.kn_request.proofs.Later.{looks_after, looks_trans}
-use Rattle.kn_request.proofs.TickFacts.{all_probed, at_later, each_both, either_true, full_after, full_first, left_true, ready_mono, right_true}
+use Rattle.kn_request.proofs.TickFacts.{all_probed, at_later, each_both, either_true, full_after, full_first, left_true, ready_mono, right_true, starting_before}
 
 pub tick_done : (now last : ℕ) (full : Bool) (p q : PassView) → last + 2000 ≤ now → Looks p q → TicksOnce now act.Tick full p q → Ticks now last p q (record { last = now; full = full })
 tick_done now last false p q due l t = record {
@@ -58,6 +58,7 @@ turn_of laws pods now last l f f' p q s w w' t m a =
       at = each_both (IsAt now s) t.tick d.rows (at_later now q s t.tick m t.at) d.at;
       told = d.told;
       ascend = d.ascend;
+      only = λ k x at. starting_before p q s x.pod t.later (d.only k x at);
       ready = ready_mono f' (f || f') d.probes d.rows (right_true f f') d.ready;
       over = λ e. elim (either_true f f' e) [ inl x ↦ full_after p q s m (t.over x) | inr x ↦ full_first p q s t.later (d.over x) ];
       starting = λ c st j both not. all_probed laws pods a.to j p q s d.probes t.later m.longer c st (λ u v low x y. d.starting u v j low (x, y)) a.end both.0 both.1 not;

@@ -106,16 +106,16 @@ pub record ServesMet (reading : ℕ → Type 0) (spec : Spec) (tag : ℕ) (old n
 abbrev pub IsText : Served → Served → List ℕ → List ℕ → Type 0
 IsText result meant full text = ((result ≡ meant) × (text ≡ full)) ⊎ ((result ≡ served.CallerFault) × ((n : ℕ) × (text ≡ take n full)))
 
-pub record HasMet (reading : ℕ → Type 0) (spec : Spec) (tag : ℕ) (old new : PassView) (wire wire' : Option Link) (left : Option (List ℕ)) (said said' : Option Said) (result : Served) : Type 0 where
+pub record HasMet (reading : ℕ → Type 0) (spec : Spec) (tag : ℕ) (old new : PassView) (wire wire' : Option Link) (said said' : Option Said) (result : Served) : Type 0 where
   pub found : Result Head HeadError
   pub meant : Served
   pub text : List ℕ
   pub way : IsWay reading spec tag old new wire wire' found meant text
   pub answers : (result ≡ meant) ⊎ (result ≡ served.CallerFault)
-  pub talks : Tells said said' (λ a b. Talks left found a b × IsText result meant text b.text)
+  pub talks : Tells said said' (λ a b. Talks found a b × IsText result meant text b.text)
 
 -- nobody was met, or somebody was
-abbrev pub ServesOne : (ℕ → Type 0) → Spec → ℕ → PassView → PassView → Option Link → Option Link → Option (List ℕ) → Option Said → Option Said → Served → Type 0
-ServesOne reading spec tag old new wire wire' left said said' result =
+abbrev pub ServesOne : (ℕ → Type 0) → Spec → ℕ → PassView → PassView → Option Link → Option Link → Option Said → Option Said → Served → Type 0
+ServesOne reading spec tag old new wire wire' said said' result =
     (IsIdle old new wire wire' × (said' ≡ said) × (result ≡ served.CallerFault))
-    ⊎ HasMet reading spec tag old new wire wire' left said said' result
+    ⊎ HasMet reading spec tag old new wire wire' said said' result

@@ -1,5 +1,5 @@
 -- What a caller tells: its texts and its streams.
-use Rattle.std.specs.Prelude.{◌≡◌, ◌⊎◌, ◌≤◌, ℕ, List, [], ◌∷◌, ◌++◌, take, length, Option, None, Some, IfSome, Result}
+use Rattle.std.specs.Prelude.{◌≡◌, ◌⊎◌, ◌≤◌, ℕ, List, [], ◌∷◌, ◌++◌, take, length, Option, None, Some, Result}
 use Rattle.kn_io.specs.Callers.{streams_of, texts_of}
 use Rattle.kn_head.specs.declared.head.Head.{Head}
 use Rattle.kn_head.specs.declared.head.HeadError.{HeadError}
@@ -30,9 +30,9 @@ abbrev pub GrowsFront : Option Said → Option Said → List ℕ → Type 0
 GrowsFront old new bytes = Tells old new (λ a b. (n : ℕ) × (b ≡ wrote a (take n bytes)))
 
 -- one text and one stream more: the input of the connection that was taken, in which this head was found
-pub record Talks (left : Option (List ℕ)) (found : Result Head HeadError) (a b : Said) : Type 0 where
+pub record Talks (found : Result Head HeadError) (a b : Said) : Type 0 where
   pub input : List ℕ
   pub kept : b.kept ≡ a.kept ++ a.text ∷ input ∷ []
   pub texts : texts_of b.kept b.text ≡ texts_of a.kept a.text ++ b.text ∷ []
   pub streams : streams_of b.kept ≡ streams_of a.kept ++ input ∷ []
-  pub head : IfSome left (λ _. Reads input found)
+  pub head : Reads input found

@@ -13,6 +13,7 @@ IsStarting c j = contains j (starting_pods c) ≡ true
 pub record PodLaws : Type 0 where
   pub tick_need : (c : Trace) → need_of c act.Tick ≡ 1
   pub ready_need : (c : Trace) (p : ℕ) → need_of c (act.Ready p) ≡ 1
+  pub next : (s : Spec) (c : Trace) (k p : ℕ) → Made s c → next_starting c k ≡ Some p → IsStarting c p
   pub least : (s : Spec) (c : Trace) (k p j : ℕ) → Made s c → next_starting c k ≡ Some p → k ≤ j → j < p → IsStarting c j → ⊥
   pub none : (s : Spec) (c : Trace) (k j : ℕ) → Made s c → next_starting c k ≡ None → k ≤ j → IsStarting c j → ⊥
   pub known : (s : Spec) (c : Trace) (j : ℕ) → Made s c → IsStarting c j → j < created c

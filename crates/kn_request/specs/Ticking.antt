@@ -28,6 +28,13 @@ pub record WasFull (old new : PassView) : Type 0 where
   pub late : StartsWith front old.seen
   pub none_left : (c : Trace) → StandsFor old.opening c → old.room - length front - live_of (trace_after old.opening.spec c front) < 1
 
+-- the pod was starting, after something that was seen in the call
+pub record WasStarting (old new : PassView) (pod : ℕ) : Type 0 where
+  pub front : List Past
+  pub early : StartsWith new.seen front
+  pub late : StartsWith front old.seen
+  pub starts : (c : Trace) → StandsFor old.opening c → IsStarting (trace_after old.opening.spec c front) pod
+
 -- the probed pods ascend, from this number on
 abbrev pub AreAscending : ℕ → List Probe → Type 0
 AreAscending from [] = ⊤
@@ -70,6 +77,7 @@ pub record Probing (now to : ℕ) (full : Bool) (old new : PassView) (wire wire'
   pub told : Tells wire wire' (probed_all probes)
   pub ascend : AreAscending 0 probes
   pub below : AreBelow to probes
+  pub only : Each (λ x. WasStarting old new x.pod) probes
   pub ready : AreReady full probes rows
   pub over : full ≡ true → WasFull old new
   pub starting : (c : Trace) → StandsFor old.opening c → (j : ℕ) → j < to → StartsAtBoth old c j old.seen new.seen → (is_probed j probes → ⊥) → ⊥
@@ -117,7 +125,7 @@ pub record Ticks (now last : ℕ) (old new : PassView) (turn : Turn) : Type 0 wh
   pub early : now < last + 2000 → (turn.last ≡ last) × (tick ≡ [])
   pub over : turn.full ≡ true → WasFull old new
 
--- a whole turn: a Tick where one is due, then the probes of the Starting pods. The rows are the Tick's and the Readies'
+-- a whole turn: a Tick where one is due, then the probes of the Starting pods, and of no other. The rows are the Tick's and the Readies'
 pub record TakesTurn (now last : ℕ) (old new : PassView) (wire wire' : Option Link) (turn : Turn) : Type 0 where
   pub later : Looks old new
   pub tick : List Past
@@ -129,6 +137,8 @@ pub record TakesTurn (now last : ℕ) (old new : PassView) (wire wire' : Option 
   pub at : Each (IsAt now new) (tick ++ rows)
   pub told : Tells wire wire' (probed_all probes)
   pub ascend : AreAscending 0 probes
+  -- no pod was probed but one that was starting
+  pub only : Each (λ x. WasStarting old new x.pod) probes
   pub ready : AreReady turn.full probes rows
   pub over : turn.full ≡ true → WasFull old new
   -- each pod that starts at the entry and at the return was probed

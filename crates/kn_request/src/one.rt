@@ -181,7 +181,7 @@ pub fn serve_one<R: Wait, C: Caller, L: PodLink, K: Clock, G: Gate>(
 ) -> Served
     requires cell { pass.old.cell ≡ cell.now }
     ensures looks { (pass.new ≡ pass.old) ⊎ Looks pass.old pass.new }
-    ensures serves { ServesOne (K.reading clock.now) spec.now tag pass.old pass.new (L.told slot.old.link) (L.told slot.new.link) (C.Source.left slot.old.caller) (said (C.Sink.kept slot.old.caller) (C.Sink.held slot.old.caller)) (said (C.Sink.kept slot.new.caller) (C.Sink.held slot.new.caller)) result }
+    ensures serves { ServesOne (K.reading clock.now) spec.now tag pass.old pass.new (L.told slot.old.link) (L.told slot.new.link) (said (C.Sink.kept slot.old.caller) (C.Sink.held slot.old.caller)) (said (C.Sink.kept slot.new.caller) (C.Sink.held slot.new.caller)) result }
     ensures causes { HasCauses (C.Faulty.faults slot.old.caller) (C.Faulty.faults slot.new.caller) (L.Faulty.faults slot.old.link) (L.Faulty.faults slot.new.link) result }
     ensures work { slot.new.work ≡ slot.old.work }
 {

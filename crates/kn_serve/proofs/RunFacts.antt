@@ -44,9 +44,9 @@ pub is_session : (reading : ℕ → Type 0) (count : ℕ) (x : Session) → IsSt
     → ((n i : ℕ) → HasOne (IsArrivalOf i) (rows_by n x.history) → IsAloneIn x.history n i)
     → ((c : Trace) → StandsFor x.opened c → IsLawful x.opened.spec (trace_after x.opened.spec c x.history))
     → ((c : Trace) → StandsFor x.opened c → IsSettled x.opened.spec (trace_after x.opened.spec c x.history))
-    → (status_after x ≡ status.Ok → Each IsFine x.history)
+    → length x.faults ≡ count → length x.wants ≡ count → (status_after x ≡ status.Ok → Each IsFine x.history)
     → IsSession reading count x
-is_session reading count x begins opens spec clock legal bounds rows alone lawful settled fine =
+is_session reading count x begins opens spec clock legal bounds rows alone lawful settled faults wants fine =
     let same = trace_after-opening x.setup.spec x.start x.history in
     record {
       begins = begins;
@@ -60,6 +60,8 @@ is_session reading count x begins opens spec clock legal bounds rows alone lawfu
       lawful = subst (IsLawful x.setup.spec) same (of_journal IsLawful x opens spec lawful);
       settled = subst (IsSettled x.setup.spec) same (of_journal IsSettled x opens spec settled);
       answers = tolds-legal x.setup.spec x.start (opening x.setup.spec x.start) x.history (legal_from x.opened x.setup.spec x.start x.history opens spec clock legal);
+      faults = faults;
+      wants = wants;
       fine = fine;
     }
 

@@ -58,7 +58,8 @@ status_after x = status_by (position (λ b. b) x.faults) (list_any (λ b. b) x.w
 
 -- one legal history, from the opening of the setup at the start: each row is the ticker's or a slot's, and no other pass
 -- ends a request of a pass. Its trace is that of its journal, lawful and settled, and its answers are those of its journal.
--- Where no round ended in a fault or in want of memory, no row is a finish that failed
+-- Of each slot, and of nothing else, it says whether a round of it ended in a fault, and whether one did in want of memory.
+-- Where none did, no row is a finish that failed
 pub record IsSession (reading : ℕ → Type 0) (slots : ℕ) (x : Session) : Type 0 where
   pub begins : IsStart reading x.start
   pub opens : StandsFor x.opened (opening x.setup.spec x.start)
@@ -71,6 +72,8 @@ pub record IsSession (reading : ℕ → Type 0) (slots : ℕ) (x : Session) : Ty
   pub lawful : IsLawful x.setup.spec (trace_of x.setup.spec x.start (events_of x.history))
   pub settled : IsSettled x.setup.spec (trace_of x.setup.spec x.start (events_of x.history))
   pub answers : tolds x.setup.spec (opening x.setup.spec x.start) (events_of x.history) ≡ map (λ p. p.told) x.history
+  pub faults : length x.faults ≡ slots
+  pub wants : length x.wants ≡ slots
   pub fine : status_after x ≡ status.Ok → Each IsFine x.history
 
 -- the whole journal was printed, and what was printed reads as that journal

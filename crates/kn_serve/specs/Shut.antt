@@ -29,7 +29,7 @@ pub record StaysShut (words : List (List ℕ)) (Rises Same : Type 0) (result : S
   pub why : IsShutBy words Rises result
   pub same : Same
 
--- the words ask for a plan, these slots and this keeper were opened for it, and then this came of them
+-- the words ask for a plan, the opener gave these slots, in this order, and this keeper for it, and then this came of them
 pub record ServesWords (S L : Type 0) (words : List (List ℕ)) (Opened Course : Plan → List S → L → Type 0) : Type 0 where
   pub plan : Plan
   pub asks : AsksFor words plan

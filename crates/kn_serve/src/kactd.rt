@@ -71,12 +71,12 @@ fn serve_words<
     requires keeper { keeper.old ≡ None }
     ensures course { StaysShut (map string_bytes words.now) (Rose (W.Faulty.faults opener.old) (W.Faulty.faults opener.new)) ((setup.new ≡ setup.old) × (out.new ≡ out.old) × (slots.new.items ≡ []) × (keeper.new ≡ None)) result
         ⊎ ServesWords (SlotValue C L) L (map string_bytes words.now)
-        (λ plan made k. IsOpened (λ s. IsFresh (said (C.Sink.kept s.caller) (C.Sink.held s.caller)) (L.told s.link) s.work) (λ k. IsUnused (L.told k)) plan.slots made (Some k))
+        (λ plan made k. IsOpened (λ s. IsFresh (said (C.Sink.kept s.caller) (C.Sink.held s.caller)) (L.told s.link) s.work) (λ k. IsUnused (L.told k)) plan.slots made (Some k) × W.gives opener.old plan opener.new made (Some k))
         (λ plan made k. Declines (S.left setup.old) ((slots.new.items ≡ made) × (keeper.new ≡ Some k) × (out.new ≡ out.old)) result
         ⊎ Serves (K.reading clock.now) (length made) (S.left setup.old) (S.left setup.new) (O.held out.old) (O.held out.new)
         (λ x. EachDone (λ i s t. SlotServed (K.reading clock.now) x.setup.spec x.opened plan.room plan.rounds x.history i
-        (sides (C.Source.left s.caller) (C.Sink.kept s.caller) (C.Sink.held s.caller) (C.Faulty.faults s.caller) (L.told s.link) (L.Faulty.faults s.link))
-        (sides (C.Source.left t.caller) (C.Sink.kept t.caller) (C.Sink.held t.caller) (C.Faulty.faults t.caller) (L.told t.link) (L.Faulty.faults t.link))
+        (sides (C.Sink.kept s.caller) (C.Sink.held s.caller) (C.Faulty.faults s.caller) (L.told s.link) (L.Faulty.faults s.link))
+        (sides (C.Sink.kept t.caller) (C.Sink.held t.caller) (C.Faulty.faults t.caller) (L.told t.link) (L.Faulty.faults t.link))
         (slice_index_or x.faults i false) (slice_index_or x.wants i false)) made slots.new.items)
         (λ x. (l : L) × (keeper.new ≡ Some l) × TickerServed (K.reading clock.now) x.start x.opened plan.room x.history (L.told k) (L.told l) × Probed x.opened x.history (L.told k) (L.told l)) result) }
     ensures works { EachIs (λ s. IsEmptyWork s.work) slots.new.items }
@@ -128,12 +128,12 @@ pub fn kactd_run<
     requires keeper { keeper.old ≡ None }
     ensures course { StaysShut (map string_bytes words.now) (Rose (W.Faulty.faults opener.old) (W.Faulty.faults opener.new)) ((setup.new ≡ setup.old) × (out.new ≡ out.old) × (slots.new.items ≡ []) × (keeper.new ≡ None)) result
         ⊎ ServesWords (SlotValue C L) L (map string_bytes words.now)
-        (λ plan made k. IsOpened (λ s. IsFresh (said (C.Sink.kept s.caller) (C.Sink.held s.caller)) (L.told s.link) s.work) (λ k. IsUnused (L.told k)) plan.slots made (Some k))
+        (λ plan made k. IsOpened (λ s. IsFresh (said (C.Sink.kept s.caller) (C.Sink.held s.caller)) (L.told s.link) s.work) (λ k. IsUnused (L.told k)) plan.slots made (Some k) × W.gives opener.old plan opener.new made (Some k))
         (λ plan made k. Declines (S.left setup.old) ((slots.new.items ≡ made) × (keeper.new ≡ Some k) × (out.new ≡ out.old)) result
         ⊎ Serves (K.reading clock.now) (length made) (S.left setup.old) (S.left setup.new) (O.held out.old) (O.held out.new)
         (λ x. EachDone (λ i s t. SlotServed (K.reading clock.now) x.setup.spec x.opened plan.room plan.rounds x.history i
-        (sides (C.Source.left s.caller) (C.Sink.kept s.caller) (C.Sink.held s.caller) (C.Faulty.faults s.caller) (L.told s.link) (L.Faulty.faults s.link))
-        (sides (C.Source.left t.caller) (C.Sink.kept t.caller) (C.Sink.held t.caller) (C.Faulty.faults t.caller) (L.told t.link) (L.Faulty.faults t.link))
+        (sides (C.Sink.kept s.caller) (C.Sink.held s.caller) (C.Faulty.faults s.caller) (L.told s.link) (L.Faulty.faults s.link))
+        (sides (C.Sink.kept t.caller) (C.Sink.held t.caller) (C.Faulty.faults t.caller) (L.told t.link) (L.Faulty.faults t.link))
         (slice_index_or x.faults i false) (slice_index_or x.wants i false)) made slots.new.items)
         (λ x. (l : L) × (keeper.new ≡ Some l) × TickerServed (K.reading clock.now) x.start x.opened plan.room x.history (L.told k) (L.told l) × Probed x.opened x.history (L.told k) (L.told l)) result) }
     ensures works { EachIs (λ s. IsEmptyWork s.work) slots.new.items }

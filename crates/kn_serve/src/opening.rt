@@ -1,6 +1,8 @@
 //! What makes the slots and the keeper that a plan asks for.
-ghost use Rattle.std.specs.Prelude.{◌≡◌, ◌≤◌, [], None, Err, false, All, OnOk, OnErr, IfSome, length};
+ghost use Rattle.std.specs.Prelude.{◌≡◌, ◌≤◌, List, [], Option, None, Err, false, All, OnOk, OnErr, IfSome, length};
 ghost use Rattle.kn_io.specs.Causes.{Rose};
+ghost use Rattle.kn_plan.specs.declared.plan.Plan.{Plan as PlanValue};
+ghost use Rattle.kn_request.specs.declared.slot.Slot.{Slot as SlotValue};
 ghost use Rattle.kn_request.specs.Outside.{said};
 ghost use Rattle.kn_serve.specs.Opening.{IsFresh, IsOpened, IsUnused};
 
@@ -14,6 +16,9 @@ use std::mem;
 
 /// Makes what a plan asks for.
 pub trait Opener<C: Caller, L: PodLink>: Faulty {
+    /// What an opening gives: the opener as it was, the plan, the opener as it is then, the slots in their order, and the keeper.
+    ghost gives: { Self → PlanValue → Self → List (SlotValue C L) → Option L → Type 0 };
+
     /// Puts as many slots as the plan says into `slots`, each with an empty work, a caller that met nobody and a link that
     /// called nothing, and a link that probed nothing into `keeper`. After an error there are none.
     fn open(
@@ -26,6 +31,7 @@ pub trait Opener<C: Caller, L: PodLink>: Faulty {
         requires slots { slots.old.items ≡ [] }
         requires keeper { keeper.old ≡ None }
         ensures opened { OnOk result (IsOpened (λ s. IsFresh (said (C.Sink.kept s.caller) (C.Sink.held s.caller)) (L.told s.link) s.work) (λ k. IsUnused (L.told k)) plan.now.slots slots.new.items keeper.new) }
+        ensures given { OnOk result (gives self.old plan.now self.new slots.new.items keeper.new) }
         ensures no_slots { OnErr result (slots.new.items ≡ []) }
         ensures no_keeper { OnErr result (keeper.new ≡ None) }
         ensures never_falls { Self.faults self.old ≤ Self.faults self.new }
@@ -82,6 +88,8 @@ impl<C: Caller, L: PodLink> Faulty for MemOpener<C, L> {
 }
 
 impl<C: Caller, L: PodLink> Opener<C, L> for MemOpener<C, L> {
+    ghost gives = { λ o _ _ slots keeper. (slots ≡ o.slots) × (keeper ≡ o.keeper) };
+
     /// Fails where it was told so, where the plan asks for another number of slots, and at each call after one that didn't.
     fn open(
         &mut self,

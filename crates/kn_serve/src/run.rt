@@ -94,8 +94,8 @@ pub fn serve<
     ensures course { Declines (S.left setup.old) ((slots.new ≡ slots.old) × (keeper.new ≡ keeper.old) × (out.new ≡ out.old)) result
         ⊎ Serves (K.reading clock.now) (length slots.old) (S.left setup.old) (S.left setup.new) (O.held out.old) (O.held out.new)
         (λ x. EachDone (λ i s t. SlotServed (K.reading clock.now) x.setup.spec x.opened plan.now.room plan.now.rounds x.history i
-        (sides (C.Source.left s.caller) (C.Sink.kept s.caller) (C.Sink.held s.caller) (C.Faulty.faults s.caller) (L.told s.link) (L.Faulty.faults s.link))
-        (sides (C.Source.left t.caller) (C.Sink.kept t.caller) (C.Sink.held t.caller) (C.Faulty.faults t.caller) (L.told t.link) (L.Faulty.faults t.link))
+        (sides (C.Sink.kept s.caller) (C.Sink.held s.caller) (C.Faulty.faults s.caller) (L.told s.link) (L.Faulty.faults s.link))
+        (sides (C.Sink.kept t.caller) (C.Sink.held t.caller) (C.Faulty.faults t.caller) (L.told t.link) (L.Faulty.faults t.link))
         (slice_index_or x.faults i false) (slice_index_or x.wants i false)) slots.old slots.new)
         (λ x. TickerServed (K.reading clock.now) x.start x.opened plan.now.room x.history (L.told keeper.old) (L.told keeper.new) × Probed x.opened x.history (L.told keeper.old) (L.told keeper.new)) result }
     ensures works { EachIs (λ s. IsEmptyWork s.work) slots.new }
@@ -169,8 +169,8 @@ pub fn serve_run<
     ensures course { Declines (S.left setup.old) ((slots.new ≡ slots.old) × (keeper.new ≡ keeper.old) × (out.new ≡ out.old)) result
         ⊎ Serves (K.reading clock.now) (length slots.old) (S.left setup.old) (S.left setup.new) (O.held out.old) (O.held out.new)
         (λ x. EachDone (λ i s t. SlotServed (K.reading clock.now) x.setup.spec x.opened plan.now.room plan.now.rounds x.history i
-        (sides (C.Source.left s.caller) (C.Sink.kept s.caller) (C.Sink.held s.caller) (C.Faulty.faults s.caller) (L.told s.link) (L.Faulty.faults s.link))
-        (sides (C.Source.left t.caller) (C.Sink.kept t.caller) (C.Sink.held t.caller) (C.Faulty.faults t.caller) (L.told t.link) (L.Faulty.faults t.link))
+        (sides (C.Sink.kept s.caller) (C.Sink.held s.caller) (C.Faulty.faults s.caller) (L.told s.link) (L.Faulty.faults s.link))
+        (sides (C.Sink.kept t.caller) (C.Sink.held t.caller) (C.Faulty.faults t.caller) (L.told t.link) (L.Faulty.faults t.link))
         (slice_index_or x.faults i false) (slice_index_or x.wants i false)) slots.old slots.new)
         (λ x. TickerServed (K.reading clock.now) x.start x.opened plan.now.room x.history (L.told keeper.old) (L.told keeper.new) × Probed x.opened x.history (L.told keeper.old) (L.told keeper.new)) result }
     ensures works { EachIs (λ s. IsEmptyWork s.work) slots.new }

@@ -76,9 +76,9 @@ misfits_way reading spec tag p q w w' (Ok h) s text f way e = elim way [
 misfits_way reading spec tag p q w w' (Err e) s text f way is = absurd (not_unread e (answer_for e) s text f way.1 is)
 
 -- a round that ended as Full found no room for its arrival
-pub misfits_of : (reading : ℕ → Type 0) (spec : Spec) (tag : ℕ) (p q : PassView) (w w' : Option Link) (left : Option (List ℕ)) (a a' : Option Said) (f : Full) → ServesOne reading spec tag p q w w' left a a' (served.Full f)
+pub misfits_of : (reading : ℕ → Type 0) (spec : Spec) (tag : ℕ) (p q : PassView) (w w' : Option Link) (a a' : Option Said) (f : Full) → ServesOne reading spec tag p q w w' a a' (served.Full f)
     → Misfits p (act.Arrive tag) f q
-misfits_of reading spec tag p q w w' left a a' f o = elim o [
+misfits_of reading spec tag p q w w' a a' f o = elim o [
   | inl x ↦ (let k = x.2 in absurd cc)
   | inr m ↦ elim m.answers [
     | inl e ↦ misfits_way reading spec tag p q w w' m.found m.meant m.text f m.way (sym e)
@@ -167,9 +167,9 @@ fine_way reading spec tag p q w w' (Ok h) s text f g way = elim way [
 ]
 fine_way reading spec tag p q w w' (Err e) s text f g way = fine_none p q (ap (λ (v : PassView). v.mine) way.0.pass)
 
-fine_one : (reading : ℕ → Type 0) (spec : Spec) (tag : ℕ) (p q : PassView) (w w' : Option Link) (left : Option (List ℕ)) (a a' : Option Said) (s : Served) → is_fault s ≡ false → is_memory s ≡ false
-    → ServesOne reading spec tag p q w w' left a a' s → GrowsFine p q
-fine_one reading spec tag p q w w' left a a' s f g o = elim o [
+fine_one : (reading : ℕ → Type 0) (spec : Spec) (tag : ℕ) (p q : PassView) (w w' : Option Link) (a a' : Option Said) (s : Served) → is_fault s ≡ false → is_memory s ≡ false
+    → ServesOne reading spec tag p q w w' a a' s → GrowsFine p q
+fine_one reading spec tag p q w w' a a' s f g o = elim o [
   | inl x ↦ fine_none p q (ap (λ (v : PassView). v.mine) x.0.pass)
   | inr m ↦ elim m.answers [
     | inl e ↦ fine_way reading spec tag p q w w' m.found m.meant m.text (ap is_fault (sym e) ∙ f) (ap is_memory (sym e) ∙ g) m.way
@@ -188,7 +188,7 @@ rounds_fine Then reading spec tag [] p q a b f g r = fine_none p q (ap (λ (v : 
 rounds_fine Then reading spec tag (s ∷ ss) p q a b f g r =
     let f' = either_false (is_fault s) (any_fault ss) f in
     let g' = either_false (is_memory s) (any_memory ss) g in
-    fine_trans p r.0 q (fine_one reading spec tag p r.0 a.wire r.1.wire a.left a.said r.1.said s f'.0 g'.0 r.2.served) (rounds_fine Then reading spec (tag + 1) ss r.0 q r.1 b f'.1 g'.1 r.3)
+    fine_trans p r.0 q (fine_one reading spec tag p r.0 a.wire r.1.wire a.said r.1.said s f'.0 g'.0 r.2.served) (rounds_fine Then reading spec (tag + 1) ss r.0 q r.1 b f'.1 g'.1 r.3)
 
 -- ---- texts
 
@@ -198,9 +198,9 @@ told_trans n m a b c x y s is =
     let v = y u.0 u.1 in
     (v.0, v.1, (u.2.0 ++ v.2.0, length-append u.2.0 v.2.0 ∙ (let i = u.2.1 in let j = v.2.1 in omega arith), v.2.2 ∙ (ap (λ l. l ++ v.2.0) u.2.2 ∙ append_assoc (texts_of s.kept s.text) u.2.0 v.2.0)))
 
-texts_one : (reading : ℕ → Type 0) (spec : Spec) (tag : ℕ) (p q : PassView) (w w' : Option Link) (left : Option (List ℕ)) (a a' : Option Said) (s : Served) → is_fault s ≡ false
-    → ServesOne reading spec tag p q w w' left a a' s → HasTexts 1 a a'
-texts_one reading spec tag p q w w' left a a' s f o = elim o [
+texts_one : (reading : ℕ → Type 0) (spec : Spec) (tag : ℕ) (p q : PassView) (w w' : Option Link) (a a' : Option Said) (s : Served) → is_fault s ≡ false
+    → ServesOne reading spec tag p q w w' a a' s → HasTexts 1 a a'
+texts_one reading spec tag p q w w' a a' s f o = elim o [
   | inl x ↦ (let k : is_fault s ≡ true = ap is_fault x.2 in absurd (let j = f in cc))
   | inr m ↦ (λ t is. let z = m.talks t is in (z.0, z.1, (z.0.text ∷ [], refl, z.2.0.texts)))
 ]
@@ -213,7 +213,7 @@ rounds_texts Then reading spec tag (s ∷ ss) p q a b f r t is =
     let f' = either_false (is_fault s) (any_fault ss) f in
     let n : 1 + length ss ≡ length (s ∷ ss) = omega arith in
     let all : HasTexts (1 + length ss) a.said b.said =
-    told_trans 1 (length ss) a.said r.1.said b.said (texts_one reading spec tag p r.0 a.wire r.1.wire a.left a.said r.1.said s f'.0 r.2.served) (rounds_texts Then reading spec (tag + 1) ss r.0 q r.1 b f'.1 r.3) in
+    told_trans 1 (length ss) a.said r.1.said b.said (texts_one reading spec tag p r.0 a.wire r.1.wire a.said r.1.said s f'.0 r.2.served) (rounds_texts Then reading spec (tag + 1) ss r.0 q r.1 b f'.1 r.3) in
     (subst (λ k. HasTexts k a.said b.said) n all) t is
 
 -- ---- for want of room, in the history
@@ -226,8 +226,8 @@ rounds_full laws h x room reading spec tag (s ∷ ss) p q a b e f r has =
     let next = next_of p m r.2.later in
     elim has [
       | inl y ↦
-          let o = subst (λ (v : Served). ServesOne reading spec tag p m a.wire r.1.wire a.left a.said r.1.said v) y.1 r.2.served in
-          let mis = misfits_of reading spec tag p m a.wire r.1.wire a.left a.said r.1.said y.0 o in
+          let o = subst (λ (v : Served). ServesOne reading spec tag p m a.wire r.1.wire a.said r.1.said v) y.1 r.2.served in
+          let mis = misfits_of reading spec tag p m a.wire r.1.wire a.said r.1.said y.0 o in
           let Short : RevisionState → ℕ → Type 0 = λ v k. (c : Trace) → StandsFor v c → k - length m.seen - live_of (trace_after v.spec c m.seen) < 2 in
           let short : Short p.opening p.room = λ c st.
           (let k = mis.short c st in let n = laws.need (trace_after p.opening.spec c m.seen) tag in omega (arith, k, n)) in

@@ -169,13 +169,13 @@ way_own reading spec tag p q w w' (Ok h) s text way = elim way [
 ]
 way_own reading spec tag p q w w' (Err e) s text way = idle_own p q w w' way.0
 
-one_own : (reading : ℕ → Type 0) (spec : Spec) (tag : ℕ) (p q : PassView) (w w' : Option Link) (left : Option (List ℕ)) (a a' : Option Said) (s : Served) → ServesOne reading spec tag p q w w' left a a' s → GrowsOwn p q
-one_own reading spec tag p q w w' left a a' s o = elim o [ inl x ↦ idle_own p q w w' x.0 | inr x ↦ way_own reading spec tag p q w w' x.found x.meant x.text x.way ]
+one_own : (reading : ℕ → Type 0) (spec : Spec) (tag : ℕ) (p q : PassView) (w w' : Option Link) (a a' : Option Said) (s : Served) → ServesOne reading spec tag p q w w' a a' s → GrowsOwn p q
+one_own reading spec tag p q w w' a a' s o = elim o [ inl x ↦ idle_own p q w w' x.0 | inr x ↦ way_own reading spec tag p q w w' x.found x.meant x.text x.way ]
 
 pub rounds_own : (Then : PassView → Type 0) (reading : ℕ → Type 0) (spec : Spec) (tag : ℕ) (ss : List Served) (p q : PassView) (a b : Sides) → IsRounds Then reading spec tag ss p q a b → GrowsOwn p q
 rounds_own Then reading spec tag [] p q a b r = grows_none p q (ap (λ (v : PassView). v.mine) r.0)
 rounds_own Then reading spec tag (s ∷ ss) p q a b r =
-    grows_trans p r.0 q (one_own reading spec tag p r.0 a.wire r.1.wire a.left a.said r.1.said s r.2.served) (rounds_own Then reading spec (tag + 1) ss r.0 q r.1 b r.3)
+    grows_trans p r.0 q (one_own reading spec tag p r.0 a.wire r.1.wire a.said r.1.said s r.2.served) (rounds_own Then reading spec (tag + 1) ss r.0 q r.1 b r.3)
 
 -- ---- the ticker's rows are Tick and Ready, which end nothing
 

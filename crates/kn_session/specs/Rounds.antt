@@ -13,15 +13,14 @@ use Rattle.kn_request.specs.One.{HasCauses, ServesOne}
 
 -- what is told of a slot's caller and of its link, and how many faults each counted
 pub record Sides : Type 0 where
-  pub left : Option (List ℕ)
   pub said : Option Said
   pub faults : ℕ
   pub wire : Option Link
   pub breaks : ℕ
 
--- the caller's left, kept, held and faults, and the link's told and faults
-abbrev pub sides : Option (List ℕ) → Option (List (List ℕ)) → Option (List ℕ) → ℕ → Option Link → ℕ → Sides
-sides left kept held faults wire breaks = record { left = left; said = said kept held; faults = faults; wire = wire; breaks = breaks }
+-- the caller's kept, held and faults, and the link's told and faults
+abbrev pub sides : Option (List (List ℕ)) → Option (List ℕ) → ℕ → Option Link → ℕ → Sides
+sides kept held faults wire breaks = record { said = said kept held; faults = faults; wire = wire; breaks = breaks }
 
 abbrev pub is_fault : Served → Bool
 is_fault served.LinkFault = true
@@ -56,7 +55,7 @@ HasFaulted a b = Rose a.faults b.faults ⊎ Rose a.breaks b.breaks
 pub record OneRound (Then : PassView → Type 0) (reading : ℕ → Type 0) (spec : Spec) (tag : ℕ) (p q : PassView) (a b : Sides) (s : Served) : Type 0 where
   pub later : (q ≡ p) ⊎ Looks p q
   pub then : Then q
-  pub served : ServesOne reading spec tag p q a.wire b.wire a.left a.said b.said s
+  pub served : ServesOne reading spec tag p q a.wire b.wire a.said b.said s
   pub causes : HasCauses a.faults b.faults a.breaks b.breaks s
 
 -- rounds with these endings, from this tag on, one after the other

@@ -46,8 +46,8 @@ impl<'a, C: Caller, L: PodLink, K: Clock, G: Gate> Job<Shared<'a, K, G>> for Slo
 
     ghost done = { λ x i s t. (p : PassView) → s.work.pass ≡ Some p → (q : PassView) × (t.work.pass ≡ Some q) × (q.cell ≡ p.cell)
         × AllRounds (λ _. ⊤) (K.reading x.clock.now) x.spec.now (i * x.rounds) x.rounds p q
-        (sides (C.Source.left s.caller) (C.Sink.kept s.caller) (C.Sink.held s.caller) (C.Faulty.faults s.caller) (L.told s.link) (L.Faulty.faults s.link))
-        (sides (C.Source.left t.caller) (C.Sink.kept t.caller) (C.Sink.held t.caller) (C.Faulty.faults t.caller) (L.told t.link) (L.Faulty.faults t.link)) t.work.fault t.work.memory };
+        (sides (C.Sink.kept s.caller) (C.Sink.held s.caller) (C.Faulty.faults s.caller) (L.told s.link) (L.Faulty.faults s.link))
+        (sides (C.Sink.kept t.caller) (C.Sink.held t.caller) (C.Faulty.faults t.caller) (L.told t.link) (L.Faulty.faults t.link)) t.work.fault t.work.memory };
 
     fn work<R: Wait>(&mut self, rt: &R, shared: &Shared<'a, K, G>, i: u64) {
         serve_rounds(
@@ -163,8 +163,8 @@ pub fn serve_beside<
     requires pass { pass.cell ≡ shared.now.cell.now }
     ensures slots { EachDone (λ i s t. (p : PassView) → s.work.pass ≡ Some p → (q : PassView) × (t.work.pass ≡ Some q) × (q.cell ≡ p.cell)
         × AllRounds (λ _. ⊤) (K.reading shared.now.clock.now) shared.now.spec.now (i * shared.now.rounds) shared.now.rounds p q
-        (sides (C.Source.left s.caller) (C.Sink.kept s.caller) (C.Sink.held s.caller) (C.Faulty.faults s.caller) (L.told s.link) (L.Faulty.faults s.link))
-        (sides (C.Source.left t.caller) (C.Sink.kept t.caller) (C.Sink.held t.caller) (C.Faulty.faults t.caller) (L.told t.link) (L.Faulty.faults t.link)) t.work.fault t.work.memory) slots.old slots.new }
+        (sides (C.Sink.kept s.caller) (C.Sink.held s.caller) (C.Faulty.faults s.caller) (L.told s.link) (L.Faulty.faults s.link))
+        (sides (C.Sink.kept t.caller) (C.Sink.held t.caller) (C.Faulty.faults t.caller) (L.told t.link) (L.Faulty.faults t.link)) t.work.fault t.work.memory) slots.old slots.new }
     ensures ticker { Turns (K.reading shared.now.clock.now) shared.now.start pass result (L.told keeper.old) (L.told keeper.new) }
     ensures apart { TicksApart (K.reading shared.now.clock.now) shared.now.start pass result }
     ensures never_falls { L.Faulty.faults keeper.old ≤ L.Faulty.faults keeper.new }

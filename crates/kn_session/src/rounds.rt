@@ -51,8 +51,8 @@ fn serve_passes<R: Wait, C: Caller, L: PodLink, K: Clock, G: Gate>(
     requires cell { pass.old.cell ≡ cell.now }
     requires few { first + rounds < 2 ^ 64 }
     ensures rounds { AllRounds (λ _. ⊤) (K.reading clock.now) spec.now first rounds pass.old pass.new
-        (sides (C.Source.left slot.old.caller) (C.Sink.kept slot.old.caller) (C.Sink.held slot.old.caller) (C.Faulty.faults slot.old.caller) (L.told slot.old.link) (L.Faulty.faults slot.old.link))
-        (sides (C.Source.left slot.new.caller) (C.Sink.kept slot.new.caller) (C.Sink.held slot.new.caller) (C.Faulty.faults slot.new.caller) (L.told slot.new.link) (L.Faulty.faults slot.new.link)) result.0 result.1 }
+        (sides (C.Sink.kept slot.old.caller) (C.Sink.held slot.old.caller) (C.Faulty.faults slot.old.caller) (L.told slot.old.link) (L.Faulty.faults slot.old.link))
+        (sides (C.Sink.kept slot.new.caller) (C.Sink.held slot.new.caller) (C.Faulty.faults slot.new.caller) (L.told slot.new.link) (L.Faulty.faults slot.new.link)) result.0 result.1 }
     ensures cell { pass.new.cell ≡ pass.old.cell }
     ensures work { slot.new.work ≡ slot.old.work }
 {
@@ -84,8 +84,8 @@ pub fn serve_rounds<R: Wait, C: Caller, L: PodLink, K: Clock, G: Gate>(
     requires few { (i < 64) × (rounds ≤ 10000) }
     ensures rounds { (p : PassView) → slot.old.work.pass ≡ Some p → (q : PassView) × (slot.new.work.pass ≡ Some q) × (q.cell ≡ p.cell)
         × AllRounds (λ _. ⊤) (K.reading clock.now) spec.now (i * rounds) rounds p q
-        (sides (C.Source.left slot.old.caller) (C.Sink.kept slot.old.caller) (C.Sink.held slot.old.caller) (C.Faulty.faults slot.old.caller) (L.told slot.old.link) (L.Faulty.faults slot.old.link))
-        (sides (C.Source.left slot.new.caller) (C.Sink.kept slot.new.caller) (C.Sink.held slot.new.caller) (C.Faulty.faults slot.new.caller) (L.told slot.new.link) (L.Faulty.faults slot.new.link)) slot.new.work.fault slot.new.work.memory }
+        (sides (C.Sink.kept slot.old.caller) (C.Sink.held slot.old.caller) (C.Faulty.faults slot.old.caller) (L.told slot.old.link) (L.Faulty.faults slot.old.link))
+        (sides (C.Sink.kept slot.new.caller) (C.Sink.held slot.new.caller) (C.Faulty.faults slot.new.caller) (L.told slot.new.link) (L.Faulty.faults slot.new.link)) slot.new.work.fault slot.new.work.memory }
 {
     let pass = slot.work.pass.take();
     match pass {

@@ -87,8 +87,8 @@ pub fn serve_session<
     ensures lawful { IfOk result (λ r. (c : Trace) → StandsFor revision c → IsLawful revision.spec (trace_after revision.spec c r.1)) }
     ensures settled { IfOk result (λ r. (c : Trace) → StandsFor revision c → IsSettled revision.spec (trace_after revision.spec c r.1)) }
     ensures slots { IfOk result (λ r. EachDone (λ i s t. SlotServed (K.reading clock.now) spec.now revision room rounds r.1 i
-        (sides (C.Source.left s.caller) (C.Sink.kept s.caller) (C.Sink.held s.caller) (C.Faulty.faults s.caller) (L.told s.link) (L.Faulty.faults s.link))
-        (sides (C.Source.left t.caller) (C.Sink.kept t.caller) (C.Sink.held t.caller) (C.Faulty.faults t.caller) (L.told t.link) (L.Faulty.faults t.link)) t.work.fault t.work.memory) slots.old slots.new) }
+        (sides (C.Sink.kept s.caller) (C.Sink.held s.caller) (C.Faulty.faults s.caller) (L.told s.link) (L.Faulty.faults s.link))
+        (sides (C.Sink.kept t.caller) (C.Sink.held t.caller) (C.Faulty.faults t.caller) (L.told t.link) (L.Faulty.faults t.link)) t.work.fault t.work.memory) slots.old slots.new) }
     ensures ticker { IfOk result (λ r. TickerServed (K.reading clock.now) start revision room r.1 (L.told keeper.old) (L.told keeper.new)) }
     ensures probes { IfOk result (λ r. Probed revision r.1 (L.told keeper.old) (L.told keeper.new)) }
     ensures keeper { IfOk result (λ r. L.Faulty.faults keeper.old ≤ L.Faulty.faults keeper.new) }

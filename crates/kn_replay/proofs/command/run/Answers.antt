@@ -102,6 +102,10 @@ pub returns-in-None-clause-inert : goal.returns-in-None-clause-inert
 returns-in-None-clause-inert g c =
     c.journal_laws.ensures.inert (g.S.Source.left c.args.input.now)
 
+pub returns-in-None-clause-beside : goal.returns-in-None-clause-beside
+returns-in-None-clause-beside g c =
+    c.journal_laws.ensures.beside (g.S.Source.left c.args.input.now)
+
 pub returns-in-None-clause-told : goal.returns-in-None-clause-told
 returns-in-None-clause-told g c =
     c.tell.ensures.told
@@ -176,6 +180,10 @@ pub returns-in-Some-Replay-clause-inert : goal.returns-in-Some-Replay-clause-ine
 returns-in-Some-Replay-clause-inert g c =
     c.journal_laws.ensures.inert (g.S.Source.left c.args.input.now)
 
+pub returns-in-Some-Replay-clause-beside : goal.returns-in-Some-Replay-clause-beside
+returns-in-Some-Replay-clause-beside g c =
+    c.journal_laws.ensures.beside (g.S.Source.left c.args.input.now)
+
 pub returns-in-Some-Replay-clause-told : goal.returns-in-Some-Replay-clause-told
 returns-in-Some-Replay-clause-told g c =
     c.tell-in-Some-Replay.ensures.told
@@ -248,6 +256,10 @@ returns-in-Some-Generate-clause-no_loss g c =
 pub returns-in-Some-Generate-clause-inert : goal.returns-in-Some-Generate-clause-inert
 returns-in-Some-Generate-clause-inert g c =
     c.journal_laws.ensures.inert (g.S.Source.left c.args.input.now)
+
+pub returns-in-Some-Generate-clause-beside : goal.returns-in-Some-Generate-clause-beside
+returns-in-Some-Generate-clause-beside g c =
+    c.journal_laws.ensures.beside (g.S.Source.left c.args.input.now)
 
 pub returns-in-Some-Generate-clause-told : goal.returns-in-Some-Generate-clause-told
 returns-in-Some-Generate-clause-told g c =

@@ -13,4 +13,4 @@ returns-in-Ok-clause-serves g c =
     let mid = c.meet.new.self in
     let new = c.serve_met.new.caller in
     inr (met_of c.caller_laws.ensures.texts c.caller_laws.ensures.streams (g.K.Clock.reading c.args.clock.now) c.args.spec.now c.args.tag c.args.pass.now c.serve_met.new.pass (wire c.args.slot.now.link) (wire c.serve_met.new.link)
-    (kept old) (kept mid) (held old) (held mid) (left old) (left mid) (said (kept new) (held new)) c.serve_met.result (g.met.C.Caller.paired old) c.in-Ok.ensures.met c.serve_met.ensures.serves)
+    (kept old) (kept mid) (held old) (held mid) (left old) (left mid) (said (kept new) (held new)) c.serve_met.result (g.met.C.Caller.paired old) (g.met.C.Caller.heard old) c.in-Ok.ensures.met c.serve_met.ensures.serves)

@@ -1,4 +1,5 @@
-use Rattle.std.proofs.Common.{List, length, map, refl, sym, ap, ◌∙◌, subst, inl, inr}
+use Rattle.std.proofs.Common.{◌≡◌, List, length, map, refl, sym, ap, ◌∙◌, subst, inl, inr}
+use Rattle.std.proofs.lemmas.List.{length-map}
 use Rattle.std.specs.Prelude.{All, Err}
 use Rattle.std.specs.Io.KnownBytes.{Appends}
 use Rattle.kn_cell.specs.declared.past.Past.{Past}
@@ -40,9 +41,11 @@ returns-in-Ok-print_journal-clause-course g c =
     let reading = g.K.Clock.reading c.args.clock.now in
     let ts = c.serve_session.new.slots in
     let h = c.in-Ok-serve_session.history in
+    let many : length ts ≡ length c.args.slots.now = c.in-Ok-serve_session.ensures.slots.0 in
     let x : Session = record { setup = c.in-Ok.read; start = c.start_of-start.result; opened = c.in-Ok-open_revision.revision; history = h; faults = map (λ (s : Slot g.row.C.Denot g.row.L.Denot). s.work.fault) ts; wants = map (λ (s : Slot g.row.C.Denot g.row.L.Denot). s.work.memory) ts } in
     let is = is_session reading (length c.args.slots.now) x c.start_of-start.ensures.start c.in-Ok-open_revision.ensures.stands c.in-Ok-open_revision.ensures.spec c.in-Ok-open_revision.ensures.clock
     c.in-Ok-serve_session.ensures.legal c.in-Ok-serve_session.ensures.bounds c.in-Ok-serve_session.ensures.rows c.in-Ok-serve_session.ensures.alone c.in-Ok-serve_session.ensures.lawful c.in-Ok-serve_session.ensures.settled
+    (length-map ts (λ (s : Slot g.row.C.Denot g.row.L.Denot). s.work.fault) ∙ many) (length-map ts (λ (s : Slot g.row.C.Denot g.row.L.Denot). s.work.memory) ∙ many)
     (λ ok. c.in-Ok-serve_session.ensures.fine (all_fine ts ok)) in
     let small = subst (All (λ (p : Past). HasSmall p.event.act)) c.items.ensures c.in-Ok-print_journal.ensures.small in
     inr (record {
@@ -51,7 +54,7 @@ returns-in-Ok-print_journal-clause-course g c =
       said = c.in-Ok.ensures.says;
       whole = c.in-Ok.ensures.whole;
       slots_did = cleared (λ i a b f w. SlotServed reading c.in-Ok.read.spec c.in-Ok-open_revision.revision c.args.plan.now.room c.args.plan.now.rounds h i a b f w)
-          (λ (a : g.row.C.Denot) (l : g.row.L.Denot). sides (g.C.Source.left a) (g.C.Sink.kept a) (g.C.Sink.held a) (g.C.Faulty.faults a) (g.L.PodLink.told l) (g.L.Faulty.faults l))
+          (λ (a : g.row.C.Denot) (l : g.row.L.Denot). sides (g.C.Sink.kept a) (g.C.Sink.held a) (g.C.Faulty.faults a) (g.L.PodLink.told l) (g.L.Faulty.faults l))
           c.args.slots.now ts c.clear.new.slots c.in-Ok-serve_session.ensures.slots c.clear.ensures;
       ticker_did = (c.in-Ok-serve_session.ensures.ticker, c.in-Ok-serve_session.ensures.probes);
       ends = inl (record {
@@ -78,9 +81,11 @@ returns-clause-course g c =
     let reading = g.K.Clock.reading c.args.clock.now in
     let ts = c.serve_session.new.slots in
     let h = c.in-Ok-serve_session.history in
+    let many : length ts ≡ length c.args.slots.now = c.in-Ok-serve_session.ensures.slots.0 in
     let x : Session = record { setup = c.in-Ok.read; start = c.start_of-start.result; opened = c.in-Ok-open_revision.revision; history = h; faults = map (λ (s : Slot g.row.C.Denot g.row.L.Denot). s.work.fault) ts; wants = map (λ (s : Slot g.row.C.Denot g.row.L.Denot). s.work.memory) ts } in
     let is = is_session reading (length c.args.slots.now) x c.start_of-start.ensures.start c.in-Ok-open_revision.ensures.stands c.in-Ok-open_revision.ensures.spec c.in-Ok-open_revision.ensures.clock
     c.in-Ok-serve_session.ensures.legal c.in-Ok-serve_session.ensures.bounds c.in-Ok-serve_session.ensures.rows c.in-Ok-serve_session.ensures.alone c.in-Ok-serve_session.ensures.lawful c.in-Ok-serve_session.ensures.settled
+    (length-map ts (λ (s : Slot g.row.C.Denot g.row.L.Denot). s.work.fault) ∙ many) (length-map ts (λ (s : Slot g.row.C.Denot g.row.L.Denot). s.work.memory) ∙ many)
     (λ ok. c.in-Ok-serve_session.ensures.fine (all_fine ts ok)) in
     inr (record {
       session = x;
@@ -88,7 +93,7 @@ returns-clause-course g c =
       said = c.in-Ok.ensures.says;
       whole = c.in-Ok.ensures.whole;
       slots_did = cleared (λ i a b f w. SlotServed reading c.in-Ok.read.spec c.in-Ok-open_revision.revision c.args.plan.now.room c.args.plan.now.rounds h i a b f w)
-          (λ (a : g.row.C.Denot) (l : g.row.L.Denot). sides (g.C.Source.left a) (g.C.Sink.kept a) (g.C.Sink.held a) (g.C.Faulty.faults a) (g.L.PodLink.told l) (g.L.Faulty.faults l))
+          (λ (a : g.row.C.Denot) (l : g.row.L.Denot). sides (g.C.Sink.kept a) (g.C.Sink.held a) (g.C.Faulty.faults a) (g.L.PodLink.told l) (g.L.Faulty.faults l))
           c.args.slots.now ts c.clear.new.slots c.in-Ok-serve_session.ensures.slots c.clear.ensures;
       ticker_did = (c.in-Ok-serve_session.ensures.ticker, c.in-Ok-serve_session.ensures.probes);
       ends = inr (refl, subst (λ (r : List Past). AppendsPrefix (g.O.Sink.held c.args.out.now) (g.O.Sink.held c.print_journal.new.out) (journal_text (printed_journal c.in-Ok.read c.start_of-start.result r))) c.items.ensures c.in-Err-print_journal.ensures.err);

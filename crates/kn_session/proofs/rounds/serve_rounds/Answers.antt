@@ -9,7 +9,7 @@ pub returns-in-Some : goal.returns-in-Some
 returns-in-Some g c = record {
   rounds = λ p is.
       let x = c.serve_passes-fault in
-      let at : Slot g.row.C.Denot g.row.L.Denot → Sides = λ s. sides (g.C.Source.left s.caller) (g.C.Sink.kept s.caller) (g.C.Sink.held s.caller) (g.C.Faulty.faults s.caller) (g.L.PodLink.told s.link) (g.L.Faulty.faults s.link) in
+      let at : Slot g.row.C.Denot g.row.L.Denot → Sides = λ s. sides (g.C.Sink.kept s.caller) (g.C.Sink.held s.caller) (g.C.Faulty.faults s.caller) (g.L.PodLink.told s.link) (g.L.Faulty.faults s.link) in
       let same : c.in-Some.pass ≡ p = (let a = c.in-Some.ensures.value in let b = c.in-Some.is in let e = is in cc) in (
         x.new.pass,
         refl,
