@@ -1,15 +1,24 @@
 //! Readers and writers of std as sources and sinks. They tell the content that std tells of them: of standard
 //! input, output and error none.
 ghost use Rattle.std.specs.Prelude.{◌≡◌, ◌≤◌, ◌<◌, ℕ, None, Some, IfOk, MatchResult, length, take, drop};
-ghost use Rattle.std.specs.Io.KnownBytes.{Consumes, IsAtEnd, Keeps};
+ghost use Rattle.std.specs.Io.KnownBytes.{Appends, Consumes, IsAtEnd, Keeps};
 ghost use Rattle.kn_io.specs.Causes.{Rose};
 
 use crate::traits::{Failed, Faulty, Sink, Source};
 use std::io;
-use std::io::{Read, Write};
+use std::io::{ErrorKind, Read, Write};
+use std::thread::yield_now;
 
 /// How many bytes an adapter reads at once.
 pub const PIECE: usize = 8192;
+
+/// How often a call is made that ends in no error but those that pass.
+const TRIES: u64 = u64::MAX;
+
+/// Whether the same call may go well a moment later: a signal broke it off, or a stream that doesn't wait wasn't ready.
+fn is_passing(error: &io::Error) -> bool {
+    matches!(error.kind(), ErrorKind::Interrupted | ErrorKind::WouldBlock)
+}
 
 /// Counts a fault. The count stops at the greatest u64.
 pub fn fault(faults: &mut u64) -> Failed
@@ -41,7 +50,49 @@ pub fn read_piece<R: Read>(
     Ok(n)
 }
 
-/// A reader of std. Each error of it is a fault, and so is a read for which the count of the bytes given has no room.
+/// Reads once, and again as long as what ended the read passes.
+fn read_at_last<R: Read>(
+    reader: &mut R,
+    own: &mut [u8; PIECE],
+    buf: &mut [u8],
+) -> Result<usize, Failed>
+    ensures bound { IfOk result (λ n. n ≤ length buf.old) }
+    ensures piece { IfOk result (λ n. n ≤ 8192) }
+    ensures moved { MatchResult result
+        (λ n. Consumes (R.remaining reader.old) (R.remaining reader.new) (take n buf.new))
+        (λ _. Keeps (R.remaining reader.old) (R.remaining reader.new)) }
+    ensures end { IfOk result (λ n. n ≡ 0 → 0 < length buf.old → IsAtEnd (R.remaining reader.new)) }
+    ensures rest_of_buffer { MatchResult result (λ n. drop n buf.new ≡ drop n buf.old) (λ _. buf.new ≡ buf.old) }
+{
+    for _ in 0..TRIES {
+        match read_piece(reader, own, buf) {
+            Ok(n) => return Ok(n),
+            Err(error) if is_passing(&error) => yield_now(),
+            Err(_) => return Err(Failed),
+        }
+    }
+    Err(Failed)
+}
+
+/// Writes once, and again as long as what ended the write passes.
+fn write_at_last<W: Write>(writer: &mut W, bytes: &[u8]) -> Result<usize, Failed>
+    ensures bound { IfOk result (λ n. n ≤ length bytes.now) }
+    ensures taken { MatchResult result
+        (λ n. Appends (W.contents writer.old) (W.contents writer.new) (take n bytes.now))
+        (λ _. Keeps (W.contents writer.old) (W.contents writer.new)) }
+{
+    for _ in 0..TRIES {
+        match writer.write(bytes) {
+            Ok(n) => return Ok(n),
+            Err(error) if is_passing(&error) => yield_now(),
+            Err(_) => return Err(Failed),
+        }
+    }
+    Err(Failed)
+}
+
+/// A reader of std. Each error of it is a fault, and so is a read for which the count of the bytes given has no room. A read
+/// that a signal broke off, or that found a stream not ready, is made again while other threads run.
 #[derive(Drop)]
 pub struct ReaderSource<R> {
     reader: R,
@@ -84,17 +135,18 @@ impl<R: Read> Source for ReaderSource<R> {
         if self.given > u128::MAX - PIECE as u128 {
             return Err(fault(&mut self.faults));
         }
-        match read_piece(&mut self.reader, &mut self.buffer, buf) {
+        match read_at_last(&mut self.reader, &mut self.buffer, buf) {
             Ok(n) => {
                 self.given += n as u128;
                 Ok(n)
             }
-            Err(_) => Err(fault(&mut self.faults)),
+            Err(Failed) => Err(fault(&mut self.faults)),
         }
     }
 }
 
-/// A writer of std. Each error of it is a fault, and so is a write of 0 bytes of a piece that isn't empty.
+/// A writer of std. Each error of it is a fault, and so is a write of 0 bytes of a piece that isn't empty. A write that a
+/// signal broke off, or that found a stream not ready, is made again while other threads run.
 #[derive(Drop)]
 pub struct WriterSink<W> {
     writer: W,
@@ -124,9 +176,9 @@ impl<W: Write> Sink for WriterSink<W> {
     ghost kept = { λ _. None };
 
     fn write(&mut self, bytes: &[u8]) -> Result<usize, Failed> {
-        match self.writer.write(bytes) {
+        match write_at_last(&mut self.writer, bytes) {
             Ok(n) if n > 0 || bytes.is_empty() => Ok(n),
-            Ok(_) | Err(_) => Err(fault(&mut self.faults)),
+            Ok(_) | Err(Failed) => Err(fault(&mut self.faults)),
         }
     }
 }

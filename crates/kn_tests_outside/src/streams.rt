@@ -26,6 +26,50 @@ impl Write for Broken {
     }
 }
 
+/// A reader of one `a`, and a writer of one byte at a time. So many calls before it are broken off: by a signal, and by a stream
+/// that isn't ready, in turn.
+#[derive(Drop)]
+struct Halting {
+    calls: u64,
+}
+
+impl Halting {
+    fn halts(&mut self) -> io::Result<()> {
+        let kind = if self.calls % 2 == 0 {
+            io::ErrorKind::Interrupted
+        } else {
+            io::ErrorKind::WouldBlock
+        };
+        if self.calls == 0 {
+            return Ok(());
+        }
+        self.calls -= 1;
+        Err(io::Error::from(kind))
+    }
+}
+
+impl Read for Halting {
+    fn read(&mut self, buf: &mut [u8]) -> io::Result<usize> {
+        self.halts()?;
+        match buf.first_mut() {
+            Some(first) => *first = b'a',
+            None => return Ok(0),
+        }
+        Ok(1)
+    }
+}
+
+impl Write for Halting {
+    fn write(&mut self, buf: &[u8]) -> io::Result<usize> {
+        self.halts()?;
+        Ok(buf.len().min(1))
+    }
+
+    fn flush(&mut self) -> io::Result<()> {
+        Ok(())
+    }
+}
+
 /// A writer that takes nothing.
 #[derive(Drop)]
 struct Stuck;
@@ -49,7 +93,8 @@ fn readers<R: Print>(rt: &R) -> io::Result<()> {
     for _ in 0..2 {
         read_two(rt, "broken reader", &mut broken)?;
     }
-    Ok(())
+    let mut halting = ReaderSource::new(Halting { calls: 101 });
+    read_two(rt, "halting reader", &mut halting)
 }
 
 fn writers<R: Print + AllocGlobal>(rt: &R) -> io::Result<()> {
@@ -57,6 +102,8 @@ fn writers<R: Print + AllocGlobal>(rt: &R) -> io::Result<()> {
     put(rt, "writer", &mut taken, "abc")?;
     let mut broken = WriterSink::new(Broken);
     put(rt, "broken writer", &mut broken, "abc")?;
+    let mut halting = WriterSink::new(Halting { calls: 101 });
+    put(rt, "halting writer", &mut halting, "abc")?;
     let mut stuck = WriterSink::new(Stuck);
     case(rt, "stuck writer, nothing", &stuck.write(b""), &Ok(0))?;
     put(rt, "stuck writer", &mut stuck, "abc")
