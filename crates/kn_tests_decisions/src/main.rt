@@ -24,21 +24,45 @@ use subject::Subject;
 /// A line that opens a subject is printed as it is; a call with its answer.
 fn said(alloc: Global, subject: &mut Subject, line: &str) -> Option<String> {
     if line.starts_with(' ') {
-        let answer = subject.answer(alloc, line)?;
-        return format!(in alloc; "{line}: {answer}").ok();
+        return call(alloc, subject, line);
     }
-    *subject = Subject::open(alloc, line)?;
+    open(alloc, subject, line)?;
     String::from_str(alloc, line).ok()
 }
 
-fn main(rt: HostRuntime) -> anyhow::Result<()> {
-    let mut subject = Subject::Parts;
+fn call(alloc: Global, subject: &mut Subject, line: &str) -> Option<String> {
+    let answer = subject.answer(alloc, line)?;
+    format!(in alloc; "{line}: {answer}").ok()
+}
+
+fn open(alloc: Global, subject: &mut Subject, line: &str) -> Option<()> {
+    *subject = Subject::open(alloc, line)?;
+    Some(())
+}
+
+fn answer<R: Print + AllocGlobal>(rt: &R, subject: &mut Subject, line: &str) -> anyhow::Result<()> {
+    let Some(text) = said(rt.alloc(), subject, line) else {
+        bail!("a line is none, or memory is lacking");
+    };
+    println!(rt; "{text}")?;
+    Ok(())
+}
+
+fn answer_lines(rt: &HostRuntime, subject: &mut Subject) -> anyhow::Result<()> {
     for line in rt.lines(rt.alloc()) {
-        let Some(text) = said(rt.alloc(), &mut subject, line?.as_str()) else {
-            bail!("a line is none, or memory is lacking");
-        };
-        println!(rt; "{text}")?;
+        answer(rt, subject, line?.as_str())?;
     }
+    Ok(())
+}
+
+/// Answers the lines, from the calls that look back on nothing.
+fn rows(rt: &HostRuntime) -> anyhow::Result<()> {
+    let mut subject = Subject::Parts;
+    answer_lines(rt, &mut subject)
+}
+
+fn main(rt: HostRuntime) -> anyhow::Result<()> {
+    rows(&rt)?;
     mixes::compare(&rt)?;
     Ok(())
 }

@@ -1,4 +1,7 @@
 //! Long mixes beside the plain program. Of each is printed how often both agreed.
+ghost use Rattle.std.specs.Prelude.{◌≡◌};
+ghost use Rattle.kn_event.specs.declared.revision.Kind.TheVariants as kind;
+
 use crate::decisions::Decisions;
 use crate::delays::Delays;
 use crate::past::Past;
@@ -34,13 +37,17 @@ fn step(word: u64, seconds: u64) -> u64 {
 fn delays_agreeing(alloc: Global, seconds: u64) -> Option<u64> {
     let mut delays = Delays::new(alloc, seconds)?;
     let mut asked = Vec::new(alloc);
+    delays_as_asked(&mut delays, &mut asked, seconds)
+}
+
+fn delays_as_asked(delays: &mut Delays, asked: &mut Vec<Asked>, seconds: u64) -> Option<u64> {
     let mut second: u64 = 0;
     let mut agreed: u64 = 0;
     for k in 0..500 {
         let word = mixed(k);
         second = second.saturating_add(step(word, seconds));
         let count = word / 64 % 8;
-        let expected = count.max(plain::recent_count(seconds, second, &asked));
+        let expected = count.max(plain::recent_count(seconds, second, asked));
         if delays.take(second, count)? == expected {
             agreed = agreed.saturating_add(1);
         }
@@ -76,6 +83,10 @@ fn numbers(average: Option<Frac>) -> Option<(u128, u128)> {
 fn windows_agreeing(alloc: Global, seconds: u64) -> Option<u64> {
     let mut window = Windows::new(alloc, seconds)?;
     let mut runs = Vec::new(alloc);
+    windows_over_runs(&mut window, &mut runs, seconds)
+}
+
+fn windows_over_runs(window: &mut Windows, runs: &mut Vec<SampleRun>, seconds: u64) -> Option<u64> {
     let mut end: u64 = 0;
     let mut agreed: u64 = 0;
     for k in 0..150 {
@@ -85,7 +96,7 @@ fn windows_agreeing(alloc: Global, seconds: u64) -> Option<u64> {
         end = run.second.saturating_add(run.count);
         runs.push(run).ok()?;
         let now = end.saturating_add(word % (seconds.min(3600) + 3));
-        let expected = plain::window_average(&runs, seconds, now);
+        let expected = plain::window_average(runs, seconds, now);
         if numbers(window.average(now)?) == numbers(expected) {
             agreed = agreed.saturating_add(1);
         }
@@ -139,17 +150,28 @@ fn turns_agreeing(alloc: Global) -> Option<(u64, usize)> {
         ..Scale::of(1)
     };
     let spec = scale.spec(alloc)?;
-    let mut decisions = Decisions::new(alloc, &spec)?;
+    turns_by(alloc, &spec)
+}
+
+fn turns_by(alloc: Global, spec: &Spec) -> Option<(u64, usize)>
+    requires { spec.now.kind ≡ kind.Kpa }
+{
+    let mut decisions = Decisions::new(alloc, spec)?;
     let mut past = Past::new(alloc);
+    let agreed = turns_of_both(spec, &mut decisions, &mut past);
+    Some((agreed?, past.count()))
+}
+
+fn turns_of_both(spec: &Spec, decisions: &mut Decisions, past: &mut Past) -> Option<u64> {
     let mut seed = 7;
     let mut agreed: u64 = 0;
     for _ in 0..500 {
         seed = next(seed);
-        if turn(&spec, &mut decisions, &mut past, seed / 65_536)? {
+        if turn(spec, decisions, past, seed / 65_536)? {
             agreed = agreed.saturating_add(1);
         }
     }
-    Some((agreed, past.count()))
+    Some(agreed)
 }
 
 pub fn compare<R: Print + AllocGlobal>(rt: &R) -> io::Result<()> {

@@ -7,7 +7,7 @@ use crate::scale::Scale;
 use crate::texts::{mode_word, phase_of, text};
 use crate::words::Words;
 use kn_burst::{excess, mode};
-use kn_event::{Burst, Frac, Milli};
+use kn_event::{Burst, Counts, Frac, Milli};
 use kn_formula::counts;
 use kn_zero::bounds;
 use std::alloc::Global;
@@ -38,14 +38,18 @@ fn average(words: &mut Words) -> Option<Frac>
 
 /// Of a containerConcurrency, with so many Ready pods, by the stable and the panic average.
 fn counts_text(alloc: Global, words: &mut Words) -> Option<String> {
-    let spec = Scale::of(words.number()?).spec(alloc)?;
+    let cc = words.number()?;
     let ready = words.number()?;
     let stable = average(words)?;
     let panic = average(words)?;
     if ready > 500 {
         return None;
     }
-    let counts = counts(&spec, ready, stable, panic);
+    let spec = Scale::of(cc).spec(alloc)?;
+    shown(alloc, &counts(&spec, ready, stable, panic))
+}
+
+fn shown(alloc: Global, counts: &Counts) -> Option<String> {
     let over = if counts.over { "over" } else { "calm" };
     format!(in alloc;
         "{} {} {} {} {over}",
@@ -97,7 +101,13 @@ fn bounds_text(alloc: Global, words: &mut Words) -> Option<String> {
         initial: words.number()?,
         ..Scale::of(1)
     };
-    let spec = scale.spec(alloc)?;
     let reached = words.is("reached");
-    format!(in alloc; "{}", bounds(&spec, reached, words.number()?)).ok()
+    let count = words.number()?;
+    let bounded = bounded(alloc, &scale, reached, count)?;
+    format!(in alloc; "{bounded}").ok()
+}
+
+fn bounded(alloc: Global, scale: &Scale, reached: bool, count: u64) -> Option<u64> {
+    let spec = scale.spec(alloc)?;
+    Some(bounds(&spec, reached, count))
 }

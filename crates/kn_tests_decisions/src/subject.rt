@@ -1,10 +1,14 @@
 //! What the lines speak of.
+ghost use Rattle.std.specs.Prelude.{◌≡◌};
+ghost use Rattle.kn_event.specs.declared.revision.Kind.TheVariants as kind;
+
 use crate::decisions::Decisions;
 use crate::delays::Delays;
 use crate::scale::Scale;
 use crate::windows::Windows;
 use crate::words::Words;
 use crate::{panics, parts, zeros};
+use kn_event::Spec;
 use kn_panic::Panic;
 use kn_zero::Zero;
 use std::alloc::Global;
@@ -19,24 +23,50 @@ pub enum Subject {
     Decisions(Decisions),
 }
 
+fn panic() -> Subject {
+    Subject::Panic(Panic::new())
+}
+
+fn delay(alloc: Global, words: &mut Words) -> Option<Subject> {
+    let seconds = words.number()?;
+    Some(Subject::Delay(Delays::new(alloc, seconds)?))
+}
+
+fn window(alloc: Global, words: &mut Words) -> Option<Subject> {
+    let seconds = words.number()?;
+    Some(Subject::Window(Windows::new(alloc, seconds)?))
+}
+
+fn zero(alloc: Global, words: &mut Words) -> Option<Subject> {
+    let start = words.number()?;
+    let scale = Scale::read(words)?;
+    let spec = scale.spec(alloc)?;
+    Some(Subject::Zero(Zero::new(&spec, start)))
+}
+
+fn decisions(alloc: Global, words: &mut Words) -> Option<Subject> {
+    let scale = Scale::read(words)?;
+    let spec = scale.spec(alloc)?;
+    decisions_of(alloc, &spec)
+}
+
+fn decisions_of(alloc: Global, spec: &Spec) -> Option<Subject>
+    requires { spec.now.kind ≡ kind.Kpa }
+{
+    Some(Subject::Decisions(Decisions::new(alloc, spec)?))
+}
+
 impl Subject {
     /// The subject that a line opens; none where it is no such line, or memory is lacking.
     pub fn open(alloc: Global, line: &str) -> Option<Subject> {
         let mut words = Words::of(line);
         match words.word() {
             "parts" => Some(Subject::Parts),
-            "panic" => Some(Subject::Panic(Panic::new())),
-            "delay" => Some(Subject::Delay(Delays::new(alloc, words.number()?)?)),
-            "window" => Some(Subject::Window(Windows::new(alloc, words.number()?)?)),
-            "zero" => {
-                let start = words.number()?;
-                let spec = Scale::read(&mut words)?.spec(alloc)?;
-                Some(Subject::Zero(Zero::new(&spec, start)))
-            }
-            "decisions" => {
-                let spec = Scale::read(&mut words)?.spec(alloc)?;
-                Some(Subject::Decisions(Decisions::new(alloc, &spec)?))
-            }
+            "panic" => Some(panic()),
+            "delay" => delay(alloc, &mut words),
+            "window" => window(alloc, &mut words),
+            "zero" => zero(alloc, &mut words),
+            "decisions" => decisions(alloc, &mut words),
             _ => None,
         }
     }
