@@ -7,6 +7,16 @@ use crate::digits::{put_number, put_word};
 use itoa::Buffer;
 use kn_event::{Decision, Frac, Mode};
 
+/// A number, out of line: there are many in a row.
+#[inline(never)]
+fn put_plain(room: &mut [u8], at: usize, n: u64) -> usize
+    requires { at + 20 ≤ length room.old }
+    ensures text { take result room.new ≡ take at room.old ++ decimal n }
+    ensures end { result ≤ at + 20 }
+{
+    put_number(room, at, n)
+}
+
 /// A number of up to 128 bits.
 fn put_wide(room: &mut [u8], at: usize, n: u128) -> usize
     requires { at + 40 ≤ length room.old }
@@ -14,7 +24,7 @@ fn put_wide(room: &mut [u8], at: usize, n: u128) -> usize
     ensures end { result ≤ at + 40 }
 {
     if n < 18_446_744_073_709_551_616 {
-        return put_number(room, at, n as u64);
+        return put_plain(room, at, n as u64);
     }
     let mut digits = Buffer::new();
     put_word(room, at, digits.format(n).as_bytes())
@@ -28,12 +38,13 @@ fn put_signed(room: &mut [u8], at: usize, n: i64) -> usize
 {
     if n < 0 {
         let at = put_word(room, at, b"-");
-        return put_number(room, at, n.unsigned_abs());
+        return put_plain(room, at, n.unsigned_abs());
     }
-    put_number(room, at, n as u64)
+    put_plain(room, at, n as u64)
 }
 
 /// A word and a fraction.
+#[inline(always)]
 #[tactic(auto, using(std::proofs::Common::append_assoc), unfolding(kn_event::specs::EntryLine::labelled))]
 fn put_frac(room: &mut [u8], at: usize, word: &[u8], value: Frac) -> usize
     requires { at + length word.now + 81 ≤ length room.old }
@@ -47,6 +58,7 @@ fn put_frac(room: &mut [u8], at: usize, word: &[u8], value: Frac) -> usize
 }
 
 /// A word and a number.
+#[inline(always)]
 #[tactic(auto, using(std::proofs::Common::append_assoc), unfolding(kn_event::specs::EntryLine::labelled))]
 fn put_count(room: &mut [u8], at: usize, word: &[u8], n: u64) -> usize
     requires { at + length word.now + 20 ≤ length room.old }
@@ -54,10 +66,11 @@ fn put_count(room: &mut [u8], at: usize, word: &[u8], n: u64) -> usize
     ensures end { result ≤ at + length word.now + 20 }
 {
     let at = put_word(room, at, word);
-    put_number(room, at, n)
+    put_plain(room, at, n)
 }
 
 /// A word and whether it holds.
+#[inline(always)]
 #[tactic(auto, using(std::proofs::Common::append_assoc), unfolding(kn_event::specs::EntryLine::labelled))]
 fn put_flag(room: &mut [u8], at: usize, word: &[u8], flag: bool) -> usize
     requires { at + length word.now + 3 ≤ length room.old }
@@ -73,6 +86,7 @@ fn put_flag(room: &mut [u8], at: usize, word: &[u8], flag: bool) -> usize
 }
 
 /// A word and a mode.
+#[inline(always)]
 #[tactic(auto, using(std::proofs::Common::append_assoc), unfolding(kn_event::specs::EntryLine::labelled))]
 fn put_mode(room: &mut [u8], at: usize, word: &[u8], mode: Mode) -> usize
     requires { at + length word.now + 5 ≤ length room.old }
@@ -110,13 +124,13 @@ fn put_demand(room: &mut [u8], at: usize, d: &Decision) -> usize
 }
 
 #[tactic(auto, using(std::proofs::Common::append_assoc), unfolding(kn_event::specs::EntryLine::labelled))]
-fn put_excess(room: &mut [u8], at: usize, excess: i64) -> usize
+fn put_excess(room: &mut [u8], at: usize, d: &Decision) -> usize
     requires { at + 29 ≤ length room.old }
-    ensures text { take result room.new ≡ take at room.old ++ labelled (codes " excess=") (signed_decimal excess) }
+    ensures text { take result room.new ≡ take at room.old ++ labelled (codes " excess=") (signed_decimal d.now.excess) }
     ensures end { result ≤ at + 29 }
 {
     let at = put_word(room, at, b" excess=");
-    put_signed(room, at, excess)
+    put_signed(room, at, d.excess)
 }
 
 #[tactic(auto, using(crate::proofs::Pieces::four_pieces), unfolding(kn_event::specs::EntryLine::scale_text))]
@@ -127,7 +141,7 @@ fn put_scale(room: &mut [u8], at: usize, d: &Decision) -> usize
 {
     let at = put_count(room, at, b" undelayed=", d.undelayed);
     let at = put_count(room, at, b" delayed=", d.delayed);
-    let at = put_excess(room, at, d.excess);
+    let at = put_excess(room, at, d);
     put_count(room, at, b" bounded=", d.bounded)
 }
 
