@@ -2,6 +2,7 @@
 #![tactic(auto)]
 
 mod command;
+mod decision;
 mod digits;
 mod generate;
 mod lawful;

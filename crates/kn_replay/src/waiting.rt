@@ -8,15 +8,20 @@ ghost use Rattle.kn_trace.specs.Trace.{Trace};
 ghost use Rattle.kn_replay.specs.Tally.{CountsRow};
 ghost use Rattle.kn_replay.specs.Waiting.{Adds};
 
+use crate::decision::put_decision;
+use crate::digits::put_word;
 use crate::report::Tally;
 use crate::rows::{ROW_ROOM, put_entry};
 use crate::stamp::Stamp;
-use kn_event::{Entry, EntryLog, Line, entry_line};
+use kn_event::{Entry, EntryLog, Line, Row, entry_line};
 use kn_io::{Failed, Sink, put_all};
 use std::marker::Model;
 
 /// How much may wait.
 const ROOM: usize = 16384;
+
+/// How much room the row of a decision asks for.
+const DECISION_ROOM: usize = 512;
 
 /// Text that waits to be written, at most 16,384 bytes, and the text of a time. Contracts see the bytes that wait.
 #[derive(Drop)]
@@ -95,6 +100,23 @@ impl Waiting {
         }
     }
 
+    /// Adds the row of an entry behind what waits, where it is a decision and has room. False says that nothing was added.
+    fn add_decision(&mut self, e: &Entry) -> bool
+        ensures added { result ≡ true → self.new ≡ self.old ++ entry_text e.now }
+        ensures same { result ≡ false → self.new ≡ self.old }
+    {
+        let Row::Decided(decision) = &e.row else {
+            return false;
+        };
+        if self.len > ROOM - DECISION_ROOM {
+            return false;
+        }
+        let at = self.stamp.put(&mut self.buffer, self.len, e.time);
+        let at = put_decision(&mut self.buffer, at, decision);
+        self.len = put_word(&mut self.buffer, at, b"\n");
+        true
+    }
+
     /// Writes what waits, or on `Failed` some first of it. Nothing waits then.
     pub fn flush<O: Sink>(&mut self, out: &mut O) -> Result<(), Failed>
         ensures ok { OnOk result (Adds (O.held out.old) (O.held out.new) self.old self.new []) }
@@ -162,6 +184,9 @@ fn add_by_line<O: Sink>(
     ensures counted { CountsRow e.now.row tally.old tally.new }
 {
     tally.add(&e.row);
+    if waiting.add_decision(e) {
+        return Ok(());
+    }
     entry_line(e, line);
     waiting.add(line.bytes(), out)
 }

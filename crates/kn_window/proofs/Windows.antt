@@ -20,7 +20,7 @@ total_split f a k =
     let e : 0 + a ≡ a = omega arith in
     sum_split (load_at f) a 0 k ∙ ap (λ b. sum_by (load_at f) (range_with_len 0 a) + sum_by (load_at f) (range_with_len b k)) e
 
-total_next : (f : Samples) (s : ℕ) → total_before f (s + 1) ≡ total_before f s + load_at f s
+pub total_next : (f : Samples) (s : ℕ) → total_before f (s + 1) ≡ total_before f s + load_at f s
 total_next f s =
     let one : sum_by (load_at f) (range_with_len s 1) ≡ load_at f s = sum_alike (load_at f) (load_at f s) 1 s (λ x low high. ap (load_at f) (let e : x ≡ s = omega (arith, low, high) in e)) ∙ omega arith in
     omega (arith, total_split f s 1, one)

@@ -79,7 +79,8 @@ impl Totals {
     }
 
     /// One more second. Where there are as many as there may be, the earliest goes.
-    fn push(&mut self, load: u64)
+    #[inline(always)]
+    pub(crate) fn push(&mut self, load: u64)
         requires time { self.old.end < 2 ^ 42 }
         requires load { load ≤ 1000000000 }
         ensures items { self.new.ring.items ≡ keep_last self.old.ring.capacity (self.old.ring.items ++ self.old.total ∷ []) }

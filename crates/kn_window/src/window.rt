@@ -77,6 +77,25 @@ impl Window {
         ensures seconds { self.new.seconds ≡ self.old.seconds }
         ensures end { self.new.end ≡ second + count }
     {
+        // (one second right behind the last one is what mostly comes)
+        if count == 1 && second > 0 && second == self.totals.end() {
+            self.totals.push(load);
+            return;
+        }
+        self.record_any(second, count, load);
+    }
+
+    /// The same, whatever lies between.
+    #[inline(never)]
+    fn record_any(&mut self, second: u64, count: u64, load: u64)
+        requires second { self.old.end ≤ second }
+        requires some { 0 < count }
+        requires end { second + count ≤ 2 ^ 42 }
+        requires load { load ≤ 1000000000 }
+        ensures stands { (samples : Samples) → StandsFor self.old samples → StandsFor self.new (with_run samples (run_of second count load)) }
+        ensures seconds { self.new.seconds ≡ self.old.seconds }
+        ensures end { self.new.end ≡ second + count }
+    {
         let (stop, end, seconds) = (second + count, self.totals.end(), self.totals.seconds());
         let is_new = is_apart(end, second, seconds);
         let from = first_written(is_new, second, end, stop.saturating_sub(seconds));
