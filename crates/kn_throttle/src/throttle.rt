@@ -23,6 +23,7 @@ use kn_record::Place;
 use kn_record::append::append_laws;
 use kn_seats::Seats;
 use kn_table::Table;
+use settling::is_idle;
 use std::alloc::Global;
 use std::marker::Model;
 
@@ -146,6 +147,10 @@ impl Throttle {
         ensures first { (c : Trace) → StandsFor self.now.admission c → result ≡ first_of (lost_with c p) }
     {
         append_laws();
+        // (the table is looked through for those alone that have one)
+        if is_idle(self.seats.running(p), self.seats.queued(p)) {
+            return None;
+        }
         self.table.first_at(p)
     }
 }
