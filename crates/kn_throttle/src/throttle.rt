@@ -100,6 +100,7 @@ impl Throttle {
     }
 
     /// Where a request stands: unknown where it has not arrived, ended where it has ended or was refused.
+    #[inline(always)]
     pub fn stand(&self, r: u64) -> Stand
         ensures value { result ≡ stand_in self.now.admission r }
         ensures stand { (c : Trace) → StandsFor self.now.admission c → result ≡ stand_of c r }
@@ -129,6 +130,7 @@ impl Throttle {
     }
 
     /// Whether a request was assigned to a pod, and has not ended.
+    #[inline(always)]
     pub fn proxied(&self, r: u64) -> bool
         ensures value { result ≡ contains r (placed_in is_assigned_place self.now.admission.live) }
         ensures proxied { (c : Trace) → StandsFor self.now.admission c → result ≡ proxied c r }
@@ -155,6 +157,7 @@ impl Throttle {
     }
 }
 
+#[inline(always)]
 fn stand_of_place(place: Place) -> Stand
     ensures { result ≡ stand_of_place place }
 {
@@ -165,6 +168,7 @@ fn stand_of_place(place: Place) -> Stand
     }
 }
 
+#[inline(always)]
 fn is_assigned(place: Place) -> bool
     ensures { result ≡ is_assigned_place place }
 {
