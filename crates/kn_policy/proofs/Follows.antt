@@ -13,9 +13,9 @@ use Rattle.kn_trace.specs.declared.candidate.Cand.{Cand}
 use Rattle.kn_trace.specs.Rows.{assigned_by}
 use Rattle.kn_trace.specs.Trace.{Trace, entry, each_row, ready_pods, limit_of, running_at}
 use Rattle.kn_trace.specs.Choice.{generator_at, chosen_pod, candidates, place_by, place_from, round_robin_place, assignment_count, choice}
-use Rattle.kn_policy.specs.Policy.{State, policy_at, place_past, picked}
+use Rattle.kn_policy.specs.Policy.{State, policy_at, place_past, picked, words_in}
 use Rattle.kn_policy.specs.Follows.{policy_of}
-use Rattle.kn_policy.proofs.Words.{two_drawn_on}
+use Rattle.kn_policy.proofs.Words.{drawn_on, words_two}
 
 -- a new policy follows the empty trace
 pub new_follows : (s : Spec) → policy_at s.cc s.slots.seed 0 0 ≡ policy_of s []
@@ -60,7 +60,7 @@ pick_follows s c time r p =
     let e : Entry = entry time (row.Assign r p) in
     let place : place_past p (candidates c) ≡ round_robin_place (c ++ e ∷ []) = ap (λ pods. position_or_len (λ q. q == p) pods + 1) (candidate_pods c) ∙ sym (place_on c e) in
     let count : assignment_count (c ++ e ∷ []) ≡ assignment_count c + 1 = assigned_on c e in
-    same_state s.cc _ _ _ _ place (two_drawn_on s.slots.seed (assignment_count c) ∙ ap (λ picks. generator_at s.slots.seed (2 * picks)) (sym count))
+    same_state s.cc _ _ _ _ place (drawn_on s.cc s.slots.seed (assignment_count c) ∙ ap (λ picks. generator_at s.slots.seed (words_in s.cc picks)) (sym count))
 
 other_place : (c : Trace) (x : Row) (place : ℕ) → assigned_by x ≡ None → place_by c x place ≡ place
 other_place c (row.Assign r p) place other = absurd (cc)
@@ -79,9 +79,10 @@ other_follows s c e other =
 
 -- what a pick answers over the candidates is the choice
 pub choice_follows : (s : Spec) (c : Trace) (policy : State) (answer : Option ℕ) → policy ≡ policy_of s c
-    → ((seed picks : ℕ) → policy.generator ≡ generator_at seed (2 * picks) → answer ≡ chosen_pod policy.cc seed policy.place picks (candidates c))
+    → ((seed picks : ℕ) → (policy.cc ≡ 0 → policy.generator ≡ generator_at seed (2 * picks)) → answer ≡ chosen_pod policy.cc seed policy.place picks (candidates c))
     → answer ≡ choice s c
 unfolding policy_of policy_at choice
 choice_follows s c policy answer follows chosen =
-    chosen s.slots.seed (assignment_count c) (ap (λ (q : State). q.generator) follows)
+    chosen s.slots.seed (assignment_count c) (λ random. ap (λ (q : State). q.generator) follows
+    ∙ ap (generator_at s.slots.seed) (words_two s.cc (assignment_count c) (ap (λ (q : State). q.cc) (sym follows) ∙ random)))
     ∙ ap (λ (q : State). chosen_pod q.cc s.slots.seed q.place (assignment_count c) (candidates c)) follows

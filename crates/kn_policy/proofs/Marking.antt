@@ -1,9 +1,9 @@
 -- The places that the policies take, read off marks.
-use Rattle.std.proofs.Common.{◌≡◌, ◌∙◌, sym, ap, ◌+◌, ◌*◌, ◌-◌, ◌%◌, ◌<◌, ◌≤◌, ℕ, zero, suc, Bool, true, false, List, [], ◌∷◌, ◌++◌, length, take, drop, get_or, Option, None, Some, cond, refl, arith, length-drop, lt-ltb}
+use Rattle.std.proofs.Common.{◌≡◌, ◌∙◌, sym, ap, ◌+◌, ◌*◌, ◌-◌, ◌%◌, ◌<◌, ◌≤◌, ℕ, zero, suc, Bool, true, false, List, [], ◌∷◌, ◌++◌, length, take, drop, get_or, Option, None, Some, cond, not, refl, arith, length-drop, lt-ltb}
 use Rattle.std.specs.Prelude.{◌==◌, nat_lt, slice_index, map}
 use Rattle.std.specs.List.{filter, find, list_any, count_by, position_or_len}
 use Rattle.std.specs.Option.{option_map, option_or, is_some}
-use Rattle.std.proofs.lemmas.List.{get_or_default, get_or-drop, get_or-map, get_or-take, length-map, length-take, take_all}
+use Rattle.std.proofs.lemmas.List.{get_or_default, get_or-drop, get_or-map, length-map, take-append-drop, take_all}
 use Rattle.std.proofs.lemmas.List.Folds.{find-append, find_at}
 use Rattle.std.proofs.lemmas.List.Sums.{position_or_len_is}
 use Rattle.std.proofs.lemmas.Bool.{eq-eqb, le-ltb}
@@ -42,18 +42,27 @@ free_where q m is one = by (has_seat q) refl
 abbrev pub nobody : Cand
 nobody = record { pod = 0; limit = 0; running = 0 }
 
+pub marked_none : (cands : List Cand) → IsFirstByte (is_byte 1) (marks_of cands) None → position_or_len has_seat cands ≡ length cands
+marked_none cands nowhere =
+    position_or_len_is has_seat cands (length cands) nobody (omega arith)
+    (λ k lt. full_where (get_or cands k nobody) _ (mark-at cands k nobody lt) (nowhere k (omega arith) (omega (arith, length-marks cands, lt)))) (λ past. absurd (omega (arith, past)))
+
+pub marked_some : (cands : List Cand) (i : ℕ) → IsFirstByte (is_byte 1) (marks_of cands) (Some i) → (i < length cands) × (position_or_len has_seat cands ≡ i)
+marked_some cands i first =
+    let inside : i < length cands = omega (arith, length-marks cands, first.0.high) in (
+      inside,
+      position_or_len_is has_seat cands i nobody (omega (arith, inside))
+          (λ k lt. full_where (get_or cands k nobody) _ (mark-at cands k nobody (omega (arith, lt, inside))) (first.0.before k (omega arith) lt))
+          (λ within. free_where (get_or cands i nobody) _ (mark-at cands i nobody within) first.1),
+    )
+
 pub first_marked : (cands : List Cand) (r : Option ℕ) → IsFirstByte (is_byte 1) (marks_of cands) r → IsPlaceOf (first_available cands) cands r
 unfolding first_available
-first_marked cands None nowhere =
-    let none : position_or_len has_seat cands ≡ length cands = position_or_len_is has_seat cands (length cands) nobody (omega arith)
-    (λ k lt. full_where (get_or cands k nobody) _ (mark-at cands k nobody lt) (nowhere k (omega arith) (omega (arith, length-marks cands, lt)))) (λ past. absurd (omega (arith, past))) in
-    rw (find_at has_seat cands, none, slice_get_past cands (length cands) (omega arith)) refl
+first_marked cands None nowhere = rw (find_at has_seat cands, marked_none cands nowhere, slice_get_past cands (length cands) (omega arith)) refl
 first_marked cands (Some i) first =
-    let inside : i < length cands = omega (arith, length-marks cands, first.0.high) in
-    let here : position_or_len has_seat cands ≡ i = position_or_len_is has_seat cands i nobody (omega (arith, inside))
-    (λ k lt. full_where (get_or cands k nobody) _ (mark-at cands k nobody (omega (arith, lt, inside))) (first.0.before k (omega arith) lt))
-    (λ within. free_where (get_or cands i nobody) _ (mark-at cands i nobody within) first.1) in
-    (inside, λ d. rw (find_at has_seat cands, here, slice_get-get_or cands i d inside) refl)
+    let here = marked_some cands i first in
+    let inside = here.0 in
+    (inside, λ d. rw (find_at has_seat cands, here.1, slice_get-get_or cands i d inside) refl)
 
 -- ---- once round
 
@@ -83,13 +92,17 @@ round_here place cands i h first =
     let inside : place + i < length cands = omega (arith, length-drop place cands, first.0) in
     (inside, λ d. rw (round_parts place cands h, first.1 d) (ap Some (ap (λ (q : Cand). q.pod) (get_or-drop place cands i d))))
 
--- or else one before it
-pub round_before : (place : ℕ) (cands : List Cand) (r : Option ℕ) → place < length cands → first_available (drop place cands) ≡ None
-    → IsPlaceOf (first_available (take place cands)) (take place cands) r → IsPlaceOf (round_robin place cands) cands r
-round_before place cands None h none first = rw (round_parts place cands h, none) first
-round_before place cands (Some i) h none first =
-    let low : i < place = omega (arith, length-take place cands, first.0) in
-    (omega (arith, low, h), λ d. rw (round_parts place cands h, none) (first.1 d ∙ ap Some (ap (λ (q : Cand). q.pod) (get_or-take place cands i d low))))
+or_none : {X : Type 0} (x : Option X) → option_or x None ≡ x
+or_none None = refl
+or_none (Some x) = refl
+
+-- or else the first of all
+pub round_wrapped : (place : ℕ) (cands : List Cand) → place < length cands → first_available (drop place cands) ≡ None → round_robin place cands ≡ first_available cands
+round_wrapped place cands h none =
+    let front : first_available cands ≡ first_available (take place cands) =
+    ap first_available (sym (take-append-drop place cands)) ∙ first_of_both (take place cands) (drop place cands)
+    ∙ ap (option_or (first_available (take place cands))) none ∙ or_none (first_available (take place cands)) in
+    rw (round_parts place cands h, none) (sym front)
 
 pub drop-marks : (n : ℕ) (cands : List Cand) → drop n (marks_of cands) ≡ marks_of (drop n cands)
 drop-marks zero cands = refl
@@ -162,6 +175,44 @@ counted cands = by (count_by has_seat cands) refl (list_any has_seat cands) refl
     by zero e b f = sym f ∙ none_free cands e
     by (suc n) e true f = sym (lt-ltb 0 (suc n) (omega arith))
     by (suc n) e false f = absurd (let no : suc n ≡ 0 = sym e ∙ none_counted cands f in omega (arith, no))
+
+-- ---- the first with a free seat
+
+pub position_most : {X : Type 0} (p : X → Bool) (xs : List X) → position_or_len p xs ≤ length xs
+position_most p [] = omega arith
+position_most p (x ∷ xs) = by (p x) (position_most p xs)
+  where
+    by : (b : Bool) → position_or_len p xs ≤ length xs → cond (not b) (1 + position_or_len p xs) 0 ≤ suc (length xs)
+    by true rest = omega arith
+    by false rest = omega arith
+
+-- past those that fail the first stands as far behind
+pub position-drop : {X : Type 0} (p : X → Bool) (xs : List X) (n : ℕ) → n ≤ position_or_len p xs → position_or_len p xs ≡ n + position_or_len p (drop n xs)
+position-drop p xs zero h = omega arith
+position-drop p [] (suc n) h = absurd (omega arith)
+position-drop p (x ∷ xs) (suc n) h = by (p x) h (position-drop p xs n)
+  where
+    by : (b : Bool) → suc n ≤ cond (not b) (1 + position_or_len p xs) 0 → (n ≤ position_or_len p xs → position_or_len p xs ≡ n + position_or_len p (drop n xs))
+        → cond (not b) (1 + position_or_len p xs) 0 ≡ suc n + position_or_len p (drop n xs)
+    by true h rest = absurd (omega arith)
+    by false h rest = let same = rest (omega arith) in omega (arith, same)
+
+pub any_free : (cands : List Cand) → 0 < count_by has_seat cands → true ≡ list_any has_seat cands
+any_free cands some = sym (counted cands ∙ lt-ltb 0 (count_by has_seat cands) some)
+
+pub first_inside : (cands : List Cand) → 0 < count_by has_seat cands → position_or_len has_seat cands < length cands
+first_inside [] some = absurd (omega arith)
+first_inside (q ∷ cands) some = by (has_seat q) refl (first_inside cands)
+  where
+    by : (b : Bool) → has_seat q ≡ b → (0 < count_by has_seat cands → position_or_len has_seat cands < length cands) → position_or_len has_seat (q ∷ cands) < suc (length cands)
+    by true e rest = rw e (omega arith)
+    by false e rest = let less = rest (rw (count-first q cands, e) at some) in rw e (omega (arith, less))
+
+pub first_placed : (cands : List Cand) (i : ℕ) → i ≡ position_or_len has_seat cands → 0 < count_by has_seat cands → IsPlaceOf (first_available cands) cands (Some i)
+unfolding first_available
+first_placed cands i is some =
+    let inside : i < length cands = rw is (first_inside cands some) in
+    (inside, λ d. rw (find_at has_seat cands, ← is, slice_get-get_or cands i d inside) refl)
 
 -- ---- which policy it is
 

@@ -8,4 +8,5 @@ mod policy;
 
 pub use kn_trace::Cand;
 pub use laws::choice_laws;
+pub use marks::first_free;
 pub use policy::Policy;

@@ -4,8 +4,9 @@ use Rattle.std.specs.Prelude.{◌||◌, not, Option}
 use Rattle.std.specs.List.{filter}
 use Rattle.std.proofs.lemmas.List.Elements.{filter_map-append}
 use Rattle.std.proofs.lemmas.List.{take_more}
-use Rattle.std.proofs.Math.Logic.{∥∥₁_map}
+use Rattle.std.proofs.Math.Logic.{∥∥₁_elim, ∥∥₁_map}
 use Rattle.std.proofs.Math.Seq.{drop-cons}
+use denote.Struct.Props.{props}
 use Rattle.kn_event.specs.declared.entry.Entry.{Entry}
 use Rattle.kn_event.specs.declared.entry.Row.{Row}
 use Rattle.kn_event.specs.declared.entry.Row.TheVariants as row
@@ -80,6 +81,21 @@ first_next s x c e es next =
       proper = next.proper.0;
       told = record { stands = λ r is. absurd (none_some _ r parts.1 is); handed = λ r is. absurd (none_some _ r parts.1 is) };
     }
+
+-- such a row is one of three kinds
+pub settles_only : (x : Row) → settles x ≡ true → ((r : ℕ) → x ≡ row.Run r → ⊥) → ((r p : ℕ) → x ≡ row.Assign r p → ⊥) → ((p : ℕ) → x ≡ row.Remove p → ⊥) → ⊥
+settles_only (row.Run r) h ran gave gone = ran r refl
+settles_only (row.Assign r p) h ran gave gone = gave r p refl
+settles_only (row.Remove p) h ran gave gone = gone p refl
+settles_only _ h ran gave gone = cc
+
+bool_prop : (a b : Bool) → IsProp (a ≡ b)
+bool_prop a b = hlevel props
+
+pub first_settles : (x : ScalerState) (e : Entry) (es : List Entry) → AreNextOfSome x (e ∷ es) → settles e.row ≡ true
+first_settles x e es some =
+    ∥∥₁_elim some (bool_prop (settles e.row) true)
+    (λ (f : (s : Spec) × (c : Trace) × AreNextRows x (e ∷ es) s c × (length (live_pods c) ≤ 20500)). f.2.kind.0)
 
 -- what the call says of the row
 abbrev pub Takes : ScalerState → ScalerState → Row → Type 0

@@ -1,8 +1,9 @@
-ghost use Rattle.std.specs.Prelude.{◌≡◌, ℕ, ◌^◌, ◌+◌, ◌≤◌, ◌++◌, Option, None, Some, [], ◌∷◌, false, not, option_map, IfOk, IfSome};
+ghost use Rattle.std.specs.Prelude.{◌≡◌, ℕ, ◌^◌, ◌+◌, ◌≤◌, ◌++◌, Option, None, Some, [], ◌∷◌, true, false, not, option_map, IfOk, IfSome};
 ghost use Rattle.std.specs.Bool.{then_some};
 ghost use Rattle.kn_event.specs.declared.entry.Phase.TheVariants as phase;
 ghost use Rattle.kn_event.specs.declared.entry.Row.{Row as RowValue};
 ghost use Rattle.kn_event.specs.declared.entry.Row.TheVariants as row;
+ghost use Rattle.kn_event.specs.declared.event.Stand.TheVariants as stand;
 ghost use Rattle.kn_event.specs.declared.revision.Kind.TheVariants as kind;
 ghost use Rattle.kn_event.specs.declared.revision.Spec.{Spec as SpecValue};
 ghost use Rattle.kn_scaling.specs.Decide.{Past};
@@ -16,7 +17,7 @@ ghost use Rattle.kn_trace.specs.Trace.{Trace, entry};
 ghost use Rattle.kn_record.specs.Made.{IsMade};
 ghost use Rattle.kn_changes.specs.Changes.{change_by};
 ghost use Rattle.kn_places.specs.Pods.{AreKeptOf};
-ghost use Rattle.kn_scaler.specs.Rows.{IsBeside, ready_rows, ruled_by, ruled_from, ruling_rows, says_scale, tick_rulings};
+ghost use Rattle.kn_scaler.specs.Rows.{IsBeside, ready_rows, ruled_by, ruled_from, ruling_rows, says_scale, settles, tick_rulings};
 ghost use Rattle.kn_scaler.specs.Stands.{AreNextOfSome, AreNextRows, IsNextOfSome, IsNextRow, StandsFor, StandsForSome, after_row, after_rows, changed_if};
 
 use crate::facts::trace_facts;
@@ -152,13 +153,31 @@ impl Scaler {
         fact_laws();
         order_laws();
         for e in added {
-            self.row(e.row, Stand::Held, false);
+            self.settled(e.row);
+        }
+    }
+
+    /// A row of a settling. It is handed on with its kind at hand, so that no other is asked for.
+    #[inline(always)]
+    fn settled(&mut self, added: Row)
+        requires kind { settles added ≡ true }
+        requires next { IsNextOfSome self.old added stand.Held false }
+        ensures stands { (s : SpecValue) (c : Trace) → IsNextRow self.old added stand.Held false s c → StandsFor s self.new (c ++ entry self.old.stats.time added ∷ []) }
+        ensures stats { self.new.stats ≡ after_row added stand.Held false self.old.stats }
+        ensures time { self.new.stats.time ≡ self.old.stats.time }
+        ensures decider { self.new.decider ≡ self.old.decider }
+    {
+        match added {
+            Row::Run(r) => self.row(Row::Run(r), Stand::Held, false),
+            Row::Assign(r, p) => self.row(Row::Assign(r, p), Stand::Held, false),
+            Row::Remove(p) => self.row(Row::Remove(p), Stand::Held, false),
+            _ => unreachable!(),
         }
     }
 
     /// A row that may change live requests, and with which no pod goes.
-    // (not inlined: a whole step would else grow too large to be inlined itself)
-    #[inline(never)]
+    // (inlined: where it is called the change is known)
+    #[inline(always)]
     fn requests_change(&mut self, change: Option<Change>)
         requires { IfSome change (CanChange self.old.stats) }
         ensures stands { (s : SpecValue) (c : Trace) (x : RowValue) → change_by c x ≡ change → gone_by x ≡ None → IsBeside c (entry self.old.stats.time x)

@@ -146,6 +146,7 @@ impl Table {
     }
 
     /// The live request of this number.
+    #[inline(always)]
     pub fn get(&self, r: u64) -> Option<Request>
         ensures found { result ≡ find (λ (q : Request). q.number == r) self.now }
         ensures number { IfSome result (λ q. q.number ≡ r) }

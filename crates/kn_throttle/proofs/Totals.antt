@@ -1,12 +1,14 @@
 -- What is kept beside the candidates: their marks, how many have a free seat, the sum of their limits, and how many have none.
-use Rattle.std.proofs.Common.{◌≡◌, ℕ, suc, zero, ◌<◌, ◌≤◌, ◌+◌, ◌-◌, ◌*◌, ◌^◌, Bool, true, false, cond, List, [], ◌∷◌, length, take, drop, get_or, set, map, min, refl, sym, ap, ◌∙◌, arith}
+use Rattle.std.proofs.Common.{◌≡◌, ℕ, suc, zero, ◌<◌, ◌≤◌, ◌+◌, ◌-◌, ◌*◌, ◌^◌, Bool, true, false, cond, not, List, [], ◌∷◌, ◌++◌, length, take, drop, get_or, set, map, min, refl, sym, ap, ◌∙◌, arith}
 use Rattle.std.specs.Prelude.{◌==◌}
-use Rattle.std.specs.List.{All, insert, remove, sum_by, take-map, drop-map}
-use Rattle.std.proofs.lemmas.List.{get_or-map, get_or_default, length-map, map-append}
+use Rattle.std.specs.List.{All, insert, position_or_len, remove, sum_by, take-map, drop-map}
+use Rattle.std.proofs.lemmas.List.{get_or-map, get_or_default, length-map, length-set, map-append, take-set}
+use Rattle.std.proofs.lemmas.List.Edits.{length-insert, length-remove}
 use Rattle.std.proofs.lemmas.List.Sums.{sum_by-cons, sum_by-insert, sum_by-remove, sum_by-set}
 use Rattle.std.proofs.lemmas.List.Elements.{All-append, All-cons, All-drop, All-get_or, All-head, All-set, All-tail, All-take}
 use Rattle.kn_trace.specs.declared.candidate.Cand.{Cand}
 use Rattle.kn_trace.specs.Capacity.{seats_of}
+use Rattle.kn_trace.specs.Choice.{has_seat}
 use Rattle.kn_policy.specs.Marks.{mark_of}
 use Rattle.kn_throttle.specs.Candidates.{AreCounted, capacity_of, limits_in, unlimited_in, unlimited_of}
 
@@ -92,6 +94,51 @@ pub mark-at : (k : List Cand) (marks : List ℕ) (free limits none i m : ℕ) (d
 mark-at k marks free limits none i m d h inside here =
     let marked : i < length marks = rw (h.marked, length-map k mark_of) inside in
     here ∙ get_or_default marks i m 0 marked ∙ ap (λ (ms : List ℕ). get_or ms i 0) h.marked ∙ get_or-map mark_of k i d 0 inside
+
+-- ---- the first with a free seat
+
+-- where two lists agree up to a place, the first of the one is no nearer than that of the other, or that place
+module _ {X : Type 0} (p : X → Bool) where
+  first-near : (xs ys : List X) (i n : ℕ) → n ≤ position_or_len p xs → i ≤ length ys → take i ys ≡ take i xs → min n i ≤ position_or_len p ys
+  first-near xs ys zero n h g e = omega arith
+  first-near xs [] (suc i) n h g e = absurd (omega arith)
+  first-near [] (y ∷ ys) (suc i) n h g e = absurd (cc)
+  first-near (x ∷ xs) (y ∷ ys) (suc i) n h g e =
+      let same : y ≡ x = cc in
+      let rest : take i ys ≡ take i xs = cc in
+      by (p x) refl h (ap p same) (λ m k. first-near xs ys i m k (omega arith) rest)
+    where
+      by : (b : Bool) → p x ≡ b → n ≤ position_or_len p (x ∷ xs) → p y ≡ p x → ((m : ℕ) → m ≤ position_or_len p xs → min m i ≤ position_or_len p ys) → min n (suc i) ≤ position_or_len p (y ∷ ys)
+      by true f h s rest = let none : n ≤ 0 = rw f at h in omega (arith, none)
+      by false f h s rest =
+          let most : n ≤ 1 + position_or_len p xs = rw f at h in
+          let less = rest (n - 1) (omega (arith, most)) in
+          rw (s, f) (omega (arith, less))
+
+take-front : (xs zs : List Cand) (i : ℕ) → i ≤ length xs → take i (take i xs ++ zs) ≡ take i xs
+take-front xs zs zero h = refl
+take-front [] zs (suc i) h = absurd (omega arith)
+take-front (x ∷ xs) zs (suc i) h = ap (λ (l : List Cand). x ∷ l) (take-front xs zs i (omega arith))
+
+pub low-set : (k : List Cand) (n i : ℕ) (y : Cand) → n ≤ position_or_len has_seat k → i < length k → min n i ≤ position_or_len has_seat (set k i y)
+low-set k n i y h inside = first-near has_seat k (set k i y) i n h (omega (arith, length-set k i y)) (take-set k i y)
+
+pub low-insert : (k : List Cand) (n i : ℕ) (y : Cand) → n ≤ position_or_len has_seat k → i ≤ length k → min n i ≤ position_or_len has_seat (insert k i y)
+low-insert k n i y h inside = first-near has_seat k (insert k i y) i n h (omega (arith, length-insert k i y inside)) (take-front k (y ∷ drop i k) i inside)
+
+pub low-remove : (k : List Cand) (n i : ℕ) → n ≤ position_or_len has_seat k → i < length k → min n i ≤ position_or_len has_seat (remove k i)
+low-remove k n i h inside = first-near has_seat k (remove k i) i n h (omega (arith, length-remove k i inside)) (take-front k (drop (suc i) k) i (omega arith))
+
+pub no_cand : Cand
+no_cand = record { pod = 0; limit = 0; running = 0 }
+
+-- a marked one has a free seat
+pub seat_marked : (q : Cand) → mark_of q ≡ 1 → has_seat q ≡ true
+seat_marked q one = by (has_seat q) refl
+  where
+    by : (b : Bool) → has_seat q ≡ b → has_seat q ≡ true
+    by true e = e
+    by false e = absurd (let no : 0 ≡ 1 = rw e at one in omega (arith, no))
 
 -- ---- limits
 

@@ -1,7 +1,7 @@
 -- What settling finds next, and the rows that it makes of it.
-use Rattle.std.proofs.Common.{◌≡◌, ℕ, zero, suc, ◌+◌, ◌<◌, ◌≤◌, Bool, true, false, not, cond, ◌&&◌, ◌||◌, ◌⊎◌, inl, inr, List, [], ◌∷◌, ◌++◌, length, get_or, map, drop, nat_lt, ◌*◌, refl, sym, ap, ◌∙◌, arith, append_assoc, add-one, drop-cons}
-use Rattle.std.specs.Prelude.{Option, None, Some, ◌==◌, if◌then◌else◌}
-use Rattle.std.specs.List.{All, filter, list_any, position_or_len}
+use Rattle.std.proofs.Common.{◌≡◌, ℕ, zero, suc, ◌+◌, ◌<◌, ◌≤◌, Bool, true, false, not, cond, ◌&&◌, ◌||◌, ◌⊎◌, inl, inr, List, [], ◌∷◌, ◌++◌, length, get_or, map, drop, nat_lt, ◌*◌, refl, sym, ap, subst, ◌∙◌, arith, append_assoc, add-one, drop-cons}
+use Rattle.std.specs.Prelude.{Option, None, Some, IfSome, ◌==◌, if◌then◌else◌}
+use Rattle.std.specs.List.{All, HoldsAt, filter, list_any, position_or_len}
 use Rattle.std.proofs.lemmas.Bool.Decides.{nat_tests}
 use Rattle.std.proofs.lemmas.Bool.{eqb-true, eq-eqb}
 use Rattle.std.proofs.lemmas.List.Elements.{All-cons, All-head, All-nil, All-tail}
@@ -18,8 +18,9 @@ use Rattle.kn_trace.specs.Settling.{promotions}
 use Rattle.kn_breaker.specs.Breaker as breaker
 use Rattle.kn_seats.specs.Seats as seats
 use Rattle.kn_seats.specs.Pods.{has_free_seat, pod_at}
+use Rattle.kn_policy.specs.Marks.{IsPlaceOf}
 use Rattle.kn_policy.specs.Policy as policy
-use Rattle.kn_policy.specs.Policy.{place_past, policy_at}
+use Rattle.kn_policy.specs.Policy.{place_past, policy_at, words_in}
 use Rattle.kn_record.specs.declared.admission.Place.TheVariants as place
 use Rattle.kn_record.specs.declared.admission.Request.{Request}
 use Rattle.kn_record.specs.declared.admission.Pod.{Pod}
@@ -39,6 +40,7 @@ use Rattle.kn_throttle.proofs.Same.{at-parts, eq-sym, length-placed, through-par
 use Rattle.kn_throttle.proofs.Arriving.{cands-pods}
 use Rattle.kn_throttle.proofs.Parts.{pod_of}
 use Rattle.kn_throttle.proofs.Living.{but}
+use Rattle.kn_throttle.proofs.Totals.{no_cand}
 use Rattle.kn_throttle.proofs.Dispatching.{FoundFirst, found_where, less_begun}
 
 pub both_parts : (x y : Bool) → (x && y) ≡ true → (x ≡ true) × (y ≡ true)
@@ -215,6 +217,12 @@ empty_at live all p h =
     let both = both_parts (is_draining_now h.pod.readiness) (is_empty (placed_in (is_at h.pod.number) live)) h.passes in
     nothing_at (placed_in (is_at p) live) (sym (ap (λ (m : ℕ). is_empty (placed_in (is_at m) live)) h.number) ∙ both.1)
 
+-- with nobody there, no request is the first
+pub none_at : (s : Spec) (a : Admission) (b : breaker.State) (t : seats.State) (k : List Cand) (p : policy.State) (run leave : Touched) (n : ℕ) → IsKept s a b t k p run leave → contains n (pod_numbers a.pods) ≡ true
+    → ((pod_at n t.pods).running == 0 && length (pod_at n t.pods).queued == 0) ≡ true → None ≡ first_of (placed_in (is_at n) a.live)
+none_at s a b t k p run leave n h there idle =
+    sym (ap (λ (xs : List ℕ). first_of xs) (nothing_at (placed_in (is_at n) a.live) (sym (nobody_there _ _ (placed_in (is_at n) a.live) (idle-seat s a b t k p run leave n h there)) ∙ idle)))
+
 -- where no pod has anything to do, nothing need be touched
 pub kept_ran : (s : Spec) (a : Admission) (b : breaker.State) (t : seats.State) (k : List Cand) (p : policy.State) (run leave : Touched) → IsKept s a b t k p run leave → first_of (pods_where (can_run a.live) a.pods) ≡ None → IsKept s a b t k p Nowhere leave
 kept_ran s a b t k p run leave h f = record { sound = h.sound; breaker = h.breaker; seats = h.seats; placed = h.placed; candidates = h.candidates; policy = h.policy; runs = covers_nowhere (can_run a.live) a.pods f; leaves = h.leaves }
@@ -330,12 +338,28 @@ none_room s a b t k p run leave h full =
     let test : nat_lt (length (placed_in is_assigned_place a.live)) (capacity_in s.slots.max a.pods) ≡ false = grind (arith, nat_tests) in
     rw test refl
 
-pub chosen_by : (s : Spec) (a : Admission) (b : breaker.State) (t : seats.State) (k : List Cand) (p : policy.State) (run leave : Touched) (n : ℕ) (l : List Cand) (o : Option ℕ) → IsKept s a b t k p run leave → l ≡ k → o ≡ Some n
-    → ((seed picks : ℕ) → p.generator ≡ generator_at seed (2 * picks) → o ≡ chosen_pod p.cc seed p.place picks l) → chosen_pod s.cc s.slots.seed a.robin a.assignments k ≡ Some n
+chosen_by : (s : Spec) (a : Admission) (b : breaker.State) (t : seats.State) (k : List Cand) (p : policy.State) (run leave : Touched) (n : ℕ) (l : List Cand) → IsKept s a b t k p run leave → l ≡ k
+    → ((seed picks : ℕ) → (p.cc ≡ 0 → p.generator ≡ generator_at seed (2 * picks)) → chosen_pod p.cc seed p.place picks l ≡ Some n) → chosen_pod s.cc s.slots.seed a.robin a.assignments k ≡ Some n
 unfolding policy_at
-chosen_by s a b t k p run leave n l o h e f chosen =
-    let made = chosen s.slots.seed a.assignments (ap (λ (x : policy.State). x.generator) h.policy) in
-    sym (ap (λ (x : policy.State). chosen_pod x.cc s.slots.seed x.place a.assignments k) h.policy) ∙ sym (rw e at made) ∙ f
+chosen_by s a b t k p run leave n l h e chosen =
+    let made = chosen s.slots.seed a.assignments (λ random. ap (λ (x : policy.State). x.generator) h.policy ∙ ap (generator_at s.slots.seed) (words (ap (λ (x : policy.State). x.cc) (sym h.policy) ∙ random))) in
+    sym (ap (λ (x : policy.State). chosen_pod x.cc s.slots.seed x.place a.assignments k) h.policy) ∙ rw e at made
+  where
+    words : s.cc ≡ 0 → words_in s.cc a.assignments ≡ 2 * a.assignments
+    words random = rw random refl
+
+-- the pod at the place that is answered is the chosen one, and the policy picked it
+pub chosen_at : (s : Spec) (a : Admission) (b : breaker.State) (t : seats.State) (k : List Cand) (p : policy.State) (run leave : Touched) (n i : ℕ) (l : List Cand) (o : Option ℕ) → IsKept s a b t k p run leave → l ≡ k → o ≡ Some i
+    → ((seed picks : ℕ) → (p.cc ≡ 0 → p.generator ≡ generator_at seed (2 * picks)) → IsPlaceOf (chosen_pod p.cc seed p.place picks l) l o) → HoldsAt (λ (q : Cand). q.pod ≡ n) k i → chosen_pod s.cc s.slots.seed a.robin a.assignments k ≡ Some n
+chosen_at s a b t k p run leave n i l o h e f chosen pod =
+    chosen_by s a b t k p run leave n l h e (λ seed picks at.
+    let place = subst (λ (z : Option ℕ). IsPlaceOf (chosen_pod p.cc seed p.place picks l) l z) f (chosen seed picks at) in
+    place.1 no_cand ∙ ap (λ (xs : List Cand). Some (get_or xs i no_cand).pod) e ∙ ap (λ (m : ℕ). Some m) (pod no_cand))
+
+pub picked_at : (p x : policy.State) (k l : List Cand) (o : Option ℕ) (n i : ℕ) → l ≡ k → o ≡ Some i → IfSome o (HoldsAt (λ (q : Cand). x ≡ policy.picked q.pod l p) l) → HoldsAt (λ (q : Cand). q.pod ≡ n) k i → x ≡ policy.picked n l p
+picked_at p x k l o n i e f made pod =
+    let there = subst (λ (z : Option ℕ). IfSome z (HoldsAt (λ (q : Cand). x ≡ policy.picked q.pod l p) l)) f made in
+    there no_cand ∙ ap (λ (m : ℕ). policy.picked m l p) (ap (λ (xs : List Cand). (get_or xs i no_cand).pod) e ∙ pod no_cand)
 
 pub next_some : (s : Spec) (a : Admission) (b : breaker.State) (t : seats.State) (k : List Cand) (p : policy.State) (run leave : Touched) (n : ℕ) → IsKept s a b t k p run leave → (b.capacity ≤ b.running → ⊥) → chosen_pod s.cc s.slots.seed a.robin a.assignments k ≡ Some n → next_in s a ≡ Some n
 unfolding next_in

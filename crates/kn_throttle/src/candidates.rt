@@ -1,5 +1,5 @@
 //! The Ready pods as a load-balancing policy sees them.
-ghost use Rattle.std.specs.Prelude.{◌≡◌, ◌==◌, ◌≢◌, ◌+◌, ◌<◌, ◌≤◌, ◌^◌, [], nat_lt, not, length, filter, slice_set, IfOk, IfSome, IfNone};
+ghost use Rattle.std.specs.Prelude.{◌≡◌, ◌==◌, ◌≢◌, ◌+◌, ◌<◌, ◌≤◌, ◌^◌, [], true, nat_lt, not, length, filter, slice_set, IfOk, IfSome, IfNone};
 ghost use Rattle.std.specs.List.{All, HoldsAt, count_by, insert, list_any, position_or_len};
 ghost use Rattle.kn_trace.specs.declared.candidate.Cand.{Cand};
 ghost use Rattle.kn_trace.specs.Choice.{has_seat};
@@ -7,20 +7,21 @@ ghost use Rattle.kn_policy.specs.Marks.{AreAscending, mark_of, marks_of};
 ghost use Rattle.kn_throttle.specs.Candidates.{begun, capacity_of, ended, limited, unlimited_of, with_changed};
 
 use kn_event::{Memory, PlaceHints};
-use kn_policy::choice_laws;
+use kn_policy::{choice_laws, first_free};
 use kn_trace::Cand;
 use std::alloc::Global;
 use std::marker::Model;
 
 /// Room for 20,500 candidates, taken once. Contracts see the list of them, which callers keep in the order of their pods'
-/// numbers. Each has a mark, which says whether it has a free seat, and what they add up to is kept, so that no pick and
-/// no change walks over all.
+/// numbers. Each has a mark, which says whether it has a free seat, and what they add up to is kept, and a place before which
+/// none has one, so that no pick and no change walks over all.
 #[derive(Drop)]
 pub struct Candidates {
     cands: Vec<Cand>,
     hints: PlaceHints,
     marks: Vec<u8>,
     free: usize,
+    low: usize,
     limits: u128,
     unlimited: usize,
 }
@@ -28,6 +29,8 @@ pub struct Candidates {
 impl Model for Candidates {
     ghost use Rattle.std.specs.Prelude.{List, ◌≤◌, length, vec_capacity};
     ghost use Rattle.kn_trace.specs.declared.candidate.Cand.{Cand};
+    ghost use Rattle.std.specs.List.{position_or_len};
+    ghost use Rattle.kn_trace.specs.Choice.{has_seat};
     ghost use Rattle.kn_throttle.specs.Candidates.{AreCounted};
 
     ghost Value = { List Cand };
@@ -39,6 +42,7 @@ impl Model for Candidates {
       marks_reserved : 20500 ≤ vec_capacity t.marks;
       few : length t.cands.items ≤ 20500;
       counted : AreCounted t.cands.items t.marks.items t.free t.limits t.unlimited;
+      low : t.low ≤ position_or_len has_seat t.cands.items;
     } };
 }
 
@@ -58,6 +62,7 @@ impl Candidates {
             hints,
             marks,
             free: 0,
+            low: 0,
             limits: 0,
             unlimited: 0,
         })
@@ -81,6 +86,53 @@ impl Candidates {
         ensures { result ≡ count_by has_seat self.now }
     {
         self.free
+    }
+
+    /// Where the first one with a free seat stands; behind all where none has one.
+    #[inline(always)]
+    pub fn first_free(&mut self) -> usize
+        ensures first { result ≡ position_or_len has_seat self.old }
+        ensures unchanged { self.new ≡ self.old }
+    {
+        if self.is_free_at(self.low) {
+            return self.low;
+        }
+        self.low = self.search_free();
+        self.low
+    }
+
+    /// Whether one with a free seat stands at this place.
+    #[inline(always)]
+    fn is_free_at(&self, place: usize) -> bool
+        ensures inside { result ≡ true → place < length self.now }
+        ensures free { result ≡ true → HoldsAt (λ (k : Cand). has_seat k ≡ true) self.now place }
+    {
+        if place < self.marks.len() {
+            return self.marks[place] == 1;
+        }
+        false
+    }
+
+    #[inline(never)]
+    fn search_free(&self) -> usize
+        ensures { result ≡ position_or_len has_seat self.now }
+    {
+        first_free(&self.cands, &self.marks, self.low)
+    }
+
+    /// One more request runs at the pod at this place. Answers the pod.
+    #[inline(always)]
+    pub fn begin_at(&mut self, place: usize) -> u64
+        requires order { AreAscending self.old }
+        requires inside { place < length self.old }
+        requires fits { All (λ (k : Cand). k.running < 2 ^ 63) self.old }
+        ensures pod { HoldsAt (λ (k : Cand). k.pod ≡ result) self.old place }
+        ensures begun { self.new ≡ with_changed result begun self.old }
+    {
+        let mut cand = self.cands[place];
+        cand.running += 1;
+        self.replace(place, cand);
+        cand.pod
     }
 
     /// One more request runs at pod `p`.
@@ -121,6 +173,7 @@ impl Candidates {
             self.unlimited = self.unlimited + unlimited(&cand) - unlimited(&was);
             self.free = self.free + mark as usize - mark_of(&was) as usize;
             self.marks[i] = mark;
+            self.low = self.low.min(i);
             self.cands[i] = cand;
         }
     }
@@ -134,6 +187,7 @@ impl Candidates {
         let mark = mark_of(&cand);
         self.free = self.free + mark as usize - self.marks[i] as usize;
         self.marks[i] = mark;
+        self.low = self.low.min(i);
         self.cands[i] = cand;
     }
 
@@ -148,6 +202,7 @@ impl Candidates {
         self.limits += cand.limit as u128;
         self.unlimited += unlimited(&cand);
         self.free += mark as usize;
+        self.low = self.low.min(place);
         let _ = self.marks.insert(place, mark);
         let _ = self.cands.insert(place, cand);
         hint_from(&self.cands, place, &mut self.hints);
@@ -164,6 +219,7 @@ impl Candidates {
             self.limits -= cand.limit as u128;
             self.unlimited -= unlimited(&cand);
             self.free -= mark as usize;
+            self.low = self.low.min(i);
             hint_from(&self.cands, i, &mut self.hints);
         }
     }

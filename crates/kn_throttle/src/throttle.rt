@@ -23,6 +23,7 @@ use kn_record::Place;
 use kn_record::append::append_laws;
 use kn_seats::Seats;
 use kn_table::Table;
+use settling::is_idle;
 use std::alloc::Global;
 use std::marker::Model;
 
@@ -99,6 +100,7 @@ impl Throttle {
     }
 
     /// Where a request stands: unknown where it has not arrived, ended where it has ended or was refused.
+    #[inline(always)]
     pub fn stand(&self, r: u64) -> Stand
         ensures value { result ≡ stand_in self.now.admission r }
         ensures stand { (c : Trace) → StandsFor self.now.admission c → result ≡ stand_of c r }
@@ -128,6 +130,7 @@ impl Throttle {
     }
 
     /// Whether a request was assigned to a pod, and has not ended.
+    #[inline(always)]
     pub fn proxied(&self, r: u64) -> bool
         ensures value { result ≡ contains r (placed_in is_assigned_place self.now.admission.live) }
         ensures proxied { (c : Trace) → StandsFor self.now.admission c → result ≡ proxied c r }
@@ -146,10 +149,15 @@ impl Throttle {
         ensures first { (c : Trace) → StandsFor self.now.admission c → result ≡ first_of (lost_with c p) }
     {
         append_laws();
+        // (the table is looked through for those alone that have one)
+        if is_idle(self.seats.running(p), self.seats.queued(p)) {
+            return None;
+        }
         self.table.first_at(p)
     }
 }
 
+#[inline(always)]
 fn stand_of_place(place: Place) -> Stand
     ensures { result ≡ stand_of_place place }
 {
@@ -160,6 +168,7 @@ fn stand_of_place(place: Place) -> Stand
     }
 }
 
+#[inline(always)]
 fn is_assigned(place: Place) -> bool
     ensures { result ≡ is_assigned_place place }
 {

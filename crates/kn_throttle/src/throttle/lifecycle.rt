@@ -10,7 +10,7 @@ ghost use Rattle.kn_throttle.specs.Kept.{pods_room};
 use super::Throttle;
 use kn_event::Spec;
 use kn_record::append::{append_laws, order_laws};
-use kn_record::{Pod, Readiness};
+use kn_record::{Place, Pod, Readiness};
 use kn_trace::Cand;
 
 impl Throttle {
@@ -99,7 +99,27 @@ impl Throttle {
         ensures stands { (c : Trace) (time : ℕ) → StandsFor self.old.admission c → StandsFor self.new.admission (c ++ entry time (row.LostRequest r) ∷ []) }
     {
         append_laws();
-        self.end(r, true);
+        let others = self.has_company(r);
+        self.end(r, others);
+    }
+
+    /// Whether others are at the pod of a request, who are lost next.
+    fn has_company(&self, r: u64) -> bool {
+        let Some(request) = self.table.get(r) else {
+            return false;
+        };
+        match request.place {
+            Place::Held => false,
+            Place::Queued(p) => self.is_shared(p),
+            Place::Running(p, _) => self.is_shared(p),
+        }
+    }
+
+    /// Whether more than one request is at a pod.
+    fn is_shared(&self, p: u64) -> bool
+        requires { contains p (pod_numbers self.now.admission.pods) ≡ true }
+    {
+        self.seats.running(p).saturating_add(self.seats.queued(p)) > 1
     }
 
     /// A live pod without requests is lost: it is no longer live.

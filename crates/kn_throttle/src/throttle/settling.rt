@@ -147,16 +147,18 @@ impl Throttle {
         if !self.breaker.acquire() {
             return None;
         }
-        let p = self
+        let first = self.candidates.first_free();
+        let place = self
             .policy
-            .pick_marked(
+            .pick_place(
                 self.candidates.as_slice(),
                 self.candidates.marks(),
                 self.candidates.free(),
+                first,
             )
             .unwrap();
+        let p = self.candidates.begin_at(place);
         let _ = self.seats.reserve_seat(p);
-        self.candidates.begin(p);
         self.table.assign(r, p);
         self.assignments += 1;
         Some((r, p))
@@ -264,7 +266,8 @@ fn is_free(limit: u64, running: u64) -> bool
     limit == 0 || running < limit
 }
 
-fn is_idle(running: u64, queued: u64) -> bool
+/// Whether nobody is at a pod.
+pub(super) fn is_idle(running: u64, queued: u64) -> bool
     ensures { result ≡ (running == 0 && queued == 0) }
 {
     running == 0 && queued == 0

@@ -8,7 +8,7 @@ use Rattle.kn_policy.proofs.marks.place_of_two.Goals as goal
 pub returns-then-free-lt2 : goal.returns-then-free-lt2
 returns-then-free-lt2 c =
     let few : count_by has_seat c.args.ready.now ≤ 1 = search rules in
-    rw (two_of_few c.args.ready.now c.args.first_word c.args.second_word few) c.first_place.ensures
+    rw (two_of_few c.args.ready.now c.args.words.0 c.args.words.1 few) c.first_place.ensures
 
 pub place_among_free-requires-clause-marks : goal.place_among_free-requires-clause-marks
 place_among_free-requires-clause-marks c = rw c.requires.marks (marks-small c.args.ready.now)
@@ -20,8 +20,8 @@ pub returns-then-ready-second : goal.returns-then-ready-second
 returns-then-ready-second c =
     let free = c.requires.free in
     let many : 2 ≤ count_by has_seat c.args.ready.now = search (rules, free) in
-    let i : c.from.result % c.args.free ≡ c.args.first_word % count_by has_seat c.args.ready.now = search (rules, free) in
-    let j : c.other_position-j.result ≡ other_position (c.from.result % c.args.free) (c.args.second_word % (count_by has_seat c.args.ready.now - 1)) = search (rules, free) in
+    let i : c.from.result % c.args.free ≡ c.args.words.0 % count_by has_seat c.args.ready.now = search (rules, free) in
+    let j : c.other_position-j.result ≡ other_position (c.from.result % c.args.free) (c.args.words.1 % (count_by has_seat c.args.ready.now - 1)) = search (rules, free) in
     let first : c.from.result % c.args.free < count_by has_seat c.args.ready.now = search (rules, free) in
     let second : c.other_position-j.result < count_by has_seat c.args.ready.now = search (rules, free) in
     let less : (slice_index_or c.args.ready.now c.in_ok-second.second nobody).running < (slice_index_or c.args.ready.now c.in_ok-first.first nobody).running = search rules in
@@ -31,8 +31,8 @@ pub returns-else-ready-second : goal.returns-else-ready-second
 returns-else-ready-second c =
     let free = c.requires.free in
     let many : 2 ≤ count_by has_seat c.args.ready.now = search (rules, free) in
-    let i : c.from.result % c.args.free ≡ c.args.first_word % count_by has_seat c.args.ready.now = search (rules, free) in
-    let j : c.other_position-j.result ≡ other_position (c.from.result % c.args.free) (c.args.second_word % (count_by has_seat c.args.ready.now - 1)) = search (rules, free) in
+    let i : c.from.result % c.args.free ≡ c.args.words.0 % count_by has_seat c.args.ready.now = search (rules, free) in
+    let j : c.other_position-j.result ≡ other_position (c.from.result % c.args.free) (c.args.words.1 % (count_by has_seat c.args.ready.now - 1)) = search (rules, free) in
     let first : c.from.result % c.args.free < count_by has_seat c.args.ready.now = search (rules, free) in
     let second : c.other_position-j.result < count_by has_seat c.args.ready.now = search (rules, free) in
     let less : (slice_index_or c.args.ready.now c.in_ok-first.first nobody).running ≤ (slice_index_or c.args.ready.now c.in_ok-second.second nobody).running = search rules in

@@ -1,17 +1,14 @@
-use Rattle.std.proofs.Common.{◌<◌, ◌≤◌, length, rules}
-use Rattle.kn_policy.proofs.Marking.{rest_all, rest_marks, round_before, round_here, round_past, take-marks}
+use Rattle.std.proofs.Common.{◌<◌, ◌≤◌, length, Some, rules}
+use Rattle.kn_policy.proofs.Marking.{first_placed, rest_all, rest_marks, round_here, round_past, round_wrapped}
 use Rattle.kn_policy.proofs.marks.round_place.Goals as goal
 
 pub returns-then-place-ready : goal.returns-then-place-ready
 returns-then-place-ready c =
     let past : length c.args.ready.now ≤ c.args.place = search rules in
-    round_past c.args.place c.args.ready.now _ past c.first_place.ensures
+    round_past c.args.place c.args.ready.now (Some c.args.first) past (first_placed c.args.ready.now _ c.requires.first c.requires.some)
 
-pub first_place-requires-2 : goal.first_place-requires-2
-first_place-requires-2 c = rw c.requires (rest_marks c.args.place c.args.ready.now)
-
-pub first_place-requires-in-None : goal.first_place-requires-in-None
-first_place-requires-in-None c = rw c.requires (take-marks c.args.place c.args.ready.now)
+pub first_place-requires : goal.first_place-requires
+first_place-requires c = rw c.requires.marks (rest_marks c.args.place c.args.ready.now)
 
 pub returns-in-Some : goal.returns-in-Some
 returns-in-Some c =
@@ -21,4 +18,4 @@ returns-in-Some c =
 pub returns-in-None : goal.returns-in-None
 returns-in-None c =
     let within : c.args.place < length c.args.ready.now = search rules in
-    round_before c.args.place c.args.ready.now _ within (rw (rest_all c.args.place c.args.ready.now) at c.in-None.ensures) c.first_place-in-None.ensures
+    rw (round_wrapped c.args.place c.args.ready.now within (rw (rest_all c.args.place c.args.ready.now) at c.in-None.ensures)) (first_placed c.args.ready.now _ c.requires.first c.requires.some)

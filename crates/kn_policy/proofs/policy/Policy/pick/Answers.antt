@@ -3,7 +3,6 @@ use Rattle.std.specs.List.{list_any}
 use Rattle.kn_trace.specs.Choice.{has_seat, chosen_pod}
 use Rattle.kn_policy.specs.Policy.{State}
 use Rattle.kn_policy.proofs.Found.{none_chosen}
-use Rattle.kn_policy.proofs.Words.{words_drawn}
 use Rattle.kn_policy.proofs.policy.Policy.pick.Goals as goal
 
 pub returns-then-not-has_free_seat-clause-chosen :
@@ -14,6 +13,6 @@ returns-then-not-has_free_seat-clause-chosen c = λ seed picks at.
 
 pub returns-clause-chosen : goal.returns-clause-chosen
 returns-clause-chosen c = λ seed picks at.
-    let words = words_drawn _ _ _ _ _ seed picks (ap (λ (s : State). s.generator) c.self.view_is ∙ at) c.next_word-first_word.ensures c.next_word-second_word.ensures in
-    sym c.in_ok-pod.was ∙ c.pod_by.ensures.chosen seed picks words.0 words.1
+    let words = λ (random : c.self.inside.cc ≡ 0). c.draw-first_word.ensures.words seed picks random (ap (λ (s : State). s.generator) c.self.view_is ∙ at (ap (λ (s : State). s.cc) (sym c.self.view_is) ∙ random)) in
+    sym c.in_ok-pod.was ∙ c.pod_by.ensures.chosen seed picks (λ random. (words random).0) (λ random. (words random).1)
     ∙ ap (λ (s : State). chosen_pod s.cc seed s.place picks c.args.ready.now) c.self.view_is

@@ -1,37 +1,11 @@
-use Rattle.std.proofs.Common.{◌≡◌, ◌∙◌, ap, sym, rules}
-use Rattle.std.specs.List.{count_by}
-use Rattle.kn_trace.specs.Choice.{has_seat, chosen_pod}
-use Rattle.kn_policy.specs.Policy.{State}
-use Rattle.kn_policy.proofs.Found.{none_chosen}
-use Rattle.kn_policy.proofs.Marking.{nobody, none_counted, none_free, place_at}
-use Rattle.kn_policy.proofs.Words.{words_drawn}
+use Rattle.std.proofs.Common.{sym}
 use Rattle.kn_policy.proofs.policy.Policy.pick_marked.Goals as goal
 
-pub returns-then-free-eq0-clause-chosen : goal.returns-then-free-eq0-clause-chosen
-returns-then-free-eq0-clause-chosen c = λ seed picks at.
-    let none : count_by has_seat c.args.ready.now ≡ 0 = search rules in
-    sym (none_chosen _ seed _ picks _ (none_free c.args.ready.now none))
+pub returns-in-Some-clause-chosen : goal.returns-in-Some-clause-chosen
+returns-in-Some-clause-chosen c = λ seed picks at. sym ((c.in-Some.ensures.chosen seed picks at).1 _)
 
-pub returns-then-free-eq0-clause-found : goal.returns-then-free-eq0-clause-found
-returns-then-free-eq0-clause-found c =
-    let none : count_by has_seat c.args.ready.now ≡ 0 = search rules in
-    sym (none_free c.args.ready.now none)
+pub returns-in-Some-clause-picked : goal.returns-in-Some-clause-picked
+returns-in-Some-clause-picked c = c.in-Some.ensures.picked _
 
-pub returns-in_err-place-clause-chosen : goal.returns-in_err-place-clause-chosen
-returns-in_err-place-clause-chosen c =
-    let none : count_by has_seat c.args.ready.now ≡ 0 = none_counted c.args.ready.now (sym c.in_err-place.ensures.found) in
-    absurd (c.if-free-eq0.false (c.requires.free ∙ none))
-
-pub returns-in_err-place-clause-unchanged : goal.returns-in_err-place-clause-unchanged
-returns-in_err-place-clause-unchanged c =
-    let none : count_by has_seat c.args.ready.now ≡ 0 = none_counted c.args.ready.now (sym c.in_err-place.ensures.found) in
-    absurd (c.if-free-eq0.false (c.requires.free ∙ none))
-
-pub returns-clause-chosen : goal.returns-clause-chosen
-returns-clause-chosen c = λ seed picks at.
-    let words = words_drawn _ _ _ _ _ seed picks (ap (λ (s : State). s.generator) c.self.view_is ∙ at) c.next_word-first.ensures c.next_word-second.ensures in
-    let there = c.in_ok-place.ensures.chosen seed picks words.0 words.1 in
-    sym (there.1 _) ∙ ap (λ (s : State). chosen_pod s.cc seed s.place picks c.args.ready.now) c.self.view_is
-
-pub returns-clause-picked : goal.returns-clause-picked
-returns-clause-picked c = rw (place_at c.args.ready.now c.in_ok-place.place nobody c.requires.order c.in_ok-place.ensures.inside) (search rules)
+pub returns-in-None-clause-chosen : goal.returns-in-None-clause-chosen
+returns-in-None-clause-chosen c = λ seed picks at. sym (c.in-None.ensures.chosen seed picks at)

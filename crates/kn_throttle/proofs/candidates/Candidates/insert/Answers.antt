@@ -2,7 +2,7 @@ use Rattle.std.proofs.Common.{◌≡◌, ◌<◌, length, arith, rules}
 use Rattle.std.specs.List.{insert}
 use Rattle.std.proofs.lemmas.List.{length-map}
 use Rattle.kn_policy.specs.Marks.{mark_of}
-use Rattle.kn_throttle.proofs.Totals.{counted-inserted, limits-fit}
+use Rattle.kn_throttle.proofs.Totals.{counted-inserted, limits-fit, low-insert}
 use Rattle.kn_throttle.proofs.candidates.Candidates.insert.Goals as goal
 
 pub overflow_add-self : goal.overflow_add-self
@@ -20,4 +20,5 @@ invariant_of-self c =
       marks_reserved = omega (arith, c.insert.ensures.capacity, c.self.invariant.marks_reserved);
       few = search rules;
       counted = rw (put, marked, c.mark_of-mark.ensures, c.unlimited.ensures) (counted-inserted k _ _ _ _ c.place_behind-place.result c.args.cand c.self.invariant.counted (search rules));
+      low = rw (put, c.min-self-inside.ensures) (low-insert k c.self.inside.low c.place_behind-place.result c.args.cand c.self.invariant.low (search rules));
     }

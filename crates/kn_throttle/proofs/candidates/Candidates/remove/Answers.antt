@@ -2,7 +2,7 @@ use Rattle.std.proofs.Common.{◌≡◌, ◌∙◌, ◌<◌, length, get_or, ap,
 use Rattle.kn_trace.specs.declared.candidate.Cand.{Cand}
 use Rattle.kn_policy.specs.Marks.{mark_of}
 use Rattle.kn_throttle.proofs.Places.{others-at, others-none}
-use Rattle.kn_throttle.proofs.Totals.{counted-removed, mark-at}
+use Rattle.kn_throttle.proofs.Totals.{counted-removed, low-remove, mark-at}
 use Rattle.kn_throttle.proofs.candidates.Candidates.remove.Goals as goal
 
 pub invariant_of-self : goal.invariant_of-self
@@ -17,6 +17,7 @@ invariant_of-self c =
       marks_reserved = omega (arith, c.remove-mark.ensures.capacity, c.self.invariant.marks_reserved);
       few = omega (arith, c.remove-cand.ensures.len, c.self.invariant.few);
       counted = rw (c.remove-cand.ensures.items, c.remove-mark.ensures.items, marked, c.unlimited.ensures) (counted-removed k _ _ _ _ c.in-Some.i x c.self.invariant.counted inside here);
+      low = rw (c.remove-cand.ensures.items, c.min-self-inside.ensures) (low-remove k c.self.inside.low c.in-Some.i c.self.invariant.low inside);
     }
 
 pub returns-in-Some : goal.returns-in-Some

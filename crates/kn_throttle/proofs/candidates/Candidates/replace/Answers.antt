@@ -1,7 +1,7 @@
 use Rattle.std.proofs.Common.{◌≡◌, ◌<◌, length, get_or, arith, rules}
 use Rattle.std.proofs.lemmas.List.{get_or_default}
 use Rattle.kn_trace.specs.declared.candidate.Cand.{Cand}
-use Rattle.kn_throttle.proofs.Totals.{counted-at, counted-replaced, mark-at}
+use Rattle.kn_throttle.proofs.Totals.{counted-at, counted-replaced, low-set, mark-at}
 use Rattle.kn_throttle.proofs.candidates.Candidates.replace.Goals as goal
 
 pub overflow_sub-self : goal.overflow_sub-self
@@ -25,4 +25,5 @@ invariant_of-self c =
       marks_reserved = c.self.invariant.marks_reserved;
       few = search rules;
       counted = rw (was, c.mark_of-mark.ensures) (counted-replaced k _ _ _ _ c.args.i x c.args.cand c.self.invariant.counted inside (get_or_default k c.args.i c.args.cand x inside) same);
+      low = rw c.min-self-inside.ensures (low-set k c.self.inside.low c.args.i c.args.cand c.self.invariant.low inside);
     }

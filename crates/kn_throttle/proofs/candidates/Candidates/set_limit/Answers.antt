@@ -2,7 +2,7 @@ use Rattle.std.proofs.Common.{◌≡◌, ◌∙◌, ◌<◌, length, ap, sym, ge
 use Rattle.kn_trace.specs.declared.candidate.Cand.{Cand}
 use Rattle.kn_throttle.specs.Candidates.{limited}
 use Rattle.kn_throttle.proofs.Places.{changed-at, unchanged}
-use Rattle.kn_throttle.proofs.Totals.{counted-set, limits-fit}
+use Rattle.kn_throttle.proofs.Totals.{counted-set, limits-fit, low-set}
 use Rattle.kn_throttle.proofs.candidates.Candidates.set_limit.Goals as goal
 
 pub overflow_add-self : goal.overflow_add-self
@@ -19,6 +19,7 @@ invariant_of-self c =
       marks_reserved = c.self.invariant.marks_reserved;
       few = search rules;
       counted = rw (c.mark_of-mark.ensures, c.mark_of.ensures, c.unlimited.ensures, c.unlimited-in-Some.ensures) (counted-set k _ _ _ _ c.in-Some.i x (limited c.args.n x) c.self.invariant.counted inside here (search rules));
+      low = rw c.min-self-inside.ensures (low-set k c.self.inside.low c.in-Some.i (limited c.args.n x) c.self.invariant.low inside);
     }
 
 pub returns-in-Some : goal.returns-in-Some

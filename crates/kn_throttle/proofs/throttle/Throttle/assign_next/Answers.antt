@@ -5,7 +5,7 @@ use Rattle.kn_record.specs.Admission.{is_held_place, placed_in, stepped}
 use Rattle.kn_throttle.proofs.Parts.{cands_ascend}
 use Rattle.kn_throttle.proofs.Ended.{pod_there}
 use Rattle.kn_throttle.proofs.Dispatching.{cands_fit, kept_assigned}
-use Rattle.kn_throttle.proofs.Walking.{chosen_by, free-seat, held_runs, next_some, none_free, none_room, policy_after, robin-after, seat_found}
+use Rattle.kn_throttle.proofs.Walking.{chosen_at, free-seat, held_runs, next_some, none_free, none_room, picked_at, policy_after, robin-after, seat_found}
 use Rattle.kn_throttle.proofs.throttle.Throttle.assign_next.Goals as goal
 
 pub returns-in_default-clause-ends : goal.returns-in_default-clause-ends
@@ -24,55 +24,72 @@ pub returns-then-not-acquire-clause-ends : goal.returns-then-not-acquire-clause-
 returns-then-not-acquire-clause-ends c = λ d t h.
     rw (← c.self.view_is) (c.walk_laws.ensures.assigned c.self.inside.spec _ d t (rw (← c.self.view_is) at h) (inr (none_room _ _ _ _ _ _ _ _ c.self.invariant (c.if-not-acquire.ensures.full.0 refl))))
 
-pub reserve_seat-requires-clause-there : goal.reserve_seat-requires-clause-there
-reserve_seat-requires-clause-there c =
+pub pick_place-requires-clause-order : goal.pick_place-requires-clause-order
+pick_place-requires-clause-order c =
     let k = c.self.invariant in
-    let chosen = chosen_by _ _ _ _ _ _ _ _ c.unwrap-p.result c.as_slice.result.now c.pick_marked.result k c.as_slice.ensures c.unwrap-p.ensures c.pick_marked.ensures.chosen in
-    let found = seat_found c.seating_laws.ensures _ _ _ _ _ _ _ _ c.unwrap-p.result k chosen in
-    pod_there _ _ _ _ _ _ _ _ c.unwrap-p.result k found.there
+    rw (c.as_slice.ensures, c.first_free-first.ensures.unchanged, k.candidates) (cands_ascend c.self.inside.table c.self.inside.pods k.sound.order.pods)
 
-pub begin-requires-clause-order : goal.begin-requires-clause-order
-begin-requires-clause-order c =
+pub pick_place-requires-clause-first : goal.pick_place-requires-clause-first
+pick_place-requires-clause-first c = rw (c.as_slice.ensures, c.first_free-first.ensures.unchanged) c.first_free-first.ensures.first
+
+pub begin_at-p-requires-clause-order : goal.begin_at-p-requires-clause-order
+begin_at-p-requires-clause-order c =
     let k = c.self.invariant in
-    rw k.candidates (cands_ascend c.self.inside.table c.self.inside.pods k.sound.order.pods)
+    rw (c.first_free-first.ensures.unchanged, k.candidates) (cands_ascend c.self.inside.table c.self.inside.pods k.sound.order.pods)
 
-pub begin-requires-clause-fits : goal.begin-requires-clause-fits
-begin-requires-clause-fits c =
+pub begin_at-p-requires-clause-inside : goal.begin_at-p-requires-clause-inside
+begin_at-p-requires-clause-inside c = rw (← c.as_slice.ensures) (rw c.unwrap-place.ensures at c.pick_place.ensures.inside)
+
+pub begin_at-p-requires-clause-fits : goal.begin_at-p-requires-clause-fits
+begin_at-p-requires-clause-fits c =
     let k = c.self.invariant in
     let few = k.sound.few in
     let fits : length c.self.inside.table < 2 ^ 63 = omega arith in
-    rw k.candidates (cands_fit c.self.inside.table c.self.inside.pods fits)
+    rw (c.first_free-first.ensures.unchanged, k.candidates) (cands_fit c.self.inside.table c.self.inside.pods fits)
+
+pub reserve_seat-requires-clause-there : goal.reserve_seat-requires-clause-there
+reserve_seat-requires-clause-there c =
+    let k = c.self.invariant in
+    let same = c.as_slice.ensures ∙ c.first_free-first.ensures.unchanged in
+    let pod = rw c.first_free-first.ensures.unchanged at c.begin_at-p.ensures.pod in
+    let p = c.begin_at-p.result in
+    let chosen = chosen_at _ _ _ _ _ _ _ _ p c.unwrap-place.result c.as_slice.result.now c.pick_place.result k same c.unwrap-place.ensures c.pick_place.ensures.chosen pod in
+    let found = seat_found c.seating_laws.ensures _ _ _ _ _ _ _ _ p k chosen in
+    pod_there _ _ _ _ _ _ _ _ p k found.there
 
 pub invariant_of-self-2 : goal.invariant_of-self-2
 unfolding stepped
 invariant_of-self-2 c =
     let k = c.self.invariant in
-    let chosen = chosen_by _ _ _ _ _ _ _ _ c.unwrap-p.result c.as_slice.result.now c.pick_marked.result k c.as_slice.ensures c.unwrap-p.ensures c.pick_marked.ensures.chosen in
-    let found = seat_found c.seating_laws.ensures _ _ _ _ _ _ _ _ c.unwrap-p.result k chosen in
-    let free = c.reserve_seat.ensures.free ∙ free-seat _ _ _ _ _ _ _ _ c.unwrap-p.result k found in
-    let order = c.order_laws.ensures.step _ 0 (row.Assign c.in-Some.r c.unwrap-p.result) k.sound.order found.there in
-    let picked = rw c.unwrap-p.ensures at c.pick_marked.ensures.picked in
-    kept_assigned _ _ _ _ _ _ _ _ _ _ _ _ c.in-Some.r c.unwrap-p.result c.assign.new.self k
+    let same = c.as_slice.ensures ∙ c.first_free-first.ensures.unchanged in
+    let pod = rw c.first_free-first.ensures.unchanged at c.begin_at-p.ensures.pod in
+    let p = c.begin_at-p.result in
+    let chosen = chosen_at _ _ _ _ _ _ _ _ p c.unwrap-place.result c.as_slice.result.now c.pick_place.result k same c.unwrap-place.ensures c.pick_place.ensures.chosen pod in
+    let found = seat_found c.seating_laws.ensures _ _ _ _ _ _ _ _ p k chosen in
+    let free = c.reserve_seat.ensures.free ∙ free-seat _ _ _ _ _ _ _ _ p k found in
+    let order = c.order_laws.ensures.step _ 0 (row.Assign c.in-Some.r p) k.sound.order found.there in
+    let picked = picked_at c.self.inside.policy c.pick_place.new.self c.self.inside.candidates c.as_slice.result.now c.pick_place.result p c.unwrap-place.result same c.unwrap-place.ensures c.pick_place.ensures.picked pod in
+    kept_assigned _ _ _ _ _ _ _ _ _ _ _ _ c.in-Some.r p c.assign.new.self k
     (record { live = rw c.assign.ensures.moved order.live; arrived = rw c.assign.ensures.moved order.arrived; pods = order.pods; created = order.created; homes = rw c.assign.ensures.moved order.homes })
-    c.assign.ensures.len c.assign.ensures.moves c.if-not-acquire.ensures.acquired (rw free at c.reserve_seat.ensures.reserved) (rw free at c.reserve_seat.ensures.counted) c.begin.ensures
-    (policy_after c.self.inside.spec _ c.pick_marked.new.self c.unwrap-p.result _ c.self.inside.assignments c.as_slice.result.now c.choice_laws.ensures.picked k.policy picked)
+    c.assign.ensures.len c.assign.ensures.moves c.if-not-acquire.ensures.acquired (rw free at c.reserve_seat.ensures.reserved) (rw free at c.reserve_seat.ensures.counted) (rw c.first_free-first.ensures.unchanged at c.begin_at-p.ensures.begun)
+    (policy_after c.self.inside.spec _ c.pick_place.new.self p _ c.self.inside.assignments c.as_slice.result.now c.choice_laws.ensures.picked k.policy picked)
 
 pub returns-clause-after : goal.returns-clause-after
 unfolding stepped
 returns-clause-after c = λ t.
     let k = c.self.invariant in
-    let picked = rw (c.unwrap-p.ensures, c.as_slice.ensures) at c.pick_marked.ensures.picked in
-    let robin = robin-after c.self.inside.table c.self.inside.pods c.self.inside.candidates c.self.inside.policy c.pick_marked.new.self c.unwrap-p.result k.candidates picked in
+    let same = c.as_slice.ensures ∙ c.first_free-first.ensures.unchanged in
+    let pod = rw c.first_free-first.ensures.unchanged at c.begin_at-p.ensures.pod in
+    let picked = picked_at c.self.inside.policy c.pick_place.new.self c.self.inside.candidates c.as_slice.result.now c.pick_place.result c.begin_at-p.result c.unwrap-place.result same c.unwrap-place.ensures c.pick_place.ensures.picked pod in
+    let robin = robin-after c.self.inside.table c.self.inside.pods c.as_slice.result.now c.self.inside.policy c.pick_place.new.self c.begin_at-p.result (same ∙ k.candidates) picked in
     rw (c.assign.ensures.moved, robin, ← c.self.view_is) refl
 
 pub returns-clause-begins : goal.returns-clause-begins
 returns-clause-begins c = λ d t h.
     let k = c.self.invariant in
-    let chosen = chosen_by _ _ _ _ _ _ _ _ c.unwrap-p.result c.as_slice.result.now c.pick_marked.result k c.as_slice.ensures c.unwrap-p.ensures c.pick_marked.ensures.chosen in
-    let next = next_some _ _ _ _ _ _ _ _ c.unwrap-p.result k (λ e. absurd (let no = c.if-not-acquire.ensures.full.1 e in cc)) chosen in
-    rw (← c.self.view_is) (c.walk_laws.ensures.assign c.self.inside.spec _ d t c.in-Some.r c.unwrap-p.result (rw (← c.self.view_is) at h) (sym c.in-Some.ensures.first) next)
-
-pub pick_marked-requires-clause-order : goal.pick_marked-requires-clause-order
-pick_marked-requires-clause-order c =
-    let k = c.self.invariant in
-    rw (c.as_slice.ensures, k.candidates) (cands_ascend c.self.inside.table c.self.inside.pods k.sound.order.pods)
+    let same = c.as_slice.ensures ∙ c.first_free-first.ensures.unchanged in
+    let pod = rw c.first_free-first.ensures.unchanged at c.begin_at-p.ensures.pod in
+    let p = c.begin_at-p.result in
+    let chosen = chosen_at _ _ _ _ _ _ _ _ p c.unwrap-place.result c.as_slice.result.now c.pick_place.result k same c.unwrap-place.ensures c.pick_place.ensures.chosen pod in
+    let next = next_some _ _ _ _ _ _ _ _ p k (λ e. absurd (let no = c.if-not-acquire.ensures.full.1 e in cc)) chosen in
+    rw (← c.self.view_is) (c.walk_laws.ensures.assign c.self.inside.spec _ d t c.in-Some.r p (rw (← c.self.view_is) at h) (sym c.in-Some.ensures.first) next)
