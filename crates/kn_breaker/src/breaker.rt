@@ -87,6 +87,13 @@ impl Breaker {
         self.in_flight -= 1;
     }
 
+    /// How many are in flight and not running.
+    pub fn waiting(&self) -> u64
+        ensures { result + self.now.running ≡ self.now.in_flight }
+    {
+        self.in_flight - self.running
+    }
+
     /// Changes the capacity, at most the maximum. It stops none that is running.
     pub fn set_capacity(&mut self, n: u64)
         requires { n ≤ self.old.max }

@@ -19,4 +19,5 @@ mod Active
 mod Events
 mod Reacting
 mod Runs
+mod Wanted
 pub mod Refused

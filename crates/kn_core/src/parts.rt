@@ -16,6 +16,7 @@ ghost use Rattle.kn_core.specs.Steps.{AddsNobody, EndsOnly, HasFewPods, IsAlone,
 
 mod acts;
 mod event;
+mod gauges;
 mod opening;
 mod scale;
 mod views;

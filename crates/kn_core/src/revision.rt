@@ -8,6 +8,8 @@ ghost use Rattle.kn_trace.specs.Trace.{Trace, arrivals, live, next_starting, pro
 ghost use Rattle.kn_core.specs.State.{IsAmongLive, StandsFor, StandsForSome};
 ghost use Rattle.kn_core.specs.Steps.{IsWithinRange};
 
+mod gauges;
+
 use crate::parts::Parts;
 use kn_event::{EntryLog, Event, Memory, Spec, Stand, Told};
 use kn_laws::laws::{history_laws, step_laws};

@@ -240,6 +240,13 @@ impl Pods {
         self.ready.len()
     }
 
+    /// How many pods are Starting.
+    pub fn count_starting(&self) -> u64
+        ensures { result ≡ length self.now.starting }
+    {
+        self.starting.len()
+    }
+
     /// The least Starting pod that is not below this number; none exactly where there is none.
     #[tactic(auto, unfolding(kn_trace::specs::Trace::next_starting))]
     pub fn next_starting(&self, from: u64) -> Option<u64>

@@ -47,7 +47,7 @@ impl Model for Seats {
 impl Seats {
     ghost use Rattle.kn_seats.specs.Pods.{idle_pod, requests_at, requests_at_all, has_free_seat, is_full, has_pod, pod_at, without_pod, without_request};
     ghost use Rattle.kn_seats.specs.Seats.{change};
-    ghost use Rattle.kn_seats.specs.Kept.{IsPlaceOf};
+    ghost use Rattle.kn_seats.specs.Kept.{IsPlaceOf, queued_at_all};
 
     /// No pods yet, and room for so many of them and so many requests at them.
     pub fn new(alloc: Global, pods: u64, requests: u64) -> Result<Seats, Memory>
@@ -228,6 +228,13 @@ impl Seats {
         ensures { result ≡ length (pod_at p self.now.pods).queued }
     {
         self.tracker(p).queue.count as u64
+    }
+
+    /// How many are queued at all pods together.
+    pub fn queued_at_all(&self) -> u64
+        ensures { result ≡ queued_at_all self.now.pods }
+    {
+        self.request_room - self.cells.spares as u64
     }
 
     /// The tracker of the pod of this number.

@@ -2,6 +2,7 @@ pub mod Same
 pub mod Places
 pub mod Totals
 pub mod Parts
+pub mod Gauges
 pub mod Once
 pub mod Ended
 pub mod Answering

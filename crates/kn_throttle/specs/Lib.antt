@@ -6,3 +6,4 @@ pub mod Kept
 pub mod Rows
 pub mod Breaker
 pub mod Settling
+pub mod Gauges

@@ -9,6 +9,7 @@ ghost use Rattle.kn_record.specs.Views.{due_in, pod_numbers, stand_in, stand_of_
 
 mod arriving;
 mod ending;
+mod gauges;
 mod lifecycle;
 mod settling;
 
