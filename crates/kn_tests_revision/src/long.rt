@@ -1,6 +1,6 @@
 //! The long rows of the specification, whose answers follow a rule.
 use crate::run::Run;
-use crate::trial::open;
+use crate::trial::goes_by;
 use kn_event::{Act, Event, Told};
 use std::alloc::Global;
 
@@ -35,11 +35,21 @@ fn takes(run: &mut Run, time: u64, act: Act, told: Told) -> bool {
 
 /// What the arrivals are told.
 #[derive(Clone, Copy)]
-enum Rule {
+pub enum Rule {
     /// 11,000 are held, depth and maximum together, and the others refused.
     Breaker,
     /// So many pods serve by turns.
     Turns(u64),
+}
+
+impl Rule {
+    /// Whether all goes as it says.
+    pub fn holds(self, run: &mut Run) -> bool {
+        match self {
+            Rule::Breaker => refuses_9001(run),
+            Rule::Turns(pods) => is_overloaded(run, pods),
+        }
+    }
 }
 
 fn told(rule: Rule, i: u64) -> Told {
@@ -61,11 +71,8 @@ fn takes_all(run: &mut Run, time: u64, count: u64, rule: Rule) -> bool {
 }
 
 /// Whether the breaker takes in depth and maximum, and refuses each of 9,001 more.
-pub fn breaker_refuses_9001(alloc: Global) -> bool {
-    let Some(mut run) = open(alloc, WIDE_BREAKER) else {
-        return false;
-    };
-    takes_all(&mut run, 1, 20_001, Rule::Breaker)
+fn refuses_9001(run: &mut Run) -> bool {
+    takes_all(run, 1, 20_001, Rule::Breaker)
         && run.revision().live() == 11_000
         && run.revision().arrivals() == 20_001
 }
@@ -85,20 +92,21 @@ fn begins(run: &mut Run, pods: u64) -> bool {
 }
 
 /// Whether pods serve 20,000 requests by turns, and one more is refused and takes no turn.
-fn overloads(alloc: Global, setup: &[u8], pods: u64) -> bool {
-    let Some(mut run) = open(alloc, setup) else {
-        return false;
-    };
-    begins(&mut run, pods)
-        && takes_all(&mut run, 1100, 20_000, Rule::Turns(pods))
-        && takes(&mut run, 1100, Act::Arrive(7), Told::Overload(20_000))
+fn is_overloaded(run: &mut Run, pods: u64) -> bool {
+    begins(run, pods)
+        && takes_all(run, 1100, 20_000, Rule::Turns(pods))
+        && takes(run, 1100, Act::Arrive(7), Told::Overload(20_000))
         && run.revision().live() == 20_000
-        && takes(&mut run, 1200, Act::Finish(0, true), Told::Done(0))
-        && takes(&mut run, 1200, Act::Arrive(8), Told::Run(20_001, 0))
+        && takes(run, 1200, Act::Finish(0, true), Told::Done(0))
+        && takes(run, 1200, Act::Arrive(8), Told::Run(20_001, 0))
         && run.revision().live() == 20_000
+}
+
+pub fn breaker_refuses_9001(alloc: Global) -> bool {
+    goes_by(alloc, WIDE_BREAKER, Rule::Breaker)
 }
 
 /// Whether one pod, and two by turns, serve 20,000 live requests and no more.
 pub fn overload_at_20001(alloc: Global) -> bool {
-    overloads(alloc, ONE_SERVES, 1) && overloads(alloc, TWO_SERVE, 2)
+    goes_by(alloc, ONE_SERVES, Rule::Turns(1)) && goes_by(alloc, TWO_SERVE, Rule::Turns(2))
 }

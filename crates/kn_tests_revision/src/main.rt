@@ -12,23 +12,43 @@ mod trial;
 use anyhow::bail;
 use std::io::{self, BufRead, BufReader, Write};
 
-fn main(rt: HostRuntime) -> anyhow::Result<()> {
-    let alloc = rt.alloc();
-    let mut journal = Vec::new(alloc);
-    for line in BufReader::new(alloc, rt.stdin())?.lines(alloc) {
-        let line = line?;
-        journal.extend_from_slice(line.as_bytes())?;
-        journal.push(b'\n')?;
-        if line.as_str() == "end" {
-            let Some(text) = trial::replayed(alloc, &journal) else {
-                bail!("a journal is refused, or memory is lacking");
-            };
-            io::writer(&rt).write_all(&text)?;
-            journal.clear();
-        }
+/// Writes what a journal comes to.
+fn show(rt: &HostRuntime, journal: &[u8]) -> anyhow::Result<()> {
+    let Some(text) = trial::replayed(rt.alloc(), journal) else {
+        bail!("a journal is refused, or memory is lacking");
+    };
+    io::writer(rt).write_all(&text)?;
+    Ok(())
+}
+
+/// One line more of a journal. `end` is its last.
+fn add_line(rt: &HostRuntime, journal: &mut Vec<u8>, line: &str) -> anyhow::Result<()> {
+    journal.extend_from_slice(line.as_bytes())?;
+    journal.push(b'\n')?;
+    if line == "end" {
+        show(rt, journal)?;
+        journal.clear();
     }
-    let refuses = long::breaker_refuses_9001(alloc);
-    let overloads = long::overload_at_20001(alloc);
+    Ok(())
+}
+
+fn read_lines(rt: &HostRuntime, journal: &mut Vec<u8>) -> anyhow::Result<()> {
+    let alloc = rt.alloc();
+    for line in BufReader::new(alloc, rt.stdin())?.lines(alloc) {
+        add_line(rt, journal, line?.as_str())?;
+    }
+    Ok(())
+}
+
+fn journals(rt: &HostRuntime) -> anyhow::Result<()> {
+    let mut journal = Vec::new(rt.alloc());
+    read_lines(rt, &mut journal)
+}
+
+fn main(rt: HostRuntime) -> anyhow::Result<()> {
+    journals(&rt)?;
+    let refuses = long::breaker_refuses_9001(rt.alloc());
+    let overloads = long::overload_at_20001(rt.alloc());
     println!(rt; "9001 of 20001 are refused: {refuses}, the 20001st is one too many: {overloads}")?;
     Ok(())
 }

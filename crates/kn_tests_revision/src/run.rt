@@ -1,5 +1,5 @@
 //! A revision of which only such calls are made as may be made.
-ghost use Rattle.std.specs.Prelude.{◌≡◌, true};
+ghost use Rattle.std.specs.Prelude.{◌≡◌, ◌≤◌, ◌^◌, true};
 ghost use Rattle.kn_core.specs.Steps.{IsWithinRange};
 
 use kn_core::Revision;
@@ -16,12 +16,19 @@ pub struct Run {
 impl Run {
     /// Opens it, if memory suffices and the start is at most 2^42 milliseconds.
     pub fn open(alloc: Global, spec: Spec, start: u64) -> Option<Run> {
-        if start > 1 << 42 {
-            return None;
+        match EntryLog::new(alloc) {
+            Ok(log) if start <= 1 << 42 => Run::with_log(alloc, spec, start, log),
+            _ => None,
         }
-        let mut log = EntryLog::new(alloc).ok()?;
-        let revision = Revision::new(alloc, spec, start, &mut log).ok()?;
-        Some(Run { revision, log })
+    }
+
+    fn with_log(alloc: Global, spec: Spec, start: u64, mut log: EntryLog) -> Option<Run>
+        requires { start ≤ 2 ^ 42 }
+    {
+        match Revision::new(alloc, spec, start, &mut log) {
+            Ok(revision) => Some(Run { revision, log }),
+            Err(_) => None,
+        }
     }
 
     /// Takes an event that may come: in the order of time, at most at 2^42 milliseconds, with a limit of at most 1,000.

@@ -1,43 +1,91 @@
 //! One journal, from its bytes to the lines of what it comes to.
+use crate::long::Rule;
 use crate::run::Run;
 use crate::texts::{stand_line, told_line};
 use kn_core::Revision;
-use kn_event::{Entry, Event, Line, Row, Told, entry_line};
+use kn_event::{Entry, Event, Line, Row, Spec, Told, entry_line};
 use kn_io::MemSource;
-use kn_journal::{JournalError, JournalReader};
+use kn_journal::{JournalReader, Setup};
 use std::alloc::Global;
 
-/// A journal that is read.
-#[derive(Drop)]
-struct Input {
-    reader: JournalReader,
-    source: MemSource,
-}
-
-impl Input {
-    fn new(alloc: Global, journal: &[u8]) -> Option<Input> {
-        let bytes = Vec::from_slice(alloc, journal).ok()?;
-        Some(Input {
-            reader: JournalReader::new(alloc).ok()?,
-            source: MemSource::new(bytes, Vec::new(alloc)),
-        })
-    }
-
-    /// Reads up to the start, and opens the revision.
-    fn open(&mut self, alloc: Global) -> Option<Run> {
-        let setup = self.reader.setup(alloc, &mut self.source).ok()?;
-        let start = self.reader.start(&mut self.source).ok()?;
-        Run::open(alloc, setup.spec, start)
-    }
-
-    fn next(&mut self) -> Result<Option<Event>, JournalError> {
-        self.reader.next(&mut self.source)
+fn source_of(alloc: Global, journal: &[u8]) -> Option<MemSource> {
+    match Vec::from_slice(alloc, journal) {
+        Ok(bytes) => Some(MemSource::new(bytes, Vec::new(alloc))),
+        Err(_) => None,
     }
 }
 
-/// The revision of a journal, opened at its start.
-pub fn open(alloc: Global, journal: &[u8]) -> Option<Run> {
-    Input::new(alloc, journal)?.open(alloc)
+fn start_of(reader: &mut JournalReader, source: &mut MemSource) -> Option<u64> {
+    reader.start(source).ok()
+}
+
+fn spec_of(alloc: Global, reader: &mut JournalReader, source: &mut MemSource) -> Option<Spec> {
+    match reader.setup(alloc, source) {
+        Ok(Setup { spec, text: _ }) => Some(spec),
+        Err(_) => None,
+    }
+}
+
+/// Reads up to the start, and opens the revision.
+fn open_next(alloc: Global, reader: &mut JournalReader, source: &mut MemSource) -> Option<Run> {
+    let spec = spec_of(alloc, reader, source)?;
+    open_at(alloc, spec, start_of(reader, source))
+}
+
+fn open_at(alloc: Global, spec: Spec, start: Option<u64>) -> Option<Run> {
+    match start {
+        Some(start) => Run::open(alloc, spec, start),
+        None => None,
+    }
+}
+
+/// What is done with a revision that was opened.
+enum Trial<'a> {
+    /// The events of its journal are taken, at most so many.
+    Replay(&'a mut Transcript, usize),
+    /// Many requests come, which are told what the rule says.
+    Long(Rule),
+}
+
+/// Opens a revision. It has one owner, here, since whoever owns one is dear to prove.
+fn open_and_try(
+    alloc: Global,
+    reader: &mut JournalReader,
+    source: &mut MemSource,
+    trial: Trial<'_>,
+) -> Option<()> {
+    match open_next(alloc, reader, source) {
+        Some(mut run) => try_on(alloc, reader, source, &mut run, trial),
+        None => None,
+    }
+}
+
+fn try_on(
+    alloc: Global,
+    reader: &mut JournalReader,
+    source: &mut MemSource,
+    run: &mut Run,
+    trial: Trial<'_>,
+) -> Option<()> {
+    match trial {
+        Trial::Replay(transcript, most) => replay(alloc, reader, source, run, transcript, most),
+        Trial::Long(rule) => if rule.holds(run) { Some(()) } else { None },
+    }
+}
+
+fn try_source(alloc: Global, source: &mut MemSource, trial: Trial<'_>) -> Option<()> {
+    match JournalReader::new(alloc) {
+        Ok(mut reader) => open_and_try(alloc, &mut reader, source, trial),
+        Err(_) => None,
+    }
+}
+
+/// Whether all goes as the rule says in the revision of this setup.
+pub fn goes_by(alloc: Global, setup: &[u8], rule: Rule) -> bool {
+    match source_of(alloc, setup) {
+        Some(mut source) => try_source(alloc, &mut source, Trial::Long(rule)).is_some(),
+        None => false,
+    }
 }
 
 /// The text of a trial so far.
@@ -134,24 +182,56 @@ fn add_end(alloc: Global, revision: &Revision, text: &mut Vec<u8>) -> Option<()>
     text.push(b'\n').ok()
 }
 
+/// Takes the events that are left, at most so many.
+fn take_all(
+    alloc: Global,
+    reader: &mut JournalReader,
+    source: &mut MemSource,
+    run: &mut Run,
+    transcript: &mut Transcript,
+    most: usize,
+) -> Option<()> {
+    for _ in 0..most {
+        let Some(event) = reader.next(source).ok()? else {
+            break;
+        };
+        take(alloc, run, &event, transcript)?;
+    }
+    Some(())
+}
+
+/// Adds the lines of a journal's rows, of what its events are told, and of its end.
+fn replay(
+    alloc: Global,
+    reader: &mut JournalReader,
+    source: &mut MemSource,
+    run: &mut Run,
+    transcript: &mut Transcript,
+    most: usize,
+) -> Option<()> {
+    transcript.add_rows(run.entries())?;
+    take_all(alloc, reader, source, run, transcript, most)?;
+    let Transcript { rows, told } = transcript;
+    rows.extend_from_slice(told).ok()?;
+    add_end(alloc, run.revision(), rows)
+}
+
+fn replay_bytes(alloc: Global, journal: &[u8], transcript: &mut Transcript) -> Option<()> {
+    let most = journal.len();
+    match source_of(alloc, journal) {
+        Some(mut source) => try_source(alloc, &mut source, Trial::Replay(transcript, most)),
+        None => None,
+    }
+}
+
 /// The lines of the journal's rows, of what its events are told, and of its end; none where it is refused or memory lacks,
 /// and where a decision that is told is not the event's row.
 pub fn replayed(alloc: Global, journal: &[u8]) -> Option<Vec<u8>> {
-    let mut input = Input::new(alloc, journal)?;
-    let mut run = input.open(alloc)?;
     let mut transcript = Transcript {
         rows: Vec::new(alloc),
         told: Vec::new(alloc),
     };
-    transcript.add_rows(run.entries())?;
-    for _ in 0..journal.len() {
-        let Some(event) = input.next().ok()? else {
-            break;
-        };
-        take(alloc, &mut run, &event, &mut transcript)?;
-    }
-    let Transcript { mut rows, told } = transcript;
-    rows.extend_from_slice(&told).ok()?;
-    add_end(alloc, run.revision(), &mut rows)?;
-    Some(rows)
+    let is_whole = replay_bytes(alloc, journal, &mut transcript).is_some();
+    let Transcript { rows, told: _ } = transcript;
+    if is_whole { Some(rows) } else { None }
 }
