@@ -40,6 +40,7 @@ fn open_at(alloc: Global, spec: Spec, start: Option<u64>) -> Option<Run> {
 }
 
 /// What is done with a revision that was opened.
+#[derive(Drop)]
 enum Trial<'a> {
     /// The events of its journal are taken, at most so many.
     Replay(&'a mut Transcript, usize),
