@@ -1,6 +1,7 @@
 //! Each call of a session's caller fails in turn, until none is left that could.
 
 use crate::sessions::{Sinks, Size, has, replayed, serve_mem, slots_of};
+use crate::setting::MemSlot;
 use kn_case::case;
 use kn_io::{ListClock, OpenGate};
 use kn_journal::Status;
@@ -19,23 +20,48 @@ enum Came {
     Wrong,
 }
 
+/// What comes of a session that writes there.
+fn serve_to<R: Threads + Wait + Sync>(
+    rt: &R,
+    alloc: Global,
+    slots: &mut [MemSlot],
+    sinks: &mut Sinks,
+) -> Result<Option<Status>, AllocError> {
+    let clock = ListClock::new(vec![in alloc; 0]?);
+    serve_mem(rt, alloc, slots, Size::once(100), &clock, &OpenGate, sinks)
+}
+
+/// What a status and the report of what was written come to.
+fn judged(status: Option<Status>, report: &[u8]) -> Came {
+    let finished = has(report, b" admitted=1 ") && has(report, b" finished=1 ");
+    match status {
+        Some(Status::Ok) if !report.is_empty() => Came::Ok,
+        Some(Status::SlotFault(0)) if finished || has(report, b" admitted=0 ") => Came::SlotFault,
+        _ => Came::Wrong,
+    }
+}
+
+fn came<R: Threads + Wait + Sync>(
+    rt: &R,
+    alloc: Global,
+    slots: &mut [MemSlot],
+    sinks: &mut Sinks,
+) -> Result<Came, AllocError> {
+    let status = serve_to(rt, alloc, slots, sinks)?;
+    let report = replayed(alloc, sinks.out.held())?;
+    Ok(judged(status, &report))
+}
+
+fn slots_at(alloc: Global, call: u64) -> Result<Vec<MemSlot>, AllocError> {
+    let words = format!(in alloc; "good/caller={call}")?;
+    slots_of(alloc, words.as_str())
+}
+
 /// A session whose caller fails at this call.
 fn fail_at<R: Threads + Wait + Sync>(rt: &R, alloc: Global, call: u64) -> Result<Came, AllocError> {
-    let words = format!(in alloc; "good/caller={call}")?;
-    let mut slots = slots_of(alloc, words.as_str())?;
+    let mut slots = slots_at(alloc, call)?;
     let mut sinks = Sinks::new(alloc)?;
-    let clock = ListClock::new(vec![in alloc; 0]?);
-    let size = Size::once(100);
-    let status = serve_mem(rt, alloc, &mut slots, size, &clock, &OpenGate, &mut sinks)?;
-    let report = replayed(alloc, sinks.out.held())?;
-    let finished = has(&report, b" admitted=1 ") && has(&report, b" finished=1 ");
-    match status {
-        Some(Status::Ok) if !report.is_empty() => Ok(Came::Ok),
-        Some(Status::SlotFault(0)) if finished || has(&report, b" admitted=0 ") => {
-            Ok(Came::SlotFault)
-        }
-        _ => Ok(Came::Wrong),
-    }
+    came(rt, alloc, &mut slots, &mut sinks)
 }
 
 /// At how many of the first 100 calls a session failed as it must, and what came of the next.

@@ -2,7 +2,8 @@
 
 use crate::lines::{show_answer, show_calls};
 use crate::readings::Hands;
-use crate::sessions::{Sinks, Size, has, replayed, serve_mem, slots_of};
+use crate::sessions::{Sinks, Size, has, reports, serve_mem, slots_of};
+use crate::setting::MemSlot;
 use kn_case::case;
 use kn_io::Gate;
 use kn_journal::Status;
@@ -38,48 +39,62 @@ impl Gate for BothGate<'_> {
     }
 }
 
-/// Two callers at one pod.
-pub fn show<R: Threads + Wait + Sync + Print + AllocGlobal>(rt: &R) -> io::Result<()> {
-    let alloc = rt.alloc();
+fn show_passes<R: Print + AllocGlobal>(rt: &R, gate: &BothGate<'_>) -> io::Result<()> {
+    let is_late = gate.late.load(Ordering::SeqCst);
+    case(rt, "both passed it", &is_late, &false)?;
+    let passes = [gate.has_passed(0), gate.has_passed(1)];
+    case(rt, "each passed it once", &passes, &[1, 1])
+}
+
+fn show_journal<R: Print + AllocGlobal>(rt: &R, journal: &[u8]) -> io::Result<()> {
+    for tag in ["\n0 arrive 0\n", "\n0 arrive 1\n"] {
+        let before = has(journal, tag.as_bytes());
+        case(rt, "it had arrived before", &before, &true)?;
+    }
+    Ok(())
+}
+
+fn show_slots<R: Print + AllocGlobal>(rt: &R, slots: &[MemSlot]) -> io::Result<()> {
+    for slot in slots {
+        show_answer(rt, &slot.caller)?;
+        show_calls(rt, &slot.link)?;
+    }
+    Ok(())
+}
+
+fn show_session<R: Threads + Wait + Sync + Print + AllocGlobal>(
+    rt: &R,
+    slots: &mut [MemSlot],
+    sinks: &mut Sinks,
+    hands: &Hands,
+    gate: &BothGate<'_>,
+) -> io::Result<()> {
+    let status = serve_mem(rt, rt.alloc(), slots, Size::once(100), hands, gate, sinks)?;
+    case(rt, "two callers at a gate", &status, &Some(Status::Ok))?;
+    show_passes(rt, gate)?;
+    show_journal(rt, sinks.out.held())?;
+    show_slots(rt, slots)?;
+    let finished = reports(rt.alloc(), sinks.out.held(), b" finished=2 ")?;
+    case(rt, "both are finished", &finished, &true)
+}
+
+fn show_at_gate<R: Threads + Wait + Sync + Print + AllocGlobal>(
+    rt: &R,
+    slots: &mut [MemSlot],
+    sinks: &mut Sinks,
+) -> io::Result<()> {
     let hands = Hands::new();
     let gate = BothGate {
         passed: [AtomicU64::new(0), AtomicU64::new(0)],
         late: AtomicBool::new(false),
         hands: &hands,
     };
-    let mut slots = slots_of(alloc, "good good")?;
-    let mut sinks = Sinks::new(alloc)?;
-    let status = serve_mem(
-        rt,
-        alloc,
-        &mut slots,
-        Size::once(100),
-        &hands,
-        &gate,
-        &mut sinks,
-    )?;
-    case(rt, "two callers at a gate", &status, &Some(Status::Ok))?;
-    case(
-        rt,
-        "both passed it",
-        &gate.late.load(Ordering::SeqCst),
-        &false,
-    )?;
-    let passes = [gate.has_passed(0), gate.has_passed(1)];
-    case(rt, "each passed it once", &passes, &[1, 1])?;
-    for tag in ["\n0 arrive 0\n", "\n0 arrive 1\n"] {
-        let before = has(sinks.out.held(), tag.as_bytes());
-        case(rt, "it had arrived before", &before, &true)?;
-    }
-    for slot in &slots {
-        show_answer(rt, &slot.caller)?;
-        show_calls(rt, &slot.link)?;
-    }
-    let report = replayed(alloc, sinks.out.held())?;
-    case(
-        rt,
-        "both are finished",
-        &has(&report, b" finished=2 "),
-        &true,
-    )
+    show_session(rt, slots, sinks, &hands, &gate)
+}
+
+/// Two callers at one pod.
+pub fn show<R: Threads + Wait + Sync + Print + AllocGlobal>(rt: &R) -> io::Result<()> {
+    let mut slots = slots_of(rt.alloc(), "good good")?;
+    let mut sinks = Sinks::new(rt.alloc())?;
+    show_at_gate(rt, &mut slots, &mut sinks)
 }

@@ -56,9 +56,17 @@ impl Hook for Hands {
 
 type HandsSlot<'a> = Slot<HookedCaller<'a, MemCaller, Hands>, HookedLink<'a, MemLink, Hands>>;
 
+fn caller(alloc: Global) -> Result<MemCaller, AllocError> {
+    had(MemCaller::new(alloc, one_text(alloc, REQUEST)?, 10000, Vec::new(alloc)))
+}
+
+fn link(alloc: Global) -> Result<MemLink, AllocError> {
+    had(MemLink::new(alloc, one_text(alloc, REPLY)?, Vec::new(alloc)))
+}
+
 fn slot_of<'a>(alloc: Global, hands: &'a Hands) -> Result<HandsSlot<'a>, AllocError> {
-    let caller = had(MemCaller::new(alloc, one_text(alloc, REQUEST)?, 10000, Vec::new(alloc)))?;
-    let link = had(MemLink::new(alloc, one_text(alloc, REPLY)?, Vec::new(alloc)))?;
+    let caller = caller(alloc)?;
+    let link = link(alloc)?;
     Ok(Slot {
         caller: HookedCaller {
             caller,
@@ -81,34 +89,54 @@ fn serve_by<'a, R: Threads + Wait + Sync>(
     let link = had(MemLink::new(alloc, Vec::new(alloc), Vec::new(alloc)))?;
     // It is never called, so it sets no time.
     let mut keeper = HookedLink { link, hook: hands };
+    let size = Size::once(100);
     serve(
         rt,
         alloc,
         SETUP,
         slots,
         &mut keeper,
-        Size::once(100),
+        size,
         hands,
         &OpenGate,
         sinks,
     )
 }
 
-pub fn show<R: Threads + Wait + Sync + Print + AllocGlobal>(rt: &R) -> io::Result<()> {
-    let alloc = rt.alloc();
-    let hands = Hands::new();
-    let mut slots = [slot_of(alloc, &hands)?];
-    let mut sinks = Sinks::new(alloc)?;
-    let status = serve_by(rt, alloc, &hands, &mut slots, &mut sinks)?;
-    case(rt, "a clock that is set on", &status, &Some(Status::Ok))?;
-    show_answer(rt, &slots[0].caller.caller)?;
-    let arrived = has(sinks.out.held(), b"\n1000 arrive 0\n");
+fn show_rows<R: Print + AllocGlobal>(rt: &R, journal: &[u8]) -> io::Result<()> {
+    let arrived = has(journal, b"\n1000 arrive 0\n");
     case(rt, "it arrives once it was met", &arrived, &true)?;
-    let finished = has(sinks.out.held(), b"\n1500 finish 0 ok\n");
+    let finished = has(journal, b"\n1500 finish 0 ok\n");
     case(
         rt,
         "it is finished once the pod has answered",
         &finished,
         &true,
     )
+}
+
+fn show_session<'a, R: Threads + Wait + Sync + Print + AllocGlobal>(
+    rt: &R,
+    hands: &'a Hands,
+    slots: &mut [HandsSlot<'a>; 1],
+    sinks: &mut Sinks,
+) -> io::Result<()> {
+    let status = serve_by(rt, rt.alloc(), hands, slots, sinks)?;
+    case(rt, "a clock that is set on", &status, &Some(Status::Ok))?;
+    show_answer(rt, &slots[0].caller.caller)?;
+    show_rows(rt, sinks.out.held())
+}
+
+fn show_to<R: Threads + Wait + Sync + Print + AllocGlobal>(
+    rt: &R,
+    sinks: &mut Sinks,
+) -> io::Result<()> {
+    let hands = Hands::new();
+    let mut slots = [slot_of(rt.alloc(), &hands)?];
+    show_session(rt, &hands, &mut slots, sinks)
+}
+
+pub fn show<R: Threads + Wait + Sync + Print + AllocGlobal>(rt: &R) -> io::Result<()> {
+    let mut sinks = Sinks::new(rt.alloc())?;
+    show_to(rt, &mut sinks)
 }

@@ -4,7 +4,7 @@ ghost use Rattle.kn_request.specs.Outside.{said};
 ghost use Rattle.kn_serve.specs.Opening.{IsFresh};
 
 use crate::lines::show_calls;
-use crate::sessions::{Sinks, Size, replayed, serve_mem};
+use crate::sessions::{Sinks, Size, reports, serve_mem};
 use crate::setting::{MemSlot, REPLY, had, request_of, slot, text_of};
 use kn_case::{case, shown};
 use kn_event::Text;
@@ -15,29 +15,48 @@ use std::io;
 use std::sync::Wait;
 use std::thread::Threads;
 
-fn inputs_of(alloc: Global, names: &str) -> Result<Vec<Text>, AllocError> {
-    let mut inputs = Vec::new(alloc);
+fn add_inputs(alloc: Global, inputs: &mut Vec<Text>, names: &str) -> Result<(), AllocError> {
     for name in names.split(' ') {
         inputs.push(text_of(alloc, request_of(name))?)?;
     }
-    Ok(inputs)
+    Ok(())
+}
+
+fn inputs_of(alloc: Global, names: &str) -> Result<Vec<Text>, AllocError> {
+    let mut inputs = Vec::new(alloc);
+    match add_inputs(alloc, &mut inputs, names) {
+        Ok(()) => Ok(inputs),
+        Err(AllocError) => Err(AllocError),
+    }
+}
+
+fn add_replies(alloc: Global, replies: &mut Vec<Text>, names: &str) -> Result<(), AllocError> {
+    for _ in names.split(' ') {
+        replies.push(text_of(alloc, REPLY)?)?;
+    }
+    Ok(())
+}
+
+fn replies_to(alloc: Global, names: &str) -> Result<Vec<Text>, AllocError> {
+    let mut replies = Vec::new(alloc);
+    match add_replies(alloc, &mut replies, names) {
+        Ok(()) => Ok(replies),
+        Err(AllocError) => Err(AllocError),
+    }
 }
 
 /// A slot with these connections, and a link with a reply for each.
 fn slot_of(alloc: Global, names: &str) -> Result<MemSlot, AllocError> {
-    let mut replies = Vec::new(alloc);
-    for _ in names.split(' ') {
-        replies.push(text_of(alloc, REPLY)?)?;
-    }
     let inputs = inputs_of(alloc, names)?;
-    had(slot(
-        alloc,
-        inputs,
-        Vec::new(alloc),
-        replies,
-        Vec::new(alloc),
-        10000,
-    ))
+    let replies = replies_to(alloc, names)?;
+    let (caller_fails, link_fails) = (Vec::new(alloc), Vec::new(alloc));
+    had(slot(alloc, inputs, caller_fails, replies, link_fails, 10000))
+}
+
+fn add_slot(alloc: Global, slots: &mut Vec<MemSlot>, names: &str) -> Result<(), AllocError> {
+    let slot = slot_of(alloc, names)?;
+    slots.push(slot)?;
+    Ok(())
 }
 
 /// Prints how each answer of a caller begins.
@@ -51,25 +70,44 @@ fn show_answers<R: Print + AllocGlobal>(rt: &R, caller: &MemCaller) -> io::Resul
     Ok(())
 }
 
-pub fn show<R: Threads + Wait + Sync + Print + AllocGlobal>(rt: &R) -> io::Result<()> {
-    let alloc = rt.alloc();
-    let mut slots = vec![in alloc;
-        slot_of(alloc, "good other second")?,
-        slot_of(alloc, "cut second good")?,
-    ]?;
-    let mut sinks = Sinks::new(alloc)?;
+fn show_slots<R: Print + AllocGlobal>(rt: &R, slots: &[MemSlot]) -> io::Result<()> {
+    for slot in slots {
+        show_answers(rt, &slot.caller)?;
+        show_calls(rt, &slot.link)?;
+    }
+    Ok(())
+}
+
+fn serve_three<R: Threads + Wait + Sync>(
+    rt: &R,
+    alloc: Global,
+    slots: &mut [MemSlot],
+    sinks: &mut Sinks,
+) -> Result<Option<Status>, AllocError> {
     let clock = ListClock::new(vec![in alloc; 0]?);
     let size = Size {
         rounds: 3,
         room: 100,
     };
-    let status = serve_mem(rt, alloc, &mut slots, size, &clock, &OpenGate, &mut sinks)?;
+    serve_mem(rt, alloc, slots, size, &clock, &OpenGate, sinks)
+}
+
+fn show_session<R: Threads + Wait + Sync + Print + AllocGlobal>(
+    rt: &R,
+    slots: &mut Vec<MemSlot>,
+    sinks: &mut Sinks,
+) -> io::Result<()> {
+    add_slot(rt.alloc(), slots, "good other second")?;
+    add_slot(rt.alloc(), slots, "cut second good")?;
+    let status = serve_three(rt, rt.alloc(), slots, sinks)?;
     case(rt, "three rounds of two slots", &status, &Some(Status::Ok))?;
-    for slot in &slots {
-        show_answers(rt, &slot.caller)?;
-        show_calls(rt, &slot.link)?;
-    }
-    let report = replayed(alloc, sinks.out.held())?;
-    let finished = crate::sessions::has(&report, b" finished=4 failed=0 ");
+    show_slots(rt, slots)?;
+    let finished = reports(rt.alloc(), sinks.out.held(), b" finished=4 failed=0 ")?;
     case(rt, "four are finished", &finished, &true)
+}
+
+pub fn show<R: Threads + Wait + Sync + Print + AllocGlobal>(rt: &R) -> io::Result<()> {
+    let mut sinks = Sinks::new(rt.alloc())?;
+    let mut slots = Vec::new(rt.alloc());
+    show_session(rt, &mut slots, &mut sinks)
 }

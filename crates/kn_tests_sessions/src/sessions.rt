@@ -83,6 +83,10 @@ fn plan_of(alloc: Global, slots: u64, size: Size) -> Result<Plan, AllocError> {
     })
 }
 
+fn source_of(alloc: Global, bytes: &[u8]) -> Result<MemSource, AllocError> {
+    Ok(MemSource::new(Vec::from_slice(alloc, bytes)?, Vec::new(alloc)))
+}
+
 /// Serves a session over this setup, if its conditions are met.
 pub fn serve<
     C: Caller + Send,
@@ -102,23 +106,64 @@ pub fn serve<
     sinks: &mut Sinks,
 ) -> Result<Option<Status>, AllocError> {
     let plan = plan_of(alloc, slots.len() as u64, size)?;
-    let mut setup = MemSource::new(Vec::from_slice(alloc, setup)?, Vec::new(alloc));
-    if !is_in_range(&plan) || plan.slots != slots.len() as u64 || !are_empty(slots) {
-        return Ok(None);
-    }
-    let status = serve_run(
+    serve_plan(rt, alloc, &plan, setup, slots, keeper, clock, gate, sinks)
+}
+
+fn serve_plan<
+    C: Caller + Send,
+    L: PodLink + Send,
+    K: Clock + Sync,
+    G: Gate + Sync,
+    R: Threads + Wait + Sync,
+>(
+    rt: &R,
+    alloc: Global,
+    plan: &Plan,
+    setup: &[u8],
+    slots: &mut [Slot<C, L>],
+    keeper: &mut L,
+    clock: &K,
+    gate: &G,
+    sinks: &mut Sinks,
+) -> Result<Option<Status>, AllocError> {
+    let mut source = source_of(alloc, setup)?;
+    Ok(serve_source(
         rt,
         alloc,
-        &plan,
-        &mut setup,
+        plan,
+        &mut source,
         slots,
         keeper,
         clock,
         gate,
-        &mut sinks.out,
-        &mut sinks.err,
-    );
-    Ok(Some(status))
+        sinks,
+    ))
+}
+
+fn serve_source<
+    C: Caller + Send,
+    L: PodLink + Send,
+    K: Clock + Sync,
+    G: Gate + Sync,
+    R: Threads + Wait + Sync,
+>(
+    rt: &R,
+    alloc: Global,
+    plan: &Plan,
+    source: &mut MemSource,
+    slots: &mut [Slot<C, L>],
+    keeper: &mut L,
+    clock: &K,
+    gate: &G,
+    sinks: &mut Sinks,
+) -> Option<Status> {
+    if !is_in_range(plan) || plan.slots != slots.len() as u64 || !are_empty(slots) {
+        return None;
+    }
+    let Sinks { out, err } = sinks;
+    Some(serve_run(
+        rt, alloc, plan, source, slots, keeper, clock, gate, out, err,
+    ))
 }
 
 /// Serves a session over memory, with a keeper that finds each pod.
@@ -145,14 +190,27 @@ pub fn serve_mem<K: Clock + Sync, G: Gate + Sync, R: Threads + Wait + Sync>(
     )
 }
 
+fn add_slot(alloc: Global, slots: &mut Vec<MemSlot>, word: &str) -> Result<(), AllocError> {
+    let (name, fails) = word.split_once('/').unwrap_or((word, ""));
+    let slot = had(slot_of(alloc, request_of(name), u64::MAX, fails))?;
+    slots.push(slot)?;
+    Ok(())
+}
+
+fn add_slots(alloc: Global, slots: &mut Vec<MemSlot>, words: &str) -> Result<(), AllocError> {
+    for word in words.split(' ') {
+        add_slot(alloc, slots, word)?;
+    }
+    Ok(())
+}
+
 /// A slot for each of these words.
 pub fn slots_of(alloc: Global, words: &str) -> Result<Vec<MemSlot>, AllocError> {
     let mut slots = Vec::new(alloc);
-    for word in words.split(' ') {
-        let (name, fails) = word.split_once('/').unwrap_or((word, ""));
-        slots.push(had(slot_of(alloc, request_of(name), u64::MAX, fails))?)?;
+    match add_slots(alloc, &mut slots, words) {
+        Ok(()) => Ok(slots),
+        Err(AllocError) => Err(AllocError),
     }
-    Ok(slots)
 }
 
 /// Whether some of the bytes are these.
@@ -160,15 +218,34 @@ pub fn has(bytes: &[u8], part: &[u8]) -> bool {
     !part.is_empty() && bytes.windows(part.len()).any(|w| w == part)
 }
 
+fn replay(alloc: Global, input: &mut MemSource, sinks: &mut Sinks) -> Result<Status, AllocError> {
+    let words = vec![in alloc; String::from_str(alloc, "replay")?]?;
+    let Sinks { out, err } = sinks;
+    Ok(kn_replay::run(alloc, &words, input, out, err))
+}
+
+fn replay_to(alloc: Global, journal: &[u8], sinks: &mut Sinks) -> Result<Status, AllocError> {
+    let mut input = source_of(alloc, journal)?;
+    replay(alloc, &mut input, sinks)
+}
+
 /// The report of a journal, which is replayed; nothing where that goes wrong.
 pub fn replayed(alloc: Global, journal: &[u8]) -> Result<Vec<u8>, AllocError> {
-    let words = vec![in alloc; String::from_str(alloc, "replay")?]?;
-    let mut input = MemSource::new(Vec::from_slice(alloc, journal)?, Vec::new(alloc));
     let mut sinks = Sinks::new(alloc)?;
-    match kn_replay::run(alloc, &words, &mut input, &mut sinks.out, &mut sinks.err) {
+    report_of(alloc, journal, &mut sinks)
+}
+
+fn report_of(alloc: Global, journal: &[u8], sinks: &mut Sinks) -> Result<Vec<u8>, AllocError> {
+    match replay_to(alloc, journal, sinks)? {
         Status::Ok => Vec::from_slice(alloc, sinks.out.held()),
         _ => Ok(Vec::new(alloc)),
     }
+}
+
+/// Whether the journal's report has this text.
+pub fn reports(alloc: Global, journal: &[u8], text: &[u8]) -> Result<bool, AllocError> {
+    let report = replayed(alloc, journal)?;
+    Ok(has(&report, text))
 }
 
 /// Whether the journal is of the setup and the start 0, and ends.
@@ -195,20 +272,63 @@ fn show_journal<R: Print + AllocGlobal>(rt: &R, journal: &[u8], texts: &str) -> 
     show_found(rt, &replayed(rt.alloc(), journal)?, report)
 }
 
-/// Serves a session, and prints its status, what it tells, each answer, and what is found in its journal.
-pub fn show<R: Threads + Wait + Sync + Print + AllocGlobal>(rt: &R, line: &str) -> io::Result<()> {
-    let alloc = rt.alloc();
-    let (head, texts) = line.split_once('|').unwrap_or((line, ""));
-    let (room, inputs) = head.split_once(' ').unwrap_or((head, ""));
-    let mut slots = slots_of(alloc, inputs)?;
-    let mut sinks = Sinks::new(alloc)?;
-    let size = Size::once(room.parse().unwrap_or(0));
+/// What a session is served over, and what it writes.
+#[derive(Drop)]
+struct Stage {
+    slots: Vec<MemSlot>,
+    sinks: Sinks,
+    clock: ListClock,
+}
+
+fn stage_of(alloc: Global, inputs: &str) -> Result<Stage, AllocError> {
+    let slots = slots_of(alloc, inputs)?;
+    let sinks = Sinks::new(alloc)?;
     let clock = ListClock::new(vec![in alloc; 0]?);
-    let status = serve_mem(rt, alloc, &mut slots, size, &clock, &OpenGate, &mut sinks)?;
-    let told = shown(alloc, sinks.err.held())?;
-    println!(rt; "  {status:?}, tells \"{told}\"")?;
-    for slot in &slots {
+    Ok(Stage {
+        slots,
+        sinks,
+        clock,
+    })
+}
+
+fn show_told<R: Print + AllocGlobal>(
+    rt: &R,
+    status: Option<Status>,
+    told: &[u8],
+) -> io::Result<()> {
+    let told = shown(rt.alloc(), told)?;
+    println!(rt; "  {status:?}, tells \"{told}\"")
+}
+
+fn show_answers<R: Print + AllocGlobal>(rt: &R, slots: &[MemSlot]) -> io::Result<()> {
+    for slot in slots {
         show_answer(rt, &slot.caller)?;
     }
+    Ok(())
+}
+
+fn show_stage<R: Threads + Wait + Sync + Print + AllocGlobal>(
+    rt: &R,
+    stage: &mut Stage,
+    size: Size,
+    texts: &str,
+) -> io::Result<()> {
+    let Stage {
+        slots,
+        sinks,
+        clock,
+    } = stage;
+    let status = serve_mem(rt, rt.alloc(), slots, size, clock, &OpenGate, sinks)?;
+    show_told(rt, status, sinks.err.held())?;
+    show_answers(rt, slots)?;
     show_journal(rt, sinks.out.held(), texts)
+}
+
+/// Serves a session, and prints its status, what it tells, each answer, and what is found in its journal.
+pub fn show<R: Threads + Wait + Sync + Print + AllocGlobal>(rt: &R, line: &str) -> io::Result<()> {
+    let (head, texts) = line.split_once('|').unwrap_or((line, ""));
+    let (room, inputs) = head.split_once(' ').unwrap_or((head, ""));
+    let size = Size::once(room.parse().unwrap_or(0));
+    let mut stage = stage_of(rt.alloc(), inputs)?;
+    show_stage(rt, &mut stage, size, texts)
 }

@@ -48,11 +48,17 @@ impl Hook for Probes {
 
 type LateSlot<'a> = Slot<HookedCaller<'a, MemCaller, Probes>, HookedLink<'a, MemLink, Probes>>;
 
+fn caller(alloc: Global) -> Result<MemCaller, AllocError> {
+    had(MemCaller::new(alloc, one_text(alloc, REQUEST)?, 10000, Vec::new(alloc)))
+}
+
+fn link(alloc: Global) -> Result<MemLink, AllocError> {
+    had(MemLink::new(alloc, one_text(alloc, REPLY)?, Vec::new(alloc)))
+}
+
 fn slot_of<'a>(alloc: Global, probes: &'a Probes) -> Result<LateSlot<'a>, AllocError> {
-    let inputs = one_text(alloc, REQUEST)?;
-    let replies = one_text(alloc, REPLY)?;
-    let caller = had(MemCaller::new(alloc, inputs, 10000, Vec::new(alloc)))?;
-    let link = had(MemLink::new(alloc, replies, Vec::new(alloc)))?;
+    let caller = caller(alloc)?;
+    let link = link(alloc)?;
     Ok(Slot {
         caller: HookedCaller {
             caller,
@@ -64,8 +70,21 @@ fn slot_of<'a>(alloc: Global, probes: &'a Probes) -> Result<LateSlot<'a>, AllocE
     })
 }
 
-/// A session of the one slot. The first probe fails, and the later ones find the pod. The start is 0, and each later
-/// reading 2000.
+/// A keeper whose first probe fails.
+fn keeper<'a>(
+    alloc: Global,
+    probes: &'a Probes,
+) -> Result<HookedLink<'a, MemLink, Probes>, AllocError> {
+    let link = had(MemLink::new(alloc, Vec::new(alloc), vec![in alloc; 0]?))?;
+    Ok(HookedLink { link, hook: probes })
+}
+
+/// The start is 0, and each later reading 2000.
+fn clock(alloc: Global) -> Result<ListClock, AllocError> {
+    Ok(ListClock::new(vec![in alloc; 0, 2000]?))
+}
+
+/// A session of the one slot. The first probe fails, and the later ones find the pod.
 fn tick_on<'a, R: Threads + Wait + Sync>(
     rt: &R,
     alloc: Global,
@@ -73,32 +92,47 @@ fn tick_on<'a, R: Threads + Wait + Sync>(
     slots: &mut [LateSlot<'a>],
     sinks: &mut Sinks,
 ) -> Result<Option<Status>, AllocError> {
-    let link = had(MemLink::new(alloc, Vec::new(alloc), vec![in alloc; 0]?))?;
-    let mut keeper = HookedLink { link, hook: probes };
-    let clock = ListClock::new(vec![in alloc; 0, 2000]?);
+    let clock = clock(alloc)?;
+    let mut keeper = keeper(alloc, probes)?;
+    let size = Size::once(100);
     serve(
         rt,
         alloc,
         SETUP,
         slots,
         &mut keeper,
-        Size::once(100),
+        size,
         &clock,
         &OpenGate,
         sinks,
     )
 }
 
-pub fn show<R: Threads + Wait + Sync + Print + AllocGlobal>(rt: &R) -> io::Result<()> {
-    let alloc = rt.alloc();
-    let probes = Probes {
-        count: AtomicU64::new(0),
-    };
-    let mut slots = [slot_of(alloc, &probes)?];
-    let mut sinks = Sinks::new(alloc)?;
-    let status = tick_on(rt, alloc, &probes, &mut slots, &mut sinks)?;
+fn show_session<'a, R: Threads + Wait + Sync + Print + AllocGlobal>(
+    rt: &R,
+    probes: &'a Probes,
+    slots: &mut [LateSlot<'a>; 1],
+    sinks: &mut Sinks,
+) -> io::Result<()> {
+    let status = tick_on(rt, rt.alloc(), probes, slots, sinks)?;
     case(rt, "ticks go on", &status, &Some(Status::Ok))?;
     show_answer(rt, &slots[0].caller.caller)?;
     let found = has(sinks.out.held(), b"\nstart 0\n2000 tick\n2000 ready 0\n");
     case(rt, "a tick and then the pod", &found, &true)
+}
+
+fn show_to<R: Threads + Wait + Sync + Print + AllocGlobal>(
+    rt: &R,
+    sinks: &mut Sinks,
+) -> io::Result<()> {
+    let probes = Probes {
+        count: AtomicU64::new(0),
+    };
+    let mut slots = [slot_of(rt.alloc(), &probes)?];
+    show_session(rt, &probes, &mut slots, sinks)
+}
+
+pub fn show<R: Threads + Wait + Sync + Print + AllocGlobal>(rt: &R) -> io::Result<()> {
+    let mut sinks = Sinks::new(rt.alloc())?;
+    show_to(rt, &mut sinks)
 }
