@@ -78,6 +78,20 @@ fn link_to<'a, N: Net>(net: &'a N, alloc: Global, pod: &str) -> Result<TcpLink<&
     Ok(TcpLink::new(net, Items::new(addresses)))
 }
 
+fn slot_of<'a, N: Net<Listener = TcpListener, Stream = TcpStream>>(
+    net: &'a N,
+    alloc: Global,
+    listener: &TcpListener,
+    pod: &str,
+) -> io::Result<Slot<TcpCaller, TcpLink<&'a N>>> {
+    let link = link_to(net, alloc, pod)?;
+    Ok(Slot {
+        caller: TcpCaller::new(listener.try_clone()?),
+        link,
+        work: Work::new(),
+    })
+}
+
 /// A session of one slot, whose clients come to this listener.
 fn session<
     R: Threads + Wait + Sync + time::Clock + Net<Listener = TcpListener, Stream = TcpStream>,
@@ -88,25 +102,26 @@ fn session<
     pod: &str,
     sinks: &mut Sinks,
 ) -> io::Result<Option<Status>> {
-    let mut slots = [Slot {
-        caller: TcpCaller::new(listener.try_clone()?),
-        link: link_to(rt, alloc, pod)?,
-        work: Work::new(),
-    }];
     let mut keeper = link_to(rt, alloc, pod)?;
+    let mut slots = [slot_of(rt, alloc, listener, pod)?];
+    Ok(serve_one(rt, alloc, &mut slots, &mut keeper, sinks)?)
+}
+
+fn serve_one<
+    'a,
+    R: Threads + Wait + Sync + time::Clock + Net<Listener = TcpListener, Stream = TcpStream>,
+>(
+    rt: &'a R,
+    alloc: Global,
+    slots: &mut [Slot<TcpCaller, TcpLink<&'a R>>],
+    keeper: &mut TcpLink<&'a R>,
+    sinks: &mut Sinks,
+) -> Result<Option<Status>, AllocError> {
     let clock = MachineClock::new(rt);
-    let status = serve(
-        rt,
-        alloc,
-        SETUP,
-        &mut slots,
-        &mut keeper,
-        Size::once(100),
-        &clock,
-        &OpenGate,
-        sinks,
-    )?;
-    Ok(status)
+    let size = Size::once(100);
+    serve(
+        rt, alloc, SETUP, slots, keeper, size, &clock, &OpenGate, sinks,
+    )
 }
 
 /// What came of a session: its status, whether the pod answered, and whether the client got that.
@@ -147,6 +162,28 @@ fn run<
     })
 }
 
+fn show_ended<R: Print>(rt: &R, ended: Ended) -> io::Result<()> {
+    let Ended {
+        status,
+        answered,
+        got,
+    } = ended;
+    case(rt, "a session over loopback", &status?, &Some(Status::Ok))?;
+    case(
+        rt,
+        "the pod answered, and the client got it",
+        &[answered, got],
+        &[true, true],
+    )
+}
+
+fn show_sinks<R: Print + AllocGlobal>(rt: &R, sinks: &Sinks) -> io::Result<()> {
+    case(rt, "nothing is told", &sinks.err.held().is_empty(), &true)?;
+    let report = replayed(rt.alloc(), sinks.out.held())?;
+    let found = has(&report, b" admitted=1 ") && has(&report, b" finished=1 ");
+    case(rt, "its journal has the request", &found, &true)
+}
+
 /// One request, from its client to the pod and back. The session's journal tells of it.
 pub fn show<
     R: Threads
@@ -157,22 +194,7 @@ pub fn show<
         + time::Clock
         + Net<Listener = TcpListener, Stream = TcpStream>,
 >(rt: &R) -> io::Result<()> {
-    let alloc = rt.alloc();
-    let mut sinks = Sinks::new(alloc)?;
-    let Ended {
-        status,
-        answered,
-        got,
-    } = run(rt, alloc, &mut sinks)?;
-    case(rt, "a session over loopback", &status?, &Some(Status::Ok))?;
-    case(
-        rt,
-        "the pod answered, and the client got it",
-        &[answered, got],
-        &[true, true],
-    )?;
-    case(rt, "nothing is told", &sinks.err.held().is_empty(), &true)?;
-    let report = replayed(alloc, sinks.out.held())?;
-    let found = has(&report, b" admitted=1 ") && has(&report, b" finished=1 ");
-    case(rt, "its journal has the request", &found, &true)
+    let mut sinks = Sinks::new(rt.alloc())?;
+    show_ended(rt, run(rt, rt.alloc(), &mut sinks)?)?;
+    show_sinks(rt, &sinks)
 }
