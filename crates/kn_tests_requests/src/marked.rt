@@ -27,11 +27,16 @@ impl Marked {
             marks: Vec::new(alloc),
             free: 0,
         };
+        pods.push_all(count, limit, round)?;
+        Ok(pods)
+    }
+
+    fn push_all(&mut self, count: u64, limit: u64, round: u64) -> Result<(), AllocError> {
         for i in 0..count.min(1_000) {
             let running = (5 * i + round.min(1_000) * 3 + i / 7) % limit.saturating_add(2);
-            pods.push(limit, running)?;
+            self.push(limit, running)?;
         }
-        Ok(pods)
+        Ok(())
     }
 
     fn push(&mut self, limit: u64, running: u64) -> Result<(), AllocError> {
@@ -61,6 +66,47 @@ fn mark_of(cand: &Cand) -> u8
     u8::from(cand.limit == 0 || cand.running < cand.limit)
 }
 
+/// A policy without marks and one with them, and whom each picked in the rounds so far.
+#[derive(Drop)]
+struct Rounds {
+    plain: Policy,
+    marked: Policy,
+    picks: Vec<Option<u64>>,
+    marked_picks: Vec<Option<u64>>,
+}
+
+impl Rounds {
+    fn pick(&mut self, pods: &Marked) -> Result<(), AllocError> {
+        self.picks.push(self.plain.pick(&pods.ready))?;
+        self.marked_picks.push(pods.pick(&mut self.marked))?;
+        Ok(())
+    }
+
+    /// One more round over so many pods of this limit.
+    fn go_on(
+        &mut self,
+        alloc: Global,
+        count: u64,
+        limit: u64,
+        round: u64,
+    ) -> Result<(), AllocError> {
+        let pods = Marked::new(alloc, count, limit, round)?;
+        self.pick(&pods)
+    }
+
+    fn text(&self, alloc: Global) -> Result<String, AllocError> {
+        let (picks, marked_picks) = (&self.picks, &self.marked_picks);
+        format!(in alloc; "pick {picks:?}, pick_marked {marked_picks:?}")
+    }
+
+    fn six(&mut self, alloc: Global, count: u64, limit: u64) -> Result<String, AllocError> {
+        for round in 0..6 {
+            self.go_on(alloc, count, limit, round)?;
+        }
+        self.text(alloc)
+    }
+}
+
 /// Six rounds of a policy, in which some or all of so many pods have a free seat: whom it picks without marks and with
 /// them.
 pub fn six_rounds(
@@ -70,16 +116,13 @@ pub fn six_rounds(
     count: u64,
     limit: u64,
 ) -> Result<String, AllocError> {
-    let mut plain = Policy::new(cc, seed);
-    let mut marked = Policy::new(cc, seed);
-    let mut picks = Vec::new(alloc);
-    let mut marked_picks = Vec::new(alloc);
-    for round in 0..6 {
-        let pods = Marked::new(alloc, count, limit, round)?;
-        picks.push(plain.pick(&pods.ready))?;
-        marked_picks.push(pods.pick(&mut marked))?;
-    }
-    format!(in alloc; "pick {picks:?}, pick_marked {marked_picks:?}")
+    let mut rounds = Rounds {
+        plain: Policy::new(cc, seed),
+        marked: Policy::new(cc, seed),
+        picks: Vec::new(alloc),
+        marked_picks: Vec::new(alloc),
+    };
+    rounds.six(alloc, count, limit)
 }
 
 fn unlimited(pod: u64, running: u64) -> Cand {

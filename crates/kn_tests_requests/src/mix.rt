@@ -1,10 +1,10 @@
 //! A mix of calls of the table beside a plain list.
 use crate::run::Run;
-use anyhow::bail;
+use anyhow::anyhow;
 use kn_case::case;
 use kn_record::{Place, Request};
 use kn_table::Table;
-use std::alloc::AllocError;
+use std::alloc::{AllocError, Global};
 
 /// Some number that no one can tell in advance.
 fn scrambled(seed: u64) -> u64 {
@@ -211,12 +211,14 @@ fn calls_that_agree(
     Ok(calls)
 }
 
-pub fn beside_a_plain_list<R: Print + AllocGlobal>(rt: &R) -> anyhow::Result<()> {
-    let Ok(mut run) = Run::new(rt.alloc()) else {
-        bail!("memory is lacking");
-    };
-    let mut plain = Vec::new(rt.alloc());
-    let agree = calls_that_agree(&mut run, &mut plain, 2_500)?;
+/// How many of so many calls go as by a list that is empty first.
+fn calls_beside_a_list(alloc: Global, run: &mut Run, calls: u64) -> Result<u64, AllocError> {
+    let mut plain = Vec::new(alloc);
+    calls_that_agree(run, &mut plain, calls)
+}
+
+fn tell_calls<R: Print + AllocGlobal>(rt: &R, run: &mut Run) -> anyhow::Result<()> {
+    let agree = calls_beside_a_list(rt.alloc(), run, 2_500)?;
     case(rt, "table, 2500 calls beside a plain list", &agree, &2_500)?;
     case(
         rt,
@@ -225,4 +227,11 @@ pub fn beside_a_plain_list<R: Print + AllocGlobal>(rt: &R) -> anyhow::Result<()>
         &true,
     )?;
     Ok(())
+}
+
+pub fn beside_a_plain_list<R: Print + AllocGlobal>(rt: &R) -> anyhow::Result<()> {
+    match Run::new(rt.alloc()) {
+        Ok(mut run) => tell_calls(rt, &mut run),
+        Err(_) => Err(anyhow!("memory is lacking")),
+    }
 }

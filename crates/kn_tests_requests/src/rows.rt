@@ -5,6 +5,7 @@ use kn_event::Memory;
 use kn_policy::{Cand, Policy};
 use kn_record::Place;
 use std::alloc::{AllocError, Global};
+use std::fmt::Debug;
 
 fn word(line: &str, place: usize) -> &str {
     line.split(' ').nth(place).unwrap_or("")
@@ -25,15 +26,32 @@ fn ready_pod(word: &str) -> Option<Cand> {
     })
 }
 
-/// The Ready pods that a line names.
-fn ready_pods(alloc: Global, line: &str) -> Result<Vec<Cand>, AllocError> {
-    let mut ready = Vec::new(alloc);
+/// Adds the Ready pods that a line names.
+fn add_pods(ready: &mut Vec<Cand>, line: &str) -> Result<(), AllocError> {
     for word in line.split(' ') {
         if let Some(cand) = ready_pod(word) {
             ready.push(cand)?;
         }
     }
+    Ok(())
+}
+
+/// The Ready pods that a line names.
+fn ready_pods(alloc: Global, line: &str) -> Result<Vec<Cand>, AllocError> {
+    let mut ready = Vec::new(alloc);
+    add_pods(&mut ready, line)?;
     Ok(ready)
+}
+
+/// Whom a policy picks among the pods that a line names.
+fn pick(alloc: Global, policy: &mut Policy, line: &str) -> Result<Option<u64>, AllocError> {
+    let ready = ready_pods(alloc, line)?;
+    Ok(policy.pick(&ready))
+}
+
+/// An answer as a line has it.
+fn shown<T: Debug>(alloc: Global, answer: &T) -> Result<String, AllocError> {
+    format!(in alloc; "{answer:?}")
 }
 
 /// The policy and the table to which the calls are made.
@@ -58,11 +76,8 @@ impl Rows {
                 self.policy = Policy::new(number(line, 2), number(line, 4));
                 String::from_str(alloc, "begins")
             }
-            "pick" => {
-                let ready = ready_pods(alloc, line)?;
-                format!(in alloc; "{:?}", self.policy.pick(&ready))
-            }
-            "two" => format!(in alloc; "{}", four_at_two(number(line, 2))),
+            "pick" => shown(alloc, &pick(alloc, &mut self.policy, line)?),
+            "two" => shown(alloc, &four_at_two(number(line, 2))),
             "rounds" => six_rounds(
                 alloc,
                 number(line, 2),
@@ -78,16 +93,16 @@ impl Rows {
         let run = &mut self.run;
         let first = number(line, 1);
         match word(line, 0) {
-            "queued" => format!(in alloc; "{:?}", run.arrive(Place::Queued(first), 3)),
-            "held" => format!(in alloc; "{:?}", run.arrive(Place::Held, 3)),
-            "assign" => format!(in alloc; "{:?}", run.assign(first)),
-            "run" => format!(in alloc; "{}", run.begin(first)),
-            "end" => format!(in alloc; "{:?}", run.end(first)),
-            "lose" => format!(in alloc; "{:?}", run.lose(first)),
-            "get" => format!(in alloc; "{:?}", run.table.get(first)),
-            "firsts" => format!(in alloc; "{:?}", firsts(&run.table, first, number(line, 2))),
-            "len" => format!(in alloc; "{}", run.table.len()),
-            "empty" => format!(in alloc; "{}", run.table.is_empty()),
+            "queued" => shown(alloc, &run.arrive(Place::Queued(first), 3)),
+            "held" => shown(alloc, &run.arrive(Place::Held, 3)),
+            "assign" => shown(alloc, &run.assign(first)),
+            "run" => shown(alloc, &run.begin(first)),
+            "end" => shown(alloc, &run.end(first)),
+            "lose" => shown(alloc, &run.lose(first)),
+            "get" => shown(alloc, &run.table.get(first)),
+            "firsts" => shown(alloc, &firsts(&run.table, first, number(line, 2))),
+            "len" => shown(alloc, &run.table.len()),
+            "empty" => shown(alloc, &run.table.is_empty()),
             _ => String::from_str(alloc, "no such call"),
         }
     }

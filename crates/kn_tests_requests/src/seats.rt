@@ -1,13 +1,21 @@
 //! The seats at pods.
-use anyhow::{bail, ensure};
+ghost use Rattle.std.specs.Prelude.{◌≡◌, []};
+
+use anyhow::{anyhow, ensure};
 use kn_seats::Seats;
 use std::alloc::Global;
 
 /// A pod of limit 1: one runs, ten are queued, and the eleventh is refused.
 pub fn pod_queue_depth(alloc: Global) -> anyhow::Result<()> {
-    let Ok(mut seats) = Seats::new(alloc, 2, 20) else {
-        bail!("memory is lacking");
-    };
+    match Seats::new(alloc, 2, 20) {
+        Ok(mut seats) => queue_ten(&mut seats),
+        Err(_) => Err(anyhow!("memory is lacking")),
+    }
+}
+
+fn queue_ten(seats: &mut Seats) -> anyhow::Result<()>
+    requires { seats.old ≡ record { pods = []; pod_room = 2; request_room = 20 } }
+{
     seats.add(0, 1);
     ensure!(seats.reserve_seat(0), "one runs");
     ensure!(!seats.reserve_seat(0), "one alone runs");
@@ -25,9 +33,15 @@ pub fn pod_queue_depth(alloc: Global) -> anyhow::Result<()> {
 
 /// Each call changes its own pod alone, and a cut limit stops nobody.
 pub fn one_pod_is_changed(alloc: Global) -> anyhow::Result<()> {
-    let Ok(mut seats) = Seats::new(alloc, 2, 4) else {
-        bail!("memory is lacking");
-    };
+    match Seats::new(alloc, 2, 4) {
+        Ok(mut seats) => change_each(&mut seats),
+        Err(_) => Err(anyhow!("memory is lacking")),
+    }
+}
+
+fn change_each(seats: &mut Seats) -> anyhow::Result<()>
+    requires { seats.old ≡ record { pods = []; pod_room = 2; request_room = 4 } }
+{
     seats.add(3, 2);
     seats.add(7, 0);
     ensure!(seats.reserve_seat(3), "one runs at pod 3");
@@ -55,9 +69,15 @@ pub fn one_pod_is_changed(alloc: Global) -> anyhow::Result<()> {
 
 /// All the pods and all the requests that there is room for.
 pub fn all_pods_and_requests(alloc: Global) -> anyhow::Result<()> {
-    let Ok(mut seats) = Seats::new(alloc, 20_500, 20_000) else {
-        bail!("memory is lacking");
-    };
+    match Seats::new(alloc, 20_500, 20_000) {
+        Ok(mut seats) => take_all(&mut seats),
+        Err(_) => Err(anyhow!("memory is lacking")),
+    }
+}
+
+fn take_all(seats: &mut Seats) -> anyhow::Result<()>
+    requires { seats.old ≡ record { pods = []; pod_room = 20500; request_room = 20000 } }
+{
     for p in 0..20_499 {
         seats.add(p, 0);
     }

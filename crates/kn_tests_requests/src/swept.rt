@@ -2,7 +2,7 @@
 ghost use Rattle.std.specs.Prelude.{◌<◌};
 
 use crate::run::{Run, firsts};
-use anyhow::bail;
+use anyhow::anyhow;
 use kn_case::case;
 use kn_record::{Place, Request};
 use std::io;
@@ -76,11 +76,15 @@ fn loses(run: &mut Run, pod: u64, numbers: Range<u64>) -> bool {
 
 /// Each end makes room for one more, through three sweeps.
 pub fn is_swept<R: Print + AllocGlobal>(rt: &R) -> anyhow::Result<()> {
-    let Ok(mut run) = Run::new(rt.alloc()) else {
-        bail!("memory is lacking");
-    };
-    turns_over_when_full(rt, &mut run)?;
-    ends_at_one_pod(rt, &mut run)?;
+    match Run::new(rt.alloc()) {
+        Ok(mut run) => sweep(rt, &mut run),
+        Err(_) => Err(anyhow!("memory is lacking")),
+    }
+}
+
+fn sweep(rt: &impl Print, run: &mut Run) -> anyhow::Result<()> {
+    turns_over_when_full(rt, run)?;
+    ends_at_one_pod(rt, run)?;
     Ok(())
 }
 

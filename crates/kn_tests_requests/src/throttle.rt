@@ -1,5 +1,5 @@
 //! The throttler's calls where nothing has come, each once, with ample memory.
-use anyhow::bail;
+use anyhow::{anyhow, bail};
 use kn_case::case;
 use kn_event::{EntryLog, Memory, Slots, Spec, Stand};
 use kn_throttle::Throttle;
@@ -16,19 +16,29 @@ fn one_seat(alloc: Global) -> Result<Throttle, Memory> {
     Throttle::new(alloc, &spec)
 }
 
+/// How many rows follow from nothing.
+fn settle(alloc: Global, throttle: &mut Throttle) -> Result<usize, Memory> {
+    let mut log = EntryLog::new(alloc)?;
+    throttle.settle(0, &mut log);
+    Ok(log.entries().len())
+}
+
 /// Nothing is known of a request that has not come, and nothing follows from nothing.
 pub fn empty<R: Print + AllocGlobal>(rt: &R) -> anyhow::Result<()> {
-    let Ok(mut log) = EntryLog::new(rt.alloc()) else {
+    match one_seat(rt.alloc()) {
+        Ok(mut throttle) => tell(rt, &mut throttle),
+        Err(_) => Err(anyhow!("memory is lacking")),
+    }
+}
+
+fn tell<R: Print + AllocGlobal>(rt: &R, throttle: &mut Throttle) -> anyhow::Result<()> {
+    let Ok(rows) = settle(rt.alloc(), throttle) else {
         bail!("memory is lacking");
     };
-    let Ok(mut throttle) = one_seat(rt.alloc()) else {
-        bail!("memory is lacking");
-    };
-    throttle.settle(0, &mut log);
-    case(rt, "throttle, rows from nothing", &log.entries().len(), &0)?;
-    no_request_stands(rt, &throttle)?;
-    no_request_ends(rt, &mut throttle)?;
-    no_request_is_due(rt, &mut throttle)?;
+    case(rt, "throttle, rows from nothing", &rows, &0)?;
+    no_request_stands(rt, throttle)?;
+    no_request_ends(rt, throttle)?;
+    no_request_is_due(rt, throttle)?;
     Ok(())
 }
 

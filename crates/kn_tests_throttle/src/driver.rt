@@ -1,5 +1,6 @@
 //! A throttler with its clock, so that each call's conditions are known to hold, and what is called.
-ghost use Rattle.std.specs.Prelude.{◌≡◌, ◌+◌, ◌<◌, ◌≤◌, length};
+ghost use Rattle.std.specs.Prelude.{◌≡◌, ◌+◌, ◌<◌, ◌≤◌, IfOk, length};
+ghost use Rattle.kn_record.specs.Admission.{nothing_yet};
 ghost use Rattle.kn_record.specs.Order.{AreTimed};
 
 use kn_event::{Entry, EntryLog, Memory, Mode, Row, Slots, Spec, Stand};
@@ -46,19 +47,8 @@ pub struct Driver {
 
 impl Driver {
     pub fn open(alloc: Global, setting: &Setting) -> Result<Driver, Memory> {
-        time_laws();
-        let slots = Slots {
-            depth: setting.slots.depth.clamp(1, 10_000),
-            max: setting.slots.max.clamp(1, 1_000),
-            seed: setting.slots.seed,
-        };
-        let spec = Spec::fixed(alloc, setting.cc.min(1_000), 0, 1, slots)?;
         let log = EntryLog::new(alloc)?;
-        let mut throttle = Throttle::new(alloc, &spec)?;
-        for p in 0..setting.pods.min(500) {
-            let drains = setting.drains > 0 && p % setting.drains == setting.drains - 1;
-            add_pod(&mut throttle, p, setting.limit.min(1_000), drains);
-        }
+        let throttle = with_pods(alloc, setting)?;
         Ok(Driver {
             throttle,
             log,
@@ -150,6 +140,37 @@ fn arrival_row(r: u64, arrival: Arrival) -> Row {
         Arrival::QueueFull(pod) => Row::QueueFull(r, pod),
         Arrival::Direct(pod) => Row::Direct(r, pod),
         Arrival::Admit => Row::Admit(r, 0),
+    }
+}
+
+fn without_pods(alloc: Global, setting: &Setting) -> Result<Throttle, Memory>
+    ensures { IfOk result (λ t. t.admission ≡ nothing_yet) }
+{
+    let slots = Slots {
+        depth: setting.slots.depth.clamp(1, 10_000),
+        max: setting.slots.max.clamp(1, 1_000),
+        seed: setting.slots.seed,
+    };
+    let spec = Spec::fixed(alloc, setting.cc.min(1_000), 0, 1, slots)?;
+    Throttle::new(alloc, &spec)
+}
+
+fn with_pods(alloc: Global, setting: &Setting) -> Result<Throttle, Memory>
+    ensures { IfOk result (λ t. AreTimed 0 t.admission) }
+{
+    let mut throttle = without_pods(alloc, setting)?;
+    add_pods(&mut throttle, setting);
+    Ok(throttle)
+}
+
+fn add_pods(throttle: &mut Throttle, setting: &Setting)
+    requires { throttle.old.admission ≡ nothing_yet }
+    ensures { AreTimed 0 throttle.new.admission }
+{
+    time_laws();
+    for p in 0..setting.pods.min(500) {
+        let drains = setting.drains > 0 && p % setting.drains == setting.drains - 1;
+        add_pod(throttle, p, setting.limit.min(1_000), drains);
     }
 }
 

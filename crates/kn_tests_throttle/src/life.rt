@@ -97,12 +97,18 @@ fn serve_and_lose(throttle: &mut Throttle) -> Lost
     }
 }
 
+fn lose_and_settle(alloc: Global, throttle: &mut Throttle) -> Result<(Lost, usize), Memory>
+    requires { throttle.old.admission ≡ nothing_yet }
+{
+    let lost = serve_and_lose(throttle);
+    let rows = settle(alloc, throttle)?;
+    Ok((lost, rows))
+}
+
 /// What became of them, and how many rows followed.
 fn lost_and_rows(alloc: Global) -> Result<(Lost, usize), Memory> {
     let mut throttle = new_throttle(alloc)?;
-    let lost = serve_and_lose(&mut throttle);
-    let rows = settle(alloc, &mut throttle)?;
-    Ok((lost, rows))
+    lose_and_settle(alloc, &mut throttle)
 }
 
 fn tell(rt: &impl Print, lost: &Lost) -> io::Result<()> {

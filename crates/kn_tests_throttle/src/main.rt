@@ -12,22 +12,25 @@ mod life;
 mod mix;
 mod rows;
 
-use anyhow::bail;
+use anyhow::anyhow;
 use driver::{Driver, Setting};
 use kn_event::Slots;
-use std::alloc::AllocError;
+use std::alloc::{AllocError, Global};
+use std::io;
+
+/// A line with what its call makes.
+fn with_answer(alloc: Global, driver: &mut Driver, line: &str) -> Result<String, AllocError> {
+    let answer = rows::answer(alloc, driver, line)?;
+    format!(in alloc; "{line}: {answer}")
+}
 
 /// What a line becomes: what it says, or with what its call makes.
-fn answered<R: AllocGlobal>(
-    rt: &R,
-    driver: &mut Driver,
-    line: String,
-) -> Result<String, AllocError> {
+fn answered(alloc: Global, driver: &mut Driver, line: String) -> Result<String, AllocError> {
     if line.as_str().starts_with('#') {
-        return Ok(line);
+        Ok(line)
+    } else {
+        with_answer(alloc, driver, line.as_str())
     }
-    let answer = rows::answer(rt.alloc(), driver, line.as_str())?;
-    format!(in rt.alloc(); "{line}: {answer}")
 }
 
 /// No pods.
@@ -43,15 +46,31 @@ const NO_PODS: Setting = Setting {
     },
 };
 
-fn main(rt: HostRuntime) -> anyhow::Result<()> {
-    let alloc = rt.alloc();
-    let Ok(mut driver) = Driver::open(alloc, &NO_PODS) else {
-        bail!("memory is lacking");
-    };
-    for line in rt.lines(alloc) {
-        let text = answered(&rt, &mut driver, line?)?;
-        println!(rt; "{text}")?;
+/// Prints what a line becomes.
+fn say(rt: &HostRuntime, driver: &mut Driver, line: io::Result<String>) -> anyhow::Result<()> {
+    let text = answered(rt.alloc(), driver, line?)?;
+    println!(rt; "{text}")?;
+    Ok(())
+}
+
+/// Prints what each line of standard input becomes.
+fn say_all(rt: &HostRuntime, driver: &mut Driver) -> anyhow::Result<()> {
+    for line in rt.lines(rt.alloc()) {
+        say(rt, driver, line)?;
     }
+    Ok(())
+}
+
+/// The worked rows.
+fn worked_rows(rt: &HostRuntime) -> anyhow::Result<()> {
+    match Driver::open(rt.alloc(), &NO_PODS) {
+        Ok(mut driver) => say_all(rt, &mut driver),
+        Err(_) => Err(anyhow!("memory is lacking")),
+    }
+}
+
+fn main(rt: HostRuntime) -> anyhow::Result<()> {
+    worked_rows(&rt)?;
     full::full_and_swept(&rt)?;
     full::cursors_pass_who_gave_up(&rt)?;
     life::pod_is_lost(&rt)

@@ -113,16 +113,20 @@ impl Mix {
         }
         self.digest
     }
+
+    fn four_hundred_calls(&mut self) -> [u64; 4] {
+        [
+            self.hundred_calls(),
+            self.hundred_calls(),
+            self.hundred_calls(),
+            self.hundred_calls(),
+        ]
+    }
 }
 
 /// All the rows of a mix of 400 calls, where a request stands after each, and how many are live: a digest after each
 /// hundred.
 pub fn digests(alloc: Global, setting: &Setting, seed: u64) -> Result<[u64; 4], Memory> {
     let mut mix = Mix::open(alloc, setting, seed)?;
-    Ok([
-        mix.hundred_calls(),
-        mix.hundred_calls(),
-        mix.hundred_calls(),
-        mix.hundred_calls(),
-    ])
+    Ok(mix.four_hundred_calls())
 }

@@ -3,7 +3,7 @@ ghost use Rattle.std.specs.Prelude.{◌<◌};
 
 use crate::driver::{Call, Driver, Setting};
 use crate::mix::digests;
-use kn_event::Slots;
+use kn_event::{Entry, Row, Slots};
 use std::alloc::{AllocError, Global};
 
 fn word(line: &str, place: usize) -> &str {
@@ -43,15 +43,31 @@ fn call_of(line: &str) -> Option<Call> {
     }
 }
 
+/// The row that a call makes, if it makes one.
+fn row_text(alloc: Global, row: Option<Row>) -> Result<String, AllocError> {
+    match row {
+        Some(row) => format!(in alloc; "{row:?}"),
+        None => String::from_str(alloc, "no row"),
+    }
+}
+
+/// Adds the rows that follow.
+fn add_rows(alloc: Global, text: &mut String, entries: &[Entry]) -> Result<(), AllocError> {
+    for entry in entries {
+        add_row(alloc, text, &entry.row)?;
+    }
+    Ok(())
+}
+
+fn add_row(alloc: Global, text: &mut String, row: &Row) -> Result<(), AllocError> {
+    let row = format!(in alloc; ", {row:?}")?;
+    text.push_str(row.as_str())
+}
+
 /// The row that a call makes, if it makes one, and those that follow.
 fn made(alloc: Global, driver: &mut Driver, call: Call) -> Result<String, AllocError> {
-    let mut text = match driver.call(call) {
-        Some(row) => format!(in alloc; "{row:?}")?,
-        None => String::from_str(alloc, "no row")?,
-    };
-    for entry in driver.settle() {
-        text = format!(in alloc; "{text}, {:?}", entry.row)?;
-    }
+    let mut text = row_text(alloc, driver.call(call))?;
+    add_rows(alloc, &mut text, driver.settle())?;
     Ok(text)
 }
 
@@ -64,13 +80,24 @@ fn mixed(alloc: Global, line: &str) -> Result<String, AllocError> {
     )
 }
 
+/// Another throttler in place of this one.
+fn reopen(alloc: Global, driver: &mut Driver, setting: &Setting) -> Result<(), AllocError> {
+    match Driver::open(alloc, setting) {
+        Ok(opened) => {
+            *driver = opened;
+            Ok(())
+        }
+        Err(_) => Err(AllocError),
+    }
+}
+
 /// What a line's call makes of the throttler.
 pub fn answer(alloc: Global, driver: &mut Driver, line: &str) -> Result<String, AllocError> {
     if let "mix" = word(line, 0) {
         return mixed(alloc, line);
     }
     if let "pods" = word(line, 0) {
-        *driver = Driver::open(alloc, &setting(line, 0)).or(Err(AllocError))?;
+        reopen(alloc, driver, &setting(line, 0))?;
         return String::from_str(alloc, "open");
     }
     driver.at(number(line, 0));

@@ -1,7 +1,7 @@
 use Rattle.std.proofs.Common.{◌≡◌, ◌+◌}
 use Rattle.std.specs.Prelude.{IsTrue}
 use Rattle.kn_seats.specs.Pods.{has_pod, requests_at_all}
-use Rattle.kn_tests_requests.proofs.seats.pod_queue_depth.Given as goal
+use Rattle.kn_tests_requests.proofs.seats.queue_ten.Given as goal
 
 abbrev pub invariant-loop-r : goal.invariant-loop-r
 invariant-loop-r l = record {

@@ -1,7 +1,7 @@
 use Rattle.std.proofs.Common.{◌++◌, ◌∷◌, [], ◌+◌, drop, arith, refl}
 use Rattle.std.proofs.lemmas.Grind.{common_steps}
 use Rattle.kn_tests_requests.proofs.Pods.{has_pod-changed}
-use Rattle.kn_tests_requests.proofs.seats.all_pods_and_requests.Goals as goal
+use Rattle.kn_tests_requests.proofs.seats.take_all.Goals as goal
 
 pub loop-r-preserved : goal.loop-r-preserved
 loop-r-preserved c =

@@ -1,7 +1,7 @@
 use Rattle.std.proofs.Common.{◌++◌, ◌∷◌, [], arith, refl}
 use Rattle.std.proofs.lemmas.Grind.{common_steps}
 use Rattle.kn_tests_requests.proofs.Pods.{has_pod-changed}
-use Rattle.kn_tests_requests.proofs.seats.pod_queue_depth.Goals as goal
+use Rattle.kn_tests_requests.proofs.seats.queue_ten.Goals as goal
 
 pub loop-r-preserved : goal.loop-r-preserved
 loop-r-preserved c =

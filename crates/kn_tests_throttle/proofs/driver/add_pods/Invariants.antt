@@ -1,6 +1,6 @@
 use Rattle.std.proofs.Common.{◌≡◌, ◌≤◌, length}
 use Rattle.kn_record.specs.Order.{AreTimed}
-use Rattle.kn_tests_throttle.proofs.driver.Driver.open.Given as goal
+use Rattle.kn_tests_throttle.proofs.driver.add_pods.Given as goal
 
 abbrev pub invariant-loop-p : goal.invariant-loop-p
 invariant-loop-p l = record {

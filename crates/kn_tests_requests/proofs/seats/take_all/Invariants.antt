@@ -1,7 +1,7 @@
 use Rattle.std.proofs.Common.{◌≡◌, ◌<◌, length}
 use Rattle.std.specs.Prelude.{IsTrue, All}
 use Rattle.kn_seats.specs.Pods.{has_pod, requests_at_all}
-use Rattle.kn_tests_requests.proofs.seats.all_pods_and_requests.Given as goal
+use Rattle.kn_tests_requests.proofs.seats.take_all.Given as goal
 
 abbrev pub invariant-loop-p : goal.invariant-loop-p
 invariant-loop-p l = record {
