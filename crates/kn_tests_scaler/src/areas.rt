@@ -30,13 +30,17 @@ fn step(meter: &mut Meter, time: u64, change: Change) -> Option<Closed> {
     Some(closed)
 }
 
+fn steps_of_one(meter: &mut Meter) -> Option<[Closed; 4]> {
+    let before = step(meter, 500, Change::Admitted)?;
+    let held = step(meter, 700, Change::Assigned(0))?;
+    let over = step(meter, 2500, Change::EndedAt(0, true))?;
+    Some([before, held, over, meter.advance(3000, true)?])
+}
+
 /// What closes with each step of one request.
 fn one_request(alloc: Global) -> Option<[Closed; 4]> {
     let mut meter = Meter::new(alloc, 0, Metric::Concurrency)?;
-    let before = step(&mut meter, 500, Change::Admitted)?;
-    let held = step(&mut meter, 700, Change::Assigned(0))?;
-    let over = step(&mut meter, 2500, Change::EndedAt(0, true))?;
-    Some([before, held, over, meter.advance(3000, true)?])
+    steps_of_one(&mut meter)
 }
 
 /// The area of pod 0 at a later time.
@@ -45,15 +49,19 @@ fn area_at(meter: &mut Meter, time: u64) -> Option<PodArea> {
     Some(meter.area(0))
 }
 
+fn areas_of_one(meter: &mut Meter) -> Option<[PodArea; 3]> {
+    let _ = step(meter, 500, Change::Admitted)?;
+    let _ = step(meter, 700, Change::Assigned(0))?;
+    let early = area_at(meter, 900)?;
+    meter.change(Change::Directed(0))?;
+    let late = area_at(meter, 950)?;
+    Some([early, late, area_at(meter, 1100)?])
+}
+
 /// What pod 0 took at 900, at 950 and at 1,100, with one request from 700 on and one straight from 900 on.
 fn one_pod(alloc: Global) -> Option<[PodArea; 3]> {
     let mut meter = Meter::new(alloc, 0, Metric::Concurrency)?;
-    let _ = step(&mut meter, 500, Change::Admitted)?;
-    let _ = step(&mut meter, 700, Change::Assigned(0))?;
-    let early = area_at(&mut meter, 900)?;
-    meter.change(Change::Directed(0))?;
-    let late = area_at(&mut meter, 950)?;
-    Some([early, late, area_at(&mut meter, 1100)?])
+    areas_of_one(&mut meter)
 }
 
 /// What closes where a pod left that had a request from 500 to 900.
@@ -79,14 +87,22 @@ fn burst(stats: &mut Stats)
     stats.change(Change::EndedHeld);
 }
 
+/// So many requests come and end at once, one after the other.
+fn bursts(stats: &mut Stats, requests: u64)
+    requires { IsEmpty stats.old }
+    ensures { stats.new.time ≡ stats.old.time }
+{
+    for _ in 0..requests {
+        burst(stats);
+    }
+}
+
 /// What closes at 5,000 after so many requests came and ended at 300, with no pod Ready.
 fn after_bursts(alloc: Global, metric: Metric, requests: u64) -> Option<Closed> {
     let Ok(mut stats) = Stats::new(alloc, 300, metric) else {
         return None;
     };
-    for _ in 0..requests {
-        burst(&mut stats);
-    }
+    bursts(&mut stats, requests);
     Some(stats.advance(5000, false))
 }
 
@@ -109,17 +125,25 @@ fn after_arrivals(sampled: bool, arrived: u64) -> Option<Closed> {
     Some(closed(Some(first), Some(rest)))
 }
 
-/// What two pods took by 250 where 20,500 are named: one with a request, the last to be named, and one whose request ended.
-fn most_pods(alloc: Global) -> Option<[u64; 2]> {
-    let mut meter = Meter::new(alloc, 0, Metric::Concurrency)?;
+/// A request comes to the pod and ends at once.
+fn name_pod(meter: &mut Meter, p: u64) -> Option<()> {
+    meter.change(Change::Directed(p))?;
+    meter.change(Change::EndedAt(p, false))
+}
+
+fn name_most(meter: &mut Meter) -> Option<[u64; 2]> {
     for k in 0..20_499 {
-        let p = k * 7919 % 20_500;
-        meter.change(Change::Directed(p))?;
-        meter.change(Change::EndedAt(p, false))?;
+        name_pod(meter, k * 7919 % 20_500)?;
     }
     meter.change(Change::Directed(20_499 * 7919 % 20_500))?;
     let _ = meter.advance(250, false)?;
     Some([meter.area(12_581).area, meter.area(20_499).area])
+}
+
+/// What two pods took by 250 where 20,500 are named: one with a request, the last to be named, and one whose request ended.
+fn most_pods(alloc: Global) -> Option<[u64; 2]> {
+    let mut meter = Meter::new(alloc, 0, Metric::Concurrency)?;
+    name_most(&mut meter)
 }
 
 fn arrivals<R: Print + AllocGlobal>(rt: &R) -> io::Result<()> {

@@ -55,6 +55,19 @@ impl Meter {
     pub fn new(alloc: Global, start: u64, metric: Metric) -> Option<Meter> {
         let straight_at = no_counts(alloc, 20_500)?;
         let through_at = no_counts(alloc, 20_500)?;
+        Meter::with_counts(alloc, start, metric, straight_at, through_at)
+    }
+
+    fn with_counts(
+        alloc: Global,
+        start: u64,
+        metric: Metric,
+        straight_at: Vec<u64>,
+        through_at: Vec<u64>,
+    ) -> Option<Meter>
+        requires straight { (p : ℕ) → get_or straight_at.items p 0 ≡ 0 }
+        requires through { (p : ℕ) → get_or through_at.items p 0 ≡ 0 }
+    {
         let Ok(stats) = Stats::new(alloc, start, metric) else {
             return None;
         };

@@ -3,17 +3,38 @@ use kn_case::case;
 use kn_event::{Entry, EntryLog, Line, entry_line};
 use kn_pods::{PodAnswer, Pods};
 use std::alloc::Global;
+use std::fmt::Display;
 use std::io;
 
 fn text(alloc: Global, text: &str) -> Option<String> {
     String::from_str(alloc, text).ok()
 }
 
+fn line_text(alloc: Global, line: &Line) -> Option<String> {
+    text(alloc, str::from_utf8(line.bytes()).ok()?.trim_end())
+}
+
 /// The entry as a report has it.
 fn entry_text(alloc: Global, entry: &Entry) -> Option<String> {
     let mut line = Line::new();
     entry_line(entry, &mut line);
-    text(alloc, str::from_utf8(line.bytes()).ok()?.trim_end())
+    line_text(alloc, &line)
+}
+
+/// Adds an entry to those before it.
+fn add_entry(alloc: Global, rows: &mut String, entry: &Entry) -> Option<()> {
+    if !rows.is_empty() {
+        rows.push_str(", ").ok()?;
+    }
+    let text = entry_text(alloc, entry)?;
+    rows.push_str(text.as_str()).ok()
+}
+
+fn add_entries(alloc: Global, rows: &mut String, entries: &[Entry]) -> Option<()> {
+    for entry in entries {
+        add_entry(alloc, rows, entry)?;
+    }
+    Some(())
 }
 
 /// Pods, and the rows of the last scale.
@@ -25,10 +46,11 @@ pub struct Scaled {
 
 impl Scaled {
     pub fn new(alloc: Global) -> Option<Scaled> {
-        Some(Scaled {
-            pods: Pods::new(alloc).ok()?,
-            log: EntryLog::new(alloc).ok()?,
-        })
+        let log = EntryLog::new(alloc).ok()?;
+        match Pods::new(alloc) {
+            Ok(pods) => Some(Scaled { pods, log }),
+            Err(_) => None,
+        }
     }
 
     /// The log has just the rows of one more scale.
@@ -51,16 +73,11 @@ impl Scaled {
 
     /// The rows, one after the other.
     fn rows(&self, alloc: Global) -> Option<String> {
-        let mut rows = String::new(alloc);
-        for entry in self.log.entries() {
-            if !rows.is_empty() {
-                rows.push_str(", ").ok()?;
-            }
-            rows.push_str(entry_text(alloc, entry)?.as_str()).ok()?;
-        }
-        if rows.is_empty() {
+        if self.log.entries().is_empty() {
             return text(alloc, "none");
         }
+        let mut rows = String::new(alloc);
+        add_entries(alloc, &mut rows, self.log.entries())?;
         Some(rows)
     }
 
@@ -75,13 +92,10 @@ impl Scaled {
             }
             "ready" => text(alloc, ready_word(self.pods.ready(number))),
             "next-starting" => next_text(alloc, self.pods.next_starting(number)),
-            "count-ready" => format!(in alloc; "{}", self.pods.count_ready()).ok(),
-            "live" => format!(in alloc; "{}", self.pods.live(number)).ok(),
-            "lost" => format!(in alloc; "{}", self.pods.lost(number)).ok(),
-            "remove" => {
-                let (before, after) = self.remove(number);
-                format!(in alloc; "draining {before}, then {after}").ok()
-            }
+            "count-ready" => shown(alloc, &self.pods.count_ready()),
+            "live" => shown(alloc, &self.pods.live(number)),
+            "lost" => shown(alloc, &self.pods.lost(number)),
+            "remove" => removed_text(alloc, self.remove(number)),
             _ => None,
         }
     }
@@ -95,10 +109,19 @@ fn ready_word(answer: PodAnswer) -> &'static str {
     }
 }
 
+fn shown<T: Display>(alloc: Global, answer: &T) -> Option<String> {
+    format!(in alloc; "{answer}").ok()
+}
+
+fn removed_text(alloc: Global, drained: (bool, bool)) -> Option<String> {
+    let (before, after) = drained;
+    format!(in alloc; "draining {before}, then {after}").ok()
+}
+
 fn next_text(alloc: Global, next: Option<u64>) -> Option<String> {
     match next {
         None => text(alloc, "none"),
-        Some(p) => format!(in alloc; "{p}").ok(),
+        Some(p) => shown(alloc, &p),
     }
 }
 
@@ -127,29 +150,33 @@ fn remove_all(scaled: &mut Scaled, count: u64) -> u64 {
 
 /// As many pods as there may be: 20,000 drain, and 500 more come and drain too.
 pub fn most_pods<R: Print + AllocGlobal>(rt: &R) -> io::Result<()> {
-    let Some(mut scaled) = Scaled::new(rt.alloc()) else {
-        return println!(rt; "most pods: no memory");
-    };
-    case(rt, "most pods, scales", &turn_over(&mut scaled, 82), &82)?;
-    case(
-        rt,
-        "most pods, created",
-        &scaled.pods.count_created(),
-        &20_500,
-    )?;
-    case(
-        rt,
-        "most pods, draining",
-        &scaled.pods.count_draining(),
-        &20_500,
-    )?;
-    case(
-        rt,
-        "most pods, removed",
-        &remove_all(&mut scaled, 20_500),
-        &20_500,
-    )?;
-    case(rt, "most pods, left", &scaled.pods.count_draining(), &0)?;
+    match Scaled::new(rt.alloc()) {
+        Some(mut scaled) => tell_most(rt, &mut scaled),
+        None => println!(rt; "most pods: no memory"),
+    }
+}
+
+fn tell_most<R: Print + AllocGlobal>(rt: &R, scaled: &mut Scaled) -> io::Result<()> {
+    tell_scales(rt, scaled)?;
+    tell_removals(rt, scaled)?;
+    tell_next(rt, scaled)
+}
+
+fn tell_scales(rt: &impl Print, scaled: &mut Scaled) -> io::Result<()> {
+    case(rt, "most pods, scales", &turn_over(scaled, 82), &82)?;
+    let created = scaled.pods.count_created();
+    case(rt, "most pods, created", &created, &20_500)?;
+    let draining = scaled.pods.count_draining();
+    case(rt, "most pods, draining", &draining, &20_500)
+}
+
+fn tell_removals(rt: &impl Print, scaled: &mut Scaled) -> io::Result<()> {
+    let removed = remove_all(scaled, 20_500);
+    case(rt, "most pods, removed", &removed, &20_500)?;
+    case(rt, "most pods, left", &scaled.pods.count_draining(), &0)
+}
+
+fn tell_next<R: Print + AllocGlobal>(rt: &R, scaled: &mut Scaled) -> io::Result<()> {
     scaled.scale(1);
     let row = scaled.rows(rt.alloc());
     let row = row.as_ref().map_or("", |row| row.as_str());

@@ -212,13 +212,17 @@ impl Recount {
     }
 }
 
-/// How many answers were right and wrong in 400 turns, at each of which five are compared.
-fn recounted(alloc: Global, metric: Metric) -> Option<(u64, u64)> {
-    let mut recount = Recount::new(alloc, metric)?;
+fn turns(recount: &mut Recount) -> Option<(u64, u64)> {
     for k in 0..400 {
         recount.turn(mixed(k))?;
     }
     Some((recount.right, recount.wrong))
+}
+
+/// How many answers were right and wrong in 400 turns, at each of which five are compared.
+fn recounted(alloc: Global, metric: Metric) -> Option<(u64, u64)> {
+    let mut recount = Recount::new(alloc, metric)?;
+    turns(&mut recount)
 }
 
 pub fn compare<R: Print + AllocGlobal>(rt: &R) -> io::Result<()> {

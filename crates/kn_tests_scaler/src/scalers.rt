@@ -69,36 +69,79 @@ fn scaled(alloc: Global, initial: u64) -> Option<Spec>
     Some(spec)
 }
 
-/// What one that opens with no pod says of itself: phase, mode, pods wanted, and the decision of a tick.
+/// What one says of itself as it opens: phase, mode, pods wanted, and the decision of a tick.
+fn first_words(scaler: &mut Scaler) -> (Phase, Mode, u64, Option<Ruled>)
+    requires { scaler.old.stats.time ≡ 0 }
+{
+    let (phase, mode, want) = (scaler.phase(), scaler.mode(), scaler.want());
+    (phase, mode, want, scaler.tick(0, 0))
+}
+
+fn open_by(alloc: Global, spec: &Spec) -> Option<(Phase, Mode, u64, Option<Ruled>)>
+    requires { spec.now.kind ≡ kind.Kpa }
+{
+    match Scaler::new(alloc, spec, 0) {
+        Ok(mut scaler) => Some(first_words(&mut scaler)),
+        Err(_) => None,
+    }
+}
+
+/// What one that opens with no pod says of itself.
 fn opened(alloc: Global) -> Option<(Phase, Mode, u64, Option<Ruled>)> {
     let spec = scaled(alloc, 0)?;
-    let Ok(mut scaler) = Scaler::new(alloc, &spec, 0) else {
-        return None;
-    };
-    let (phase, mode, want) = (scaler.phase(), scaler.mode(), scaler.want());
-    Some((phase, mode, want, scaler.tick(0, 0)))
+    open_by(alloc, &spec)
+}
+
+fn wake_first(scaler: &mut Scaler, spec: &Spec) -> (Ruled, bool)
+    requires stands { StandsFor spec.now scaler.old (opening spec.now 0) }
+    requires time { scaler.old.stats.time ≡ 0 }
+    requires slots { 0 < spec.now.slots.depth + spec.now.slots.max }
+{
+    admit_first(scaler, spec, 500);
+    let ruled = scaler.wake(500, 0);
+    (ruled, scaler.pod_ready(500, 1))
+}
+
+fn wake_by(alloc: Global, spec: &Spec) -> Option<(Ruled, bool)>
+    requires kind { spec.now.kind ≡ kind.Kpa }
+    requires slots { 0 < spec.now.slots.depth + spec.now.slots.max }
+{
+    match Scaler::new(alloc, spec, 0) {
+        Ok(mut scaler) => Some(wake_first(&mut scaler, spec)),
+        Err(_) => None,
+    }
 }
 
 /// With no pod wanted, the first request that is admitted wakes the revision; then a pod is Ready.
 fn woken(alloc: Global) -> Option<(Ruled, bool)> {
     let spec = scaled(alloc, 0)?;
-    let Ok(mut scaler) = Scaler::new(alloc, &spec, 0) else {
-        return None;
-    };
-    admit_first(&mut scaler, &spec, 500);
-    let ruled = scaler.wake(500, 0);
-    Some((ruled, scaler.pod_ready(500, 1)))
+    wake_by(alloc, &spec)
+}
+
+fn hold_first(scaler: &mut Scaler, spec: &Spec) -> Option<Ruled>
+    requires stands { StandsFor spec.now scaler.old (opening spec.now 0) }
+    requires time { scaler.old.stats.time ≡ 0 }
+    requires slots { 0 < spec.now.slots.depth + spec.now.slots.max }
+{
+    admit_first(scaler, spec, 500);
+    scaler.advance(2000, false);
+    scaler.tick(2000, 0)
+}
+
+fn hold_by(alloc: Global, spec: &Spec) -> Option<Ruled>
+    requires kind { spec.now.kind ≡ kind.Kpa }
+    requires slots { 0 < spec.now.slots.depth + spec.now.slots.max }
+{
+    match Scaler::new(alloc, spec, 0) {
+        Ok(mut scaler) => hold_first(&mut scaler, spec),
+        Err(_) => None,
+    }
 }
 
 /// A request that is held from half a second on takes half of that one and all of the next.
 fn held(alloc: Global) -> Option<Ruled> {
     let spec = scaled(alloc, 1)?;
-    let Ok(mut scaler) = Scaler::new(alloc, &spec, 0) else {
-        return None;
-    };
-    admit_first(&mut scaler, &spec, 500);
-    scaler.advance(2000, false);
-    scaler.tick(2000, 0)
+    hold_by(alloc, &spec)
 }
 
 pub fn cases<R: Print + AllocGlobal>(rt: &R) -> io::Result<()> {
