@@ -62,26 +62,53 @@ fn holds<R: Print>(rt: &R, name: &str, sink: &MemSink) -> io::Result<()> {
     println!(rt; "{name} holds {text:?}")
 }
 
-/// Reads 1 and 3 fail.
-fn failing_reads<R: Print + AllocGlobal>(rt: &R) -> io::Result<()> {
-    let alloc = rt.alloc();
-    let bytes = Vec::from_slice(alloc, b"abcde")?;
-    let mut source = MemSource::new(bytes, vec![in alloc; 1, 3]?);
-    for _ in 0..7 {
-        read_two(rt, "read", &mut source)?;
+/// Reads so many times.
+pub fn read_twos<R: Print, S: Source>(
+    rt: &R,
+    name: &str,
+    source: &mut S,
+    times: u32,
+) -> io::Result<()> {
+    for _ in 0..times {
+        read_two(rt, name, source)?;
     }
     Ok(())
+}
+
+/// A source of five bytes, whose reads 1 and 3 fail.
+fn failing_source(alloc: Global) -> Result<MemSource, AllocError> {
+    let bytes = Vec::from_slice(alloc, b"abcde")?;
+    Ok(MemSource::new(bytes, vec![in alloc; 1, 3]?))
+}
+
+fn failing_reads<R: Print + AllocGlobal>(rt: &R) -> io::Result<()> {
+    let mut source = failing_source(rt.alloc())?;
+    read_twos(rt, "read", &mut source, 7)
+}
+
+fn write_five<R: Print>(rt: &R, sink: &mut MemSink) -> io::Result<()> {
+    for word in ["ab", "ab", "cd", "cd", ""] {
+        put(rt, "write", sink, word)?;
+        holds(rt, "it", sink)?;
+    }
+    case(rt, "nothing has room", &sink.write(b""), &Err(Failed))
 }
 
 /// Writes 0 and 2 fail, and there is room for three bytes.
 fn failing_writes<R: Print + AllocGlobal>(rt: &R) -> io::Result<()> {
     let alloc = rt.alloc();
     let mut sink = had(MemSink::new(alloc, 3, vec![in alloc; 0, 2]?))?;
-    for word in ["ab", "ab", "cd", "cd", ""] {
-        put(rt, "write", &mut sink, word)?;
-        holds(rt, "it", &sink)?;
-    }
-    case(rt, "nothing has room", &sink.write(b""), &Err(Failed))
+    write_five(rt, &mut sink)
+}
+
+/// How many bytes three reads give.
+fn three_reads(source: &mut MemSource) -> [Result<usize, Failed>; 3] {
+    let mut buf = [0; 9];
+    [
+        source.read(&mut buf),
+        source.read(&mut buf),
+        source.read(&mut buf),
+    ]
 }
 
 /// How many bytes three reads of five bytes give in pieces of this size.
@@ -90,12 +117,7 @@ fn sizes(alloc: Global, piece: u64) -> Result<[Result<usize, Failed>; 3], AllocE
 {
     let bytes = Vec::from_slice(alloc, b"abcde")?;
     let mut source = MemSource::in_pieces(bytes, piece, Vec::new(alloc));
-    let mut buf = [0; 9];
-    Ok([
-        source.read(&mut buf),
-        source.read(&mut buf),
-        source.read(&mut buf),
-    ])
+    Ok(three_reads(&mut source))
 }
 
 fn pieces<R: Print + AllocGlobal>(rt: &R) -> io::Result<()> {
@@ -106,14 +128,22 @@ fn pieces<R: Print + AllocGlobal>(rt: &R) -> io::Result<()> {
     case(rt, "pieces of 65,536", &large, &[Ok(5), Ok(0), Ok(0)])
 }
 
+/// A sink that takes a byte at a time, whose fifth write fails.
+fn one_byte(alloc: Global) -> Result<OneByte, AllocError> {
+    let sink = had(MemSink::new(alloc, 8, vec![in alloc; 4]?))?;
+    Ok(OneByte { sink })
+}
+
+fn put_six<R: Print>(rt: &R, out: &mut OneByte) -> io::Result<()> {
+    put(rt, "byte by byte", out, "abc")?;
+    put(rt, "byte by byte", out, "def")?;
+    holds(rt, "byte by byte", &out.sink)
+}
+
 /// All is put byte by byte, until the fifth write fails.
 fn single_bytes<R: Print + AllocGlobal>(rt: &R) -> io::Result<()> {
-    let alloc = rt.alloc();
-    let sink = had(MemSink::new(alloc, 8, vec![in alloc; 4]?))?;
-    let mut out = OneByte { sink };
-    put(rt, "byte by byte", &mut out, "abc")?;
-    put(rt, "byte by byte", &mut out, "def")?;
-    holds(rt, "byte by byte", &out.sink)
+    let mut out = one_byte(rt.alloc())?;
+    put_six(rt, &mut out)
 }
 
 pub fn all<R: Print + AllocGlobal>(rt: &R) -> io::Result<()> {

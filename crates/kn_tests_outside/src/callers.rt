@@ -2,13 +2,20 @@
 
 use crate::{goes, had, text_of};
 use kn_case::case;
+use kn_event::Text;
 use kn_io::{Caller, Failed, Faulty, MemCaller, Sink, Source, caller_laws};
 use std::alloc::{AllocError, Global};
 use std::{io, str};
 
+fn two_texts(alloc: Global) -> Result<Vec<Text>, AllocError> {
+    let first = text_of(alloc, b"abcde")?;
+    let second = text_of(alloc, b"f")?;
+    Ok(vec![in alloc; first, second]?)
+}
+
 /// A caller of two inputs, `abcde` and `f`, with room for eight bytes, which gives two at a time.
 fn two_inputs(alloc: Global, fail: Vec<u64>) -> Result<MemCaller, AllocError> {
-    let inputs = vec![in alloc; text_of(alloc, b"abcde")?, text_of(alloc, b"f")?]?;
+    let inputs = two_texts(alloc)?;
     had(MemCaller::in_pieces(alloc, inputs, 8, 2, fail))
 }
 
@@ -55,32 +62,57 @@ fn show_texts<R: Print>(rt: &R, caller: &MemCaller) -> io::Result<()> {
     Ok(())
 }
 
+fn two_connections<R: Print>(rt: &R, caller: &mut MemCaller) -> io::Result<()> {
+    case(rt, "before a connection", &caller.read(&mut [0; 3]), &Ok(0))?;
+    show_texts(rt, caller)?;
+    case(rt, "first connection", &talk(caller, b"12345"), &Ok(5))?;
+    show_texts(rt, caller)?;
+    case(rt, "second connection", &talk(caller, b"6789"), &Ok(1))
+}
+
+/// No more is written, and no other connection comes.
+fn at_the_end<R: Print>(rt: &R, caller: &mut MemCaller) -> io::Result<()> {
+    case(rt, "no more room", &caller.write(b"9"), &Err(Failed))?;
+    case(rt, "no third connection", &caller.meet(), &Err(Failed))?;
+    case(rt, "two faults", &caller.faults(), &2)?;
+    show_texts(rt, caller)
+}
+
+fn talk_in_turn<R: Print>(rt: &R, caller: &mut MemCaller) -> io::Result<()> {
+    two_connections(rt, caller)?;
+    at_the_end(rt, caller)?;
+    caller_laws();
+    goes(caller);
+    Ok(())
+}
+
 /// Eight bytes in all have room, and there are two inputs.
 fn connections_in_turn<R: Print + AllocGlobal>(rt: &R) -> io::Result<()> {
     let alloc = rt.alloc();
     let mut caller = two_inputs(alloc, Vec::new(alloc))?;
-    case(rt, "before a connection", &caller.read(&mut [0; 3]), &Ok(0))?;
-    show_texts(rt, &caller)?;
-    case(rt, "first connection", &talk(&mut caller, b"12345"), &Ok(5))?;
-    show_texts(rt, &caller)?;
-    case(rt, "second connection", &talk(&mut caller, b"6789"), &Ok(1))?;
-    case(rt, "no more room", &caller.write(b"9"), &Err(Failed))?;
-    case(rt, "no third connection", &caller.meet(), &Err(Failed))?;
-    case(rt, "two faults", &caller.faults(), &2)?;
-    show_texts(rt, &caller)?;
-    caller_laws();
-    goes(&caller);
-    Ok(())
+    talk_in_turn(rt, &mut caller)
+}
+
+/// The call of this number fails.
+fn failing_call<R: Print + AllocGlobal>(rt: &R, k: u64) -> io::Result<()> {
+    let alloc = rt.alloc();
+    let mut caller = two_inputs(alloc, vec![in alloc; k]?)?;
+    let failed = failed_calls(&mut caller);
+    let faults = caller.faults();
+    println!(rt; "call {k} fails: {failed:?}, faults {faults}")
 }
 
 /// Each of six calls fails in turn, and no other does.
 fn failing_calls<R: Print + AllocGlobal>(rt: &R) -> io::Result<()> {
-    let alloc = rt.alloc();
     for k in 0..6u64 {
-        let mut caller = two_inputs(alloc, vec![in alloc; k]?)?;
-        let failed = failed_calls(&mut caller);
-        let faults = caller.faults();
-        println!(rt; "call {k} fails: {failed:?}, faults {faults}")?;
+        failing_call(rt, k)?;
+    }
+    Ok(())
+}
+
+fn add_inputs(alloc: Global, inputs: &mut Vec<Text>) -> Result<(), AllocError> {
+    for _ in 0..200 {
+        inputs.push(text_of(alloc, &[b'y'; 500])?)?;
     }
     Ok(())
 }
@@ -88,9 +120,7 @@ fn failing_calls<R: Print + AllocGlobal>(rt: &R) -> io::Result<()> {
 /// A caller of 200 inputs of 500 bytes, with room for 4,000.
 fn many_inputs(alloc: Global) -> Result<MemCaller, AllocError> {
     let mut inputs = Vec::new(alloc);
-    for _ in 0..200 {
-        inputs.push(text_of(alloc, &[b'y'; 500])?)?;
-    }
+    add_inputs(alloc, &mut inputs)?;
     had(MemCaller::new(alloc, inputs, 4_000, Vec::new(alloc)))
 }
 
@@ -105,12 +135,16 @@ fn talks(caller: &mut MemCaller, rounds: u32) -> u32 {
     right
 }
 
+fn talk_to_many<R: Print>(rt: &R, caller: &mut MemCaller) -> io::Result<()> {
+    case(rt, "200 connections", &talks(caller, 200), &200)?;
+    case(rt, "201 texts", &caller.texts(), &201)?;
+    case(rt, "the last text", &text_at(caller, 200).len(), &20)?;
+    case(rt, "no more", &talk(caller, b"z"), &Err(Failed))
+}
+
 fn many_connections<R: Print + AllocGlobal>(rt: &R) -> io::Result<()> {
     let mut caller = many_inputs(rt.alloc())?;
-    case(rt, "200 connections", &talks(&mut caller, 200), &200)?;
-    case(rt, "201 texts", &caller.texts(), &201)?;
-    case(rt, "the last text", &text_at(&caller, 200).len(), &20)?;
-    case(rt, "no more", &talk(&mut caller, b"z"), &Err(Failed))
+    talk_to_many(rt, &mut caller)
 }
 
 pub fn all<R: Print + AllocGlobal>(rt: &R) -> io::Result<()> {

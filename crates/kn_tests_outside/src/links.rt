@@ -2,23 +2,33 @@
 
 use crate::{goes, had, text_of};
 use kn_case::case;
+use kn_event::Text;
 use kn_io::{Failed, Faulty, LinkError, MemLink, PodLink};
 use std::alloc::{AllocError, Global};
 use std::io;
 
+fn replies(alloc: Global) -> Result<Vec<Text>, AllocError> {
+    let reply = text_of(alloc, b"okay")?;
+    Ok(vec![in alloc; reply]?)
+}
+
 /// A link with one reply of four bytes.
 fn one_reply(alloc: Global, fail: Vec<u64>) -> Result<MemLink, AllocError> {
-    let replies = vec![in alloc; text_of(alloc, b"okay")?]?;
-    had(MemLink::new(alloc, replies, fail))
+    had(MemLink::new(alloc, replies(alloc)?, fail))
+}
+
+/// The length of a pod's reply.
+fn reply_length<L: PodLink>(link: &mut L, alloc: Global, pod: u64) -> Option<usize> {
+    match link.call(alloc, pod, b"ask") {
+        Ok(reply) => Some(reply.bytes().len()),
+        Err(LinkError::Failed | LinkError::Memory) => None,
+    }
 }
 
 /// Whether a pod is reached, and the length of its reply.
 fn ask<L: PodLink>(link: &mut L, alloc: Global, pod: u64) -> (Result<bool, Failed>, Option<usize>) {
     let reached = link.probe(pod);
-    match link.call(alloc, pod, b"ask") {
-        Ok(reply) => (reached, Some(reply.bytes().len())),
-        Err(LinkError::Failed | LinkError::Memory) => (reached, None),
-    }
+    (reached, reply_length(link, alloc, pod))
 }
 
 /// The last call that it tells of: the pod, the length of the request and that of the reply.
@@ -45,27 +55,35 @@ fn show<R: Print + AllocGlobal>(rt: &R, link: &mut MemLink, pod: u64) -> io::Res
     println!(rt; "pod {pod}: {reached:?}, {reply:?}, told {probe:?}, {call:?}")
 }
 
+fn show_three<R: Print + AllocGlobal>(rt: &R, link: &mut MemLink) -> io::Result<()> {
+    for pod in 7..10 {
+        show(rt, link, pod)?;
+    }
+    case(rt, "three faults", &link.faults(), &3)?;
+    goes(link);
+    Ok(())
+}
+
 /// Calls 1 and 2 fail, and there is no second reply.
 fn failing_calls<R: Print + AllocGlobal>(rt: &R) -> io::Result<()> {
     let alloc = rt.alloc();
     let mut link = one_reply(alloc, vec![in alloc; 1, 2]?)?;
-    for pod in 7..10 {
-        show(rt, &mut link, pod)?;
+    show_three(rt, &mut link)
+}
+
+fn probe_all<R: Print + AllocGlobal>(rt: &R, link: &mut MemLink) -> io::Result<()> {
+    for pod in 0..4_096 {
+        let _ = link.probe(pod);
     }
-    case(rt, "three faults", &link.faults(), &3)?;
-    goes(&link);
-    Ok(())
+    let last = last_probe(link);
+    case(rt, "4,096 probes", &last, &Some((4_095, Some(true))))?;
+    show(rt, link, 9)
 }
 
 /// A link stops telling once it has no room for a probe.
 fn past_the_room<R: Print + AllocGlobal>(rt: &R) -> io::Result<()> {
     let mut link = one_reply(rt.alloc(), Vec::new(rt.alloc()))?;
-    for pod in 0..4_096 {
-        let _ = link.probe(pod);
-    }
-    let last = last_probe(&link);
-    case(rt, "4,096 probes", &last, &Some((4_095, Some(true))))?;
-    show(rt, &mut link, 9)
+    probe_all(rt, &mut link)
 }
 
 pub fn all<R: Print + AllocGlobal>(rt: &R) -> io::Result<()> {

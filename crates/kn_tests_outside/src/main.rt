@@ -12,6 +12,7 @@ mod times;
 use kn_event::{Memory, Text};
 use std::alloc::{AllocError, Global};
 use std::io;
+use std::io::Input;
 
 /// What was had, or want of memory as std has it.
 fn had<T>(answer: Result<T, Memory>) -> Result<T, AllocError> {
@@ -32,16 +33,38 @@ fn goes<T: Send>(_value: &T) {}
 /// Such a value may be shared among threads.
 fn shares<T: Sync>(_value: &T) {}
 
-fn main(rt: HostRuntime) -> io::Result<()> {
-    bytes::all(&rt)?;
-    streams::all(&rt)?;
-    streams::standard(&rt, rt.stdin(), rt.stdout(), rt.stderr())?;
-    callers::all(&rt)?;
-    links::all(&rt)?;
-    times::all(&rt)?;
-    times::machine(&rt, &rt)?;
+/// The standard streams.
+fn standard(rt: &HostRuntime) -> io::Result<()> {
+    streams::read_nothing(rt, "standard input", rt.stdin())?;
+    streams::write_nothing(rt, "standard output", rt.stdout())?;
+    streams::write_nothing(rt, "standard error", rt.stderr())
+}
+
+/// What no line of standard input asks for.
+fn outside(rt: &HostRuntime) -> io::Result<()> {
+    bytes::all(rt)?;
+    streams::all(rt)?;
+    standard(rt)?;
+    callers::all(rt)?;
+    links::all(rt)?;
+    times::all(rt)?;
+    times::machine(rt, rt)
+}
+
+fn show_line<R: Print + AllocGlobal>(rt: &R, line: io::Result<String>) -> io::Result<()> {
+    let line = line?;
+    plans::show(rt, line.as_str())
+}
+
+/// The command lines.
+fn command_lines<R: Print + AllocGlobal + Input>(rt: &R) -> io::Result<()> {
     for line in rt.lines(rt.alloc()) {
-        plans::show(&rt, line?.as_str())?;
+        show_line(rt, line)?;
     }
     Ok(())
+}
+
+fn main(rt: HostRuntime) -> io::Result<()> {
+    outside(&rt)?;
+    command_lines(&rt)
 }

@@ -4,12 +4,17 @@ use kn_plan::{Plan, plan_of};
 use std::alloc::{AllocError, Global};
 use std::{io, str};
 
-/// The words of a line.
-fn words_of(alloc: Global, line: &str) -> Result<Vec<String>, AllocError> {
-    let mut words = Vec::new(alloc);
+fn add_words(alloc: Global, line: &str, words: &mut Vec<String>) -> Result<(), AllocError> {
     for word in line.split_ascii_whitespace() {
         words.push(String::from_str(alloc, word)?)?;
     }
+    Ok(())
+}
+
+/// The words of a line.
+fn words_of(alloc: Global, line: &str) -> Result<Vec<String>, AllocError> {
+    let mut words = Vec::new(alloc);
+    add_words(alloc, line, &mut words)?;
     Ok(words)
 }
 
@@ -34,12 +39,17 @@ fn show_plan<R: Print>(rt: &R, plan: &Plan) -> io::Result<()> {
     println!(rt; ", slots {slots}, rounds {rounds}, room {room}")
 }
 
-/// Prints a command line, and what it asks for, or why it is refused.
-pub fn show<R: Print + AllocGlobal>(rt: &R, line: &str) -> io::Result<()> {
-    let alloc = rt.alloc();
-    println!(rt; "kactd {line}")?;
-    match plan_of(alloc, &words_of(alloc, line)?) {
+/// Prints what a command line of these words asks for, or why it is refused.
+fn show_words<R: Print + AllocGlobal>(rt: &R, words: &[String]) -> io::Result<()> {
+    match plan_of(rt.alloc(), words) {
         Ok(plan) => show_plan(rt, &plan),
         Err(error) => println!(rt; "  {error}"),
     }
+}
+
+/// Prints a command line, and what it asks for, or why it is refused.
+pub fn show<R: Print + AllocGlobal>(rt: &R, line: &str) -> io::Result<()> {
+    println!(rt; "kactd {line}")?;
+    let words = words_of(rt.alloc(), line)?;
+    show_words(rt, &words)
 }

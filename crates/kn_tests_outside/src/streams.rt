@@ -1,6 +1,6 @@
 //! Readers and writers of std, and the standard streams.
 
-use crate::bytes::{put, read_two};
+use crate::bytes::{put, read_two, read_twos};
 use kn_case::case;
 use kn_io::{ReaderSource, Sink, Source, WriterSink};
 use std::io;
@@ -86,50 +86,67 @@ impl Write for Stuck {
 
 fn readers<R: Print>(rt: &R) -> io::Result<()> {
     let mut source = ReaderSource::new(Cursor::new(b"abc".as_slice()));
-    for _ in 0..3 {
-        read_two(rt, "reader", &mut source)?;
-    }
+    read_twos(rt, "reader", &mut source, 3)
+}
+
+fn broken_readers<R: Print>(rt: &R) -> io::Result<()> {
     let mut broken = ReaderSource::new(Broken);
-    for _ in 0..2 {
-        read_two(rt, "broken reader", &mut broken)?;
-    }
+    read_twos(rt, "broken reader", &mut broken, 2)
+}
+
+fn halting_readers<R: Print>(rt: &R) -> io::Result<()> {
     let mut halting = ReaderSource::new(Halting { calls: 101 });
     read_two(rt, "halting reader", &mut halting)
 }
 
 fn writers<R: Print + AllocGlobal>(rt: &R) -> io::Result<()> {
     let mut taken = WriterSink::new(Vec::<u8>::new(rt.alloc()));
-    put(rt, "writer", &mut taken, "abc")?;
+    put(rt, "writer", &mut taken, "abc")
+}
+
+fn broken_writers<R: Print>(rt: &R) -> io::Result<()> {
     let mut broken = WriterSink::new(Broken);
-    put(rt, "broken writer", &mut broken, "abc")?;
+    put(rt, "broken writer", &mut broken, "abc")
+}
+
+fn halting_writers<R: Print>(rt: &R) -> io::Result<()> {
     let mut halting = WriterSink::new(Halting { calls: 101 });
-    put(rt, "halting writer", &mut halting, "abc")?;
-    let mut stuck = WriterSink::new(Stuck);
+    put(rt, "halting writer", &mut halting, "abc")
+}
+
+fn put_nothing_and_three<R: Print, O: Sink>(rt: &R, stuck: &mut O) -> io::Result<()> {
     case(rt, "stuck writer, nothing", &stuck.write(b""), &Ok(0))?;
-    put(rt, "stuck writer", &mut stuck, "abc")
+    put(rt, "stuck writer", stuck, "abc")
+}
+
+fn stuck_writers<R: Print>(rt: &R) -> io::Result<()> {
+    let mut stuck = WriterSink::new(Stuck);
+    put_nothing_and_three(rt, &mut stuck)
 }
 
 pub fn all<R: Print + AllocGlobal>(rt: &R) -> io::Result<()> {
     readers(rt)?;
-    writers(rt)
+    broken_readers(rt)?;
+    halting_readers(rt)?;
+    writers(rt)?;
+    broken_writers(rt)?;
+    halting_writers(rt)?;
+    stuck_writers(rt)
 }
 
-/// Nothing is written there, in two ways.
-fn nothing<R: Print, W: Write + Drop>(rt: &R, name: &str, writer: W) -> io::Result<()> {
-    let mut out = WriterSink::new(writer);
-    put(rt, name, &mut out, "")?;
+/// Nothing is read there.
+pub fn read_nothing<R: Print, I: Read + Drop>(rt: &R, name: &str, reader: I) -> io::Result<()> {
+    let mut input = ReaderSource::new(reader);
+    case(rt, name, &input.read(&mut []), &Ok(0))
+}
+
+fn put_nothing<R: Print, O: Sink>(rt: &R, name: &str, out: &mut O) -> io::Result<()> {
+    put(rt, name, out, "")?;
     case(rt, name, &out.write(b""), &Ok(0))
 }
 
-/// Nothing is read from and written to the standard streams.
-pub fn standard<R: Print, I: Read + Drop, O: Write + Drop, E: Write + Drop>(
-    rt: &R,
-    input: I,
-    output: O,
-    error: E,
-) -> io::Result<()> {
-    let mut input = ReaderSource::new(input);
-    case(rt, "standard input", &input.read(&mut []), &Ok(0))?;
-    nothing(rt, "standard output", output)?;
-    nothing(rt, "standard error", error)
+/// Nothing is written there, in two ways.
+pub fn write_nothing<R: Print, W: Write + Drop>(rt: &R, name: &str, writer: W) -> io::Result<()> {
+    let mut out = WriterSink::new(writer);
+    put_nothing(rt, name, &mut out)
 }

@@ -48,21 +48,43 @@ fn serve<R: Print>(rt: &R, caller: &mut TcpCaller) -> io::Result<()> {
     case(rt, "two faults still", &caller.faults(), &2)
 }
 
+/// The client says hello, and is answered.
+fn say_hello<R: Print>(rt: &R, caller: &mut TcpCaller, client: &mut TcpStream) -> io::Result<()> {
+    client.write_all(b"hello")?;
+    client.shutdown(Shutdown::Write)?;
+    serve(rt, caller)?;
+    case(rt, "the client is answered", &client.read(&mut [0; 4])?, &3)
+}
+
+fn meet_one<R: Print + Net<Listener = TcpListener, Stream = TcpStream>>(
+    rt: &R,
+    address: &str,
+    caller: &mut TcpCaller,
+) -> io::Result<()> {
+    before_a_client(rt, caller)?;
+    let mut client = client(rt, address)?;
+    say_hello(rt, caller, &mut client)
+}
+
 pub fn one_client<R: Print + AllocGlobal + Net<Listener = TcpListener, Stream = TcpStream>>(
     rt: &R,
 ) -> io::Result<()> {
     let (listener, address) = listening(rt)?;
     let mut caller = TcpCaller::new(listener);
-    before_a_client(rt, &mut caller)?;
-    let mut client = client(rt, address.as_str())?;
-    client.write_all(b"hello")?;
-    client.shutdown(Shutdown::Write)?;
-    serve(rt, &mut caller)?;
-    case(rt, "the client is answered", &client.read(&mut [0; 4])?, &3)
+    meet_one(rt, address.as_str(), &mut caller)
 }
 
 /// Such a value may go to another thread.
 fn goes<T: Send>(_value: &T) {}
+
+/// A peer who closes at once.
+fn come_and_go<R: Net<Listener = TcpListener, Stream = TcpStream>>(
+    rt: &R,
+    address: &str,
+) -> io::Result<()> {
+    drop(TcpStream::connect(rt, address)?);
+    Ok(())
+}
 
 /// The first caller has a client. A peer who closes early, and whom the second meets, is the end of the input; the next
 /// connection of the first closes the one before.
@@ -71,13 +93,13 @@ fn meet_by_turns<R: Print + Net<Listener = TcpListener, Stream = TcpStream>>(
     address: &str,
     first: &mut TcpCaller,
     second: &mut TcpCaller,
+    client: &mut TcpStream,
 ) -> io::Result<()> {
-    let mut client = client(rt, address)?;
     case(rt, "first caller", &first.meet(), &Ok(()))?;
-    drop(TcpStream::connect(rt, address)?);
+    come_and_go(rt, address)?;
     case(rt, "second caller", &second.meet(), &Ok(()))?;
     read_some(rt, second)?;
-    drop(TcpStream::connect(rt, address)?);
+    come_and_go(rt, address)?;
     case(rt, "first caller again", &first.meet(), &Ok(()))?;
     case(
         rt,
@@ -87,15 +109,39 @@ fn meet_by_turns<R: Print + Net<Listener = TcpListener, Stream = TcpStream>>(
     )
 }
 
+fn use_both<R: Print + Net<Listener = TcpListener, Stream = TcpStream>>(
+    rt: &R,
+    address: &str,
+    first: &mut TcpCaller,
+    second: &mut TcpCaller,
+) -> io::Result<()> {
+    let mut client = client(rt, address)?;
+    meet_by_turns(rt, address, first, second, &mut client)
+}
+
+fn share<R: Print + Net<Listener = TcpListener, Stream = TcpStream>>(
+    rt: &R,
+    address: &str,
+    first: &mut TcpCaller,
+    second: &mut TcpCaller,
+) -> io::Result<()> {
+    use_both(rt, address, first, second)?;
+    goes(first);
+    case(rt, "no faults", &[first.faults(), second.faults()], &[0, 0])
+}
+
+/// Two callers of one listener.
+fn two_callers(listener: TcpListener) -> io::Result<(TcpCaller, TcpCaller)> {
+    let copy = listener.try_clone()?;
+    Ok((TcpCaller::new(copy), TcpCaller::new(listener)))
+}
+
 pub fn shared_listener<R: Print + AllocGlobal + Net<Listener = TcpListener, Stream = TcpStream>>(
     rt: &R,
 ) -> io::Result<()> {
     let (listener, address) = listening(rt)?;
-    let mut first = TcpCaller::new(listener.try_clone()?);
-    let mut second = TcpCaller::new(listener);
-    meet_by_turns(rt, address.as_str(), &mut first, &mut second)?;
-    goes(&first);
-    case(rt, "no faults", &[first.faults(), second.faults()], &[0, 0])
+    let (mut first, mut second) = two_callers(listener)?;
+    share(rt, address.as_str(), &mut first, &mut second)
 }
 
 /// Takes a connection, reads a part of what it sends, refuses it, and takes the next.
@@ -106,14 +152,50 @@ fn refuse<C: Caller>(caller: &mut C) -> Result<(), Failed> {
     caller.meet()
 }
 
-/// Sends so many KB, and reads to the end of the stream.
-fn send_and_read(alloc: Global, stream: &mut TcpStream, kilobytes: usize) -> io::Result<Vec<u8>> {
+fn send(stream: &mut TcpStream, kilobytes: usize) -> io::Result<()> {
     for _ in 0..kilobytes {
         stream.write_all(&[b'x'; 1_000])?;
     }
+    Ok(())
+}
+
+/// Sends so many KB, and reads to the end of the stream.
+fn send_and_read(alloc: Global, stream: &mut TcpStream, kilobytes: usize) -> io::Result<Vec<u8>> {
+    send(stream, kilobytes)?;
     let mut answer = Vec::new(alloc);
     stream.read_to_end(&mut answer)?;
     Ok(answer)
+}
+
+/// The caller refuses a client that still sends.
+fn refuse_sender<R: Print + AllocGlobal + Threads>(
+    rt: &R,
+    caller: &mut TcpCaller,
+    first: &mut TcpStream,
+) -> io::Result<()> {
+    let alloc = rt.alloc();
+    let (refused, answer) = thread::join(
+        rt,
+        || refuse(caller),
+        || send_and_read(alloc, first, 200),
+    );
+    case(rt, "refused while it sends", &refused, &Ok(()))?;
+    case(
+        rt,
+        "it reads the refusal",
+        &(answer?.as_slice() == REFUSAL),
+        &true,
+    )
+}
+
+fn refuse_first<R: Print + AllocGlobal + Threads + Net<Listener = TcpListener, Stream = TcpStream>>(
+    rt: &R,
+    address: &str,
+    caller: &mut TcpCaller,
+) -> io::Result<()> {
+    let mut first = client(rt, address)?;
+    let _second = client(rt, address)?;
+    refuse_sender(rt, caller, &mut first)
 }
 
 /// A refusal reaches a client that still sends.
@@ -122,21 +204,7 @@ pub fn refusal_while_sending<
 >(rt: &R) -> io::Result<()> {
     let (listener, address) = listening(rt)?;
     let mut caller = TcpCaller::new(listener);
-    let mut first = client(rt, address.as_str())?;
-    let _second = client(rt, address.as_str())?;
-    let alloc = rt.alloc();
-    let (refused, answer) = thread::join(
-        rt,
-        || refuse(&mut caller),
-        || send_and_read(alloc, &mut first, 200),
-    );
-    case(rt, "refused while it sends", &refused, &Ok(()))?;
-    case(
-        rt,
-        "it reads the refusal",
-        &(answer?.as_slice() == REFUSAL),
-        &true,
-    )?;
+    refuse_first(rt, address.as_str(), &mut caller)?;
     case(rt, "no fault", &caller.faults(), &0)
 }
 
@@ -148,15 +216,41 @@ fn read_refusal<R: Print>(rt: &R, stream: &mut TcpStream) -> io::Result<()> {
     case(rt, "its end", &stream.read(&mut answer)?, &0)
 }
 
+fn refuse_and_read<R: Print>(
+    rt: &R,
+    caller: &mut TcpCaller,
+    first: &mut TcpStream,
+) -> io::Result<()> {
+    case(rt, "refused, and it stays", &refuse(caller), &Ok(()))?;
+    read_refusal(rt, first)
+}
+
+/// The first client sends enough to be refused, and a second one comes.
+fn send_and_stay<R: Print + Net<Listener = TcpListener, Stream = TcpStream>>(
+    rt: &R,
+    address: &str,
+    caller: &mut TcpCaller,
+    first: &mut TcpStream,
+) -> io::Result<()> {
+    first.write_all(&[b'x'; 2_000])?;
+    let _second = client(rt, address)?;
+    refuse_and_read(rt, caller, first)
+}
+
+fn leave_first<R: Print + Net<Listener = TcpListener, Stream = TcpStream>>(
+    rt: &R,
+    address: &str,
+    caller: &mut TcpCaller,
+) -> io::Result<()> {
+    let mut first = client(rt, address)?;
+    send_and_stay(rt, address, caller, &mut first)
+}
+
 /// A client that never closes is left.
 pub fn client_that_stays<R: Print + AllocGlobal + Net<Listener = TcpListener, Stream = TcpStream>>(
     rt: &R,
 ) -> io::Result<()> {
     let (listener, address) = listening(rt)?;
     let mut caller = TcpCaller::new(listener);
-    let mut first = client(rt, address.as_str())?;
-    first.write_all(&[b'x'; 2_000])?;
-    let _second = client(rt, address.as_str())?;
-    case(rt, "refused, and it stays", &refuse(&mut caller), &Ok(()))?;
-    read_refusal(rt, &mut first)
+    leave_first(rt, address.as_str(), &mut caller)
 }

@@ -18,23 +18,46 @@ fn show_probes<R: Print, L: PodLink>(rt: &R, link: &mut L) -> io::Result<()> {
     Ok(())
 }
 
-/// An address where a pod listens, one where none does, and two that are no addresses.
-pub fn probes<R: Print + AllocGlobal + Net<Listener = TcpListener, Stream = TcpStream>>(
+/// An address where no pod listens.
+fn left_address<R: AllocGlobal + Net<Listener = TcpListener, Stream = TcpStream>>(
     rt: &R,
-) -> io::Result<()> {
-    let (_listener, open) = listening(rt)?;
-    let (gone, refused) = listening(rt)?;
+) -> io::Result<String> {
+    let (gone, address) = listening(rt)?;
     drop(gone);
-    let addresses = [open.as_bytes(), refused.as_bytes(), b"nowhere", &[0xff]];
-    let mut link = link_to(rt, &addresses)?;
-    show_probes(rt, &mut link)?;
+    Ok(address)
+}
+
+/// Six probes, and a call where no pod listens.
+fn probe_and_call<R: Print + AllocGlobal, L: PodLink>(rt: &R, link: &mut L) -> io::Result<()> {
+    show_probes(rt, link)?;
     let failed = link.call(rt.alloc(), 1, b"ask").is_err();
     case(rt, "a call where no pod listens", &failed, &true)?;
     case(rt, "it is a fault", &link.faults(), &3)
 }
 
-pub fn no_addresses<R: Print + AllocGlobal + Net>(rt: &R) -> io::Result<()> {
-    let mut none = link_to(rt, &[])?;
+fn probe_all<R: Print + AllocGlobal + Net>(rt: &R, addresses: &[&[u8]]) -> io::Result<()> {
+    let mut link = link_to(rt, addresses)?;
+    probe_and_call(rt, &mut link)
+}
+
+fn probe_open<R: Print + AllocGlobal + Net<Listener = TcpListener, Stream = TcpStream>>(
+    rt: &R,
+    open: &str,
+) -> io::Result<()> {
+    let refused = left_address(rt)?;
+    let addresses = [open.as_bytes(), refused.as_bytes(), b"nowhere", &[0xff]];
+    probe_all(rt, &addresses)
+}
+
+/// An address where a pod listens, one where none does, and two that are no addresses.
+pub fn probes<R: Print + AllocGlobal + Net<Listener = TcpListener, Stream = TcpStream>>(
+    rt: &R,
+) -> io::Result<()> {
+    let (_listener, open) = listening(rt)?;
+    probe_open(rt, open.as_str())
+}
+
+fn probe_none<R: Print, L: PodLink>(rt: &R, none: &mut L) -> io::Result<()> {
     case(
         rt,
         "a probe without addresses",
@@ -42,6 +65,11 @@ pub fn no_addresses<R: Print + AllocGlobal + Net>(rt: &R) -> io::Result<()> {
         &Err(Failed),
     )?;
     case(rt, "it is a fault", &none.faults(), &1)
+}
+
+pub fn no_addresses<R: Print + AllocGlobal + Net>(rt: &R) -> io::Result<()> {
+    let mut none = link_to(rt, &[])?;
+    probe_none(rt, &mut none)
 }
 
 /// The length of a reply of a head and so many pieces, of 8,192 bytes each.
@@ -62,17 +90,34 @@ fn long_reply<R: Threads, L: PodLink>(
     exchange(rt, alloc, listener, link, talk)
 }
 
+/// A reply of the greatest length, and a longer one.
+fn two_long_replies<R: Print + AllocGlobal + Threads, L: PodLink>(
+    rt: &R,
+    listener: &TcpListener,
+    link: &mut L,
+) -> io::Result<()> {
+    let alloc = rt.alloc();
+    let longest = long_reply(rt, alloc, listener, link, 135);
+    case(rt, "the longest reply", &longest, &Some(1_114_112))?;
+    case(rt, "no fault", &link.faults(), &0)?;
+    let longer = long_reply(rt, alloc, listener, link, 136);
+    case(rt, "a longer one", &longer, &None)?;
+    case(rt, "it is a fault", &link.faults(), &1)
+}
+
+fn long_replies_at<R: Print + AllocGlobal + Threads + Net>(
+    rt: &R,
+    listener: &TcpListener,
+    address: &str,
+) -> io::Result<()> {
+    let mut link = link_to(rt, &[address.as_bytes()])?;
+    two_long_replies(rt, listener, &mut link)
+}
+
 /// A reply has at most 1,114,112 bytes.
 pub fn longest_reply<
     R: Print + AllocGlobal + Threads + Net<Listener = TcpListener, Stream = TcpStream>,
 >(rt: &R) -> io::Result<()> {
-    let alloc = rt.alloc();
     let (listener, address) = listening(rt)?;
-    let mut link = link_to(rt, &[address.as_bytes()])?;
-    let longest = long_reply(rt, alloc, &listener, &mut link, 135);
-    case(rt, "the longest reply", &longest, &Some(1_114_112))?;
-    case(rt, "no fault", &link.faults(), &0)?;
-    let longer = long_reply(rt, alloc, &listener, &mut link, 136);
-    case(rt, "a longer one", &longer, &None)?;
-    case(rt, "it is a fault", &link.faults(), &1)
+    long_replies_at(rt, &listener, address.as_str())
 }

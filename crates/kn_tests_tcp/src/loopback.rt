@@ -3,28 +3,48 @@
 use kn_event::{Items, Text};
 use kn_io::{LinkError, PodLink};
 use kn_tcp::TcpLink;
-use std::alloc::Global;
+use std::alloc::{AllocError, Global};
 use std::io::{Read, Write};
 use std::net::{Net, TcpListener, TcpStream};
 use std::thread::Threads;
 use std::time::Duration;
 use std::{io, thread};
 
+fn address_of(alloc: Global, listener: &TcpListener) -> io::Result<String> {
+    let port = listener.local_addr()?.port();
+    Ok(format!(in alloc; "127.0.0.1:{port}")?)
+}
+
 /// A listening socket, and its address.
 pub fn listening<R: Net<Listener = TcpListener, Stream = TcpStream> + AllocGlobal>(
     rt: &R,
 ) -> io::Result<(TcpListener, String)> {
     let listener = TcpListener::bind(rt, "127.0.0.1:0")?;
-    let port = listener.local_addr()?.port();
-    Ok((listener, format!(in rt.alloc(); "127.0.0.1:{port}")?))
+    let address = address_of(rt.alloc(), &listener)?;
+    Ok((listener, address))
+}
+
+fn set_timeouts(stream: &TcpStream) -> io::Result<()> {
+    stream.set_read_timeout(Some(Duration::from_secs(10)))?;
+    stream.set_write_timeout(Some(Duration::from_secs(10)))
 }
 
 /// A client that waits ten seconds at most for each read and write.
 pub fn client<R: Net<Stream = TcpStream>>(rt: &R, address: &str) -> io::Result<TcpStream> {
     let stream = TcpStream::connect(rt, address)?;
-    stream.set_read_timeout(Some(Duration::from_secs(10)))?;
-    stream.set_write_timeout(Some(Duration::from_secs(10)))?;
+    set_timeouts(&stream)?;
     Ok(stream)
+}
+
+fn text_of(alloc: Global, bytes: &[u8]) -> Result<Text, AllocError> {
+    Ok(Text::new(Vec::from_slice(alloc, bytes)?))
+}
+
+fn add_texts(alloc: Global, addresses: &[&[u8]], texts: &mut Vec<Text>) -> Result<(), AllocError> {
+    for address in addresses {
+        texts.push(text_of(alloc, address)?)?;
+    }
+    Ok(())
 }
 
 /// A link to these addresses.
@@ -33,9 +53,7 @@ pub fn link_to<'a, R: Net + AllocGlobal>(
     addresses: &[&[u8]],
 ) -> io::Result<TcpLink<&'a R>> {
     let mut texts = Vec::new(rt.alloc());
-    for address in addresses {
-        texts.push(Text::new(Vec::from_slice(rt.alloc(), address)?))?;
-    }
+    add_texts(rt.alloc(), addresses, &mut texts)?;
     Ok(TcpLink::new(rt, Items::new(texts)))
 }
 
@@ -47,16 +65,32 @@ pub struct Talk<'a> {
     pub pieces: usize,
 }
 
-/// A pod that takes one connection, reads the request, answers, and closes.
-fn pod(alloc: Global, listener: &TcpListener, talk: Talk<'_>) -> io::Result<()> {
-    let (mut stream, _) = listener.accept()?;
-    let mut request = vec![in alloc; 0; talk.request.len()]?;
-    stream.read_exact(&mut request)?;
+fn read_request(alloc: Global, stream: &mut TcpStream, len: usize) -> io::Result<()> {
+    let mut request = vec![in alloc; 0; len]?;
+    stream.read_exact(&mut request)
+}
+
+/// Reads the request, and answers.
+fn talk_on(alloc: Global, stream: &mut TcpStream, talk: Talk<'_>) -> io::Result<()> {
+    read_request(alloc, stream, talk.request.len())?;
     stream.write_all(talk.reply)?;
     for _ in 0..talk.pieces {
         stream.write_all(&[b'r'; 8_192])?;
     }
     Ok(())
+}
+
+/// A pod that takes one connection, reads the request, answers, and closes.
+fn pod(alloc: Global, listener: &TcpListener, talk: Talk<'_>) -> io::Result<()> {
+    let (mut stream, _) = listener.accept()?;
+    talk_on(alloc, &mut stream, talk)
+}
+
+fn length_of(reply: &Result<Text, LinkError>) -> Option<usize> {
+    match reply {
+        Ok(reply) => Some(reply.bytes().len()),
+        Err(LinkError::Failed | LinkError::Memory) => None,
+    }
 }
 
 /// The length of the reply that the link gives of such a pod.
@@ -72,8 +106,5 @@ pub fn exchange<R: Threads, L: PodLink>(
         || pod(alloc, listener, talk),
         || link.call(alloc, 0, talk.request),
     );
-    match &served.1 {
-        Ok(reply) => Some(reply.bytes().len()),
-        Err(LinkError::Failed | LinkError::Memory) => None,
-    }
+    length_of(&served.1)
 }

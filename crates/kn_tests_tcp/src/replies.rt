@@ -7,6 +7,31 @@ use std::io;
 use std::net::TcpListener;
 use std::thread::Threads;
 
+fn show_length<R: Print>(rt: &R, length: Option<usize>) -> io::Result<()> {
+    match length {
+        Some(length) => println!(rt; "  whole, {length} bytes"),
+        None => println!(rt; "  not whole"),
+    }
+}
+
+/// How long the reply to this request is, which is spelled so.
+fn show_reply<R: Print + AllocGlobal + Threads, L: PodLink>(
+    rt: &R,
+    listener: &TcpListener,
+    link: &mut L,
+    request: &[u8],
+    reply: &str,
+) -> io::Result<()> {
+    let reply = spelled(rt.alloc(), reply)?;
+    let talk = Talk {
+        request,
+        reply: &reply,
+        pieces: 0,
+    };
+    let length = exchange(rt, rt.alloc(), listener, link, talk);
+    show_length(rt, length)
+}
+
 /// Prints a line, and how long its reply is where that came whole.
 pub fn show<R: Print + AllocGlobal + Threads, L: PodLink>(
     rt: &R,
@@ -17,16 +42,7 @@ pub fn show<R: Print + AllocGlobal + Threads, L: PodLink>(
     println!(rt; "{line}")?;
     let (request, reply) = line.split_once('|').unwrap_or((line, ""));
     let request = spelled(rt.alloc(), request)?;
-    let reply = spelled(rt.alloc(), reply)?;
-    let talk = Talk {
-        request: &request,
-        reply: &reply,
-        pieces: 0,
-    };
-    match exchange(rt, rt.alloc(), listener, link, talk) {
-        Some(length) => println!(rt; "  whole, {length} bytes"),
-        None => println!(rt; "  not whole"),
-    }
+    show_reply(rt, listener, link, &request, reply)
 }
 
 /// Prints how many faults there were: one for each reply that was not whole.

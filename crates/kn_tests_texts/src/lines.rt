@@ -14,18 +14,30 @@ fn written(alloc: Global, event: &Event) -> Result<String, AllocError> {
     format!(in alloc; "{text:?}")
 }
 
-/// What a line says in version 1 and in version 2, and the line of the event that it says.
-pub fn line(alloc: Global, text: &[u8]) -> Result<String, AllocError> {
-    let first = said(alloc, &read_event(text, 1))?;
+fn said_and_written(alloc: Global, event: &Event, said: &str) -> Result<String, AllocError> {
+    let back = written(alloc, event)?;
+    format!(in alloc; "{said}; {back}")
+}
+
+/// What a line says in version 2, and the line of the event that it says.
+fn second(alloc: Global, text: &[u8]) -> Result<String, AllocError> {
     let read: Result<Event, LineError> = read_event(text, 2);
     let second = said(alloc, &read)?;
     match read {
-        Ok(event) => {
-            let back = written(alloc, &event)?;
-            format!(in alloc; "{first}; {second}; {back}")
-        }
-        Err(_) => format!(in alloc; "{first}; {second}"),
+        Ok(event) => said_and_written(alloc, &event, second.as_str()),
+        Err(_) => Ok(second),
     }
+}
+
+fn first_and(alloc: Global, text: &[u8], second: &str) -> Result<String, AllocError> {
+    let first = said(alloc, &read_event(text, 1))?;
+    format!(in alloc; "{first}; {second}")
+}
+
+/// What a line says in version 1 and in version 2, and the line of the event that it says.
+pub fn line(alloc: Global, text: &[u8]) -> Result<String, AllocError> {
+    let second = second(alloc, text)?;
+    first_and(alloc, text, second.as_str())
 }
 
 /// The first field of a line, and the others.
@@ -77,9 +89,7 @@ pub fn turns(rt: &impl Print) -> io::Result<()> {
     Ok(())
 }
 
-/// The bytes that make an event of a line where they stand at this place in it.
-fn fitting(alloc: Global, place: usize) -> Result<Vec<u8>, AllocError> {
-    let mut fitting = Vec::new(alloc);
+fn add_fitting(place: usize, fitting: &mut Vec<u8>) -> Result<(), AllocError> {
     for byte in 0..=255u8 {
         let mut text = *b"12 finish 34 ok\n       ";
         if let Some(there) = text.get_mut(place) {
@@ -89,14 +99,26 @@ fn fitting(alloc: Global, place: usize) -> Result<Vec<u8>, AllocError> {
             fitting.push(byte)?;
         }
     }
+    Ok(())
+}
+
+/// The bytes that make an event of a line where they stand at this place in it.
+fn fitting(alloc: Global, place: usize) -> Result<Vec<u8>, AllocError> {
+    let mut fitting = Vec::new(alloc);
+    add_fitting(place, &mut fitting)?;
     Ok(fitting)
+}
+
+fn show_fitting<R: Print + AllocGlobal>(rt: &R, place: usize) -> anyhow::Result<()> {
+    let bytes = fitting(rt.alloc(), place)?;
+    println!(rt; "bytes that fit at {place}: {bytes:?}")?;
+    Ok(())
 }
 
 /// Behind the digits of the time and of the request only a space makes an event.
 pub fn bytes_behind_digits<R: Print + AllocGlobal>(rt: &R) -> anyhow::Result<()> {
     for place in [2, 12] {
-        let bytes = fitting(rt.alloc(), place)?;
-        println!(rt; "bytes that fit at {place}: {bytes:?}")?;
+        show_fitting(rt, place)?;
     }
     Ok(())
 }

@@ -16,6 +16,8 @@ mod texts;
 mod written;
 
 use std::alloc::{AllocError, Global};
+use std::io;
+use std::io::Input;
 use std::rt::Files;
 use texts::{bytes_of, first_word, text_of};
 
@@ -69,17 +71,57 @@ fn answer_over(
     }
 }
 
+fn answer_alone<R: Files + AllocGlobal>(
+    rt: &R,
+    subject: &str,
+    text: &str,
+) -> anyhow::Result<String> {
+    let text = bytes_of(rt, text)?;
+    Ok(answer_to(rt.alloc(), subject, &text)?)
+}
+
+fn answer_with<R: Files + AllocGlobal>(
+    rt: &R,
+    settings: &[u8],
+    rest: &str,
+) -> anyhow::Result<String> {
+    let (subject, text) = first_word(rest);
+    let text = bytes_of(rt, text)?;
+    Ok(answer_over(rt.alloc(), settings, subject, &text)?)
+}
+
 /// The answer to a line.
 fn answer<R: Files + AllocGlobal>(rt: &R, line: &str) -> anyhow::Result<String> {
     let (subject, text) = first_word(line);
     if subject != "over" {
-        return Ok(answer_to(rt.alloc(), subject, &bytes_of(rt, text)?)?);
+        return answer_alone(rt, subject, text);
     }
     let (settings, rest) = first_word(text);
-    let (subject, text) = first_word(rest);
     let settings = bytes_of(rt, settings)?;
-    let text = bytes_of(rt, text)?;
-    Ok(answer_over(rt.alloc(), &settings, subject, &text)?)
+    answer_with(rt, &settings, rest)
+}
+
+/// Prints a line with its answer.
+fn show<R: Print + Files + AllocGlobal>(rt: &R, line: &str) -> anyhow::Result<()> {
+    let answer = answer(rt, line)?;
+    println!(rt; "{line}: {answer}")?;
+    Ok(())
+}
+
+fn show_line<R: Print + Files + AllocGlobal>(
+    rt: &R,
+    line: io::Result<String>,
+) -> anyhow::Result<()> {
+    let line = line?;
+    show(rt, line.as_str())
+}
+
+/// The lines of standard input.
+fn show_lines<R: Print + Files + AllocGlobal + Input>(rt: &R) -> anyhow::Result<()> {
+    for line in rt.lines(rt.alloc()) {
+        show_line(rt, line)?;
+    }
+    Ok(())
 }
 
 /// The cases that are no texts.
@@ -96,10 +138,6 @@ fn cases<R: Print + AllocGlobal>(rt: &R) -> anyhow::Result<()> {
 }
 
 fn main(rt: HostRuntime) -> anyhow::Result<()> {
-    for line in rt.lines(rt.alloc()) {
-        let line = line?;
-        let answer = answer(&rt, line.as_str())?;
-        println!(rt; "{line}: {answer}")?;
-    }
+    show_lines(&rt)?;
     cases(&rt)
 }

@@ -51,15 +51,25 @@ fn bounds_text(alloc: Global, spec: &Spec) -> Result<String, AllocError> {
     )
 }
 
+fn rates_and_bounds(alloc: Global, spec: &Spec) -> Result<String, AllocError> {
+    let rates = rates_text(alloc, spec)?;
+    let bounds = bounds_text(alloc, spec)?;
+    format!(in alloc; "{rates} {bounds}")
+}
+
+fn target_and_bounds(alloc: Global, spec: &Spec) -> Result<String, AllocError> {
+    let target = target_text(alloc, spec)?;
+    let others = rates_and_bounds(alloc, spec)?;
+    format!(in alloc; "{target} {others}")
+}
+
 /// All parts of a specification.
 fn parts_text(alloc: Global, spec: &Spec) -> Result<String, AllocError> {
     let (namespace, name) = (text_of(spec.namespace.bytes()), text_of(spec.name.bytes()));
     let (kind, cc, timeout_ms, slots) = (spec.kind, spec.cc, spec.timeout_ms, spec.slots);
-    let target = target_text(alloc, spec)?;
-    let rates = rates_text(alloc, spec)?;
-    let bounds = bounds_text(alloc, spec)?;
+    let parts = target_and_bounds(alloc, spec)?;
     format!(in alloc;
-        "{kind:?} {namespace}/{name} cc={cc} {target} {rates} {bounds} timeout_ms={timeout_ms} {slots:?}"
+        "{kind:?} {namespace}/{name} cc={cc} {parts} timeout_ms={timeout_ms} {slots:?}"
     )
 }
 
@@ -183,18 +193,37 @@ fn fixed_of(alloc: Global, settings: &[u64]) -> Option<Spec> {
     Spec::fixed(alloc, limit, pods, timeout_s, slots).ok()
 }
 
+/// The numbers of a text, and 0 for each other word.
+fn add_numbers(text: &str, numbers: &mut Vec<u64>) -> Result<(), AllocError> {
+    for word in text.split(' ') {
+        numbers.push(word.parse().unwrap_or(0))?;
+    }
+    Ok(())
+}
+
+fn both_texts(alloc: Global, spec: &Spec, copy: &Spec) -> Result<String, AllocError> {
+    let spec = parts_text(alloc, spec)?;
+    let copy = parts_text(alloc, copy)?;
+    format!(in alloc; "{spec}; copied {copy}")
+}
+
+fn with_copy(alloc: Global, spec: &Spec) -> Result<String, AllocError> {
+    match spec.copy(alloc) {
+        Ok(copy) => both_texts(alloc, spec, &copy),
+        Err(_) => Err(AllocError),
+    }
+}
+
+fn fixed_text(alloc: Global, settings: &[u64]) -> Result<String, AllocError> {
+    match fixed_of(alloc, settings) {
+        Some(spec) => with_copy(alloc, &spec),
+        None => String::from_str(alloc, "out of range"),
+    }
+}
+
 /// All parts of fixed pods, and of a copy: of the limit, the pods, the timeout, the depth, the maximum and the seed.
 pub fn fixed(alloc: Global, text: &str) -> Result<String, AllocError> {
     let mut settings = Vec::new(alloc);
-    for word in text.split(' ') {
-        settings.push(word.parse().unwrap_or(0))?;
-    }
-    let Some(spec) = fixed_of(alloc, &settings) else {
-        return String::from_str(alloc, "out of range");
-    };
-    let Ok(copy) = spec.copy(alloc) else {
-        return Err(AllocError);
-    };
-    let (spec, copy) = (parts_text(alloc, &spec)?, parts_text(alloc, &copy)?);
-    format!(in alloc; "{spec}; copied {copy}")
+    add_numbers(text, &mut settings)?;
+    fixed_text(alloc, &settings)
 }

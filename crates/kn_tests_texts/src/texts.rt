@@ -49,18 +49,28 @@ fn add_repeated(part: &str, bytes: &mut Vec<u8>) -> Result<(), AllocError> {
     add_escaped(rest, bytes)
 }
 
+fn add_all(text: &str, bytes: &mut Vec<u8>) -> Result<(), AllocError> {
+    let mut parts = text.split("\\[");
+    add_escaped(parts.next().unwrap_or(""), bytes)?;
+    for part in parts {
+        add_repeated(part, bytes)?;
+    }
+    Ok(())
+}
+
+/// The bytes of a text with escapes.
+fn unescaped(alloc: Global, text: &str) -> Result<Vec<u8>, AllocError> {
+    let mut bytes = Vec::new(alloc);
+    add_all(text, &mut bytes)?;
+    Ok(bytes)
+}
+
 /// The bytes that a row's text stands for.
 pub fn bytes_of<R: Files + AllocGlobal>(rt: &R, text: &str) -> anyhow::Result<Vec<u8>> {
     if let Some(name) = text.strip_prefix('@') {
         return Ok(fs::read(rt, name)?);
     }
-    let mut bytes = Vec::new(rt.alloc());
-    let mut parts = text.split("\\[");
-    add_escaped(parts.next().unwrap_or(""), &mut bytes)?;
-    for part in parts {
-        add_repeated(part, &mut bytes)?;
-    }
-    Ok(bytes)
+    Ok(unescaped(rt.alloc(), text)?)
 }
 
 /// The first word of a text, and what follows it.
