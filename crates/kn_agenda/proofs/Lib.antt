@@ -1,0 +1,17 @@
+mod Keeping
+mod Hearing
+mod Firsts
+mod Passes
+mod Readies
+mod Least
+mod Said
+mod Going
+mod Late
+mod Fewer
+mod Booting
+mod Shrinking
+mod Stepping
+mod Making
+mod Opening
+mod Unique
+mod Ending
