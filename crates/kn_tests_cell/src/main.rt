@@ -7,20 +7,11 @@ mod shared;
 mod threads;
 mod turns;
 
-use std::alloc::Global;
-use std::sync::Wait;
-use std::thread::Threads;
-
-/// All tests, in order.
-fn all<R: Print + AllocGlobal + Threads + Wait + Sync>(rt: &R) -> anyhow::Result<()> {
-    turns::history_room(rt)?;
-    turns::takes_turns(rt)?;
-    threads::four_threads(rt)?;
-    threads::replayed_by_one(rt)?;
-    meeting::crowd(rt)?;
-    meeting::busy(rt)
-}
-
 fn main(rt: HostRuntime) -> anyhow::Result<()> {
-    all(&rt)
+    turns::history_room(&rt)?;
+    turns::takes_turns(&rt)?;
+    threads::four_threads(&rt)?;
+    threads::replayed_by_one(&rt)?;
+    meeting::crowd(&rt)?;
+    meeting::busy(&rt)
 }

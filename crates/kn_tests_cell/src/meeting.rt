@@ -2,7 +2,7 @@
 ghost use Rattle.std.specs.Prelude.{◌≡◌};
 ghost use Rattle.kn_tests_cell.specs.Numbers.{IsStill};
 
-use crate::threads::{Notes, Outcome, Work, by_threads};
+use crate::threads::{Notes, Work, by_threads};
 use crate::turns::{look, try_on};
 use anyhow::bail;
 use kn_case::case;
@@ -49,29 +49,21 @@ pub fn try_until_busy(cell: &RevisionCell, pass: &mut Pass, notes: &Notes)
     }
 }
 
-fn show_crowd<R: Print>(rt: &R, outcome: &Outcome) -> anyhow::Result<()> {
+/// Eight threads of 2,000 requests each, of which many have to wait for the turn: each goes on.
+pub fn crowd<R: Print + AllocGlobal + Threads + Wait + Sync>(rt: &R) -> anyhow::Result<()> {
+    let Some(outcome) = by_threads(rt, rt.alloc(), 0, 40_000, 8, Work::Serve(2000)) else {
+        bail!("memory is lacking");
+    };
     case(rt, "a crowd, rows", &outcome.history.items().len(), &32_001)?;
     case(rt, "a crowd, arrivals", &outcome.left.arrivals, &16_000)?;
     Ok(())
 }
 
-/// Eight threads of 2,000 requests each, of which many have to wait for the turn: each goes on.
-pub fn crowd<R: Print + AllocGlobal + Threads + Wait + Sync>(rt: &R) -> anyhow::Result<()> {
-    match by_threads(rt, rt.alloc(), 0, 40_000, 8, Work::Serve(2000)) {
-        Some(outcome) => show_crowd(rt, &outcome),
-        None => bail!("memory is lacking"),
-    }
-}
-
-fn show_busy<R: Print>(rt: &R, busy: bool) -> anyhow::Result<()> {
-    case(rt, "one of two is told Busy", &busy, &true)?;
-    Ok(())
-}
-
 /// One thread looks while another tries.
 pub fn busy<R: Print + AllocGlobal + Threads + Wait + Sync>(rt: &R) -> anyhow::Result<()> {
-    match by_threads(rt, rt.alloc(), 0, 300_000, 2, Work::Meet) {
-        Some(outcome) => show_busy(rt, outcome.busy),
-        None => bail!("memory is lacking"),
-    }
+    let Some(outcome) = by_threads(rt, rt.alloc(), 0, 300_000, 2, Work::Meet) else {
+        bail!("memory is lacking");
+    };
+    case(rt, "one of two is told Busy", &outcome.busy, &true)?;
+    Ok(())
 }

@@ -2,7 +2,7 @@
 //! numbers, so that a test's proof sees nothing of what was seen. They test when they run what a call wants, and are
 //! none where it isn't so.
 
-ghost use Rattle.std.specs.Prelude.{◌≡◌, ◌+◌, ◌≤◌, [], true, IfSome};
+ghost use Rattle.std.specs.Prelude.{◌≡◌, ◌+◌, ◌≤◌, true, IfSome};
 ghost use Rattle.kn_core.specs.Steps.{IsWithinRange};
 ghost use Rattle.kn_cell.specs.History.{MayCome};
 ghost use Rattle.kn_tests_cell.specs.Numbers.{IsFirst, IsStill};
@@ -13,9 +13,8 @@ use kn_event::{Act, EntryLog, Slots, Spec, Told};
 use std::alloc::Global;
 use std::sync::Wait;
 
-fn one_pod_in(alloc: Global, seats: u64, breaker: u64, log: &mut EntryLog) -> Option<Revision>
-    requires { log.old ≡ [] }
-{
+/// A new fixed revision of one pod, which starts, with so many seats and a breaker of this depth and maximum.
+pub fn one_pod(alloc: Global, seats: u64, breaker: u64) -> Option<Revision> {
     if seats > 1000 || breaker < 1 || breaker > 1000 {
         return None;
     }
@@ -25,13 +24,8 @@ fn one_pod_in(alloc: Global, seats: u64, breaker: u64, log: &mut EntryLog) -> Op
         seed: 0,
     };
     let spec = Spec::fixed(alloc, seats, 1, 300, slots).ok()?;
-    Revision::new(alloc, spec, 0, log).ok()
-}
-
-/// A new fixed revision of one pod, which starts, with so many seats and a breaker of this depth and maximum.
-pub fn one_pod(alloc: Global, seats: u64, breaker: u64) -> Option<Revision> {
     let mut log = EntryLog::new(alloc).ok()?;
-    one_pod_in(alloc, seats, breaker, &mut log)
+    Revision::new(alloc, spec, 0, &mut log).ok()
 }
 
 /// A cell over such a revision, and the first of so many passes.
@@ -44,11 +38,11 @@ pub fn open(
 ) -> Option<(RevisionCell, Pass)>
     ensures { IfSome result (λ r. IsFirst r.0 passes r.1) }
 {
-    if room > 1_000_000 || passes < 1 || passes > 1000 {
-        return None;
-    }
     let revision = one_pod(alloc, seats, breaker)?;
     if revision.live() > 0 || revision.events() >= 1 << 53 {
+        return None;
+    }
+    if room > 1_000_000 || passes < 1 || passes > 1000 {
         return None;
     }
     RevisionCell::new(alloc, revision, room, passes).ok()

@@ -1,6 +1,6 @@
 //! Several threads, each with its own pass.
 ghost use Rattle.std.specs.Prelude.{◌≡◌, ◌+◌, ◌≤◌, All, IfOk, OnOk, vec_len};
-ghost use Rattle.kn_tests_cell.specs.Numbers.{IsFirst, IsLeaf, IsStill};
+ghost use Rattle.kn_tests_cell.specs.Numbers.{IsLeaf, IsStill};
 
 use crate::meeting::{look_on, try_until_busy};
 use crate::shared::{Left, close, left_of, may_come, on, one_pod, open};
@@ -92,19 +92,6 @@ fn mix<R: Wait>(rt: &R, cell: &RevisionCell, pass: &mut Pass, seed: u64)
     }
 }
 
-fn work_on<R: Wait>(rt: &R, cell: &RevisionCell, pass: &mut Pass, work: Work, notes: &Notes)
-    requires { pass.old.cell ≡ cell.now }
-    ensures { IsStill pass.old pass.new }
-{
-    let number = notes.numbers.fetch_add(1, Ordering::SeqCst);
-    match work {
-        Work::Serve(count) => serve(rt, cell, pass, count),
-        Work::Mix => mix(rt, cell, pass, number),
-        Work::Meet if number == 1 => look_on(rt, cell, pass, notes),
-        Work::Meet => try_until_busy(cell, pass, notes),
-    }
-}
-
 /// A thread's work with its pass. Each thread has another number.
 fn work_with<R: Wait>(
     rt: &R,
@@ -116,7 +103,13 @@ fn work_with<R: Wait>(
     requires { IsLeaf cell.now pass }
     ensures { IsLeaf cell.now result }
 {
-    work_on(rt, cell, &mut pass, work, notes);
+    let number = notes.numbers.fetch_add(1, Ordering::SeqCst);
+    match work {
+        Work::Serve(count) => serve(rt, cell, &mut pass, count),
+        Work::Mix => mix(rt, cell, &mut pass, number),
+        Work::Meet if number == 1 => look_on(rt, cell, &mut pass, notes),
+        Work::Meet => try_until_busy(cell, &mut pass, notes),
+    }
     pass
 }
 
@@ -142,11 +135,11 @@ fn cut(
 }
 
 /// They are taken in again.
-fn take_in(cell: &RevisionCell, first: &mut Pass, passes: &mut Vec<Pass>)
+fn take_in(cell: &RevisionCell, first: &mut Pass, mut passes: Vec<Pass>)
     requires cell { first.old.cell ≡ cell.now }
-    requires each { All (IsLeaf cell.now) passes.old.items }
+    requires each { All (IsLeaf cell.now) passes.items }
     ensures same { (first.new.cell ≡ first.old.cell) × (first.new.free ≡ first.old.free) × (first.new.passes ≡ first.old.passes) }
-    ensures back { first.new.back ≡ first.old.back + vec_len passes.old }
+    ensures back { first.new.back ≡ first.old.back + vec_len passes }
 {
     while let Some(pass) = passes.pop() {
         cell.join(first, pass);
@@ -175,48 +168,6 @@ fn work_all<R: Threads + Wait + Sync>(
     )
 }
 
-/// So many passes of the cell, after their work.
-fn worked<R: Threads + Wait + Sync>(
-    rt: &R,
-    alloc: Global,
-    cell: &RevisionCell,
-    first: &mut Pass,
-    n: usize,
-    work: Work,
-    notes: &Notes,
-) -> Result<Vec<Pass>, AllocError>
-    requires cell { first.old.cell ≡ cell.now }
-    requires free { n ≤ first.old.free }
-    ensures same { (first.new.cell ≡ first.old.cell) × (first.new.back ≡ first.old.back) × (first.new.passes ≡ first.old.passes) }
-    ensures free { OnOk result (first.new.free + n ≡ first.old.free) }
-    ensures len { IfOk result (λ v. vec_len v ≡ n) }
-    ensures each { IfOk result (λ v. All (IsLeaf cell.now) v.items) }
-{
-    let passes = cut(alloc, cell, first, n)?;
-    work_all(rt, cell, passes, work, notes)
-}
-
-/// So many passes of the cell are given out for their work, and taken in again.
-fn work_and_take_in<R: Threads + Wait + Sync>(
-    rt: &R,
-    alloc: Global,
-    cell: &RevisionCell,
-    first: &mut Pass,
-    n: usize,
-    work: Work,
-    notes: &Notes,
-) -> Result<(), AllocError>
-    requires cell { first.old.cell ≡ cell.now }
-    requires free { n ≤ first.old.free }
-    ensures same { (first.new.cell ≡ first.old.cell) × (first.new.passes ≡ first.old.passes) }
-    ensures free { OnOk result (first.new.free + n ≡ first.old.free) }
-    ensures back { OnOk result (first.new.back ≡ first.old.back + n) }
-{
-    let mut passes = worked(rt, alloc, cell, first, n, work, notes)?;
-    take_in(cell, first, &mut passes);
-    Ok(())
-}
-
 /// What comes of several threads: what is told as the pod gets Ready, what is left, and whether one was told Busy.
 #[derive(Drop)]
 pub struct Outcome {
@@ -224,29 +175,6 @@ pub struct Outcome {
     pub left: Left,
     pub history: History,
     pub busy: bool,
-}
-
-/// The pod gets Ready, the threads work, and the cell is closed.
-fn outcome_of<R: Threads + Wait + Sync>(
-    rt: &R,
-    alloc: Global,
-    cell: RevisionCell,
-    mut first: Pass,
-    n: usize,
-    work: Work,
-) -> Option<Outcome>
-    requires { IsFirst cell (n + 1) first }
-{
-    let notes = Notes::new();
-    let ready = on(rt, &cell, &mut first, Act::Ready(0), 0);
-    work_and_take_in(rt, alloc, &cell, &mut first, n, work, &notes).ok()?;
-    let (left, history) = close(cell, first);
-    Some(Outcome {
-        ready,
-        left,
-        history,
-        busy: notes.busy.load(Ordering::SeqCst),
-    })
 }
 
 /// So many threads, each with its own pass, over a revision whose pod is Ready at once, with room for so many rows.
@@ -260,8 +188,19 @@ pub fn by_threads<R: Threads + Wait + Sync>(
 ) -> Option<Outcome>
     requires { n ≤ 999 }
 {
-    let (cell, first) = open(alloc, seats, 10, room, n as u64 + 1)?;
-    outcome_of(rt, alloc, cell, first, n, work)
+    let notes = Notes::new();
+    let (cell, mut first) = open(alloc, seats, 10, room, n as u64 + 1)?;
+    let ready = on(rt, &cell, &mut first, Act::Ready(0), 0);
+    let passes = cut(alloc, &cell, &mut first, n).ok()?;
+    let passes = work_all(rt, &cell, passes, work, &notes).ok()?;
+    take_in(&cell, &mut first, passes);
+    let (left, history) = close(cell, first);
+    Some(Outcome {
+        ready,
+        left,
+        history,
+        busy: notes.busy.load(Ordering::SeqCst),
+    })
 }
 
 /// How many rows the pass of this number brought.
@@ -269,7 +208,11 @@ fn brought(rows: &[Past], pass: u64) -> usize {
     rows.iter().filter(|row| row.pass == pass).count()
 }
 
-fn show_four<R: Print>(rt: &R, outcome: &Outcome) -> anyhow::Result<()> {
+/// Each request of four threads runs at once and ends. Beside the row of the Ready pod there are 200 of each thread.
+pub fn four_threads<R: Print + AllocGlobal + Threads + Wait + Sync>(rt: &R) -> anyhow::Result<()> {
+    let Some(outcome) = by_threads(rt, rt.alloc(), 0, 1000, 4, Work::Serve(100)) else {
+        bail!("memory is lacking");
+    };
     let rows = outcome.history.items();
     case(
         rt,
@@ -288,14 +231,6 @@ fn show_four<R: Print>(rt: &R, outcome: &Outcome) -> anyhow::Result<()> {
     case(rt, "four threads, arrivals", &outcome.left.arrivals, &400)?;
     case(rt, "four threads, live requests", &outcome.left.live, &0)?;
     Ok(())
-}
-
-/// Each request of four threads runs at once and ends. Beside the row of the Ready pod there are 200 of each thread.
-pub fn four_threads<R: Print + AllocGlobal + Threads + Wait + Sync>(rt: &R) -> anyhow::Result<()> {
-    match by_threads(rt, rt.alloc(), 0, 1000, 4, Work::Serve(100)) {
-        Some(outcome) => show_four(rt, &outcome),
-        None => bail!("memory is lacking"),
-    }
 }
 
 /// What a revision is told of the event, if it may come.
@@ -320,19 +255,21 @@ fn replayed(revision: &mut Revision, log: &mut EntryLog, rows: &[Past]) -> usize
     rows.len()
 }
 
-fn replay_by(alloc: Global, revision: &mut Revision, rows: &[Past]) -> Option<(usize, Left)> {
-    let mut log = EntryLog::new(alloc).ok()?;
-    let count = replayed(revision, &mut log, rows);
-    Some((count, left_of(revision)))
-}
-
 /// To how many events a new revision says the same, and what is left of it then.
 fn replay_new(alloc: Global, rows: &[Past]) -> Option<(usize, Left)> {
     let mut revision = one_pod(alloc, 2, 10)?;
-    replay_by(alloc, &mut revision, rows)
+    let mut log = EntryLog::new(alloc).ok()?;
+    let count = replayed(&mut revision, &mut log, rows);
+    Some((count, left_of(&revision)))
 }
 
-fn show_replayed<R: Print + AllocGlobal>(rt: &R, outcome: &Outcome) -> anyhow::Result<()> {
+/// What eight threads were told is what one thread is told.
+pub fn replayed_by_one<R: Print + AllocGlobal + Threads + Wait + Sync>(
+    rt: &R,
+) -> anyhow::Result<()> {
+    let Some(outcome) = by_threads(rt, rt.alloc(), 2, 1000, 8, Work::Mix) else {
+        bail!("memory is lacking");
+    };
     let rows = outcome.history.items();
     case(
         rt,
@@ -352,14 +289,4 @@ fn show_replayed<R: Print + AllocGlobal>(rt: &R, outcome: &Outcome) -> anyhow::R
         &true,
     )?;
     Ok(())
-}
-
-/// What eight threads were told is what one thread is told.
-pub fn replayed_by_one<R: Print + AllocGlobal + Threads + Wait + Sync>(
-    rt: &R,
-) -> anyhow::Result<()> {
-    match by_threads(rt, rt.alloc(), 2, 1000, 8, Work::Mix) {
-        Some(outcome) => show_replayed(rt, &outcome),
-        None => bail!("memory is lacking"),
-    }
 }

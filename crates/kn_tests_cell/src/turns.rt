@@ -1,6 +1,6 @@
 //! Two passes by turns on one thread.
-ghost use Rattle.std.specs.Prelude.{◌≡◌, ◌+◌};
-ghost use Rattle.kn_tests_cell.specs.Numbers.{IsFirst, IsStill};
+ghost use Rattle.std.specs.Prelude.{◌≡◌};
+ghost use Rattle.kn_tests_cell.specs.Numbers.{IsStill};
 
 use crate::shared::{Left, close, may_come, on, open};
 use anyhow::bail;
@@ -132,40 +132,18 @@ struct Outcome {
     history: History,
 }
 
-/// A second pass, and the first, make the calls by turns.
-fn make_with_second<R: Wait>(
-    rt: &R,
-    cell: &RevisionCell,
-    first: &mut Pass,
-    calls: &[Call],
-) -> Option<usize>
-    requires { IsFirst cell.now 2 first.old }
-    ensures cell { first.new.cell ≡ cell.now }
-    ensures all { 1 + first.new.free + first.new.back ≡ first.new.passes }
-{
-    let mut second = cell.split(first);
-    let wrong = make_all(rt, cell, first, &mut second, calls);
-    cell.join(first, second);
-    wrong
-}
-
-/// What comes of the calls to this cell, which is then closed.
-fn outcome_of<R: Wait>(rt: &R, cell: RevisionCell, mut first: Pass, calls: &[Call]) -> Outcome
-    requires { IsFirst cell 2 first }
-{
-    let wrong = make_with_second(rt, &cell, &mut first, calls);
+/// What comes of calls that two passes make by turns to a cell over one pod of one seat.
+fn by_turns<R: Wait>(rt: &R, alloc: Global, room: u64, calls: &[Call]) -> Option<Outcome> {
+    let (cell, mut first) = open(alloc, 1, 1, room, 2)?;
+    let mut second = cell.split(&mut first);
+    let wrong = make_all(rt, &cell, &mut first, &mut second, calls);
+    cell.join(&mut first, second);
     let (left, history) = close(cell, first);
-    Outcome {
+    Some(Outcome {
         wrong,
         left,
         history,
-    }
-}
-
-/// What comes of calls that two passes make by turns to a cell over one pod of one seat.
-fn by_turns<R: Wait>(rt: &R, alloc: Global, room: u64, calls: &[Call]) -> Option<Outcome> {
-    let (cell, first) = open(alloc, 1, 1, room, 2)?;
-    Some(outcome_of(rt, cell, first, calls))
+    })
 }
 
 /// No room is left for a request that comes, for it and its end, nor then for a tick, beside the request that runs.
@@ -210,19 +188,15 @@ const ROOM: [Call; 14] = [
     Call::Rest,
 ];
 
-fn show_room<R: Print>(rt: &R, outcome: &Outcome) -> anyhow::Result<()> {
+/// The room is for rows and for the ends of live requests.
+pub fn history_room<R: Print + AllocGlobal + Wait>(rt: &R) -> anyhow::Result<()> {
+    let Some(outcome) = by_turns(rt, rt.alloc(), 4, &ROOM) else {
+        bail!("memory is lacking");
+    };
     case(rt, "no room, no wrong answer", &outcome.wrong, &None)?;
     case(rt, "no room, rows", &outcome.history.items().len(), &4)?;
     case(rt, "no room, live requests", &outcome.left.live, &0)?;
     Ok(())
-}
-
-/// The room is for rows and for the ends of live requests.
-pub fn history_room<R: Print + AllocGlobal + Wait>(rt: &R) -> anyhow::Result<()> {
-    match by_turns(rt, rt.alloc(), 4, &ROOM) {
-        Some(outcome) => show_room(rt, &outcome),
-        None => bail!("memory is lacking"),
-    }
 }
 
 /// Neither pass is ever busy.
@@ -233,22 +207,22 @@ const TURNS: [Call; 4] = [
     Call::Try(Act::Pass, u64::MAX, Ok(Told::Passed)),
 ];
 
-fn add_passes_and_times(rows: &[Past], all: &mut Vec<(u64, u64)>) -> Result<(), AllocError> {
-    for row in rows {
-        all.push((row.pass, row.event.time))?;
-    }
-    Ok(())
-}
-
 /// The passes and the times of the rows.
 fn passes_and_times(alloc: Global, rows: &[Past]) -> Result<Vec<(u64, u64)>, AllocError> {
     let mut all = Vec::new(alloc);
-    add_passes_and_times(rows, &mut all)?;
+    for row in rows {
+        all.push((row.pass, row.event.time))?;
+    }
     Ok(all)
 }
 
-fn show_rows<R: Print + AllocGlobal>(rt: &R, rows: &[Past]) -> anyhow::Result<()> {
-    let rows = passes_and_times(rt.alloc(), rows)?;
+/// Two passes by turns. No time falls, and none is above 2^42.
+pub fn takes_turns<R: Print + AllocGlobal + Wait>(rt: &R) -> anyhow::Result<()> {
+    let Some(outcome) = by_turns(rt, rt.alloc(), 100, &TURNS) else {
+        bail!("memory is lacking");
+    };
+    case(rt, "turns, no wrong answer", &outcome.wrong, &None)?;
+    let rows = passes_and_times(rt.alloc(), outcome.history.items())?;
     let wanted = [(0, 10), (1, 10), (0, 11), (1, 1 << 42)];
     case(
         rt,
@@ -256,20 +230,6 @@ fn show_rows<R: Print + AllocGlobal>(rt: &R, rows: &[Past]) -> anyhow::Result<()
         &rows.as_slice(),
         &wanted.as_slice(),
     )?;
-    Ok(())
-}
-
-fn show_turns<R: Print + AllocGlobal>(rt: &R, outcome: &Outcome) -> anyhow::Result<()> {
-    case(rt, "turns, no wrong answer", &outcome.wrong, &None)?;
-    show_rows(rt, outcome.history.items())?;
     case(rt, "turns, the last time", &outcome.left.now, &(1 << 42))?;
     Ok(())
-}
-
-/// Two passes by turns. No time falls, and none is above 2^42.
-pub fn takes_turns<R: Print + AllocGlobal + Wait>(rt: &R) -> anyhow::Result<()> {
-    match by_turns(rt, rt.alloc(), 100, &TURNS) {
-        Some(outcome) => show_turns(rt, &outcome),
-        None => bail!("memory is lacking"),
-    }
 }
