@@ -41,7 +41,7 @@ fn judged(status: Option<Status>, report: &[u8]) -> Came {
     }
 }
 
-fn came<R: Threads + Wait + Sync>(
+fn come_to<R: Threads + Wait + Sync>(
     rt: &R,
     alloc: Global,
     slots: &mut [MemSlot],
@@ -61,7 +61,7 @@ fn slots_at(alloc: Global, call: u64) -> Result<Vec<MemSlot>, AllocError> {
 fn fail_at<R: Threads + Wait + Sync>(rt: &R, alloc: Global, call: u64) -> Result<Came, AllocError> {
     let mut slots = slots_at(alloc, call)?;
     let mut sinks = Sinks::new(alloc)?;
-    came(rt, alloc, &mut slots, &mut sinks)
+    come_to(rt, alloc, &mut slots, &mut sinks)
 }
 
 /// At how many of the first 100 calls a session failed as it must, and what came of the next.
