@@ -176,8 +176,8 @@ impl Scaler {
     }
 
     /// A row that may change live requests, and with which no pod goes.
-    // (inlined: where it is called the change is known)
-    #[inline(always)]
+    // (not inlined: a whole step would else grow too large to be inlined itself)
+    #[inline(never)]
     fn requests_change(&mut self, change: Option<Change>)
         requires { IfSome change (CanChange self.old.stats) }
         ensures stands { (s : SpecValue) (c : Trace) (x : RowValue) → change_by c x ≡ change → gone_by x ≡ None → IsBeside c (entry self.old.stats.time x)
