@@ -1,13 +1,13 @@
 //! What holds bytes, items and entries gives back what it was given.
-ghost use Rattle.std.specs.Prelude.{◌≡◌, []};
-
 use crate::texts::text_of;
 use kn_case::case;
 use kn_event::{Entry, EntryLog, Items, Line, Row, Text};
 use std::alloc::{AllocError, Global};
 use std::io;
 
-fn put_and_clear<R: Print>(rt: &R, line: &mut Line) -> io::Result<()> {
+/// A line's buffer: put, print and clear.
+pub fn line_buffer(rt: &impl Print) -> io::Result<()> {
+    let mut line = Line::new();
     line.put(b"n=");
     line.put_integer(u128::MAX);
     line.put(b" ");
@@ -19,41 +19,23 @@ fn put_and_clear<R: Print>(rt: &R, line: &mut Line) -> io::Result<()> {
     case(rt, "cleared line", &line.bytes().len(), &0)
 }
 
-/// A line's buffer: put, print and clear.
-pub fn line_buffer(rt: &impl Print) -> io::Result<()> {
-    let mut line = Line::new();
-    put_and_clear(rt, &mut line)
-}
-
-fn show_copy<R: Print + AllocGlobal>(rt: &R, text: &Text) -> io::Result<()> {
-    match text.copy(rt.alloc()) {
-        Ok(copied) => println!(rt; "copied text: {}", text_of(copied.bytes())),
-        Err(_) => Ok(()),
-    }
-}
-
-fn show_text<R: Print + AllocGlobal>(rt: &R) -> anyhow::Result<()> {
+/// A text, its copy and a list.
+pub fn texts_and_lists<R: Print + AllocGlobal>(rt: &R) -> anyhow::Result<()> {
     let text = Text::new(b"hello-00001".to_vec(rt.alloc())?);
     println!(rt; "text: {}", text_of(text.bytes()))?;
-    show_copy(rt, &text)?;
-    Ok(())
-}
-
-fn show_items<R: Print + AllocGlobal>(rt: &R) -> anyhow::Result<()> {
+    if let Ok(copied) = text.copy(rt.alloc()) {
+        println!(rt; "copied text: {}", text_of(copied.bytes()))?;
+    }
     let items = Items::new([3u64, 1, 2].to_vec(rt.alloc())?);
     println!(rt; "items: {:?}", items.items())?;
     Ok(())
 }
 
-/// A text, its copy and a list.
-pub fn texts_and_lists<R: Print + AllocGlobal>(rt: &R) -> anyhow::Result<()> {
-    show_text(rt)?;
-    show_items(rt)
-}
-
-fn put_two<R: Print>(rt: &R, log: &mut EntryLog) -> io::Result<()>
-    requires { log.old ≡ [] }
-{
+/// The log of a step: put and clear.
+pub fn log<R: Print + AllocGlobal>(rt: &R) -> io::Result<()> {
+    let Ok(mut log) = EntryLog::new(rt.alloc()) else {
+        return println!(rt; "no memory for a log");
+    };
     log.put(Entry {
         time: 1,
         row: Row::NoData,
@@ -67,12 +49,4 @@ fn put_two<R: Print>(rt: &R, log: &mut EntryLog) -> io::Result<()>
     log.clear();
     log.put(second);
     println!(rt; "cleared log: {:?}", log.entries())
-}
-
-/// The log of a step: put and clear.
-pub fn log<R: Print + AllocGlobal>(rt: &R) -> io::Result<()> {
-    match EntryLog::new(rt.alloc()) {
-        Ok(mut log) => put_two(rt, &mut log),
-        Err(_) => println!(rt; "no memory for a log"),
-    }
 }
