@@ -14,6 +14,7 @@ ghost use Rattle.kn_event.specs.PlainLine.{IsNumberAt, IsActAhead};
 use crate::digits::{few_digits, many_digits};
 use crate::event::{Act, Event};
 use crate::front::Front;
+use crate::time::TimeText;
 use core::dec2flt::read_digits;
 use std::marker::Model;
 
@@ -199,11 +200,24 @@ fn act_ahead(text: &[u8]) -> Option<(Act, usize)>
     other_ahead(text)
 }
 
+/// The first sixteen bytes.
+#[inline(always)]
+fn sixteen_of(line: &[u8]) -> [u8; 16]
+    requires { 16 ≤ length line.now }
+    ensures { result ≡ take 16 line.now }
+{
+    let mut bytes = [0; 16];
+    bytes.copy_from_slice(&line[..16]);
+    bytes
+}
+
 /// A time of one to fifteen digits and its bytes, which the next line mostly begins with again.
 #[derive(Drop)]
 pub struct LastTime {
     time: u64,
     len: usize,
+    // The bytes of its line, which its text begins.
+    bytes: [u8; 16],
     // The bytes of the first two words of its line, as far as the byte behind the time: else 1 would be taken for the
     // time of a line of 10.
     first: Front,
@@ -223,6 +237,7 @@ impl Model for LastTime {
     ghost invariant = { λ r. record {
       few : r.len < 16;
       small : r.time < 2 ^ 64;
+      text : take r.len r.bytes ≡ decimal r.time;
       spelled : (xs ys : List ℕ) → IsEightBytes xs → IsEightBytes ys
           → number_l 256 xs * r.first.scale % 2 ^ 64 ≡ r.first.moved
           → number_l 256 ys * r.second.scale % 2 ^ 64 ≡ r.second.moved
@@ -235,21 +250,34 @@ impl LastTime {
     pub fn new() -> LastTime {
         LastTime {
             time: 0,
-            len: 0,
+            len: 1,
+            bytes: [b'0'; 16],
             first: Front::of_none(),
             second: Front::of_any(),
         }
     }
 
+    /// The time that is kept, with its text.
+    #[inline(always)]
+    pub fn text(&self) -> TimeText {
+        TimeText {
+            time: self.time,
+            len: self.len,
+            bytes: self.bytes,
+        }
+    }
+
     /// The time that these first bytes of a word spell.
     #[inline(always)]
-    fn keep_few(&mut self, time: u64, len: usize, word: u64)
+    fn keep_few(&mut self, time: u64, len: usize, bytes: [u8; 16], word: u64)
         requires few { len < 8 }
+        requires text { take len bytes ≡ decimal time }
         requires spelled { (xs : List ℕ) × IsEightBytes xs × (word ≡ number_l 256 xs) × (take len xs ≡ decimal time) }
     {
         *self = LastTime {
             time,
             len,
+            bytes,
             first: Front::of(word, len + 1),
             second: Front::of_any(),
         };
@@ -257,15 +285,17 @@ impl LastTime {
 
     /// The time that these first bytes of two words spell.
     #[inline(always)]
-    fn keep_many(&mut self, time: u64, len: usize, first: u64, second: u64)
+    fn keep_many(&mut self, time: u64, len: usize, bytes: [u8; 16], first: u64, second: u64)
         requires many { 8 ≤ len }
         requires most { len < 16 }
+        requires text { take len bytes ≡ decimal time }
         requires spelled { (xs : List ℕ) × (ys : List ℕ) × IsEightBytes xs × IsEightBytes ys
             × (first ≡ number_l 256 xs) × (second ≡ number_l 256 ys) × (take len (xs ++ ys) ≡ decimal time) }
     {
         *self = LastTime {
             time,
             len,
+            bytes,
             first: Front::of(first, 8),
             second: Front::of(second, len - 7),
         };
@@ -283,11 +313,11 @@ impl LastTime {
                 return Some((self.time, self.len));
             }
             if let Some((len, value)) = few_digits(first) {
-                self.keep_few(value, len, first);
+                self.keep_few(value, len, sixteen_of(line), first);
                 return Some((value, len));
             }
             if let Some((len, value)) = many_digits(first, second) {
-                self.keep_many(value, len, first, second);
+                self.keep_many(value, len, sixteen_of(line), first, second);
                 return Some((value, len));
             }
         }

@@ -13,7 +13,8 @@ use crate::first::{FirstLine, judge_first};
 use crate::input::Input;
 use crate::lines::{NoLine, read_line};
 use kn_event::{
-    Event, LastTime, LineError, Memory, first_end, last_number, read_event, spellings_are_read,
+    Event, LastTime, LineError, Memory, TimeText, first_end, last_number, read_event,
+    spellings_are_read,
 };
 use kn_io::Source;
 use memchr::memchr;
@@ -220,6 +221,12 @@ impl Lines {
             Err(NoLine::Fault) => return Err(JournalError::ReadFault),
         }
         Ok(())
+    }
+
+    /// A time that a line began with, mostly the last one's.
+    #[inline(always)]
+    pub fn time_text(&self) -> TimeText {
+        self.time.text()
     }
 
     /// The next event, at this time or later, and the length of its line, where the line is a usual one and ahead with its LF.

@@ -11,7 +11,7 @@ use crate::first::FirstLine;
 use crate::journal::Setup;
 use crate::parts::Lines;
 use crate::setup::read_opening;
-use kn_event::{Event, Memory};
+use kn_event::{Event, Memory, TimeText};
 use kn_io::Source;
 use std::alloc::Global;
 use std::marker::Model;
@@ -152,6 +152,12 @@ impl JournalReader {
                 Err(e)
             }
         }
+    }
+
+    /// A time that a line began with and its text, mostly those of the last event that `next_ahead` took.
+    #[inline(always)]
+    pub fn time_text(&self) -> TimeText {
+        self.lines.time_text()
     }
 
     /// Takes the next event, at the last time or later, where its line is a usual one and ahead with its LF. None says nothing,

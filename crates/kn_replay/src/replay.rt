@@ -221,7 +221,10 @@ impl Replay {
     {
         let _few = self.waiting.len();
         match reader.next_ahead() {
-            Some(e) => return Ok(Ok(Some(e))),
+            Some(e) => {
+                self.waiting.expect(reader.time_text());
+                return Ok(Ok(Some(e)));
+            }
             None => {}
         }
         match self.write_unless(reader.holds_line(), out) {

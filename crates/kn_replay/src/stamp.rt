@@ -3,6 +3,7 @@ ghost use Rattle.std.specs.Prelude.{◌≡◌, ◌+◌, ◌≤◌, ◌++◌, len
 ghost use Rattle.std.specs.Fmt.{decimal};
 
 use crate::digits::put_number;
+use kn_event::TimeText;
 use std::marker::Model;
 
 /// A time and its text, where that has at most 16 digits. Contracts see the time.
@@ -33,6 +34,21 @@ impl Stamp {
             time: 0,
             text: [b'0'; 16],
             len: 1,
+        }
+    }
+
+    /// Takes over a time whose text is known.
+    #[inline(always)]
+    pub fn take(&mut self, known: TimeText)
+        ensures { self.new ≡ known.time }
+    {
+        if known.time != self.time {
+            let text = known.bytes;
+            *self = Stamp {
+                time: known.time,
+                text,
+                len: known.len,
+            };
         }
     }
 

@@ -13,7 +13,7 @@ use crate::digits::put_word;
 use crate::report::Tally;
 use crate::rows::{ROW_ROOM, put_entry};
 use crate::stamp::Stamp;
-use kn_event::{Entry, EntryLog, Line, Row, entry_line};
+use kn_event::{Entry, EntryLog, Line, Row, TimeText, entry_line};
 use kn_io::{Failed, Sink, put_all};
 use std::marker::Model;
 
@@ -67,6 +67,14 @@ impl Waiting {
         ensures most { length self.now ≤ 65536 }
     {
         self.bytes().len()
+    }
+
+    /// Rows of this time come next.
+    #[inline(always)]
+    pub fn expect(&mut self, time: TimeText)
+        ensures { self.new ≡ self.old }
+    {
+        self.stamp.take(time);
     }
 
     fn put(&mut self, bytes: &[u8])

@@ -60,3 +60,28 @@ keep_many-requires-clause-spelled c =
     let read = found.read _ _ first_bytes second_bytes first second in
     let number = many_here bs 0 c.in-Some-many_digits.value len len (omega arith) (omega arith) found.many found.most read.0 read.1 (found.lead _ first_bytes first) in
     (take 8 (drop 0 bs), take 8 (drop 8 bs), first_bytes, second_bytes, first, second, ap (take len) (sym (two_words bs 0)) ∙ front_spelled bs 16 len c.in-Some-many_digits.value found.most (omega arith) number)
+
+pub keep_few-requires-clause-text : goal.keep_few-requires-clause-text
+keep_few-requires-clause-text c =
+    let bs = c.args.line.now in
+    let eight = eight_at bs 0 (λ (k : ℕ). (c.type_inv.line k).fits) (omega arith) in
+    let word = c.word_at-first.ensures.value ∙ word_at bs 0 (omega arith) in
+    let found = c.in-Some.ensures in
+    let read = found.read _ eight word in
+    let len = c.in-Some.len in
+    let number = few_here bs 0 c.in-Some.value len len (omega arith) (omega arith) found.some found.few read.0 read.1 (found.lead _ eight word) in
+    ap (take len) c.sixteen_of.ensures ∙ front_spelled bs 16 len c.in-Some.value (omega (arith, found.few)) (omega arith) number
+
+pub keep_many-requires-clause-text : goal.keep_many-requires-clause-text
+keep_many-requires-clause-text c =
+    let bs = c.args.line.now in
+    let bytes = λ (k : ℕ). (c.type_inv.line k).fits in
+    let first_bytes = eight_at bs 0 bytes (omega arith) in
+    let second_bytes = eight_at bs 8 bytes (omega arith) in
+    let first = c.word_at-first.ensures.value ∙ word_at bs 0 (omega arith) in
+    let second = c.word_at-second.ensures.value ∙ word_at bs 8 (omega arith) in
+    let found = c.in-Some-many_digits.ensures in
+    let len = c.in-Some-many_digits.len in
+    let read = found.read _ _ first_bytes second_bytes first second in
+    let number = many_here bs 0 c.in-Some-many_digits.value len len (omega arith) (omega arith) found.many found.most read.0 read.1 (found.lead _ first_bytes first) in
+    ap (take len) c.sixteen_of-in-Some-many_digits.ensures ∙ front_spelled bs 16 len c.in-Some-many_digits.value found.most (omega arith) number

@@ -7,6 +7,7 @@ pub invariant_of-self : goal.invariant_of-self
 invariant_of-self c = record {
   few = omega arith;
   small = c.ranges.time.fits;
+  text = c.requires.text;
   spelled = λ xs ys hx hy first second.
       let kept = c.requires.spelled in
       few_told c.args.len kept.0 xs ys c.requires.few hx (c.of.ensures xs kept.0 hx kept.1 kept.2 first) ∙ kept.3;

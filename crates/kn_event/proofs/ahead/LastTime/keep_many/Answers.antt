@@ -7,6 +7,7 @@ pub invariant_of-self : goal.invariant_of-self
 invariant_of-self c = record {
   few = c.requires.most;
   small = c.ranges.time.fits;
+  text = c.requires.text;
   spelled = λ xs ys hx hy first second.
       let kept = c.requires.spelled in
       many_told c.args.len kept.0 kept.1 xs ys c.requires.many kept.2 hx (c.of.ensures xs kept.0 hx kept.2 kept.4 first) (c.of-2.ensures ys kept.1 hy kept.3 kept.5 second) ∙ kept.6;
