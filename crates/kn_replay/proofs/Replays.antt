@@ -14,6 +14,7 @@ use Rattle.kn_trace.specs.Trace.{Trace}
 use Rattle.kn_trace.specs.Events.{added, opening, react, trace_of}
 use Rattle.kn_trace.specs.Report.{last_line, rows_text, totals}
 use Rattle.kn_core.specs.Steps.{IsWithinRange}
+use Rattle.kn_journal.specs.declared.first.FirstLine.TheVariants.{Journal as JournalLine}
 use Rattle.kn_journal.specs.declared.error.JournalError.{JournalError}
 use Rattle.kn_journal.specs.declared.error.JournalError.TheVariants as error
 use Rattle.kn_journal.specs.declared.journal.Journal.{Journal}
@@ -21,10 +22,10 @@ use Rattle.kn_journal.specs.declared.journal.Opening.{Opening}
 use Rattle.kn_journal.specs.declared.journal.Setup.{Setup}
 use Rattle.kn_journal.specs.declared.status.Status.{Status}
 use Rattle.kn_journal.specs.declared.status.Status.TheVariants as status
-use Rattle.kn_journal.specs.Causes.{Cause, after_end, bad_first_line, bad_line, bad_setup, error_of, line_too_long, no_end, time_back, time_too_large}
+use Rattle.kn_journal.specs.Causes.{Cause, after_end, bad_first_line, bad_line, bad_setup, error_of, line_too_long, no_end, time_back, time_too_large, too_many}
 use Rattle.kn_journal.specs.Lines.{lines}
 use Rattle.kn_journal.specs.Parts.{part}
-use Rattle.kn_journal.specs.Journal.{Read, Verdict, bad, from_read, journal_of, next_part, none_read, opening_part, read_events, start_part, verdict, verdict_of_lines, verdict_on, version_of}
+use Rattle.kn_journal.specs.Journal.{Read, Verdict, bad, from_read, journal_of, next_part, none_read, opening_part, read_events, start_part, verdict, verdict_of_lines, verdict_on}
 use Rattle.kn_journal.specs.Reading.{Ahead, IsSpent, TakesPart, most_taken}
 use Rattle.kn_journal.specs.Telling.{Gives, Refuses, StopsAmid, TakesEnd}
 use Rattle.kn_replay.specs.Replaying.{BreaksBeyond, BreaksAmid, BreaksFollowing, BreaksIn, EndsThere, Follows, IsFollowed, IsReplayed, Opened, Opens, Replays, Stops, Writes, ending, refusal_of, rest_of_report, status_by, status_of}
@@ -141,13 +142,14 @@ IsPlain _ = ⊥
 
 plain_cause : (cause : Cause) → IsPlain (status_of (error_of cause))
 plain_cause (line_too_long line) = tt
-plain_cause bad_first_line = tt
+plain_cause (bad_first_line due) = tt
 plain_cause (bad_setup line why) = tt
 plain_cause (bad_line line why) = tt
 plain_cause (time_back line before own) = tt
 plain_cause (time_too_large line) = tt
 plain_cause no_end = tt
 plain_cause (after_end line) = tt
+plain_cause (too_many line) = tt
 
 plain_end : (refused : Option Cause) → IsPlain (status_by refused)
 plain_end None = tt
@@ -308,7 +310,7 @@ goes_stop version s c last number (Some xs) waiting now old mid new es time m No
 goes_stop version s c last number (Some xs) waiting now old mid new es time m (Some ys) left error.ReadFault result h g amid memory adds stops =
     fault_at version s c last number xs waiting now old mid new es time m ys left result h (amid refl) adds stops
 goes_stop version s c last number (Some xs) waiting now old mid new es time m (Some ys) left error.Memory result h g amid memory adds stops = absurd (memory refl)
-goes_stop version s c last number (Some xs) waiting now old mid new es time m (Some ys) left error.BadFirstLine result h (cause, is, g) amid memory adds stops =
+goes_stop version s c last number (Some xs) waiting now old mid new es time m (Some ys) left (error.BadFirstLine due) result h (cause, is, g) amid memory adds stops =
     goes_refused version s c last number xs waiting now old mid new es time m ys left cause _ result h is g adds stops
 goes_stop version s c last number (Some xs) waiting now old mid new es time m (Some ys) left (error.BadSetup line why) result h (cause, is, g) amid memory adds stops =
     goes_refused version s c last number xs waiting now old mid new es time m ys left cause _ result h is g adds stops
@@ -323,6 +325,8 @@ goes_stop version s c last number (Some xs) waiting now old mid new es time m (S
 goes_stop version s c last number (Some xs) waiting now old mid new es time m (Some ys) left error.NoEnd result h (cause, is, g) amid memory adds stops =
     goes_refused version s c last number xs waiting now old mid new es time m ys left cause _ result h is g adds stops
 goes_stop version s c last number (Some xs) waiting now old mid new es time m (Some ys) left (error.AfterEnd line) result h (cause, is, g) amid memory adds stops =
+    goes_refused version s c last number xs waiting now old mid new es time m ys left cause _ result h is g adds stops
+goes_stop version s c last number (Some xs) waiting now old mid new es time m (Some ys) left (error.TooMany line) result h (cause, is, g) amid memory adds stops =
     goes_refused version s c last number xs waiting now old mid new es time m ys left cause _ result h is g adds stops
 
 pub no_lf : ¬ Contains {X = ℕ} [] 10
@@ -394,7 +398,7 @@ stops_behind old mid new p q x end result h stops =
 pub followed_of : (e : JournalError) → (e ≡ error.Memory → ⊥) → IsFollowed (status_of e)
 followed_of error.Memory h = absurd (h refl)
 followed_of error.ReadFault h = tt
-followed_of error.BadFirstLine h = tt
+followed_of (error.BadFirstLine due) h = tt
 followed_of (error.BadSetup line why) h = tt
 followed_of (error.LineTooLong line) h = tt
 followed_of (error.BadLine line why) h = tt
@@ -402,6 +406,7 @@ followed_of (error.TimeBack line before own) h = tt
 followed_of (error.TimeTooLarge line) h = tt
 followed_of error.NoEnd h = tt
 followed_of (error.AfterEnd line) h = tt
+followed_of (error.TooMany line) h = tt
 
 -- an end that is no other one
 abbrev pub IsMemory : Status → Type 0
@@ -415,7 +420,7 @@ IsWriteFault _ = ⊥
 pub fault_of : (e : JournalError) → status_of e ≡ status.ReadFault → e ≡ error.ReadFault
 fault_of error.ReadFault h = refl
 fault_of error.Memory h = cc
-fault_of error.BadFirstLine h = cc
+fault_of (error.BadFirstLine due) h = cc
 fault_of (error.BadSetup line why) h = cc
 fault_of (error.LineTooLong line) h = cc
 fault_of (error.BadLine line why) h = cc
@@ -423,11 +428,12 @@ fault_of (error.TimeBack line before own) h = cc
 fault_of (error.TimeTooLarge line) h = cc
 fault_of error.NoEnd h = cc
 fault_of (error.AfterEnd line) h = cc
+fault_of (error.TooMany line) h = cc
 
 pub no_write_fault : (e : JournalError) → status_of e ≡ status.WriteFault → ⊥
 no_write_fault error.ReadFault h = cc
 no_write_fault error.Memory h = cc
-no_write_fault error.BadFirstLine h = cc
+no_write_fault (error.BadFirstLine due) h = cc
 no_write_fault (error.BadSetup line why) h = cc
 no_write_fault (error.LineTooLong line) h = cc
 no_write_fault (error.BadLine line why) h = cc
@@ -435,6 +441,7 @@ no_write_fault (error.TimeBack line before own) h = cc
 no_write_fault (error.TimeTooLarge line) h = cc
 no_write_fault error.NoEnd h = cc
 no_write_fault (error.AfterEnd line) h = cc
+no_write_fault (error.TooMany line) h = cc
 
 pub either : {A B C D : Type 0} → A ⊎ B → (A → C) → (B → D) → C ⊎ D
 either (inl a) f g = inl (f a)
@@ -442,21 +449,21 @@ either (inr b) f g = inr (g b)
 
 -- ---- what stands before the events
 
-verdict_unopened : (xs : List ℕ) (cause : Cause) → opening_part version_of 0 (lines xs) ≡ Err cause → verdict xs ≡ bad None cause
+verdict_unopened : (xs : List ℕ) (cause : Cause) → opening_part JournalLine 0 (lines xs) ≡ Err cause → verdict xs ≡ bad None cause
 unfolding verdict verdict_of_lines
 verdict_unopened xs cause h = rw h refl
 
-verdict_unstarted : (xs : List ℕ) (opening : Opening) (n : ℕ) (left : List (List ℕ)) (cause : Cause) → opening_part version_of 0 (lines xs) ≡ Ok (part opening n left) → start_part n left ≡ Err cause
+verdict_unstarted : (xs : List ℕ) (opening : Opening) (n : ℕ) (left : List (List ℕ)) (cause : Cause) → opening_part JournalLine 0 (lines xs) ≡ Ok (part opening n left) → start_part n left ≡ Err cause
     → verdict xs ≡ bad None cause
 unfolding verdict verdict_of_lines
 verdict_unstarted xs opening n left cause h k = rw h (rw k refl)
 
-pub setup_fails : (known new : Option (List ℕ)) (version number : ℕ) (e : JournalError) → Refuses (opening_part version_of 0) e known
-    → (e ≡ error.ReadFault → StopsAmid (opening_part version_of 0) known new) → Opens known new version number (Err e)
+pub setup_fails : (known new : Option (List ℕ)) (version number : ℕ) (e : JournalError) → Refuses (opening_part JournalLine 0) e known
+    → (e ≡ error.ReadFault → StopsAmid (opening_part JournalLine 0) known new) → Opens known new version number (Err e)
 setup_fails None new version number e h amid = tt
 setup_fails (Some xs) new version number error.ReadFault h amid = inr (amid refl)
 setup_fails (Some xs) new version number error.Memory h amid = tt
-setup_fails (Some xs) new version number error.BadFirstLine (cause, is, h) amid = (cause, is, verdict_unopened xs cause h)
+setup_fails (Some xs) new version number (error.BadFirstLine due) (cause, is, h) amid = (cause, is, verdict_unopened xs cause h)
 setup_fails (Some xs) new version number (error.BadSetup line why) (cause, is, h) amid = (cause, is, verdict_unopened xs cause h)
 setup_fails (Some xs) new version number (error.LineTooLong line) (cause, is, h) amid = (cause, is, verdict_unopened xs cause h)
 setup_fails (Some xs) new version number (error.BadLine line why) (cause, is, h) amid = (cause, is, verdict_unopened xs cause h)
@@ -464,14 +471,15 @@ setup_fails (Some xs) new version number (error.TimeBack line before own) (cause
 setup_fails (Some xs) new version number (error.TimeTooLarge line) (cause, is, h) amid = (cause, is, verdict_unopened xs cause h)
 setup_fails (Some xs) new version number error.NoEnd (cause, is, h) amid = (cause, is, verdict_unopened xs cause h)
 setup_fails (Some xs) new version number (error.AfterEnd line) (cause, is, h) amid = (cause, is, verdict_unopened xs cause h)
+setup_fails (Some xs) new version number (error.TooMany line) (cause, is, h) amid = (cause, is, verdict_unopened xs cause h)
 
-pub start_fails : (known mid new : Option (List ℕ)) (opening : Opening) (n version number : ℕ) (e : JournalError) → Gives (opening_part version_of 0) opening n known mid
+pub start_fails : (known mid new : Option (List ℕ)) (opening : Opening) (n version number : ℕ) (e : JournalError) → Gives (opening_part JournalLine 0) opening n known mid
     → Refuses (start_part n) e mid → (e ≡ error.ReadFault → TakesPart mid new) → Opens known new version number (Err e)
 start_fails None mid new opening n version number e g h amid = tt
 start_fails (Some xs) None new opening n version number e g h amid = absurd g
 start_fails (Some xs) (Some ys) new opening n version number error.ReadFault g h amid = inl (record { opening = opening; number = n; mid = ys; read = g; rest = amid refl })
 start_fails (Some xs) (Some ys) new opening n version number error.Memory g h amid = tt
-start_fails (Some xs) (Some ys) new opening n version number error.BadFirstLine g (cause, is, h) amid = (cause, is, verdict_unstarted xs opening n (lines ys) cause g h)
+start_fails (Some xs) (Some ys) new opening n version number (error.BadFirstLine due) g (cause, is, h) amid = (cause, is, verdict_unstarted xs opening n (lines ys) cause g h)
 start_fails (Some xs) (Some ys) new opening n version number (error.BadSetup line why) g (cause, is, h) amid = (cause, is, verdict_unstarted xs opening n (lines ys) cause g h)
 start_fails (Some xs) (Some ys) new opening n version number (error.LineTooLong line) g (cause, is, h) amid = (cause, is, verdict_unstarted xs opening n (lines ys) cause g h)
 start_fails (Some xs) (Some ys) new opening n version number (error.BadLine line why) g (cause, is, h) amid = (cause, is, verdict_unstarted xs opening n (lines ys) cause g h)
@@ -479,6 +487,7 @@ start_fails (Some xs) (Some ys) new opening n version number (error.TimeBack lin
 start_fails (Some xs) (Some ys) new opening n version number (error.TimeTooLarge line) g (cause, is, h) amid = (cause, is, verdict_unstarted xs opening n (lines ys) cause g h)
 start_fails (Some xs) (Some ys) new opening n version number error.NoEnd g (cause, is, h) amid = (cause, is, verdict_unstarted xs opening n (lines ys) cause g h)
 start_fails (Some xs) (Some ys) new opening n version number (error.AfterEnd line) g (cause, is, h) amid = (cause, is, verdict_unstarted xs opening n (lines ys) cause g h)
+start_fails (Some xs) (Some ys) new opening n version number (error.TooMany line) g (cause, is, h) amid = (cause, is, verdict_unstarted xs opening n (lines ys) cause g h)
 
 -- ---- the whole
 
@@ -584,7 +593,7 @@ pub journal_fails : (known left : Option (List ℕ)) (ahead : List ℕ) (given v
 journal_fails None left ahead given version number e out h beyond = tt
 journal_fails (Some xs) left ahead given version number error.ReadFault out h beyond = ([], Appends-nil out, (ahead, beyond refl, inr (refl, h)))
 journal_fails (Some xs) left ahead given version number error.Memory out h beyond = Appends-nil out
-journal_fails (Some xs) left ahead given version number error.BadFirstLine out (cause, is, h) beyond = rw h (ap status_of (sym is), Appends-nil out)
+journal_fails (Some xs) left ahead given version number (error.BadFirstLine due) out (cause, is, h) beyond = rw h (ap status_of (sym is), Appends-nil out)
 journal_fails (Some xs) left ahead given version number (error.BadSetup line why) out (cause, is, h) beyond = rw h (ap status_of (sym is), Appends-nil out)
 journal_fails (Some xs) left ahead given version number (error.LineTooLong line) out (cause, is, h) beyond = rw h (ap status_of (sym is), Appends-nil out)
 journal_fails (Some xs) left ahead given version number (error.BadLine line why) out (cause, is, h) beyond = rw h (ap status_of (sym is), Appends-nil out)
@@ -592,6 +601,7 @@ journal_fails (Some xs) left ahead given version number (error.TimeBack line bef
 journal_fails (Some xs) left ahead given version number (error.TimeTooLarge line) out (cause, is, h) beyond = rw h (ap status_of (sym is), Appends-nil out)
 journal_fails (Some xs) left ahead given version number error.NoEnd out (cause, is, h) beyond = rw h (ap status_of (sym is), Appends-nil out)
 journal_fails (Some xs) left ahead given version number (error.AfterEnd line) out (cause, is, h) beyond = rw h (ap status_of (sym is), Appends-nil out)
+journal_fails (Some xs) left ahead given version number (error.TooMany line) out (cause, is, h) beyond = rw h (ap status_of (sym is), Appends-nil out)
 
 -- what is ahead at a fault was given beyond 2^56 bytes
 pub beyond_is : (input : Ahead) (given : ℕ) → input.taken + length input.ahead ≡ given → IsSpent input → length input.ahead ≡ given - most_taken
@@ -632,7 +642,7 @@ followed_replayed status.ListenFault h = h
 pub never_ok : (e : JournalError) → status_of e ≡ status.Ok → ⊥
 never_ok error.ReadFault h = cc
 never_ok error.Memory h = cc
-never_ok error.BadFirstLine h = cc
+never_ok (error.BadFirstLine due) h = cc
 never_ok (error.BadSetup line why) h = cc
 never_ok (error.LineTooLong line) h = cc
 never_ok (error.BadLine line why) h = cc
@@ -640,3 +650,4 @@ never_ok (error.TimeBack line before own) h = cc
 never_ok (error.TimeTooLarge line) h = cc
 never_ok error.NoEnd h = cc
 never_ok (error.AfterEnd line) h = cc
+never_ok (error.TooMany line) h = cc

@@ -9,6 +9,7 @@ use Rattle.kn_trace.specs.Trace.{Trace}
 use Rattle.kn_trace.specs.Events.{added}
 use Rattle.kn_trace.specs.Report.{last_line, rows_text, totals}
 use Rattle.kn_core.specs.State.{RevisionState}
+use Rattle.kn_journal.specs.declared.first.FirstLine.TheVariants.{Journal as JournalLine}
 use Rattle.kn_journal.specs.declared.error.JournalError.{JournalError}
 use Rattle.kn_journal.specs.declared.error.JournalError.TheVariants as error
 use Rattle.kn_journal.specs.declared.journal.Journal.{Journal}
@@ -17,7 +18,7 @@ use Rattle.kn_journal.specs.declared.journal.Setup.{Setup}
 use Rattle.kn_journal.specs.declared.status.Status.{Status}
 use Rattle.kn_journal.specs.declared.status.Status.TheVariants as status
 use Rattle.kn_journal.specs.Causes.{Cause, error_of, no_end}
-use Rattle.kn_journal.specs.Journal.{Read, Verdict, bad, good, opening_part, read_events, start_part, verdict, verdict_of_lines, version_of}
+use Rattle.kn_journal.specs.Journal.{Read, Verdict, bad, good, opening_part, read_events, start_part, verdict, verdict_of_lines}
 use Rattle.kn_journal.specs.Lines.{lines}
 use Rattle.kn_journal.specs.Parts.{part}
 use Rattle.kn_journal.specs.Reading.{TakesPart, most_taken}
@@ -30,7 +31,7 @@ use Rattle.kn_replay.specs.Tally.{Counted}
 abbrev pub status_of : JournalError → Status
 status_of error.ReadFault = status.ReadFault
 status_of error.Memory = status.Memory
-status_of error.BadFirstLine = status.BadSetup error.BadFirstLine
+status_of (error.BadFirstLine due) = status.BadSetup (error.BadFirstLine due)
 status_of (error.BadSetup number why) = status.BadSetup (error.BadSetup number why)
 status_of e = status.BadInput e
 
@@ -81,7 +82,7 @@ pub record BreaksAmid (all : List (List ℕ)) (left : Option (List ℕ)) (j : Jo
   pub begun : ℕ
   pub more : List (List ℕ)
   pub refused : Option Cause
-  pub opening : opening_part version_of 0 all ≡ Ok (part (record { version = j.version; setup = j.setup }) number after)
+  pub opening : opening_part JournalLine 0 all ≡ Ok (part (record { version = j.version; setup = j.setup }) number after)
   pub start : start_part number after ≡ Ok (part j.start begun more)
   pub breaks : BreaksIn j.version j.start begun more left (record { events = j.events; refused = refused })
 
@@ -90,14 +91,14 @@ pub record BreaksBefore (all : List (List ℕ)) (left : Option (List ℕ)) : Typ
   pub opening : Opening
   pub number : ℕ
   pub mid : List ℕ
-  pub read : opening_part version_of 0 all ≡ Ok (part opening number (lines mid))
+  pub read : opening_part JournalLine 0 all ≡ Ok (part opening number (lines mid))
   pub rest : TakesPart (Some mid) left
 
 -- what was written then: the rows of the journal's events, or nothing where its start had not ended
 abbrev pub Breaks : List ℕ → Option (List ℕ) → List ℕ → Type 0
 Breaks xs left front =
     ((j : Journal) × BreaksAmid (lines xs) left j × (front ≡ journal_rows j))
-    ⊎ ((front ≡ []) × (BreaksBefore (lines xs) left ⊎ StopsAmid (opening_part version_of 0) (Some xs) left))
+    ⊎ ((front ≡ []) × (BreaksBefore (lines xs) left ⊎ StopsAmid (opening_part JournalLine 0) (Some xs) left))
 
 -- so many bytes were given, and all of them taken but those beyond 2^56
 abbrev pub BreaksBeyond : List ℕ → Option (List ℕ) → ℕ → List ℕ → Type 0
@@ -194,12 +195,12 @@ IsFollowed x = IsReplayed x
 pub record Opened (all : List (List ℕ)) (version : ℕ) (setup : Setup) (start number : ℕ) (left : List (List ℕ)) : Type 0 where
   pub at : ℕ
   pub after : List (List ℕ)
-  pub opening : opening_part version_of 0 all ≡ Ok (part (record { version = version; setup = setup }) at after)
+  pub opening : opening_part JournalLine 0 all ≡ Ok (part (record { version = version; setup = setup }) at after)
   pub begins : start_part at after ≡ Ok (part start number left)
 
 -- why there is none
 abbrev pub FailsToOpen : List ℕ → Option (List ℕ) → JournalError → Type 0
-FailsToOpen xs left error.ReadFault = BreaksBefore (lines xs) left ⊎ StopsAmid (opening_part version_of 0) (Some xs) left
+FailsToOpen xs left error.ReadFault = BreaksBefore (lines xs) left ⊎ StopsAmid (opening_part JournalLine 0) (Some xs) left
 FailsToOpen xs left error.Memory = ⊤
 FailsToOpen xs left e = (cause : Cause) × (error_of cause ≡ e) × (verdict xs ≡ bad None cause)
 
