@@ -1,5 +1,5 @@
 //! A revision of which only such calls are made as may be made.
-ghost use Rattle.std.specs.Prelude.{◌≡◌, ◌≤◌, ◌^◌, true};
+ghost use Rattle.std.specs.Prelude.{◌≡◌, ◌≤◌, ◌^◌, [], true};
 ghost use Rattle.kn_core.specs.Steps.{IsWithinRange};
 
 use kn_core::Revision;
@@ -23,7 +23,8 @@ impl Run {
     }
 
     fn with_log(alloc: Global, spec: Spec, start: u64, mut log: EntryLog) -> Option<Run>
-        requires { start ≤ 2 ^ 42 }
+        requires start { start ≤ 2 ^ 42 }
+        requires empty { log ≡ [] }
     {
         match Revision::new(alloc, spec, start, &mut log) {
             Ok(revision) => Some(Run { revision, log }),
