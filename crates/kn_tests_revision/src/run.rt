@@ -23,7 +23,7 @@ impl Run {
     }
 
     fn with_log(alloc: Global, spec: Spec, start: u64, mut log: EntryLog) -> Option<Run>
-        requires start { start ≤ 2 ^ 42 }
+        requires times { start ≤ 2 ^ 42 }
         requires empty { log ≡ [] }
     {
         match Revision::new(alloc, spec, start, &mut log) {
