@@ -1,5 +1,5 @@
 -- A block, line by line, and the word in front of it.
-use Rattle.std.proofs.Common.{◌≡◌, ◌+◌, ◌<◌, ◌≤◌, ℕ, true, false, List, [], ◌∷◌, ◌++◌, length, length-append, append_assoc, append-nil, refl, sym, ap, ◌∙◌, arith}
+use Rattle.std.proofs.Common.{◌≡◌, ◌+◌, ◌<◌, ◌≤◌, ℕ, Bool, true, false, List, [], ◌∷◌, ◌++◌, length, length-append, append_assoc, append-nil, refl, sym, ap, ◌∙◌, arith, inl}
 use Rattle.std.specs.Prelude.{Option, None, Some, Result, Ok, Err, codes, ⊤}
 use Rattle.std.specs.Str.{bytes_eq}
 use Rattle.std.proofs.lemmas.Grind.{common_steps}
@@ -8,12 +8,13 @@ use Rattle.kn_journal.specs.declared.error.JournalError.TheVariants as error
 use Rattle.kn_journal.specs.declared.error.SetupError.TheVariants as setup_error
 use Rattle.kn_journal.specs.Causes.{bad_setup, line_too_long, no_end}
 use Rattle.kn_journal.specs.Lines.{ends_with_cr, fits, lines}
-use Rattle.kn_journal.specs.Reading.{TakesLine, TakesPart}
+use Rattle.kn_journal.specs.Reading.{AreWhole, TakesLine, TakesPart, TakesText}
 use Rattle.kn_journal.specs.Setup.{block_most, block_part, fits_block, longer, word_in, word_part}
 use Rattle.kn_journal.specs.Telling.{Gives, Judges, Lacks, Refuses, StopsAmid, Tells}
 use Rattle.kn_journal.proofs.Plain.{cr-is-last}
 use Rattle.kn_journal.proofs.Stops.{part-stops}
 use Rattle.kn_journal.proofs.Tellings.{lacks_refuses, line-tells}
+use Rattle.kn_journal.proofs.Texts.{cut-behind, lines-own, split-behind, whole-cut}
 
 -- ---- a word
 
@@ -43,6 +44,9 @@ pub record IsBegun (first : ℕ) (text : List ℕ) (n : ℕ) (xs ys : List ℕ) 
   pub split : lines xs ≡ own ++ lines ys
   pub count : first + length own ≡ n
   pub same : (later : List (List ℕ)) → block_part [] first (own ++ later) ≡ block_part text n later
+  pub bytes : List ℕ
+  pub taken : xs ≡ bytes ++ ys
+  pub whole : AreWhole bytes ys
 
 abbrev pub IsBlock : ℕ → List ℕ → ℕ → Option (List ℕ) → Option (List ℕ) → Type 0
 IsBlock first text n None new = ⊤
@@ -51,7 +55,7 @@ IsBlock first text n (Some xs) (Some ys) = IsBegun first text n xs ys
 
 pub block-begin : (n : ℕ) (old : Option (List ℕ)) → IsBlock n [] n old old
 block-begin n None = tt
-block-begin n (Some xs) = record { own = []; split = refl; count = omega arith; same = λ later. refl }
+block-begin n (Some xs) = record { own = []; split = refl; count = omega arith; same = λ later. refl; bytes = []; taken = refl; whole = inl refl }
 
 so_far : (first : ℕ) (text : List ℕ) (n : ℕ) (xs ys : List ℕ) → IsBegun first text n xs ys → block_part [] first (lines xs) ≡ block_part text n (lines ys)
 so_far first text n xs ys h = ap (block_part [] first) h.split ∙ h.same (lines ys)
@@ -63,7 +67,8 @@ block-stops first text n None mid new h k = tt
 block-stops first text n (Some xs) None new h k = absurd h
 block-stops first text n (Some xs) (Some ys) None h k = absurd k
 block-stops first text n (Some xs) (Some ys) (Some zs) h k =
-    (h.own, ys, h.split, ap (block_part [] first) (sym (append-nil h.own)) ∙ h.same [], k)
+    let own : lines h.bytes ≡ h.own ++ [] = lines-own xs h.bytes ys h.own h.taken h.whole h.split ∙ sym (append-nil h.own) in
+    (h.bytes, ys, h.taken, h.whole, ap (block_part [] first) own ∙ h.same [], k)
 
 pub block-lacks : (first : ℕ) (text : List ℕ) (n : ℕ) (e : JournalError) (old mid : Option (List ℕ)) → IsBlock first text n old mid → Lacks n e mid → Refuses (block_part [] first) e old
 unfolding block_part
@@ -92,14 +97,22 @@ block-point first text n m (Some xs) (Some ys) (Some zs) line h k fit e is = so_
 pub longer-length : (text line : List ℕ) → length (longer text line) ≡ length text + length line + 1
 longer-length text line = omega (arith, length-append text (line ++ 10 ∷ []), length-append line (10 ∷ []))
 
+-- the bytes up to here
+pub block-text : (first : ℕ) (text : List ℕ) (n : ℕ) (c : Bool) (old mid new : Option (List ℕ)) → IsBlock first text n old mid → TakesText c mid new → TakesText c old new
+block-text first text n c None mid new h t = tt
+block-text first text n c (Some xs) None new h t = absurd h
+block-text first text n c (Some xs) (Some ys) None h t = absurd t
+block-text first text n c (Some xs) (Some ys) (Some zs) h (more, is, cut) =
+    (h.bytes ++ more, split-behind xs h.bytes ys more zs h.taken is, cut-behind c h.bytes more zs cut)
+
 -- one line more
-pub block-more : (first : ℕ) (text after : List ℕ) (n m : ℕ) (old mid new : Option (List ℕ)) (line : List ℕ) → IsBlock first text n old mid → TakesLine mid new true line → fits line ≡ true → m ≡ n + 1
-    → bytes_eq line (codes ".") ≡ false → length text + length line < block_most → after ≡ (text ++ line) ++ 10 ∷ [] → IsBlock first after m old new
+pub block-more : (first : ℕ) (text after : List ℕ) (n m : ℕ) (c : Bool) (old mid new : Option (List ℕ)) (line : List ℕ) → IsBlock first text n old mid → TakesLine mid new true line → TakesText c mid new
+    → fits line ≡ true → m ≡ n + 1 → bytes_eq line (codes ".") ≡ false → length text + length line < block_most → after ≡ (text ++ line) ++ 10 ∷ [] → IsBlock first after m old new
 unfolding block_part
-block-more first text after n m None mid new line h k fit e other short is = tt
-block-more first text after n m (Some xs) None new line h k fit e other short is = absurd h
-block-more first text after n m (Some xs) (Some ys) None line h k fit e other short is = absurd k
-block-more first text after n m (Some xs) (Some ys) (Some zs) line h k fit e other short is =
+block-more first text after n m c None mid new line h k t fit e other short is = tt
+block-more first text after n m c (Some xs) None new line h k t fit e other short is = absurd h
+block-more first text after n m c (Some xs) (Some ys) None line h k t fit e other short is = absurd k
+block-more first text after n m c (Some xs) (Some ys) (Some zs) line h k (more, behind, cut) fit e other short is =
     let same : longer text line ≡ after = sym (append_assoc text line (10 ∷ [])) ∙ sym is in
     let few : length (longer text line) ≤ block_most = omega (arith, longer-length text line) in
     let room : fits_block (longer text line) ≡ true = grind (arith, common_steps) in
@@ -108,6 +121,9 @@ block-more first text after n m (Some xs) (Some ys) (Some zs) line h k fit e oth
       split = h.split ∙ ap (λ (x : List (List ℕ)). h.own ++ x) k ∙ sym (append_assoc h.own (line ∷ []) (lines zs));
       count = omega (arith, h.count, e, length-append h.own (line ∷ []));
       same = λ later. ap (block_part [] first) (append_assoc h.own (line ∷ []) later) ∙ h.same (line ∷ later) ∙ rw (fit, other, room) (rw (same, e) refl);
+      bytes = h.bytes ++ more;
+      taken = split-behind xs h.bytes ys more zs h.taken behind;
+      whole = whole-cut c (h.bytes ++ more) zs (cut-behind c h.bytes more zs cut);
     }
 
 pub block-long : (first : ℕ) (text : List ℕ) (n m : ℕ) (old mid new : Option (List ℕ)) (line : List ℕ) → IsBlock first text n old mid → TakesLine mid new true line → fits line ≡ true → m ≡ n + 1

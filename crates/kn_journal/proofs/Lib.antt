@@ -16,4 +16,5 @@ pub mod Settings
 pub mod Setups
 pub mod Stops
 pub mod Tellings
+pub mod Texts
 pub mod Wholes

@@ -1,5 +1,5 @@
 -- A setup, part by part.
-use Rattle.std.proofs.Common.{◌≡◌, ◌+◌, ℕ, true, List, [], ◌∷◌, ◌++◌, length-append, refl, sym, ap, subst, arith}
+use Rattle.std.proofs.Common.{◌≡◌, ◌+◌, ℕ, Bool, true, List, [], ◌∷◌, ◌++◌, length-append, refl, sym, ap, subst, arith}
 use Rattle.std.specs.Prelude.{Option, None, Some, Result, Ok, Err, codes}
 use Rattle.kn_event.specs.declared.revision.Slots.{Slots}
 use Rattle.kn_event.specs.declared.revision.Spec.{Spec}
@@ -20,7 +20,7 @@ use Rattle.kn_journal.specs.declared.journal.Opening.{Opening}
 use Rattle.kn_journal.specs.declared.setting.SetupLine.{SetupLine}
 use Rattle.kn_journal.specs.Journal.{first_in, first_part, opening_in, opening_part, version_in}
 use Rattle.kn_journal.specs.Lines.{fits}
-use Rattle.kn_journal.specs.Reading.{TakesLine, TakesPart}
+use Rattle.kn_journal.specs.Reading.{TakesLine, TakesPart, TakesText}
 use Rattle.kn_journal.specs.Parts.{Part, part, then_part}
 use Rattle.kn_journal.specs.Setup.{behind_line, block_part, blocks_part, blocks_text, config_in, revision_part, setup_in, setup_of, setup_part, spec_in, word_part}
 use Rattle.kn_journal.specs.SetupLine.{setup_line}
@@ -128,11 +128,11 @@ unfolding revision_part
 revision-word_stops line block slots config n old new h =
     first-stops (word_part (codes "revision") n) (revision_block line block slots config) old new h
 
-pub revision-block_stops : (line block : List ℕ) (slots : Slots) (config : Config) (n m : ℕ) (old mid new : Option (List ℕ)) (u : Unit {0})
-    → Gives (word_part (codes "revision") n) u m old mid → StopsAmid (block_part [] m) mid new → StopsAmid (revision_part line block slots config n) old new
+pub revision-block_stops : (line block : List ℕ) (slots : Slots) (config : Config) (n m : ℕ) (c : Bool) (old mid new : Option (List ℕ)) (u : Unit {0})
+    → Gives (word_part (codes "revision") n) u m old mid → TakesText c old mid → StopsAmid (block_part [] m) mid new → StopsAmid (revision_part line block slots config n) old new
 unfolding revision_part
-revision-block_stops line block slots config n m old mid new u w h =
-    second-stops (word_part (codes "revision") n) (revision_block line block slots config) u n m old mid new (word-own (codes "revision") n) w
+revision-block_stops line block slots config n m c old mid new u w t h =
+    second-stops (word_part (codes "revision") n) (revision_block line block slots config) u n m c old mid new (word-own (codes "revision") n) w t
     (first-stops (block_part [] m) (judge_revision line block slots config) mid new h)
 
 -- ---- the configuration, and then the Revision
@@ -175,20 +175,20 @@ pub blocks-word_stops : (line : List ℕ) (slots : Slots) (n : ℕ) (old new : O
 unfolding blocks_part
 blocks-word_stops line slots n old new h = first-stops (word_part (codes "config") n) (config_block line slots) old new h
 
-pub blocks-block_stops : (line : List ℕ) (slots : Slots) (n m : ℕ) (old mid new : Option (List ℕ)) (u : Unit {0})
-    → Gives (word_part (codes "config") n) u m old mid → StopsAmid (block_part [] m) mid new → StopsAmid (blocks_part line slots n) old new
+pub blocks-block_stops : (line : List ℕ) (slots : Slots) (n m : ℕ) (c : Bool) (old mid new : Option (List ℕ)) (u : Unit {0})
+    → Gives (word_part (codes "config") n) u m old mid → TakesText c old mid → StopsAmid (block_part [] m) mid new → StopsAmid (blocks_part line slots n) old new
 unfolding blocks_part
-blocks-block_stops line slots n m old mid new u w h =
-    second-stops (word_part (codes "config") n) (config_block line slots) u n m old mid new (word-own (codes "config") n) w
+blocks-block_stops line slots n m c old mid new u w t h =
+    second-stops (word_part (codes "config") n) (config_block line slots) u n m c old mid new (word-own (codes "config") n) w t
     (first-stops (block_part [] m) (judge_config line slots) mid new h)
 
-pub blocks-revision_stops : (line : List ℕ) (slots : Slots) (n m k : ℕ) (old mid after new : Option (List ℕ)) (u : Unit {0}) (block : List ℕ) (config : Config)
-    → Gives (word_part (codes "config") n) u m old mid → Gives (block_part [] m) block k mid after → Ok config ≡ config_of block
+pub blocks-revision_stops : (line : List ℕ) (slots : Slots) (n m k : ℕ) (cut cut_after : Bool) (old mid after new : Option (List ℕ)) (u : Unit {0}) (block : List ℕ) (config : Config)
+    → Gives (word_part (codes "config") n) u m old mid → TakesText cut old mid → Gives (block_part [] m) block k mid after → TakesText cut_after mid after → Ok config ≡ config_of block
     → StopsAmid (revision_part line block slots config k) after new → StopsAmid (blocks_part line slots n) old new
 unfolding blocks_part
-blocks-revision_stops line slots n m k old mid after new u block config w b c h =
-    second-stops (word_part (codes "config") n) (config_block line slots) u n m old mid new (word-own (codes "config") n) w
-    (second-stops (block_part [] m) (judge_config line slots) block m k mid after new (block-own m) b
+blocks-revision_stops line slots n m k cut cut_after old mid after new u block config w t b d c h =
+    second-stops (word_part (codes "config") n) (config_block line slots) u n m cut old mid new (word-own (codes "config") n) w t
+    (second-stops (block_part [] m) (judge_config line slots) block m k cut_after mid after new (block-own m) b d
     (config-stops k config (config_of block) (λ ls config. revision_part line block slots config k ls) after new c h))
 
 -- ---- a setup
@@ -200,12 +200,12 @@ setup-tells n number k old mid new line text said r h fit e is whole t =
     let told : Tells (behind_line (line ++ 10 ∷ []) (Ok said) (n + 1)) k mid new r = rw (e, whole) at t in
     line-then n k old mid new line setup_in r h fit (subst (λ (x : Result SetupLine SetupError). Tells (behind_line (line ++ 10 ∷ []) x (n + 1)) k mid new r) is told)
 
-pub setup-stops : (n number : ℕ) (old mid new : Option (List ℕ)) (line text : List ℕ) (said : SetupLine) → TakesLine old mid true line → fits line ≡ true
+pub setup-stops : (n number : ℕ) (c : Bool) (old mid new : Option (List ℕ)) (line text : List ℕ) (said : SetupLine) → TakesLine old mid true line → TakesText c old mid → fits line ≡ true
     → number ≡ n + 1 → Ok said ≡ setup_line line → text ≡ line ++ 10 ∷ [] → StopsAmid (behind_line text (Ok said) number) mid new → StopsAmid (setup_part n) old new
 unfolding setup_part
-setup-stops n number old mid new line text said h fit e is whole t =
+setup-stops n number c old mid new line text said h taken fit e is whole t =
     let told : StopsAmid (behind_line (line ++ 10 ∷ []) (Ok said) (n + 1)) mid new = rw (e, whole) at t in
-    line-stops n old mid new line setup_in h fit (subst (λ (x : Result SetupLine SetupError). StopsAmid (behind_line (line ++ 10 ∷ []) x (n + 1)) mid new) is told)
+    line-stops n c old mid new line setup_in h taken fit (subst (λ (x : Result SetupLine SetupError). StopsAmid (behind_line (line ++ 10 ∷ []) x (n + 1)) mid new) is told)
 
 pub setup-bad : (n number : ℕ) (old mid : Option (List ℕ)) (line : List ℕ) (why : SetupError) → TakesLine old mid true line → fits line ≡ true → number ≡ n + 1 → Err why ≡ setup_line line
     → Refuses (setup_part n) (error.BadSetup number why) old
@@ -276,8 +276,8 @@ pub opening-first_stops : (known : List ℕ → Option ℕ) (n : ℕ) (old new :
 unfolding opening_part
 opening-first_stops known n old new h = first-stops (first_part known n) setup_behind old new h
 
-pub opening-setup_stops : (known : List ℕ → Option ℕ) (n m version : ℕ) (old mid new : Option (List ℕ)) → Gives (first_part known n) version m old mid → StopsAmid (setup_part m) mid new
-    → StopsAmid (opening_part known n) old new
+pub opening-setup_stops : (known : List ℕ → Option ℕ) (n m version : ℕ) (c : Bool) (old mid new : Option (List ℕ)) → Gives (first_part known n) version m old mid → TakesText c old mid
+    → StopsAmid (setup_part m) mid new → StopsAmid (opening_part known n) old new
 unfolding opening_part
-opening-setup_stops known n m version old mid new f h =
-    second-stops (first_part known n) setup_behind version n m old mid new (first-own known n) f (first-stops (setup_part m) (opened version) mid new h)
+opening-setup_stops known n m version c old mid new f t h =
+    second-stops (first_part known n) setup_behind version n m c old mid new (first-own known n) f t (first-stops (setup_part m) (opened version) mid new h)

@@ -13,7 +13,7 @@ use Rattle.kn_journal.specs.Causes.{Cause, after_end, bad_first_line, bad_line, 
 use Rattle.kn_journal.specs.Journal.{nothing_part, first_in, first_part, in_time, next_in, next_part, start_line_in, start_of, start_part, time_most}
 use Rattle.kn_journal.specs.Lines.{fits, line_most, lines, lines_at_lf, without_crs}
 use Rattle.kn_journal.specs.Parts.{Part, part, then_part, with_line}
-use Rattle.kn_journal.specs.Reading.{Counts, HasLongLine, TakesLine}
+use Rattle.kn_journal.specs.Reading.{Counts, HasLongLine, TakesLine, TakesText}
 use Rattle.kn_journal.specs.Telling.{Gives, IsCauseOf, Judges, Lacks, Refused, Refuses, Tells}
 
 pub lines-nil : lines [] ≡ []
@@ -256,6 +256,15 @@ next-ended u version last n number k None mid new line h fit is ends t = tt
 next-ended u version last n number k (Some xs) None new line h fit is ends t = absurd h
 next-ended u version last n number k (Some xs) (Some ys) None line h fit is ends t = absurd t
 next-ended u version last n number k (Some xs) (Some ys) (Some zs) line h fit is ends t = rw (h, fit, ends, ← is) (rw t refl)
+
+-- the line `end`, behind which the input said its end
+pub next-cut : (version last n number : ℕ) (old new : Option (List ℕ)) (line : List ℕ) → TakesLine old new true line → TakesText true old new → fits line ≡ true → number ≡ n + 1
+    → bytes_eq line (codes "end") ≡ true → Gives (next_part version last n) None number old new
+next-cut version last n number None new line h cut fit is ends = tt
+next-cut version last n number (Some xs) None line h cut fit is ends = absurd h
+next-cut version last n number (Some xs) (Some ys) line h (text, split, none) fit is ends =
+    let no_line : lines ys ≡ [] = ap lines none ∙ lines-nil in
+    next-ended tt version last n number number (Some xs) (Some ys) (Some ys) line h fit is ends (rw no_line refl)
 
 pub next-more : (version last n number : ℕ) (old mid : Option (List ℕ)) (line : List ℕ) (e : JournalError) → TakesLine old mid true line → fits line ≡ true
     → number ≡ n + 1 → bytes_eq line (codes "end") ≡ true → Refuses (nothing_part number) e mid → Refuses (next_part version last n) e old

@@ -35,6 +35,24 @@ TakesLine (Some xs) None more line = ⊥
 TakesLine (Some xs) (Some ys) true line = lines xs ≡ line ∷ lines ys
 TakesLine (Some xs) (Some ys) false line = xs ≡ []
 
+abbrev pub EndsWithLf : List ℕ → Type 0
+EndsWithLf text = (front : List ℕ) × (text ≡ front ++ 10 ∷ [])
+
+-- a text that was taken ends with LF, or it was cut: it ends where the input does
+abbrev pub IsCutOff : Bool → List ℕ → List ℕ → Type 0
+IsCutOff true text ys = ys ≡ []
+IsCutOff false text ys = EndsWithLf text
+
+-- one line or more were taken, of which the last one was cut or not
+abbrev pub TakesText : Bool → Option (List ℕ) → Option (List ℕ) → Type 0
+TakesText cut None new = ⊤
+TakesText cut (Some xs) None = ⊥
+TakesText cut (Some xs) (Some ys) = (text : List ℕ) × (xs ≡ text ++ ys) × IsCutOff cut text ys
+
+-- no line begins in these bytes and ends behind them
+abbrev pub AreWhole : List ℕ → List ℕ → Type 0
+AreWhole text ys = (text ≡ []) ⊎ (EndsWithLf text ⊎ (ys ≡ []))
+
 -- some first bytes were taken, maybe none, but no LF
 abbrev pub TakesPart : Option (List ℕ) → Option (List ℕ) → Type 0
 TakesPart None new = ⊤

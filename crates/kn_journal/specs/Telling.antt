@@ -1,5 +1,5 @@
 -- What a call of the reader tells of its input. Of an input that isn't known nothing is said.
-use Rattle.std.specs.Prelude.{◌≡◌, ℕ, ◌+◌, ◌++◌, false, List, [], ◌∷◌, length, Option, None, Some, Result, Ok, Err, codes, ⊤}
+use Rattle.std.specs.Prelude.{◌≡◌, ℕ, ◌+◌, ◌++◌, Bool, false, List, [], ◌∷◌, length, Option, None, Some, Result, Ok, Err, codes, ⊤}
 use Rattle.kn_event.specs.declared.event.Event.{Event}
 use Rattle.kn_journal.specs.declared.error.JournalError.{JournalError}
 use Rattle.kn_journal.specs.declared.error.JournalError.TheVariants as error
@@ -13,19 +13,21 @@ use Rattle.kn_journal.specs.declared.journal.Opening.{Opening}
 use Rattle.kn_journal.specs.Causes.{Cause, error_of, no_end}
 use Rattle.kn_journal.specs.Lines.{fits, lines}
 use Rattle.kn_journal.specs.Parts.{Part, part}
-use Rattle.kn_journal.specs.Reading.{Ahead, TakesPart}
+use Rattle.kn_journal.specs.Reading.{Ahead, AreWhole, EndsWithLf, TakesPart}
 
--- what a reader has: the bytes ahead with their count, the line read last, and its number
+-- what a reader has: the bytes ahead with their count, the line read last, its number, and whether the input said its end then
 pub record LinesState : Type 0 where
   pub input : Ahead
   pub line : List ℕ
   pub number : ℕ
+  pub cut : Bool
 
--- what a reader of a journal has: its input, the number of the line read last, the version, the last time, and the error that it
--- answers from then on
+-- what a reader of a journal has: its input, the number of the line read last, whether the input said its end then, the version,
+-- the last time, and the error that it answers from then on
 pub record ReaderState : Type 0 where
   pub input : Ahead
   pub number : ℕ
+  pub cut : Bool
   pub version : ℕ
   pub last : ℕ
   pub failed : Option JournalError
@@ -61,13 +63,13 @@ TellsOpening read version n old new (Err e) = Refuses read e old
 abbrev pub StopsAmid : {T : Type 0} → (List (List ℕ) → Result (Part T) Cause) → Option (List ℕ) → Option (List ℕ) → Type 0
 StopsAmid read None new = ⊤
 StopsAmid read (Some xs) None = ⊥
-StopsAmid read (Some xs) (Some ys) = (own : List (List ℕ)) × (mid : List ℕ) × (lines xs ≡ own ++ lines mid) × (read own ≡ Err no_end) × TakesPart (Some mid) (Some ys)
+StopsAmid read (Some xs) (Some ys) = (text mid : List ℕ) × (xs ≡ text ++ mid) × AreWhole text mid × (read (lines text) ≡ Err no_end) × TakesPart (Some mid) (Some ys)
 
--- the line `end` was taken, and then some first bytes of a line, maybe none
+-- the line `end` was taken with its LF, and then some first bytes of a line, maybe none
 abbrev pub TakesEnd : Option (List ℕ) → Option (List ℕ) → Type 0
 TakesEnd None new = ⊤
 TakesEnd (Some xs) None = ⊥
-TakesEnd (Some xs) (Some ys) = (mid : List ℕ) × (lines xs ≡ codes "end" ∷ lines mid) × TakesPart (Some mid) (Some ys)
+TakesEnd (Some xs) (Some ys) = (text mid : List ℕ) × (xs ≡ text ++ mid) × EndsWithLf text × (lines text ≡ codes "end" ∷ []) × TakesPart (Some mid) (Some ys)
 
 -- why something was refused
 abbrev pub IsCauseOf : {T : Type 0} → JournalError → Result T Cause → Type 0

@@ -1,8 +1,8 @@
 //! The lines of an input, one at a time.
-ghost use Rattle.std.specs.Prelude.{◌≡◌, ◌≢◌, ◌↔◌, ◌+◌, ◌≤◌, ◌<◌, ℕ, List, [], ◌∷◌, ◌++◌, true, false, Contains, length, take, drop, replicate, IsSome, IsTrue, IfOk, IfSome, MatchOption, OnOk, vec_capacity, vec_len};
+ghost use Rattle.std.specs.Prelude.{◌≡◌, ◌≢◌, ◌↔◌, ◌+◌, ◌≤◌, ◌<◌, ℕ, List, [], ◌∷◌, ◌++◌, Option, true, false, Contains, length, take, drop, replicate, IsSome, IsTrue, IfOk, IfSome, MatchOption, OnOk, vec_capacity, vec_len};
 ghost use Rattle.kn_journal.specs.Drawing.{Draws, line_error};
 ghost use Rattle.kn_journal.specs.Lines.{line_most, lines};
-ghost use Rattle.kn_journal.specs.Reading.{Counts, HasLongLine, TakesLine, TakesPart, most_taken, unread};
+ghost use Rattle.kn_journal.specs.Reading.{Counts, HasLongLine, TakesLine, TakesPart, TakesText, most_taken, unread};
 
 use crate::input::{Input, MOST_TAKEN};
 use kn_io::{Failed, Source};
@@ -69,9 +69,11 @@ fn read_by_bytes<S: Source>(
     input: &mut Input,
     source: &mut S,
     line: &mut Vec<u8>,
+    cut: &mut bool,
 ) -> Result<bool, NoLine>
     requires { line_most ≤ vec_capacity line.old }
     ensures taken { IfOk result (λ more. TakesLine (unread input.old (S.left source.old)) (unread input.new (S.left source.new)) more line.new.items) }
+    ensures text { result ≡ Ok true → TakesText cut.new (unread input.old (S.left source.old)) (unread input.new (S.left source.new)) }
     ensures fits { OnOk result (length line.new.items ≤ line_most) }
     ensures no_lf { OnOk result (¬ Contains line.new.items 10) }
     ensures long { result ≡ Err NoLine.TooLong → HasLongLine (unread input.old (S.left source.old)) }
@@ -94,7 +96,10 @@ fn read_by_bytes<S: Source>(
     let mut crs = 0;
     for _ in 0..MOST_TAKEN {
         match input.next(source) {
-            Ok(Some(b'\n')) => return Ok(true),
+            Ok(Some(b'\n')) => {
+                *cut = false;
+                return Ok(true);
+            }
             Ok(Some(byte)) => match add(line, crs, byte) {
                 Some(waiting) => crs = waiting,
                 None => return Err(NoLine::TooLong),
@@ -103,6 +108,7 @@ fn read_by_bytes<S: Source>(
                 if !add_crs(line, crs) {
                     return Err(NoLine::TooLong);
                 }
+                *cut = true;
                 return Ok(!line.is_empty());
             }
             Err(Failed) => return Err(NoLine::Fault),
@@ -114,6 +120,7 @@ fn read_by_bytes<S: Source>(
 /// How long the next line is, where its LF is ahead and no CR stands before that. Nothing is taken.
 fn line_ahead(input: &Input) -> Option<usize>
     ensures line { IfSome result (λ len. (later : List ℕ) → lines (input.now.ahead ++ later) ≡ take len input.now.ahead ∷ lines (drop (len + 1) input.now.ahead ++ later)) }
+    ensures lf { IfSome result (λ len. input.now.ahead ≡ take len input.now.ahead ++ 10 ∷ drop (len + 1) input.now.ahead) }
     ensures inside { IfSome result (λ len. len < length input.now.ahead) }
     ensures fits { IfSome result (λ len. len ≤ line_most) }
     ensures no_lf { IfSome result (λ len. ¬ Contains (take len input.now.ahead) 10) }
@@ -134,6 +141,7 @@ fn line_ahead(input: &Input) -> Option<usize>
 fn take_ahead(input: &mut Input, line: &mut Vec<u8>) -> bool
     requires { line_most ≤ vec_capacity line.old }
     ensures line { IsTrue result → ((later : List ℕ) → lines (input.old.ahead ++ later) ≡ line.new.items ∷ lines (input.new.ahead ++ later)) }
+    ensures text { IsTrue result → (left : Option (List ℕ)) → TakesText false (unread input.old left) (unread input.new left) }
     ensures fits { IsTrue result → length line.new.items ≤ line_most }
     ensures no_lf { IsTrue result → ¬ Contains line.new.items 10 }
     ensures exact { IsTrue result → input.old.taken + length input.old.ahead ≡ input.new.taken + length input.new.ahead }
@@ -152,7 +160,8 @@ fn take_ahead(input: &mut Input, line: &mut Vec<u8>) -> bool
     true
 }
 
-/// Reads the next line, without its end, into the buffer, or says that the input is at its end.
+/// Reads the next line, without its end, into the buffer, or says that the input is at its end. `cut` says whether the input said
+/// its end: then the line has no LF.
 ///
 /// A line ends with LF. All CRs right before it are dropped, however many; other CRs are content.
 /// Bytes after the last LF are a line too. It takes no memory, and reads from the source only
@@ -161,9 +170,11 @@ pub fn read_line<S: Source>(
     input: &mut Input,
     source: &mut S,
     line: &mut Vec<u8>,
+    cut: &mut bool,
 ) -> Result<bool, NoLine>
     requires { line_most ≤ vec_capacity line.old }
     ensures taken { IfOk result (λ more. TakesLine (unread input.old (S.left source.old)) (unread input.new (S.left source.new)) more line.new.items) }
+    ensures text { result ≡ Ok true → TakesText cut.new (unread input.old (S.left source.old)) (unread input.new (S.left source.new)) }
     ensures fits { OnOk result (length line.new.items ≤ line_most) }
     ensures no_lf { OnOk result (¬ Contains line.new.items 10) }
     ensures long { result ≡ Err NoLine.TooLong → HasLongLine (unread input.old (S.left source.old)) }
@@ -183,7 +194,8 @@ pub fn read_line<S: Source>(
     ensures capacity { line_most ≤ vec_capacity line.new }
 {
     if take_ahead(input, line) {
+        *cut = false;
         return Ok(true);
     }
-    read_by_bytes(input, source, line)
+    read_by_bytes(input, source, line, cut)
 }

@@ -3,7 +3,7 @@ ghost use Rattle.std.specs.Prelude.{◌≡◌, ◌≢◌, ◌⊎◌, ◌+◌, �
 ghost use Rattle.kn_event.specs.EventLine.{event_of, IsInJournalRange, IsInVersion};
 ghost use Rattle.kn_journal.specs.Causes.{Cause, error_of};
 ghost use Rattle.kn_journal.specs.Lines.{fits, line_most, lines};
-ghost use Rattle.kn_journal.specs.Reading.{Counts, TakesLine, TakesPart, most_taken, unread};
+ghost use Rattle.kn_journal.specs.Reading.{Counts, TakesLine, TakesPart, TakesText, most_taken, unread};
 ghost use Rattle.kn_journal.specs.Drawing.{Draws, error_in};
 ghost use Rattle.kn_journal.specs.Telling.{IsCauseOf, IsEventFault, IsLineFault, Judges, Lacks, LeavesRest, OnEvent, TakesEnd, Tells};
 ghost use Rattle.kn_journal.specs.Journal.{first_part, in_time, next_part, nothing_part, start_line_in, start_of, start_part, time_most, version_by};
@@ -75,12 +75,14 @@ fn judge_event(line: &[u8], number: u64, version: u64, last: u64) -> Result<Even
     }
 }
 
-/// The lines of an input, one after the other. Contracts see the input, the line read last and its number.
+/// The lines of an input, one after the other. Contracts see the input, the line read last, its number, and whether the input
+/// said its end then.
 #[derive(Drop)]
 pub struct Lines {
     input: Input,
     line: Vec<u8>,
     number: u64,
+    cut: bool,
     time: LastTime,
 }
 
@@ -92,7 +94,7 @@ impl Model for Lines {
 
     ghost Value = { LinesState };
 
-    ghost view = { λ r. record { input = r.input; line = r.line.items; number = r.number } };
+    ghost view = { λ r. record { input = r.input; line = r.line.items; number = r.number; cut = r.cut } };
 
     ghost invariant = { λ r. record { room : line_most ≤ vec_capacity r.line; few : r.number ≤ r.input.taken; most : r.number ≤ most_taken } };
 }
@@ -109,6 +111,7 @@ impl Lines {
                 input: Input::new(),
                 line,
                 number: 0,
+                cut: false,
                 time: LastTime::new(),
             }),
             Err(_) => Err(Memory),
@@ -129,6 +132,13 @@ impl Lines {
         self.number
     }
 
+    /// Whether the input said its end when it was read last. A line that was read then is the last one, and has no LF.
+    pub fn is_cut(&self) -> bool
+        ensures { result ≡ self.now.cut }
+    {
+        self.cut
+    }
+
     /// Whether a whole line is ahead, with its LF.
     pub fn holds_line(&self) -> bool
         ensures { IsTrue result ↔ Contains self.now.input.ahead 10 }
@@ -147,6 +157,7 @@ impl Lines {
     /// Reads the next line. The source is read only where no whole line is ahead.
     pub fn next_line<S: Source>(&mut self, source: &mut S) -> Result<(), JournalError>
         ensures line { OnOk result (TakesLine (unread self.old.input (S.left source.old)) (unread self.new.input (S.left source.new)) true self.new.line) }
+        ensures text { OnOk result (TakesText self.new.cut (unread self.old.input (S.left source.old)) (unread self.new.input (S.left source.new))) }
         ensures number { OnOk result (self.new.number ≡ self.old.number + 1) }
         ensures fits { OnOk result (fits self.new.line ≡ true) }
         ensures no_lf { OnOk result (¬ Contains self.new.line 10) }
@@ -158,7 +169,7 @@ impl Lines {
         ensures ready { Contains self.old.input.ahead 10 → source.new ≡ source.old }
         ensures few { self.new.input.taken ≤ most_taken }
     {
-        match read_line(&mut self.input, source, &mut self.line) {
+        match read_line(&mut self.input, source, &mut self.line, &mut self.cut) {
             Ok(true) => {
                 self.number += 1;
                 Ok(())
@@ -177,6 +188,7 @@ impl Lines {
     ) -> Result<u64, JournalError>
         ensures tells { Tells (first_part (version_by first) self.old.number) self.new.number (unread self.old.input (S.left source.old)) (unread self.new.input (S.left source.new)) result }
         ensures rest { IfErr result (λ e. IsLineFault e → LeavesRest (first_part (version_by first) self.old.number) self.old.number (Some (self.old.number + 1)) e (unread self.old.input (S.left source.old)) (unread self.new.input (S.left source.new))) }
+        ensures text { OnOk result (TakesText self.new.cut (unread self.old.input (S.left source.old)) (unread self.new.input (S.left source.new))) }
         ensures least { IfOk result (λ version. 1 ≤ version) }
         ensures most { IfOk result (λ version. version ≤ 2) }
         ensures source { Draws TakesPart (error_in result) self.old.input self.new.input S.Source.own S.Faulty source.old source.new }
@@ -192,6 +204,7 @@ impl Lines {
     pub fn start<S: Source>(&mut self, source: &mut S) -> Result<u64, JournalError>
         ensures tells { Tells (start_part self.old.number) self.new.number (unread self.old.input (S.left source.old)) (unread self.new.input (S.left source.new)) result }
         ensures rest { IfErr result (λ e. IsLineFault e → LeavesRest (start_part self.old.number) self.old.number None e (unread self.old.input (S.left source.old)) (unread self.new.input (S.left source.new))) }
+        ensures text { OnOk result (TakesText self.new.cut (unread self.old.input (S.left source.old)) (unread self.new.input (S.left source.new))) }
         ensures most { IfOk result (λ start. start ≤ time_most) }
         ensures memory { result ≢ Err JournalError.Memory }
         ensures source { Draws TakesPart (error_in result) self.old.input self.new.input S.Source.own S.Faulty source.old source.new }
@@ -213,7 +226,7 @@ impl Lines {
         ensures source { Draws TakesPart (error_in result) self.old.input self.new.input S.Source.own S.Faulty source.old source.new }
         ensures few { self.new.input.taken ≤ most_taken }
     {
-        match read_line(&mut self.input, source, &mut self.line) {
+        match read_line(&mut self.input, source, &mut self.line, &mut self.cut) {
             Ok(false) => {}
             Ok(true) => return Err(JournalError::AfterEnd(self.number + 1)),
             Err(NoLine::TooLong) => return Err(JournalError::LineTooLong(self.number + 1)),
@@ -227,6 +240,7 @@ impl Lines {
     #[inline(always)]
     fn event_ahead(&mut self, version: u64, last: u64) -> Option<(Event, usize)>
         ensures line { IfSome result (λ p. (later : List ℕ) → lines (self.old.input.ahead ++ later) ≡ take p.1 self.old.input.ahead ∷ lines (drop (p.1 + 1) self.old.input.ahead ++ later)) }
+        ensures lf { IfSome result (λ p. self.old.input.ahead ≡ take p.1 self.old.input.ahead ++ 10 ∷ drop (p.1 + 1) self.old.input.ahead) }
         ensures event { IfSome result (λ p. in_time (self.old.number + 1) last (event_of version (take p.1 self.old.input.ahead)) ≡ Ok p.0) }
         ensures inside { IfSome result (λ p. p.1 < length self.old.input.ahead) }
         ensures fits { IfSome result (λ p. p.1 ≤ line_most) }
@@ -251,6 +265,7 @@ impl Lines {
     #[inline(always)]
     pub fn next_ahead(&mut self, version: u64, last: u64) -> Option<Event>
         ensures tells { IfSome result (λ e. (left : Option (List ℕ)) → Tells (next_part version last self.old.number) self.new.number (unread self.old.input left) (unread self.new.input left) (Ok (Some e))) }
+        ensures text { IfSome result (λ e. (left : Option (List ℕ)) → TakesText self.new.cut (unread self.old.input left) (unread self.new.input left)) }
         ensures order { IfSome result (λ e. last ≤ e.time) }
         ensures times { IfSome result (λ e. e.time ≤ time_most) }
         ensures range { IfSome result (λ e. IsInJournalRange e.act) }
@@ -263,6 +278,7 @@ impl Lines {
         let (e, len) = self.event_ahead(version, last)?;
         self.input.skip(len + 1);
         self.number += 1;
+        self.cut = false;
         Some(e)
     }
 
@@ -277,6 +293,7 @@ impl Lines {
         requires most { version ≤ 2 }
         ensures tells { Tells (next_part version last self.old.number) self.new.number (unread self.old.input (S.left source.old)) (unread self.new.input (S.left source.new)) result }
         ensures rest { IfErr result (λ e. IsLineFault e → LeavesRest (next_part version last self.old.number) self.old.number None e (unread self.old.input (S.left source.old)) (unread self.new.input (S.left source.new))) }
+        ensures text { OnEvent result (λ e. TakesText self.new.cut (unread self.old.input (S.left source.old)) (unread self.new.input (S.left source.new))) }
         ensures order { OnEvent result (λ e. last ≤ e.time) }
         ensures times { OnEvent result (λ e. e.time ≤ time_most) }
         ensures range { OnEvent result (λ e. IsInJournalRange e.act) }
@@ -297,6 +314,10 @@ impl Lines {
             Err(e) => return Err(e),
         }
         if self.line.as_slice() == b"end".as_slice() {
+            // There the input said its end.
+            if self.cut {
+                return Ok(None);
+            }
             return match self.end(source) {
                 Ok(()) => Ok(None),
                 Err(e) => Err(e),

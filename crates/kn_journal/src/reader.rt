@@ -2,7 +2,7 @@
 ghost use Rattle.std.specs.Prelude.{◌≡◌, ◌⊎◌, ◌≢◌, ◌+◌, ◌≤◌, ◌↔◌, ℕ, List, [], Option, Err, Ok, None, Some, Contains, IfErr, IfOk, IfSome, IsSome, IsTrue, length, OnErr, OnOk};
 ghost use Rattle.kn_io.specs.Causes.{Rose};
 ghost use Rattle.kn_event.specs.EventLine.{IsInJournalRange, IsInVersion};
-ghost use Rattle.kn_journal.specs.Reading.{IsBalanced, IsSpent, TakesPart, most_taken, unread};
+ghost use Rattle.kn_journal.specs.Reading.{IsBalanced, IsSpent, TakesPart, TakesText, most_taken, unread};
 ghost use Rattle.kn_journal.specs.Telling.{IsEventFault, IsLineFault, LeavesRest, OnEvent, TakesEnd, StopsAmid, Tells, TellsOpening};
 ghost use Rattle.kn_journal.specs.Journal.{IsSetup, next_part, nothing_part, opening_part, start_part, time_most, version_of};
 
@@ -20,7 +20,8 @@ use std::marker::Model;
 /// call is what earlier calls took of their sources and didn't use, and then what the source of this call has left. After an
 /// error each call answers that error again.
 ///
-/// Contracts see the input, the number of the line read last, the version, the last time, and the error that was answered.
+/// Contracts see the input, the number of the line read last, whether the input said its end then, the version, the last time, and
+/// the error that was answered.
 #[derive(Drop)]
 pub struct JournalReader {
     lines: Lines,
@@ -35,7 +36,7 @@ impl Model for JournalReader {
 
     ghost Value = { ReaderState };
 
-    ghost view = { λ r. record { input = r.lines.input; number = r.lines.number; version = r.version; last = r.last; failed = r.failed } };
+    ghost view = { λ r. record { input = r.lines.input; number = r.lines.number; cut = r.lines.cut; version = r.version; last = r.last; failed = r.failed } };
 
     ghost invariant = { λ r. record { least : 1 ≤ r.version; most : r.version ≤ 2 } };
 }
@@ -66,6 +67,13 @@ impl JournalReader {
         self.version
     }
 
+    /// Whether the input said its end when it was read last. A line that was read then is the last one, and has no LF.
+    pub fn is_cut(&self) -> bool
+        ensures { result ≡ self.now.cut }
+    {
+        self.lines.is_cut()
+    }
+
     /// Whether a whole line is ahead, with its LF. While one is, no call but `setup` reads from the source before it took that
     /// line.
     pub fn holds_line(&self) -> bool
@@ -86,6 +94,7 @@ impl JournalReader {
     pub fn setup<S: Source>(&mut self, alloc: Global, source: &mut S) -> Result<Setup, JournalError>
         ensures tells { self.old.failed ≡ None → TellsOpening (opening_part version_of self.old.number) self.new.version self.new.number (unread self.old.input (S.left source.old)) (unread self.new.input (S.left source.new)) result }
         ensures rest { self.old.failed ≡ None → IfErr result (λ e. IsLineFault e → LeavesRest (opening_part version_of self.old.number) self.old.number (Some (self.old.number + 1)) e (unread self.old.input (S.left source.old)) (unread self.new.input (S.left source.new))) }
+        ensures text { OnOk result (TakesText self.new.cut (unread self.old.input (S.left source.old)) (unread self.new.input (S.left source.new))) }
         ensures kept { IfOk result IsSetup }
         ensures least { OnOk result (1 ≤ self.new.version) }
         ensures most { OnOk result (self.new.version ≤ 2) }
@@ -121,6 +130,7 @@ impl JournalReader {
     pub fn start<S: Source>(&mut self, source: &mut S) -> Result<u64, JournalError>
         ensures tells { self.old.failed ≡ None → Tells (start_part self.old.number) self.new.number (unread self.old.input (S.left source.old)) (unread self.new.input (S.left source.new)) result }
         ensures rest { self.old.failed ≡ None → IfErr result (λ e. IsLineFault e → LeavesRest (start_part self.old.number) self.old.number None e (unread self.old.input (S.left source.old)) (unread self.new.input (S.left source.new))) }
+        ensures text { OnOk result (TakesText self.new.cut (unread self.old.input (S.left source.old)) (unread self.new.input (S.left source.new))) }
         ensures start { IfOk result (λ start. self.new.last ≡ start) }
         ensures most { IfOk result (λ start. start ≤ time_most) }
         ensures version { self.new.version ≡ self.old.version }
@@ -159,6 +169,7 @@ impl JournalReader {
     #[inline(always)]
     pub fn next_ahead(&mut self) -> Option<Event>
         ensures tells { IfSome result (λ e. (left : Option (List ℕ)) → Tells (next_part self.old.version self.old.last self.old.number) self.new.number (unread self.old.input left) (unread self.new.input left) (Ok (Some e))) }
+        ensures text { IfSome result (λ e. (left : Option (List ℕ)) → TakesText self.new.cut (unread self.old.input left) (unread self.new.input left)) }
         ensures order { IfSome result (λ e. self.old.last ≤ e.time) }
         ensures times { IfSome result (λ e. e.time ≤ time_most) }
         ensures last { IfSome result (λ e. self.new.last ≡ e.time) }
@@ -184,6 +195,7 @@ impl JournalReader {
     pub fn next<S: Source>(&mut self, source: &mut S) -> Result<Option<Event>, JournalError>
         ensures tells { self.old.failed ≡ None → Tells (next_part self.old.version self.old.last self.old.number) self.new.number (unread self.old.input (S.left source.old)) (unread self.new.input (S.left source.new)) result }
         ensures rest { self.old.failed ≡ None → IfErr result (λ e. IsLineFault e → LeavesRest (next_part self.old.version self.old.last self.old.number) self.old.number None e (unread self.old.input (S.left source.old)) (unread self.new.input (S.left source.new))) }
+        ensures text { OnEvent result (λ e. TakesText self.new.cut (unread self.old.input (S.left source.old)) (unread self.new.input (S.left source.new))) }
         ensures order { OnEvent result (λ e. self.old.last ≤ e.time) }
         ensures times { OnEvent result (λ e. e.time ≤ time_most) }
         ensures last { OnEvent result (λ e. self.new.last ≡ e.time) }

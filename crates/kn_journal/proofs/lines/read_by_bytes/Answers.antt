@@ -5,6 +5,7 @@ use Rattle.kn_journal.specs.Reading.{unread}
 use Rattle.kn_journal.proofs.Drawings.{draws_all, draws_both, draws_more, draws_none}
 use Rattle.kn_journal.proofs.Fronts.{front_begin, front_added, front_lf, front_end, front_long, front_end-long, counts_begin, counts_byte, counts_end, contains_some, contains_rest, part_begin, part_byte, part_stay}
 use Rattle.kn_journal.proofs.Plain.{no_lf-added, no_lf-crs_after, no_lf-nil}
+use Rattle.kn_journal.proofs.Texts.{text-end, text-lf}
 use Rattle.kn_journal.proofs.lines.read_by_bytes.Goals as goal
 
 pub loop-init : goal.loop-init
@@ -29,6 +30,22 @@ returns-in-Ok-Some-eq10-clause-taken g c =
     let rest = unread c.next.new.self (g.S.Source.left c.next.new.source) in
     let byte = rw (c.in-Ok-Some-eq10.field-0-is, c.in-Ok-Some-eq10.field-0-0-test) at c.in-Ok-Some-eq10.ensures.byte in
     front_lf whole left rest c.loop.line.items c.loop.crs c.loop.invariant.taken byte
+
+pub returns-in-Ok-Some-eq10-clause-text : goal.returns-in-Ok-Some-eq10-clause-text
+returns-in-Ok-Some-eq10-clause-text g c _ =
+    let whole = unread c.args.input.now (g.S.Source.left c.args.source.now) in
+    let left = unread c.loop.input (g.S.Source.left c.loop.source) in
+    let rest = unread c.next.new.self (g.S.Source.left c.next.new.source) in
+    let byte = rw (c.in-Ok-Some-eq10.field-0-is, c.in-Ok-Some-eq10.field-0-0-test) at c.in-Ok-Some-eq10.ensures.byte in
+    text-lf whole left rest c.loop.invariant.part byte
+
+pub returns-in-Ok-None-clause-text : goal.returns-in-Ok-None-clause-text
+returns-in-Ok-None-clause-text g c _ =
+    let whole = unread c.args.input.now (g.S.Source.left c.args.source.now) in
+    let left = unread c.loop.input (g.S.Source.left c.loop.source) in
+    let rest = unread c.next.new.self (g.S.Source.left c.next.new.source) in
+    let none = rw c.in-Ok-None.field-0-is at c.in-Ok-None.ensures.byte in
+    text-end whole left rest c.loop.invariant.part none
 
 pub returns-in-None-clause-long : goal.returns-in-None-clause-long
 returns-in-None-clause-long g c _ =

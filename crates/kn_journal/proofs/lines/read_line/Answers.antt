@@ -8,6 +8,12 @@ returns-then-take_ahead-clause-source g c =
     let took = c.if-take_ahead.true in
     draws_ahead c.args.input.now c.take_ahead.new.input c.args.source.now (omega (arith, c.take_ahead.ensures.strict took)) (sym (c.take_ahead.ensures.exact took))
 
+pub returns-then-take_ahead-clause-text : goal.returns-then-take_ahead-clause-text
+returns-then-take_ahead-clause-text g c _ = c.take_ahead.ensures.text c.if-take_ahead.true (g.S.Source.left c.args.source.now)
+
+pub returns-clause-text : goal.returns-clause-text
+returns-clause-text g c = rw (c.take_ahead.ensures.stays c.if-take_ahead.false) at c.read_by_bytes.ensures.text
+
 pub returns-clause-source : goal.returns-clause-source
 returns-clause-source g c = rw (c.take_ahead.ensures.stays c.if-take_ahead.false) at c.read_by_bytes.ensures.source
 

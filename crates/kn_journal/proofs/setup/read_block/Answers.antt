@@ -7,7 +7,7 @@ use Rattle.kn_journal.specs.Reading.{unread}
 use Rattle.kn_journal.specs.Lines.{ends_with_cr}
 use Rattle.kn_journal.specs.Setup.{block_most, block_part}
 use Rattle.kn_journal.proofs.Drawings.{draws_both, draws_more, draws_none, draws_well}
-use Rattle.kn_journal.proofs.Blocks.{block-begin, block-cut, block-lacks, block-long, block-more, block-point, block-stops}
+use Rattle.kn_journal.proofs.Blocks.{block-begin, block-cut, block-lacks, block-long, block-more, block-point, block-stops, block-text}
 use Rattle.kn_journal.proofs.ReadBack.{keeps-begin, keeps-more, keeps-point}
 use Rattle.kn_journal.proofs.SetupRests.{block-rest}
 use Rattle.kn_journal.proofs.Tellings.{memory-refuses}
@@ -56,14 +56,19 @@ loop-preserved g c =
     let added : c.push.new.self.items ≡ (c.loop.text.items ++ c.next_line.new.self.line) ++ 10 ∷ [] = grind (arith, common_steps) in
     let cr : ends_with_cr c.next_line.new.self.line ≡ false = grind (arith, common_steps) in
     record {
-      block = block-more c.args.lines.now.number c.loop.text.items c.push.new.self.items c.loop.lines.number c.next_line.new.self.number (unread c.args.lines.now.input (g.S.Source.left c.args.source.now))
+      block = block-more c.args.lines.now.number c.loop.text.items c.push.new.self.items c.loop.lines.number c.next_line.new.self.number c.next_line.new.self.cut (unread c.args.lines.now.input (g.S.Source.left c.args.source.now))
           (unread c.loop.lines.input (g.S.Source.left c.loop.source)) (unread c.next_line.new.self.input (g.S.Source.left c.next_line.new.source)) c.next_line.new.self.line
-          c.loop.invariant.block c.in-Ok.ensures.line c.in-Ok.ensures.fits c.in-Ok.ensures.number other short added;
+          c.loop.invariant.block c.in-Ok.ensures.line c.in-Ok.ensures.text c.in-Ok.ensures.fits c.in-Ok.ensures.number other short added;
       kept = keeps-more c.loop.text.items c.next_line.new.self.line c.push.new.self.items c.loop.invariant.kept c.in-Ok.ensures.no_lf cr c.in-Ok.ensures.fits other short added;
       turns = grind (arith, common_steps);
       short = grind (arith, common_steps);
       source = draws_both c.loop.invariant.source c.in-Ok.ensures.source;
     }
+
+pub returns-then-eq-clause-text : goal.returns-then-eq-clause-text
+returns-then-eq-clause-text g c =
+    block-text c.args.lines.now.number c.loop.text.items c.loop.lines.number c.next_line.new.self.cut (unread c.args.lines.now.input (g.S.Source.left c.args.source.now))
+    (unread c.loop.lines.input (g.S.Source.left c.loop.source)) (unread c.next_line.new.self.input (g.S.Source.left c.next_line.new.source)) c.loop.invariant.block c.in-Ok.ensures.text
 
 pub returns-then-eq-clause-kept : goal.returns-then-eq-clause-kept
 returns-then-eq-clause-kept g c = rw c.new.ensures (keeps-point c.loop.text.items c.loop.invariant.kept)

@@ -8,6 +8,7 @@ use Rattle.kn_journal.proofs.Drawings.{config-no_fault, draws_both, draws_in, dr
 use Rattle.kn_journal.proofs.ReadBack.{blocks-kept}
 use Rattle.kn_journal.proofs.Setups.{blocks-bad, blocks-block_stops, blocks-no_block, blocks-no_word, blocks-revision_stops, blocks-tells, blocks-word_stops, config-bad}
 use Rattle.kn_journal.proofs.SetupRests.{blocks-block_rest, blocks-config_rest, blocks-word_rest, config-on_rest, config-rest}
+use Rattle.kn_journal.proofs.Texts.{text-more}
 use Rattle.kn_journal.proofs.setup.read_blocks.Goals as goal
 
 pub returns-in-Err-clause-tells : goal.returns-in-Err-clause-tells
@@ -28,9 +29,9 @@ returns-in-Err-read_block-clause-tells g c =
 pub returns-in-Err-read_block-clause-source : goal.returns-in-Err-read_block-clause-source
 returns-in-Err-read_block-clause-source g c =
     draws_more c.in-Ok.ensures.source c.in-Err-read_block.ensures.source (λ h.
-    blocks-block_stops c.args.line.items c.args.slots c.args.lines.now.number c.read_word.new.lines.number (unread c.args.lines.now.input (g.S.Source.left c.args.source.now))
+    blocks-block_stops c.args.line.items c.args.slots c.args.lines.now.number c.read_word.new.lines.number c.read_word.new.lines.cut (unread c.args.lines.now.input (g.S.Source.left c.args.source.now))
     (unread c.read_word.new.lines.input (g.S.Source.left c.read_word.new.source)) (unread c.read_block.new.lines.input (g.S.Source.left c.read_block.new.source))
-    c.in-Ok.field-0 c.in-Ok.ensures.tells (c.in-Err-read_block.ensures.source.amid h))
+    c.in-Ok.field-0 c.in-Ok.ensures.tells c.in-Ok.ensures.text (c.in-Err-read_block.ensures.source.amid h))
 
 pub returns-in-Err-read-clause-tells : goal.returns-in-Err-read-clause-tells
 returns-in-Err-read-clause-tells g c =
@@ -60,10 +61,10 @@ returns-clause-tells g c =
 pub returns-clause-source : goal.returns-clause-source
 returns-clause-source g c =
     draws_more (draws_both c.in-Ok.ensures.source c.in-Ok-read_block.ensures.source) c.in-Err-read_revision.ensures.source (λ h.
-    blocks-revision_stops c.args.line.items c.args.slots c.args.lines.now.number c.read_word.new.lines.number c.read_block.new.lines.number
+    blocks-revision_stops c.args.line.items c.args.slots c.args.lines.now.number c.read_word.new.lines.number c.read_block.new.lines.number c.read_word.new.lines.cut c.read_block.new.lines.cut
     (unread c.args.lines.now.input (g.S.Source.left c.args.source.now)) (unread c.read_word.new.lines.input (g.S.Source.left c.read_word.new.source))
     (unread c.read_block.new.lines.input (g.S.Source.left c.read_block.new.source)) (unread c.read_revision.new.lines.input (g.S.Source.left c.read_revision.new.source))
-    c.in-Ok.field-0 c.in-Ok-read_block.block c.in-Ok-read.config c.in-Ok.ensures.tells c.in-Ok-read_block.ensures.tells (rw c.bytes.ensures at c.in-Ok-read.ensures.gives)
+    c.in-Ok.field-0 c.in-Ok-read_block.block c.in-Ok-read.config c.in-Ok.ensures.tells c.in-Ok.ensures.text c.in-Ok-read_block.ensures.tells c.in-Ok-read_block.ensures.text (rw c.bytes.ensures at c.in-Ok-read.ensures.gives)
     (c.in-Err-read_revision.ensures.source.amid h))
 
 pub returns-in-Ok-read_revision-clause-kept : goal.returns-in-Ok-read_revision-clause-kept
@@ -107,3 +108,12 @@ returns-in-Err-read-clause-source g c =
 pub returns-in-Ok-read_revision-clause-source : goal.returns-in-Ok-read_revision-clause-source
 returns-in-Ok-read_revision-clause-source g c =
     draws_well tt (draws_both (draws_both c.in-Ok.ensures.source c.in-Ok-read_block.ensures.source) c.in-Ok-read_revision.ensures.source)
+
+pub returns-in-Ok-read_revision-clause-text : goal.returns-in-Ok-read_revision-clause-text
+returns-in-Ok-read_revision-clause-text g c =
+    let old = unread c.args.lines.now.input (g.S.Source.left c.args.source.now) in
+    let mid = unread c.read_word.new.lines.input (g.S.Source.left c.read_word.new.source) in
+    let after = unread c.read_block.new.lines.input (g.S.Source.left c.read_block.new.source) in
+    let new = unread c.read_revision.new.lines.input (g.S.Source.left c.read_revision.new.source) in
+    let both = text-more c.read_word.new.lines.cut c.read_block.new.lines.cut old mid after c.in-Ok.ensures.text c.in-Ok-read_block.ensures.text in
+    text-more c.read_block.new.lines.cut c.read_revision.new.lines.cut old after new both c.in-Ok-read_revision.ensures.text

@@ -10,6 +10,7 @@ use Rattle.kn_journal.proofs.Drawings.{IsNoFault, draws_both, draws_in, draws_mo
 use Rattle.kn_journal.proofs.ReadBack.{revision-kept}
 use Rattle.kn_journal.proofs.Setups.{revision-block_stops, revision-no_block, revision-no_word, revision-tells, revision-word_stops, spec-bad, spec-good}
 use Rattle.kn_journal.proofs.SetupRests.{revision-block_rest, revision-spec_rest, revision-word_rest, spec-rest}
+use Rattle.kn_journal.proofs.Texts.{text-more}
 use Rattle.kn_journal.proofs.setup.read_revision.Goals as goal
 
 pub returns-in-Err-clause-tells : goal.returns-in-Err-clause-tells
@@ -31,9 +32,9 @@ returns-in-Err-read_block-clause-tells g c =
 pub returns-in-Err-read_block-clause-source : goal.returns-in-Err-read_block-clause-source
 returns-in-Err-read_block-clause-source g c =
     draws_more c.in-Ok.ensures.source c.in-Err-read_block.ensures.source (λ h.
-    revision-block_stops c.args.line.items c.args.block.now c.args.slots c.args.config.now c.args.lines.now.number c.read_word.new.lines.number (unread c.args.lines.now.input (g.S.Source.left c.args.source.now))
+    revision-block_stops c.args.line.items c.args.block.now c.args.slots c.args.config.now c.args.lines.now.number c.read_word.new.lines.number c.read_word.new.lines.cut (unread c.args.lines.now.input (g.S.Source.left c.args.source.now))
     (unread c.read_word.new.lines.input (g.S.Source.left c.read_word.new.source)) (unread c.read_block.new.lines.input (g.S.Source.left c.read_block.new.source))
-    c.in-Ok.field-0 c.in-Ok.ensures.tells (c.in-Err-read_block.ensures.source.amid h))
+    c.in-Ok.field-0 c.in-Ok.ensures.tells c.in-Ok.ensures.text (c.in-Err-read_block.ensures.source.amid h))
 
 pub returns-in-Err-resolve-clause-tells : goal.returns-in-Err-resolve-clause-tells
 returns-in-Err-resolve-clause-tells g c =
@@ -90,3 +91,8 @@ returns-in-Ok-with_blocks-clause-source g c = draws_well tt (draws_both c.in-Ok.
 pub returns-clause-source : goal.returns-clause-source
 returns-clause-source g c =
     draws_well (subst (λ (x : JournalError). IsNoFault (Some x)) (sym c.in-Err-with_blocks.ensures.err) tt) (draws_both c.in-Ok.ensures.source c.in-Ok-read_block.ensures.source)
+
+pub returns-in-Ok-with_blocks-clause-text : goal.returns-in-Ok-with_blocks-clause-text
+returns-in-Ok-with_blocks-clause-text g c =
+    text-more c.read_word.new.lines.cut c.read_block.new.lines.cut (unread c.args.lines.now.input (g.S.Source.left c.args.source.now)) (unread c.read_word.new.lines.input (g.S.Source.left c.read_word.new.source))
+    (unread c.read_block.new.lines.input (g.S.Source.left c.read_block.new.source)) c.in-Ok.ensures.text c.in-Ok-read_block.ensures.text

@@ -1,6 +1,7 @@
 -- The setup's first line and what follows it, or where it ended.
 use Rattle.kn_journal.specs.Reading.{unread}
 use Rattle.kn_journal.proofs.Drawings.{draws_in, draws_more, draws_well}
+use Rattle.kn_journal.proofs.Pieces.{on_ok}
 use Rattle.kn_journal.proofs.ReadBack.{setup-kept_if}
 use Rattle.kn_journal.proofs.Setups.{setup-bad, setup-lacks, setup-none, setup-stops, setup-tells}
 use Rattle.kn_journal.proofs.SetupRests.{setup-bad_rest, setup-rest}
@@ -33,9 +34,9 @@ returns-in-Ok-line_text-clause-tells g c =
 pub returns-in-Ok-line_text-clause-source : goal.returns-in-Ok-line_text-clause-source
 returns-in-Ok-line_text-clause-source g c =
     draws_more c.in-Ok.ensures.source c.read_behind.ensures.source (λ h.
-    setup-stops c.args.lines.now.number c.next_line.new.self.number (unread c.args.lines.now.input (g.S.Source.left c.args.source.now))
+    setup-stops c.args.lines.now.number c.next_line.new.self.number c.next_line.new.self.cut (unread c.args.lines.now.input (g.S.Source.left c.args.source.now))
     (unread c.next_line.new.self.input (g.S.Source.left c.next_line.new.source)) (unread c.read_behind.new.lines.input (g.S.Source.left c.read_behind.new.source))
-    c.next_line.new.self.line c.in-Ok-line_text.text.items c.in-Ok-read_setup_line.said c.in-Ok.ensures.line c.in-Ok.ensures.fits c.in-Ok.ensures.number
+    c.next_line.new.self.line c.in-Ok-line_text.text.items c.in-Ok-read_setup_line.said c.in-Ok.ensures.line c.in-Ok.ensures.text c.in-Ok.ensures.fits c.in-Ok.ensures.number
     (rw c.line.ensures at c.in-Ok-read_setup_line.ensures.value) (rw c.line-2.ensures at c.in-Ok-line_text.ensures) (c.read_behind.ensures.source.amid h))
 
 pub returns-in-Ok-line_text-clause-kept : goal.returns-in-Ok-line_text-clause-kept
@@ -64,3 +65,7 @@ returns-in-Err-line_text-clause-source g c = draws_well tt c.in-Ok.ensures.sourc
 
 pub returns-in-Err-line_text-clause-tells : goal.returns-in-Err-line_text-clause-tells
 returns-in-Err-line_text-clause-tells g c = memory-refuses (setup_part c.args.lines.now.number) (unread c.args.lines.now.input (g.S.Source.left c.args.source.now))
+
+pub returns-in-Ok-line_text-clause-text : goal.returns-in-Ok-line_text-clause-text
+returns-in-Ok-line_text-clause-text g c =
+    on_ok c.read_behind.result (λ more. more (unread c.args.lines.now.input (g.S.Source.left c.args.source.now)) c.in-Ok.ensures.text) c.read_behind.ensures.text

@@ -4,6 +4,7 @@ use Rattle.kn_journal.specs.Setup.{word_in}
 use Rattle.kn_journal.proofs.Drawings.{draws_in, draws_well, judged-no_fault}
 use Rattle.kn_journal.proofs.Blocks.{word-none, word-refuses, word-tells}
 use Rattle.kn_journal.proofs.SetupRests.{word-rest}
+use Rattle.kn_journal.proofs.Texts.{on_ok-any}
 use Rattle.kn_journal.proofs.setup.read_word.Goals as goal
 
 pub returns-in-Ok-clause-tells : goal.returns-in-Ok-clause-tells
@@ -29,3 +30,6 @@ returns-in-Ok-clause-rest g c =
 pub returns-in-Ok-clause-source : goal.returns-in-Ok-clause-source
 returns-in-Ok-clause-source g c =
     draws_well (judged-no_fault (word_in c.args.word.now) c.number.result c.line.result.now c.judge_word.result c.judge_word.ensures) c.in-Ok.ensures.source
+
+pub returns-in-Ok-clause-text : goal.returns-in-Ok-clause-text
+returns-in-Ok-clause-text g c = on_ok-any c.judge_word.result c.in-Ok.ensures.text

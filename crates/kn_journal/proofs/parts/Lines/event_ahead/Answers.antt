@@ -18,6 +18,11 @@ returns-clause-line c later =
     let spells : Spells 1 (take len hay) c.in_ok-e.e = rw ahead at (c.in_ok-e.ensures.spells 1) in
     lines_split len hay later split (printable-plain (take len hay) (c.spellings_are_read.ensures.printable 1 (take len hay) c.in_ok-e.e spells))
 
+pub returns-clause-lf : goal.returns-clause-lf
+returns-clause-lf c =
+    let ahead : c.ahead.result.now ≡ c.args.self.now.input.ahead = c.ahead.ensures ∙ ap (λ (r : LinesState). r.input.ahead) c.self.view_is in
+    rw ahead at c.in_ok-e.ensures.line
+
 pub returns-clause-event : goal.returns-clause-event
 returns-clause-event c =
     let hay = c.args.self.now.input.ahead in

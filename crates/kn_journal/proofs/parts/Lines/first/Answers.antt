@@ -6,6 +6,7 @@ use Rattle.kn_journal.specs.Journal.{first_in, version_by}
 use Rattle.kn_journal.proofs.SetupRests.{version-rest}
 use Rattle.kn_journal.proofs.Drawings.{draws_well, judged-no_fault}
 use Rattle.kn_journal.proofs.Tellings.{first-refuses, first-tells}
+use Rattle.kn_journal.proofs.Texts.{on_ok-any}
 use Rattle.kn_journal.proofs.parts.Lines.first.Goals as goal
 use Rattle.kn_journal.proofs.parts.Lines.first.Goals.{in-Ok, in-Err}
 
@@ -41,4 +42,11 @@ returns-clause-source g c =
       | in-Ok w ↦
           rw w.result-is (draws_well (judged-no_fault (first_in (version_by c.args.first)) c.self.inside.number w.deref.result.now w.judge_first.result w.judge_first.ensures.judges) w.in-Ok.ensures.source)
       | in-Err w ↦ rw w.result-is w.in-Err.ensures.source
+    ]
+
+pub returns-clause-text : goal.returns-clause-text
+returns-clause-text g c =
+    elim c.match-next_line.branch [
+      | in-Ok w ↦ rw w.result-is (on_ok-any w.judge_first.result w.in-Ok.ensures.text)
+      | in-Err w ↦ rw w.result-is tt
     ]

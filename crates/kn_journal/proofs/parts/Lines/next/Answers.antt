@@ -1,15 +1,15 @@
 -- An event, `end` and what follows it, or no line.
-use Rattle.std.proofs.Common.{◌≡◌, ◌∙◌, Some, true, false, ap, refl, subst, arith, inl, inr}
+use Rattle.std.proofs.Common.{◌≡◌, ◌∙◌, Bool, Some, true, false, ap, refl, subst, sym, arith, inl, inr}
 use Rattle.std.specs.Prelude.{codes}
 use Rattle.std.specs.Str.{bytes_eq}
 use Rattle.std.proofs.lemmas.Grind.{common_steps}
-use Rattle.kn_journal.specs.Reading.{unread}
+use Rattle.kn_journal.specs.Reading.{TakesText, unread}
 use Rattle.kn_journal.specs.Telling.{LinesState}
 use Rattle.kn_journal.proofs.Rests.{ended-rest, event-rest}
 use Rattle.kn_journal.specs.declared.error.JournalError.{JournalError}
 use Rattle.kn_journal.proofs.Drawings.{IsNoFault, cause-no_fault, draws_ahead, draws_both, draws_in, draws_more, draws_well}
 use Rattle.kn_journal.proofs.Stops.{end-stops}
-use Rattle.kn_journal.proofs.Tellings.{next-ended, next-event, next-lacks, next-more, next-refused}
+use Rattle.kn_journal.proofs.Tellings.{next-cut, next-ended, next-event, next-lacks, next-more, next-refused}
 use Rattle.kn_journal.proofs.parts.Lines.next.Goals as goal
 use Rattle.kn_journal.proofs.parts.Lines.next.Goals.{in-Ok-judge_event, in-Err-judge_event}
 
@@ -87,9 +87,13 @@ returns-in-Err-end-clause-source g c =
     let same : c.next_ahead.new.self ≡ c.args.self.now = c.in-None.ensures.same refl in
     let line : c.as_slice.result.now ≡ c.next_line.new.self.line = c.as_slice.ensures.value ∙ ap (λ (r : LinesState). r.line) c.self.view_is in
     let ends : bytes_eq c.next_line.new.self.line (codes "end") ≡ true = grind (arith, common_steps, line) in
+    let old = unread c.args.self.now.input (g.S.Source.left c.args.source.now) in
+    let mid = unread c.next_line.new.self.input (g.S.Source.left c.next_line.new.source) in
+    let not_cut : c.next_line.new.self.cut ≡ false = ap (λ (r : LinesState). r.cut) (sym c.self.view_is) ∙ c.if-self.false in
+    let uncut : TakesText false old mid = subst (λ (b : Bool). TakesText b old mid) not_cut (rw same at c.in-Ok.ensures.text) in
     draws_more (rw same at c.in-Ok.ensures.source) c.in-Err-end.ensures.source
     (λ h. inr (end-stops (unread c.args.self.now.input (g.S.Source.left c.args.source.now)) (unread c.next_line.new.self.input (g.S.Source.left c.next_line.new.source))
-    (unread c.end.new.self.input (g.S.Source.left c.end.new.source)) c.next_line.new.self.line (rw same at c.in-Ok.ensures.line) ends (c.in-Err-end.ensures.source.amid h)))
+    (unread c.end.new.self.input (g.S.Source.left c.end.new.source)) c.next_line.new.self.line (rw same at c.in-Ok.ensures.line) uncut ends (c.in-Err-end.ensures.source.amid h)))
 
 pub returns-in-Some-clause-source : goal.returns-in-Some-clause-source
 returns-in-Some-clause-source g c =
@@ -113,6 +117,34 @@ returns-clause-source g c =
       | in-Err-judge_event w ↦
           let why = w.in-Err-judge_event.ensures.err in
           rw w.result-is (draws_well (subst (λ (x : JournalError). IsNoFault (Some x)) why.1 (cause-no_fault why.0)) (rw same at c.in-Ok.ensures.source))
+    ]
+
+pub returns-then-self-clause-tells : goal.returns-then-self-clause-tells
+returns-then-self-clause-tells g c =
+    let same : c.next_ahead.new.self ≡ c.args.self.now = c.in-None.ensures.same refl in
+    let old = unread c.args.self.now.input (g.S.Source.left c.args.source.now) in
+    let mid = unread c.next_line.new.self.input (g.S.Source.left c.next_line.new.source) in
+    let line : c.as_slice.result.now ≡ c.next_line.new.self.line = c.as_slice.ensures.value ∙ ap (λ (r : LinesState). r.line) c.self.view_is in
+    let ends : bytes_eq c.next_line.new.self.line (codes "end") ≡ true = grind (arith, common_steps, line) in
+    let is_cut : c.next_line.new.self.cut ≡ true = ap (λ (r : LinesState). r.cut) (sym c.self.view_is) ∙ c.if-self.true in
+    let cut : TakesText true old mid = subst (λ (b : Bool). TakesText b old mid) is_cut (rw same at c.in-Ok.ensures.text) in
+    next-cut c.args.version c.args.last c.args.self.now.number c.next_line.new.self.number old mid c.next_line.new.self.line
+    (rw same at c.in-Ok.ensures.line) cut c.in-Ok.ensures.fits (rw same at c.in-Ok.ensures.number) ends
+
+pub returns-then-self-clause-source : goal.returns-then-self-clause-source
+returns-then-self-clause-source g c =
+    let same : c.next_ahead.new.self ≡ c.args.self.now = c.in-None.ensures.same refl in
+    draws_well tt (rw same at c.in-Ok.ensures.source)
+
+pub returns-in-Some-clause-text : goal.returns-in-Some-clause-text
+returns-in-Some-clause-text g c = c.in-Some.ensures.text (g.S.Source.left c.args.source.now)
+
+pub returns-clause-text : goal.returns-clause-text
+returns-clause-text g c =
+    let same : c.next_ahead.new.self ≡ c.args.self.now = c.in-None.ensures.same refl in
+    elim c.match-judge_event.branch [
+      | in-Ok-judge_event w ↦ rw w.result-is (rw same at c.in-Ok.ensures.text)
+      | in-Err-judge_event w ↦ rw w.result-is tt
     ]
 
 pub returns-clause-order : goal.returns-clause-order

@@ -11,6 +11,11 @@ returns-in-Ok-true-clause-source g c =
     let input : c.self.inside.input ≡ c.args.self.now.input = ap (λ (r : LinesState). r.input) c.self.view_is in
     rw input at c.in-Ok-true.ensures.source
 
+pub returns-in-Ok-true-clause-text : goal.returns-in-Ok-true-clause-text
+returns-in-Ok-true-clause-text g c =
+    let input : c.self.inside.input ≡ c.args.self.now.input = ap (λ (r : LinesState). r.input) c.self.view_is in
+    rw input at (c.in-Ok-true.ensures.text (cc))
+
 pub returns-in-Ok-false-clause-source : goal.returns-in-Ok-false-clause-source
 returns-in-Ok-false-clause-source g c =
     let input : c.self.inside.input ≡ c.args.self.now.input = ap (λ (r : LinesState). r.input) c.self.view_is in

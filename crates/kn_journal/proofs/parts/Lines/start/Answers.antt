@@ -6,6 +6,7 @@ use Rattle.kn_journal.specs.Journal.{start_line_in}
 use Rattle.kn_journal.proofs.Rests.{start-rest}
 use Rattle.kn_journal.proofs.Drawings.{draws_well, judged-no_fault}
 use Rattle.kn_journal.proofs.Tellings.{start-refuses, start-tells}
+use Rattle.kn_journal.proofs.Texts.{on_ok-any}
 use Rattle.kn_journal.proofs.parts.Lines.start.Goals as goal
 use Rattle.kn_journal.proofs.parts.Lines.start.Goals.{in-Ok, in-Err}
 
@@ -41,4 +42,11 @@ returns-clause-source g c =
       | in-Ok w ↦
           rw w.result-is (draws_well (judged-no_fault start_line_in c.self.inside.number w.deref.result.now w.judge_start.result w.judge_start.ensures.judges) w.in-Ok.ensures.source)
       | in-Err w ↦ rw w.result-is w.in-Err.ensures.source
+    ]
+
+pub returns-clause-text : goal.returns-clause-text
+returns-clause-text g c =
+    elim c.match-next_line.branch [
+      | in-Ok w ↦ rw w.result-is (on_ok-any w.judge_start.result w.in-Ok.ensures.text)
+      | in-Err w ↦ rw w.result-is tt
     ]

@@ -1,6 +1,6 @@
 -- A reader that had not failed read an opening, or stopped in one.
 use Rattle.kn_journal.specs.Journal.{opening_part, version_of}
-use Rattle.kn_journal.specs.Reading.{unread}
+use Rattle.kn_journal.specs.Reading.{TakesText, unread}
 use Rattle.kn_journal.specs.Telling.{Gives, LeavesRest, ReaderState, StopsAmid}
 use Rattle.std.proofs.Common.{◌+◌, subst}
 use Rattle.std.specs.Prelude.{Some}
@@ -11,6 +11,11 @@ returns-in-Ok-clause-tells g c h =
     let new = unread c.read_opening.new.lines.input (g.S.Source.left c.read_opening.new.source) in
     subst (λ (r : ReaderState). Gives (opening_part version_of r.number) c.in-Ok.opening c.read_opening.new.lines.number (unread r.input (g.S.Source.left c.args.source.now)) new)
     c.self.view_is c.in-Ok.ensures.tells
+
+pub returns-in-Ok-clause-text : goal.returns-in-Ok-clause-text
+returns-in-Ok-clause-text g c =
+    let new = unread c.read_opening.new.lines.input (g.S.Source.left c.read_opening.new.source) in
+    subst (λ (r : ReaderState). TakesText c.read_opening.new.lines.cut (unread r.input (g.S.Source.left c.args.source.now)) new) c.self.view_is c.in-Ok.ensures.text
 
 pub returns-in-Err-clause-amid : goal.returns-in-Err-clause-amid
 returns-in-Err-clause-amid g c h k =
