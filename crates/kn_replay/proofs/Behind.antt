@@ -59,11 +59,11 @@ status_on own v h = ap (λ (x : Verdict). status_by (refusal_of x)) h
 
 -- ---- before the events
 
-lines_unopened : (own : List (List ℕ)) (cause : Cause) → opening_part version_of 0 own ≡ Err cause → verdict_of_lines own ≡ bad None cause
+pub lines_unopened : (own : List (List ℕ)) (cause : Cause) → opening_part version_of 0 own ≡ Err cause → verdict_of_lines own ≡ bad None cause
 unfolding verdict_of_lines
 lines_unopened own cause h = rw h refl
 
-lines_unstarted : (own : List (List ℕ)) (opening : Opening) (n : ℕ) (left : List (List ℕ)) (cause : Cause) → opening_part version_of 0 own ≡ Ok (part opening n left) → start_part n left ≡ Err cause
+pub lines_unstarted : (own : List (List ℕ)) (opening : Opening) (n : ℕ) (left : List (List ℕ)) (cause : Cause) → opening_part version_of 0 own ≡ Ok (part opening n left) → start_part n left ≡ Err cause
     → verdict_of_lines own ≡ bad None cause
 unfolding verdict_of_lines
 lines_unstarted own opening n left cause h k = rw h (rw k refl)

@@ -22,12 +22,14 @@ use Rattle.kn_journal.specs.Parts.{Part, part}
 use Rattle.kn_journal.specs.declared.journal.Opening.{Opening}
 use Rattle.kn_journal.specs.declared.journal.Setup.{Setup}
 use Rattle.kn_journal.specs.Journal.{Read, bad, end_part, event_in, from_read, in_time, journal_of, next_part, read_events, time_most, verdict_of_lines}
-use Rattle.kn_journal.specs.Reading.{TakesPart}
+use Rattle.kn_journal.specs.Reading.{TakesPart, TakesText}
+use Rattle.kn_journal.proofs.Texts.{lines-ended}
 use Rattle.kn_journal.specs.Telling.{Gives, IsCauseOf, IsLineFault, LeavesRest, Refuses, TakesEnd, refused_line}
 use Rattle.kn_replay.specs.Cutting.{AreBegun, CutsIn, FollowsCut, HasNoLine, IsCut, StopsSoon}
-use Rattle.kn_replay.specs.Replaying.{Opened, Opens, Stops}
+use Rattle.kn_replay.specs.Replaying.{IsOver, Opened, Opens, Stops}
 use Rattle.kn_replay.specs.Waiting.{Adds}
 use Rattle.kn_replay.proofs.Behind.{AreOpenings, AreStarts, lines_read}
+use Rattle.kn_replay.proofs.Faults.{HasRead, is_over, over_of}
 use Rattle.kn_replay.proofs.Lines.{end_after, next_event, next_last, no_line, with_events}
 use Rattle.kn_replay.proofs.Replays.{GoesOn, Reads, journal_rows-is, no_lf, none_more, reads_more}
 
@@ -117,7 +119,9 @@ soon_refused version last n ys left cause e is h rest = by_near (next_near versi
 soon_amid : (ys : List ℕ) (left : Option (List ℕ)) → TakesPart (Some ys) left ⊎ TakesEnd (Some ys) left → StopsSoon (lines ys) left
 soon_amid ys left (inl begun) = soon_begun (lines ys) left (ys, refl, begun)
 soon_amid ys None (inr ends) = absurd ends
-soon_amid ys (Some zs) (inr (mid, ends, begun)) = subst (λ (x : List (List ℕ)). StopsSoon x (Some zs)) (sym ends) (soon_more (codes "end") (lines mid) (Some zs) (inl (mid, refl, begun)))
+soon_amid ys (Some zs) (inr (text, mid, split, ends, line, begun)) =
+    let all : lines ys ≡ codes "end" ∷ lines mid = ap lines split ∙ lines-ended text mid ends ∙ ap (λ (x : List (List ℕ)). x ++ lines mid) line in
+    subst (λ (x : List (List ℕ)). StopsSoon x (Some zs)) (sym all) (soon_more (codes "end") (lines mid) (Some zs) (inl (mid, refl, begun)))
 
 soon_stopped : (version last n : ℕ) (ys : List ℕ) (left : Option (List ℕ)) (e : JournalError) → Refuses (next_part version last n) e (Some ys)
     → (e ≡ error.ReadFault → TakesPart (Some ys) left ⊎ TakesEnd (Some ys) left) → (e ≡ error.Memory → ⊥)
@@ -210,16 +214,17 @@ cut_good version s c last number (Some xs) waiting now x old mid new es time m (
     cuts_behind version s c last number (lines xs) (Some zs) waiting now x old mid new es time m (lines ys) h (soon_ended version time m (lines ys) n zs g) adds some most
 
 -- nor behind an error of the reader
-pub cut_stop : (version : ℕ) (s : Spec) (c : Trace) (last number : ℕ) (known : Option (List ℕ)) (waiting now x : List ℕ) (old mid new : Option (List ℕ)) (es : List Event) (time m : ℕ) (rest left : Option (List ℕ)) (e : JournalError)
-    → GoesOn version last number known es time m rest → Refuses (next_part version time m) e rest
+pub cut_stop : (first over : Bool) (version : ℕ) (s : Spec) (c : Trace) (last number : ℕ) (known : Option (List ℕ)) (waiting now x : List ℕ) (old mid new : Option (List ℕ)) (es : List Event) (time m : ℕ) (rest left : Option (List ℕ)) (e : JournalError)
+    → GoesOn version last number known es time m rest → HasRead first over known rest → (IsOver over rest → Refuses (next_part version time m) e rest)
     → (e ≡ error.ReadFault → TakesPart rest left ⊎ TakesEnd rest left) → (e ≡ error.Memory → ⊥)
     → (IsLineFault e → LeavesRest (next_part version time m) m None e rest left)
     → Adds old mid waiting now (rows_text (added s c es)) → AppendsPrefix mid new x → length now ≤ 65536
     → FollowsCut version s c last number known left waiting old new
-cut_stop version s c last number None waiting now x old mid new es time m rest left e h g amid memory behind adds some most = tt
-cut_stop version s c last number (Some xs) waiting now x old mid new es time m None left e h g amid memory behind adds some most = absurd h
-cut_stop version s c last number (Some xs) waiting now x old mid new es time m (Some ys) left e h g amid memory behind adds some most =
-    cuts_behind version s c last number (lines xs) left waiting now x old mid new es time m (lines ys) h (soon_stopped version time m ys left e g amid memory behind) adds some most
+cut_stop first over version s c last number None waiting now x old mid new es time m rest left e h read g amid memory behind adds some most = tt
+cut_stop first over version s c last number (Some xs) waiting now x old mid new es time m None left e h read g amid memory behind adds some most = absurd h
+cut_stop first over version s c last number (Some xs) waiting now x old mid new es time m (Some ys) left e h (text, split, so) g amid memory behind adds some most =
+    let soon = soon_stopped version time m ys left e (g (is_over first over text ys so)) amid memory behind in
+    cuts_behind version s c last number (lines xs) left waiting now x old mid new es time m (lines ys) h soon adds some most
 
 -- the rows of the last event couldn't all be added
 pub cut_event : (version : ℕ) (s : Spec) (c : Trace) (last number : ℕ) (known : Option (List ℕ)) (waiting now x : List ℕ) (old mid new : Option (List ℕ)) (es : List Event) (time m : ℕ) (rest : Option (List ℕ)) (e : Event) (n : ℕ) (left : Option (List ℕ))
@@ -283,12 +288,13 @@ opening_cut (Some xs) (Some ys) version setup start number x old new whole begin
     }
 
 -- nor those behind it
-pub journal_follows_cut : (known rest left : Option (List ℕ)) (version : ℕ) (setup : Setup) (start number : ℕ) (waiting : List ℕ) (old mid new : Option (List ℕ)) → AreOpenings → AreStarts
-    → Opens known rest version number (Ok (setup, start)) → Adds old mid [] waiting (rows_text (opening setup.spec start))
-    → FollowsCut version setup.spec (opening setup.spec start) start number rest left waiting mid new → IsCut known left old new
-journal_follows_cut None rest left version setup start number waiting old mid new whole begin h adds cut = tt
-journal_follows_cut (Some xs) None left version setup start number waiting old mid new whole begin h adds cut = absurd h
-journal_follows_cut (Some xs) (Some ys) left version setup start number waiting old mid new whole begin h adds cut =
+pub journal_follows_cut : (known rest left : Option (List ℕ)) (over : Bool) (version : ℕ) (setup : Setup) (start number : ℕ) (waiting : List ℕ) (old mid new : Option (List ℕ)) → AreOpenings → AreStarts
+    → Opens known rest version number (Ok (setup, start)) → TakesText over known rest → Adds old mid [] waiting (rows_text (opening setup.spec start))
+    → (IsOver over rest → FollowsCut version setup.spec (opening setup.spec start) start number rest left waiting mid new) → IsCut known left old new
+journal_follows_cut None rest left over version setup start number waiting old mid new whole begin h text adds follows = tt
+journal_follows_cut (Some xs) None left over version setup start number waiting old mid new whole begin h text adds follows = absurd h
+journal_follows_cut (Some xs) (Some ys) left over version setup start number waiting old mid new whole begin h (text, is, end) adds follows =
+    let cut = follows (over_of over text ys end) in
     let all = begun xs ys version setup start number cut.own cut.rest (cut.before ++ cut.latest) whole begin h cut.split cut.events in
     let rows = rows_text (added setup.spec (opening setup.spec start) cut.before) in
     record {

@@ -123,7 +123,7 @@ goes_more version last number (Some xs) es now m (Some ys) e n (Some zs) h g =
     reads_more version last number (lines xs) es now m (lines ys) e n (lines zs) h (next_event version now m (lines ys) e n (lines zs) g)
 
 -- all that the lines say
-reads_all : (version last number : ℕ) (all : List (List ℕ)) (es : List Event) (now m : ℕ) (left : List (List ℕ))
+pub reads_all : (version last number : ℕ) (all : List (List ℕ)) (es : List Event) (now m : ℕ) (left : List (List ℕ))
     → Reads version last number all es now m left → read_events version last number all ≡ with_events es (read_events version now m left)
 reads_all version last number all es now m left h = ap (λ (x : List (List ℕ)). read_events version last number x) h.split ∙ h.reads left
 
@@ -178,44 +178,44 @@ stops_nil : (waiting : List ℕ) (old new : Option (List ℕ)) (end result : Sta
 stops_nil waiting old new end result h = subst (λ (z : List ℕ). Stops z old new end result) (sym (append-nil waiting)) h
 
 -- the lines end, or one is refused
-follows_end : (version : ℕ) (s : Spec) (c : Trace) (last number : ℕ) (xs : List ℕ) (left : Option (List ℕ)) (waiting now : List ℕ) (old mid new : Option (List ℕ)) (es : List Event) (refused : Option Cause) (result : Status)
+follows_end : (over : Bool) (version : ℕ) (s : Spec) (c : Trace) (last number : ℕ) (xs : List ℕ) (left : Option (List ℕ)) (waiting now : List ℕ) (old mid new : Option (List ℕ)) (es : List Event) (refused : Option Cause) (result : Status)
     → read_events version last number (lines xs) ≡ record { events = es; refused = refused }
     → Adds old mid waiting now (rows_text (added s c es))
     → Stops (now ++ ending version (c ++ added s c es) (length es) refused) mid new (status_by refused) result
-    → Follows version s c last number (Some xs) left waiting old new result
+    → Follows over version s c last number (Some xs) left waiting old new result
 unfolding rest_of_report
-follows_end version s c last number xs left waiting now old mid new es refused result h adds stops =
-    let P : Read → Type 0 = λ r. Writes (waiting ++ rest_of_report version s c r) (status_by r.refused) (BreaksFollowing version s c last number xs left waiting) old new result in
+follows_end over version s c last number xs left waiting now old mid new es refused result h adds stops =
+    let P : Read → Type 0 = λ r. Writes (waiting ++ rest_of_report version s c r) (status_by r.refused) (BreaksFollowing over version s c last number xs left waiting) old new result in
     subst P (sym h)
     (writes_stop _ (status_by refused) _ old new result (plain_end refused) (stops_after old mid new waiting now (rows_text (added s c es)) _ _ result adds stops))
 
 -- all lines were good
-pub goes_good : (version : ℕ) (s : Spec) (c : Trace) (last number : ℕ) (known : Option (List ℕ)) (waiting now : List ℕ) (old mid new : Option (List ℕ)) (es : List Event) (time m : ℕ) (rest : Option (List ℕ)) (n : ℕ) (left : Option (List ℕ)) (result : Status)
+pub goes_good : (over : Bool) (version : ℕ) (s : Spec) (c : Trace) (last number : ℕ) (known : Option (List ℕ)) (waiting now : List ℕ) (old mid new : Option (List ℕ)) (es : List Event) (time m : ℕ) (rest : Option (List ℕ)) (n : ℕ) (left : Option (List ℕ)) (result : Status)
     → GoesOn version last number known es time m rest → Gives (next_part version time m) None n rest left
     → Adds old mid waiting now (rows_text (added s c es))
     → Stops (now ++ last_line version (length es) (totals (c ++ added s c es))) mid new status.Ok result
-    → Follows version s c last number known left waiting old new result
-goes_good version s c last number None waiting now old mid new es time m rest n left result h g adds stops = tt
-goes_good version s c last number (Some xs) waiting now old mid new es time m None n left result h g adds stops = absurd h
-goes_good version s c last number (Some xs) waiting now old mid new es time m (Some ys) n None result h g adds stops = absurd g
-goes_good version s c last number (Some xs) waiting now old mid new es time m (Some ys) n (Some zs) result h g adds stops =
-    follows_end version s c last number xs (Some zs) waiting now old mid new es None result
+    → Follows over version s c last number known left waiting old new result
+goes_good over version s c last number None waiting now old mid new es time m rest n left result h g adds stops = tt
+goes_good over version s c last number (Some xs) waiting now old mid new es time m None n left result h g adds stops = absurd h
+goes_good over version s c last number (Some xs) waiting now old mid new es time m (Some ys) n None result h g adds stops = absurd g
+goes_good over version s c last number (Some xs) waiting now old mid new es time m (Some ys) n (Some zs) result h g adds stops =
+    follows_end over version s c last number xs (Some zs) waiting now old mid new es None result
     (reads_all version last number (lines xs) es time m (lines ys) h ∙ ap (with_events es) (next_end version time m (lines ys) n (lines zs) g) ∙ none_more es None)
     adds stops
 
 -- a line is refused
-goes_refused : (version : ℕ) (s : Spec) (c : Trace) (last number : ℕ) (xs : List ℕ) (waiting now : List ℕ) (old mid new : Option (List ℕ)) (es : List Event) (time m : ℕ) (ys : List ℕ) (left : Option (List ℕ)) (cause : Cause) (e : JournalError) (result : Status)
+pub goes_refused : (over : Bool) (version : ℕ) (s : Spec) (c : Trace) (last number : ℕ) (xs : List ℕ) (waiting now : List ℕ) (old mid new : Option (List ℕ)) (es : List Event) (time m : ℕ) (ys : List ℕ) (left : Option (List ℕ)) (cause : Cause) (e : JournalError) (result : Status)
     → Reads version last number (lines xs) es time m (lines ys) → error_of cause ≡ e → next_part version time m (lines ys) ≡ Err cause
     → Adds old mid waiting now (rows_text (added s c es)) → Stops now mid new (status_of e) result
-    → Follows version s c last number (Some xs) left waiting old new result
-goes_refused version s c last number xs waiting now old mid new es time m ys left cause e result h is g adds stops =
-    follows_end version s c last number xs left waiting now old mid new es (Some cause) result
+    → Follows over version s c last number (Some xs) left waiting old new result
+goes_refused over version s c last number xs waiting now old mid new es time m ys left cause e result h is g adds stops =
+    follows_end over version s c last number xs left waiting now old mid new es (Some cause) result
     (reads_all version last number (lines xs) es time m (lines ys) h ∙ ap (with_events es) (next_refused version time m (lines ys) cause g) ∙ none_more es (Some cause))
     adds
     (stops_nil now mid new _ result (subst (λ (x : JournalError). Stops now mid new (status_of x) result) (sym is) stops))
 
 -- an event's rows were not all written, or what waited
-cut : (version : ℕ) (s : Spec) (c : Trace) (es : List Event) (r : Read) (all : Read) (waiting some : List ℕ) (old new : Option (List ℕ))
+pub cut : (version : ℕ) (s : Spec) (c : Trace) (es : List Event) (r : Read) (all : Read) (waiting some : List ℕ) (old new : Option (List ℕ))
     → all ≡ with_events es r → AppendsPrefix old new (waiting ++ rows_text (added s c es)) → AppendsPrefix old new (waiting ++ rest_of_report version s c all)
 cut version s c es r all waiting some old new h k =
     let split = rest-split version s c es r in
@@ -227,116 +227,22 @@ some_waits : (old mid new : Option (List ℕ)) (p q x y : List ℕ) → Adds old
 some_waits old mid new p q x y h some =
     subst (AppendsPrefix old new) (ap (λ (z : List ℕ). p ++ (x ++ z)) (append-nil y)) (adds_some old mid new p q x y [] h some)
 
-pub goes_cut : (version : ℕ) (s : Spec) (c : Trace) (last number : ℕ) (known : Option (List ℕ)) (waiting now : List ℕ) (old mid new : Option (List ℕ)) (es : List Event) (time m : ℕ) (rest : Option (List ℕ)) (e : Event) (n : ℕ) (left after : Option (List ℕ))
+pub goes_cut : (over : Bool) (version : ℕ) (s : Spec) (c : Trace) (last number : ℕ) (known : Option (List ℕ)) (waiting now : List ℕ) (old mid new : Option (List ℕ)) (es : List Event) (time m : ℕ) (rest : Option (List ℕ)) (e : Event) (n : ℕ) (left after : Option (List ℕ))
     → GoesOn version last number known es time m rest → Gives (next_part version time m) (Some e) n rest left
     → Adds old mid waiting now (rows_text (added s c es)) → AppendsPrefix mid new (now ++ rows_text (react s (c ++ added s c es) e))
-    → Follows version s c last number known after waiting old new status.WriteFault
-goes_cut version s c last number None waiting now old mid new es time m rest e n left after h g adds some = tt
-goes_cut version s c last number (Some xs) waiting now old mid new es time m None e n left after h g adds some = absurd h
-goes_cut version s c last number (Some xs) waiting now old mid new es time m (Some ys) e n None after h g adds some = absurd g
-goes_cut version s c last number (Some xs) waiting now old mid new es time m (Some ys) e n (Some zs) after h g adds some =
+    → Follows over version s c last number known after waiting old new status.WriteFault
+goes_cut over version s c last number None waiting now old mid new es time m rest e n left after h g adds some = tt
+goes_cut over version s c last number (Some xs) waiting now old mid new es time m None e n left after h g adds some = absurd h
+goes_cut over version s c last number (Some xs) waiting now old mid new es time m (Some ys) e n None after h g adds some = absurd g
+goes_cut over version s c last number (Some xs) waiting now old mid new es time m (Some ys) e n (Some zs) after h g adds some =
     let more = reads_more version last number (lines xs) es time m (lines ys) e n (lines zs) h (next_event version time m (lines ys) e n (lines zs) g) in
     let all = reads_all version last number (lines xs) (es ++ e ∷ []) e.time n (lines zs) more in
     let rows = some_waits old mid new waiting now (rows_text (added s c es)) (rows_text (react s (c ++ added s c es) e)) adds some in
     cut version s c (es ++ e ∷ []) (read_events version e.time n (lines zs)) _ waiting [] old new all
     (subst (λ (z : List ℕ). AppendsPrefix old new (waiting ++ z)) (sym (rows-more s c es e)) rows)
 
--- ---- the source failed
-
-fault_ends : (version : ℕ) (s : Spec) (c : Trace) (last number : ℕ) (xs : List ℕ) (left : Option (List ℕ)) (waiting now : List ℕ) (old mid new : Option (List ℕ)) (es : List Event) (r : Read) (refused : Option Cause) (result : Status)
-    → read_events version last number (lines xs) ≡ with_events es r
-    → BreaksIn version last number (lines xs) left (record { events = es; refused = refused })
-    → Adds old mid waiting now (rows_text (added s c es)) → Stops now mid new status.ReadFault result
-    → Follows version s c last number (Some xs) left waiting old new result
-fault_ends version s c last number xs left waiting now old mid new es r refused result all breaks adds (inl (is, held)) =
-    let text = rows_text (added s c es) in
-    let whole : Appends old new (waiting ++ text) =
-    subst (Appends old new) (append-nil (waiting ++ text)) (adds_all old mid new waiting now text [] adds (subst (Appends mid new) (sym (append-nil now)) held)) in
-    subst (λ (x : Status). Follows version s c last number (Some xs) left waiting old new x) (sym is)
-    (waiting ++ text, whole, (record { events = es; refused = refused }, breaks, refl))
-fault_ends version s c last number xs left waiting now old mid new es r refused result all breaks adds (inr (is, some)) =
-    subst (λ (x : Status). Follows version s c last number (Some xs) left waiting old new x) (sym is)
-    (cut version s c es r _ waiting [] old new all (adds_stop old mid new waiting now (rows_text (added s c es)) adds some))
-
--- within a line
-breaks_within : (version last number : ℕ) (all : List (List ℕ)) (es : List Event) (time m : ℕ) (ys : List ℕ) (left : Option (List ℕ))
-    → Reads version last number all es time m (lines ys) → TakesPart (Some ys) left → BreaksIn version last number all left (record { events = es; refused = Some no_end })
-breaks_within version last number all es time m ys left h part = record {
-  own = h.own;
-  mid = ys;
-  split = h.split;
-  events =
-      ap (λ (x : List (List ℕ)). read_events version last number x) (sym (append-nil h.own))
-      ∙ h.reads [] ∙ ap (with_events es) (no_line version time m) ∙ none_more es (Some no_end);
-  good = refl;
-  rest = part;
-}
-
--- behind `end`
-breaks_behind : (version last number : ℕ) (all : List (List ℕ)) (es : List Event) (time m : ℕ) (ys mid : List ℕ) (left : Option (List ℕ))
-    → Reads version last number all es time m (lines ys) → lines ys ≡ codes "end" ∷ lines mid → TakesPart (Some mid) left
-    → BreaksIn version last number all left (record { events = es; refused = None })
-breaks_behind version last number all es time m ys mid left h ends part = record {
-  own = h.own ++ codes "end" ∷ [];
-  mid = mid;
-  split = h.split ∙ ap (λ (x : List (List ℕ)). h.own ++ x) ends ∙ sym (append_assoc h.own (codes "end" ∷ []) (lines mid));
-  events = h.reads (codes "end" ∷ []) ∙ ap (with_events es) (end_line version time m) ∙ none_more es None;
-  good = tt;
-  rest = part;
-}
-
-fault_at : (version : ℕ) (s : Spec) (c : Trace) (last number : ℕ) (xs : List ℕ) (waiting now : List ℕ) (old mid new : Option (List ℕ)) (es : List Event) (time m : ℕ) (ys : List ℕ) (left : Option (List ℕ)) (result : Status)
-    → Reads version last number (lines xs) es time m (lines ys) → TakesPart (Some ys) left ⊎ TakesEnd (Some ys) left
-    → Adds old mid waiting now (rows_text (added s c es)) → Stops now mid new status.ReadFault result
-    → Follows version s c last number (Some xs) left waiting old new result
-fault_at version s c last number xs waiting now old mid new es time m ys left result h (inl part) adds stops =
-    fault_ends version s c last number xs left waiting now old mid new es (read_events version time m (lines ys)) (Some no_end) result
-    (reads_all version last number (lines xs) es time m (lines ys) h) (breaks_within version last number (lines xs) es time m ys left h part) adds stops
-fault_at version s c last number xs waiting now old mid new es time m ys None result h (inr ends) adds stops = absurd ends
-fault_at version s c last number xs waiting now old mid new es time m ys (Some zs) result h (inr (between, ends, part)) adds stops =
-    fault_ends version s c last number xs (Some zs) waiting now old mid new es (read_events version time m (lines ys)) None result
-    (reads_all version last number (lines xs) es time m (lines ys) h) (breaks_behind version last number (lines xs) es time m ys between (Some zs) h ends part) adds stops
-
--- an error of the reader
-pub goes_stop : (version : ℕ) (s : Spec) (c : Trace) (last number : ℕ) (known : Option (List ℕ)) (waiting now : List ℕ) (old mid new : Option (List ℕ)) (es : List Event) (time m : ℕ) (rest left : Option (List ℕ)) (e : JournalError) (result : Status)
-    → GoesOn version last number known es time m rest → Refuses (next_part version time m) e rest
-    → (e ≡ error.ReadFault → TakesPart rest left ⊎ TakesEnd rest left) → (e ≡ error.Memory → ⊥)
-    → Adds old mid waiting now (rows_text (added s c es)) → Stops now mid new (status_of e) result
-    → Follows version s c last number known left waiting old new result
-goes_stop version s c last number None waiting now old mid new es time m rest left e result h g amid memory adds stops = tt
-goes_stop version s c last number (Some xs) waiting now old mid new es time m None left e result h g amid memory adds stops = absurd h
-goes_stop version s c last number (Some xs) waiting now old mid new es time m (Some ys) left error.ReadFault result h g amid memory adds stops =
-    fault_at version s c last number xs waiting now old mid new es time m ys left result h (amid refl) adds stops
-goes_stop version s c last number (Some xs) waiting now old mid new es time m (Some ys) left error.Memory result h g amid memory adds stops = absurd (memory refl)
-goes_stop version s c last number (Some xs) waiting now old mid new es time m (Some ys) left error.BadFirstLine result h (cause, is, g) amid memory adds stops =
-    goes_refused version s c last number xs waiting now old mid new es time m ys left cause _ result h is g adds stops
-goes_stop version s c last number (Some xs) waiting now old mid new es time m (Some ys) left (error.BadSetup line why) result h (cause, is, g) amid memory adds stops =
-    goes_refused version s c last number xs waiting now old mid new es time m ys left cause _ result h is g adds stops
-goes_stop version s c last number (Some xs) waiting now old mid new es time m (Some ys) left (error.LineTooLong line) result h (cause, is, g) amid memory adds stops =
-    goes_refused version s c last number xs waiting now old mid new es time m ys left cause _ result h is g adds stops
-goes_stop version s c last number (Some xs) waiting now old mid new es time m (Some ys) left (error.BadLine line why) result h (cause, is, g) amid memory adds stops =
-    goes_refused version s c last number xs waiting now old mid new es time m ys left cause _ result h is g adds stops
-goes_stop version s c last number (Some xs) waiting now old mid new es time m (Some ys) left (error.TimeBack line before own) result h (cause, is, g) amid memory adds stops =
-    goes_refused version s c last number xs waiting now old mid new es time m ys left cause _ result h is g adds stops
-goes_stop version s c last number (Some xs) waiting now old mid new es time m (Some ys) left (error.TimeTooLarge line) result h (cause, is, g) amid memory adds stops =
-    goes_refused version s c last number xs waiting now old mid new es time m ys left cause _ result h is g adds stops
-goes_stop version s c last number (Some xs) waiting now old mid new es time m (Some ys) left error.NoEnd result h (cause, is, g) amid memory adds stops =
-    goes_refused version s c last number xs waiting now old mid new es time m ys left cause _ result h is g adds stops
-goes_stop version s c last number (Some xs) waiting now old mid new es time m (Some ys) left (error.AfterEnd line) result h (cause, is, g) amid memory adds stops =
-    goes_refused version s c last number xs waiting now old mid new es time m ys left cause _ result h is g adds stops
-
 pub no_lf : ¬ Contains {X = ℕ} [] 10
 no_lf h = omega (arith, h.1)
-
--- no more may be taken
-pub goes_full : (version : ℕ) (s : Spec) (c : Trace) (last number : ℕ) (known : Option (List ℕ)) (waiting now : List ℕ) (old mid new : Option (List ℕ)) (es : List Event) (time m : ℕ) (rest : Option (List ℕ)) (result : Status)
-    → GoesOn version last number known es time m rest
-    → Adds old mid waiting now (rows_text (added s c es)) → Stops now mid new status.ReadFault result
-    → Follows version s c last number known rest waiting old new result
-goes_full version s c last number None waiting now old mid new es time m rest result h adds stops = tt
-goes_full version s c last number (Some xs) waiting now old mid new es time m None result h adds stops = absurd h
-goes_full version s c last number (Some xs) waiting now old mid new es time m (Some ys) result h adds stops =
-    fault_at version s c last number xs waiting now old mid new es time m ys (Some ys) result h (inl ([], refl, no_lf)) adds stops
 
 -- ---- small facts
 
@@ -442,53 +348,24 @@ either (inr b) f g = inr (g b)
 
 -- ---- what stands before the events
 
-verdict_unopened : (xs : List ℕ) (cause : Cause) → opening_part version_of 0 (lines xs) ≡ Err cause → verdict xs ≡ bad None cause
+pub verdict_unopened : (xs : List ℕ) (cause : Cause) → opening_part version_of 0 (lines xs) ≡ Err cause → verdict xs ≡ bad None cause
 unfolding verdict verdict_of_lines
 verdict_unopened xs cause h = rw h refl
 
-verdict_unstarted : (xs : List ℕ) (opening : Opening) (n : ℕ) (left : List (List ℕ)) (cause : Cause) → opening_part version_of 0 (lines xs) ≡ Ok (part opening n left) → start_part n left ≡ Err cause
+pub verdict_unstarted : (xs : List ℕ) (opening : Opening) (n : ℕ) (left : List (List ℕ)) (cause : Cause) → opening_part version_of 0 (lines xs) ≡ Ok (part opening n left) → start_part n left ≡ Err cause
     → verdict xs ≡ bad None cause
 unfolding verdict verdict_of_lines
 verdict_unstarted xs opening n left cause h k = rw h (rw k refl)
 
-pub setup_fails : (known new : Option (List ℕ)) (version number : ℕ) (e : JournalError) → Refuses (opening_part version_of 0) e known
-    → (e ≡ error.ReadFault → StopsAmid (opening_part version_of 0) known new) → Opens known new version number (Err e)
-setup_fails None new version number e h amid = tt
-setup_fails (Some xs) new version number error.ReadFault h amid = inr (amid refl)
-setup_fails (Some xs) new version number error.Memory h amid = tt
-setup_fails (Some xs) new version number error.BadFirstLine (cause, is, h) amid = (cause, is, verdict_unopened xs cause h)
-setup_fails (Some xs) new version number (error.BadSetup line why) (cause, is, h) amid = (cause, is, verdict_unopened xs cause h)
-setup_fails (Some xs) new version number (error.LineTooLong line) (cause, is, h) amid = (cause, is, verdict_unopened xs cause h)
-setup_fails (Some xs) new version number (error.BadLine line why) (cause, is, h) amid = (cause, is, verdict_unopened xs cause h)
-setup_fails (Some xs) new version number (error.TimeBack line before own) (cause, is, h) amid = (cause, is, verdict_unopened xs cause h)
-setup_fails (Some xs) new version number (error.TimeTooLarge line) (cause, is, h) amid = (cause, is, verdict_unopened xs cause h)
-setup_fails (Some xs) new version number error.NoEnd (cause, is, h) amid = (cause, is, verdict_unopened xs cause h)
-setup_fails (Some xs) new version number (error.AfterEnd line) (cause, is, h) amid = (cause, is, verdict_unopened xs cause h)
-
-pub start_fails : (known mid new : Option (List ℕ)) (opening : Opening) (n version number : ℕ) (e : JournalError) → Gives (opening_part version_of 0) opening n known mid
-    → Refuses (start_part n) e mid → (e ≡ error.ReadFault → TakesPart mid new) → Opens known new version number (Err e)
-start_fails None mid new opening n version number e g h amid = tt
-start_fails (Some xs) None new opening n version number e g h amid = absurd g
-start_fails (Some xs) (Some ys) new opening n version number error.ReadFault g h amid = inl (record { opening = opening; number = n; mid = ys; read = g; rest = amid refl })
-start_fails (Some xs) (Some ys) new opening n version number error.Memory g h amid = tt
-start_fails (Some xs) (Some ys) new opening n version number error.BadFirstLine g (cause, is, h) amid = (cause, is, verdict_unstarted xs opening n (lines ys) cause g h)
-start_fails (Some xs) (Some ys) new opening n version number (error.BadSetup line why) g (cause, is, h) amid = (cause, is, verdict_unstarted xs opening n (lines ys) cause g h)
-start_fails (Some xs) (Some ys) new opening n version number (error.LineTooLong line) g (cause, is, h) amid = (cause, is, verdict_unstarted xs opening n (lines ys) cause g h)
-start_fails (Some xs) (Some ys) new opening n version number (error.BadLine line why) g (cause, is, h) amid = (cause, is, verdict_unstarted xs opening n (lines ys) cause g h)
-start_fails (Some xs) (Some ys) new opening n version number (error.TimeBack line before own) g (cause, is, h) amid = (cause, is, verdict_unstarted xs opening n (lines ys) cause g h)
-start_fails (Some xs) (Some ys) new opening n version number (error.TimeTooLarge line) g (cause, is, h) amid = (cause, is, verdict_unstarted xs opening n (lines ys) cause g h)
-start_fails (Some xs) (Some ys) new opening n version number error.NoEnd g (cause, is, h) amid = (cause, is, verdict_unstarted xs opening n (lines ys) cause g h)
-start_fails (Some xs) (Some ys) new opening n version number (error.AfterEnd line) g (cause, is, h) amid = (cause, is, verdict_unstarted xs opening n (lines ys) cause g h)
-
 -- ---- the whole
 
-opened_verdict : (xs : List ℕ) (version : ℕ) (setup : Setup) (start number : ℕ) (left : List (List ℕ)) → Opened (lines xs) version setup start number left
+pub opened_verdict : (xs : List ℕ) (version : ℕ) (setup : Setup) (start number : ℕ) (left : List (List ℕ)) → Opened (lines xs) version setup start number left
     → verdict xs ≡ from_read version setup start (read_events version start number left)
 unfolding verdict verdict_of_lines
 opened_verdict xs version setup start number left h = rw h.opening (rw h.begins refl)
 
 -- the report is the opening's rows and what the events add
-report_is : (version : ℕ) (setup : Setup) (start : ℕ) (r : Read)
+pub report_is : (version : ℕ) (setup : Setup) (start : ℕ) (r : Read)
     → report_of (from_read version setup start r) ≡ rows_text (opening setup.spec start) ++ rest_of_report version setup.spec (opening setup.spec start) r
 unfolding rest_of_report trace_of journal_rows journal_last_line
 report_is version setup start r = by_refused r.refused
@@ -512,7 +389,7 @@ status_is j (Some cause) = refl
 after_prefix : (x y : List ℕ) (a b d : Option (List ℕ)) → Appends a b x → AppendsPrefix b d y → AppendsPrefix a d (x ++ y)
 after_prefix x y a b d h k = subst (λ (z : List ℕ). AppendsPrefix a d (x ++ z)) (append-nil y) (prefix_after a b d x y [] h k)
 
-writes_after : (written text : List ℕ) (end : Status) (P Q : List ℕ → Type 0) (old mid new : Option (List ℕ)) (result : Status) → Appends old mid written
+pub writes_after : (written text : List ℕ) (end : Status) (P Q : List ℕ → Type 0) (old mid new : Option (List ℕ)) (result : Status) → Appends old mid written
     → (result ≡ status.ReadFault → (front : List ℕ) → P front → Q (written ++ front)) → IsFollowed result → Writes text end P mid new result → Writes (written ++ text) end Q old new result
 writes_after written text end P Q old mid new status.Ok h f k w = (w.0, Appends-trans old mid new written text h w.1)
 writes_after written text end P Q old mid new status.Usage h f k w = absurd k
@@ -529,39 +406,6 @@ pub journal_rows-is : (version : ℕ) (setup : Setup) (start : ℕ) (es : List E
     → journal_rows (journal_of version setup start es) ≡ rows_text (opening setup.spec start) ++ rows_text (added setup.spec (opening setup.spec start) es)
 unfolding journal_rows trace_of
 journal_rows-is version setup start es = rows_text-append (opening setup.spec start) (added setup.spec (opening setup.spec start) es)
-
-breaks_after : (xs : List ℕ) (version : ℕ) (setup : Setup) (start number : ℕ) (ys : List ℕ) (ahead : List ℕ) (left : Option (List ℕ)) (given : ℕ) (written waiting front : List ℕ)
-    → Opened (lines xs) version setup start number (lines ys) → rows_text (opening setup.spec start) ≡ written ++ waiting → length ahead ≡ given - most_taken
-    → BreaksFollowing version setup.spec (opening setup.spec start) start number ys (prepend_known ahead left) waiting front
-    → BreaksBeyond xs left given (written ++ front)
-breaks_after xs version setup start number ys ahead left given written waiting front h rows beyond (read, breaks, is) =
-    let j : Journal = journal_of version setup start read.events in
-    let amid : BreaksAmid (lines xs) (prepend_known ahead left) j =
-    record { number = h.at; after = h.after; begun = number; more = lines ys; refused = read.refused; opening = h.opening; start = h.begins; breaks = breaks } in
-    let more = rows_text (added setup.spec (opening setup.spec start) read.events) in
-    let text : written ++ front ≡ journal_rows j =
-    ap (λ (z : List ℕ). written ++ z) is ∙ sym (append_assoc written waiting more) ∙ ap (λ (z : List ℕ). z ++ more) (sym rows) ∙ sym (journal_rows-is version setup start read.events) in
-    (ahead, beyond, inl (j, amid, text))
-
-pub journal_follows : (known rest left : Option (List ℕ)) (ahead : List ℕ) (given version : ℕ) (setup : Setup) (start number : ℕ) (old mid new : Option (List ℕ)) (waiting : List ℕ) (result : Status)
-    → Opens known rest version number (Ok (setup, start)) → Adds old mid [] waiting (rows_text (opening setup.spec start))
-    → Follows version setup.spec (opening setup.spec start) start number rest (prepend_known ahead left) waiting mid new result → IsFollowed result
-    → (result ≡ status.ReadFault → length ahead ≡ given - most_taken) → Replays known left given old new result
-journal_follows None rest left ahead given version setup start number old mid new waiting result h adds follows followed beyond = tt
-journal_follows (Some xs) None left ahead given version setup start number old mid new waiting result h adds follows followed beyond = absurd h
-journal_follows (Some xs) (Some ys) left ahead given version setup start number old mid new waiting result h adds follows followed beyond =
-    let s = setup.spec in
-    let c = opening s start in
-    let r = read_events version start number (lines ys) in
-    let P : Verdict → Type 0 = λ v. Writes (report_of v) (status_by (refusal_of v)) (BreaksBeyond xs left given) old new result in
-    let text : adds.written ++ (waiting ++ rest_of_report version s c r) ≡ report_of (from_read version setup start r) =
-    sym (append_assoc adds.written waiting (rest_of_report version s c r)) ∙ ap (λ (z : List ℕ). z ++ rest_of_report version s c r) (sym adds.all) ∙ sym (report_is version setup start r) in
-    let end : status_by r.refused ≡ status_by (refusal_of (from_read version setup start r)) = sym (status_is (journal_of version setup start r.events) r.refused) in
-    let all = writes_after adds.written _ _ _ (BreaksBeyond xs left given) old mid new result adds.held
-    (λ fault front breaks. breaks_after xs version setup start number ys ahead left given adds.written waiting front h adds.all (beyond fault) breaks) followed follows in
-    subst P (sym (opened_verdict xs version setup start number (lines ys) h))
-    (subst (λ (z : List ℕ). Writes z (status_by (refusal_of (from_read version setup start r))) (BreaksBeyond xs left given) old new result) text
-    (subst (λ (x : Status). Writes (adds.written ++ (waiting ++ rest_of_report version s c r)) x (BreaksBeyond xs left given) old new result) end all))
 
 -- the opening's rows were not all written
 pub journal_cut : (known rest left : Option (List ℕ)) (given version : ℕ) (setup : Setup) (start number : ℕ) (old new : Option (List ℕ))

@@ -1,5 +1,5 @@
 -- What replaying a journal writes, and how it ends.
-use Rattle.std.specs.Prelude.{◌≡◌, ◌⊎◌, ℕ, ◌+◌, ◌-◌, ◌++◌, ◌≤◌, List, [], length, Option, None, Some, Result, Ok, Err, ⊤}
+use Rattle.std.specs.Prelude.{◌≡◌, ◌⊎◌, ℕ, ◌+◌, ◌-◌, ◌++◌, ◌≤◌, Bool, true, false, List, [], length, Option, None, Some, Result, Ok, Err, ⊤}
 use Rattle.std.specs.Io.KnownBytes.{Appends, prepend_known}
 use Rattle.kn_event.specs.declared.entry.Entry.{Entry}
 use Rattle.kn_event.specs.declared.revision.Spec.{Spec}
@@ -17,11 +17,11 @@ use Rattle.kn_journal.specs.declared.journal.Setup.{Setup}
 use Rattle.kn_journal.specs.declared.status.Status.{Status}
 use Rattle.kn_journal.specs.declared.status.Status.TheVariants as status
 use Rattle.kn_journal.specs.Causes.{Cause, error_of, no_end}
-use Rattle.kn_journal.specs.Journal.{Read, Verdict, bad, good, opening_part, read_events, start_part, verdict, verdict_of_lines, version_of}
+use Rattle.kn_journal.specs.Journal.{Read, Verdict, bad, good, opening_part, read_events, start_part, verdict, verdict_of_lines, verdict_on, version_of}
 use Rattle.kn_journal.specs.Lines.{lines}
 use Rattle.kn_journal.specs.Parts.{part}
-use Rattle.kn_journal.specs.Reading.{TakesPart, most_taken}
-use Rattle.kn_journal.specs.Telling.{IsLineFault, StopsAmid, refused_line}
+use Rattle.kn_journal.specs.Reading.{AreWhole, EndsWithLf, TakesPart, most_taken}
+use Rattle.kn_journal.specs.Telling.{IsLineFault, refused_line}
 use Rattle.kn_replay.specs.Report.{journal_rows, report_of}
 use Rattle.kn_replay.specs.Tally.{Counted}
 
@@ -59,45 +59,35 @@ Writes text end Breaks old new status.WriteFault = AppendsPrefix old new text
 Writes text end Breaks old new status.Memory = Appends old new []
 Writes text end Breaks old new result = (result ≡ end) × Appends old new text
 
--- ---- where the source failed: of the bytes taken, the lines that ended are all good, and no LF stands behind them
+-- ---- where the source failed: of the bytes taken, the lines that ended with LF are all good, and no LF stands behind them
 
 abbrev pub IsGoodSoFar : Option Cause → Type 0
 IsGoodSoFar None = ⊤
 IsGoodSoFar (Some cause) = cause ≡ no_end
 
--- these events ended before it
-pub record BreaksIn (version last number : ℕ) (all : List (List ℕ)) (left : Option (List ℕ)) (read : Read) : Type 0 where
-  pub own : List (List ℕ)
+-- they are this journal, maybe but for its end
+pub record BreaksAmid (xs : List ℕ) (left : Option (List ℕ)) (j : Journal) : Type 0 where
+  pub bytes : List ℕ
   pub mid : List ℕ
-  pub split : all ≡ own ++ lines mid
-  pub events : read_events version last number own ≡ read
-  pub good : IsGoodSoFar read.refused
+  pub split : xs ≡ bytes ++ mid
+  pub ended : EndsWithLf bytes
+  pub refused : Option Cause
+  pub reads : verdict bytes ≡ verdict_on j refused
+  pub good : IsGoodSoFar refused
   pub rest : TakesPart (Some mid) left
 
--- a start was read, and behind it lines of which these events were read
-pub record BreaksAmid (all : List (List ℕ)) (left : Option (List ℕ)) (j : Journal) : Type 0 where
-  pub number : ℕ
-  pub after : List (List ℕ)
-  pub begun : ℕ
-  pub more : List (List ℕ)
-  pub refused : Option Cause
-  pub opening : opening_part version_of 0 all ≡ Ok (part (record { version = j.version; setup = j.setup }) number after)
-  pub start : start_part number after ≡ Ok (part j.start begun more)
-  pub breaks : BreaksIn j.version j.start begun more left (record { events = j.events; refused = refused })
-
--- a setup was read, and behind it no line
-pub record BreaksBefore (all : List (List ℕ)) (left : Option (List ℕ)) : Type 0 where
-  pub opening : Opening
-  pub number : ℕ
+-- no start is among them, nor in a line that the end of the input ended
+pub record BreaksBefore (xs : List ℕ) (left : Option (List ℕ)) : Type 0 where
+  pub bytes : List ℕ
   pub mid : List ℕ
-  pub read : opening_part version_of 0 all ≡ Ok (part opening number (lines mid))
+  pub split : xs ≡ bytes ++ mid
+  pub whole : AreWhole bytes mid
+  pub reads : verdict bytes ≡ bad None no_end
   pub rest : TakesPart (Some mid) left
 
 -- what was written then: the rows of the journal's events, or nothing where its start had not ended
 abbrev pub Breaks : List ℕ → Option (List ℕ) → List ℕ → Type 0
-Breaks xs left front =
-    ((j : Journal) × BreaksAmid (lines xs) left j × (front ≡ journal_rows j))
-    ⊎ ((front ≡ []) × (BreaksBefore (lines xs) left ⊎ StopsAmid (opening_part version_of 0) (Some xs) left))
+Breaks xs left front = ((j : Journal) × BreaksAmid xs left j × (front ≡ journal_rows j)) ⊎ ((front ≡ []) × BreaksBefore xs left)
 
 -- so many bytes were given, and all of them taken but those beyond 2^56
 abbrev pub BreaksBeyond : List ℕ → Option (List ℕ) → ℕ → List ℕ → Type 0
@@ -156,16 +146,32 @@ ending version c events (Some cause) = []
 unfoldable pub rest_of_report : ℕ → Spec → Trace → Read → List ℕ
 rest_of_report version s c r = rows_text (added s c r.events) ++ ending version (c ++ added s c r.events) (length r.events) r.refused
 
-abbrev pub BreaksFollowing : ℕ → Spec → Trace → ℕ → ℕ → List ℕ → Option (List ℕ) → List ℕ → List ℕ → Type 0
-BreaksFollowing version s c last number xs left waiting front =
-    (read : Read) × BreaksIn version last number (lines xs) left read × (front ≡ waiting ++ rows_text (added s c read.events))
+-- where the input said its end, nothing of it is unread
+abbrev pub IsOver : Bool → Option (List ℕ) → Type 0
+IsOver cut None = ⊤
+IsOver true (Some xs) = xs ≡ []
+IsOver false (Some xs) = ⊤
 
--- what waits, and what the events in these bytes add
-abbrev pub Follows : ℕ → Spec → Trace → ℕ → ℕ → Option (List ℕ) → Option (List ℕ) → List ℕ → Option (List ℕ) → Option (List ℕ) → Status → Type 0
-Follows version s c last number None left waiting old new result = ⊤
-Follows version s c last number (Some xs) left waiting old new result =
+-- where the source failed: these events ended before it, or none behind a line that wasn't cut
+pub record BreaksIn (cut : Bool) (version last number : ℕ) (xs : List ℕ) (left : Option (List ℕ)) (read : Read) : Type 0 where
+  pub bytes : List ℕ
+  pub mid : List ℕ
+  pub split : xs ≡ bytes ++ mid
+  pub ended : ((bytes ≡ []) × (cut ≡ false)) ⊎ EndsWithLf bytes
+  pub events : read_events version last number (lines bytes) ≡ read
+  pub good : IsGoodSoFar read.refused
+  pub rest : TakesPart (Some mid) left
+
+abbrev pub BreaksFollowing : Bool → ℕ → Spec → Trace → ℕ → ℕ → List ℕ → Option (List ℕ) → List ℕ → List ℕ → Type 0
+BreaksFollowing cut version s c last number xs left waiting front =
+    (read : Read) × BreaksIn cut version last number xs left read × (front ≡ waiting ++ rows_text (added s c read.events))
+
+-- what waits, and what the events in these bytes add, which stand behind a line that was cut or not
+abbrev pub Follows : Bool → ℕ → Spec → Trace → ℕ → ℕ → Option (List ℕ) → Option (List ℕ) → List ℕ → Option (List ℕ) → Option (List ℕ) → Status → Type 0
+Follows cut version s c last number None left waiting old new result = ⊤
+Follows cut version s c last number (Some xs) left waiting old new result =
     let r = read_events version last number (lines xs) in
-    Writes (waiting ++ rest_of_report version s c r) (status_by r.refused) (BreaksFollowing version s c last number xs left waiting) old new result
+    Writes (waiting ++ rest_of_report version s c r) (status_by r.refused) (BreaksFollowing cut version s c last number xs left waiting) old new result
 
 -- of the lines behind a start, which is in the line of this number
 abbrev pub FollowsBehind : ℕ → ℕ → ℕ → Status → Option (List ℕ) → Option (List ℕ) → Type 0
@@ -199,7 +205,7 @@ pub record Opened (all : List (List ℕ)) (version : ℕ) (setup : Setup) (start
 
 -- why there is none
 abbrev pub FailsToOpen : List ℕ → Option (List ℕ) → JournalError → Type 0
-FailsToOpen xs left error.ReadFault = BreaksBefore (lines xs) left ⊎ StopsAmid (opening_part version_of 0) (Some xs) left
+FailsToOpen xs left error.ReadFault = BreaksBefore xs left
 FailsToOpen xs left error.Memory = ⊤
 FailsToOpen xs left e = (cause : Cause) × (error_of cause ≡ e) × (verdict xs ≡ bad None cause)
 

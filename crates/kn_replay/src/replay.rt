@@ -7,11 +7,11 @@ ghost use Rattle.kn_trace.specs.Trace.{Trace};
 ghost use Rattle.kn_trace.specs.Events.{opening, react};
 ghost use Rattle.kn_trace.specs.Report.{last_line, rows_text, totals};
 ghost use Rattle.kn_core.specs.State.{StandsFor};
-ghost use Rattle.kn_journal.specs.Reading.{IsBalanced, IsSpent, TakesPart, most_taken, unread};
+ghost use Rattle.kn_journal.specs.Reading.{IsBalanced, IsSpent, TakesPart, TakesText, most_taken, unread};
 ghost use Rattle.kn_journal.specs.Journal.{next_part, time_most};
-ghost use Rattle.kn_journal.specs.Telling.{IsLineFault, LeavesRest, OnEvent, TakesEnd, Tells};
+ghost use Rattle.kn_journal.specs.Telling.{Gives, IsLineFault, LeavesRest, OnEvent, Refuses, TakesEnd};
 ghost use Rattle.kn_replay.specs.Cutting.{FollowsCut, LeavesCut};
-ghost use Rattle.kn_replay.specs.Replaying.{EndsThere, Follows, FollowsBehind, IsBehind, IsFollowed, IsRefusal, IsReplayed, LeavesBehind, Opens, Replays, Stops, status_of};
+ghost use Rattle.kn_replay.specs.Replaying.{EndsThere, Follows, FollowsBehind, IsBehind, IsFollowed, IsOver, IsRefusal, IsReplayed, LeavesBehind, Opens, Replays, Stops, status_of};
 ghost use Rattle.kn_replay.specs.Waiting.{Adds};
 
 use crate::report::Tally;
@@ -185,7 +185,8 @@ impl Replay {
         self.waiting.flush(out)
     }
 
-    /// Reads the next event. What waits is written before the source may be read; `Failed` says that this failed.
+    /// Reads the next event. What waits is written before the source may be read; `Failed` says that this failed. A source that
+    /// said its end isn't read again.
     #[inline(always)]
     fn next<S: Source, O: Sink>(
         &mut self,
@@ -193,7 +194,8 @@ impl Replay {
         source: &mut S,
         out: &mut O,
     ) -> Result<Result<Option<Event>, JournalError>, Failed>
-        requires { reader.old.failed ≡ None }
+        requires good { reader.old.failed ≡ None }
+        requires few { reader.old.input.taken ≤ most_taken }
         ensures adds { OnOk result (Adds (O.held out.old) (O.held out.new) self.old.waiting self.new.waiting []) }
         ensures failed { OnErr result (AppendsPrefix (O.held out.old) (O.held out.new) self.old.waiting) }
         ensures still { OnErr result ((reader.new ≡ reader.old) × (source.new ≡ source.old)) }
@@ -201,7 +203,10 @@ impl Replay {
         ensures fits { length self.new.waiting ≤ 65536 }
         ensures revision { self.new.revision ≡ self.old.revision }
         ensures counted { self.new.counted ≡ self.old.counted }
-        ensures tells { IfOk result (λ read. Tells (next_part reader.old.version reader.old.last reader.old.number) reader.new.number (unread reader.old.input (S.left source.old)) (unread reader.new.input (S.left source.new)) read) }
+        ensures gives { IfOk result (λ read. IfOk read (λ found. Gives (next_part reader.old.version reader.old.last reader.old.number) found reader.new.number (unread reader.old.input (S.left source.old)) (unread reader.new.input (S.left source.new)))) }
+        ensures refuses { IfOk result (λ read. IfErr read (λ e. IsOver reader.old.cut (unread reader.old.input (S.left source.old)) → Refuses (next_part reader.old.version reader.old.last reader.old.number) e (unread reader.old.input (S.left source.old)))) }
+        ensures text { IfOk result (λ read. OnEvent read (λ e. TakesText reader.new.cut (unread reader.old.input (S.left source.old)) (unread reader.new.input (S.left source.new)))) }
+        ensures uncut { IfOk result (λ read. read ≡ Err JournalError.ReadFault → reader.old.cut ≡ false) }
         ensures rest { IfOk result (λ read. IfErr read (λ e. IsLineFault e → LeavesRest (next_part reader.old.version reader.old.last reader.old.number) reader.old.number None e (unread reader.old.input (S.left source.old)) (unread reader.new.input (S.left source.new)))) }
         ensures order { IfOk result (λ read. OnEvent read (λ e. reader.old.last ≤ e.time)) }
         ensures times { IfOk result (λ read. OnEvent read (λ e. e.time ≤ time_most)) }
@@ -225,9 +230,13 @@ impl Replay {
             None => {}
         }
         match self.write_unless(reader.holds_line(), out) {
-            Ok(()) => Ok(reader.next(source)),
-            Err(Failed) => Err(Failed),
+            Ok(()) => {}
+            Err(Failed) => return Err(Failed),
         }
+        if reader.is_cut() {
+            return Ok(Err(JournalError::NoEnd));
+        }
+        Ok(reader.next(source))
     }
 
     /// Writes what waits, and answers the status, or that this failed.
@@ -270,11 +279,11 @@ impl Replay {
         requires events { self.old.revision.events ≡ 0 }
         requires rows { self.old.counted.rows < 2 ^ 64 }
         requires few { reader.old.input.taken ≤ most_taken }
-        ensures follows { (c : Trace) → StandsFor self.old.revision c → self.old.counted.totals ≡ totals c →
-            Follows reader.old.version self.old.revision.spec c reader.old.last reader.old.number (unread reader.old.input (S.left source.old)) (unread reader.new.input (S.left source.new)) self.old.waiting (O.held out.old) (O.held out.new) result }
+        ensures follows { (c : Trace) → StandsFor self.old.revision c → self.old.counted.totals ≡ totals c → IsOver reader.old.cut (unread reader.old.input (S.left source.old)) →
+            Follows reader.old.cut reader.old.version self.old.revision.spec c reader.old.last reader.old.number (unread reader.old.input (S.left source.old)) (unread reader.new.input (S.left source.new)) self.old.waiting (O.held out.old) (O.held out.new) result }
         ensures rest { (c : Trace) → StandsFor self.old.revision c → self.old.counted.totals ≡ totals c → IsRefusal result →
             FollowsBehind reader.old.version reader.old.last reader.old.number result (unread reader.old.input (S.left source.old)) (unread reader.new.input (S.left source.new)) }
-        ensures cut { (c : Trace) → StandsFor self.old.revision c → self.old.counted.totals ≡ totals c → result ≡ Status.WriteFault →
+        ensures cut { (c : Trace) → StandsFor self.old.revision c → self.old.counted.totals ≡ totals c → IsOver reader.old.cut (unread reader.old.input (S.left source.old)) → result ≡ Status.WriteFault →
             FollowsCut reader.old.version self.old.revision.spec c reader.old.last reader.old.number (unread reader.old.input (S.left source.old)) (unread reader.new.input (S.left source.new)) self.old.waiting (O.held out.old) (O.held out.new) }
         ensures followed { IsFollowed result }
         ensures ended { result ≡ Status.Ok → EndsThere (unread reader.old.input (S.left source.old)) (unread reader.new.input (S.left source.new)) }
@@ -319,6 +328,7 @@ fn open<S: Source>(
     requires number { reader.old.number ≡ 0 }
     ensures opens { Opens (unread reader.old.input (S.left source.old)) (unread reader.new.input (S.left source.new)) reader.new.version reader.new.number result }
     ensures rest { IfErr result (λ e. IsRefusal (status_of e) → IsBehind (status_of e) (unread reader.old.input (S.left source.old)) (unread reader.new.input (S.left source.new))) }
+    ensures text { OnOk result (TakesText reader.new.cut (unread reader.old.input (S.left source.old)) (unread reader.new.input (S.left source.new))) }
     ensures start { IfOk result (λ parts. reader.new.last ≡ parts.1) }
     ensures most { IfOk result (λ parts. parts.1 ≤ time_most) }
     ensures good { OnOk result (reader.new.failed ≡ None) }

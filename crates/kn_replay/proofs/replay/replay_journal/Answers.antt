@@ -5,13 +5,14 @@ use Rattle.kn_trace.specs.Events.{opening}
 use Rattle.kn_core.specs.State.{RevisionState, StandsFor}
 use Rattle.kn_journal.specs.declared.error.JournalError.{JournalError}
 use Rattle.kn_journal.specs.declared.status.Status.{Status}
-use Rattle.kn_journal.specs.Reading.{unread}
+use Rattle.kn_journal.specs.Reading.{TakesText, unread}
 use Rattle.kn_replay.specs.Cutting.{FollowsCut}
-use Rattle.kn_replay.specs.Replaying.{Follows, FollowsBehind, IsBehind, IsRefusal, Opens, status_of}
+use Rattle.kn_replay.specs.Replaying.{Follows, FollowsBehind, IsBehind, IsOver, IsRefusal, Opens, status_of}
 use Rattle.kn_replay.specs.Tally.{Counted}
 use Rattle.kn_replay.proofs.Behind.{journal_behind}
 use Rattle.kn_replay.proofs.Cuts.{journal_follows_cut, opening_cut}
-use Rattle.kn_replay.proofs.Replays.{IsMemory, IsWriteFault, beyond_is, either, ends_left, ends_opened, fault_of, followed_replayed, journal_cut, journal_fails, journal_follows, journal_memory, never_memory, never_ok, no_write_fault, nothing_ahead, rose_on}
+use Rattle.kn_replay.proofs.Faults.{journal_follows}
+use Rattle.kn_replay.proofs.Replays.{IsMemory, IsWriteFault, beyond_is, either, ends_left, ends_opened, fault_of, followed_replayed, journal_cut, journal_fails, journal_memory, never_memory, never_ok, no_write_fault, nothing_ahead, rose_on}
 use Rattle.kn_replay.proofs.replay.replay_journal.Goals as goal
 
 pub returns-in-Err-clause-report : goal.returns-in-Err-clause-report
@@ -192,10 +193,11 @@ returns-clause-report g c =
     let stands = subst (λ (r : RevisionState). StandsFor r begun) (sym c.put_rows.ensures.revision) c.in-Ok-new.ensures.stands in
     let counts = ap (λ (n : Counted). n.totals) c.put_rows.ensures.counted ∙ c.in-Ok-new.ensures.totals in
     let spec = ap (λ (r : RevisionState). r.spec) c.put_rows.ensures.revision ∙ c.in-Ok-new.ensures.spec in
-    let one = subst (λ (s : Spec). Follows c.open.new.reader.version s begun c.open.new.reader.last c.open.new.reader.number left rest c.put_rows.new.self.waiting (g.O.Sink.held c.put_rows.new.out) (g.O.Sink.held c.follow-status.new.out) c.follow-status.result) spec (c.follow-status.ensures.follows begun stands counts) in
-    let follows = subst (λ (n : ℕ). Follows c.open.new.reader.version c.in-Ok-open.parts.0.spec begun n c.open.new.reader.number left rest c.put_rows.new.self.waiting (g.O.Sink.held c.put_rows.new.out) (g.O.Sink.held c.follow-status.new.out) c.follow-status.result) c.in-Ok-open.ensures.start one in
+    let text = subst (λ (x : Option (List ℕ)). TakesText c.open.new.reader.cut x left) start c.in-Ok-open.ensures.text in
+    let one = subst (λ (s : Spec). IsOver c.open.new.reader.cut left → Follows c.open.new.reader.cut c.open.new.reader.version s begun c.open.new.reader.last c.open.new.reader.number left rest c.put_rows.new.self.waiting (g.O.Sink.held c.put_rows.new.out) (g.O.Sink.held c.follow-status.new.out) c.follow-status.result) spec (c.follow-status.ensures.follows begun stands counts) in
+    let follows = subst (λ (n : ℕ). IsOver c.open.new.reader.cut left → Follows c.open.new.reader.cut c.open.new.reader.version c.in-Ok-open.parts.0.spec begun n c.open.new.reader.number left rest c.put_rows.new.self.waiting (g.O.Sink.held c.put_rows.new.out) (g.O.Sink.held c.follow-status.new.out) c.follow-status.result) c.in-Ok-open.ensures.start one in
     let adds = rw (c.in-Ok-new.ensures.waiting, c.in-Ok-new.ensures.log) at c.in-Ok-put_rows.ensures.ok in
-    journal_follows (g.S.Source.left c.args.source.now) left (g.S.Source.left c.follow-status.new.source) c.follow-status.new.reader.input.ahead (g.S.Source.given c.follow-status.new.source - g.S.Source.given c.args.source.now) c.open.new.reader.version c.in-Ok-open.parts.0 c.in-Ok-open.parts.1 c.open.new.reader.number (g.O.Sink.held c.args.out.now) (g.O.Sink.held c.put_rows.new.out) (g.O.Sink.held c.follow-status.new.out) c.put_rows.new.self.waiting c.follow-status.result opens adds follows c.follow-status.ensures.followed
+    journal_follows (g.S.Source.left c.args.source.now) left (g.S.Source.left c.follow-status.new.source) c.open.new.reader.cut c.follow-status.new.reader.input.ahead (g.S.Source.given c.follow-status.new.source - g.S.Source.given c.args.source.now) c.open.new.reader.version c.in-Ok-open.parts.0 c.in-Ok-open.parts.1 c.open.new.reader.number (g.O.Sink.held c.args.out.now) (g.O.Sink.held c.put_rows.new.out) (g.O.Sink.held c.follow-status.new.out) c.put_rows.new.self.waiting c.follow-status.result c.openings_are_whole.ensures.opening c.openings_are_whole.ensures.start opens text adds follows c.follow-status.ensures.followed
     (λ is. beyond_is c.follow-status.new.reader.input _ (omega (arith, c.open.ensures.balance, c.follow-status.ensures.balance, c.in-Ok.ensures.taken, ap length c.in-Ok.ensures.ahead)) (c.follow-status.ensures.spent is))
 
 pub returns-clause-replayed : goal.returns-clause-replayed
@@ -233,12 +235,13 @@ returns-clause-cut g c is =
     let stands = subst (λ (r : RevisionState). StandsFor r begun) (sym c.put_rows.ensures.revision) c.in-Ok-new.ensures.stands in
     let counts = ap (λ (n : Counted). n.totals) c.put_rows.ensures.counted ∙ c.in-Ok-new.ensures.totals in
     let spec = ap (λ (r : RevisionState). r.spec) c.put_rows.ensures.revision ∙ c.in-Ok-new.ensures.spec in
-    let one = subst (λ (s : Spec). FollowsCut c.open.new.reader.version s begun c.open.new.reader.last c.open.new.reader.number left rest c.put_rows.new.self.waiting (g.O.Sink.held c.put_rows.new.out) (g.O.Sink.held c.follow-status.new.out)) spec (c.follow-status.ensures.cut begun stands counts is) in
-    let cut = subst (λ (n : ℕ). FollowsCut c.open.new.reader.version c.in-Ok-open.parts.0.spec begun n c.open.new.reader.number left rest c.put_rows.new.self.waiting (g.O.Sink.held c.put_rows.new.out) (g.O.Sink.held c.follow-status.new.out)) c.in-Ok-open.ensures.start one in
+    let text = subst (λ (x : Option (List ℕ)). TakesText c.open.new.reader.cut x left) start c.in-Ok-open.ensures.text in
+    let one = subst (λ (s : Spec). IsOver c.open.new.reader.cut left → FollowsCut c.open.new.reader.version s begun c.open.new.reader.last c.open.new.reader.number left rest c.put_rows.new.self.waiting (g.O.Sink.held c.put_rows.new.out) (g.O.Sink.held c.follow-status.new.out)) spec (λ over. c.follow-status.ensures.cut begun stands counts over is) in
+    let cut = subst (λ (n : ℕ). IsOver c.open.new.reader.cut left → FollowsCut c.open.new.reader.version c.in-Ok-open.parts.0.spec begun n c.open.new.reader.number left rest c.put_rows.new.self.waiting (g.O.Sink.held c.put_rows.new.out) (g.O.Sink.held c.follow-status.new.out)) c.in-Ok-open.ensures.start one in
     let adds = rw (c.in-Ok-new.ensures.waiting, c.in-Ok-new.ensures.log) at c.in-Ok-put_rows.ensures.ok in (
       c.follow-status.new.reader.input.ahead,
       c.ahead_len-few-2.ensures.most,
-      journal_follows_cut (g.S.Source.left c.args.source.now) left rest c.open.new.reader.version c.in-Ok-open.parts.0 c.in-Ok-open.parts.1 c.open.new.reader.number c.put_rows.new.self.waiting (g.O.Sink.held c.args.out.now) (g.O.Sink.held c.put_rows.new.out) (g.O.Sink.held c.follow-status.new.out) c.openings_are_whole.ensures.opening c.openings_are_whole.ensures.start opens adds cut,
+      journal_follows_cut (g.S.Source.left c.args.source.now) left rest c.open.new.reader.cut c.open.new.reader.version c.in-Ok-open.parts.0 c.in-Ok-open.parts.1 c.open.new.reader.number c.put_rows.new.self.waiting (g.O.Sink.held c.args.out.now) (g.O.Sink.held c.put_rows.new.out) (g.O.Sink.held c.follow-status.new.out) c.openings_are_whole.ensures.opening c.openings_are_whole.ensures.start opens text adds cut,
     )
 
 pub returns-clause-memory : goal.returns-clause-memory

@@ -13,10 +13,11 @@ use Rattle.kn_replay.specs.Replaying.{status_of}
 use Rattle.kn_replay.specs.Tally.{Counted}
 use Rattle.kn_replay.specs.Waiting.{Adds}
 use Rattle.kn_replay.proofs.Cuts.{cut_event, cut_full, cut_good, cut_stop, stop_cut}
+use Rattle.kn_replay.proofs.Faults.{goes_stop, goes_unwritten, read_begin, read_more}
 use Rattle.kn_replay.proofs.Behind.{goes_behind, stop_refused, stop_unrefused}
 use Rattle.kn_replay.proofs.Pieces.{rows_text-nil}
 use Rattle.kn_replay.proofs.Waits.{adds_nothing, adds_on, adds_trans}
-use Rattle.kn_replay.proofs.Replays.{IsWriteFault, added-nil, either, ends_there, fault_of, followed_of, goes_begin, goes_cut, goes_full, goes_good, goes_more, goes_stop, no_write_fault, rose_on, rows-more, still_begin, still_more, stop_followed, stop_reads, trace-more}
+use Rattle.kn_replay.proofs.Replays.{IsWriteFault, added-nil, either, ends_there, fault_of, followed_of, goes_begin, goes_cut, goes_good, goes_more, no_write_fault, rose_on, rows-more, still_begin, still_more, stop_followed, stop_reads, trace-more}
 use Rattle.kn_replay.proofs.replay.Replay.follow.Goals as goal
 
 pub loop-count-init : goal.loop-count-init
@@ -32,6 +33,7 @@ loop-count-init g c = record {
         subst (Adds (g.O.Sink.held c.args.out.now) (g.O.Sink.held c.args.out.now) c.args.self.now.waiting c.args.self.now.waiting) (sym text) (adds_nothing (g.O.Sink.held c.args.out.now) c.args.self.now.waiting),
         goes_begin c.args.reader.now.version c.args.reader.now.last c.args.reader.now.number (unread c.args.reader.now.input (g.S.Source.left c.args.source.now)),
       );
+  bytes = λ over. read_begin c.args.reader.now.cut (unread c.args.reader.now.input (g.S.Source.left c.args.source.now)) over;
   still = still_begin _;
   spec = refl;
   good = c.requires.good;
@@ -48,17 +50,17 @@ loop-count-init g c = record {
 }
 
 pub returns-in-Err-clause-follows : goal.returns-in-Err-clause-follows
-returns-in-Err-clause-follows g c d stands counts =
+returns-in-Err-clause-follows g c d stands counts over =
     let on = c.loop-count.invariant.on d stands counts in
     rw (c.in-Err.ensures.still.0, c.in-Err.ensures.still.1)
-    (goes_full c.args.reader.now.version c.args.self.now.revision.spec d c.args.reader.now.last c.args.reader.now.number (unread c.args.reader.now.input (g.S.Source.left c.args.source.now)) c.args.self.now.waiting c.loop-count.self.waiting (g.O.Sink.held c.args.out.now) (g.O.Sink.held c.loop-count.out) (g.O.Sink.held c.next.new.out) on.0 c.loop-count.reader.last c.loop-count.reader.number (unread c.loop-count.reader.input (g.S.Source.left c.loop-count.source)) status.WriteFault
-    on.5 on.4 (inr (refl, c.in-Err.ensures.failed)))
+    (goes_unwritten c.args.reader.now.cut c.args.reader.now.version c.args.self.now.revision.spec d c.args.reader.now.last c.args.reader.now.number (unread c.args.reader.now.input (g.S.Source.left c.args.source.now)) c.args.self.now.waiting c.loop-count.self.waiting (g.O.Sink.held c.args.out.now) (g.O.Sink.held c.loop-count.out) (g.O.Sink.held c.next.new.out) on.0 c.loop-count.reader.last c.loop-count.reader.number (unread c.loop-count.reader.input (g.S.Source.left c.loop-count.source))
+    on.5 on.4 c.in-Err.ensures.failed)
 
 pub returns-in-Err-clause-rest : goal.returns-in-Err-clause-rest
 returns-in-Err-clause-rest g c d stands counts refused = absurd refused
 
 pub returns-in-Err-clause-cut : goal.returns-in-Err-clause-cut
-returns-in-Err-clause-cut g c d stands counts fault =
+returns-in-Err-clause-cut g c d stands counts over fault =
     let on = c.loop-count.invariant.on d stands counts in
     rw (c.in-Err.ensures.still.0, c.in-Err.ensures.still.1)
     (cut_full c.args.reader.now.version c.args.self.now.revision.spec d c.args.reader.now.last c.args.reader.now.number (unread c.args.reader.now.input (g.S.Source.left c.args.source.now)) c.args.self.now.waiting c.loop-count.self.waiting (g.O.Sink.held c.args.out.now) (g.O.Sink.held c.loop-count.out) (g.O.Sink.held c.next.new.out) on.0 c.loop-count.reader.last c.loop-count.reader.number (unread c.loop-count.reader.input (g.S.Source.left c.loop-count.source))
@@ -77,24 +79,24 @@ pub returns-in-Err-clause-out_never_falls : goal.returns-in-Err-clause-out_never
 returns-in-Err-clause-out_never_falls g c = omega (arith, c.loop-count.invariant.write, c.next.ensures.cause.never_falls)
 
 pub returns-in-None-clause-follows : goal.returns-in-None-clause-follows
-returns-in-None-clause-follows g c d stands counts =
+returns-in-None-clause-follows g c d stands counts over =
     let kept = c.loop-count.invariant in
     let on = kept.on d stands counts in
     let adds = adds_on (g.O.Sink.held c.args.out.now) (g.O.Sink.held c.loop-count.out) (g.O.Sink.held c.next.new.out) c.args.self.now.waiting c.loop-count.self.waiting c.next.new.self.waiting (rows_text (added c.args.self.now.revision.spec d on.0)) on.4 c.in-Ok.ensures.adds in
     let version : c.version.result ≡ c.args.reader.now.version = c.version.ensures ∙ c.next.ensures.version ∙ kept.version in
-    let gives = rw (c.in-Ok-read.is, c.in-None.is, kept.version) at c.in-Ok.ensures.tells in
-    goes_good c.args.reader.now.version c.args.self.now.revision.spec d c.args.reader.now.last c.args.reader.now.number (unread c.args.reader.now.input (g.S.Source.left c.args.source.now)) c.args.self.now.waiting c.next.new.self.waiting (g.O.Sink.held c.args.out.now) (g.O.Sink.held c.next.new.out) (g.O.Sink.held c.end.new.out) on.0 c.loop-count.reader.last c.loop-count.reader.number (unread c.loop-count.reader.input (g.S.Source.left c.loop-count.source)) c.next.new.reader.number (unread c.next.new.reader.input (g.S.Source.left c.next.new.source)) c.end.result
+    let gives = rw (c.in-Ok-read.is, c.in-None.is, kept.version) at c.in-Ok.ensures.gives in
+    goes_good c.args.reader.now.cut c.args.reader.now.version c.args.self.now.revision.spec d c.args.reader.now.last c.args.reader.now.number (unread c.args.reader.now.input (g.S.Source.left c.args.source.now)) c.args.self.now.waiting c.next.new.self.waiting (g.O.Sink.held c.args.out.now) (g.O.Sink.held c.next.new.out) (g.O.Sink.held c.end.new.out) on.0 c.loop-count.reader.last c.loop-count.reader.number (unread c.loop-count.reader.input (g.S.Source.left c.loop-count.source)) c.next.new.reader.number (unread c.next.new.reader.input (g.S.Source.left c.next.new.source)) c.end.result
     on.5 gives adds (rw (version, ← on.3, ap (λ (x : Counted). x.totals) c.next.ensures.counted ∙ on.2) at c.end.ensures.stops)
 
 pub returns-in-None-clause-rest : goal.returns-in-None-clause-rest
 returns-in-None-clause-rest g c d stands counts refused = absurd (stop_unrefused _ _ _ status.Ok c.end.result c.end.ensures.stops (λ h. h) refused)
 
 pub returns-in-None-clause-cut : goal.returns-in-None-clause-cut
-returns-in-None-clause-cut g c d stands counts fault =
+returns-in-None-clause-cut g c d stands counts over fault =
     let kept = c.loop-count.invariant in
     let on = kept.on d stands counts in
     let adds = adds_on (g.O.Sink.held c.args.out.now) (g.O.Sink.held c.loop-count.out) (g.O.Sink.held c.next.new.out) c.args.self.now.waiting c.loop-count.self.waiting c.next.new.self.waiting (rows_text (added c.args.self.now.revision.spec d on.0)) on.4 c.in-Ok.ensures.adds in
-    let gives = rw (c.in-Ok-read.is, c.in-None.is, kept.version) at c.in-Ok.ensures.tells in
+    let gives = rw (c.in-Ok-read.is, c.in-None.is, kept.version) at c.in-Ok.ensures.gives in
     let some = stop_cut _ _ _ status.Ok c.end.result c.end.ensures.stops fault (λ is. subst IsWriteFault (sym is) tt) in
     cut_good c.args.reader.now.version c.args.self.now.revision.spec d c.args.reader.now.last c.args.reader.now.number (unread c.args.reader.now.input (g.S.Source.left c.args.source.now)) c.args.self.now.waiting c.next.new.self.waiting _ (g.O.Sink.held c.args.out.now) (g.O.Sink.held c.next.new.out) (g.O.Sink.held c.end.new.out) on.0 c.loop-count.reader.last c.loop-count.reader.number (unread c.loop-count.reader.input (g.S.Source.left c.loop-count.source)) c.next.new.reader.number (unread c.next.new.reader.input (g.S.Source.left c.next.new.source))
     on.5 gives adds some c.next.ensures.fits
@@ -103,7 +105,7 @@ pub returns-in-None-clause-ended : goal.returns-in-None-clause-ended
 returns-in-None-clause-ended g c ok =
     let kept = c.loop-count.invariant in
     ends_there c.loop-count.reader.version c.loop-count.reader.last c.loop-count.reader.number c.next.new.reader.number _ _ _ kept.still
-    (rw (c.in-Ok-read.is, c.in-None.is) at c.in-Ok.ensures.tells)
+    (rw (c.in-Ok-read.is, c.in-None.is) at c.in-Ok.ensures.gives)
 
 pub returns-in-None-clause-write_fault : goal.returns-in-None-clause-write_fault
 returns-in-None-clause-write_fault g c is = rose_on _ _ _ (le_trans c.loop-count.invariant.write c.next.ensures.cause.never_falls) (c.end.ensures.fault is)
@@ -118,14 +120,15 @@ pub returns-in-None-clause-out_never_falls : goal.returns-in-None-clause-out_nev
 returns-in-None-clause-out_never_falls g c = omega (arith, c.loop-count.invariant.write, c.next.ensures.cause.never_falls, c.end.ensures.never_falls)
 
 pub returns-in-Err-read-clause-follows : goal.returns-in-Err-read-clause-follows
-returns-in-Err-read-clause-follows g c d stands counts =
+returns-in-Err-read-clause-follows g c d stands counts over =
     let kept = c.loop-count.invariant in
     let on = kept.on d stands counts in
     let adds = adds_on (g.O.Sink.held c.args.out.now) (g.O.Sink.held c.loop-count.out) (g.O.Sink.held c.next.new.out) c.args.self.now.waiting c.loop-count.self.waiting c.next.new.self.waiting (rows_text (added c.args.self.now.revision.spec d on.0)) on.4 c.in-Ok.ensures.adds in
     let left = (unread c.next.new.reader.input (g.S.Source.left c.next.new.source)) in
-    goes_stop c.args.reader.now.version c.args.self.now.revision.spec d c.args.reader.now.last c.args.reader.now.number (unread c.args.reader.now.input (g.S.Source.left c.args.source.now)) c.args.self.now.waiting c.next.new.self.waiting (g.O.Sink.held c.args.out.now) (g.O.Sink.held c.next.new.out) (g.O.Sink.held c.stop.new.out) on.0 c.loop-count.reader.last c.loop-count.reader.number (unread c.loop-count.reader.input (g.S.Source.left c.loop-count.source)) left c.in-Err-read.error c.stop.result
-    on.5 (rw (c.in-Err-read.is, kept.version) at c.in-Ok.ensures.tells)
+    goes_stop c.args.reader.now.cut c.loop-count.reader.cut c.args.reader.now.version c.args.self.now.revision.spec d c.args.reader.now.last c.args.reader.now.number (unread c.args.reader.now.input (g.S.Source.left c.args.source.now)) c.args.self.now.waiting c.next.new.self.waiting (g.O.Sink.held c.args.out.now) (g.O.Sink.held c.next.new.out) (g.O.Sink.held c.stop.new.out) on.0 c.loop-count.reader.last c.loop-count.reader.number (unread c.loop-count.reader.input (g.S.Source.left c.loop-count.source)) left c.in-Err-read.error c.stop.result
+    on.5 (kept.bytes over) (rw (c.in-Err-read.is, kept.version) at c.in-Ok.ensures.refuses)
     (λ is. c.in-Ok.ensures.amid (c.in-Err-read.is ∙ ap (λ (e : JournalError). Err e) is))
+    (λ is. c.in-Ok.ensures.uncut (c.in-Err-read.is ∙ ap (λ (e : JournalError). Err e) is))
     (λ is. c.in-Ok.ensures.memory (c.in-Err-read.is ∙ ap (λ (e : JournalError). Err e) is))
     adds (rw c.status_of.ensures.value at c.stop.ensures.stops)
 
@@ -138,13 +141,13 @@ returns-in-Err-read-clause-rest g c d stands counts refused =
     on.5 (rw (c.in-Err-read.is, kept.version) at c.in-Ok.ensures.rest said.1) said.0
 
 pub returns-in-Err-read-clause-cut : goal.returns-in-Err-read-clause-cut
-returns-in-Err-read-clause-cut g c d stands counts fault =
+returns-in-Err-read-clause-cut g c d stands counts over fault =
     let kept = c.loop-count.invariant in
     let on = kept.on d stands counts in
     let adds = adds_on (g.O.Sink.held c.args.out.now) (g.O.Sink.held c.loop-count.out) (g.O.Sink.held c.next.new.out) c.args.self.now.waiting c.loop-count.self.waiting c.next.new.self.waiting (rows_text (added c.args.self.now.revision.spec d on.0)) on.4 c.in-Ok.ensures.adds in
     let some = stop_cut _ _ _ (status_of c.in-Err-read.error) c.stop.result (rw c.status_of.ensures.value at c.stop.ensures.stops) fault (no_write_fault c.in-Err-read.error) in
-    cut_stop c.args.reader.now.version c.args.self.now.revision.spec d c.args.reader.now.last c.args.reader.now.number (unread c.args.reader.now.input (g.S.Source.left c.args.source.now)) c.args.self.now.waiting c.next.new.self.waiting _ (g.O.Sink.held c.args.out.now) (g.O.Sink.held c.next.new.out) (g.O.Sink.held c.stop.new.out) on.0 c.loop-count.reader.last c.loop-count.reader.number (unread c.loop-count.reader.input (g.S.Source.left c.loop-count.source)) (unread c.next.new.reader.input (g.S.Source.left c.next.new.source)) c.in-Err-read.error
-    on.5 (rw (c.in-Err-read.is, kept.version) at c.in-Ok.ensures.tells)
+    cut_stop c.args.reader.now.cut c.loop-count.reader.cut c.args.reader.now.version c.args.self.now.revision.spec d c.args.reader.now.last c.args.reader.now.number (unread c.args.reader.now.input (g.S.Source.left c.args.source.now)) c.args.self.now.waiting c.next.new.self.waiting _ (g.O.Sink.held c.args.out.now) (g.O.Sink.held c.next.new.out) (g.O.Sink.held c.stop.new.out) on.0 c.loop-count.reader.last c.loop-count.reader.number (unread c.loop-count.reader.input (g.S.Source.left c.loop-count.source)) (unread c.next.new.reader.input (g.S.Source.left c.next.new.source)) c.in-Err-read.error
+    on.5 (kept.bytes over) (rw (c.in-Err-read.is, kept.version) at c.in-Ok.ensures.refuses)
     (λ is. c.in-Ok.ensures.amid (c.in-Err-read.is ∙ ap (λ (e : JournalError). Err e) is))
     (λ is. c.in-Ok.ensures.memory (c.in-Err-read.is ∙ ap (λ (e : JournalError). Err e) is))
     (rw (c.in-Err-read.is, kept.version) at c.in-Ok.ensures.rest) adds some c.next.ensures.fits
@@ -192,27 +195,27 @@ count_and_put-requires g c =
     omega (arith, c.loop-count.invariant.rows, c.loop-count-test.true, ap (λ (x : Counted). x.rows) c.next.ensures.counted, ap (λ (x : Counted). x.rows) c.step.ensures.counted)
 
 pub returns-in-Err-count_and_put-clause-follows : goal.returns-in-Err-count_and_put-clause-follows
-returns-in-Err-count_and_put-clause-follows g c d stands counts =
+returns-in-Err-count_and_put-clause-follows g c d stands counts over =
     let kept = c.loop-count.invariant in
     let on = kept.on d stands counts in
     let adds = adds_on (g.O.Sink.held c.args.out.now) (g.O.Sink.held c.loop-count.out) (g.O.Sink.held c.next.new.out) c.args.self.now.waiting c.loop-count.self.waiting c.next.new.self.waiting (rows_text (added c.args.self.now.revision.spec d on.0)) on.4 c.in-Ok.ensures.adds in
     let left = (unread c.next.new.reader.input (g.S.Source.left c.next.new.source)) in
-    let gives = rw (c.in-Ok-read.is, c.in-Some.is, kept.version) at c.in-Ok.ensures.tells in
+    let gives = rw (c.in-Ok-read.is, c.in-Some.is, kept.version) at c.in-Ok.ensures.gives in
     let now = d ++ added c.args.self.now.revision.spec d on.0 in
     let stood = subst (λ (x : RevisionState). StandsFor x now) (sym c.next.ensures.revision) on.1 in
     let rows = c.step.ensures.log now stood ∙ ap (λ (x : RevisionState). react x.spec now c.in-Some.e) c.next.ensures.revision ∙ ap (λ (x : Spec). react x now c.in-Some.e) kept.spec in
-    goes_cut c.args.reader.now.version c.args.self.now.revision.spec d c.args.reader.now.last c.args.reader.now.number (unread c.args.reader.now.input (g.S.Source.left c.args.source.now)) c.args.self.now.waiting c.next.new.self.waiting (g.O.Sink.held c.args.out.now) (g.O.Sink.held c.next.new.out) (g.O.Sink.held c.count_and_put.new.out) on.0 c.loop-count.reader.last c.loop-count.reader.number (unread c.loop-count.reader.input (g.S.Source.left c.loop-count.source)) c.in-Some.e c.next.new.reader.number left left
+    goes_cut c.args.reader.now.cut c.args.reader.now.version c.args.self.now.revision.spec d c.args.reader.now.last c.args.reader.now.number (unread c.args.reader.now.input (g.S.Source.left c.args.source.now)) c.args.self.now.waiting c.next.new.self.waiting (g.O.Sink.held c.args.out.now) (g.O.Sink.held c.next.new.out) (g.O.Sink.held c.count_and_put.new.out) on.0 c.loop-count.reader.last c.loop-count.reader.number (unread c.loop-count.reader.input (g.S.Source.left c.loop-count.source)) c.in-Some.e c.next.new.reader.number left left
     on.5 gives adds (rw (c.step.ensures.waiting, rows) at c.in-Err-count_and_put.ensures.err)
 
 pub returns-in-Err-count_and_put-clause-rest : goal.returns-in-Err-count_and_put-clause-rest
 returns-in-Err-count_and_put-clause-rest g c d stands counts refused = absurd refused
 
 pub returns-in-Err-count_and_put-clause-cut : goal.returns-in-Err-count_and_put-clause-cut
-returns-in-Err-count_and_put-clause-cut g c d stands counts fault =
+returns-in-Err-count_and_put-clause-cut g c d stands counts over fault =
     let kept = c.loop-count.invariant in
     let on = kept.on d stands counts in
     let adds = adds_on (g.O.Sink.held c.args.out.now) (g.O.Sink.held c.loop-count.out) (g.O.Sink.held c.next.new.out) c.args.self.now.waiting c.loop-count.self.waiting c.next.new.self.waiting (rows_text (added c.args.self.now.revision.spec d on.0)) on.4 c.in-Ok.ensures.adds in
-    let gives = rw (c.in-Ok-read.is, c.in-Some.is, kept.version) at c.in-Ok.ensures.tells in
+    let gives = rw (c.in-Ok-read.is, c.in-Some.is, kept.version) at c.in-Ok.ensures.gives in
     cut_event c.args.reader.now.version c.args.self.now.revision.spec d c.args.reader.now.last c.args.reader.now.number (unread c.args.reader.now.input (g.S.Source.left c.args.source.now)) c.args.self.now.waiting c.next.new.self.waiting _ (g.O.Sink.held c.args.out.now) (g.O.Sink.held c.next.new.out) (g.O.Sink.held c.count_and_put.new.out) on.0 c.loop-count.reader.last c.loop-count.reader.number (unread c.loop-count.reader.input (g.S.Source.left c.loop-count.source)) c.in-Some.e c.next.new.reader.number (unread c.next.new.reader.input (g.S.Source.left c.next.new.source))
     on.5 gives adds (rw c.step.ensures.waiting at c.in-Err-count_and_put.ensures.err) c.next.ensures.fits
 
@@ -236,7 +239,7 @@ loop-count-preserved g c =
     let last : c.next.new.reader.last ≡ e.time = rw (c.in-Ok-read.is, c.in-Some.is) at c.in-Ok.ensures.last in
     let bytes = rw (c.in-Ok-read.is, c.in-Some.is) at c.in-Ok.ensures.bytes in
     let times = rw (c.in-Ok-read.is, c.in-Some.is) at c.in-Ok.ensures.times in
-    let given = rw (c.in-Ok-read.is, c.in-Some.is) at c.in-Ok.ensures.tells in
+    let given = rw (c.in-Ok-read.is, c.in-Some.is) at c.in-Ok.ensures.gives in
     let spec = ap (λ (x : RevisionState). x.spec) c.next.ensures.revision ∙ kept.spec in
     record {
       on = λ d stands counts.
@@ -257,6 +260,9 @@ loop-count-preserved g c =
             rw (rows-more s d on.0 e) (adds_trans _ _ _ _ _ _ _ _ adds wrote),
             rw last (goes_more c.args.reader.now.version c.args.reader.now.last c.args.reader.now.number _ on.0 c.loop-count.reader.last c.loop-count.reader.number _ e c.next.new.reader.number _ on.5 (rw kept.version at given)),
           );
+      bytes = λ over.
+          read_more c.args.reader.now.cut c.loop-count.reader.cut c.next.new.reader.cut (unread c.args.reader.now.input (g.S.Source.left c.args.source.now)) (unread c.loop-count.reader.input (g.S.Source.left c.loop-count.source)) (unread c.next.new.reader.input (g.S.Source.left c.next.new.source))
+          (kept.bytes over) (rw (c.in-Ok-read.is, c.in-Some.is) at c.in-Ok.ensures.text);
       still = still_more c.loop-count.reader.version c.loop-count.reader.last c.loop-count.reader.number e c.next.new.reader.number _ _ _ kept.still given;
       spec = ap (λ (x : RevisionState). x.spec) c.in-Ok-count_and_put.ensures.revision ∙ c.step.ensures.spec ∙ spec;
       good = rw c.in-Ok-read.is at c.in-Ok.ensures.good;
@@ -274,10 +280,7 @@ loop-count-preserved g c =
     }
 
 pub returns-clause-follows : goal.returns-clause-follows
-returns-clause-follows g c d stands counts =
-    let on = c.loop-count.invariant.on d stands counts in
-    goes_full c.args.reader.now.version c.args.self.now.revision.spec d c.args.reader.now.last c.args.reader.now.number (unread c.args.reader.now.input (g.S.Source.left c.args.source.now)) c.args.self.now.waiting c.loop-count.self.waiting (g.O.Sink.held c.args.out.now) (g.O.Sink.held c.loop-count.out) (g.O.Sink.held c.stop-2.new.out) on.0 c.loop-count.reader.last c.loop-count.reader.number (unread c.loop-count.reader.input (g.S.Source.left c.loop-count.source)) c.stop-2.result
-    on.5 on.4 c.stop-2.ensures.stops
+returns-clause-follows g c d stands counts over = absurd (omega (arith, c.loop-count.invariant.taken, c.loop-count.invariant.few, c.loop-count-test.false))
 
 pub returns-clause-rest : goal.returns-clause-rest
 returns-clause-rest g c d stands counts refused = absurd (stop_unrefused _ _ _ status.ReadFault c.stop-2.result c.stop-2.ensures.stops (λ h. h) refused)
@@ -287,7 +290,7 @@ returns-clause-read_fault g c fault = inr (omega (arith, c.loop-count.invariant.
 
 -- So many events have more bytes than may be taken.
 pub returns-clause-cut : goal.returns-clause-cut
-returns-clause-cut g c d stands counts fault = absurd (omega (arith, c.loop-count.invariant.taken, c.loop-count.invariant.few, c.loop-count-test.false))
+returns-clause-cut g c d stands counts over fault = absurd (omega (arith, c.loop-count.invariant.taken, c.loop-count.invariant.few, c.loop-count-test.false))
 
 pub returns-clause-spent : goal.returns-clause-spent
 returns-clause-spent g c fault = absurd (omega (arith, c.loop-count.invariant.taken, c.loop-count.invariant.few, c.loop-count-test.false))
