@@ -237,6 +237,14 @@ start_fails (Some xs) (Some ys) new over opening n version number (error.TimeToo
 start_fails (Some xs) (Some ys) new over opening n version number error.NoEnd are g text (cause, is, h) amid = (cause, is, verdict_unstarted xs opening n (lines ys) cause g h)
 start_fails (Some xs) (Some ys) new over opening n version number (error.AfterEnd line) are g text (cause, is, h) amid = (cause, is, verdict_unstarted xs opening n (lines ys) cause g h)
 
+-- a setup and a start were read
+pub opens_well : (known mid new : Option (List ℕ)) (version : ℕ) (setup : Setup) (n start number : ℕ) → Gives (opening_part version_of 0) (record { version = version; setup = setup }) n known mid
+    → Gives (start_part n) start number mid new → Opens known new version number (Ok (setup, start))
+opens_well None mid new version setup n start number g k = tt
+opens_well (Some xs) None new version setup n start number g k = absurd g
+opens_well (Some xs) (Some ys) None version setup n start number g k = absurd k
+opens_well (Some xs) (Some ys) (Some zs) version setup n start number g k = record { at = n; after = lines ys; opening = g; begins = k }
+
 -- ---- the whole
 
 ended_after : (over : Bool) (text ys more : List ℕ) → IsCutOff over text ys → ((more ≡ []) × (over ≡ false)) ⊎ EndsWithLf more → EndsWithLf (text ++ more)

@@ -1,13 +1,14 @@
-use Rattle.std.proofs.Common.{ℕ, ◌+◌, ap, ◌∙◌, subst}
-use Rattle.std.specs.Prelude.{Err, Some}
+use Rattle.std.proofs.Common.{ℕ, ◌+◌, ap, ◌∙◌, subst, sym}
+use Rattle.std.specs.Prelude.{Err, Ok, Some}
 use Rattle.kn_journal.specs.declared.error.JournalError.{JournalError}
 use Rattle.kn_journal.specs.declared.journal.Opening.{Opening}
 use Rattle.kn_journal.specs.Journal.{opening_part, version_of}
 use Rattle.kn_journal.specs.Reading.{unread}
 use Rattle.kn_journal.specs.Telling.{Gives, IsLineFault, LeavesRest, Refuses, StopsAmid}
+use Rattle.kn_replay.specs.Replaying.{Opens}
 use Rattle.kn_replay.proofs.Behind.{setup_behind, start_behind}
 use Rattle.kn_journal.proofs.Texts.{text-more}
-use Rattle.kn_replay.proofs.Faults.{setup_fails, start_fails}
+use Rattle.kn_replay.proofs.Faults.{opens_well, setup_fails, start_fails}
 use Rattle.kn_replay.proofs.replay.open.Goals as goal
 
 pub returns-in-Err-clause-opens : goal.returns-in-Err-clause-opens
@@ -52,3 +53,14 @@ pub returns-in-Ok-start-clause-text : goal.returns-in-Ok-start-clause-text
 returns-in-Ok-start-clause-text g c =
     text-more c.setup.new.self.cut c.start.new.self.cut (unread c.args.reader.now.input (g.S.Source.left c.args.source.now)) (unread c.setup.new.self.input (g.S.Source.left c.setup.new.source))
     (unread c.start.new.self.input (g.S.Source.left c.start.new.source)) c.in-Ok.ensures.text c.in-Ok-start.ensures.text
+
+pub returns-in-Ok-start-clause-opens : goal.returns-in-Ok-start-clause-opens
+returns-in-Ok-start-clause-opens g c =
+    let old = unread c.args.reader.now.input (g.S.Source.left c.args.source.now) in
+    let mid = unread c.setup.new.self.input (g.S.Source.left c.setup.new.source) in
+    let new = unread c.start.new.self.input (g.S.Source.left c.start.new.source) in
+    let opening : Opening = record { version = c.setup.new.self.version; setup = c.in-Ok.setup } in
+    subst (λ (v : ℕ). Opens old new v c.start.new.self.number (Ok (c.in-Ok.setup, c.in-Ok-start.start))) (sym c.start.ensures.version)
+    (opens_well old mid new c.setup.new.self.version c.in-Ok.setup c.setup.new.self.number c.in-Ok-start.start c.start.new.self.number
+    (subst (λ (n : ℕ). Gives (opening_part version_of n) opening c.setup.new.self.number old mid) c.requires.number (c.in-Ok.ensures.tells c.requires.good))
+    (c.in-Ok-start.ensures.tells c.in-Ok.ensures.good))
