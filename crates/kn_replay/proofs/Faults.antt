@@ -21,6 +21,7 @@ use Rattle.kn_journal.specs.Parts.{part}
 use Rattle.kn_journal.specs.Journal.{Read, Verdict, bad, from_read, journal_of, next_part, opening_part, read_events, start_part, verdict, verdict_of_lines, version_of}
 use Rattle.kn_journal.specs.Reading.{AreWhole, EndsWithLf, IsCutOff, TakesPart, TakesText, most_taken}
 use Rattle.kn_journal.specs.Telling.{Gives, Refuses, StopsAmid, TakesEnd}
+use Rattle.kn_journal.proofs.Tellings.{lines-nil}
 use Rattle.kn_journal.proofs.Texts.{ends-behind, ends-still, lines-behind, lines-own, split-behind, whole-cut}
 use Rattle.kn_replay.specs.Replaying.{BreaksAmid, BreaksBefore, BreaksBeyond, BreaksFollowing, BreaksIn, Follows, IsFollowed, IsOver, Opened, Opens, Replays, Stops, Writes, refusal_of, rest_of_report, status_by, status_of}
 use Rattle.kn_replay.specs.Report.{journal_rows, report_of}
@@ -32,11 +33,11 @@ use Rattle.kn_replay.proofs.Waits.{adds_all, adds_stop}
 
 -- behind the end of the input no event is
 pub over_refuses : (version last n : ℕ) (old : Option (List ℕ)) → IsOver true old → Refuses (next_part version last n) error.NoEnd old
-unfolding next_part lines
+unfolding next_part
 over_refuses version last n None h = tt
 over_refuses version last n (Some xs) h =
     let P : List ℕ → Type 0 = λ zs. (cause : Cause) × (error_of cause ≡ error.NoEnd) × (next_part version last n (lines zs) ≡ Err cause) in
-    subst P (sym h) (no_end, refl, refl)
+    subst P (sym h) (no_end, refl, ap (λ (ls : List (List ℕ)). next_part version last n ls) lines-nil)
 
 -- ---- the bytes of the events so far
 
