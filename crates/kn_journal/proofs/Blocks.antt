@@ -76,13 +76,14 @@ block-lacks first text n e None mid h k = tt
 block-lacks first text n e (Some xs) None h k = absurd h
 block-lacks first text n error.ReadFault (Some xs) (Some ys) h k = tt
 block-lacks first text n (error.LineTooLong m) (Some xs) (Some ys) h (is, l, more, all, long) = (line_too_long (n + 1), ap error.LineTooLong (sym is), so_far first text n xs ys h ∙ rw (all, long) refl)
-block-lacks first text n error.BadFirstLine (Some xs) (Some ys) h k = absurd k
+block-lacks first text n (error.BadFirstLine due) (Some xs) (Some ys) h k = absurd k
 block-lacks first text n (error.BadSetup m why) (Some xs) (Some ys) h k = absurd k
 block-lacks first text n (error.BadLine m why) (Some xs) (Some ys) h k = absurd k
 block-lacks first text n (error.TimeBack m t u) (Some xs) (Some ys) h k = absurd k
 block-lacks first text n (error.TimeTooLarge m) (Some xs) (Some ys) h k = absurd k
 block-lacks first text n error.NoEnd (Some xs) (Some ys) h k = (no_end, refl, so_far first text n xs ys h ∙ rw k refl)
 block-lacks first text n (error.AfterEnd m) (Some xs) (Some ys) h k = absurd k
+block-lacks first text n (error.TooMany m) (Some xs) (Some ys) h k = absurd k
 block-lacks first text n error.Memory (Some xs) (Some ys) h k = absurd k
 
 -- the single point

@@ -8,7 +8,7 @@ use Rattle.kn_config.specs.declared.config.ConfigError.{ConfigError}
 use Rattle.kn_config.specs.declared.config.ConfigError.TheVariants as config_fault
 use Rattle.kn_revision.specs.declared.error.SpecError.{SpecError}
 use Rattle.kn_revision.specs.declared.error.SpecError.TheVariants as spec_fault
-use Rattle.kn_journal.specs.Causes.{Cause, after_end, bad_first_line, bad_line, bad_setup, error_of, line_too_long, no_end, time_back, time_too_large}
+use Rattle.kn_journal.specs.Causes.{Cause, after_end, bad_first_line, bad_line, bad_setup, error_of, line_too_long, no_end, time_back, time_too_large, too_many}
 use Rattle.kn_journal.specs.declared.error.JournalError.{JournalError}
 use Rattle.kn_journal.specs.declared.error.JournalError.TheVariants as error
 use Rattle.kn_journal.specs.Drawing.{Draws, error_in}
@@ -101,13 +101,14 @@ draws_all d full amid = record {
 -- what refuses a line is no fault of the source
 pub cause-no_fault : (cause : Cause) → IsNoFault (Some (error_of cause))
 cause-no_fault (line_too_long line) = tt
-cause-no_fault bad_first_line = tt
+cause-no_fault (bad_first_line due) = tt
 cause-no_fault (bad_setup line why) = tt
 cause-no_fault (bad_line line why) = tt
 cause-no_fault (time_back line before at) = tt
 cause-no_fault (time_too_large line) = tt
 cause-no_fault no_end = tt
 cause-no_fault (after_end line) = tt
+cause-no_fault (too_many line) = tt
 
 pub judged-no_fault : {T : Type 0} (next : ℕ → List ℕ → List (List ℕ) → Result (Part T) Cause) (n : ℕ) (line : List ℕ) (r : Result T JournalError) → Judges next n line r → IsNoFault (error_in r)
 judged-no_fault next n line (Ok x) j = tt

@@ -6,6 +6,7 @@ use Rattle.std.proofs.lemmas.Grind.{common_steps}
 use Rattle.kn_event.specs.declared.event.Event.{Event}
 use Rattle.kn_event.specs.declared.fault.LineError.{LineError}
 use Rattle.kn_event.specs.EventLine.{event_of}
+use Rattle.kn_journal.specs.declared.first.FirstLine.TheVariants.{Journal as JournalLine}
 use Rattle.kn_journal.specs.declared.journal.Setup.{Setup}
 use Rattle.kn_journal.specs.declared.journal.Opening.{Opening}
 use Rattle.kn_journal.specs.declared.journal.Journal.{Journal}
@@ -42,16 +43,16 @@ record IsFirstOf (n : ℕ) (left : List (List ℕ)) (p : Part ℕ) : Type 0 wher
   least : 1 ≤ p.value
   most : p.value ≤ 2
 
-first-said : (line : List ℕ) (n : ℕ) (left : List (List ℕ)) (p : Part ℕ) → version_in n left (version_of line) ≡ Ok p → IsFirstOf n left p
+first-said : (line : List ℕ) (n : ℕ) (left : List (List ℕ)) (p : Part ℕ) → version_in JournalLine n left (version_of line) ≡ Ok p → IsFirstOf n left p
 first-said line n left p h = by_tests (bytes_eq line (codes "kact journal 1")) (bytes_eq line (codes "kact journal 2")) h
   where
-    said : (version : ℕ) → 1 ≤ version → version ≤ 2 → version_in n left (Some version) ≡ Ok p → IsFirstOf n left p
+    said : (version : ℕ) → 1 ≤ version → version ≤ 2 → version_in JournalLine n left (Some version) ≡ Ok p → IsFirstOf n left p
     said version least most g =
         let made : Part ℕ = part version n left in
         let parts = part-left version n left p (Ok made) g refl in
         record { number = sym parts.2; all = sym parts.0; least = omega (arith, least, parts.1); most = omega (arith, most, parts.1) }
 
-    by_tests : (a b : Bool) → version_in n left (if a then Some 1 else (if b then Some 2 else None)) ≡ Ok p → IsFirstOf n left p
+    by_tests : (a b : Bool) → version_in JournalLine n left (if a then Some 1 else (if b then Some 2 else None)) ≡ Ok p → IsFirstOf n left p
     by_tests true b g = said 1 (omega arith) (omega arith) g
     by_tests false true g = said 2 (omega arith) (omega arith) g
     by_tests false false g = cc
@@ -67,12 +68,12 @@ opened-is version p q h =
     let parts = part-left made p.number p.left q (Ok (part made p.number p.left)) h refl in
     (ap (λ (o : Opening). o.version) (sym parts.1), ap (λ (o : Opening). o.setup) (sym parts.1), sym parts.0)
 
-opening-kept : (bytes : List ℕ) (q : Part Opening) → opening_part version_of 0 (lines bytes) ≡ Ok q → IsOpening q
+opening-kept : (bytes : List ℕ) (q : Part Opening) → opening_part JournalLine 0 (lines bytes) ≡ Ok q → IsOpening q
 unfolding opening_part first_part
 opening-kept bytes q h =
-    let first = then_part-ok (first_part version_of 0 (lines bytes)) _ q h in
+    let first = then_part-ok (first_part JournalLine 0 (lines bytes)) _ q h in
     let p = first.0 in
-    let has = with_line-ok 0 (lines bytes) (first_in version_of) p first.1 in
+    let has = with_line-ok 0 (lines bytes) (first_in JournalLine) p first.1 in
     let said = first-said has.line 1 has.more p has.rest in
     let second = then_part-ok (setup_part p.number p.left) _ q first.2 in
     let s = second.0 in
@@ -193,7 +194,7 @@ verdict_on-good k j (Some cause) h = cc
 pub journal-kept : AreSpelled → (bytes : List ℕ) (j : Journal) → verdict bytes ≡ good j → IsJournal j
 unfolding verdict verdict_of_lines
 journal-kept spelled bytes j h =
-    let first = or_bad-good (opening_part version_of 0 (lines bytes)) _ j h in
+    let first = or_bad-good (opening_part JournalLine 0 (lines bytes)) _ j h in
     let q = first.0 in
     let opening = opening-kept bytes q first.1 in
     let second = or_bad-good (start_part q.number q.left) _ j first.2 in

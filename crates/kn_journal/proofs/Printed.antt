@@ -12,6 +12,7 @@ use Rattle.kn_event.specs.declared.event.Event.{Event}
 use Rattle.kn_event.specs.EventLine.{event_of, event_text, IsInJournalRange, IsInVersion, is_printable, Spells}
 use Rattle.kn_event.specs.Fields.{fields, is_space}
 use Rattle.kn_event.specs.Numbers.{is_digit, is_numeral, has_no_leading_zero, number_of}
+use Rattle.kn_journal.specs.declared.first.FirstLine.TheVariants.{Journal as JournalLine}
 use Rattle.kn_journal.specs.declared.journal.Setup.{Setup}
 use Rattle.kn_journal.specs.declared.journal.Journal.{Journal}
 use Rattle.kn_journal.specs.Lines.{fits, lines, lines_at_lf, without_crs}
@@ -57,9 +58,9 @@ first-line version least most = by_version (first_is version (one_or_two version
     by_version (inl (e, v)) = rw (e, v) (record { printable = refl; fit = refl; known = refl })
     by_version (inr (e, v)) = rw (e, v) (record { printable = refl; fit = refl; known = refl })
 
-first-read : (line : List ℕ) (version : ℕ) (more : List (List ℕ)) → IsFirst line version → first_part version_of 0 (line ∷ more) ≡ Ok (part version 1 more)
+first-read : (line : List ℕ) (version : ℕ) (more : List (List ℕ)) → IsFirst line version → first_part JournalLine 0 (line ∷ more) ≡ Ok (part version 1 more)
 unfolding first_part
-first-read line version more is = with_line-fits 0 line more (first_in version_of) is.fit ∙ rw is.known refl
+first-read line version more is = with_line-fits 0 line more (first_in JournalLine) is.fit ∙ rw is.known refl
 
 -- ---- the setup
 

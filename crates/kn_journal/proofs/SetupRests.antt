@@ -12,6 +12,7 @@ use Rattle.kn_config.specs.Config.{config_of, Gives as GivesConfig}
 use Rattle.kn_revision.specs.declared.error.SpecError.{SpecError}
 use Rattle.kn_revision.specs.declared.error.SpecError.TheVariants as spec_fault
 use Rattle.kn_revision.specs.Revision.{spec_of, Gives as GivesSpec}
+use Rattle.kn_journal.specs.declared.first.FirstLine.{FirstLine}
 use Rattle.kn_journal.specs.declared.error.JournalError.{JournalError}
 use Rattle.kn_journal.specs.declared.error.JournalError.TheVariants as error
 use Rattle.kn_journal.specs.declared.error.SetupError.{SetupError}
@@ -19,7 +20,7 @@ use Rattle.kn_journal.specs.declared.error.SetupError.TheVariants as setup_error
 use Rattle.kn_journal.specs.declared.journal.Setup.{Setup}
 use Rattle.kn_journal.specs.declared.setting.SetupLine.{SetupLine}
 use Rattle.kn_journal.specs.Causes.{Cause, bad_first_line, bad_setup, error_of}
-use Rattle.kn_journal.specs.Journal.{first_in, first_part, opening_part, version_in}
+use Rattle.kn_journal.specs.Journal.{first_in, first_part, opening_part, version_by, version_in}
 use Rattle.kn_journal.specs.Lines.{fits, lines}
 use Rattle.kn_journal.specs.Parts.{Part, part, then_part}
 use Rattle.kn_journal.specs.Reading.{TakesLine}
@@ -201,34 +202,35 @@ setup-rest n number old mid new line text said (Err e) h fit is read whole t = �
 
 -- ---- a first line, and then a setup
 
-first-named : (known : List ℕ → Option ℕ) (number : ℕ) → IsNamed (Some number) (first_in known) number
-first-named known number = λ line cause h. by_version (known line) cause h
+first-named : (due : FirstLine) (number : ℕ) → IsNamed (Some number) (first_in due) number
+first-named due number = λ line cause h. by_version (version_by due line) cause h
   where
-    by_version : (v : Option ℕ) (cause : Cause) → version_in number [] v ≡ Err cause → refused_line (Some number) (error_of cause) ≡ Some number
+    by_version : (v : Option ℕ) (cause : Cause) → version_in due number [] v ≡ Err cause → refused_line (Some number) (error_of cause) ≡ Some number
     by_version (Some version) cause g = cc
-    by_version None cause g = refused-named (Some number) number bad_first_line cause (version_in number [] None) g refl refl
+    by_version None cause g = refused-named (Some number) number (bad_first_line due) cause (version_in due number [] None) g refl refl
 
-pub version-rest : (known : List ℕ → Option ℕ) (n number : ℕ) (old new : Option (List ℕ)) (line : List ℕ) (r : Result ℕ JournalError) → TakesLine old new true line → fits line ≡ true → number ≡ n + 1
-    → Judges (first_in known) number line r → IfErr r (λ e. IsLineFault e → LeavesRest (first_part known n) n (Some (n + 1)) e old new)
+pub version-rest : (due : FirstLine) (n number : ℕ) (old new : Option (List ℕ)) (line : List ℕ) (r : Result ℕ JournalError) → TakesLine old new true line → fits line ≡ true → number ≡ n + 1
+    → Judges (first_in due) number line r → IfErr r (λ e. IsLineFault e → LeavesRest (first_part due n) n (Some (n + 1)) e old new)
 unfolding first_part
-version-rest known n number old new line r h fit is j = line-rest n number (Some (n + 1)) old new line (first_in known) r h fit is (first-named known (n + 1)) j
+version-rest due n number old new line r h fit is j = line-rest n number (Some (n + 1)) old new line (first_in due) r h fit is (first-named due (n + 1)) j
 
-pub opening-first_rest : (known : List ℕ → Option ℕ) (n : ℕ) (e : JournalError) (old new : Option (List ℕ)) → LeavesRest (first_part known n) n (Some (n + 1)) e old new
-    → LeavesRest (opening_part known n) n (Some (n + 1)) e old new
+pub opening-first_rest : (due : FirstLine) (n : ℕ) (e : JournalError) (old new : Option (List ℕ)) → LeavesRest (first_part due n) n (Some (n + 1)) e old new
+    → LeavesRest (opening_part due n) n (Some (n + 1)) e old new
 unfolding opening_part
-opening-first_rest known n e old new h = first-rest (first_part known n) setup_behind n (Some (n + 1)) e old new h
+opening-first_rest due n e old new h = first-rest (first_part due n) setup_behind n (Some (n + 1)) e old new h
 
 -- an error that names a line is no bad first line
 still-named : (begin : Option ℕ) (k : ℕ) (e : JournalError) → refused_line None e ≡ Some k → refused_line begin e ≡ Some k
 still-named begin k error.ReadFault h = h
 still-named begin k (error.LineTooLong n) h = h
-still-named begin k error.BadFirstLine h = cc
+still-named begin k (error.BadFirstLine due) h = cc
 still-named begin k (error.BadSetup n why) h = h
 still-named begin k (error.BadLine n why) h = h
 still-named begin k (error.TimeBack n before own) h = h
 still-named begin k (error.TimeTooLarge n) h = h
 still-named begin k error.NoEnd h = h
 still-named begin k (error.AfterEnd n) h = h
+still-named begin k (error.TooMany n) h = h
 still-named begin k error.Memory h = h
 
 still-rest : {T : Type 0} (read : List (List ℕ) → Result (Part T) Cause) (n : ℕ) (begin : Option ℕ) (e : JournalError) (old new : Option (List ℕ)) → LeavesRest read n None e old new → LeavesRest read n begin e old new
@@ -236,9 +238,9 @@ still-rest read n begin e None new h = tt
 still-rest read n begin e (Some xs) None h = absurd h
 still-rest read n begin e (Some xs) (Some ys) (own, split, named, why) = (own, split, still-named begin (n + length own) e named, why)
 
-pub opening-setup_rest : (known : List ℕ → Option ℕ) (n m version : ℕ) (e : JournalError) (old mid new : Option (List ℕ)) → Gives (first_part known n) version m old mid → LeavesRest (setup_part m) m None e mid new
-    → LeavesRest (opening_part known n) n (Some (n + 1)) e old new
+pub opening-setup_rest : (due : FirstLine) (n m version : ℕ) (e : JournalError) (old mid new : Option (List ℕ)) → Gives (first_part due n) version m old mid → LeavesRest (setup_part m) m None e mid new
+    → LeavesRest (opening_part due n) n (Some (n + 1)) e old new
 unfolding opening_part
-opening-setup_rest known n m version e old mid new f h =
-    second-rest (first_part known n) setup_behind version n m (Some (n + 1)) e old mid new (first-own known n) f
+opening-setup_rest due n m version e old mid new f h =
+    second-rest (first_part due n) setup_behind version n m (Some (n + 1)) e old mid new (first-own due n) f
     (first-rest (setup_part m) (opened version) m (Some (n + 1)) e mid new (still-rest (setup_part m) m (Some (n + 1)) e mid new h))

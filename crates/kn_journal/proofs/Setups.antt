@@ -10,6 +10,7 @@ use Rattle.kn_config.specs.Config.{config_of, Gives as GivesConfig}
 use Rattle.kn_revision.specs.declared.error.SpecError.{SpecError}
 use Rattle.kn_revision.specs.declared.error.SpecError.TheVariants as spec_fault
 use Rattle.kn_revision.specs.Revision.{spec_of, Gives as GivesSpec}
+use Rattle.kn_journal.specs.declared.first.FirstLine.{FirstLine}
 use Rattle.kn_journal.specs.declared.error.JournalError.{JournalError}
 use Rattle.kn_journal.specs.declared.error.JournalError.TheVariants as error
 use Rattle.kn_journal.specs.declared.error.SetupError.TheVariants as setup_error
@@ -18,7 +19,7 @@ use Rattle.kn_journal.specs.Causes.{Cause, bad_setup}
 use Rattle.kn_journal.specs.declared.error.SetupError.{SetupError}
 use Rattle.kn_journal.specs.declared.journal.Opening.{Opening}
 use Rattle.kn_journal.specs.declared.setting.SetupLine.{SetupLine}
-use Rattle.kn_journal.specs.Journal.{first_in, first_part, opening_in, opening_part, version_in}
+use Rattle.kn_journal.specs.Journal.{first_in, first_part, opening_in, opening_part, version_by, version_in}
 use Rattle.kn_journal.specs.Lines.{fits}
 use Rattle.kn_journal.specs.Reading.{TakesLine, TakesPart, TakesText}
 use Rattle.kn_journal.specs.Parts.{Part, part, then_part}
@@ -223,26 +224,26 @@ setup-none n old new h = part-stops (setup_part n) old new refl h
 
 -- ---- a first line, and then a setup
 
-first-one : (known : List ℕ → Option ℕ) (number : ℕ) (line : List ℕ) (left : List (List ℕ)) (p : Part ℕ) → first_in known number line left ≡ Ok p → IsOneLine (first_in known) number line p left
-first-one known number line left p h = by_version (known line) refl h
+first-one : (due : FirstLine) (number : ℕ) (line : List ℕ) (left : List (List ℕ)) (p : Part ℕ) → first_in due number line left ≡ Ok p → IsOneLine (first_in due) number line p left
+first-one due number line left p h = by_version (version_by due line) refl h
   where
-    by_version : (v : Option ℕ) → known line ≡ v → version_in number left v ≡ Ok p → IsOneLine (first_in known) number line p left
+    by_version : (v : Option ℕ) → version_by due line ≡ v → version_in due number left v ≡ Ok p → IsOneLine (first_in due) number line p left
     by_version None e g = cc
     by_version (Some version) e g =
         let made : Part ℕ = part version number left in
         let parts = part-left version number left p (Ok made) g refl in
         record { count = parts.2; all = sym parts.0; any = λ later. rw e (ok_part-same version p.value number p.number later parts.1 parts.2) }
 
-pub first-own : (known : List ℕ → Option ℕ) (n : ℕ) → HasOwn n (first_part known n)
+pub first-own : (due : FirstLine) (n : ℕ) → HasOwn n (first_part due n)
 unfolding first_part
-first-own known n = λ ls p h.
-    let has = with_line-ok n ls (first_in known) p h in
-    let one = first-one known (n + 1) has.line has.more p has.rest in
-    (has.line ∷ [], omega (arith, one.count), line-takes n ls (first_in known) p has one)
+first-own due n = λ ls p h.
+    let has = with_line-ok n ls (first_in due) p h in
+    let one = first-one due (n + 1) has.line has.more p has.rest in
+    (has.line ∷ [], omega (arith, one.count), line-takes n ls (first_in due) p has one)
 
-pub first-none : (known : List ℕ → Option ℕ) (n : ℕ) (old new : Option (List ℕ)) → TakesPart old new → StopsAmid (first_part known n) old new
+pub first-none : (due : FirstLine) (n : ℕ) (old new : Option (List ℕ)) → TakesPart old new → StopsAmid (first_part due n) old new
 unfolding first_part
-first-none known n old new h = part-stops (first_part known n) old new refl h
+first-none due n old new h = part-stops (first_part due n) old new refl h
 
 abbrev pub opened : ℕ → Setup → ℕ → List (List ℕ) → Result (Part Opening) Cause
 opened version setup n left = opening_in version n left setup
@@ -254,30 +255,30 @@ opened-gives : (version : ℕ) (setup : Setup) (n : ℕ) (new : Option (List ℕ
 opened-gives version setup n None = tt
 opened-gives version setup n (Some xs) = refl
 
-pub opening-gives : (known : List ℕ → Option ℕ) (n m k version : ℕ) (setup : Setup) (old mid new : Option (List ℕ)) → Gives (first_part known n) version m old mid → Gives (setup_part m) setup k mid new
-    → Gives (opening_part known n) (record { version = version; setup = setup }) k old new
+pub opening-gives : (due : FirstLine) (n m k version : ℕ) (setup : Setup) (old mid new : Option (List ℕ)) → Gives (first_part due n) version m old mid → Gives (setup_part m) setup k mid new
+    → Gives (opening_part due n) (record { version = version; setup = setup }) k old new
 unfolding opening_part
-opening-gives known n m k version setup old mid new f s =
+opening-gives due n m k version setup old mid new f s =
     let both : Opening = record { version = version; setup = setup } in
-    then-gives (first_part known n) setup_behind version m k old mid new (Ok both) f
+    then-gives (first_part due n) setup_behind version m k old mid new (Ok both) f
     (then-gives (setup_part m) (opened version) setup k k mid new new (Ok both) s (opened-gives version setup k new))
 
-pub opening-no_first : (known : List ℕ → Option ℕ) (n : ℕ) (old : Option (List ℕ)) (e : JournalError) → Refuses (first_part known n) e old → Refuses (opening_part known n) e old
+pub opening-no_first : (due : FirstLine) (n : ℕ) (old : Option (List ℕ)) (e : JournalError) → Refuses (first_part due n) e old → Refuses (opening_part due n) e old
 unfolding opening_part
-opening-no_first known n old e h = then-refuses (first_part known n) setup_behind e old h
+opening-no_first due n old e h = then-refuses (first_part due n) setup_behind e old h
 
-pub opening-no_setup : (known : List ℕ → Option ℕ) (n m version : ℕ) (old mid : Option (List ℕ)) (e : JournalError) → Gives (first_part known n) version m old mid → Refuses (setup_part m) e mid
-    → Refuses (opening_part known n) e old
+pub opening-no_setup : (due : FirstLine) (n m version : ℕ) (old mid : Option (List ℕ)) (e : JournalError) → Gives (first_part due n) version m old mid → Refuses (setup_part m) e mid
+    → Refuses (opening_part due n) e old
 unfolding opening_part
-opening-no_setup known n m version old mid e f h =
-    then-gives (first_part known n) setup_behind version m m old mid mid (Err e) f (then-refuses (setup_part m) (opened version) e mid h)
+opening-no_setup due n m version old mid e f h =
+    then-gives (first_part due n) setup_behind version m m old mid mid (Err e) f (then-refuses (setup_part m) (opened version) e mid h)
 
-pub opening-first_stops : (known : List ℕ → Option ℕ) (n : ℕ) (old new : Option (List ℕ)) → StopsAmid (first_part known n) old new → StopsAmid (opening_part known n) old new
+pub opening-first_stops : (due : FirstLine) (n : ℕ) (old new : Option (List ℕ)) → StopsAmid (first_part due n) old new → StopsAmid (opening_part due n) old new
 unfolding opening_part
-opening-first_stops known n old new h = first-stops (first_part known n) setup_behind old new h
+opening-first_stops due n old new h = first-stops (first_part due n) setup_behind old new h
 
-pub opening-setup_stops : (known : List ℕ → Option ℕ) (n m version : ℕ) (c : Bool) (old mid new : Option (List ℕ)) → Gives (first_part known n) version m old mid → TakesText c old mid
-    → StopsAmid (setup_part m) mid new → StopsAmid (opening_part known n) old new
+pub opening-setup_stops : (due : FirstLine) (n m version : ℕ) (c : Bool) (old mid new : Option (List ℕ)) → Gives (first_part due n) version m old mid → TakesText c old mid
+    → StopsAmid (setup_part m) mid new → StopsAmid (opening_part due n) old new
 unfolding opening_part
-opening-setup_stops known n m version c old mid new f t h =
-    second-stops (first_part known n) setup_behind version n m c old mid new (first-own known n) f t (first-stops (setup_part m) (opened version) mid new h)
+opening-setup_stops due n m version c old mid new f t h =
+    second-stops (first_part due n) setup_behind version n m c old mid new (first-own due n) f t (first-stops (setup_part m) (opened version) mid new h)

@@ -7,10 +7,11 @@ use Rattle.kn_event.specs.declared.event.Event.{Event}
 use Rattle.kn_event.specs.declared.fault.LineError.{LineError}
 use Rattle.kn_event.specs.EventLine.{event_of}
 use Rattle.std.proofs.lemmas.Grind.{common_steps}
+use Rattle.kn_journal.specs.declared.first.FirstLine.{FirstLine}
 use Rattle.kn_journal.specs.declared.error.JournalError.{JournalError}
 use Rattle.kn_journal.specs.declared.error.JournalError.TheVariants as error
 use Rattle.kn_journal.specs.Causes.{Cause, after_end, bad_first_line, bad_line, error_of, line_too_long, no_end, time_back, time_too_large}
-use Rattle.kn_journal.specs.Journal.{nothing_part, first_in, first_part, in_time, next_in, next_part, start_line_in, start_of, start_part, time_most}
+use Rattle.kn_journal.specs.Journal.{nothing_part, first_in, first_part, in_time, next_in, next_part, start_line_in, start_of, start_part, time_most, version_by}
 use Rattle.kn_journal.specs.Lines.{fits, line_most, lines, lines_at_lf, without_crs}
 use Rattle.kn_journal.specs.Parts.{Part, part, then_part, with_line}
 use Rattle.kn_journal.specs.Reading.{Counts, HasLongLine, TakesLine, TakesText}
@@ -44,13 +45,14 @@ lacks_refuses n e None next h = tt
 lacks_refuses n error.ReadFault (Some xs) next h = tt
 lacks_refuses n (error.LineTooLong m) (Some xs) next (is, l, more, all, long) =
     (line_too_long (n + 1), ap error.LineTooLong (sym is), rw (all, long) refl)
-lacks_refuses n error.BadFirstLine (Some xs) next h = absurd h
+lacks_refuses n (error.BadFirstLine due) (Some xs) next h = absurd h
 lacks_refuses n (error.BadSetup m why) (Some xs) next h = absurd h
 lacks_refuses n (error.BadLine m why) (Some xs) next h = absurd h
 lacks_refuses n (error.TimeBack m t u) (Some xs) next h = absurd h
 lacks_refuses n (error.TimeTooLarge m) (Some xs) next h = absurd h
 lacks_refuses n error.NoEnd (Some xs) next h = (no_end, refl, rw h refl)
 lacks_refuses n (error.AfterEnd m) (Some xs) next h = absurd h
+lacks_refuses n (error.TooMany m) (Some xs) next h = absurd h
 lacks_refuses n error.Memory (Some xs) next h = absurd h
 
 pub memory-refuses : {T : Type 0} (read : List (List ℕ) → Result (Part T) Cause) (old : Option (List ℕ)) → Refuses read error.Memory old
@@ -69,26 +71,28 @@ refused-cause : {T : Type 0} (e : JournalError) (r : Result (Part T) Cause) (cau
 refused-cause error.ReadFault r cause e h = tt
 refused-cause error.Memory r cause e h = tt
 refused-cause (error.LineTooLong m) r cause e h = (cause, e, h)
-refused-cause error.BadFirstLine r cause e h = (cause, e, h)
+refused-cause (error.BadFirstLine due) r cause e h = (cause, e, h)
 refused-cause (error.BadSetup m why) r cause e h = (cause, e, h)
 refused-cause (error.BadLine m why) r cause e h = (cause, e, h)
 refused-cause (error.TimeBack m t u) r cause e h = (cause, e, h)
 refused-cause (error.TimeTooLarge m) r cause e h = (cause, e, h)
 refused-cause error.NoEnd r cause e h = (cause, e, h)
 refused-cause (error.AfterEnd m) r cause e h = (cause, e, h)
+refused-cause (error.TooMany m) r cause e h = (cause, e, h)
 
 -- what is refused one way is refused another, where its cause is that of the other
 pub refused-on : {S T : Type 0} (e : JournalError) (r : Result (Part S) Cause) (s : Result (Part T) Cause) → ((cause : Cause) → r ≡ Err cause → s ≡ Err cause) → Refused e r → Refused e s
 refused-on error.ReadFault r s f h = tt
 refused-on error.Memory r s f h = tt
 refused-on (error.LineTooLong m) r s f h = (h.0, h.1, f h.0 h.2)
-refused-on error.BadFirstLine r s f h = (h.0, h.1, f h.0 h.2)
+refused-on (error.BadFirstLine due) r s f h = (h.0, h.1, f h.0 h.2)
 refused-on (error.BadSetup m why) r s f h = (h.0, h.1, f h.0 h.2)
 refused-on (error.BadLine m why) r s f h = (h.0, h.1, f h.0 h.2)
 refused-on (error.TimeBack m t u) r s f h = (h.0, h.1, f h.0 h.2)
 refused-on (error.TimeTooLarge m) r s f h = (h.0, h.1, f h.0 h.2)
 refused-on error.NoEnd r s f h = (h.0, h.1, f h.0 h.2)
 refused-on (error.AfterEnd m) r s f h = (h.0, h.1, f h.0 h.2)
+refused-on (error.TooMany m) r s f h = (h.0, h.1, f h.0 h.2)
 
 pub line-refuses : {T : Type 0} (n : ℕ) (old new : Option (List ℕ)) (line : List ℕ) (next : ℕ → List ℕ → List (List ℕ) → Result (Part T) Cause) (e : JournalError) → TakesLine old new true line
     → fits line ≡ true → (cause : Cause) → error_of cause ≡ e → ((left : List (List ℕ)) → next (n + 1) line left ≡ Err cause) → Refuses (λ ls. with_line n ls next) e old
@@ -135,17 +139,17 @@ then-refuses first second e (Some xs) h = refused-on e (first (lines xs)) _ (λ 
 
 -- ---- the lines of a journal
 
-pub first-tells : (known : List ℕ → Option ℕ) (n number : ℕ) (old new : Option (List ℕ)) (line : List ℕ) (r : Result ℕ JournalError)
-    → TakesLine old new true line → fits line ≡ true → number ≡ n + 1 → Judges (first_in known) number line r → Tells (first_part known n) number old new r
+pub first-tells : (due : FirstLine) (n number : ℕ) (old new : Option (List ℕ)) (line : List ℕ) (r : Result ℕ JournalError)
+    → TakesLine old new true line → fits line ≡ true → number ≡ n + 1 → Judges (first_in due) number line r → Tells (first_part due n) number old new r
 unfolding first_part
-first-tells known n number old new line r h fit e j = line-tells n number old new line (first_in known) r h fit e j
+first-tells due n number old new line r h fit e j = line-tells n number old new line (first_in due) r h fit e j
 
-pub no-version : (number : ℕ) (line : List ℕ) (known : List ℕ → Option ℕ) → None ≡ known line → Judges (first_in known) number line (Err error.BadFirstLine)
-no-version number line known h = (bad_first_line, refl, λ left. rw (sym h) refl)
+pub no-version : (number : ℕ) (line : List ℕ) (due : FirstLine) → None ≡ version_by due line → Judges (first_in due) number line (Err (error.BadFirstLine due))
+no-version number line due h = (bad_first_line due, refl, λ left. rw (sym h) refl)
 
-pub first-refuses : (known : List ℕ → Option ℕ) (n : ℕ) (e : JournalError) (old : Option (List ℕ)) → Lacks n e old → Refuses (first_part known n) e old
+pub first-refuses : (due : FirstLine) (n : ℕ) (e : JournalError) (old : Option (List ℕ)) → Lacks n e old → Refuses (first_part due n) e old
 unfolding first_part
-first-refuses known n e old h = lacks_refuses n e old (first_in known) h
+first-refuses due n e old h = lacks_refuses n e old (first_in due) h
 
 pub start-tells : (n number : ℕ) (old new : Option (List ℕ)) (line : List ℕ) (r : Result ℕ JournalError)
     → TakesLine old new true line → fits line ≡ true → number ≡ n + 1 → Judges start_line_in number line r → Tells (start_part n) number old new r

@@ -2,6 +2,7 @@
 use Rattle.std.proofs.Common.{◌≡◌, ◌+◌, ℕ, Bool, true, false, List, [], ◌∷◌, ◌++◌, length, length-append, refl, sym, ap, ◌∙◌, arith}
 use Rattle.std.specs.Prelude.{Result, Ok, Err, nat_le, if◌then◌else◌}
 use Rattle.kn_event.specs.declared.fault.LineError.{LineError}
+use Rattle.kn_journal.specs.declared.first.FirstLine.TheVariants.{Journal as JournalLine}
 use Rattle.kn_journal.specs.declared.journal.Opening.{Opening}
 use Rattle.kn_journal.specs.declared.journal.Setup.{Setup}
 use Rattle.kn_journal.specs.Causes.{Cause, time_too_large}
@@ -28,12 +29,12 @@ behind-takes version n ls s q own h g =
       },
     )
 
-opening-takes : (ls : List (List ℕ)) (q : Part Opening) → opening_part version_of 0 ls ≡ Ok q → (own : List (List ℕ)) × (0 + length own ≡ q.number) × Takes (opening_part version_of 0) ls q own
+opening-takes : (ls : List (List ℕ)) (q : Part Opening) → opening_part JournalLine 0 ls ≡ Ok q → (own : List (List ℕ)) × (0 + length own ≡ q.number) × Takes (opening_part JournalLine 0) ls q own
 unfolding opening_part
 opening-takes ls q h =
-    let first = then_part-ok (first_part version_of 0 ls) setup_behind q h in
+    let first = then_part-ok (first_part JournalLine 0 ls) setup_behind q h in
     let p = first.0 in
-    let one = first-own version_of 0 ls p first.1 in
+    let one = first-own JournalLine 0 ls p first.1 in
     let second = then_part-ok (setup_part p.number p.left) (opened p.value) q first.2 in
     let s = second.0 in
     let two = setup-takes p.number p.left s second.1 in
@@ -41,13 +42,13 @@ opening-takes ls q h =
     let behind = behind-takes p.value p.number p.left s q own two.takes second.2 in (
       one.0 ++ own,
       omega (arith, one.1, two.count, behind.0, length-append one.0 own),
-      then-takes (first_part version_of 0) setup_behind ls p q one.0 own one.2 behind.1,
+      then-takes (first_part JournalLine 0) setup_behind ls p q one.0 own one.2 behind.1,
     )
 
-pub opening-whole : (ls left : List (List ℕ)) (o : Opening) (n : ℕ) → opening_part version_of 0 ls ≡ Ok (part o n left) → IsWhole 0 (opening_part version_of 0) ls o n left
+pub opening-whole : (ls left : List (List ℕ)) (o : Opening) (n : ℕ) → opening_part JournalLine 0 ls ≡ Ok (part o n left) → IsWhole 0 (opening_part JournalLine 0) ls o n left
 opening-whole ls left o n h =
     let taken = opening-takes ls (part o n left) h in
-    takes-whole 0 (opening_part version_of 0) ls o n left taken.0 taken.1 taken.2
+    takes-whole 0 (opening_part JournalLine 0) ls o n left taken.0 taken.1 taken.2
 
 -- ---- the start
 

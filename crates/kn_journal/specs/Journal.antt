@@ -8,7 +8,7 @@ use Rattle.kn_event.specs.declared.fault.LineError.TheVariants as line_error
 use Rattle.kn_event.specs.EventLine.{event_of, event_text, IsInJournalRange, IsInVersion, last_number}
 use Rattle.kn_event.specs.Fields.{fields}
 use Rattle.kn_journal.specs.declared.first.FirstLine.{FirstLine}
-use Rattle.kn_journal.specs.declared.first.FirstLine.TheVariants.{Journal as JournalLine}
+use Rattle.kn_journal.specs.declared.first.FirstLine.TheVariants.{Journal as JournalLine, Workload as WorkloadLine}
 use Rattle.kn_journal.specs.declared.journal.Setup.{Setup}
 use Rattle.kn_journal.specs.declared.journal.Journal.{Journal}
 use Rattle.kn_journal.specs.declared.journal.Opening.{Opening}
@@ -26,28 +26,33 @@ first_line version = codes "kact journal " ++ decimal version
 abbrev pub version_of : List ℕ → Option ℕ
 version_of line = if bytes_eq line (codes "kact journal 1") then Some 1 else (if bytes_eq line (codes "kact journal 2") then Some 2 else None)
 
+-- the version of a workload that a first line names
+abbrev pub workload_version_of : List ℕ → Option ℕ
+workload_version_of line = if bytes_eq line (codes "kact workload 1") then Some 1 else None
+
 -- what a first line of this form names
 abbrev pub version_by : FirstLine → List ℕ → Option ℕ
 version_by JournalLine line = version_of line
+version_by WorkloadLine line = workload_version_of line
 
-abbrev pub version_in : ℕ → List (List ℕ) → Option ℕ → Result (Part ℕ) Cause
-version_in n left None = Err bad_first_line
-version_in n left (Some version) = Ok (part version n left)
+abbrev pub version_in : FirstLine → ℕ → List (List ℕ) → Option ℕ → Result (Part ℕ) Cause
+version_in due n left None = Err (bad_first_line due)
+version_in due n left (Some version) = Ok (part version n left)
 
-abbrev pub first_in : (List ℕ → Option ℕ) → ℕ → List ℕ → List (List ℕ) → Result (Part ℕ) Cause
-first_in known number line left = version_in number left (known line)
+abbrev pub first_in : FirstLine → ℕ → List ℕ → List (List ℕ) → Result (Part ℕ) Cause
+first_in due number line left = version_in due number left (version_by due line)
 
--- a first line, which this function knows by its version, after line n
-unfoldable pub first_part : (List ℕ → Option ℕ) → ℕ → List (List ℕ) → Result (Part ℕ) Cause
-first_part known n lines = with_line n lines (first_in known)
+-- a first line of this form, after line n
+unfoldable pub first_part : FirstLine → ℕ → List (List ℕ) → Result (Part ℕ) Cause
+first_part due n lines = with_line n lines (first_in due)
 
 abbrev pub opening_in : ℕ → ℕ → List (List ℕ) → Setup → Result (Part Opening) Cause
 opening_in version n left setup = Ok (part (record { version = version; setup = setup }) n left)
 
--- a first line, and then a setup
-unfoldable pub opening_part : (List ℕ → Option ℕ) → ℕ → List (List ℕ) → Result (Part Opening) Cause
-opening_part known n lines =
-    then_part (first_part known n lines) (λ version n lines.
+-- a first line of this form, and then a setup
+unfoldable pub opening_part : FirstLine → ℕ → List (List ℕ) → Result (Part Opening) Cause
+opening_part due n lines =
+    then_part (first_part due n lines) (λ version n lines.
     then_part (setup_part n lines) (λ setup n left. opening_in version n left setup))
 
 -- ---- the start
@@ -150,7 +155,7 @@ or_bad (Err cause) next = bad None cause
 
 unfoldable pub verdict_of_lines : List (List ℕ) → Verdict
 verdict_of_lines all =
-    or_bad (opening_part version_of 0 all) (λ opening n more.
+    or_bad (opening_part JournalLine 0 all) (λ opening n more.
     or_bad (start_part n more) (λ start n more. from_read opening.version opening.setup start (read_events opening.version start n more)))
 
 -- line 1 is `kact journal V` with V 1 or 2, the version, in which `lost` is a word of an event exactly where it is 2; then

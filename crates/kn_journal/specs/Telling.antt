@@ -94,13 +94,14 @@ IsEventFault _ = ⊥
 abbrev pub refused_line : Option ℕ → JournalError → Option ℕ
 refused_line first error.ReadFault = None
 refused_line first (error.LineTooLong n) = Some n
-refused_line first error.BadFirstLine = first
+refused_line first (error.BadFirstLine due) = first
 refused_line first (error.BadSetup n why) = Some n
 refused_line first (error.BadLine n why) = Some n
 refused_line first (error.TimeBack n before own) = Some n
 refused_line first (error.TimeTooLarge n) = Some n
 refused_line first error.NoEnd = None
 refused_line first (error.AfterEnd n) = Some n
+refused_line first (error.TooMany n) = Some n
 refused_line first error.Memory = None
 
 -- after line n some lines were taken, of which the refused one is the last. They are refused so by themselves, and all that came

@@ -1,4 +1,4 @@
-//! The first line of a journal.
+//! The first line of an input, which names its form and a version.
 ghost use Rattle.std.specs.Prelude.{◌≡◌, ◌≤◌, IfOk};
 ghost use Rattle.kn_journal.specs.Journal.{first_in, version_by};
 ghost use Rattle.kn_journal.specs.Telling.{Judges};
@@ -6,10 +6,12 @@ ghost use Rattle.kn_journal.specs.Telling.{Judges};
 use crate::error::JournalError;
 
 /// A first line that names a version.
-#[derive(Clone, Copy)]
+#[derive(Clone, Copy, Debug, PartialEq, Eq)]
 pub enum FirstLine {
     /// `kact journal 1` or `kact journal 2`.
     Journal,
+    /// `kact workload 1`.
+    Workload,
 }
 
 impl FirstLine {
@@ -25,18 +27,23 @@ impl FirstLine {
             } else {
                 None
             },
+            FirstLine::Workload => if line == b"kact workload 1".as_slice() {
+                Some(1)
+            } else {
+                None
+            },
         }
     }
 }
 
 /// The version that the line of this number names.
 pub fn judge_first(line: &[u8], number: u64, first: FirstLine) -> Result<u64, JournalError>
-    ensures judges { Judges (first_in (version_by first)) number line.now result }
+    ensures judges { Judges (first_in first) number line.now result }
     ensures least { IfOk result (λ version. 1 ≤ version) }
     ensures most { IfOk result (λ version. version ≤ 2) }
 {
     match first.version(line) {
         Some(version) => Ok(version),
-        None => Err(JournalError::BadFirstLine),
+        None => Err(JournalError::BadFirstLine(first)),
     }
 }

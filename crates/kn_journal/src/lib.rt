@@ -15,8 +15,11 @@ mod status;
 mod write;
 
 pub use error::{JournalError, SetupError};
-pub use journal::{Events, Journal, Setup};
+pub use first::FirstLine;
+pub use journal::{Events, Journal, Opening, Setup};
 pub use laws::{journals_are_read, openings_are_whole};
+pub use parts::{Lines, TIME_MOST};
 pub use reader::JournalReader;
+pub use setup::read_opening;
 pub use status::Status;
 pub use write::write_journal;

@@ -6,7 +6,7 @@ ghost use Rattle.kn_journal.specs.Lines.{fits, line_most, lines};
 ghost use Rattle.kn_journal.specs.Reading.{Counts, TakesLine, TakesPart, TakesText, most_taken, unread};
 ghost use Rattle.kn_journal.specs.Drawing.{Draws, error_in};
 ghost use Rattle.kn_journal.specs.Telling.{IsCauseOf, IsEventFault, IsLineFault, Judges, Lacks, LeavesRest, OnEvent, TakesEnd, Tells};
-ghost use Rattle.kn_journal.specs.Journal.{first_part, in_time, next_part, nothing_part, start_line_in, start_of, start_part, time_most, version_by};
+ghost use Rattle.kn_journal.specs.Journal.{first_part, in_time, next_part, nothing_part, start_line_in, start_of, start_part, time_most};
 
 use crate::error::JournalError;
 use crate::first::{FirstLine, judge_first};
@@ -21,7 +21,7 @@ use std::alloc::Global;
 use std::marker::Model;
 
 /// The greatest time, in milliseconds.
-const TIME_MOST: u64 = 1 << 42;
+pub const TIME_MOST: u64 = 1 << 42;
 
 /// The time of `start T`, or its first fault.
 #[tactic(auto, unfolding(crate::specs::Journal::start_of))]
@@ -186,8 +186,8 @@ impl Lines {
         source: &mut S,
         first: FirstLine,
     ) -> Result<u64, JournalError>
-        ensures tells { Tells (first_part (version_by first) self.old.number) self.new.number (unread self.old.input (S.left source.old)) (unread self.new.input (S.left source.new)) result }
-        ensures rest { IfErr result (λ e. IsLineFault e → LeavesRest (first_part (version_by first) self.old.number) self.old.number (Some (self.old.number + 1)) e (unread self.old.input (S.left source.old)) (unread self.new.input (S.left source.new))) }
+        ensures tells { Tells (first_part first self.old.number) self.new.number (unread self.old.input (S.left source.old)) (unread self.new.input (S.left source.new)) result }
+        ensures rest { IfErr result (λ e. IsLineFault e → LeavesRest (first_part first self.old.number) self.old.number (Some (self.old.number + 1)) e (unread self.old.input (S.left source.old)) (unread self.new.input (S.left source.new))) }
         ensures text { OnOk result (TakesText self.new.cut (unread self.old.input (S.left source.old)) (unread self.new.input (S.left source.new))) }
         ensures least { IfOk result (λ version. 1 ≤ version) }
         ensures most { IfOk result (λ version. version ≤ 2) }

@@ -4,7 +4,7 @@ ghost use Rattle.kn_io.specs.Causes.{Rose};
 ghost use Rattle.kn_event.specs.EventLine.{IsInJournalRange, IsInVersion};
 ghost use Rattle.kn_journal.specs.Reading.{IsBalanced, IsSpent, TakesPart, TakesText, most_taken, unread};
 ghost use Rattle.kn_journal.specs.Telling.{IsEventFault, IsLineFault, LeavesRest, OnEvent, TakesEnd, StopsAmid, Tells, TellsOpening};
-ghost use Rattle.kn_journal.specs.Journal.{IsSetup, next_part, nothing_part, opening_part, start_part, time_most, version_of};
+ghost use Rattle.kn_journal.specs.Journal.{IsSetup, next_part, nothing_part, opening_part, start_part, time_most};
 
 use crate::error::JournalError;
 use crate::first::FirstLine;
@@ -92,14 +92,14 @@ impl JournalReader {
 
     /// Reads the version and the setup. The setup's text reads as that setup, also of a source that doesn't tell its bytes.
     pub fn setup<S: Source>(&mut self, alloc: Global, source: &mut S) -> Result<Setup, JournalError>
-        ensures tells { self.old.failed ≡ None → TellsOpening (opening_part version_of self.old.number) self.new.version self.new.number (unread self.old.input (S.left source.old)) (unread self.new.input (S.left source.new)) result }
-        ensures rest { self.old.failed ≡ None → IfErr result (λ e. IsLineFault e → LeavesRest (opening_part version_of self.old.number) self.old.number (Some (self.old.number + 1)) e (unread self.old.input (S.left source.old)) (unread self.new.input (S.left source.new))) }
+        ensures tells { self.old.failed ≡ None → TellsOpening (opening_part FirstLine.Journal self.old.number) self.new.version self.new.number (unread self.old.input (S.left source.old)) (unread self.new.input (S.left source.new)) result }
+        ensures rest { self.old.failed ≡ None → IfErr result (λ e. IsLineFault e → LeavesRest (opening_part FirstLine.Journal self.old.number) self.old.number (Some (self.old.number + 1)) e (unread self.old.input (S.left source.old)) (unread self.new.input (S.left source.new))) }
         ensures text { OnOk result (TakesText self.new.cut (unread self.old.input (S.left source.old)) (unread self.new.input (S.left source.new))) }
         ensures kept { IfOk result IsSetup }
         ensures least { OnOk result (1 ≤ self.new.version) }
         ensures most { OnOk result (self.new.version ≤ 2) }
         ensures version { OnErr result (self.new.version ≡ self.old.version) }
-        ensures amid { self.old.failed ≡ None → result ≡ Err JournalError.ReadFault → StopsAmid (opening_part version_of self.old.number) (unread self.old.input (S.left source.old)) (unread self.new.input (S.left source.new)) }
+        ensures amid { self.old.failed ≡ None → result ≡ Err JournalError.ReadFault → StopsAmid (opening_part FirstLine.Journal self.old.number) (unread self.old.input (S.left source.old)) (unread self.new.input (S.left source.new)) }
         ensures spent { self.old.failed ≡ None → result ≡ Err JournalError.ReadFault → IsSpent self.new.input }
         ensures fault { self.old.failed ≡ None → result ≡ Err JournalError.ReadFault → Rose (S.Faulty.faults source.old) (S.Faulty.faults source.new) ⊎ (self.new.input.taken ≡ most_taken) }
         ensures again { IfSome self.old.failed (λ e. result ≡ Err e) }

@@ -3,7 +3,7 @@ ghost use Rattle.std.specs.Prelude.{◌≡◌, ℕ, ◌+◌, ◌≤◌, ◌++◌
 ghost use Rattle.kn_event.specs.Ranges.{AreSlots};
 ghost use Rattle.kn_config.specs.Config.{IsConfig};
 ghost use Rattle.kn_event.specs.FixedSpec.{fixed_spec};
-ghost use Rattle.kn_journal.specs.Journal.{IsSetup, opening_part, version_by};
+ghost use Rattle.kn_journal.specs.Journal.{IsSetup, opening_part};
 ghost use Rattle.kn_journal.specs.Setup.{IsBlockText, ReadsBack, behind_line, block_part, blocks_part, blocks_text, revision_part, setup_of, setup_part, word_in, word_part};
 ghost use Rattle.kn_journal.specs.Lines.{ends_with_cr};
 ghost use Rattle.kn_journal.specs.SetupLine.{IsSetupLine};
@@ -333,10 +333,10 @@ pub fn read_opening<S: Source>(
     first: FirstLine,
 ) -> Result<Opening, JournalError>
     ensures kept { IfOk result (λ opening. IsSetup opening.setup) }
-    ensures tells { Tells (opening_part (version_by first) lines.old.number) lines.new.number (unread lines.old.input (S.left source.old)) (unread lines.new.input (S.left source.new)) result }
+    ensures tells { Tells (opening_part first lines.old.number) lines.new.number (unread lines.old.input (S.left source.old)) (unread lines.new.input (S.left source.new)) result }
     ensures text { OnOk result (TakesText lines.new.cut (unread lines.old.input (S.left source.old)) (unread lines.new.input (S.left source.new))) }
-    ensures rest { IfErr result (λ e. IsLineFault e → LeavesRest (opening_part (version_by first) lines.old.number) lines.old.number (Some (lines.old.number + 1)) e (unread lines.old.input (S.left source.old)) (unread lines.new.input (S.left source.new))) }
-    ensures source { Draws (StopsAmid (opening_part (version_by first) lines.old.number)) (error_in result) lines.old.input lines.new.input S.Source.own S.Faulty source.old source.new }
+    ensures rest { IfErr result (λ e. IsLineFault e → LeavesRest (opening_part first lines.old.number) lines.old.number (Some (lines.old.number + 1)) e (unread lines.old.input (S.left source.old)) (unread lines.new.input (S.left source.new))) }
+    ensures source { Draws (StopsAmid (opening_part first lines.old.number)) (error_in result) lines.old.input lines.new.input S.Source.own S.Faulty source.old source.new }
     ensures least { IfOk result (λ opening. 1 ≤ opening.version) }
     ensures most { IfOk result (λ opening. opening.version ≤ 2) }
 {

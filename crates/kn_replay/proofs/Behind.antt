@@ -2,6 +2,7 @@
 use Rattle.std.proofs.Common.{◌≡◌, ◌+◌, ℕ, List, ◌++◌, length, length-append, append_assoc, arith, refl, sym, ap, ◌∙◌, subst, inl, inr}
 use Rattle.std.specs.Prelude.{Option, None, Some, Ok, Err}
 use Rattle.kn_event.specs.declared.event.Event.{Event}
+use Rattle.kn_journal.specs.declared.first.FirstLine.TheVariants.{Journal as JournalLine}
 use Rattle.kn_journal.specs.declared.error.JournalError.{JournalError}
 use Rattle.kn_journal.specs.declared.error.JournalError.TheVariants as error
 use Rattle.kn_journal.specs.declared.journal.Opening.{Opening}
@@ -10,7 +11,7 @@ use Rattle.kn_journal.specs.declared.status.Status.{Status}
 use Rattle.kn_journal.specs.Causes.{Cause}
 use Rattle.kn_journal.specs.Lines.{lines}
 use Rattle.kn_journal.specs.Parts.{IsWhole, part}
-use Rattle.kn_journal.specs.Journal.{Read, Verdict, bad, from_read, journal_of, next_part, none_read, opening_part, read_events, start_part, verdict_of_lines, version_of}
+use Rattle.kn_journal.specs.Journal.{Read, Verdict, bad, from_read, journal_of, next_part, none_read, opening_part, read_events, start_part, verdict_of_lines}
 use Rattle.kn_journal.specs.Telling.{Gives, IsLineFault, LeavesRest, refused_line}
 use Rattle.kn_replay.specs.Replaying.{FollowsBehind, IsBehind, IsRefusal, Opens, Stops, line_of, refusal_of, status_by, status_of}
 use Rattle.kn_replay.proofs.Lines.{next_refused, with_events}
@@ -21,7 +22,7 @@ use Rattle.kn_replay.proofs.Replays.{GoesOn, status_is}
 is_refused : (e : JournalError) → IsRefusal (status_of e) → IsLineFault e
 is_refused error.ReadFault h = absurd h
 is_refused error.Memory h = absurd h
-is_refused error.BadFirstLine h = h
+is_refused (error.BadFirstLine due) h = h
 is_refused (error.BadSetup line why) h = h
 is_refused (error.LineTooLong line) h = h
 is_refused (error.BadLine line why) h = h
@@ -29,6 +30,7 @@ is_refused (error.TimeBack line before own) h = h
 is_refused (error.TimeTooLarge line) h = h
 is_refused error.NoEnd h = h
 is_refused (error.AfterEnd line) h = h
+is_refused (error.TooMany line) h = h
 
 pub stop_refused : (waiting : List ℕ) (old new : Option (List ℕ)) (e : JournalError) (result : Status) → Stops waiting old new (status_of e) result → IsRefusal result → (result ≡ status_of e) × IsLineFault e
 stop_refused waiting old new e result (inl (is, all)) h = (is, is_refused e (subst IsRefusal is h))
@@ -45,7 +47,7 @@ no_first k h = cc
 line_named : (first : Option ℕ) (k : ℕ) (e : JournalError) → (first ≡ Some k → Some 1 ≡ Some k) → refused_line first e ≡ Some k → line_of (status_of e) ≡ Some k
 line_named first k error.ReadFault one h = h
 line_named first k error.Memory one h = h
-line_named first k error.BadFirstLine one h = one h
+line_named first k (error.BadFirstLine due) one h = one h
 line_named first k (error.BadSetup line why) one h = h
 line_named first k (error.LineTooLong line) one h = h
 line_named first k (error.BadLine line why) one h = h
@@ -53,25 +55,26 @@ line_named first k (error.TimeBack line before own) one h = h
 line_named first k (error.TimeTooLarge line) one h = h
 line_named first k error.NoEnd one h = h
 line_named first k (error.AfterEnd line) one h = h
+line_named first k (error.TooMany line) one h = h
 
 status_on : (own : List (List ℕ)) (v : Verdict) → verdict_of_lines own ≡ v → status_by (refusal_of (verdict_of_lines own)) ≡ status_by (refusal_of v)
 status_on own v h = ap (λ (x : Verdict). status_by (refusal_of x)) h
 
 -- ---- before the events
 
-pub lines_unopened : (own : List (List ℕ)) (cause : Cause) → opening_part version_of 0 own ≡ Err cause → verdict_of_lines own ≡ bad None cause
+pub lines_unopened : (own : List (List ℕ)) (cause : Cause) → opening_part JournalLine 0 own ≡ Err cause → verdict_of_lines own ≡ bad None cause
 unfolding verdict_of_lines
 lines_unopened own cause h = rw h refl
 
-pub lines_unstarted : (own : List (List ℕ)) (opening : Opening) (n : ℕ) (left : List (List ℕ)) (cause : Cause) → opening_part version_of 0 own ≡ Ok (part opening n left) → start_part n left ≡ Err cause
+pub lines_unstarted : (own : List (List ℕ)) (opening : Opening) (n : ℕ) (left : List (List ℕ)) (cause : Cause) → opening_part JournalLine 0 own ≡ Ok (part opening n left) → start_part n left ≡ Err cause
     → verdict_of_lines own ≡ bad None cause
 unfolding verdict_of_lines
 lines_unstarted own opening n left cause h k = rw h (rw k refl)
 
-pub setup_behind : (known new : Option (List ℕ)) (e : JournalError) → (IsLineFault e → LeavesRest (opening_part version_of 0) 0 (Some 1) e known new) → IsRefusal (status_of e) → IsBehind (status_of e) known new
+pub setup_behind : (known new : Option (List ℕ)) (e : JournalError) → (IsLineFault e → LeavesRest (opening_part JournalLine 0) 0 (Some 1) e known new) → IsRefusal (status_of e) → IsBehind (status_of e) known new
 setup_behind known new e h refused = by_known known new (h (is_refused e refused))
   where
-    by_known : (a b : Option (List ℕ)) → LeavesRest (opening_part version_of 0) 0 (Some 1) e a b → IsBehind (status_of e) a b
+    by_known : (a b : Option (List ℕ)) → LeavesRest (opening_part JournalLine 0) 0 (Some 1) e a b → IsBehind (status_of e) a b
     by_known None b k = tt
     by_known (Some xs) None k = absurd k
     by_known (Some xs) (Some ys) (own, split, named, (cause, is, none)) =
@@ -80,16 +83,16 @@ setup_behind known new e h refused = by_known known new (h (is_refused e refused
 
 -- an opening is read by itself, and so is a start
 abbrev pub AreOpenings : Type 0
-AreOpenings = (ls left : List (List ℕ)) (o : Opening) (n : ℕ) → opening_part version_of 0 ls ≡ Ok (part o n left) → IsWhole 0 (opening_part version_of 0) ls o n left
+AreOpenings = (ls left : List (List ℕ)) (o : Opening) (n : ℕ) → opening_part JournalLine 0 ls ≡ Ok (part o n left) → IsWhole 0 (opening_part JournalLine 0) ls o n left
 
 abbrev pub AreStarts : Type 0
 AreStarts = (m : ℕ) (ls left : List (List ℕ)) (time n : ℕ) → start_part m ls ≡ Ok (part time n left) → IsWhole m (start_part m) ls time n left
 
-pub start_behind : (known mid new : Option (List ℕ)) (opening : Opening) (n : ℕ) (e : JournalError) → AreOpenings → Gives (opening_part version_of 0) opening n known mid
+pub start_behind : (known mid new : Option (List ℕ)) (opening : Opening) (n : ℕ) (e : JournalError) → AreOpenings → Gives (opening_part JournalLine 0) opening n known mid
     → (IsLineFault e → LeavesRest (start_part n) n None e mid new) → IsRefusal (status_of e) → IsBehind (status_of e) known new
 start_behind known mid new opening n e whole gives h refused = by_known known mid new gives (h (is_refused e refused))
   where
-    by_known : (a b d : Option (List ℕ)) → Gives (opening_part version_of 0) opening n a b → LeavesRest (start_part n) n None e b d → IsBehind (status_of e) a d
+    by_known : (a b d : Option (List ℕ)) → Gives (opening_part JournalLine 0) opening n a b → LeavesRest (start_part n) n None e b d → IsBehind (status_of e) a d
     by_known None b d g k = tt
     by_known (Some xs) None d g k = absurd g
     by_known (Some xs) (Some ys) None g k = absurd k
@@ -122,7 +125,7 @@ goes_behind version last number (Some xs) es time m (Some ys) (Some zs) e result
 
 -- ---- the whole
 
-pub lines_read : (own : List (List ℕ)) (version : ℕ) (setup : Setup) (start at number : ℕ) (after left : List (List ℕ)) → opening_part version_of 0 own ≡ Ok (part (record { version = version; setup = setup }) at after)
+pub lines_read : (own : List (List ℕ)) (version : ℕ) (setup : Setup) (start at number : ℕ) (after left : List (List ℕ)) → opening_part JournalLine 0 own ≡ Ok (part (record { version = version; setup = setup }) at after)
     → start_part at after ≡ Ok (part start number left) → verdict_of_lines own ≡ from_read version setup start (read_events version start number left)
 unfolding verdict_of_lines
 lines_read own version setup start at number after left h k = rw h (rw k refl)

@@ -16,7 +16,7 @@ use Rattle.kn_journal.specs.declared.error.JournalError.{JournalError}
 use Rattle.kn_journal.specs.declared.error.JournalError.TheVariants as error
 use Rattle.kn_journal.specs.declared.status.Status.{Status}
 use Rattle.kn_journal.specs.declared.status.Status.TheVariants as status
-use Rattle.kn_journal.specs.Causes.{Cause, after_end, bad_line, error_of, line_too_long, no_end, time_back, time_too_large}
+use Rattle.kn_journal.specs.Causes.{Cause, after_end, bad_line, error_of, line_too_long, no_end, time_back, time_too_large, too_many}
 use Rattle.kn_journal.specs.Lines.{fits, lines}
 use Rattle.kn_journal.specs.Parts.{Part, part}
 use Rattle.kn_journal.specs.declared.journal.Opening.{Opening}
@@ -128,7 +128,7 @@ soon_stopped : (version last n : ℕ) (ys : List ℕ) (left : Option (List ℕ))
     → (IsLineFault e → LeavesRest (next_part version last n) n None e (Some ys) left) → StopsSoon (lines ys) left
 soon_stopped version last n ys left error.ReadFault g amid memory rest = soon_amid ys left (amid refl)
 soon_stopped version last n ys left error.Memory g amid memory rest = absurd (memory refl)
-soon_stopped version last n ys left error.BadFirstLine (cause, is, g) amid memory rest = soon_refused version last n ys left cause _ is g rest
+soon_stopped version last n ys left (error.BadFirstLine due) (cause, is, g) amid memory rest = soon_refused version last n ys left cause _ is g rest
 soon_stopped version last n ys left (error.BadSetup line why) (cause, is, g) amid memory rest = soon_refused version last n ys left cause _ is g rest
 soon_stopped version last n ys left (error.LineTooLong line) (cause, is, g) amid memory rest = soon_refused version last n ys left cause _ is g rest
 soon_stopped version last n ys left (error.BadLine line why) (cause, is, g) amid memory rest = soon_refused version last n ys left cause _ is g rest
@@ -136,6 +136,7 @@ soon_stopped version last n ys left (error.TimeBack line before own) (cause, is,
 soon_stopped version last n ys left (error.TimeTooLarge line) (cause, is, g) amid memory rest = soon_refused version last n ys left cause _ is g rest
 soon_stopped version last n ys left error.NoEnd (cause, is, g) amid memory rest = soon_refused version last n ys left cause _ is g rest
 soon_stopped version last n ys left (error.AfterEnd line) (cause, is, g) amid memory rest = soon_refused version last n ys left cause _ is g rest
+soon_stopped version last n ys left (error.TooMany line) (cause, is, g) amid memory rest = soon_refused version last n ys left cause _ is g rest
 
 -- behind `end`
 soon_ended : (version last n : ℕ) (all : List (List ℕ)) (m : ℕ) (zs : List ℕ) → next_part version last n all ≡ Ok (part None m (lines zs)) → StopsSoon all (Some zs)

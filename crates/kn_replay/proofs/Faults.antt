@@ -10,6 +10,7 @@ use Rattle.kn_trace.specs.Events.{added, opening}
 use Rattle.kn_trace.specs.Report.{rows_text}
 use Rattle.kn_journal.specs.declared.error.JournalError.{JournalError}
 use Rattle.kn_journal.specs.declared.error.JournalError.TheVariants as error
+use Rattle.kn_journal.specs.declared.first.FirstLine.TheVariants.{Journal as JournalLine}
 use Rattle.kn_journal.specs.declared.journal.Journal.{Journal}
 use Rattle.kn_journal.specs.declared.journal.Opening.{Opening}
 use Rattle.kn_journal.specs.declared.journal.Setup.{Setup}
@@ -18,7 +19,7 @@ use Rattle.kn_journal.specs.declared.status.Status.TheVariants as status
 use Rattle.kn_journal.specs.Causes.{Cause, error_of, no_end}
 use Rattle.kn_journal.specs.Lines.{lines}
 use Rattle.kn_journal.specs.Parts.{part}
-use Rattle.kn_journal.specs.Journal.{Read, Verdict, bad, from_read, journal_of, next_part, opening_part, read_events, start_part, verdict, verdict_of_lines, version_of}
+use Rattle.kn_journal.specs.Journal.{Read, Verdict, bad, from_read, journal_of, next_part, opening_part, read_events, start_part, verdict, verdict_of_lines}
 use Rattle.kn_journal.specs.Reading.{AreWhole, EndsWithLf, IsCutOff, TakesPart, TakesText, most_taken}
 use Rattle.kn_journal.specs.Telling.{Gives, Refuses, StopsAmid, TakesEnd}
 use Rattle.kn_journal.proofs.Tellings.{lines-nil}
@@ -165,7 +166,7 @@ goes_stop first over version s c last number (Some xs) waiting now old mid new e
     by_error error.ReadFault r at is_uncut none stopped =
         fault_at first version s c last number xs waiting now old mid new es time m ys text left result h split (subst (λ (b : Bool). IsSoFar first b text ys) (is_uncut refl) so) (at refl) adds stopped
     by_error error.Memory r at is_uncut none stopped = absurd (none refl)
-    by_error error.BadFirstLine r at is_uncut none stopped = refuses error.BadFirstLine r stopped
+    by_error (error.BadFirstLine due) r at is_uncut none stopped = refuses (error.BadFirstLine due) r stopped
     by_error (error.BadSetup line why) r at is_uncut none stopped = refuses (error.BadSetup line why) r stopped
     by_error (error.LineTooLong line) r at is_uncut none stopped = refuses (error.LineTooLong line) r stopped
     by_error (error.BadLine line why) r at is_uncut none stopped = refuses (error.BadLine line why) r stopped
@@ -173,6 +174,7 @@ goes_stop first over version s c last number (Some xs) waiting now old mid new e
     by_error (error.TimeTooLarge line) r at is_uncut none stopped = refuses (error.TimeTooLarge line) r stopped
     by_error error.NoEnd r at is_uncut none stopped = refuses error.NoEnd r stopped
     by_error (error.AfterEnd line) r at is_uncut none stopped = refuses (error.AfterEnd line) r stopped
+    by_error (error.TooMany line) r at is_uncut none stopped = refuses (error.TooMany line) r stopped
 
 -- what waited couldn't be written
 pub goes_unwritten : (first : Bool) (version : ℕ) (s : Spec) (c : Trace) (last number : ℕ) (known : Option (List ℕ)) (waiting now : List ℕ) (old mid new : Option (List ℕ)) (es : List Event) (time m : ℕ) (rest : Option (List ℕ))
@@ -190,17 +192,17 @@ of_lines : (bytes : List ℕ) (v : Verdict) → verdict_of_lines (lines bytes) �
 unfolding verdict
 of_lines bytes v h = h
 
-amid_opening : (xs : List ℕ) (left : Option (List ℕ)) → StopsAmid (opening_part version_of 0) (Some xs) left → BreaksBefore xs left
+amid_opening : (xs : List ℕ) (left : Option (List ℕ)) → StopsAmid (opening_part JournalLine 0) (Some xs) left → BreaksBefore xs left
 amid_opening xs None h = absurd h
 amid_opening xs (Some ys) (text, mid, split, whole, none, rest) =
     record { bytes = text; mid = mid; split = split; whole = whole; reads = of_lines text (bad None no_end) (lines_unopened (lines text) no_end none); rest = rest }
 
-pub setup_fails : (known new : Option (List ℕ)) (version number : ℕ) (e : JournalError) → Refuses (opening_part version_of 0) e known
-    → (e ≡ error.ReadFault → StopsAmid (opening_part version_of 0) known new) → Opens known new version number (Err e)
+pub setup_fails : (known new : Option (List ℕ)) (version number : ℕ) (e : JournalError) → Refuses (opening_part JournalLine 0) e known
+    → (e ≡ error.ReadFault → StopsAmid (opening_part JournalLine 0) known new) → Opens known new version number (Err e)
 setup_fails None new version number e h amid = tt
 setup_fails (Some xs) new version number error.ReadFault h amid = amid_opening xs new (amid refl)
 setup_fails (Some xs) new version number error.Memory h amid = tt
-setup_fails (Some xs) new version number error.BadFirstLine (cause, is, h) amid = (cause, is, verdict_unopened xs cause h)
+setup_fails (Some xs) new version number (error.BadFirstLine due) (cause, is, h) amid = (cause, is, verdict_unopened xs cause h)
 setup_fails (Some xs) new version number (error.BadSetup line why) (cause, is, h) amid = (cause, is, verdict_unopened xs cause h)
 setup_fails (Some xs) new version number (error.LineTooLong line) (cause, is, h) amid = (cause, is, verdict_unopened xs cause h)
 setup_fails (Some xs) new version number (error.BadLine line why) (cause, is, h) amid = (cause, is, verdict_unopened xs cause h)
@@ -208,28 +210,29 @@ setup_fails (Some xs) new version number (error.TimeBack line before own) (cause
 setup_fails (Some xs) new version number (error.TimeTooLarge line) (cause, is, h) amid = (cause, is, verdict_unopened xs cause h)
 setup_fails (Some xs) new version number error.NoEnd (cause, is, h) amid = (cause, is, verdict_unopened xs cause h)
 setup_fails (Some xs) new version number (error.AfterEnd line) (cause, is, h) amid = (cause, is, verdict_unopened xs cause h)
+setup_fails (Some xs) new version number (error.TooMany line) (cause, is, h) amid = (cause, is, verdict_unopened xs cause h)
 
 no_start : (n : ℕ) → start_part n [] ≡ Err no_end
 unfolding start_part
 no_start n = refl
 
 -- a setup was read, and behind it no line
-behind_setup : (xs text ys : List ℕ) (over : Bool) (left : Option (List ℕ)) (opening : Opening) (n : ℕ) → AreOpenings → opening_part version_of 0 (lines xs) ≡ Ok (part opening n (lines ys))
+behind_setup : (xs text ys : List ℕ) (over : Bool) (left : Option (List ℕ)) (opening : Opening) (n : ℕ) → AreOpenings → opening_part JournalLine 0 (lines xs) ≡ Ok (part opening n (lines ys))
     → xs ≡ text ++ ys → IsCutOff over text ys → TakesPart (Some ys) left → BreaksBefore xs left
 behind_setup xs text ys over left opening n are gives split cut rest =
     let w = are (lines xs) (lines ys) opening n gives in
     let whole = whole-cut over text ys cut in
     let own : lines text ≡ w.own ++ [] = lines-own xs text ys w.own split whole w.split ∙ sym (append-nil w.own) in
-    let read : opening_part version_of 0 (lines text) ≡ Ok (part opening n []) = ap (opening_part version_of 0) own ∙ w.alone [] in
+    let read : opening_part JournalLine 0 (lines text) ≡ Ok (part opening n []) = ap (opening_part JournalLine 0) own ∙ w.alone [] in
     record { bytes = text; mid = ys; split = split; whole = whole; reads = of_lines text (bad None no_end) (lines_unstarted (lines text) opening n [] no_end read (no_start n)); rest = rest }
 
-pub start_fails : (known mid new : Option (List ℕ)) (over : Bool) (opening : Opening) (n version number : ℕ) (e : JournalError) → AreOpenings → Gives (opening_part version_of 0) opening n known mid → TakesText over known mid
+pub start_fails : (known mid new : Option (List ℕ)) (over : Bool) (opening : Opening) (n version number : ℕ) (e : JournalError) → AreOpenings → Gives (opening_part JournalLine 0) opening n known mid → TakesText over known mid
     → Refuses (start_part n) e mid → (e ≡ error.ReadFault → TakesPart mid new) → Opens known new version number (Err e)
 start_fails None mid new over opening n version number e are g text h amid = tt
 start_fails (Some xs) None new over opening n version number e are g text h amid = absurd g
 start_fails (Some xs) (Some ys) new over opening n version number error.ReadFault are g (text, split, cut) h amid = behind_setup xs text ys over new opening n are g split cut (amid refl)
 start_fails (Some xs) (Some ys) new over opening n version number error.Memory are g text h amid = tt
-start_fails (Some xs) (Some ys) new over opening n version number error.BadFirstLine are g text (cause, is, h) amid = (cause, is, verdict_unstarted xs opening n (lines ys) cause g h)
+start_fails (Some xs) (Some ys) new over opening n version number (error.BadFirstLine due) are g text (cause, is, h) amid = (cause, is, verdict_unstarted xs opening n (lines ys) cause g h)
 start_fails (Some xs) (Some ys) new over opening n version number (error.BadSetup line why) are g text (cause, is, h) amid = (cause, is, verdict_unstarted xs opening n (lines ys) cause g h)
 start_fails (Some xs) (Some ys) new over opening n version number (error.LineTooLong line) are g text (cause, is, h) amid = (cause, is, verdict_unstarted xs opening n (lines ys) cause g h)
 start_fails (Some xs) (Some ys) new over opening n version number (error.BadLine line why) are g text (cause, is, h) amid = (cause, is, verdict_unstarted xs opening n (lines ys) cause g h)
@@ -237,9 +240,10 @@ start_fails (Some xs) (Some ys) new over opening n version number (error.TimeBac
 start_fails (Some xs) (Some ys) new over opening n version number (error.TimeTooLarge line) are g text (cause, is, h) amid = (cause, is, verdict_unstarted xs opening n (lines ys) cause g h)
 start_fails (Some xs) (Some ys) new over opening n version number error.NoEnd are g text (cause, is, h) amid = (cause, is, verdict_unstarted xs opening n (lines ys) cause g h)
 start_fails (Some xs) (Some ys) new over opening n version number (error.AfterEnd line) are g text (cause, is, h) amid = (cause, is, verdict_unstarted xs opening n (lines ys) cause g h)
+start_fails (Some xs) (Some ys) new over opening n version number (error.TooMany line) are g text (cause, is, h) amid = (cause, is, verdict_unstarted xs opening n (lines ys) cause g h)
 
 -- a setup and a start were read
-pub opens_well : (known mid new : Option (List ℕ)) (version : ℕ) (setup : Setup) (n start number : ℕ) → Gives (opening_part version_of 0) (record { version = version; setup = setup }) n known mid
+pub opens_well : (known mid new : Option (List ℕ)) (version : ℕ) (setup : Setup) (n start number : ℕ) → Gives (opening_part JournalLine 0) (record { version = version; setup = setup }) n known mid
     → Gives (start_part n) start number mid new → Opens known new version number (Ok (setup, start))
 opens_well None mid new version setup n start number g k = tt
 opens_well (Some xs) None new version setup n start number g k = absurd g

@@ -8,13 +8,14 @@ use Rattle.kn_event.specs.declared.event.Event.{Event}
 use Rattle.kn_event.specs.declared.fault.LineError.{LineError}
 use Rattle.kn_event.specs.EventLine.{event_of, IsInVersion, Spells}
 use Rattle.kn_laws.specs.Losses.{AreNoLosses}
+use Rattle.kn_journal.specs.declared.first.FirstLine.TheVariants.{Journal as JournalLine}
 use Rattle.kn_journal.specs.declared.journal.Opening.{Opening}
 use Rattle.kn_journal.specs.declared.journal.Setup.{Setup}
 use Rattle.kn_journal.specs.Causes.{Cause, line_too_long, time_back, time_too_large}
 use Rattle.kn_journal.specs.Lines.{fits, lines}
 use Rattle.kn_journal.specs.Parts.{Part}
 use Rattle.kn_journal.specs.declared.journal.Journal.{Journal}
-use Rattle.kn_journal.specs.Journal.{Read, Verdict, bad, end_part, event_in, from_read, good, in_time, journal_of, next_part, nothing_part, opening_part, or_bad, read_events, start_part, then_events, time_most, verdict, verdict_of_lines, verdict_on, version_of}
+use Rattle.kn_journal.specs.Journal.{Read, Verdict, bad, end_part, event_in, from_read, good, in_time, journal_of, next_part, nothing_part, opening_part, or_bad, read_events, start_part, then_events, time_most, verdict, verdict_of_lines, verdict_on}
 use Rattle.kn_replay.specs.Report.{OnJournal, OnJournalOf}
 use Rattle.kn_replay.proofs.Lines.{end_after}
 
@@ -86,7 +87,7 @@ of_opening spelled (Err cause) = tt
 
 of_bytes : AreSpelled → (xs : List ℕ) → OnJournal (verdict xs) LosesNoPod
 unfolding verdict verdict_of_lines
-of_bytes spelled xs = of_opening spelled (opening_part version_of 0 (lines xs))
+of_bytes spelled xs = of_opening spelled (opening_part JournalLine 0 (lines xs))
 
 on_so : (v : Verdict) (P Q : Journal → Type 0) → ((j : Journal) → P j → Q j) → OnJournal v P → OnJournal v Q
 on_so (good j) P Q h p = h j p

@@ -14,6 +14,7 @@ use Rattle.kn_trace.specs.Trace.{Trace}
 use Rattle.kn_trace.specs.Events.{added, opening, react, trace_of}
 use Rattle.kn_trace.specs.Report.{last_line, rows_text, totals}
 use Rattle.kn_core.specs.Steps.{IsWithinRange}
+use Rattle.kn_journal.specs.declared.first.FirstLine.TheVariants.{Journal as JournalLine}
 use Rattle.kn_journal.specs.declared.error.JournalError.{JournalError}
 use Rattle.kn_journal.specs.declared.error.JournalError.TheVariants as error
 use Rattle.kn_journal.specs.declared.journal.Journal.{Journal}
@@ -21,10 +22,10 @@ use Rattle.kn_journal.specs.declared.journal.Opening.{Opening}
 use Rattle.kn_journal.specs.declared.journal.Setup.{Setup}
 use Rattle.kn_journal.specs.declared.status.Status.{Status}
 use Rattle.kn_journal.specs.declared.status.Status.TheVariants as status
-use Rattle.kn_journal.specs.Causes.{Cause, after_end, bad_first_line, bad_line, bad_setup, error_of, line_too_long, no_end, time_back, time_too_large}
+use Rattle.kn_journal.specs.Causes.{Cause, after_end, bad_first_line, bad_line, bad_setup, error_of, line_too_long, no_end, time_back, time_too_large, too_many}
 use Rattle.kn_journal.specs.Lines.{lines}
 use Rattle.kn_journal.specs.Parts.{part}
-use Rattle.kn_journal.specs.Journal.{Read, Verdict, bad, from_read, journal_of, next_part, none_read, opening_part, read_events, start_part, verdict, verdict_of_lines, verdict_on, version_of}
+use Rattle.kn_journal.specs.Journal.{Read, Verdict, bad, from_read, journal_of, next_part, none_read, opening_part, read_events, start_part, verdict, verdict_of_lines, verdict_on}
 use Rattle.kn_journal.specs.Reading.{Ahead, IsSpent, TakesPart, most_taken}
 use Rattle.kn_journal.specs.Telling.{Gives, Refuses, StopsAmid, TakesEnd}
 use Rattle.kn_replay.specs.Replaying.{BreaksBeyond, BreaksAmid, BreaksFollowing, BreaksIn, EndsThere, Follows, IsFollowed, IsReplayed, Opened, Opens, Replays, Stops, Writes, ending, refusal_of, rest_of_report, status_by, status_of}
@@ -141,13 +142,14 @@ IsPlain _ = ⊥
 
 plain_cause : (cause : Cause) → IsPlain (status_of (error_of cause))
 plain_cause (line_too_long line) = tt
-plain_cause bad_first_line = tt
+plain_cause (bad_first_line due) = tt
 plain_cause (bad_setup line why) = tt
 plain_cause (bad_line line why) = tt
 plain_cause (time_back line before own) = tt
 plain_cause (time_too_large line) = tt
 plain_cause no_end = tt
 plain_cause (after_end line) = tt
+plain_cause (too_many line) = tt
 
 plain_end : (refused : Option Cause) → IsPlain (status_by refused)
 plain_end None = tt
@@ -300,7 +302,7 @@ stops_behind old mid new p q x end result h stops =
 pub followed_of : (e : JournalError) → (e ≡ error.Memory → ⊥) → IsFollowed (status_of e)
 followed_of error.Memory h = absurd (h refl)
 followed_of error.ReadFault h = tt
-followed_of error.BadFirstLine h = tt
+followed_of (error.BadFirstLine due) h = tt
 followed_of (error.BadSetup line why) h = tt
 followed_of (error.LineTooLong line) h = tt
 followed_of (error.BadLine line why) h = tt
@@ -308,6 +310,7 @@ followed_of (error.TimeBack line before own) h = tt
 followed_of (error.TimeTooLarge line) h = tt
 followed_of error.NoEnd h = tt
 followed_of (error.AfterEnd line) h = tt
+followed_of (error.TooMany line) h = tt
 
 -- an end that is no other one
 abbrev pub IsMemory : Status → Type 0
@@ -321,7 +324,7 @@ IsWriteFault _ = ⊥
 pub fault_of : (e : JournalError) → status_of e ≡ status.ReadFault → e ≡ error.ReadFault
 fault_of error.ReadFault h = refl
 fault_of error.Memory h = cc
-fault_of error.BadFirstLine h = cc
+fault_of (error.BadFirstLine due) h = cc
 fault_of (error.BadSetup line why) h = cc
 fault_of (error.LineTooLong line) h = cc
 fault_of (error.BadLine line why) h = cc
@@ -329,11 +332,12 @@ fault_of (error.TimeBack line before own) h = cc
 fault_of (error.TimeTooLarge line) h = cc
 fault_of error.NoEnd h = cc
 fault_of (error.AfterEnd line) h = cc
+fault_of (error.TooMany line) h = cc
 
 pub no_write_fault : (e : JournalError) → status_of e ≡ status.WriteFault → ⊥
 no_write_fault error.ReadFault h = cc
 no_write_fault error.Memory h = cc
-no_write_fault error.BadFirstLine h = cc
+no_write_fault (error.BadFirstLine due) h = cc
 no_write_fault (error.BadSetup line why) h = cc
 no_write_fault (error.LineTooLong line) h = cc
 no_write_fault (error.BadLine line why) h = cc
@@ -341,6 +345,7 @@ no_write_fault (error.TimeBack line before own) h = cc
 no_write_fault (error.TimeTooLarge line) h = cc
 no_write_fault error.NoEnd h = cc
 no_write_fault (error.AfterEnd line) h = cc
+no_write_fault (error.TooMany line) h = cc
 
 pub either : {A B C D : Type 0} → A ⊎ B → (A → C) → (B → D) → C ⊎ D
 either (inl a) f g = inl (f a)
@@ -348,11 +353,11 @@ either (inr b) f g = inr (g b)
 
 -- ---- what stands before the events
 
-pub verdict_unopened : (xs : List ℕ) (cause : Cause) → opening_part version_of 0 (lines xs) ≡ Err cause → verdict xs ≡ bad None cause
+pub verdict_unopened : (xs : List ℕ) (cause : Cause) → opening_part JournalLine 0 (lines xs) ≡ Err cause → verdict xs ≡ bad None cause
 unfolding verdict verdict_of_lines
 verdict_unopened xs cause h = rw h refl
 
-pub verdict_unstarted : (xs : List ℕ) (opening : Opening) (n : ℕ) (left : List (List ℕ)) (cause : Cause) → opening_part version_of 0 (lines xs) ≡ Ok (part opening n left) → start_part n left ≡ Err cause
+pub verdict_unstarted : (xs : List ℕ) (opening : Opening) (n : ℕ) (left : List (List ℕ)) (cause : Cause) → opening_part JournalLine 0 (lines xs) ≡ Ok (part opening n left) → start_part n left ≡ Err cause
     → verdict xs ≡ bad None cause
 unfolding verdict verdict_of_lines
 verdict_unstarted xs opening n left cause h k = rw h (rw k refl)
@@ -428,7 +433,7 @@ pub journal_fails : (known left : Option (List ℕ)) (ahead : List ℕ) (given v
 journal_fails None left ahead given version number e out h beyond = tt
 journal_fails (Some xs) left ahead given version number error.ReadFault out h beyond = ([], Appends-nil out, (ahead, beyond refl, inr (refl, h)))
 journal_fails (Some xs) left ahead given version number error.Memory out h beyond = Appends-nil out
-journal_fails (Some xs) left ahead given version number error.BadFirstLine out (cause, is, h) beyond = rw h (ap status_of (sym is), Appends-nil out)
+journal_fails (Some xs) left ahead given version number (error.BadFirstLine due) out (cause, is, h) beyond = rw h (ap status_of (sym is), Appends-nil out)
 journal_fails (Some xs) left ahead given version number (error.BadSetup line why) out (cause, is, h) beyond = rw h (ap status_of (sym is), Appends-nil out)
 journal_fails (Some xs) left ahead given version number (error.LineTooLong line) out (cause, is, h) beyond = rw h (ap status_of (sym is), Appends-nil out)
 journal_fails (Some xs) left ahead given version number (error.BadLine line why) out (cause, is, h) beyond = rw h (ap status_of (sym is), Appends-nil out)
@@ -436,6 +441,7 @@ journal_fails (Some xs) left ahead given version number (error.TimeBack line bef
 journal_fails (Some xs) left ahead given version number (error.TimeTooLarge line) out (cause, is, h) beyond = rw h (ap status_of (sym is), Appends-nil out)
 journal_fails (Some xs) left ahead given version number error.NoEnd out (cause, is, h) beyond = rw h (ap status_of (sym is), Appends-nil out)
 journal_fails (Some xs) left ahead given version number (error.AfterEnd line) out (cause, is, h) beyond = rw h (ap status_of (sym is), Appends-nil out)
+journal_fails (Some xs) left ahead given version number (error.TooMany line) out (cause, is, h) beyond = rw h (ap status_of (sym is), Appends-nil out)
 
 -- what is ahead at a fault was given beyond 2^56 bytes
 pub beyond_is : (input : Ahead) (given : ℕ) → input.taken + length input.ahead ≡ given → IsSpent input → length input.ahead ≡ given - most_taken
@@ -476,7 +482,7 @@ followed_replayed status.ListenFault h = h
 pub never_ok : (e : JournalError) → status_of e ≡ status.Ok → ⊥
 never_ok error.ReadFault h = cc
 never_ok error.Memory h = cc
-never_ok error.BadFirstLine h = cc
+never_ok (error.BadFirstLine due) h = cc
 never_ok (error.BadSetup line why) h = cc
 never_ok (error.LineTooLong line) h = cc
 never_ok (error.BadLine line why) h = cc
@@ -484,3 +490,4 @@ never_ok (error.TimeBack line before own) h = cc
 never_ok (error.TimeTooLarge line) h = cc
 never_ok error.NoEnd h = cc
 never_ok (error.AfterEnd line) h = cc
+never_ok (error.TooMany line) h = cc

@@ -9,6 +9,7 @@ use Rattle.kn_trace.specs.Trace.{Trace}
 use Rattle.kn_trace.specs.Events.{added}
 use Rattle.kn_trace.specs.Report.{last_line, rows_text, totals}
 use Rattle.kn_core.specs.State.{RevisionState}
+use Rattle.kn_journal.specs.declared.first.FirstLine.TheVariants.{Journal as JournalLine}
 use Rattle.kn_journal.specs.declared.error.JournalError.{JournalError}
 use Rattle.kn_journal.specs.declared.error.JournalError.TheVariants as error
 use Rattle.kn_journal.specs.declared.journal.Journal.{Journal}
@@ -17,7 +18,7 @@ use Rattle.kn_journal.specs.declared.journal.Setup.{Setup}
 use Rattle.kn_journal.specs.declared.status.Status.{Status}
 use Rattle.kn_journal.specs.declared.status.Status.TheVariants as status
 use Rattle.kn_journal.specs.Causes.{Cause, error_of, no_end}
-use Rattle.kn_journal.specs.Journal.{Read, Verdict, bad, good, opening_part, read_events, start_part, verdict, verdict_of_lines, verdict_on, version_of}
+use Rattle.kn_journal.specs.Journal.{Read, Verdict, bad, good, opening_part, read_events, start_part, verdict, verdict_of_lines, verdict_on}
 use Rattle.kn_journal.specs.Lines.{lines}
 use Rattle.kn_journal.specs.Parts.{part}
 use Rattle.kn_journal.specs.Reading.{AreWhole, EndsWithLf, TakesPart, most_taken}
@@ -30,7 +31,7 @@ use Rattle.kn_replay.specs.Tally.{Counted}
 abbrev pub status_of : JournalError → Status
 status_of error.ReadFault = status.ReadFault
 status_of error.Memory = status.Memory
-status_of error.BadFirstLine = status.BadSetup error.BadFirstLine
+status_of (error.BadFirstLine due) = status.BadSetup (error.BadFirstLine due)
 status_of (error.BadSetup number why) = status.BadSetup (error.BadSetup number why)
 status_of e = status.BadInput e
 
@@ -200,7 +201,7 @@ IsFollowed x = IsReplayed x
 pub record Opened (all : List (List ℕ)) (version : ℕ) (setup : Setup) (start number : ℕ) (left : List (List ℕ)) : Type 0 where
   pub at : ℕ
   pub after : List (List ℕ)
-  pub opening : opening_part version_of 0 all ≡ Ok (part (record { version = version; setup = setup }) at after)
+  pub opening : opening_part JournalLine 0 all ≡ Ok (part (record { version = version; setup = setup }) at after)
   pub begins : start_part at after ≡ Ok (part start number left)
 
 -- why there is none

@@ -12,6 +12,8 @@ use Rattle.kn_revision.specs.declared.error.SpecError.{SpecError}
 use Rattle.kn_revision.specs.declared.error.SpecError.TheVariants as spec_error
 use Rattle.kn_journal.specs.declared.error.SetupError.{SetupError}
 use Rattle.kn_journal.specs.declared.error.SetupError.TheVariants as setup_error
+use Rattle.kn_journal.specs.declared.first.FirstLine.{FirstLine}
+use Rattle.kn_journal.specs.declared.first.FirstLine.TheVariants as first
 use Rattle.kn_journal.specs.declared.error.JournalError.{JournalError}
 use Rattle.kn_journal.specs.declared.error.JournalError.TheVariants as error
 use Rattle.kn_journal.specs.declared.status.Status.{Status}
@@ -56,16 +58,21 @@ fault_text (line_error.Extra place) = codes "extra text at " ++ decimal place
 abbrev pub at_line : ℕ → List ℕ → List ℕ
 at_line number what = codes "line " ++ (decimal number ++ (codes ": " ++ what))
 
+abbrev pub first_line_text : FirstLine → List ℕ
+first_line_text first.Journal = codes "line 1: not a kact journal 1 or 2"
+first_line_text first.Workload = codes "line 1: not a kact workload 1"
+
 unfoldable pub error_text : JournalError → List ℕ
 error_text error.ReadFault = codes "read failed"
 error_text (error.LineTooLong number) = at_line number (codes "line too long")
-error_text error.BadFirstLine = codes "line 1: not a kact journal 1 or 2"
+error_text (error.BadFirstLine due) = first_line_text due
 error_text (error.BadSetup number why) = at_line number (setup_text why)
 error_text (error.BadLine number why) = at_line number (fault_text why)
 error_text (error.TimeBack number last own) = at_line number (codes "time goes back from " ++ (decimal last ++ (codes " to " ++ decimal own)))
 error_text (error.TimeTooLarge number) = at_line number (codes "time too large")
 error_text error.NoEnd = codes "input ends without end"
 error_text (error.AfterEnd number) = at_line number (codes "text after end")
+error_text (error.TooMany number) = at_line number (codes "too many jobs")
 error_text error.Memory = codes "out of memory"
 
 abbrev pub told : List ℕ → List ℕ

@@ -14,6 +14,6 @@ mod texts;
 mod waiting;
 
 pub use command::{run, tell};
-pub use kn_journal::{JournalError, SetupError, Status};
+pub use kn_journal::{FirstLine, JournalError, SetupError, Status};
 pub use replay::status_of;
 pub use texts::put_error;

@@ -31,7 +31,7 @@ pub fn status_of(error: JournalError) -> Status
     match error {
         JournalError::ReadFault => Status::ReadFault,
         JournalError::Memory => Status::Memory,
-        JournalError::BadFirstLine => Status::BadSetup(JournalError::BadFirstLine),
+        JournalError::BadFirstLine(due) => Status::BadSetup(JournalError::BadFirstLine(due)),
         JournalError::BadSetup(number, why) => Status::BadSetup(JournalError::BadSetup(
             number, why,
         )),

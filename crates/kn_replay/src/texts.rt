@@ -2,11 +2,11 @@
 ghost use Rattle.std.specs.Prelude.{◌≡◌, ℕ, ◌≤◌, List, ◌++◌, codes, length};
 ghost use Rattle.std.specs.Fmt.{decimal};
 ghost use Rattle.kn_config.specs.Keys.{key_text};
-ghost use Rattle.kn_replay.specs.Texts.{at_line, config_text, error_text, fault_text, field_text, setup_text, spec_text, status_text, told};
+ghost use Rattle.kn_replay.specs.Texts.{at_line, config_text, error_text, fault_text, field_text, first_line_text, setup_text, spec_text, status_text, told};
 
 use kn_config::{ConfigError, Key};
 use kn_event::{Line, LineError};
-use kn_journal::{JournalError, SetupError, Status};
+use kn_journal::{FirstLine, JournalError, SetupError, Status};
 use kn_revision::{Field, SpecError};
 
 /// A key, and what is said of it.
@@ -141,6 +141,18 @@ fn put_times(last: u64, own: u64, line: &mut Line)
     line.put_integer(own);
 }
 
+/// Adds what is told of a line 1 that is not the one that was due.
+fn put_first_line(due: FirstLine, line: &mut Line)
+    requires { length line.old ≤ 10 }
+    ensures value { line.new ≡ line.old ++ first_line_text due }
+    ensures short { length line.new ≤ 300 }
+{
+    match due {
+        FirstLine::Journal => line.put(b"line 1: not a kact journal 1 or 2"),
+        FirstLine::Workload => line.put(b"line 1: not a kact workload 1"),
+    }
+}
+
 /// Adds what is told of an error to the line.
 #[tactic(auto, unfolding(crate::specs::Texts::error_text))]
 pub fn put_error(error: &JournalError, line: &mut Line)
@@ -154,7 +166,7 @@ pub fn put_error(error: &JournalError, line: &mut Line)
             put_head(number, line);
             line.put(b"line too long");
         }
-        JournalError::BadFirstLine => line.put(b"line 1: not a kact journal 1 or 2"),
+        JournalError::BadFirstLine(due) => put_first_line(due, line),
         JournalError::BadSetup(number, why) => {
             put_head(number, line);
             put_setup(&why, line);
@@ -175,6 +187,10 @@ pub fn put_error(error: &JournalError, line: &mut Line)
         JournalError::AfterEnd(number) => {
             put_head(number, line);
             line.put(b"text after end");
+        }
+        JournalError::TooMany(number) => {
+            put_head(number, line);
+            line.put(b"too many jobs");
         }
         JournalError::Memory => line.put(b"out of memory"),
     }

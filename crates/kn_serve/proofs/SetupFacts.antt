@@ -3,13 +3,14 @@ use Rattle.std.proofs.Common.{◌≡◌, ◌≤◌, ◌⊎◌, ◌+◌, ℕ, Lis
 use Rattle.std.specs.Prelude.{Option, None, Some, Result, Ok, Err, Bool, true, false, cond, ◌==◌, ◌&&◌, ◌∷◌, ◌++◌, if◌then◌else◌, ⊤}
 use Rattle.std.specs.Io.KnownBytes.{prepend_known}
 use Rattle.kn_io.specs.Causes.{Rose}
+use Rattle.kn_journal.specs.declared.first.FirstLine.TheVariants.{Journal as JournalLine}
 use Rattle.kn_journal.specs.declared.error.JournalError.{JournalError}
 use Rattle.kn_journal.specs.declared.error.JournalError.TheVariants as error
 use Rattle.kn_journal.specs.declared.journal.Opening.{Opening}
 use Rattle.kn_journal.specs.declared.journal.Setup.{Setup}
 use Rattle.kn_journal.specs.declared.status.Status.TheVariants as status
 use Rattle.kn_journal.specs.Causes.{Cause, after_end, line_too_long}
-use Rattle.kn_journal.specs.Journal.{nothing_part, opening_part, version_of}
+use Rattle.kn_journal.specs.Journal.{nothing_part, opening_part}
 use Rattle.kn_journal.specs.Lines.{begins_with_lf, fits, lines, lines_at_lf, onto_first, without_crs}
 use Rattle.kn_journal.specs.Parts.{Part, part, then_part}
 use Rattle.kn_journal.specs.Telling.{Gives, Refused, Refuses}
@@ -37,18 +38,18 @@ refused_then error.ReadFault r next h = tt
 refused_then error.Memory r next h = tt
 refused_then {S} {T} _ r next h = (h.0, h.1, ap (λ (x : Result (Part S) Cause). then_part {S = S} {T = Part T} x next) h.2)
 
-pub opening_refused : (left : Option (List ℕ)) (e : JournalError) → Refuses (opening_part version_of 0) e left → SaysSetup left (Err e)
+pub opening_refused : (left : Option (List ℕ)) (e : JournalError) → Refuses (opening_part JournalLine 0) e left → SaysSetup left (Err e)
 opening_refused None e h = tt
-opening_refused (Some xs) e h = refused_then e (opening_part version_of 0 (lines xs)) nothing_behind h
+opening_refused (Some xs) e h = refused_then e (opening_part JournalLine 0 (lines xs)) nothing_behind h
 
-pub end_refused : (left mid : Option (List ℕ)) (o : Opening) (n : ℕ) (e : JournalError) → Gives (opening_part version_of 0) o n left mid → Refuses (nothing_part n) e mid → SaysSetup left (Err e)
+pub end_refused : (left mid : Option (List ℕ)) (o : Opening) (n : ℕ) (e : JournalError) → Gives (opening_part JournalLine 0) o n left mid → Refuses (nothing_part n) e mid → SaysSetup left (Err e)
 end_refused None mid o n e h k = tt
 end_refused (Some xs) None o n e h k = absurd h
 end_refused (Some xs) (Some ys) o n e h k =
     let whole : setup_alone (lines xs) ≡ nothing_behind o n (lines ys) = ap (λ (r : Result (Part Opening) Cause). then_part r nothing_behind) h in
     subst (Refused e) (sym whole) (refused_then e (nothing_part n (lines ys)) (λ _ m left. Ok (part o m left)) k)
 
-pub setup_said : (left mid new : Option (List ℕ)) (version : ℕ) (setup : Setup) (n m : ℕ) → Gives (opening_part version_of 0) (record { version = version; setup = setup }) n left mid
+pub setup_said : (left mid new : Option (List ℕ)) (version : ℕ) (setup : Setup) (n m : ℕ) → Gives (opening_part JournalLine 0) (record { version = version; setup = setup }) n left mid
     → Gives (nothing_part n) tt m mid new → SaysSetup left (Ok setup)
 setup_said None mid new version setup n m h k = tt
 setup_said (Some xs) None new version setup n m h k = absurd h
@@ -113,7 +114,7 @@ none_of_both [] ys e = e
 none_of_both (x ∷ xs) ys e = absurd (cc)
 
 -- after the end of the input nothing of it is left
-pub read_out : (old mid : Option (List ℕ)) (ahead : List ℕ) (left : Option (List ℕ)) (opening : Opening) (n m : ℕ) → Gives (opening_part version_of 0) opening n old mid
+pub read_out : (old mid : Option (List ℕ)) (ahead : List ℕ) (left : Option (List ℕ)) (opening : Opening) (n m : ℕ) → Gives (opening_part JournalLine 0) opening n old mid
     → Gives (nothing_part n) tt m mid (prepend_known ahead left) → IsReadOut old left
 read_out None mid ahead left opening n m h k = tt
 read_out (Some xs) None ahead left opening n m h k = absurd h
@@ -125,7 +126,7 @@ read_out (Some xs) (Some ys) ahead (Some zs) opening n m h k =
 pub fault_of : (e : JournalError) → status_of e ≡ status.ReadFault → e ≡ error.ReadFault
 fault_of error.ReadFault h = refl
 fault_of error.Memory h = cc
-fault_of error.BadFirstLine h = cc
+fault_of (error.BadFirstLine due) h = cc
 fault_of (error.BadSetup line why) h = cc
 fault_of (error.LineTooLong line) h = cc
 fault_of (error.BadLine line why) h = cc
@@ -133,11 +134,12 @@ fault_of (error.TimeBack line before own) h = cc
 fault_of (error.TimeTooLarge line) h = cc
 fault_of error.NoEnd h = cc
 fault_of (error.AfterEnd line) h = cc
+fault_of (error.TooMany line) h = cc
 
 pub no_write_fault : (e : JournalError) → status_of e ≡ status.WriteFault → ⊥
 no_write_fault error.ReadFault h = cc
 no_write_fault error.Memory h = cc
-no_write_fault error.BadFirstLine h = cc
+no_write_fault (error.BadFirstLine due) h = cc
 no_write_fault (error.BadSetup line why) h = cc
 no_write_fault (error.LineTooLong line) h = cc
 no_write_fault (error.BadLine line why) h = cc
@@ -145,3 +147,4 @@ no_write_fault (error.TimeBack line before own) h = cc
 no_write_fault (error.TimeTooLarge line) h = cc
 no_write_fault error.NoEnd h = cc
 no_write_fault (error.AfterEnd line) h = cc
+no_write_fault (error.TooMany line) h = cc

@@ -1,10 +1,11 @@
 -- A setup that stands alone: a first line, a setup, and then the end of the input.
 use Rattle.std.specs.Prelude.{◌≡◌, ℕ, List, [], Option, None, Some, Result, Ok, Err, ⊤}
+use Rattle.kn_journal.specs.declared.first.FirstLine.TheVariants.{Journal as JournalLine}
 use Rattle.kn_journal.specs.declared.error.JournalError.{JournalError}
 use Rattle.kn_journal.specs.declared.journal.Opening.{Opening}
 use Rattle.kn_journal.specs.declared.journal.Setup.{Setup}
 use Rattle.kn_journal.specs.Causes.{Cause}
-use Rattle.kn_journal.specs.Journal.{nothing_part, opening_part, version_of}
+use Rattle.kn_journal.specs.Journal.{nothing_part, opening_part}
 use Rattle.kn_journal.specs.Lines.{lines}
 use Rattle.kn_journal.specs.Parts.{Part, part, then_part}
 use Rattle.kn_journal.specs.Telling.{Refused}
@@ -14,7 +15,7 @@ nothing_behind opening n lines = then_part (nothing_part n lines) (λ _ n left. 
 
 -- no line may follow
 abbrev pub setup_alone : List (List ℕ) → Result (Part Opening) Cause
-setup_alone lines = then_part (opening_part version_of 0 lines) nothing_behind
+setup_alone lines = then_part (opening_part JournalLine 0 lines) nothing_behind
 
 pub record IsAlone (lines : List (List ℕ)) (setup : Setup) : Type 0 where
   pub version : ℕ

@@ -6,7 +6,7 @@ use crate::journals::{NEVER, open, source};
 use kn_case::case;
 use kn_event::{Act, Event, Line, Memory, event_line};
 use kn_io::{MemSink, MemSource};
-use kn_journal::{Events, Journal, JournalError, JournalReader, Status, write_journal};
+use kn_journal::{Events, FirstLine, Journal, JournalError, JournalReader, Status, write_journal};
 use std::alloc::{AllocError, Global};
 use std::io;
 
@@ -125,7 +125,7 @@ const STATUSES: [Status; 9] = [
     Status::Ok,
     Status::Usage,
     Status::BadInput(JournalError::NoEnd),
-    Status::BadSetup(JournalError::BadFirstLine),
+    Status::BadSetup(JournalError::BadFirstLine(FirstLine::Journal)),
     Status::ReadFault,
     Status::WriteFault,
     Status::Memory,

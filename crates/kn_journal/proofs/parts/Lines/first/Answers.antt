@@ -2,7 +2,7 @@
 use Rattle.std.proofs.Common.{◌≡◌, ◌∙◌, ap}
 use Rattle.kn_journal.specs.Reading.{unread}
 use Rattle.kn_journal.specs.Telling.{LinesState}
-use Rattle.kn_journal.specs.Journal.{first_in, version_by}
+use Rattle.kn_journal.specs.Journal.{first_in}
 use Rattle.kn_journal.proofs.SetupRests.{version-rest}
 use Rattle.kn_journal.proofs.Drawings.{draws_well, judged-no_fault}
 use Rattle.kn_journal.proofs.Tellings.{first-refuses, first-tells}
@@ -18,9 +18,9 @@ returns-clause-tells g c =
       | in-Ok w ↦
           let line : w.deref.result.now ≡ c.next_line.new.self.line = w.deref.ensures.value ∙ ap (λ (r : LinesState). r.line) c.self.view_is in
           let number : c.self.inside.number ≡ c.next_line.new.self.number = ap (λ (r : LinesState). r.number) c.self.view_is in
-          rw w.result-is (first-tells (version_by c.args.first) c.args.self.now.number c.next_line.new.self.number old mid c.next_line.new.self.line w.judge_first.result w.in-Ok.ensures.line w.in-Ok.ensures.fits w.in-Ok.ensures.number
+          rw w.result-is (first-tells c.args.first c.args.self.now.number c.next_line.new.self.number old mid c.next_line.new.self.line w.judge_first.result w.in-Ok.ensures.line w.in-Ok.ensures.fits w.in-Ok.ensures.number
           (rw (line, number) at w.judge_first.ensures.judges))
-      | in-Err w ↦ rw w.result-is (first-refuses (version_by c.args.first) c.args.self.now.number w.in-Err.e old w.in-Err.ensures.none)
+      | in-Err w ↦ rw w.result-is (first-refuses c.args.first c.args.self.now.number w.in-Err.e old w.in-Err.ensures.none)
     ]
 
 pub returns-clause-rest : goal.returns-clause-rest
@@ -31,7 +31,7 @@ returns-clause-rest g c =
       | in-Ok w ↦
           let line : w.deref.result.now ≡ c.next_line.new.self.line = w.deref.ensures.value ∙ ap (λ (r : LinesState). r.line) c.self.view_is in
           let number : c.self.inside.number ≡ c.next_line.new.self.number = ap (λ (r : LinesState). r.number) c.self.view_is in
-          rw w.result-is (version-rest (version_by c.args.first) c.args.self.now.number c.next_line.new.self.number old mid c.next_line.new.self.line w.judge_first.result w.in-Ok.ensures.line w.in-Ok.ensures.fits w.in-Ok.ensures.number
+          rw w.result-is (version-rest c.args.first c.args.self.now.number c.next_line.new.self.number old mid c.next_line.new.self.line w.judge_first.result w.in-Ok.ensures.line w.in-Ok.ensures.fits w.in-Ok.ensures.number
           (rw (line, number) at w.judge_first.ensures.judges))
       | in-Err w ↦ rw w.result-is (λ is. absurd (w.in-Err.ensures.short is))
     ]
@@ -40,7 +40,7 @@ pub returns-clause-source : goal.returns-clause-source
 returns-clause-source g c =
     elim c.match-next_line.branch [
       | in-Ok w ↦
-          rw w.result-is (draws_well (judged-no_fault (first_in (version_by c.args.first)) c.self.inside.number w.deref.result.now w.judge_first.result w.judge_first.ensures.judges) w.in-Ok.ensures.source)
+          rw w.result-is (draws_well (judged-no_fault (first_in c.args.first) c.self.inside.number w.deref.result.now w.judge_first.result w.judge_first.ensures.judges) w.in-Ok.ensures.source)
       | in-Err w ↦ rw w.result-is w.in-Err.ensures.source
     ]
 

@@ -1,0 +1,6 @@
+mod Pieces
+mod Writing
+mod Wholes
+mod Tellings
+mod Drawings
+mod JobLines

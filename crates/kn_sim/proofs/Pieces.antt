@@ -1,0 +1,83 @@
+-- What is written piece by piece.
+use Rattle.std.proofs.Common.{◌≡◌, ◌≤◌, ◌+◌, ℕ, List, [], ◌∷◌, ◌++◌, length, length-append, take, append_assoc, append-nil, refl, sym, ap, ◌∙◌, subst, arith}
+use Rattle.std.specs.Prelude.{Option, Result, Ok, Err, OnOk, OnErr, codes}
+use Rattle.std.specs.Fmt.{decimal}
+use Rattle.std.specs.Io.KnownBytes.{Appends}
+use Rattle.std.proofs.KnownBytes.{Appends-trans}
+use Rattle.std.proofs.lemmas.List.{take-append-le}
+use Rattle.std.proofs.Math.Seq.{take-append-add}
+use Rattle.kn_event.specs.declared.event.Event.{Event}
+use Rattle.kn_event.specs.EventLine.{event_text}
+use Rattle.kn_io.specs.Prefix.{AppendsPrefix}
+use Rattle.kn_journal.specs.Journal.{events_text, first_line, journal_text}
+use Rattle.kn_sim.specs.declared.workload.Workload.{Workload}
+use Rattle.kn_sim.specs.Simulated.{opening_text, simulated}
+
+first_of_more : (n : ℕ) (x y rest : List ℕ) → n ≤ length y → take (length x + n) (x ++ (y ++ rest)) ≡ x ++ take n y
+first_of_more n x y rest h = take-append-add x (y ++ rest) n ∙ ap (λ (z : List ℕ). x ++ z) (take-append-le n y rest h)
+
+-- all of a first piece was written, and some of a second one: some of both and of what follows
+pub prefix_after : (a b c : Option (List ℕ)) (x y rest : List ℕ) → Appends a b x → AppendsPrefix b c y → AppendsPrefix a c (x ++ (y ++ rest))
+prefix_after a b c x y rest h (n, few, k) =
+    (length x + n, simp (length-append) (omega (arith, few)), rw (first_of_more n x y rest few) (Appends-trans a b c x (take n y) h k))
+
+-- .. where nothing follows
+pub prefix_last : (a b c : Option (List ℕ)) (x y : List ℕ) → Appends a b x → AppendsPrefix b c y → AppendsPrefix a c (x ++ y)
+prefix_last a b c x y h k =
+    let P : List ℕ → Type 0 = λ z. AppendsPrefix a c (x ++ z) in
+    subst P (append-nil y) (prefix_after a b c x y [] h k)
+
+-- some of a piece is some of it and of what follows
+pub prefix_more : (a b : Option (List ℕ)) (x rest : List ℕ) → AppendsPrefix a b x → AppendsPrefix a b (x ++ rest)
+prefix_more a b x rest (n, few, k) = (n, simp (length-append) (omega (arith, few)), rw (take-append-le n x rest few) k)
+
+-- what is said of one outcome, turned into what follows from it
+pub on_ok : {T E : Type 0} {P Q : Type 0} (r : Result T E) → (P → Q) → OnOk r P → OnOk r Q
+on_ok (Ok x) f h = f h
+on_ok (Err e) f h = tt
+
+pub on_err : {T E : Type 0} {P Q : Type 0} (r : Result T E) → (P → Q) → OnErr r P → OnErr r Q
+on_err (Ok x) f h = tt
+on_err (Err e) f h = f h
+
+-- ---- events
+
+events-append : (xs ys : List Event) → events_text (xs ++ ys) ≡ events_text xs ++ events_text ys
+events-append [] ys = refl
+events-append (e ∷ xs) ys = ap (λ (z : List ℕ). event_text e ++ 10 ∷ z) (events-append xs ys) ∙ sym (append_assoc (event_text e) (10 ∷ events_text xs) (events_text ys))
+
+-- one line more
+pub events-more : (es : List Event) (e : Event) → events_text (es ++ e ∷ []) ≡ events_text es ++ (event_text e ++ 10 ∷ [])
+events-more es e = events-append es (e ∷ [])
+
+-- the lines up to one, its line, and the others
+pub events-around : (es : List Event) (e : Event) (rest : List Event) → events_text ((es ++ e ∷ []) ++ rest) ≡ events_text es ++ ((event_text e ++ 10 ∷ []) ++ events_text rest)
+events-around es e rest =
+    events-append (es ++ e ∷ []) rest ∙ ap (λ (m : List ℕ). m ++ events_text rest) (events-more es e) ∙ append_assoc (events_text es) (event_text e ++ 10 ∷ []) (events_text rest)
+
+-- ---- the whole
+
+regroup : (first text start events end : List ℕ) → ((first ++ 10 ∷ []) ++ (text ++ (start ++ 10 ∷ []))) ++ (events ++ end) ≡ first ++ 10 ∷ (text ++ (start ++ 10 ∷ (events ++ end)))
+regroup first text start events end = simp append_assoc
+
+whole-text : (w : Workload) (es : List Event) → opening_text w ++ (events_text es ++ codes "end\n") ≡ journal_text (simulated w es)
+unfolding journal_text
+whole-text w es = regroup (first_line 1) w.setup.text (codes "start " ++ decimal w.start) (events_text es) (codes "end\n")
+
+before_end : (w : Workload) (es : List Event) → (opening_text w ++ events_text es) ++ codes "end\n" ≡ journal_text (simulated w es)
+before_end w es = append_assoc (opening_text w) (events_text es) (codes "end\n") ∙ whole-text w es
+
+-- some of the opening; the opening and some of the events; these and some of the end; all
+pub some_opening : (a b : Option (List ℕ)) (w : Workload) (es : List Event) → AppendsPrefix a b (opening_text w) → AppendsPrefix a b (journal_text (simulated w es))
+some_opening a b w es h = subst (AppendsPrefix a b) (whole-text w es) (prefix_more a b (opening_text w) (events_text es ++ codes "end\n") h)
+
+pub some_events : (a b d : Option (List ℕ)) (w : Workload) (es : List Event) → Appends a b (opening_text w) → AppendsPrefix b d (events_text es) → AppendsPrefix a d (journal_text (simulated w es))
+some_events a b d w es h k = subst (AppendsPrefix a d) (whole-text w es) (prefix_after a b d (opening_text w) (events_text es) (codes "end\n") h k)
+
+pub some_end : (a b d e : Option (List ℕ)) (w : Workload) (es : List Event) → Appends a b (opening_text w) → Appends b d (events_text es) → AppendsPrefix d e (codes "end\n") → AppendsPrefix a e (journal_text (simulated w es))
+some_end a b d e w es h k l =
+    subst (AppendsPrefix a e) (before_end w es) (prefix_last a d e (opening_text w ++ events_text es) (codes "end\n") (Appends-trans a b d (opening_text w) (events_text es) h k) l)
+
+pub all_written : (a b d e : Option (List ℕ)) (w : Workload) (es : List Event) → Appends a b (opening_text w) → Appends b d (events_text es) → Appends d e (codes "end\n") → Appends a e (journal_text (simulated w es))
+all_written a b d e w es h k l =
+    subst (Appends a e) (before_end w es) (Appends-trans a d e (opening_text w ++ events_text es) (codes "end\n") (Appends-trans a b d (opening_text w) (events_text es) h k) l)

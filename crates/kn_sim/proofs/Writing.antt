@@ -1,0 +1,74 @@
+-- Events that are taken and written one after the other.
+use Rattle.std.proofs.Common.{◌≡◌, ◌≤◌, ◌+◌, ℕ, List, [], ◌∷◌, ◌++◌, length, append_assoc, append-nil, refl, sym, ap, ◌∙◌, subst}
+use Rattle.std.specs.Prelude.{Option}
+use Rattle.std.specs.Io.KnownBytes.{Appends}
+use Rattle.std.proofs.KnownBytes.{Appends-trans}
+use Rattle.kn_event.specs.declared.event.Event.{Event}
+use Rattle.kn_event.specs.EventLine.{IsInJournalRange, IsInVersion, event_text}
+use Rattle.kn_io.specs.Prefix.{AppendsPrefix}
+use Rattle.kn_journal.specs.Journal.{AreEvents, events_text, time_most}
+use Rattle.kn_agenda.specs.Due.{AreNext, IsFront, IsOver, IsSchedule}
+use Rattle.kn_agenda.specs.Schedule.{Made, ScheduleState}
+use Rattle.kn_sim.specs.Going.{GoesOn, last_time}
+use Rattle.kn_sim.specs.Simulated.{WritesAll, WritesSome}
+use Rattle.kn_sim.proofs.Pieces.{events-around, events-more, prefix_after}
+
+-- ---- one event more
+
+events-in-order : (last : ℕ) (es : List Event) (e : Event) → AreEvents 1 last es → last_time last es ≤ e.time → e.time ≤ time_most → IsInJournalRange e.act → IsInVersion 1 e.act → AreEvents 1 last (es ++ e ∷ [])
+events-in-order last [] e h order most range version = (order, most, range, version, tt)
+events-in-order last (x ∷ es) e h order most range version = (h.0, h.1, h.2, h.3, events-in-order x.time es e h.4 order most range version)
+
+last-more : (last : ℕ) (es : List Event) (e : Event) → last_time last (es ++ e ∷ []) ≡ e.time
+last-more last [] e = refl
+last-more last (x ∷ es) e = last-more x.time es e
+
+tail_of : (x : Event) (ys zs : List Event) → x ∷ ys ≡ x ∷ zs → ys ≡ zs
+tail_of x ys zs h = cc
+
+same_rest : (xs ys zs : List Event) → xs ++ ys ≡ xs ++ zs → ys ≡ zs
+same_rest [] ys zs h = h
+same_rest (x ∷ xs) ys zs h = same_rest xs ys zs (tail_of x (xs ++ ys) (xs ++ zs) h)
+
+pub go_more : (before : List Event) (x y z : ScheduleState) (a b d : Option (List ℕ)) (e : Event) → GoesOn before x y a b → ((es : List Event) → Made es y → Made (es ++ e ∷ []) z)
+    → y.revision.clock ≤ e.time → e.time ≤ time_most → IsInJournalRange e.act → IsInVersion 1 e.act → z.revision.clock ≡ e.time → Appends b d (event_text e ++ 10 ∷ []) → GoesOn before x z a d
+go_more before x y z a b d e goes step order most range version clock text = record {
+  events = goes.events ++ e ∷ [];
+  made = subst (λ (es : List Event). Made es z) (append_assoc before goes.events (e ∷ [])) (step (before ++ goes.events) goes.made);
+  range = events-in-order x.revision.clock goes.events e goes.range (subst (λ (t : ℕ). t ≤ e.time) (sym goes.last) order) most range version;
+  last = last-more x.revision.clock goes.events e ∙ sym clock;
+  text = subst (Appends a d) (sym (events-more goes.events e)) (Appends-trans a b d (events_text goes.events) (event_text e ++ 10 ∷ []) goes.text text);
+}
+
+-- ---- the end
+
+-- nothing is due any more
+pub go_all : (before : List Event) (x y z : ScheduleState) (a b : Option (List ℕ)) → y.workload ≡ x.workload → GoesOn before x y a b
+    → ((es : List Event) → Made es y → IsOver y.workload es) → ((es : List Event) → Made es y → Made es z) → WritesAll before x z a b
+go_all before x y z a b same goes over stays = record {
+  events = goes.events;
+  schedule = subst (λ w. IsSchedule w (before ++ goes.events)) same (record { steps = goes.made.runs.steps; over = over (before ++ goes.events) goes.made });
+  many = sym (stays (before ++ goes.events) goes.made).events;
+  range = goes.range;
+  text = goes.text;
+}
+
+-- the line of an event was cut short
+pub go_some : (before : List Event) (x y z : ScheduleState) (a b d : Option (List ℕ)) (e : Event) → z.workload ≡ x.workload → GoesOn before x y a b → ((es : List Event) → Made es y → Made (es ++ e ∷ []) z)
+    → ((es all : List Event) → AreNext x.workload es → IsSchedule x.workload all → IsFront es all) → AppendsPrefix b d (event_text e ++ 10 ∷ []) → WritesSome before x a d
+go_some before x y z a b d e same goes step front text all schedule = by (front ((before ++ goes.events) ++ e ∷ []) (before ++ all) steps schedule)
+  where
+    steps : AreNext x.workload ((before ++ goes.events) ++ e ∷ [])
+    steps = subst (λ w. AreNext w ((before ++ goes.events) ++ e ∷ [])) same (step (before ++ goes.events) goes.made).runs.steps
+
+    by : IsFront ((before ++ goes.events) ++ e ∷ []) (before ++ all) → AppendsPrefix a d (events_text all)
+    by (rest, is) =
+        let own : ((before ++ goes.events) ++ e ∷ []) ++ rest ≡ before ++ ((goes.events ++ e ∷ []) ++ rest) =
+            ap (λ (es : List Event). es ++ rest) (append_assoc before goes.events (e ∷ [])) ∙ append_assoc before (goes.events ++ e ∷ []) rest in
+        let split : all ≡ (goes.events ++ e ∷ []) ++ rest = same_rest before all ((goes.events ++ e ∷ []) ++ rest) (is ∙ own) in
+        subst (AppendsPrefix a d) (sym (ap events_text split ∙ events-around goes.events e rest)) (prefix_after a b d (events_text goes.events) (event_text e ++ 10 ∷ []) (events_text rest) goes.text text)
+
+-- ---- the beginning
+
+pub go_start : (before : List Event) (x : ScheduleState) (a : Option (List ℕ)) → Made before x → Appends a a [] → GoesOn before x x a a
+go_start before x a made none = record { events = []; made = subst (λ (es : List Event). Made es x) (sym (append-nil before)) made; range = tt; last = refl; text = none }
