@@ -1,9 +1,9 @@
 //! What a workload does to a revision: the schedule of its events, written as a journal.
 #![tactic(auto)]
 
-mod simulate;
+mod print;
 mod workload;
 
 pub use kn_agenda::Job;
-pub use simulate::{SimError, simulate};
+pub use print::{SimError, simulate};
 pub use workload::{Jobs, Workload};

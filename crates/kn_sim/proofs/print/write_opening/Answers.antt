@@ -6,7 +6,7 @@ use Rattle.std.proofs.KnownBytes.{Appends-trans}
 use Rattle.kn_io.specs.Prefix.{AppendsPrefix}
 use Rattle.kn_journal.specs.Journal.{first_line}
 use Rattle.kn_sim.proofs.Pieces.{on_err, on_ok, prefix_after, prefix_last, prefix_more}
-use Rattle.kn_sim.proofs.simulate.write_opening.Goals as goal
+use Rattle.kn_sim.proofs.print.write_opening.Goals as goal
 
 
 pub returns-in-Err-clause-err : goal.returns-in-Err-clause-err

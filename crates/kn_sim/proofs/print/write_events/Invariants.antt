@@ -3,7 +3,7 @@ use Rattle.std.proofs.Common.{◌≡◌, ◌≤◌, ◌-◌, List}
 use Rattle.kn_event.specs.declared.event.Event.{Event}
 use Rattle.kn_agenda.specs.Schedule.{Made}
 use Rattle.kn_sim.specs.Going.{GoesOn}
-use Rattle.kn_sim.proofs.simulate.write_events.Given as goal
+use Rattle.kn_sim.proofs.print.write_events.Given as goal
 
 abbrev pub invariant-loop-e : goal.invariant-loop-e
 invariant-loop-e g l = record {

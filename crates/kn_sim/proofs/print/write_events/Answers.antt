@@ -3,7 +3,7 @@ use Rattle.std.proofs.Common.{◌≡◌, ◌∙◌, ◌≤◌, ◌+◌, ℕ, ref
 use Rattle.std.proofs.KnownBytes.{Appends-nil}
 use Rattle.kn_agenda.specs.Workload.{Workload}
 use Rattle.kn_sim.proofs.Writing.{go_all, go_more, go_some, go_start}
-use Rattle.kn_sim.proofs.simulate.write_events.Goals as goal
+use Rattle.kn_sim.proofs.print.write_events.Goals as goal
 
 pub loop-e-init : goal.loop-e-init
 loop-e-init g c = record {

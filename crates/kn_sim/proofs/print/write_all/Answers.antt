@@ -3,7 +3,7 @@ use Rattle.std.proofs.Common.{[]}
 use Rattle.kn_sim.specs.Simulated.{plain_of}
 use Rattle.kn_sim.proofs.Pieces.{on_err, on_ok, some_opening}
 use Rattle.kn_sim.proofs.Wholes.{cut_end, cut_events, whole}
-use Rattle.kn_sim.proofs.simulate.write_all.Goals as goal
+use Rattle.kn_sim.proofs.print.write_all.Goals as goal
 
 pub returns-in-Err-clause-err : goal.returns-in-Err-clause-err
 returns-in-Err-clause-err g c = λ es schedule. some_opening (g.O.Sink.held c.args.out.now) (g.O.Sink.held c.write_opening.new.out) c.args.w.now es c.in-Err.ensures.err
