@@ -6,3 +6,4 @@ pub mod Commands
 pub mod Generating
 pub mod Replaying
 pub mod Cutting
+pub mod Simulating

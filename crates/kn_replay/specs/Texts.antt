@@ -81,7 +81,7 @@ told what = codes "kact: " ++ (what ++ codes "\n")
 -- what is told of a status
 unfoldable pub status_text : Status → List ℕ
 status_text status.Ok = []
-status_text status.Usage = codes "usage: kact replay | kact generate SEED COUNT\n"
+status_text status.Usage = codes "usage: kact replay | kact generate SEED COUNT | kact simulate\n"
 status_text (status.BadInput e) = told (error_text e)
 status_text (status.BadSetup e) = told (error_text e)
 status_text status.ReadFault = codes "kact: read failed\n"

@@ -1,4 +1,4 @@
-//! The commands of `kact`: it replays a journal, or generates one.
+//! The commands of `kact`: it replays a journal, generates one, or writes the one of a workload's schedule.
 ghost use Rattle.std.specs.Prelude.{◌≡◌, ◌⊎◌, ◌↔◌, ◌+◌, ◌-◌, ◌≤◌, ℕ, None, Some, map, string_bytes, take};
 ghost use Rattle.kn_event.specs.Numbers.{number_of};
 ghost use Rattle.kn_io.specs.Causes.{Rose};
@@ -14,10 +14,12 @@ ghost use Rattle.kn_replay.specs.Replaying.{EndsThere, IsRefusal, IsReplayed, Le
 ghost use Rattle.kn_replay.specs.Texts.{status_text};
 ghost use Rattle.kn_replay.specs.Commands.{command_of, generate_of};
 ghost use Rattle.kn_replay.specs.Generating.{Generates};
+ghost use Rattle.kn_replay.specs.Simulating.{Simulates, WritesNone};
 
 use crate::generate::generate;
 use crate::lawful::journal_laws;
 use crate::replay::replay_journal;
+use crate::simulate::simulate_input;
 use crate::texts::put_status;
 use kn_event::{Line, read_number};
 use kn_io::{Sink, Source, put_all};
@@ -30,6 +32,8 @@ enum Command {
     Replay,
     /// The journal of this seed and so many events is stepped through.
     Generate(u64, u64),
+    /// A workload's schedule is written as a journal.
+    Simulate,
 }
 
 /// The seed and the count of `generate`.
@@ -53,10 +57,10 @@ fn command_of(words: &[String]) -> Option<Command>
     ensures range { (s n : ℕ) → result ≡ Some (Command.Generate s n) → n ≤ 1000000 }
 {
     match words {
-        [word] => if word.as_str() == "replay" {
-            Some(Command::Replay)
-        } else {
-            None
+        [word] => match word.as_str() {
+            "replay" => Some(Command::Replay),
+            "simulate" => Some(Command::Simulate),
+            _ => None,
         },
         [word, seed, count] => if word.as_str() == "generate" {
             generate_of(seed.as_bytes(), count.as_bytes())
@@ -84,6 +88,9 @@ pub fn tell<E: Sink>(status: Status, err: &mut E) -> Status
 /// line is good. At the first line that is refused the rows of all events before it were written. Where the input failed,
 /// the lines that ended before that are good, and the rows of their events were written. Where writing failed, some first
 /// bytes of the report were. All memory is taken before the first of them.
+///
+/// `simulate` reads a workload to its end, and then writes the journal of its schedule, which reads as that journal. Nothing is
+/// written of a workload that is refused, and some first bytes of the journal where writing failed.
 #[tactic(none)]
 pub fn run<S: Source, O: Sink, E: Sink>(
     alloc: Global,
@@ -110,6 +117,10 @@ pub fn run<S: Source, O: Sink, E: Sink>(
     ensures untouched { (seed count : ℕ) → command_of (map string_bytes words.now) ≡ Some (Command.Generate seed count) → input.new ≡ input.old }
     ensures memory { result ≡ Status.Memory → out.new ≡ out.old }
 
+    // The journal of a good workload's schedule; the first cause of one that is refused, and then nothing is written.
+    ensures simulates { command_of (map string_bytes words.now) ≡ Some Command.Simulate → Simulates (S.left input.old) (O.held out.old) (O.held out.new) result }
+    ensures unsaid { command_of (map string_bytes words.now) ≡ Some Command.Simulate → WritesNone result → out.new ≡ out.old }
+
     // A fault comes only where its count rose, or 2^56 bytes were read.
     ensures read_fault { result ≡ Status.ReadFault → Rose (S.Faulty.faults input.old) (S.Faulty.faults input.new) ⊎ (S.given input.old + most_taken ≤ S.given input.new) }
     ensures write_fault { result ≡ Status.WriteFault → Rose (O.Faulty.faults out.old) (O.Faulty.faults out.new) }
@@ -129,5 +140,6 @@ pub fn run<S: Source, O: Sink, E: Sink>(
         None => tell(Status::Usage, err),
         Some(Command::Replay) => tell(replay_journal(alloc, input, out), err),
         Some(Command::Generate(seed, count)) => tell(generate(alloc, seed, count, out), err),
+        Some(Command::Simulate) => tell(simulate_input(alloc, input, out), err),
     }
 }

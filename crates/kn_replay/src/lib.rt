@@ -1,4 +1,4 @@
-//! `kact`: from the bytes of a journal to the bytes of its report, and journals that are generated.
+//! `kact`: from the bytes of a journal to the bytes of its report; journals that are generated, and those of workloads.
 #![tactic(auto)]
 
 mod command;
@@ -9,6 +9,7 @@ mod lawful;
 mod replay;
 mod report;
 mod rows;
+mod simulate;
 mod stamp;
 mod texts;
 mod waiting;

@@ -7,6 +7,7 @@ use Rattle.kn_replay.specs.declared.command.Command.TheVariants as command
 use Rattle.kn_replay.specs.Commands.{command_of}
 use Rattle.kn_replay.specs.Generating.{Generates}
 use Rattle.kn_replay.specs.Replaying.{IsRefusal, IsReplayed, LeavesBehind, Replays}
+use Rattle.kn_replay.specs.Simulating.{Simulates, WritesNone}
 use Rattle.kn_replay.proofs.Generating.{of_same}
 use Rattle.kn_replay.proofs.Replays.{never_usage}
 use Rattle.kn_replay.proofs.command.run.Goals as goal
@@ -21,6 +22,15 @@ none_generates o s n here there = cc
 
 replay_or_generate : (o : Option Command) (s n : ℕ) → o ≡ Some command.Replay → o ≡ Some (command.Generate s n) → ⊥
 replay_or_generate o s n here there = cc
+
+none_simulates : (o : Option Command) → o ≡ None → o ≡ Some command.Simulate → ⊥
+none_simulates o here there = cc
+
+replay_or_simulate : (o : Option Command) → o ≡ Some command.Replay → o ≡ Some command.Simulate → ⊥
+replay_or_simulate o here there = cc
+
+simulate_or_generate : (o : Option Command) (s n : ℕ) → o ≡ Some command.Simulate → o ≡ Some (command.Generate s n) → ⊥
+simulate_or_generate o s n here there = cc
 
 -- ---- a usage fault is no other
 
@@ -110,6 +120,14 @@ pub returns-in-None-clause-told : goal.returns-in-None-clause-told
 returns-in-None-clause-told g c =
     c.tell.ensures.told
 
+pub returns-in-None-clause-simulates : goal.returns-in-None-clause-simulates
+returns-in-None-clause-simulates g c is =
+    absurd (none_simulates _ (sym c.command_of.ensures.value ∙ c.in-None.is) is)
+
+pub returns-in-None-clause-unsaid : goal.returns-in-None-clause-unsaid
+returns-in-None-clause-unsaid g c is none =
+    absurd (none_simulates _ (sym c.command_of.ensures.value ∙ c.in-None.is) is)
+
 pub returns-in-Some-Replay-clause-usage : goal.returns-in-Some-Replay-clause-usage
 returns-in-Some-Replay-clause-usage g c =
     (λ is. absurd (never_usage _ (subst IsReplayed (sym c.tell-in-Some-Replay.ensures.same) c.replay_journal.ensures.replayed) is), λ none. absurd (none_replays _ none (sym c.command_of.ensures.value ∙ c.in-Some-Replay.is ∙ ap (λ (k : Command). Some k) c.in-Some-Replay.field-0-is)))
@@ -188,6 +206,14 @@ pub returns-in-Some-Replay-clause-told : goal.returns-in-Some-Replay-clause-told
 returns-in-Some-Replay-clause-told g c =
     c.tell-in-Some-Replay.ensures.told
 
+pub returns-in-Some-Replay-clause-simulates : goal.returns-in-Some-Replay-clause-simulates
+returns-in-Some-Replay-clause-simulates g c is =
+    absurd (replay_or_simulate _ (sym c.command_of.ensures.value ∙ c.in-Some-Replay.is ∙ ap (λ (k : Command). Some k) c.in-Some-Replay.field-0-is) is)
+
+pub returns-in-Some-Replay-clause-unsaid : goal.returns-in-Some-Replay-clause-unsaid
+returns-in-Some-Replay-clause-unsaid g c is none =
+    absurd (replay_or_simulate _ (sym c.command_of.ensures.value ∙ c.in-Some-Replay.is ∙ ap (λ (k : Command). Some k) c.in-Some-Replay.field-0-is) is)
+
 pub returns-in-Some-Generate-clause-usage : goal.returns-in-Some-Generate-clause-usage
 returns-in-Some-Generate-clause-usage g c =
     (λ is. absurd (never_usage _ (subst IsReplayed (sym c.tell-in-Some-Generate.ensures.same) c.generate.ensures.replayed) is), λ none. absurd (none_generates _ c.in-Some-Generate.seed c.in-Some-Generate.count none (sym c.command_of.ensures.value ∙ c.in-Some-Generate.is ∙ ap (λ (k : Command). Some k) c.in-Some-Generate.field-0-is)))
@@ -264,3 +290,95 @@ returns-in-Some-Generate-clause-beside g c =
 pub returns-in-Some-Generate-clause-told : goal.returns-in-Some-Generate-clause-told
 returns-in-Some-Generate-clause-told g c =
     c.tell-in-Some-Generate.ensures.told
+
+pub returns-in-Some-Generate-clause-simulates : goal.returns-in-Some-Generate-clause-simulates
+returns-in-Some-Generate-clause-simulates g c is =
+    absurd (simulate_or_generate _ c.in-Some-Generate.seed c.in-Some-Generate.count is (sym c.command_of.ensures.value ∙ c.in-Some-Generate.is ∙ ap (λ (k : Command). Some k) c.in-Some-Generate.field-0-is))
+
+pub returns-in-Some-Generate-clause-unsaid : goal.returns-in-Some-Generate-clause-unsaid
+returns-in-Some-Generate-clause-unsaid g c is none =
+    absurd (simulate_or_generate _ c.in-Some-Generate.seed c.in-Some-Generate.count is (sym c.command_of.ensures.value ∙ c.in-Some-Generate.is ∙ ap (λ (k : Command). Some k) c.in-Some-Generate.field-0-is))
+
+pub returns-in-Some-Simulate-clause-usage : goal.returns-in-Some-Simulate-clause-usage
+returns-in-Some-Simulate-clause-usage g c =
+    (λ is. absurd (never_usage _ (subst IsReplayed (sym c.tell-in-Some-Simulate.ensures.same) c.simulate_input.ensures.replayed) is), λ none. absurd (none_simulates _ none (sym c.command_of.ensures.value ∙ c.in-Some-Simulate.is ∙ ap (λ (k : Command). Some k) c.in-Some-Simulate.field-0-is)))
+
+pub returns-in-Some-Simulate-clause-unread : goal.returns-in-Some-Simulate-clause-unread
+returns-in-Some-Simulate-clause-unread g c is =
+    absurd (never_usage _ (subst IsReplayed (sym c.tell-in-Some-Simulate.ensures.same) c.simulate_input.ensures.replayed) is)
+
+pub returns-in-Some-Simulate-clause-unwritten : goal.returns-in-Some-Simulate-clause-unwritten
+returns-in-Some-Simulate-clause-unwritten g c is =
+    absurd (never_usage _ (subst IsReplayed (sym c.tell-in-Some-Simulate.ensures.same) c.simulate_input.ensures.replayed) is)
+
+pub returns-in-Some-Simulate-clause-only : goal.returns-in-Some-Simulate-clause-only
+returns-in-Some-Simulate-clause-only g c =
+    inr (subst IsReplayed (sym c.tell-in-Some-Simulate.ensures.same) c.simulate_input.ensures.replayed)
+
+pub returns-in-Some-Simulate-clause-report : goal.returns-in-Some-Simulate-clause-report
+returns-in-Some-Simulate-clause-report g c is =
+    absurd (replay_or_simulate _ is (sym c.command_of.ensures.value ∙ c.in-Some-Simulate.is ∙ ap (λ (k : Command). Some k) c.in-Some-Simulate.field-0-is))
+
+pub returns-in-Some-Simulate-clause-rest : goal.returns-in-Some-Simulate-clause-rest
+returns-in-Some-Simulate-clause-rest g c is refused =
+    absurd (replay_or_simulate _ is (sym c.command_of.ensures.value ∙ c.in-Some-Simulate.is ∙ ap (λ (k : Command). Some k) c.in-Some-Simulate.field-0-is))
+
+pub returns-in-Some-Simulate-clause-cut : goal.returns-in-Some-Simulate-clause-cut
+returns-in-Some-Simulate-clause-cut g c is fault =
+    absurd (replay_or_simulate _ is (sym c.command_of.ensures.value ∙ c.in-Some-Simulate.is ∙ ap (λ (k : Command). Some k) c.in-Some-Simulate.field-0-is))
+
+pub returns-in-Some-Simulate-clause-ended : goal.returns-in-Some-Simulate-clause-ended
+returns-in-Some-Simulate-clause-ended g c is ok =
+    absurd (replay_or_simulate _ is (sym c.command_of.ensures.value ∙ c.in-Some-Simulate.is ∙ ap (λ (k : Command). Some k) c.in-Some-Simulate.field-0-is))
+
+pub returns-in-Some-Simulate-clause-generates : goal.returns-in-Some-Simulate-clause-generates
+returns-in-Some-Simulate-clause-generates g c s n is =
+    absurd (simulate_or_generate _ s n (sym c.command_of.ensures.value ∙ c.in-Some-Simulate.is ∙ ap (λ (k : Command). Some k) c.in-Some-Simulate.field-0-is) is)
+
+pub returns-in-Some-Simulate-clause-untouched : goal.returns-in-Some-Simulate-clause-untouched
+returns-in-Some-Simulate-clause-untouched g c s n is =
+    absurd (simulate_or_generate _ s n (sym c.command_of.ensures.value ∙ c.in-Some-Simulate.is ∙ ap (λ (k : Command). Some k) c.in-Some-Simulate.field-0-is) is)
+
+pub returns-in-Some-Simulate-clause-memory : goal.returns-in-Some-Simulate-clause-memory
+returns-in-Some-Simulate-clause-memory g c is =
+    c.simulate_input.ensures.unwritten (subst WritesNone (sym (sym c.tell-in-Some-Simulate.ensures.same ∙ is)) tt)
+
+pub returns-in-Some-Simulate-clause-read_fault : goal.returns-in-Some-Simulate-clause-read_fault
+returns-in-Some-Simulate-clause-read_fault g c is =
+    c.simulate_input.ensures.read_fault (sym c.tell-in-Some-Simulate.ensures.same ∙ is)
+
+pub returns-in-Some-Simulate-clause-write_fault : goal.returns-in-Some-Simulate-clause-write_fault
+returns-in-Some-Simulate-clause-write_fault g c is =
+    c.simulate_input.ensures.write_fault (sym c.tell-in-Some-Simulate.ensures.same ∙ is)
+
+pub returns-in-Some-Simulate-clause-lawful : goal.returns-in-Some-Simulate-clause-lawful
+returns-in-Some-Simulate-clause-lawful g c =
+    c.journal_laws.ensures.lawful (g.S.Source.left c.args.input.now)
+
+pub returns-in-Some-Simulate-clause-settled : goal.returns-in-Some-Simulate-clause-settled
+returns-in-Some-Simulate-clause-settled g c =
+    c.journal_laws.ensures.settled (g.S.Source.left c.args.input.now)
+
+pub returns-in-Some-Simulate-clause-no_loss : goal.returns-in-Some-Simulate-clause-no_loss
+returns-in-Some-Simulate-clause-no_loss g c =
+    c.journal_laws.ensures.no_loss (g.S.Source.left c.args.input.now)
+
+pub returns-in-Some-Simulate-clause-inert : goal.returns-in-Some-Simulate-clause-inert
+returns-in-Some-Simulate-clause-inert g c =
+    c.journal_laws.ensures.inert (g.S.Source.left c.args.input.now)
+
+pub returns-in-Some-Simulate-clause-beside : goal.returns-in-Some-Simulate-clause-beside
+returns-in-Some-Simulate-clause-beside g c =
+    c.journal_laws.ensures.beside (g.S.Source.left c.args.input.now)
+
+pub returns-in-Some-Simulate-clause-told : goal.returns-in-Some-Simulate-clause-told
+returns-in-Some-Simulate-clause-told g c =
+    c.tell-in-Some-Simulate.ensures.told
+
+pub returns-in-Some-Simulate-clause-simulates : goal.returns-in-Some-Simulate-clause-simulates
+returns-in-Some-Simulate-clause-simulates g c is =
+    subst (λ (x : Status). Simulates (g.S.Source.left c.args.input.now) (g.O.Sink.held c.args.out.now) (g.O.Sink.held c.simulate_input.new.out) x) (sym c.tell-in-Some-Simulate.ensures.same) c.simulate_input.ensures.simulates
+
+pub returns-in-Some-Simulate-clause-unsaid : goal.returns-in-Some-Simulate-clause-unsaid
+returns-in-Some-Simulate-clause-unsaid g c is none =
+    c.simulate_input.ensures.unwritten (subst WritesNone c.tell-in-Some-Simulate.ensures.same none)
