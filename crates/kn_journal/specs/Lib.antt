@@ -7,4 +7,5 @@ pub mod Setup
 pub mod Journal
 pub mod Status
 pub mod Reading
+pub mod Texts
 pub mod Telling

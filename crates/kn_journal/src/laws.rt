@@ -1,10 +1,11 @@
-//! What was printed is read, and what was read is printed; and what stands before the events is read by itself.
+//! What was printed is read, and what was read is printed; what stands before the events is read by itself; and lines are apart.
 ghost use Rattle.std.specs.Prelude.{◌≡◌, ℕ, List, Ok};
 ghost use Rattle.kn_journal.specs.declared.first.FirstLine.TheVariants.{Journal as JournalLine};
 ghost use Rattle.kn_journal.specs.declared.journal.Journal.{Journal};
 ghost use Rattle.kn_journal.specs.declared.journal.Opening.{Opening};
 ghost use Rattle.kn_journal.specs.Journal.{IsJournal, good, journal_text, opening_part, start_part, verdict};
 ghost use Rattle.kn_journal.specs.Parts.{IsWhole, part};
+ghost use Rattle.kn_journal.specs.Texts.{TextLaws};
 
 use kn_event::spellings_are_read;
 
@@ -21,4 +22,9 @@ pub fn journals_are_read()
 pub fn openings_are_whole()
     ensures opening { (ls left : List (List ℕ)) (o : Opening) (n : ℕ) → opening_part JournalLine 0 ls ≡ Ok (part o n left) → IsWhole 0 (opening_part JournalLine 0) ls o n left }
     ensures start { (m : ℕ) (ls left : List (List ℕ)) (time n : ℕ) → start_part m ls ≡ Ok (part time n left) → IsWhole m (start_part m) ls time n left }
+{}
+
+/// Whole lines among bytes are read by themselves, and then the bytes that follow them.
+pub fn text_laws()
+    ensures laws { TextLaws }
 {}

@@ -17,7 +17,7 @@ mod write;
 pub use error::{JournalError, SetupError};
 pub use first::FirstLine;
 pub use journal::{Events, Journal, Opening, Setup};
-pub use laws::{journals_are_read, openings_are_whole};
+pub use laws::{journals_are_read, openings_are_whole, text_laws};
 pub use parts::{Lines, TIME_MOST};
 pub use reader::JournalReader;
 pub use setup::read_opening;
