@@ -18,13 +18,13 @@ use Rattle.kn_journal.specs.declared.status.Status.{Status}
 use Rattle.kn_journal.specs.declared.status.Status.TheVariants as status
 use Rattle.kn_journal.specs.Causes.{Cause, after_end, bad_line, error_of, line_too_long, no_end, time_back, time_too_large, too_many}
 use Rattle.kn_journal.specs.Lines.{fits, lines}
-use Rattle.kn_journal.specs.Parts.{Part, part}
+use Rattle.kn_journal.specs.Parts.{part}
 use Rattle.kn_journal.specs.declared.journal.Opening.{Opening}
 use Rattle.kn_journal.specs.declared.journal.Setup.{Setup}
 use Rattle.kn_journal.specs.Journal.{Read, bad, end_part, event_in, from_read, in_time, journal_of, next_part, read_events, time_most, verdict_of_lines}
 use Rattle.kn_journal.specs.Reading.{TakesPart, TakesText}
 use Rattle.kn_journal.proofs.Texts.{lines-ended}
-use Rattle.kn_journal.specs.Telling.{Gives, IsCauseOf, IsLineFault, LeavesRest, Refuses, TakesEnd, refused_line}
+use Rattle.kn_journal.specs.Telling.{Gives, IsLineFault, LeavesRest, Refuses, TakesEnd, refused_line}
 use Rattle.kn_replay.specs.Cutting.{AreBegun, CutsIn, FollowsCut, HasNoLine, IsCut, StopsSoon}
 use Rattle.kn_replay.specs.Replaying.{IsOver, Opened, Opens, Stops}
 use Rattle.kn_replay.specs.Waiting.{Adds}

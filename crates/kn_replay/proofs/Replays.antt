@@ -1,6 +1,6 @@
 -- One event of a replay, and how it ends.
 use Rattle.std.proofs.Common.{◌≡◌, ◌+◌, ◌-◌, ◌≤◌, ℕ, Bool, List, [], ◌∷◌, ◌++◌, length, length-append, append_assoc, append-nil, refl, sym, ap, ◌∙◌, subst, arith, inl, inr}
-use Rattle.std.specs.Prelude.{◌⊎◌, Option, None, Some, Err, Ok, codes, Contains}
+use Rattle.std.specs.Prelude.{◌⊎◌, Option, None, Some, Err, Ok, Contains}
 use Rattle.std.specs.Io.KnownBytes.{Appends, prepend_known}
 use Rattle.std.proofs.KnownBytes.{Appends-nil, Appends-trans}
 use Rattle.kn_event.specs.declared.event.Act.{Act}
@@ -26,14 +26,14 @@ use Rattle.kn_journal.specs.Causes.{Cause, after_end, bad_first_line, bad_line, 
 use Rattle.kn_journal.specs.Lines.{lines}
 use Rattle.kn_journal.specs.Parts.{part}
 use Rattle.kn_journal.specs.Journal.{Read, Verdict, bad, from_read, journal_of, next_part, none_read, opening_part, read_events, start_part, verdict, verdict_of_lines, verdict_on}
-use Rattle.kn_journal.specs.Reading.{Ahead, IsSpent, TakesPart, most_taken}
-use Rattle.kn_journal.specs.Telling.{Gives, Refuses, StopsAmid, TakesEnd}
-use Rattle.kn_replay.specs.Replaying.{BreaksBeyond, BreaksAmid, BreaksFollowing, BreaksIn, EndsThere, Follows, IsFollowed, IsReplayed, Opened, Opens, Replays, Stops, Writes, ending, refusal_of, rest_of_report, status_by, status_of}
+use Rattle.kn_journal.specs.Reading.{Ahead, IsSpent, most_taken}
+use Rattle.kn_journal.specs.Telling.{Gives}
+use Rattle.kn_replay.specs.Replaying.{BreaksFollowing, EndsThere, Follows, IsFollowed, IsReplayed, Opened, Opens, Replays, Stops, Writes, ending, refusal_of, rest_of_report, status_by, status_of}
 use Rattle.kn_replay.specs.Report.{journal_last_line, journal_rows, report_of}
 use Rattle.kn_replay.specs.Waiting.{Adds}
-use Rattle.kn_replay.proofs.Lines.{IsEventLine, end_line, next_end, next_event, next_none, next_refused, no_byte, no_line, with_events, with_events-more}
+use Rattle.kn_replay.proofs.Lines.{IsEventLine, next_end, next_event, next_none, next_refused, no_byte, with_events, with_events-more}
 use Rattle.kn_replay.proofs.Pieces.{prefix_after, prefix_more, rows_text-append}
-use Rattle.kn_replay.proofs.Waits.{adds_all, adds_some, adds_stop}
+use Rattle.kn_replay.proofs.Waits.{adds_all, adds_some}
 
 -- ---- what events add
 

@@ -104,7 +104,7 @@ returns-in-None-clause-cut g c d stands counts over fault =
 pub returns-in-None-clause-ended : goal.returns-in-None-clause-ended
 returns-in-None-clause-ended g c ok =
     let kept = c.loop-count.invariant in
-    ends_there c.loop-count.reader.version c.loop-count.reader.last c.loop-count.reader.number c.next.new.reader.number _ _ _ kept.still
+    ends_there c.loop-count.reader.version c.loop-count.reader.last c.loop-count.reader.number c.next.new.reader.number (unread c.args.reader.now.input (g.S.Source.left c.args.source.now)) (unread c.loop-count.reader.input (g.S.Source.left c.loop-count.source)) (unread c.next.new.reader.input (g.S.Source.left c.next.new.source)) kept.still
     (rw (c.in-Ok-read.is, c.in-None.is) at c.in-Ok.ensures.gives)
 
 pub returns-in-None-clause-write_fault : goal.returns-in-None-clause-write_fault
@@ -263,7 +263,8 @@ loop-count-preserved g c =
       bytes = λ over.
           read_more c.args.reader.now.cut c.loop-count.reader.cut c.next.new.reader.cut (unread c.args.reader.now.input (g.S.Source.left c.args.source.now)) (unread c.loop-count.reader.input (g.S.Source.left c.loop-count.source)) (unread c.next.new.reader.input (g.S.Source.left c.next.new.source))
           (kept.bytes over) (rw (c.in-Ok-read.is, c.in-Some.is) at c.in-Ok.ensures.text);
-      still = still_more c.loop-count.reader.version c.loop-count.reader.last c.loop-count.reader.number e c.next.new.reader.number _ _ _ kept.still given;
+      still =
+          still_more c.loop-count.reader.version c.loop-count.reader.last c.loop-count.reader.number e c.next.new.reader.number (unread c.args.reader.now.input (g.S.Source.left c.args.source.now)) (unread c.loop-count.reader.input (g.S.Source.left c.loop-count.source)) (unread c.next.new.reader.input (g.S.Source.left c.next.new.source)) kept.still given;
       spec = ap (λ (x : RevisionState). x.spec) c.in-Ok-count_and_put.ensures.revision ∙ c.step.ensures.spec ∙ spec;
       good = rw c.in-Ok-read.is at c.in-Ok.ensures.good;
       version = c.next.ensures.version ∙ kept.version;
