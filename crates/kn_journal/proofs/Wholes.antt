@@ -6,7 +6,7 @@ use Rattle.kn_journal.specs.declared.first.FirstLine.TheVariants.{Journal as Jou
 use Rattle.kn_journal.specs.declared.journal.Opening.{Opening}
 use Rattle.kn_journal.specs.declared.journal.Setup.{Setup}
 use Rattle.kn_journal.specs.Causes.{Cause, time_too_large}
-use Rattle.kn_journal.specs.Journal.{first_part, opening_part, start_in, start_line_in, start_of, start_part, time_most, version_of}
+use Rattle.kn_journal.specs.Journal.{first_part, opening_part, start_in, start_line_in, start_of, start_part, time_most}
 use Rattle.kn_journal.specs.Parts.{IsWhole, Part, part}
 use Rattle.kn_journal.specs.Setup.{setup_part}
 use Rattle.kn_journal.proofs.Consumed.{IsOneLine, Takes, line-takes, ok_part-same, part-left, setup-takes, then-takes, then_part-ok, with_line-ok}
