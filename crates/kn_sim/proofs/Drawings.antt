@@ -1,13 +1,16 @@
 -- Calls that read, one after the other, wherever they stop.
-use Rattle.std.proofs.Common.{◌≡◌, ◌∙◌, ◌+◌, ◌≤◌, refl, ℕ, List, length, Option, None, Some, subst, arith}
+use Rattle.std.proofs.Common.{◌≡◌, ◌∙◌, refl, ℕ, List, Option, None, Some, subst, arith}
 use Rattle.std.specs.Prelude.{Result, Ok, Err}
 use Rattle.std.proofs.lemmas.Grind.{common_steps}
 use Rattle.kn_io.specs.declared.traits.Source.{Ghosts}
 use Rattle.kn_io.specs.declared.traits.Faulty.{Ghosts as Counted}
 use Rattle.kn_journal.specs.declared.error.JournalError.{JournalError}
 use Rattle.kn_journal.specs.declared.error.JournalError.TheVariants as error
-use Rattle.kn_journal.specs.Drawing.{Draws}
+use Rattle.kn_journal.specs.Causes.{Cause, after_end, bad_first_line, bad_line, bad_setup, error_of, line_too_long, no_end, time_back, time_too_large, too_many}
+use Rattle.kn_journal.specs.Drawing.{Draws, error_in}
+use Rattle.kn_journal.specs.Parts.{Part}
 use Rattle.kn_journal.specs.Reading.{Ahead}
+use Rattle.kn_journal.specs.Telling.{IsCauseOf, Judges}
 use Rattle.kn_sim.specs.Reading.{Anywhere}
 
 -- no fault of the source
@@ -68,3 +71,22 @@ draws_none x s = record {
   never_falls = omega arith;
   apart_stays = refl;
 }
+
+-- what refuses a line is no fault of the source
+cause-no_fault : (cause : Cause) → IsNoFault (Some (error_of cause))
+cause-no_fault (line_too_long line) = tt
+cause-no_fault (bad_first_line due) = tt
+cause-no_fault (bad_setup line why) = tt
+cause-no_fault (bad_line line why) = tt
+cause-no_fault (time_back line before at) = tt
+cause-no_fault (time_too_large line) = tt
+cause-no_fault no_end = tt
+cause-no_fault (after_end line) = tt
+cause-no_fault (too_many line) = tt
+
+pub refused-no_fault : {T : Type 0} (r : Result T Cause) (e : JournalError) → IsCauseOf e r → IsNoFault (Some e)
+refused-no_fault r e (cause, is, more) = subst (λ (x : JournalError). IsNoFault (Some x)) is (cause-no_fault cause)
+
+pub judged-no_fault : {T : Type 0} (next : ℕ → List ℕ → List (List ℕ) → Result (Part T) Cause) (n : ℕ) (line : List ℕ) (r : Result T JournalError) → Judges next n line r → IsNoFault (error_in r)
+judged-no_fault next n line (Ok x) j = tt
+judged-no_fault next n line (Err e) (cause, is, more) = subst (λ (x : JournalError). IsNoFault (Some x)) is (cause-no_fault cause)

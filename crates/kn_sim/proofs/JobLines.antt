@@ -1,5 +1,5 @@
 -- Jobs that are read one after the other.
-use Rattle.std.proofs.Common.{◌≡◌, ◌+◌, ◌<◌, ◌≤◌, ◌^◌, ℕ, Bool, true, false, List, [], ◌∷◌, ◌++◌, length, length-append, append-nil, append_assoc, refl, sym, ap, ◌∙◌, subst, arith}
+use Rattle.std.proofs.Common.{◌≡◌, ◌+◌, ◌<◌, ◌≤◌, ◌^◌, ℕ, Bool, true, false, List, [], ◌∷◌, ◌++◌, length, length-append, refl, sym, ap, subst}
 use Rattle.std.specs.Prelude.{Option, None, Some, Result, Ok, Err, codes, if◌then◌else◌}
 use Rattle.std.specs.Str.{bytes_eq}
 use Rattle.kn_agenda.specs.declared.job.Job.{Job}
@@ -9,7 +9,7 @@ use Rattle.kn_journal.specs.Causes.{Cause, line_too_long, no_end}
 use Rattle.kn_journal.specs.Journal.{nothing_part}
 use Rattle.kn_journal.specs.Lines.{fits, lines}
 use Rattle.kn_journal.specs.Parts.{Part, part, then_part}
-use Rattle.kn_journal.specs.Telling.{Gives, Refuses, Tells}
+use Rattle.kn_journal.specs.Telling.{Gives, Refuses}
 use Rattle.kn_sim.specs.Reading.{end_part, in_turn, job_in, job_of, jobs_part, next_job_in, next_job_part, with_job}
 use Rattle.kn_sim.proofs.Tellings.{refused-on}
 
@@ -21,7 +21,13 @@ record IsOneLine (ls : List (List ℕ)) (m : ℕ) (p : Part (Option Job)) : Type
   split : ls ≡ line ∷ more
   left : p.left ≡ more
 
-made_is : {T : Type 0} (x : T) (n : ℕ) (left : List (List ℕ)) (p : Part T) → Ok {E = Cause} (part x n left) ≡ Ok p → (p.value ≡ x) × (p.left ≡ left)
+abbrev good : {T : Type 0} → Part T → Result (Part T) Cause
+good p = Ok p
+
+abbrev refused : (T : Type 0) → Cause → Result (Part T) Cause
+refused T cause = Err cause
+
+made_is : {T : Type 0} (x : T) (n : ℕ) (left : List (List ℕ)) (p : Part T) → good (part x n left) ≡ good p → (p.value ≡ x) × (p.left ≡ left)
 made_is x n left p h = let same : part x n left ≡ p = cc in (ap (λ (q : Part _). q.value) (sym same), ap (λ (q : Part _). q.left) (sym same))
 
 -- a job was read of one line
@@ -106,9 +112,12 @@ read-all until start n js last m k (Some xs) None new a g = absurd a
 read-all until start n js last m k (Some xs) (Some ys) None a g = absurd g
 read-all until start n js last m k (Some xs) (Some ys) (Some zs) a g = rw (a, no-more until last (length js) m k (lines ys) (lines zs) g) (with_jobs-end js k (lines zs))
 
+refused_same : (a b : Cause) → refused (Option Job) a ≡ refused (Option Job) b → refused (List Job) a ≡ refused (List Job) b
+refused_same a b h = let same : a ≡ b = cc in ap (refused (List Job)) same
+
 refused-more : (until last count m : ℕ) (ls : List (List ℕ)) (cause : Cause) → next_job_part until last count m ls ≡ Err cause → jobs_part until last count m ls ≡ Err cause
 unfolding jobs_part next_job_part
-refused-more until last count m [] cause h = h
+refused-more until last count m [] cause h = refused_same no_end cause h
 refused-more until last count m (line ∷ more) cause h = rw h refl
 
 pub read-refused : (until start n : ℕ) (js : List Job) (last m : ℕ) (e : JournalError) (old mid : Option (List ℕ)) → AreRead until start n js last m old mid → Refuses (next_job_part until last (length js) m) e mid

@@ -4,3 +4,4 @@ mod Wholes
 mod Tellings
 mod Drawings
 mod JobLines
+mod Workloads

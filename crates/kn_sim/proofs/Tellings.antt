@@ -97,4 +97,3 @@ pub then-refuses : {S T : Type 0} (first : List (List ℕ) → Result (Part S) C
     → Refuses first e old → Refuses (λ ls. then_part (first ls) second) e old
 then-refuses first second e None h = tt
 then-refuses first second e (Some xs) h = refused-on e (first (lines xs)) _ (λ cause k. rw k refl) h
-

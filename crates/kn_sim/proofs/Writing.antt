@@ -1,5 +1,5 @@
 -- Events that are taken and written one after the other.
-use Rattle.std.proofs.Common.{◌≡◌, ◌≤◌, ◌+◌, ℕ, List, [], ◌∷◌, ◌++◌, length, append_assoc, append-nil, refl, sym, ap, ◌∙◌, subst}
+use Rattle.std.proofs.Common.{◌≡◌, ◌≤◌, ℕ, List, [], ◌∷◌, ◌++◌, append_assoc, append-nil, refl, sym, ap, ◌∙◌, subst}
 use Rattle.std.specs.Prelude.{Option}
 use Rattle.std.specs.Io.KnownBytes.{Appends}
 use Rattle.std.proofs.KnownBytes.{Appends-trans}
@@ -64,7 +64,7 @@ go_some before x y z a b d e same goes step front text all schedule = by (front 
     by : IsFront ((before ++ goes.events) ++ e ∷ []) (before ++ all) → AppendsPrefix a d (events_text all)
     by (rest, is) =
         let own : ((before ++ goes.events) ++ e ∷ []) ++ rest ≡ before ++ ((goes.events ++ e ∷ []) ++ rest) =
-            ap (λ (es : List Event). es ++ rest) (append_assoc before goes.events (e ∷ [])) ∙ append_assoc before (goes.events ++ e ∷ []) rest in
+        ap (λ (es : List Event). es ++ rest) (append_assoc before goes.events (e ∷ [])) ∙ append_assoc before (goes.events ++ e ∷ []) rest in
         let split : all ≡ (goes.events ++ e ∷ []) ++ rest = same_rest before all ((goes.events ++ e ∷ []) ++ rest) (is ∙ own) in
         subst (AppendsPrefix a d) (sym (ap events_text split ∙ events-around goes.events e rest)) (prefix_after a b d (events_text goes.events) (event_text e ++ 10 ∷ []) (events_text rest) goes.text text)
 

@@ -42,6 +42,10 @@ IsBegun w old new = (es : List Event) → IsSchedule (plain_of w) es → Appends
 abbrev pub opening_text : Workload → List ℕ
 opening_text w = (first_line 1 ++ 10 ∷ []) ++ (w.setup.text ++ ((codes "start " ++ decimal w.start) ++ 10 ∷ []))
 
+-- what holds behind all lists of events that it made
+abbrev pub OnMade : ScheduleState → (List Event → Type 0) → Type 0
+OnMade x P = (before : List Event) → Made before x → P before
+
 -- all events behind those made before were taken, and their lines written
 pub record WritesAll (before : List Event) (x y : ScheduleState) (old new : Option (List ℕ)) : Type 0 where
   pub events : List Event

@@ -16,7 +16,11 @@ fn within(number: Option<u64>, least: u64, most: u64) -> Option<u64>
     ensures most { IfSome result (λ n. n ≤ most) }
 {
     match number {
-        Some(n) => if least <= n && n <= most { Some(n) } else { None },
+        Some(n) => if least <= n && n <= most {
+            Some(n)
+        } else {
+            None
+        },
         None => None,
     }
 }
@@ -31,13 +35,12 @@ fn last_within(line: &[u8], at: usize, least: u64, most: u64) -> Result<u64, Lin
     let Some(end) = next_end(line, at) else {
         return Err(LineError::BadNumber(at as u64));
     };
-    match within(read_number(&line[at + 1..end]), least, most) {
-        Some(n) => if end == line.len() {
-            Ok(n)
-        } else {
-            Err(LineError::Extra(end as u64))
-        },
-        None => Err(LineError::BadNumber(at as u64 + 1)),
+    let Some(n) = within(read_number(&line[at + 1..end]), least, most) else {
+        return Err(LineError::BadNumber(at as u64 + 1));
+    };
+    match next_end(line, end) {
+        Some(_) => Err(LineError::Extra(end as u64)),
+        None => Ok(n),
     }
 }
 

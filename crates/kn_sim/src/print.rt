@@ -1,13 +1,12 @@
 //! The journal of a workload's schedule, written line by line.
-ghost use Rattle.std.specs.Prelude.{◌≡◌, ◌≤◌, ◌++◌, ◌∷◌, [], List, Err, IfOk, OnErr, OnOk, codes, length};
+ghost use Rattle.std.specs.Prelude.{◌≡◌, ◌≤◌, ◌++◌, ◌∷◌, [], Err, IfOk, OnErr, OnOk, codes, length};
 ghost use Rattle.std.specs.Fmt.{decimal};
 ghost use Rattle.std.specs.Io.KnownBytes.{Appends};
-ghost use Rattle.kn_event.specs.declared.event.Event.{Event};
 ghost use Rattle.kn_io.specs.Causes.{HasCause, Rose};
 ghost use Rattle.kn_io.specs.Prefix.{AppendsPrefix};
 ghost use Rattle.kn_journal.specs.Journal.{time_most};
 ghost use Rattle.kn_agenda.specs.Schedule.{Made};
-ghost use Rattle.kn_sim.specs.Simulated.{IsBegun, IsWorkload, IsWritten, WritesAll, WritesSome, opening_text, plain_of};
+ghost use Rattle.kn_sim.specs.Simulated.{IsBegun, IsWorkload, IsWritten, OnMade, WritesAll, WritesSome, opening_text, plain_of};
 
 use crate::workload::Workload;
 use kn_agenda::{Schedule, WorkloadView, schedule_laws};
@@ -63,8 +62,8 @@ fn write_events<O: Sink>(
     out: &mut O,
 ) -> Result<(), Failed>
     requires { schedule.old.workload.until ≤ time_most }
-    ensures ok { OnOk result ((before : List Event) → Made before schedule.old → WritesAll before schedule.old schedule.new (O.held out.old) (O.held out.new)) }
-    ensures err { OnErr result ((before : List Event) → Made before schedule.old → WritesSome before schedule.old (O.held out.old) (O.held out.new)) }
+    ensures ok { OnOk result (OnMade schedule.old (λ es. WritesAll es schedule.old schedule.new (O.held out.old) (O.held out.new))) }
+    ensures err { OnErr result (OnMade schedule.old (λ es. WritesSome es schedule.old (O.held out.old) (O.held out.new))) }
     ensures kept_stays { O.kept out.new ≡ O.kept out.old }
     ensures cause { HasCause (O.Faulty.faults out.old) (O.Faulty.faults out.new) result }
 {

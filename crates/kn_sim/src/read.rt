@@ -2,17 +2,18 @@
 ghost use Rattle.std.specs.Prelude.{◌≡◌, ◌⊎◌, ◌+◌, ◌≤◌, ◌<◌, ◌^◌, length, IfErr, IfOk, Err};
 ghost use Rattle.kn_io.specs.Causes.{Rose};
 ghost use Rattle.kn_agenda.specs.Workload.{AreJobs};
-ghost use Rattle.kn_journal.specs.Drawing.{Draws, error_in};
+ghost use Rattle.kn_event.specs.Revision.{AreInRange};
+ghost use Rattle.kn_journal.specs.Drawing.{error_in};
 ghost use Rattle.kn_journal.specs.Journal.{IsSetup, time_most};
-ghost use Rattle.kn_journal.specs.Reading.{most_taken, unread};
-ghost use Rattle.kn_journal.specs.Telling.{IsCauseOf, Judges, Tells};
-ghost use Rattle.kn_sim.specs.Reading.{Anywhere, OnJob, TellsWorkload, boot_most, course_part, in_turn, job_of, jobs_most, jobs_part, named_line_in, named_part, next_job_part, service_most, workload_part};
+ghost use Rattle.kn_journal.specs.Reading.{most_taken};
+ghost use Rattle.kn_journal.specs.Telling.{IsCauseOf, Judges};
+ghost use Rattle.kn_sim.specs.Reading.{DrawsLines, OnJob, Reads, TellsWorkload, boot_most, course_part, in_turn, job_of, jobs_most, jobs_part, named_line_in, named_part, next_job_part, service_most, until_most, workload_part};
 ghost use Rattle.kn_sim.specs.Simulated.{IsWorkload};
 
 use crate::line::{job_of, named_of};
 use crate::workload::{Jobs, Workload};
 use kn_agenda::Job;
-use kn_event::Memory;
+use kn_event::{Memory, Spec};
 use kn_io::Source;
 use kn_journal::{FirstLine, JournalError, Lines, Opening, Setup, TIME_MOST, read_opening};
 use std::alloc::Global;
@@ -81,10 +82,10 @@ fn next_named<S: Source>(
     least: u64,
     most: u64,
 ) -> Result<u64, JournalError>
-    ensures tells { Tells (named_part word.now least most lines.old.number) lines.new.number (unread lines.old.input (S.left source.old)) (unread lines.new.input (S.left source.new)) result }
+    ensures tells { Reads (named_part word.now least most) lines.old lines.new (S.left source.old) (S.left source.new) result }
     ensures least { IfOk result (λ n. least ≤ n) }
     ensures most { IfOk result (λ n. n ≤ most) }
-    ensures source { Draws Anywhere (error_in result) lines.old.input lines.new.input S.Source.own S.Faulty source.old source.new }
+    ensures source { DrawsLines (error_in result) lines.old lines.new S.Source.own S.Faulty source.old source.new }
 {
     match lines.next_line(source) {
         Ok(()) => judge_named(lines.line(), lines.number(), word, least, most),
@@ -100,12 +101,12 @@ fn next_job<S: Source>(
     last: u64,
     count: usize,
 ) -> Result<Option<Job>, JournalError>
-    ensures tells { Tells (next_job_part until last count lines.old.number) lines.new.number (unread lines.old.input (S.left source.old)) (unread lines.new.input (S.left source.new)) result }
+    ensures tells { Reads (next_job_part until last count) lines.old lines.new (S.left source.old) (S.left source.new) result }
     ensures order { OnJob result (λ j. last ≤ j.time) }
     ensures until { OnJob result (λ j. j.time ≤ until) }
     ensures service { OnJob result (λ j. j.service ≤ service_most) }
     ensures few { OnJob result (λ j. count < jobs_most) }
-    ensures source { Draws Anywhere (error_in result) lines.old.input lines.new.input S.Source.own S.Faulty source.old source.new }
+    ensures source { DrawsLines (error_in result) lines.old lines.new S.Source.own S.Faulty source.old source.new }
 {
     match lines.next_line(source) {
         Ok(()) => {}
@@ -123,6 +124,11 @@ fn next_job<S: Source>(
     }
 }
 
+/// A number is in range.
+fn number_range(n: u64)
+    ensures { n < 2 ^ 64 }
+{}
+
 /// Reads all jobs, from the start up to `until`, and `end`.
 fn read_jobs<S: Source>(
     alloc: Global,
@@ -131,16 +137,17 @@ fn read_jobs<S: Source>(
     start: u64,
     until: u64,
 ) -> Result<Jobs, JournalError>
-    ensures tells { Tells (jobs_part until start 0 lines.old.number) lines.new.number (unread lines.old.input (S.left source.old)) (unread lines.new.input (S.left source.new)) result }
+    ensures tells { Reads (jobs_part until start 0) lines.old lines.new (S.left source.old) (S.left source.new) result }
     ensures jobs { IfOk result (AreJobs start until) }
     ensures few { IfOk result (λ jobs. length jobs ≤ jobs_most) }
-    ensures source { Draws Anywhere (error_in result) lines.old.input lines.new.input S.Source.own S.Faulty source.old source.new }
+    ensures source { DrawsLines (error_in result) lines.old lines.new S.Source.own S.Faulty source.old source.new }
 {
     let mut jobs = Vec::new(alloc);
     let mut last = start;
-    'jobs: loop {
+    'each: loop {
         match next_job(lines, source, until, last, jobs.len()) {
             Ok(Some(job)) => {
+                number_range(job.tag);
                 last = job.time;
                 if jobs.push(job).is_err() {
                     return Err(JournalError::Memory);
@@ -150,6 +157,22 @@ fn read_jobs<S: Source>(
             Err(e) => return Err(e),
         }
     }
+}
+
+/// The last time that a workload of this start may end at.
+fn until_most(start: u64) -> u64
+    requires { start ≤ time_most }
+    ensures { result ≡ until_most start }
+{
+    TIME_MOST.min(start + DAY)
+}
+
+/// A specification is in range.
+fn spec_ranges(spec: &Spec)
+    ensures { AreInRange spec.now }
+{
+    // Any part that is read brings what is kept of all.
+    let _timeout = spec.timeout_ms;
 }
 
 /// Reads a workload whose setup, start and boot time were read.
@@ -164,12 +187,12 @@ fn read_course<S: Source>(
     requires setup { IsSetup setup }
     requires start { start ≤ time_most }
     requires boot { boot ≤ boot_most }
-    ensures tells { Tells (course_part setup start boot lines.old.number) lines.new.number (unread lines.old.input (S.left source.old)) (unread lines.new.input (S.left source.new)) result }
+    ensures tells { Reads (course_part setup start boot) lines.old lines.new (S.left source.old) (S.left source.new) result }
     ensures good { IfOk result IsWorkload }
-    ensures source { Draws Anywhere (error_in result) lines.old.input lines.new.input S.Source.own S.Faulty source.old source.new }
+    ensures source { DrawsLines (error_in result) lines.old lines.new S.Source.own S.Faulty source.old source.new }
 {
-    let most = TIME_MOST.min(start + DAY);
-    let until = match next_named(lines, source, b"until", start, most) {
+    spec_ranges(&setup.spec);
+    let until = match next_named(lines, source, b"until", start, until_most(start)) {
         Ok(until) => until,
         Err(e) => return Err(e),
     };
@@ -191,9 +214,9 @@ fn read_lines<S: Source>(
     lines: &mut Lines,
     source: &mut S,
 ) -> Result<Workload, JournalError>
-    ensures tells { Tells (workload_part lines.old.number) lines.new.number (unread lines.old.input (S.left source.old)) (unread lines.new.input (S.left source.new)) result }
+    ensures tells { Reads workload_part lines.old lines.new (S.left source.old) (S.left source.new) result }
     ensures good { IfOk result IsWorkload }
-    ensures source { Draws Anywhere (error_in result) lines.old.input lines.new.input S.Source.own S.Faulty source.old source.new }
+    ensures source { DrawsLines (error_in result) lines.old lines.new S.Source.own S.Faulty source.old source.new }
 {
     let opening = match read_opening(alloc, lines, source, FirstLine::Workload) {
         Ok(opening) => opening,
@@ -208,10 +231,7 @@ fn read_lines<S: Source>(
         Err(e) => return Err(e),
     };
     let Opening { version: _, setup } = opening;
-    match read_course(alloc, lines, source, setup, start, boot) {
-        Ok(workload) => Ok(workload),
-        Err(e) => Err(e),
-    }
+    read_course(alloc, lines, source, setup, start, boot)
 }
 
 /// Reads a workload to the end of the input, or why it is refused: the first line that is, from the first on. On a job's line that is

@@ -1,5 +1,5 @@
 -- One line more.
-use Rattle.std.proofs.Common.{◌≡◌, ◌∙◌, ◌≤◌, ◌+◌, ℕ, refl, ap, arith}
+use Rattle.std.proofs.Common.{◌∙◌, refl, ap, arith}
 use Rattle.std.proofs.KnownBytes.{Appends-nil}
 use Rattle.kn_agenda.specs.Workload.{Workload}
 use Rattle.kn_sim.proofs.Writing.{go_all, go_more, go_some, go_start}

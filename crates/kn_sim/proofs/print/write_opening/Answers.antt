@@ -1,5 +1,5 @@
 -- Line 1, then the setup, then the start.
-use Rattle.std.proofs.Common.{◌++◌, ◌∷◌, [], ◌∙◌, ℕ, List, append_assoc, subst}
+use Rattle.std.proofs.Common.{◌++◌, ◌∷◌, [], ◌∙◌, append_assoc, subst}
 use Rattle.std.specs.Prelude.{codes}
 use Rattle.std.specs.Fmt.{decimal}
 use Rattle.std.proofs.KnownBytes.{Appends-trans}
@@ -8,22 +8,21 @@ use Rattle.kn_journal.specs.Journal.{first_line}
 use Rattle.kn_sim.proofs.Pieces.{on_err, on_ok, prefix_after, prefix_last, prefix_more}
 use Rattle.kn_sim.proofs.print.write_opening.Goals as goal
 
-
 pub returns-in-Err-clause-err : goal.returns-in-Err-clause-err
 returns-in-Err-clause-err g c =
     prefix_more (g.O.Sink.held c.args.out.now) (g.O.Sink.held c.put_all.new.out) (first_line 1 ++ 10 ∷ []) (c.args.w.now.setup.text ++ ((codes "start " ++ decimal c.args.w.now.start) ++ 10 ∷ []))
     (rw (c.bytes.ensures ∙ c.set_line.ensures) at c.in-Err.ensures.err)
 
-pub returns-in-Err-put_all-2-clause-err : goal.returns-in-Err-put_all-2-clause-err
-returns-in-Err-put_all-2-clause-err g c =
+pub returns-in-Err-put_all-clause-err : goal.returns-in-Err-put_all-clause-err
+returns-in-Err-put_all-clause-err g c =
     let first = rw (c.bytes.ensures ∙ c.set_line.ensures) at c.in-Ok.ensures.ok in
     prefix_after (g.O.Sink.held c.args.out.now) (g.O.Sink.held c.put_all.new.out) (g.O.Sink.held c.put_all-2.new.out) (first_line 1 ++ 10 ∷ []) c.args.w.now.setup.text ((codes "start " ++ decimal c.args.w.now.start) ++ 10 ∷ [])
-    first (rw c.bytes-2.ensures at c.in-Err-put_all-2.ensures.err)
+    first (rw c.bytes-2.ensures at c.in-Err-put_all.ensures.err)
 
 pub returns-clause-ok : goal.returns-clause-ok
 returns-clause-ok g c =
     let first = rw (c.bytes.ensures ∙ c.set_line.ensures) at c.in-Ok.ensures.ok in
-    let text = rw c.bytes-2.ensures at c.in-Ok-put_all-2.ensures.ok in
+    let text = rw c.bytes-2.ensures at c.in-Ok-put_all.ensures.ok in
     on_ok c.put_all-3.result
     (λ start.
     Appends-trans (g.O.Sink.held c.args.out.now) (g.O.Sink.held c.put_all.new.out) (g.O.Sink.held c.put_all-3.new.out) (first_line 1 ++ 10 ∷ []) (c.args.w.now.setup.text ++ ((codes "start " ++ decimal c.args.w.now.start) ++ 10 ∷ [])) first
@@ -33,7 +32,7 @@ returns-clause-ok g c =
 pub returns-clause-err : goal.returns-clause-err
 returns-clause-err g c =
     let first = rw (c.bytes.ensures ∙ c.set_line.ensures) at c.in-Ok.ensures.ok in
-    let text = rw c.bytes-2.ensures at c.in-Ok-put_all-2.ensures.ok in
+    let text = rw c.bytes-2.ensures at c.in-Ok-put_all.ensures.ok in
     let a = g.O.Sink.held c.args.out.now in
     let b = g.O.Sink.held c.put_all-2.new.out in
     let d = g.O.Sink.held c.put_all-3.new.out in
