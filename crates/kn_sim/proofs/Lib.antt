@@ -1,4 +1,5 @@
 mod Pieces
+mod Waits
 mod Writing
 mod Wholes
 mod Tellings

@@ -60,24 +60,9 @@ events-around es e rest =
 regroup : (first text start events end : List ℕ) → ((first ++ 10 ∷ []) ++ (text ++ (start ++ 10 ∷ []))) ++ (events ++ end) ≡ first ++ 10 ∷ (text ++ (start ++ 10 ∷ (events ++ end)))
 regroup first text start events end = simp append_assoc
 
-whole-text : (w : Workload) (es : List Event) → opening_text w ++ (events_text es ++ codes "end\n") ≡ journal_text (simulated w es)
+pub whole-text : (w : Workload) (es : List Event) → opening_text w ++ (events_text es ++ codes "end\n") ≡ journal_text (simulated w es)
 unfolding journal_text
 whole-text w es = regroup (first_line 1) w.setup.text (codes "start " ++ decimal w.start) (events_text es) (codes "end\n")
 
-before_end : (w : Workload) (es : List Event) → (opening_text w ++ events_text es) ++ codes "end\n" ≡ journal_text (simulated w es)
+pub before_end : (w : Workload) (es : List Event) → (opening_text w ++ events_text es) ++ codes "end\n" ≡ journal_text (simulated w es)
 before_end w es = append_assoc (opening_text w) (events_text es) (codes "end\n") ∙ whole-text w es
-
--- some of the opening; the opening and some of the events; these and some of the end; all
-pub some_opening : (a b : Option (List ℕ)) (w : Workload) (es : List Event) → AppendsPrefix a b (opening_text w) → AppendsPrefix a b (journal_text (simulated w es))
-some_opening a b w es h = subst (AppendsPrefix a b) (whole-text w es) (prefix_more a b (opening_text w) (events_text es ++ codes "end\n") h)
-
-pub some_events : (a b d : Option (List ℕ)) (w : Workload) (es : List Event) → Appends a b (opening_text w) → AppendsPrefix b d (events_text es) → AppendsPrefix a d (journal_text (simulated w es))
-some_events a b d w es h k = subst (AppendsPrefix a d) (whole-text w es) (prefix_after a b d (opening_text w) (events_text es) (codes "end\n") h k)
-
-pub some_end : (a b d e : Option (List ℕ)) (w : Workload) (es : List Event) → Appends a b (opening_text w) → Appends b d (events_text es) → AppendsPrefix d e (codes "end\n") → AppendsPrefix a e (journal_text (simulated w es))
-some_end a b d e w es h k l =
-    subst (AppendsPrefix a e) (before_end w es) (prefix_last a d e (opening_text w ++ events_text es) (codes "end\n") (Appends-trans a b d (opening_text w) (events_text es) h k) l)
-
-pub all_written : (a b d e : Option (List ℕ)) (w : Workload) (es : List Event) → Appends a b (opening_text w) → Appends b d (events_text es) → Appends d e (codes "end\n") → Appends a e (journal_text (simulated w es))
-all_written a b d e w es h k l =
-    subst (Appends a e) (before_end w es) (Appends-trans a d e (opening_text w ++ events_text es) (codes "end\n") (Appends-trans a b d (opening_text w) (events_text es) h k) l)

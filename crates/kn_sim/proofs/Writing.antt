@@ -1,8 +1,6 @@
 -- Events that are taken and written one after the other.
 use Rattle.std.proofs.Common.{◌≡◌, ◌≤◌, ℕ, List, [], ◌∷◌, ◌++◌, append_assoc, append-nil, refl, sym, ap, ◌∙◌, subst}
 use Rattle.std.specs.Prelude.{Option}
-use Rattle.std.specs.Io.KnownBytes.{Appends}
-use Rattle.std.proofs.KnownBytes.{Appends-trans}
 use Rattle.kn_event.specs.declared.event.Event.{Event}
 use Rattle.kn_event.specs.EventLine.{IsInJournalRange, IsInVersion, event_text}
 use Rattle.kn_io.specs.Prefix.{AppendsPrefix}
@@ -11,7 +9,9 @@ use Rattle.kn_agenda.specs.Due.{AreNext, IsFront, IsOver, IsSchedule}
 use Rattle.kn_agenda.specs.Schedule.{Made, ScheduleState}
 use Rattle.kn_sim.specs.Going.{GoesOn, last_time}
 use Rattle.kn_sim.specs.Simulated.{WritesAll, WritesSome}
-use Rattle.kn_sim.proofs.Pieces.{events-around, events-more, prefix_after}
+use Rattle.kn_sim.specs.Waiting.{Adds}
+use Rattle.kn_sim.proofs.Pieces.{events-around, events-more}
+use Rattle.kn_sim.proofs.Waits.{adds_nothing, adds_some, adds_trans}
 
 -- ---- one event more
 
@@ -30,22 +30,22 @@ same_rest : (xs ys zs : List Event) → xs ++ ys ≡ xs ++ zs → ys ≡ zs
 same_rest [] ys zs h = h
 same_rest (x ∷ xs) ys zs h = same_rest xs ys zs (tail_of x (xs ++ ys) (xs ++ zs) h)
 
-pub go_more : (before : List Event) (x y z : ScheduleState) (a b d : Option (List ℕ)) (e : Event) → GoesOn before x y a b → ((es : List Event) → Made es y → Made (es ++ e ∷ []) z)
-    → y.revision.clock ≤ e.time → e.time ≤ time_most → IsInJournalRange e.act → IsInVersion 1 e.act → z.revision.clock ≡ e.time → Appends b d (event_text e ++ 10 ∷ []) → GoesOn before x z a d
-go_more before x y z a b d e goes step order most range version clock text = record {
+pub go_more : (before : List Event) (x y z : ScheduleState) (a b d : Option (List ℕ)) (p q r : List ℕ) (e : Event) → GoesOn before x y a b p q → ((es : List Event) → Made es y → Made (es ++ e ∷ []) z)
+    → y.revision.clock ≤ e.time → e.time ≤ time_most → IsInJournalRange e.act → IsInVersion 1 e.act → z.revision.clock ≡ e.time → Adds b d q r (event_text e ++ 10 ∷ []) → GoesOn before x z a d p r
+go_more before x y z a b d p q r e goes step order most range version clock text = record {
   events = goes.events ++ e ∷ [];
   made = subst (λ (es : List Event). Made es z) (append_assoc before goes.events (e ∷ [])) (step (before ++ goes.events) goes.made);
   range = events-in-order x.revision.clock goes.events e goes.range (subst (λ (t : ℕ). t ≤ e.time) (sym goes.last) order) most range version;
   last = last-more x.revision.clock goes.events e ∙ sym clock;
-  text = subst (Appends a d) (sym (events-more goes.events e)) (Appends-trans a b d (events_text goes.events) (event_text e ++ 10 ∷ []) goes.text text);
+  text = subst (Adds a d p r) (sym (events-more goes.events e)) (adds_trans a b d p q r (events_text goes.events) (event_text e ++ 10 ∷ []) goes.text text);
 }
 
 -- ---- the end
 
 -- nothing is due any more
-pub go_all : (before : List Event) (x y z : ScheduleState) (a b : Option (List ℕ)) → y.workload ≡ x.workload → GoesOn before x y a b
-    → ((es : List Event) → Made es y → IsOver y.workload es) → ((es : List Event) → Made es y → Made es z) → WritesAll before x z a b
-go_all before x y z a b same goes over stays = record {
+pub go_all : (before : List Event) (x y z : ScheduleState) (a b : Option (List ℕ)) (p q : List ℕ) → y.workload ≡ x.workload → GoesOn before x y a b p q
+    → ((es : List Event) → Made es y → IsOver y.workload es) → ((es : List Event) → Made es y → Made es z) → WritesAll before x z a b p q
+go_all before x y z a b p q same goes over stays = record {
   events = goes.events;
   schedule = subst (λ w. IsSchedule w (before ++ goes.events)) same (record { steps = goes.made.runs.steps; over = over (before ++ goes.events) goes.made });
   many = sym (stays (before ++ goes.events) goes.made).events;
@@ -53,22 +53,23 @@ go_all before x y z a b same goes over stays = record {
   text = goes.text;
 }
 
--- the line of an event was cut short
-pub go_some : (before : List Event) (x y z : ScheduleState) (a b d : Option (List ℕ)) (e : Event) → z.workload ≡ x.workload → GoesOn before x y a b → ((es : List Event) → Made es y → Made (es ++ e ∷ []) z)
-    → ((es all : List Event) → AreNext x.workload es → IsSchedule x.workload all → IsFront es all) → AppendsPrefix b d (event_text e ++ 10 ∷ []) → WritesSome before x a d
-go_some before x y z a b d e same goes step front text all schedule = by (front ((before ++ goes.events) ++ e ∷ []) (before ++ all) steps schedule)
+-- what waited was cut short, or the line of an event
+pub go_some : (before : List Event) (x y z : ScheduleState) (a b d : Option (List ℕ)) (p q : List ℕ) (e : Event) → z.workload ≡ x.workload → GoesOn before x y a b p q → ((es : List Event) → Made es y → Made (es ++ e ∷ []) z)
+    → ((es all : List Event) → AreNext x.workload es → IsSchedule x.workload all → IsFront es all) → AppendsPrefix b d (q ++ (event_text e ++ 10 ∷ [])) → WritesSome before x a d p
+go_some before x y z a b d p q e same goes step front text all schedule = by (front ((before ++ goes.events) ++ e ∷ []) (before ++ all) steps schedule)
   where
     steps : AreNext x.workload ((before ++ goes.events) ++ e ∷ [])
     steps = subst (λ w. AreNext w ((before ++ goes.events) ++ e ∷ [])) same (step (before ++ goes.events) goes.made).runs.steps
 
-    by : IsFront ((before ++ goes.events) ++ e ∷ []) (before ++ all) → AppendsPrefix a d (events_text all)
+    by : IsFront ((before ++ goes.events) ++ e ∷ []) (before ++ all) → AppendsPrefix a d (p ++ events_text all)
     by (rest, is) =
         let own : ((before ++ goes.events) ++ e ∷ []) ++ rest ≡ before ++ ((goes.events ++ e ∷ []) ++ rest) =
         ap (λ (es : List Event). es ++ rest) (append_assoc before goes.events (e ∷ [])) ∙ append_assoc before (goes.events ++ e ∷ []) rest in
         let split : all ≡ (goes.events ++ e ∷ []) ++ rest = same_rest before all ((goes.events ++ e ∷ []) ++ rest) (is ∙ own) in
-        subst (AppendsPrefix a d) (sym (ap events_text split ∙ events-around goes.events e rest)) (prefix_after a b d (events_text goes.events) (event_text e ++ 10 ∷ []) (events_text rest) goes.text text)
+        subst (λ (z : List ℕ). AppendsPrefix a d (p ++ z)) (sym (ap events_text split ∙ events-around goes.events e rest))
+        (adds_some a b d p q (events_text goes.events) (event_text e ++ 10 ∷ []) (events_text rest) goes.text text)
 
 -- ---- the beginning
 
-pub go_start : (before : List Event) (x : ScheduleState) (a : Option (List ℕ)) → Made before x → Appends a a [] → GoesOn before x x a a
-go_start before x a made none = record { events = []; made = subst (λ (es : List Event). Made es x) (sym (append-nil before)) made; range = tt; last = refl; text = none }
+pub go_start : (before : List Event) (x : ScheduleState) (a : Option (List ℕ)) (p : List ℕ) → Made before x → GoesOn before x x a a p p
+go_start before x a p made = record { events = []; made = subst (λ (es : List Event). Made es x) (sym (append-nil before)) made; range = tt; last = refl; text = adds_nothing a p }

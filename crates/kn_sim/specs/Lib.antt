@@ -1,3 +1,4 @@
 pub mod Going
 pub mod Reading
 pub mod Simulated
+pub mod Waiting

@@ -10,6 +10,7 @@ use Rattle.kn_agenda.specs.Workload as plain
 use Rattle.kn_agenda.specs.Due.{IsSchedule}
 use Rattle.kn_agenda.specs.Schedule.{Made, ScheduleState}
 use Rattle.kn_sim.specs.declared.workload.Workload.{Workload}
+use Rattle.kn_sim.specs.Waiting.{Adds}
 
 -- what its schedule depends on
 abbrev pub plain_of : Workload → plain.Workload
@@ -42,18 +43,21 @@ IsBegun w old new = (es : List Event) → IsSchedule (plain_of w) es → Appends
 abbrev pub opening_text : Workload → List ℕ
 opening_text w = (first_line 1 ++ 10 ∷ []) ++ (w.setup.text ++ ((codes "start " ++ decimal w.start) ++ 10 ∷ []))
 
--- what holds behind all lists of events that it made
-abbrev pub OnMade : ScheduleState → (List Event → Type 0) → Type 0
-OnMade x P = (before : List Event) → Made before x → P before
-
--- all events behind those made before were taken, and their lines written
-pub record WritesAll (before : List Event) (x y : ScheduleState) (old new : Option (List ℕ)) : Type 0 where
+-- all events behind those made before were taken, and their lines came behind what waited
+pub record WritesAll (before : List Event) (x y : ScheduleState) (old new : Option (List ℕ)) (waits now : List ℕ) : Type 0 where
   pub events : List Event
   pub schedule : IsSchedule x.workload (before ++ events)
   pub many : length (before ++ events) ≡ y.revision.events
   pub range : AreEvents 1 x.revision.clock events
-  pub text : Appends old new (events_text events)
+  pub text : Adds old new waits now (events_text events)
 
--- some first bytes of the lines of all events behind those made before
-abbrev pub WritesSome : List Event → ScheduleState → Option (List ℕ) → Option (List ℕ) → Type 0
-WritesSome before x old new = (es : List Event) → IsSchedule x.workload (before ++ es) → AppendsPrefix old new (events_text es)
+-- some first bytes were written of what waits and the lines of all events behind those made before
+abbrev pub WritesSome : List Event → ScheduleState → Option (List ℕ) → Option (List ℕ) → List ℕ → Type 0
+WritesSome before x old new waits = (es : List Event) → IsSchedule x.workload (before ++ es) → AppendsPrefix old new (waits ++ events_text es)
+
+-- the same behind each list of events that it made
+abbrev pub TakesAll : ScheduleState → ScheduleState → Option (List ℕ) → Option (List ℕ) → List ℕ → List ℕ → Type 0
+TakesAll x y old new waits now = (before : List Event) → Made before x → WritesAll before x y old new waits now
+
+abbrev pub TakesSome : ScheduleState → Option (List ℕ) → Option (List ℕ) → List ℕ → Type 0
+TakesSome x old new waits = (before : List Event) → Made before x → WritesSome before x old new waits

@@ -4,6 +4,7 @@
 mod line;
 mod print;
 mod read;
+mod waiting;
 mod workload;
 
 pub use kn_agenda::Job;

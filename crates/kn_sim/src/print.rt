@@ -1,17 +1,18 @@
-//! The journal of a workload's schedule, written line by line.
+//! The journal of a workload's schedule, written piece by piece.
 ghost use Rattle.std.specs.Prelude.{◌≡◌, ◌≤◌, ◌++◌, ◌∷◌, [], Err, IfOk, OnErr, OnOk, codes, length};
 ghost use Rattle.std.specs.Fmt.{decimal};
-ghost use Rattle.std.specs.Io.KnownBytes.{Appends};
 ghost use Rattle.kn_io.specs.Causes.{HasCause, Rose};
 ghost use Rattle.kn_io.specs.Prefix.{AppendsPrefix};
 ghost use Rattle.kn_journal.specs.Journal.{time_most};
 ghost use Rattle.kn_agenda.specs.Schedule.{Made};
-ghost use Rattle.kn_sim.specs.Simulated.{IsBegun, IsWorkload, IsWritten, OnMade, WritesAll, WritesSome, opening_text, plain_of};
+ghost use Rattle.kn_sim.specs.Simulated.{IsBegun, IsWorkload, IsWritten, TakesAll, TakesSome, opening_text, plain_of};
+ghost use Rattle.kn_sim.specs.Waiting.{Adds};
 
+use crate::waiting::Waiting;
 use crate::workload::Workload;
 use kn_agenda::{Schedule, WorkloadView, schedule_laws};
 use kn_event::{Line, Memory, event_line};
-use kn_io::{Failed, Sink, put_all};
+use kn_io::{Failed, Sink};
 use std::alloc::Global;
 
 /// Why a journal was not written whole.
@@ -35,42 +36,49 @@ fn set_line(line: &mut Line, word: &[u8], n: u64)
     line.put(b"\n");
 }
 
-/// Writes what stands before the events, or on `Failed` some first bytes of it: line 1 of a journal 1, the setup's text, the start.
-fn write_opening<O: Sink>(w: &Workload, line: &mut Line, out: &mut O) -> Result<(), Failed>
-    ensures ok { OnOk result (Appends (O.held out.old) (O.held out.new) (opening_text w.now)) }
-    ensures err { OnErr result (AppendsPrefix (O.held out.old) (O.held out.new) (opening_text w.now)) }
+/// Adds what stands before the events behind what waits: line 1 of a journal 1, the setup's text, the start.
+fn write_opening<O: Sink>(
+    w: &Workload,
+    line: &mut Line,
+    waiting: &mut Waiting,
+    out: &mut O,
+) -> Result<(), Failed>
+    ensures ok { OnOk result (Adds (O.held out.old) (O.held out.new) waiting.old waiting.new (opening_text w.now)) }
+    ensures err { OnErr result (AppendsPrefix (O.held out.old) (O.held out.new) (waiting.old ++ opening_text w.now)) }
     ensures kept_stays { O.kept out.new ≡ O.kept out.old }
     ensures cause { HasCause (O.Faulty.faults out.old) (O.Faulty.faults out.new) result }
 {
     set_line(line, b"kact journal ", 1);
-    match put_all(out, line.bytes()) {
+    match waiting.add(line.bytes(), out) {
         Ok(()) => {}
         Err(Failed) => return Err(Failed),
     }
-    match put_all(out, w.setup.text.bytes()) {
+    match waiting.add(w.setup.text.bytes(), out) {
         Ok(()) => {}
         Err(Failed) => return Err(Failed),
     }
     set_line(line, b"start ", w.start);
-    put_all(out, line.bytes())
+    waiting.add(line.bytes(), out)
 }
 
-/// Takes all events that are still to come, and writes a line for each, or on `Failed` some first bytes of these lines.
+/// Takes all events that are still to come, and adds a line for each behind what waits.
 fn write_events<O: Sink>(
     schedule: &mut Schedule,
     line: &mut Line,
+    waiting: &mut Waiting,
     out: &mut O,
 ) -> Result<(), Failed>
     requires { schedule.old.workload.until ≤ time_most }
-    ensures ok { OnOk result (OnMade schedule.old (λ es. WritesAll es schedule.old schedule.new (O.held out.old) (O.held out.new))) }
-    ensures err { OnErr result (OnMade schedule.old (λ es. WritesSome es schedule.old (O.held out.old) (O.held out.new))) }
+    ensures ok { OnOk result (TakesAll schedule.old schedule.new (O.held out.old) (O.held out.new)
+        waiting.old waiting.new) }
+    ensures err { OnErr result (TakesSome schedule.old (O.held out.old) (O.held out.new) waiting.old) }
     ensures kept_stays { O.kept out.new ≡ O.kept out.old }
     ensures cause { HasCause (O.Faulty.faults out.old) (O.Faulty.faults out.new) result }
 {
     schedule_laws();
     while let Some(e) = schedule.next() {
         event_line(&e, line);
-        match put_all(out, line.bytes()) {
+        match waiting.add(line.bytes(), out) {
             Ok(()) => {}
             Err(Failed) => return Err(Failed),
         }
@@ -91,15 +99,20 @@ fn write_all<O: Sink>(w: &Workload, schedule: &mut Schedule, out: &mut O) -> Res
 {
     schedule_laws();
     let mut line = Line::new();
-    match write_opening(w, &mut line, out) {
+    let mut waiting = Waiting::new();
+    match write_opening(w, &mut line, &mut waiting, out) {
         Ok(()) => {}
         Err(Failed) => return Err(Failed),
     }
-    match write_events(schedule, &mut line, out) {
+    match write_events(schedule, &mut line, &mut waiting, out) {
         Ok(()) => {}
         Err(Failed) => return Err(Failed),
     }
-    put_all(out, b"end\n")
+    match waiting.add(b"end\n", out) {
+        Ok(()) => {}
+        Err(Failed) => return Err(Failed),
+    }
+    waiting.flush(out)
 }
 
 /// What a schedule reads of a workload, lent.
@@ -109,9 +122,9 @@ fn view_of(w: &Workload) -> WorkloadView<'_>
     WorkloadView::new(&w.setup.spec, w.start, w.boot, w.until, w.jobs.items())
 }
 
-/// Writes the journal of a workload's schedule: line 1 of a journal 1, the setup's text, the start, a line for each event in order,
-/// and `end`. It answers how many events there are. On `Failed` some first bytes of that were written; all memory is taken before
-/// the first byte.
+/// Writes the journal of a workload's schedule: line 1 of a journal 1, the setup's text, the start, a line for each event
+/// in order, and `end`. It answers how many events there are. On `Failed` some first bytes of that were written; all memory
+/// is taken before the first byte.
 pub fn simulate<O: Sink>(alloc: Global, w: &Workload, out: &mut O) -> Result<u64, SimError>
     requires { IsWorkload w.now }
     ensures written { IfOk result (λ count. IsWritten w.now (O.held out.old) (O.held out.new) count) }

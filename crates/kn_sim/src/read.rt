@@ -7,7 +7,9 @@ ghost use Rattle.kn_journal.specs.Drawing.{error_in};
 ghost use Rattle.kn_journal.specs.Journal.{IsSetup, time_most};
 ghost use Rattle.kn_journal.specs.Reading.{most_taken};
 ghost use Rattle.kn_journal.specs.Telling.{IsCauseOf, Judges};
-ghost use Rattle.kn_sim.specs.Reading.{DrawsLines, OnJob, Reads, TellsWorkload, boot_most, course_part, in_turn, job_of, jobs_most, jobs_part, named_line_in, named_part, next_job_part, service_most, until_most, workload_part};
+ghost use Rattle.kn_sim.specs.Reading.{DrawsLines, OnJob, Reads, TellsWorkload, boot_most, in_turn, job_of, jobs_most};
+ghost use Rattle.kn_sim.specs.Reading.{course_part, jobs_part, named_line_in, named_part, next_job_part, service_most};
+ghost use Rattle.kn_sim.specs.Reading.{until_most, workload_part};
 ghost use Rattle.kn_sim.specs.Simulated.{IsWorkload};
 
 use crate::line::{job_of, named_of};
@@ -82,7 +84,8 @@ fn next_named<S: Source>(
     least: u64,
     most: u64,
 ) -> Result<u64, JournalError>
-    ensures tells { Reads (named_part word.now least most) lines.old lines.new (S.left source.old) (S.left source.new) result }
+    ensures tells { Reads (named_part word.now least most) lines.old lines.new
+        (S.left source.old) (S.left source.new) result }
     ensures least { IfOk result (λ n. least ≤ n) }
     ensures most { IfOk result (λ n. n ≤ most) }
     ensures source { DrawsLines (error_in result) lines.old lines.new S.Source.own S.Faulty source.old source.new }
@@ -101,7 +104,8 @@ fn next_job<S: Source>(
     last: u64,
     count: usize,
 ) -> Result<Option<Job>, JournalError>
-    ensures tells { Reads (next_job_part until last count) lines.old lines.new (S.left source.old) (S.left source.new) result }
+    ensures tells { Reads (next_job_part until last count) lines.old lines.new
+        (S.left source.old) (S.left source.new) result }
     ensures order { OnJob result (λ j. last ≤ j.time) }
     ensures until { OnJob result (λ j. j.time ≤ until) }
     ensures service { OnJob result (λ j. j.service ≤ service_most) }
@@ -187,7 +191,8 @@ fn read_course<S: Source>(
     requires setup { IsSetup setup }
     requires start { start ≤ time_most }
     requires boot { boot ≤ boot_most }
-    ensures tells { Reads (course_part setup start boot) lines.old lines.new (S.left source.old) (S.left source.new) result }
+    ensures tells { Reads (course_part setup start boot) lines.old lines.new
+        (S.left source.old) (S.left source.new) result }
     ensures good { IfOk result IsWorkload }
     ensures source { DrawsLines (error_in result) lines.old lines.new S.Source.own S.Faulty source.old source.new }
 {
@@ -234,12 +239,14 @@ fn read_lines<S: Source>(
     read_course(alloc, lines, source, setup, start, boot)
 }
 
-/// Reads a workload to the end of the input, or why it is refused: the first line that is, from the first on. On a job's line that is
-/// first its form, then that it is one too many, then that it comes after the end, and then that it is before the last one.
+/// Reads a workload to the end of the input, or why it is refused: the first line that is, from the first on. On a job's
+/// line that is first its form, then that it is one too many, then that it comes after the end, and then that it is before
+/// the last one.
 pub fn read_workload<S: Source>(alloc: Global, source: &mut S) -> Result<Workload, JournalError>
     ensures tells { TellsWorkload (S.left source.old) result }
     ensures good { IfOk result IsWorkload }
-    ensures fault { result ≡ Err JournalError.ReadFault → Rose (S.Faulty.faults source.old) (S.Faulty.faults source.new) ⊎ (S.given source.old + most_taken ≤ S.given source.new) }
+    ensures fault { result ≡ Err JournalError.ReadFault → Rose (S.Faulty.faults source.old) (S.Faulty.faults source.new)
+        ⊎ (S.given source.old + most_taken ≤ S.given source.new) }
     ensures never_falls { S.Faulty.faults source.old ≤ S.Faulty.faults source.new }
     ensures apart { S.apart source.new ≡ S.apart source.old }
 {

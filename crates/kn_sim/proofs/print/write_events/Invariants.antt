@@ -1,4 +1,4 @@
--- What was written are the lines of the events so far.
+-- What waited, and then what was written and waits are the lines of the events so far.
 use Rattle.std.proofs.Common.{◌≡◌, ◌≤◌, ◌-◌, List}
 use Rattle.kn_event.specs.declared.event.Event.{Event}
 use Rattle.kn_agenda.specs.Schedule.{Made}
@@ -7,7 +7,7 @@ use Rattle.kn_sim.proofs.print.write_events.Given as goal
 
 abbrev pub invariant-loop-e : goal.invariant-loop-e
 invariant-loop-e g l = record {
-  goes : (before : List Event) → Made before l.fn.schedule → GoesOn before l.fn.schedule l.schedule (g.O.Sink.held l.fn.out) (g.O.Sink.held l.out);
+  goes : (before : List Event) → Made before l.fn.schedule → GoesOn before l.fn.schedule l.schedule (g.O.Sink.held l.fn.out) (g.O.Sink.held l.out) l.fn.waiting l.waiting;
   workload : l.schedule.workload ≡ l.fn.schedule.workload;
   kept : g.O.Sink.kept l.out ≡ g.O.Sink.kept l.fn.out;
   later : g.O.Faulty.faults l.fn.out ≤ g.O.Faulty.faults l.out;
