@@ -213,7 +213,9 @@ pub fn put_status(status: &Status, line: &mut Line)
 {
     line.clear();
     match *status {
-        Status::Usage => line.put(b"usage: kact replay | kact generate SEED COUNT | kact simulate\n"),
+        Status::Usage => line.put(
+            b"usage: kact replay | kact generate SEED COUNT | kact simulate\n",
+        ),
         Status::BadInput(error) => put_told(&error, line),
         Status::BadSetup(error) => put_told(&error, line),
         Status::ReadFault => line.put(b"kact: read failed\n"),
