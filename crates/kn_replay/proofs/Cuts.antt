@@ -23,8 +23,8 @@ use Rattle.kn_journal.specs.declared.journal.Opening.{Opening}
 use Rattle.kn_journal.specs.declared.journal.Setup.{Setup}
 use Rattle.kn_journal.specs.Journal.{Read, bad, end_part, event_in, from_read, in_time, journal_of, next_part, read_events, time_most, verdict_of_lines}
 use Rattle.kn_journal.specs.Reading.{TakesPart, TakesText}
-use Rattle.kn_journal.proofs.Texts.{lines-ended}
 use Rattle.kn_journal.specs.Telling.{Gives, IsLineFault, LeavesRest, Refuses, TakesEnd, refused_line}
+use Rattle.kn_journal.specs.Texts.{TextLaws}
 use Rattle.kn_replay.specs.Cutting.{AreBegun, CutsIn, FollowsCut, HasNoLine, IsCut, StopsSoon}
 use Rattle.kn_replay.specs.Replaying.{IsOver, Opened, Opens, Stops}
 use Rattle.kn_replay.specs.Waiting.{Adds}
@@ -116,27 +116,27 @@ soon_refused version last n ys left cause e is h rest = by_near (next_near versi
     by_near (inr (fault, k, named, near)) =
         by_left k left (ap (refused_line None) (sym is) ∙ named) near (rest (subst IsLineFault is fault))
 
-soon_amid : (ys : List ℕ) (left : Option (List ℕ)) → TakesPart (Some ys) left ⊎ TakesEnd (Some ys) left → StopsSoon (lines ys) left
-soon_amid ys left (inl begun) = soon_begun (lines ys) left (ys, refl, begun)
-soon_amid ys None (inr ends) = absurd ends
-soon_amid ys (Some zs) (inr (text, mid, split, ends, line, begun)) =
-    let all : lines ys ≡ codes "end" ∷ lines mid = ap lines split ∙ lines-ended text mid ends ∙ ap (λ (x : List (List ℕ)). x ++ lines mid) line in
+soon_amid : (laws : TextLaws) (ys : List ℕ) (left : Option (List ℕ)) → TakesPart (Some ys) left ⊎ TakesEnd (Some ys) left → StopsSoon (lines ys) left
+soon_amid laws ys left (inl begun) = soon_begun (lines ys) left (ys, refl, begun)
+soon_amid laws ys None (inr ends) = absurd ends
+soon_amid laws ys (Some zs) (inr (text, mid, split, ends, line, begun)) =
+    let all : lines ys ≡ codes "end" ∷ lines mid = ap lines split ∙ laws.ended text mid ends ∙ ap (λ (x : List (List ℕ)). x ++ lines mid) line in
     subst (λ (x : List (List ℕ)). StopsSoon x (Some zs)) (sym all) (soon_more (codes "end") (lines mid) (Some zs) (inl (mid, refl, begun)))
 
-soon_stopped : (version last n : ℕ) (ys : List ℕ) (left : Option (List ℕ)) (e : JournalError) → Refuses (next_part version last n) e (Some ys)
+soon_stopped : (laws : TextLaws) (version last n : ℕ) (ys : List ℕ) (left : Option (List ℕ)) (e : JournalError) → Refuses (next_part version last n) e (Some ys)
     → (e ≡ error.ReadFault → TakesPart (Some ys) left ⊎ TakesEnd (Some ys) left) → (e ≡ error.Memory → ⊥)
     → (IsLineFault e → LeavesRest (next_part version last n) n None e (Some ys) left) → StopsSoon (lines ys) left
-soon_stopped version last n ys left error.ReadFault g amid memory rest = soon_amid ys left (amid refl)
-soon_stopped version last n ys left error.Memory g amid memory rest = absurd (memory refl)
-soon_stopped version last n ys left (error.BadFirstLine due) (cause, is, g) amid memory rest = soon_refused version last n ys left cause _ is g rest
-soon_stopped version last n ys left (error.BadSetup line why) (cause, is, g) amid memory rest = soon_refused version last n ys left cause _ is g rest
-soon_stopped version last n ys left (error.LineTooLong line) (cause, is, g) amid memory rest = soon_refused version last n ys left cause _ is g rest
-soon_stopped version last n ys left (error.BadLine line why) (cause, is, g) amid memory rest = soon_refused version last n ys left cause _ is g rest
-soon_stopped version last n ys left (error.TimeBack line before own) (cause, is, g) amid memory rest = soon_refused version last n ys left cause _ is g rest
-soon_stopped version last n ys left (error.TimeTooLarge line) (cause, is, g) amid memory rest = soon_refused version last n ys left cause _ is g rest
-soon_stopped version last n ys left error.NoEnd (cause, is, g) amid memory rest = soon_refused version last n ys left cause _ is g rest
-soon_stopped version last n ys left (error.AfterEnd line) (cause, is, g) amid memory rest = soon_refused version last n ys left cause _ is g rest
-soon_stopped version last n ys left (error.TooMany line) (cause, is, g) amid memory rest = soon_refused version last n ys left cause _ is g rest
+soon_stopped laws version last n ys left error.ReadFault g amid memory rest = soon_amid laws ys left (amid refl)
+soon_stopped laws version last n ys left error.Memory g amid memory rest = absurd (memory refl)
+soon_stopped laws version last n ys left (error.BadFirstLine due) (cause, is, g) amid memory rest = soon_refused version last n ys left cause _ is g rest
+soon_stopped laws version last n ys left (error.BadSetup line why) (cause, is, g) amid memory rest = soon_refused version last n ys left cause _ is g rest
+soon_stopped laws version last n ys left (error.LineTooLong line) (cause, is, g) amid memory rest = soon_refused version last n ys left cause _ is g rest
+soon_stopped laws version last n ys left (error.BadLine line why) (cause, is, g) amid memory rest = soon_refused version last n ys left cause _ is g rest
+soon_stopped laws version last n ys left (error.TimeBack line before own) (cause, is, g) amid memory rest = soon_refused version last n ys left cause _ is g rest
+soon_stopped laws version last n ys left (error.TimeTooLarge line) (cause, is, g) amid memory rest = soon_refused version last n ys left cause _ is g rest
+soon_stopped laws version last n ys left error.NoEnd (cause, is, g) amid memory rest = soon_refused version last n ys left cause _ is g rest
+soon_stopped laws version last n ys left (error.AfterEnd line) (cause, is, g) amid memory rest = soon_refused version last n ys left cause _ is g rest
+soon_stopped laws version last n ys left (error.TooMany line) (cause, is, g) amid memory rest = soon_refused version last n ys left cause _ is g rest
 
 -- behind `end`
 soon_ended : (version last n : ℕ) (all : List (List ℕ)) (m : ℕ) (zs : List ℕ) → next_part version last n all ≡ Ok (part None m (lines zs)) → StopsSoon all (Some zs)
@@ -215,16 +215,16 @@ cut_good version s c last number (Some xs) waiting now x old mid new es time m (
     cuts_behind version s c last number (lines xs) (Some zs) waiting now x old mid new es time m (lines ys) h (soon_ended version time m (lines ys) n zs g) adds some most
 
 -- nor behind an error of the reader
-pub cut_stop : (first over : Bool) (version : ℕ) (s : Spec) (c : Trace) (last number : ℕ) (known : Option (List ℕ)) (waiting now x : List ℕ) (old mid new : Option (List ℕ)) (es : List Event) (time m : ℕ) (rest left : Option (List ℕ)) (e : JournalError)
+pub cut_stop : (laws : TextLaws) (first over : Bool) (version : ℕ) (s : Spec) (c : Trace) (last number : ℕ) (known : Option (List ℕ)) (waiting now x : List ℕ) (old mid new : Option (List ℕ)) (es : List Event) (time m : ℕ) (rest left : Option (List ℕ)) (e : JournalError)
     → GoesOn version last number known es time m rest → HasRead first over known rest → (IsOver over rest → Refuses (next_part version time m) e rest)
     → (e ≡ error.ReadFault → TakesPart rest left ⊎ TakesEnd rest left) → (e ≡ error.Memory → ⊥)
     → (IsLineFault e → LeavesRest (next_part version time m) m None e rest left)
     → Adds old mid waiting now (rows_text (added s c es)) → AppendsPrefix mid new x → length now ≤ 65536
     → FollowsCut version s c last number known left waiting old new
-cut_stop first over version s c last number None waiting now x old mid new es time m rest left e h read g amid memory behind adds some most = tt
-cut_stop first over version s c last number (Some xs) waiting now x old mid new es time m None left e h read g amid memory behind adds some most = absurd h
-cut_stop first over version s c last number (Some xs) waiting now x old mid new es time m (Some ys) left e h (text, split, so) g amid memory behind adds some most =
-    let soon = soon_stopped version time m ys left e (g (is_over first over text ys so)) amid memory behind in
+cut_stop laws first over version s c last number None waiting now x old mid new es time m rest left e h read g amid memory behind adds some most = tt
+cut_stop laws first over version s c last number (Some xs) waiting now x old mid new es time m None left e h read g amid memory behind adds some most = absurd h
+cut_stop laws first over version s c last number (Some xs) waiting now x old mid new es time m (Some ys) left e h (text, split, so) g amid memory behind adds some most =
+    let soon = soon_stopped laws version time m ys left e (g (is_over first over text ys so)) amid memory behind in
     cuts_behind version s c last number (lines xs) left waiting now x old mid new es time m (lines ys) h soon adds some most
 
 -- the rows of the last event couldn't all be added

@@ -22,8 +22,7 @@ use Rattle.kn_journal.specs.Parts.{part}
 use Rattle.kn_journal.specs.Journal.{Read, Verdict, bad, from_read, journal_of, next_part, opening_part, read_events, start_part, verdict, verdict_of_lines}
 use Rattle.kn_journal.specs.Reading.{AreWhole, EndsWithLf, IsCutOff, TakesPart, TakesText, most_taken}
 use Rattle.kn_journal.specs.Telling.{Gives, Refuses, StopsAmid, TakesEnd}
-use Rattle.kn_journal.proofs.Tellings.{lines-nil}
-use Rattle.kn_journal.proofs.Texts.{ends-behind, ends-still, lines-behind, lines-own, split-behind, whole-cut}
+use Rattle.kn_journal.specs.Texts.{TextLaws}
 use Rattle.kn_replay.specs.Replaying.{BreaksAmid, BreaksBefore, BreaksBeyond, BreaksFollowing, BreaksIn, Follows, IsFollowed, IsOver, Opened, Opens, Replays, Stops, Writes, refusal_of, rest_of_report, status_by, status_of}
 use Rattle.kn_replay.specs.Report.{journal_rows, report_of}
 use Rattle.kn_replay.specs.Waiting.{Adds}
@@ -32,13 +31,16 @@ use Rattle.kn_replay.proofs.Lines.{end_line, no_line, with_events}
 use Rattle.kn_replay.proofs.Replays.{GoesOn, Reads, cut, goes_refused, journal_rows-is, none_more, opened_verdict, reads_all, report_is, status_is, verdict_unopened, verdict_unstarted, writes_after}
 use Rattle.kn_replay.proofs.Waits.{adds_all, adds_stop}
 
+split-behind : (xs text ys more zs : List ℕ) → xs ≡ text ++ ys → ys ≡ more ++ zs → xs ≡ (text ++ more) ++ zs
+split-behind xs text ys more zs h k = h ∙ ap (λ (m : List ℕ). text ++ m) k ∙ sym (append_assoc text more zs)
+
 -- behind the end of the input no event is
-pub over_refuses : (version last n : ℕ) (old : Option (List ℕ)) → IsOver true old → Refuses (next_part version last n) error.NoEnd old
+pub over_refuses : (laws : TextLaws) (version last n : ℕ) (old : Option (List ℕ)) → IsOver true old → Refuses (next_part version last n) error.NoEnd old
 unfolding next_part
-over_refuses version last n None h = tt
-over_refuses version last n (Some xs) h =
+over_refuses laws version last n None h = tt
+over_refuses laws version last n (Some xs) h =
     let P : List ℕ → Type 0 = λ zs. (cause : Cause) × (error_of cause ≡ error.NoEnd) × (next_part version last n (lines zs) ≡ Err cause) in
-    subst P (sym h) (no_end, refl, ap (λ (ls : List (List ℕ)). next_part version last n ls) lines-nil)
+    subst P (sym h) (no_end, refl, ap (λ (ls : List (List ℕ)). next_part version last n ls) laws.none)
 
 -- ---- the bytes of the events so far
 
@@ -57,16 +59,16 @@ read_begin over None h = tt
 read_begin true (Some xs) h = ([], refl, h)
 read_begin false (Some xs) h = ([], refl, inl (refl, refl))
 
-so_far : (first over : Bool) (text more ys : List ℕ) → IsCutOff over more ys → IsSoFar first over (text ++ more) ys
-so_far first true text more ys h = h
-so_far first false text more ys h = inr (ends-behind text more h)
+so_far : (laws : TextLaws) (first over : Bool) (text more ys : List ℕ) → IsCutOff over more ys → IsSoFar first over (text ++ more) ys
+so_far laws first true text more ys h = h
+so_far laws first false text more ys h = inr (laws.ends text more h)
 
-pub read_more : (first over now : Bool) (known rest left : Option (List ℕ)) → HasRead first over known rest → TakesText now rest left → HasRead first now known left
-read_more first over now None rest left h t = tt
-read_more first over now (Some xs) None left h t = absurd h
-read_more first over now (Some xs) (Some ys) None h t = absurd t
-read_more first over now (Some xs) (Some ys) (Some zs) (text, split, so) (more, behind, cut) =
-    (text ++ more, split-behind xs text ys more zs split behind, so_far first now text more zs cut)
+pub read_more : (laws : TextLaws) (first over now : Bool) (known rest left : Option (List ℕ)) → HasRead first over known rest → TakesText now rest left → HasRead first now known left
+read_more laws first over now None rest left h t = tt
+read_more laws first over now (Some xs) None left h t = absurd h
+read_more laws first over now (Some xs) (Some ys) None h t = absurd t
+read_more laws first over now (Some xs) (Some ys) (Some zs) (text, split, so) (more, behind, cut) =
+    (text ++ more, split-behind xs text ys more zs split behind, so_far laws first now text more zs cut)
 
 pub is_over : (first over : Bool) (text ys : List ℕ) → IsSoFar first over text ys → IsOver over (Some ys)
 is_over first true text ys h = h
@@ -99,11 +101,11 @@ fault_ends first version s c last number xs left waiting now old mid new es r re
     (cut version s c es r _ waiting [] old new all (adds_stop old mid new waiting now (rows_text (added s c es)) adds some))
 
 -- within a line
-breaks_within : (first : Bool) (version last number : ℕ) (xs : List ℕ) (es : List Event) (time m : ℕ) (ys text : List ℕ) (left : Option (List ℕ))
+breaks_within : (laws : TextLaws) (first : Bool) (version last number : ℕ) (xs : List ℕ) (es : List Event) (time m : ℕ) (ys text : List ℕ) (left : Option (List ℕ))
     → Reads version last number (lines xs) es time m (lines ys) → xs ≡ text ++ ys → IsSoFar first false text ys → TakesPart (Some ys) left
     → BreaksIn first version last number xs left (record { events = es; refused = Some no_end })
-breaks_within first version last number xs es time m ys text left h split so part =
-    let own : lines text ≡ h.own ++ [] = lines-own xs text ys h.own split (whole_so_far first text ys so) h.split ∙ sym (append-nil h.own) in
+breaks_within laws first version last number xs es time m ys text left h split so part =
+    let own : lines text ≡ h.own ++ [] = laws.own xs text ys h.own split (whole_so_far first text ys so) h.split ∙ sym (append-nil h.own) in
     record {
       bytes = text;
       mid = ys;
@@ -115,46 +117,46 @@ breaks_within first version last number xs es time m ys text left h split so par
     }
 
 -- behind `end`
-breaks_behind : (first : Bool) (version last number : ℕ) (xs : List ℕ) (es : List Event) (time m : ℕ) (ys text more mid : List ℕ) (left : Option (List ℕ))
+breaks_behind : (laws : TextLaws) (first : Bool) (version last number : ℕ) (xs : List ℕ) (es : List Event) (time m : ℕ) (ys text more mid : List ℕ) (left : Option (List ℕ))
     → Reads version last number (lines xs) es time m (lines ys) → xs ≡ text ++ ys → IsSoFar first false text ys
     → ys ≡ more ++ mid → EndsWithLf more → lines more ≡ codes "end" ∷ [] → TakesPart (Some mid) left
     → BreaksIn first version last number xs left (record { events = es; refused = None })
-breaks_behind first version last number xs es time m ys text more mid left h split so behind ends line part =
+breaks_behind laws first version last number xs es time m ys text more mid left h split so behind ends line part =
     let whole = whole_so_far first text ys so in
     let all : lines (text ++ more) ≡ h.own ++ codes "end" ∷ [] =
-    lines-behind text ys more mid whole behind
-    ∙ ap (λ (x : List (List ℕ)). x ++ lines more) (lines-own xs text ys h.own split whole h.split) ∙ ap (λ (x : List (List ℕ)). h.own ++ x) line in
+    laws.behind text ys more mid whole behind
+    ∙ ap (λ (x : List (List ℕ)). x ++ lines more) (laws.own xs text ys h.own split whole h.split) ∙ ap (λ (x : List (List ℕ)). h.own ++ x) line in
     record {
       bytes = text ++ more;
       mid = mid;
       split = split-behind xs text ys more mid split behind;
-      ended = inr (ends-behind text more ends);
+      ended = inr (laws.ends text more ends);
       events = ap (λ (x : List (List ℕ)). read_events version last number x) all ∙ h.reads (codes "end" ∷ []) ∙ ap (with_events es) (end_line version time m) ∙ none_more es None;
       good = tt;
       rest = part;
     }
 
-fault_at : (first : Bool) (version : ℕ) (s : Spec) (c : Trace) (last number : ℕ) (xs : List ℕ) (waiting now : List ℕ) (old mid new : Option (List ℕ)) (es : List Event) (time m : ℕ) (ys text : List ℕ) (left : Option (List ℕ)) (result : Status)
+fault_at : (laws : TextLaws) (first : Bool) (version : ℕ) (s : Spec) (c : Trace) (last number : ℕ) (xs : List ℕ) (waiting now : List ℕ) (old mid new : Option (List ℕ)) (es : List Event) (time m : ℕ) (ys text : List ℕ) (left : Option (List ℕ)) (result : Status)
     → Reads version last number (lines xs) es time m (lines ys) → xs ≡ text ++ ys → IsSoFar first false text ys → TakesPart (Some ys) left ⊎ TakesEnd (Some ys) left
     → Adds old mid waiting now (rows_text (added s c es)) → Stops now mid new status.ReadFault result
     → Follows first version s c last number (Some xs) left waiting old new result
-fault_at first version s c last number xs waiting now old mid new es time m ys text left result h split so (inl part) adds stops =
+fault_at laws first version s c last number xs waiting now old mid new es time m ys text left result h split so (inl part) adds stops =
     fault_ends first version s c last number xs left waiting now old mid new es (read_events version time m (lines ys)) (Some no_end) result
-    (reads_all version last number (lines xs) es time m (lines ys) h) (breaks_within first version last number xs es time m ys text left h split so part) adds stops
-fault_at first version s c last number xs waiting now old mid new es time m ys text None result h split so (inr ends) adds stops = absurd ends
-fault_at first version s c last number xs waiting now old mid new es time m ys text (Some zs) result h split so (inr (more, between, behind, ends, line, part)) adds stops =
+    (reads_all version last number (lines xs) es time m (lines ys) h) (breaks_within laws first version last number xs es time m ys text left h split so part) adds stops
+fault_at laws first version s c last number xs waiting now old mid new es time m ys text None result h split so (inr ends) adds stops = absurd ends
+fault_at laws first version s c last number xs waiting now old mid new es time m ys text (Some zs) result h split so (inr (more, between, behind, ends, line, part)) adds stops =
     fault_ends first version s c last number xs (Some zs) waiting now old mid new es (read_events version time m (lines ys)) None result
-    (reads_all version last number (lines xs) es time m (lines ys) h) (breaks_behind first version last number xs es time m ys text more between (Some zs) h split so behind ends line part) adds stops
+    (reads_all version last number (lines xs) es time m (lines ys) h) (breaks_behind laws first version last number xs es time m ys text more between (Some zs) h split so behind ends line part) adds stops
 
 -- an error of the reader
-pub goes_stop : (first over : Bool) (version : ℕ) (s : Spec) (c : Trace) (last number : ℕ) (known : Option (List ℕ)) (waiting now : List ℕ) (old mid new : Option (List ℕ)) (es : List Event) (time m : ℕ) (rest left : Option (List ℕ)) (e : JournalError) (result : Status)
+pub goes_stop : (laws : TextLaws) (first over : Bool) (version : ℕ) (s : Spec) (c : Trace) (last number : ℕ) (known : Option (List ℕ)) (waiting now : List ℕ) (old mid new : Option (List ℕ)) (es : List Event) (time m : ℕ) (rest left : Option (List ℕ)) (e : JournalError) (result : Status)
     → GoesOn version last number known es time m rest → HasRead first over known rest → (IsOver over rest → Refuses (next_part version time m) e rest)
     → (e ≡ error.ReadFault → TakesPart rest left ⊎ TakesEnd rest left) → (e ≡ error.ReadFault → over ≡ false) → (e ≡ error.Memory → ⊥)
     → Adds old mid waiting now (rows_text (added s c es)) → Stops now mid new (status_of e) result
     → Follows first version s c last number known left waiting old new result
-goes_stop first over version s c last number None waiting now old mid new es time m rest left e result h read g amid uncut memory adds stops = tt
-goes_stop first over version s c last number (Some xs) waiting now old mid new es time m None left e result h read g amid uncut memory adds stops = absurd h
-goes_stop first over version s c last number (Some xs) waiting now old mid new es time m (Some ys) left e result h (text, split, so) g amid uncut memory adds stops =
+goes_stop laws first over version s c last number None waiting now old mid new es time m rest left e result h read g amid uncut memory adds stops = tt
+goes_stop laws first over version s c last number (Some xs) waiting now old mid new es time m None left e result h read g amid uncut memory adds stops = absurd h
+goes_stop laws first over version s c last number (Some xs) waiting now old mid new es time m (Some ys) left e result h (text, split, so) g amid uncut memory adds stops =
     by_error e (g (is_over first over text ys so)) amid uncut memory stops
   where
     refuses : (d : JournalError) → (cause : Cause) × (error_of cause ≡ d) × (next_part version time m (lines ys) ≡ Err cause) → Stops now mid new (status_of d) result
@@ -164,7 +166,7 @@ goes_stop first over version s c last number (Some xs) waiting now old mid new e
     by_error : (d : JournalError) → Refuses (next_part version time m) d (Some ys) → (d ≡ error.ReadFault → TakesPart (Some ys) left ⊎ TakesEnd (Some ys) left) → (d ≡ error.ReadFault → over ≡ false)
         → (d ≡ error.Memory → ⊥) → Stops now mid new (status_of d) result → Follows first version s c last number (Some xs) left waiting old new result
     by_error error.ReadFault r at is_uncut none stopped =
-        fault_at first version s c last number xs waiting now old mid new es time m ys text left result h split (subst (λ (b : Bool). IsSoFar first b text ys) (is_uncut refl) so) (at refl) adds stopped
+        fault_at laws first version s c last number xs waiting now old mid new es time m ys text left result h split (subst (λ (b : Bool). IsSoFar first b text ys) (is_uncut refl) so) (at refl) adds stopped
     by_error error.Memory r at is_uncut none stopped = absurd (none refl)
     by_error (error.BadFirstLine due) r at is_uncut none stopped = refuses (error.BadFirstLine due) r stopped
     by_error (error.BadSetup line why) r at is_uncut none stopped = refuses (error.BadSetup line why) r stopped
@@ -217,30 +219,30 @@ unfolding start_part
 no_start n = refl
 
 -- a setup was read, and behind it no line
-behind_setup : (xs text ys : List ℕ) (over : Bool) (left : Option (List ℕ)) (opening : Opening) (n : ℕ) → AreOpenings → opening_part JournalLine 0 (lines xs) ≡ Ok (part opening n (lines ys))
+behind_setup : (laws : TextLaws) (xs text ys : List ℕ) (over : Bool) (left : Option (List ℕ)) (opening : Opening) (n : ℕ) → AreOpenings → opening_part JournalLine 0 (lines xs) ≡ Ok (part opening n (lines ys))
     → xs ≡ text ++ ys → IsCutOff over text ys → TakesPart (Some ys) left → BreaksBefore xs left
-behind_setup xs text ys over left opening n are gives split cut rest =
+behind_setup laws xs text ys over left opening n are gives split cut rest =
     let w = are (lines xs) (lines ys) opening n gives in
-    let whole = whole-cut over text ys cut in
-    let own : lines text ≡ w.own ++ [] = lines-own xs text ys w.own split whole w.split ∙ sym (append-nil w.own) in
+    let whole = laws.whole over text ys cut in
+    let own : lines text ≡ w.own ++ [] = laws.own xs text ys w.own split whole w.split ∙ sym (append-nil w.own) in
     let read : opening_part JournalLine 0 (lines text) ≡ Ok (part opening n []) = ap (opening_part JournalLine 0) own ∙ w.alone [] in
     record { bytes = text; mid = ys; split = split; whole = whole; reads = of_lines text (bad None no_end) (lines_unstarted (lines text) opening n [] no_end read (no_start n)); rest = rest }
 
-pub start_fails : (known mid new : Option (List ℕ)) (over : Bool) (opening : Opening) (n version number : ℕ) (e : JournalError) → AreOpenings → Gives (opening_part JournalLine 0) opening n known mid → TakesText over known mid
+pub start_fails : (laws : TextLaws) (known mid new : Option (List ℕ)) (over : Bool) (opening : Opening) (n version number : ℕ) (e : JournalError) → AreOpenings → Gives (opening_part JournalLine 0) opening n known mid → TakesText over known mid
     → Refuses (start_part n) e mid → (e ≡ error.ReadFault → TakesPart mid new) → Opens known new version number (Err e)
-start_fails None mid new over opening n version number e are g text h amid = tt
-start_fails (Some xs) None new over opening n version number e are g text h amid = absurd g
-start_fails (Some xs) (Some ys) new over opening n version number error.ReadFault are g (text, split, cut) h amid = behind_setup xs text ys over new opening n are g split cut (amid refl)
-start_fails (Some xs) (Some ys) new over opening n version number error.Memory are g text h amid = tt
-start_fails (Some xs) (Some ys) new over opening n version number (error.BadFirstLine due) are g text (cause, is, h) amid = (cause, is, verdict_unstarted xs opening n (lines ys) cause g h)
-start_fails (Some xs) (Some ys) new over opening n version number (error.BadSetup line why) are g text (cause, is, h) amid = (cause, is, verdict_unstarted xs opening n (lines ys) cause g h)
-start_fails (Some xs) (Some ys) new over opening n version number (error.LineTooLong line) are g text (cause, is, h) amid = (cause, is, verdict_unstarted xs opening n (lines ys) cause g h)
-start_fails (Some xs) (Some ys) new over opening n version number (error.BadLine line why) are g text (cause, is, h) amid = (cause, is, verdict_unstarted xs opening n (lines ys) cause g h)
-start_fails (Some xs) (Some ys) new over opening n version number (error.TimeBack line before own) are g text (cause, is, h) amid = (cause, is, verdict_unstarted xs opening n (lines ys) cause g h)
-start_fails (Some xs) (Some ys) new over opening n version number (error.TimeTooLarge line) are g text (cause, is, h) amid = (cause, is, verdict_unstarted xs opening n (lines ys) cause g h)
-start_fails (Some xs) (Some ys) new over opening n version number error.NoEnd are g text (cause, is, h) amid = (cause, is, verdict_unstarted xs opening n (lines ys) cause g h)
-start_fails (Some xs) (Some ys) new over opening n version number (error.AfterEnd line) are g text (cause, is, h) amid = (cause, is, verdict_unstarted xs opening n (lines ys) cause g h)
-start_fails (Some xs) (Some ys) new over opening n version number (error.TooMany line) are g text (cause, is, h) amid = (cause, is, verdict_unstarted xs opening n (lines ys) cause g h)
+start_fails laws None mid new over opening n version number e are g text h amid = tt
+start_fails laws (Some xs) None new over opening n version number e are g text h amid = absurd g
+start_fails laws (Some xs) (Some ys) new over opening n version number error.ReadFault are g (text, split, cut) h amid = behind_setup laws xs text ys over new opening n are g split cut (amid refl)
+start_fails laws (Some xs) (Some ys) new over opening n version number error.Memory are g text h amid = tt
+start_fails laws (Some xs) (Some ys) new over opening n version number (error.BadFirstLine due) are g text (cause, is, h) amid = (cause, is, verdict_unstarted xs opening n (lines ys) cause g h)
+start_fails laws (Some xs) (Some ys) new over opening n version number (error.BadSetup line why) are g text (cause, is, h) amid = (cause, is, verdict_unstarted xs opening n (lines ys) cause g h)
+start_fails laws (Some xs) (Some ys) new over opening n version number (error.LineTooLong line) are g text (cause, is, h) amid = (cause, is, verdict_unstarted xs opening n (lines ys) cause g h)
+start_fails laws (Some xs) (Some ys) new over opening n version number (error.BadLine line why) are g text (cause, is, h) amid = (cause, is, verdict_unstarted xs opening n (lines ys) cause g h)
+start_fails laws (Some xs) (Some ys) new over opening n version number (error.TimeBack line before own) are g text (cause, is, h) amid = (cause, is, verdict_unstarted xs opening n (lines ys) cause g h)
+start_fails laws (Some xs) (Some ys) new over opening n version number (error.TimeTooLarge line) are g text (cause, is, h) amid = (cause, is, verdict_unstarted xs opening n (lines ys) cause g h)
+start_fails laws (Some xs) (Some ys) new over opening n version number error.NoEnd are g text (cause, is, h) amid = (cause, is, verdict_unstarted xs opening n (lines ys) cause g h)
+start_fails laws (Some xs) (Some ys) new over opening n version number (error.AfterEnd line) are g text (cause, is, h) amid = (cause, is, verdict_unstarted xs opening n (lines ys) cause g h)
+start_fails laws (Some xs) (Some ys) new over opening n version number (error.TooMany line) are g text (cause, is, h) amid = (cause, is, verdict_unstarted xs opening n (lines ys) cause g h)
 
 -- a setup and a start were read
 pub opens_well : (known mid new : Option (List ℕ)) (version : ℕ) (setup : Setup) (n start number : ℕ) → Gives (opening_part JournalLine 0) (record { version = version; setup = setup }) n known mid
@@ -252,29 +254,29 @@ opens_well (Some xs) (Some ys) (Some zs) version setup n start number g k = reco
 
 -- ---- the whole
 
-ended_after : (over : Bool) (text ys more : List ℕ) → IsCutOff over text ys → ((more ≡ []) × (over ≡ false)) ⊎ EndsWithLf more → EndsWithLf (text ++ more)
-ended_after over text ys more cut (inl (none, uncut)) = ends-still text more (subst (λ (b : Bool). IsCutOff b text ys) uncut cut) none
-ended_after over text ys more cut (inr ends) = ends-behind text more ends
+ended_after : (laws : TextLaws) (over : Bool) (text ys more : List ℕ) → IsCutOff over text ys → ((more ≡ []) × (over ≡ false)) ⊎ EndsWithLf more → EndsWithLf (text ++ more)
+ended_after laws over text ys more cut (inl (none, uncut)) = laws.ends_still text more (subst (λ (b : Bool). IsCutOff b text ys) uncut cut) none
+ended_after laws over text ys more cut (inr ends) = laws.ends text more ends
 
 -- what was read behind a start is read of the whole
-breaks_amid : (xs text ys : List ℕ) (over : Bool) (version : ℕ) (setup : Setup) (start number : ℕ) (left : Option (List ℕ)) (read : Read) → AreOpenings → AreStarts
+breaks_amid : (laws : TextLaws) (xs text ys : List ℕ) (over : Bool) (version : ℕ) (setup : Setup) (start number : ℕ) (left : Option (List ℕ)) (read : Read) → AreOpenings → AreStarts
     → Opened (lines xs) version setup start number (lines ys) → xs ≡ text ++ ys → IsCutOff over text ys → BreaksIn over version start number ys left read
     → BreaksAmid xs left (journal_of version setup start read.events)
-breaks_amid xs text ys over version setup start number left read are begin h split cut breaks =
+breaks_amid laws xs text ys over version setup start number left read are begin h split cut breaks =
     let o : Opening = record { version = version; setup = setup } in
     let a = are (lines xs) h.after o h.at h.opening in
     let b = begin h.at h.after (lines ys) start number h.begins in
-    let whole = whole-cut over text ys cut in
+    let whole = laws.whole over text ys cut in
     let more = lines breaks.bytes in
     let taken : lines xs ≡ (a.own ++ b.own) ++ lines ys = a.split ∙ ap (λ (x : List (List ℕ)). a.own ++ x) b.split ∙ sym (append_assoc a.own b.own (lines ys)) in
     let all : lines (text ++ breaks.bytes) ≡ a.own ++ (b.own ++ more) =
-    lines-behind text ys breaks.bytes breaks.mid whole breaks.split
-    ∙ ap (λ (x : List (List ℕ)). x ++ more) (lines-own xs text ys (a.own ++ b.own) split whole taken) ∙ append_assoc a.own b.own more in
+    laws.behind text ys breaks.bytes breaks.mid whole breaks.split
+    ∙ ap (λ (x : List (List ℕ)). x ++ more) (laws.own xs text ys (a.own ++ b.own) split whole taken) ∙ append_assoc a.own b.own more in
     record {
       bytes = text ++ breaks.bytes;
       mid = breaks.mid;
       split = split-behind xs text ys breaks.bytes breaks.mid split breaks.split;
-      ended = ended_after over text ys breaks.bytes cut breaks.ended;
+      ended = ended_after laws over text ys breaks.bytes cut breaks.ended;
       refused = read.refused;
       reads = of_lines (text ++ breaks.bytes) (from_read version setup start read)
           (ap verdict_of_lines all ∙ lines_read (a.own ++ (b.own ++ more)) version setup start h.at number (b.own ++ more) more (a.alone (b.own ++ more)) (b.alone more)
@@ -283,25 +285,25 @@ breaks_amid xs text ys over version setup start number left read are begin h spl
       rest = breaks.rest;
     }
 
-breaks_after : (xs text ys : List ℕ) (over : Bool) (version : ℕ) (setup : Setup) (start number : ℕ) (ahead : List ℕ) (left : Option (List ℕ)) (given : ℕ) (written waiting front : List ℕ) → AreOpenings → AreStarts
+breaks_after : (laws : TextLaws) (xs text ys : List ℕ) (over : Bool) (version : ℕ) (setup : Setup) (start number : ℕ) (ahead : List ℕ) (left : Option (List ℕ)) (given : ℕ) (written waiting front : List ℕ) → AreOpenings → AreStarts
     → Opened (lines xs) version setup start number (lines ys) → xs ≡ text ++ ys → IsCutOff over text ys → rows_text (opening setup.spec start) ≡ written ++ waiting → length ahead ≡ given - most_taken
     → BreaksFollowing over version setup.spec (opening setup.spec start) start number ys (prepend_known ahead left) waiting front
     → BreaksBeyond xs left given (written ++ front)
-breaks_after xs text ys over version setup start number ahead left given written waiting front are begin h split cut rows beyond (read, breaks, is) =
+breaks_after laws xs text ys over version setup start number ahead left given written waiting front are begin h split cut rows beyond (read, breaks, is) =
     let j : Journal = journal_of version setup start read.events in
-    let amid = breaks_amid xs text ys over version setup start number (prepend_known ahead left) read are begin h split cut breaks in
+    let amid = breaks_amid laws xs text ys over version setup start number (prepend_known ahead left) read are begin h split cut breaks in
     let more = rows_text (added setup.spec (opening setup.spec start) read.events) in
     let wrote : written ++ front ≡ journal_rows j =
     ap (λ (z : List ℕ). written ++ z) is ∙ sym (append_assoc written waiting more) ∙ ap (λ (z : List ℕ). z ++ more) (sym rows) ∙ sym (journal_rows-is version setup start read.events) in
     (ahead, beyond, inl (j, amid, wrote))
 
-pub journal_follows : (known rest left : Option (List ℕ)) (over : Bool) (ahead : List ℕ) (given version : ℕ) (setup : Setup) (start number : ℕ) (old mid new : Option (List ℕ)) (waiting : List ℕ) (result : Status) → AreOpenings → AreStarts
+pub journal_follows : (laws : TextLaws) (known rest left : Option (List ℕ)) (over : Bool) (ahead : List ℕ) (given version : ℕ) (setup : Setup) (start number : ℕ) (old mid new : Option (List ℕ)) (waiting : List ℕ) (result : Status) → AreOpenings → AreStarts
     → Opens known rest version number (Ok (setup, start)) → TakesText over known rest → Adds old mid [] waiting (rows_text (opening setup.spec start))
     → (IsOver over rest → Follows over version setup.spec (opening setup.spec start) start number rest (prepend_known ahead left) waiting mid new result) → IsFollowed result
     → (result ≡ status.ReadFault → length ahead ≡ given - most_taken) → Replays known left given old new result
-journal_follows None rest left over ahead given version setup start number old mid new waiting result are begin h text adds follows followed beyond = tt
-journal_follows (Some xs) None left over ahead given version setup start number old mid new waiting result are begin h text adds follows followed beyond = absurd h
-journal_follows (Some xs) (Some ys) left over ahead given version setup start number old mid new waiting result are begin h (text, split, cut) adds follows followed beyond =
+journal_follows laws None rest left over ahead given version setup start number old mid new waiting result are begin h text adds follows followed beyond = tt
+journal_follows laws (Some xs) None left over ahead given version setup start number old mid new waiting result are begin h text adds follows followed beyond = absurd h
+journal_follows laws (Some xs) (Some ys) left over ahead given version setup start number old mid new waiting result are begin h (text, split, cut) adds follows followed beyond =
     let s = setup.spec in
     let c = opening s start in
     let r = read_events version start number (lines ys) in
@@ -310,7 +312,7 @@ journal_follows (Some xs) (Some ys) left over ahead given version setup start nu
     sym (append_assoc adds.written waiting (rest_of_report version s c r)) ∙ ap (λ (z : List ℕ). z ++ rest_of_report version s c r) (sym adds.all) ∙ sym (report_is version setup start r) in
     let end : status_by r.refused ≡ status_by (refusal_of (from_read version setup start r)) = sym (status_is (journal_of version setup start r.events) r.refused) in
     let all = writes_after adds.written _ _ _ (BreaksBeyond xs left given) old mid new result adds.held
-    (λ fault front breaks. breaks_after xs text ys over version setup start number ahead left given adds.written waiting front are begin h split cut adds.all (beyond fault) breaks) followed (follows (over_of over text ys cut)) in
+    (λ fault front breaks. breaks_after laws xs text ys over version setup start number ahead left given adds.written waiting front are begin h split cut adds.all (beyond fault) breaks) followed (follows (over_of over text ys cut)) in
     subst P (sym (opened_verdict xs version setup start number (lines ys) h))
     (subst (λ (z : List ℕ). Writes z (status_by (refusal_of (from_read version setup start r))) (BreaksBeyond xs left given) old new result) whole
     (subst (λ (x : Status). Writes (adds.written ++ (waiting ++ rest_of_report version s c r)) x (BreaksBeyond xs left given) old new result) end all))

@@ -19,7 +19,7 @@ use crate::waiting::{Waiting, add_rows};
 use kn_core::Revision;
 use kn_event::{EntryLog, Event, Line, Memory, Spec};
 use kn_io::{Failed, Sink, Source};
-use kn_journal::{JournalError, JournalReader, Setup, Status, openings_are_whole};
+use kn_journal::{JournalError, JournalReader, Setup, Status, openings_are_whole, text_laws};
 use std::alloc::Global;
 use std::marker::Model;
 
@@ -224,6 +224,7 @@ impl Replay {
         ensures never_falls { S.Faulty.faults source.old ≤ S.Faulty.faults source.new }
         ensures cause { HasCause (O.Faulty.faults out.old) (O.Faulty.faults out.new) result }
     {
+        text_laws();
         let _few = self.waiting.len();
         match reader.next_ahead() {
             Some(e) => return Ok(Ok(Some(e))),
@@ -294,6 +295,7 @@ impl Replay {
         ensures never_falls { S.Faulty.faults source.old ≤ S.Faulty.faults source.new }
         ensures out_never_falls { O.Faulty.faults out.old ≤ O.Faulty.faults out.new }
     {
+        text_laws();
         // Each event takes six bytes at least, so after so many 2^56 bytes were taken.
         for count in 0..1u64 << 54 {
             let read = match self.next(reader, source, out) {
@@ -339,6 +341,7 @@ fn open<S: Source>(
     ensures never_falls { S.Faulty.faults source.old ≤ S.Faulty.faults source.new }
 {
     openings_are_whole();
+    text_laws();
     let setup = match reader.setup(alloc, source) {
         Ok(setup) => setup,
         Err(error) => return Err(error),
@@ -368,6 +371,7 @@ pub fn replay_journal<S: Source, O: Sink>(alloc: Global, source: &mut S, out: &m
         Err(Memory) => return Status::Memory,
     };
     openings_are_whole();
+    text_laws();
     let (setup, start) = match open(alloc, &mut reader, source) {
         Ok(parts) => parts,
         Err(error) => {

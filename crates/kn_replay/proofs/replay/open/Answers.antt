@@ -8,7 +8,6 @@ use Rattle.kn_journal.specs.Reading.{unread}
 use Rattle.kn_journal.specs.Telling.{Gives, IsLineFault, LeavesRest, Refuses, StopsAmid}
 use Rattle.kn_replay.specs.Replaying.{Opens}
 use Rattle.kn_replay.proofs.Behind.{setup_behind, start_behind}
-use Rattle.kn_journal.proofs.Texts.{text-more}
 use Rattle.kn_replay.proofs.Faults.{opens_well, setup_fails, start_fails}
 use Rattle.kn_replay.proofs.replay.open.Goals as goal
 
@@ -45,14 +44,14 @@ returns-in-Err-start-clause-opens g c =
     let new = unread c.start.new.self.input (g.S.Source.left c.start.new.source) in
     let good = c.in-Ok.ensures.good in
     let opening : Opening = record { version = c.setup.new.self.version; setup = c.in-Ok.setup } in
-    start_fails old mid new c.setup.new.self.cut opening c.setup.new.self.number c.start.new.self.version c.start.new.self.number c.in-Err-start.error c.openings_are_whole.ensures.opening
+    start_fails c.text_laws.ensures.laws old mid new c.setup.new.self.cut opening c.setup.new.self.number c.start.new.self.version c.start.new.self.number c.in-Err-start.error c.openings_are_whole.ensures.opening
     (subst (λ (n : ℕ). Gives (opening_part JournalLine n) opening c.setup.new.self.number old mid) c.requires.number (c.in-Ok.ensures.tells c.requires.good))
     c.in-Ok.ensures.text (c.in-Err-start.ensures.tells good)
     (λ is. c.start.ensures.amid good (c.in-Err-start.is ∙ ap (λ (e : JournalError). Err e) is))
 
 pub returns-in-Ok-start-clause-text : goal.returns-in-Ok-start-clause-text
 returns-in-Ok-start-clause-text g c =
-    text-more c.setup.new.self.cut c.start.new.self.cut (unread c.args.reader.now.input (g.S.Source.left c.args.source.now)) (unread c.setup.new.self.input (g.S.Source.left c.setup.new.source))
+    c.text_laws.ensures.laws.more c.setup.new.self.cut c.start.new.self.cut (unread c.args.reader.now.input (g.S.Source.left c.args.source.now)) (unread c.setup.new.self.input (g.S.Source.left c.setup.new.source))
     (unread c.start.new.self.input (g.S.Source.left c.start.new.source)) c.in-Ok.ensures.text c.in-Ok-start.ensures.text
 
 pub returns-in-Ok-start-clause-opens : goal.returns-in-Ok-start-clause-opens

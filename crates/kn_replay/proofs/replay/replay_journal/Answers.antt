@@ -197,7 +197,7 @@ returns-clause-report g c =
     let one = subst (λ (s : Spec). IsOver c.open.new.reader.cut left → Follows c.open.new.reader.cut c.open.new.reader.version s begun c.open.new.reader.last c.open.new.reader.number left rest c.put_rows.new.self.waiting (g.O.Sink.held c.put_rows.new.out) (g.O.Sink.held c.follow-status.new.out) c.follow-status.result) spec (c.follow-status.ensures.follows begun stands counts) in
     let follows = subst (λ (n : ℕ). IsOver c.open.new.reader.cut left → Follows c.open.new.reader.cut c.open.new.reader.version c.in-Ok-open.parts.0.spec begun n c.open.new.reader.number left rest c.put_rows.new.self.waiting (g.O.Sink.held c.put_rows.new.out) (g.O.Sink.held c.follow-status.new.out) c.follow-status.result) c.in-Ok-open.ensures.start one in
     let adds = rw (c.in-Ok-new.ensures.waiting, c.in-Ok-new.ensures.log) at c.in-Ok-put_rows.ensures.ok in
-    journal_follows (g.S.Source.left c.args.source.now) left (g.S.Source.left c.follow-status.new.source) c.open.new.reader.cut c.follow-status.new.reader.input.ahead (g.S.Source.given c.follow-status.new.source - g.S.Source.given c.args.source.now) c.open.new.reader.version c.in-Ok-open.parts.0 c.in-Ok-open.parts.1 c.open.new.reader.number (g.O.Sink.held c.args.out.now) (g.O.Sink.held c.put_rows.new.out) (g.O.Sink.held c.follow-status.new.out) c.put_rows.new.self.waiting c.follow-status.result c.openings_are_whole.ensures.opening c.openings_are_whole.ensures.start opens text adds follows c.follow-status.ensures.followed
+    journal_follows c.text_laws.ensures.laws (g.S.Source.left c.args.source.now) left (g.S.Source.left c.follow-status.new.source) c.open.new.reader.cut c.follow-status.new.reader.input.ahead (g.S.Source.given c.follow-status.new.source - g.S.Source.given c.args.source.now) c.open.new.reader.version c.in-Ok-open.parts.0 c.in-Ok-open.parts.1 c.open.new.reader.number (g.O.Sink.held c.args.out.now) (g.O.Sink.held c.put_rows.new.out) (g.O.Sink.held c.follow-status.new.out) c.put_rows.new.self.waiting c.follow-status.result c.openings_are_whole.ensures.opening c.openings_are_whole.ensures.start opens text adds follows c.follow-status.ensures.followed
     (λ is. beyond_is c.follow-status.new.reader.input _ (omega (arith, c.open.ensures.balance, c.follow-status.ensures.balance, c.in-Ok.ensures.taken, ap length c.in-Ok.ensures.ahead)) (c.follow-status.ensures.spent is))
 
 pub returns-clause-replayed : goal.returns-clause-replayed

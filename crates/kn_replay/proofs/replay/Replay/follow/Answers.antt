@@ -125,7 +125,7 @@ returns-in-Err-read-clause-follows g c d stands counts over =
     let on = kept.on d stands counts in
     let adds = adds_on (g.O.Sink.held c.args.out.now) (g.O.Sink.held c.loop-count.out) (g.O.Sink.held c.next.new.out) c.args.self.now.waiting c.loop-count.self.waiting c.next.new.self.waiting (rows_text (added c.args.self.now.revision.spec d on.0)) on.4 c.in-Ok.ensures.adds in
     let left = (unread c.next.new.reader.input (g.S.Source.left c.next.new.source)) in
-    goes_stop c.args.reader.now.cut c.loop-count.reader.cut c.args.reader.now.version c.args.self.now.revision.spec d c.args.reader.now.last c.args.reader.now.number (unread c.args.reader.now.input (g.S.Source.left c.args.source.now)) c.args.self.now.waiting c.next.new.self.waiting (g.O.Sink.held c.args.out.now) (g.O.Sink.held c.next.new.out) (g.O.Sink.held c.stop.new.out) on.0 c.loop-count.reader.last c.loop-count.reader.number (unread c.loop-count.reader.input (g.S.Source.left c.loop-count.source)) left c.in-Err-read.error c.stop.result
+    goes_stop c.text_laws.ensures.laws c.args.reader.now.cut c.loop-count.reader.cut c.args.reader.now.version c.args.self.now.revision.spec d c.args.reader.now.last c.args.reader.now.number (unread c.args.reader.now.input (g.S.Source.left c.args.source.now)) c.args.self.now.waiting c.next.new.self.waiting (g.O.Sink.held c.args.out.now) (g.O.Sink.held c.next.new.out) (g.O.Sink.held c.stop.new.out) on.0 c.loop-count.reader.last c.loop-count.reader.number (unread c.loop-count.reader.input (g.S.Source.left c.loop-count.source)) left c.in-Err-read.error c.stop.result
     on.5 (kept.bytes over) (rw (c.in-Err-read.is, kept.version) at c.in-Ok.ensures.refuses)
     (λ is. c.in-Ok.ensures.amid (c.in-Err-read.is ∙ ap (λ (e : JournalError). Err e) is))
     (λ is. c.in-Ok.ensures.uncut (c.in-Err-read.is ∙ ap (λ (e : JournalError). Err e) is))
@@ -146,7 +146,7 @@ returns-in-Err-read-clause-cut g c d stands counts over fault =
     let on = kept.on d stands counts in
     let adds = adds_on (g.O.Sink.held c.args.out.now) (g.O.Sink.held c.loop-count.out) (g.O.Sink.held c.next.new.out) c.args.self.now.waiting c.loop-count.self.waiting c.next.new.self.waiting (rows_text (added c.args.self.now.revision.spec d on.0)) on.4 c.in-Ok.ensures.adds in
     let some = stop_cut _ _ _ (status_of c.in-Err-read.error) c.stop.result (rw c.status_of.ensures.value at c.stop.ensures.stops) fault (no_write_fault c.in-Err-read.error) in
-    cut_stop c.args.reader.now.cut c.loop-count.reader.cut c.args.reader.now.version c.args.self.now.revision.spec d c.args.reader.now.last c.args.reader.now.number (unread c.args.reader.now.input (g.S.Source.left c.args.source.now)) c.args.self.now.waiting c.next.new.self.waiting _ (g.O.Sink.held c.args.out.now) (g.O.Sink.held c.next.new.out) (g.O.Sink.held c.stop.new.out) on.0 c.loop-count.reader.last c.loop-count.reader.number (unread c.loop-count.reader.input (g.S.Source.left c.loop-count.source)) (unread c.next.new.reader.input (g.S.Source.left c.next.new.source)) c.in-Err-read.error
+    cut_stop c.text_laws.ensures.laws c.args.reader.now.cut c.loop-count.reader.cut c.args.reader.now.version c.args.self.now.revision.spec d c.args.reader.now.last c.args.reader.now.number (unread c.args.reader.now.input (g.S.Source.left c.args.source.now)) c.args.self.now.waiting c.next.new.self.waiting _ (g.O.Sink.held c.args.out.now) (g.O.Sink.held c.next.new.out) (g.O.Sink.held c.stop.new.out) on.0 c.loop-count.reader.last c.loop-count.reader.number (unread c.loop-count.reader.input (g.S.Source.left c.loop-count.source)) (unread c.next.new.reader.input (g.S.Source.left c.next.new.source)) c.in-Err-read.error
     on.5 (kept.bytes over) (rw (c.in-Err-read.is, kept.version) at c.in-Ok.ensures.refuses)
     (λ is. c.in-Ok.ensures.amid (c.in-Err-read.is ∙ ap (λ (e : JournalError). Err e) is))
     (λ is. c.in-Ok.ensures.memory (c.in-Err-read.is ∙ ap (λ (e : JournalError). Err e) is))
@@ -261,7 +261,7 @@ loop-count-preserved g c =
             rw last (goes_more c.args.reader.now.version c.args.reader.now.last c.args.reader.now.number _ on.0 c.loop-count.reader.last c.loop-count.reader.number _ e c.next.new.reader.number _ on.5 (rw kept.version at given)),
           );
       bytes = λ over.
-          read_more c.args.reader.now.cut c.loop-count.reader.cut c.next.new.reader.cut (unread c.args.reader.now.input (g.S.Source.left c.args.source.now)) (unread c.loop-count.reader.input (g.S.Source.left c.loop-count.source)) (unread c.next.new.reader.input (g.S.Source.left c.next.new.source))
+          read_more c.text_laws.ensures.laws c.args.reader.now.cut c.loop-count.reader.cut c.next.new.reader.cut (unread c.args.reader.now.input (g.S.Source.left c.args.source.now)) (unread c.loop-count.reader.input (g.S.Source.left c.loop-count.source)) (unread c.next.new.reader.input (g.S.Source.left c.next.new.source))
           (kept.bytes over) (rw (c.in-Ok-read.is, c.in-Some.is) at c.in-Ok.ensures.text);
       still =
           still_more c.loop-count.reader.version c.loop-count.reader.last c.loop-count.reader.number e c.next.new.reader.number (unread c.args.reader.now.input (g.S.Source.left c.args.source.now)) (unread c.loop-count.reader.input (g.S.Source.left c.loop-count.source)) (unread c.next.new.reader.input (g.S.Source.left c.next.new.source)) kept.still given;

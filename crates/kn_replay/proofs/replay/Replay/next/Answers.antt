@@ -20,4 +20,4 @@ pub returns-then-is_cut-clause-refuses : goal.returns-then-is_cut-clause-refuses
 returns-then-is_cut-clause-refuses g c over =
     let old = unread c.args.reader.now.input (g.S.Source.left c.args.source.now) in
     let cut : c.args.reader.now.cut ≡ true = sym (c.is_cut.ensures ∙ ap (λ (r : ReaderState). r.cut) (c.in-None.ensures.same refl)) ∙ c.if-is_cut.true in
-    over_refuses c.args.reader.now.version c.args.reader.now.last c.args.reader.now.number old (subst (λ (b : Bool). IsOver b old) cut over)
+    over_refuses c.text_laws.ensures.laws c.args.reader.now.version c.args.reader.now.last c.args.reader.now.number old (subst (λ (b : Bool). IsOver b old) cut over)
