@@ -4,12 +4,15 @@ use Rattle.kn_journal.proofs.laws.text_laws.Goals as goal
 
 pub returns : goal.returns
 returns c = record {
-  none = lines-nil;
-  whole = whole-cut;
-  ends = ends-behind;
-  ends_still = ends-still;
-  ended = lines-ended;
-  behind = lines-behind;
-  own = lines-own;
-  more = text-more;
+  laws =
+      record {
+        none = lines-nil;
+        whole = whole-cut;
+        ends = ends-behind;
+        ends_still = ends-still;
+        ended = lines-ended;
+        behind = lines-behind;
+        own = lines-own;
+        more = text-more;
+      };
 }
