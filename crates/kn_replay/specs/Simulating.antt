@@ -1,5 +1,5 @@
 -- What simulating a workload writes, and how it ends.
-use Rattle.std.specs.Prelude.{◌≡◌, ℕ, List, Option, None, Some, Result, Ok, Err, ⊤, ⊥}
+use Rattle.std.specs.Prelude.{◌≡◌, ℕ, List, Option, None, Some, Result, Ok, Err, ⊤}
 use Rattle.std.specs.Io.KnownBytes.{Appends}
 use Rattle.kn_event.specs.declared.event.Event.{Event}
 use Rattle.kn_agenda.specs.Due.{IsSchedule}

@@ -57,10 +57,12 @@ fn command_of(words: &[String]) -> Option<Command>
     ensures range { (s n : ℕ) → result ≡ Some (Command.Generate s n) → n ≤ 1000000 }
 {
     match words {
-        [word] => match word.as_str() {
-            "replay" => Some(Command::Replay),
-            "simulate" => Some(Command::Simulate),
-            _ => None,
+        [word] => if word.as_str() == "replay" {
+            Some(Command::Replay)
+        } else if word.as_str() == "simulate" {
+            Some(Command::Simulate)
+        } else {
+            None
         },
         [word, seed, count] => if word.as_str() == "generate" {
             generate_of(seed.as_bytes(), count.as_bytes())
