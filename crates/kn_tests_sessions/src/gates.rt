@@ -1,0 +1,100 @@
+//! The slots are served beside each other: each of two requests is held at a gate until the other has come there too.
+
+use crate::lines::{show_answer, show_calls};
+use crate::readings::Hands;
+use crate::sessions::{Sinks, Size, has, reports, serve_mem, slots_of};
+use crate::setting::MemSlot;
+use kn_case::case;
+use kn_io::Gate;
+use kn_journal::Status;
+use std::io;
+use std::sync::Wait;
+use std::sync::atomic::{AtomicBool, AtomicU64, Ordering};
+use std::thread::Threads;
+
+/// A gate that holds each tag until both have passed, for some time. Then a second is over.
+#[derive(Drop)]
+struct BothGate<'a> {
+    passed: [AtomicU64; 2],
+    late: AtomicBool,
+    hands: &'a Hands,
+}
+
+impl BothGate<'_> {
+    fn has_passed(&self, tag: u64) -> u64 {
+        self.passed[tag.min(1) as usize].load(Ordering::SeqCst)
+    }
+}
+
+impl Gate for BothGate<'_> {
+    fn pass(&self, tag: u64) {
+        self.passed[tag.min(1) as usize].fetch_add(1, Ordering::SeqCst);
+        for _ in 0..100_000_000u64 {
+            if self.has_passed(0) >= 1 && self.has_passed(1) >= 1 {
+                self.hands.set(1000);
+                return;
+            }
+        }
+        self.late.store(true, Ordering::SeqCst);
+    }
+}
+
+fn show_passes<R: Print + AllocGlobal>(rt: &R, gate: &BothGate<'_>) -> io::Result<()> {
+    let is_late = gate.late.load(Ordering::SeqCst);
+    case(rt, "both passed it", &is_late, &false)?;
+    let passes = [gate.has_passed(0), gate.has_passed(1)];
+    case(rt, "each passed it once", &passes, &[1, 1])
+}
+
+fn show_journal<R: Print + AllocGlobal>(rt: &R, journal: &[u8]) -> io::Result<()> {
+    for tag in ["\n0 arrive 0\n", "\n0 arrive 1\n"] {
+        let before = has(journal, tag.as_bytes());
+        case(rt, "it had arrived before", &before, &true)?;
+    }
+    Ok(())
+}
+
+fn show_slots<R: Print + AllocGlobal>(rt: &R, slots: &[MemSlot]) -> io::Result<()> {
+    for slot in slots {
+        show_answer(rt, &slot.caller)?;
+        show_calls(rt, &slot.link)?;
+    }
+    Ok(())
+}
+
+fn show_session<R: Threads + Wait + Sync + Print + AllocGlobal>(
+    rt: &R,
+    slots: &mut [MemSlot],
+    sinks: &mut Sinks,
+    hands: &Hands,
+    gate: &BothGate<'_>,
+) -> io::Result<()> {
+    let status = serve_mem(rt, rt.alloc(), slots, Size::once(100), hands, gate, sinks)?;
+    case(rt, "two callers at a gate", &status, &Some(Status::Ok))?;
+    show_passes(rt, gate)?;
+    show_journal(rt, sinks.out.held())?;
+    show_slots(rt, slots)?;
+    let finished = reports(rt.alloc(), sinks.out.held(), b" finished=2 ")?;
+    case(rt, "both are finished", &finished, &true)
+}
+
+fn show_at_gate<R: Threads + Wait + Sync + Print + AllocGlobal>(
+    rt: &R,
+    slots: &mut [MemSlot],
+    sinks: &mut Sinks,
+) -> io::Result<()> {
+    let hands = Hands::new();
+    let gate = BothGate {
+        passed: [AtomicU64::new(0), AtomicU64::new(0)],
+        late: AtomicBool::new(false),
+        hands: &hands,
+    };
+    show_session(rt, slots, sinks, &hands, &gate)
+}
+
+/// Two callers at one pod.
+pub fn show<R: Threads + Wait + Sync + Print + AllocGlobal>(rt: &R) -> io::Result<()> {
+    let mut slots = slots_of(rt.alloc(), "good good")?;
+    let mut sinks = Sinks::new(rt.alloc())?;
+    show_at_gate(rt, &mut slots, &mut sinks)
+}

@@ -1,0 +1,123 @@
+//! Callers and links that tell a hook when they are used, so that a test can hold them up, or move a clock on.
+ghost use Rattle.std.specs.Prelude.{◌≤◌};
+ghost use Rattle.kn_io.specs.Causes.{Rose};
+
+use kn_event::Text;
+use kn_io::{Caller, Failed, Faulty, LinkError, PodLink, Sink, Source};
+use std::alloc::Global;
+
+/// What is done where a caller or a link is used.
+pub trait Hook {
+    /// Before a client is met. Where it answers false, nobody is met, and that is a fault.
+    fn meets(&self) -> bool {
+        true
+    }
+
+    /// After a pod was probed.
+    fn has_probed(&self) {}
+
+    /// After a pod was called.
+    fn has_called(&self) {}
+}
+
+/// A link that tells a hook.
+#[derive(Drop)]
+pub struct HookedLink<'a, L, H> {
+    pub link: L,
+    pub hook: &'a H,
+}
+
+impl<L: PodLink, H: Hook> Faulty for HookedLink<'_, L, H> {
+    ghost faults = { λ l. L.Faulty.faults l.link };
+
+    fn faults(&self) -> u64 {
+        self.link.faults()
+    }
+}
+
+impl<L: PodLink, H: Hook> PodLink for HookedLink<'_, L, H> {
+    ghost told = { λ l. L.told l.link };
+
+    fn probe(&mut self, pod: u64) -> Result<bool, Failed> {
+        let answer = self.link.probe(pod);
+        self.hook.has_probed();
+        answer
+    }
+
+    fn call(&mut self, alloc: Global, pod: u64, request: &[u8]) -> Result<Text, LinkError> {
+        let answer = self.link.call(alloc, pod, request);
+        self.hook.has_called();
+        answer
+    }
+}
+
+/// A caller that tells a hook.
+#[derive(Drop)]
+pub struct HookedCaller<'a, C, H> {
+    pub caller: C,
+    pub hook: &'a H,
+    pub faults: u64,
+}
+
+/// Counts a fault.
+fn fault(faults: &mut u64) -> Failed
+    ensures rose { Rose faults.old faults.new }
+    ensures never_falls { faults.old ≤ faults.new }
+{
+    *faults = faults.saturating_add(1);
+    Failed
+}
+
+impl<C: Caller, H: Hook> Faulty for HookedCaller<'_, C, H> {
+    ghost faults = { λ c. c.faults };
+
+    fn faults(&self) -> u64 {
+        self.faults
+    }
+}
+
+impl<C: Caller, H: Hook> Source for HookedCaller<'_, C, H> {
+    ghost left = { λ c. C.Source.left c.caller };
+
+    ghost apart = { λ c. C.Source.apart c.caller };
+
+    ghost given = { λ c. C.Source.given c.caller };
+
+    fn read(&mut self, buf: &mut [u8]) -> Result<usize, Failed> {
+        match self.caller.read(buf) {
+            Ok(n) => Ok(n),
+            Err(Failed) => Err(fault(&mut self.faults)),
+        }
+    }
+}
+
+impl<C: Caller, H: Hook> Sink for HookedCaller<'_, C, H> {
+    ghost held = { λ c. C.Sink.held c.caller };
+
+    ghost kept = { λ c. C.Sink.kept c.caller };
+
+    fn write(&mut self, bytes: &[u8]) -> Result<usize, Failed> {
+        match self.caller.write(bytes) {
+            Ok(n) => Ok(n),
+            Err(Failed) => Err(fault(&mut self.faults)),
+        }
+    }
+}
+
+impl<C: Caller, H: Hook> Caller for HookedCaller<'_, C, H> {
+    ghost paired = { λ c. C.paired c.caller };
+
+    ghost together = { λ c. C.together c.caller };
+
+    ghost heard = { λ c. C.heard c.caller };
+
+    fn meet(&mut self) -> Result<(), Failed> {
+        if !self.hook.meets() {
+            return Err(fault(&mut self.faults));
+        }
+        match self.caller.meet() {
+            Ok(()) => Ok(()),
+            Err(Failed) => Err(fault(&mut self.faults)),
+        }
+    }
+}

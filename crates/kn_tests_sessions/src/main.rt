@@ -1,0 +1,58 @@
+//! Rehearsals of what `kactd` does. Each line of standard input is one over memory, and what comes of it is printed:
+//!
+//! - `request INPUT ..`: a single request by `serve_one`;
+//! - `session ROOM INPUT ..|TEXT|..||TEXT`: a session of a slot for each input, the texts that are looked for in its
+//!   journal, and one that is looked for in the report of that journal, replayed;
+//! - `opens WORDS` and `fails WORDS`: `kactd_run` with these words, where listening goes well or fails.
+//!
+//! An input is `good`, `other` (it names another revision) or `cut`. Behind it, or in a session behind a `/`, stands
+//! which call of its caller or of its link fails, as `caller=0`. Then come turns of the ticker, and sessions over a
+//! gate, a ticker that goes on, callers that fail, and TCP on loopback; at last what is opened there.
+#![tactic(auto)]
+
+mod faults;
+mod gates;
+mod hooks;
+mod lines;
+mod loopback;
+mod opener;
+mod readings;
+mod requests;
+mod rounds;
+mod sessions;
+mod setting;
+mod ticking;
+mod turns;
+mod words;
+
+use std::io;
+use std::sync::Wait;
+use std::thread::Threads;
+
+/// Says what comes of a line.
+fn show<R: Threads + Wait + Sync + Print + AllocGlobal>(rt: &R, line: &str) -> io::Result<()> {
+    println!(rt; "{line}")?;
+    let (way, rest) = line.split_once(' ').unwrap_or((line, ""));
+    match way {
+        "request" => requests::show(rt, rest),
+        "session" => sessions::show(rt, rest),
+        "opens" => words::show(rt, rest, false),
+        "fails" => words::show(rt, rest, true),
+        _ => println!(rt; "  no way"),
+    }
+}
+
+fn main(rt: HostRuntime) -> io::Result<()> {
+    for line in rt.lines(rt.alloc()) {
+        show(&rt, line?.as_str())?;
+    }
+    requests::failing_caller(&rt)?;
+    turns::show(&rt)?;
+    faults::show(&rt)?;
+    gates::show(&rt)?;
+    rounds::show(&rt)?;
+    ticking::show(&rt)?;
+    readings::show(&rt)?;
+    loopback::show(&rt)?;
+    opener::show(&rt)
+}
