@@ -15,22 +15,39 @@ use std::thread::Threads;
 /// A gate that holds each tag until both have passed, for some time. Then a second is over.
 #[derive(Drop)]
 struct BothGate<'a> {
-    passed: [AtomicU64; 2],
+    first: AtomicU64,
+    second: AtomicU64,
     late: AtomicBool,
     hands: &'a Hands,
 }
 
 impl BothGate<'_> {
-    fn has_passed(&self, tag: u64) -> u64 {
-        self.passed[tag.min(1) as usize].load(Ordering::SeqCst)
+    /// How often each passed.
+    fn passes(&self) -> [u64; 2] {
+        [
+            self.first.load(Ordering::SeqCst),
+            self.second.load(Ordering::SeqCst),
+        ]
+    }
+
+    fn count(&self, tag: u64) {
+        match tag {
+            0 => self.first.fetch_add(1, Ordering::SeqCst),
+            _ => self.second.fetch_add(1, Ordering::SeqCst),
+        };
+    }
+
+    fn have_both(&self) -> bool {
+        let [first, second] = self.passes();
+        first >= 1 && second >= 1
     }
 }
 
 impl Gate for BothGate<'_> {
     fn pass(&self, tag: u64) {
-        self.passed[tag.min(1) as usize].fetch_add(1, Ordering::SeqCst);
+        self.count(tag);
         for _ in 0..100_000_000u64 {
-            if self.has_passed(0) >= 1 && self.has_passed(1) >= 1 {
+            if self.have_both() {
                 self.hands.set(1000);
                 return;
             }
@@ -42,8 +59,7 @@ impl Gate for BothGate<'_> {
 fn show_passes<R: Print + AllocGlobal>(rt: &R, gate: &BothGate<'_>) -> io::Result<()> {
     let is_late = gate.late.load(Ordering::SeqCst);
     case(rt, "both passed it", &is_late, &false)?;
-    let passes = [gate.has_passed(0), gate.has_passed(1)];
-    case(rt, "each passed it once", &passes, &[1, 1])
+    case(rt, "each passed it once", &gate.passes(), &[1, 1])
 }
 
 fn show_journal<R: Print + AllocGlobal>(rt: &R, journal: &[u8]) -> io::Result<()> {
@@ -85,7 +101,8 @@ fn show_at_gate<R: Threads + Wait + Sync + Print + AllocGlobal>(
 ) -> io::Result<()> {
     let hands = Hands::new();
     let gate = BothGate {
-        passed: [AtomicU64::new(0), AtomicU64::new(0)],
+        first: AtomicU64::new(0),
+        second: AtomicU64::new(0),
         late: AtomicBool::new(false),
         hands: &hands,
     };

@@ -48,17 +48,17 @@ impl Clock for Naps {
     }
 }
 
-/// A slot that is done once so many probes were made.
+/// A slot that is done with the probe before which so many were made.
 #[derive(Drop)]
 struct Bell<'a> {
     left: &'a Left,
     probes: AtomicU64,
-    last: u64,
+    before: u64,
 }
 
 impl Hook for Bell<'_> {
     fn has_probed(&self) {
-        if self.probes.fetch_add(1, Ordering::SeqCst) + 1 == self.last {
+        if self.probes.fetch_add(1, Ordering::SeqCst) == self.before {
             self.left.done();
         }
     }
@@ -78,7 +78,7 @@ fn tick_four_times<R: Wait>(
     let bell = Bell {
         left: &left,
         probes: AtomicU64::new(0),
-        last: 4,
+        before: 3,
     };
     let link = had(MemLink::new(alloc, Vec::new(alloc), vec![in alloc; 0, 1, 2, 3]?))?;
     let mut keeper = HookedLink { link, hook: &bell };

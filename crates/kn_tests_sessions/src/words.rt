@@ -1,11 +1,14 @@
 //! From the words of `kactd` to a session.
+ghost use Rattle.std.specs.Prelude.{All, IfOk};
+ghost use Rattle.kn_request.specs.Outside.{said};
+ghost use Rattle.kn_serve.specs.Opening.{IsFresh};
 
 use crate::lines::show_answer;
 use crate::sessions::{Sinks, reports};
 use crate::setting::{MemSlot, REQUEST, SETUP, had, slot_of};
 use kn_case::shown;
 use kn_event::Memory;
-use kn_io::{ListClock, MemCaller, MemLink, MemSource, OpenGate};
+use kn_io::{ListClock, MemCaller, MemLink, MemSource, OpenGate, PodLink, Sink};
 use kn_journal::Status;
 use kn_serve::{MemOpener, kactd_run};
 use std::alloc::{AllocError, Global};
@@ -13,32 +16,22 @@ use std::io;
 use std::sync::Wait;
 use std::thread::Threads;
 
-fn add_slot(alloc: Global, slots: &mut Vec<MemSlot>) -> Result<(), AllocError> {
-    let slot = had(slot_of(alloc, REQUEST, u64::MAX, ""))?;
-    slots.push(slot)?;
-    Ok(())
-}
-
-fn add_two(alloc: Global, slots: &mut Vec<MemSlot>) -> Result<(), AllocError> {
-    add_slot(alloc, slots)?;
-    add_slot(alloc, slots)
-}
-
-fn two_slots(alloc: Global) -> Result<Vec<MemSlot>, AllocError> {
-    let mut slots = Vec::new(alloc);
-    match add_two(alloc, &mut slots) {
-        Ok(()) => Ok(slots),
-        Err(AllocError) => Err(AllocError),
+fn two_slots(alloc: Global) -> Result<Vec<MemSlot>, Memory>
+    ensures { IfOk result (λ slots. All (λ s. IsFresh (said (⟦<MemCaller as Sink>⟧.kept s.caller) (⟦<MemCaller as Sink>⟧.held s.caller)) (⟦<MemLink as PodLink>⟧.told s.link) s.work) slots.items) }
+{
+    let first = slot_of(alloc, REQUEST, u64::MAX, "")?;
+    let second = slot_of(alloc, REQUEST, u64::MAX, "")?;
+    match vec![in alloc; first, second] {
+        Ok(slots) => Ok(slots),
+        Err(_) => Err(Memory),
     }
 }
 
 /// What hands out two slots and a keeper, or fails.
-fn opener(alloc: Global, fail: bool) -> Result<MemOpener<MemCaller, MemLink>, AllocError> {
+fn opener(alloc: Global, fail: bool) -> Result<MemOpener<MemCaller, MemLink>, Memory> {
     let slots = two_slots(alloc)?;
-    match MemLink::new(alloc, Vec::new(alloc), Vec::new(alloc)) {
-        Ok(keeper) => Ok(MemOpener::new(slots, keeper, fail)),
-        Err(Memory) => Err(AllocError),
-    }
+    let keeper = MemLink::new(alloc, Vec::new(alloc), Vec::new(alloc))?;
+    Ok(MemOpener::new(slots, keeper, fail))
 }
 
 fn add_words(alloc: Global, words: &mut Vec<String>, line: &str) -> Result<(), AllocError> {
@@ -118,7 +111,7 @@ fn run<R: Threads + Wait + Sync>(
     sinks: &mut Sinks,
 ) -> Result<Ended, AllocError> {
     let words = words_of(alloc, line)?;
-    let mut opener = opener(alloc, fail)?;
+    let mut opener = had(opener(alloc, fail))?;
     run_setup(rt, alloc, &words, &mut opener, sinks)
 }
 
