@@ -157,7 +157,7 @@ impl<'a> Schedule<'a> {
         trace_laws();
         let e = event_of(&self.workload, item);
         self.log.clear();
-        let _ = self.revision.step(&e, &mut self.log);
+        self.revision.take(&e, &mut self.log);
         self.agenda
             .hear_all(self.log.entries(), self.workload.jobs());
         self.ticks = ticks_behind(self.ticks, item.kind);

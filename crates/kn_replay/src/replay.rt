@@ -125,7 +125,7 @@ impl Replay {
         ensures waiting { self.new.waiting ≡ self.old.waiting }
     {
         self.log.clear();
-        let _ = self.revision.step(e, &mut self.log);
+        self.revision.take(e, &mut self.log);
     }
 
     /// Adds the rows of the last event behind what waits. They were counted before.

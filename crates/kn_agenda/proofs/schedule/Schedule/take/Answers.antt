@@ -40,7 +40,7 @@ pub hear_all-requires-clause-times : goal.hear_all-requires-clause-times
 hear_all-requires-clause-times c = λ k d less.
     ∥∥₁_elim c.self.invariant.some le_prop (λ em. (
     let w = c.self.inside.workload in
-    let same : c.entries.result.now ≡ react c.self.inside.revision.spec (so_far w em.0) c.event_of-e.result = c.entries.ensures ∙ c.step.ensures.logged (so_far w em.0) em.1.revision in
+    let same : c.entries.result.now ≡ react c.self.inside.revision.spec (so_far w em.0) c.event_of-e.result = c.entries.ensures ∙ c.take.ensures.logged (so_far w em.0) em.1.revision in
     let each = c.part_laws.ensures.rows.react-at c.self.inside.revision.spec (so_far w em.0) c.event_of-e.result in
     let all = entries_time c.event_of-e.result.time (react c.self.inside.revision.spec (so_far w em.0) c.event_of-e.result) each in
     let at = (subst (λ (es : List Entry). (k : ℕ) (d : Entry) → k < length es → (slice_index_or es k d).time ≡ c.event_of-e.result.time) (sym same) all) k d less in
@@ -72,9 +72,9 @@ returns-clause-goes c = λ es made0 next0.
     let made = c.trace_laws.ensures.made w.spec w.start es in
     let runs = subst (λ (y : Event). Runs w (es ++ y ∷ []) item.time) (sym is) (c.next_laws.ensures.step w es c.self.inside.revision.clock item c.self.invariant.good m.runs b.next soon) in
     let whole = so_far_more w es e (c.trace_laws.ensures.append w.spec w.start es (e ∷ [])) in
-    let clock : c.step.new.self.clock ≡ item.time = c.step.ensures.clock ∙ ap (λ (y : Event). y.time) is in
-    let logged : c.step.new.log ≡ react w.spec here e = c.step.ensures.logged here m.revision ∙ ap (λ (s : Spec). react s here e) m.spec in
-    let stands : StandsFor c.step.new.self (here ++ react w.spec here e) = subst (λ (s : Spec). StandsFor c.step.new.self (here ++ react s here e)) m.spec (c.step.ensures.stands here m.revision) in
+    let clock : c.take.new.self.clock ≡ item.time = c.take.ensures.clock ∙ ap (λ (y : Event). y.time) is in
+    let logged : c.take.new.log ≡ react w.spec here e = c.take.ensures.logged here m.revision ∙ ap (λ (s : Spec). react s here e) m.spec in
+    let stands : StandsFor c.take.new.self (here ++ react w.spec here e) = subst (λ (s : Spec). StandsFor c.take.new.self (here ++ react s here e)) m.spec (c.take.ensures.stands here m.revision) in
     let holds = c.fact_laws.ensures.proper.react-holds w.spec here e (c.fact_laws.ensures.proper.made_kept w.spec here made) in
     let entries : c.entries.result.now ≡ react w.spec here e = c.entries.ensures ∙ logged in
     let jobs : c.jobs.result.now ≡ w.jobs = c.jobs.ensures in
@@ -91,14 +91,14 @@ returns-clause-goes c = λ es made0 next0.
     let stay = (c.lasting_laws.ensures.arrivals w.spec here).once e in
     record {
       runs = subst (λ (t : ℕ). Runs w (es ++ e ∷ []) t) (sym clock) runs;
-      revision = subst (λ (f : Trace). StandsFor c.step.new.self f) (sym whole) stands;
-      spec = c.step.ensures.spec ∙ m.spec;
+      revision = subst (λ (f : Trace). StandsFor c.take.new.self f) (sym whole) stands;
+      spec = c.take.ensures.spec ∙ m.spec;
       keeps = subst (λ (f : Trace). Keeps w.jobs f c.hear_all.new.self.finishes c.hear_all.new.self.starting) (sym whole) keeps;
       room = omega (arith, room, c.hear_all.ensures.room);
       low = subst (λ (f : Trace). c.self.inside.waits ≤ arrivals f) (sym whole) (omega (arith, m.low, stay));
       waits = λ q less. subst (λ (f : Trace). contains q (waiting f) ≡ false) (sym whole) ((c.lasting_laws.ensures.waits w.spec here q made (omega (arith, less, m.low)) (m.waits q less)).once e);
       ticks = c.ticks_behind-self-inside.ensures ∙ ap (λ (k : ℕ). ticks_behind k item.kind) m.ticks ∙ ticks_on w es item ∙ ap (λ (y : Event). ticks_of (es ++ y ∷ [])) (sym is);
-      events = c.step.ensures.events ∙ ap (λ (n : ℕ). n + 1) m.events ∙ sym (length-append es (e ∷ []));
+      events = c.take.ensures.events ∙ ap (λ (n : ℕ). n + 1) m.events ∙ sym (length-append es (e ∷ []));
     }
 
 pub invariant_of-self : goal.invariant_of-self
@@ -111,7 +111,7 @@ pub returns-clause-few : goal.returns-clause-few
 returns-clause-few c =
     ∥∥₁_elim c.requires.next le_prop (λ em. (
     let made = returns-clause-goes c em.0 em.1 em.2 in
-    let few = few_events c.self.inside.workload (em.0 ++ c.event_of-e.result ∷ []) c.step.new.self.clock c.self.invariant.good made.runs in
+    let few = few_events c.self.inside.workload (em.0 ++ c.event_of-e.result ∷ []) c.take.new.self.clock c.self.invariant.good made.runs in
     let same = made.events in
     omega arith))
 
