@@ -20,8 +20,8 @@ use Rattle.kn_agenda.proofs.Making.{comes_at, entries_time, services, ticks_on}
 use Rattle.kn_agenda.proofs.Stepping.{so_far_more}
 use Rattle.kn_agenda.proofs.schedule.Schedule.take.Goals as goal
 
-pub step-requires-clause-order : goal.step-requires-clause-order
-step-requires-clause-order c =
+pub take-requires-clause-order : goal.take-requires-clause-order
+take-requires-clause-order c =
     ∥∥₁_elim c.requires.next le_prop (λ em. (
     let x : ScheduleState = record { workload = c.self.inside.workload; revision = c.self.inside.revision; agenda = c.self.inside.agenda; waits = c.self.inside.waits; ticks = c.self.inside.ticks } in
     let b = comes_at x c.args.self.now em.0 c.args.item c.self.view_is em.1 em.2 in
@@ -29,8 +29,8 @@ step-requires-clause-order c =
     let time = ap (λ (y : Event). y.time) c.event_of-e.ensures.value in
     omega arith))
 
-pub step-requires-clause-count : goal.step-requires-clause-count
-step-requires-clause-count c =
+pub take-requires-clause-count : goal.take-requires-clause-count
+take-requires-clause-count c =
     ∥∥₁_elim c.self.invariant.some le_prop (λ em. (
     let few = few_events c.self.inside.workload em.0 c.self.inside.revision.clock c.self.invariant.good em.1.runs in
     let same = em.1.events in
