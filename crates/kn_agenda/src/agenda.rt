@@ -33,10 +33,15 @@ pub struct Start {
 /// Contracts see the requests that have begun with the times when they finish, the starting pods with the times when they were
 /// created, and how many requests it has room for. A request that ended stays until it is the first, so that what is noted stays
 /// true, and nobody is looked for.
-#[derive(Drop)]
 pub struct Agenda {
     finishes: BinaryHeap<Reverse<(u64, u64)>>,
     starting: Vec<Start>,
+}
+
+impl Drop for Agenda {
+    fn drop(self) {
+        let Agenda { finishes: _, starting: _ } = self;
+    }
 }
 
 impl Model for Agenda {

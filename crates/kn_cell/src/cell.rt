@@ -1,5 +1,5 @@
 //! The cell and its passes.
-ghost use Rattle.std.specs.Prelude.{◌≡◌, ◌<◌, ◌≤◌, ◌+◌, ◌-◌, ◌^◌, ℕ, List, IfOk, IfErr, IfSome};
+ghost use Rattle.std.specs.Prelude.{◌≡◌, ◌<◌, ◌≤◌, ◌+◌, ◌-◌, ◌^◌, List, IfOk, IfErr, IfSome};
 ghost use Rattle.kn_event.specs.declared.event.Event.{Event as EventValue};
 ghost use Rattle.kn_trace.specs.Laws.{IsInert, IsLawful, IsSettled};
 ghost use Rattle.kn_trace.specs.Trace.{Trace, next_starting, proxied, stand_of};
@@ -26,9 +26,14 @@ use std::sync::Wait;
 use std::time::Duration;
 
 /// A revision that threads share. Contracts see its name.
-#[derive(Drop)]
 pub struct RevisionCell {
     table: Table<Desk, View, Key, Order, Global>,
+}
+
+impl Drop for RevisionCell {
+    fn drop(self) {
+        let RevisionCell { table: _ } = self;
+    }
 }
 
 impl Model for RevisionCell {

@@ -1,10 +1,10 @@
 //! What lies in the slot: the revision with its history. What an event does is said here, and needs no thread.
-ghost use Rattle.std.specs.Prelude.{◌≡◌, ◌<◌, ◌≤◌, ◌^◌, IfOk, IfErr, IfSome, min, max, ℕ, []};
+ghost use Rattle.std.specs.Prelude.{◌≡◌, ◌<◌, ◌≤◌, ◌^◌, IfOk, IfErr, IfSome, []};
 ghost use Rattle.kn_trace.specs.Events.{need_of};
 ghost use Rattle.kn_trace.specs.Trace.{Trace, next_starting, proxied, stand_of};
 ghost use Rattle.kn_core.specs.State.{StandsFor};
 ghost use Rattle.kn_cell.specs.History.{MayCome};
-ghost use Rattle.kn_cell.specs.Desk.{Applies, Refuses, time_at};
+ghost use Rattle.kn_cell.specs.Desk.{Applies, Refuses};
 ghost use Rattle.kn_cell.specs.State.{live_in};
 
 use crate::past::{Full, History, Past};
@@ -15,12 +15,17 @@ use kn_sizes::server::request_laws;
 use std::alloc::Global;
 use std::marker::Model;
 
-#[derive(Drop)]
 pub struct Desk {
     room: u64,
     revision: Revision,
     history: Vec<Past>,
     log: EntryLog,
+}
+
+impl Drop for Desk {
+    fn drop(self) {
+        let Desk { room: _, revision: _, history: _, log: _ } = self;
+    }
 }
 
 impl Model for Desk {

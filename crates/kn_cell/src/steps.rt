@@ -1,8 +1,8 @@
 //! The steps on the table, each with what it asks.
-ghost use Rattle.std.specs.Prelude.{◌≡◌, ◌≢◌, ◌<◌, ◌≤◌, ◌+◌, ◌++◌, ◌∷◌, [], ◌^◌, ℕ, List, length, true, false, Bool, MatchBool, MatchResult};
+ghost use Rattle.std.specs.Prelude.{◌≡◌, ◌≢◌, ◌<◌, ◌+◌, ◌++◌, ◌∷◌, [], ◌^◌, length, true, false};
 ghost use Rattle.kn_cell.specs.declared.past.Past.{Past};
 ghost use Rattle.kn_cell.specs.State.{DeskState};
-ghost use Rattle.kn_cell.specs.Views.{opening, IsBounded};
+ghost use Rattle.kn_cell.specs.Views.{opening};
 ghost use Rattle.kn_cell.specs.History.{IsInBounds, IsLegal};
 ghost use Rattle.kn_cell.specs.Rule.{GetsTurn, Misses, GoesWith, recorded, without_turn, IsSound};
 

@@ -1,5 +1,5 @@
 //! What a pass does with the turn: it waits for it, and records one event.
-ghost use Rattle.std.specs.Prelude.{◌≡◌, ◌<◌, ◌≤◌, ◌+◌, ◌++◌, ◌∷◌, [], ◌^◌, ℕ, List, length, true, false, IfOk, IfErr, IfSome};
+ghost use Rattle.std.specs.Prelude.{◌≡◌, ◌<◌, ◌≤◌, ◌∷◌, [], ◌^◌, false, IfOk, IfErr, IfSome};
 ghost use Rattle.kn_core.specs.State.{StandsFor};
 ghost use Rattle.kn_trace.specs.Trace.{Trace, stand_of, proxied, next_starting};
 ghost use Rattle.kn_cell.specs.State.{DeskState};

@@ -2,7 +2,7 @@
 ghost use Rattle.std.specs.Prelude.{◌≡◌, IfOk, MatchResult, option_map};
 ghost use Rattle.serde_json.specs.Find.{get};
 ghost use Rattle.serde_json.specs.View.{view};
-ghost use Rattle.kn_config.specs.Keys.{rule_of, IsInRange};
+ghost use Rattle.kn_config.specs.Keys.{IsInRange};
 ghost use Rattle.kn_config.specs.Values.{text_of, number_of, percentage_of, burst_of, duration_of, seconds_of, count_of, flag_of, in_range, is_yes, is_no, IsBurstOf};
 
 use crate::key::Key;

@@ -10,6 +10,7 @@ mod Acts
 mod Waking
 mod Created
 mod Openings
+mod Times
 mod Taking
 mod Settled
 mod Following

@@ -35,11 +35,16 @@ use std::marker::Model;
 
 /// The throttler and the pods of a revision, and the autoscaler of one that scales. Contracts say for which traces all
 /// stand; each part of an event adds its rows to the log, and leaves the parts standing for the trace with them.
-#[derive(Drop)]
 pub(crate) struct Parts {
     throttle: Throttle,
     pods: Pods,
     scaler: Option<Scaler>,
+}
+
+impl Drop for Parts {
+    fn drop(self) {
+        let Parts { throttle: _, pods: _, scaler: _ } = self;
+    }
 }
 
 impl Model for Parts {

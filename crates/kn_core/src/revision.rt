@@ -1,10 +1,11 @@
 //! One revision, in memory that is taken once.
-ghost use Rattle.std.specs.Prelude.{◌≡◌, ℕ, ◌+◌, ◌<◌, ◌≤◌, ◌^◌, [], ◌++◌, length, IfOk, IfSome, OnOk, OnErr};
+ghost use Rattle.std.specs.Prelude.{◌≡◌, ◌+◌, ◌<◌, ◌≤◌, ◌^◌, [], ◌++◌, length, IfOk, IfSome, OnOk, OnErr};
 ghost use Rattle.kn_trace.specs.Events.{need_of, opening, react, told_of};
 ghost use Rattle.kn_event.specs.declared.event.Event.{Event as EventValue};
 ghost use Rattle.kn_trace.specs.Laws.{IsInert, IsLawful, IsSettled};
 ghost use Rattle.kn_core.specs.Refused.{LeavesByAnswer};
 ghost use Rattle.kn_trace.specs.Trace.{Trace, arrivals, live, next_starting, proxied, stand_of};
+ghost use Rattle.kn_laws.specs.Kinds.{EachAt};
 ghost use Rattle.kn_core.specs.State.{IsAmongLive, StandsFor, StandsForSome};
 ghost use Rattle.kn_core.specs.Steps.{IsWithinRange};
 
@@ -13,6 +14,7 @@ mod gauges;
 use crate::parts::Parts;
 use kn_event::{EntryLog, Event, Memory, Spec, Stand, Told};
 use kn_laws::laws::{history_laws, step_laws};
+use kn_laws::parts::part_laws;
 use kn_record::append::append_laws;
 use kn_sizes::sizes::{count_laws, entry_laws, growth_laws, size_laws};
 use std::alloc::Global;
@@ -22,13 +24,18 @@ use std::marker::Model;
 ///
 /// Contracts say for which traces it stands: those that some events made, as many as it took, from its start up to its
 /// clock. Times are in milliseconds, at most 2^42.
-#[derive(Drop)]
 pub struct Revision {
     spec: Spec,
     start: u64,
     clock: u64,
     events: u64,
     parts: Parts,
+}
+
+impl Drop for Revision {
+    fn drop(self) {
+        let Revision { spec: _, start: _, clock: _, events: _, parts: _ } = self;
+    }
 }
 
 impl Model for Revision {
@@ -62,6 +69,7 @@ impl Revision {
         ensures inert { IfOk result (λ r. (c : Trace) (e : EventValue) → StandsFor r c → IsInert r.spec c e) }
         ensures beside { IfOk result (λ r. (c : Trace) (e : EventValue) → StandsFor r c → LeavesByAnswer r.spec c e) }
         ensures logged { OnOk result (log.new ≡ opening spec start) }
+        ensures at { OnOk result (EachAt start log.new) }
         ensures err { OnErr result (log.new ≡ []) }
     {
         history_laws();
@@ -89,6 +97,7 @@ impl Revision {
         ensures logged { (c : Trace) → StandsFor self.old c → log.new ≡ react self.old.spec c e.now }
         ensures told { (c : Trace) → StandsFor self.old c → result ≡ told_of self.old.spec c e.now }
         ensures stands { (c : Trace) → StandsFor self.old c → StandsFor self.new (c ++ react self.old.spec c e.now) }
+        ensures at { EachAt e.now.time log.new }
         ensures few { length log.new ≤ 41005 }
         ensures grows { (c : Trace) → StandsFor self.old c → length self.new.parts.throttle.admission.live + 1 ≤ length self.old.parts.throttle.admission.live + need_of c e.now.act }
         ensures lawful { (c : Trace) → StandsFor self.new c → IsLawful self.new.spec c }
@@ -102,6 +111,7 @@ impl Revision {
     {
         history_laws();
         step_laws();
+        part_laws();
         size_laws();
         count_laws();
         entry_laws();
@@ -124,6 +134,7 @@ impl Revision {
         requires limit { IsWithinRange e.now.act }
         ensures logged { (c : Trace) → StandsFor self.old c → log.new ≡ react self.old.spec c e.now }
         ensures stands { (c : Trace) → StandsFor self.old c → StandsFor self.new (c ++ react self.old.spec c e.now) }
+        ensures at { EachAt e.now.time log.new }
         ensures few { length log.new ≤ 41005 }
         ensures spec { self.new.spec ≡ self.old.spec }
         ensures start { self.new.start ≡ self.old.start }

@@ -1,4 +1,4 @@
-ghost use Rattle.std.specs.Prelude.{◌≡◌, ℕ, ◌*◌, ◌+◌, ◌^◌, ◌<◌, ◌≤◌, Option, None, Some, option_map, IfNone, IfOk, IfSome};
+ghost use Rattle.std.specs.Prelude.{◌≡◌, ℕ, ◌^◌, ◌<◌, ◌≤◌, Option, None, Some, option_map, IfNone, IfOk, IfSome};
 ghost use Rattle.kn_event.specs.declared.revision.Kind.TheVariants as kind;
 ghost use Rattle.kn_scaling.specs.Average.{IsAverage, Samples, second_of};
 ghost use Rattle.kn_scaling.specs.Burst.{is_activating};
@@ -25,7 +25,6 @@ use std::marker::Model;
 ///
 /// Contracts say for which past it stands, up to a second: it has the samples of the seconds below that one. Seconds and
 /// times that are handed to it never fall; times are in milliseconds, and at most 500 pods are Ready.
-#[derive(Drop)]
 pub struct Decider {
     spec: Spec,
     stable: Window,
@@ -34,6 +33,20 @@ pub struct Decider {
     delay: Delay,
     zero: Zero,
     reached: bool,
+}
+
+impl Drop for Decider {
+    fn drop(self) {
+        let Decider {
+            spec: _,
+            stable: _,
+            panic_window: _,
+            panic: _,
+            delay: _,
+            zero: _,
+            reached: _,
+        } = self;
+    }
 }
 
 impl Model for Decider {

@@ -1,13 +1,12 @@
 //! A body in chunks.
 ghost use Rattle.std.specs.Prelude.{◌≡◌, ℕ, ◌≤◌, ◌<◌, List, ◌∷◌, ◌++◌, length, Option, vec_len, true, false, Ok, IfOk, IfErr, IfSome, IfNone, OnOk};
-ghost use Rattle.std.specs.Io.KnownBytes.{Keeps};
-ghost use Rattle.httparse.specs.Grammar.{ChunkLine, Field, LineEnd, ReadsSection};
+ghost use Rattle.httparse.specs.Grammar.{ChunkLine, Field, LineEnd};
 ghost use Rattle.httparse.specs.Spans.{IsChunkLineAt, IsSectionAt};
 ghost use Rattle.kn_io.specs.Causes.{Rose};
 ghost use Rattle.kn_head.specs.Told.{unread, IfTold, Draws, Stops};
 ghost use Rattle.kn_head.specs.Heads.{room, limit};
 ghost use Rattle.kn_head.specs.Rules.{body_limit};
-ghost use Rattle.kn_head.specs.Chunks.{size_limit, IsSizeLine, IsTrailer, SizeRefused, IsUnfinishedSize, SizeFails, TrailerRefused, IsUnfinishedTrailer, TrailerFails, BytesFail, line_end_at, LineEndFails, TakesChunk, EndsChunks, IsChunked, ChunksFail};
+ghost use Rattle.kn_head.specs.Chunks.{IsSizeLine, IsTrailer, SizeRefused, IsUnfinishedSize, SizeFails, TrailerRefused, IsUnfinishedTrailer, TrailerFails, BytesFail, line_end_at, LineEndFails, TakesChunk, EndsChunks, IsChunked, ChunksFail};
 
 use crate::head::HeadError;
 use crate::lines::line_feeds;

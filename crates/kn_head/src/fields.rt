@@ -1,5 +1,5 @@
 //! Fields of a head by their names.
-ghost use Rattle.std.specs.Prelude.{◌≡◌, ◌||◌, IsTrue, bytes_eq};
+ghost use Rattle.std.specs.Prelude.{◌≡◌, ◌||◌, IsTrue};
 ghost use Rattle.http_header.specs.FieldName.{is_header_name};
 ghost use Rattle.kn_head.specs.Fields.{has_name, hop_names, chunk_names, is_among};
 

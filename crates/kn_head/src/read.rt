@@ -1,5 +1,5 @@
 //! A whole request, read from a stream.
-ghost use Rattle.std.specs.Prelude.{◌≡◌, ◌≤◌, List, IfOk, IfErr, IfSome, Err, OnOk};
+ghost use Rattle.std.specs.Prelude.{◌≡◌, ◌≤◌, IfOk, IfErr, IfSome, Err};
 ghost use Rattle.kn_io.specs.Causes.{Rose};
 ghost use Rattle.kn_head.specs.Told.{unread, IfTold, LosesFront, Draws};
 ghost use Rattle.kn_head.specs.Chunks.{BytesFail};

@@ -1,11 +1,11 @@
 //! What the fields of a head settle: whose request it is, and how its body comes.
-ghost use Rattle.std.specs.Prelude.{◌≡◌, ◌≢◌, ◌≤◌, true, false, ◌++◌, ◌∷◌, [], ℕ, List, IsTrue, IfOk, codes, None, Some, Err, MatchOption, if◌then◌else◌};
+ghost use Rattle.std.specs.Prelude.{◌≡◌, ◌≢◌, true, ◌++◌, ◌∷◌, [], ℕ, List, IsTrue, None, Some, Err, MatchOption};
 ghost use Rattle.std.specs.List.{list_all};
 ghost use Rattle.std.specs.Char.{is_ascii_digit};
 ghost use Rattle.std.specs.Str.Parse.{digits_value};
 ghost use Rattle.http_header.specs.FieldName.{is_header_name};
 ghost use Rattle.kn_head.specs.Fields.{values_named};
-ghost use Rattle.kn_head.specs.Rules.{is_length, sized, form_by_length, form_by_coding, form_of, owner_of, AreValues};
+ghost use Rattle.kn_head.specs.Rules.{is_length, form_by_length, form_by_coding, form_of, owner_of, AreValues};
 
 use crate::fields::is_named;
 use crate::head::{HeadError, Headers};

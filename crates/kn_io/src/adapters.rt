@@ -1,6 +1,6 @@
 //! Readers and writers of std as sources and sinks. They tell the content that std tells of them: of standard
 //! input, output and error none.
-ghost use Rattle.std.specs.Prelude.{◌≡◌, ◌≤◌, ◌<◌, ℕ, None, Some, IfOk, MatchResult, length, take, drop};
+ghost use Rattle.std.specs.Prelude.{◌≡◌, ◌≤◌, ◌<◌, None, IfOk, MatchResult, length, take, drop};
 ghost use Rattle.std.specs.Io.KnownBytes.{Appends, Consumes, IsAtEnd, Keeps};
 ghost use Rattle.kn_io.specs.Causes.{Rose};
 

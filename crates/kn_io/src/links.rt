@@ -1,5 +1,5 @@
 //! Links to pods.
-ghost use Rattle.std.specs.Prelude.{◌≡◌, ◌≤◌, ℕ, Err, Option};
+ghost use Rattle.std.specs.Prelude.{◌≡◌, ◌≤◌, Err, Option};
 ghost use Rattle.kn_io.specs.Causes.{HasCause, Rose};
 ghost use Rattle.kn_io.specs.Links.{Link, Tells, called, probed};
 

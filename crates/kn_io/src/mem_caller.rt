@@ -1,5 +1,5 @@
 //! A caller in memory, whose connections are the inputs that it was given.
-ghost use Rattle.std.specs.Prelude.{◌≡◌, ◌≢◌, ◌↔◌, ◌⊎◌, ◌≤◌, ◌<◌, ◌+◌, ◌-◌, ◌^◌, ◌++◌, ◌∷◌, [], All, min, length, take, drop, None, Some, IsErr, IfOk, OnOk, OnErr, MatchResult, is_err, slice_get, vec_len, vec_capacity};
+ghost use Rattle.std.specs.Prelude.{◌≡◌, ◌↔◌, ◌⊎◌, ◌≤◌, ◌<◌, ◌+◌, ◌-◌, ◌^◌, ◌++◌, ◌∷◌, [], All, min, length, take, drop, None, Some, IsErr, IfOk, OnOk, OnErr, MatchResult, is_err, slice_get, vec_len, vec_capacity};
 ghost use Rattle.std.specs.Io.KnownBytes.{Appends, Consumes, IsAtEnd, Keeps};
 ghost use Rattle.kn_io.specs.Causes.{HasCause};
 ghost use Rattle.kn_io.specs.Callers.{Meets, followed};
@@ -18,7 +18,6 @@ use std::mem;
 
 /// A caller whose connections are the inputs that it was given, in turn. Each has a buffer of its own for what is
 /// written to it, so that nothing takes memory once it was made.
-#[derive(Drop)]
 pub struct MemCaller {
     met: Vec<Taken>,
     held: Vec<u8>,
@@ -30,6 +29,23 @@ pub struct MemCaller {
     room: usize,
     piece: u64,
     calls: Calls,
+}
+
+impl Drop for MemCaller {
+    fn drop(self) {
+        let MemCaller {
+            met: _,
+            held: _,
+            read: _,
+            coming: _,
+            buffers: _,
+            given: _,
+            written: _,
+            room: _,
+            piece: _,
+            calls: _,
+        } = self;
+    }
 }
 
 impl Model for MemCaller {

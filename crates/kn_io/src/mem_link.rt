@@ -19,13 +19,18 @@ const MOST_PROBES: usize = 4096;
 
 /// A link that answers its replies in turn, and true to each probe. It tells what was called and probed until it has no
 /// memory to record a call, or no room to record a probe.
-#[derive(Drop)]
 pub struct MemLink {
     replies: VecDeque<Text>,
     tells: bool,
     called: Vec<Call>,
     probed: Vec<Probe>,
     calls: Calls,
+}
+
+impl Drop for MemLink {
+    fn drop(self) {
+        let MemLink { replies: _, tells: _, called: _, probed: _, calls: _ } = self;
+    }
 }
 
 impl Model for MemLink {

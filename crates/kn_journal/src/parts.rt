@@ -1,9 +1,8 @@
 //! The parts of a journal, each read from the lines that come next.
-ghost use Rattle.std.specs.Prelude.{◌≡◌, ◌≢◌, ◌⊎◌, ◌+◌, ◌≤◌, ◌<◌, ◌↔◌, ℕ, [], ◌∷◌, ◌++◌, List, true, Err, Ok, None, Option, Some, Contains, IfOk, IfErr, IfSome, IsTrue, OnOk, codes, drop, length, take};
+ghost use Rattle.std.specs.Prelude.{◌≡◌, ◌≢◌, ◌⊎◌, ◌+◌, ◌≤◌, ◌<◌, ◌↔◌, ℕ, [], ◌∷◌, ◌++◌, List, true, Err, Ok, None, Option, Some, Contains, IfOk, IfErr, IfSome, IsTrue, OnOk, drop, length, take};
 ghost use Rattle.kn_event.specs.EventLine.{event_of, IsInJournalRange, IsInVersion};
-ghost use Rattle.kn_journal.specs.Causes.{Cause, error_of};
 ghost use Rattle.kn_journal.specs.Lines.{fits, line_most, lines};
-ghost use Rattle.kn_journal.specs.Reading.{Counts, TakesLine, TakesPart, TakesText, most_taken, unread};
+ghost use Rattle.kn_journal.specs.Reading.{TakesLine, TakesPart, TakesText, most_taken, unread};
 ghost use Rattle.kn_journal.specs.Drawing.{Draws, error_in};
 ghost use Rattle.kn_journal.specs.Telling.{IsCauseOf, IsEventFault, IsLineFault, Judges, Lacks, LeavesRest, OnEvent, TakesEnd, Tells};
 ghost use Rattle.kn_journal.specs.Journal.{first_part, in_time, next_part, nothing_part, start_line_in, start_of, start_part, time_most};

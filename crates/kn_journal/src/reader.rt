@@ -22,12 +22,17 @@ use std::marker::Model;
 ///
 /// Contracts see the input, the number of the line read last, whether the input said its end then, the version, the last time, and
 /// the error that was answered.
-#[derive(Drop)]
 pub struct JournalReader {
     lines: Lines,
     version: u64,
     last: u64,
     failed: Option<JournalError>,
+}
+
+impl Drop for JournalReader {
+    fn drop(self) {
+        let JournalReader { lines: _, version: _, last: _, failed: _ } = self;
+    }
 }
 
 impl Model for JournalReader {

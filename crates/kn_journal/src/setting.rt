@@ -1,5 +1,5 @@
 //! The first line of a setup.
-ghost use Rattle.std.specs.Prelude.{◌≡◌, ◌+◌, ◌≤◌, ℕ, List, ◌∷◌, Ok, Err, None, OnOk, IfOk, IfErr, IsTrue, IfNone, length, drop};
+ghost use Rattle.std.specs.Prelude.{◌≡◌, ◌+◌, ◌≤◌, List, ◌∷◌, Ok, Err, None, OnOk, IfOk, IfErr, length, drop};
 ghost use Rattle.kn_event.specs.Fields.{fields, fields_behind};
 ghost use Rattle.kn_journal.specs.SetupLine.{fixed_from, fixed_settings, is_in_range, IsSetupLine, kpa_from, kpa_settings, least_of, most_of, numbers_due, placed_due, range_fault, setting_number, setting_text, setup_line, with_placed};
 

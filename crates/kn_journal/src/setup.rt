@@ -7,7 +7,7 @@ ghost use Rattle.kn_journal.specs.Journal.{IsSetup, opening_part};
 ghost use Rattle.kn_journal.specs.Setup.{IsBlockText, ReadsBack, behind_line, block_part, blocks_part, blocks_text, revision_part, setup_of, setup_part, word_in, word_part};
 ghost use Rattle.kn_journal.specs.Lines.{ends_with_cr};
 ghost use Rattle.kn_journal.specs.SetupLine.{IsSetupLine};
-ghost use Rattle.kn_journal.specs.Reading.{TakesPart, TakesText, unread};
+ghost use Rattle.kn_journal.specs.Reading.{TakesText, unread};
 ghost use Rattle.kn_journal.specs.Drawing.{Draws, error_in};
 ghost use Rattle.kn_journal.specs.Telling.{IsLineFault, Judges, LeavesRest, StopsAmid, Tells, config_error, revision_error};
 

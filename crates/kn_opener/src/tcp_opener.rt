@@ -1,5 +1,5 @@
 //! What listens for clients, and reaches pods over TCP.
-ghost use Rattle.std.specs.Prelude.{◌≡◌, ◌≤◌, [], All, OnOk, length};
+ghost use Rattle.std.specs.Prelude.{◌≡◌, [], All, OnOk, length};
 ghost use Rattle.kn_serve.specs.Opening.{IsEmptyWork};
 
 use kn_event::{Items, Memory, Text};

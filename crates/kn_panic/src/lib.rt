@@ -1,7 +1,7 @@
 //! Panic mode: one moment and one greatest count in place of all decisions.
 #![tactic(auto)]
 
-ghost use Rattle.std.specs.Prelude.{◌≡◌, List, [], ◌∷◌, max, if◌then◌else◌};
+ghost use Rattle.std.specs.Prelude.{◌≡◌, List, [], ◌∷◌, if◌then◌else◌};
 ghost use Rattle.kn_scaling.specs.declared.panic.Judged.{Judged};
 ghost use Rattle.kn_scaling.specs.Panic.{greatest_after, is_panicking, undelayed_count};
 ghost use Rattle.kn_panic.specs.Stands.{StandsFor, is_moment_within, judged_by, moment_after};

@@ -1,5 +1,5 @@
 //! What further entries change of what decisions look back on.
-ghost use Rattle.std.specs.Prelude.{◌≡◌, ℕ, Bool, true, false, ◌+◌, ◌++◌, ◌||◌, nat_le, List, [], ◌∷◌, length, map, take, option_map, unwrap_or};
+ghost use Rattle.std.specs.Prelude.{◌≡◌, true, false, ◌+◌, ◌++◌, ◌||◌, nat_le, [], ◌∷◌, length, map, take, unwrap_or};
 ghost use Rattle.std.specs.List.{filter_map, list_any, range_with_len};
 ghost use Rattle.std.specs.Option.{option_or, option_to_list};
 ghost use Rattle.kn_event.specs.declared.entry.Entry.{Entry};

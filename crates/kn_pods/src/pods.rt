@@ -1,4 +1,4 @@
-ghost use Rattle.std.specs.Prelude.{◌≡◌, ℕ, true, ◌+◌, ◌*◌, ◌^◌, ◌<◌, ◌≤◌, ◌++◌, nat_le, find, [], ◌∷◌, length, take, IfOk, Some, if◌then◌else◌};
+ghost use Rattle.std.specs.Prelude.{◌≡◌, ℕ, true, ◌+◌, ◌^◌, ◌<◌, ◌≤◌, ◌++◌, nat_le, find, [], ◌∷◌, length, take, IfOk, Some, if◌then◌else◌};
 ghost use Rattle.kn_event.specs.declared.entry.Row.TheVariants as row;
 ghost use Rattle.kn_event.specs.declared.event.Act.TheVariants as act;
 ghost use Rattle.kn_event.specs.declared.revision.Spec.{Spec};
@@ -29,12 +29,17 @@ pub enum PodAnswer {
 ///
 /// Contracts see the numbers of the Starting, the Ready and the draining pods, each list ascending, and say for which traces
 /// they stand. A pod's limit is at most 1,000, and 0 is no limit; it goes into the row and is not kept.
-#[derive(Drop)]
 pub struct Pods {
     created: u64,
     starting: Numbers,
     ready: Numbers,
     draining: Numbers,
+}
+
+impl Drop for Pods {
+    fn drop(self) {
+        let Pods { created: _, starting: _, ready: _, draining: _ } = self;
+    }
 }
 
 impl Model for Pods {

@@ -1,5 +1,5 @@
 //! The row of a decision, written in place.
-ghost use Rattle.std.specs.Prelude.{◌≡◌, ◌+◌, ◌≤◌, ◌++◌, ◌∷◌, [], codes, length, take};
+ghost use Rattle.std.specs.Prelude.{◌≡◌, ◌+◌, ◌≤◌, ◌++◌, [], codes, length, take};
 ghost use Rattle.std.specs.Fmt.{decimal, signed_decimal};
 ghost use Rattle.kn_event.specs.EntryLine.{averages_text, decision_text, demand_text, effect_text, frac_text, labelled, mode_word, scale_text, yes_no};
 

@@ -1,5 +1,5 @@
 //! A journal that is replayed, event after event.
-ghost use Rattle.std.specs.Prelude.{◌≡◌, ◌≢◌, ◌⊎◌, ◌+◌, ◌-◌, ◌*◌, ◌<◌, ◌≤◌, ◌^◌, [], ◌++◌, length, Err, IfOk, IfErr, OnOk, OnErr, None, Some, false, true};
+ghost use Rattle.std.specs.Prelude.{◌≡◌, ◌≢◌, ◌⊎◌, ◌+◌, ◌-◌, ◌<◌, ◌≤◌, ◌^◌, [], ◌++◌, length, Err, IfOk, IfErr, OnOk, OnErr, None, Some, false};
 ghost use Rattle.kn_io.specs.Causes.{HasCause, Rose};
 ghost use Rattle.kn_io.specs.Prefix.{AppendsPrefix};
 ghost use Rattle.kn_event.specs.EventLine.{IsInJournalRange};
@@ -40,13 +40,18 @@ pub fn status_of(error: JournalError) -> Status
 }
 
 /// A revision that is replayed, with the counts of its entries, those of the last event, and the rows that wait.
-#[derive(Drop)]
 pub struct Replay {
     revision: Revision,
     tally: Tally,
     log: EntryLog,
     line: Line,
     waiting: Waiting,
+}
+
+impl Drop for Replay {
+    fn drop(self) {
+        let Replay { revision: _, tally: _, log: _, line: _, waiting: _ } = self;
+    }
 }
 
 impl Model for Replay {

@@ -1,5 +1,5 @@
 //! One request, from its arrival to what is to be answered.
-ghost use Rattle.std.specs.Prelude.{◌≡◌, ◌≤◌, ◌+◌, ◌^◌, ℕ, List};
+ghost use Rattle.std.specs.Prelude.{◌≡◌, ◌≤◌, ◌+◌, ◌^◌};
 ghost use Rattle.kn_cell.specs.Shown.{Looks};
 ghost use Rattle.kn_head.specs.declared.head.Head.{Head as HeadValue};
 ghost use Rattle.kn_request.specs.Answers.{AreForms};

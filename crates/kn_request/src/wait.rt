@@ -1,5 +1,5 @@
 //! A request waits, until it runs or has ended.
-ghost use Rattle.std.specs.Prelude.{◌≡◌, ◌≤◌, ℕ, IfSome, IfNone};
+ghost use Rattle.std.specs.Prelude.{◌≡◌, ◌≤◌, IfSome, IfNone};
 ghost use Rattle.kn_event.specs.declared.event.Stand.TheVariants as stand;
 ghost use Rattle.kn_cell.specs.Shown.{Looks};
 ghost use Rattle.kn_request.specs.Sight.{StandsAt, IsKnown, IsLeft, IsAlone, IsOwn};

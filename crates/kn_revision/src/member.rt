@@ -1,5 +1,5 @@
 //! The members of a Revision that are no annotations.
-ghost use Rattle.std.specs.Prelude.{◌≡◌, ◌≤◌, IfOk, IsTrue, MatchResult, option_map, Ok, Err, codes};
+ghost use Rattle.std.specs.Prelude.{◌≡◌, IfOk, IsTrue, MatchResult, option_map, Ok, Err, codes};
 ghost use Rattle.std.specs.List.{list_all};
 ghost use Rattle.kn_event.specs.Ranges.{is_name, is_name_byte};
 ghost use Rattle.serde_json.specs.View.{view};

@@ -71,10 +71,15 @@ fn ruling_of(decision: Decision, phase: Phase, mode: Mode, decider: &Decider) ->
 ///
 /// Contracts say for which traces it stands, up to the time of the last advance. Times are in milliseconds, at most 2^42,
 /// and never fall; at most 500 pods are Ready.
-#[derive(Drop)]
 pub struct Scaler {
     stats: Stats,
     decider: Decider,
+}
+
+impl Drop for Scaler {
+    fn drop(self) {
+        let Scaler { stats: _, decider: _ } = self;
+    }
 }
 
 impl Model for Scaler {

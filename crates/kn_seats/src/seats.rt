@@ -20,13 +20,18 @@ pub struct Freed {
 /// Contracts see the list of the pods in the order of their numbers, and both rooms. A pod limit is at most 1,000.
 /// Each call but `new` and `add` names a pod that is there, and none but `new` takes memory. Each says how many
 /// requests are at pods afterwards, since room left is a condition of `reserve_seat` and `queue_at`.
-#[derive(Drop)]
 pub struct Seats {
     pods: Vec<Tracker>,
     hints: PlaceHints,
     cells: Cells,
     pod_room: u64,
     request_room: u64,
+}
+
+impl Drop for Seats {
+    fn drop(self) {
+        let Seats { pods: _, hints: _, cells: _, pod_room: _, request_room: _ } = self;
+    }
 }
 
 impl Model for Seats {

@@ -15,7 +15,7 @@ pub struct Tracker {
 
 impl Tracker {
     ghost use Rattle.kn_seats.specs.declared.cells.Cells.{Cells};
-    ghost use Rattle.kn_seats.specs.Pods.{idle_pod, has_free_seat, is_full};
+    ghost use Rattle.kn_seats.specs.Pods.{has_free_seat, is_full};
     ghost use Rattle.kn_seats.specs.Kept.{seen};
 
     /// A pod without requests.

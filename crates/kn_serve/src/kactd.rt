@@ -1,5 +1,5 @@
 //! The top call of `kactd`: its words, its opening, and a session.
-ghost use Rattle.std.specs.Prelude.{◌≡◌, ◌⊎◌, ◌≤◌, ◌+◌, ℕ, [], None, Some, false, length, map, slice_index_or, string_bytes};
+ghost use Rattle.std.specs.Prelude.{◌≡◌, ◌⊎◌, ◌≤◌, ◌+◌, [], None, Some, false, length, map, slice_index_or, string_bytes};
 ghost use Rattle.kn_io.specs.Causes.{Rose};
 ghost use Rattle.kn_journal.specs.Reading.{most_taken};
 ghost use Rattle.kn_replay.specs.Replaying.{Tells};

@@ -1,5 +1,5 @@
 //! What makes the slots and the keeper that a plan asks for.
-ghost use Rattle.std.specs.Prelude.{◌≡◌, ◌≤◌, List, [], Option, None, Err, false, All, OnOk, OnErr, IfSome, length};
+ghost use Rattle.std.specs.Prelude.{◌≡◌, ◌≤◌, List, [], Option, None, Err, All, OnOk, OnErr};
 ghost use Rattle.kn_io.specs.Causes.{Rose};
 ghost use Rattle.kn_plan.specs.declared.plan.Plan.{Plan as PlanValue};
 ghost use Rattle.kn_request.specs.declared.slot.Slot.{Slot as SlotValue};

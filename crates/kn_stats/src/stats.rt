@@ -21,7 +21,6 @@ pub struct PodArea {
 }
 
 /// The changes up to now, as far as later seconds need them. Contracts say for which list of changes it stands.
-#[derive(Drop)]
 pub struct Stats {
     metric: Metric,
     clock: Clock,
@@ -31,6 +30,21 @@ pub struct Stats {
     arrived: u64,
     pods: Vec<PodTally>,
     hints: PlaceHints,
+}
+
+impl Drop for Stats {
+    fn drop(self) {
+        let Stats {
+            metric: _,
+            clock: _,
+            waiting: _,
+            activator: _,
+            direct: _,
+            arrived: _,
+            pods: _,
+            hints: _,
+        } = self;
+    }
 }
 
 impl Model for Stats {

@@ -25,12 +25,17 @@ const ROOM: usize = 40_000;
 ///
 /// A request that ended leaves its slot with a mark. All these are swept out once no slot is left, which happens after at
 /// least 20,000 ends.
-#[derive(Drop)]
 pub struct Table {
     slots: Vec<Slot>,
     hints: Hints,
     live: u64,
     cursors: Cursors,
+}
+
+impl Drop for Table {
+    fn drop(self) {
+        let Table { slots: _, hints: _, live: _, cursors: _ } = self;
+    }
 }
 
 impl Model for Table {

@@ -15,7 +15,6 @@ use std::marker::Model;
 /// Room for 20,500 candidates, taken once. Contracts see the list of them, which callers keep in the order of their pods'
 /// numbers. Each has a mark, which says whether it has a free seat, and what they add up to is kept, and a place before which
 /// none has one, so that no pick and no change walks over all.
-#[derive(Drop)]
 pub struct Candidates {
     cands: Vec<Cand>,
     hints: PlaceHints,
@@ -24,6 +23,20 @@ pub struct Candidates {
     low: usize,
     limits: u128,
     unlimited: usize,
+}
+
+impl Drop for Candidates {
+    fn drop(self) {
+        let Candidates {
+            cands: _,
+            hints: _,
+            marks: _,
+            free: _,
+            low: _,
+            limits: _,
+            unlimited: _,
+        } = self;
+    }
 }
 
 impl Model for Candidates {

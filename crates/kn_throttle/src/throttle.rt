@@ -1,7 +1,7 @@
 //! The throttler: what it keeps, and what it answers about it.
-ghost use Rattle.std.specs.Prelude.{◌≡◌, ℕ, IfOk, true, length};
+ghost use Rattle.std.specs.Prelude.{◌≡◌, IfOk, true, length};
 ghost use Rattle.kn_event.specs.declared.revision.Spec.{Spec};
-ghost use Rattle.kn_trace.specs.Trace.{Trace, contains, first_of, live_pods, proxied, stand_of};
+ghost use Rattle.kn_trace.specs.Trace.{Trace, contains, first_of, proxied, stand_of};
 ghost use Rattle.kn_trace.specs.Events.{due, lost_with};
 ghost use Rattle.kn_record.specs.Admission.{is_assigned_place, is_at, nothing_yet, placed_in};
 ghost use Rattle.kn_record.specs.Made.{StandsFor};
@@ -34,7 +34,6 @@ use std::marker::Model;
 /// Contracts see the revision's specification and the record of requests and pods, which stands for the trace of the entries
 /// so far. Each call says which row it adds, for every trace that the record stands for. Times are in milliseconds and never
 /// fall. Only `new` takes memory.
-#[derive(Drop)]
 pub struct Throttle {
     spec: Spec,
     table: Table,
@@ -49,6 +48,26 @@ pub struct Throttle {
     created: u64,
     assignments: u64,
     turn: u64,
+}
+
+impl Drop for Throttle {
+    fn drop(self) {
+        let Throttle {
+            spec: _,
+            table: _,
+            pods: _,
+            seats: _,
+            candidates: _,
+            breaker: _,
+            policy: _,
+            to_run: _,
+            to_leave: _,
+            arrivals: _,
+            created: _,
+            assignments: _,
+            turn: _,
+        } = self;
+    }
 }
 
 impl Model for Throttle {

@@ -1,5 +1,5 @@
 //! What the zero rule reads of a specification, and the rule by these alone.
-ghost use Rattle.std.specs.Prelude.{◌≡◌, max, ◌&&◌, ◌||◌};
+ghost use Rattle.std.specs.Prelude.{◌≡◌, ◌&&◌, ◌||◌};
 ghost use Rattle.kn_event.specs.declared.revision.Spec.{Spec as Parts};
 ghost use Rattle.kn_scaling.specs.Zero.{has_lasted, is_proxy, may_go, no_pods, some_pods, zero_rule, zero_rule_in};
 ghost use Rattle.kn_zero.specs.Zero.{settings_of};

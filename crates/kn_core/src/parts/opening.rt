@@ -1,5 +1,5 @@
 //! What a revision opens with.
-ghost use Rattle.std.specs.Prelude.{◌≡◌, ℕ, ◌+◌, ◌<◌, ◌≤◌, ◌^◌, [], ◌++◌, length, IfOk, OnOk, OnErr};
+ghost use Rattle.std.specs.Prelude.{◌≡◌, ◌+◌, ◌<◌, ◌≤◌, ◌^◌, [], ◌++◌, length, IfOk, OnOk, OnErr};
 ghost use Rattle.kn_event.specs.Revision.{AreInRange};
 ghost use Rattle.kn_event.specs.declared.revision.Spec.{Spec as SpecValue};
 ghost use Rattle.kn_trace.specs.Events.{opening, opening_phase};

@@ -1,7 +1,10 @@
-use Rattle.std.proofs.Common.{arith}
+use Rattle.std.proofs.Common.{List, arith, subst, sym}
+use Rattle.kn_event.specs.declared.entry.Entry.{Entry}
 use Rattle.kn_trace.specs.Events.{opening}
+use Rattle.kn_laws.specs.Kinds.{EachAt}
 use Rattle.kn_core.proofs.Runs.{at_least}
 use Rattle.kn_core.proofs.Refused.{leaves_all}
+use Rattle.kn_core.proofs.Times.{opening_then}
 use Rattle.kn_core.proofs.revision.Revision.new.Goals as goal
 
 pub returns-clause-stands : goal.returns-clause-stands
@@ -30,3 +33,6 @@ returns-clause-inert c = λ d e h. c.history_laws.ensures.inert _ _ _ _ d e h.ev
 
 pub returns-clause-beside : goal.returns-clause-beside
 returns-clause-beside c = λ d e h. leaves_all c.step_laws.ensures.answers c.step_laws.ensures.beside _ d e h.parts.made (c.history_laws.ensures.settled _ _ _ _ d h.events)
+
+pub returns-clause-at : goal.returns-clause-at
+returns-clause-at c = subst (λ (es : List Entry). EachAt c.args.start es) (sym c.in_ok-parts.ensures.logged) (opening_then c.args.spec c.args.start)

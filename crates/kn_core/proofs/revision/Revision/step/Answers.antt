@@ -6,6 +6,7 @@ use Rattle.kn_trace.specs.Events.{react}
 use Rattle.kn_core.proofs.Live.{few_live, live_same, timed_later}
 use Rattle.kn_core.proofs.Runs.{at_least, few_arrivals, measured_later, parts_of_settled, parts_of_some}
 use Rattle.kn_core.proofs.Refused.{leaves_all}
+use Rattle.kn_core.proofs.Times.{each_prop}
 use Rattle.kn_core.proofs.revision.Revision.step.Goals as goal
 
 pub react-requires-clause-some : goal.react-requires-clause-some
@@ -93,3 +94,9 @@ returns-clause-few c = ∥∥₁_elim c.self.invariant.some le_prop (λ h.
 
 pub returns-clause-beside : goal.returns-clause-beside
 returns-clause-beside c = λ d e h. leaves_all c.step_laws.ensures.answers c.step_laws.ensures.beside _ d e h.parts.made (c.history_laws.ensures.settled _ _ _ _ d h.events)
+
+pub returns-clause-at : goal.returns-clause-at
+returns-clause-at c = ∥∥₁_elim c.self.invariant.some (each_prop _ _) (λ h.
+    let s = c.self.inside.spec in
+    let e = c.args.e.now in
+    rw (c.react.ensures.logged s h.0 h.1.parts (c.history_laws.ensures.settled _ _ _ _ h.0 h.1.events)) (c.part_laws.ensures.rows.react-at s h.0 e))
