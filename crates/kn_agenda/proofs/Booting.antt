@@ -156,7 +156,7 @@ module _ (facts : Facts) (parts : PartFacts) where
   ready_row s c p h = rw (starting_live c p h, starting_is c p h) refl
 
   -- a starting pod that is ready was made so by the event
-  readied : (s : Spec) (c : Trace) (e : Event) (p : ℕ) → e.act ≡ act.Ready p → contains p (starting_pods c) ≡ true → contains p (each_row readied_by (react s c e)) ≡ true
+  pub readied : (s : Spec) (c : Trace) (e : Event) (p : ℕ) → e.act ≡ act.Ready p → contains p (starting_pods c) ≡ true → contains p (each_row readied_by (react s c e)) ≡ true
   unfolding react before_settling act_rows
   readied s c e p is h =
       let gone = departures s c e in

@@ -22,7 +22,7 @@ use Rattle.kn_agenda.proofs.Keeping.{begun_parts}
 use Rattle.kn_agenda.proofs.Readies.{happened}
 use Rattle.kn_agenda.proofs.Said.{said_less}
 
-three_false : (a b d e : Bool) → (a && (not b && not d && not e)) ≡ true → (a ≡ true) × (b ≡ false) × (d ≡ false) × (e ≡ false)
+pub three_false : (a b d e : Bool) → (a && (not b && not d && not e)) ≡ true → (a ≡ true) × (b ≡ false) × (d ≡ false) × (e ≡ false)
 three_false true false false false h = (refl, refl, refl, refl)
 three_false true true d e h = absurd (cc)
 three_false true false true e h = absurd (cc)

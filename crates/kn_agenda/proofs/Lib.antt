@@ -15,3 +15,9 @@ mod Making
 mod Opening
 mod Unique
 mod Ending
+mod Spoken
+mod Serving
+mod Expiring
+mod Courses
+mod Arriving
+mod Once

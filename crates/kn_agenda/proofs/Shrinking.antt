@@ -31,7 +31,7 @@ pub record HasSizes (w : Workload) (c : Trace) : Type 0 where
 plain_finish : (a : Act) (r : ℕ) → a ≡ act.Finish r true → IsNoScaling a
 plain_finish a r is = (λ arrival. (let other : act.Finish r true ≡ act.Arrive arrival.0 = sym is ∙ arrival.1 in cc), λ tick. (let other : act.Finish r true ≡ act.Tick = sym is ∙ tick in cc))
 
-plain_pass : (a : Act) → a ≡ act.Pass → IsNoScaling a
+pub plain_pass : (a : Act) → a ≡ act.Pass → IsNoScaling a
 plain_pass a is = (λ arrival. (let other : act.Pass ≡ act.Arrive arrival.0 = sym is ∙ arrival.1 in cc), λ tick. (let other : act.Pass ≡ act.Tick = sym is ∙ tick in cc))
 
 module _ (facts : Facts) (parts : PartFacts) where

@@ -66,13 +66,13 @@ pub so_far_more : (w : Workload) (es : List Event) (e : Event) → GoesOn w.spec
 unfolding added
 so_far_more w es e goes = goes ∙ ap (λ (xs : Trace). so_far w es ++ xs) (append-nil (react w.spec (so_far w es) e))
 
-job_within : (jobs : List Job) (r : ℕ) (j : Job) → slice_get jobs r ≡ Some j → r < length jobs
+pub job_within : (jobs : List Job) (r : ℕ) (j : Job) → slice_get jobs r ≡ Some j → r < length jobs
 job_within [] r j h = absurd (cc)
 job_within (x ∷ jobs) zero j h = omega arith
 job_within (x ∷ jobs) (suc r) j h = let more = job_within jobs r j h in omega arith
 
 -- what kind of event it is
-no_arrival : (w : Workload) (x : Item) → (x.kind ≡ Arrives → ⊥) → IsArrival (event_of w x).act → ⊥
+pub no_arrival : (w : Workload) (x : Item) → (x.kind ≡ Arrives → ⊥) → IsArrival (event_of w x).act → ⊥
 no_arrival w x other h = by x.kind refl h
   where
     by : (k : Kind) → x.kind ≡ k → IsArrival (event_of w x).act → ⊥
@@ -96,7 +96,7 @@ ticks_none w x other = by x.kind refl
     by Ticks is = absurd (other is)
 
 -- which kind it is
-is_kind : (x k : Kind) → (x ≡ k) ⊎ (x ≡ k → ⊥)
+pub is_kind : (x k : Kind) → (x ≡ k) ⊎ (x ≡ k → ⊥)
 is_kind Finishes Finishes = inl refl
 is_kind Readies Readies = inl refl
 is_kind Passes Passes = inl refl

@@ -6,3 +6,4 @@ pub mod Kinds
 pub mod Keeps
 pub mod Runs
 pub mod Schedule
+pub mod Course

@@ -1,10 +1,12 @@
 //! Laws of what is due, over one event more.
-ghost use Rattle.std.specs.Prelude.{◌≡◌, ◌⊎◌, ℕ, ◌≤◌, ◌<◌, ◌++◌, ◌∷◌, [], List, length};
+ghost use Rattle.std.specs.Prelude.{◌≡◌, ◌⊎◌, ℕ, ◌+◌, ◌≤◌, ◌<◌, ◌++◌, ◌∷◌, [], Bool, true, List, length, map, slice_get, Some};
+ghost use Rattle.std.specs.List.{filter};
 ghost use Rattle.kn_event.specs.Revision.{AreInRange};
+ghost use Rattle.kn_event.specs.declared.event.Act.TheVariants as act;
 ghost use Rattle.kn_event.specs.declared.event.Event.{Event};
 ghost use Rattle.kn_event.specs.declared.revision.Spec.{Spec};
 ghost use Rattle.kn_trace.specs.Events.{react};
-ghost use Rattle.kn_trace.specs.Trace.{Trace, arrivals};
+ghost use Rattle.kn_trace.specs.Trace.{Trace, arrivals, contains, starting_pods, waiting};
 ghost use Rattle.kn_laws.specs.ByAct.{IsArrival};
 ghost use Rattle.kn_record.specs.Made.{IsMade};
 ghost use Rattle.kn_agenda.specs.declared.job.Job.{Job};
@@ -12,7 +14,8 @@ ghost use Rattle.kn_agenda.specs.declared.item.Item.{Item};
 ghost use Rattle.kn_agenda.specs.declared.item.Kind.{Kind};
 ghost use Rattle.kn_agenda.specs.declared.item.Kind.TheVariants as kind;
 ghost use Rattle.kn_agenda.specs.Workload.{IsWorkload, Workload};
-ghost use Rattle.kn_agenda.specs.Due.{AreNext, IsDue, IsDueAt, IsFront, IsNext, IsOver, IsSchedule, event_of, ticks_of};
+ghost use Rattle.kn_agenda.specs.Course.{arrive_of, ended_at, expired_at, is_arrival, is_pass, readied_at};
+ghost use Rattle.kn_agenda.specs.Due.{AreNext, IsAfter, IsDone, IsDue, IsDueAt, IsFront, IsNext, IsOver, IsSchedule, begun_at, created_at, event_of, taken_at, ticks_of};
 ghost use Rattle.kn_agenda.specs.Runs.{ComeByJobs, IsByNextJob, Runs, Shrinks, so_far};
 
 use kn_laws::laws::{history_laws, trace_laws};
@@ -78,5 +81,35 @@ pub fn schedule_laws()
     part_laws();
     history_laws();
     size_laws();
+    next_laws();
+}
+
+/// What a workload's events do to its requests and pods. Every job arrives once, in order and at its time, and nobody else does.
+///
+/// A request that has begun ends when its job's service is over, no sooner and no later; at the end of a schedule each has done so,
+/// or would have ended after it. Who expires does so when its timeout is over, and nobody waits longer. A pod is ready when it has
+/// booted, and one that still starts at the end would have done so after it. No request is finished twice, no pod is made ready
+/// twice, and passes are no more than arrivals.
+pub fn service_laws()
+    ensures arrive { (w : Workload) (es : List Event) → IsWorkload w → IsSchedule w es → filter is_arrival es ≡ map arrive_of w.jobs }
+    ensures serve { (w : Workload) (es : List Event) (r b : ℕ) → IsWorkload w → IsSchedule w es → begun_at (so_far w es) r ≡ Some b → (j : Job) × (slice_get w.jobs r ≡ Some j) × ((ended_at (so_far w es) r ≡ Some (b + j.service)) ⊎ (w.until < b + j.service)) }
+    ensures done { (w : Workload) (es : List Event) (r b t : ℕ) → AreNext w es → begun_at (so_far w es) r ≡ Some b → ended_at (so_far w es) r ≡ Some t → IsDone w.jobs (so_far w es) r t }
+    ensures expire { (w : Workload) (es : List Event) (r b t : ℕ) → AreNext w es → taken_at (so_far w es) r ≡ Some b → expired_at (so_far w es) r ≡ Some t → t ≡ b + w.spec.timeout_ms }
+    ensures wait { (w : Workload) (es : List Event) (r b : ℕ) → IsSchedule w es → contains r (waiting (so_far w es)) ≡ true → taken_at (so_far w es) r ≡ Some b → w.until < b + w.spec.timeout_ms }
+    ensures ready { (w : Workload) (es : List Event) (p t : ℕ) → AreNext w es → readied_at (so_far w es) p ≡ Some t → IsAfter w.boot (created_at (so_far w es) p) t }
+    ensures boot { (w : Workload) (es : List Event) (p b : ℕ) → IsSchedule w es → contains p (starting_pods (so_far w es)) ≡ true → created_at (so_far w es) p ≡ Some b → w.until < b + w.boot }
+    ensures finish_once { (w : Workload) (es before : List Event) (e : Event) (mid : List Event) (f : Event) (rest : List Event) (r : ℕ) (g h : Bool) → AreNext w es → es ≡ before ++ e ∷ mid ++ f ∷ rest → e.act ≡ act.Finish r g → f.act ≡ act.Finish r h → ⊥ }
+    ensures ready_once { (w : Workload) (es before : List Event) (e : Event) (mid : List Event) (f : Event) (rest : List Event) (p : ℕ) → AreNext w es → es ≡ before ++ e ∷ mid ++ f ∷ rest → e.act ≡ act.Ready p → f.act ≡ act.Ready p → ⊥ }
+    ensures pass { (w : Workload) (es : List Event) → AreNext w es → length (filter is_pass es) ≤ arrivals (so_far w es) }
+{
+    fact_laws();
+    part_laws();
+    history_laws();
+    trace_laws();
+    size_laws();
+    growth_laws();
+    need_laws();
+    request_laws();
+    coming_laws();
     next_laws();
 }

@@ -11,6 +11,6 @@ mod workload;
 
 pub use item::{Item, Kind};
 pub use job::Job;
-pub use laws::schedule_laws;
+pub use laws::{schedule_laws, service_laws};
 pub use schedule::Schedule;
 pub use workload::WorkloadView;
