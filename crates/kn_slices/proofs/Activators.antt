@@ -1,5 +1,5 @@
 -- What an event does to an activator, as a group sees it.
-use Rattle.std.proofs.Common.{◌≡◌, ◌≤◌, ◌<◌, inl, inr, ℕ, suc, ◌+◌, max, Bool, true, false, List, [], ◌∷◌, ◌++◌, length, get_or, refl, ap, ◌∙◌, sym, subst, arith, ◌||◌, eq-eqb, cond}
+use Rattle.std.proofs.Common.{◌≡◌, ◌≤◌, ◌<◌, inl, inr, ℕ, suc, max, Bool, true, false, List, [], ◌∷◌, ◌++◌, length, get_or, refl, ap, ◌∙◌, sym, subst, arith, ◌||◌, eq-eqb, cond}
 use Rattle.std.specs.Prelude.{◌==◌, Some}
 use Rattle.std.specs.List.{All, find, range_with_len}
 use Rattle.std.proofs.Math.Logic.{∥∥₁_elim}
@@ -99,9 +99,9 @@ keeps_of pods e x y goes is other = record {
 
 limit_left : (pods : ℕ) (e : Event) (x y : RevisionState) → Goes pods e x y → IsActivator pods x → ((q n : ℕ) → e.act ≡ act.Limit q n → 1 ≤ n) → (q : ℕ) → q < pods → (a : Act) → e.act ≡ a → 1 ≤ limit_at q y
 limit_left pods e x y goes is some q low (act.Limit p n) e_is = elim (cases_eq q p) [
-    | inl same ↦ subst (λ k. 1 ≤ k) (sym (goes.here q n low (e_is ∙ ap (λ z. act.Limit z n) (sym same)))) (some p n e_is)
-    | inr other ↦ subst (λ k. 1 ≤ k) (sym (goes.others q low (λ m f. limits_apart p q n m other (sym e_is ∙ f)))) (is.limits q low)
-  ]
+  | inl same ↦ subst (λ k. 1 ≤ k) (sym (goes.here q n low (e_is ∙ ap (λ z. act.Limit z n) (sym same)))) (some p n e_is)
+  | inr other ↦ subst (λ k. 1 ≤ k) (sym (goes.others q low (λ m f. limits_apart p q n m other (sym e_is ∙ f)))) (is.limits q low)
+]
 limit_left pods e x y goes is some q low a e_is = subst (λ k. 1 ≤ k) (sym (goes.others q low (λ m f. let g = sym e_is ∙ f in absurd cc))) (is.limits q low)
 
 pub still_activator : (pods : ℕ) (e : Event) (x y : RevisionState) → Goes pods e x y → IsActivator pods x → y.spec ≡ x.spec → ((q n : ℕ) → e.act ≡ act.Limit q n → 1 ≤ n) → IsActivator pods y

@@ -1,19 +1,19 @@
 -- A group at its opening.
-use Rattle.std.proofs.Common.{◌≡◌, ◌≤◌, ◌<◌, ℕ, zero, suc, ◌+◌, Bool, true, false, not, max, List, [], ◌∷◌, length, get_or, map, refl, ap, ◌∙◌, sym, subst, arith, eq-eqb}
-use Rattle.std.specs.Prelude.{◌==◌, replicate, slice_index_or, if◌then◌else◌}
+use Rattle.std.proofs.Common.{◌≡◌, ◌≤◌, ◌<◌, ℕ, zero, suc, ◌+◌, Bool, false, not, max, List, [], ◌∷◌, ◌++◌, length, length-append, get_or, map, refl, ap, ◌∙◌, sym, subst, arith, eq-eqb, inl, inr}
+use Rattle.std.specs.Prelude.{replicate}
 use Rattle.std.specs.List.{range_with_len, sum_by}
-use Rattle.std.proofs.lemmas.List.{get_or-replicate, length-replicate}
+use Rattle.std.proofs.lemmas.List.{get_or-replicate, get_or_append_left, length-replicate}
+use Rattle.std.proofs.lemmas.Bool.{cases_eq}
+use Rattle.std.proofs.Math.Seq.{get_or-append_seam}
 use Rattle.std.proofs.lemmas.List.FromFn.{get_or-map-range_with_len, get_or-range_with_len, length-map-range_with_len, length-range_with_len, sum_by-map-range_with_len_more}
 use Rattle.kn_event.specs.FixedSpec.{fixed_spec}
 use Rattle.kn_event.specs.declared.revision.Kind.TheVariants as kind
 use Rattle.kn_event.specs.declared.revision.Slots.{Slots}
 use Rattle.kn_event.specs.declared.revision.Spec.{Spec}
 use Rattle.kn_trace.specs.Events.{opening}
-use Rattle.kn_trace.specs.Trace.{Trace}
 use Rattle.kn_core.specs.State.{RevisionState, StandsFor}
-use Rattle.kn_slices.specs.Activators.{AreFresh, AreMarked, AreOpened, IsActivator, IsGroupOf, IsKept, limit_at, openings_of, running_at, slices_of}
-use Rattle.kn_slices.specs.Group.{IsWithin}
-use Rattle.kn_slices.specs.Slices.{count_from, hold, slice_of, unset, unset_at}
+use Rattle.kn_slices.specs.Activators.{AreFresh, IsActivator, IsFresh, IsKept, limit_at, openings_of, running_at, slices_of}
+use Rattle.kn_slices.specs.Slices.{count_from, hold, slice_of, unset}
 use Rattle.kn_slices.specs.Traces.{AreTraces, clocks_of, specs_of}
 use Rattle.kn_slices.proofs.Alike.{sums_alike}
 use Rattle.kn_slices.proofs.Marks.{bit}
@@ -57,6 +57,24 @@ map_all f v (suc n) [] len same = absurd (omega (arith, len))
 map_all f v zero (x ∷ xs) len same = absurd (omega (arith, len))
 map_all f v (suc n) (x ∷ xs) len same = rw (same 0 x (omega arith), map_all f v n xs (omega (arith, len)) (λ k a low. same (suc k) a (omega (arith, low)))) refl
 
+-- one activator more
+pub fresh_count : (i : ℕ) (parts new : List RevisionState) (x : RevisionState) → length parts ≡ i → new ≡ parts ++ x ∷ [] → length new ≡ i + 1
+fresh_count i parts new x count is = ap length is ∙ (length-append parts (x ∷ []) ∙ omega (arith, count))
+
+pub fresh_more : (n limit pods timeout_s : ℕ) (slots : Slots) (start i : ℕ) (parts new : List RevisionState) (x : RevisionState) → length parts ≡ i → new ≡ parts ++ x ∷ []
+    → ((k : ℕ) (d : RevisionState) → k < i → IsFresh (fixed_spec (slice_of limit k n) pods timeout_s slots) pods start (get_or parts k d))
+    → IsFresh (fixed_spec (slice_of limit i n) pods timeout_s slots) pods start x
+    → (k : ℕ) (d : RevisionState) → k < i + 1 → IsFresh (fixed_spec (slice_of limit k n) pods timeout_s slots) pods start (get_or new k d)
+fresh_more n limit pods timeout_s slots start i parts new x count is each one k d low =
+    subst (λ (xs : List RevisionState). IsFresh (fixed_spec (slice_of limit k n) pods timeout_s slots) pods start (get_or xs k d)) (sym is)
+    (elim (cases_eq k i) [
+      | inl same ↦ subst (λ j. IsFresh (fixed_spec (slice_of limit j n) pods timeout_s slots) pods start (get_or (parts ++ x ∷ []) j d)) (sym same)
+          (subst (IsFresh (fixed_spec (slice_of limit i n) pods timeout_s slots) pods start) (sym (ap (λ j. get_or (parts ++ x ∷ []) j d) (sym count) ∙ get_or-append_seam parts x [] d)) one)
+      | inr apart ↦
+          let less : k < i = omega (arith, low, apart) in
+          subst (IsFresh (fixed_spec (slice_of limit k n) pods timeout_s slots) pods start) (sym (get_or_append_left parts (x ∷ []) d k (omega (arith, less, count)))) (each k d less)
+    ])
+
 module _ (n limit pods timeout_s : ℕ) (slots : Slots) (start : ℕ) (parts : List RevisionState) (fresh : AreFresh n limit pods timeout_s slots start parts) where
   inside : (k : ℕ) → k < length parts → k < n
   inside k low = subst (λ m. k < m) fresh.count low
@@ -69,10 +87,10 @@ module _ (n limit pods timeout_s : ℕ) (slots : Slots) (start : ℕ) (parts : L
       let slices = map (λ i. slice_of limit i n) (range_with_len 0 n) in
       let same : (k : ℕ) (a : RevisionState) (b : ℕ) → k < length parts → max (limit_at p (get_or parts k a)) (running_at p (get_or parts k a)) ≡ get_or slices k b =
       λ k a b low. let x = fresh.each k a (inside k low) in
-        let l = fresh_limit p k a there low in
-        let r = x.is_open.runs p in
-        let at : get_or slices k b ≡ slice_of limit k n = get_or-map-range_with_len (λ i. slice_of limit i n) 0 n k k b (inside k low) (omega arith) in
-        omega (arith, l, r, at) in
+      let l = fresh_limit p k a there low in
+      let r = x.is_open.runs p in
+      let at : get_or slices k b ≡ slice_of limit k n = get_or-map-range_with_len (λ i. slice_of limit i n) 0 n k k b (inside k low) (omega arith) in
+      omega (arith, l, r, at) in
       sums_alike (λ a. max (limit_at p a) (running_at p a)) (λ x. x) parts slices (fresh.count ∙ sym (length-map-range_with_len (λ i. slice_of limit i n) 0 n)) same
       ∙ (sum_below (λ i. slice_of limit i n) n ∙ slices_sum limit n some)
 
@@ -102,8 +120,8 @@ module _ (n limit pods timeout_s : ℕ) (slots : Slots) (start : ℕ) (parts : L
           each = λ p low.
               let there : p < pods = omega (arith, low, len) in
               get_or-replicate pods p 0 0 there ∙ sym (count_none (λ i a. differs (limit_at p a) (get_or (replicate pods limit) p 0) i (length parts)) 0 parts
-                (λ k a here. ap (λ j. differs (limit_at p (get_or parts k a)) (get_or (replicate pods limit) p 0) j (length parts)) (omega arith)
-                  ∙ equal_slice p k a (get_or (replicate pods limit) p 0) (length parts) there here (get_or-replicate pods p limit 0 there) fresh.count));
+              (λ k a here. ap (λ j. differs (limit_at p (get_or parts k a)) (get_or (replicate pods limit) p 0) j (length parts)) (omega arith)
+              ∙ equal_slice p k a (get_or (replicate pods limit) p 0) (length parts) there here (get_or-replicate pods p limit 0 there) fresh.count));
         };
         opened = record {
           least = subst (λ m. m ≤ limit) (sym fresh.count) least;
@@ -116,8 +134,8 @@ module _ (n limit pods timeout_s : ℕ) (slots : Slots) (start : ℕ) (parts : L
   fresh_unset j d low =
       count_none (λ p w. differs (limit_at p (get_or parts j d)) w j (length parts)) 0 (replicate pods limit)
       (λ p a here. let there : p < pods = omega (arith, here, length-replicate pods limit) in
-        ap (λ q. differs (limit_at q (get_or parts j d)) (get_or (replicate pods limit) p a) j (length parts)) (omega arith)
-        ∙ equal_slice p j d (get_or (replicate pods limit) p a) (length parts) there (subst (λ m. j < m) (sym fresh.count) low) (get_or-replicate pods p limit a there) fresh.count)
+      ap (λ q. differs (limit_at q (get_or parts j d)) (get_or (replicate pods limit) p a) j (length parts)) (omega arith)
+      ∙ equal_slice p j d (get_or (replicate pods limit) p a) (length parts) there (subst (λ m. j < m) (sym fresh.count) low) (get_or-replicate pods p limit a there) fresh.count)
 
   pub fresh_traces : AreTraces parts (openings_of n limit pods timeout_s slots start)
   fresh_traces = record {
@@ -129,8 +147,8 @@ module _ (n limit pods timeout_s : ℕ) (slots : Slots) (start : ℕ) (parts : L
   pub fresh_specs : specs_of parts ≡ slices_of n limit pods timeout_s slots
   fresh_specs = map_alike (λ (x : RevisionState). x.spec) (λ i. fixed_spec (slice_of limit i n) pods timeout_s slots) parts (range_with_len 0 n) (fresh.count ∙ sym (length-range_with_len 0 n))
       (λ k a b low. let x = fresh.each k a (inside k low) in
-        let at : get_or (range_with_len 0 n) k b ≡ k = get_or-range_with_len 0 n k b (inside k low) ∙ omega arith in
-        x.spec ∙ ap (λ i. fixed_spec (slice_of limit i n) pods timeout_s slots) (sym at))
+      let at : get_or (range_with_len 0 n) k b ≡ k = get_or-range_with_len 0 n k b (inside k low) ∙ omega arith in
+      x.spec ∙ ap (λ i. fixed_spec (slice_of limit i n) pods timeout_s slots) (sym at))
 
   pub fresh_clocks : clocks_of parts ≡ replicate n start
   fresh_clocks = map_all (λ (x : RevisionState). x.clock) start n parts fresh.count (λ k a low. let x = fresh.each k a (inside k low) in x.clock)

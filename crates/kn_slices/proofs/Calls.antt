@@ -1,6 +1,6 @@
 -- What the calls of a group keep.
-use Rattle.std.proofs.Common.{◌≡◌, ◌≤◌, ◌<◌, ℕ, zero, suc, ◌+◌, ◌*◌, ◌/◌, ◌%◌, Bool, true, false, List, [], ◌∷◌, length, get_or, refl, ap, ◌∙◌, sym, subst, inl, inr, arith, Option, Some, nat_lt, cond, max}
-use Rattle.std.specs.Prelude.{slice_set, slice_index_or, if◌then◌else◌}
+use Rattle.std.proofs.Common.{◌≡◌, ◌≤◌, ◌<◌, ℕ, zero, suc, ◌+◌, ◌*◌, ◌/◌, ◌%◌, Bool, true, false, List, [], ◌∷◌, length, get_or, refl, sym, subst, inl, inr, arith, Some, nat_lt}
+use Rattle.std.specs.Prelude.{slice_set, if◌then◌else◌}
 use Rattle.std.proofs.lemmas.List.{get_or_default, length-set, get_or-set_same, get_or-set_other}
 use Rattle.std.proofs.lemmas.Nat.{div-add-mod', mod_below}
 use Rattle.std.proofs.lemmas.Bool.{cases_eq}
@@ -10,10 +10,9 @@ use Rattle.kn_event.specs.declared.event.Act.TheVariants as act
 use Rattle.kn_event.specs.declared.event.Event.{Event}
 use Rattle.kn_core.specs.State.{RevisionState}
 use Rattle.kn_slices.specs.declared.change.Change.{Change}
-use Rattle.kn_slices.specs.Group.{IsDue, IsGroup}
 use Rattle.kn_slices.specs.Slices.{due_change, force_after, hold, slice_of}
-use Rattle.kn_slices.specs.Activators.{EachIs, Goes, HasPod, IsActivator, IsGroupOf, IsPlain, StaysLow, limit_at, running_at}
-use Rattle.kn_slices.proofs.Activators.{has_pod, keeps_of, sets_of, still_activator}
+use Rattle.kn_slices.specs.Activators.{EachIs, HasPod, IsActivator, IsGroupOf, IsPlain, StaysLow, limit_at, running_at}
+use Rattle.kn_slices.proofs.Activators.{has_pod, keeps_of, sets_of}
 use Rattle.kn_slices.proofs.Due.{after_change, after_step, due_is, group_within}
 
 pub plain_limit : (a : Act) (q n : ℕ) → IsPlain a → a ≡ act.Limit q n → ⊥
@@ -28,7 +27,7 @@ at_default parts i d low = get_or_default parts i d (get_or parts i d) low
 pub low_step : (parts : List RevisionState) (wanted force : List ℕ) (i : ℕ) (e : Event) → i < length parts → IsGroupOf parts wanted force → IsPlain e.act → StaysLow parts wanted force i e
 low_step parts wanted force i e low group plain d y goes q inside =
     after_step limit_at running_at parts wanted force i (get_or parts i d) y low (at_default parts i d low) group.group
-      (keeps_of (length wanted) e (get_or parts i d) y goes (group.activators i d low) (λ k n f. plain_limit e.act k n plain f)) q inside
+    (keeps_of (length wanted) e (get_or parts i d) y goes (group.activators i d low) (λ k n f. plain_limit e.act k n plain f)) q inside
 
 -- a slice of a limit that is enough for all
 pub slice_some : (w i n : ℕ) → 0 < n → n ≤ w → 1 ≤ slice_of w i n
@@ -59,7 +58,7 @@ low_change parts wanted force x e group is_due e_is d y goes q inside =
     let each = group.group.each x.pod first.pod in
     let some : 1 ≤ x.limit = subst (λ n. 1 ≤ n) (sym first.value) (slice_some (get_or wanted x.pod 0) i (length parts) group.group.some each.least) in
     after_change limit_at running_at parts wanted force x a y (at_default parts i d first.part) group.group due
-      (sets_of (length wanted) e a y x.pod x.limit goes (group.activators i d first.part) e_is first.pod some) q inside
+    (sets_of (length wanted) e a y x.pod x.limit goes (group.activators i d first.part) e_is first.pod some) q inside
 
 -- the due limit is in range
 pub due_range : (parts : List RevisionState) (wanted force : List ℕ) (x : Change) (d : RevisionState) → IsGroupOf parts wanted force → due_change limit_at running_at (length parts) parts wanted ≡ Some x → (1 ≤ x.limit) × (x.limit ≤ 1000)
@@ -82,9 +81,9 @@ due_range_of (a ∷ rest) wanted force x group is_due = due_range (a ∷ rest) w
 -- one member is another one, of the same kind
 pub each_set : (P : RevisionState → Type 0) (parts : List RevisionState) (i : ℕ) (y : RevisionState) → i < length parts → EachIs P parts → P y → EachIs P (slice_set parts i y)
 each_set P parts i y low all is j d inside = elim (cases_eq j i) [
-    | inl same ↦ subst (λ k. P (get_or (slice_set parts i y) k d)) (sym same) (subst P (sym (get_or-set_same parts i y d low)) is)
-    | inr other ↦ subst P (sym (get_or-set_other parts i j y d other)) (all j d (subst (λ n. j < n) (length-set parts i y) inside))
-  ]
+  | inl same ↦ subst (λ k. P (get_or (slice_set parts i y) k d)) (sym same) (subst P (sym (get_or-set_same parts i y d low)) is)
+  | inr other ↦ subst P (sym (get_or-set_other parts i j y d other)) (all j d (subst (λ n. j < n) (length-set parts i y) inside))
+]
 
 -- the group after the call
 pub group_after_call : (parts : List RevisionState) (wanted force force' : List ℕ) (i : ℕ) (y d : RevisionState) → i < length parts → IsGroupOf parts wanted force → IsActivator (length wanted) y

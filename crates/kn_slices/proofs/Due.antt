@@ -1,12 +1,12 @@
 -- What a due change is, and that it keeps what is held within the limit in force.
-use Rattle.std.proofs.Common.{◌≡◌, ◌<◌, ◌≤◌, ◌⊎◌, inl, inr, ℕ, zero, suc, ◌+◌, ◌-◌, Bool, true, false, ◌&&◌, nat_lt, nat_le, max, List, [], ◌∷◌, ◌++◌, take, length, get_or, refl, ap, ◌∙◌, sym, subst, arith, Option, Some, None, drop}
+use Rattle.std.proofs.Common.{◌≡◌, ◌<◌, ◌≤◌, ◌⊎◌, inl, inr, ℕ, suc, ◌+◌, ◌-◌, Bool, true, false, ◌&&◌, nat_lt, nat_le, max, List, [], ◌∷◌, ◌++◌, take, length, get_or, refl, ap, ◌∙◌, sym, subst, arith, Option, Some, None, drop}
 use Rattle.std.proofs.lemmas.Option.{none-some}
 use Rattle.std.proofs.lemmas.Bool.{cases_eq}
 use Rattle.std.proofs.lemmas.List.Sums.{sum_by-cons, sum_by_more_le}
-use Rattle.std.proofs.lemmas.List.{length-set, get_or-set_same, get_or_default}
+use Rattle.std.proofs.lemmas.List.{length-set}
 use Rattle.std.proofs.Math.Seq.{drop-cons, take-append_seam}
-use Rattle.std.specs.Prelude.{slice_set, slice_index_or, if◌then◌else◌}
-use Rattle.kn_slices.specs.Group.{HoldsAt, IsDue, IsGroup, IsWithin, Keeps, Sets}
+use Rattle.std.specs.Prelude.{slice_set, if◌then◌else◌}
+use Rattle.kn_slices.specs.Group.{IsDue, IsGroup, IsWithin, Keeps, Sets}
 use Rattle.kn_slices.specs.Slices.{change, change_where, cut_at, cut_of, due_change, first_from, force_after, hold, or_else, raise_at, raise_of, runs, slice_of}
 use Rattle.kn_slices.specs.declared.change.Change.{Change}
 use Rattle.kn_slices.proofs.Sums.{hold_set}
@@ -57,8 +57,8 @@ cut_is : {A : Type 0} (limit running : ℕ → A → ℕ) (parts : List A) (want
 cut_is limit running parts wanted x d p i p_low i_low e =
     let (test, is) = through (nat_lt (slice_of (get_or wanted p 0) i (length parts)) (limit p (get_or parts i d))) (change i p (slice_of (get_or wanted p 0) i (length parts))) x e in
     subst (λ y. IsDue limit running parts wanted y d) is
-      (let low = below (slice_of (get_or wanted p 0) i (length parts)) (limit p (get_or parts i d)) test in
-      record { pod = p_low; part = i_low; value = refl; other = λ e. absurd (omega (arith, low, e)); way = inl low })
+    (let low = below (slice_of (get_or wanted p 0) i (length parts)) (limit p (get_or parts i d)) test in
+    record { pod = p_low; part = i_low; value = refl; other = λ e. absurd (omega (arith, low, e)); way = inl low })
 
 raise_is : {A : Type 0} (limit running : ℕ → A → ℕ) (parts : List A) (wanted : List ℕ) (x : Change) (d : A) (p i : ℕ) → p < length wanted → i < length parts
     → raise_at (limit p) (running p) (hold (limit p) (running p) parts) (length parts) (get_or wanted p 0) p i (get_or parts i d) ≡ Some x → IsDue limit running parts wanted x d
@@ -70,7 +70,7 @@ raise_is limit running parts wanted x d p i p_low i_low e =
     let (less, fits) = both (nat_lt (limit p a) s) (nat_le h (get_or wanted p 0)) test in
     let more = below (limit p a) s less in
     subst (λ y. IsDue limit running parts wanted y d) is
-      (record { pod = p_low; part = i_low; value = refl; other = λ e. absurd (omega (arith, more, e)); way = inr (up_to h (get_or wanted p 0) fits) })
+    (record { pod = p_low; part = i_low; value = refl; other = λ e. absurd (omega (arith, more, e)); way = inr (up_to h (get_or wanted p 0) fits) })
   where
     up_to : (a b : ℕ) → nat_le a b ≡ true → a ≤ b
     up_to a b t = grind (arith, t)
@@ -92,9 +92,9 @@ a_raise limit running parts wanted x d e =
 pub due_is : {A : Type 0} (limit running : ℕ → A → ℕ) (parts : List A) (wanted : List ℕ) (x : Change) (d : A)
     → due_change limit running (length parts) parts wanted ≡ Some x → IsDue limit running parts wanted x d
 due_is limit running parts wanted x d e = elim (either (first_from (cut_of limit (length parts) parts) 0 wanted) (first_from (raise_of limit running (length parts) parts) 0 wanted) x e) [
-    | inl cut ↦ a_cut limit running parts wanted x d cut
-    | inr raise ↦ a_raise limit running parts wanted x d raise
-  ]
+  | inl cut ↦ a_cut limit running parts wanted x d cut
+  | inr raise ↦ a_raise limit running parts wanted x d raise
+]
 
 -- no more runs than is held
 pub runs_within : {A : Type 0} (g r : A → ℕ) (xs : List A) → runs r xs ≤ hold g r xs
@@ -145,6 +145,7 @@ kept n held held' wanted force force' was low is = by_le (nat_le held' wanted) r
   where
     fits : nat_le held' wanted ≡ true → held' ≤ wanted
     fits t = grind (arith, t)
+
     by_le : (b : Bool) → nat_le held' wanted ≡ b → IsWithin n held' wanted force'
     by_le true t = let e : force' ≡ wanted = is ∙ ap (λ b. if b then wanted else force) t in
         record { within = omega (arith, e, fits t); above = omega (arith, e); same = λ _. e; least = was.least; most = let a = was.above in let m = was.most in omega (arith, e, a, m) }
@@ -182,7 +183,7 @@ group_after limit running parts wanted force force' x a y at group e sets same e
   many = same ∙ group.many;
   each = λ p low. subst (λ n. IsWithin n (hold (limit p) (running p) (slice_set parts x.activator y)) (get_or wanted p 0) (get_or force' p 0)) (sym (length-set parts x.activator y))
       (kept (length parts) (hold (limit p) (running p) parts) (hold (limit p) (running p) (slice_set parts x.activator y)) (get_or wanted p 0) (get_or force p 0) (get_or force' p 0) (group.each p low)
-        (after_change limit running parts wanted force x a y at group (due_is limit running parts wanted x a e) sets p low) (each p low));
+      (after_change limit running parts wanted force x a y at group (due_is limit running parts wanted x a e) sets p low) (each p low));
 }
 
 -- what a slice that was lent is afterwards
@@ -198,8 +199,8 @@ pub each_of : {A : Type 0} (limit running : ℕ → A → ℕ) (parts parts' : L
     → (p : ℕ) → p < length wanted → get_or new p 0 ≡ force_after (hold (limit p) (running p) parts) (get_or wanted p 0) (get_or force p 0)
 each_of {A} limit running parts parts' wanted wanted' force force' new a b c each =
     subst (λ (f : List ℕ). (p : ℕ) → p < length wanted → get_or new p 0 ≡ force_after (hold (limit p) (running p) parts) (get_or wanted p 0) (get_or f p 0)) c
-      (subst (λ (w : List ℕ). (p : ℕ) → p < length w → get_or new p 0 ≡ force_after (hold (limit p) (running p) parts) (get_or w p 0) (get_or force' p 0)) b
-        (subst (λ (xs : List A). (p : ℕ) → p < length wanted' → get_or new p 0 ≡ force_after (hold (limit p) (running p) xs) (get_or wanted' p 0) (get_or force' p 0)) a each))
+    (subst (λ (w : List ℕ). (p : ℕ) → p < length w → get_or new p 0 ≡ force_after (hold (limit p) (running p) parts) (get_or w p 0) (get_or force' p 0)) b
+    (subst (λ (xs : List A). (p : ℕ) → p < length wanted' → get_or new p 0 ≡ force_after (hold (limit p) (running p) xs) (get_or wanted' p 0) (get_or force' p 0)) a each))
 
 -- an event that changes no limit leaves what is held within what was in force
 pub after_step : {A : Type 0} (limit running : ℕ → A → ℕ) (parts : List A) (wanted force : List ℕ) (i : ℕ) (a y : A) → i < length parts → a ≡ get_or parts i a → IsGroup limit running parts wanted force

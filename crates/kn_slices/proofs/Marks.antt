@@ -1,8 +1,8 @@
 -- How many limits aren't what they are to become: over lists that are alike, over such that differ at one place, and where there is none.
-use Rattle.std.proofs.Common.{◌≡◌, ◌≤◌, ◌<◌, ℕ, zero, suc, ◌+◌, Bool, true, false, not, nat_lt, nat_le, ◌&&◌, max, List, [], ◌∷◌, length, get_or, refl, ap, ◌∙◌, sym, subst, arith, Option, None}
+use Rattle.std.proofs.Common.{◌≡◌, ◌<◌, ℕ, zero, suc, ◌+◌, Bool, true, false, not, nat_lt, nat_le, ◌&&◌, max, List, [], ◌∷◌, length, get_or, refl, ap, ◌∙◌, sym, subst, arith, None}
 use Rattle.std.specs.Prelude.{◌==◌, ◌-◌, if◌then◌else◌}
 use Rattle.std.proofs.lemmas.Bool.{eqb-true}
-use Rattle.kn_slices.specs.Slices.{change, change_where, count_from, cut_at, first_from, hold, or_else, raise_at, slice_of, unset_at}
+use Rattle.kn_slices.specs.Slices.{change, change_where, count_from, cut_at, first_from, or_else, raise_at, slice_of}
 
 abbrev pub bit : Bool → ℕ
 bit b = if b then 1 else 0
@@ -42,7 +42,7 @@ module _ {A B : Type 0} (test : ℕ → A → Bool) (other : ℕ → B → Bool)
   count_but (suc p) i (x ∷ xs) (y ∷ ys) a b len low same =
       let here : test i x ≡ other i y = subst (λ n. test n x ≡ other n y) (omega arith) (same 0 x y (omega arith) (λ e. absurd (omega (arith, e)))) in
       let rest = count_but p (i + 1) xs ys a b (omega (arith, len)) (omega (arith, low))
-          (λ k a b low other_k. subst (λ n. test n (get_or xs k a) ≡ other n (get_or ys k b)) (omega arith) (same (suc k) a b (omega (arith, low)) (λ e. other_k (omega (arith, e))))) in
+      (λ k a b low other_k. subst (λ n. test n (get_or xs k a) ≡ other n (get_or ys k b)) (omega arith) (same (suc k) a b (omega (arith, low)) (λ e. other_k (omega (arith, e))))) in
       let first : bit (test (i + 1 + p) (get_or xs p a)) ≡ bit (test (i + suc p) (get_or xs p a)) = ap (λ n. bit (test n (get_or xs p a))) (omega arith) in
       let second : bit (other (i + 1 + p) (get_or ys p b)) ≡ bit (other (i + suc p) (get_or ys p b)) = ap (λ n. bit (other n (get_or ys p b))) (omega arith) in
       let bits = ap bit here in
@@ -80,5 +80,5 @@ module _ {A : Type 0} (limit : A → ℕ) (n wanted p : ℕ) where
       by true t e next =
           let none = not_below (limit a) (slice_of wanted i n) (eqb-true (limit a) (slice_of wanted i n) t) in
           ap (λ b. or_else (change_where (b && nat_le (held - max (limit a) (running a) + max (slice_of wanted i n) (running a)) wanted) (change i p (slice_of wanted i n)))
-            (first_from (raise_at limit running held n wanted p) (i + 1) rest)) none ∙ next (omega (arith, e))
+          (first_from (raise_at limit running held n wanted p) (i + 1) rest)) none ∙ next (omega (arith, e))
       by false t e next = absurd (omega (arith, e))

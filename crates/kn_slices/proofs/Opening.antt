@@ -1,12 +1,9 @@
 -- An activator at its opening: its pods, their limit, and nobody.
-use Rattle.std.proofs.Common.{◌≡◌, ◌≤◌, ◌<◌, ℕ, zero, suc, ◌+◌, Bool, true, false, not, ◌||◌, ◌&&◌, cond, List, [], ◌∷◌, ◌++◌, map, filter, length, refl, ap, ◌∙◌, sym, subst, arith, Option, None, Some}
+use Rattle.std.proofs.Common.{◌≡◌, ◌≤◌, ◌<◌, ℕ, Bool, true, false, not, ◌||◌, ◌&&◌, List, [], ◌∷◌, map, filter, length, refl, ap, ◌∙◌, sym, subst, None, Some}
 use Rattle.std.specs.Prelude.{◌==◌, unwrap_or, if◌then◌else◌}
 use Rattle.std.specs.Bool.{then_some}
-use Rattle.std.specs.List.{All, cons_option, filter_map, range_with_len}
-use Rattle.kn_event.specs.declared.entry.Entry.{Entry}
-use Rattle.kn_event.specs.declared.entry.Row.{Row}
+use Rattle.std.specs.List.{cons_option, range_with_len}
 use Rattle.kn_event.specs.declared.entry.Row.TheVariants as row
-use Rattle.kn_event.specs.declared.revision.Kind.{Kind}
 use Rattle.kn_event.specs.declared.revision.Kind.TheVariants as kind
 use Rattle.kn_event.specs.declared.revision.Spec.{Spec}
 use Rattle.kn_laws.specs.Facts.{PartFacts}
@@ -14,8 +11,7 @@ use Rattle.kn_record.specs.Admission.{Admission}
 use Rattle.kn_record.specs.Made as made
 use Rattle.kn_record.specs.Views.{AreViews}
 use Rattle.kn_trace.specs.Events.{opening, opening_of}
-use Rattle.kn_trace.specs.Rows.{assigned_by, brought_to, created_by, drained_by, gone_by, limit_by}
-use Rattle.kn_trace.specs.Scale.{creations}
+use Rattle.kn_trace.specs.Rows.{brought_to, created_by, drained_by, gone_by, limit_by}
 use Rattle.kn_trace.specs.Trace.{Trace, contains, draining, each_row, entry, is_draining, is_live_pod, is_running, last_of, limit_of, live_pods, running_at}
 use Rattle.kn_core.specs.State.{RevisionState, StandsFor}
 use Rattle.kn_slices.specs.Activators as part

@@ -1,15 +1,13 @@
 -- What a call leaves of marks, of openings, and of how many changes are left.
 use Rattle.std.proofs.Common.{◌≡◌, ◌≤◌, ◌<◌, ℕ, zero, suc, ◌+◌, ◌-◌, Bool, true, false, not, max, nat_le, List, length, get_or, map, refl, ap, ◌∙◌, sym, subst, inl, inr, arith, eq-eqb, [], ◌∷◌}
-use Rattle.std.specs.Prelude.{◌==◌, slice_set, slice_index_or, if◌then◌else◌}
+use Rattle.std.specs.Prelude.{◌==◌, slice_set, if◌then◌else◌}
 use Rattle.std.proofs.lemmas.List.{get_or_default, length-set, get_or-set_same, get_or-set_other}
 use Rattle.std.proofs.lemmas.Bool.{cases_eq, eqb-true}
-use Rattle.kn_event.specs.declared.event.Event.{Event}
-use Rattle.kn_event.specs.declared.event.Act.TheVariants as act
 use Rattle.kn_event.specs.declared.revision.Spec.{Spec}
 use Rattle.kn_core.specs.State.{RevisionState}
-use Rattle.kn_slices.specs.Activators.{AreMarked, AreOpened, EachIs, Goes, IsActivator, IsGroupOf, Takes, limit_at, running_at}
-use Rattle.kn_slices.specs.Group.{IsGroup, IsWithin}
-use Rattle.kn_slices.specs.Slices.{count_from, force_after, hold, slice_of, unset, unset_at}
+use Rattle.kn_slices.specs.Activators.{AreMarked, AreOpened, IsActivator, IsGroupOf, limit_at, running_at}
+use Rattle.kn_slices.specs.Group.{IsWithin}
+use Rattle.kn_slices.specs.Slices.{force_after, hold, slice_of, unset, unset_at}
 use Rattle.kn_slices.proofs.Marks.{bit, count_alike, count_but}
 
 -- ---- one activator is another
@@ -18,10 +16,10 @@ use Rattle.kn_slices.proofs.Marks.{bit, count_alike, count_but}
 pub set_alike : (f : RevisionState → ℕ) (parts : List RevisionState) (i : ℕ) (y : RevisionState) → ((d : RevisionState) → f y ≡ f (get_or parts i d))
     → (k : ℕ) (a b : RevisionState) → k < length parts → f (get_or parts k a) ≡ f (get_or (slice_set parts i y) k b)
 set_alike f parts i y same k a b low = elim (cases_eq k i) [
-    | inl at ↦ let here : i < length parts = omega (arith, low, at) in
-        subst (λ n. f (get_or parts n a) ≡ f (get_or (slice_set parts i y) n b)) (sym at) (sym (same a) ∙ ap f (sym (get_or-set_same parts i y b here)))
-    | inr other ↦ ap f (get_or_default parts k a b low ∙ sym (get_or-set_other parts i k y b other))
-  ]
+  | inl at ↦ let here : i < length parts = omega (arith, low, at) in
+      subst (λ n. f (get_or parts n a) ≡ f (get_or (slice_set parts i y) n b)) (sym at) (sym (same a) ∙ ap f (sym (get_or-set_same parts i y b here)))
+  | inr other ↦ ap f (get_or_default parts k a b low ∙ sym (get_or-set_other parts i k y b other))
+]
 
 -- of each other activator
 pub set_others : (f : RevisionState → ℕ) (parts : List RevisionState) (i : ℕ) (y : RevisionState) (k : ℕ) (a b : RevisionState) → k < length parts → (k ≡ i → ⊥)
@@ -53,7 +51,7 @@ module _ (parts : List RevisionState) (wanted : List ℕ) (i : ℕ) (y : Revisio
       ap (λ m. unset limit_at m j wanted (get_or (slice_set parts i y) j d)) (length-set parts i y)
       ∙ count_alike (λ p w. differs (limit_at p (get_or (slice_set parts i y) j d)) w j n) (λ p w. differs (limit_at p (get_or parts j d)) w j n) 0 wanted wanted refl
       (λ p a b here. ap (λ l. differs l (get_or wanted p a) j n) (sym (set_alike (limit_at (0 + p)) parts i y (λ d. same (0 + p) d (omega (arith, here))) j d d inside))
-        ∙ ap (λ w. differs (limit_at (0 + p) (get_or parts j d)) w j n) (get_or_default wanted p a b here))
+      ∙ ap (λ w. differs (limit_at (0 + p) (get_or parts j d)) w j n) (get_or_default wanted p a b here))
 
   pub opened_keeps : (limit start : ℕ) → ((d : RevisionState) → y.spec ≡ (get_or parts i d).spec) → ((d : RevisionState) → y.start ≡ (get_or parts i d).start) → AreOpened limit start parts → AreOpened limit start (slice_set parts i y)
   opened_keeps limit start spec begins opened = record {
@@ -97,10 +95,10 @@ module _ (parts : List RevisionState) (wanted : List ℕ) (p i limit : ℕ) (y :
       let w = get_or wanted p 0 in
       let n = length parts in
       let counted = count_but (λ j a. differs (limit_at p a) w j n) (λ j a. differs (limit_at p a) w j n) i 0 parts (slice_set parts i y) d d (sym (length-set parts i y)) low
-          (λ k a b inside apart. ap (λ l. differs l w (0 + k) n) (set_others (limit_at p) parts i y k a b inside apart)) in
+      (λ k a b inside apart. ap (λ l. differs l w (0 + k) n) (set_others (limit_at p) parts i y k a b inside apart)) in
       let old : bit (differs (limit_at p (get_or parts i d)) w (0 + i) n) ≡ 1 = ap (λ j. bit (differs (limit_at p (get_or parts i d)) w j n)) (omega arith) ∙ ap bit (was_other d w refl) in
       let new : bit (differs (limit_at p (get_or (slice_set parts i y) i d)) w (0 + i) n) ≡ 0 =
-          ap (λ x. bit (differs (limit_at p x) w (0 + i) n)) (get_or-set_same parts i y d low) ∙ (ap (λ j. bit (differs (limit_at p y) w j n)) (omega arith) ∙ ap bit (now_slice w refl)) in
+      ap (λ x. bit (differs (limit_at p x) w (0 + i) n)) (get_or-set_same parts i y d low) ∙ (ap (λ j. bit (differs (limit_at p y) w j n)) (omega arith) ∙ ap bit (now_slice w refl)) in
       omega (arith, counted, old, new)
 
   pub marks_set : (marks : List ℕ) (d : RevisionState) → AreMarked parts wanted marks → AreMarked (slice_set parts i y) wanted (slice_set marks p (get_or marks p 0 - 1))
@@ -109,10 +107,10 @@ module _ (parts : List RevisionState) (wanted : List ℕ) (p i limit : ℕ) (y :
     each = λ q inside. elim (cases_eq q p) [
       | inl same ↦ subst (λ k. get_or (slice_set marks p (get_or marks p 0 - 1)) k 0 ≡ unset_at (limit_at k) (length (slice_set parts i y)) (get_or wanted k 0) (slice_set parts i y)) (sym same)
           (get_or-set_same marks p (get_or marks p 0 - 1) 0 (omega (arith, there, marked.many)) ∙ (
-            let was = marked.each p there in
-            let one = one_set d in
-            let less : get_or marks p 0 - 1 ≡ unset_at (limit_at p) (length parts) (get_or wanted p 0) (slice_set parts i y) = omega (arith, was, one) in
-            less ∙ ap (λ m. unset_at (limit_at p) m (get_or wanted p 0) (slice_set parts i y)) (sym (length-set parts i y))))
+          let was = marked.each p there in
+          let one = one_set d in
+          let less : get_or marks p 0 - 1 ≡ unset_at (limit_at p) (length parts) (get_or wanted p 0) (slice_set parts i y) = omega (arith, was, one) in
+          less ∙ ap (λ m. unset_at (limit_at p) m (get_or wanted p 0) (slice_set parts i y)) (sym (length-set parts i y))))
       | inr apart ↦ get_or-set_other marks p q (get_or marks p 0 - 1) 0 apart ∙ (marked.each q inside ∙ (
           count_alike (λ j a. differs (limit_at q a) (get_or wanted q 0) j (length parts)) (λ j a. differs (limit_at q a) (get_or wanted q 0) j (length parts)) 0 parts (slice_set parts i y) (sym (length-set parts i y))
           (λ k a b here. ap (λ l. differs l (get_or wanted q 0) (0 + k) (length parts)) (set_alike (limit_at q) parts i y (λ d. others q d inside apart) k a b here))
@@ -126,7 +124,7 @@ module _ (parts : List RevisionState) (wanted : List ℕ) (p i limit : ℕ) (y :
       let n = length parts in
       let new = ap (λ m. unset limit_at m i wanted (get_or (slice_set parts i y) i d)) (length-set parts i y) ∙ ap (unset limit_at n i wanted) (get_or-set_same parts i y d low) in
       let counted = count_but (λ q w. differs (limit_at q (get_or parts i d)) w i n) (λ q w. differs (limit_at q y) w i n) p 0 wanted wanted 0 0 refl there
-          (λ q a b inside apart. ap (λ l. differs l (get_or wanted q a) i n) (sym (others (0 + q) d (omega (arith, inside)) (λ e. apart (omega (arith, e))))) ∙ ap (λ w. differs (limit_at (0 + q) y) w i n) (get_or_default wanted q a b inside)) in
+      (λ q a b inside apart. ap (λ l. differs l (get_or wanted q a) i n) (sym (others (0 + q) d (omega (arith, inside)) (λ e. apart (omega (arith, e))))) ∙ ap (λ w. differs (limit_at (0 + q) y) w i n) (get_or_default wanted q a b inside)) in
       let was : bit (differs (limit_at (0 + p) (get_or parts i d)) (get_or wanted p 0) i n) ≡ 1 = ap (λ q. bit (differs (limit_at q (get_or parts i d)) (get_or wanted p 0) i n)) (omega arith) ∙ ap bit (was_other d (get_or wanted p 0) refl) in
       let is : bit (differs (limit_at (0 + p) y) (get_or wanted p 0) i n) ≡ 0 = ap (λ q. bit (differs (limit_at q y) (get_or wanted p 0) i n)) (omega arith) ∙ ap bit (now_slice (get_or wanted p 0) refl) in
       omega (arith, counted, was, is, new)
@@ -137,7 +135,7 @@ module _ (parts : List RevisionState) (wanted : List ℕ) (p i limit : ℕ) (y :
 pub one_more : (a : RevisionState) (wanted : List ℕ) (n j p limit : ℕ) → p < length wanted → unset limit_at n j (slice_set wanted p limit) a ≤ unset limit_at n j wanted a + 1
 one_more a wanted n j p limit low =
     let counted = count_but (λ q w. differs (limit_at q a) w j n) (λ q w. differs (limit_at q a) w j n) p 0 wanted (slice_set wanted p limit) 0 0 (sym (length-set wanted p limit)) low
-        (λ q x y inside apart. ap (λ w. differs (limit_at (0 + q) a) w j n) (get_or_default wanted q x y inside ∙ sym (get_or-set_other wanted p q limit y apart))) in
+    (λ q x y inside apart. ap (λ w. differs (limit_at (0 + q) a) w j n) (get_or_default wanted q x y inside ∙ sym (get_or-set_other wanted p q limit y apart))) in
     let few = bit_most (differs (limit_at (0 + p) a) (get_or (slice_set wanted p limit) p 0) j n) in
     let most = bit_most (differs (limit_at (0 + p) a) (get_or wanted p 0) j n) in
     omega (arith, counted, few, most)
@@ -162,8 +160,10 @@ asked n held limit force force' within least most top is = by (nat_le held limit
   where
     fits : nat_le held limit ≡ true → held ≤ limit
     fits t = grind (arith, t)
+
     no : nat_le held limit ≡ false → held ≤ limit → ⊥
     no f up = grind (arith, f, up)
+
     by : (b : Bool) → nat_le held limit ≡ b → IsWithin n held limit force'
     by true t = let e : force' ≡ limit = is ∙ ap (λ b. if b then limit else max force limit) t in
         record { within = omega (arith, e, fits t); above = omega (arith, e); same = λ _. e; least = least; most = omega (arith, e, most) }

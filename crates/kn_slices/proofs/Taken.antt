@@ -1,13 +1,13 @@
 -- What one activator's event leaves of a group, in the words of its contracts.
 use Rattle.std.proofs.Common.{◌≡◌, ◌≤◌, ◌<◌, ℕ, ◌+◌, ◌-◌, ◌++◌, List, length, get_or, refl, ap, ◌∙◌, sym, subst, arith, inl, inr, []}
-use Rattle.std.specs.Prelude.{slice_set, slice_index_or}
+use Rattle.std.specs.Prelude.{slice_set}
 use Rattle.std.proofs.lemmas.List.{length-set, get_or-set_other, get_or-set_same}
 use Rattle.std.proofs.lemmas.Bool.{cases_eq}
 use Rattle.kn_event.specs.declared.event.Act.TheVariants as act
 use Rattle.kn_event.specs.declared.event.Event.{Event}
 use Rattle.kn_event.specs.declared.revision.Spec.{Spec}
 use Rattle.kn_trace.specs.Events.{react}
-use Rattle.kn_trace.specs.Laws.{IsLawful, IsSettled}
+use Rattle.kn_trace.specs.Laws.{IsInert, IsLawful, IsSettled}
 use Rattle.kn_trace.specs.Trace.{Trace}
 use Rattle.kn_laws.specs.History.{IsMadeBy}
 use Rattle.kn_core.specs.State.{RevisionState, StandsFor}
@@ -60,8 +60,9 @@ module _ (parts new : List RevisionState) (pods i : ℕ) (e : Event) (low : i < 
 
 -- each activator's trace is lawful, whichever events made it
 pub lawful_all : ((s : Spec) (start clock count : ℕ) (c : Trace) → IsMadeBy s start clock count c → IsLawful s c) → ((s : Spec) (start clock count : ℕ) (c : Trace) → IsMadeBy s start clock count c → IsSettled s c)
-    → (parts : List RevisionState) (cs : List Trace) (i : ℕ) (d : RevisionState) → AreTraces parts cs → i < length parts → IsLawful (get_or parts i d).spec (trace_at cs i) × IsSettled (get_or parts i d).spec (trace_at cs i)
-lawful_all lawful settled parts cs i d traces low = let s = traces.each i d low in (lawful _ _ _ _ (trace_at cs i) s.events, settled _ _ _ _ (trace_at cs i) s.events)
+    → ((s : Spec) (start clock count : ℕ) (c : Trace) (e : Event) → IsMadeBy s start clock count c → IsInert s c e)
+    → (parts : List RevisionState) (cs : List Trace) (i : ℕ) (d : RevisionState) → AreTraces parts cs → i < length parts → IsLawful (get_or parts i d).spec (trace_at cs i) × IsSettled (get_or parts i d).spec (trace_at cs i) × ((e : Event) → IsInert (get_or parts i d).spec (trace_at cs i) e)
+lawful_all lawful settled inert parts cs i d traces low = let s = traces.each i d low in (lawful _ _ _ _ (trace_at cs i) s.events, settled _ _ _ _ (trace_at cs i) s.events, λ e. inert _ _ _ _ (trace_at cs i) e s.events)
 
 -- the due change is made
 module _ (parts new : List RevisionState) (wanted : List ℕ) (x : Change) (time : ℕ) (due : (d : RevisionState) → IsDue limit_at running_at parts wanted x d)
@@ -89,13 +90,13 @@ module _ (parts new : List RevisionState) (wanted : List ℕ) (x : Change) (time
   pub due_load : (j : ℕ) (d : RevisionState) → j < length parts
       → (get_or new j d).events + unset limit_at (length new) j wanted (get_or new j d) ≡ (get_or parts j d).events + unset limit_at (length parts) j wanted (get_or parts j d)
   due_load j d inside = elim (cases_eq j x.activator) [
-      | inl same ↦ subst (λ k. (get_or new k d).events + unset limit_at (length new) k wanted (get_or new k d) ≡ (get_or parts k d).events + unset limit_at (length parts) k wanted (get_or parts k d)) (sym same)
-          (let less = one_less parts wanted x.pod x.activator x.limit t.part low there value (λ d. (due d).other) here others d in
-          let unset_is = ap (λ (xs : List RevisionState). unset limit_at (length xs) x.activator wanted (get_or xs x.activator d)) t.changed in
-          let events_are = ap (λ (xs : List RevisionState). (get_or xs x.activator d).events) t.changed ∙ (ap (λ (z : RevisionState). z.events) (get_or-set_same parts x.activator t.part d low) ∙ t.events d) in
-          omega (arith, less, unset_is, events_are))
-      | inr apart ↦
-          let at : get_or new j d ≡ get_or parts j d = ap (λ (xs : List RevisionState). get_or xs j d) t.changed ∙ get_or-set_other parts x.activator j t.part d apart in
-          let count : length new ≡ length parts = ap length t.changed ∙ length-set parts x.activator t.part in
-          rw (at, count) refl
-    ]
+    | inl same ↦ subst (λ k. (get_or new k d).events + unset limit_at (length new) k wanted (get_or new k d) ≡ (get_or parts k d).events + unset limit_at (length parts) k wanted (get_or parts k d)) (sym same)
+        (let less = one_less parts wanted x.pod x.activator x.limit t.part low there value (λ d. (due d).other) here others d in
+        let unset_is = ap (λ (xs : List RevisionState). unset limit_at (length xs) x.activator wanted (get_or xs x.activator d)) t.changed in
+        let events_are = ap (λ (xs : List RevisionState). (get_or xs x.activator d).events) t.changed ∙ (ap (λ (z : RevisionState). z.events) (get_or-set_same parts x.activator t.part d low) ∙ t.events d) in
+        omega (arith, less, unset_is, events_are))
+    | inr apart ↦
+        let at : get_or new j d ≡ get_or parts j d = ap (λ (xs : List RevisionState). get_or xs j d) t.changed ∙ get_or-set_other parts x.activator j t.part d apart in
+        let count : length new ≡ length parts = ap length t.changed ∙ length-set parts x.activator t.part in
+        rw (at, count) refl
+  ]

@@ -42,4 +42,4 @@ pub record IsDue {A : Type 0} (limit running : ℕ → A → ℕ) (parts : List 
   pub other : x.limit ≡ limit x.pod (slice_index_or parts x.activator d) → ⊥
   pub way : (x.limit < limit x.pod (slice_index_or parts x.activator d))
       ⊎ (hold (limit x.pod) (running x.pod) parts - max (limit x.pod (slice_index_or parts x.activator d)) (running x.pod (slice_index_or parts x.activator d))
-        + max x.limit (running x.pod (slice_index_or parts x.activator d)) ≤ slice_index_or wanted x.pod 0)
+      + max x.limit (running x.pod (slice_index_or parts x.activator d)) ≤ slice_index_or wanted x.pod 0)

@@ -1,7 +1,7 @@
 -- A limit that several activators share: its slices, what they hold of it, and which change is due. An activator is whatever has a
 -- limit at each pod and requests that run there: `limit p a`, `running p a`. So the words are the same of the activators' traces and
 -- of what is kept of them.
-use Rattle.std.specs.Prelude.{ℕ, ◌+◌, ◌-◌, ◌/◌, ◌%◌, ◌==◌, ◌&&◌, nat_lt, nat_le, not, max, Bool, true, false, List, [], ◌∷◌, Option, None, Some, if◌then◌else◌, sum_by, slice_index_or}
+use Rattle.std.specs.Prelude.{ℕ, ◌+◌, ◌-◌, ◌/◌, ◌%◌, ◌==◌, ◌&&◌, nat_lt, nat_le, not, max, Bool, true, false, List, [], ◌∷◌, Option, None, Some, if◌then◌else◌, sum_by}
 use Rattle.kn_slices.specs.declared.change.Change.{Change}
 
 -- the slice of activator i of n

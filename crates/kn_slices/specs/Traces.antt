@@ -5,7 +5,7 @@ use Rattle.kn_event.specs.declared.event.Act.TheVariants as act
 use Rattle.kn_event.specs.declared.event.Event.{Event}
 use Rattle.kn_event.specs.declared.revision.Spec.{Spec}
 use Rattle.kn_trace.specs.Events.{react}
-use Rattle.kn_trace.specs.Laws.{IsLawful, IsSettled}
+use Rattle.kn_trace.specs.Laws.{IsInert, IsLawful, IsSettled}
 use Rattle.kn_trace.specs.Trace.{Trace, limit_of}
 use Rattle.kn_trace.specs.Trace as trace
 use Rattle.kn_core.specs.State.{RevisionState, StandsFor}
@@ -82,10 +82,10 @@ abbrev pub AreSafe : GroupState → Type 0
 AreSafe g = (cs : List Trace) (p : ℕ) → AreTraces g.parts cs → p < length g.wanted
     → IsSafe (runs (running_by p) cs) (hold (limit_by p) (running_by p) cs) (slice_index_or g.wanted p 0) (slice_index_or g.force p 0)
 
--- each activator's trace is that of a plain machine
+-- each activator's trace is lawful and settled, and an event that is refused then adds nothing else
 abbrev pub AreLawful : GroupState → Type 0
 AreLawful g = (cs : List Trace) (i : ℕ) (d : RevisionState) → AreTraces g.parts cs → i < length g.parts
-    → IsLawful (part_at g i d).spec (trace_at cs i) × IsSettled (part_at g i d).spec (trace_at cs i)
+    → IsLawful (part_at g i d).spec (trace_at cs i) × IsSettled (part_at g i d).spec (trace_at cs i) × ((e : Event) → IsInert (part_at g i d).spec (trace_at cs i) e)
 
 -- ---- how many changes are left
 

@@ -80,12 +80,13 @@ impl Group {
 
     /// The due change: the first possible cut, by pods and then by activators, and where there is none the first possible raise.
     /// None exactly where no change is due.
-    // (a pod without a mark has no change)
     pub fn plan(&self) -> Option<Change>
         ensures due { result ≡ due_of self.now }
         ensures traces { (cs : List Trace) → AreTraces self.now.parts cs → result ≡ due_change limit_by running_by (length cs) cs self.now.wanted }
     {
         append_laws();
+        // Any part that is read brings what is kept of all.
+        let _pods = self.wanted.len();
         match self.first_cut() {
             None => self.first_raise(),
             Some(cut) => Some(cut),

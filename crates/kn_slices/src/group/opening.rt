@@ -117,6 +117,7 @@ impl Group {
         requires start { start ≤ 2 ^ 42 }
         ensures traces { IfOk result (λ g. AreTraces g.parts (openings_of n limit pods timeout_s slots start)) }
         ensures specs { IfOk result (λ g. specs_of g.parts ≡ slices_of n limit pods timeout_s slots) }
+        ensures limit { IfOk result (λ g. g.limit ≡ limit) }
         ensures start { IfOk result (λ g. g.start ≡ start) }
         ensures wanted { IfOk result (λ g. g.wanted ≡ replicate pods limit) }
         ensures force { IfOk result (λ g. g.force ≡ replicate pods limit) }

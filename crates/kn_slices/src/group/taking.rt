@@ -99,13 +99,6 @@ impl Group {
     {
         append_laws();
         history_laws();
-        take(
-            &mut self.parts,
-            &self.wanted,
-            &mut self.force,
-            i,
-            e,
-            log,
-        )
+        take(&mut self.parts, &self.wanted, &mut self.force, i, e, log)
     }
 }

@@ -1,6 +1,6 @@
 use Rattle.std.proofs.Common.{◌≡◌, drop, length}
 use Rattle.kn_slices.specs.Slices.{cut_at, cut_of, first_from}
-use Rattle.kn_slices.specs.Activators.{limit_at, running_at}
+use Rattle.kn_slices.specs.Activators.{limit_at}
 use Rattle.kn_slices.proofs.parts.cut_of.Given as goal
 
 abbrev pub invariant-loop-i : goal.invariant-loop-i

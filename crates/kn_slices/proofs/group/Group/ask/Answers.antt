@@ -30,7 +30,7 @@ next c =
     let inside : p < length force = omega (arith, low, c.self.invariant.group.group.many) in
     c.force_after.ensures
     ∙ (ap (λ (xs : List RevisionState). force_after (hold (limit_at p) (running_at p) xs) c.args.limit c.max-most.result) c.deref.ensures.value
-      ∙ ap (λ n. force_after (hold (limit_at p) (running_at p) c.self.inside.parts.items) c.args.limit n) (c.max-most.ensures ∙ ap (λ n. max n c.args.limit) (c.index.ensures ∙ get_or_default force p c.index.result.now 0 inside)))
+    ∙ ap (λ n. force_after (hold (limit_at p) (running_at p) c.self.inside.parts.items) c.args.limit n) (c.max-most.ensures ∙ ap (λ n. max n c.args.limit) (c.index.ensures ∙ get_or_default force p c.index.result.now 0 inside)))
 
 pub invariant_of-self : goal.invariant_of-self
 invariant_of-self c =
@@ -66,4 +66,4 @@ returns-clause-safe c = λ cs q traces inside.
     safe c.append_laws.ensures.views c.self.inside.parts.items (slice_set c.self.inside.wanted.items c.args.p c.args.limit) (slice_set c.self.inside.force.items c.args.p c.force_after.result) cs q kept.group traces inside
 
 pub returns-clause-lawful : goal.returns-clause-lawful
-returns-clause-lawful c = λ cs i d traces inside. lawful_all c.history_laws.ensures.lawful c.history_laws.ensures.settled c.self.inside.parts.items cs i d traces inside
+returns-clause-lawful c = λ cs i d traces inside. lawful_all c.history_laws.ensures.lawful c.history_laws.ensures.settled c.history_laws.ensures.inert c.self.inside.parts.items cs i d traces inside

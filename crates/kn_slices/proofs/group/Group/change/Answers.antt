@@ -1,4 +1,4 @@
-use Rattle.std.proofs.Common.{◌≡◌, ◌≤◌, ◌∙◌, ◌++◌, ap, sym, subst, refl, length, get_or}
+use Rattle.std.proofs.Common.{◌≡◌, ◌+◌, ◌≤◌, ◌∙◌, ◌++◌, arith, ap, sym, subst, refl, length, get_or}
 use Rattle.std.specs.Prelude.{slice_set}
 use Rattle.std.proofs.lemmas.List.{length-set}
 use Rattle.kn_trace.specs.Events.{react}
@@ -7,11 +7,11 @@ use Rattle.kn_slices.specs.declared.change.Change.{Change}
 use Rattle.kn_core.specs.State.{RevisionState}
 use Rattle.kn_slices.specs.Activators.{limit_at, running_at}
 use Rattle.kn_slices.specs.Slices.{force_after}
-use Rattle.kn_slices.specs.Traces.{AreTraces, clocks_of, made_at, trace_at}
+use Rattle.kn_slices.specs.Traces.{AreTraces, clocks_of, counts_of, made_at, trace_at}
 use Rattle.kn_slices.proofs.Alike.{hold_traces, safe}
 use Rattle.kn_slices.proofs.Calls.{due_range_of, low_change}
 use Rattle.kn_slices.proofs.Due.{due_is, due_part, lent, some_same}
-use Rattle.kn_slices.proofs.Taken.{due_load, due_marked, due_marks, lawful_all, taken_clocks, taken_opened, taken_specs, taken_stands}
+use Rattle.kn_slices.proofs.Taken.{due_load, due_marked, due_marks, lawful_all, taken_clocks, taken_counts, taken_opened, taken_specs, taken_stands}
 use Rattle.kn_slices.proofs.group.Group.change.Goals as goal
 
 pub take-requires-clause-part : goal.take-requires-clause-part
@@ -105,8 +105,8 @@ returns-clause-stands c =
     let whole = lent c.self.inside.parts.len c.take.new.parts parts (c.take.ensures.same ∙ c.deref_mut.ensures.len) in
     let takes = rw (c.deref_mut.ensures.value, c.deref.ensures.value) at c.take.ensures.takes in
     rw (← c.self.view_is, whole) (λ y cs d is traces.
-      subst (λ (z : Change). AreTraces c.take.new.parts (slice_set cs z.activator (trace_at cs z.activator ++ react (get_or parts z.activator d).spec (trace_at cs z.activator) (made_at c.args.time z)))) (some_same x y (sym due ∙ is))
-      (taken_stands parts c.take.new.parts (length wanted) x.activator (made_at c.args.time x) low takes cs d traces (λ k h. (rw c.deref_mut.ensures.value at c.take.ensures.stands) d k h)))
+    subst (λ (z : Change). AreTraces c.take.new.parts (slice_set cs z.activator (trace_at cs z.activator ++ react (get_or parts z.activator d).spec (trace_at cs z.activator) (made_at c.args.time z)))) (some_same x y (sym due ∙ is))
+    (taken_stands parts c.take.new.parts (length wanted) x.activator (made_at c.args.time x) low takes cs d traces (λ k h. (rw c.deref_mut.ensures.value at c.take.ensures.stands) d k h)))
 
 pub returns-clause-same : goal.returns-clause-same
 returns-clause-same c =
@@ -125,9 +125,9 @@ returns-clause-force c =
     let whole' = lent c.self.inside.force.len c.take.new.force c.self.inside.force.items (c.take.ensures.many ∙ c.deref_mut-in-Some.ensures.len) in
     let group = rw c.deref.ensures.value at c.take.ensures.group in
     rw (← c.self.view_is, whole, whole') (λ cs p traces inside.
-      let held = hold_traces c.append_laws.ensures.views c.take.new.parts c.self.inside.wanted.items c.take.new.force cs p group traces inside in
-      (rw (c.deref.ensures.value, c.deref_mut-in-Some.ensures.value) at c.take.ensures.force) p inside
-      ∙ ap (λ h. force_after h (get_or c.self.inside.wanted.items p 0) (get_or c.self.inside.force.items p 0)) held)
+    let held = hold_traces c.append_laws.ensures.views c.take.new.parts c.self.inside.wanted.items c.take.new.force cs p group traces inside in
+    (rw (c.deref.ensures.value, c.deref_mut-in-Some.ensures.value) at c.take.ensures.force) p inside
+    ∙ ap (λ h. force_after h (get_or c.self.inside.wanted.items p 0) (get_or c.self.inside.force.items p 0)) held)
 
 pub returns-clause-clocks : goal.returns-clause-clocks
 returns-clause-clocks c =
@@ -139,8 +139,21 @@ returns-clause-clocks c =
     let whole = lent c.self.inside.parts.len c.take.new.parts parts (c.take.ensures.same ∙ c.deref_mut.ensures.len) in
     let takes = rw (c.deref_mut.ensures.value, c.deref.ensures.value) at c.take.ensures.takes in
     rw (← c.self.view_is, whole) (λ y is.
-      subst (λ (z : Change). clocks_of c.take.new.parts ≡ slice_set (clocks_of parts) z.activator c.args.time) (some_same x y (sym due ∙ is))
-      (taken_clocks parts c.take.new.parts (length wanted) x.activator (made_at c.args.time x) low takes))
+    subst (λ (z : Change). clocks_of c.take.new.parts ≡ slice_set (clocks_of parts) z.activator c.args.time) (some_same x y (sym due ∙ is))
+    (taken_clocks parts c.take.new.parts (length wanted) x.activator (made_at c.args.time x) low takes))
+
+pub returns-clause-counts : goal.returns-clause-counts
+returns-clause-counts c =
+    let x = c.in-Some.change in
+    let parts = c.self.inside.parts.items in
+    let wanted = c.self.inside.wanted.items in
+    let due = rw (← c.self.view_is) at (sym c.in-Some.ensures.due) in
+    let low = due_part limit_at running_at parts wanted x c.self.invariant.group.group.some due in
+    let whole = lent c.self.inside.parts.len c.take.new.parts parts (c.take.ensures.same ∙ c.deref_mut.ensures.len) in
+    let takes = rw (c.deref_mut.ensures.value, c.deref.ensures.value) at c.take.ensures.takes in
+    rw (← c.self.view_is, whole) (λ y d is.
+    subst (λ (z : Change). counts_of c.take.new.parts ≡ slice_set (counts_of parts) z.activator ((get_or parts z.activator d).events + 1)) (some_same x y (sym due ∙ is))
+    (taken_counts parts c.take.new.parts (length wanted) x.activator (made_at c.args.time x) low takes d))
 
 pub returns-clause-load : goal.returns-clause-load
 returns-clause-load c =
@@ -152,7 +165,7 @@ returns-clause-load c =
     let whole = lent c.self.inside.parts.len c.take.new.parts parts (c.take.ensures.same ∙ c.deref_mut.ensures.len) in
     let takes = rw (c.deref_mut.ensures.value, c.deref.ensures.value) at c.take.ensures.takes in
     rw (← c.self.view_is, whole) (λ j d inside.
-      due_load parts c.take.new.parts wanted x c.args.time (λ d. due_is limit_at running_at parts wanted x d due) low (due_is limit_at running_at parts wanted x d due).pod takes d j d inside)
+    due_load parts c.take.new.parts wanted x c.args.time (λ d. due_is limit_at running_at parts wanted x d due) low (due_is limit_at running_at parts wanted x d due).pod takes d j d inside)
 
 pub returns-clause-safe : goal.returns-clause-safe
 returns-clause-safe c =
@@ -162,4 +175,4 @@ returns-clause-safe c =
     rw (whole, whole') (λ cs p traces inside. safe c.append_laws.ensures.views c.take.new.parts c.self.inside.wanted.items c.take.new.force cs p group traces inside)
 
 pub returns-clause-lawful : goal.returns-clause-lawful
-returns-clause-lawful c = λ cs i d traces inside. lawful_all c.history_laws.ensures.lawful c.history_laws.ensures.settled _ cs i d traces inside
+returns-clause-lawful c = λ cs i d traces inside. lawful_all c.history_laws.ensures.lawful c.history_laws.ensures.settled c.history_laws.ensures.inert _ cs i d traces inside

@@ -1,4 +1,4 @@
-use Rattle.std.proofs.Common.{◌≡◌, ◌<◌, ◌∙◌, ap, sym, arith, List, length, get_or}
+use Rattle.std.proofs.Common.{◌<◌, ◌∙◌, sym, arith, length, get_or}
 use Rattle.std.proofs.lemmas.List.{get_or_default}
 use Rattle.std.proofs.lemmas.Grind.{common_steps}
 use Rattle.kn_slices.specs.Activators.{limit_at}

@@ -1,4 +1,4 @@
-use Rattle.std.proofs.Common.{◌≡◌, ◌+◌, refl, ap, ◌∙◌, sym, arith}
+use Rattle.std.proofs.Common.{arith}
 use Rattle.kn_slices.proofs.Alike.{safe}
 use Rattle.kn_slices.proofs.Begin.{fresh_clocks, fresh_specs, fresh_traces, fresh_unset, kept}
 use Rattle.kn_slices.proofs.Taken.{lawful_all}
@@ -30,4 +30,4 @@ returns-clause-safe c = λ cs p traces inside.
     safe c.append_laws.ensures.views _ _ _ cs p k.group traces inside
 
 pub returns-clause-lawful : goal.returns-clause-lawful
-returns-clause-lawful c = λ cs i d traces inside. lawful_all c.history_laws.ensures.lawful c.history_laws.ensures.settled _ cs i d traces inside
+returns-clause-lawful c = λ cs i d traces inside. lawful_all c.history_laws.ensures.lawful c.history_laws.ensures.settled c.history_laws.ensures.inert _ cs i d traces inside

@@ -18,7 +18,7 @@ pub loop-p-preserved : goal.loop-p-preserved
 loop-p-preserved c =
     let made = λ (p : ℕ). entry c.self.inside.start (row.Create p c.slice-limit.result) in
     rw (← c.self.view_is) (c.put.ensures ∙ (ap (λ (l : Trace). l ++ made c.loop-p.p ∷ []) (rw (← c.self.view_is) at c.loop-p.invariant)
-      ∙ sym (map-range_with_len_more made 0 c.loop-p.p c.loop-p.p (omega arith))))
+    ∙ sym (map-range_with_len_more made 0 c.loop-p.p c.loop-p.p (omega arith))))
 
 pub returns : goal.returns
 returns c = rw (← c.self.view_is) (λ d.
@@ -32,4 +32,4 @@ returns c = rw (← c.self.view_is) (λ d.
     let limit : c.slice-limit.result ≡ x.spec.cc = c.slice-limit.ensures ∙ (ap (slice_of c.self.inside.limit c.args.i) count ∙ sym (c.self.invariant.opened.slices c.args.i d low)) in
     (rw (← c.self.view_is) at c.loop-p.invariant)
     ∙ (ap (λ n. map (λ p. entry start (row.Create p n)) (range_with_len 0 c.loop-p.p)) limit
-      ∙ (ap (λ k. map (λ p. entry start (row.Create p x.spec.cc)) (range_with_len 0 k)) end ∙ sym (opening_is x.spec start (length wanted) (c.self.invariant.group.activators c.args.i d low).fixed))))
+    ∙ (ap (λ k. map (λ p. entry start (row.Create p x.spec.cc)) (range_with_len 0 k)) end ∙ sym (opening_is x.spec start (length wanted) (c.self.invariant.group.activators c.args.i d low).fixed))))

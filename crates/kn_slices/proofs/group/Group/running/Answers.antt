@@ -1,4 +1,4 @@
-use Rattle.std.proofs.Common.{◌≡◌, ◌<◌, ◌≤◌, ◌∙◌, ap, sym, subst, arith, ℕ, List, length}
+use Rattle.std.proofs.Common.{◌<◌, ◌≤◌, ◌∙◌, ap, sym, subst, arith, List, length}
 use Rattle.std.specs.Prelude.{slice_index_or}
 use Rattle.kn_core.specs.State.{RevisionState}
 use Rattle.kn_slices.specs.Slices.{runs}

@@ -1,4 +1,4 @@
-use Rattle.std.proofs.Common.{◌≡◌, ◌<◌, ◌∙◌, ap, refl, List, length, get_or}
+use Rattle.std.proofs.Common.{◌∙◌, ap, refl, length, get_or}
 use Rattle.kn_slices.specs.Slices.{force_after}
 use Rattle.kn_slices.proofs.Alike.{hold_traces, safe}
 use Rattle.kn_slices.proofs.Calls.{low_step, plain_limit}
@@ -58,9 +58,9 @@ returns-clause-force c =
     let whole' = lent c.self.inside.force.len c.take.new.force c.self.inside.force.items (c.take.ensures.many ∙ c.deref_mut-2.ensures.len) in
     let group = rw c.deref.ensures.value at c.take.ensures.group in
     rw (← c.self.view_is, whole, whole') (λ cs p traces inside.
-      let held = hold_traces c.append_laws.ensures.views c.take.new.parts c.self.inside.wanted.items c.take.new.force cs p group traces inside in
-      (rw (c.deref.ensures.value, c.deref_mut-2.ensures.value) at c.take.ensures.force) p inside
-      ∙ ap (λ h. force_after h (get_or c.self.inside.wanted.items p 0) (get_or c.self.inside.force.items p 0)) held)
+    let held = hold_traces c.append_laws.ensures.views c.take.new.parts c.self.inside.wanted.items c.take.new.force cs p group traces inside in
+    (rw (c.deref.ensures.value, c.deref_mut-2.ensures.value) at c.take.ensures.force) p inside
+    ∙ ap (λ h. force_after h (get_or c.self.inside.wanted.items p 0) (get_or c.self.inside.force.items p 0)) held)
 
 pub returns-clause-clocks : goal.returns-clause-clocks
 returns-clause-clocks c =
@@ -86,7 +86,7 @@ returns-clause-unset c =
     let whole = lent c.self.inside.parts.len c.take.new.parts parts (c.take.ensures.same ∙ c.deref_mut.ensures.len) in
     let takes = rw (c.deref_mut.ensures.value, c.deref.ensures.value) at c.take.ensures.takes in
     rw (← c.self.view_is, whole) (λ j d inside.
-      plain_unset parts c.take.new.parts (length wanted) c.args.i c.args.e.now low takes (λ q n f. plain_limit c.args.e.now.act q n c.requires.act f) wanted refl j d inside)
+    plain_unset parts c.take.new.parts (length wanted) c.args.i c.args.e.now low takes (λ q n f. plain_limit c.args.e.now.act q n c.requires.act f) wanted refl j d inside)
 
 pub returns-clause-safe : goal.returns-clause-safe
 returns-clause-safe c =
@@ -96,4 +96,4 @@ returns-clause-safe c =
     rw (whole, whole') (λ cs p traces inside. safe c.append_laws.ensures.views c.take.new.parts c.self.inside.wanted.items c.take.new.force cs p group traces inside)
 
 pub returns-clause-lawful : goal.returns-clause-lawful
-returns-clause-lawful c = λ cs i d traces inside. lawful_all c.history_laws.ensures.lawful c.history_laws.ensures.settled _ cs i d traces inside
+returns-clause-lawful c = λ cs i d traces inside. lawful_all c.history_laws.ensures.lawful c.history_laws.ensures.settled c.history_laws.ensures.inert _ cs i d traces inside

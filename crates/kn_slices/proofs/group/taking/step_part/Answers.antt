@@ -1,4 +1,3 @@
-use Rattle.kn_slices.proofs.Calls.{low_step}
 use Rattle.kn_slices.proofs.group.taking.step_part.Goals as goal
 
 pub returns-clause-goes : goal.returns-clause-goes

@@ -1,9 +1,8 @@
-use Rattle.std.proofs.Common.{◌≡◌, ◌<◌, ◌≤◌, ◌+◌, ◌∙◌, ap, sym, subst, arith, refl, ℕ, List, length}
-use Rattle.std.proofs.lemmas.List.{get_or_default, length-set}
+use Rattle.std.proofs.Common.{◌≡◌, ◌+◌, ◌∙◌, ap, subst, arith, refl, length}
+use Rattle.std.proofs.lemmas.List.{get_or_default}
 use Rattle.std.specs.Prelude.{slice_index_or, slice_set}
 use Rattle.kn_core.specs.State.{RevisionState}
-use Rattle.kn_slices.specs.Slices.{hold}
-use Rattle.kn_slices.specs.Activators.{EachIs, Goes, HasPod, IsActivator, limit_at, running_at}
+use Rattle.kn_slices.specs.Activators.{Goes, IsActivator}
 use Rattle.kn_slices.proofs.Activators.{still_activator}
 use Rattle.kn_slices.proofs.Calls.{each_has, each_set, group_after_call}
 use Rattle.kn_slices.proofs.group.taking.take.Goals as goal
