@@ -1,0 +1,10 @@
+mod Sums
+mod Due
+mod Activators
+mod Calls
+mod Marks
+mod Alike
+mod Opening
+mod Steps
+mod Taken
+mod Begin

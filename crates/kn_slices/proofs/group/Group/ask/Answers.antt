@@ -1,0 +1,69 @@
+use Rattle.std.proofs.Common.{◌≡◌, ◌<◌, ◌∙◌, refl, ap, arith, List, length, max, get_or}
+use Rattle.std.specs.Prelude.{slice_set}
+use Rattle.std.proofs.lemmas.List.{get_or_default}
+use Rattle.kn_core.specs.State.{RevisionState}
+use Rattle.kn_slices.specs.Activators.{limit_at, running_at}
+use Rattle.kn_slices.specs.Slices.{force_after, hold}
+use Rattle.kn_slices.proofs.Alike.{hold_traces, safe}
+use Rattle.kn_slices.proofs.Calls.{each_has}
+use Rattle.kn_slices.proofs.Steps.{group_asked, marks_asked, one_more}
+use Rattle.kn_slices.proofs.Taken.{lawful_all}
+use Rattle.kn_slices.proofs.group.Group.ask.Goals as goal
+
+pub force_after-requires-clause-pod : goal.force_after-requires-clause-pod
+force_after-requires-clause-pod c =
+    let low = rw (← c.self.view_is) at c.requires.pod in
+    rw c.deref.ensures.value (each_has (length c.self.inside.wanted.items) c.self.inside.parts.items c.args.p c.self.invariant.group.activators low)
+
+pub unset_at-requires-clause-pod : goal.unset_at-requires-clause-pod
+unset_at-requires-clause-pod c =
+    let low = rw (← c.self.view_is) at c.requires.pod in
+    rw c.deref-2.ensures.value (each_has (length c.self.inside.wanted.items) c.self.inside.parts.items c.args.p c.self.invariant.group.activators low)
+
+-- the limit in force, of what is kept
+next : (c : goal.After-self-3-1) → c.force_after.result
+    ≡ force_after (hold (limit_at c.args.p) (running_at c.args.p) c.self.inside.parts.items) c.args.limit (max (get_or c.self.inside.force.items c.args.p 0) c.args.limit)
+next c =
+    let p = c.args.p in
+    let force = c.self.inside.force.items in
+    let low = rw (← c.self.view_is) at c.requires.pod in
+    let inside : p < length force = omega (arith, low, c.self.invariant.group.group.many) in
+    c.force_after.ensures
+    ∙ (ap (λ (xs : List RevisionState). force_after (hold (limit_at p) (running_at p) xs) c.args.limit c.max-most.result) c.deref.ensures.value
+    ∙ ap (λ n. force_after (hold (limit_at p) (running_at p) c.self.inside.parts.items) c.args.limit n) (c.max-most.ensures ∙ ap (λ n. max n c.args.limit) (c.index.ensures ∙ get_or_default force p c.index.result.now 0 inside)))
+
+pub invariant_of-self : goal.invariant_of-self
+invariant_of-self c =
+    let p = c.args.p in
+    let parts = c.self.inside.parts.items in
+    let wanted = c.self.inside.wanted.items in
+    let low = rw (← c.self.view_is) at c.requires.pod in
+    let least = rw (← c.self.view_is) at c.requires.least in
+    let count = c.unset_at.ensures ∙ rw c.deref-2.ensures.value refl in
+    record {
+      group = group_asked parts wanted c.self.inside.force.items p c.args.limit c.force_after.result low least c.requires.most (next c) c.self.invariant.group;
+      marked = marks_asked parts wanted c.self.inside.marks.items p c.args.limit c.unset_at.result low count c.self.invariant.marked;
+      opened = c.self.invariant.opened;
+    }
+
+pub returns-clause-force : goal.returns-clause-force
+returns-clause-force c = rw (← c.self.view_is) (λ cs traces.
+    let p = c.args.p in
+    let force = c.self.inside.force.items in
+    let low = rw (← c.self.view_is) at c.requires.pod in
+    let held = hold_traces c.append_laws.ensures.views c.self.inside.parts.items c.self.inside.wanted.items force cs p c.self.invariant.group traces low in
+    ap (λ n. slice_set force p n) (next c ∙ ap (λ n. force_after n c.args.limit (max (get_or force p 0) c.args.limit)) held))
+
+pub returns-clause-unset : goal.returns-clause-unset
+returns-clause-unset c = rw (← c.self.view_is) (λ j d inside.
+    let low = rw (← c.self.view_is) at c.requires.pod in
+    let parts = c.self.inside.parts.items in
+    one_more (get_or parts j d) c.self.inside.wanted.items (length parts) j c.args.p c.args.limit low)
+
+pub returns-clause-safe : goal.returns-clause-safe
+returns-clause-safe c = λ cs q traces inside.
+    let kept = invariant_of-self c in
+    safe c.append_laws.ensures.views c.self.inside.parts.items (slice_set c.self.inside.wanted.items c.args.p c.args.limit) (slice_set c.self.inside.force.items c.args.p c.force_after.result) cs q kept.group traces inside
+
+pub returns-clause-lawful : goal.returns-clause-lawful
+returns-clause-lawful c = λ cs i d traces inside. lawful_all c.history_laws.ensures.lawful c.history_laws.ensures.settled c.history_laws.ensures.inert c.self.inside.parts.items cs i d traces inside

@@ -1,0 +1,26 @@
+-- The due change, in the words of the activators' traces.
+use Rattle.std.proofs.Common.{◌≡◌, ◌∙◌, ap, length}
+use Rattle.kn_slices.specs.Activators.{limit_at, running_at}
+use Rattle.kn_slices.specs.Slices.{due_change, first_from, or_else, raise_of}
+use Rattle.kn_slices.proofs.Alike.{due_traces}
+use Rattle.kn_slices.proofs.group.Group.plan.Goals as goal
+
+pub returns-in-None-clause-traces : goal.returns-in-None-clause-traces
+returns-in-None-clause-traces c = rw (← c.self.view_is) (λ cs traces.
+    let parts = c.self.inside.parts.items in
+    let wanted = c.self.inside.wanted.items in
+    let n = length parts in
+    let none = rw (← c.self.view_is) at c.in-None.ensures in
+    let found = rw (← c.self.view_is) at c.first_raise.ensures in
+    let raises = first_from (raise_of limit_at running_at n parts) 0 wanted in
+    let due : c.first_raise.result ≡ due_change limit_at running_at n parts wanted = found ∙ ap (λ o. or_else o raises) none in
+    due ∙ due_traces c.append_laws.ensures.views parts wanted c.self.inside.force.items cs c.self.invariant.group traces)
+
+pub returns-in-Some-clause-traces : goal.returns-in-Some-clause-traces
+returns-in-Some-clause-traces c = rw (← c.self.view_is) (λ cs traces.
+    let parts = c.self.inside.parts.items in
+    let wanted = c.self.inside.wanted.items in
+    let n = length parts in
+    let found = rw (← c.self.view_is) at c.in-Some.ensures in
+    let raises = first_from (raise_of limit_at running_at n parts) 0 wanted in
+    ap (λ o. or_else o raises) found ∙ due_traces c.append_laws.ensures.views parts wanted c.self.inside.force.items cs c.self.invariant.group traces)

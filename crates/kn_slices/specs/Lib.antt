@@ -1,0 +1,4 @@
+pub mod Slices
+pub mod Group
+pub mod Activators
+pub mod Traces

@@ -1,0 +1,9 @@
+//! A due change.
+
+/// The limit of a pod at an activator is to become this.
+#[derive(Clone, Copy, Debug, PartialEq, Eq, Drop)]
+pub struct Change {
+    pub activator: u64,
+    pub pod: u64,
+    pub limit: u64,
+}

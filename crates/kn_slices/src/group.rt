@@ -1,0 +1,95 @@
+//! A group of activators.
+ghost use Rattle.std.specs.Prelude.{◌≡◌, ◌<◌, ◌≤◌, ℕ, List, length, slice_index_or};
+ghost use Rattle.kn_trace.specs.Trace.{Trace};
+ghost use Rattle.kn_core.specs.State.{RevisionState};
+ghost use Rattle.kn_slices.specs.Activators.{running_at};
+ghost use Rattle.kn_slices.specs.Slices.{due_change, runs};
+ghost use Rattle.kn_slices.specs.Traces.{AreTraces, due_of, limit_by, part_at, running_by};
+
+mod asking;
+mod opening;
+mod taking;
+
+use crate::change::Change;
+use crate::parts::runs;
+use kn_core::Revision;
+use kn_record::append::append_laws;
+use std::marker::Model;
+
+/// Activators that share the pods of one revision, each a fixed revision with a slice of each pod's limit. No activator sees
+/// another's requests.
+///
+/// Contracts see the activators, and of each pod the wanted limit and the limit in force; they speak of all lists of traces for
+/// which the activators stand. Only `new` takes memory.
+#[derive(Drop)]
+pub struct Group {
+    limit: u64,
+    start: u64,
+    parts: Vec<Revision>,
+    wanted: Vec<u64>,
+    force: Vec<u64>,
+    marks: Vec<u64>,
+}
+
+impl Model for Group {
+    ghost use Rattle.kn_slices.specs.Activators.{IsKept};
+    ghost use Rattle.kn_slices.specs.Traces.{GroupState};
+
+    ghost Value = { GroupState };
+
+    ghost view = { λ g. record { limit = g.limit; start = g.start; parts = g.parts.items; wanted = g.wanted.items; force = g.force.items } };
+
+    ghost invariant = { λ g. IsKept g.limit g.start g.parts.items g.wanted.items g.force.items g.marks.items };
+}
+
+impl Group {
+    /// The limit in force of a pod.
+    pub fn in_force(&self, p: u64) -> u64
+        requires { p < length self.now.wanted }
+        ensures { result ≡ slice_index_or self.now.force p 0 }
+    {
+        self.force[p as usize]
+    }
+
+    /// How many requests run at a pod over all activators: no more than the limit in force.
+    pub fn running(&self, p: u64) -> u64
+        requires { p < length self.now.wanted }
+        ensures sum { result ≡ runs (running_at p) self.now.parts }
+        ensures traces { (cs : List Trace) → AreTraces self.now.parts cs → result ≡ runs (running_by p) cs }
+        ensures within { result ≤ slice_index_or self.now.force p 0 }
+    {
+        append_laws();
+        runs(&self.parts, p)
+    }
+
+    /// The time of an activator's last event, or the start, in milliseconds.
+    pub fn now(&self, i: u64) -> u64
+        requires { i < length self.now.parts }
+        ensures { (d : RevisionState) → result ≡ (part_at self.now i d).clock }
+    {
+        self.parts[i as usize].now()
+    }
+
+    /// How many events an activator took.
+    pub fn events(&self, i: u64) -> u64
+        requires { i < length self.now.parts }
+        ensures { (d : RevisionState) → result ≡ (part_at self.now i d).events }
+    {
+        self.parts[i as usize].events()
+    }
+
+    /// The due change: the first possible cut, by pods and then by activators, and where there is none the first possible raise.
+    /// None exactly where no change is due.
+    pub fn plan(&self) -> Option<Change>
+        ensures due { result ≡ due_of self.now }
+        ensures traces { (cs : List Trace) → AreTraces self.now.parts cs → result ≡ due_change limit_by running_by (length cs) cs self.now.wanted }
+    {
+        append_laws();
+        // Any part that is read brings what is kept of all.
+        let _pods = self.wanted.len();
+        match self.first_cut() {
+            None => self.first_raise(),
+            Some(cut) => Some(cut),
+        }
+    }
+}
