@@ -40,7 +40,10 @@ pub struct Agenda {
 
 impl Drop for Agenda {
     fn drop(self) {
-        let Agenda { finishes: _, starting: _ } = self;
+        let Agenda {
+            finishes: _,
+            starting: _,
+        } = self;
     }
 }
 

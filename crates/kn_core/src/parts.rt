@@ -43,7 +43,11 @@ pub(crate) struct Parts {
 
 impl Drop for Parts {
     fn drop(self) {
-        let Parts { throttle: _, pods: _, scaler: _ } = self;
+        let Parts {
+            throttle: _,
+            pods: _,
+            scaler: _,
+        } = self;
     }
 }
 

@@ -34,7 +34,13 @@ pub struct Revision {
 
 impl Drop for Revision {
     fn drop(self) {
-        let Revision { spec: _, start: _, clock: _, events: _, parts: _ } = self;
+        let Revision {
+            spec: _,
+            start: _,
+            clock: _,
+            events: _,
+            parts: _,
+        } = self;
     }
 }
 

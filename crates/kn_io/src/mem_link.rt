@@ -29,7 +29,13 @@ pub struct MemLink {
 
 impl Drop for MemLink {
     fn drop(self) {
-        let MemLink { replies: _, tells: _, called: _, probed: _, calls: _ } = self;
+        let MemLink {
+            replies: _,
+            tells: _,
+            called: _,
+            probed: _,
+            calls: _,
+        } = self;
     }
 }
 

@@ -31,7 +31,12 @@ pub struct JournalReader {
 
 impl Drop for JournalReader {
     fn drop(self) {
-        let JournalReader { lines: _, version: _, last: _, failed: _ } = self;
+        let JournalReader {
+            lines: _,
+            version: _,
+            last: _,
+            failed: _,
+        } = self;
     }
 }
 

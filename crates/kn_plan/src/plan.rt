@@ -27,7 +27,13 @@ pub struct Plan {
 
 impl Drop for Plan {
     fn drop(self) {
-        let Plan { listen: _, pods: _, slots: _, rounds: _, room: _ } = self;
+        let Plan {
+            listen: _,
+            pods: _,
+            slots: _,
+            rounds: _,
+            room: _,
+        } = self;
     }
 }
 

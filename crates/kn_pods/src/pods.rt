@@ -38,7 +38,12 @@ pub struct Pods {
 
 impl Drop for Pods {
     fn drop(self) {
-        let Pods { created: _, starting: _, ready: _, draining: _ } = self;
+        let Pods {
+            created: _,
+            starting: _,
+            ready: _,
+            draining: _,
+        } = self;
     }
 }
 

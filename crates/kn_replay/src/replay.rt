@@ -50,7 +50,13 @@ pub struct Replay {
 
 impl Drop for Replay {
     fn drop(self) {
-        let Replay { revision: _, tally: _, log: _, line: _, waiting: _ } = self;
+        let Replay {
+            revision: _,
+            tally: _,
+            log: _,
+            line: _,
+            waiting: _,
+        } = self;
     }
 }
 

@@ -78,7 +78,10 @@ pub struct Scaler {
 
 impl Drop for Scaler {
     fn drop(self) {
-        let Scaler { stats: _, decider: _ } = self;
+        let Scaler {
+            stats: _,
+            decider: _,
+        } = self;
     }
 }
 

@@ -30,7 +30,13 @@ pub struct Seats {
 
 impl Drop for Seats {
     fn drop(self) {
-        let Seats { pods: _, hints: _, cells: _, pod_room: _, request_room: _ } = self;
+        let Seats {
+            pods: _,
+            hints: _,
+            cells: _,
+            pod_room: _,
+            request_room: _,
+        } = self;
     }
 }
 

@@ -17,6 +17,12 @@ pub struct Workload {
 
 impl Drop for Workload {
     fn drop(self) {
-        let Workload { setup: _, start: _, boot: _, until: _, jobs: _ } = self;
+        let Workload {
+            setup: _,
+            start: _,
+            boot: _,
+            until: _,
+            jobs: _,
+        } = self;
     }
 }

@@ -34,7 +34,12 @@ pub struct Table {
 
 impl Drop for Table {
     fn drop(self) {
-        let Table { slots: _, hints: _, live: _, cursors: _ } = self;
+        let Table {
+            slots: _,
+            hints: _,
+            live: _,
+            cursors: _,
+        } = self;
     }
 }
 
