@@ -5,7 +5,7 @@ use Rattle.std.proofs.lemmas.Bool.{cases_eq}
 use Rattle.std.proofs.lemmas.List.Sums.{sum_by-cons, sum_by_more_le}
 use Rattle.std.proofs.lemmas.List.{length-set}
 use Rattle.std.proofs.Math.Seq.{drop-cons, take-append_seam}
-use Rattle.std.specs.Prelude.{slice_set, if◌then◌else◌}
+use Rattle.std.specs.Prelude.{IfSome, slice_set, if◌then◌else◌}
 use Rattle.kn_slices.specs.Group.{IsDue, IsGroup, IsWithin, Keeps, Sets}
 use Rattle.kn_slices.specs.Slices.{change, change_where, cut_at, cut_of, due_change, first_from, force_after, hold, or_else, raise_at, raise_of, runs, slice_of}
 use Rattle.kn_slices.specs.declared.change.Change.{Change}
@@ -160,6 +160,15 @@ pub due_part : {A : Type 0} (limit running : ℕ → A → ℕ) (parts : List A)
     → due_change limit running (length parts) parts wanted ≡ Some x → x.activator < length parts
 due_part limit running [] wanted x some e = absurd (omega (arith, some))
 due_part limit running (a ∷ rest) wanted x some e = let due = due_is limit running (a ∷ rest) wanted x a e in due.part
+
+pub due_inside : {A : Type 0} (limit running : ℕ → A → ℕ) (parts : List A) (wanted : List ℕ) (x : Change) → 1 ≤ length parts
+    → due_change limit running (length parts) parts wanted ≡ Some x → (x.activator < length parts) × (x.pod < length wanted)
+due_inside limit running [] wanted x some e = absurd (omega (arith, some))
+due_inside limit running (a ∷ rest) wanted x some e = let due = due_is limit running (a ∷ rest) wanted x a e in (due.part, due.pod)
+
+pub on_some : (P : Change → Type 0) (o : Option Change) → ((x : Change) → o ≡ Some x → P x) → IfSome o P
+on_some P None h = tt
+on_some P (Some x) h = h x refl
 
 pub few_after : {A : Type 0} (limit running : ℕ → A → ℕ) (parts : List A) (wanted force : List ℕ) (x : Change) (a y : A) → a ≡ get_or parts x.activator a → IsGroup limit running parts wanted force
     → due_change limit running (length parts) parts wanted ≡ Some x → Sets limit running (length wanted) x.pod x.limit a y

@@ -7,4 +7,5 @@ mod Alike
 mod Opening
 mod Steps
 mod Taken
+mod Forces
 mod Begin

@@ -20,6 +20,11 @@ runs running parts = sum_by running parts
 abbrev pub force_after : ℕ → ℕ → ℕ → ℕ
 force_after held wanted force = if nat_le held wanted then wanted else force
 
+-- of the pods from p on, whose limits are wanted and in force so: those in force after a call
+abbrev pub forces_from : {A : Type 0} → (ℕ → A → ℕ) → (ℕ → A → ℕ) → List A → ℕ → List ℕ → List ℕ → List ℕ
+forces_from limit running parts p (w ∷ ws) (f ∷ fs) = force_after (hold (limit p) (running p) parts) w f ∷ forces_from limit running parts (p + 1) ws fs
+forces_from limit running parts p _ _ = []
+
 -- ---- the due change
 
 abbrev pub or_else : {X : Type 0} → Option X → Option X → Option X

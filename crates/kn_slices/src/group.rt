@@ -1,5 +1,5 @@
 //! A group of activators.
-ghost use Rattle.std.specs.Prelude.{◌≡◌, ◌<◌, ◌≤◌, ℕ, List, length, slice_index_or};
+ghost use Rattle.std.specs.Prelude.{◌≡◌, ◌<◌, ◌≤◌, ℕ, List, IfSome, length, slice_index_or};
 ghost use Rattle.kn_trace.specs.Trace.{Trace};
 ghost use Rattle.kn_core.specs.State.{RevisionState};
 ghost use Rattle.kn_slices.specs.Activators.{running_at};
@@ -82,6 +82,7 @@ impl Group {
     /// None exactly where no change is due.
     pub fn plan(&self) -> Option<Change>
         ensures due { result ≡ due_of self.now }
+        ensures range { IfSome result (λ x. (x.activator < length self.now.parts) × (x.pod < length self.now.wanted)) }
         ensures traces { (cs : List Trace) → AreTraces self.now.parts cs → result ≡ due_change limit_by running_by (length cs) cs self.now.wanted }
     {
         append_laws();

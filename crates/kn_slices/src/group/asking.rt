@@ -3,7 +3,7 @@ ghost use Rattle.std.specs.Prelude.{◌≡◌, ◌<◌, ◌≤◌, ◌^◌, ◌+
 ghost use Rattle.kn_trace.specs.Trace.{Trace};
 ghost use Rattle.kn_core.specs.State.{RevisionState};
 ghost use Rattle.kn_slices.specs.Activators.{EachIs, limit_at, running_at};
-ghost use Rattle.kn_slices.specs.Slices.{cut_of, first_from, force_after, hold, raise_of};
+ghost use Rattle.kn_slices.specs.Slices.{cut_of, first_from, force_after, forces_from, hold, raise_of};
 ghost use Rattle.kn_slices.specs.declared.change.Change.{Change as ChangeValue};
 ghost use Rattle.kn_slices.specs.Traces.{AreLawful, AreSafe, AreTraces, IsSameGroup, clocks_of, counts_of, due_of, limit_by, load_of, made_at, part_at, rows_of, running_by, traces_after, unset_of};
 
@@ -91,8 +91,8 @@ impl Group {
             → AreTraces self.new.parts (traces_after self.old cs x.activator d (made_at time x)) }
         ensures same { IsSameGroup self.old self.new }
         ensures wanted { self.new.wanted ≡ self.old.wanted }
-        ensures force { (cs : List Trace) (p : ℕ) → AreTraces self.new.parts cs → p < length self.old.wanted
-            → slice_index_or self.new.force p 0 ≡ force_after (hold (limit_by p) (running_by p) cs) (slice_index_or self.old.wanted p 0) (slice_index_or self.old.force p 0) }
+        ensures force { (cs : List Trace) → AreTraces self.new.parts cs
+            → self.new.force ≡ forces_from limit_by running_by cs 0 self.old.wanted self.old.force }
         ensures clocks { (x : ChangeValue) → due_of self.old ≡ Some x → clocks_of self.new.parts ≡ slice_set (clocks_of self.old.parts) x.activator time }
         ensures counts { (x : ChangeValue) (d : RevisionState) → due_of self.old ≡ Some x → counts_of self.new.parts ≡ slice_set (counts_of self.old.parts) x.activator ((part_at self.old x.activator d).events + 1) }
         ensures load { (j : ℕ) (d : RevisionState) → j < length self.old.parts → load_of self.new j d ≡ load_of self.old j d }

@@ -6,7 +6,7 @@ ghost use Rattle.kn_trace.specs.Trace.{Trace};
 ghost use Rattle.kn_core.specs.State.{RevisionState, StandsFor};
 ghost use Rattle.kn_core.specs.Steps.{IsWithinRange};
 ghost use Rattle.kn_slices.specs.Activators.{Goes, IsActivator, IsGroupOf, IsPlain, StaysLow, Takes, limit_at, running_at};
-ghost use Rattle.kn_slices.specs.Slices.{force_after, hold};
+ghost use Rattle.kn_slices.specs.Slices.{force_after, forces_from, hold};
 ghost use Rattle.kn_slices.specs.Traces.{AreLawful, AreSafe, AreTraces, IsSameGroup, clocks_of, counts_of, limit_by, part_at, rows_of, running_by, trace_at, traces_after, unset_of};
 
 use super::Group;
@@ -89,8 +89,8 @@ impl Group {
             → AreTraces self.new.parts (traces_after self.old cs i d e.now) }
         ensures same { IsSameGroup self.old self.new }
         ensures wanted { self.new.wanted ≡ self.old.wanted }
-        ensures force { (cs : List Trace) (p : ℕ) → AreTraces self.new.parts cs → p < length self.old.wanted
-            → slice_index_or self.new.force p 0 ≡ force_after (hold (limit_by p) (running_by p) cs) (slice_index_or self.old.wanted p 0) (slice_index_or self.old.force p 0) }
+        ensures force { (cs : List Trace) → AreTraces self.new.parts cs
+            → self.new.force ≡ forces_from limit_by running_by cs 0 self.old.wanted self.old.force }
         ensures clocks { clocks_of self.new.parts ≡ slice_set (clocks_of self.old.parts) i e.now.time }
         ensures counts { (d : RevisionState) → counts_of self.new.parts ≡ slice_set (counts_of self.old.parts) i ((part_at self.old i d).events + 1) }
         ensures unset { (j : ℕ) (d : RevisionState) → j < length self.old.parts → unset_of self.new j d ≡ unset_of self.old j d }

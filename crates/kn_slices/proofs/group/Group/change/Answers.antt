@@ -1,4 +1,4 @@
-use Rattle.std.proofs.Common.{◌≡◌, ◌+◌, ◌≤◌, ◌∙◌, ◌++◌, arith, ap, sym, subst, refl, length, get_or}
+use Rattle.std.proofs.Common.{◌≡◌, ◌+◌, ◌≤◌, ◌∙◌, ◌++◌, arith, ap, sym, subst, refl, length, get_or, ℕ, List}
 use Rattle.std.specs.Prelude.{slice_set}
 use Rattle.std.proofs.lemmas.List.{length-set}
 use Rattle.kn_trace.specs.Events.{react}
@@ -7,9 +7,10 @@ use Rattle.kn_slices.specs.declared.change.Change.{Change}
 use Rattle.kn_core.specs.State.{RevisionState}
 use Rattle.kn_slices.specs.Activators.{limit_at, running_at}
 use Rattle.kn_slices.specs.Slices.{force_after}
-use Rattle.kn_slices.specs.Traces.{AreTraces, clocks_of, counts_of, made_at, trace_at}
+use Rattle.kn_slices.specs.Traces.{AreTraces, clocks_of, counts_of, limit_by, made_at, running_by, trace_at}
 use Rattle.kn_slices.proofs.Alike.{hold_traces, safe}
 use Rattle.kn_slices.proofs.Calls.{due_range_of, low_change}
+use Rattle.kn_slices.proofs.Forces.{forces_all}
 use Rattle.kn_slices.proofs.Due.{due_is, due_part, lent, some_same}
 use Rattle.kn_slices.proofs.Taken.{due_load, due_marked, due_marks, lawful_all, taken_clocks, taken_counts, taken_opened, taken_specs, taken_stands}
 use Rattle.kn_slices.proofs.group.Group.change.Goals as goal
@@ -124,10 +125,13 @@ returns-clause-force c =
     let whole = lent c.self.inside.parts.len c.take.new.parts c.self.inside.parts.items (c.take.ensures.same ∙ c.deref_mut.ensures.len) in
     let whole' = lent c.self.inside.force.len c.take.new.force c.self.inside.force.items (c.take.ensures.many ∙ c.deref_mut-in-Some.ensures.len) in
     let group = rw c.deref.ensures.value at c.take.ensures.group in
-    rw (← c.self.view_is, whole, whole') (λ cs p traces inside.
+    let same = c.self.invariant.group.group.many in
+    let many = c.take.ensures.many ∙ ap (λ (xs : List ℕ). length xs) c.deref_mut-in-Some.ensures.value ∙ same in
+    rw (← c.self.view_is, whole, whole') (λ cs traces.
+    forces_all limit_by running_by cs c.self.inside.wanted.items c.self.inside.force.items c.take.new.force same many (λ p inside.
     let held = hold_traces c.append_laws.ensures.views c.take.new.parts c.self.inside.wanted.items c.take.new.force cs p group traces inside in
     (rw (c.deref.ensures.value, c.deref_mut-in-Some.ensures.value) at c.take.ensures.force) p inside
-    ∙ ap (λ h. force_after h (get_or c.self.inside.wanted.items p 0) (get_or c.self.inside.force.items p 0)) held)
+    ∙ ap (λ h. force_after h (get_or c.self.inside.wanted.items p 0) (get_or c.self.inside.force.items p 0)) held))
 
 pub returns-clause-clocks : goal.returns-clause-clocks
 returns-clause-clocks c =

@@ -1,7 +1,9 @@
-use Rattle.std.proofs.Common.{◌∙◌, ap, refl, length, get_or}
+use Rattle.std.proofs.Common.{◌∙◌, ap, refl, length, get_or, ℕ, List}
 use Rattle.kn_slices.specs.Slices.{force_after}
+use Rattle.kn_slices.specs.Traces.{limit_by, running_by}
 use Rattle.kn_slices.proofs.Alike.{hold_traces, safe}
 use Rattle.kn_slices.proofs.Calls.{low_step, plain_limit}
+use Rattle.kn_slices.proofs.Forces.{forces_all}
 use Rattle.kn_slices.proofs.Due.{lent}
 use Rattle.kn_slices.proofs.Taken.{lawful_all, plain_marks, plain_unset, taken_clocks, taken_counts, taken_opened, taken_specs, taken_stands}
 use Rattle.kn_slices.proofs.group.Group.step.Goals as goal
@@ -57,10 +59,13 @@ returns-clause-force c =
     let whole = lent c.self.inside.parts.len c.take.new.parts c.self.inside.parts.items (c.take.ensures.same ∙ c.deref_mut.ensures.len) in
     let whole' = lent c.self.inside.force.len c.take.new.force c.self.inside.force.items (c.take.ensures.many ∙ c.deref_mut-2.ensures.len) in
     let group = rw c.deref.ensures.value at c.take.ensures.group in
-    rw (← c.self.view_is, whole, whole') (λ cs p traces inside.
+    let same = c.self.invariant.group.group.many in
+    let many = c.take.ensures.many ∙ ap (λ (xs : List ℕ). length xs) c.deref_mut-2.ensures.value ∙ same in
+    rw (← c.self.view_is, whole, whole') (λ cs traces.
+    forces_all limit_by running_by cs c.self.inside.wanted.items c.self.inside.force.items c.take.new.force same many (λ p inside.
     let held = hold_traces c.append_laws.ensures.views c.take.new.parts c.self.inside.wanted.items c.take.new.force cs p group traces inside in
     (rw (c.deref.ensures.value, c.deref_mut-2.ensures.value) at c.take.ensures.force) p inside
-    ∙ ap (λ h. force_after h (get_or c.self.inside.wanted.items p 0) (get_or c.self.inside.force.items p 0)) held)
+    ∙ ap (λ h. force_after h (get_or c.self.inside.wanted.items p 0) (get_or c.self.inside.force.items p 0)) held))
 
 pub returns-clause-clocks : goal.returns-clause-clocks
 returns-clause-clocks c =
