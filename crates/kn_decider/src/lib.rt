@@ -2,7 +2,6 @@
 #![tactic(auto)]
 
 mod decider;
-pub mod laws;
 mod parts;
 
 pub use decider::Decider;

@@ -3,4 +3,3 @@ pub mod Counting
 pub mod Found
 pub mod Words
 pub mod Places
-pub mod Follows
