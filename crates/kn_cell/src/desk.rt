@@ -24,7 +24,12 @@ pub struct Desk {
 
 impl Drop for Desk {
     fn drop(self) {
-        let Desk { room: _, revision: _, history: _, log: _ } = self;
+        let Desk {
+            room: _,
+            revision: _,
+            history: _,
+            log: _,
+        } = self;
     }
 }
 
