@@ -15,12 +15,14 @@ pub type Board = Shared<Desk, View, Key, Order>;
 
 pub type Place = Seat<Desk, View>;
 
-// What the word of the turn says, where it isn't 0: somebody has the turn; somebody has it, and others may be parked until it is given back.
+// What the turn word says where it isn't 0, which is the turn free: somebody has the turn.
 pub const TAKEN: u64 = 1;
 
+// Somebody has it, and others may be parked until it is given back.
 pub const AWAITED: u64 = 2;
 
-/// Takes the turn and leaves this mark, and answers what the word said before: 0 where the turn was free. Else another has the turn.
+/// Takes the turn and leaves this mark. Answers what the word said before: 0 where the turn was free, and else another
+/// has it.
 pub fn take(board: &Board, place: &mut Place, mark: u64) -> u64
     requires same { place.old.table_id ≡ board.now.table_id }
     requires sized { board.now.table_id.words ≡ 2 }

@@ -31,7 +31,7 @@ pub fn take_turn<R: Wait>(rt: &R, board: &Board, place: &mut Place)
     }
     for _ in 0..LOOKS {
         if found != TAKEN {
-            // A mark of one that is parked was overwritten: the swaps below put it back.
+            // The swap overwrote the mark of one that is parked: those below put it back, or take the turn with it.
             break;
         }
         std::hint::spin_loop();
