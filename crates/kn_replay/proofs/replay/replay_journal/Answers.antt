@@ -262,9 +262,3 @@ returns-clause-never_falls g c = omega (arith, c.open.ensures.never_falls, c.fol
 pub returns-clause-out_never_falls : goal.returns-clause-out_never_falls
 returns-clause-out_never_falls g c =
     omega (arith, c.put_rows.ensures.cause.never_falls, c.follow-status.ensures.out_never_falls)
-
-pub same-replay : goal.same-replay
-same-replay g c = refl
-
-pub same-reader : goal.same-reader
-same-reader g c = refl
