@@ -2,30 +2,62 @@
 //! numbers, so that a test's proof sees nothing of what was seen. They test when they run what a call wants, and are
 //! none where it isn't so.
 
-ghost use Rattle.std.specs.Prelude.{◌≡◌, ◌+◌, ◌≤◌, true, IfSome};
+ghost use Rattle.std.specs.Prelude.{◌≡◌, ◌+◌, ◌≤◌, [], true, IfOk};
 ghost use Rattle.kn_core.specs.Steps.{IsWithinRange};
 ghost use Rattle.kn_cell.specs.History.{MayCome};
 ghost use Rattle.kn_tests_cell.specs.Numbers.{IsFirst, IsStill};
 
-use kn_cell::{Full, History, Pass, RevisionCell};
+use kn_cell::{Full, Pass, RevisionCell};
 use kn_core::Revision;
-use kn_event::{Act, EntryLog, Slots, Spec, Told};
+use kn_event::{Act, EntryLog, Memory, Slots, Spec, Told};
 use std::alloc::Global;
 use std::sync::Wait;
 
-/// A new fixed revision of one pod, which starts, with so many seats and a breaker of this depth and maximum.
-pub fn one_pod(alloc: Global, seats: u64, breaker: u64) -> Option<Revision> {
-    if seats > 1000 || breaker < 1 || breaker > 1000 {
-        return None;
-    }
+fn pod_in(alloc: Global, seats: u64, breaker: u64, log: &mut EntryLog) -> Result<Revision, Memory>
+    requires log { log.old ≡ [] }
+    requires seats { seats ≤ 1000 }
+    requires breaker { (1 ≤ breaker) × (breaker ≤ 1000) }
+    ensures { IfOk result (λ r. r.events ≡ 0) }
+{
     let slots = Slots {
         depth: breaker,
         max: breaker,
         seed: 0,
     };
-    let spec = Spec::fixed(alloc, seats, 1, 300, slots).ok()?;
-    let mut log = EntryLog::new(alloc).ok()?;
-    Revision::new(alloc, spec, 0, &mut log).ok()
+    match Spec::fixed(alloc, seats, 1, 300, slots) {
+        Ok(spec) => Revision::new(alloc, spec, 0, log),
+        Err(Memory) => Err(Memory),
+    }
+}
+
+/// A new fixed revision of one pod, which starts, with so many seats and a breaker of this depth and maximum.
+pub fn one_pod(alloc: Global, seats: u64, breaker: u64) -> Result<Revision, Memory>
+    requires seats { seats ≤ 1000 }
+    requires breaker { (1 ≤ breaker) × (breaker ≤ 1000) }
+    ensures { IfOk result (λ r. r.events ≡ 0) }
+{
+    match EntryLog::new(alloc) {
+        Ok(mut log) => pod_in(alloc, seats, breaker, &mut log),
+        Err(Memory) => Err(Memory),
+    }
+}
+
+fn open_over(
+    alloc: Global,
+    revision: Revision,
+    room: u64,
+    passes: u64,
+) -> Result<(RevisionCell, Pass), Memory>
+    requires events { revision.events ≡ 0 }
+    requires room { room ≤ 1000000 }
+    requires passes { (1 ≤ passes) × (passes ≤ 1000) }
+    ensures { IfOk result (λ r. IsFirst r.0 passes r.1) }
+{
+    if revision.live() > 0 {
+        drop(revision);
+        return Err(Memory);
+    }
+    RevisionCell::new(alloc, revision, room, passes)
 }
 
 /// A cell over such a revision, and the first of so many passes.
@@ -35,21 +67,21 @@ pub fn open(
     breaker: u64,
     room: u64,
     passes: u64,
-) -> Option<(RevisionCell, Pass)>
-    ensures { IfSome result (λ r. IsFirst r.0 passes r.1) }
+) -> Result<(RevisionCell, Pass), Memory>
+    requires seats { seats ≤ 1000 }
+    requires breaker { (1 ≤ breaker) × (breaker ≤ 1000) }
+    requires room { room ≤ 1000000 }
+    requires passes { (1 ≤ passes) × (passes ≤ 1000) }
+    ensures { IfOk result (λ r. IsFirst r.0 passes r.1) }
 {
-    let revision = one_pod(alloc, seats, breaker)?;
-    if revision.live() > 0 || revision.events() >= 1 << 53 {
-        return None;
+    match one_pod(alloc, seats, breaker) {
+        Ok(revision) => open_over(alloc, revision, room, passes),
+        Err(Memory) => Err(Memory),
     }
-    if room > 1_000_000 || passes < 1 || passes > 1000 {
-        return None;
-    }
-    RevisionCell::new(alloc, revision, room, passes).ok()
 }
 
 /// What is left of a revision, in numbers, so that no test's proof has to see one.
-#[derive(Clone, Copy, Debug, PartialEq)]
+#[derive(Clone, Copy)]
 pub struct Left {
     pub now: u64,
     pub arrivals: u64,
@@ -62,14 +94,6 @@ pub fn left_of(revision: &Revision) -> Left {
         arrivals: revision.arrivals(),
         live: revision.live(),
     }
-}
-
-pub fn close(cell: RevisionCell, pass: Pass) -> (Left, History)
-    requires cell { pass.cell ≡ cell }
-    requires all { 1 + pass.free + pass.back ≡ pass.passes }
-{
-    let (revision, history) = cell.close(pass);
-    (left_of(&revision), history)
 }
 
 /// Whether the act may come to a cell, and to a revision.

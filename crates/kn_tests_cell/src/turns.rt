@@ -2,12 +2,9 @@
 ghost use Rattle.std.specs.Prelude.{◌≡◌};
 ghost use Rattle.kn_tests_cell.specs.Numbers.{IsStill};
 
-use crate::shared::{Left, close, may_come, on, open};
-use anyhow::bail;
-use kn_case::case;
-use kn_cell::{Full, History, Pass, Past, RevisionCell, TryError};
+use crate::shared::{may_come, on};
+use kn_cell::{Full, Pass, RevisionCell, TryError};
 use kn_event::{Act, Stand, Told};
-use std::alloc::{AllocError, Global};
 use std::sync::Wait;
 
 pub fn try_on(
@@ -46,11 +43,12 @@ fn next_starting<R: Wait>(rt: &R, cell: &RevisionCell, pass: &mut Pass, from: u6
     cell.next_starting(rt, pass, from)
 }
 
-fn rest<R: Wait>(rt: &R, cell: &RevisionCell, pass: &mut Pass)
+fn rest<R: Wait>(rt: &R, cell: &RevisionCell, pass: &mut Pass) -> bool
     requires { pass.old.cell ≡ cell.now }
     ensures { IsStill pass.old pass.new }
 {
     cell.rest(rt, pass);
+    true
 }
 
 /// A call, and what it is to answer.
@@ -75,10 +73,7 @@ fn make<R: Wait>(rt: &R, cell: &RevisionCell, pass: &mut Pass, call: &Call) -> b
         Call::Look(request, stand) => look(rt, cell, pass, request) == stand,
         Call::Proxied(request, is) => proxied(rt, cell, pass, request) == is,
         Call::NextStarting(from, pod) => next_starting(rt, cell, pass, from) == pod,
-        Call::Rest => {
-            rest(rt, cell, pass);
-            true
-        }
+        Call::Rest => rest(rt, cell, pass),
     }
 }
 
@@ -103,48 +98,29 @@ fn make_by<R: Wait>(
     }
 }
 
-/// Two passes make the calls by turns. Answers the place of the first one that isn't answered as it is to be.
+/// Two passes make the calls by turns. Answers how many are answered as they are to be, up to the first that isn't.
 fn make_all<R: Wait>(
     rt: &R,
     cell: &RevisionCell,
     first: &mut Pass,
     second: &mut Pass,
     calls: &[Call],
-) -> Option<usize>
+) -> usize
     requires first { first.old.cell ≡ cell.now }
     requires second { second.old.cell ≡ cell.now }
     ensures first { IsStill first.old first.new }
     ensures second { IsStill second.old second.new }
 {
-    for (i, call) in calls.iter().enumerate() {
-        if !make_by(rt, cell, first, second, i % 2 == 1, call) {
-            return Some(i);
+    for i in 0..calls.len() {
+        if !make_by(rt, cell, first, second, i % 2 == 1, &calls[i]) {
+            return i;
         }
     }
-    None
+    calls.len()
 }
 
-/// What comes of calls: the place of the first one that wasn't answered as it is to be, and what is left.
-#[derive(Drop)]
-struct Outcome {
-    wrong: Option<usize>,
-    left: Left,
-    history: History,
-}
-
-/// What comes of calls that two passes make by turns to a cell over one pod of one seat.
-fn by_turns<R: Wait>(rt: &R, alloc: Global, room: u64, calls: &[Call]) -> Option<Outcome> {
-    let (cell, mut first) = open(alloc, 1, 1, room, 2)?;
-    let mut second = cell.split(&mut first);
-    let wrong = make_all(rt, &cell, &mut first, &mut second, calls);
-    cell.join(&mut first, second);
-    let (left, history) = close(cell, first);
-    Some(Outcome {
-        wrong,
-        left,
-        history,
-    })
-}
+/// The one pod gets Ready.
+const READY: [Call; 1] = [Call::On(Act::Ready(0), 0, Ok(Told::Passed))];
 
 /// No room is left for a request that comes, for it and its end, nor then for a tick, beside the request that runs.
 const ROOM: [Call; 14] = [
@@ -188,17 +164,6 @@ const ROOM: [Call; 14] = [
     Call::Rest,
 ];
 
-/// The room is for rows and for the ends of live requests.
-pub fn history_room<R: Print + AllocGlobal + Wait>(rt: &R) -> anyhow::Result<()> {
-    let Some(outcome) = by_turns(rt, rt.alloc(), 4, &ROOM) else {
-        bail!("memory is lacking");
-    };
-    case(rt, "no room, no wrong answer", &outcome.wrong, &None)?;
-    case(rt, "no room, rows", &outcome.history.items().len(), &4)?;
-    case(rt, "no room, live requests", &outcome.left.live, &0)?;
-    Ok(())
-}
-
 /// Neither pass is ever busy.
 const TURNS: [Call; 4] = [
     Call::Try(Act::Ready(0), 10, Ok(Told::Passed)),
@@ -207,29 +172,30 @@ const TURNS: [Call; 4] = [
     Call::Try(Act::Pass, u64::MAX, Ok(Told::Passed)),
 ];
 
-/// The passes and the times of the rows.
-fn passes_and_times(alloc: Global, rows: &[Past]) -> Result<Vec<(u64, u64)>, AllocError> {
-    let mut all = Vec::new(alloc);
-    for row in rows {
-        all.push((row.pass, row.event.time))?;
-    }
-    Ok(all)
+/// Which calls are made.
+#[derive(Clone, Copy)]
+pub enum Script {
+    Ready,
+    Room,
+    Turns,
 }
 
-/// Two passes by turns. No time falls, and none is above 2^42.
-pub fn takes_turns<R: Print + AllocGlobal + Wait>(rt: &R) -> anyhow::Result<()> {
-    let Some(outcome) = by_turns(rt, rt.alloc(), 100, &TURNS) else {
-        bail!("memory is lacking");
-    };
-    case(rt, "turns, no wrong answer", &outcome.wrong, &None)?;
-    let rows = passes_and_times(rt.alloc(), outcome.history.items())?;
-    let wanted = [(0, 10), (1, 10), (0, 11), (1, 1 << 42)];
-    case(
-        rt,
-        "turns, passes and times",
-        &rows.as_slice(),
-        &wanted.as_slice(),
-    )?;
-    case(rt, "turns, the last time", &outcome.left.now, &(1 << 42))?;
-    Ok(())
+/// Two passes make these calls by turns.
+pub fn play<R: Wait>(
+    rt: &R,
+    cell: &RevisionCell,
+    first: &mut Pass,
+    second: &mut Pass,
+    script: Script,
+) -> usize
+    requires first { first.old.cell ≡ cell.now }
+    requires second { second.old.cell ≡ cell.now }
+    ensures first { IsStill first.old first.new }
+    ensures second { IsStill second.old second.new }
+{
+    match script {
+        Script::Ready => make_all(rt, cell, first, second, &READY),
+        Script::Room => make_all(rt, cell, first, second, &ROOM),
+        Script::Turns => make_all(rt, cell, first, second, &TURNS),
+    }
 }

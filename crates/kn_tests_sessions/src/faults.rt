@@ -1,9 +1,8 @@
 //! Each call of a session's caller fails in turn, until none is left that could.
 
-use crate::sessions::{Sinks, Size, has, replayed, serve_mem, slots_of};
-use crate::setting::MemSlot;
+use crate::reports::{has, replayed};
+use crate::sessions::{Size, Stage, serve_still, stage_of};
 use kn_case::case;
-use kn_io::{ListClock, OpenGate};
 use kn_journal::Status;
 use std::alloc::{AllocError, Global};
 use std::io;
@@ -11,24 +10,13 @@ use std::sync::Wait;
 use std::thread::Threads;
 
 /// What came of a session.
-#[derive(Clone, Copy, PartialEq, Eq)]
+#[derive(Clone, Copy)]
 enum Came {
     /// No call failed.
     Ok,
     /// Slot 0 failed, and the journal tells of a request that was finished, or of none.
     SlotFault,
     Wrong,
-}
-
-/// What comes of a session that writes there.
-fn serve_to<R: Threads + Wait + Sync>(
-    rt: &R,
-    alloc: Global,
-    slots: &mut [MemSlot],
-    sinks: &mut Sinks,
-) -> Result<Option<Status>, AllocError> {
-    let clock = ListClock::new(vec![in alloc; 0]?);
-    serve_mem(rt, alloc, slots, Size::once(100), &clock, &OpenGate, sinks)
 }
 
 /// What a status and the report of what was written come to.
@@ -44,31 +32,36 @@ fn judged(status: Option<Status>, report: &[u8]) -> Came {
 fn come_to<R: Threads + Wait + Sync>(
     rt: &R,
     alloc: Global,
-    slots: &mut [MemSlot],
-    sinks: &mut Sinks,
+    stage: &mut Stage,
 ) -> Result<Came, AllocError> {
-    let status = serve_to(rt, alloc, slots, sinks)?;
+    let Stage { slots, sinks } = stage;
+    let status = serve_still(rt, alloc, slots, Size::once(100), sinks)?;
     let report = replayed(alloc, sinks.out.held())?;
-    Ok(judged(status, &report))
+    let came = judged(status, &report);
+    drop(report);
+    Ok(came)
 }
 
-fn slots_at(alloc: Global, call: u64) -> Result<Vec<MemSlot>, AllocError> {
+fn stage_at(alloc: Global, call: u64) -> Result<Stage, AllocError> {
     let words = format!(in alloc; "good/caller={call}")?;
-    slots_of(alloc, words.as_str())
+    let stage = stage_of(alloc, words.as_str());
+    drop(words);
+    stage
 }
 
 /// A session whose caller fails at this call.
 fn fail_at<R: Threads + Wait + Sync>(rt: &R, alloc: Global, call: u64) -> Result<Came, AllocError> {
-    let mut slots = slots_at(alloc, call)?;
-    let mut sinks = Sinks::new(alloc)?;
-    come_to(rt, alloc, &mut slots, &mut sinks)
+    let mut stage = stage_at(alloc, call)?;
+    let came = come_to(rt, alloc, &mut stage);
+    drop(stage);
+    came
 }
 
 /// At how many of the first 100 calls a session failed as it must, and what came of the next.
 fn sweep<R: Threads + Wait + Sync>(rt: &R, alloc: Global) -> Result<(u64, Came), AllocError> {
     for call in 0..100 {
         let came = fail_at(rt, alloc, call)?;
-        if came != Came::SlotFault {
+        if !matches!(came, Came::SlotFault) {
             return Ok((call, came));
         }
     }
@@ -80,7 +73,7 @@ pub fn show<R: Threads + Wait + Sync + Print + AllocGlobal>(rt: &R) -> io::Resul
     case(
         rt,
         "each call of the caller fails, and then none",
-        &(came == Came::Ok),
+        &matches!(came, Came::Ok),
         &true,
     )?;
     case(rt, "at least three calls fail", &(calls > 2), &true)

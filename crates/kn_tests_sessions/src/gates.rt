@@ -2,7 +2,8 @@
 
 use crate::lines::{show_answer, show_calls};
 use crate::readings::Hands;
-use crate::sessions::{Sinks, Size, has, reports, serve_mem, slots_of};
+use crate::reports::{has, reports};
+use crate::sessions::{Sinks, Size, Stage, serve_mem, stage_of};
 use crate::setting::MemSlot;
 use kn_case::case;
 use kn_io::Gate;
@@ -96,8 +97,7 @@ fn show_session<R: Threads + Wait + Sync + Print + AllocGlobal>(
 
 fn show_at_gate<R: Threads + Wait + Sync + Print + AllocGlobal>(
     rt: &R,
-    slots: &mut [MemSlot],
-    sinks: &mut Sinks,
+    stage: &mut Stage,
 ) -> io::Result<()> {
     let hands = Hands::new();
     let gate = BothGate {
@@ -106,12 +106,14 @@ fn show_at_gate<R: Threads + Wait + Sync + Print + AllocGlobal>(
         late: AtomicBool::new(false),
         hands: &hands,
     };
+    let Stage { slots, sinks } = stage;
     show_session(rt, slots, sinks, &hands, &gate)
 }
 
 /// Two callers at one pod.
 pub fn show<R: Threads + Wait + Sync + Print + AllocGlobal>(rt: &R) -> io::Result<()> {
-    let mut slots = slots_of(rt.alloc(), "good good")?;
-    let mut sinks = Sinks::new(rt.alloc())?;
-    show_at_gate(rt, &mut slots, &mut sinks)
+    let mut stage = stage_of(rt.alloc(), "good good")?;
+    let done = show_at_gate(rt, &mut stage);
+    drop(stage);
+    done
 }

@@ -2,9 +2,17 @@
 ghost use Rattle.std.specs.Prelude.{◌≤◌};
 ghost use Rattle.kn_io.specs.Causes.{Rose};
 
-use kn_event::Text;
-use kn_io::{Caller, Failed, Faulty, LinkError, PodLink, Sink, Source};
-use std::alloc::Global;
+use crate::sessions::{Sinks, Size, serve};
+use crate::setting::{had, one_caller, one_link};
+use kn_event::{Memory, Text};
+use kn_io::{
+    Caller, Clock, Failed, Faulty, LinkError, MemCaller, MemLink, OpenGate, PodLink, Sink, Source,
+};
+use kn_journal::Status;
+use kn_serve::{Slot, Work};
+use std::alloc::{AllocError, Global};
+use std::sync::Wait;
+use std::thread::Threads;
 
 /// What is done where a caller or a link is used.
 pub trait Hook {
@@ -119,5 +127,64 @@ impl<C: Caller, H: Hook> Caller for HookedCaller<'_, C, H> {
             Ok(()) => Ok(()),
             Err(Failed) => Err(fault(&mut self.faults)),
         }
+    }
+}
+
+pub type HookedSlot<'a, H> = Slot<HookedCaller<'a, MemCaller, H>, HookedLink<'a, MemLink, H>>;
+
+/// A slot of one connection, whose caller and link tell the hook.
+pub fn slot_of<'a, H: Hook>(
+    alloc: Global,
+    request: &[u8],
+    hook: &'a H,
+) -> Result<HookedSlot<'a, H>, AllocError> {
+    let caller = had(one_caller(alloc, request, u64::MAX, u64::MAX))?;
+    match one_link(alloc, u64::MAX) {
+        Ok(link) => Ok(Slot {
+            caller: HookedCaller {
+                caller,
+                hook,
+                faults: 0,
+            },
+            link: HookedLink { link, hook },
+            work: Work::new(),
+        }),
+        Err(Memory) => {
+            drop(caller);
+            Err(AllocError)
+        }
+    }
+}
+
+/// A session of such slots. These calls of its keeper fail, which tells the hook too.
+pub fn serve_hooked<'a, H: Hook + Sync, K: Clock + Sync, R: Threads + Wait + Sync>(
+    rt: &R,
+    alloc: Global,
+    setup: &[u8],
+    slots: &mut [HookedSlot<'a, H>],
+    hook: &'a H,
+    fails: Vec<u64>,
+    clock: &K,
+    sinks: &mut Sinks,
+) -> Result<Option<Status>, AllocError> {
+    match MemLink::new(alloc, Vec::new(alloc), fails) {
+        Ok(link) => {
+            let mut keeper = HookedLink { link, hook };
+            let size = Size::once(100);
+            let served = serve(
+                rt,
+                alloc,
+                setup,
+                slots,
+                &mut keeper,
+                size,
+                clock,
+                &OpenGate,
+                sinks,
+            );
+            drop(keeper);
+            served
+        }
+        Err(Memory) => Err(AllocError),
     }
 }

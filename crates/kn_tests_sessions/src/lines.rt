@@ -1,6 +1,7 @@
 //! Words of a line, and what is printed below it.
 use kn_case::shown;
-use kn_io::{MemCaller, MemLink};
+use kn_io::{Call, MemCaller, MemLink};
+use std::alloc::{AllocError, Global};
 use std::io;
 
 /// The value of a word `KEY=VALUE`, where there is one.
@@ -23,6 +24,22 @@ pub fn number_of(line: &str, key: &str, other: u64) -> u64 {
     }
 }
 
+/// Adds an item, or has it go where memory is lacking.
+pub fn add<T: Drop>(items: &mut Vec<T>, item: T) -> Result<(), AllocError> {
+    match items.push(item) {
+        Ok(()) => Ok(()),
+        Err(failed) => {
+            drop(failed);
+            Err(AllocError)
+        }
+    }
+}
+
+/// The one number.
+pub fn one_number(alloc: Global, number: u64) -> Result<Vec<u64>, AllocError> {
+    Vec::from_slice(alloc, &[number])
+}
+
 /// The caller's one answer. A caller that met nobody has none.
 pub fn answer_of(caller: &MemCaller) -> &[u8] {
     if caller.texts() > 1 {
@@ -32,18 +49,34 @@ pub fn answer_of(caller: &MemCaller) -> &[u8] {
     }
 }
 
+/// Prints bytes between these texts.
+pub fn show_bytes<R: Print + AllocGlobal>(
+    rt: &R,
+    before: &str,
+    bytes: &[u8],
+    after: &str,
+) -> io::Result<()> {
+    let text = shown(rt.alloc(), bytes)?;
+    let printed = println!(rt; "{before}\"{text}\"{after}");
+    drop(text);
+    printed
+}
+
 /// Prints the caller's one answer.
 pub fn show_answer<R: Print + AllocGlobal>(rt: &R, caller: &MemCaller) -> io::Result<()> {
-    let answer = shown(rt.alloc(), answer_of(caller))?;
-    println!(rt; "  answered \"{answer}\"")
+    show_bytes(rt, "  answered ", answer_of(caller), "")
+}
+
+fn show_call<R: Print + AllocGlobal>(rt: &R, call: &Call) -> io::Result<()> {
+    let pod = call.pod;
+    print!(rt; "  sent to {pod} ")?;
+    show_bytes(rt, "", call.request.bytes(), "")
 }
 
 /// Prints what each pod was sent.
 pub fn show_calls<R: Print + AllocGlobal>(rt: &R, link: &MemLink) -> io::Result<()> {
     for call in link.calls().unwrap_or(&[]) {
-        let pod = call.pod;
-        let request = shown(rt.alloc(), call.request.bytes())?;
-        println!(rt; "  sent to {pod} \"{request}\"")?;
+        show_call(rt, call)?;
     }
     Ok(())
 }

@@ -1,5 +1,6 @@
 //! A session over TCP on this machine: a client, the parts that `kactd` serves with, and a pod.
-use crate::sessions::{Sinks, Size, has, replayed, serve};
+use crate::reports::{has, replayed};
+use crate::sessions::{Sinks, Size, serve};
 use crate::setting::{FORWARDED, REPLY, REQUEST, one_text};
 use kn_case::case;
 use kn_event::Items;
@@ -22,13 +23,23 @@ const WAIT: u64 = 20;
 /// One pod that starts, and a request that waits 10 seconds at most.
 const SETUP: &[u8] = b"kact journal 1\nfixed limit=1 depth=10 max=1 pods=1 timeout=10 seed=0\n";
 
+fn address_of(alloc: Global, listener: &TcpListener) -> io::Result<String> {
+    let port = listener.local_addr()?.port();
+    Ok(format!(in alloc; "127.0.0.1:{port}")?)
+}
+
 /// A listening socket on loopback, and its address.
-fn listening<R: Net<Listener = TcpListener, Stream = TcpStream> + AllocGlobal>(
+pub fn listening<R: Net<Listener = TcpListener, Stream = TcpStream> + AllocGlobal>(
     rt: &R,
 ) -> io::Result<(TcpListener, String)> {
     let listener = TcpListener::bind(rt, "127.0.0.1:0")?;
-    let port = listener.local_addr()?.port();
-    Ok((listener, format!(in rt.alloc(); "127.0.0.1:{port}")?))
+    match address_of(rt.alloc(), &listener) {
+        Ok(address) => Ok((listener, address)),
+        Err(error) => {
+            drop(listener);
+            Err(error)
+        }
+    }
 }
 
 /// Reads and writes don't wait for ever.
@@ -56,10 +67,11 @@ fn answers(stream: &mut TcpStream, asked: &[u8], told: &[u8]) -> bool {
 /// A pod, which takes connections until one brings the request, or all is over. Whether it answered.
 fn pod(listener: &TcpListener, over: &AtomicBool) -> bool {
     for stream in listener.incoming() {
-        let answered = match stream {
-            Ok(mut stream) => answers(&mut stream, FORWARDED, REPLY),
-            Err(_) => return false,
+        let Ok(mut stream) = stream else {
+            return false;
         };
+        let answered = answers(&mut stream, FORWARDED, REPLY);
+        drop(stream);
         if answered || over.load(Ordering::SeqCst) {
             return answered;
         }
@@ -84,12 +96,18 @@ fn slot_of<'a, N: Net<Listener = TcpListener, Stream = TcpStream>>(
     listener: &TcpListener,
     pod: &str,
 ) -> io::Result<Slot<TcpCaller, TcpLink<&'a N>>> {
-    let link = link_to(net, alloc, pod)?;
-    Ok(Slot {
-        caller: TcpCaller::new(listener.try_clone()?),
-        link,
-        work: Work::new(),
-    })
+    let caller = TcpCaller::new(listener.try_clone()?);
+    match link_to(net, alloc, pod) {
+        Ok(link) => Ok(Slot {
+            caller,
+            link,
+            work: Work::new(),
+        }),
+        Err(AllocError) => {
+            drop(caller);
+            Err(io::Error::from(AllocError))
+        }
+    }
 }
 
 /// A session of one slot, whose clients come to this listener.
@@ -103,8 +121,19 @@ fn session<
     sinks: &mut Sinks,
 ) -> io::Result<Option<Status>> {
     let mut keeper = link_to(rt, alloc, pod)?;
-    let mut slots = [slot_of(rt, alloc, listener, pod)?];
-    Ok(serve_one(rt, alloc, &mut slots, &mut keeper, sinks)?)
+    match slot_of(rt, alloc, listener, pod) {
+        Ok(slot) => {
+            let mut slots = [slot];
+            let served = serve_one(rt, alloc, &mut slots, &mut keeper, sinks);
+            drop(slots);
+            drop(keeper);
+            Ok(served?)
+        }
+        Err(error) => {
+            drop(keeper);
+            Err(error)
+        }
+    }
 }
 
 fn serve_one<
@@ -132,6 +161,58 @@ struct Ended {
 }
 
 /// Serves one client, in a thread, through one pod, in another.
+fn run_all<
+    R: Threads + Wait + Sync + time::Clock + Net<Listener = TcpListener, Stream = TcpStream>,
+>(
+    rt: &R,
+    alloc: Global,
+    door: &TcpListener,
+    pods: &TcpListener,
+    pod_address: &str,
+    stream: &mut TcpStream,
+    sinks: &mut Sinks,
+) -> Ended {
+    let over = AtomicBool::new(false);
+    let ((answered, got), status) = thread::join(
+        rt,
+        || thread::join(rt, || pod(pods, &over), || client(stream)),
+        || {
+            let status = session(rt, alloc, door, pod_address, sinks);
+            over.store(true, Ordering::SeqCst);
+            // A pod that waits for a connection has one.
+            drop(TcpStream::connect(rt, pod_address));
+            status
+        },
+    );
+    Ended {
+        status,
+        answered,
+        got,
+    }
+}
+
+/// A client who comes to this address.
+fn run_client<
+    R: Threads
+        + Wait
+        + Sync
+        + AllocGlobal
+        + time::Clock
+        + Net<Listener = TcpListener, Stream = TcpStream>,
+>(
+    rt: &R,
+    door: &TcpListener,
+    address: &str,
+    pods: &TcpListener,
+    pod_address: &str,
+    sinks: &mut Sinks,
+) -> io::Result<Ended> {
+    let mut stream = TcpStream::connect(rt, address)?;
+    let ended = run_all(rt, rt.alloc(), door, pods, pod_address, &mut stream, sinks);
+    drop(stream);
+    Ok(ended)
+}
+
 fn run<
     R: Threads
         + Wait
@@ -139,27 +220,23 @@ fn run<
         + AllocGlobal
         + time::Clock
         + Net<Listener = TcpListener, Stream = TcpStream>,
->(rt: &R, alloc: Global, sinks: &mut Sinks) -> io::Result<Ended> {
+>(rt: &R, sinks: &mut Sinks) -> io::Result<Ended> {
     let (door, address) = listening(rt)?;
-    let (pods, pod_address) = listening(rt)?;
-    let mut stream = TcpStream::connect(rt, address.as_str())?;
-    let over = AtomicBool::new(false);
-    let ((answered, got), status) = thread::join(
-        rt,
-        || thread::join(rt, || pod(&pods, &over), || client(&mut stream)),
-        || {
-            let status = session(rt, alloc, &door, &pod_address, sinks);
-            over.store(true, Ordering::SeqCst);
-            // A pod that waits for a connection has one.
-            drop(TcpStream::connect(rt, pod_address.as_str()));
-            status
-        },
-    );
-    Ok(Ended {
-        status,
-        answered,
-        got,
-    })
+    match listening(rt) {
+        Ok((pods, pod_address)) => {
+            let ended = run_client(rt, &door, &address, &pods, &pod_address, sinks);
+            drop(pods);
+            drop(pod_address);
+            drop(door);
+            drop(address);
+            ended
+        }
+        Err(error) => {
+            drop(door);
+            drop(address);
+            Err(error)
+        }
+    }
 }
 
 fn show_ended<R: Print>(rt: &R, ended: Ended) -> io::Result<()> {
@@ -181,7 +258,21 @@ fn show_sinks<R: Print + AllocGlobal>(rt: &R, sinks: &Sinks) -> io::Result<()> {
     case(rt, "nothing is told", &sinks.err.held().is_empty(), &true)?;
     let report = replayed(rt.alloc(), sinks.out.held())?;
     let found = has(&report, b" admitted=1 ") && has(&report, b" finished=1 ");
+    drop(report);
     case(rt, "its journal has the request", &found, &true)
+}
+
+fn show_to<
+    R: Threads
+        + Wait
+        + Sync
+        + Print
+        + AllocGlobal
+        + time::Clock
+        + Net<Listener = TcpListener, Stream = TcpStream>,
+>(rt: &R, sinks: &mut Sinks) -> io::Result<()> {
+    show_ended(rt, run(rt, sinks)?)?;
+    show_sinks(rt, sinks)
 }
 
 /// One request, from its client to the pod and back. The session's journal tells of it.
@@ -195,6 +286,7 @@ pub fn show<
         + Net<Listener = TcpListener, Stream = TcpStream>,
 >(rt: &R) -> io::Result<()> {
     let mut sinks = Sinks::new(rt.alloc())?;
-    show_ended(rt, run(rt, rt.alloc(), &mut sinks)?)?;
-    show_sinks(rt, &sinks)
+    let done = show_to(rt, &mut sinks);
+    drop(sinks);
+    done
 }

@@ -17,6 +17,7 @@ mod lines;
 mod loopback;
 mod opener;
 mod readings;
+mod reports;
 mod requests;
 mod rounds;
 mod sessions;
@@ -25,9 +26,10 @@ mod ticking;
 mod turns;
 mod words;
 
-use std::io;
+use std::net::{Net, TcpListener, TcpStream};
 use std::sync::Wait;
 use std::thread::Threads;
+use std::{io, time};
 
 /// Says what comes of a line.
 fn show<R: Threads + Wait + Sync + Print + AllocGlobal>(rt: &R, line: &str) -> io::Result<()> {
@@ -42,17 +44,40 @@ fn show<R: Threads + Wait + Sync + Print + AllocGlobal>(rt: &R, line: &str) -> i
     }
 }
 
+fn show_line<R: Threads + Wait + Sync + Print + AllocGlobal>(
+    rt: &R,
+    line: io::Result<String>,
+) -> io::Result<()> {
+    let line = line?;
+    let done = show(rt, line.as_str());
+    drop(line);
+    done
+}
+
+/// What stands in no line.
+fn show_rest<
+    R: Threads
+        + Wait
+        + Sync
+        + Print
+        + AllocGlobal
+        + time::Clock
+        + Net<Listener = TcpListener, Stream = TcpStream>,
+>(rt: &R) -> io::Result<()> {
+    requests::failing_caller(rt)?;
+    turns::show(rt)?;
+    faults::show(rt)?;
+    gates::show(rt)?;
+    rounds::show(rt)?;
+    ticking::show(rt)?;
+    readings::show(rt)?;
+    loopback::show(rt)?;
+    opener::show(rt)
+}
+
 fn main(rt: HostRuntime) -> io::Result<()> {
     for line in rt.lines(rt.alloc()) {
-        show(&rt, line?.as_str())?;
+        show_line(&rt, line)?;
     }
-    requests::failing_caller(&rt)?;
-    turns::show(&rt)?;
-    faults::show(&rt)?;
-    gates::show(&rt)?;
-    rounds::show(&rt)?;
-    ticking::show(&rt)?;
-    readings::show(&rt)?;
-    loopback::show(&rt)?;
-    opener::show(&rt)
+    show_rest(&rt)
 }

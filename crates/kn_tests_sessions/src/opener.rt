@@ -1,23 +1,12 @@
 //! What is opened on loopback.
 
-use crate::setting::{one_text, text_of};
+use crate::loopback::listening;
+use crate::sessions::{Size, plan_of};
 use kn_io::Faulty;
 use kn_opener::TcpOpener;
-use kn_serve::{Hosts, Opener, Plan};
-use std::alloc::{AllocError, Global};
+use kn_serve::{Opener, Plan};
 use std::io;
 use std::net::{Net, TcpListener, TcpStream};
-
-/// Two slots for clients who come to this address.
-fn plan_of(alloc: Global, listen: &str) -> Result<Plan, AllocError> {
-    Ok(Plan {
-        listen: text_of(alloc, listen.as_bytes())?,
-        pods: Hosts::new(one_text(alloc, b"127.0.0.1:9001")?),
-        slots: 2,
-        rounds: 1,
-        room: 100,
-    })
-}
 
 /// Prints the answer, how many slots there are, whether there is a keeper, and how many faults.
 fn open_plan<R: Print + AllocGlobal, N: Net<Listener = TcpListener, Stream = TcpStream>>(
@@ -32,18 +21,24 @@ fn open_plan<R: Print + AllocGlobal, N: Net<Listener = TcpListener, Stream = Tcp
     let answer = opener.open(alloc, plan, &mut slots, &mut keeper);
     let count = slots.len();
     let kept = keeper.is_some();
+    drop(slots);
+    drop(keeper);
     let faults = opener.faults();
     println!(rt; "{name}: {answer:?}, slots {count}, keeper {kept}, faults {faults}")
 }
 
+/// Opens two slots for clients who come to this address.
 fn open<R: Print + AllocGlobal, N: Net<Listener = TcpListener, Stream = TcpStream>>(
     rt: &R,
     name: &str,
     opener: &mut TcpOpener<'_, N>,
     listen: &str,
 ) -> io::Result<()> {
-    let plan = plan_of(rt.alloc(), listen)?;
-    open_plan(rt, name, opener, &plan)
+    let size = Size::once(100);
+    let plan = plan_of(rt.alloc(), listen.as_bytes(), b"127.0.0.1:9001", 2, size)?;
+    let done = open_plan(rt, name, opener, &plan);
+    drop(plan);
+    done
 }
 
 fn open_all<R: Print + AllocGlobal, N: Net<Listener = TcpListener, Stream = TcpStream>>(
@@ -57,13 +52,23 @@ fn open_all<R: Print + AllocGlobal, N: Net<Listener = TcpListener, Stream = TcpS
     open(rt, "a free address again", opener, "127.0.0.1:0")
 }
 
+fn show_taken<R: Print + AllocGlobal + Net<Listener = TcpListener, Stream = TcpStream>>(
+    rt: &R,
+    taken: &str,
+) -> io::Result<()> {
+    let mut opener = TcpOpener::new(rt);
+    let done = open_all(rt, &mut opener, taken);
+    drop(opener);
+    done
+}
+
 /// An address that is free, one that is taken, one without a port, and a free one again.
 pub fn show<R: Print + AllocGlobal + Net<Listener = TcpListener, Stream = TcpStream>>(
     rt: &R,
 ) -> io::Result<()> {
-    let listener = TcpListener::bind(rt, "127.0.0.1:0")?;
-    let port = listener.local_addr()?.port();
-    let taken = format!(in rt.alloc(); "127.0.0.1:{port}")?;
-    let mut opener = TcpOpener::new(rt);
-    open_all(rt, &mut opener, taken.as_str())
+    let (listener, taken) = listening(rt)?;
+    let done = show_taken(rt, taken.as_str());
+    drop(listener);
+    drop(taken);
+    done
 }

@@ -1,14 +1,14 @@
 //! A row has the time of a reading that was taken when it was due: an arrival's after its client was met, and a finish's after
 //! the pod's call.
-use crate::hooks::{Hook, HookedCaller, HookedLink};
+use crate::hooks::{Hook, HookedSlot, serve_hooked, slot_of};
 use crate::lines::show_answer;
-use crate::sessions::{Sinks, Size, has, serve};
-use crate::setting::{REPLY, REQUEST, SETUP, had, one_text};
+use crate::reports::has;
+use crate::sessions::Sinks;
+use crate::setting::{REQUEST, SETUP};
 use kn_case::case;
-use kn_io::{Clock, MemCaller, MemLink, OpenGate};
+use kn_io::Clock;
 use kn_journal::Status;
-use kn_serve::{Slot, Work};
-use std::alloc::{AllocError, Global};
+use std::alloc::AllocError;
 use std::io;
 use std::sync::Wait;
 use std::sync::atomic::{AtomicU64, Ordering};
@@ -54,55 +54,6 @@ impl Hook for Hands {
     }
 }
 
-type HandsSlot<'a> = Slot<HookedCaller<'a, MemCaller, Hands>, HookedLink<'a, MemLink, Hands>>;
-
-fn caller(alloc: Global) -> Result<MemCaller, AllocError> {
-    had(MemCaller::new(alloc, one_text(alloc, REQUEST)?, 10000, Vec::new(alloc)))
-}
-
-fn link(alloc: Global) -> Result<MemLink, AllocError> {
-    had(MemLink::new(alloc, one_text(alloc, REPLY)?, Vec::new(alloc)))
-}
-
-fn slot_of<'a>(alloc: Global, hands: &'a Hands) -> Result<HandsSlot<'a>, AllocError> {
-    let caller = caller(alloc)?;
-    let link = link(alloc)?;
-    Ok(Slot {
-        caller: HookedCaller {
-            caller,
-            hook: hands,
-            faults: 0,
-        },
-        link: HookedLink { link, hook: hands },
-        work: Work::new(),
-    })
-}
-
-/// A session of the one slot.
-fn serve_by<'a, R: Threads + Wait + Sync>(
-    rt: &R,
-    alloc: Global,
-    hands: &'a Hands,
-    slots: &mut [HandsSlot<'a>],
-    sinks: &mut Sinks,
-) -> Result<Option<Status>, AllocError> {
-    let link = had(MemLink::new(alloc, Vec::new(alloc), Vec::new(alloc)))?;
-    // It is never called, so it sets no time.
-    let mut keeper = HookedLink { link, hook: hands };
-    let size = Size::once(100);
-    serve(
-        rt,
-        alloc,
-        SETUP,
-        slots,
-        &mut keeper,
-        size,
-        hands,
-        &OpenGate,
-        sinks,
-    )
-}
-
 fn show_rows<R: Print + AllocGlobal>(rt: &R, journal: &[u8]) -> io::Result<()> {
     let arrived = has(journal, b"\n1000 arrive 0\n");
     case(rt, "it arrives once it was met", &arrived, &true)?;
@@ -118,25 +69,40 @@ fn show_rows<R: Print + AllocGlobal>(rt: &R, journal: &[u8]) -> io::Result<()> {
 fn show_session<'a, R: Threads + Wait + Sync + Print + AllocGlobal>(
     rt: &R,
     hands: &'a Hands,
-    slots: &mut [HandsSlot<'a>; 1],
+    slots: &mut [HookedSlot<'a, Hands>; 1],
     sinks: &mut Sinks,
 ) -> io::Result<()> {
-    let status = serve_by(rt, rt.alloc(), hands, slots, sinks)?;
+    let alloc = rt.alloc();
+    // The keeper is never called, so it sets no time.
+    let status = serve_hooked(
+        rt,
+        alloc,
+        SETUP,
+        slots,
+        hands,
+        Vec::new(alloc),
+        hands,
+        sinks,
+    )?;
     case(rt, "a clock that is set on", &status, &Some(Status::Ok))?;
     show_answer(rt, &slots[0].caller.caller)?;
     show_rows(rt, sinks.out.held())
 }
 
-fn show_to<R: Threads + Wait + Sync + Print + AllocGlobal>(
-    rt: &R,
-    sinks: &mut Sinks,
-) -> io::Result<()> {
-    let hands = Hands::new();
-    let mut slots = [slot_of(rt.alloc(), &hands)?];
-    show_session(rt, &hands, &mut slots, sinks)
-}
-
 pub fn show<R: Threads + Wait + Sync + Print + AllocGlobal>(rt: &R) -> io::Result<()> {
+    let hands = Hands::new();
     let mut sinks = Sinks::new(rt.alloc())?;
-    show_to(rt, &mut sinks)
+    match slot_of(rt.alloc(), REQUEST, &hands) {
+        Ok(slot) => {
+            let mut slots = [slot];
+            let done = show_session(rt, &hands, &mut slots, &mut sinks);
+            drop(slots);
+            drop(sinks);
+            done
+        }
+        Err(AllocError) => {
+            drop(sinks);
+            Err(io::Error::from(AllocError))
+        }
+    }
 }

@@ -58,21 +58,16 @@ fn add_letters(letters: &mut String, rows: &[Past]) -> Result<(), AllocError> {
     Ok(())
 }
 
-fn letters_of(alloc: Global, rows: &[Past]) -> Result<String, AllocError> {
-    let mut letters = String::new(alloc);
-    match add_letters(&mut letters, rows) {
-        Ok(()) => Ok(letters),
-        Err(AllocError) => Err(AllocError),
-    }
-}
-
-/// The letters of the history's rows.
-pub fn close(alloc: Global, cell: RevisionCell, pass: Pass) -> Result<String, AllocError>
+/// Closes the cell, and adds the letters of the history's rows.
+pub fn close(cell: RevisionCell, pass: Pass, letters: &mut String) -> Result<(), AllocError>
     requires cell { pass.cell ≡ cell }
     requires all { 1 + pass.free + pass.back ≡ pass.passes }
 {
-    let (_, history) = cell.close(pass);
-    letters_of(alloc, history.items())
+    let (revision, history) = cell.close(pass);
+    drop(revision);
+    let added = add_letters(letters, history.items());
+    drop(history);
+    added
 }
 
 fn add_times(times: &mut Vec<u64>, words: &str) -> Result<(), AllocError> {
@@ -87,51 +82,106 @@ fn clock_of(alloc: Global, words: &str) -> Result<ListClock, AllocError> {
     let mut times = Vec::new(alloc);
     match add_times(&mut times, words) {
         Ok(()) => Ok(ListClock::new(times)),
+        Err(AllocError) => {
+            drop(times);
+            Err(AllocError)
+        }
+    }
+}
+
+fn run_in<R: Wait>(
+    rt: &R,
+    alloc: Global,
+    cell: RevisionCell,
+    mut pass: Pass,
+    ready: bool,
+    slot: &mut MemSlot,
+    spec: &Spec,
+    clock: &ListClock,
+    letters: &mut String,
+) -> Result<Served, AllocError>
+    requires cell { pass.cell ≡ cell }
+    requires all { 1 + pass.free + pass.back ≡ pass.passes }
+{
+    prepare(rt, &cell, &mut pass, ready);
+    let served = serve(rt, alloc, &cell, &mut pass, spec, slot, clock);
+    match close(cell, pass, letters) {
+        Ok(()) => Ok(served),
         Err(AllocError) => Err(AllocError),
     }
 }
 
-fn run_opened<R: Wait>(
+fn run_by<R: Wait>(
     rt: &R,
     alloc: Global,
     words: &str,
     slot: &mut MemSlot,
     spec: &Spec,
     clock: &ListClock,
-) -> Result<(Served, String), AllocError> {
-    let (cell, mut pass) = match open(alloc, number_of(words, "room", 100)) {
-        Ok(opened) => opened,
-        Err(Memory) => return Err(AllocError),
-    };
-    prepare(rt, &cell, &mut pass, number_of(words, "ready", 1) == 1);
-    let served = serve(rt, alloc, &cell, &mut pass, spec, slot, clock);
-    Ok((served, close(alloc, cell, pass)?))
+    letters: &mut String,
+) -> Result<Served, AllocError> {
+    let ready = number_of(words, "ready", 1) == 1;
+    match open(alloc, number_of(words, "room", 100)) {
+        Ok((cell, pass)) => run_in(rt, alloc, cell, pass, ready, slot, spec, clock, letters),
+        Err(Memory) => Err(AllocError),
+    }
 }
 
 /// Serves the request over a new cell, with room for 100 rows and a Ready pod where the words don't say otherwise.
-/// Answers how, and the history's letters.
+/// Answers how, and adds the history's letters.
 fn run<R: Wait>(
     rt: &R,
     alloc: Global,
     words: &str,
     slot: &mut MemSlot,
-) -> Result<(Served, String), AllocError> {
+    letters: &mut String,
+) -> Result<Served, AllocError> {
     let spec = had(spec(alloc))?;
-    let clock = clock_of(alloc, words)?;
-    run_opened(rt, alloc, words, slot, &spec, &clock)
+    match clock_of(alloc, words) {
+        Ok(clock) => {
+            let served = run_by(rt, alloc, words, slot, &spec, &clock, letters);
+            drop(clock);
+            drop(spec);
+            served
+        }
+        Err(AllocError) => {
+            drop(spec);
+            Err(AllocError)
+        }
+    }
 }
 
-/// What comes of a request: how it is served, the history's rows, how often the pod is called, and the caller's answer.
+/// How the request was served, the history's rows, how often the pod was called, and the caller's answer.
+fn told(alloc: Global, served: Served, rows: &str, slot: &MemSlot) -> Result<String, AllocError> {
+    let calls = slot.link.calls().unwrap_or(&[]).len();
+    let answer = shown(alloc, answer_of(&slot.caller))?;
+    let text = format!(in alloc; "{served:?}, rows {rows}, calls {calls}, answered \"{answer}\"");
+    drop(answer);
+    text
+}
+
+fn outcome_by<R: Wait>(
+    rt: &R,
+    alloc: Global,
+    words: &str,
+    slot: &mut MemSlot,
+    rows: &mut String,
+) -> Result<String, AllocError> {
+    let served = run(rt, alloc, words, slot, rows)?;
+    told(alloc, served, rows.as_str(), slot)
+}
+
+/// What comes of a request.
 fn outcome<R: Wait>(
     rt: &R,
     alloc: Global,
     words: &str,
     slot: &mut MemSlot,
 ) -> Result<String, AllocError> {
-    let (served, rows) = run(rt, alloc, words, slot)?;
-    let calls = slot.link.calls().unwrap_or(&[]).len();
-    let answer = shown(alloc, answer_of(&slot.caller))?;
-    format!(in alloc; "{served:?}, rows {rows}, calls {calls}, answered \"{answer}\"")
+    let mut rows = String::new(alloc);
+    let text = outcome_by(rt, alloc, words, slot, &mut rows);
+    drop(rows);
+    text
 }
 
 fn show_outcome<R: Wait + Print + AllocGlobal>(
@@ -140,20 +190,49 @@ fn show_outcome<R: Wait + Print + AllocGlobal>(
     slot: &mut MemSlot,
 ) -> io::Result<()> {
     let came = outcome(rt, rt.alloc(), words, slot)?;
-    println!(rt; "  {came}")
+    let done = println!(rt; "  {came}");
+    drop(came);
+    done
+}
+
+fn show_slot<R: Wait + Print + AllocGlobal>(
+    rt: &R,
+    words: &str,
+    slot: &mut MemSlot,
+) -> io::Result<()> {
+    show_outcome(rt, words, slot)?;
+    show_calls(rt, &slot.link)
 }
 
 /// Prints what comes of a request, and what the pod was sent.
 pub fn show<R: Wait + Print + AllocGlobal>(rt: &R, line: &str) -> io::Result<()> {
     let (name, words) = line.split_once(' ').unwrap_or((line, ""));
     let mut slot = had(slot_of(rt.alloc(), request_of(name), 1, words))?;
-    show_outcome(rt, words, &mut slot)?;
-    show_calls(rt, &slot.link)
+    let done = show_slot(rt, words, &mut slot);
+    drop(slot);
+    done
 }
 
 fn outcome_of<R: Wait>(rt: &R, alloc: Global, words: &str) -> Result<String, AllocError> {
     let mut slot = had(slot_of(alloc, REQUEST, 1, words))?;
-    outcome(rt, alloc, words, &mut slot)
+    let text = outcome(rt, alloc, words, &mut slot);
+    drop(slot);
+    text
+}
+
+fn count_outcome<R: Wait>(
+    rt: &R,
+    alloc: Global,
+    tally: &mut Tally,
+    words: &str,
+) -> Result<(), AllocError> {
+    match outcome_of(rt, alloc, words) {
+        Ok(came) => {
+            tally.count(came);
+            Ok(())
+        }
+        Err(AllocError) => Err(AllocError),
+    }
 }
 
 fn count_fault<R: Wait>(
@@ -163,8 +242,9 @@ fn count_fault<R: Wait>(
     n: usize,
 ) -> Result<(), AllocError> {
     let words = format!(in alloc; "caller={n}")?;
-    tally.count(outcome_of(rt, alloc, words.as_str())?);
-    Ok(())
+    let counted = count_outcome(rt, alloc, tally, words.as_str());
+    drop(words);
+    counted
 }
 
 fn count_faults<R: Wait>(rt: &R, alloc: Global, tally: &mut Tally) -> Result<(), AllocError> {
@@ -174,10 +254,16 @@ fn count_faults<R: Wait>(rt: &R, alloc: Global, tally: &mut Tally) -> Result<(),
     Ok(())
 }
 
+fn show_faults<R: Wait + Print + AllocGlobal>(rt: &R, tally: &mut Tally) -> io::Result<()> {
+    count_faults(rt, rt.alloc(), tally)?;
+    println!(rt; "the caller fails before it answers")?;
+    tally.print(rt)
+}
+
 /// The caller fails where it is met, and then at each byte that is read.
 pub fn failing_caller<R: Wait + Print + AllocGlobal>(rt: &R) -> io::Result<()> {
     let mut tally = Tally::new(rt.alloc());
-    count_faults(rt, rt.alloc(), &mut tally)?;
-    println!(rt; "the caller fails before it answers")?;
-    tally.print(rt)
+    let done = show_faults(rt, &mut tally);
+    drop(tally);
+    done
 }

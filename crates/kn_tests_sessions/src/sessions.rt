@@ -4,10 +4,13 @@ ghost use Rattle.kn_session.specs.Lists.{EachIs};
 ghost use Rattle.kn_serve.specs.Opening.{IsEmptyWork};
 ghost use Rattle.kn_serve.specs.Running.{IsInRange};
 
-use crate::lines::show_answer;
-use crate::setting::{MemSlot, SETUP, had, one_text, request_of, slot_of, text_of};
-use kn_case::{shown, spelled};
-use kn_io::{Caller, Clock, Gate, ListClock, MemLink, MemSink, MemSource, OpenGate, PodLink};
+use crate::lines::{add, show_answer};
+use crate::readings::Hands;
+use crate::reports::{has, replayed, show_found};
+use crate::setting::{MemSlot, SETUP, had, keeper, one_text, request_of, slot_of, text_of};
+use kn_case::shown;
+use kn_event::Memory;
+use kn_io::{Caller, Clock, Gate, MemSink, MemSource, OpenGate, PodLink};
 use kn_journal::Status;
 use kn_serve::{Hosts, Plan, Slot, Work, serve_run};
 use std::alloc::{AllocError, Global};
@@ -24,10 +27,16 @@ pub struct Sinks {
 
 impl Sinks {
     pub fn new(alloc: Global) -> Result<Sinks, AllocError> {
-        Ok(Sinks {
-            out: had(MemSink::new(alloc, 10000, Vec::new(alloc)))?,
-            err: had(MemSink::new(alloc, 1000, Vec::new(alloc)))?,
-        })
+        match MemSink::new(alloc, 10000, Vec::new(alloc)) {
+            Ok(out) => match MemSink::new(alloc, 1000, Vec::new(alloc)) {
+                Ok(err) => Ok(Sinks { out, err }),
+                Err(Memory) => {
+                    drop(out);
+                    Err(AllocError)
+                }
+            },
+            Err(Memory) => Err(AllocError),
+        }
     }
 }
 
@@ -73,18 +82,37 @@ impl Size {
     }
 }
 
-fn plan_of(alloc: Global, slots: u64, size: Size) -> Result<Plan, AllocError> {
-    Ok(Plan {
-        listen: text_of(alloc, b"h:1")?,
-        pods: Hosts::new(one_text(alloc, b"h:2")?),
-        slots,
-        rounds: size.rounds,
-        room: size.room,
-    })
+/// A plan of these sizes, whose hosts nobody looks at.
+pub fn plan_of(
+    alloc: Global,
+    listen: &[u8],
+    pod: &[u8],
+    slots: u64,
+    size: Size,
+) -> Result<Plan, AllocError> {
+    match one_text(alloc, pod) {
+        Ok(pods) => match text_of(alloc, listen) {
+            Ok(listen) => Ok(Plan {
+                listen,
+                pods: Hosts::new(pods),
+                slots,
+                rounds: size.rounds,
+                room: size.room,
+            }),
+            Err(AllocError) => {
+                drop(pods);
+                Err(AllocError)
+            }
+        },
+        Err(AllocError) => Err(AllocError),
+    }
 }
 
-fn source_of(alloc: Global, bytes: &[u8]) -> Result<MemSource, AllocError> {
-    Ok(MemSource::new(Vec::from_slice(alloc, bytes)?, Vec::new(alloc)))
+pub fn source_of(alloc: Global, bytes: &[u8]) -> Result<MemSource, AllocError> {
+    match Vec::from_slice(alloc, bytes) {
+        Ok(bytes) => Ok(MemSource::new(bytes, Vec::new(alloc))),
+        Err(AllocError) => Err(AllocError),
+    }
 }
 
 /// Serves a session over this setup, if its conditions are met.
@@ -105,39 +133,29 @@ pub fn serve<
     gate: &G,
     sinks: &mut Sinks,
 ) -> Result<Option<Status>, AllocError> {
-    let plan = plan_of(alloc, slots.len() as u64, size)?;
-    serve_plan(rt, alloc, &plan, setup, slots, keeper, clock, gate, sinks)
-}
-
-fn serve_plan<
-    C: Caller + Send,
-    L: PodLink + Send,
-    K: Clock + Sync,
-    G: Gate + Sync,
-    R: Threads + Wait + Sync,
->(
-    rt: &R,
-    alloc: Global,
-    plan: &Plan,
-    setup: &[u8],
-    slots: &mut [Slot<C, L>],
-    keeper: &mut L,
-    clock: &K,
-    gate: &G,
-    sinks: &mut Sinks,
-) -> Result<Option<Status>, AllocError> {
     let mut source = source_of(alloc, setup)?;
-    Ok(serve_source(
-        rt,
-        alloc,
-        plan,
-        &mut source,
-        slots,
-        keeper,
-        clock,
-        gate,
-        sinks,
-    ))
+    match plan_of(alloc, b"h:1", b"h:2", slots.len() as u64, size) {
+        Ok(plan) => {
+            let served = serve_source(
+                rt,
+                alloc,
+                &plan,
+                &mut source,
+                slots,
+                keeper,
+                clock,
+                gate,
+                sinks,
+            );
+            drop(plan);
+            drop(source);
+            Ok(served)
+        }
+        Err(AllocError) => {
+            drop(source);
+            Err(AllocError)
+        }
+    }
 }
 
 fn serve_source<
@@ -176,25 +194,44 @@ pub fn serve_mem<K: Clock + Sync, G: Gate + Sync, R: Threads + Wait + Sync>(
     gate: &G,
     sinks: &mut Sinks,
 ) -> Result<Option<Status>, AllocError> {
-    let mut keeper = had(MemLink::new(alloc, Vec::new(alloc), Vec::new(alloc)))?;
-    serve(
-        rt,
-        alloc,
-        SETUP,
-        slots,
-        &mut keeper,
-        size,
-        clock,
-        gate,
-        sinks,
-    )
+    match keeper(alloc) {
+        Ok(mut keeper) => {
+            let served = serve(
+                rt,
+                alloc,
+                SETUP,
+                slots,
+                &mut keeper,
+                size,
+                clock,
+                gate,
+                sinks,
+            );
+            drop(keeper);
+            served
+        }
+        Err(AllocError) => Err(AllocError),
+    }
+}
+
+/// The same, where the clock stands still and nothing is held up.
+pub fn serve_still<R: Threads + Wait + Sync>(
+    rt: &R,
+    alloc: Global,
+    slots: &mut [MemSlot],
+    size: Size,
+    sinks: &mut Sinks,
+) -> Result<Option<Status>, AllocError> {
+    let hands = Hands::new();
+    serve_mem(rt, alloc, slots, size, &hands, &OpenGate, sinks)
 }
 
 fn add_slot(alloc: Global, slots: &mut Vec<MemSlot>, word: &str) -> Result<(), AllocError> {
     let (name, fails) = word.split_once('/').unwrap_or((word, ""));
-    let slot = had(slot_of(alloc, request_of(name), u64::MAX, fails))?;
-    slots.push(slot)?;
-    Ok(())
+    match had(slot_of(alloc, request_of(name), u64::MAX, fails)) {
+        Ok(slot) => add(slots, slot),
+        Err(AllocError) => Err(AllocError),
+    }
 }
 
 fn add_slots(alloc: Global, slots: &mut Vec<MemSlot>, words: &str) -> Result<(), AllocError> {
@@ -205,47 +242,34 @@ fn add_slots(alloc: Global, slots: &mut Vec<MemSlot>, words: &str) -> Result<(),
 }
 
 /// A slot for each of these words.
-pub fn slots_of(alloc: Global, words: &str) -> Result<Vec<MemSlot>, AllocError> {
+fn slots_of(alloc: Global, words: &str) -> Result<Vec<MemSlot>, AllocError> {
     let mut slots = Vec::new(alloc);
     match add_slots(alloc, &mut slots, words) {
         Ok(()) => Ok(slots),
-        Err(AllocError) => Err(AllocError),
+        Err(AllocError) => {
+            drop(slots);
+            Err(AllocError)
+        }
     }
 }
 
-/// Whether some of the bytes are these.
-pub fn has(bytes: &[u8], part: &[u8]) -> bool {
-    !part.is_empty() && bytes.windows(part.len()).any(|w| w == part)
+/// What a session is served over, and what it writes.
+#[derive(Drop)]
+pub struct Stage {
+    pub slots: Vec<MemSlot>,
+    pub sinks: Sinks,
 }
 
-fn replay(alloc: Global, input: &mut MemSource, sinks: &mut Sinks) -> Result<Status, AllocError> {
-    let words = vec![in alloc; String::from_str(alloc, "replay")?]?;
-    let Sinks { out, err } = sinks;
-    Ok(kn_replay::run(alloc, &words, input, out, err))
-}
-
-fn replay_to(alloc: Global, journal: &[u8], sinks: &mut Sinks) -> Result<Status, AllocError> {
-    let mut input = source_of(alloc, journal)?;
-    replay(alloc, &mut input, sinks)
-}
-
-/// The report of a journal, which is replayed; nothing where that goes wrong.
-pub fn replayed(alloc: Global, journal: &[u8]) -> Result<Vec<u8>, AllocError> {
-    let mut sinks = Sinks::new(alloc)?;
-    report_of(alloc, journal, &mut sinks)
-}
-
-fn report_of(alloc: Global, journal: &[u8], sinks: &mut Sinks) -> Result<Vec<u8>, AllocError> {
-    match replay_to(alloc, journal, sinks)? {
-        Status::Ok => Vec::from_slice(alloc, sinks.out.held()),
-        _ => Ok(Vec::new(alloc)),
+/// A slot for each of these words, and nothing written.
+pub fn stage_of(alloc: Global, words: &str) -> Result<Stage, AllocError> {
+    let sinks = Sinks::new(alloc)?;
+    match slots_of(alloc, words) {
+        Ok(slots) => Ok(Stage { slots, sinks }),
+        Err(AllocError) => {
+            drop(sinks);
+            Err(AllocError)
+        }
     }
-}
-
-/// Whether the journal's report has this text.
-pub fn reports(alloc: Global, journal: &[u8], text: &[u8]) -> Result<bool, AllocError> {
-    let report = replayed(alloc, journal)?;
-    Ok(has(&report, text))
 }
 
 /// Whether the journal is of the setup and the start 0, and ends.
@@ -253,42 +277,31 @@ fn is_framed(journal: &[u8]) -> bool {
     journal.starts_with(SETUP) && has(journal, b"\nstart 0\n") && journal.ends_with(b"\nend\n")
 }
 
-/// Prints whether the bytes have each of these texts.
-fn show_found<R: Print + AllocGlobal>(rt: &R, bytes: &[u8], texts: &str) -> io::Result<()> {
-    for text in texts.split('|') {
-        let found = has(bytes, &spelled(rt.alloc(), text)?);
-        println!(rt; "  {text}: {found}")?;
+fn lines_in(text: &[u8]) -> u64 {
+    let mut lines = 0u64;
+    for byte in text {
+        if *byte == b'\n' {
+            lines = lines.saturating_add(1);
+        }
     }
-    Ok(())
+    lines
+}
+
+fn show_report<R: Print + AllocGlobal>(rt: &R, journal: &[u8], texts: &str) -> io::Result<()> {
+    let report = replayed(rt.alloc(), journal)?;
+    let done = show_found(rt, &report, texts);
+    drop(report);
+    done
 }
 
 /// Prints whether a session's journal is whole, how many lines it has, and which texts it and its report have.
 fn show_journal<R: Print + AllocGlobal>(rt: &R, journal: &[u8], texts: &str) -> io::Result<()> {
     let framed = is_framed(journal);
-    let lines = journal.iter().filter(|byte| **byte == b'\n').count();
+    let lines = lines_in(journal);
     println!(rt; "  whole {framed}, lines {lines}")?;
     let (rows, report) = texts.split_once("||").unwrap_or((texts, ""));
     show_found(rt, journal, rows)?;
-    show_found(rt, &replayed(rt.alloc(), journal)?, report)
-}
-
-/// What a session is served over, and what it writes.
-#[derive(Drop)]
-struct Stage {
-    slots: Vec<MemSlot>,
-    sinks: Sinks,
-    clock: ListClock,
-}
-
-fn stage_of(alloc: Global, inputs: &str) -> Result<Stage, AllocError> {
-    let slots = slots_of(alloc, inputs)?;
-    let sinks = Sinks::new(alloc)?;
-    let clock = ListClock::new(vec![in alloc; 0]?);
-    Ok(Stage {
-        slots,
-        sinks,
-        clock,
-    })
+    show_report(rt, journal, report)
 }
 
 fn show_told<R: Print + AllocGlobal>(
@@ -297,10 +310,12 @@ fn show_told<R: Print + AllocGlobal>(
     told: &[u8],
 ) -> io::Result<()> {
     let told = shown(rt.alloc(), told)?;
-    println!(rt; "  {status:?}, tells \"{told}\"")
+    let done = println!(rt; "  {status:?}, tells \"{told}\"");
+    drop(told);
+    done
 }
 
-fn show_answers<R: Print + AllocGlobal>(rt: &R, slots: &[MemSlot]) -> io::Result<()> {
+pub fn show_answers<R: Print + AllocGlobal>(rt: &R, slots: &[MemSlot]) -> io::Result<()> {
     for slot in slots {
         show_answer(rt, &slot.caller)?;
     }
@@ -313,12 +328,8 @@ fn show_stage<R: Threads + Wait + Sync + Print + AllocGlobal>(
     size: Size,
     texts: &str,
 ) -> io::Result<()> {
-    let Stage {
-        slots,
-        sinks,
-        clock,
-    } = stage;
-    let status = serve_mem(rt, rt.alloc(), slots, size, clock, &OpenGate, sinks)?;
+    let Stage { slots, sinks } = stage;
+    let status = serve_still(rt, rt.alloc(), slots, size, sinks)?;
     show_told(rt, status, sinks.err.held())?;
     show_answers(rt, slots)?;
     show_journal(rt, sinks.out.held(), texts)
@@ -330,5 +341,7 @@ pub fn show<R: Threads + Wait + Sync + Print + AllocGlobal>(rt: &R, line: &str) 
     let (room, inputs) = head.split_once(' ').unwrap_or((head, ""));
     let size = Size::once(room.parse().unwrap_or(0));
     let mut stage = stage_of(rt.alloc(), inputs)?;
-    show_stage(rt, &mut stage, size, texts)
+    let done = show_stage(rt, &mut stage, size, texts);
+    drop(stage);
+    done
 }

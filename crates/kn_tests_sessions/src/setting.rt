@@ -1,9 +1,12 @@
-//! What the rehearsals share: a revision of one pod, its requests, and slots for them.
-ghost use Rattle.std.specs.Prelude.{◌≡◌, ◌+◌, ◌<◌, IfOk};
+//! What the rehearsals share: a revision of one pod, its requests, and slots for them. Whoever owns something large drops
+//! it by name, once: an end of its scope that drops it is dear to prove.
+ghost use Rattle.std.specs.Prelude.{◌≡◌, ◌+◌, ◌<◌, [], Some, IfOk};
+ghost use Rattle.kn_io.specs.Links.{unused};
+ghost use Rattle.kn_io.specs.MemCaller.{kept_of};
 ghost use Rattle.kn_request.specs.Outside.{said};
 ghost use Rattle.kn_serve.specs.Opening.{IsFresh};
 
-use crate::lines::number_of;
+use crate::lines::{number_of, one_number};
 use kn_cell::{Pass, RevisionCell};
 use kn_core::Revision;
 use kn_event::{EntryLog, Memory, Slots, Spec, Text};
@@ -56,30 +59,98 @@ pub fn had<T>(answer: Result<T, Memory>) -> Result<T, AllocError> {
 }
 
 pub fn text_of(alloc: Global, bytes: &[u8]) -> Result<Text, AllocError> {
-    Ok(Text::new(Vec::from_slice(alloc, bytes)?))
+    match Vec::from_slice(alloc, bytes) {
+        Ok(bytes) => Ok(Text::new(bytes)),
+        Err(AllocError) => Err(AllocError),
+    }
 }
 
 /// The one text.
 pub fn one_text(alloc: Global, bytes: &[u8]) -> Result<Vec<Text>, AllocError> {
-    Ok(vec![in alloc; text_of(alloc, bytes)?]?)
+    match Vec::with_capacity(alloc, 1) {
+        Ok(mut texts) => match text_of(alloc, bytes) {
+            Ok(text) => {
+                texts.push_reserved(text);
+                Ok(texts)
+            }
+            Err(AllocError) => {
+                drop(texts);
+                Err(AllocError)
+            }
+        },
+        Err(AllocError) => Err(AllocError),
+    }
 }
 
-/// A slot that nobody used, with a connection for each input. It says which calls of the caller and of the link fail.
-pub fn slot(
+/// A caller of these inputs, of whose calls this one fails.
+pub fn caller_of(
     alloc: Global,
     inputs: Vec<Text>,
-    caller_fails: Vec<u64>,
-    replies: Vec<Text>,
-    link_fails: Vec<u64>,
     piece: u64,
-) -> Result<MemSlot, Memory>
+    fail: u64,
+) -> Result<MemCaller, Memory>
     requires { 0 < piece }
-    ensures { IfOk result (λ s. IsFresh (said (⟦<MemCaller as Sink>⟧.kept s.caller) (⟦<MemCaller as Sink>⟧.held s.caller)) (⟦<MemLink as PodLink>⟧.told s.link) s.work) }
+    ensures kept { IfOk result (λ c. kept_of c.met ≡ []) }
+    ensures held { IfOk result (λ c. c.held ≡ []) }
 {
-    let caller = MemCaller::in_pieces(alloc, inputs, 10000, piece, caller_fails)?;
-    let link = MemLink::new(alloc, replies, link_fails)?;
+    match one_number(alloc, fail) {
+        Ok(fails) => MemCaller::in_pieces(alloc, inputs, 10000, piece, fails),
+        Err(AllocError) => {
+            drop(inputs);
+            Err(Memory)
+        }
+    }
+}
+
+/// A link with these replies, of whose calls this one fails.
+pub fn link_of(alloc: Global, replies: Vec<Text>, fail: u64) -> Result<MemLink, Memory>
+    ensures { IfOk result (λ l. l.told ≡ Some unused) }
+{
+    match one_number(alloc, fail) {
+        Ok(fails) => MemLink::new(alloc, replies, fails),
+        Err(AllocError) => {
+            drop(replies);
+            Err(Memory)
+        }
+    }
+}
+
+/// A link without replies, which answers true to each probe.
+pub fn keeper(alloc: Global) -> Result<MemLink, AllocError> {
+    had(MemLink::new(alloc, Vec::new(alloc), Vec::new(alloc)))
+}
+
+/// A slot that nobody used.
+pub fn slot(caller: MemCaller, link: MemLink) -> MemSlot
+    requires kept { kept_of caller.met ≡ [] }
+    requires held { caller.held ≡ [] }
+    requires told { link.told ≡ Some unused }
+    ensures { IsFresh (said (⟦<MemCaller as Sink>⟧.kept result.caller) (⟦<MemCaller as Sink>⟧.held result.caller)) (⟦<MemLink as PodLink>⟧.told result.link) result.work }
+{
     let work = Work::new();
-    Ok(Slot { caller, link, work })
+    Slot { caller, link, work }
+}
+
+/// A caller with this one input, and which of its calls fails.
+pub fn one_caller(alloc: Global, input: &[u8], piece: u64, fail: u64) -> Result<MemCaller, Memory>
+    requires { 0 < piece }
+    ensures kept { IfOk result (λ c. kept_of c.met ≡ []) }
+    ensures held { IfOk result (λ c. c.held ≡ []) }
+{
+    match one_text(alloc, input) {
+        Ok(inputs) => caller_of(alloc, inputs, piece, fail),
+        Err(AllocError) => Err(Memory),
+    }
+}
+
+/// A link with one reply, and which of its calls fails.
+pub fn one_link(alloc: Global, fail: u64) -> Result<MemLink, Memory>
+    ensures { IfOk result (λ l. l.told ≡ Some unused) }
+{
+    match one_text(alloc, REPLY) {
+        Ok(replies) => link_of(alloc, replies, fail),
+        Err(AllocError) => Err(Memory),
+    }
 }
 
 /// A slot with a caller of one connection, which gives so many bytes at a time, and a link with one reply. The words say
@@ -88,15 +159,16 @@ pub fn slot_of(alloc: Global, input: &[u8], piece: u64, words: &str) -> Result<M
     requires { 0 < piece }
     ensures { IfOk result (λ s. IsFresh (said (⟦<MemCaller as Sink>⟧.kept s.caller) (⟦<MemCaller as Sink>⟧.held s.caller)) (⟦<MemLink as PodLink>⟧.told s.link) s.work) }
 {
-    let (Ok(inputs), Ok(replies)) = (one_text(alloc, input), one_text(alloc, REPLY)) else {
-        return Err(Memory);
-    };
-    let caller_fails = vec![in alloc; number_of(words, "caller", NEVER)];
-    let link_fails = vec![in alloc; number_of(words, "link", NEVER)];
-    let (Ok(caller_fails), Ok(link_fails)) = (caller_fails, link_fails) else {
-        return Err(Memory);
-    };
-    slot(alloc, inputs, caller_fails, replies, link_fails, piece)
+    match one_caller(alloc, input, piece, number_of(words, "caller", NEVER)) {
+        Ok(caller) => match one_link(alloc, number_of(words, "link", NEVER)) {
+            Ok(link) => Ok(slot(caller, link)),
+            Err(Memory) => {
+                drop(caller);
+                Err(Memory)
+            }
+        },
+        Err(Memory) => Err(Memory),
+    }
 }
 
 /// The revision of the setup.
@@ -109,20 +181,47 @@ pub fn spec(alloc: Global) -> Result<Spec, Memory> {
     Spec::fixed(alloc, 1, 1, 300, slots)
 }
 
+fn revision_in(alloc: Global, log: &mut EntryLog) -> Result<Revision, Memory>
+    requires { log.old ≡ [] }
+    ensures { IfOk result (λ r. r.events ≡ 0) }
+{
+    match spec(alloc) {
+        Ok(spec) => Revision::new(alloc, spec, 0, log),
+        Err(Memory) => Err(Memory),
+    }
+}
+
 /// A new revision, whose pod starts.
-fn revision(alloc: Global) -> Result<Revision, Memory> {
-    let spec = spec(alloc)?;
-    let mut log = EntryLog::new(alloc)?;
-    Revision::new(alloc, spec, 0, &mut log)
+fn revision(alloc: Global) -> Result<Revision, Memory>
+    ensures { IfOk result (λ r. r.events ≡ 0) }
+{
+    match EntryLog::new(alloc) {
+        Ok(mut log) => {
+            let made = revision_in(alloc, &mut log);
+            drop(log);
+            made
+        }
+        Err(Memory) => Err(Memory),
+    }
+}
+
+fn open_over(alloc: Global, revision: Revision, room: u64) -> Result<(RevisionCell, Pass), Memory>
+    requires { revision.events ≡ 0 }
+    ensures { IfOk result (λ r. (r.1.cell ≡ r.0) × (1 + r.1.free + r.1.back ≡ r.1.passes)) }
+{
+    if revision.live() > 0 || room > 1_000_000 {
+        drop(revision);
+        return Err(Memory);
+    }
+    RevisionCell::new(alloc, revision, room, 1)
 }
 
 /// A cell over it with one pass, and room for so many rows, at most 1,000,000.
 pub fn open(alloc: Global, room: u64) -> Result<(RevisionCell, Pass), Memory>
     ensures { IfOk result (λ r. (r.1.cell ≡ r.0) × (1 + r.1.free + r.1.back ≡ r.1.passes)) }
 {
-    let revision = revision(alloc)?;
-    if revision.live() != 0 || revision.events() >= 1 << 53 || room > 1_000_000 {
-        return Err(Memory);
+    match revision(alloc) {
+        Ok(revision) => open_over(alloc, revision, room),
+        Err(Memory) => Err(Memory),
     }
-    RevisionCell::new(alloc, revision, room, 1)
 }

@@ -1,12 +1,11 @@
 //! The ticker goes on after its first turn: a client comes only once a pod was probed twice.
-use crate::hooks::{Hook, HookedCaller, HookedLink};
-use crate::lines::show_answer;
-use crate::sessions::{Sinks, Size, has, serve};
-use crate::setting::{REPLY, had, one_text};
+use crate::hooks::{Hook, HookedSlot, serve_hooked, slot_of};
+use crate::lines::{one_number, show_answer};
+use crate::reports::has;
+use crate::sessions::Sinks;
 use kn_case::case;
-use kn_io::{ListClock, MemCaller, MemLink, OpenGate};
+use kn_io::ListClock;
 use kn_journal::Status;
-use kn_serve::{Slot, Work};
 use std::alloc::{AllocError, Global};
 use std::io;
 use std::sync::Wait;
@@ -46,72 +45,33 @@ impl Hook for Probes {
     }
 }
 
-type LateSlot<'a> = Slot<HookedCaller<'a, MemCaller, Probes>, HookedLink<'a, MemLink, Probes>>;
-
-fn caller(alloc: Global) -> Result<MemCaller, AllocError> {
-    had(MemCaller::new(alloc, one_text(alloc, REQUEST)?, 10000, Vec::new(alloc)))
-}
-
-fn link(alloc: Global) -> Result<MemLink, AllocError> {
-    had(MemLink::new(alloc, one_text(alloc, REPLY)?, Vec::new(alloc)))
-}
-
-fn slot_of<'a>(alloc: Global, probes: &'a Probes) -> Result<LateSlot<'a>, AllocError> {
-    let caller = caller(alloc)?;
-    let link = link(alloc)?;
-    Ok(Slot {
-        caller: HookedCaller {
-            caller,
-            hook: probes,
-            faults: 0,
-        },
-        link: HookedLink { link, hook: probes },
-        work: Work::new(),
-    })
-}
-
-/// A keeper whose first probe fails.
-fn keeper<'a>(
-    alloc: Global,
-    probes: &'a Probes,
-) -> Result<HookedLink<'a, MemLink, Probes>, AllocError> {
-    let link = had(MemLink::new(alloc, Vec::new(alloc), vec![in alloc; 0]?))?;
-    Ok(HookedLink { link, hook: probes })
-}
-
-/// The start is 0, and each later reading 2000.
-fn clock(alloc: Global) -> Result<ListClock, AllocError> {
-    Ok(ListClock::new(vec![in alloc; 0, 2000]?))
-}
-
-/// A session of the one slot. The first probe fails, and the later ones find the pod.
+/// A session of the one slot. The first probe fails, and the later ones find the pod. The start is 0, and each later reading
+/// 2000.
 fn tick_on<'a, R: Threads + Wait + Sync>(
     rt: &R,
     alloc: Global,
     probes: &'a Probes,
-    slots: &mut [LateSlot<'a>],
+    slots: &mut [HookedSlot<'a, Probes>],
     sinks: &mut Sinks,
 ) -> Result<Option<Status>, AllocError> {
-    let clock = clock(alloc)?;
-    let mut keeper = keeper(alloc, probes)?;
-    let size = Size::once(100);
-    serve(
-        rt,
-        alloc,
-        SETUP,
-        slots,
-        &mut keeper,
-        size,
-        &clock,
-        &OpenGate,
-        sinks,
-    )
+    let clock = ListClock::new(Vec::from_slice(alloc, &[0, 2000])?);
+    match one_number(alloc, 0) {
+        Ok(fails) => {
+            let status = serve_hooked(rt, alloc, SETUP, slots, probes, fails, &clock, sinks);
+            drop(clock);
+            status
+        }
+        Err(AllocError) => {
+            drop(clock);
+            Err(AllocError)
+        }
+    }
 }
 
 fn show_session<'a, R: Threads + Wait + Sync + Print + AllocGlobal>(
     rt: &R,
     probes: &'a Probes,
-    slots: &mut [LateSlot<'a>; 1],
+    slots: &mut [HookedSlot<'a, Probes>; 1],
     sinks: &mut Sinks,
 ) -> io::Result<()> {
     let status = tick_on(rt, rt.alloc(), probes, slots, sinks)?;
@@ -121,18 +81,22 @@ fn show_session<'a, R: Threads + Wait + Sync + Print + AllocGlobal>(
     case(rt, "a tick and then the pod", &found, &true)
 }
 
-fn show_to<R: Threads + Wait + Sync + Print + AllocGlobal>(
-    rt: &R,
-    sinks: &mut Sinks,
-) -> io::Result<()> {
+pub fn show<R: Threads + Wait + Sync + Print + AllocGlobal>(rt: &R) -> io::Result<()> {
     let probes = Probes {
         count: AtomicU64::new(0),
     };
-    let mut slots = [slot_of(rt.alloc(), &probes)?];
-    show_session(rt, &probes, &mut slots, sinks)
-}
-
-pub fn show<R: Threads + Wait + Sync + Print + AllocGlobal>(rt: &R) -> io::Result<()> {
     let mut sinks = Sinks::new(rt.alloc())?;
-    show_to(rt, &mut sinks)
+    match slot_of(rt.alloc(), REQUEST, &probes) {
+        Ok(slot) => {
+            let mut slots = [slot];
+            let done = show_session(rt, &probes, &mut slots, &mut sinks);
+            drop(slots);
+            drop(sinks);
+            done
+        }
+        Err(AllocError) => {
+            drop(sinks);
+            Err(io::Error::from(AllocError))
+        }
+    }
 }

@@ -1,5 +1,5 @@
 //! Turns of the ticker, one after another.
-ghost use Rattle.std.specs.Prelude.{◌≡◌};
+ghost use Rattle.std.specs.Prelude.{◌≡◌, ◌+◌};
 ghost use Rattle.kn_cell.specs.Shown.{IsLater};
 
 use crate::hooks::{Hook, HookedLink};
@@ -65,12 +65,13 @@ impl Hook for Bell<'_> {
 }
 
 /// The ticker, as long as one slot is at work: four turns, each of which probes the pod in vain. Answers how often it naps.
-fn tick_four_times<R: Wait>(
+fn tick_by<R: Wait>(
     rt: &R,
-    alloc: Global,
     cell: &RevisionCell,
     pass: &mut Pass,
-) -> Result<u64, AllocError>
+    link: MemLink,
+    times: ListClock,
+) -> u64
     requires { pass.old.cell ≡ cell.now }
     ensures { IsLater pass.old pass.new }
 {
@@ -80,24 +81,77 @@ fn tick_four_times<R: Wait>(
         probes: AtomicU64::new(0),
         before: 3,
     };
-    let link = had(MemLink::new(alloc, Vec::new(alloc), vec![in alloc; 0, 1, 2, 3]?))?;
     let mut keeper = HookedLink { link, hook: &bell };
     let clock = Naps {
-        times: ListClock::new(vec![in alloc; 2000, 4000, 5999, 6000]?),
+        times,
         count: AtomicU64::new(0),
     };
     ticker(rt, cell, pass, &mut keeper, &clock, &left, 0);
-    Ok(clock.count.load(Ordering::SeqCst))
+    let naps = clock.count.load(Ordering::SeqCst);
+    drop(clock);
+    drop(keeper);
+    naps
 }
 
-/// The letters of what a ticker does that goes on, and how often it naps.
-fn tick_on_and_on<R: Wait>(rt: &R, alloc: Global) -> Result<(String, u64), AllocError> {
-    let (cell, mut pass) = match open(alloc, 100) {
-        Ok(opened) => opened,
-        Err(Memory) => return Err(AllocError),
-    };
-    let naps = tick_four_times(rt, alloc, &cell, &mut pass)?;
-    Ok((close(alloc, cell, pass)?, naps))
+/// A link whose first probes fail, as many as there are numbers.
+fn failing_link(alloc: Global, fails: &[u64]) -> Result<MemLink, AllocError> {
+    let fails = Vec::from_slice(alloc, fails)?;
+    had(MemLink::new(alloc, Vec::new(alloc), fails))
+}
+
+fn clock_of(alloc: Global, times: &[u64]) -> Result<ListClock, AllocError> {
+    match Vec::from_slice(alloc, times) {
+        Ok(times) => Ok(ListClock::new(times)),
+        Err(AllocError) => Err(AllocError),
+    }
+}
+
+/// What the four turns come to, and the letters of what they do.
+fn tick_in<R: Wait>(
+    rt: &R,
+    cell: RevisionCell,
+    mut pass: Pass,
+    link: MemLink,
+    times: ListClock,
+    letters: &mut String,
+) -> Result<u64, AllocError>
+    requires cell { pass.cell ≡ cell }
+    requires all { 1 + pass.free + pass.back ≡ pass.passes }
+{
+    let naps = tick_by(rt, &cell, &mut pass, link, times);
+    match close(cell, pass, letters) {
+        Ok(()) => Ok(naps),
+        Err(AllocError) => Err(AllocError),
+    }
+}
+
+fn tick_over<R: Wait>(
+    rt: &R,
+    alloc: Global,
+    link: MemLink,
+    times: ListClock,
+    letters: &mut String,
+) -> Result<u64, AllocError> {
+    match open(alloc, 100) {
+        Ok((cell, pass)) => tick_in(rt, cell, pass, link, times, letters),
+        Err(Memory) => {
+            drop(link);
+            drop(times);
+            Err(AllocError)
+        }
+    }
+}
+
+/// How often a ticker naps that goes on, and the letters of what it does.
+fn tick_on_and_on<R: Wait>(rt: &R, alloc: Global, letters: &mut String) -> Result<u64, AllocError> {
+    let link = failing_link(alloc, &[0, 1, 2, 3])?;
+    match clock_of(alloc, &[2000, 4000, 5999, 6000]) {
+        Ok(times) => tick_over(rt, alloc, link, times, letters),
+        Err(AllocError) => {
+            drop(link);
+            Err(AllocError)
+        }
+    }
 }
 
 /// The ticker's first turn, no slot being at work.
@@ -117,37 +171,102 @@ fn tick_on<R: Wait>(
     ticker(rt, cell, pass, keeper, clock, &left, last);
 }
 
-/// Two turns of these times, and then the ticker's first. Answers what the two came to, and the history's letters.
+/// Two turns of these times, and then the ticker's first. Answers what the two came to.
+fn take_turns<R: Wait>(
+    rt: &R,
+    cell: &RevisionCell,
+    pass: &mut Pass,
+    keeper: &mut MemLink,
+    clock: &ListClock,
+) -> [Turn; 2]
+    requires { pass.old.cell ≡ cell.now }
+    ensures cell { pass.new.cell ≡ pass.old.cell }
+    ensures numbers { (pass.new.free ≡ pass.old.free) × (pass.new.back ≡ pass.old.back) × (pass.new.passes ≡ pass.old.passes) }
+{
+    let first = take_turn(rt, cell, pass, keeper, 2000, 0);
+    let second = take_turn(rt, cell, pass, keeper, 3999, 2000);
+    tick_on(rt, cell, pass, keeper, clock, 2000);
+    [first, second]
+}
+
+fn turns_in<R: Wait>(
+    rt: &R,
+    cell: RevisionCell,
+    mut pass: Pass,
+    keeper: &mut MemLink,
+    clock: &ListClock,
+    letters: &mut String,
+) -> Result<[Turn; 2], AllocError>
+    requires cell { pass.cell ≡ cell }
+    requires all { 1 + pass.free + pass.back ≡ pass.passes }
+{
+    let turns = take_turns(rt, &cell, &mut pass, keeper, clock);
+    match close(cell, pass, letters) {
+        Ok(()) => Ok(turns),
+        Err(AllocError) => Err(AllocError),
+    }
+}
+
+/// What the two turns came to, and the letters of all.
 fn tick_all<R: Wait>(
     rt: &R,
     alloc: Global,
     keeper: &mut MemLink,
     clock: &ListClock,
-) -> Result<([Turn; 2], String), AllocError> {
-    let (cell, mut pass) = match open(alloc, 100) {
-        Ok(opened) => opened,
-        Err(Memory) => return Err(AllocError),
-    };
-    let first = take_turn(rt, &cell, &mut pass, keeper, 2000, 0);
-    let second = take_turn(rt, &cell, &mut pass, keeper, 3999, 2000);
-    tick_on(rt, &cell, &mut pass, keeper, clock, 2000);
-    Ok(([first, second], close(alloc, cell, pass)?))
+    letters: &mut String,
+) -> Result<[Turn; 2], AllocError> {
+    match open(alloc, 100) {
+        Ok((cell, pass)) => turns_in(rt, cell, pass, keeper, clock, letters),
+        Err(Memory) => Err(AllocError),
+    }
 }
 
-/// A tick that is due and the pod that starts, whose first probe fails; then its Ready alone; then a tick alone.
-pub fn show<R: Wait + Print + AllocGlobal>(rt: &R) -> io::Result<()> {
-    let alloc = rt.alloc();
-    let mut keeper = had(MemLink::new(alloc, Vec::new(alloc), vec![in alloc; 0]?))?;
-    let clock = ListClock::new(vec![in alloc; 4000]?);
-    let (turns, rows) = tick_all(rt, alloc, &mut keeper, &clock)?;
+fn show_turns<R: Wait + Print + AllocGlobal>(
+    rt: &R,
+    keeper: &mut MemLink,
+    clock: &ListClock,
+    letters: &mut String,
+) -> io::Result<()> {
+    let turns = tick_all(rt, rt.alloc(), keeper, clock, letters)?;
     let turn = Turn {
         last: 2000,
         full: false,
     };
     case(rt, "two turns", &turns, &[turn, turn])?;
-    println!(rt; "rows {rows}")?;
-    case(rt, "two probes", &keeper.probes().unwrap_or(&[]).len(), &2)?;
-    let (rows, naps) = tick_on_and_on(rt, alloc)?;
-    println!(rt; "rows of four turns {rows}")?;
+    println!(rt; "rows {letters}")?;
+    case(rt, "two probes", &keeper.probes().unwrap_or(&[]).len(), &2)
+}
+
+/// A tick that is due and the pod that starts, whose first probe fails; then its Ready alone; then a tick alone.
+fn show_first<R: Wait + Print + AllocGlobal>(rt: &R, letters: &mut String) -> io::Result<()> {
+    let clock = clock_of(rt.alloc(), &[4000])?;
+    match failing_link(rt.alloc(), &[0]) {
+        Ok(mut keeper) => {
+            let done = show_turns(rt, &mut keeper, &clock, letters);
+            drop(keeper);
+            drop(clock);
+            done
+        }
+        Err(AllocError) => {
+            drop(clock);
+            Err(io::Error::from(AllocError))
+        }
+    }
+}
+
+fn show_four<R: Wait + Print + AllocGlobal>(rt: &R, letters: &mut String) -> io::Result<()> {
+    let naps = tick_on_and_on(rt, rt.alloc(), letters)?;
+    println!(rt; "rows of four turns {letters}")?;
     case(rt, "three naps", &naps, &3)
+}
+
+pub fn show<R: Wait + Print + AllocGlobal>(rt: &R) -> io::Result<()> {
+    let mut letters = String::new(rt.alloc());
+    let mut done = show_first(rt, &mut letters);
+    letters.clear();
+    if done.is_ok() {
+        done = show_four(rt, &mut letters);
+    }
+    drop(letters);
+    done
 }

@@ -3,12 +3,14 @@ ghost use Rattle.std.specs.Prelude.{All, IfOk};
 ghost use Rattle.kn_request.specs.Outside.{said};
 ghost use Rattle.kn_serve.specs.Opening.{IsFresh};
 
-use crate::lines::show_answer;
-use crate::sessions::{Sinks, reports};
-use crate::setting::{MemSlot, REQUEST, SETUP, had, slot_of};
+use crate::lines::add;
+use crate::readings::Hands;
+use crate::reports::reports;
+use crate::sessions::{Sinks, show_answers, source_of};
+use crate::setting::{MemSlot, REQUEST, SETUP, slot_of};
 use kn_case::shown;
 use kn_event::Memory;
-use kn_io::{ListClock, MemCaller, MemLink, MemSource, OpenGate, PodLink, Sink};
+use kn_io::{MemCaller, MemLink, MemSource, OpenGate, PodLink, Sink};
 use kn_journal::Status;
 use kn_serve::{MemOpener, kactd_run};
 use std::alloc::{AllocError, Global};
@@ -20,23 +22,54 @@ fn two_slots(alloc: Global) -> Result<Vec<MemSlot>, Memory>
     ensures { IfOk result (λ slots. All (λ s. IsFresh (said (⟦<MemCaller as Sink>⟧.kept s.caller) (⟦<MemCaller as Sink>⟧.held s.caller)) (⟦<MemLink as PodLink>⟧.told s.link) s.work) slots.items) }
 {
     let first = slot_of(alloc, REQUEST, u64::MAX, "")?;
-    let second = slot_of(alloc, REQUEST, u64::MAX, "")?;
-    match vec![in alloc; first, second] {
-        Ok(slots) => Ok(slots),
-        Err(_) => Err(Memory),
+    match slot_of(alloc, REQUEST, u64::MAX, "") {
+        Ok(second) => match vec![in alloc; first, second] {
+            Ok(slots) => Ok(slots),
+            Err(failed) => {
+                drop(failed);
+                Err(Memory)
+            }
+        },
+        Err(Memory) => {
+            drop(first);
+            Err(Memory)
+        }
+    }
+}
+
+/// What hands out these slots and a keeper, or fails.
+fn opener_of(
+    alloc: Global,
+    slots: Vec<MemSlot>,
+    fail: bool,
+) -> Result<MemOpener<MemCaller, MemLink>, Memory>
+    requires { All (λ s. IsFresh (said (⟦<MemCaller as Sink>⟧.kept s.caller) (⟦<MemCaller as Sink>⟧.held s.caller)) (⟦<MemLink as PodLink>⟧.told s.link) s.work) slots.items }
+{
+    match MemLink::new(alloc, Vec::new(alloc), Vec::new(alloc)) {
+        Ok(keeper) => Ok(MemOpener::new(slots, keeper, fail)),
+        Err(Memory) => {
+            drop(slots);
+            Err(Memory)
+        }
     }
 }
 
 /// What hands out two slots and a keeper, or fails.
 fn opener(alloc: Global, fail: bool) -> Result<MemOpener<MemCaller, MemLink>, Memory> {
-    let slots = two_slots(alloc)?;
-    let keeper = MemLink::new(alloc, Vec::new(alloc), Vec::new(alloc))?;
-    Ok(MemOpener::new(slots, keeper, fail))
+    match two_slots(alloc) {
+        Ok(slots) => opener_of(alloc, slots, fail),
+        Err(Memory) => Err(Memory),
+    }
+}
+
+fn add_word(alloc: Global, words: &mut Vec<String>, word: &str) -> Result<(), AllocError> {
+    let word = String::from_str(alloc, word)?;
+    add(words, word)
 }
 
 fn add_words(alloc: Global, words: &mut Vec<String>, line: &str) -> Result<(), AllocError> {
     for word in line.split_ascii_whitespace() {
-        words.push(String::from_str(alloc, word)?)?;
+        add_word(alloc, words, word)?;
     }
     Ok(())
 }
@@ -45,29 +78,24 @@ fn words_of(alloc: Global, line: &str) -> Result<Vec<String>, AllocError> {
     let mut words = Vec::new(alloc);
     match add_words(alloc, &mut words, line) {
         Ok(()) => Ok(words),
-        Err(AllocError) => Err(AllocError),
+        Err(AllocError) => {
+            drop(words);
+            Err(AllocError)
+        }
     }
 }
 
-/// What came of a command: its status, the slots that were opened, and whether a keeper was.
-#[derive(Drop)]
-struct Ended {
-    status: Status,
-    slots: Vec<MemSlot>,
-    has_keeper: bool,
-}
-
-/// Runs the command of these words.
+/// Runs the command of these words. Answers its status, and whether a keeper was opened.
 fn run_words<R: Threads + Wait + Sync>(
     rt: &R,
     alloc: Global,
     words: &[String],
     opener: &mut MemOpener<MemCaller, MemLink>,
     setup: &mut MemSource,
-    clock: &ListClock,
+    slots: &mut Vec<MemSlot>,
     sinks: &mut Sinks,
-) -> Ended {
-    let mut slots = Vec::new(alloc);
+) -> (Status, bool) {
+    let hands = Hands::new();
     let mut keeper = None;
     let Sinks { out, err } = sinks;
     let status = kactd_run(
@@ -76,18 +104,16 @@ fn run_words<R: Threads + Wait + Sync>(
         words,
         opener,
         setup,
-        &mut slots,
+        slots,
         &mut keeper,
-        clock,
+        &hands,
         &OpenGate,
         out,
         err,
     );
-    Ended {
-        status,
-        slots,
-        has_keeper: keeper.is_some(),
-    }
+    let has_keeper = keeper.is_some();
+    drop(keeper);
+    (status, has_keeper)
 }
 
 fn run_setup<R: Threads + Wait + Sync>(
@@ -95,11 +121,17 @@ fn run_setup<R: Threads + Wait + Sync>(
     alloc: Global,
     words: &[String],
     opener: &mut MemOpener<MemCaller, MemLink>,
+    slots: &mut Vec<MemSlot>,
     sinks: &mut Sinks,
-) -> Result<Ended, AllocError> {
-    let clock = ListClock::new(vec![in alloc; 0]?);
-    let mut setup = MemSource::new(Vec::from_slice(alloc, SETUP)?, Vec::new(alloc));
-    Ok(run_words(rt, alloc, words, opener, &mut setup, &clock, sinks))
+) -> Result<(Status, bool), AllocError> {
+    match source_of(alloc, SETUP) {
+        Ok(mut setup) => {
+            let ended = run_words(rt, alloc, words, opener, &mut setup, slots, sinks);
+            drop(setup);
+            Ok(ended)
+        }
+        Err(AllocError) => Err(AllocError),
+    }
 }
 
 /// Runs the command.
@@ -108,11 +140,22 @@ fn run<R: Threads + Wait + Sync>(
     alloc: Global,
     line: &str,
     fail: bool,
+    slots: &mut Vec<MemSlot>,
     sinks: &mut Sinks,
-) -> Result<Ended, AllocError> {
+) -> Result<(Status, bool), AllocError> {
     let words = words_of(alloc, line)?;
-    let mut opener = had(opener(alloc, fail))?;
-    run_setup(rt, alloc, &words, &mut opener, sinks)
+    match opener(alloc, fail) {
+        Ok(mut opener) => {
+            let ended = run_setup(rt, alloc, &words, &mut opener, slots, sinks);
+            drop(opener);
+            drop(words);
+            ended
+        }
+        Err(Memory) => {
+            drop(words);
+            Err(AllocError)
+        }
+    }
 }
 
 /// Prints whether the session's journal tells of two requests that were finished, or that there is none.
@@ -124,31 +167,34 @@ fn show_journal<R: Print + AllocGlobal>(rt: &R, journal: &[u8]) -> io::Result<()
     println!(rt; "  two finished: {both}")
 }
 
-fn show_ended<R: Print + AllocGlobal>(rt: &R, ended: &Ended, told: &[u8]) -> io::Result<()> {
-    let status = ended.status;
+/// Prints the status, what is told, how many slots were opened, and whether a keeper was.
+fn show_ended<R: Print + AllocGlobal>(
+    rt: &R,
+    status: Status,
+    told: &[u8],
+    slots: usize,
+    keeper: bool,
+) -> io::Result<()> {
     let code = status.code();
     let told = shown(rt.alloc(), told)?;
-    let slots = ended.slots.len();
-    let keeper = ended.has_keeper;
-    println!(rt; "  {status:?} {code}, tells \"{told}\", slots {slots}, keeper {keeper}")
-}
-
-fn show_answers<R: Print + AllocGlobal>(rt: &R, ended: &Ended) -> io::Result<()> {
-    for slot in &ended.slots {
-        show_answer(rt, &slot.caller)?;
-    }
-    Ok(())
+    let done = println!(rt;
+        "  {status:?} {code}, tells \"{told}\", slots {slots}, keeper {keeper}"
+    );
+    drop(told);
+    done
 }
 
 fn show_run<R: Threads + Wait + Sync + Print + AllocGlobal>(
     rt: &R,
     line: &str,
     fail: bool,
+    slots: &mut Vec<MemSlot>,
     sinks: &mut Sinks,
 ) -> io::Result<()> {
-    let ended = run(rt, rt.alloc(), line, fail, sinks)?;
-    show_ended(rt, &ended, sinks.err.held())?;
-    show_answers(rt, &ended)
+    let (status, keeper) = run(rt, rt.alloc(), line, fail, slots, sinks)?;
+    show_ended(rt, status, sinks.err.held(), slots.len(), keeper)?;
+    show_answers(rt, slots)?;
+    show_journal(rt, sinks.out.held())
 }
 
 /// Runs the command, whose opener may fail, and prints what comes of it.
@@ -158,6 +204,9 @@ pub fn show<R: Threads + Wait + Sync + Print + AllocGlobal>(
     fail: bool,
 ) -> io::Result<()> {
     let mut sinks = Sinks::new(rt.alloc())?;
-    show_run(rt, line, fail, &mut sinks)?;
-    show_journal(rt, sinks.out.held())
+    let mut slots = Vec::new(rt.alloc());
+    let done = show_run(rt, line, fail, &mut slots, &mut sinks);
+    drop(slots);
+    drop(sinks);
+    done
 }

@@ -1,7 +1,7 @@
 use Rattle.std.proofs.Common.{◌≡◌, ◌+◌, ◌-◌, ◌≤◌}
-use Rattle.std.specs.Prelude.{All, vec_len}
+use Rattle.std.specs.Prelude.{All, vec_len, vec_capacity}
 use Rattle.kn_tests_cell.specs.Numbers.{IsLeaf}
-use Rattle.kn_tests_cell.proofs.threads.cut.Given as goal
+use Rattle.kn_tests_cell.proofs.outcome.cut.Given as goal
 
 abbrev pub invariant-loop-passes : goal.invariant-loop-passes
 invariant-loop-passes l = record {
@@ -10,6 +10,7 @@ invariant-loop-passes l = record {
   all : l.first.passes ≡ l.fn.first.passes;
   free : l.first.free + vec_len l.passes ≡ l.fn.first.free;
   few : vec_len l.passes ≤ l.n;
+  wide : l.n ≤ vec_capacity l.passes;
   each : All (IsLeaf l.cell) l.passes.items;
 }
 

@@ -1,7 +1,7 @@
 use Rattle.std.proofs.Common.{◌≡◌, ◌+◌}
 use Rattle.std.specs.Prelude.{All, vec_len}
 use Rattle.kn_tests_cell.specs.Numbers.{IsLeaf}
-use Rattle.kn_tests_cell.proofs.threads.take_in.Given as goal
+use Rattle.kn_tests_cell.proofs.outcome.take_in.Given as goal
 
 abbrev pub invariant-loop-pass : goal.invariant-loop-pass
 invariant-loop-pass l = record {

@@ -1,0 +1,213 @@
+//! The tests, and what is printed of each.
+use crate::outcome::{Outcome, Plan, carry_out};
+use crate::replay::replay;
+use crate::shared::Left;
+use crate::threads::Work;
+use crate::turns::Script;
+use kn_case::case;
+use kn_cell::Past;
+use kn_event::Memory;
+use std::alloc::AllocError;
+use std::io;
+use std::sync::Wait;
+use std::thread::Threads;
+
+/// What a test is to give: a name, what came, and what is wanted.
+type Want = (&'static str, u64, u64);
+
+#[derive(Clone, Copy)]
+enum Test {
+    /// The room is for rows and for the ends of live requests.
+    Room,
+    /// Two passes by turns. No time falls, and none is above 2^42.
+    Turns,
+    /// Each request of four threads runs at once and ends.
+    Four,
+    /// What eight threads were told is what one thread is told.
+    One,
+    /// Eight threads of 2,000 requests each, of which many have to wait for the turn: each goes on.
+    Crowd,
+    /// One thread looks while another tries.
+    Busy,
+}
+
+const TESTS: [Test; 6] = [
+    Test::Room,
+    Test::Turns,
+    Test::Four,
+    Test::One,
+    Test::Crowd,
+    Test::Busy,
+];
+
+fn by_turns(room: u64, script: Script) -> Plan {
+    Plan {
+        seats: 1,
+        breaker: 1,
+        room,
+        script,
+        others: 1,
+        work: Work::Nothing,
+    }
+}
+
+/// The pod is Ready at once.
+fn by_threads(seats: u64, room: u64, others: usize, work: Work) -> Plan {
+    Plan {
+        seats,
+        breaker: 10,
+        room,
+        script: Script::Ready,
+        others,
+        work,
+    }
+}
+
+fn plan_of(test: Test) -> Plan {
+    match test {
+        Test::Room => by_turns(4, Script::Room),
+        Test::Turns => by_turns(100, Script::Turns),
+        Test::Four => by_threads(0, 1000, 4, Work::Serve(100)),
+        Test::One => by_threads(2, 1000, 8, Work::Mix),
+        Test::Crowd => by_threads(0, 40_000, 8, Work::Serve(2000)),
+        Test::Busy => by_threads(0, 300_000, 2, Work::Meet),
+    }
+}
+
+/// Whether the rows are of these passes and times.
+fn are_of(rows: &[Past], wanted: &[(u64, u64)]) -> bool {
+    for i in 0..rows.len() {
+        if i >= wanted.len() || wanted[i] != (rows[i].pass, rows[i].event.time) {
+            return false;
+        }
+    }
+    rows.len() == wanted.len()
+}
+
+/// How many rows the pass of this number brought.
+fn brought(rows: &[Past], pass: u64) -> u64 {
+    let mut count = 0u64;
+    for row in rows {
+        if row.pass == pass {
+            count = count.saturating_add(1);
+        }
+    }
+    count
+}
+
+/// Whether the passes brought so many rows each.
+fn brought_each(rows: &[Past], wanted: &[u64]) -> bool {
+    for pass in 0..wanted.len() {
+        if brought(rows, pass as u64) != wanted[pass] {
+            return false;
+        }
+    }
+    true
+}
+
+fn rows(outcome: &Outcome) -> u64 {
+    outcome.history.items().len() as u64
+}
+
+/// How many calls were answered as they are to be.
+fn right(outcome: &Outcome) -> u64 {
+    outcome.right as u64
+}
+
+fn room(outcome: &Outcome) -> [Want; 3] {
+    [
+        ("no room, no wrong answer", right(outcome), 14),
+        ("no room, rows", rows(outcome), 4),
+        ("no room, live requests", outcome.left.live, 0),
+    ]
+}
+
+fn turns(outcome: &Outcome) -> [Want; 3] {
+    let wanted = [(0, 10), (1, 10), (0, 11), (1, 1 << 42)];
+    let are = are_of(outcome.history.items(), &wanted);
+    [
+        ("turns, no wrong answer", right(outcome), 4),
+        ("turns, passes and times", u64::from(are), 1),
+        ("turns, the last time", outcome.left.now, 1 << 42),
+    ]
+}
+
+/// Beside the row of the Ready pod there are 200 of each thread.
+fn four(outcome: &Outcome) -> [Want; 5] {
+    let each = brought_each(outcome.history.items(), &[1, 200, 200, 200, 200]);
+    [
+        ("four threads, the pod is Ready", right(outcome), 1),
+        ("four threads, rows", rows(outcome), 801),
+        ("four threads, rows of each", u64::from(each), 1),
+        ("four threads, arrivals", outcome.left.arrivals, 400),
+        ("four threads, live requests", outcome.left.live, 0),
+    ]
+}
+
+fn are_same(one: &Left, other: &Left) -> bool {
+    one.now == other.now && one.arrivals == other.arrivals && one.live == other.live
+}
+
+fn one(outcome: &Outcome, count: u64, again: &Left) -> [Want; 4] {
+    let same = are_same(again, &outcome.left);
+    [
+        ("eight threads, the pod is Ready", right(outcome), 1),
+        ("eight threads, rows", rows(outcome), 481),
+        ("eight threads, events replayed by one", count, 481),
+        ("eight threads, what is left", u64::from(same), 1),
+    ]
+}
+
+fn crowd(outcome: &Outcome) -> [Want; 2] {
+    [
+        ("a crowd, rows", rows(outcome), 32_001),
+        ("a crowd, arrivals", outcome.left.arrivals, 16_000),
+    ]
+}
+
+fn busy(outcome: &Outcome) -> [Want; 1] {
+    [("one of two is told Busy", u64::from(outcome.busy), 1)]
+}
+
+fn print<R: Print>(rt: &R, wants: &[Want]) -> io::Result<()> {
+    for (name, got, want) in wants {
+        case(rt, name, got, want)?;
+    }
+    Ok(())
+}
+
+fn lacks() -> io::Result<()> {
+    Err(io::Error::from(AllocError))
+}
+
+fn show_one<R: Print + AllocGlobal>(rt: &R, outcome: &Outcome) -> io::Result<()> {
+    match replay(rt.alloc(), outcome.history.items()) {
+        Ok((count, again)) => print(rt, &one(outcome, count, &again)),
+        Err(Memory) => lacks(),
+    }
+}
+
+fn show_outcome<R: Print + AllocGlobal>(rt: &R, test: Test, outcome: &Outcome) -> io::Result<()> {
+    match test {
+        Test::Room => print(rt, &room(outcome)),
+        Test::Turns => print(rt, &turns(outcome)),
+        Test::Four => print(rt, &four(outcome)),
+        Test::One => show_one(rt, outcome),
+        Test::Crowd => print(rt, &crowd(outcome)),
+        Test::Busy => print(rt, &busy(outcome)),
+    }
+}
+
+fn show_test<R: Print + AllocGlobal + Threads + Wait + Sync>(rt: &R, test: Test) -> io::Result<()> {
+    match carry_out(rt, rt.alloc(), &plan_of(test)) {
+        Ok(outcome) => show_outcome(rt, test, &outcome),
+        Err(Memory) => lacks(),
+    }
+}
+
+pub fn show<R: Print + AllocGlobal + Threads + Wait + Sync>(rt: &R) -> io::Result<()> {
+    for test in TESTS {
+        show_test(rt, test)?;
+    }
+    Ok(())
+}
