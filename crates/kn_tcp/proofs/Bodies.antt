@@ -7,10 +7,9 @@ use Rattle.httparse.specs.declared.spans.HeaderSpan.{HeaderSpan}
 use Rattle.httparse.specs.Spans.{header_bytes}
 use Rattle.kn_tcp.specs.declared.reply.Stage.{Stage}
 use Rattle.kn_tcp.specs.declared.reply.Stage.TheVariants as stage
-use Rattle.kn_tcp.specs.declared.reply.Judged.TheVariants as judged
 use Rattle.kn_tcp.specs.declared.chunks.Followed.TheVariants as followed
 use Rattle.kn_tcp.specs.Replies.{is_coding, is_chunks_coding}
-use Rattle.kn_tcp.specs.Ends.{most_reply, ReadsChunks, ReadsReply, is_length, says, agrees, IsStageOf, NoStage, Meets, JudgedIs, FollowedIs, NoReply, NeverReply, MeetsAny, StageReads, StageWithin}
+use Rattle.kn_tcp.specs.Ends.{most_reply, ReadsChunks, ReadsReply, is_length, says, agrees, IsStageOf, Meets, FollowedIs, NoReply, NeverReply, MeetsAny, StageReads, StageWithin}
 use Rattle.kn_tcp.proofs.Wholes.{blank, all_at}
 
 -- ---- lengths
@@ -33,82 +32,51 @@ says_at n text xs i lt named all = either _ refl
 
 -- ---- stages
 
-pub stage_none : (fields : List (List ℕ × List ℕ)) (at : ℕ) → IsStageOf true fields at (stage.Until at)
-stage_none fields at bytes rest le = (λ same. (le, same), λ p. p.1)
-
-pub stage_chunks : (fields : List (List ℕ × List ℕ)) (at : ℕ) → list_any is_chunks_coding fields ≡ true
-    → IsStageOf false fields at (stage.Chunks at)
-stage_chunks fields at e = rw e (λ bytes rest le. (λ r. r, λ r. r))
-
-pub stage_coded : (fields : List (List ℕ × List ℕ)) (at : ℕ) → list_any is_chunks_coding fields ≡ false
-    → list_any is_coding fields ≡ true → IsStageOf false fields at stage.Open
-stage_coded fields at e f = rw (e, f) (λ bytes rest le. (λ r. r, λ r. r))
-
-pub stage_open : (fields : List (List ℕ × List ℕ)) (at : ℕ) → list_any is_chunks_coding fields ≡ false
-    → list_any is_coding fields ≡ false → list_any is_length fields ≡ false → IsStageOf false fields at stage.Open
-stage_open fields at e f g = rw (e, f, g) (λ bytes rest le. (λ r. r, λ r. r))
-
 pub stage_sized : (fields : List (List ℕ × List ℕ)) (at n : ℕ) → list_any is_chunks_coding fields ≡ false
     → list_any is_coding fields ≡ false → list_any is_length fields ≡ true → n ≤ most_reply → list_all (agrees n) fields ≡ true
     → ((m : ℕ) → list_all (agrees m) fields ≡ true → m ≡ n) → IsStageOf false fields at (stage.Until (at + n))
 stage_sized fields at n e f g short all only =
-    rw (e, f, g) (λ bytes rest le.
-    (λ r.
-      let size : length r.0 ≡ n = only (length r.0) r.3 in
-      let behind : drop n (drop at bytes) ≡ rest = ap (drop n) r.1 ∙ drop_at r.0 rest n size in
-      let room : at + n ≤ length bytes =
-      omega (arith, le, ap length r.1, length-append r.0 rest, size, length-drop at bytes) in
-      (room, sym behind ∙ drop-drop n at bytes),
-    λ p.
-      let size : length (take n (drop at bytes)) ≡ n = length-take-le n (drop at bytes) (omega (arith, p.0, length-drop at bytes)) in
-      (take n (drop at bytes),
-      sym (take-append-drop n (drop at bytes)) ∙ ap (λ l. take n (drop at bytes) ++ l) (drop-drop n at bytes ∙ sym p.1),
-      omega (arith, size, short), subst (λ k. list_all (agrees k) fields ≡ true) (sym size) all)))
-
-pub no_stage : (fields : List (List ℕ × List ℕ)) → list_any is_chunks_coding fields ≡ false
-    → list_any is_coding fields ≡ false → list_any is_length fields ≡ true
-    → ((m : ℕ) → m ≤ most_reply → list_all (agrees m) fields ≡ false) → NoStage false fields
-no_stage fields e f g none =
-    rw (e, f, g) (λ bytes rest r. apart (sym r.3 ∙ none (length r.0) r.2))
-  where
-    apart : true ≡ false → ⊥
-    apart h = search rules
+    rw (e, f, g) (λ bytes rest le. (
+      λ r.
+          let size : length r.0 ≡ n = only (length r.0) r.3 in
+          let behind : drop n (drop at bytes) ≡ rest = ap (drop n) r.1 ∙ drop_at r.0 rest n size in
+          let room : at + n ≤ length bytes =
+          omega (arith, le, ap length r.1, length-append r.0 rest, size, length-drop at bytes) in
+          (room, sym behind ∙ drop-drop n at bytes),
+      λ p.
+          let size : length (take n (drop at bytes)) ≡ n = length-take-le n (drop at bytes) (omega (arith, p.0, length-drop at bytes)) in (
+            take n (drop at bytes),
+            sym (take-append-drop n (drop at bytes)) ∙ ap (λ l. take n (drop at bytes) ++ l) (drop-drop n at bytes ∙ sym p.1),
+            omega (arith, size, short),
+            subst (λ k. list_all (agrees k) fields ≡ true) (sym size) all,
+          ),
+    ))
 
 -- ---- what is judged
 
 with_nil : (request bytes rest : List ℕ) → ReadsReply request bytes rest → ReadsReply request (bytes ++ []) rest
 with_nil request bytes rest = subst (λ b. ReadsReply request b rest) (sym (append-nil bytes))
 
-pub until_ended : (request reply : List ℕ) (end : ℕ) → Meets request reply (stage.Until end) → end ≤ length reply
-    → JudgedIs request reply (judged.Ended end)
-until_ended request reply end m le =
-    (le, λ more. m.back more (drop end reply ++ more) (omega (arith, le, length-append reply more), sym (drop-append-le end reply more le)))
-
 pub until_open : (request reply : List ℕ) (end : ℕ) → Meets request reply (stage.Until end) → length reply < end → NoReply request reply
 until_open request reply end m long rest reads =
     let there = m.to [] rest (with_nil request reply rest reads) in
     absurd (omega (arith, there.0, long, length-append reply []))
 
-pub chunks_ended : (request reply : List ℕ) (at n : ℕ) → Meets request reply (stage.Chunks at) → FollowedIs reply at (followed.Ended n)
-    → JudgedIs request reply (judged.Ended n)
-chunks_ended request reply at n m f =
-    (f.0, λ more. m.back more (drop n reply ++ more)
-    (subst (λ b. ReadsChunks b (drop n reply ++ more)) (sym (drop-append-le at reply more m.within)) (f.1 more)))
-
 pub chunks_open : (request reply : List ℕ) (at n : ℕ) → Meets request reply (stage.Chunks at) → FollowedIs reply at (followed.Cut n)
     → Meets request reply (stage.Chunks n) × NoReply request reply
 chunks_open request reply at n m f =
     let from : (more : List ℕ) → drop at (reply ++ more) ≡ drop at reply ++ more = λ more. drop-append-le at reply more m.within in
-    let next : (more : List ℕ) → drop n (reply ++ more) ≡ drop n reply ++ more = λ more. drop-append-le n reply more f.0 in
-    (record {
-      within = f.0;
-      to = λ more rest reads. subst (λ b. ReadsChunks b rest) (sym (next more))
-          ((f.2 more rest).0 (subst (λ b. ReadsChunks b rest) (from more) (m.to more rest reads)));
-      back = λ more rest reads. m.back more rest (subst (λ b. ReadsChunks b rest) (sym (from more))
-          ((f.2 more rest).1 (subst (λ b. ReadsChunks b rest) (next more) reads)));
-    },
-    λ rest reads. f.1 rest (subst (λ b. ReadsChunks b rest) (from [] ∙ append-nil (drop at reply))
-    (m.to [] rest (with_nil request reply rest reads))))
+    let next : (more : List ℕ) → drop n (reply ++ more) ≡ drop n reply ++ more = λ more. drop-append-le n reply more f.0 in (
+      record {
+        within = f.0;
+        to = λ more rest reads. subst (λ b. ReadsChunks b rest) (sym (next more))
+            ((f.2 more rest).0 (subst (λ b. ReadsChunks b rest) (from more) (m.to more rest reads)));
+        back = λ more rest reads. m.back more rest (subst (λ b. ReadsChunks b rest) (sym (from more))
+            ((f.2 more rest).1 (subst (λ b. ReadsChunks b rest) (next more) reads)));
+      },
+      λ rest reads. f.1 rest (subst (λ b. ReadsChunks b rest) (from [] ∙ append-nil (drop at reply))
+          (m.to [] rest (with_nil request reply rest reads))),
+    )
 
 pub chunks_never : (request reply : List ℕ) (at : ℕ) → Meets request reply (stage.Chunks at) → FollowedIs reply at followed.Never
     → NeverReply request reply

@@ -15,8 +15,15 @@ pub few_fields : (buf : List ℕ) (spans : List HeaderSpan) (count : ℕ) (field
     → map (header_bytes buf) (take count spans) ≡ map name_and_value fields → count ≤ length spans → length spans ≡ most_fields
     → length fields ≤ most_fields
 few_fields buf spans count fields same fits room =
-    omega (arith, fits, room, ap length same, length-map (take count spans) (header_bytes buf), length-map fields name_and_value,
-    length-take-le count spans fits)
+    omega (
+      arith,
+      fits,
+      room,
+      ap length same,
+      length-map (take count spans) (header_bytes buf),
+      length-map fields name_and_value,
+      length-take-le count spans fits,
+    )
 
 -- ---- after a size line that is known
 
@@ -98,16 +105,17 @@ next_chunk bytes start n l at_ some long right more rest =
     let size : length (take n after) ≡ n = length-take-le n after (omega (arith, long)) in
     let whole : after ++ more ≡ take n after ++ (13 ∷ 10 ∷ (tail ++ more)) =
     ap (λ l. l ++ more) (sym (take-append-drop n after) ∙ ap (λ l. take n after ++ l) here) ∙ append_assoc (take n after) (13 ∷ 10 ∷ tail) more in
-    let line = ReadsChunkLine-append bytes l after more at_.reads in
-    (λ reads.
-      let cut = after_inner bytes start n l more rest at_ some reads in
-      let same = behind_piece after cut.0 cut.1 more n cut.2 cut.3 long in
-      let next : cut.1 ≡ drop (start + n + 2) bytes ++ more =
-      ap (drop 2) (sym same ∙ ap (λ l. l ++ more) here) ∙ ap (λ l. l ++ more) place in
-      subst (λ b. ReadsChunks b rest) next cut.4,
-    λ reads.
-      goes_on l (take n after) (tail ++ more) (subst (λ t. ReadsChunkLine (bytes ++ more) l t) whole line)
-      (size ∙ at_.size_is) (omega (arith, some, at_.size_is)) (subst (λ t. ReadsChunks (t ++ more) rest) (sym place) reads))
+    let line = ReadsChunkLine-append bytes l after more at_.reads in (
+      λ reads.
+          let cut = after_inner bytes start n l more rest at_ some reads in
+          let same = behind_piece after cut.0 cut.1 more n cut.2 cut.3 long in
+          let next : cut.1 ≡ drop (start + n + 2) bytes ++ more =
+          ap (drop 2) (sym same ∙ ap (λ l. l ++ more) here) ∙ ap (λ l. l ++ more) place in
+          subst (λ b. ReadsChunks b rest) next cut.4,
+      λ reads.
+          goes_on l (take n after) (tail ++ more) (subst (λ t. ReadsChunkLine (bytes ++ more) l t) whole line)
+          (size ∙ at_.size_is) (omega (arith, some, at_.size_is)) (subst (λ t. ReadsChunks (t ++ more) rest) (sym place) reads),
+    )
 
 -- ---- a body by itself
 
@@ -115,16 +123,20 @@ pub chunks_alone : (bytes rest : List ℕ) → ReadsChunks bytes rest
     → (front : List ℕ) × (bytes ≡ front ++ rest) × ((other : List ℕ) → ReadsChunks (front ++ other) other)
 chunks_alone bytes rest (ends line fields end trailer reads none section few) =
     let p = print_chunk_line line in
-    let q = print_section fields end in
-    (p ++ q, reads.1 ∙ (ap (λ l. p ++ l) section.1 ∙ sym (append_assoc p q rest)),
-    λ other. ends line fields end (q ++ other) (reads.0, append_assoc p q other) none (section.0, refl) few)
+    let q = print_section fields end in (
+      p ++ q,
+      reads.1 ∙ (ap (λ l. p ++ l) section.1 ∙ sym (append_assoc p q rest)),
+      λ other. ends line fields end (q ++ other) (reads.0, append_assoc p q other) none (section.0, refl) few,
+    )
 chunks_alone bytes rest (goes_on line piece next reads size some whole) =
     let inner = chunks_alone next rest whole in
     let p = print_chunk_line line in
     let q = piece ++ (13 ∷ 10 ∷ inner.0) in
-    let joined : (other : List ℕ) → q ++ other ≡ piece ++ (13 ∷ 10 ∷ (inner.0 ++ other)) = λ other. append_assoc piece (13 ∷ 10 ∷ inner.0) other in
-    (p ++ q, reads.1 ∙ (ap (λ l. p ++ (piece ++ (13 ∷ 10 ∷ l))) inner.1 ∙ (ap (λ l. p ++ l) (sym (joined rest)) ∙ sym (append_assoc p q rest))),
-    λ other. goes_on line piece (inner.0 ++ other) (reads.0, append_assoc p q other ∙ ap (λ l. p ++ l) (joined other)) size some (inner.2 other))
+    let joined : (other : List ℕ) → q ++ other ≡ piece ++ (13 ∷ 10 ∷ (inner.0 ++ other)) = λ other. append_assoc piece (13 ∷ 10 ∷ inner.0) other in (
+      p ++ q,
+      reads.1 ∙ (ap (λ l. p ++ (piece ++ (13 ∷ 10 ∷ l))) inner.1 ∙ (ap (λ l. p ++ l) (sym (joined rest)) ∙ sym (append_assoc p q rest))),
+      λ other. goes_on line piece (inner.0 ++ other) (reads.0, append_assoc p q other ∙ ap (λ l. p ++ l) (joined other)) size some (inner.2 other),
+    )
 
 pub none_from : (bytes next : List ℕ) → SameChunks bytes next → NoChunks next → NoChunks bytes
 none_from bytes next same none rest reads =

@@ -23,9 +23,6 @@ apart {b} x y = absurd (differ (sym x ∙ y))
     differ : true ≡ false → ⊥
     differ e = search rules
 
-pub same_start : (bytes : List ℕ) → SameHeads 0 bytes bytes
-same_start bytes more head rest = (λ r. r, λ r. r)
-
 -- the head at the front is the answer's
 pub last_head : (k : ℕ) (text : List ℕ) (h : ResponseHead) (behind more : List ℕ) (head : ResponseHead) (rest : List ℕ)
     → ReadsResponse text h behind → is_interim (status_code h) ≡ false → ReadsHeads k (text ++ more) head rest
@@ -49,9 +46,10 @@ after_head k text h behind more head rest reads goes (interim before next fewer 
 
 pub next_head : (k : ℕ) (bytes text : List ℕ) (h : ResponseHead) (behind : List ℕ) → SameHeads k bytes text → k < most_heads
     → ReadsResponse text h behind → length h.fields ≤ most_fields → is_interim (status_code h) ≡ true → SameHeads (k + 1) bytes behind
-next_head k bytes text h behind same fewer reads few goes more head rest =
-    (λ r. after_head k text h behind more head rest reads goes ((same more head rest).0 r),
-    λ r. (same more head rest).1 (interim h (behind ++ more) fewer (ReadsResponse-append text h behind more reads) few goes r))
+next_head k bytes text h behind same fewer reads few goes more head rest = (
+  λ r. after_head k text h behind more head rest reads goes ((same more head rest).0 r),
+  λ r. (same more head rest).1 (interim h (behind ++ more) fewer (ReadsResponse-append text h behind more reads) few goes r),
+)
 
 -- ---- no head
 
@@ -66,10 +64,6 @@ never_head k text more head rest over (answer fewer there few final) =
 never_head k text more head rest over (interim before next fewer there few goes later) =
     let many = over more before next there in absurd (omega (arith, many, few))
 
-pub no_more_heads : (k : ℕ) (text : List ℕ) (head : ResponseHead) (rest : List ℕ) → most_heads ≤ k → ¬ (ReadsHeads k text head rest)
-no_more_heads k text head rest many (answer fewer there few final) = absurd (omega (arith, many, fewer))
-no_more_heads k text head rest many (interim before next fewer there few goes later) = absurd (omega (arith, many, fewer))
-
 pub cut_heads : (request bytes text : List ℕ) (k : ℕ) → SameHeads k bytes text → HasNoResponse text → NoReply request bytes
 cut_heads request bytes text k same none rest r =
     no_head k text r.head r.body none (subst (λ t. ReadsHeads k t r.head r.body) (append-nil text)
@@ -79,16 +73,11 @@ pub never_heads : (request bytes text : List ℕ) (k : ℕ) → SameHeads k byte
 never_heads request bytes text k same over more rest r =
     never_head k text more r.head r.body over ((same more r.head r.body).0 r.heads)
 
-pub too_many_heads : (request bytes text : List ℕ) (k : ℕ) → SameHeads k bytes text → most_heads ≤ k → NeverReply request bytes
-too_many_heads request bytes text k same many more rest r =
-    no_more_heads k (text ++ more) r.head r.body many ((same more r.head r.body).0 r.heads)
-
 -- ---- the answer's head
 
 module _ (request bytes text : List ℕ) (k at : ℕ) (spans : List HeaderSpan) (r : ResponseSpans) (h : ResponseHead) (none : Bool)
     (same : SameHeads k bytes text) (place : text ≡ drop at bytes) (room : at + r.len ≤ length bytes) (of : IsResponseAt text spans r h)
     (final : is_interim r.code ≡ false) (bodiless : none ≡ has_no_body request r.code) where
-
   pub there : (more : List ℕ) → drop (at + r.len) (bytes ++ more) ≡ drop r.len text ++ more
   there more =
       drop-append-le (at + r.len) bytes more room
@@ -98,11 +87,11 @@ module _ (request bytes text : List ℕ) (k at : ℕ) (spans : List HeaderSpan) 
       → ReadsBody none (map (header_bytes text) (take r.headers spans)) (drop (at + r.len) (bytes ++ more)) rest
   body_to more rest reads =
       let found = last_head k text h (drop r.len text) more reads.head reads.body of.reads (ap is_interim (sym of.code) ∙ final)
-          ((same more reads.head reads.body).0 reads.heads) in
+      ((same more reads.head reads.body).0 reads.heads) in
       let bare : has_no_body request (status_code reads.head) ≡ none =
-          ap (λ x. has_no_body request (status_code x)) (sym found.0) ∙ (ap (has_no_body request) (sym of.code) ∙ sym bodiless) in
+      ap (λ x. has_no_body request (status_code x)) (sym found.0) ∙ (ap (has_no_body request) (sym of.code) ∙ sym bodiless) in
       let named : map name_and_value reads.head.fields ≡ map (header_bytes text) (take r.headers spans) =
-          ap (λ (x : ResponseHead). map name_and_value x.fields) (sym found.0) ∙ sym of.fields in
+      ap (λ (x : ResponseHead). map name_and_value x.fields) (sym found.0) ∙ sym of.fields in
       subst (λ b. ReadsBody b (map (header_bytes text) (take r.headers spans)) (drop (at + r.len) (bytes ++ more)) rest) bare
       (subst (λ f. ReadsBody (has_no_body request (status_code reads.head)) f (drop (at + r.len) (bytes ++ more)) rest) named
       (subst (λ t. ReadsBody (has_no_body request (status_code reads.head)) (map name_and_value reads.head.fields) t rest)

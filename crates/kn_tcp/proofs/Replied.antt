@@ -23,9 +23,11 @@ heads_alone k bytes head body (answer fewer there few final) =
     (print_response head, there.1, λ other. answer fewer (there.0, refl) few final)
 heads_alone k bytes head body (interim before text fewer there few goes later) =
     let inner = heads_alone (k + 1) text head body later in
-    let p = print_response before in
-    (p ++ inner.0, there.1 ∙ (ap (λ l. p ++ l) inner.1 ∙ sym (append_assoc p inner.0 body)),
-    λ other. interim before (inner.0 ++ other) fewer (there.0, append_assoc p inner.0 other) few goes (inner.2 other))
+    let p = print_response before in (
+      p ++ inner.0,
+      there.1 ∙ (ap (λ l. p ++ l) inner.1 ∙ sym (append_assoc p inner.0 body)),
+      λ other. interim before (inner.0 ++ other) fewer (there.0, append_assoc p inner.0 other) few goes (inner.2 other),
+    )
 
 pub body_alone : (a b c d : Bool) (fields : List (List ℕ × List ℕ)) (bytes rest : List ℕ) → ReadsBodyAs a b c d fields bytes rest
     → (front : List ℕ) × (bytes ≡ front ++ rest) × ReadsBodyAs a b c d fields front []
@@ -41,9 +43,11 @@ pub reply_alone : (request bytes rest : List ℕ) → ReadsReply request bytes r
     → (reply : List ℕ) × (bytes ≡ reply ++ rest) × ReadsReply request reply []
 reply_alone request bytes rest r =
     let heads = heads_alone 0 bytes r.head r.body r.heads in
-    let body = body_alone _ _ _ _ (map name_and_value r.head.fields) r.body rest r.ends in
-    (heads.0 ++ body.0, heads.1 ∙ (ap (λ l. heads.0 ++ l) body.1 ∙ sym (append_assoc heads.0 body.0 rest)),
-    record { head = r.head; body = body.0; heads = heads.2 body.0; ends = body.2 })
+    let body = body_alone _ _ _ _ (map name_and_value r.head.fields) r.body rest r.ends in (
+      heads.0 ++ body.0,
+      heads.1 ∙ (ap (λ l. heads.0 ++ l) body.1 ∙ sym (append_assoc heads.0 body.0 rest)),
+      record { head = r.head; body = body.0; heads = heads.2 body.0; ends = body.2 },
+    )
 
 -- ---- what is handed on
 
@@ -60,10 +64,11 @@ pub sent_end : (request reply : List ℕ) (n : ℕ) (old new : Option (List ℕ)
     → Consumes old new reply → IfSome old (λ sent. IsReplyOf request sent (take n reply))
 sent_end request reply n None new j c = tt
 sent_end request reply n (Some sent) None j c = absurd c
-sent_end request reply n (Some sent) (Some more) j c =
-    (drop n reply ++ more,
-    c ∙ (ap (λ l. l ++ more) (sym (take-append-drop n reply)) ∙ append_assoc (take n reply) (drop n reply) more),
-    subst (λ b. ReadsReply request b (drop n reply ++ more)) (sym c) (j.1 more))
+sent_end request reply n (Some sent) (Some more) j c = (
+  drop n reply ++ more,
+  c ∙ (ap (λ l. l ++ more) (sym (take-append-drop n reply)) ∙ append_assoc (take n reply) (drop n reply) more),
+  subst (λ b. ReadsReply request b (drop n reply ++ more)) (sym c) (j.1 more),
+)
 
 pub exact_open : (request reply : List ℕ) → Meets request reply stage.Open → ReadsReply request reply []
 exact_open request reply m = subst (λ b. ReadsReply request b []) (append-nil reply) (m.back [] [] refl)
@@ -100,7 +105,7 @@ field_met : (n : ℕ) (field : List ℕ × List ℕ) (named : Bool) → named �
 field_met n field true at e = says_is_met n (nat_lt 0 (length field.1)) (list_all is_ascii_digit field.1) (digits_value 10 field.1) e
 field_met n field false at e = refl
 
-both : (a b : Bool) → a && b ≡ true → (a ≡ true) × (b ≡ true)
+pub both : (a b : Bool) → a && b ≡ true → (a ≡ true) × (b ≡ true)
 both true b e = (refl, e)
 both false b e = (e, absurd (differ e))
   where
@@ -135,6 +140,7 @@ whole_body false false false true fields bytes said r = inr (truth (all_met (len
   where
     same : list_all (agrees (length bytes)) fields ≡ true
     same = subst (λ b. list_all (agrees (length b)) fields ≡ true) (sym (r.1 ∙ append-nil r.0)) r.3
+
     truth : {x : Bool} → x ≡ true → IsTrue x
     truth e = search rules
 whole_body false false false false fields bytes said r = inr (truth (none_said (length bytes) fields (sym said)))

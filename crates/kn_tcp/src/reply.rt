@@ -164,10 +164,14 @@ fn body_of(none: bool, text: &[u8], fields: &[HeaderSpan], at: usize) -> Option<
 /// How many bytes each length says, where the value is of one of them.
 fn size_of(text: &[u8], fields: &[HeaderSpan], value: &[u8]) -> Option<usize>
     requires fields { All (IsHeaderWithin (length text.now)) fields.now }
-    requires first { (n : ℕ) → list_all (agrees n) (map (header_bytes text.now) fields.now) ≡ true → says n value.now ≡ true }
-    ensures all { IfSome result (λ n. (n ≤ 1114112) × (list_all (agrees n) (map (header_bytes text.now) fields.now) ≡ true)) }
-    ensures only { IfSome result (λ n. (m : ℕ) → list_all (agrees m) (map (header_bytes text.now) fields.now) ≡ true → m ≡ n) }
-    ensures none { IsNone result → (m : ℕ) → m ≤ 1114112 → list_all (agrees m) (map (header_bytes text.now) fields.now) ≡ false }
+    requires first { (n : ℕ) → list_all (agrees n) (map (header_bytes text.now) fields.now) ≡ true
+        → says n value.now ≡ true }
+    ensures all { IfSome result
+        (λ n. (n ≤ 1114112) × (list_all (agrees n) (map (header_bytes text.now) fields.now) ≡ true)) }
+    ensures only { IfSome result
+        (λ n. (m : ℕ) → list_all (agrees m) (map (header_bytes text.now) fields.now) ≡ true → m ≡ n) }
+    ensures none { IsNone result → (m : ℕ) → m ≤ 1114112
+        → list_all (agrees m) (map (header_bytes text.now) fields.now) ≡ false }
 {
     if value.is_empty() || !are_digits(value) {
         return None;
@@ -181,7 +185,8 @@ fn size_of(text: &[u8], fields: &[HeaderSpan], value: &[u8]) -> Option<usize>
 /// What the first length says.
 fn length_of<'a>(text: &'a [u8], fields: &[HeaderSpan]) -> Option<&'a [u8]>
     requires { All (IsHeaderWithin (length text.now)) fields.now }
-    ensures some { IfSome result (λ v. (n : ℕ) → list_all (agrees n) (map (header_bytes text.now) fields.now) ≡ true → says n v.now ≡ true) }
+    ensures some { IfSome result (λ v. (n : ℕ)
+        → list_all (agrees n) (map (header_bytes text.now) fields.now) ≡ true → says n v.now ≡ true) }
     ensures any { MatchOption result (list_any is_length (map (header_bytes text.now) fields.now) ≡ false)
         (λ _. list_any is_length (map (header_bytes text.now) fields.now) ≡ true) }
 {

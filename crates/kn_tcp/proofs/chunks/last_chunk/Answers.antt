@@ -14,9 +14,10 @@ returns-in-Ok-Complete c =
     let within = rw c.in-Ok-Complete.field-0-is at c.in-Ok-Complete.ensures.within in
     let n = c.in-Ok-Complete.n in
     let section = subst (λ t. ReadsSection t found.0 found.1 (drop n t)) back found.2.reads in
-    let few = few_fields trailer c.parse_headers.new.headers _ found.0 found.2.fields_are within.count_fits c.parse_headers.auto.headers in
-    (omega (arith, within.len_fits, ap length back, length-drop start bytes, c.split_at.ensures.front_len),
-    ended bytes start n c.requires.0 c.requires.1 found.0 found.1 section few)
+    let few = few_fields trailer c.parse_headers.new.headers _ found.0 found.2.fields_are within.count_fits c.parse_headers.auto.headers in (
+      omega (arith, within.len_fits, ap length back, length-drop start bytes, c.split_at.ensures.front_len),
+      ended bytes start n c.requires.0 c.requires.1 found.0 found.1 section few,
+    )
 
 pub returns-in-Ok-Partial : goal.returns-in-Ok-Partial
 returns-in-Ok-Partial c rest reads =
