@@ -23,8 +23,8 @@ const CONNECT_WAIT: u64 = 10;
 const REPLY_WAIT: u64 = 600;
 
 /// A link whose pod p is the address at position p modulo their number, each spelled as a host and a port with a colon
-/// between. Each error is a fault, and so are a pod where there is no address, a reply above 1,114,112 bytes, and one that
-/// didn't come whole.
+/// between. A call reads to the end of the reply, and drops what is behind it. Each error is a fault, and so are a pod where
+/// there is no address, a reply above 1,114,112 bytes, and one that didn't come whole.
 #[derive(Drop)]
 pub struct TcpLink<N> {
     net: N,
