@@ -5,8 +5,10 @@
 mod caller;
 mod chunks;
 mod closing;
+mod laws;
 mod link;
 mod reply;
 
 pub use caller::TcpCaller;
+pub use laws::replies_are_determined;
 pub use link::TcpLink;

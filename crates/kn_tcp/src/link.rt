@@ -1,9 +1,10 @@
 //! Links to pods.
-ghost use Rattle.std.specs.Prelude.{◌≡◌, ◌≤◌, ◌%◌, length, None, Err, IfOk, option_copied, slice_get};
+ghost use Rattle.std.specs.Prelude.{◌≡◌, ◌≤◌, ◌%◌, length, None, Err, [], IfOk, IfSome, option_copied, slice_get};
 ghost use Rattle.kn_io.specs.Causes.{Rose};
 ghost use Rattle.kn_tcp.specs.Replies.{IsWholeReply};
+ghost use Rattle.kn_tcp.specs.Ends.{IsReplyOf, ReadsReply};
 
-use crate::reply::is_whole;
+use crate::reply::{Judged, MOST_REPLY, Stage, judge};
 use kn_event::{Items, Text};
 use kn_io::{Failed, Faulty, LinkError, PIECE, PodLink, fault};
 use std::alloc::Global;
@@ -21,12 +22,9 @@ const CONNECT_WAIT: u64 = 10;
 /// How many seconds a call waits for the pod to take or to give a further piece.
 const REPLY_WAIT: u64 = 600;
 
-/// How many bytes a reply may have.
-const MOST_REPLY: usize = 1_114_112;
-
 /// A link whose pod p is the address at position p modulo their number, each spelled as a host and a port with a colon
-/// between. Each error is a fault, and so are a pod where there is no address, a reply above 1,114,112 bytes, and one that
-/// didn't come whole.
+/// between. A call reads to the end of the reply, and drops what is behind it. Each error is a fault, and so are a pod where
+/// there is no address, a reply above 1,114,112 bytes, and one that didn't come whole.
 #[derive(Drop)]
 pub struct TcpLink<N> {
     net: N,
@@ -82,24 +80,35 @@ fn send<N: Net>(net: &N, address: &[u8], request: &[u8]) -> io::Result<N::Stream
     Ok(stream)
 }
 
-/// All that comes, to the end of the stream.
-fn receive<R: Read>(alloc: Global, stream: &mut R) -> Result<Text, LinkError>
-    ensures { IfOk result (λ reply. length reply ≤ 1114112) }
+/// What comes, to the end of the reply. What is behind it is dropped.
+fn receive<R: Read>(alloc: Global, request: &[u8], stream: &mut R) -> Result<Text, LinkError>
+    ensures short { IfOk result (λ reply. length reply ≤ 1114112) }
+    ensures exact { IfOk result (λ reply. ReadsReply request.now reply []) }
+    ensures sent { IfOk result (λ reply. IfSome (R.remaining stream.old) (λ sent. IsReplyOf request.now sent reply)) }
 {
     let mut reply = Vec::new(alloc);
     let mut piece = [0; PIECE];
+    let mut stage = None;
     for _ in 0..1u64 << 56 {
         let Ok(n) = stream.read(&mut piece) else {
             return Err(LinkError::Failed);
         };
         if n == 0 {
-            return Ok(Text::new(reply));
-        }
-        if reply.len() + n > MOST_REPLY {
-            return Err(LinkError::Failed);
+            return match stage {
+                Some(Stage::Open) => Ok(Text::new(reply)),
+                _ => Err(LinkError::Failed),
+            };
         }
         if reply.extend_from_slice(&piece[..n]).is_err() {
             return Err(LinkError::Memory);
+        }
+        match judge(request, &reply, stage) {
+            Judged::Ended(end) if end <= MOST_REPLY => {
+                reply.truncate(end);
+                return Ok(Text::new(reply));
+            }
+            Judged::More(next) if reply.len() <= MOST_REPLY => stage = next,
+            _ => return Err(LinkError::Failed),
         }
     }
     Err(LinkError::Failed)
@@ -114,15 +123,11 @@ fn exchange<N: Net>(
 ) -> Result<Text, LinkError>
     ensures short { IfOk result (λ reply. length reply ≤ 1114112) }
     ensures whole { IfOk result (λ reply. IsWholeReply request.now reply) }
+    ensures exact { IfOk result (λ reply. ReadsReply request.now reply []) }
 {
-    let Ok(mut stream) = send(net, address, request) else {
-        return Err(LinkError::Failed);
-    };
-    let reply = receive(alloc, &mut stream)?;
-    if is_whole(request, reply.bytes()) {
-        Ok(reply)
-    } else {
-        Err(LinkError::Failed)
+    match send(net, address, request) {
+        Ok(mut stream) => receive(alloc, request, &mut stream),
+        Err(_) => Err(LinkError::Failed),
     }
 }
 
@@ -151,6 +156,7 @@ impl<N: Net> PodLink for TcpLink<N> {
     fn call(&mut self, alloc: Global, pod: u64, request: &[u8]) -> Result<Text, LinkError>
         ensures short { IfOk result (λ reply. length reply ≤ 1114112) }
         ensures whole { IfOk result (λ reply. IsWholeReply request.now reply) }
+        ensures exact { IfOk result (λ reply. ReadsReply request.now reply []) }
         ensures never_falls { self.old.faults ≤ self.new.faults }
         ensures cause { result ≡ Err LinkError.Failed → Rose self.old.faults self.new.faults }
     {

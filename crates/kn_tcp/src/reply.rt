@@ -1,14 +1,16 @@
-//! Whether a pod's reply came whole.
-ghost use Rattle.std.specs.Prelude.{◌≡◌, ◌≤◌, ◌<◌, ◌^◌, ◌==◌, ◌||◌, true, false, IsTrue, IfSome, MatchOption, All, length, map};
+//! Where a pod's reply ends.
+ghost use Rattle.std.specs.Prelude.{◌≡◌, ◌≤◌, ◌<◌, ◌^◌, ◌==◌, ◌||◌, ℕ, Bool, true, false, List, IfSome, MatchOption, All, length, map, OnErr, IsNone};
 ghost use Rattle.std.specs.List.{list_all, list_any};
 ghost use Rattle.std.specs.Char.{is_ascii_digit, to_ascii_lowercase};
 ghost use Rattle.std.specs.Str.Parse.{digits_value};
-ghost use Rattle.httparse.specs.Spans.{IsHeaderWithin, IsResponseOf, IsResponseWithin, header_bytes};
-ghost use Rattle.kn_tcp.specs.Replies.{FollowsInterims, IsWholeBody, IsWholeReply, allows, ends_in_chunks, is_chunks_coding, is_coding, is_interim, is_met, is_word};
+ghost use Rattle.httparse.specs.Outcome.{IfComplete, OnPartial};
+ghost use Rattle.httparse.specs.Spans.{IsHeaderWithin, header_bytes};
+ghost use Rattle.kn_tcp.specs.Replies.{ends_in_chunks, has_no_body, is_chunks_coding, is_coding, is_interim, is_word};
+ghost use Rattle.kn_tcp.specs.Ends.{IsStageOf, JudgedIs, Meets, MeetsAny, NeverReply, NoReply, NoStage, StageWithin, agrees, is_length, says};
 
-use crate::chunks::are_whole;
+use crate::chunks::{Followed, follow};
 use httparse::Status;
-use httparse::spans::{EMPTY_HEADER_SPAN, HeaderSpan, ResponseSpans, parse_response};
+use httparse::spans::{EMPTY_HEADER_SPAN, HeaderSpan, parse_response};
 use std::str;
 
 /// How many fields a head may have.
@@ -17,47 +19,101 @@ const MOST_FIELDS: usize = 256;
 /// How many heads, with the answer's own.
 const MOST_HEADS: u32 = 16;
 
-/// Whether this is a whole reply to the request: at most 15 interim heads, of a status 1xx that isn't 101, then the head
-/// of the answer, with at most 256 fields each, and a body that came whole. An answer to HEAD, and one of status 101, 204
-/// or 304, has no body whatever its fields say. Else the body is whole where
-///
-/// - a `Transfer-Encoding` ends in `chunked`, and the last chunk is there, with its trailer;
-/// - there is another `Transfer-Encoding`;
-/// - there is none, and each `Content-Length` is a number, of at most as many bytes as came.
-///
-/// What comes after the end of a body doesn't matter.
-pub(crate) fn is_whole(request: &[u8], reply: &[u8]) -> bool
-    ensures { IsTrue result → IsWholeReply request.now reply.now }
-{
-    let mut spans = [EMPTY_HEADER_SPAN; MOST_FIELDS];
-    let Some((head, text)) = answer_of(reply, &mut spans) else {
-        return false;
-    };
-    if request.starts_with(b"HEAD ") || is_bodiless(head.code) {
-        return true;
-    }
-    is_whole_body(text, &spans[..head.headers], &text[head.len..])
+/// How many bytes a reply may have.
+pub(crate) const MOST_REPLY: usize = 1_114_112;
+
+/// What decides where a reply ends, once its heads are here: this place; chunks, of which the first that isn't here whole
+/// begins at this place; or the end of the stream.
+#[derive(Clone, Copy)]
+pub(crate) enum Stage {
+    Until(usize),
+    Chunks(usize),
+    Open,
 }
 
-/// The head of the answer, and the text that begins with it. The spans of its fields are in the front of `spans`.
-fn answer_of<'a>(reply: &'a [u8], spans: &mut [HeaderSpan]) -> Option<(ResponseSpans, &'a [u8])>
-    ensures follows { IfSome result (λ r. FollowsInterims reply.now r.1.now) }
-    ensures head { IfSome result (λ r. IsResponseOf r.1.now spans.new r.0) }
-    ensures within { IfSome result (λ r. IsResponseWithin r.1.now spans.new r.0) }
-    ensures last { IfSome result (λ r. is_interim r.0.code ≡ false) }
+/// What the bytes that came are: a whole reply, of so many of them; no whole reply yet, and this far; or what never is one,
+/// whatever follows.
+#[derive(Clone, Copy)]
+pub(crate) enum Judged {
+    Ended(usize),
+    More(Option<Stage>),
+    Never,
+}
+
+/// What never is a reply, whatever follows.
+#[derive(Clone, Copy)]
+pub(crate) struct Never;
+
+/// Judges what came of the reply to a request, from the stage that was reached before on. A reply is at most 15 interim
+/// heads, of a status 1xx that isn't 101, then the head of the answer, with at most 256 fields each, and a body. An answer
+/// to HEAD, and one of status 101, 204 or 304, has no body whatever its fields say. Else the body ends
+///
+/// - with the last chunk and its trailer, of at most 256 fields, where a `Transfer-Encoding` ends in `chunked`;
+/// - with the stream, where there is another `Transfer-Encoding`, or neither that nor a `Content-Length`;
+/// - else after so many bytes as each `Content-Length` says. Where two don't agree, there is no reply.
+pub(crate) fn judge(request: &[u8], reply: &[u8], stage: Option<Stage>) -> Judged
+    requires short { length reply.now ≤ 1122304 }
+    requires right { MeetsAny request.now reply.now stage }
+    ensures { JudgedIs request.now reply.now result }
 {
-    let mut rest = reply;
-    for _ in 0..MOST_HEADS {
-        let Ok(Status::Complete(head)) = parse_response(rest, spans) else {
-            return None;
-        };
-        if !is_interim(head.code) {
-            return Some((head, rest));
-        }
-        let (_, after) = rest.split_at(head.len);
-        rest = after;
+    match reached(request, reply, stage) {
+        Ok(Status::Complete(stage)) => match stage {
+            Stage::Until(end) if end <= reply.len() => Judged::Ended(end),
+            Stage::Until(_) | Stage::Open => Judged::More(Some(stage)),
+            Stage::Chunks(at) => match follow(reply, at) {
+                Followed::Ended(n) => Judged::Ended(n),
+                Followed::Cut(n) => Judged::More(Some(Stage::Chunks(n))),
+                Followed::Never => Judged::Never,
+            },
+        },
+        Ok(Status::Partial) => Judged::More(None),
+        Err(_) => Judged::Never,
     }
-    None
+}
+
+/// The stage, which may have been reached before.
+fn reached(request: &[u8], reply: &[u8], stage: Option<Stage>) -> Result<Status<Stage>, Never>
+    requires short { length reply.now ≤ 1122304 }
+    requires right { MeetsAny request.now reply.now stage }
+    ensures whole { IfComplete result (Meets request.now reply.now) }
+    ensures cut { OnPartial result (NoReply request.now reply.now) }
+    ensures never { OnErr result (NeverReply request.now reply.now) }
+{
+    match stage {
+        Some(stage) => Ok(Status::Complete(stage)),
+        None => stage_of(request, reply),
+    }
+}
+
+/// The stage after the heads.
+fn stage_of(request: &[u8], reply: &[u8]) -> Result<Status<Stage>, Never>
+    requires { length reply.now ≤ 1122304 }
+    ensures whole { IfComplete result (Meets request.now reply.now) }
+    ensures cut { OnPartial result (NoReply request.now reply.now) }
+    ensures never { OnErr result (NeverReply request.now reply.now) }
+{
+    let mut spans = [EMPTY_HEADER_SPAN; MOST_FIELDS];
+    let mut at = 0;
+    let mut seen = 0;
+    'heads: while seen < MOST_HEADS {
+        let text = &reply[at..];
+        match parse_response(text, &mut spans) {
+            Ok(Status::Complete(head)) => {
+                at += head.len;
+                if !is_interim(head.code) {
+                    let none = has_no_body(request, head.code);
+                    return match body_of(none, text, &spans[..head.headers], at) {
+                        Some(stage) => Ok(Status::Complete(stage)),
+                        None => Err(Never),
+                    };
+                }
+                seen += 1;
+            }
+            Ok(Status::Partial) => return Ok(Status::Partial),
+            Err(_) => return Err(Never),
+        }
+    }
+    Err(Never)
 }
 
 fn is_interim(code: u16) -> bool
@@ -72,15 +128,87 @@ fn is_bodiless(code: u16) -> bool
     code == 101 || code == 204 || code == 304
 }
 
-/// Whether the body is whole, by the fields, whose spans are of this text.
-fn is_whole_body(text: &[u8], fields: &[HeaderSpan], body: &[u8]) -> bool
-    requires { All (IsHeaderWithin (length text.now)) fields.now }
-    ensures { IsTrue result → IsWholeBody (map (header_bytes text.now) fields.now) body.now }
+/// Whether an answer to this request with this status has no body.
+fn has_no_body(request: &[u8], code: u16) -> bool
+    ensures { result ≡ has_no_body request.now code }
 {
-    if is_in_chunks(text, fields) {
-        return are_whole(body);
+    request.starts_with(b"HEAD ") || is_bodiless(code)
+}
+
+/// How a body ends that begins at this place, by the fields, whose spans are of this text. There may be none.
+fn body_of(none: bool, text: &[u8], fields: &[HeaderSpan], at: usize) -> Option<Stage>
+    requires fields { All (IsHeaderWithin (length text.now)) fields.now }
+    requires at { at ≤ 1122304 }
+    ensures stage { IfSome result (IsStageOf none (map (header_bytes text.now) fields.now) at) }
+    ensures within { IfSome result (StageWithin at) }
+    ensures none { IsNone result → NoStage none (map (header_bytes text.now) fields.now) }
+{
+    if none {
+        return Some(Stage::Until(at));
     }
-    is_coded(text, fields) || has_all_lengths(text, fields, body.len() as u64)
+    if is_in_chunks(text, fields) {
+        return Some(Stage::Chunks(at));
+    }
+    if is_coded(text, fields) {
+        return Some(Stage::Open);
+    }
+    match length_of(text, fields) {
+        None => Some(Stage::Open),
+        Some(value) => {
+            let count = size_of(text, fields, value)?;
+            Some(Stage::Until(at + count))
+        }
+    }
+}
+
+/// How many bytes each length says, where the value is of one of them.
+fn size_of(text: &[u8], fields: &[HeaderSpan], value: &[u8]) -> Option<usize>
+    requires fields { All (IsHeaderWithin (length text.now)) fields.now }
+    requires first { (n : ℕ) → list_all (agrees n) (map (header_bytes text.now) fields.now) ≡ true
+        → says n value.now ≡ true }
+    ensures all { IfSome result
+        (λ n. (n ≤ 1114112) × (list_all (agrees n) (map (header_bytes text.now) fields.now) ≡ true)) }
+    ensures only { IfSome result
+        (λ n. (m : ℕ) → list_all (agrees m) (map (header_bytes text.now) fields.now) ≡ true → m ≡ n) }
+    ensures none { IsNone result → (m : ℕ) → m ≤ 1114112
+        → list_all (agrees m) (map (header_bytes text.now) fields.now) ≡ false }
+{
+    if value.is_empty() || !are_digits(value) {
+        return None;
+    }
+    match number(value) {
+        Some(n) if n <= MOST_REPLY as u64 && all_agree(text, fields, n) => Some(n as usize),
+        _ => None,
+    }
+}
+
+/// What the first length says.
+fn length_of<'a>(text: &'a [u8], fields: &[HeaderSpan]) -> Option<&'a [u8]>
+    requires { All (IsHeaderWithin (length text.now)) fields.now }
+    ensures some { IfSome result (λ v. (n : ℕ)
+        → list_all (agrees n) (map (header_bytes text.now) fields.now) ≡ true → says n v.now ≡ true) }
+    ensures any { MatchOption result (list_any is_length (map (header_bytes text.now) fields.now) ≡ false)
+        (λ _. list_any is_length (map (header_bytes text.now) fields.now) ≡ true) }
+{
+    for field in fields {
+        if is_word(field.name.of(text), b"content-length") {
+            return Some(field.value.of(text));
+        }
+    }
+    None
+}
+
+/// Whether each length that the fields say is so many.
+fn all_agree(text: &[u8], fields: &[HeaderSpan], count: u64) -> bool
+    requires { All (IsHeaderWithin (length text.now)) fields.now }
+    ensures { result ≡ list_all (agrees count) (map (header_bytes text.now) fields.now) }
+{
+    for field in fields {
+        if !agrees(field.name.of(text), field.value.of(text), count) {
+            return false;
+        }
+    }
+    true
 }
 
 /// Whether there is a coding.
@@ -109,19 +237,6 @@ fn is_in_chunks(text: &[u8], fields: &[HeaderSpan]) -> bool
     false
 }
 
-/// Whether each length that the fields say is met by so many bytes.
-fn has_all_lengths(text: &[u8], fields: &[HeaderSpan], count: u64) -> bool
-    requires { All (IsHeaderWithin (length text.now)) fields.now }
-    ensures { result ≡ list_all (allows count) (map (header_bytes text.now) fields.now) }
-{
-    for field in fields {
-        if !allows(field.name.of(text), field.value.of(text), count) {
-            return false;
-        }
-    }
-    true
-}
-
 /// Whether the bytes are this word, which is in lower case, whatever their own case.
 fn is_word(bytes: &[u8], word: &[u8]) -> bool
     requires { map to_ascii_lowercase word.now ≡ word.now }
@@ -142,22 +257,22 @@ fn ends_in_chunks(value: &[u8]) -> bool
     is_word(&value[value.len().saturating_sub(7)..], b"chunked")
 }
 
-/// Whether a field is no length, or one that is met by so many bytes.
-fn allows(name: &[u8], value: &[u8], count: u64) -> bool
-    ensures { result ≡ allows count (name.now, value.now) }
+/// Whether a field is no length, or one that says so many.
+fn agrees(name: &[u8], value: &[u8], count: u64) -> bool
+    ensures { result ≡ agrees count (name.now, value.now) }
 {
-    !is_word(name, b"content-length") || is_met(value, count)
+    !is_word(name, b"content-length") || says(value, count)
 }
 
-/// Whether this spells a number that is at most so large.
-fn is_met(value: &[u8], count: u64) -> bool
-    ensures { result ≡ is_met count value.now }
+/// Whether this spells the number.
+fn says(value: &[u8], count: u64) -> bool
+    ensures { result ≡ says count value.now }
 {
     if value.is_empty() || !are_digits(value) {
         return false;
     }
     match number(value) {
-        Some(n) => n <= count,
+        Some(n) => n == count,
         None => false,
     }
 }

@@ -1,0 +1,14 @@
+use Rattle.std.proofs.Common.{◌-◌, ◌≤◌, ◌≡◌, length, drop}
+use Rattle.kn_tcp.specs.Ends.{most_fields}
+use Rattle.kn_tcp.proofs.HeadEnds.{SameHeads}
+use Rattle.kn_tcp.proofs.reply.stage_of.Given as goal
+
+abbrev pub invariant-heads : goal.invariant-heads
+invariant-heads l = record {
+  within : l.at ≤ length l.reply;
+  spans : length l.spans ≡ most_fields;
+  same : SameHeads l.seen l.reply (drop l.at l.reply);
+}
+
+abbrev pub decreases-heads : goal.decreases-heads
+decreases-heads l = 16 - l.seen
