@@ -1,5 +1,5 @@
 //! From the words of `kactd` to a session.
-ghost use Rattle.std.specs.Prelude.{All, IfOk};
+ghost use Rattle.std.specs.Prelude.{◌≡◌, [], All, IfOk};
 ghost use Rattle.kn_request.specs.Outside.{said};
 ghost use Rattle.kn_serve.specs.Opening.{IsFresh};
 
@@ -94,7 +94,9 @@ fn run_words<R: Threads + Wait + Sync>(
     setup: &mut MemSource,
     slots: &mut Vec<MemSlot>,
     sinks: &mut Sinks,
-) -> (Status, bool) {
+) -> (Status, bool)
+    requires { slots.old.items ≡ [] }
+{
     let hands = Hands::new();
     let mut keeper = None;
     let Sinks { out, err } = sinks;
@@ -123,7 +125,9 @@ fn run_setup<R: Threads + Wait + Sync>(
     opener: &mut MemOpener<MemCaller, MemLink>,
     slots: &mut Vec<MemSlot>,
     sinks: &mut Sinks,
-) -> Result<(Status, bool), AllocError> {
+) -> Result<(Status, bool), AllocError>
+    requires { slots.old.items ≡ [] }
+{
     match source_of(alloc, SETUP) {
         Ok(mut setup) => {
             let ended = run_words(rt, alloc, words, opener, &mut setup, slots, sinks);
@@ -142,7 +146,9 @@ fn run<R: Threads + Wait + Sync>(
     fail: bool,
     slots: &mut Vec<MemSlot>,
     sinks: &mut Sinks,
-) -> Result<(Status, bool), AllocError> {
+) -> Result<(Status, bool), AllocError>
+    requires { slots.old.items ≡ [] }
+{
     let words = words_of(alloc, line)?;
     match opener(alloc, fail) {
         Ok(mut opener) => {
@@ -190,7 +196,9 @@ fn show_run<R: Threads + Wait + Sync + Print + AllocGlobal>(
     fail: bool,
     slots: &mut Vec<MemSlot>,
     sinks: &mut Sinks,
-) -> io::Result<()> {
+) -> io::Result<()>
+    requires { slots.old.items ≡ [] }
+{
     let (status, keeper) = run(rt, rt.alloc(), line, fail, slots, sinks)?;
     show_ended(rt, status, sinks.err.held(), slots.len(), keeper)?;
     show_answers(rt, slots)?;
