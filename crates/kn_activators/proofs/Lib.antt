@@ -1,0 +1,10 @@
+mod Pieces
+mod Waits
+mod Standings
+mod Making
+mod Tellings
+mod Drawings
+mod Parts
+mod EventLines
+mod Endings
+mod Whole
