@@ -90,3 +90,16 @@ refused-no_fault r e (cause, is, more) = subst (λ (x : JournalError). IsNoFault
 pub judged-no_fault : {T : Type 0} (next : ℕ → List ℕ → List (List ℕ) → Result (Part T) Cause) (n : ℕ) (line : List ℕ) (r : Result T JournalError) → Judges next n line r → IsNoFault (error_in r)
 judged-no_fault next n line (Ok x) j = tt
 judged-no_fault next n line (Err e) (cause, is, more) = subst (λ (x : JournalError). IsNoFault (Some x)) is (cause-no_fault cause)
+
+-- nothing more is said of it
+pub draws_less : {X : Type 0} {own : Ghosts X} {faulty : Counted X} {A : Option (List ℕ) → Option (List ℕ) → Type 0} {e : Option JournalError} {x y : Ahead} {s t : X}
+    → Draws A e x y own faulty s t → Draws Anywhere None x y own faulty s t
+draws_less d = record {
+  amid = λ h. tt;
+  spent = λ h. no_fault {e = None} tt h;
+  fault = λ h. no_fault {e = None} tt h;
+  grows = d.grows;
+  balance = d.balance;
+  never_falls = d.never_falls;
+  apart_stays = d.apart_stays;
+}

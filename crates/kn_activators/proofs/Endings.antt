@@ -1,13 +1,12 @@
 -- How replaying the lines behind a start ends.
-use Rattle.std.proofs.Common.{◌≡◌, ◌+◌, ◌++◌, ℕ, List, [], ◌∷◌, length, length-append, append_assoc, append-nil, refl, sym, ap, ◌∙◌, subst, arith, inl, inr}
-use Rattle.std.specs.Prelude.{◌⊎◌, Option, None, Some, Result, Ok, Err, IfErr, OnErr, OnOk}
+use Rattle.std.proofs.Common.{◌≡◌, ◌+◌, ◌++◌, ℕ, List, [], ◌∷◌, length, length-append, append_assoc, append-nil, refl, sym, ap, ◌∙◌, subst, inl, inr}
+use Rattle.std.specs.Prelude.{Option, None, Some, Result, Ok, Err, IfErr, OnErr, OnOk}
 use Rattle.std.specs.Io.KnownBytes.{Appends}
 use Rattle.kn_io.specs.Prefix.{AppendsPrefix}
 use Rattle.kn_journal.specs.declared.error.JournalError.{JournalError}
 use Rattle.kn_journal.specs.declared.error.JournalError.TheVariants as journal
-use Rattle.kn_journal.specs.Causes.{Cause, error_of}
+use Rattle.kn_journal.specs.Causes.{Cause}
 use Rattle.kn_journal.specs.Lines.{lines}
-use Rattle.kn_journal.specs.Parts.{Part}
 use Rattle.kn_journal.specs.Telling.{Gives, Refused, Refuses}
 use Rattle.kn_activators.specs.declared.error.GroupError.{GroupError}
 use Rattle.kn_activators.specs.declared.error.GroupError.TheVariants as error
@@ -15,9 +14,9 @@ use Rattle.kn_activators.specs.declared.event.GroupEvent.{GroupEvent}
 use Rattle.kn_activators.specs.declared.setup.GroupSetup.{GroupSetup}
 use Rattle.kn_activators.specs.Replaying.{Follows, IsRefused, Stops, WritesNothing, rest_text}
 use Rattle.kn_activators.specs.Sharing.{Outcome, Sharing, by_line, by_lines, end_line, time_of}
-use Rattle.kn_activators.specs.Verdict.{Read, ending, next_part, none_read, read_events, with_event}
+use Rattle.kn_activators.specs.Verdict.{Read, ending, next_part, none_read, read_events}
 use Rattle.kn_activators.specs.Waiting.{Adds}
-use Rattle.kn_activators.proofs.EventLines.{GoesOn, lines_more, lines_nil, lines_one, no_more, none_more, one_more, with_events, with_more}
+use Rattle.kn_activators.proofs.EventLines.{GoesOn, lines_more, lines_one, no_more, none_more, one_more, with_events, with_more}
 use Rattle.kn_activators.proofs.Pieces.{prefix_whole}
 use Rattle.kn_activators.proofs.Waits.{adds_all, adds_last, adds_some, adds_stop, waits_more}
 

@@ -7,4 +7,5 @@ mod Drawings
 mod Parts
 mod EventLines
 mod Endings
+mod Faults
 mod Whole

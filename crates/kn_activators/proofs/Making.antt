@@ -1,7 +1,7 @@
 -- Calls that make something of what a group stands for, one after the other.
-use Rattle.std.proofs.Common.{◌≡◌, ◌≤◌, ◌<◌, ℕ, ◌+◌, ◌++◌, List, [], ◌∷◌, append_assoc, append-nil, refl, ap, ◌∙◌, sym, subst, arith}
+use Rattle.std.proofs.Common.{◌≡◌, ◌<◌, ℕ, ◌++◌, List, [], append_assoc, append-nil, refl, ap, ◌∙◌, sym, subst}
 use Rattle.kn_slices.specs.declared.change.Change.{Change}
-use Rattle.std.specs.Prelude.{IfSome, None, Some, Option, OnOk, OnErr, Result, Ok, Err}
+use Rattle.std.specs.Prelude.{IfSome, None, Some, Option, OnOk, Result, Ok, Err}
 use Rattle.kn_event.specs.declared.entry.Entry.{Entry}
 use Rattle.kn_event.specs.declared.event.Event.{Event}
 use Rattle.kn_io.specs.Prefix.{AppendsPrefix}

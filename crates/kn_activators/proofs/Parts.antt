@@ -1,5 +1,5 @@
 -- The parts of an input of several activators, each line by itself.
-use Rattle.std.proofs.Common.{◌≡◌, ◌+◌, ◌<◌, ◌≤◌, ℕ, true, false, List, [], length, refl, sym, ap, subst, arith}
+use Rattle.std.proofs.Common.{◌≡◌, ◌+◌, ◌<◌, ◌≤◌, ℕ, true, false, List, refl, sym, subst, arith}
 use Rattle.std.specs.Prelude.{Option, None, Some, Result, Ok, Err, codes, nat_le}
 use Rattle.std.specs.Str.{bytes_eq}
 use Rattle.std.proofs.lemmas.Grind.{common_steps}
@@ -9,10 +9,10 @@ use Rattle.kn_journal.specs.declared.error.JournalError.TheVariants as error
 use Rattle.kn_journal.specs.declared.error.SetupError.{SetupError}
 use Rattle.kn_journal.specs.declared.first.FirstLine.TheVariants.{Slices as SlicesLine}
 use Rattle.kn_journal.specs.declared.setting.FixedLine.{FixedLine}
-use Rattle.kn_journal.specs.Causes.{Cause, bad_line, bad_setup, time_back, time_too_large}
+use Rattle.kn_journal.specs.Causes.{bad_line, bad_setup, time_back, time_too_large}
 use Rattle.kn_journal.specs.Journal.{first_part, nothing_part, time_most}
 use Rattle.kn_journal.specs.Lines.{fits, lines}
-use Rattle.kn_journal.specs.Parts.{Part, part, then_part, with_line}
+use Rattle.kn_journal.specs.Parts.{with_line}
 use Rattle.kn_journal.specs.Reading.{TakesLine}
 use Rattle.kn_journal.specs.SetupLine.{fixed_line}
 use Rattle.kn_journal.specs.Telling.{Gives, IsCauseOf, Judges, Lacks, Refuses, Tells}

@@ -1,23 +1,23 @@
 -- A replay from the first byte on.
-use Rattle.std.proofs.Common.{◌≡◌, ◌+◌, ◌++◌, ℕ, List, [], ◌∷◌, length, append_assoc, append-nil, refl, sym, ap, ◌∙◌, subst, arith}
+use Rattle.std.proofs.Common.{◌≡◌, ◌++◌, ℕ, List, [], length, append_assoc, refl, sym, ap, ◌∙◌, subst}
 use Rattle.std.specs.Prelude.{Option, None, Some, Result, Ok, Err}
 use Rattle.std.specs.Io.KnownBytes.{Appends}
 use Rattle.std.proofs.KnownBytes.{Appends-nil}
 use Rattle.kn_io.specs.Prefix.{AppendsPrefix}
 use Rattle.kn_journal.specs.declared.error.JournalError.{JournalError}
 use Rattle.kn_journal.specs.declared.error.JournalError.TheVariants as journal
-use Rattle.kn_journal.specs.Causes.{Cause, error_of}
+use Rattle.kn_journal.specs.Causes.{Cause}
 use Rattle.kn_journal.specs.Journal.{start_part}
 use Rattle.kn_journal.specs.Lines.{lines}
-use Rattle.kn_journal.specs.Parts.{Part, part, then_part}
+use Rattle.kn_journal.specs.Parts.{Part, part}
 use Rattle.kn_journal.specs.Reading.{Ahead, unread}
-use Rattle.kn_journal.specs.Telling.{Gives, Refused, Refuses, Tells}
+use Rattle.kn_journal.specs.Telling.{Gives, Refused, Refuses}
 use Rattle.kn_activators.specs.declared.error.GroupError.{GroupError}
 use Rattle.kn_activators.specs.declared.error.GroupError.TheVariants as error
 use Rattle.kn_activators.specs.declared.setup.GroupSetup.{GroupSetup}
 use Rattle.kn_activators.specs.Replaying.{FailsToOpen, Follows, IsRefused, Opened, Opens, ReplaysSlices, Writes, WritesNothing, rest_text}
-use Rattle.kn_activators.specs.Sharing.{Sharing, by_lines, opened, openings_text, run_text}
-use Rattle.kn_activators.specs.Verdict.{Input, Read, ending, input_of, input_of_lines, opening_part, read_events, refusal_of, text_of}
+use Rattle.kn_activators.specs.Sharing.{by_lines, opened, openings_text, run_text}
+use Rattle.kn_activators.specs.Verdict.{Read, ending, input_of, input_of_lines, opening_part, read_events, refusal_of, text_of}
 use Rattle.kn_activators.specs.Waiting.{Adds}
 use Rattle.kn_activators.proofs.Pieces.{prefix_more, prefix_none}
 use Rattle.kn_activators.proofs.Waits.{adds_all, adds_last}

@@ -1,5 +1,5 @@
 -- What replaying an input of several activators writes, and how it ends.
-use Rattle.std.specs.Prelude.{◌≡◌, ◌⊎◌, ℕ, ◌+◌, ◌++◌, ◌≤◌, List, [], length, Option, None, Some, Result, Ok, Err, ⊤}
+use Rattle.std.specs.Prelude.{◌≡◌, ◌⊎◌, ℕ, ◌++◌, List, [], length, Option, None, Some, Result, Ok, Err, ⊤}
 use Rattle.std.specs.Io.KnownBytes.{Appends}
 use Rattle.kn_io.specs.Prefix.{AppendsPrefix}
 use Rattle.kn_journal.specs.declared.error.JournalError.{JournalError}
@@ -70,3 +70,9 @@ Opens None new number r = ⊤
 Opens (Some xs) new number (Err e) = FailsToOpen xs e
 Opens (Some xs) None number (Ok parts) = ⊥
 Opens (Some xs) (Some ys) number (Ok parts) = Opened (lines xs) parts.0 parts.1 number (lines ys)
+
+-- the error of reading that was answered, if one was
+abbrev pub read_error : {T : Type 0} → Result T GroupError → Option JournalError
+read_error (Ok x) = None
+read_error (Err error.Output) = None
+read_error (Err (error.Input e)) = Some e

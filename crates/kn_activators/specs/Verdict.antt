@@ -1,5 +1,5 @@
 -- What the bytes of an input say: several activators and their events, or what stands before the first refused line and its cause.
-use Rattle.std.specs.Prelude.{◌≡◌, ℕ, ◌+◌, ◌++◌, ⊤, nat_le, List, [], ◌∷◌, length, Option, None, Some, Result, Ok, Err, codes, if◌then◌else◌}
+use Rattle.std.specs.Prelude.{ℕ, ◌++◌, ⊤, nat_le, List, [], ◌∷◌, length, Option, None, Some, Result, Ok, Err, codes, if◌then◌else◌}
 use Rattle.std.specs.Str.{bytes_eq}
 use Rattle.kn_event.specs.declared.fault.LineError.{LineError}
 use Rattle.kn_journal.specs.declared.error.SetupError.{SetupError}

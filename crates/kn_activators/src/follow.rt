@@ -1,15 +1,16 @@
 //! An input of several activators, from its bytes to those of its report.
-ghost use Rattle.std.specs.Prelude.{◌≡◌, ◌≢◌, ◌+◌, ◌≤◌, ◌++◌, [], Err, IfErr, IfOk, OnErr, OnOk};
+ghost use Rattle.std.specs.Prelude.{◌≡◌, ◌≢◌, ◌⊎◌, ◌+◌, ◌≤◌, ◌++◌, [], Err, IfErr, IfOk, OnErr, OnOk};
 ghost use Rattle.std.specs.Io.KnownBytes.{Appends};
-ghost use Rattle.kn_io.specs.Causes.{HasCause};
+ghost use Rattle.kn_io.specs.Causes.{HasCause, Rose};
 ghost use Rattle.kn_io.specs.Prefix.{AppendsPrefix};
+ghost use Rattle.kn_journal.specs.Drawing.{error_in};
 ghost use Rattle.kn_journal.specs.Journal.{time_most};
 ghost use Rattle.kn_journal.specs.Reading.{most_taken, unread};
 ghost use Rattle.kn_activators.specs.Reading.{IsGroupEvent};
-ghost use Rattle.kn_activators.specs.Replaying.{Follows, Opens, ReplaysSlices, Stops, WritesNothing};
+ghost use Rattle.kn_activators.specs.Replaying.{Follows, Opens, ReplaysSlices, Stops, WritesNothing, read_error};
 ghost use Rattle.kn_activators.specs.Sharing.{Sharing, end_line, time_of};
 ghost use Rattle.kn_activators.specs.Standing.{AreBefore, IsBelow, IsGroupSetup, Stands};
-ghost use Rattle.kn_activators.specs.Verdict.{OnEvent, Reads, next_part};
+ghost use Rattle.kn_activators.specs.Verdict.{DrawsLines, OnEvent, Reads, next_part};
 ghost use Rattle.kn_activators.specs.Waiting.{Adds};
 
 use crate::error::GroupError;
@@ -24,7 +25,9 @@ use std::alloc::Global;
 
 /// Writes what waits, and answers the error, or that this failed.
 fn stop<O: Sink>(replay: &mut Replay, e: JournalError, out: &mut O) -> GroupError
-    ensures { Stops e replay.old.waiting (O.held out.old) (O.held out.new) result }
+    ensures stops { Stops e replay.old.waiting (O.held out.old) (O.held out.new) result }
+    ensures fault { result ≡ GroupError.Output → Rose (O.Faulty.faults out.old) (O.Faulty.faults out.new) }
+    ensures never_falls { O.Faulty.faults out.old ≤ O.Faulty.faults out.new }
 {
     match replay.flush(out) {
         Ok(()) => GroupError::Input(e),
@@ -37,6 +40,8 @@ fn finish<O: Sink>(replay: &mut Replay, events: u64, out: &mut O) -> Result<(), 
     ensures ok { OnOk result (Appends (O.held out.old) (O.held out.new) (replay.old.waiting ++ end_line events)) }
     ensures err { IfErr result (λ e. e ≡ GroupError.Output) }
     ensures some { OnErr result (AppendsPrefix (O.held out.old) (O.held out.new) (replay.old.waiting ++ end_line events)) }
+    ensures fault { OnErr result (Rose (O.Faulty.faults out.old) (O.Faulty.faults out.new)) }
+    ensures never_falls { O.Faulty.faults out.old ≤ O.Faulty.faults out.new }
 {
     match replay.end(events, out) {
         Ok(()) => {}
@@ -54,6 +59,7 @@ fn write_unless<O: Sink>(replay: &mut Replay, more: bool, out: &mut O) -> Result
     ensures err { OnErr result (AppendsPrefix (O.held out.old) (O.held out.new) replay.old.waiting) }
     ensures group { replay.new.group ≡ replay.old.group }
     ensures setup { replay.new.setup ≡ replay.old.setup }
+    ensures cause { HasCause (O.Faulty.faults out.old) (O.Faulty.faults out.new) result }
 {
     if more {
         return Ok(());
@@ -81,6 +87,9 @@ fn next<S: Source, O: Sink>(
     ensures bytes { IfOk result (λ read. OnEvent read (λ e. lines.old.input.taken + 6 ≤ lines.new.input.taken)) }
     ensures memory { IfOk result (λ read. read ≢ Err JournalError.Memory) }
     ensures few { OnOk result (lines.new.input.taken ≤ most_taken) }
+    ensures still { OnErr result ((lines.new ≡ lines.old) × (source.new ≡ source.old)) }
+    ensures source { IfOk result (λ read. DrawsLines (error_in read) lines.old lines.new S.Source.own S.Faulty source.old source.new) }
+    ensures cause { HasCause (O.Faulty.faults out.old) (O.Faulty.faults out.new) result }
 {
     match write_unless(replay, lines.holds_line(), out) {
         Ok(()) => {}
@@ -106,6 +115,9 @@ fn follow<S: Source, O: Sink>(
     requires taken { lines.old.input.taken ≤ most_taken }
     ensures follows { (x : Sharing) → Stands replay.old.group x → Follows setup.now x start lines.old.number (unread lines.old.input (S.left source.old)) replay.old.waiting (O.held out.old) (O.held out.new) result }
     ensures memory { WritesNothing result → ⊥ }
+    ensures source { DrawsLines (read_error result) lines.old lines.new S.Source.own S.Faulty source.old source.new }
+    ensures write_fault { result ≡ Err GroupError.Output → Rose (O.Faulty.faults out.old) (O.Faulty.faults out.new) }
+    ensures never_falls { O.Faulty.faults out.old ≤ O.Faulty.faults out.new }
 {
     let mut last = start;
     // Each event takes six bytes at least, so after so many 2^56 bytes were taken.
@@ -138,6 +150,7 @@ fn open<S: Source>(lines: &mut Lines, source: &mut S) -> Result<(GroupSetup, u64
     ensures good { IfOk result (λ parts. IsGroupSetup parts.0) }
     ensures most { IfOk result (λ parts. parts.1 ≤ time_most) }
     ensures few { OnOk result (lines.new.input.taken ≤ most_taken) }
+    ensures source { DrawsLines (error_in result) lines.old lines.new S.Source.own S.Faulty source.old source.new }
 {
     let setup = match read_setup(lines, source) {
         Ok(setup) => setup,
@@ -157,6 +170,9 @@ pub fn replay_slices<S: Source, O: Sink>(
 ) -> Result<(), GroupError>
     ensures report { ReplaysSlices (S.left source.old) (O.held out.old) (O.held out.new) result }
     ensures memory { WritesNothing result → out.new ≡ out.old }
+    ensures read_fault { result ≡ Err (GroupError.Input JournalError.ReadFault) → Rose (S.Faulty.faults source.old) (S.Faulty.faults source.new) ⊎ (S.given source.old + most_taken ≤ S.given source.new) }
+    ensures write_fault { result ≡ Err GroupError.Output → Rose (O.Faulty.faults out.old) (O.Faulty.faults out.new) }
+    ensures never_falls { S.Faulty.faults source.old ≤ S.Faulty.faults source.new }
 {
     let mut lines = match Lines::new(alloc) {
         Ok(lines) => lines,

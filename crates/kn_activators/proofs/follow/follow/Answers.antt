@@ -1,19 +1,18 @@
 -- One event more, until the lines end.
-use Rattle.std.proofs.Common.{◌≡◌, ◌≤◌, ◌<◌, ◌+◌, ◌*◌, ◌∙◌, ◌++◌, ℕ, List, [], ◌∷◌, length, length-append, refl, sym, ap, subst, arith}
-use Rattle.std.specs.Prelude.{Err, Option}
+use Rattle.std.proofs.Common.{◌+◌, ◌∙◌, ◌++◌, ℕ, [], ◌∷◌, length-append, refl, sym, ap, subst, arith, le_trans}
+use Rattle.std.specs.Prelude.{Err}
 use Rattle.kn_slices.specs.Traces.{GroupState}
 use Rattle.kn_journal.specs.declared.error.JournalError.{JournalError}
-use Rattle.kn_journal.specs.declared.error.JournalError.TheVariants as journal
 use Rattle.kn_journal.specs.Reading.{unread}
 use Rattle.kn_io.specs.Prefix.{AppendsPrefix}
-use Rattle.kn_activators.specs.declared.event.GroupEvent.{GroupEvent}
 use Rattle.kn_activators.specs.declared.setup.GroupSetup.{GroupSetup}
-use Rattle.kn_activators.specs.Sharing.{Outcome, Sharing, by_line, by_lines, time_of}
-use Rattle.kn_activators.specs.Standing.{AreBefore, Came, Fails, IsBelow, Makes, Stands, one}
-use Rattle.kn_activators.specs.Verdict.{next_part}
+use Rattle.kn_activators.specs.Sharing.{Outcome, by_line, by_lines}
+use Rattle.kn_activators.specs.Standing.{AreBefore, Came, IsBelow, Stands, one}
 use Rattle.kn_activators.specs.Waiting.{Adds}
-use Rattle.kn_activators.proofs.EventLines.{GoesOn, goes_next, goes_none, lines_nil, lines_one}
-use Rattle.kn_activators.proofs.Endings.{follows_cut, follows_done, follows_finish, follows_stop, follows_take, stops_told}
+use Rattle.kn_activators.proofs.Drawings.{draws_more, draws_none}
+use Rattle.kn_activators.proofs.Faults.{draws_finished, draws_stopped, error_is, failed_of, rose_on}
+use Rattle.kn_activators.proofs.EventLines.{goes_next, goes_none, lines_nil, lines_one}
+use Rattle.kn_activators.proofs.Endings.{follows_cut, follows_finish, follows_stop, follows_take, stops_told}
 use Rattle.kn_activators.proofs.Standings.{below_after, below_less}
 use Rattle.kn_activators.proofs.Waits.{adds_nothing, adds_on, adds_trans}
 use Rattle.kn_activators.proofs.follow.follow.Goals as goal
@@ -34,6 +33,8 @@ loop-count-init g c = record {
   few = c.requires.few;
   taken = omega arith;
   most = c.requires.taken;
+  source = draws_none c.args.lines.now.input c.args.source.now;
+  later = omega arith;
 }
 
 pub returns-in-Err-clause-follows : goal.returns-in-Err-clause-follows
@@ -52,12 +53,12 @@ returns-in-Err-read-clause-follows g c = λ x stands.
     let no = c.in-Ok.ensures.memory in
     follows_stop s x c.args.start c.args.lines.now.number (unread c.args.lines.now.input (g.S.Source.left c.args.source.now)) on.0 c.loop-count.last c.loop-count.lines.number (unread c.loop-count.lines.input (g.S.Source.left c.loop-count.source))
     c.args.replay.now.waiting c.next.new.replay.waiting (g.O.Sink.held c.args.out.now) (g.O.Sink.held c.next.new.out) (g.O.Sink.held c.stop.new.out) c.in-Err-read.e c.stop.result on.4 told
-    (λ is. no (c.in-Err-read.is ∙ ap (λ (e : JournalError). Err e) is)) adds c.stop.ensures
+    (λ is. no (c.in-Err-read.is ∙ ap (λ (e : JournalError). Err e) is)) adds c.stop.ensures.stops
 
 pub returns-in-Err-read-clause-memory : goal.returns-in-Err-read-clause-memory
 returns-in-Err-read-clause-memory g c =
     let no = c.in-Ok.ensures.memory in
-    stops_told c.in-Err-read.e c.next.new.replay.waiting (g.O.Sink.held c.next.new.out) (g.O.Sink.held c.stop.new.out) c.stop.result c.stop.ensures (λ is. no (c.in-Err-read.is ∙ ap (λ (e : JournalError). Err e) is))
+    stops_told c.in-Err-read.e c.next.new.replay.waiting (g.O.Sink.held c.next.new.out) (g.O.Sink.held c.stop.new.out) c.stop.result c.stop.ensures.stops (λ is. no (c.in-Err-read.is ∙ ap (λ (e : JournalError). Err e) is))
 
 pub returns-in-None-clause-follows : goal.returns-in-None-clause-follows
 returns-in-None-clause-follows g c = λ x stands.
@@ -139,6 +140,8 @@ loop-count-preserved g c =
           (subst (IsBelow (c.loop-count.count + 1)) (sym c.next.ensures.group) kept.few);
       taken = omega (arith, kept.taken, bytes);
       most = c.in-Ok.ensures.few;
+      source = draws_more kept.source (rw c.in-Ok-read.is at c.in-Ok.ensures.source);
+      later = omega (arith, kept.later, c.next.ensures.cause.never_falls, c.take.ensures.cause.never_falls);
     }
 
 -- So many events have more bytes than may be taken.
@@ -147,3 +150,52 @@ returns-clause-follows g c = absurd (omega (arith, c.loop-count.invariant.taken,
 
 pub returns-clause-memory : goal.returns-clause-memory
 returns-clause-memory g c = absurd (omega (arith, c.loop-count.invariant.taken, c.loop-count.invariant.most, c.loop-count-test.false))
+
+pub returns-clause-source : goal.returns-clause-source
+returns-clause-source g c = absurd (omega (arith, c.loop-count.invariant.taken, c.loop-count.invariant.most, c.loop-count-test.false))
+
+pub returns-clause-write_fault : goal.returns-clause-write_fault
+returns-clause-write_fault g c = absurd (omega (arith, c.loop-count.invariant.taken, c.loop-count.invariant.most, c.loop-count-test.false))
+
+-- ---- faults
+
+pub returns-in-Err-clause-source : goal.returns-in-Err-clause-source
+returns-in-Err-clause-source g c = rw (c.in-Err.ensures.still.0, c.in-Err.ensures.still.1) c.loop-count.invariant.source
+
+pub returns-in-Err-clause-write_fault : goal.returns-in-Err-clause-write_fault
+returns-in-Err-clause-write_fault g c is = rose_on _ _ _ c.loop-count.invariant.later c.in-Err.ensures.cause.failed
+
+pub returns-in-Err-read-clause-source : goal.returns-in-Err-read-clause-source
+returns-in-Err-read-clause-source g c =
+    draws_stopped c.in-Err-read.e c.next.new.replay.waiting (g.O.Sink.held c.next.new.out) (g.O.Sink.held c.stop.new.out) c.stop.result c.stop.ensures.stops
+    (draws_more c.loop-count.invariant.source (rw c.in-Err-read.is at c.in-Ok.ensures.source))
+
+pub returns-in-Err-read-clause-write_fault : goal.returns-in-Err-read-clause-write_fault
+returns-in-Err-read-clause-write_fault g c is = rose_on _ _ _ (le_trans c.loop-count.invariant.later c.next.ensures.cause.never_falls) (c.stop.ensures.fault (error_is c.stop.result is))
+
+pub returns-in-Err-read-clause-never_falls : goal.returns-in-Err-read-clause-never_falls
+returns-in-Err-read-clause-never_falls g c = omega (arith, c.loop-count.invariant.later, c.next.ensures.cause.never_falls, c.stop.ensures.never_falls)
+
+pub returns-in-None-clause-source : goal.returns-in-None-clause-source
+returns-in-None-clause-source g c = draws_finished c.finish.result c.finish.ensures.err (draws_more c.loop-count.invariant.source (rw c.in-Ok-read.is at c.in-Ok.ensures.source))
+
+pub returns-in-None-clause-write_fault : goal.returns-in-None-clause-write_fault
+returns-in-None-clause-write_fault g c is = rose_on _ _ _ (le_trans c.loop-count.invariant.later c.next.ensures.cause.never_falls) (failed_of c.finish.result c.finish.ensures.fault is)
+
+pub returns-in-None-clause-never_falls : goal.returns-in-None-clause-never_falls
+returns-in-None-clause-never_falls g c = omega (arith, c.loop-count.invariant.later, c.next.ensures.cause.never_falls, c.finish.ensures.never_falls)
+
+pub returns-in-Err-take-clause-source : goal.returns-in-Err-take-clause-source
+returns-in-Err-take-clause-source g c = draws_more c.loop-count.invariant.source (rw c.in-Ok-read.is at c.in-Ok.ensures.source)
+
+pub returns-in-Err-take-clause-write_fault : goal.returns-in-Err-take-clause-write_fault
+returns-in-Err-take-clause-write_fault g c is = rose_on _ _ _ (le_trans c.loop-count.invariant.later c.next.ensures.cause.never_falls) c.in-Err-take.ensures.cause.failed
+
+pub returns-in-Err-take-clause-never_falls : goal.returns-in-Err-take-clause-never_falls
+returns-in-Err-take-clause-never_falls g c = omega (arith, c.loop-count.invariant.later, c.next.ensures.cause.never_falls, c.take.ensures.cause.never_falls)
+
+pub returns-in-Err-clause-never_falls : goal.returns-in-Err-clause-never_falls
+returns-in-Err-clause-never_falls g c = omega (arith, c.loop-count.invariant.later, c.next.ensures.cause.never_falls)
+
+pub returns-clause-never_falls : goal.returns-clause-never_falls
+returns-clause-never_falls g c = omega (arith, c.loop-count.invariant.later, c.stop-2.ensures.never_falls)

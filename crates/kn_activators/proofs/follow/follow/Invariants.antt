@@ -1,5 +1,8 @@
 use Rattle.std.proofs.Common.{◌≡◌, ◌≤◌, ◌+◌, ◌*◌, List, length}
 use Rattle.kn_journal.specs.Journal.{time_most}
+use Rattle.std.specs.Prelude.{None}
+use Rattle.kn_journal.specs.Drawing.{Draws}
+use Rattle.kn_activators.specs.Verdict.{Anywhere}
 use Rattle.kn_journal.specs.Reading.{most_taken, unread}
 use Rattle.kn_activators.specs.declared.event.GroupEvent.{GroupEvent}
 use Rattle.kn_activators.specs.Sharing.{Sharing, by_lines}
@@ -19,4 +22,6 @@ invariant-loop-count g l = record {
   few : IsBelow (l.count + 1) l.replay.group;
   taken : l.fn.lines.input.taken + 6 * l.count ≤ l.lines.input.taken;
   most : l.lines.input.taken ≤ most_taken;
+  source : Draws Anywhere None l.fn.lines.input l.lines.input g.S.Source g.S.Faulty l.fn.source l.source;
+  later : g.O.Faulty.faults l.fn.out ≤ g.O.Faulty.faults l.out;
 }

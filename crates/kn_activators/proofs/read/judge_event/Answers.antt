@@ -1,5 +1,5 @@
 -- Why an event's line is refused.
-use Rattle.std.proofs.Common.{◌≡◌, ◌<◌, ◌≤◌, arith}
+use Rattle.std.proofs.Common.{◌<◌, ◌≤◌, arith}
 use Rattle.std.proofs.lemmas.Grind.{common_steps}
 use Rattle.kn_journal.specs.Journal.{time_most}
 use Rattle.kn_activators.specs.Reading.{group_event_of}

@@ -1,5 +1,5 @@
 -- One pod more.
-use Rattle.std.proofs.Common.{◌≡◌, ◌+◌, ◌<◌, ◌++◌, ◌∙◌, ℕ, List, [], drop, get_or, length, append_assoc, append-nil, refl, arith, ap, sym, subst}
+use Rattle.std.proofs.Common.{◌+◌, ◌<◌, ◌++◌, ◌∙◌, ℕ, List, [], drop, get_or, length, append_assoc, append-nil, refl, arith, ap, sym, subst}
 use Rattle.std.proofs.lemmas.Grind.{common_steps}
 use Rattle.kn_activators.specs.Sharing.{force_change, force_lines}
 use Rattle.kn_activators.specs.Waiting.{Adds}

@@ -1,9 +1,9 @@
 -- What is asked of the group, in the words of what it stands for.
-use Rattle.std.proofs.Common.{◌≡◌, ◌<◌, ◌≤◌, ap, length, subst, sym}
+use Rattle.std.proofs.Common.{◌<◌, ◌≤◌, ap, length, subst, sym}
 use Rattle.kn_core.specs.State.{RevisionState}
 use Rattle.kn_activators.proofs.Standings.{before_asked, grows_asked, is_asked, parts_are, stands_asked}
 use Rattle.kn_activators.proofs.replay.Replay.ask.Goals as goal
-use Rattle.std.specs.Prelude.{ℕ, List}
+use Rattle.std.specs.Prelude.{List}
 
 pub ask-requires-clause-pod : goal.ask-requires-clause-pod
 ask-requires-clause-pod c = subst (λ n. c.args.p < n) (sym c.self.invariant.of.pods) (rw (← c.self.view_is) at c.requires.pod)

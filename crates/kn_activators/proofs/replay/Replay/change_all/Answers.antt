@@ -1,9 +1,9 @@
 -- One change more, until none is due.
-use Rattle.std.proofs.Common.{◌≡◌, ◌∙◌, ◌-◌, ◌+◌, ◌<◌, ℕ, length, refl, arith, sym, ap, subst}
-use Rattle.kn_slices.specs.Traces.{GroupState, made_at}
+use Rattle.std.proofs.Common.{◌≡◌, ◌-◌, ◌+◌, ◌<◌, ℕ, refl, arith, sym, subst}
+use Rattle.kn_slices.specs.Traces.{made_at}
 use Rattle.kn_activators.specs.declared.setup.GroupSetup.{GroupSetup}
-use Rattle.kn_activators.specs.Sharing.{Sharing, by_one, changes, changes_most}
-use Rattle.kn_activators.specs.Standing.{AreBefore, Fails, Grows, IsBelow, Makes, none}
+use Rattle.kn_activators.specs.Sharing.{by_one, changes, changes_most}
+use Rattle.kn_activators.specs.Standing.{Fails, Makes, none}
 use Rattle.kn_activators.proofs.Making.{goes_begin, goes_cut, goes_end, goes_more, same_on, Goes}
 use Rattle.kn_activators.proofs.Standings.{below_still, changes_more, changes_none, changes_over, grows_begin, grows_still}
 use Rattle.kn_activators.proofs.replay.Replay.change_all.Goals as goal

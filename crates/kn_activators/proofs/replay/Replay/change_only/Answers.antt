@@ -1,5 +1,4 @@
 -- The due change, in the words of what the group stands for.
-use Rattle.std.proofs.Common.{◌≡◌, ◌<◌}
 use Rattle.kn_slices.specs.Traces.{made_at}
 use Rattle.kn_activators.proofs.Standings.{before_after, low_of, rows_are, same_parts, stands_stepped}
 use Rattle.kn_activators.proofs.replay.Replay.change_only.Goals as goal

@@ -1,8 +1,7 @@
-use Rattle.std.proofs.Common.{◌≡◌, ◌<◌, ◌∙◌, ap, length, subst, sym}
-use Rattle.std.specs.Prelude.{ℕ, IfSome, List}
+use Rattle.std.proofs.Common.{◌∙◌, ap, length}
+use Rattle.std.specs.Prelude.{ℕ, List}
 use Rattle.kn_slices.specs.Slices.{due_change}
 use Rattle.kn_slices.specs.Traces.{limit_by, running_by}
-use Rattle.kn_slices.specs.declared.change.Change.{Change}
 use Rattle.kn_activators.proofs.Making.{some_one}
 use Rattle.kn_activators.proofs.Standings.{parts_are}
 use Rattle.kn_activators.proofs.replay.Replay.due.Goals as goal

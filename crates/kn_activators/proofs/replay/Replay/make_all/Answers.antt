@@ -1,8 +1,7 @@
 -- The event, and then the due changes.
-use Rattle.std.proofs.Common.{◌≡◌, ◌+◌, ◌-◌, ◌∙◌, ℕ, arith, subst}
-use Rattle.kn_activators.specs.declared.setup.GroupSetup.{GroupSetup}
+use Rattle.std.proofs.Common.{arith}
 use Rattle.kn_activators.specs.Sharing.{by_event, changes, changes_most, time_of}
-use Rattle.kn_activators.specs.Standing.{Fails, IsBelow, Makes, none, one}
+use Rattle.kn_activators.specs.Standing.{one}
 use Rattle.kn_activators.proofs.Making.{fails_first, fails_second, makes_both, same_on}
 use Rattle.kn_activators.proofs.Pieces.{on_err, on_ok}
 use Rattle.kn_activators.proofs.Standings.{below_after, below_less, grows_still}

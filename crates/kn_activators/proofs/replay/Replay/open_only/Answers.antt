@@ -1,5 +1,5 @@
 -- The opening of an activator, in the words of the setup.
-use Rattle.std.proofs.Common.{◌≡◌, ◌<◌, ◌∙◌, ap}
+use Rattle.std.proofs.Common.{◌∙◌, ap}
 use Rattle.kn_event.specs.declared.revision.Spec.{Spec}
 use Rattle.kn_trace.specs.Events.{opening}
 use Rattle.kn_activators.proofs.Standings.{low_of, some_part, spec_is}

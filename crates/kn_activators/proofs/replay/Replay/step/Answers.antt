@@ -1,7 +1,6 @@
 -- The rows were added, or some of them.
-use Rattle.std.proofs.Common.{◌≡◌, ◌∙◌, ap, length, subst}
+use Rattle.std.proofs.Common.{◌∙◌, ap, length}
 use Rattle.kn_slices.specs.Traces.{GroupState}
-use Rattle.kn_activators.specs.Standing.{AreBefore, Grows, one_at}
 use Rattle.kn_activators.proofs.Making.{fails_one, makes_one}
 use Rattle.kn_activators.proofs.Pieces.{on_err, on_ok}
 use Rattle.kn_activators.proofs.replay.Replay.step.Goals as goal

@@ -1,9 +1,8 @@
 -- One activator more, until all were stepped.
-use Rattle.std.proofs.Common.{◌≡◌, ◌∙◌, ◌+◌, ◌<◌, ◌≤◌, ℕ, drop, length, refl, arith, sym, ap, subst}
-use Rattle.kn_slices.specs.Traces.{GroupState}
+use Rattle.std.proofs.Common.{◌≡◌, ◌+◌, ◌<◌, ℕ, drop, refl, arith, ap, subst}
 use Rattle.kn_activators.specs.declared.setup.GroupSetup.{GroupSetup}
-use Rattle.kn_activators.specs.Sharing.{Sharing, by_each, by_one, numbers_of}
-use Rattle.kn_activators.specs.Standing.{AreBefore, Fails, Grows, IsBelow, Makes, one_at}
+use Rattle.kn_activators.specs.Sharing.{by_each, by_one, numbers_of}
+use Rattle.kn_activators.specs.Standing.{Fails, Makes}
 use Rattle.kn_activators.proofs.Making.{goes_begin, goes_cut, goes_end, goes_more, same_on}
 use Rattle.kn_activators.proofs.Standings.{each_end, each_more, few_next, grows_all, grows_begin, grows_next, one_below}
 use Rattle.kn_activators.proofs.replay.Replay.step_each.Goals as goal

@@ -1,5 +1,4 @@
 -- The group's step, in the words of what it stands for.
-use Rattle.std.proofs.Common.{◌≡◌, ◌<◌}
 use Rattle.kn_activators.proofs.Standings.{before_after, grows_one, low_of, rows_are, same_parts, stands_stepped}
 use Rattle.kn_activators.proofs.replay.Replay.step_only.Goals as goal
 

@@ -1,8 +1,8 @@
 -- What was made, and then the limits in force that are others.
-use Rattle.std.proofs.Common.{◌≡◌, ◌≤◌, ◌∙◌, ap, length, subst, sym}
+use Rattle.std.proofs.Common.{◌∙◌, ap, length, subst, sym}
 use Rattle.kn_slices.specs.Traces.{GroupState}
 use Rattle.kn_activators.specs.Sharing.{and_then, by_event, by_line, changes, changes_most, time_of}
-use Rattle.kn_activators.specs.Standing.{AreBefore, Fails, Grows, Makes, one}
+use Rattle.kn_activators.specs.Standing.{AreBefore, Grows, one}
 use Rattle.kn_activators.proofs.Making.{fails_line, fails_made, makes_line, on_every}
 use Rattle.kn_activators.proofs.Pieces.{on_err, on_ok}
 use Rattle.kn_activators.proofs.replay.Replay.take.Goals as goal
