@@ -5,7 +5,7 @@ ghost use Rattle.kn_journal.specs.Lines.{fits, line_most, lines};
 ghost use Rattle.kn_journal.specs.Reading.{TakesLine, TakesPart, TakesText, most_taken, unread};
 ghost use Rattle.kn_journal.specs.Drawing.{Draws, error_in};
 ghost use Rattle.kn_journal.specs.Telling.{IsCauseOf, IsEventFault, IsLineFault, Judges, Lacks, LeavesRest, OnEvent, TakesEnd, Tells};
-ghost use Rattle.kn_journal.specs.Journal.{first_part, in_time, next_part, nothing_part, start_line_in, start_of, start_part, time_most};
+ghost use Rattle.kn_journal.specs.Journal.{first_part, in_time, next_part, nothing_part, start_line_in, start_of, start_part, time_most, version_most};
 
 use crate::error::JournalError;
 use crate::first::{FirstLine, judge_first};
@@ -189,7 +189,7 @@ impl Lines {
         ensures rest { IfErr result (λ e. IsLineFault e → LeavesRest (first_part first self.old.number) self.old.number (Some (self.old.number + 1)) e (unread self.old.input (S.left source.old)) (unread self.new.input (S.left source.new))) }
         ensures text { OnOk result (TakesText self.new.cut (unread self.old.input (S.left source.old)) (unread self.new.input (S.left source.new))) }
         ensures least { IfOk result (λ version. 1 ≤ version) }
-        ensures most { IfOk result (λ version. version ≤ 2) }
+        ensures most { IfOk result (λ version. version ≤ version_most first) }
         ensures source { Draws TakesPart (error_in result) self.old.input self.new.input S.Source.own S.Faulty source.old source.new }
         ensures few { self.new.input.taken ≤ most_taken }
     {

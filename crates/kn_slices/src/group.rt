@@ -51,6 +51,14 @@ impl Group {
         self.force[p as usize]
     }
 
+    /// The limits in force of all pods, lent.
+    pub fn forces(&self) -> &[u64]
+        ensures value { result.now ≡ self.now.force }
+        ensures many { length self.now.force ≡ length self.now.wanted }
+    {
+        &self.force
+    }
+
     /// How many requests run at a pod over all activators: no more than the limit in force.
     pub fn running(&self, p: u64) -> u64
         requires { p < length self.now.wanted }

@@ -1,0 +1,11 @@
+mod Pieces
+mod Waits
+mod Standings
+mod Making
+mod Tellings
+mod Drawings
+mod Parts
+mod EventLines
+mod Endings
+mod Faults
+mod Whole
