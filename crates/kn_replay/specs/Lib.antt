@@ -7,3 +7,4 @@ pub mod Generating
 pub mod Replaying
 pub mod Cutting
 pub mod Simulating
+pub mod Grouped

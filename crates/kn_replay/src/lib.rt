@@ -10,6 +10,7 @@ mod replay;
 mod report;
 mod rows;
 mod simulate;
+mod slices;
 mod stamp;
 mod texts;
 mod waiting;
