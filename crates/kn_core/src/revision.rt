@@ -129,17 +129,16 @@ impl Revision {
         self.parts.react(e, limit, log)
     }
 
-    /// Takes one event as `step` does, for a caller that isn't to have a copy of its code.
+    /// Takes one event as `step` does, and answers nothing.
     // (its code stands once in a program: what only one place calls is inlined there, and each further copy of `step` undoes that)
     #[inline(never)]
-    pub fn take(&mut self, e: &Event, log: &mut EntryLog) -> Told
+    pub fn take(&mut self, e: &Event, log: &mut EntryLog)
         requires empty { log.old ≡ [] }
         requires order { self.old.clock ≤ e.now.time }
         requires times { e.now.time ≤ 2 ^ 42 }
         requires count { self.old.events < 2 ^ 54 }
         requires limit { IsWithinRange e.now.act }
         ensures logged { (c : Trace) → StandsFor self.old c → log.new ≡ react self.old.spec c e.now }
-        ensures told { (c : Trace) → StandsFor self.old c → result ≡ told_of self.old.spec c e.now }
         ensures stands { (c : Trace) → StandsFor self.old c → StandsFor self.new (c ++ react self.old.spec c e.now) }
         ensures at { EachAt e.now.time log.new }
         ensures few { length log.new ≤ 41005 }
@@ -148,7 +147,7 @@ impl Revision {
         ensures clock { self.new.clock ≡ e.now.time }
         ensures events { self.new.events ≡ self.old.events + 1 }
     {
-        self.step(e, log)
+        let _ = self.step(e, log);
     }
 
     /// The limit of its new pods.

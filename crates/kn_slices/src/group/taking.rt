@@ -36,7 +36,7 @@ fn step_part(part: &mut Revision, e: &Event, log: &mut EntryLog) -> Told
 {
     activator_laws();
     let _live = part.live();
-    part.take(e, log)
+    part.step(e, log)
 }
 
 /// An event of one activator, which leaves what is held within what is in force.
