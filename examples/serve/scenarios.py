@@ -226,6 +226,39 @@ def late_pod():
                 settle(session, found)
 
 
+class OpenPod:
+    """Answers each request by `hello`, by its length and in chunks by turns, and never closes a connection."""
+
+    def __init__(self):
+        self.door = socket.create_server(("127.0.0.1", 0))
+        self.port, self.kept = self.door.getsockname()[1], []
+        threading.Thread(target=self.serve, daemon=True).start()
+
+    def serve(self):
+        with self.door:
+            while True:
+                client = self.door.accept()[0]
+                # (a probe connects and says nothing)
+                if client.recv(65536):
+                    field = ("Content-Length: 5\r\n\r\nhello", "Transfer-Encoding: chunked\r\n\r\n5\r\nhello\r\n0\r\n\r\n")
+                    client.sendall(f"HTTP/1.1 200 OK\r\n{field[len(self.kept) % 2]}".encode())
+                    self.kept.append(client)
+
+
+def open_pod():
+    """A pod of one seat that keeps its connections open: each answer ends where it says, and the seat is free then."""
+    pod = OpenPod()
+    with Session(fixed(1, limit=1), [pod.port], slots=4, rounds=10) as session:
+        start = time.monotonic()
+        found = collections.Counter(ask(session.port) for _ in range(20))
+        found.update(at_once(4, lambda: ask(session.port)) + at_once(4, lambda: ask(session.port)))
+        found.update(ask(session.port) for _ in range(12))
+        took = time.monotonic() - start
+        want(found == {HELLO: 40}, f"answered {dict(found)}")
+        want(took < 10, f"took {took:.1f} s")
+        settle(session, found)
+
+
 def other_revision():
     """Requests of another revision, and without one, are refused, and no event is made of them."""
     with Pod() as pod, Session(fixed(1), [pod.port], slots=4, rounds=25) as session:
@@ -256,7 +289,7 @@ def scaled():
 
 SCENARIOS = [
     one_request, load_of_16, full_breaker, killed_pod, killed_clients, gone_in_body, gone_before_answer, slow_clients, refused,
-    no_room, no_pod, late_pod, other_revision, scaled,
+    no_room, no_pod, late_pod, open_pod, other_revision, scaled,
 ]
 
 
