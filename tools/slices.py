@@ -103,7 +103,7 @@ def mix(seed):
         else:
             i=g.randrange(n)
             if x<0.52: lines.append(f'{i} {t} arrive {g.randrange(1000)}'); count[i]+=1
-            elif x<0.93: lines.append(f"{i} {t} finish {g.randrange(max(0,count[i]-9),count[i]+1)} {g.choice(['ok','ok','failed'])}")
+            elif x<0.93: lines.append(f"{i} {t} finish {g.randrange(max(0,count[i]-9),count[i]+1)} {g.choice(['ok','ok','fail'])}")
             elif x<0.97: lines.append(f'{i} {t} cancel {g.randrange(max(0,count[i]-6),count[i]+1)}')
             else: lines.append(f'{i} {t} pass')
     return lines+['end']
