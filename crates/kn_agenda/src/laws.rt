@@ -87,9 +87,9 @@ pub fn schedule_laws()
 /// What a workload's events do to its requests and pods. Every job arrives once, in order and at its time, and nobody else does.
 ///
 /// A request that has begun ends when its job's service is over, no sooner and no later; at the end of a schedule each has done so,
-/// or would have ended after it. Who expires does so when its timeout is over, and nobody waits longer. A pod is ready when it has
-/// booted, and one that still starts at the end would have done so after it. No request is finished twice, no pod is made ready
-/// twice, and passes are no more than arrivals.
+/// or would have ended after it. Who expires does so when its timeout is over, and who still waits at the end would have expired
+/// after it. A pod is ready when it has booted, and one that still starts at the end would have done so after it. No request is
+/// finished twice, no pod is made ready twice, and passes are no more than arrivals.
 pub fn service_laws()
     ensures arrive { (w : Workload) (es : List Event) → IsWorkload w → IsSchedule w es → filter is_arrival es ≡ map arrive_of w.jobs }
     ensures serve { (w : Workload) (es : List Event) (r b : ℕ) → IsWorkload w → IsSchedule w es → begun_at (so_far w es) r ≡ Some b → (j : Job) × (slice_get w.jobs r ≡ Some j) × ((ended_at (so_far w es) r ≡ Some (b + j.service)) ⊎ (w.until < b + j.service)) }

@@ -5,6 +5,7 @@ use kn_event::{Items, Text};
 pub type Headers = Items<(Text, Text)>;
 
 /// A request, whole.
+#[derive(Drop)]
 pub struct Head {
     pub method: Text,
     pub target: Text,
@@ -20,21 +21,6 @@ pub struct Head {
     pub body: Text,
     /// Whether the body came in chunks.
     pub chunked: bool,
-}
-
-impl Drop for Head {
-    fn drop(self) {
-        let Head {
-            method: _,
-            target: _,
-            minor: _,
-            headers: _,
-            namespace: _,
-            revision: _,
-            body: _,
-            chunked: _,
-        } = self;
-    }
 }
 
 /// Why a request is refused, or wasn't read.

@@ -1,5 +1,5 @@
 -- The first line of a setup.
-use Rattle.std.specs.Prelude.{ℕ, Bool, ◌+◌, ◌≤◌, nat_eq, List, [], ◌∷◌, drop, length, map, Option, None, Some, Result, Ok, Err, codes, if◌then◌else◌}
+use Rattle.std.specs.Prelude.{ℕ, Bool, ◌+◌, ◌≤◌, nat_eq, nat_lt, List, [], ◌∷◌, drop, length, map, Option, None, Some, Result, Ok, Err, codes, if◌then◌else◌}
 use Rattle.std.specs.List.{starts_with}
 use Rattle.std.specs.Str.{bytes_eq}
 use Rattle.kn_event.specs.Fields.{fields}
@@ -11,6 +11,7 @@ use Rattle.kn_journal.specs.declared.error.SetupError.TheVariants.{BadField, Out
 use Rattle.kn_journal.specs.declared.setting.Setting.{Setting}
 use Rattle.kn_journal.specs.declared.setting.Setting.TheVariants.{Limit, Depth, Max, Pods, Timeout, Seed}
 use Rattle.kn_journal.specs.declared.setting.Placed.{Placed}
+use Rattle.kn_journal.specs.declared.setting.FixedLine.{FixedLine}
 use Rattle.kn_journal.specs.declared.setting.SetupLine.{SetupLine}
 use Rattle.kn_journal.specs.declared.setting.SetupLine.TheVariants.{Fixed, Kpa}
 
@@ -113,6 +114,40 @@ setup_line_of_fields (word ∷ more) =
 -- `fixed limit=L depth=D max=M pods=P timeout=T seed=S` or `kpa depth=D max=M seed=S`, with its numbers in range
 unfoldable pub setup_line : List ℕ → Result SetupLine SetupError
 setup_line line = setup_line_of_fields (fields line)
+
+-- ---- a `fixed` line whose limit has a least of its own
+
+-- the limit is the first number that is judged
+abbrev pub limit_fault : ℕ → List Placed → Option SetupError
+limit_fault least [] = None
+limit_fault least (limit ∷ more) = if nat_lt limit.number least then Some (OutOfRange limit.place) else None
+
+abbrev pub unless_fault : Option SetupError → List Placed → Result (List Placed) SetupError
+unless_fault None ps = Ok ps
+unless_fault (Some why) ps = Err why
+
+abbrev pub with_least : ℕ → Result (List Placed) SetupError → Result (List Placed) SetupError
+with_least least (Ok ps) = unless_fault (limit_fault least ps) ps
+with_least least (Err why) = Err why
+
+abbrev pub least_due : ℕ → ℕ → List (List ℕ) → Result (List ℕ) SetupError
+least_due least at more = in_ranges fixed_settings (with_least least (placed_due at fixed_settings more))
+
+abbrev pub least_from : Result (List ℕ) SetupError → Result FixedLine SetupError
+least_from (Ok (limit ∷ depth ∷ max ∷ pods ∷ timeout ∷ seed ∷ [])) = Ok (record { limit = limit; pods = pods; timeout_s = timeout; slots = slots_of depth max seed })
+least_from (Ok _) = Err BadWord
+least_from (Err why) = Err why
+
+abbrev pub fixed_line_of_fields : ℕ → List (List ℕ) → Result FixedLine SetupError
+fixed_line_of_fields least [] = Err BadWord
+fixed_line_of_fields least (word ∷ more) = if bytes_eq word (codes "fixed") then least_from (least_due least (length word) more) else Err BadWord
+
+-- a `fixed` line whose limit is at least this, with its numbers in range
+unfoldable pub fixed_line : ℕ → List ℕ → Result FixedLine SetupError
+fixed_line least line = fixed_line_of_fields least (fields line)
+
+abbrev pub IsFixedLine : ℕ → FixedLine → Type 0
+IsFixedLine least f = (least ≤ f.limit) × (f.limit ≤ 1000) × (f.pods ≤ 500) × (1 ≤ f.timeout_s) × (f.timeout_s ≤ 3600) × AreSlots f.slots
 
 -- a line's numbers are in range
 abbrev pub IsSetupLine : SetupLine → Type 0

@@ -1,23 +1,47 @@
-//! The first line of an input, which names its form and a version.
-ghost use Rattle.std.specs.Prelude.{◌≡◌, ◌≤◌, IfOk};
-ghost use Rattle.kn_journal.specs.Journal.{first_in, version_by};
+//! The first line of an input, which names its form and a version, or how many activators it is of.
+ghost use Rattle.std.specs.Prelude.{◌≡◌, ◌≤◌, IfOk, IfSome};
+ghost use Rattle.kn_journal.specs.Journal.{activators_of, first_in, version_by, version_most};
 ghost use Rattle.kn_journal.specs.Telling.{Judges};
 
 use crate::error::JournalError;
+use kn_event::read_number;
 
-/// A first line that names a version.
+/// A first line that names a version, or a number of activators in its place.
 #[derive(Clone, Copy, Debug, PartialEq, Eq)]
 pub enum FirstLine {
     /// `kact journal 1` or `kact journal 2`.
     Journal,
     /// `kact workload 1`.
     Workload,
+    /// `kact slices N`, for N activators, from 1 to 16.
+    Slices,
+}
+
+/// What stands before the number of activators.
+const SLICES: &[u8] = b"kact slices ";
+
+/// The number of activators that the line names, from 1 to 16, where it is such a line.
+#[tactic(auto, unfolding(crate::specs::Journal::activators_of))]
+fn activators_of(line: &[u8]) -> Option<u64>
+    ensures value { result ≡ activators_of line.now }
+    ensures least { IfSome result (λ n. 1 ≤ n) }
+    ensures most { IfSome result (λ n. n ≤ 16) }
+{
+    if !line.starts_with(SLICES) {
+        return None;
+    }
+    match read_number(&line[SLICES.len()..]) {
+        Some(n) => if 1 <= n && n <= 16 { Some(n) } else { None },
+        None => None,
+    }
 }
 
 impl FirstLine {
     /// The version that the line names, where it is such a line.
     fn version(self, line: &[u8]) -> Option<u64>
-        ensures { result ≡ version_by self line.now }
+        ensures value { result ≡ version_by self line.now }
+        ensures least { IfSome result (λ version. 1 ≤ version) }
+        ensures most { IfSome result (λ version. version ≤ version_most self) }
     {
         match self {
             FirstLine::Journal => if line == b"kact journal 1".as_slice() {
@@ -32,6 +56,7 @@ impl FirstLine {
             } else {
                 None
             },
+            FirstLine::Slices => activators_of(line),
         }
     }
 }
@@ -40,7 +65,7 @@ impl FirstLine {
 pub fn judge_first(line: &[u8], number: u64, first: FirstLine) -> Result<u64, JournalError>
     ensures judges { Judges (first_in first) number line.now result }
     ensures least { IfOk result (λ version. 1 ≤ version) }
-    ensures most { IfOk result (λ version. version ≤ 2) }
+    ensures most { IfOk result (λ version. version ≤ version_most first) }
 {
     match first.version(line) {
         Some(version) => Ok(version),

@@ -20,6 +20,7 @@ pub use journal::{Events, Journal, Opening, Setup};
 pub use laws::{journals_are_read, openings_are_whole, text_laws};
 pub use parts::{Lines, TIME_MOST};
 pub use reader::JournalReader;
+pub use setting::{FixedLine, read_fixed_line};
 pub use setup::read_opening;
 pub use status::Status;
 pub use write::write_journal;

@@ -1,11 +1,12 @@
 //! The parts of a journal, each read from the lines that come next.
-ghost use Rattle.std.specs.Prelude.{◌≡◌, ◌≢◌, ◌⊎◌, ◌+◌, ◌≤◌, ◌<◌, ◌↔◌, ℕ, [], ◌∷◌, ◌++◌, List, true, Err, Ok, None, Option, Some, Contains, IfOk, IfErr, IfSome, IsTrue, OnOk, drop, length, take};
-ghost use Rattle.kn_event.specs.EventLine.{event_of, IsInJournalRange, IsInVersion};
+ghost use Rattle.std.specs.Prelude.{◌≡◌, ◌≢◌, ◌⊎◌, ◌+◌, ◌≤◌, ◌<◌, ◌↔◌, ℕ, [], ◌∷◌, ◌++◌, List, true, Err, Ok, None, Option, Some, Contains, IfOk, IfErr, IfSome, IsTrue, OnOk, drop, false, length, slice_range, take};
+ghost use Rattle.std.specs.List.{list_all};
+ghost use Rattle.kn_event.specs.EventLine.{event_of, is_printable, IsInJournalRange, IsInVersion, Spells};
 ghost use Rattle.kn_journal.specs.Lines.{fits, line_most, lines};
 ghost use Rattle.kn_journal.specs.Reading.{TakesLine, TakesPart, TakesText, most_taken, unread};
 ghost use Rattle.kn_journal.specs.Drawing.{Draws, error_in};
 ghost use Rattle.kn_journal.specs.Telling.{IsCauseOf, IsEventFault, IsLineFault, Judges, Lacks, LeavesRest, OnEvent, TakesEnd, Tells};
-ghost use Rattle.kn_journal.specs.Journal.{first_part, in_time, next_part, nothing_part, start_line_in, start_of, start_part, time_most};
+ghost use Rattle.kn_journal.specs.Journal.{first_part, in_time, next_part, nothing_part, start_line_in, start_of, start_part, time_most, version_most};
 
 use crate::error::JournalError;
 use crate::first::{FirstLine, judge_first};
@@ -189,7 +190,7 @@ impl Lines {
         ensures rest { IfErr result (λ e. IsLineFault e → LeavesRest (first_part first self.old.number) self.old.number (Some (self.old.number + 1)) e (unread self.old.input (S.left source.old)) (unread self.new.input (S.left source.new))) }
         ensures text { OnOk result (TakesText self.new.cut (unread self.old.input (S.left source.old)) (unread self.new.input (S.left source.new))) }
         ensures least { IfOk result (λ version. 1 ≤ version) }
-        ensures most { IfOk result (λ version. version ≤ 2) }
+        ensures most { IfOk result (λ version. version ≤ version_most first) }
         ensures source { Draws TakesPart (error_in result) self.old.input self.new.input S.Source.own S.Faulty source.old source.new }
         ensures few { self.new.input.taken ≤ most_taken }
     {
@@ -257,6 +258,53 @@ impl Lines {
             return None;
         }
         Some((e, len))
+    }
+
+    /// What was read ahead, lent.
+    #[inline(always)]
+    pub fn ahead(&self) -> &[u8]
+        ensures { result.now ≡ self.now.input.ahead }
+    {
+        self.input.ahead()
+    }
+
+    /// The event that stands from this place on of what is ahead, up to an LF, and the place of that LF. None says nothing.
+    #[inline(always)]
+    pub fn event_from(&mut self, from: usize) -> Option<(Event, usize)>
+        requires within { from ≤ length self.old.input.ahead }
+        ensures inside { IfSome result (λ p. p.1 < length self.old.input.ahead) }
+        ensures least { IfSome result (λ p. from + 6 ≤ p.1) }
+        ensures most { IfSome result (λ p. p.1 ≤ from + 100) }
+        ensures lf { IfSome result (λ p. drop from self.old.input.ahead ≡ slice_range self.old.input.ahead from p.1 ++ 10 ∷ drop (p.1 + 1) self.old.input.ahead) }
+        ensures spells { IfSome result (λ p. (version : ℕ) → Spells version (slice_range self.old.input.ahead from p.1) p.0) }
+        ensures few { IfSome result (λ p. self.old.input.taken + p.1 < most_taken) }
+        ensures same { self.new ≡ self.old }
+    {
+        spellings_are_read();
+        let (e, len) = self.time.event_ahead(&self.input.ahead()[from..])?;
+        if self.input.may_take() <= (from + len) as u64 {
+            return None;
+        }
+        Some((e, from + len))
+    }
+
+    /// Takes the line ahead whose LF stands at this place.
+    #[inline(always)]
+    pub fn take_line(&mut self, len: usize)
+        requires inside { len < length self.old.input.ahead }
+        requires few { self.old.input.taken + len < most_taken }
+        requires lf { self.old.input.ahead ≡ take len self.old.input.ahead ++ 10 ∷ drop (len + 1) self.old.input.ahead }
+        requires printable { list_all is_printable (take len self.old.input.ahead) ≡ true }
+        ensures lines { (later : List ℕ) → lines (self.old.input.ahead ++ later) ≡ take len self.old.input.ahead ∷ lines (self.new.input.ahead ++ later) }
+        ensures ahead { self.new.input.ahead ≡ drop (len + 1) self.old.input.ahead }
+        ensures taken { self.new.input.taken ≡ self.old.input.taken + len + 1 }
+        ensures number { self.new.number ≡ self.old.number + 1 }
+        ensures line { self.new.line ≡ self.old.line }
+        ensures cut { self.new.cut ≡ false }
+    {
+        self.input.skip(len + 1);
+        self.number += 1;
+        self.cut = false;
     }
 
     /// Takes the next event, at this time or later, where its line is a usual one and ahead with its LF. None says nothing, and

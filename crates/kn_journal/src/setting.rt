@@ -1,7 +1,7 @@
 //! The first line of a setup.
 ghost use Rattle.std.specs.Prelude.{◌≡◌, ◌+◌, ◌≤◌, List, ◌∷◌, Ok, Err, None, OnOk, IfOk, IfErr, length, drop};
 ghost use Rattle.kn_event.specs.Fields.{fields, fields_behind};
-ghost use Rattle.kn_journal.specs.SetupLine.{fixed_from, fixed_settings, is_in_range, IsSetupLine, kpa_from, kpa_settings, least_of, most_of, numbers_due, placed_due, range_fault, setting_number, setting_text, setup_line, with_placed};
+ghost use Rattle.kn_journal.specs.SetupLine.{fixed_from, fixed_line, fixed_settings, is_in_range, IsFixedLine, IsSetupLine, least_due, least_from, kpa_from, kpa_settings, least_of, most_of, numbers_due, placed_due, range_fault, setting_number, setting_text, setup_line, with_placed};
 
 use crate::error::SetupError;
 use kn_event::{Slots, first_end, next_end, read_number};
@@ -148,6 +148,64 @@ const UNREAD: Placed = Placed {
     number: 0,
     place: 0,
 };
+
+/// What a `fixed` line says.
+#[derive(Clone, Copy, Debug, PartialEq, Eq)]
+pub struct FixedLine {
+    pub limit: u64,
+    pub pods: u64,
+    pub timeout_s: u64,
+    pub slots: Slots,
+}
+
+/// What follows the word `fixed`, where the limit is to be this at least.
+fn read_least(line: &[u8], at: usize, least: u64) -> Result<FixedLine, SetupError>
+    requires { at ≤ length line.now }
+    ensures value { result ≡ least_from (least_due least at (fields_behind (drop at line.now))) }
+    ensures ranges { IfOk result (IsFixedLine least) }
+{
+    let settings = [
+        Setting::Limit,
+        Setting::Depth,
+        Setting::Max,
+        Setting::Pods,
+        Setting::Timeout,
+        Setting::Seed,
+    ];
+    let mut places = [UNREAD; 6];
+    read_placed(line, at, &settings, &mut places)?;
+    let [limit, depth, max, pods, timeout, seed] = places;
+    if limit.number < least {
+        return Err(SetupError::OutOfRange(limit.place));
+    }
+    if let Some(why) = range_fault(&settings, &places) {
+        return Err(why);
+    }
+    Ok(FixedLine {
+        limit: limit.number,
+        pods: pods.number,
+        timeout_s: timeout.number,
+        slots: Slots {
+            depth: depth.number,
+            max: max.number,
+            seed: seed.number,
+        },
+    })
+}
+
+/// What a `fixed` line says whose limit is to be this at least, or its first fault: all fields are read before ranges are judged.
+#[tactic(auto, unfolding(crate::specs::SetupLine::fixed_line))]
+pub fn read_fixed_line(line: &[u8], least: u64) -> Result<FixedLine, SetupError>
+    ensures value { result ≡ fixed_line least line.now }
+    ensures ranges { IfOk result (IsFixedLine least) }
+{
+    let end = first_end(line);
+    if &line[..end] == b"fixed".as_slice() {
+        read_least(line, end, least)
+    } else {
+        Err(SetupError::BadWord)
+    }
+}
 
 /// What follows the word `fixed`.
 fn read_fixed(line: &[u8], at: usize) -> Result<SetupLine, SetupError>

@@ -3,7 +3,7 @@ ghost use Rattle.std.specs.Prelude.{◌≡◌, ℕ, ◌+◌, ◌≤◌, ◌++◌
 ghost use Rattle.kn_event.specs.Ranges.{AreSlots};
 ghost use Rattle.kn_config.specs.Config.{IsConfig};
 ghost use Rattle.kn_event.specs.FixedSpec.{fixed_spec};
-ghost use Rattle.kn_journal.specs.Journal.{IsSetup, opening_part};
+ghost use Rattle.kn_journal.specs.Journal.{IsSetup, opening_part, version_most};
 ghost use Rattle.kn_journal.specs.Setup.{IsBlockText, ReadsBack, behind_line, block_part, blocks_part, blocks_text, revision_part, setup_of, setup_part, word_in, word_part};
 ghost use Rattle.kn_journal.specs.Lines.{ends_with_cr};
 ghost use Rattle.kn_journal.specs.SetupLine.{IsSetupLine};
@@ -338,7 +338,7 @@ pub fn read_opening<S: Source>(
     ensures rest { IfErr result (λ e. IsLineFault e → LeavesRest (opening_part first lines.old.number) lines.old.number (Some (lines.old.number + 1)) e (unread lines.old.input (S.left source.old)) (unread lines.new.input (S.left source.new))) }
     ensures source { Draws (StopsAmid (opening_part first lines.old.number)) (error_in result) lines.old.input lines.new.input S.Source.own S.Faulty source.old source.new }
     ensures least { IfOk result (λ opening. 1 ≤ opening.version) }
-    ensures most { IfOk result (λ opening. opening.version ≤ 2) }
+    ensures most { IfOk result (λ opening. opening.version ≤ version_most first) }
 {
     let version = match lines.first(source, first) {
         Ok(version) => version,

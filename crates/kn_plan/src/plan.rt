@@ -13,6 +13,7 @@ use std::alloc::Global;
 pub type Hosts = Items<Text>;
 
 /// What is to be served. Addresses are spelled `HOST:PORT`.
+#[derive(Drop)]
 pub struct Plan {
     pub listen: Text,
     /// 1 to 500.
@@ -23,18 +24,6 @@ pub struct Plan {
     pub rounds: u64,
     /// How many events and live requests the history has room for: 1 to 1,000,000.
     pub room: u64,
-}
-
-impl Drop for Plan {
-    fn drop(self) {
-        let Plan {
-            listen: _,
-            pods: _,
-            slots: _,
-            rounds: _,
-            room: _,
-        } = self;
-    }
 }
 
 /// The address that is given.

@@ -27,7 +27,7 @@ use Rattle.kn_journal.specs.Telling.{Gives, IsLineFault, LeavesRest, Refuses, Ta
 use Rattle.kn_journal.specs.Texts.{TextLaws}
 use Rattle.kn_replay.specs.Cutting.{AreBegun, CutsIn, FollowsCut, HasNoLine, IsCut, StopsSoon}
 use Rattle.kn_replay.specs.Replaying.{IsOver, Opened, Opens, Stops}
-use Rattle.kn_replay.specs.Waiting.{Adds}
+use Rattle.kn_report.specs.Waiting.{Adds}
 use Rattle.kn_replay.proofs.Behind.{AreOpenings, AreStarts, lines_read}
 use Rattle.kn_replay.proofs.Faults.{HasRead, is_over, over_of}
 use Rattle.kn_replay.proofs.Lines.{end_after, next_event, next_last, no_line, with_events}

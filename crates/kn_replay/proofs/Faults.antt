@@ -25,7 +25,7 @@ use Rattle.kn_journal.specs.Telling.{Gives, Refuses, StopsAmid, TakesEnd}
 use Rattle.kn_journal.specs.Texts.{TextLaws}
 use Rattle.kn_replay.specs.Replaying.{BreaksAmid, BreaksBefore, BreaksBeyond, BreaksFollowing, BreaksIn, Follows, IsFollowed, IsOver, Opened, Opens, Replays, Stops, Writes, refusal_of, rest_of_report, status_by, status_of}
 use Rattle.kn_replay.specs.Report.{journal_rows, report_of}
-use Rattle.kn_replay.specs.Waiting.{Adds}
+use Rattle.kn_report.specs.Waiting.{Adds}
 use Rattle.kn_replay.proofs.Behind.{AreOpenings, AreStarts, lines_read, lines_unopened, lines_unstarted}
 use Rattle.kn_replay.proofs.Lines.{end_line, no_line, with_events}
 use Rattle.kn_replay.proofs.Replays.{GoesOn, Reads, cut, goes_refused, journal_rows-is, none_more, opened_verdict, reads_all, report_is, status_is, verdict_unopened, verdict_unstarted, writes_after}

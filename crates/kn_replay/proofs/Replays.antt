@@ -30,7 +30,7 @@ use Rattle.kn_journal.specs.Reading.{Ahead, IsSpent, most_taken}
 use Rattle.kn_journal.specs.Telling.{Gives}
 use Rattle.kn_replay.specs.Replaying.{BreaksFollowing, EndsThere, Follows, IsFollowed, IsReplayed, Opened, Opens, Replays, Stops, Writes, ending, refusal_of, rest_of_report, status_by, status_of}
 use Rattle.kn_replay.specs.Report.{journal_last_line, journal_rows, report_of}
-use Rattle.kn_replay.specs.Waiting.{Adds}
+use Rattle.kn_report.specs.Waiting.{Adds}
 use Rattle.kn_replay.proofs.Lines.{IsEventLine, next_end, next_event, next_none, next_refused, no_byte, with_events, with_events-more}
 use Rattle.kn_replay.proofs.Pieces.{prefix_after, prefix_more, rows_text-append}
 use Rattle.kn_replay.proofs.Waits.{adds_all, adds_some}

@@ -13,9 +13,10 @@ abbrev pub generate_of : Option ℕ → Option ℕ → Option Command
 generate_of (Some seed) (Some count) = if is_count count then Some (command.Generate seed count) else None
 generate_of _ _ = None
 
--- the one word `replay` or `simulate`; or `generate`, a seed and a count, both spelled as numbers of a journal
+-- the one word `replay`, `simulate` or `slices`; or `generate`, a seed and a count, both spelled as numbers of a journal
 unfoldable pub command_of : List (List ℕ) → Option Command
 command_of (word ∷ []) =
-    if bytes_eq word (codes "replay") then Some command.Replay else (if bytes_eq word (codes "simulate") then Some command.Simulate else None)
+    if bytes_eq word (codes "replay") then Some command.Replay else (if bytes_eq word (codes "simulate") then Some command.Simulate
+    else (if bytes_eq word (codes "slices") then Some command.Slices else None))
 command_of (word ∷ seed ∷ count ∷ []) = if bytes_eq word (codes "generate") then generate_of (number_of seed) (number_of count) else None
 command_of _ = None

@@ -23,7 +23,7 @@ use Rattle.kn_journal.specs.Parts.{part}
 use Rattle.kn_journal.specs.Reading.{AreWhole, EndsWithLf, TakesPart, most_taken}
 use Rattle.kn_journal.specs.Telling.{IsLineFault, refused_line}
 use Rattle.kn_replay.specs.Report.{journal_rows, report_of}
-use Rattle.kn_replay.specs.Tally.{Counted}
+use Rattle.kn_report.specs.Tally.{Counted}
 
 -- ---- how a replay ends
 

@@ -61,6 +61,7 @@ at_line number what = codes "line " ++ (decimal number ++ (codes ": " ++ what))
 abbrev pub first_line_text : FirstLine → List ℕ
 first_line_text first.Journal = codes "line 1: not a kact journal 1 or 2"
 first_line_text first.Workload = codes "line 1: not a kact workload 1"
+first_line_text first.Slices = codes "line 1: not a kact slices N"
 
 unfoldable pub error_text : JournalError → List ℕ
 error_text error.ReadFault = codes "read failed"
@@ -81,7 +82,7 @@ told what = codes "kact: " ++ (what ++ codes "\n")
 -- what is told of a status
 unfoldable pub status_text : Status → List ℕ
 status_text status.Ok = []
-status_text status.Usage = codes "usage: kact replay | kact generate SEED COUNT | kact simulate\n"
+status_text status.Usage = codes "usage: kact replay | kact generate SEED COUNT | kact simulate | kact slices\n"
 status_text (status.BadInput e) = told (error_text e)
 status_text (status.BadSetup e) = told (error_text e)
 status_text status.ReadFault = codes "kact: read failed\n"

@@ -1,4 +1,4 @@
-//! The commands of `kact`: it replays a journal, generates one, or writes the one of a workload's schedule.
+//! The commands of `kact`: it replays a journal, generates one, writes the one of a workload's schedule, or replays several activators.
 ghost use Rattle.std.specs.Prelude.{◌≡◌, ◌⊎◌, ◌↔◌, ◌+◌, ◌-◌, ◌≤◌, ℕ, None, Some, map, string_bytes, take};
 ghost use Rattle.kn_event.specs.Numbers.{number_of};
 ghost use Rattle.kn_io.specs.Causes.{Rose};
@@ -14,12 +14,14 @@ ghost use Rattle.kn_replay.specs.Replaying.{EndsThere, IsRefusal, IsReplayed, Le
 ghost use Rattle.kn_replay.specs.Texts.{status_text};
 ghost use Rattle.kn_replay.specs.Commands.{command_of, generate_of};
 ghost use Rattle.kn_replay.specs.Generating.{Generates};
+ghost use Rattle.kn_replay.specs.Grouped.{ReplaysGroup};
 ghost use Rattle.kn_replay.specs.Simulating.{Simulates, WritesNone};
 
 use crate::generate::generate;
+use crate::journal::replay_journal;
 use crate::lawful::journal_laws;
-use crate::replay::replay_journal;
 use crate::simulate::simulate_input;
+use crate::slices::replay_group;
 use crate::texts::put_status;
 use kn_event::{Line, read_number};
 use kn_io::{Sink, Source, put_all};
@@ -34,6 +36,8 @@ enum Command {
     Generate(u64, u64),
     /// A workload's schedule is written as a journal.
     Simulate,
+    /// An input of several activators is replayed.
+    Slices,
 }
 
 /// The seed and the count of `generate`.
@@ -61,6 +65,8 @@ fn command_of(words: &[String]) -> Option<Command>
             Some(Command::Replay)
         } else if word.as_str() == "simulate" {
             Some(Command::Simulate)
+        } else if word.as_str() == "slices" {
+            Some(Command::Slices)
         } else {
             None
         },
@@ -93,6 +99,8 @@ pub fn tell<E: Sink>(status: Status, err: &mut E) -> Status
 ///
 /// `simulate` reads a workload to its end, and then writes the journal of its schedule, which reads as that journal. Nothing is
 /// written of a workload that is refused, and some first bytes of the journal where writing failed.
+///
+/// `slices` reads what happens to several activators that share a revision's pods, and writes the rows of each, behind its number.
 #[tactic(none)]
 pub fn run<S: Source, O: Sink, E: Sink>(
     alloc: Global,
@@ -123,6 +131,9 @@ pub fn run<S: Source, O: Sink, E: Sink>(
     ensures simulates { command_of (map string_bytes words.now) ≡ Some Command.Simulate → Simulates (S.left input.old) (O.held out.old) (O.held out.new) result }
     ensures unsaid { command_of (map string_bytes words.now) ≡ Some Command.Simulate → WritesNone result → out.new ≡ out.old }
 
+    // The rows of activators that share pods, and the first refused line with its cause.
+    ensures slices { command_of (map string_bytes words.now) ≡ Some Command.Slices → ReplaysGroup (S.left input.old) (O.held out.old) (O.held out.new) result }
+
     // A fault comes only where its count rose, or 2^56 bytes were read.
     ensures read_fault { result ≡ Status.ReadFault → Rose (S.Faulty.faults input.old) (S.Faulty.faults input.new) ⊎ (S.given input.old + most_taken ≤ S.given input.new) }
     ensures write_fault { result ≡ Status.WriteFault → Rose (O.Faulty.faults out.old) (O.Faulty.faults out.new) }
@@ -143,5 +154,6 @@ pub fn run<S: Source, O: Sink, E: Sink>(
         Some(Command::Replay) => tell(replay_journal(alloc, input, out), err),
         Some(Command::Generate(seed, count)) => tell(generate(alloc, seed, count, out), err),
         Some(Command::Simulate) => tell(simulate_input(alloc, input, out), err),
+        Some(Command::Slices) => tell(replay_group(alloc, input, out), err),
     }
 }

@@ -2,17 +2,13 @@
 #![tactic(auto)]
 
 mod command;
-mod decision;
-mod digits;
 mod generate;
+mod journal;
 mod lawful;
 mod replay;
-mod report;
-mod rows;
 mod simulate;
-mod stamp;
+mod slices;
 mod texts;
-mod waiting;
 
 pub use command::{run, tell};
 pub use kn_journal::{FirstLine, JournalError, SetupError, Status};

@@ -150,6 +150,7 @@ fn put_first_line(due: FirstLine, line: &mut Line)
     match due {
         FirstLine::Journal => line.put(b"line 1: not a kact journal 1 or 2"),
         FirstLine::Workload => line.put(b"line 1: not a kact workload 1"),
+        FirstLine::Slices => line.put(b"line 1: not a kact slices N"),
     }
 }
 
@@ -214,7 +215,7 @@ pub fn put_status(status: &Status, line: &mut Line)
     line.clear();
     match *status {
         Status::Usage => line.put(
-            b"usage: kact replay | kact generate SEED COUNT | kact simulate\n",
+            b"usage: kact replay | kact generate SEED COUNT | kact simulate | kact slices\n",
         ),
         Status::BadInput(error) => put_told(&error, line),
         Status::BadSetup(error) => put_told(&error, line),

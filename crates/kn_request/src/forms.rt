@@ -7,6 +7,7 @@ use kn_head::{Answer, Head, answer_bytes, forward_bytes};
 use std::alloc::Global;
 
 /// All that may be sent on of a request or answered to its arrival.
+#[derive(Drop)]
 pub struct Forms {
     /// The request as it is sent on where it went through the activator, and where it didn't.
     pub proxied: Text,
@@ -16,20 +17,6 @@ pub struct Forms {
     pub expired: Text,
     pub link_failed: Text,
     pub history_full: Text,
-}
-
-impl Drop for Forms {
-    fn drop(self) {
-        let Forms {
-            proxied: _,
-            direct: _,
-            queue_full: _,
-            overload: _,
-            expired: _,
-            link_failed: _,
-            history_full: _,
-        } = self;
-    }
 }
 
 impl Forms {

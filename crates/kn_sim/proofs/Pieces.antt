@@ -1,5 +1,5 @@
 -- What is written piece by piece.
-use Rattle.std.proofs.Common.{◌≡◌, ◌≤◌, ◌+◌, ℕ, List, [], ◌∷◌, ◌++◌, length, length-append, take, append_assoc, append-nil, refl, sym, ap, ◌∙◌, subst, arith}
+use Rattle.std.proofs.Common.{◌≡◌, ◌≤◌, ◌+◌, ℕ, List, [], ◌∷◌, ◌++◌, length, length-append, take, append_assoc, refl, sym, ap, ◌∙◌, arith}
 use Rattle.std.specs.Prelude.{Option, Result, Ok, Err, OnOk, OnErr, codes}
 use Rattle.std.specs.Fmt.{decimal}
 use Rattle.std.specs.Io.KnownBytes.{Appends}
@@ -20,12 +20,6 @@ first_of_more n x y rest h = take-append-add x (y ++ rest) n ∙ ap (λ (z : Lis
 pub prefix_after : (a b c : Option (List ℕ)) (x y rest : List ℕ) → Appends a b x → AppendsPrefix b c y → AppendsPrefix a c (x ++ (y ++ rest))
 prefix_after a b c x y rest h (n, few, k) =
     (length x + n, simp (length-append) (omega (arith, few)), rw (first_of_more n x y rest few) (Appends-trans a b c x (take n y) h k))
-
--- .. where nothing follows
-pub prefix_last : (a b c : Option (List ℕ)) (x y : List ℕ) → Appends a b x → AppendsPrefix b c y → AppendsPrefix a c (x ++ y)
-prefix_last a b c x y h k =
-    let P : List ℕ → Type 0 = λ z. AppendsPrefix a c (x ++ z) in
-    subst P (append-nil y) (prefix_after a b c x y [] h k)
 
 -- some of a piece is some of it and of what follows
 pub prefix_more : (a b : Option (List ℕ)) (x rest : List ℕ) → AppendsPrefix a b x → AppendsPrefix a b (x ++ rest)

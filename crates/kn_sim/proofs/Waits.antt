@@ -4,7 +4,7 @@ use Rattle.std.specs.Prelude.{Option}
 use Rattle.std.specs.Io.KnownBytes.{Appends}
 use Rattle.std.proofs.KnownBytes.{Appends-nil, Appends-trans}
 use Rattle.kn_io.specs.Prefix.{AppendsPrefix}
-use Rattle.kn_sim.specs.Waiting.{Adds}
+use Rattle.kn_report.specs.Waiting.{Adds}
 use Rattle.kn_sim.proofs.Pieces.{prefix_after, prefix_more}
 
 pub adds_nothing : (a : Option (List ℕ)) (p : List ℕ) → Adds a a p p []
@@ -15,16 +15,6 @@ adds_trans a b d p q r x y h k = record {
   written = h.written ++ k.written;
   held = Appends-trans a b d h.written k.written h.held k.held;
   all = sym (append_assoc p x y) ∙ ap (λ (z : List ℕ). z ++ y) h.all ∙ append_assoc h.written q y ∙ ap (λ (z : List ℕ). h.written ++ z) k.all ∙ sym (append_assoc h.written k.written r);
-}
-
--- all is written, and then a text
-pub adds_past : (a b d : Option (List ℕ)) (p q x : List ℕ) → Adds a b p q [] → q ≡ [] → Appends b d x → Adds a d p q x
-adds_past a b d p q x h e k = record {
-  written = h.written ++ x;
-  held = Appends-trans a b d h.written x h.held k;
-  all =
-      let waited : p ≡ h.written = sym (append-nil p) ∙ h.all ∙ ap (λ (z : List ℕ). h.written ++ z) e ∙ append-nil h.written in
-      ap (λ (z : List ℕ). z ++ x) waited ∙ sym (append-nil (h.written ++ x)) ∙ ap (λ (z : List ℕ). (h.written ++ x) ++ z) (sym e);
 }
 
 -- nothing waits any more
@@ -51,10 +41,6 @@ pub adds_stop : (a b d : Option (List ℕ)) (p q x : List ℕ) → Adds a b p q 
 adds_stop a b d p q x h k =
     let more : AppendsPrefix b d (q ++ []) = subst (AppendsPrefix b d) (sym (append-nil q)) k in
     subst (λ (z : List ℕ). AppendsPrefix a d (p ++ z)) (append-nil x) (adds_last a b d p q x [] h more)
-
--- all is written, and some of a text behind it
-pub adds_cut : (a b d : Option (List ℕ)) (p q y : List ℕ) → Adds a b p q [] → q ≡ [] → AppendsPrefix b d y → AppendsPrefix a d (p ++ y)
-adds_cut a b d p q y h e k = adds_last a b d p q [] y h (subst (λ (z : List ℕ). AppendsPrefix b d (z ++ y)) (sym e) k)
 
 -- some of what waits and of a text is some of them and of what follows
 pub waits_more : (a b : Option (List ℕ)) (p x rest : List ℕ) → AppendsPrefix a b (p ++ x) → AppendsPrefix a b (p ++ (x ++ rest))

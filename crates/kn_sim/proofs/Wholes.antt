@@ -8,9 +8,9 @@ use Rattle.kn_journal.specs.Journal.{AreEvents, IsJournal, events_text, journal_
 use Rattle.kn_agenda.specs.Due.{IsSchedule}
 use Rattle.kn_agenda.specs.Schedule.{ScheduleState}
 use Rattle.kn_agenda.specs.Workload as plain
+use Rattle.kn_report.specs.Waiting.{Adds}
 use Rattle.kn_sim.specs.declared.workload.Workload.{Workload}
 use Rattle.kn_sim.specs.Simulated.{IsBegun, IsWorkload, IsWritten, WritesAll, WritesSome, opening_text, plain_of, simulated}
-use Rattle.kn_sim.specs.Waiting.{Adds}
 use Rattle.kn_sim.proofs.Pieces.{before_end, whole-text}
 use Rattle.kn_sim.proofs.Waits.{adds_done, adds_last, adds_some, adds_stop, adds_trans, waits_more}
 

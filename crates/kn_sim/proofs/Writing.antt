@@ -7,9 +7,9 @@ use Rattle.kn_io.specs.Prefix.{AppendsPrefix}
 use Rattle.kn_journal.specs.Journal.{AreEvents, events_text, time_most}
 use Rattle.kn_agenda.specs.Due.{AreNext, IsFront, IsOver, IsSchedule}
 use Rattle.kn_agenda.specs.Schedule.{Made, ScheduleState}
+use Rattle.kn_report.specs.Waiting.{Adds}
 use Rattle.kn_sim.specs.Going.{GoesOn, last_time}
 use Rattle.kn_sim.specs.Simulated.{WritesAll, WritesSome}
-use Rattle.kn_sim.specs.Waiting.{Adds}
 use Rattle.kn_sim.proofs.Pieces.{events-around, events-more}
 use Rattle.kn_sim.proofs.Waits.{adds_nothing, adds_some, adds_trans}
 

@@ -3,7 +3,7 @@ use Rattle.std.specs.Prelude.{◌≡◌, ℕ, ◌++◌, List, [], ◌∷◌, Opt
 use Rattle.kn_event.specs.declared.event.Event.{Event}
 use Rattle.kn_journal.specs.Journal.{AreEvents, events_text}
 use Rattle.kn_agenda.specs.Schedule.{Made, ScheduleState}
-use Rattle.kn_sim.specs.Waiting.{Adds}
+use Rattle.kn_report.specs.Waiting.{Adds}
 
 -- the time of the last event, or this one where there is none
 abbrev pub last_time : ℕ → List Event → ℕ

@@ -1,4 +1,3 @@
 pub mod Going
 pub mod Reading
 pub mod Simulated
-pub mod Waiting

@@ -9,8 +9,8 @@ use Rattle.kn_journal.specs.Journal.{AreEvents, IsJournal, IsSetup, events_text,
 use Rattle.kn_agenda.specs.Workload as plain
 use Rattle.kn_agenda.specs.Due.{IsSchedule}
 use Rattle.kn_agenda.specs.Schedule.{Made, ScheduleState}
+use Rattle.kn_report.specs.Waiting.{Adds}
 use Rattle.kn_sim.specs.declared.workload.Workload.{Workload}
-use Rattle.kn_sim.specs.Waiting.{Adds}
 
 -- what its schedule depends on
 abbrev pub plain_of : Workload → plain.Workload

@@ -4,7 +4,6 @@
 mod line;
 mod print;
 mod read;
-mod waiting;
 mod workload;
 
 pub use kn_agenda::Job;

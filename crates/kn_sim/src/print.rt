@@ -5,14 +5,14 @@ ghost use Rattle.kn_io.specs.Causes.{HasCause, Rose};
 ghost use Rattle.kn_io.specs.Prefix.{AppendsPrefix};
 ghost use Rattle.kn_journal.specs.Journal.{time_most};
 ghost use Rattle.kn_agenda.specs.Schedule.{Made};
+ghost use Rattle.kn_report.specs.Waiting.{Adds};
 ghost use Rattle.kn_sim.specs.Simulated.{IsBegun, IsWorkload, IsWritten, TakesAll, TakesSome, opening_text, plain_of};
-ghost use Rattle.kn_sim.specs.Waiting.{Adds};
 
-use crate::waiting::Waiting;
 use crate::workload::Workload;
 use kn_agenda::{Schedule, WorkloadView, schedule_laws};
 use kn_event::{Line, Memory, event_line};
 use kn_io::{Failed, Sink};
+use kn_report::Waiting;
 use std::alloc::Global;
 
 /// Why a journal was not written whole.

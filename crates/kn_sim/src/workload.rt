@@ -7,22 +7,11 @@ pub type Jobs = Items<Job>;
 
 /// A load on a revision: what it starts from, how long a pod takes to become ready (at most 600,000), up to when events are
 /// made, and the requests to come. Times are in milliseconds.
+#[derive(Drop)]
 pub struct Workload {
     pub setup: Setup,
     pub start: u64,
     pub boot: u64,
     pub until: u64,
     pub jobs: Jobs,
-}
-
-impl Drop for Workload {
-    fn drop(self) {
-        let Workload {
-            setup: _,
-            start: _,
-            boot: _,
-            until: _,
-            jobs: _,
-        } = self;
-    }
 }

@@ -97,8 +97,9 @@ module _ (n limit pods timeout_s : ℕ) (slots : Slots) (start : ℕ) (parts : L
   equal_slice : (p k : ℕ) (a : RevisionState) (w m : ℕ) → p < pods → k < length parts → w ≡ limit → m ≡ n → differs (limit_at p (get_or parts k a)) w k m ≡ false
   equal_slice p k a w m there low e f = ap not (eq-eqb (limit_at p (get_or parts k a)) (slice_of w k m) (fresh_limit p k a there low ∙ (ap (λ w. slice_of w k n) (sym e) ∙ ap (slice_of w k) (sym f))))
 
-  pub kept : 1 ≤ n → n ≤ 16 → n ≤ limit → limit ≤ 1000 → pods ≤ 500 → IsKept limit start parts (replicate pods limit) (replicate pods limit) (replicate pods 0)
-  kept some few least most many =
+  pub kept : (room : ℕ) → 1 ≤ n → n ≤ 16 → n ≤ limit → limit ≤ 1000 → pods ≤ 500 → pods ≤ room
+      → IsKept limit start parts (replicate pods limit) (replicate pods limit) (replicate pods 0) [] room
+  kept room some few least most many roomy =
       let len = length-replicate pods limit in
       record {
         group = record {
@@ -128,6 +129,11 @@ module _ (n limit pods timeout_s : ℕ) (slots : Slots) (start : ℕ) (parts : L
           slices = λ k d low. let x = fresh.each k d (inside k low) in ap (λ (s : Spec). s.cc) x.spec ∙ (fixed_cc (slice_of limit k n) pods timeout_s slots ∙ ap (slice_of limit k) (sym fresh.count));
           starts = λ k d low. let x = fresh.each k d (inside k low) in x.start;
         };
+        kept = record {
+          listed = record { inside = λ k low. absurd (omega (arith, low)); order = λ i j less low. absurd (omega (arith, low)) };
+          others = λ p low off. (get_or-replicate pods p 0 0 (omega (arith, low, len)), refl);
+        };
+        roomy = omega (arith, len, roomy);
       }
 
   pub fresh_unset : (j : ℕ) (d : RevisionState) → j < n → unset limit_at (length parts) j (replicate pods limit) (get_or parts j d) ≡ 0

@@ -9,3 +9,5 @@ mod Steps
 mod Taken
 mod Forces
 mod Begin
+mod Calm
+mod Listed

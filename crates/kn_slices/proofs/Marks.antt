@@ -1,5 +1,6 @@
 -- How many limits aren't what they are to become: over lists that are alike, over such that differ at one place, and where there is none.
 use Rattle.std.proofs.Common.{◌≡◌, ◌<◌, ℕ, zero, suc, ◌+◌, Bool, true, false, not, nat_lt, nat_le, ◌&&◌, max, List, [], ◌∷◌, length, get_or, refl, ap, ◌∙◌, sym, subst, arith, None}
+use Rattle.std.specs.Prelude.{Option}
 use Rattle.std.specs.Prelude.{◌==◌, ◌-◌, if◌then◌else◌}
 use Rattle.std.proofs.lemmas.Bool.{eqb-true}
 use Rattle.kn_slices.specs.Slices.{change, change_where, count_from, cut_at, first_from, or_else, raise_at, slice_of}
@@ -82,3 +83,51 @@ module _ {A : Type 0} (limit : A → ℕ) (n wanted p : ℕ) where
           ap (λ b. or_else (change_where (b && nat_le (held - max (limit a) (running a) + max (slice_of wanted i n) (running a)) wanted) (change i p (slice_of wanted i n)))
           (first_from (raise_at limit running held n wanted p) (i + 1) rest)) none ∙ next (omega (arith, e))
       by false t e next = absurd (omega (arith, e))
+
+-- ---- where each limit is its slice, by the limits themselves
+
+module _ {A : Type 0} (limit : A → ℕ) (n wanted p : ℕ) where
+  -- each member's limit, from place i on, is its slice
+  abbrev pub Sliced : ℕ → List A → Type 0
+  Sliced i parts = (k : ℕ) (d : A) → k < length parts → limit (get_or parts k d) ≡ slice_of wanted (i + k) n
+
+  sliced_first : (i : ℕ) (a : A) (rest : List A) → Sliced i (a ∷ rest) → limit a ≡ slice_of wanted i n
+  sliced_first i a rest all = subst (λ k. limit a ≡ slice_of wanted k n) (omega arith) (all 0 a (omega arith))
+
+  sliced_rest : (i : ℕ) (a : A) (rest : List A) → Sliced i (a ∷ rest) → Sliced (i + 1) rest
+  sliced_rest i a rest all k d low = subst (λ m. limit (get_or rest k d) ≡ slice_of wanted m n) (omega arith) (all (suc k) d (omega (arith, low)))
+
+  pub all_sliced : (i : ℕ) (parts : List A) → count_from (λ i a. not (limit a == slice_of wanted i n)) i parts ≡ 0 → Sliced i parts
+  all_sliced i [] e = λ k d low. absurd (omega (arith, low))
+  all_sliced i (a ∷ rest) e = by (limit a == slice_of wanted i n) refl e (all_sliced (i + 1) rest)
+    where
+      by : (b : Bool) → (limit a == slice_of wanted i n) ≡ b → bit (not b) + count_from (λ i a. not (limit a == slice_of wanted i n)) (i + 1) rest ≡ 0
+          → (count_from (λ i a. not (limit a == slice_of wanted i n)) (i + 1) rest ≡ 0 → Sliced (i + 1) rest) → Sliced i (a ∷ rest)
+      by true t e next = both
+        where
+          both : Sliced i (a ∷ rest)
+          both zero d low = subst (λ m. limit a ≡ slice_of wanted m n) (omega arith) (eqb-true (limit a) (slice_of wanted i n) t)
+          both (suc k) d low = subst (λ m. limit (get_or rest k d) ≡ slice_of wanted m n) (omega arith) (next (omega (arith, e)) k d (omega (arith, low)))
+      by false t e next = absurd (omega (arith, e))
+
+  pub sliced_no_cut : (i : ℕ) (parts : List A) → Sliced i parts → first_from (cut_at limit n wanted p) i parts ≡ None
+  sliced_no_cut i [] all = refl
+  sliced_no_cut i (a ∷ rest) all =
+      let none = not_below (slice_of wanted i n) (limit a) (sym (sliced_first i a rest all)) in
+      ap (λ b. or_else (change_where b (change i p (slice_of wanted i n))) (first_from (cut_at limit n wanted p) (i + 1) rest)) none
+      ∙ sliced_no_cut (i + 1) rest (sliced_rest i a rest all)
+
+  pub sliced_no_raise : (running : A → ℕ) (held i : ℕ) (parts : List A) → Sliced i parts → first_from (raise_at limit running held n wanted p) i parts ≡ None
+  sliced_no_raise running held i [] all = refl
+  sliced_no_raise running held i (a ∷ rest) all =
+      let none = not_below (limit a) (slice_of wanted i n) (sliced_first i a rest all) in
+      ap (λ b. or_else (change_where (b && nat_le (held - max (limit a) (running a) + max (slice_of wanted i n) (running a)) wanted) (change i p (slice_of wanted i n)))
+      (first_from (raise_at limit running held n wanted p) (i + 1) rest)) none ∙ sliced_no_raise running held (i + 1) rest (sliced_rest i a rest all)
+
+-- a test that has no answer anywhere
+pub none_from : {A X : Type 0} (test : ℕ → A → Option X) (i : ℕ) (xs : List A) → ((k : ℕ) (d : A) → k < length xs → test (i + k) (get_or xs k d) ≡ None) → first_from test i xs ≡ None
+none_from test i [] h = refl
+none_from test i (x ∷ xs) h =
+    let here : test i x ≡ None = subst (λ k. test k x ≡ None) (omega arith) (h 0 x (omega arith)) in
+    ap (λ o. or_else o (first_from test (i + 1) xs)) here
+    ∙ none_from test (i + 1) xs (λ k d low. subst (λ m. test m (get_or xs k d) ≡ None) (omega arith) (h (suc k) d (omega (arith, low))))

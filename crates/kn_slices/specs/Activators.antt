@@ -54,6 +54,10 @@ pub record IsGroupOf (parts : List RevisionState) (wanted force : List ℕ) : Ty
   pub group : IsGroup limit_at running_at parts wanted force
   pub activators : EachIs (IsActivator (length wanted)) parts
 
+-- each activator's limit is its slice
+abbrev pub AreSliced : List RevisionState → List ℕ → Type 0
+AreSliced parts wanted = (p i : ℕ) (d : RevisionState) → p < length wanted → i < length parts → limit_at p (slice_index_or parts i d) ≡ slice_of (slice_index_or wanted p 0) i (length parts)
+
 -- what is kept beside them: of each pod for how many activators its limit isn't their slice
 pub record AreMarked (parts : List RevisionState) (wanted marks : List ℕ) : Type 0 where
   pub many : length marks ≡ length wanted
@@ -94,11 +98,43 @@ pub record AreOpened (limit start : ℕ) (parts : List RevisionState) : Type 0 w
   pub slices : (i : ℕ) (d : RevisionState) → i < length parts → (slice_index_or parts i d).spec.cc ≡ slice_of limit i (length parts)
   pub starts : (i : ℕ) (d : RevisionState) → i < length parts → (slice_index_or parts i d).start ≡ start
 
+-- no place of the list has the pod
+abbrev pub IsOff : ℕ → List ℕ → Type 0
+IsOff p ps = (k : ℕ) → k < length ps → slice_index_or ps k 0 ≡ p → ⊥
+
+-- each is above those before it
+abbrev pub Ascends : List ℕ → Type 0
+Ascends ps = (i j : ℕ) → i < j → j < length ps → slice_index_or ps i 0 < slice_index_or ps j 0
+
+-- some of so many pods, in order
+pub record AreListed (pods : ℕ) (ps : List ℕ) : Type 0 where
+  pub inside : (k : ℕ) → k < length ps → slice_index_or ps k 0 < pods
+  pub order : Ascends ps
+
+-- of each pod that isn't listed the wanted limit is in force
+abbrev pub AreInForce : List ℕ → List ℕ → List ℕ → Type 0
+AreInForce wanted force ps = (p : ℕ) → p < length wanted → IsOff p ps → slice_index_or force p 0 ≡ slice_index_or wanted p 0
+
+-- of a pod: no activator's limit isn't its slice, by the marks, and the wanted limit is in force
+abbrev pub IsClosed : List ℕ → List ℕ → List ℕ → ℕ → Type 0
+IsClosed wanted force marks p = (slice_index_or marks p 0 ≡ 0) × (slice_index_or force p 0 ≡ slice_index_or wanted p 0)
+
+-- so it is of each that is listed
+abbrev pub AreClosed : List ℕ → List ℕ → List ℕ → List ℕ → Type 0
+AreClosed wanted force marks ps = (k : ℕ) → k < length ps → IsClosed wanted force marks (slice_index_or ps k 0)
+
+-- a list of the pods that may be open: each other pod is closed
+pub record AreOpen (wanted force marks ps : List ℕ) : Type 0 where
+  pub listed : AreListed (length wanted) ps
+  pub others : (p : ℕ) → p < length wanted → IsOff p ps → IsClosed wanted force marks p
+
 -- what is kept of a group
-pub record IsKept (limit start : ℕ) (parts : List RevisionState) (wanted force marks : List ℕ) : Type 0 where
+pub record IsKept (limit start : ℕ) (parts : List RevisionState) (wanted force marks ps : List ℕ) (room : ℕ) : Type 0 where
   pub group : IsGroupOf parts wanted force
   pub marked : AreMarked parts wanted marks
   pub opened : AreOpened limit start parts
+  pub kept : AreOpen wanted force marks ps
+  pub roomy : length wanted ≤ room
 
 -- an activator whose pods have this specification's limit, and at which nobody runs
 pub record IsOpen (s : Spec) (pods : ℕ) (x : RevisionState) : Type 0 where

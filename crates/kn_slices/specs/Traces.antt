@@ -1,5 +1,5 @@
 -- What contracts see of a group, and its rules in the words of its activators' traces.
-use Rattle.std.specs.Prelude.{◌≡◌, ℕ, ◌+◌, ◌<◌, ◌≤◌, List, [], ◌++◌, map, length, Option, slice_index_or, slice_set}
+use Rattle.std.specs.Prelude.{◌≡◌, ℕ, ◌+◌, ◌<◌, ◌≤◌, List, [], ◌++◌, map, length, Option, None, slice_index_or, slice_set}
 use Rattle.kn_event.specs.declared.entry.Entry.{Entry}
 use Rattle.kn_event.specs.declared.event.Act.TheVariants as act
 use Rattle.kn_event.specs.declared.event.Event.{Event}
@@ -9,7 +9,7 @@ use Rattle.kn_trace.specs.Laws.{IsInert, IsLawful, IsSettled}
 use Rattle.kn_trace.specs.Trace.{Trace, limit_of}
 use Rattle.kn_trace.specs.Trace as trace
 use Rattle.kn_core.specs.State.{RevisionState, StandsFor}
-use Rattle.kn_slices.specs.Activators.{limit_at, running_at}
+use Rattle.kn_slices.specs.Activators.{AreSliced, limit_at, running_at}
 use Rattle.kn_slices.specs.declared.change.Change.{Change}
 use Rattle.kn_slices.specs.Slices.{due_change, hold, runs, unset}
 
@@ -86,6 +86,12 @@ AreSafe g = (cs : List Trace) (p : ℕ) → AreTraces g.parts cs → p < length 
 abbrev pub AreLawful : GroupState → Type 0
 AreLawful g = (cs : List Trace) (i : ℕ) (d : RevisionState) → AreTraces g.parts cs → i < length g.parts
     → IsLawful (part_at g i d).spec (trace_at cs i) × IsSettled (part_at g i d).spec (trace_at cs i) × ((e : Event) → IsInert (part_at g i d).spec (trace_at cs i) e)
+
+-- no limit is still to change: each activator's limit is its slice, the wanted limits are in force, and no change is due
+pub record IsCalm (g : GroupState) : Type 0 where
+  pub slices : AreSliced g.parts g.wanted
+  pub force : g.force ≡ g.wanted
+  pub none : (cs : List Trace) → AreTraces g.parts cs → due_change limit_by running_by (length cs) cs g.wanted ≡ None
 
 -- ---- how many changes are left
 

@@ -1,16 +1,17 @@
 //! A group of activators.
-ghost use Rattle.std.specs.Prelude.{◌≡◌, ◌<◌, ◌≤◌, ℕ, List, IfSome, length, slice_index_or};
+ghost use Rattle.std.specs.Prelude.{◌≡◌, ◌<◌, ◌≤◌, ℕ, List, IfSome, length, slice_index_or, true};
 ghost use Rattle.kn_trace.specs.Trace.{Trace};
 ghost use Rattle.kn_core.specs.State.{RevisionState};
-ghost use Rattle.kn_slices.specs.Activators.{running_at};
+ghost use Rattle.kn_slices.specs.Activators.{AreInForce, Ascends, running_at};
 ghost use Rattle.kn_slices.specs.Slices.{due_change, runs};
-ghost use Rattle.kn_slices.specs.Traces.{AreTraces, due_of, limit_by, part_at, running_by};
+ghost use Rattle.kn_slices.specs.Traces.{AreTraces, IsCalm, due_of, limit_by, part_at, running_by};
 
 mod asking;
 mod opening;
 mod taking;
 
 use crate::change::Change;
+use crate::listing::are_settled;
 use crate::parts::runs;
 use kn_core::Revision;
 use kn_record::append::append_laws;
@@ -29,9 +30,12 @@ pub struct Group {
     wanted: Vec<u64>,
     force: Vec<u64>,
     marks: Vec<u64>,
+    // the pods that may be open, in order: of all others each activator's limit is its slice, and the wanted limit is in force
+    listed: Vec<u64>,
 }
 
 impl Model for Group {
+    ghost use Rattle.std.specs.Prelude.{vec_capacity};
     ghost use Rattle.kn_slices.specs.Activators.{IsKept};
     ghost use Rattle.kn_slices.specs.Traces.{GroupState};
 
@@ -39,7 +43,7 @@ impl Model for Group {
 
     ghost view = { λ g. record { limit = g.limit; start = g.start; parts = g.parts.items; wanted = g.wanted.items; force = g.force.items } };
 
-    ghost invariant = { λ g. IsKept g.limit g.start g.parts.items g.wanted.items g.force.items g.marks.items };
+    ghost invariant = { λ g. IsKept g.limit g.start g.parts.items g.wanted.items g.force.items g.marks.items g.listed.items (vec_capacity g.listed) };
 }
 
 impl Group {
@@ -49,6 +53,57 @@ impl Group {
         ensures { result ≡ slice_index_or self.now.force p 0 }
     {
         self.force[p as usize]
+    }
+
+    /// The limits in force of all pods, lent.
+    pub fn forces(&self) -> &[u64]
+        ensures value { result.now ≡ self.now.force }
+        ensures many { length self.now.force ≡ length self.now.wanted }
+    {
+        &self.force
+    }
+
+    /// The pods that may be open, in order, lent: of all others the wanted limit is in force.
+    pub fn open_pods(&self) -> &[u64]
+        ensures inside { (k : ℕ) → k < length result.now → slice_index_or result.now k 0 < length self.now.wanted }
+        ensures order { Ascends result.now }
+        ensures others { AreInForce self.now.wanted self.now.force result.now }
+    {
+        &self.listed
+    }
+
+    /// Whether it is known that no limit is still to change.
+    #[inline(always)]
+    fn is_settled(&self) -> bool
+        ensures { result ≡ true → IsCalm self.now }
+    {
+        append_laws();
+        // Any part that is read brings what is kept of all.
+        let _pods = self.wanted.len();
+        self.listed.is_empty()
+    }
+
+    /// Looks whether a limit is still to change, where it isn't known that none is.
+    #[inline(always)]
+    fn look(&mut self)
+        ensures { self.new ≡ self.old }
+    {
+        if !self.listed.is_empty()
+            && are_settled(&self.wanted, &self.force, &self.marks, &self.listed)
+        {
+            self.listed.clear();
+        }
+    }
+
+    /// Whether no limit is still to change: then each activator's limit is its slice, the wanted limits are in force, and no change
+    /// is due. Looks at the pods only where a limit was asked for or changed since it said so last. False says nothing.
+    #[inline(always)]
+    pub fn settle(&mut self) -> bool
+        ensures calm { result ≡ true → IsCalm self.new }
+        ensures same { self.new ≡ self.old }
+    {
+        self.look();
+        self.is_settled()
     }
 
     /// How many requests run at a pod over all activators: no more than the limit in force.

@@ -5,6 +5,7 @@
 mod change;
 mod group;
 mod laws;
+mod listing;
 mod parts;
 
 pub use change::Change;

@@ -1,5 +1,5 @@
 //! What is counted over the activators.
-ghost use Rattle.std.specs.Prelude.{◌≡◌, ◌<◌, ◌≤◌, ◌+◌, ◌-◌, ◌&&◌, ℕ, length, max, nat_le, nat_lt, slice_index_or};
+ghost use Rattle.std.specs.Prelude.{◌≡◌, ◌<◌, ◌≤◌, ◌+◌, ◌-◌, ◌&&◌, length, max, nat_le, nat_lt};
 ghost use Rattle.kn_slices.specs.Activators.{EachIs, HasPod, limit_at, running_at};
 ghost use Rattle.kn_slices.specs.Slices.{cut_of, force_after, hold, raise_of, runs, slice_of, unset_at};
 
@@ -125,18 +125,5 @@ pub(crate) fn force_after(parts: &[Revision], p: u64, wanted: u64, force: u64) -
         wanted
     } else {
         force
-    }
-}
-
-/// The limits in force after a call.
-pub(crate) fn refresh(parts: &[Revision], wanted: &[u64], force: &mut [u64])
-    requires pods { (p : ℕ) → p < length wanted.now → EachIs (HasPod p) parts.now }
-    requires many { length force.old ≡ length wanted.now }
-    requires few { (p : ℕ) → p < length wanted.now → hold (limit_at p) (running_at p) parts.now ≤ 1000 }
-    ensures many { length force.new ≡ length force.old }
-    ensures each { (p : ℕ) → p < length wanted.now → slice_index_or force.new p 0 ≡ force_after (hold (limit_at p) (running_at p) parts.now) (slice_index_or wanted.now p 0) (slice_index_or force.old p 0) }
-{
-    for p in 0..wanted.len() {
-        force[p] = force_after(parts, p as u64, wanted[p], force[p]);
     }
 }

@@ -2,8 +2,8 @@
 ghost use Rattle.std.specs.Prelude.{◌≡◌, ◌≤◌};
 ghost use Rattle.kn_event.specs.declared.revision.Kind.TheVariants as kind;
 
-use crate::texts::{entry_text, mode_word, phase_word, text};
-use crate::words::Words;
+use crate::answers::Answer;
+use crate::words::{number, word};
 use kn_decider::Decider;
 use kn_event::{Decision, Entry, Mode, Phase, Row, Spec};
 use kn_stats::{Closed, Run};
@@ -91,44 +91,37 @@ impl Decisions {
         )
     }
 
-    pub fn answer(&mut self, alloc: Global, words: &mut Words) -> Option<String> {
-        match words.word() {
-            "skip" => {
-                self.skip(words.number()?);
-                text(alloc, "done")
-            }
-            "close" => {
-                self.close(words.number()?, words.number()?, words.number()?);
-                text(alloc, "done")
-            }
-            "ready" => format!(in alloc;
-                "{}",
-                self.pod_ready(words.number()?, words.number()?)
-            ).ok(),
-            "phase" => text(alloc, phase_word(self.decider.phase())),
-            "mode" => text(alloc, mode_word(self.decider.mode())),
-            "want" => format!(in alloc; "{}", self.decider.want()).ok(),
-            verb => self.decided(alloc, verb, words),
+    pub fn answer(&mut self, line: &str) -> Answer {
+        match word(line, 0) {
+            "skip" => self.skip(number(line, 1)),
+            "close" => self.close(number(line, 1), number(line, 2), number(line, 3)),
+            verb => return self.told(verb, number(line, 1), number(line, 2)),
         }
+        Answer::Done
     }
 
-    /// `tick` and `poke`: so many milliseconds after the open second's begin, with so many Ready pods.
-    fn decided(&mut self, alloc: Global, verb: &str, words: &mut Words) -> Option<String> {
-        let (after, ready) = (words.number()?, words.number()?);
-        let decision = match verb {
-            "tick" => self.tick(after, ready),
-            "poke" => self.poke(after, ready),
-            _ => return None,
-        };
-        match decision {
-            None => text(alloc, "none"),
-            Some(decision) => {
-                let entry = Entry {
-                    time: self.second.saturating_mul(1000).saturating_add(after),
-                    row: Row::Decided(decision),
-                };
-                entry_text(alloc, &entry)
-            }
+    /// Where `ready`, a time and so many pods follow. At `tick` and `poke` so many milliseconds after the open second's
+    /// begin, with so many Ready pods.
+    fn told(&mut self, verb: &str, after: u64, ready: u64) -> Answer {
+        match verb {
+            "ready" => Answer::Flag(self.pod_ready(after, ready)),
+            "phase" => Answer::Phase(self.decider.phase()),
+            "mode" => Answer::Mode(self.decider.mode()),
+            "want" => Answer::Number(self.decider.want()),
+            "tick" => row(self.second, after, self.tick(after, ready)),
+            "poke" => row(self.second, after, self.poke(after, ready)),
+            _ => Answer::Nothing,
         }
+    }
+}
+
+/// A decision that was made so many milliseconds after a second's begin, as a row.
+fn row(second: u64, after: u64, decision: Option<Decision>) -> Answer {
+    match decision {
+        None => Answer::None,
+        Some(decision) => Answer::Entry(Entry {
+            time: second.saturating_mul(1000).saturating_add(after),
+            row: Row::Decided(decision),
+        }),
     }
 }

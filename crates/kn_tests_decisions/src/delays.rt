@@ -1,7 +1,8 @@
 //! The delay before fewer pods are asked for.
 ghost use Rattle.std.specs.Prelude.{◌≡◌};
 
-use crate::words::Words;
+use crate::answers::Answer;
+use crate::words::number;
 use kn_delay::Delay;
 use std::alloc::Global;
 
@@ -36,9 +37,10 @@ impl Delays {
     }
 
     /// A decision's second and count.
-    pub fn answer(&mut self, alloc: Global, words: &mut Words) -> Option<String> {
-        let second = words.number()?;
-        let count = words.number()?;
-        format!(in alloc; "{}", self.take(second, count)?).ok()
+    pub fn answer(&mut self, line: &str) -> Answer {
+        match self.take(number(line, 0), number(line, 1)) {
+            Some(count) => Answer::Number(count),
+            None => Answer::Nothing,
+        }
     }
 }

@@ -3,6 +3,7 @@
 //! `stdout` has what must be answered. Then long mixes are compared with a plain program.
 #![tactic(auto)]
 
+mod answers;
 mod decisions;
 mod delays;
 mod mixes;
@@ -12,43 +13,30 @@ mod past;
 mod plain;
 mod scale;
 mod subject;
-mod texts;
 mod windows;
 mod words;
 mod zeros;
 
-use anyhow::bail;
-use std::alloc::Global;
+use std::io;
 use subject::Subject;
 
 /// A line that opens a subject is printed as it is; a call with its answer.
-fn said(alloc: Global, subject: &mut Subject, line: &str) -> Option<String> {
+fn answer(rt: &HostRuntime, subject: &mut Subject, line: &str) -> io::Result<()> {
     if line.starts_with(' ') {
-        return call(alloc, subject, line);
+        let answer = subject.answer(rt.alloc(), line);
+        println!(rt; "{line}: {answer}")
+    } else {
+        open(rt, subject, line);
+        println!(rt; "{line}")
     }
-    open(alloc, subject, line)?;
-    String::from_str(alloc, line).ok()
 }
 
-fn call(alloc: Global, subject: &mut Subject, line: &str) -> Option<String> {
-    let answer = subject.answer(alloc, line)?;
-    format!(in alloc; "{line}: {answer}").ok()
+/// Where a line opens nothing, or memory is lacking, the calls after it answer that there is no such call.
+fn open(rt: &HostRuntime, subject: &mut Subject, line: &str) {
+    *subject = Subject::open(rt.alloc(), line).unwrap_or(Subject::Parts);
 }
 
-fn open(alloc: Global, subject: &mut Subject, line: &str) -> Option<()> {
-    *subject = Subject::open(alloc, line)?;
-    Some(())
-}
-
-fn answer<R: Print + AllocGlobal>(rt: &R, subject: &mut Subject, line: &str) -> anyhow::Result<()> {
-    let Some(text) = said(rt.alloc(), subject, line) else {
-        bail!("a line is none, or memory is lacking");
-    };
-    println!(rt; "{text}")?;
-    Ok(())
-}
-
-fn answer_lines(rt: &HostRuntime, subject: &mut Subject) -> anyhow::Result<()> {
+fn answer_lines(rt: &HostRuntime, subject: &mut Subject) -> io::Result<()> {
     for line in rt.lines(rt.alloc()) {
         answer(rt, subject, line?.as_str())?;
     }
@@ -56,13 +44,12 @@ fn answer_lines(rt: &HostRuntime, subject: &mut Subject) -> anyhow::Result<()> {
 }
 
 /// Answers the lines, from the calls that look back on nothing.
-fn rows(rt: &HostRuntime) -> anyhow::Result<()> {
+fn rows(rt: &HostRuntime) -> io::Result<()> {
     let mut subject = Subject::Parts;
     answer_lines(rt, &mut subject)
 }
 
-fn main(rt: HostRuntime) -> anyhow::Result<()> {
+fn main(rt: HostRuntime) -> io::Result<()> {
     rows(&rt)?;
-    mixes::compare(&rt)?;
-    Ok(())
+    mixes::compare(&rt)
 }

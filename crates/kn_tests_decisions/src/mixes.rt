@@ -8,7 +8,7 @@ use crate::past::Past;
 use crate::plain;
 use crate::scale::Scale;
 use crate::windows::Windows;
-use kn_event::{Frac, Spec};
+use kn_event::Spec;
 use kn_scaling::{Asked, SampleRun};
 use std::alloc::Global;
 use std::io;
@@ -75,10 +75,6 @@ fn next_run(word: u64, end: u64, seconds: u64) -> SampleRun {
     }
 }
 
-fn numbers(average: Option<Frac>) -> Option<(u128, u128)> {
-    average.map(|f| (f.num, f.den))
-}
-
 /// How many of 150 averages over a window of so many seconds are as they should be.
 fn windows_agreeing(alloc: Global, seconds: u64) -> Option<u64> {
     let mut window = Windows::new(alloc, seconds)?;
@@ -92,50 +88,52 @@ fn windows_over_runs(window: &mut Windows, runs: &mut Vec<SampleRun>, seconds: u
     for k in 0..150 {
         let word = mixed(k);
         let run = next_run(word, end, seconds);
-        window.record(&run)?;
+        if !window.record(&run) {
+            return None;
+        }
         end = run.second.saturating_add(run.count);
         runs.push(run).ok()?;
         let now = end.saturating_add(word % (seconds.min(3600) + 3));
         let expected = plain::window_average(runs, seconds, now);
-        if numbers(window.average(now)?) == numbers(expected) {
+        if window.average(now)? == expected {
             agreed = agreed.saturating_add(1);
         }
     }
     Some(agreed)
 }
 
-/// Some seconds that close, or pass without a sample.
-fn pass(decisions: &mut Decisions, past: &mut Past, word: u64) -> Option<()> {
+/// Some seconds that close, or pass without a sample. Whether there was memory.
+fn pass(decisions: &mut Decisions, past: &mut Past, word: u64) -> bool {
     let second = decisions.second();
     let count = 1 + word / 16 % 4;
     if word % 16 < 10 {
         let load = 1500 * (word / 512 % 16);
+        decisions.close(count, load, 0);
         past.record(SampleRun {
             second,
             count,
             load,
         })
-        .ok()?;
-        decisions.close(count, load, 0);
     } else {
         decisions.skip(4 * count);
+        true
     }
-    Some(())
 }
 
 /// Whether both agree in a turn: some seconds, a pod that becomes Ready perhaps, and a tick.
-fn turn(spec: &Spec, decisions: &mut Decisions, past: &mut Past, word: u64) -> Option<bool> {
-    pass(decisions, past, word)?;
+fn turn(spec: &Spec, decisions: &mut Decisions, past: &mut Past, word: u64) -> bool {
+    let passes = pass(decisions, past, word);
     let ready = word / 64 % 6;
     let after = word / 16_384 % 1000;
-    let time = decisions.second().checked_mul(1000)?.checked_add(after)?;
-    let mut agrees = true;
-    if word / 8192 % 2 == 0 {
-        agrees = decisions.pod_ready(time, ready) == past.ready(spec, time, ready);
-    }
+    let time = decisions
+        .second()
+        .saturating_mul(1000)
+        .saturating_add(after);
+    let agrees = word / 8192 % 2 != 0
+        || decisions.pod_ready(time, ready) == past.ready(spec, time, ready);
     let made = decisions.tick(after, ready);
-    let is_right = past.is_right(spec, time, ready, made).ok()?;
-    Some(agrees && is_right && decisions.state() == past.state())
+    let is_right = past.is_right(spec, time, ready, made);
+    passes && agrees && is_right && decisions.state() == past.state()
 }
 
 /// In how many of 500 turns both agree, and how many decisions were made.
@@ -159,33 +157,53 @@ fn turns_by(alloc: Global, spec: &Spec) -> Option<(u64, usize)>
     let mut decisions = Decisions::new(alloc, spec)?;
     let mut past = Past::new(alloc);
     let agreed = turns_of_both(spec, &mut decisions, &mut past);
-    Some((agreed?, past.count()))
+    Some((agreed, past.count()))
 }
 
-fn turns_of_both(spec: &Spec, decisions: &mut Decisions, past: &mut Past) -> Option<u64> {
+fn turns_of_both(spec: &Spec, decisions: &mut Decisions, past: &mut Past) -> u64 {
     let mut seed = 7;
     let mut agreed: u64 = 0;
     for _ in 0..500 {
         seed = next(seed);
-        if turn(spec, decisions, past, seed / 65_536)? {
-            agreed = agreed.saturating_add(1);
-        }
+        agreed = agreed.saturating_add(u64::from(turn(spec, decisions, past, seed / 65_536)));
     }
-    Some(agreed)
+    agreed
 }
 
-pub fn compare<R: Print + AllocGlobal>(rt: &R) -> io::Result<()> {
-    for seconds in [0, 1, 2, 10, 60] {
-        let agreed = delays_agreeing(rt.alloc(), seconds).unwrap_or(0);
-        println!(rt; "a delay of {seconds}: {agreed} of 500 agree")?;
+fn agreeing(alloc: Global, delays: bool, seconds: u64) -> u64 {
+    let agreed = if delays {
+        delays_agreeing(alloc, seconds)
+    } else {
+        windows_agreeing(alloc, seconds)
+    };
+    agreed.unwrap_or(0)
+}
+
+/// What is compared, whether it is a delay, and its seconds.
+const PARTS: [(&str, bool, u64); 9] = [
+    ("delay", true, 0),
+    ("delay", true, 1),
+    ("delay", true, 2),
+    ("delay", true, 10),
+    ("delay", true, 60),
+    ("window", false, 1),
+    ("window", false, 2),
+    ("window", false, 6),
+    ("window", false, 13),
+];
+
+fn compare_parts(rt: &HostRuntime) -> io::Result<()> {
+    for (name, delays, seconds) in PARTS {
+        let agreed = agreeing(rt.alloc(), delays, seconds);
+        let of = if delays { 500 } else { 150 };
+        println!(rt; "a {name} of {seconds}: {agreed} of {of} agree")?;
     }
-    for seconds in [1, 2, 6, 13] {
-        let agreed = windows_agreeing(rt.alloc(), seconds).unwrap_or(0);
-        println!(rt; "a window of {seconds}: {agreed} of 150 agree")?;
-    }
+    Ok(())
+}
+
+pub fn compare(rt: &HostRuntime) -> io::Result<()> {
+    compare_parts(rt)?;
     let (agreed, decided) = turns_agreeing(rt.alloc()).unwrap_or((0, 0));
-    println!(rt;
-        "decisions: {agreed} of 500 turns agree, more than 300 decided: {}",
-        decided > 300
-    )
+    let many = decided > 300;
+    println!(rt; "decisions: {agreed} of 500 turns agree, more than 300 decided: {many}")
 }

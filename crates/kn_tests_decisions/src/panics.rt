@@ -1,27 +1,18 @@
 //! Panic mode, with a window of a minute.
-use crate::words::Words;
+use crate::answers::Answer;
+use crate::words::{number, word};
 use kn_event::Counts;
 use kn_panic::Panic;
-use std::alloc::Global;
 
 /// A decision: its time, whether it is over, its stable and its panic count.
-pub fn answer(alloc: Global, panic: &mut Panic, words: &mut Words) -> Option<String> {
-    let time = words.number()?;
-    let over = words.is("over");
-    let stable_count = words.number()?;
-    let panic_count = words.number()?;
+pub fn answer(panic: &mut Panic, line: &str) -> Answer {
+    let (stable_count, panic_count) = (number(line, 2), number(line, 3));
     let counts = Counts {
         dspc: stable_count,
         dppc: panic_count,
         stable_count,
         panic_count,
-        over,
+        over: word(line, 1) == "over",
     };
-    let panicked = panic.take(time, &counts, 60_000);
-    let word = if panicked.panicking {
-        "panicking"
-    } else {
-        "calm"
-    };
-    format!(in alloc; "{word} {}", panicked.count).ok()
+    Answer::Panicked(panic.take(number(line, 0), &counts, 60_000))
 }

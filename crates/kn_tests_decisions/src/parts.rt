@@ -1,24 +1,24 @@
 //! Calls that look back on nothing.
-ghost use Rattle.std.specs.Prelude.{◌≡◌, true, IfSome};
+ghost use Rattle.std.specs.Prelude.{◌≡◌, true};
 ghost use Rattle.kn_event.specs.Ranges.{IsBurst};
 ghost use Rattle.kn_scaling.specs.Average.{IsAverage};
 
+use crate::answers::Answer;
 use crate::scale::Scale;
-use crate::texts::{mode_word, phase_of, text};
-use crate::words::Words;
+use crate::words::{fraction, number, word};
 use kn_burst::{excess, mode};
-use kn_event::{Burst, Counts, Frac, Milli};
+use kn_event::{Burst, Frac, Milli, Phase};
 use kn_formula::counts;
 use kn_zero::bounds;
 use std::alloc::Global;
 
-pub fn answer(alloc: Global, words: &mut Words) -> Option<String> {
-    match words.word() {
-        "counts" => counts_text(alloc, words),
-        "excess" => excess_text(alloc, words),
-        "mode" => mode_text(alloc, words),
-        "bounds" => bounds_text(alloc, words),
-        _ => None,
+pub fn answer(alloc: Global, line: &str) -> Answer {
+    match word(line, 0) {
+        "counts" => counts_of(alloc, line).unwrap_or(Answer::Nothing),
+        "excess" => excess_of(line),
+        "mode" => mode_of(line),
+        "bounds" => bounds_of(alloc, line).unwrap_or(Answer::Nothing),
+        _ => Answer::Nothing,
     }
 }
 
@@ -29,85 +29,69 @@ pub fn is_average(f: Frac) -> bool
     f.den <= 3_600_000 && f.num <= 1_000_000 * f.den
 }
 
-fn average(words: &mut Words) -> Option<Frac>
-    ensures { IfSome result IsAverage }
+/// The average at a place; 0 where there is none.
+fn average(line: &str, place: usize) -> Frac
+    ensures { IsAverage result }
 {
-    let f = words.fraction()?;
-    if is_average(f) { Some(f) } else { None }
+    let f = fraction(line, place);
+    if is_average(f) {
+        f
+    } else {
+        Frac { num: 0, den: 1 }
+    }
 }
 
 /// Of a containerConcurrency, with so many Ready pods, by the stable and the panic average.
-fn counts_text(alloc: Global, words: &mut Words) -> Option<String> {
-    let cc = words.number()?;
-    let ready = words.number()?;
-    let stable = average(words)?;
-    let panic = average(words)?;
-    if ready > 500 {
-        return None;
-    }
-    let spec = Scale::of(cc).spec(alloc)?;
-    shown(alloc, &counts(&spec, ready, stable, panic))
-}
-
-fn shown(alloc: Global, counts: &Counts) -> Option<String> {
-    let over = if counts.over { "over" } else { "calm" };
-    format!(in alloc;
-        "{} {} {} {} {over}",
-        counts.dspc, counts.dppc, counts.stable_count, counts.panic_count
-    )
-    .ok()
+fn counts_of(alloc: Global, line: &str) -> Option<Answer> {
+    let ready = number(line, 2).min(500);
+    let (stable, panic) = (average(line, 3), average(line, 4));
+    let spec = Scale::of(number(line, 1)).spec(alloc)?;
+    Some(Answer::Counts(counts(&spec, ready, stable, panic)))
 }
 
 /// A target burst capacity in thousandths, or none.
-fn burst(word: &str) -> Option<Burst>
-    ensures { IfSome result IsBurst }
+fn burst(word: &str) -> Burst
+    ensures { IsBurst result }
 {
     if word == "unlimited" {
-        return Some(Burst::Unlimited);
-    }
-    let capacity: u64 = word.parse().ok()?;
-    if capacity <= 1_000_000_000 {
-        Some(Burst::Capacity(Milli(capacity)))
+        Burst::Unlimited
     } else {
-        None
+        Burst::Capacity(Milli(word.parse().unwrap_or(0).min(1_000_000_000)))
     }
 }
 
 /// With so many Ready pods, of this total, at this target burst capacity and panic average.
-fn excess_text(alloc: Global, words: &mut Words) -> Option<String> {
-    let ready = words.number()?;
-    let total = words.number()?;
-    let burst = burst(words.word())?;
-    let panic = average(words)?;
-    if ready > 500 || total > 1_000_000_000 {
-        return None;
+fn excess_of(line: &str) -> Answer {
+    let ready = number(line, 1).min(500);
+    let total = Milli(number(line, 2).min(1_000_000_000));
+    let burst = burst(word(line, 3));
+    Answer::Excess(excess(ready, total, burst, average(line, 4)))
+}
+
+fn phase_of(word: &str) -> Phase {
+    match word {
+        "activating" => Phase::Activating,
+        "active" => Phase::Active,
+        _ => Phase::Inactive,
     }
-    format!(in alloc; "{}", excess(ready, Milli(total), burst, panic)).ok()
 }
 
 /// By the pods wanted, the excess and the phase.
-fn mode_text(alloc: Global, words: &mut Words) -> Option<String> {
-    let want = words.number()?;
-    let excess = words.word().parse().ok()?;
-    let phase = phase_of(words.word())?;
-    text(alloc, mode_word(mode(want, excess, phase)))
+fn mode_of(line: &str) -> Answer {
+    let excess = word(line, 2).parse().unwrap_or(0);
+    let phase = phase_of(word(line, 3));
+    Answer::Mode(mode(number(line, 1), excess, phase))
 }
 
 /// By min-scale, max-scale and the initial scale, whether that was reached, and the count.
-fn bounds_text(alloc: Global, words: &mut Words) -> Option<String> {
+fn bounds_of(alloc: Global, line: &str) -> Option<Answer> {
     let scale = Scale {
-        min: words.number()?,
-        max: words.number()?,
-        initial: words.number()?,
+        min: number(line, 1),
+        max: number(line, 2),
+        initial: number(line, 3),
         ..Scale::of(1)
     };
-    let reached = words.is("reached");
-    let count = words.number()?;
-    let bounded = bounded(alloc, &scale, reached, count)?;
-    format!(in alloc; "{bounded}").ok()
-}
-
-fn bounded(alloc: Global, scale: &Scale, reached: bool, count: u64) -> Option<u64> {
+    let (reached, count) = (word(line, 4) == "reached", number(line, 5));
     let spec = scale.spec(alloc)?;
-    Some(bounds(&spec, reached, count))
+    Some(Answer::Number(bounds(&spec, reached, count)))
 }

@@ -2,7 +2,7 @@
 use crate::plain;
 use kn_event::{Decision, Frac, Mode, Phase, Spec};
 use kn_scaling::{Asked, Judged, SampleRun, Standing};
-use std::alloc::{AllocError, Global};
+use std::alloc::Global;
 
 /// All that went by; decisions have the latest first.
 #[derive(Drop)]
@@ -46,9 +46,9 @@ impl Past {
         (self.standing.phase, self.standing.mode, self.standing.want)
     }
 
-    pub fn record(&mut self, run: SampleRun) -> Result<(), AllocError> {
-        self.runs.push(run)?;
-        Ok(())
+    /// Whether there was memory for one more run.
+    pub fn record(&mut self, run: SampleRun) -> bool {
+        self.runs.push(run).is_ok()
     }
 
     /// A pod is Ready, as so many are.
@@ -63,34 +63,25 @@ impl Past {
     }
 
     /// Whether a tick with so many Ready pods has this decision.
-    pub fn is_right(
-        &mut self,
-        spec: &Spec,
-        time: u64,
-        ready: u64,
-        made: Option<Decision>,
-    ) -> Result<bool, AllocError> {
+    pub fn is_right(&mut self, spec: &Spec, time: u64, ready: u64, made: Option<Decision>) -> bool {
         let stable = plain::window_average(&self.runs, spec.stable_s, time / 1000);
-        let panic = plain::window_average(&self.runs, spec.panic_s, time / 1000);
         match (made, stable) {
-            (None, None) => Ok(true),
+            (None, None) => true,
             (Some(d), Some(stable)) => {
-                let panic = panic.unwrap_or(Frac { num: 0, den: 1 });
-                let expected = self.decide(spec, time, ready, stable, panic, d.excess)?;
-                Ok(d == expected)
+                self.decide(spec, time, ready, stable, d.excess) == Some(d)
             }
-            _ => Ok(false),
+            _ => false,
         }
     }
 
-    /// What a decision asks for before the delay, and after it.
-    fn ask(&mut self, spec: &Spec, judged: Judged) -> Result<(u64, u64), AllocError> {
+    /// What a decision asks for before the delay, and after it; none where memory is lacking.
+    fn ask(&mut self, spec: &Spec, judged: Judged) -> Option<(u64, u64)> {
         let second = judged.time / 1000;
-        self.judged.insert(0, judged)?;
+        self.judged.insert(0, judged).ok()?;
         let count = plain::undelayed_count(&self.judged);
         let delayed = count.max(plain::recent_count(spec.delay_s, second, &self.asked));
-        self.asked.insert(0, Asked { second, count })?;
-        Ok((count, delayed))
+        self.asked.insert(0, Asked { second, count }).ok()?;
+        Some((count, delayed))
     }
 
     /// The decision by these averages. Its excess is taken as it is.
@@ -100,9 +91,12 @@ impl Past {
         time: u64,
         ready: u64,
         stable: Frac,
-        panic: Frac,
         excess: i64,
-    ) -> Result<Decision, AllocError> {
+    ) -> Option<Decision> {
+        let panic = plain::window_average(&self.runs, spec.panic_s, time / 1000).unwrap_or(Frac {
+            num: 0,
+            den: 1,
+        });
         let counts = plain::desired_counts(spec, ready, stable, panic);
         let window_ms = spec.stable_s.saturating_mul(1000);
         let (undelayed, delayed) = self.ask(
@@ -118,7 +112,7 @@ impl Past {
         let is_through = answer.want == 0 || excess < 0 || answer.phase == Phase::Activating;
         let mode = if is_through { Mode::Proxy } else { Mode::Serve };
         self.stand(time, answer.phase, mode, answer.want);
-        Ok(Decision {
+        Some(Decision {
             stable,
             panic,
             ready,

@@ -17,7 +17,12 @@ fn load_at(runs: &[SampleRun], second: u64) -> Option<u64> {
 }
 
 fn is_any_sample(runs: &[SampleRun], first: u64, end: u64) -> bool {
-    (first..end).any(|second| load_at(runs, second).is_some())
+    for second in first..end {
+        if load_at(runs, second).is_some() {
+            return true;
+        }
+    }
+    false
 }
 
 /// Whether none of the window's seconds before a sample is one.
@@ -105,13 +110,13 @@ pub fn desired_counts(spec: &Spec, ready: u64, stable: Frac, panic: Frac) -> Cou
 
 /// Whether the first of these decisions panics.
 pub fn is_panicking(decisions: &[Judged]) -> bool {
-    let Some(decision) = decisions.first() else {
-        return false;
-    };
-    decisions
-        .iter()
-        .find(|earlier| earlier.counts.over)
-        .is_some_and(|last| decision.time.saturating_sub(last.time) <= decision.window_ms)
+    for earlier in decisions {
+        if earlier.counts.over {
+            let decision = &decisions[0];
+            return decision.time.saturating_sub(earlier.time) <= decision.window_ms;
+        }
+    }
+    false
 }
 
 /// What the first of these decisions asks for before the delay: in panic the greatest count of its run.

@@ -2,7 +2,7 @@
 ghost use Rattle.std.specs.Prelude.{◌≡◌, ◌≤◌, ◌<◌, IfSome};
 ghost use Rattle.kn_event.specs.Ranges.{IsTotal};
 
-use crate::words::Words;
+use crate::words::number;
 use kn_event::{Burst, Frac, Kind, Metric, Milli, Slots, Spec};
 use std::alloc::Global;
 
@@ -48,37 +48,32 @@ impl Scale {
         }
     }
 
-    /// The settings that are left of a line: a containerConcurrency, and what else is set.
-    pub fn read(words: &mut Words) -> Option<Scale> {
-        let mut scale = Scale::of(words.number()?);
-        for _ in 0..15 {
-            let Some((key, value)) = words.setting() else {
-                break;
-            };
-            scale.set(key, value)?;
+    /// Of a line's containerConcurrency at this place, with what else the line sets.
+    pub fn read(line: &str, place: usize) -> Scale {
+        let mut scale = Scale::of(number(line, place));
+        for word in line.split_whitespace() {
+            if let Some((key, value)) = word.split_once('=') {
+                scale.set(key, value.parse().unwrap_or(0));
+            }
         }
-        Some(scale)
+        scale
     }
 
-    fn set(&mut self, key: &str, value: u64) -> Option<()> {
+    fn set(&mut self, key: &str, value: u64) {
         match key {
-            "min" => self.min = value,
-            "max" => self.max = value,
             "initial" => self.initial = value,
             "to-zero" => self.to_zero = value == 1,
             "stable" => self.stable = value,
             "panic" => self.panic = value,
             "delay" => self.delay = value,
-            "grace" => self.grace = value,
             "retention" => self.retention = value,
             "burst" => self.burst = value,
             "up" => self.up = value,
             "rps" => self.counts_requests = value == 1,
             "total" => self.total = Some(value),
             "target" => self.target = Some(value),
-            _ => return None,
+            _ => {}
         }
-        Some(())
     }
 
     /// The most pods: no bound, or no fewer than the least.

@@ -1,14 +1,11 @@
 //! What the lines speak of.
-ghost use Rattle.std.specs.Prelude.{◌≡◌};
-ghost use Rattle.kn_event.specs.declared.revision.Kind.TheVariants as kind;
-
+use crate::answers::Answer;
 use crate::decisions::Decisions;
 use crate::delays::Delays;
 use crate::scale::Scale;
 use crate::windows::Windows;
-use crate::words::Words;
+use crate::words::{number, word};
 use crate::{panics, parts, zeros};
-use kn_event::Spec;
 use kn_panic::Panic;
 use kn_zero::Zero;
 use std::alloc::Global;
@@ -23,64 +20,39 @@ pub enum Subject {
     Decisions(Decisions),
 }
 
-fn panic() -> Subject {
-    Subject::Panic(Panic::new())
+fn zero(alloc: Global, line: &str) -> Option<Subject> {
+    let spec = Scale::read(line, 2).spec(alloc)?;
+    Some(Subject::Zero(Zero::new(&spec, number(line, 1))))
 }
 
-fn delay(alloc: Global, words: &mut Words) -> Option<Subject> {
-    let seconds = words.number()?;
-    Some(Subject::Delay(Delays::new(alloc, seconds)?))
-}
-
-fn window(alloc: Global, words: &mut Words) -> Option<Subject> {
-    let seconds = words.number()?;
-    Some(Subject::Window(Windows::new(alloc, seconds)?))
-}
-
-fn zero(alloc: Global, words: &mut Words) -> Option<Subject> {
-    let start = words.number()?;
-    let scale = Scale::read(words)?;
-    let spec = scale.spec(alloc)?;
-    Some(Subject::Zero(Zero::new(&spec, start)))
-}
-
-fn decisions(alloc: Global, words: &mut Words) -> Option<Subject> {
-    let scale = Scale::read(words)?;
-    let spec = scale.spec(alloc)?;
-    decisions_of(alloc, &spec)
-}
-
-fn decisions_of(alloc: Global, spec: &Spec) -> Option<Subject>
-    requires { spec.now.kind ≡ kind.Kpa }
-{
-    Some(Subject::Decisions(Decisions::new(alloc, spec)?))
+fn decisions(alloc: Global, line: &str) -> Option<Subject> {
+    let spec = Scale::read(line, 1).spec(alloc)?;
+    Decisions::new(alloc, &spec).map(Subject::Decisions)
 }
 
 impl Subject {
     /// The subject that a line opens; none where it is no such line, or memory is lacking.
     pub fn open(alloc: Global, line: &str) -> Option<Subject> {
-        let mut words = Words::of(line);
-        match words.word() {
+        match word(line, 0) {
             "parts" => Some(Subject::Parts),
-            "panic" => Some(panic()),
-            "delay" => delay(alloc, &mut words),
-            "window" => window(alloc, &mut words),
-            "zero" => zero(alloc, &mut words),
-            "decisions" => decisions(alloc, &mut words),
+            "panic" => Some(Subject::Panic(Panic::new())),
+            "delay" => Delays::new(alloc, number(line, 1)).map(Subject::Delay),
+            "window" => Windows::new(alloc, number(line, 1)).map(Subject::Window),
+            "zero" => zero(alloc, line),
+            "decisions" => decisions(alloc, line),
             _ => None,
         }
     }
 
-    /// The answer to a line of it; none where it is no such line, or memory is lacking.
-    pub fn answer(&mut self, alloc: Global, line: &str) -> Option<String> {
-        let mut words = Words::of(line);
+    /// The answer to a line of it.
+    pub fn answer(&mut self, alloc: Global, line: &str) -> Answer {
         match self {
-            Subject::Parts => parts::answer(alloc, &mut words),
-            Subject::Panic(panic) => panics::answer(alloc, panic, &mut words),
-            Subject::Delay(delay) => delay.answer(alloc, &mut words),
-            Subject::Window(window) => window.answer(alloc, &mut words),
-            Subject::Zero(zero) => zeros::answer(alloc, zero, &mut words),
-            Subject::Decisions(decisions) => decisions.answer(alloc, &mut words),
+            Subject::Parts => parts::answer(alloc, line),
+            Subject::Panic(panic) => panics::answer(panic, line),
+            Subject::Delay(delay) => delay.answer(line),
+            Subject::Window(window) => window.answer(line),
+            Subject::Zero(zero) => zeros::answer(zero, line),
+            Subject::Decisions(decisions) => decisions.answer(line),
         }
     }
 }

@@ -1,8 +1,8 @@
 //! The average over a window.
 ghost use Rattle.std.specs.Prelude.{◌≡◌};
 
-use crate::texts::{average_text, text};
-use crate::words::Words;
+use crate::answers::Answer;
+use crate::words::{number, word};
 use kn_event::Frac;
 use kn_scaling::SampleRun;
 use kn_window::Window;
@@ -31,8 +31,8 @@ impl Windows {
         Some(Windows { window, end: 0 })
     }
 
-    /// Samples that come after all before.
-    pub fn record(&mut self, run: &SampleRun) -> Option<()> {
+    /// Whether these samples come after all before, and no number is too high.
+    pub fn record(&mut self, run: &SampleRun) -> bool {
         let (second, count, load) = (run.second, run.count, run.load);
         if second < self.end
             || second > MOST
@@ -40,11 +40,11 @@ impl Windows {
             || count > MOST
             || load > 1_000_000_000
         {
-            return None;
+            return false;
         }
         self.window.record_run(second, count, load);
         self.end = second + count;
-        Some(())
+        true
     }
 
     /// The average before a second; nothing where it may not be asked for.
@@ -56,19 +56,28 @@ impl Windows {
     }
 
     /// `run` with its second, count and load; `average` with its second.
-    pub fn answer(&mut self, alloc: Global, words: &mut Words) -> Option<String> {
-        match words.word() {
-            "run" => {
-                let run = SampleRun {
-                    second: words.number()?,
-                    count: words.number()?,
-                    load: words.number()?,
-                };
-                self.record(&run)?;
-                text(alloc, "done")
+    pub fn answer(&mut self, line: &str) -> Answer {
+        if word(line, 0) == "run" {
+            let run = SampleRun {
+                second: number(line, 1),
+                count: number(line, 2),
+                load: number(line, 3),
+            };
+            if self.record(&run) {
+                Answer::Done
+            } else {
+                Answer::Nothing
             }
-            "average" => average_text(alloc, self.average(words.number()?)?),
-            _ => None,
+        } else {
+            self.average_answer(number(line, 1))
+        }
+    }
+
+    fn average_answer(&self, now: u64) -> Answer {
+        match self.average(now) {
+            Some(Some(average)) => Answer::Average(average),
+            Some(None) => Answer::None,
+            None => Answer::Nothing,
         }
     }
 }

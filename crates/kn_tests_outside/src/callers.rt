@@ -1,7 +1,6 @@
 //! Callers in memory.
 
-use crate::{goes, had, text_of};
-use kn_case::case;
+use crate::{goes, had, tell, text_of};
 use kn_event::Text;
 use kn_io::{Caller, Failed, Faulty, MemCaller, Sink, Source, caller_laws};
 use std::alloc::{AllocError, Global};
@@ -29,7 +28,7 @@ fn text_at(caller: &MemCaller, k: u64) -> &str {
 }
 
 /// Takes a connection, reads it to its end, and writes this; how many bytes were read.
-fn talk<C: Caller>(caller: &mut C, bytes: &[u8]) -> Result<usize, Failed> {
+fn talk(caller: &mut MemCaller, bytes: &[u8]) -> Result<usize, Failed> {
     let mut buf = [0; 9];
     let mut all = 0usize;
     caller.meet()?;
@@ -41,7 +40,7 @@ fn talk<C: Caller>(caller: &mut C, bytes: &[u8]) -> Result<usize, Failed> {
 }
 
 /// Which of six calls failed: a connection is taken, read and written to, twice.
-fn failed_calls<C: Caller>(caller: &mut C) -> [bool; 6] {
+fn failed_calls(caller: &mut MemCaller) -> [bool; 6] {
     let mut buf = [0; 1];
     [
         caller.meet().is_err(),
@@ -54,7 +53,7 @@ fn failed_calls<C: Caller>(caller: &mut C) -> [bool; 6] {
 }
 
 /// What a caller has written to each connection so far.
-fn show_texts<R: Print>(rt: &R, caller: &MemCaller) -> io::Result<()> {
+fn show_texts(rt: &HostRuntime, caller: &MemCaller) -> io::Result<()> {
     for k in 0..caller.texts() {
         let text = text_at(caller, k);
         println!(rt; "text {k}: {text:?}")?;
@@ -62,23 +61,29 @@ fn show_texts<R: Print>(rt: &R, caller: &MemCaller) -> io::Result<()> {
     Ok(())
 }
 
-fn two_connections<R: Print>(rt: &R, caller: &mut MemCaller) -> io::Result<()> {
-    case(rt, "before a connection", &caller.read(&mut [0; 3]), &Ok(0))?;
+fn two_connections(rt: &HostRuntime, caller: &mut MemCaller) -> io::Result<()> {
+    tell(
+        rt,
+        &[("before a connection", caller.read(&mut [0; 3]) == Ok(0))],
+    )?;
     show_texts(rt, caller)?;
-    case(rt, "first connection", &talk(caller, b"12345"), &Ok(5))?;
+    tell(rt, &[("first connection", talk(caller, b"12345") == Ok(5))])?;
     show_texts(rt, caller)?;
-    case(rt, "second connection", &talk(caller, b"6789"), &Ok(1))
+    tell(rt, &[("second connection", talk(caller, b"6789") == Ok(1))])
 }
 
 /// No more is written, and no other connection comes.
-fn at_the_end<R: Print>(rt: &R, caller: &mut MemCaller) -> io::Result<()> {
-    case(rt, "no more room", &caller.write(b"9"), &Err(Failed))?;
-    case(rt, "no third connection", &caller.meet(), &Err(Failed))?;
-    case(rt, "two faults", &caller.faults(), &2)?;
+fn at_the_end(rt: &HostRuntime, caller: &mut MemCaller) -> io::Result<()> {
+    let cases = [
+        ("no more room", caller.write(b"9").is_err()),
+        ("no third connection", caller.meet().is_err()),
+        ("two faults", caller.faults() == 2),
+    ];
+    tell(rt, &cases)?;
     show_texts(rt, caller)
 }
 
-fn talk_in_turn<R: Print>(rt: &R, caller: &mut MemCaller) -> io::Result<()> {
+fn talk_in_turn(rt: &HostRuntime, caller: &mut MemCaller) -> io::Result<()> {
     two_connections(rt, caller)?;
     at_the_end(rt, caller)?;
     caller_laws();
@@ -87,14 +92,14 @@ fn talk_in_turn<R: Print>(rt: &R, caller: &mut MemCaller) -> io::Result<()> {
 }
 
 /// Eight bytes in all have room, and there are two inputs.
-fn connections_in_turn<R: Print + AllocGlobal>(rt: &R) -> io::Result<()> {
+fn connections_in_turn(rt: &HostRuntime) -> io::Result<()> {
     let alloc = rt.alloc();
     let mut caller = two_inputs(alloc, Vec::new(alloc))?;
     talk_in_turn(rt, &mut caller)
 }
 
 /// The call of this number fails.
-fn failing_call<R: Print + AllocGlobal>(rt: &R, k: u64) -> io::Result<()> {
+fn failing_call(rt: &HostRuntime, k: u64) -> io::Result<()> {
     let alloc = rt.alloc();
     let mut caller = two_inputs(alloc, vec![in alloc; k]?)?;
     let failed = failed_calls(&mut caller);
@@ -103,7 +108,7 @@ fn failing_call<R: Print + AllocGlobal>(rt: &R, k: u64) -> io::Result<()> {
 }
 
 /// Each of six calls fails in turn, and no other does.
-fn failing_calls<R: Print + AllocGlobal>(rt: &R) -> io::Result<()> {
+fn failing_calls(rt: &HostRuntime) -> io::Result<()> {
     for k in 0..6u64 {
         failing_call(rt, k)?;
     }
@@ -135,19 +140,22 @@ fn talks(caller: &mut MemCaller, rounds: u32) -> u32 {
     right
 }
 
-fn talk_to_many<R: Print>(rt: &R, caller: &mut MemCaller) -> io::Result<()> {
-    case(rt, "200 connections", &talks(caller, 200), &200)?;
-    case(rt, "201 texts", &caller.texts(), &201)?;
-    case(rt, "the last text", &text_at(caller, 200).len(), &20)?;
-    case(rt, "no more", &talk(caller, b"z"), &Err(Failed))
+fn talk_to_many(rt: &HostRuntime, caller: &mut MemCaller) -> io::Result<()> {
+    let cases = [
+        ("200 connections", talks(caller, 200) == 200),
+        ("201 texts", caller.texts() == 201),
+        ("the last text", text_at(caller, 200).len() == 20),
+        ("no more", talk(caller, b"z").is_err()),
+    ];
+    tell(rt, &cases)
 }
 
-fn many_connections<R: Print + AllocGlobal>(rt: &R) -> io::Result<()> {
+fn many_connections(rt: &HostRuntime) -> io::Result<()> {
     let mut caller = many_inputs(rt.alloc())?;
     talk_to_many(rt, &mut caller)
 }
 
-pub fn all<R: Print + AllocGlobal>(rt: &R) -> io::Result<()> {
+pub fn all(rt: &HostRuntime) -> io::Result<()> {
     connections_in_turn(rt)?;
     failing_calls(rt)?;
     many_connections(rt)

@@ -1,7 +1,6 @@
 //! Links in memory.
 
-use crate::{goes, had, text_of};
-use kn_case::case;
+use crate::{goes, had, tell, text_of};
 use kn_event::Text;
 use kn_io::{Failed, Faulty, LinkError, MemLink, PodLink};
 use std::alloc::{AllocError, Global};
@@ -18,17 +17,11 @@ fn one_reply(alloc: Global, fail: Vec<u64>) -> Result<MemLink, AllocError> {
 }
 
 /// The length of a pod's reply.
-fn reply_length<L: PodLink>(link: &mut L, alloc: Global, pod: u64) -> Option<usize> {
+fn reply_length(link: &mut MemLink, alloc: Global, pod: u64) -> Option<usize> {
     match link.call(alloc, pod, b"ask") {
         Ok(reply) => Some(reply.bytes().len()),
         Err(LinkError::Failed | LinkError::Memory) => None,
     }
-}
-
-/// Whether a pod is reached, and the length of its reply.
-fn ask<L: PodLink>(link: &mut L, alloc: Global, pod: u64) -> (Result<bool, Failed>, Option<usize>) {
-    let reached = link.probe(pod);
-    (reached, reply_length(link, alloc, pod))
 }
 
 /// The last call that it tells of: the pod, the length of the request and that of the reply.
@@ -48,45 +41,45 @@ fn last_probe(link: &MemLink) -> Option<(u64, Option<bool>)> {
 }
 
 /// Probes and calls a pod, and prints the answers, and the last probe and the last call that the link tells of.
-fn show<R: Print + AllocGlobal>(rt: &R, link: &mut MemLink, pod: u64) -> io::Result<()> {
-    let (reached, reply) = ask(link, rt.alloc(), pod);
+fn show(rt: &HostRuntime, link: &mut MemLink, pod: u64) -> io::Result<()> {
+    let reached = link.probe(pod);
+    let reply = reply_length(link, rt.alloc(), pod);
     let probe = last_probe(link);
     let call = last_call(link);
     println!(rt; "pod {pod}: {reached:?}, {reply:?}, told {probe:?}, {call:?}")
 }
 
-fn show_three<R: Print + AllocGlobal>(rt: &R, link: &mut MemLink) -> io::Result<()> {
+fn show_three(rt: &HostRuntime, link: &mut MemLink) -> io::Result<()> {
     for pod in 7..10 {
         show(rt, link, pod)?;
     }
-    case(rt, "three faults", &link.faults(), &3)?;
     goes(link);
-    Ok(())
+    tell(rt, &[("three faults", link.faults() == 3)])
 }
 
 /// Calls 1 and 2 fail, and there is no second reply.
-fn failing_calls<R: Print + AllocGlobal>(rt: &R) -> io::Result<()> {
+fn failing_calls(rt: &HostRuntime) -> io::Result<()> {
     let alloc = rt.alloc();
     let mut link = one_reply(alloc, vec![in alloc; 1, 2]?)?;
     show_three(rt, &mut link)
 }
 
-fn probe_all<R: Print + AllocGlobal>(rt: &R, link: &mut MemLink) -> io::Result<()> {
+fn probe_all(rt: &HostRuntime, link: &mut MemLink) -> io::Result<()> {
     for pod in 0..4_096 {
         let _ = link.probe(pod);
     }
     let last = last_probe(link);
-    case(rt, "4,096 probes", &last, &Some((4_095, Some(true))))?;
+    tell(rt, &[("4,096 probes", last == Some((4_095, Some(true))))])?;
     show(rt, link, 9)
 }
 
 /// A link stops telling once it has no room for a probe.
-fn past_the_room<R: Print + AllocGlobal>(rt: &R) -> io::Result<()> {
+fn past_the_room(rt: &HostRuntime) -> io::Result<()> {
     let mut link = one_reply(rt.alloc(), Vec::new(rt.alloc()))?;
     probe_all(rt, &mut link)
 }
 
-pub fn all<R: Print + AllocGlobal>(rt: &R) -> io::Result<()> {
+pub fn all(rt: &HostRuntime) -> io::Result<()> {
     failing_calls(rt)?;
     past_the_room(rt)
 }

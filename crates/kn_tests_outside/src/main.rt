@@ -12,7 +12,6 @@ mod times;
 use kn_event::{Memory, Text};
 use std::alloc::{AllocError, Global};
 use std::io;
-use std::io::Input;
 
 /// What was had, or want of memory as std has it.
 fn had<T>(answer: Result<T, Memory>) -> Result<T, AllocError> {
@@ -33,6 +32,15 @@ fn goes<T: Send>(_value: &T) {}
 /// Such a value may be shared among threads.
 fn shares<T: Sync>(_value: &T) {}
 
+/// Prints of each case whether it is as it must be.
+fn tell(rt: &HostRuntime, cases: &[(&str, bool)]) -> io::Result<()> {
+    for (name, holds) in cases {
+        let word = if *holds { "ok" } else { "not so" };
+        println!(rt; "{name}: {word}")?;
+    }
+    Ok(())
+}
+
 /// The standard streams.
 fn standard(rt: &HostRuntime) -> io::Result<()> {
     streams::read_nothing(rt, "standard input", rt.stdin())?;
@@ -51,15 +59,10 @@ fn outside(rt: &HostRuntime) -> io::Result<()> {
     times::machine(rt, rt)
 }
 
-fn show_line<R: Print + AllocGlobal>(rt: &R, line: io::Result<String>) -> io::Result<()> {
-    let line = line?;
-    plans::show(rt, line.as_str())
-}
-
 /// The command lines.
-fn command_lines<R: Print + AllocGlobal + Input>(rt: &R) -> io::Result<()> {
+fn command_lines(rt: &HostRuntime) -> io::Result<()> {
     for line in rt.lines(rt.alloc()) {
-        show_line(rt, line)?;
+        plans::show(rt, line?.as_str())?;
     }
     Ok(())
 }

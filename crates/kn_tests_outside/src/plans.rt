@@ -23,7 +23,7 @@ fn shown(bytes: &[u8]) -> &str {
 }
 
 /// Prints what is to be served, with a word for each pod.
-fn show_plan<R: Print>(rt: &R, plan: &Plan) -> io::Result<()> {
+fn show_plan(rt: &HostRuntime, plan: &Plan) -> io::Result<()> {
     let listen = shown(plan.listen.bytes());
     print!(rt; "  listen {listen}, pods")?;
     for pod in plan.pods.items() {
@@ -40,7 +40,7 @@ fn show_plan<R: Print>(rt: &R, plan: &Plan) -> io::Result<()> {
 }
 
 /// Prints what a command line of these words asks for, or why it is refused.
-fn show_words<R: Print + AllocGlobal>(rt: &R, words: &[String]) -> io::Result<()> {
+fn show_words(rt: &HostRuntime, words: &[String]) -> io::Result<()> {
     match plan_of(rt.alloc(), words) {
         Ok(plan) => show_plan(rt, &plan),
         Err(error) => println!(rt; "  {error}"),
@@ -48,7 +48,7 @@ fn show_words<R: Print + AllocGlobal>(rt: &R, words: &[String]) -> io::Result<()
 }
 
 /// Prints a command line, and what it asks for, or why it is refused.
-pub fn show<R: Print + AllocGlobal>(rt: &R, line: &str) -> io::Result<()> {
+pub fn show(rt: &HostRuntime, line: &str) -> io::Result<()> {
     println!(rt; "kactd {line}")?;
     let words = words_of(rt.alloc(), line)?;
     show_words(rt, &words)

@@ -1,7 +1,7 @@
 //! Readers and writers of std, and the standard streams.
 
 use crate::bytes::{put, read_two, read_twos};
-use kn_case::case;
+use crate::tell;
 use kn_io::{ReaderSource, Sink, Source, WriterSink};
 use std::io;
 use std::io::{Cursor, Read, Write};
@@ -84,47 +84,47 @@ impl Write for Stuck {
     }
 }
 
-fn readers<R: Print>(rt: &R) -> io::Result<()> {
+fn readers(rt: &HostRuntime) -> io::Result<()> {
     let mut source = ReaderSource::new(Cursor::new(b"abc".as_slice()));
     read_twos(rt, "reader", &mut source, 3)
 }
 
-fn broken_readers<R: Print>(rt: &R) -> io::Result<()> {
+fn broken_readers(rt: &HostRuntime) -> io::Result<()> {
     let mut broken = ReaderSource::new(Broken);
     read_twos(rt, "broken reader", &mut broken, 2)
 }
 
-fn halting_readers<R: Print>(rt: &R) -> io::Result<()> {
+fn halting_readers(rt: &HostRuntime) -> io::Result<()> {
     let mut halting = ReaderSource::new(Halting { calls: 101 });
     read_two(rt, "halting reader", &mut halting)
 }
 
-fn writers<R: Print + AllocGlobal>(rt: &R) -> io::Result<()> {
+fn writers(rt: &HostRuntime) -> io::Result<()> {
     let mut taken = WriterSink::new(Vec::<u8>::new(rt.alloc()));
     put(rt, "writer", &mut taken, "abc")
 }
 
-fn broken_writers<R: Print>(rt: &R) -> io::Result<()> {
+fn broken_writers(rt: &HostRuntime) -> io::Result<()> {
     let mut broken = WriterSink::new(Broken);
     put(rt, "broken writer", &mut broken, "abc")
 }
 
-fn halting_writers<R: Print>(rt: &R) -> io::Result<()> {
+fn halting_writers(rt: &HostRuntime) -> io::Result<()> {
     let mut halting = WriterSink::new(Halting { calls: 101 });
     put(rt, "halting writer", &mut halting, "abc")
 }
 
-fn put_nothing_and_three<R: Print, O: Sink>(rt: &R, stuck: &mut O) -> io::Result<()> {
-    case(rt, "stuck writer, nothing", &stuck.write(b""), &Ok(0))?;
+fn put_nothing_and_three<O: Sink>(rt: &HostRuntime, stuck: &mut O) -> io::Result<()> {
+    tell(rt, &[("stuck writer, nothing", stuck.write(b"") == Ok(0))])?;
     put(rt, "stuck writer", stuck, "abc")
 }
 
-fn stuck_writers<R: Print>(rt: &R) -> io::Result<()> {
+fn stuck_writers(rt: &HostRuntime) -> io::Result<()> {
     let mut stuck = WriterSink::new(Stuck);
     put_nothing_and_three(rt, &mut stuck)
 }
 
-pub fn all<R: Print + AllocGlobal>(rt: &R) -> io::Result<()> {
+pub fn all(rt: &HostRuntime) -> io::Result<()> {
     readers(rt)?;
     broken_readers(rt)?;
     halting_readers(rt)?;
@@ -135,18 +135,18 @@ pub fn all<R: Print + AllocGlobal>(rt: &R) -> io::Result<()> {
 }
 
 /// Nothing is read there.
-pub fn read_nothing<R: Print, I: Read + Drop>(rt: &R, name: &str, reader: I) -> io::Result<()> {
+pub fn read_nothing<I: Read + Drop>(rt: &HostRuntime, name: &str, reader: I) -> io::Result<()> {
     let mut input = ReaderSource::new(reader);
-    case(rt, name, &input.read(&mut []), &Ok(0))
+    tell(rt, &[(name, input.read(&mut []) == Ok(0))])
 }
 
-fn put_nothing<R: Print, O: Sink>(rt: &R, name: &str, out: &mut O) -> io::Result<()> {
+fn put_nothing<O: Sink>(rt: &HostRuntime, name: &str, out: &mut O) -> io::Result<()> {
     put(rt, name, out, "")?;
-    case(rt, name, &out.write(b""), &Ok(0))
+    tell(rt, &[(name, out.write(b"") == Ok(0))])
 }
 
 /// Nothing is written there, in two ways.
-pub fn write_nothing<R: Print, W: Write + Drop>(rt: &R, name: &str, writer: W) -> io::Result<()> {
+pub fn write_nothing<W: Write + Drop>(rt: &HostRuntime, name: &str, writer: W) -> io::Result<()> {
     let mut out = WriterSink::new(writer);
     put_nothing(rt, name, &mut out)
 }

@@ -66,63 +66,32 @@ fn mark_of(cand: &Cand) -> u8
     u8::from(cand.limit == 0 || cand.running < cand.limit)
 }
 
-/// A policy without marks and one with them, and whom each picked in the rounds so far.
-#[derive(Drop)]
-struct Rounds {
-    plain: Policy,
-    marked: Policy,
-    picks: Vec<Option<u64>>,
-    marked_picks: Vec<Option<u64>>,
+/// Whom a policy picked in six rounds, without marks and with them.
+#[derive(Clone, Copy)]
+pub struct Rounds {
+    pub picks: [Option<u64>; 6],
+    pub marked_picks: [Option<u64>; 6],
 }
 
-impl Rounds {
-    fn pick(&mut self, pods: &Marked) -> Result<(), AllocError> {
-        self.picks.push(self.plain.pick(&pods.ready))?;
-        self.marked_picks.push(pods.pick(&mut self.marked))?;
-        Ok(())
-    }
-
-    /// One more round over so many pods of this limit.
-    fn go_on(
-        &mut self,
-        alloc: Global,
-        count: u64,
-        limit: u64,
-        round: u64,
-    ) -> Result<(), AllocError> {
-        let pods = Marked::new(alloc, count, limit, round)?;
-        self.pick(&pods)
-    }
-
-    fn text(&self, alloc: Global) -> Result<String, AllocError> {
-        let (picks, marked_picks) = (&self.picks, &self.marked_picks);
-        format!(in alloc; "pick {picks:?}, pick_marked {marked_picks:?}")
-    }
-
-    fn six(&mut self, alloc: Global, count: u64, limit: u64) -> Result<String, AllocError> {
-        for round in 0..6 {
-            self.go_on(alloc, count, limit, round)?;
-        }
-        self.text(alloc)
-    }
-}
-
-/// Six rounds of a policy, in which some or all of so many pods have a free seat: whom it picks without marks and with
-/// them.
+/// Six rounds of a policy, in which some or all of so many pods have a free seat.
 pub fn six_rounds(
     alloc: Global,
     cc: u64,
     seed: u64,
     count: u64,
     limit: u64,
-) -> Result<String, AllocError> {
+) -> Result<Rounds, AllocError> {
+    let (mut plain, mut marked) = (Policy::new(cc, seed), Policy::new(cc, seed));
     let mut rounds = Rounds {
-        plain: Policy::new(cc, seed),
-        marked: Policy::new(cc, seed),
-        picks: Vec::new(alloc),
-        marked_picks: Vec::new(alloc),
+        picks: [None; 6],
+        marked_picks: [None; 6],
     };
-    rounds.six(alloc, count, limit)
+    for round in 0..6usize {
+        let pods = Marked::new(alloc, count, limit, round as u64)?;
+        rounds.picks[round] = plain.pick(&pods.ready);
+        rounds.marked_picks[round] = pods.pick(&mut marked);
+    }
+    Ok(rounds)
 }
 
 fn unlimited(pod: u64, running: u64) -> Cand {

@@ -1,7 +1,6 @@
 //! A mix of calls of the table beside a plain list.
+use crate::outcome::{Outcome, ok};
 use crate::run::Run;
-use anyhow::anyhow;
-use kn_case::case;
 use kn_record::{Place, Request};
 use kn_table::Table;
 use std::alloc::{AllocError, Global};
@@ -217,21 +216,13 @@ fn calls_beside_a_list(alloc: Global, run: &mut Run, calls: u64) -> Result<u64, 
     calls_that_agree(run, &mut plain, calls)
 }
 
-fn tell_calls<R: Print + AllocGlobal>(rt: &R, run: &mut Run) -> anyhow::Result<()> {
-    let agree = calls_beside_a_list(rt.alloc(), run, 2_500)?;
-    case(rt, "table, 2500 calls beside a plain list", &agree, &2_500)?;
-    case(
-        rt,
-        "table, above 1500 came in number",
-        &(run.next > 1_500),
-        &true,
-    )?;
-    Ok(())
-}
-
-pub fn beside_a_plain_list<R: Print + AllocGlobal>(rt: &R) -> anyhow::Result<()> {
-    match Run::new(rt.alloc()) {
-        Ok(mut run) => tell_calls(rt, &mut run),
-        Err(_) => Err(anyhow!("memory is lacking")),
-    }
+pub fn beside_a_plain_list(alloc: Global, run: &mut Run) -> [Outcome; 2] {
+    let agree = calls_beside_a_list(alloc, run, 2_500);
+    [
+        (
+            "table, 2500 calls beside a plain list",
+            ok(agree == Ok(2_500)),
+        ),
+        ("table, above 1500 came in number", ok(run.next > 1_500)),
+    ]
 }

@@ -1,11 +1,9 @@
 //! A full table that is swept again and again.
 ghost use Rattle.std.specs.Prelude.{◌<◌};
 
+use crate::outcome::{Outcome, ok};
 use crate::run::{Run, firsts};
-use anyhow::anyhow;
-use kn_case::case;
 use kn_record::{Place, Request};
-use std::io;
 use std::ops::Range;
 
 /// Whether so many requests come, one after the other.
@@ -75,37 +73,22 @@ fn loses(run: &mut Run, pod: u64, numbers: Range<u64>) -> bool {
 }
 
 /// Each end makes room for one more, through three sweeps.
-pub fn is_swept<R: Print + AllocGlobal>(rt: &R) -> anyhow::Result<()> {
-    match Run::new(rt.alloc()) {
-        Ok(mut run) => sweep(rt, &mut run),
-        Err(_) => Err(anyhow!("memory is lacking")),
-    }
-}
-
-fn sweep(rt: &impl Print, run: &mut Run) -> anyhow::Result<()> {
-    turns_over_when_full(rt, run)?;
-    ends_at_one_pod(rt, run)?;
-    Ok(())
-}
-
-fn turns_over_when_full(rt: &impl Print, run: &mut Run) -> io::Result<()> {
-    let filled = fills(run, 20_000);
-    case(rt, "table, 20000 come", &filled, &true)?;
-    let turns = turns_that_go_well(run);
-    case(rt, "table, 70000 turns over", &turns, &70_000)
-}
-
-fn ends_at_one_pod(rt: &impl Print, run: &mut Run) -> io::Result<()> {
-    let assigned = assigns(run, 3, 20_000);
-    case(rt, "table, 20000 are assigned", &assigned, &true)?;
-    let firsts = firsts(&run.table, 3, 1 << 40);
-    case(
-        rt,
-        "table, all run at pod 3",
-        &firsts,
-        &[None, None, None, Some(70_000)],
-    )?;
-    let lost = loses(run, 3, 70_000..90_000);
-    case(rt, "table, all of pod 3 are lost in order", &lost, &true)?;
-    case(rt, "table, none is left", &run.table.is_empty(), &true)
+pub fn sweep(run: &mut Run) -> [Outcome; 6] {
+    [
+        ("table, 20000 come", ok(fills(run, 20_000))),
+        (
+            "table, 70000 turns over",
+            ok(turns_that_go_well(run) == 70_000),
+        ),
+        ("table, 20000 are assigned", ok(assigns(run, 3, 20_000))),
+        (
+            "table, all run at pod 3",
+            ok(firsts(&run.table, 3, 1 << 40) == [None, None, None, Some(70_000)]),
+        ),
+        (
+            "table, all of pod 3 are lost in order",
+            ok(loses(run, 3, 70_000..90_000)),
+        ),
+        ("table, none is left", ok(run.table.is_empty())),
+    ]
 }

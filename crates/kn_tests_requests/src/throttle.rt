@@ -1,6 +1,5 @@
 //! The throttler's calls where nothing has come, each once, with ample memory.
-use anyhow::{anyhow, bail};
-use kn_case::case;
+use crate::outcome::{Outcome, ok, tell};
 use kn_event::{EntryLog, Memory, Slots, Spec, Stand};
 use kn_throttle::Throttle;
 use std::alloc::Global;
@@ -24,41 +23,31 @@ fn settle(alloc: Global, throttle: &mut Throttle) -> Result<usize, Memory> {
 }
 
 /// Nothing is known of a request that has not come, and nothing follows from nothing.
-pub fn empty<R: Print + AllocGlobal>(rt: &R) -> anyhow::Result<()> {
+fn answers(alloc: Global, throttle: &mut Throttle) -> [Outcome; 7] {
+    let rows = settle(alloc, throttle);
+    [
+        ("throttle, rows from nothing", ok(rows == Ok(0))),
+        (
+            "throttle, stand of no request",
+            ok(throttle.stand(0) == Stand::Unknown),
+        ),
+        ("throttle, no request is proxied", ok(!throttle.proxied(0))),
+        ("throttle, no request finishes", ok(!throttle.finish(0))),
+        ("throttle, no request is cancelled", ok(!throttle.cancel(0))),
+        (
+            "throttle, no request is due",
+            ok(throttle.due(u64::MAX).is_none()),
+        ),
+        (
+            "throttle, no request expires",
+            ok(throttle.expire_next(u64::MAX).is_none()),
+        ),
+    ]
+}
+
+pub fn empty(rt: &HostRuntime) -> io::Result<()> {
     match one_seat(rt.alloc()) {
-        Ok(mut throttle) => tell(rt, &mut throttle),
-        Err(_) => Err(anyhow!("memory is lacking")),
+        Ok(mut throttle) => tell(rt, &answers(rt.alloc(), &mut throttle)),
+        Err(_) => tell(rt, &[("throttle", "memory is lacking")]),
     }
-}
-
-fn tell<R: Print + AllocGlobal>(rt: &R, throttle: &mut Throttle) -> anyhow::Result<()> {
-    let Ok(rows) = settle(rt.alloc(), throttle) else {
-        bail!("memory is lacking");
-    };
-    case(rt, "throttle, rows from nothing", &rows, &0)?;
-    no_request_stands(rt, throttle)?;
-    no_request_ends(rt, throttle)?;
-    no_request_is_due(rt, throttle)?;
-    Ok(())
-}
-
-fn no_request_stands(rt: &impl Print, throttle: &Throttle) -> io::Result<()> {
-    let stand = throttle.stand(0);
-    case(rt, "throttle, stand of no request", &stand, &Stand::Unknown)?;
-    let proxied = throttle.proxied(0);
-    case(rt, "throttle, no request is proxied", &proxied, &false)
-}
-
-fn no_request_ends(rt: &impl Print, throttle: &mut Throttle) -> io::Result<()> {
-    let finished = throttle.finish(0);
-    case(rt, "throttle, no request finishes", &finished, &false)?;
-    let cancelled = throttle.cancel(0);
-    case(rt, "throttle, no request is cancelled", &cancelled, &false)
-}
-
-fn no_request_is_due(rt: &impl Print, throttle: &mut Throttle) -> io::Result<()> {
-    let due = throttle.due(u64::MAX);
-    case(rt, "throttle, no request is due", &due, &None)?;
-    let expired = throttle.expire_next(u64::MAX);
-    case(rt, "throttle, no request expires", &expired, &None)
 }

@@ -5,7 +5,7 @@ use kn_io::{LinkError, PodLink};
 use kn_tcp::TcpLink;
 use std::alloc::{AllocError, Global};
 use std::io::{Read, Write};
-use std::net::{Net, TcpListener, TcpStream};
+use std::net::{TcpListener, TcpStream};
 use std::thread::Threads;
 use std::time::Duration;
 use std::{io, thread};
@@ -16,9 +16,7 @@ fn address_of(alloc: Global, listener: &TcpListener) -> io::Result<String> {
 }
 
 /// A listening socket, and its address.
-pub fn listening<R: Net<Listener = TcpListener, Stream = TcpStream> + AllocGlobal>(
-    rt: &R,
-) -> io::Result<(TcpListener, String)> {
+pub fn listening(rt: &HostRuntime) -> io::Result<(TcpListener, String)> {
     let listener = TcpListener::bind(rt, "127.0.0.1:0")?;
     let address = address_of(rt.alloc(), &listener)?;
     Ok((listener, address))
@@ -30,7 +28,7 @@ fn set_timeouts(stream: &TcpStream) -> io::Result<()> {
 }
 
 /// A client that waits ten seconds at most for each read and write.
-pub fn client<R: Net<Stream = TcpStream>>(rt: &R, address: &str) -> io::Result<TcpStream> {
+pub fn client(rt: &HostRuntime, address: &str) -> io::Result<TcpStream> {
     let stream = TcpStream::connect(rt, address)?;
     set_timeouts(&stream)?;
     Ok(stream)
@@ -47,11 +45,11 @@ fn add_texts(alloc: Global, addresses: &[&[u8]], texts: &mut Vec<Text>) -> Resul
     Ok(())
 }
 
+/// A link over the machine's sockets.
+pub type Link<'a> = TcpLink<&'a HostRuntime>;
+
 /// A link to these addresses.
-pub fn link_to<'a, R: Net + AllocGlobal>(
-    rt: &'a R,
-    addresses: &[&[u8]],
-) -> io::Result<TcpLink<&'a R>> {
+pub fn link_to<'a>(rt: &'a HostRuntime, addresses: &[&[u8]]) -> io::Result<Link<'a>> {
     let mut texts = Vec::new(rt.alloc());
     add_texts(rt.alloc(), addresses, &mut texts)?;
     Ok(TcpLink::new(rt, Items::new(texts)))
@@ -94,15 +92,15 @@ fn length_of(reply: &Result<Text, LinkError>) -> Option<usize> {
 }
 
 /// The length of the reply that the link gives of such a pod.
-pub fn exchange<R: Threads, L: PodLink>(
-    rt: &R,
+pub fn exchange<T: Threads>(
+    threads: &T,
     alloc: Global,
     listener: &TcpListener,
-    link: &mut L,
+    link: &mut Link<'_>,
     talk: Talk<'_>,
 ) -> Option<usize> {
     let served = thread::join(
-        rt,
+        threads,
         || pod(alloc, listener, talk),
         || link.call(alloc, 0, talk.request),
     );

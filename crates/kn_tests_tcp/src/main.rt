@@ -7,76 +7,64 @@ mod links;
 mod loopback;
 mod replies;
 
-use kn_io::PodLink;
+use kn_io::Faulty;
+use loopback::Link;
 use std::alloc::Global;
 use std::io;
-use std::io::Input;
-use std::net::{Net, TcpListener, TcpStream};
+use std::net::TcpListener;
 use std::thread::Threads;
 
-/// The tests of callers and links that have no line.
-fn fixed<R: Print + AllocGlobal + Threads + Net<Listener = TcpListener, Stream = TcpStream>>(
-    rt: &R,
-) -> io::Result<()> {
-    callers::one_client(rt)?;
-    callers::shared_listener(rt)?;
-    callers::refusal_while_sending(rt)?;
-    callers::client_that_stays(rt)?;
-    links::probes(rt)?;
-    links::no_addresses(rt)?;
-    links::longest_reply(rt)
-}
-
-fn show_line<R: Print + AllocGlobal + Threads, L: PodLink>(
-    rt: &R,
-    listener: &TcpListener,
-    link: &mut L,
-    line: io::Result<String>,
-) -> io::Result<()> {
-    let line = line?;
-    replies::show(rt, listener, link, line.as_str())
-}
-
-/// Shows each line's reply.
-fn show_lines<R: Print + AllocGlobal + Input + Threads, L: PodLink>(
-    rt: &R,
-    listener: &TcpListener,
-    link: &mut L,
-) -> io::Result<()> {
-    for line in rt.lines(rt.alloc()) {
-        show_line(rt, listener, link, line)?;
+/// Prints of each case whether it is as it must be.
+fn tell(rt: &HostRuntime, cases: &[(&str, bool)]) -> io::Result<()> {
+    for (name, holds) in cases {
+        let word = if *holds { "ok" } else { "not so" };
+        println!(rt; "{name}: {word}")?;
     }
     Ok(())
 }
 
-/// Shows the replies by this link, and its faults.
-fn show_by<R: Print + AllocGlobal + Input + Threads, L: PodLink>(
-    rt: &R,
+/// The tests of callers and links that have no line.
+fn fixed<T: Threads>(rt: &HostRuntime, threads: &T) -> io::Result<()> {
+    callers::one_client(rt)?;
+    callers::shared_listener(rt)?;
+    callers::refusal_while_sending(rt, threads)?;
+    callers::client_that_stays(rt)?;
+    links::probes(rt)?;
+    links::no_addresses(rt)?;
+    links::longest_reply(rt, threads)
+}
+
+/// Shows each line's reply, and how many faults there were: one for each that was not whole.
+fn show_by<T: Threads>(
+    rt: &HostRuntime,
+    threads: &T,
     listener: &TcpListener,
-    link: &mut L,
+    link: &mut Link<'_>,
 ) -> io::Result<()> {
-    show_lines(rt, listener, link)?;
-    replies::show_faults(rt, link)
+    for line in rt.lines(rt.alloc()) {
+        replies::show(rt, threads, listener, link, line?.as_str())?;
+    }
+    let faults = link.faults();
+    println!(rt; "faults {faults}")
 }
 
 /// Shows the replies of a pod that listens here.
-fn show_at<R: Print + AllocGlobal + Input + Threads + Net>(
-    rt: &R,
+fn show_at<T: Threads>(
+    rt: &HostRuntime,
+    threads: &T,
     listener: &TcpListener,
     address: &str,
 ) -> io::Result<()> {
     let mut link = loopback::link_to(rt, &[address.as_bytes()])?;
-    show_by(rt, listener, &mut link)
+    show_by(rt, threads, listener, &mut link)
 }
 
-fn show_replies<
-    R: Print + AllocGlobal + Input + Threads + Net<Listener = TcpListener, Stream = TcpStream>,
->(rt: &R) -> io::Result<()> {
+fn show_replies<T: Threads>(rt: &HostRuntime, threads: &T) -> io::Result<()> {
     let (listener, address) = loopback::listening(rt)?;
-    show_at(rt, &listener, address.as_str())
+    show_at(rt, threads, &listener, address.as_str())
 }
 
 fn main(rt: HostRuntime) -> io::Result<()> {
-    fixed(&rt)?;
-    show_replies(&rt)
+    fixed(&rt, &rt)?;
+    show_replies(&rt, &rt)
 }

@@ -1,8 +1,9 @@
 //! What holds bytes, items and entries gives back what it was given.
+ghost use Rattle.std.specs.Prelude.{◌≡◌, []};
+
 use crate::texts::text_of;
 use kn_case::case;
 use kn_event::{Entry, EntryLog, Items, Line, Row, Text};
-use std::alloc::{AllocError, Global};
 use std::io;
 
 /// A line's buffer: put, print and clear.
@@ -19,23 +20,33 @@ pub fn line_buffer(rt: &impl Print) -> io::Result<()> {
     case(rt, "cleared line", &line.bytes().len(), &0)
 }
 
-/// A text, its copy and a list.
-pub fn texts_and_lists<R: Print + AllocGlobal>(rt: &R) -> anyhow::Result<()> {
-    let text = Text::new(b"hello-00001".to_vec(rt.alloc())?);
-    println!(rt; "text: {}", text_of(text.bytes()))?;
-    if let Ok(copied) = text.copy(rt.alloc()) {
-        println!(rt; "copied text: {}", text_of(copied.bytes()))?;
-    }
-    let items = Items::new([3u64, 1, 2].to_vec(rt.alloc())?);
-    println!(rt; "items: {:?}", items.items())?;
-    Ok(())
+fn show_text<R: Print + AllocGlobal>(rt: &R, text: &Text) -> io::Result<()> {
+    let Ok(copy) = text.copy(rt.alloc()) else {
+        return println!(rt; "no memory for a text");
+    };
+    println!(rt;
+        "text: {}\ncopied text: {}",
+        text_of(text.bytes()),
+        text_of(copy.bytes())
+    )
 }
 
-/// The log of a step: put and clear.
-pub fn log<R: Print + AllocGlobal>(rt: &R) -> io::Result<()> {
-    let Ok(mut log) = EntryLog::new(rt.alloc()) else {
-        return println!(rt; "no memory for a log");
-    };
+fn show_items<R: Print + AllocGlobal>(rt: &R) -> io::Result<()> {
+    let items = Items::new([3u64, 1, 2].to_vec(rt.alloc())?);
+    println!(rt; "items: {:?}", items.items())
+}
+
+/// A text, its copy and a list.
+pub fn texts_and_lists<R: Print + AllocGlobal>(rt: &R) -> io::Result<()> {
+    let text = Text::new(b"hello-00001".to_vec(rt.alloc())?);
+    show_text(rt, &text)?;
+    drop(text);
+    show_items(rt)
+}
+
+fn show_log<R: Print>(rt: &R, log: &mut EntryLog) -> io::Result<()>
+    requires { log.old ≡ [] }
+{
     log.put(Entry {
         time: 1,
         row: Row::NoData,
@@ -49,4 +60,16 @@ pub fn log<R: Print + AllocGlobal>(rt: &R) -> io::Result<()> {
     log.clear();
     log.put(second);
     println!(rt; "cleared log: {:?}", log.entries())
+}
+
+/// The log of a step: put and clear.
+pub fn log<R: Print + AllocGlobal>(rt: &R) -> io::Result<()> {
+    match EntryLog::new(rt.alloc()) {
+        Ok(mut log) => {
+            let done = show_log(rt, &mut log);
+            drop(log);
+            done
+        }
+        Err(_) => println!(rt; "no memory for a log"),
+    }
 }

@@ -37,9 +37,9 @@ const KEYS: [Key; 30] = [
 
 /// The key that is written so; where none is, one that no setting or annotation has.
 pub fn key_of(name: &str) -> Key {
-    for key in KEYS {
+    for key in &KEYS {
         if key.text() == name {
-            return key;
+            return *key;
         }
     }
     Key::Name
@@ -47,7 +47,7 @@ pub fn key_of(name: &str) -> Key {
 
 /// Prints how each key is written.
 pub fn texts(rt: &impl Print) -> io::Result<()> {
-    for key in KEYS {
+    for key in &KEYS {
         println!(rt; "{key:?}: {}", key.text())?;
     }
     Ok(())

@@ -15,109 +15,102 @@ mod settings;
 mod texts;
 mod written;
 
+use kn_config::Config;
 use std::alloc::{AllocError, Global};
 use std::io;
 use std::io::Input;
 use std::rt::Files;
-use texts::{bytes_of, first_word, text_of};
+use texts::{bytes_of, first_word, say, text_of};
 
-/// What a text comes to by the calls of its subject.
-fn answer_to(alloc: Global, subject: &str, text: &[u8]) -> Result<String, AllocError> {
-    match subject {
-        "number" => numbers::number(alloc, text),
-        "whole" => numbers::whole(alloc, text),
-        "duration" => numbers::duration(alloc, text),
-        "digits" => numbers::digits(alloc, text),
-        "quotient-up" => numbers::quotient_up(alloc, text_of(text)),
-        "quotient-down" => numbers::quotient_down(alloc, text_of(text)),
-        "line" => lines::line(alloc, text),
-        "split" => lines::split(alloc, text),
-        "ahead" => lines::ahead(alloc, text),
-        "config" => settings::config(alloc, text),
-        "setting" => settings::setting(alloc, text_of(text)),
-        "default" => settings::default(alloc, text_of(text)),
-        "fixed" => revisions::fixed(alloc, text_of(text)),
-        _ => answer_to_journal(alloc, subject, text),
-    }
-}
-
-/// What a journal, or a part of one, comes to.
-fn answer_to_journal(alloc: Global, subject: &str, text: &[u8]) -> Result<String, AllocError> {
-    match subject {
-        "journal" => journals::journal(alloc, text),
-        "events" => journals::events(alloc, text),
-        "cut" => journals::cut(alloc, text),
-        "failing" => journals::failing(alloc, text),
-        "setup" => journals::setup(alloc, text),
-        "back" => written::back(alloc, text),
-        _ => String::from_str(alloc, "no such subject"),
-    }
-}
-
-/// What a text comes to over a ConfigMap.
-fn answer_over(
+/// Adds what a text comes to by the calls of its subject, some of them over a ConfigMap.
+fn add_answer(
     alloc: Global,
     settings: &[u8],
     subject: &str,
     text: &[u8],
-) -> Result<String, AllocError> {
+    out: &mut String,
+) -> Result<(), AllocError> {
     match subject {
-        "revision" => revisions::revision(alloc, settings, text),
-        "parts" => revisions::parts(alloc, settings, text),
-        "annotation" => revisions::annotation(alloc, settings, text_of(text)),
-        "limit" => revisions::limit(alloc, settings, text_of(text)),
-        "without" => revisions::without(alloc, settings, text_of(text)),
-        _ => String::from_str(alloc, "no such subject"),
+        "number" | "whole" | "duration" | "digits" | "quotient-up" | "quotient-down" => {
+            numbers::number(subject, text, out)
+        }
+        "line" => lines::line(text, out),
+        "split" => lines::split(text, out),
+        "ahead" => lines::ahead(text, out),
+        "config" => say(out, &Config::read(alloc, text)),
+        "setting" => {
+            let (name, text) = first_word(text_of(text));
+            settings::setting(alloc, name, name, text, out)
+        }
+        "default" => settings::setting(alloc, text_of(text), "_example", "", out),
+        "fixed" => revisions::fixed(alloc, text_of(text), out),
+        "revision" | "parts" | "annotation" | "limit" | "without" => {
+            revisions::revision(alloc, settings, subject, text, out)
+        }
+        _ => add_answer_to_journal(alloc, subject, text, out),
     }
 }
 
-fn answer_alone<R: Files + AllocGlobal>(
-    rt: &R,
+/// Adds what a journal, or a part of one, comes to.
+fn add_answer_to_journal(
+    alloc: Global,
     subject: &str,
-    text: &str,
-) -> anyhow::Result<String> {
-    let text = bytes_of(rt, text)?;
-    Ok(answer_to(rt.alloc(), subject, &text)?)
+    text: &[u8],
+    out: &mut String,
+) -> Result<(), AllocError> {
+    match subject {
+        "journal" => journals::journal(alloc, text, out),
+        "events" => journals::events(alloc, text, out),
+        "cut" => journals::cut(alloc, text, out),
+        "failing" => journals::failing(alloc, text, out),
+        "setup" => journals::setup(alloc, text, out),
+        "back" => written::back(alloc, text, out),
+        _ => out.push_str("no such subject"),
+    }
 }
 
-fn answer_with<R: Files + AllocGlobal>(
+fn add_answer_over<R: Files + AllocGlobal>(
     rt: &R,
     settings: &[u8],
-    rest: &str,
-) -> anyhow::Result<String> {
-    let (subject, text) = first_word(rest);
+    line: &str,
+    out: &mut String,
+) -> io::Result<()> {
+    let (subject, text) = first_word(line);
     let text = bytes_of(rt, text)?;
-    Ok(answer_over(rt.alloc(), settings, subject, &text)?)
+    Ok(add_answer(rt.alloc(), settings, subject, &text, out)?)
 }
 
-/// The answer to a line.
-fn answer<R: Files + AllocGlobal>(rt: &R, line: &str) -> anyhow::Result<String> {
-    let (subject, text) = first_word(line);
-    if subject != "over" {
-        return answer_alone(rt, subject, text);
-    }
-    let (settings, rest) = first_word(text);
+/// Adds the answer to a line.
+fn add_answer_to_line<R: Files + AllocGlobal>(
+    rt: &R,
+    line: &str,
+    out: &mut String,
+) -> io::Result<()> {
+    let (settings, line) = match line.strip_prefix("over ") {
+        Some(rest) => first_word(rest),
+        None => ("", line),
+    };
     let settings = bytes_of(rt, settings)?;
-    answer_with(rt, &settings, rest)
+    add_answer_over(rt, &settings, line, out)
 }
 
 /// Prints a line with its answer.
-fn show<R: Print + Files + AllocGlobal>(rt: &R, line: &str) -> anyhow::Result<()> {
-    let answer = answer(rt, line)?;
-    println!(rt; "{line}: {answer}")?;
-    Ok(())
+fn show<R: Print + Files + AllocGlobal>(rt: &R, line: &str, out: &mut String) -> io::Result<()> {
+    add_answer_to_line(rt, line, out)?;
+    println!(rt; "{line}: {out}")
 }
 
-fn show_line<R: Print + Files + AllocGlobal>(
-    rt: &R,
-    line: io::Result<String>,
-) -> anyhow::Result<()> {
+fn show_line<R: Print + Files + AllocGlobal>(rt: &R, line: io::Result<String>) -> io::Result<()> {
     let line = line?;
-    show(rt, line.as_str())
+    let mut out = String::new(rt.alloc());
+    let done = show(rt, line.as_str(), &mut out);
+    drop(out);
+    drop(line);
+    done
 }
 
 /// The lines of standard input.
-fn show_lines<R: Print + Files + AllocGlobal + Input>(rt: &R) -> anyhow::Result<()> {
+fn show_lines<R: Print + Files + AllocGlobal + Input>(rt: &R) -> io::Result<()> {
     for line in rt.lines(rt.alloc()) {
         show_line(rt, line)?;
     }
@@ -125,11 +118,12 @@ fn show_lines<R: Print + Files + AllocGlobal + Input>(rt: &R) -> anyhow::Result<
 }
 
 /// The cases that are no texts.
-fn cases<R: Print + AllocGlobal>(rt: &R) -> anyhow::Result<()> {
+fn cases<R: Print + AllocGlobal>(rt: &R) -> io::Result<()> {
     keys::texts(rt)?;
     rows::report(rt)?;
     lines::turns(rt)?;
-    lines::bytes_behind_digits(rt)?;
+    lines::fitting(rt, 2)?;
+    lines::fitting(rt, 12)?;
     holders::line_buffer(rt)?;
     holders::texts_and_lists(rt)?;
     holders::log(rt)?;
@@ -137,7 +131,7 @@ fn cases<R: Print + AllocGlobal>(rt: &R) -> anyhow::Result<()> {
     written::many(rt)
 }
 
-fn main(rt: HostRuntime) -> anyhow::Result<()> {
+fn main(rt: HostRuntime) -> io::Result<()> {
     show_lines(&rt)?;
     cases(&rt)
 }

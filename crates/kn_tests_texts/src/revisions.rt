@@ -3,11 +3,12 @@ ghost use Rattle.std.specs.Prelude.{IfSome};
 ghost use Rattle.kn_event.specs.Ranges.{AreSlots};
 
 use crate::keys::key_of;
-use crate::texts::{first_word, said, text_of};
+use crate::texts::{first_word, text_of};
 use kn_config::{Config, Key};
 use kn_event::{Burst, Metric, Slots, Spec};
 use kn_revision::{SpecError, resolve};
 use std::alloc::{AllocError, Global};
+use std::fmt::Write;
 
 const SLOTS: Slots = Slots {
     depth: 10_000,
@@ -23,70 +24,38 @@ fn resolved(alloc: Global, settings: &[u8], text: &[u8]) -> Result<Spec, SpecErr
     }
 }
 
-/// The metric, the target and the windows.
-fn target_text(alloc: Global, spec: &Spec) -> Result<String, AllocError> {
+/// Adds the metric, the target and the windows.
+fn add_target(spec: &Spec, out: &mut String) -> Result<(), AllocError> {
     let (metric, total, target) = (spec.metric, spec.total.0, spec.target);
     let (stable_s, panic_s) = (spec.stable_s, spec.panic_s);
     let (num, den) = (target.num, target.den);
-    format!(in alloc;
+    write!(
+        out,
         "{metric:?} total={total} target={num}/{den} stable_s={stable_s} panic_s={panic_s}"
     )
 }
 
-/// The rates, the delay and the burst.
-fn rates_text(alloc: Global, spec: &Spec) -> Result<String, AllocError> {
+/// Adds the rates, the delay, the burst, the bounds, and what is kept when no request comes.
+fn add_rates(spec: &Spec, out: &mut String) -> Result<(), AllocError> {
     let (threshold, up, down) = (spec.panic_threshold.0, spec.up.0, spec.down.0);
     let (activation, delay_s, burst) = (spec.activation, spec.delay_s, spec.burst);
-    format!(in alloc;
-        "panic_threshold={threshold} up={up} down={down} activation={activation} delay_s={delay_s} burst={burst:?}"
-    )
-}
-
-/// The bounds, and what is kept when no request comes.
-fn bounds_text(alloc: Global, spec: &Spec) -> Result<String, AllocError> {
     let (min, max, initial, to_zero) = (spec.min, spec.max, spec.initial, spec.to_zero);
     let (grace_ms, retention_ms) = (spec.grace_ms, spec.retention_ms);
-    format!(in alloc;
-        "min={min} max={max} initial={initial} to_zero={to_zero} grace_ms={grace_ms} retention_ms={retention_ms}"
+    write!(
+        out,
+        " panic_threshold={threshold} up={up} down={down} activation={activation} delay_s={delay_s} burst={burst:?} \
+         min={min} max={max} initial={initial} to_zero={to_zero} grace_ms={grace_ms} retention_ms={retention_ms}"
     )
 }
 
-fn rates_and_bounds(alloc: Global, spec: &Spec) -> Result<String, AllocError> {
-    let rates = rates_text(alloc, spec)?;
-    let bounds = bounds_text(alloc, spec)?;
-    format!(in alloc; "{rates} {bounds}")
-}
-
-fn target_and_bounds(alloc: Global, spec: &Spec) -> Result<String, AllocError> {
-    let target = target_text(alloc, spec)?;
-    let others = rates_and_bounds(alloc, spec)?;
-    format!(in alloc; "{target} {others}")
-}
-
-/// All parts of a specification.
-fn parts_text(alloc: Global, spec: &Spec) -> Result<String, AllocError> {
+/// Adds all parts of a specification.
+fn add_parts(spec: &Spec, out: &mut String) -> Result<(), AllocError> {
     let (namespace, name) = (text_of(spec.namespace.bytes()), text_of(spec.name.bytes()));
     let (kind, cc, timeout_ms, slots) = (spec.kind, spec.cc, spec.timeout_ms, spec.slots);
-    let parts = target_and_bounds(alloc, spec)?;
-    format!(in alloc;
-        "{kind:?} {namespace}/{name} cc={cc} {parts} timeout_ms={timeout_ms} {slots:?}"
-    )
-}
-
-/// What the autoscaler aims at.
-pub fn revision(alloc: Global, settings: &[u8], text: &[u8]) -> Result<String, AllocError> {
-    match resolved(alloc, settings, text) {
-        Ok(spec) => target_text(alloc, &spec),
-        Err(fault) => format!(in alloc; "{fault:?}"),
-    }
-}
-
-/// All that the Revision comes to.
-pub fn parts(alloc: Global, settings: &[u8], text: &[u8]) -> Result<String, AllocError> {
-    match resolved(alloc, settings, text) {
-        Ok(spec) => parts_text(alloc, &spec),
-        Err(fault) => format!(in alloc; "{fault:?}"),
-    }
+    write!(out, "{kind:?} {namespace}/{name} cc={cc} ")?;
+    add_target(spec, out)?;
+    add_rates(spec, out)?;
+    write!(out, " timeout_ms={timeout_ms} {slots:?}")
 }
 
 /// What stands before the name of an annotation.
@@ -134,41 +103,79 @@ fn part(spec: &Spec, key: Key) -> u128 {
     }
 }
 
-/// The key's part of a Revision.
-fn settled(alloc: Global, settings: &[u8], text: &str, key: Key) -> Result<u128, SpecError> {
-    match resolved(alloc, settings, text.as_bytes()) {
-        Ok(spec) => Ok(part(&spec, key)),
-        Err(fault) => Err(fault),
+/// What is asked of a Revision: what the autoscaler aims at, all that it comes to, or the part of a key.
+#[derive(Clone, Copy)]
+enum Asked {
+    Target,
+    All,
+    Part(Key),
+}
+
+fn add_asked(asked: Asked, spec: &Spec, out: &mut String) -> Result<(), AllocError> {
+    match asked {
+        Asked::Target => add_target(spec, out),
+        Asked::All => add_parts(spec, out),
+        Asked::Part(key) => {
+            let part = part(spec, key);
+            write!(out, "{part}")
+        }
     }
 }
 
-/// What an annotation comes to, by its name and its text.
-pub fn annotation(alloc: Global, settings: &[u8], text: &str) -> Result<String, AllocError> {
-    let (name, value) = first_word(text);
-    let text = annotated(alloc, name, value)?;
-    said(
-        alloc,
-        &settled(alloc, settings, text.as_str(), key_of(name)),
-    )
+/// Adds what is asked of the Revision of this text.
+fn add_resolved(
+    alloc: Global,
+    settings: &[u8],
+    text: &[u8],
+    asked: Asked,
+    out: &mut String,
+) -> Result<(), AllocError> {
+    match resolved(alloc, settings, text) {
+        Ok(spec) => {
+            let done = add_asked(asked, &spec, out);
+            drop(spec);
+            done
+        }
+        Err(fault) => write!(out, "{fault:?}"),
+    }
 }
 
-/// What a limit comes to, by its name and its text.
-pub fn limit(alloc: Global, settings: &[u8], text: &str) -> Result<String, AllocError> {
-    let (name, value) = first_word(text);
-    let text = limited(alloc, name, value)?;
-    said(
-        alloc,
-        &settled(alloc, settings, text.as_str(), key_of(name)),
-    )
+/// A Revision that has an annotation, a limit or neither, by its name and its text.
+fn written(alloc: Global, subject: &str, name: &str, value: &str) -> Result<String, AllocError> {
+    match subject {
+        "annotation" => annotated(alloc, name, value),
+        "limit" => limited(alloc, name, value),
+        _ => annotated(alloc, "other", ""),
+    }
 }
 
-/// What an annotation or a limit comes to where it is missing.
-pub fn without(alloc: Global, settings: &[u8], name: &str) -> Result<String, AllocError> {
-    let text = annotated(alloc, "other", "")?;
-    said(
-        alloc,
-        &settled(alloc, settings, text.as_str(), key_of(name)),
-    )
+/// Adds what an annotation or a limit comes to, by its name and its text, or where it is missing.
+fn add_alone(
+    alloc: Global,
+    settings: &[u8],
+    subject: &str,
+    text: &str,
+    out: &mut String,
+) -> Result<(), AllocError> {
+    let (name, value) = first_word(text);
+    let asked = Asked::Part(key_of(name));
+    let text = written(alloc, subject, name, value)?;
+    add_resolved(alloc, settings, text.as_bytes(), asked, out)
+}
+
+/// What a text comes to over a ConfigMap.
+pub fn revision(
+    alloc: Global,
+    settings: &[u8],
+    subject: &str,
+    text: &[u8],
+    out: &mut String,
+) -> Result<(), AllocError> {
+    match subject {
+        "revision" => add_resolved(alloc, settings, text, Asked::Target, out),
+        "parts" => add_resolved(alloc, settings, text, Asked::All, out),
+        _ => add_alone(alloc, settings, subject, text_of(text), out),
+    }
 }
 
 /// Slots, if these may be.
@@ -201,29 +208,37 @@ fn add_numbers(text: &str, numbers: &mut Vec<u64>) -> Result<(), AllocError> {
     Ok(())
 }
 
-fn both_texts(alloc: Global, spec: &Spec, copy: &Spec) -> Result<String, AllocError> {
-    let spec = parts_text(alloc, spec)?;
-    let copy = parts_text(alloc, copy)?;
-    format!(in alloc; "{spec}; copied {copy}")
-}
-
-fn with_copy(alloc: Global, spec: &Spec) -> Result<String, AllocError> {
+fn add_copy(alloc: Global, spec: &Spec, out: &mut String) -> Result<(), AllocError> {
     match spec.copy(alloc) {
-        Ok(copy) => both_texts(alloc, spec, &copy),
+        Ok(copy) => {
+            let done = add_parts(&copy, out);
+            drop(copy);
+            done
+        }
         Err(_) => Err(AllocError),
     }
 }
 
-fn fixed_text(alloc: Global, settings: &[u64]) -> Result<String, AllocError> {
+fn add_with_copy(alloc: Global, spec: &Spec, out: &mut String) -> Result<(), AllocError> {
+    add_parts(spec, out)?;
+    out.push_str("; copied ")?;
+    add_copy(alloc, spec, out)
+}
+
+fn add_fixed(alloc: Global, settings: &[u64], out: &mut String) -> Result<(), AllocError> {
     match fixed_of(alloc, settings) {
-        Some(spec) => with_copy(alloc, &spec),
-        None => String::from_str(alloc, "out of range"),
+        Some(spec) => {
+            let done = add_with_copy(alloc, &spec, out);
+            drop(spec);
+            done
+        }
+        None => out.push_str("out of range"),
     }
 }
 
 /// All parts of fixed pods, and of a copy: of the limit, the pods, the timeout, the depth, the maximum and the seed.
-pub fn fixed(alloc: Global, text: &str) -> Result<String, AllocError> {
+pub fn fixed(alloc: Global, text: &str, out: &mut String) -> Result<(), AllocError> {
     let mut settings = Vec::new(alloc);
     add_numbers(text, &mut settings)?;
-    fixed_text(alloc, &settings)
+    add_fixed(alloc, &settings, out)
 }

@@ -110,8 +110,8 @@ fn print_row(rt: &impl Print, time: u64, row: Row) -> io::Result<()> {
 
 /// Prints the line of each kind of row, and of three decisions.
 pub fn report(rt: &impl Print) -> io::Result<()> {
-    for row in ROWS {
-        print_row(rt, 5, row)?;
+    for row in &ROWS {
+        print_row(rt, 5, *row)?;
     }
     print_row(rt, 1000, Row::Decided(BUSY))?;
     print_row(rt, 0, Row::Decided(ALL_DIFFER))?;

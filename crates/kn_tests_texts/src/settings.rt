@@ -1,14 +1,9 @@
 //! The settings of a ConfigMap.
 use crate::keys::key_of;
-use crate::texts::{first_word, said};
-use kn_config::{Config, ConfigError, Key};
+use kn_config::{Config, Key};
 use kn_event::Burst;
 use std::alloc::{AllocError, Global};
-
-/// All settings of a ConfigMap in JSON.
-pub fn config(alloc: Global, text: &[u8]) -> Result<String, AllocError> {
-    said(alloc, &Config::read(alloc, text))
-}
+use std::fmt::Write;
 
 /// The setting of a key, and 0 for a key that the ConfigMap doesn't have. A boolean is 1 or 0.
 fn amount(config: &Config, key: Key) -> u64 {
@@ -38,23 +33,21 @@ fn amount(config: &Config, key: Key) -> u64 {
 }
 
 /// The setting of a key in a ConfigMap that has this member alone.
-fn setting_of(alloc: Global, key: Key, name: &str, text: &str) -> Result<u64, ConfigError> {
-    let Ok(json) = format!(in alloc; r#"{{"data":{{"{name}":"{text}"}}}}"#) else {
-        return Err(ConfigError::Memory);
-    };
-    match Config::read(alloc, json.as_bytes()) {
-        Ok(config) => Ok(amount(&config, key)),
-        Err(fault) => Err(fault),
+pub fn setting(
+    alloc: Global,
+    key: &str,
+    name: &str,
+    text: &str,
+    out: &mut String,
+) -> Result<(), AllocError> {
+    let json = format!(in alloc; r#"{{"data":{{"{name}":"{text}"}}}}"#)?;
+    let read = Config::read(alloc, json.as_bytes());
+    drop(json);
+    match read {
+        Ok(config) => {
+            let amount = amount(&config, key_of(key));
+            write!(out, "{amount}")
+        }
+        Err(fault) => write!(out, "{fault:?}"),
     }
-}
-
-/// A setting, by its name and its text.
-pub fn setting(alloc: Global, text: &str) -> Result<String, AllocError> {
-    let (name, text) = first_word(text);
-    said(alloc, &setting_of(alloc, key_of(name), name, text))
-}
-
-/// What a setting is where it is missing.
-pub fn default(alloc: Global, name: &str) -> Result<String, AllocError> {
-    said(alloc, &setting_of(alloc, key_of(name), "_example", ""))
 }

@@ -1,68 +1,102 @@
 //! Journals that are written and read.
-ghost use Rattle.std.specs.Prelude.{IfOk, IfSome};
-ghost use Rattle.kn_journal.specs.Journal.{IsJournal};
+ghost use Rattle.std.specs.Prelude.{◌≡◌, ◌≤◌, [], true, IfSome};
+ghost use Rattle.kn_journal.specs.Journal.{AreEvents, IsSetup, time_most};
 
-use crate::journals::{NEVER, open, source};
+use crate::journals::{NEVER, Reading, read_start, reading_of};
 use kn_case::case;
 use kn_event::{Act, Event, Line, Memory, event_line};
 use kn_io::{MemSink, MemSource};
-use kn_journal::{Events, FirstLine, Journal, JournalError, JournalReader, Status, write_journal};
+use kn_journal::{
+    Events, FirstLine, Journal, JournalError, JournalReader, Setup, Status, write_journal,
+};
 use std::alloc::{AllocError, Global};
 use std::io;
 
-/// The journal that the source gives, where it gives one.
-fn read_journal(alloc: Global, source: &mut MemSource) -> Result<Option<Journal>, Memory>
-    ensures { IfOk result (λ read. IfSome read IsJournal) }
+/// Reads events until their end. False where something else comes.
+fn read_events(reader: &mut JournalReader, source: &mut MemSource, events: &mut Vec<Event>) -> bool
+    requires { events.old.items ≡ [] }
+    ensures version { reader.new.version ≡ reader.old.version }
+    ensures events { result ≡ true → AreEvents reader.old.version reader.old.last events.new.items }
 {
-    let mut reader = JournalReader::new(alloc)?;
-    let Ok(setup) = reader.setup(alloc, source) else {
-        return Ok(None);
-    };
-    let Ok(start) = reader.start(source) else {
-        return Ok(None);
-    };
-    let mut events = Vec::new(alloc);
     for _ in 0..NEVER {
         match reader.next(source) {
             Ok(Some(e)) => if events.push(e).is_err() {
-                return Err(Memory);
+                return false;
             },
-            Ok(None) => {
-                return Ok(Some(Journal {
-                    version: reader.version(),
-                    setup,
-                    start,
-                    events: Events::new(events),
-                }));
-            }
-            Err(_) => return Ok(None),
+            Ok(None) => return true,
+            Err(_) => return false,
         }
     }
-    Ok(None)
+    false
 }
 
-/// Whether the journal that the source gives is written to the sink, all of it.
-fn write_back(alloc: Global, source: &mut MemSource, out: &mut MemSink) -> Result<bool, Memory> {
-    match read_journal(alloc, source) {
-        Ok(Some(journal)) => Ok(write_journal(&journal, out).is_ok()),
-        Ok(None) => Ok(false),
-        Err(Memory) => Err(Memory),
+/// Reads the start and the events. None where their end doesn't come.
+fn read_course(
+    reader: &mut JournalReader,
+    source: &mut MemSource,
+    events: &mut Vec<Event>,
+) -> Option<u64>
+    requires { events.old.items ≡ [] }
+    ensures version { reader.new.version ≡ reader.old.version }
+    ensures start { IfSome result (λ start. start ≤ time_most) }
+    ensures events { IfSome result (λ start. AreEvents reader.old.version start events.new.items) }
+{
+    match reader.start(source) {
+        Ok(start) if read_events(reader, source, events) => Some(start),
+        _ => None,
+    }
+}
+
+/// Whether what follows a setup is a journal with it, which is written to the sink.
+fn write_rest(alloc: Global, setup: Setup, reading: &mut Reading, out: &mut MemSink) -> bool
+    requires setup { IsSetup setup }
+    requires least { 1 ≤ reading.old.reader.version }
+    requires most { reading.old.reader.version ≤ 2 }
+{
+    let Reading { reader, source } = reading;
+    let mut events = Vec::new(alloc);
+    let start = read_course(reader, source, &mut events);
+    let journal = Journal {
+        version: reader.version(),
+        setup,
+        start: start.unwrap_or(0),
+        events: Events::new(events),
+    };
+    let written = start.is_some() && write_journal(&journal, out).is_ok();
+    drop(journal);
+    written
+}
+
+/// Whether a journal is read, and written to the sink, all of it.
+fn write_back(alloc: Global, reading: &mut Reading, out: &mut MemSink) -> bool {
+    match reading.reader.setup(alloc, &mut reading.source) {
+        Ok(setup) => write_rest(alloc, setup, reading, out),
+        Err(_) => false,
+    }
+}
+
+fn writes_same(alloc: Global, reading: &mut Reading, bytes: &[u8]) -> Result<bool, AllocError> {
+    let fail = vec![in alloc; NEVER]?;
+    match MemSink::new(alloc, 1 << 20, fail) {
+        Ok(mut out) => {
+            let same = write_back(alloc, reading, &mut out) && out.held() == bytes;
+            drop(out);
+            Ok(same)
+        }
+        Err(Memory) => Err(AllocError),
     }
 }
 
 /// Whether a journal, once read, is written as the same bytes.
-pub fn back(alloc: Global, bytes: &[u8]) -> Result<String, AllocError> {
-    let mut source = source(alloc, bytes, 7, NEVER)?;
-    let fail = vec![in alloc; NEVER]?;
-    let Ok(mut out) = MemSink::new(alloc, 1 << 20, fail) else {
-        return Err(AllocError);
-    };
-    let written = write_back(alloc, &mut source, &mut out) == Ok(true);
-    if written && out.held() == bytes {
-        String::from_str(alloc, "the same bytes")
+pub fn back(alloc: Global, bytes: &[u8], out: &mut String) -> Result<(), AllocError> {
+    let mut reading = reading_of(alloc, bytes, 7, NEVER)?;
+    let same = writes_same(alloc, &mut reading, bytes);
+    drop(reading);
+    out.push_str(if same? {
+        "the same bytes"
     } else {
-        String::from_str(alloc, "NOT the same bytes")
-    }
+        "NOT the same bytes"
+    })
 }
 
 /// An event of a journal with one each millisecond.
@@ -78,23 +112,29 @@ fn event_at(i: u64) -> Event {
 
 const MANY: u64 = 10_000;
 
-/// A journal of these events, in order.
-fn many_events(alloc: Global) -> Result<Vec<u8>, AllocError> {
-    let mut text = Vec::from_slice(
-        alloc,
-        b"kact journal 2\nfixed limit=1 depth=1 max=1 pods=1 timeout=300 seed=0\nstart 0\n",
-    )?;
+/// Adds the lines of these events, in order.
+fn add_events(text: &mut Vec<u8>) -> Result<(), AllocError> {
     let mut line = Line::new();
     for i in 0..MANY {
         event_line(&event_at(i), &mut line);
         text.extend_from_slice(line.bytes())?;
     }
-    text.extend_from_slice(b"end\n")?;
+    text.extend_from_slice(b"end\n")
+}
+
+/// A journal of these events.
+fn many_events(alloc: Global) -> Result<Vec<u8>, AllocError> {
+    let mut text = Vec::from_slice(
+        alloc,
+        b"kact journal 2\nfixed limit=1 depth=1 max=1 pods=1 timeout=300 seed=0\nstart 0\n",
+    )?;
+    add_events(&mut text)?;
     Ok(text)
 }
 
 /// How many of these events a reader gives, in order, before it gives another answer.
-fn count_read(reader: &mut JournalReader, source: &mut MemSource) -> u64 {
+fn count_read(reading: &mut Reading) -> u64 {
+    let Reading { reader, source } = reading;
     for i in 0..MANY {
         if reader.next(source) != Ok(Some(event_at(i))) {
             return i;
@@ -103,21 +143,26 @@ fn count_read(reader: &mut JournalReader, source: &mut MemSource) -> u64 {
     MANY
 }
 
+fn show_many<R: Print + AllocGlobal>(rt: &R, reading: &mut Reading) -> io::Result<()> {
+    if read_start(rt.alloc(), reading).is_err() {
+        return println!(rt; "no start");
+    }
+    case(rt, "events read as written", &count_read(reading), &MANY)?;
+    let end = reading.reader.next(&mut reading.source);
+    case(rt, "end behind them", &end, &Ok(None))
+}
+
+fn reading_of_many(alloc: Global) -> Result<Reading, AllocError> {
+    let text = many_events(alloc)?;
+    reading_of(alloc, &text, 100, NEVER)
+}
+
 /// Many events are read as they were written, and then the end.
-pub fn many<R: Print + AllocGlobal>(rt: &R) -> anyhow::Result<()> {
-    let text = many_events(rt.alloc())?;
-    let mut source = source(rt.alloc(), &text, 100, NEVER)?;
-    let Ok(mut reader) = open(rt.alloc(), &mut source) else {
-        return Ok(println!(rt; "no start")?);
-    };
-    case(
-        rt,
-        "events read as written",
-        &count_read(&mut reader, &mut source),
-        &MANY,
-    )?;
-    case(rt, "end behind them", &reader.next(&mut source), &Ok(None))?;
-    Ok(())
+pub fn many<R: Print + AllocGlobal>(rt: &R) -> io::Result<()> {
+    let mut reading = reading_of_many(rt.alloc())?;
+    let done = show_many(rt, &mut reading);
+    drop(reading);
+    done
 }
 
 /// Each status of a command.
@@ -135,7 +180,7 @@ const STATUSES: [Status; 9] = [
 
 /// Prints the exit status of a program that ended so.
 pub fn statuses(rt: &impl Print) -> io::Result<()> {
-    for status in STATUSES {
+    for status in &STATUSES {
         println!(rt; "{status:?}: exit {}", status.code())?;
     }
     Ok(())

@@ -2,8 +2,7 @@
 ghost use Rattle.std.specs.Prelude.{◌<◌};
 
 use crate::driver::{Call, Driver, Setting};
-use anyhow::bail;
-use kn_case::case;
+use crate::outcome::{Outcome, tell};
 use kn_event::{Memory, Row, Slots, Stand};
 use std::alloc::Global;
 use std::io;
@@ -56,17 +55,6 @@ fn turn_over_by_turns(driver: &mut Driver, count: u64) -> u64
     count
 }
 
-/// How a full table went.
-#[derive(Clone, Copy)]
-struct Swept {
-    runs: u64,
-    refused: Option<Row>,
-    live: u64,
-    turned: u64,
-    live_still: u64,
-    stands: [Stand; 5],
-}
-
 fn stands(driver: &Driver) -> [Stand; 5] {
     [
         driver.stand(20_000),
@@ -77,65 +65,42 @@ fn stands(driver: &Driver) -> [Stand; 5] {
     ]
 }
 
-fn sweep(driver: &mut Driver) -> Swept {
-    Swept {
-        runs: run_by_turns(driver, 20_000),
-        refused: driver.call(Call::Direct),
-        live: driver.live(),
-        turned: turn_over_by_turns(driver, 50_000),
-        live_still: driver.live(),
-        stands: stands(driver),
-    }
-}
+/// Where requests stand at the end.
+const STANDS: [Stand; 5] = [
+    Stand::Ended,
+    Stand::Ended,
+    Stand::Running(2),
+    Stand::Running(0),
+    Stand::Unknown,
+];
 
-fn sweep_all(alloc: Global) -> Result<Swept, Memory> {
-    let mut driver = open(alloc, 0, 1)?;
-    Ok(sweep(&mut driver))
+fn sweep(driver: &mut Driver) -> [Outcome; 6] {
+    [
+        (
+            "full table, 20000 run",
+            run_by_turns(driver, 20_000) == 20_000,
+        ),
+        (
+            "full table, the next one is refused",
+            driver.makes(Call::Direct, Row::Overload(20_000)),
+        ),
+        ("full table, 20000 are live", driver.live() == 20_000),
+        (
+            "full table, 50000 more run",
+            turn_over_by_turns(driver, 50_000) == 50_000,
+        ),
+        ("full table, 20000 are live still", driver.live() == 20_000),
+        ("full table, where requests stand", stands(driver) == STANDS),
+    ]
 }
 
 /// At pods without a limit 20,000 run, and the next one is refused. Then each that ends makes room for one, for 50,000
 /// more: the table is swept on the way, and each request is found before and after.
-pub fn full_and_swept<R: Print + AllocGlobal>(rt: &R) -> anyhow::Result<()> {
-    let Ok(swept) = sweep_all(rt.alloc()) else {
-        bail!("memory is lacking");
-    };
-    tell_full(rt, &swept)?;
-    tell_swept(rt, &swept)?;
-    Ok(())
-}
-
-fn tell_full(rt: &impl Print, swept: &Swept) -> io::Result<()> {
-    case(rt, "full table, 20000 run", &swept.runs, &20_000)?;
-    case(
-        rt,
-        "full table, the next one is refused",
-        &swept.refused,
-        &Some(Row::Overload(20_000)),
-    )?;
-    case(rt, "full table, 20000 are live", &swept.live, &20_000)
-}
-
-fn tell_swept(rt: &impl Print, swept: &Swept) -> io::Result<()> {
-    case(rt, "full table, 50000 more run", &swept.turned, &50_000)?;
-    case(
-        rt,
-        "full table, 20000 are live still",
-        &swept.live_still,
-        &20_000,
-    )?;
-    let wanted = [
-        Stand::Ended,
-        Stand::Ended,
-        Stand::Running(2),
-        Stand::Running(0),
-        Stand::Unknown,
-    ];
-    case(
-        rt,
-        "full table, where requests stand",
-        &swept.stands,
-        &wanted,
-    )
+pub fn full_and_swept(rt: &HostRuntime) -> io::Result<()> {
+    match open(rt.alloc(), 0, 1) {
+        Ok(mut driver) => tell(rt, &sweep(&mut driver)),
+        Err(_) => tell(rt, &[("full table, no memory", false)]),
+    }
 }
 
 /// How many of so many requests are held or run, one after the other.
@@ -171,54 +136,27 @@ fn pairs_passed(driver: &mut Driver, pairs: u64) -> u64
     pairs
 }
 
-/// How those went who came and gave up.
-#[derive(Clone, Copy)]
-struct Passed {
-    come: u64,
-    pairs: u64,
-    live: u64,
-    last: Option<Row>,
-    stand: Stand,
-}
-
-fn pass(driver: &mut Driver) -> Passed {
-    Passed {
-        come: admitted(driver, 1_000),
-        pairs: pairs_passed(driver, 499),
-        live: driver.live(),
-        last: driver.call(Call::Proxied),
-        stand: driver.stand(1_000),
-    }
-}
-
-fn pass_all(alloc: Global) -> Result<Passed, Memory> {
-    let mut driver = open(alloc, 1, 2_000)?;
-    Ok(pass(&mut driver))
+fn pass(driver: &mut Driver) -> [Outcome; 5] {
+    [
+        ("cursors, 1000 come", admitted(driver, 1_000) == 1_000),
+        (
+            "cursors, 499 pairs are passed",
+            pairs_passed(driver, 499) == 499,
+        ),
+        ("cursors, two are live", driver.live() == 2),
+        (
+            "cursors, one more is admitted",
+            driver.makes(Call::Proxied, Row::Admit(1_000, 0)),
+        ),
+        ("cursors, it is held", driver.stand(1_000) == Stand::Held),
+    ]
 }
 
 /// One may run in all, and a thousand come: of each two the later gives up and the earlier is assigned when the slot
 /// is free, so the first that is held is found past those that gave up.
-pub fn cursors_pass_who_gave_up<R: Print + AllocGlobal>(rt: &R) -> anyhow::Result<()> {
-    let Ok(passed) = pass_all(rt.alloc()) else {
-        bail!("memory is lacking");
-    };
-    tell_passed(rt, &passed)?;
-    tell_last(rt, &passed)?;
-    Ok(())
-}
-
-fn tell_passed(rt: &impl Print, passed: &Passed) -> io::Result<()> {
-    case(rt, "cursors, 1000 come", &passed.come, &1_000)?;
-    case(rt, "cursors, 499 pairs are passed", &passed.pairs, &499)?;
-    case(rt, "cursors, two are live", &passed.live, &2)
-}
-
-fn tell_last(rt: &impl Print, passed: &Passed) -> io::Result<()> {
-    case(
-        rt,
-        "cursors, one more is admitted",
-        &passed.last,
-        &Some(Row::Admit(1_000, 0)),
-    )?;
-    case(rt, "cursors, it is held", &passed.stand, &Stand::Held)
+pub fn cursors_pass_who_gave_up(rt: &HostRuntime) -> io::Result<()> {
+    match open(rt.alloc(), 1, 2_000) {
+        Ok(mut driver) => tell(rt, &pass(&mut driver)),
+        Err(_) => tell(rt, &[("cursors, no memory", false)]),
+    }
 }

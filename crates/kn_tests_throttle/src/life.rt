@@ -4,8 +4,7 @@ ghost use Rattle.kn_trace.specs.Trace.{contains};
 ghost use Rattle.kn_record.specs.Admission.{nothing_yet};
 ghost use Rattle.kn_record.specs.Views.{pod_numbers};
 
-use anyhow::bail;
-use kn_case::case;
+use crate::outcome::{Outcome, tell};
 use kn_event::{EntryLog, Memory, Mode, Slots, Spec};
 use kn_throttle::{Arrival, Throttle};
 use std::alloc::Global;
@@ -76,58 +75,29 @@ fn new_throttle(alloc: Global) -> Result<Throttle, Memory>
     Throttle::new(alloc, &spec)
 }
 
-/// What became of the pod and its request.
-#[derive(Clone, Copy)]
-struct Lost {
-    arrival: Arrival,
-    first: Option<u64>,
-    second: Option<u64>,
-    pod: bool,
-}
-
-fn serve_and_lose(throttle: &mut Throttle) -> Lost
+fn serve_and_lose(alloc: Global, throttle: &mut Throttle) -> [Outcome; 5]
     requires { throttle.old.admission ≡ nothing_yet }
 {
     begin_pod(throttle);
-    Lost {
-        arrival: send_first(throttle),
-        first: lose_first(throttle, 0),
-        second: lose_first(throttle, 0),
-        pod: lose_empty(throttle, 0),
+    let arrival = send_first(throttle);
+    let (first, second) = (lose_first(throttle, 0), lose_first(throttle, 0));
+    let lost = lose_empty(throttle, 0);
+    let rows = settle(alloc, throttle);
+    [
+        (
+            "lost pod, a request comes to it",
+            arrival == Arrival::Direct(0),
+        ),
+        ("lost pod, its request is lost", first == Some(0)),
+        ("lost pod, it has no more", second.is_none()),
+        ("lost pod, it is lost", lost),
+        ("lost pod, no row follows", rows == Ok(0)),
+    ]
+}
+
+pub fn pod_is_lost(rt: &HostRuntime) -> io::Result<()> {
+    match new_throttle(rt.alloc()) {
+        Ok(mut throttle) => tell(rt, &serve_and_lose(rt.alloc(), &mut throttle)),
+        Err(_) => tell(rt, &[("lost pod, no memory", false)]),
     }
-}
-
-fn lose_and_settle(alloc: Global, throttle: &mut Throttle) -> Result<(Lost, usize), Memory>
-    requires { throttle.old.admission ≡ nothing_yet }
-{
-    let lost = serve_and_lose(throttle);
-    let rows = settle(alloc, throttle)?;
-    Ok((lost, rows))
-}
-
-/// What became of them, and how many rows followed.
-fn lost_and_rows(alloc: Global) -> Result<(Lost, usize), Memory> {
-    let mut throttle = new_throttle(alloc)?;
-    lose_and_settle(alloc, &mut throttle)
-}
-
-fn tell(rt: &impl Print, lost: &Lost) -> io::Result<()> {
-    case(
-        rt,
-        "lost pod, a request comes to it",
-        &lost.arrival,
-        &Arrival::Direct(0),
-    )?;
-    case(rt, "lost pod, its request is lost", &lost.first, &Some(0))?;
-    case(rt, "lost pod, it has no more", &lost.second, &None)?;
-    case(rt, "lost pod, it is lost", &lost.pod, &true)
-}
-
-pub fn pod_is_lost<R: Print + AllocGlobal>(rt: &R) -> anyhow::Result<()> {
-    let Ok((lost, rows)) = lost_and_rows(rt.alloc()) else {
-        bail!("memory is lacking");
-    };
-    tell(rt, &lost)?;
-    case(rt, "lost pod, no row follows", &rows, &0)?;
-    Ok(())
 }

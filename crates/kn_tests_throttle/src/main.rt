@@ -10,28 +10,14 @@ mod driver;
 mod full;
 mod life;
 mod mix;
+mod outcome;
 mod rows;
 
-use anyhow::anyhow;
 use driver::{Driver, Setting};
 use kn_event::Slots;
-use std::alloc::{AllocError, Global};
+use outcome::tell;
+use std::alloc::Global;
 use std::io;
-
-/// A line with what its call makes.
-fn with_answer(alloc: Global, driver: &mut Driver, line: &str) -> Result<String, AllocError> {
-    let answer = rows::answer(alloc, driver, line)?;
-    format!(in alloc; "{line}: {answer}")
-}
-
-/// What a line becomes: what it says, or with what its call makes.
-fn answered(alloc: Global, driver: &mut Driver, line: String) -> Result<String, AllocError> {
-    if line.as_str().starts_with('#') {
-        Ok(line)
-    } else {
-        with_answer(alloc, driver, line.as_str())
-    }
-}
 
 /// No pods.
 const NO_PODS: Setting = Setting {
@@ -46,30 +32,23 @@ const NO_PODS: Setting = Setting {
     },
 };
 
-/// Prints what a line becomes.
-fn say(rt: &HostRuntime, driver: &mut Driver, line: io::Result<String>) -> anyhow::Result<()> {
-    let text = answered(rt.alloc(), driver, line?)?;
-    println!(rt; "{text}")?;
-    Ok(())
-}
-
-/// Prints what each line of standard input becomes.
-fn say_all(rt: &HostRuntime, driver: &mut Driver) -> anyhow::Result<()> {
+/// Prints what each line of standard input becomes: what it says, or with what its call makes.
+fn say_all(rt: &HostRuntime, driver: &mut Driver) -> io::Result<()> {
     for line in rt.lines(rt.alloc()) {
-        say(rt, driver, line)?;
+        rows::say(rt, driver, line?.as_str())?;
     }
     Ok(())
 }
 
 /// The worked rows.
-fn worked_rows(rt: &HostRuntime) -> anyhow::Result<()> {
+fn worked_rows(rt: &HostRuntime) -> io::Result<()> {
     match Driver::open(rt.alloc(), &NO_PODS) {
         Ok(mut driver) => say_all(rt, &mut driver),
-        Err(_) => Err(anyhow!("memory is lacking")),
+        Err(_) => tell(rt, &[("rows, no memory", false)]),
     }
 }
 
-fn main(rt: HostRuntime) -> anyhow::Result<()> {
+fn main(rt: HostRuntime) -> io::Result<()> {
     worked_rows(&rt)?;
     full::full_and_swept(&rt)?;
     full::cursors_pass_who_gave_up(&rt)?;

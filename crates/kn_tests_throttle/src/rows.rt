@@ -3,8 +3,9 @@ ghost use Rattle.std.specs.Prelude.{◌<◌};
 
 use crate::driver::{Call, Driver, Setting};
 use crate::mix::digests;
-use kn_event::{Entry, Row, Slots};
-use std::alloc::{AllocError, Global};
+use kn_event::Slots;
+use std::alloc::Global;
+use std::io;
 
 fn word(line: &str, place: usize) -> &str {
     line.split(' ').nth(place).unwrap_or("")
@@ -43,66 +44,60 @@ fn call_of(line: &str) -> Option<Call> {
     }
 }
 
-/// The row that a call makes, if it makes one.
-fn row_text(alloc: Global, row: Option<Row>) -> Result<String, AllocError> {
-    match row {
-        Some(row) => format!(in alloc; "{row:?}"),
-        None => String::from_str(alloc, "no row"),
+/// Prints the row that a call makes, if it makes one, and those that follow.
+fn say_rows(rt: &HostRuntime, driver: &mut Driver, call: Call) -> io::Result<()> {
+    match driver.call(call) {
+        Some(row) => print!(rt; "{row:?}"),
+        None => print!(rt; "no row"),
+    }?;
+    for entry in driver.settle() {
+        let row = &entry.row;
+        print!(rt; ", {row:?}")?;
     }
+    println!(rt; "")
 }
 
-/// Adds the rows that follow.
-fn add_rows(alloc: Global, text: &mut String, entries: &[Entry]) -> Result<(), AllocError> {
-    for entry in entries {
-        add_row(alloc, text, &entry.row)?;
-    }
-    Ok(())
+/// Prints the digests of a mix.
+fn say_digests(rt: &HostRuntime, line: &str) -> io::Result<()> {
+    let digests = digests(rt.alloc(), &setting(line, 3), number(line, 2));
+    let [a, b, c, d] = digests.unwrap_or([0; 4]);
+    println!(rt; "{line}: {a:016x} {b:016x} {c:016x} {d:016x}")
 }
 
-fn add_row(alloc: Global, text: &mut String, row: &Row) -> Result<(), AllocError> {
-    let row = format!(in alloc; ", {row:?}")?;
-    text.push_str(row.as_str())
-}
-
-/// The row that a call makes, if it makes one, and those that follow.
-fn made(alloc: Global, driver: &mut Driver, call: Call) -> Result<String, AllocError> {
-    let mut text = row_text(alloc, driver.call(call))?;
-    add_rows(alloc, &mut text, driver.settle())?;
-    Ok(text)
-}
-
-/// The digests of a mix.
-fn mixed(alloc: Global, line: &str) -> Result<String, AllocError> {
-    let digests = digests(alloc, &setting(line, 3), number(line, 2)).or(Err(AllocError))?;
-    format!(in alloc;
-        "{:016x} {:016x} {:016x} {:016x}",
-        digests[0], digests[1], digests[2], digests[3]
-    )
-}
-
-/// Another throttler in place of this one.
-fn reopen(alloc: Global, driver: &mut Driver, setting: &Setting) -> Result<(), AllocError> {
-    match Driver::open(alloc, setting) {
+/// Another throttler in place of this one, if there is memory. Whether there was.
+fn reopen(alloc: Global, driver: &mut Driver, line: &str) -> bool {
+    match Driver::open(alloc, &setting(line, 0)) {
         Ok(opened) => {
             *driver = opened;
-            Ok(())
+            true
         }
-        Err(_) => Err(AllocError),
+        Err(_) => false,
     }
 }
 
-/// What a line's call makes of the throttler.
-pub fn answer(alloc: Global, driver: &mut Driver, line: &str) -> Result<String, AllocError> {
-    if let "mix" = word(line, 0) {
-        return mixed(alloc, line);
-    }
-    if let "pods" = word(line, 0) {
-        reopen(alloc, driver, &setting(line, 0))?;
-        return String::from_str(alloc, "open");
-    }
+/// Prints what a line's call makes of the throttler.
+fn say_call(rt: &HostRuntime, driver: &mut Driver, line: &str) -> io::Result<()> {
+    let Some(call) = call_of(line) else {
+        return println!(rt; "{line}: no such call");
+    };
+    print!(rt; "{line}: ")?;
     driver.at(number(line, 0));
-    match call_of(line) {
-        Some(call) => made(alloc, driver, call),
-        None => String::from_str(alloc, "no such call"),
+    say_rows(rt, driver, call)
+}
+
+/// Prints what a line says, or with what its call makes.
+pub fn say(rt: &HostRuntime, driver: &mut Driver, line: &str) -> io::Result<()> {
+    match word(line, 0) {
+        "#" => println!(rt; "{line}"),
+        "mix" => say_digests(rt, line),
+        "pods" => {
+            let answer = if reopen(rt.alloc(), driver, line) {
+                "open"
+            } else {
+                "no memory"
+            };
+            println!(rt; "{line}: {answer}")
+        }
+        _ => say_call(rt, driver, line),
     }
 }

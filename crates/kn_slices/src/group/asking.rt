@@ -10,7 +10,8 @@ ghost use Rattle.kn_slices.specs.Traces.{AreLawful, AreSafe, AreTraces, IsSameGr
 use super::Group;
 use super::taking::take;
 use crate::change::Change;
-use crate::parts::{cut_of, force_after, raise_of, unset_at};
+use crate::listing::{first_cut, first_raise, list_open};
+use crate::parts::{force_after, unset_at};
 use kn_event::{Act, EntryLog, Event};
 use kn_laws::laws::history_laws;
 use kn_record::append::append_laws;
@@ -29,30 +30,18 @@ impl Group {
     pub(super) fn first_cut(&self) -> Option<Change>
         ensures { result ≡ first_from (cut_of limit_at (length self.now.parts) self.now.parts) 0 self.now.wanted }
     {
-        for p in 0..self.wanted.len() {
-            if self.marks[p] == 0 {
-                continue;
-            }
-            if let Some(change) = cut_of(&self.parts, p as u64, self.wanted[p]) {
-                return Some(change);
-            }
-        }
-        None
+        // Any part that is read brings what is kept of all.
+        let _pods = self.wanted.len();
+        first_cut(&self.parts, &self.wanted, &self.marks, &self.listed)
     }
 
     /// The first possible raise.
     pub(super) fn first_raise(&self) -> Option<Change>
         ensures { result ≡ first_from (raise_of limit_at running_at (length self.now.parts) self.now.parts) 0 self.now.wanted }
     {
-        for p in 0..self.wanted.len() {
-            if self.marks[p] == 0 {
-                continue;
-            }
-            if let Some(change) = raise_of(&self.parts, p as u64, self.wanted[p]) {
-                return Some(change);
-            }
-        }
-        None
+        // Any part that is read brings what is kept of all.
+        let _pods = self.wanted.len();
+        first_raise(&self.parts, &self.wanted, &self.marks, &self.listed)
     }
 
     /// A new limit of a pod is wanted, at least one for each activator and at most 1,000. No activator's limit changes by it.
@@ -76,6 +65,7 @@ impl Group {
         self.force[at] = force_after(&self.parts, p, limit, most);
         self.marks[at] = unset_at(&self.parts, p, limit);
         self.wanted[at] = limit;
+        list_open(&self.wanted, &self.force, &self.marks, &mut self.listed);
     }
 
     /// Makes the due change, as an event of its activator: that pod's limit is set there.
@@ -108,13 +98,14 @@ impl Group {
                     time,
                     act: Act::Limit(change.pod, change.limit),
                 };
-                let _ = take(
+                take(
                     &mut self.parts,
                     &self.wanted,
                     &mut self.force,
                     change.activator,
                     &e,
                     log,
+                    &self.listed,
                 );
                 unmark(&mut self.marks, change.pod);
             }

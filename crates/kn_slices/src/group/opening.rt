@@ -132,6 +132,9 @@ impl Group {
         let wanted = for_each_pod(alloc, pods, limit)?;
         let force = for_each_pod(alloc, pods, limit)?;
         let marks = for_each_pod(alloc, pods, 0)?;
+        let Ok(listed) = Vec::with_capacity(alloc, pods as usize) else {
+            return Err(Memory);
+        };
         Ok(Group {
             limit,
             start,
@@ -139,6 +142,7 @@ impl Group {
             wanted,
             force,
             marks,
+            listed,
         })
     }
 

@@ -6,6 +6,7 @@ use Rattle.kn_replay.specs.declared.command.Command.{Command}
 use Rattle.kn_replay.specs.declared.command.Command.TheVariants as command
 use Rattle.kn_replay.specs.Commands.{command_of}
 use Rattle.kn_replay.specs.Generating.{Generates}
+use Rattle.kn_replay.specs.Grouped.{ReplaysGroup}
 use Rattle.kn_replay.specs.Replaying.{IsRefusal, IsReplayed, LeavesBehind, Replays}
 use Rattle.kn_replay.specs.Simulating.{Simulates, WritesNone}
 use Rattle.kn_replay.proofs.Generating.{of_same}
@@ -31,6 +32,18 @@ replay_or_simulate o here there = cc
 
 simulate_or_generate : (o : Option Command) (s n : ℕ) → o ≡ Some command.Simulate → o ≡ Some (command.Generate s n) → ⊥
 simulate_or_generate o s n here there = cc
+
+none_slices : (o : Option Command) → o ≡ None → o ≡ Some command.Slices → ⊥
+none_slices o here there = cc
+
+replay_or_slices : (o : Option Command) → o ≡ Some command.Replay → o ≡ Some command.Slices → ⊥
+replay_or_slices o here there = cc
+
+simulate_or_slices : (o : Option Command) → o ≡ Some command.Simulate → o ≡ Some command.Slices → ⊥
+simulate_or_slices o here there = cc
+
+slices_or_generate : (o : Option Command) (s n : ℕ) → o ≡ Some command.Slices → o ≡ Some (command.Generate s n) → ⊥
+slices_or_generate o s n here there = cc
 
 -- ---- a usage fault is no other
 
@@ -382,3 +395,107 @@ returns-in-Some-Simulate-clause-simulates g c is =
 pub returns-in-Some-Simulate-clause-unsaid : goal.returns-in-Some-Simulate-clause-unsaid
 returns-in-Some-Simulate-clause-unsaid g c is none =
     c.simulate_input.ensures.unwritten (subst WritesNone c.tell-in-Some-Simulate.ensures.same none)
+
+pub returns-in-Some-Slices-clause-usage : goal.returns-in-Some-Slices-clause-usage
+returns-in-Some-Slices-clause-usage g c =
+    (λ is. absurd (never_usage _ (subst IsReplayed (sym c.tell-in-Some-Slices.ensures.same) c.replay_group.ensures.replayed) is), λ none. absurd (none_slices _ none (sym c.command_of.ensures.value ∙ c.in-Some-Slices.is ∙ ap (λ (k : Command). Some k) c.in-Some-Slices.field-0-is)))
+
+pub returns-in-Some-Slices-clause-unread : goal.returns-in-Some-Slices-clause-unread
+returns-in-Some-Slices-clause-unread g c is =
+    absurd (never_usage _ (subst IsReplayed (sym c.tell-in-Some-Slices.ensures.same) c.replay_group.ensures.replayed) is)
+
+pub returns-in-Some-Slices-clause-unwritten : goal.returns-in-Some-Slices-clause-unwritten
+returns-in-Some-Slices-clause-unwritten g c is =
+    absurd (never_usage _ (subst IsReplayed (sym c.tell-in-Some-Slices.ensures.same) c.replay_group.ensures.replayed) is)
+
+pub returns-in-Some-Slices-clause-only : goal.returns-in-Some-Slices-clause-only
+returns-in-Some-Slices-clause-only g c =
+    inr (subst IsReplayed (sym c.tell-in-Some-Slices.ensures.same) c.replay_group.ensures.replayed)
+
+pub returns-in-Some-Slices-clause-report : goal.returns-in-Some-Slices-clause-report
+returns-in-Some-Slices-clause-report g c is =
+    absurd (replay_or_slices _ is (sym c.command_of.ensures.value ∙ c.in-Some-Slices.is ∙ ap (λ (k : Command). Some k) c.in-Some-Slices.field-0-is))
+
+pub returns-in-Some-Slices-clause-rest : goal.returns-in-Some-Slices-clause-rest
+returns-in-Some-Slices-clause-rest g c is refused =
+    absurd (replay_or_slices _ is (sym c.command_of.ensures.value ∙ c.in-Some-Slices.is ∙ ap (λ (k : Command). Some k) c.in-Some-Slices.field-0-is))
+
+pub returns-in-Some-Slices-clause-cut : goal.returns-in-Some-Slices-clause-cut
+returns-in-Some-Slices-clause-cut g c is fault =
+    absurd (replay_or_slices _ is (sym c.command_of.ensures.value ∙ c.in-Some-Slices.is ∙ ap (λ (k : Command). Some k) c.in-Some-Slices.field-0-is))
+
+pub returns-in-Some-Slices-clause-ended : goal.returns-in-Some-Slices-clause-ended
+returns-in-Some-Slices-clause-ended g c is ok =
+    absurd (replay_or_slices _ is (sym c.command_of.ensures.value ∙ c.in-Some-Slices.is ∙ ap (λ (k : Command). Some k) c.in-Some-Slices.field-0-is))
+
+pub returns-in-Some-Slices-clause-generates : goal.returns-in-Some-Slices-clause-generates
+returns-in-Some-Slices-clause-generates g c s n is =
+    absurd (slices_or_generate _ s n (sym c.command_of.ensures.value ∙ c.in-Some-Slices.is ∙ ap (λ (k : Command). Some k) c.in-Some-Slices.field-0-is) is)
+
+pub returns-in-Some-Slices-clause-untouched : goal.returns-in-Some-Slices-clause-untouched
+returns-in-Some-Slices-clause-untouched g c s n is =
+    absurd (slices_or_generate _ s n (sym c.command_of.ensures.value ∙ c.in-Some-Slices.is ∙ ap (λ (k : Command). Some k) c.in-Some-Slices.field-0-is) is)
+
+pub returns-in-Some-Slices-clause-memory : goal.returns-in-Some-Slices-clause-memory
+returns-in-Some-Slices-clause-memory g c is =
+    c.replay_group.ensures.memory (sym c.tell-in-Some-Slices.ensures.same ∙ is)
+
+pub returns-in-Some-Slices-clause-read_fault : goal.returns-in-Some-Slices-clause-read_fault
+returns-in-Some-Slices-clause-read_fault g c is =
+    c.replay_group.ensures.read_fault (sym c.tell-in-Some-Slices.ensures.same ∙ is)
+
+pub returns-in-Some-Slices-clause-write_fault : goal.returns-in-Some-Slices-clause-write_fault
+returns-in-Some-Slices-clause-write_fault g c is =
+    c.replay_group.ensures.write_fault (sym c.tell-in-Some-Slices.ensures.same ∙ is)
+
+pub returns-in-Some-Slices-clause-lawful : goal.returns-in-Some-Slices-clause-lawful
+returns-in-Some-Slices-clause-lawful g c =
+    c.journal_laws.ensures.lawful (g.S.Source.left c.args.input.now)
+
+pub returns-in-Some-Slices-clause-settled : goal.returns-in-Some-Slices-clause-settled
+returns-in-Some-Slices-clause-settled g c =
+    c.journal_laws.ensures.settled (g.S.Source.left c.args.input.now)
+
+pub returns-in-Some-Slices-clause-no_loss : goal.returns-in-Some-Slices-clause-no_loss
+returns-in-Some-Slices-clause-no_loss g c =
+    c.journal_laws.ensures.no_loss (g.S.Source.left c.args.input.now)
+
+pub returns-in-Some-Slices-clause-inert : goal.returns-in-Some-Slices-clause-inert
+returns-in-Some-Slices-clause-inert g c =
+    c.journal_laws.ensures.inert (g.S.Source.left c.args.input.now)
+
+pub returns-in-Some-Slices-clause-beside : goal.returns-in-Some-Slices-clause-beside
+returns-in-Some-Slices-clause-beside g c =
+    c.journal_laws.ensures.beside (g.S.Source.left c.args.input.now)
+
+pub returns-in-Some-Slices-clause-told : goal.returns-in-Some-Slices-clause-told
+returns-in-Some-Slices-clause-told g c =
+    c.tell-in-Some-Slices.ensures.told
+
+pub returns-in-Some-Slices-clause-simulates : goal.returns-in-Some-Slices-clause-simulates
+returns-in-Some-Slices-clause-simulates g c is =
+    absurd (simulate_or_slices _ is (sym c.command_of.ensures.value ∙ c.in-Some-Slices.is ∙ ap (λ (k : Command). Some k) c.in-Some-Slices.field-0-is))
+
+pub returns-in-Some-Slices-clause-unsaid : goal.returns-in-Some-Slices-clause-unsaid
+returns-in-Some-Slices-clause-unsaid g c is none =
+    absurd (simulate_or_slices _ is (sym c.command_of.ensures.value ∙ c.in-Some-Slices.is ∙ ap (λ (k : Command). Some k) c.in-Some-Slices.field-0-is))
+
+pub returns-in-Some-Slices-clause-slices : goal.returns-in-Some-Slices-clause-slices
+returns-in-Some-Slices-clause-slices g c is =
+    subst (λ (x : Status). ReplaysGroup (g.S.Source.left c.args.input.now) (g.O.Sink.held c.args.out.now) (g.O.Sink.held c.replay_group.new.out) x) (sym c.tell-in-Some-Slices.ensures.same) c.replay_group.ensures.report
+
+pub returns-in-None-clause-slices : goal.returns-in-None-clause-slices
+returns-in-None-clause-slices g c is =
+    absurd (none_slices _ (sym c.command_of.ensures.value ∙ c.in-None.is) is)
+
+pub returns-in-Some-Replay-clause-slices : goal.returns-in-Some-Replay-clause-slices
+returns-in-Some-Replay-clause-slices g c is =
+    absurd (replay_or_slices _ (sym c.command_of.ensures.value ∙ c.in-Some-Replay.is ∙ ap (λ (k : Command). Some k) c.in-Some-Replay.field-0-is) is)
+
+pub returns-in-Some-Generate-clause-slices : goal.returns-in-Some-Generate-clause-slices
+returns-in-Some-Generate-clause-slices g c is =
+    absurd (slices_or_generate _ c.in-Some-Generate.seed c.in-Some-Generate.count is (sym c.command_of.ensures.value ∙ c.in-Some-Generate.is ∙ ap (λ (k : Command). Some k) c.in-Some-Generate.field-0-is))
+
+pub returns-in-Some-Simulate-clause-slices : goal.returns-in-Some-Simulate-clause-slices
+returns-in-Some-Simulate-clause-slices g c is =
+    absurd (simulate_or_slices _ (sym c.command_of.ensures.value ∙ c.in-Some-Simulate.is ∙ ap (λ (k : Command). Some k) c.in-Some-Simulate.field-0-is) is)

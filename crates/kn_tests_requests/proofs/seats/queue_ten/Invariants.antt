@@ -6,6 +6,6 @@ use Rattle.kn_tests_requests.proofs.seats.queue_ten.Given as goal
 abbrev pub invariant-loop-r : goal.invariant-loop-r
 invariant-loop-r l = record {
   there : IsTrue (has_pod 0 l.seats.pods);
-  counted : requests_at_all l.seats.pods + 5 ≡ l.r-counter;
+  counted : requests_at_all l.seats.pods + 5 ≡ l.r;
   room : l.seats.request_room ≡ 20;
 }

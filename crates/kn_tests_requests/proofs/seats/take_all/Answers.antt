@@ -5,7 +5,7 @@ use Rattle.kn_tests_requests.proofs.seats.take_all.Goals as goal
 
 pub loop-r-preserved : goal.loop-r-preserved
 loop-r-preserved c =
-    let same = has_pod-changed 20499 20499 (λ pod. record pod { queued = pod.queued ++ c.loop-r.r-counter ∷ [] }) (λ _. refl) c.loop-r.seats.pods in
+    let same = has_pod-changed 20499 20499 (λ pod. record pod { queued = pod.queued ++ c.loop-r.r ∷ [] }) (λ _. refl) c.loop-r.seats.pods in
     record {
       there = grind (arith, common_steps, same, c.queue_at.ensures.queued, c.loop-r.invariant.there);
       counted = grind (arith, common_steps, c.queue_at.ensures.counted);

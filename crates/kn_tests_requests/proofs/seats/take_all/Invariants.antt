@@ -15,7 +15,7 @@ invariant-loop-p l = record {
 abbrev pub invariant-loop-r : goal.invariant-loop-r
 invariant-loop-r l = record {
   there : IsTrue (has_pod 20499 l.seats.pods);
-  counted : requests_at_all l.seats.pods ≡ l.r-counter;
+  counted : requests_at_all l.seats.pods ≡ l.r;
   room : l.seats.request_room ≡ 20000;
 }
 

@@ -2,7 +2,7 @@ use Rattle.std.proofs.Common.{◌≡◌, ◌++◌, List, ℕ, ◌∙◌, subst}
 use Rattle.kn_trace.specs.Report.{last_line}
 use Rattle.kn_journal.specs.declared.status.Status.TheVariants as status
 use Rattle.kn_replay.specs.Replaying.{Running, Stops}
-use Rattle.kn_replay.specs.Waiting.{Adds}
+use Rattle.kn_report.specs.Waiting.{Adds}
 use Rattle.kn_replay.proofs.Replays.{stops_behind}
 use Rattle.kn_replay.proofs.replay.Replay.end.Goals as goal
 

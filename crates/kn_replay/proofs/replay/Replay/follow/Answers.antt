@@ -10,8 +10,8 @@ use Rattle.kn_journal.specs.declared.error.JournalError.{JournalError}
 use Rattle.kn_journal.specs.declared.status.Status.TheVariants as status
 use Rattle.kn_journal.specs.Reading.{unread}
 use Rattle.kn_replay.specs.Replaying.{status_of}
-use Rattle.kn_replay.specs.Tally.{Counted}
-use Rattle.kn_replay.specs.Waiting.{Adds}
+use Rattle.kn_report.specs.Tally.{Counted}
+use Rattle.kn_report.specs.Waiting.{Adds}
 use Rattle.kn_replay.proofs.Cuts.{cut_event, cut_full, cut_good, cut_stop, stop_cut}
 use Rattle.kn_replay.proofs.Faults.{goes_stop, goes_unwritten, read_begin, read_more}
 use Rattle.kn_replay.proofs.Behind.{goes_behind, stop_refused, stop_unrefused}

@@ -6,7 +6,7 @@ use Rattle.kn_trace.specs.Report.{rows_text, totals}
 use Rattle.kn_core.specs.State.{StandsFor}
 use Rattle.kn_journal.specs.Reading.{IsBalanced, most_taken, unread}
 use Rattle.kn_replay.specs.Replaying.{IsOver}
-use Rattle.kn_replay.specs.Waiting.{Adds}
+use Rattle.kn_report.specs.Waiting.{Adds}
 use Rattle.kn_replay.proofs.Faults.{HasRead}
 use Rattle.kn_replay.proofs.Replays.{GoesOn, IsStill}
 use Rattle.kn_replay.proofs.replay.Replay.follow.Given as goal

@@ -9,6 +9,7 @@ use Rattle.kn_slices.proofs.Calls.{each_has}
 use Rattle.kn_slices.proofs.Steps.{group_asked, marks_asked, one_more}
 use Rattle.kn_slices.proofs.Taken.{lawful_all}
 use Rattle.kn_slices.proofs.group.Group.ask.Goals as goal
+use Rattle.kn_slices.proofs.group.Group.ask.Goals.{After-list_open}
 
 pub force_after-requires-clause-pod : goal.force_after-requires-clause-pod
 force_after-requires-clause-pod c =
@@ -21,7 +22,7 @@ unset_at-requires-clause-pod c =
     rw c.deref-2.ensures.value (each_has (length c.self.inside.wanted.items) c.self.inside.parts.items c.args.p c.self.invariant.group.activators low)
 
 -- the limit in force, of what is kept
-next : (c : goal.After-self-3-1) → c.force_after.result
+next : (c : After-list_open) → c.force_after.result
     ≡ force_after (hold (limit_at c.args.p) (running_at c.args.p) c.self.inside.parts.items) c.args.limit (max (get_or c.self.inside.force.items c.args.p 0) c.args.limit)
 next c =
     let p = c.args.p in
@@ -44,6 +45,8 @@ invariant_of-self c =
       group = group_asked parts wanted c.self.inside.force.items p c.args.limit c.force_after.result low least c.requires.most (next c) c.self.invariant.group;
       marked = marks_asked parts wanted c.self.inside.marks.items p c.args.limit c.unset_at.result low count c.self.invariant.marked;
       opened = c.self.invariant.opened;
+      kept = rw (c.deref-3.ensures.value, c.deref-4.ensures.value, c.deref-5.ensures.value) at c.list_open.ensures.known;
+      roomy = rw c.deref-3.ensures.value at c.list_open.ensures.room;
     }
 
 pub returns-clause-force : goal.returns-clause-force

@@ -6,12 +6,13 @@ use Rattle.kn_slices.specs.Group.{IsDue}
 use Rattle.kn_slices.specs.declared.change.Change.{Change}
 use Rattle.kn_core.specs.State.{RevisionState}
 use Rattle.kn_slices.specs.Activators.{limit_at, running_at}
-use Rattle.kn_slices.specs.Slices.{force_after}
+use Rattle.kn_slices.specs.Slices.{force_after, hold}
 use Rattle.kn_slices.specs.Traces.{AreTraces, clocks_of, counts_of, limit_by, made_at, running_by, trace_at}
 use Rattle.kn_slices.proofs.Alike.{hold_traces, safe}
 use Rattle.kn_slices.proofs.Calls.{due_range_of, low_change}
 use Rattle.kn_slices.proofs.Forces.{forces_all}
 use Rattle.kn_slices.proofs.Due.{due_is, due_part, lent, some_same}
+use Rattle.kn_slices.proofs.Listed.{still_open, unmarked}
 use Rattle.kn_slices.proofs.Taken.{due_load, due_marked, due_marks, lawful_all, taken_clocks, taken_counts, taken_opened, taken_specs, taken_stands}
 use Rattle.kn_slices.proofs.group.Group.change.Goals as goal
 
@@ -79,14 +80,20 @@ invariant_of-self c =
     let takes = rw (c.deref_mut.ensures.value, c.deref.ensures.value) at c.take.ensures.takes in
     let d = takes.part in
     let marks = c.self.inside.marks.items in
-    let unmarked = c.unmark.ensures ∙ rw c.deref_mut-in-Some-2.ensures.value refl in
+    let less = c.unmark.ensures ∙ rw c.deref_mut-in-Some-2.ensures.value refl in
     let whole-marks = lent c.self.inside.marks.len c.unmark.new.marks marks (ap length c.unmark.ensures ∙ (length-set c.deref_mut-in-Some-2.result.now x.pod _ ∙ c.deref_mut-in-Some-2.ensures.len)) in
     let is_due : (d : RevisionState) → IsDue limit_at running_at parts wanted x d = λ d. due_is limit_at running_at parts wanted x d due in
     let whole' = lent c.self.inside.force.len c.take.new.force c.self.inside.force.items (c.take.ensures.many ∙ c.deref_mut-in-Some.ensures.len) in
-    rw (whole, whole', whole-marks, unmarked) (record {
+    let some = due_marked parts c.take.new.parts wanted x c.args.time is_due low (is_due d).pod takes d marks c.self.invariant.marked in
+    let each = rw (c.deref.ensures.value, c.deref_mut-in-Some.ensures.value) at c.take.ensures.force in
+    rw (whole, whole', whole-marks, less) (record {
       group = rw c.deref.ensures.value at c.take.ensures.group;
       marked = due_marks parts c.take.new.parts wanted x c.args.time is_due low (is_due d).pod takes d c.self.inside.marks.items c.self.invariant.marked;
       opened = taken_opened parts c.take.new.parts (length wanted) x.activator (made_at c.args.time x) low takes c.self.inside.limit c.self.inside.start c.self.invariant.opened;
+      kept = still_open wanted c.self.inside.force.items marks c.take.new.force _ c.self.inside.listed.items c.self.invariant.kept
+          (unmarked wanted c.self.inside.force.items marks c.self.inside.listed.items x.pod _ c.self.invariant.kept some)
+          (λ p inside. (hold (limit_at p) (running_at p) c.take.new.parts, each p inside));
+      roomy = c.self.invariant.roomy;
     })
 
 pub returns-clause-logged : goal.returns-clause-logged

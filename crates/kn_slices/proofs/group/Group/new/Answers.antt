@@ -1,4 +1,5 @@
 use Rattle.std.proofs.Common.{arith}
+use Rattle.std.specs.Prelude.{vec_capacity}
 use Rattle.kn_slices.proofs.Alike.{safe}
 use Rattle.kn_slices.proofs.Begin.{fresh_clocks, fresh_specs, fresh_traces, fresh_unset, kept}
 use Rattle.kn_slices.proofs.Taken.{lawful_all}
@@ -6,8 +7,8 @@ use Rattle.kn_slices.proofs.group.Group.new.Goals as goal
 
 pub invariant_of-result : goal.invariant_of-result
 invariant_of-result c =
-    rw (c.in_ok-wanted.ensures, c.in_ok-force.ensures, c.in_ok-marks.ensures)
-    (kept c.args.n c.args.limit c.args.pods c.args.timeout_s c.args.slots c.args.start _ c.in_ok-parts.ensures c.requires.some c.requires.few c.requires.least c.requires.most c.requires.pods)
+    rw (c.in_ok-wanted.ensures, c.in_ok-force.ensures, c.in_ok-marks.ensures, c.in-Ok.ensures.items)
+    (kept c.args.n c.args.limit c.args.pods c.args.timeout_s c.args.slots c.args.start _ c.in_ok-parts.ensures (vec_capacity c.in-Ok.listed) c.requires.some c.requires.few c.requires.least c.requires.most c.requires.pods c.in-Ok.ensures.capacity)
 
 pub returns-clause-traces : goal.returns-clause-traces
 returns-clause-traces c = fresh_traces c.args.n c.args.limit c.args.pods c.args.timeout_s c.args.slots c.args.start _ c.in_ok-parts.ensures

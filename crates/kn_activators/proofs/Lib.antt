@@ -1,0 +1,14 @@
+mod Pieces
+mod Waits
+mod Standings
+mod Making
+mod Tellings
+mod Drawings
+mod Parts
+mod OneLines
+mod EventLines
+mod Breaks
+mod Endings
+mod Faults
+mod Whole
+mod Calm

@@ -1,0 +1,14 @@
+-- The group as it was opened.
+use Rattle.kn_activators.specs.Sharing.{opened}
+use Rattle.kn_activators.proofs.Standings.{before_opened, few_opened}
+use Rattle.kn_activators.proofs.replay.Replay.new.Goals as goal
+
+pub returns-clause-stands : goal.returns-clause-stands
+unfolding opened
+returns-clause-stands c = record { traces = c.in-Ok.ensures.traces; wanted = c.in-Ok.ensures.wanted; force = c.in-Ok.ensures.force }
+
+pub returns-clause-order : goal.returns-clause-order
+returns-clause-order c = before_opened c.in-Ok.group c.args.setup.activators c.args.start c.in-Ok.ensures.clocks
+
+pub returns-clause-few : goal.returns-clause-few
+returns-clause-few c = few_opened c.in-Ok.group c.args.setup.activators c.args.start c.in-Ok.ensures.clocks c.in-Ok.ensures.load

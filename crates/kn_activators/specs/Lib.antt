@@ -1,0 +1,6 @@
+pub mod Reading
+pub mod Sharing
+pub mod Standing
+pub mod Verdict
+pub mod Breaking
+pub mod Replaying

@@ -1,0 +1,10 @@
+use kn_journal::JournalError;
+
+/// Why an input of several activators wasn't replayed to its end.
+#[derive(Clone, Copy, Debug, PartialEq, Eq)]
+pub enum GroupError {
+    /// A line was refused, or reading failed; or memory is wanting, and then nothing was written.
+    Input(JournalError),
+    /// Writing failed.
+    Output,
+}

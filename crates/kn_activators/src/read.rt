@@ -1,0 +1,157 @@
+//! What is read of an input of several activators, line by line.
+ghost use Rattle.std.specs.Prelude.{◌≡◌, ◌≢◌, ◌+◌, ◌≤◌, ℕ, List, length, Err, IfErr, IfOk, IfSome, None, Ok, OnOk, Option, Some};
+ghost use Rattle.kn_journal.specs.Drawing.{error_in};
+ghost use Rattle.kn_journal.specs.Journal.{time_most};
+ghost use Rattle.kn_journal.specs.Reading.{TakesText, most_taken, unread};
+ghost use Rattle.kn_journal.specs.Telling.{IsCauseOf, Judges, Tells};
+ghost use Rattle.kn_activators.specs.Breaking.{DrawsEvent, DrawsSetup};
+ghost use Rattle.kn_activators.specs.Reading.{IsGroupEvent, group_event_of, is_own};
+ghost use Rattle.kn_activators.specs.Sharing.{time_of};
+ghost use Rattle.kn_activators.specs.Standing.{IsGroupSetup};
+ghost use Rattle.kn_activators.specs.Verdict.{OnEvent, Reads, in_time, next_part, opening_part, setup_line_in};
+
+use crate::event::GroupEvent;
+use crate::line::group_event_of;
+use crate::setup::GroupSetup;
+use kn_event::{Act, spellings_are_read};
+use kn_io::Source;
+use kn_journal::{FirstLine, JournalError, Lines, TIME_MOST, read_fixed_line, text_laws};
+
+/// The setup of so many activators that the line of this number gives.
+fn judge_setup(line: &[u8], number: u64, many: u64) -> Result<GroupSetup, JournalError>
+    requires some { 1 ≤ many }
+    requires few { many ≤ 16 }
+    ensures judges { Judges (setup_line_in many) number line.now result }
+    ensures good { IfOk result IsGroupSetup }
+{
+    match read_fixed_line(line, many) {
+        Ok(fixed) => Ok(GroupSetup {
+            activators: many,
+            limit: fixed.limit,
+            pods: fixed.pods,
+            timeout_s: fixed.timeout_s,
+            slots: fixed.slots,
+        }),
+        Err(why) => Err(JournalError::BadSetup(number, why)),
+    }
+}
+
+/// Reads `kact slices N` and a setup for N activators.
+pub fn read_setup<S: Source>(lines: &mut Lines, source: &mut S) -> Result<GroupSetup, JournalError>
+    ensures tells { Reads opening_part lines.old lines.new (S.left source.old) (S.left source.new) result }
+    ensures text { OnOk result (TakesText lines.new.cut (unread lines.old.input (S.left source.old)) (unread lines.new.input (S.left source.new))) }
+    ensures good { IfOk result IsGroupSetup }
+    ensures source { DrawsSetup (error_in result) lines.old lines.new S.Source.own S.Faulty source.old source.new }
+{
+    text_laws();
+    let many = match lines.first(source, FirstLine::Slices) {
+        Ok(many) => many,
+        Err(e) => return Err(e),
+    };
+    match lines.next_line(source) {
+        Ok(()) => judge_setup(lines.line(), lines.number(), many),
+        Err(e) => Err(e),
+    }
+}
+
+/// The event of the line of this number, at the last one's time or later.
+fn judge_event(
+    line: &[u8],
+    number: u64,
+    setup: &GroupSetup,
+    last: u64,
+) -> Result<GroupEvent, JournalError>
+    ensures ok { IfOk result (λ e. in_time number last (group_event_of setup.now.activators setup.now.pods line.now) ≡ Ok e) }
+    ensures err { IfErr result (λ e. IsCauseOf e (in_time number last (group_event_of setup.now.activators setup.now.pods line.now))) }
+    ensures order { IfOk result (λ e. last ≤ time_of e) }
+    ensures times { IfOk result (λ e. time_of e ≤ time_most) }
+    ensures range { IfOk result (IsGroupEvent setup.now.activators setup.now.pods) }
+    ensures bytes { IfOk result (λ e. 6 ≤ length line.now) }
+{
+    match group_event_of(line, setup.activators, setup.pods) {
+        Ok(e) => if e.time() > TIME_MOST {
+            Err(JournalError::TimeTooLarge(number))
+        } else if e.time() < last {
+            Err(JournalError::TimeBack(number, last, e.time()))
+        } else {
+            Ok(e)
+        },
+        Err(why) => Err(JournalError::BadLine(number, why)),
+    }
+}
+
+/// Whether it is an act of one activator.
+#[inline(always)]
+fn is_own(act: &Act) -> bool
+    ensures { result ≡ is_own act.now }
+{
+    matches!(
+        *act,
+        Act::Arrive(_) | Act::Finish(_, _) | Act::Cancel(_) | Act::Pass
+    )
+}
+
+/// Takes the next event, at this time or later, where its line is a usual one of one activator below 10 and ahead with its LF.
+/// None says nothing, and takes nothing.
+#[inline(always)]
+pub fn next_ahead(lines: &mut Lines, setup: &GroupSetup, last: u64) -> Option<GroupEvent>
+    ensures tells { IfSome result (λ e. (left : Option (List ℕ)) → Tells (next_part setup.now last lines.old.number) lines.new.number (unread lines.old.input left) (unread lines.new.input left) (Ok (Some e))) }
+    ensures order { IfSome result (λ e. last ≤ time_of e) }
+    ensures times { IfSome result (λ e. time_of e ≤ time_most) }
+    ensures range { IfSome result (IsGroupEvent setup.now.activators setup.now.pods) }
+    ensures bytes { IfSome result (λ e. lines.old.input.taken + 6 ≤ lines.new.input.taken) }
+    ensures few { IfSome result (λ e. lines.new.input.taken ≤ most_taken) }
+    ensures text { IfSome result (λ e. (left : Option (List ℕ)) → TakesText lines.new.cut (unread lines.old.input left) (unread lines.new.input left)) }
+    ensures balance { lines.new.input.taken + length lines.new.input.ahead ≡ lines.old.input.taken + length lines.old.input.ahead }
+    ensures same { result ≡ None → lines.new ≡ lines.old }
+{
+    spellings_are_read();
+    let ahead = lines.ahead();
+    if ahead.len() < 2 || ahead[1] != b' ' {
+        return None;
+    }
+    let i = u64::from(ahead[0].wrapping_sub(b'0'));
+    if i >= setup.activators || i > 9 {
+        return None;
+    }
+    let (e, len) = lines.event_from(2)?;
+    if e.time < last || e.time > TIME_MOST || !is_own(&e.act) {
+        return None;
+    }
+    lines.take_line(len);
+    Some(GroupEvent::One(i, e))
+}
+
+/// Reads the next event, at this time or later, or `end` and the end of the input.
+pub fn read_next<S: Source>(
+    lines: &mut Lines,
+    source: &mut S,
+    setup: &GroupSetup,
+    last: u64,
+) -> Result<Option<GroupEvent>, JournalError>
+    ensures tells { Reads (next_part setup.now last) lines.old lines.new (S.left source.old) (S.left source.new) result }
+    ensures text { OnEvent result (λ e. TakesText lines.new.cut (unread lines.old.input (S.left source.old)) (unread lines.new.input (S.left source.new))) }
+    ensures order { OnEvent result (λ e. last ≤ time_of e) }
+    ensures times { OnEvent result (λ e. time_of e ≤ time_most) }
+    ensures range { OnEvent result (IsGroupEvent setup.now.activators setup.now.pods) }
+    ensures bytes { OnEvent result (λ e. lines.old.input.taken + 6 ≤ lines.new.input.taken) }
+    ensures memory { result ≢ Err JournalError.Memory }
+    ensures few { lines.new.input.taken ≤ most_taken }
+    ensures source { DrawsEvent (error_in result) lines.old lines.new S.Source.own S.Faulty source.old source.new }
+{
+    text_laws();
+    match lines.next_line(source) {
+        Ok(()) => {}
+        Err(e) => return Err(e),
+    }
+    if lines.line() == b"end".as_slice() {
+        return match lines.end(source) {
+            Ok(()) => Ok(None),
+            Err(e) => Err(e),
+        };
+    }
+    match judge_event(lines.line(), lines.number(), setup, last) {
+        Ok(e) => Ok(Some(e)),
+        Err(e) => Err(e),
+    }
+}

@@ -1,0 +1,4 @@
+mod Pieces
+mod InPlace
+mod Waits
+mod Tallies

@@ -1,7 +1,0 @@
-use Rattle.std.proofs.Common.{◌≡◌, drop, length}
-use Rattle.kn_slices.specs.Slices.{cut_of, first_from}
-use Rattle.kn_slices.specs.Activators.{limit_at}
-use Rattle.kn_slices.proofs.group.Group.first_cut.Given as goal
-
-abbrev pub invariant-loop-p : goal.invariant-loop-p
-invariant-loop-p l = first_from (cut_of limit_at (length l.self.parts) l.self.parts) l.p (drop l.p l.self.wanted) ≡ first_from (cut_of limit_at (length l.self.parts) l.self.parts) 0 l.self.wanted

@@ -1,0 +1,116 @@
+//! The pods that may be open, and what is done at those only.
+ghost use Rattle.std.specs.Prelude.{◌≡◌, ◌<◌, ◌≤◌, ℕ, length, slice_index_or, true, vec_capacity};
+ghost use Rattle.kn_slices.specs.Activators.{AreClosed, AreInForce, AreListed, AreMarked, AreOpen, EachIs, HasPod, IsOff, limit_at, running_at};
+ghost use Rattle.kn_slices.specs.Slices.{cut_of, first_from, force_after, hold, raise_of};
+
+use crate::change::Change;
+use crate::parts::{cut_of, force_after, raise_of};
+use kn_core::Revision;
+
+/// The limits in force after a call. Of the pods that aren't listed the wanted ones are, and stay so.
+pub(crate) fn refresh(parts: &[Revision], wanted: &[u64], force: &mut [u64], listed: &[u64])
+    requires listed { AreListed (length wanted.now) listed.now }
+    requires others { AreInForce wanted.now force.old listed.now }
+    requires pods { (p : ℕ) → p < length wanted.now → EachIs (HasPod p) parts.now }
+    requires many { length force.old ≡ length wanted.now }
+    requires few { (p : ℕ) → p < length wanted.now → hold (limit_at p) (running_at p) parts.now ≤ 1000 }
+    ensures many { length force.new ≡ length force.old }
+    ensures each { (p : ℕ) → p < length wanted.now → slice_index_or force.new p 0 ≡ force_after (hold (limit_at p) (running_at p) parts.now) (slice_index_or wanted.now p 0) (slice_index_or force.old p 0) }
+{
+    if listed.is_empty() {
+        return;
+    }
+    for k in 0..listed.len() {
+        let p = listed[k];
+        let at = p as usize;
+        force[at] = force_after(parts, p, wanted[at], force[at]);
+    }
+}
+
+/// The first possible cut, where no pod has a mark that isn't listed.
+pub(crate) fn first_cut(
+    parts: &[Revision],
+    wanted: &[u64],
+    marks: &[u64],
+    listed: &[u64],
+) -> Option<Change>
+    requires listed { AreListed (length wanted.now) listed.now }
+    requires marked { AreMarked parts.now wanted.now marks.now }
+    requires others { (p : ℕ) → p < length wanted.now → IsOff p listed.now → slice_index_or marks.now p 0 ≡ 0 }
+    requires pods { (p : ℕ) → p < length wanted.now → EachIs (HasPod p) parts.now }
+    requires few { length parts.now ≤ 16 }
+    ensures { result ≡ first_from (cut_of limit_at (length parts.now) parts.now) 0 wanted.now }
+{
+    for k in 0..listed.len() {
+        let p = listed[k];
+        let at = p as usize;
+        if marks[at] == 0 {
+            continue;
+        }
+        if let Some(change) = cut_of(parts, p, wanted[at]) {
+            return Some(change);
+        }
+    }
+    None
+}
+
+/// The first possible raise, where no pod has a mark that isn't listed.
+pub(crate) fn first_raise(
+    parts: &[Revision],
+    wanted: &[u64],
+    marks: &[u64],
+    listed: &[u64],
+) -> Option<Change>
+    requires listed { AreListed (length wanted.now) listed.now }
+    requires marked { AreMarked parts.now wanted.now marks.now }
+    requires others { (p : ℕ) → p < length wanted.now → IsOff p listed.now → slice_index_or marks.now p 0 ≡ 0 }
+    requires pods { (p : ℕ) → p < length wanted.now → EachIs (HasPod p) parts.now }
+    requires few { length parts.now ≤ 16 }
+    requires wanted { (p : ℕ) → p < length wanted.now → slice_index_or wanted.now p 0 ≤ 1000 }
+    requires held { (p : ℕ) → p < length wanted.now → hold (limit_at p) (running_at p) parts.now ≤ 1000 }
+    ensures { result ≡ first_from (raise_of limit_at running_at (length parts.now) parts.now) 0 wanted.now }
+{
+    for k in 0..listed.len() {
+        let p = listed[k];
+        let at = p as usize;
+        if marks[at] == 0 {
+            continue;
+        }
+        if let Some(change) = raise_of(parts, p, wanted[at]) {
+            return Some(change);
+        }
+    }
+    None
+}
+
+/// The list becomes the pods that have a mark or whose wanted limit isn't in force, in order.
+pub(crate) fn list_open(wanted: &[u64], force: &[u64], marks: &[u64], listed: &mut Vec<u64>)
+    requires forces { length force.now ≡ length wanted.now }
+    requires marks { length marks.now ≡ length wanted.now }
+    requires room { length wanted.now ≤ vec_capacity listed.old }
+    ensures known { AreOpen wanted.now force.now marks.now listed.new.items }
+    ensures room { length wanted.now ≤ vec_capacity listed.new }
+{
+    listed.clear();
+    for p in 0..wanted.len() {
+        if marks[p] != 0 || force[p] != wanted[p] {
+            listed.push_reserved(p as u64);
+        }
+    }
+}
+
+/// Whether no activator's limit at these pods isn't its slice, by the marks, and the wanted limits are in force there.
+pub(crate) fn are_settled(wanted: &[u64], force: &[u64], marks: &[u64], listed: &[u64]) -> bool
+    requires forces { length force.now ≡ length wanted.now }
+    requires marks { length marks.now ≡ length wanted.now }
+    requires listed { AreListed (length wanted.now) listed.now }
+    ensures { result ≡ true → AreClosed wanted.now force.now marks.now listed.now }
+{
+    for k in 0..listed.len() {
+        let p = listed[k] as usize;
+        if marks[p] != 0 || force[p] != wanted[p] {
+            return false;
+        }
+    }
+    true
+}
