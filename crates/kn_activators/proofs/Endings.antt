@@ -1,5 +1,5 @@
 -- How replaying the lines behind a start ends.
-use Rattle.std.proofs.Common.{◌≡◌, ◌+◌, ◌++◌, ℕ, List, [], ◌∷◌, length, length-append, append_assoc, append-nil, refl, sym, ap, ◌∙◌, subst, inl, inr}
+use Rattle.std.proofs.Common.{◌≡◌, ◌+◌, ◌++◌, ℕ, Bool, false, List, [], ◌∷◌, length, length-append, append_assoc, append-nil, refl, sym, ap, ◌∙◌, subst, inl, inr}
 use Rattle.std.specs.Prelude.{Option, None, Some, Result, Ok, Err, IfErr, OnErr, OnOk}
 use Rattle.std.specs.Io.KnownBytes.{Appends}
 use Rattle.kn_io.specs.Prefix.{AppendsPrefix}
@@ -13,12 +13,12 @@ use Rattle.kn_activators.specs.declared.error.GroupError.{GroupError}
 use Rattle.kn_activators.specs.declared.error.GroupError.TheVariants as error
 use Rattle.kn_activators.specs.declared.event.GroupEvent.{GroupEvent}
 use Rattle.kn_activators.specs.declared.setup.GroupSetup.{GroupSetup}
-use Rattle.kn_activators.specs.Breaking.{BreaksIn, StopsAtEvent}
+use Rattle.kn_activators.specs.Breaking.{BreaksIn, IsOver, StopsAtEvent}
 use Rattle.kn_activators.specs.Replaying.{Follows, IsRefused, Stops, WritesNothing, rest_text}
 use Rattle.kn_activators.specs.Sharing.{Outcome, Sharing, by_line, by_lines, end_line, time_of}
 use Rattle.kn_activators.specs.Verdict.{Read, ending, next_part, none_read, read_events}
 use Rattle.kn_report.specs.Waiting.{Adds}
-use Rattle.kn_activators.proofs.Breaks.{HasRead, breaks_in}
+use Rattle.kn_activators.proofs.Breaks.{HasRead, HasTaken, breaks_in, so_over}
 use Rattle.kn_activators.proofs.EventLines.{GoesOn, lines_more, lines_one, no_more, none_more, one_more, with_events, with_more}
 use Rattle.kn_activators.proofs.Waits.{adds_all, adds_last, adds_some, adds_stop, waits_more}
 
@@ -37,11 +37,11 @@ rest_none s x es refused =
     ap (λ (xs : List GroupEvent). (by_lines s xs x).text ++ ending (length xs) refused) (append-nil es)
 
 -- a line is refused, or reading failed
-refused_by : (s : GroupSetup) (x : Sharing) (last n : ℕ) (xs ys : List ℕ) (es : List GroupEvent) (now m : ℕ) (left : Option (List ℕ)) (waiting : List ℕ) (o q : Option (List ℕ)) (e : JournalError) → GoesOn s last n (Some xs) es now m (Some ys)
-    → (e ≡ journal.ReadFault → BreaksIn s x last n xs left waiting (waiting ++ (by_lines s es x).text))
+refused_by : (cut : Bool) (s : GroupSetup) (x : Sharing) (last n : ℕ) (xs ys : List ℕ) (es : List GroupEvent) (now m : ℕ) (left : Option (List ℕ)) (waiting : List ℕ) (o q : Option (List ℕ)) (e : JournalError) → GoesOn s last n (Some xs) es now m (Some ys)
+    → (e ≡ journal.ReadFault → BreaksIn cut s x last n xs left waiting (waiting ++ (by_lines s es x).text))
     → Appends o q (waiting ++ (by_lines s es x).text) → Refused e (next_part s now m (lines ys)) → (e ≡ journal.Memory → ⊥)
-    → IsRefused (waiting ++ rest_text s x (read_events s last n (lines xs))) (read_events s last n (lines xs)).refused (BreaksIn s x last n xs left waiting) e o q
-refused_by s x last n xs ys es now m left waiting o q e goes broken all told other = by e broken told other
+    → IsRefused (waiting ++ rest_text s x (read_events s last n (lines xs))) (read_events s last n (lines xs)).refused (BreaksIn cut s x last n xs left waiting) e o q
+refused_by cut s x last n xs ys es now m left waiting o q e goes broken all told other = by e broken told other
   where
     told_by : (cause : Cause) → next_part s now m (lines ys) ≡ Err cause
         → ((read_events s last n (lines xs)).refused ≡ Some cause) × Appends o q (waiting ++ rest_text s x (read_events s last n (lines xs)))
@@ -50,8 +50,8 @@ refused_by s x last n xs ys es now m left waiting o q e goes broken all told oth
         let split = ap (rest_text s x) is ∙ (rest_none s x es (Some cause) ∙ append-nil (by_lines s es x).text) in
         (ap (λ (r : Read). r.refused) is, subst (λ (z : List ℕ). Appends o q (waiting ++ z)) (sym split) all)
 
-    by : (e : JournalError) → (e ≡ journal.ReadFault → BreaksIn s x last n xs left waiting (waiting ++ (by_lines s es x).text)) → Refused e (next_part s now m (lines ys)) → (e ≡ journal.Memory → ⊥)
-        → IsRefused (waiting ++ rest_text s x (read_events s last n (lines xs))) (read_events s last n (lines xs)).refused (BreaksIn s x last n xs left waiting) e o q
+    by : (e : JournalError) → (e ≡ journal.ReadFault → BreaksIn cut s x last n xs left waiting (waiting ++ (by_lines s es x).text)) → Refused e (next_part s now m (lines ys)) → (e ≡ journal.Memory → ⊥)
+        → IsRefused (waiting ++ rest_text s x (read_events s last n (lines xs))) (read_events s last n (lines xs)).refused (BreaksIn cut s x last n xs left waiting) e o q
     by journal.ReadFault broken told other =
         let r = read_events s now m (lines ys) in
         let tail = tail_of s (by_lines s es x).now (length es) r in
@@ -68,10 +68,10 @@ refused_by s x last n xs ys es now m left waiting o q e goes broken all told oth
     by (journal.AfterEnd a) broken (cause, is, h) other = (cause, is, (told_by cause h).0, (told_by cause h).1)
     by (journal.TooMany a) broken (cause, is, h) other = (cause, is, (told_by cause h).0, (told_by cause h).1)
 
-module _ (s : GroupSetup) (x : Sharing) (last n : ℕ) where
+module _ (cut : Bool) (s : GroupSetup) (x : Sharing) (last n : ℕ) where
   -- writing failed amid what waits
   pub follows_cut : (known left : Option (List ℕ)) (es : List GroupEvent) (now m : ℕ) (rest : Option (List ℕ)) (waiting w : List ℕ) (o p q : Option (List ℕ)) → GoesOn s last n known es now m rest
-      → Adds o p waiting w (by_lines s es x).text → AppendsPrefix p q w → Follows {T = Unit {0}} s x last n known left waiting o q (Err error.Output)
+      → Adds o p waiting w (by_lines s es x).text → AppendsPrefix p q w → Follows {T = Unit {0}} cut s x last n known left waiting o q (Err error.Output)
   follows_cut None left es now m rest waiting w o p q goes adds some = tt
   follows_cut (Some xs) left es now m None waiting w o p q goes adds some = absurd goes
   follows_cut (Some xs) left es now m (Some ys) waiting w o p q goes adds some =
@@ -82,7 +82,7 @@ module _ (s : GroupSetup) (x : Sharing) (last n : ℕ) where
   -- .. or amid the text of an event
   pub follows_take : (known left : Option (List ℕ)) (es : List GroupEvent) (now m : ℕ) (rest : Option (List ℕ)) (e : GroupEvent) (k : ℕ) (new : Option (List ℕ)) (waiting w : List ℕ) (o p q : Option (List ℕ))
       → GoesOn s last n known es now m rest → Gives (next_part s now m) (Some e) k rest new → Adds o p waiting w (by_lines s es x).text → AppendsPrefix p q (w ++ (by_line s e (by_lines s es x).now).text)
-      → Follows {T = Unit {0}} s x last n known left waiting o q (Err error.Output)
+      → Follows {T = Unit {0}} cut s x last n known left waiting o q (Err error.Output)
   follows_take None left es now m rest e k new waiting w o p q goes gives adds some = tt
   follows_take (Some xs) left es now m None e k new waiting w o p q goes gives adds some = absurd goes
   follows_take (Some xs) left es now m (Some ys) e k None waiting w o p q goes gives adds some = absurd gives
@@ -98,7 +98,7 @@ module _ (s : GroupSetup) (x : Sharing) (last n : ℕ) where
 
   -- all lines are good
   pub follows_done : (u : Unit {0}) (known left : Option (List ℕ)) (es : List GroupEvent) (now m k : ℕ) (rest new : Option (List ℕ)) (waiting w : List ℕ) (o p q : Option (List ℕ)) → GoesOn s last n known es now m rest
-      → Gives (next_part s now m) None k rest new → Adds o p waiting w (by_lines s es x).text → Appends p q (w ++ end_line (length es)) → Follows {T = Unit {0}} s x last n known left waiting o q (Ok u)
+      → Gives (next_part s now m) None k rest new → Adds o p waiting w (by_lines s es x).text → Appends p q (w ++ end_line (length es)) → Follows {T = Unit {0}} cut s x last n known left waiting o q (Ok u)
   follows_done u None left es now m k rest new waiting w o p q goes gives adds all = tt
   follows_done u (Some xs) left es now m k None new waiting w o p q goes gives adds all = absurd goes
   follows_done u (Some xs) left es now m k (Some ys) None waiting w o p q goes gives adds all = absurd gives
@@ -110,7 +110,7 @@ module _ (s : GroupSetup) (x : Sharing) (last n : ℕ) where
       )
 
   pub follows_half : (known left : Option (List ℕ)) (es : List GroupEvent) (now m k : ℕ) (rest new : Option (List ℕ)) (waiting w : List ℕ) (o p q : Option (List ℕ)) → GoesOn s last n known es now m rest
-      → Gives (next_part s now m) None k rest new → Adds o p waiting w (by_lines s es x).text → AppendsPrefix p q (w ++ end_line (length es)) → Follows {T = Unit {0}} s x last n known left waiting o q (Err error.Output)
+      → Gives (next_part s now m) None k rest new → Adds o p waiting w (by_lines s es x).text → AppendsPrefix p q (w ++ end_line (length es)) → Follows {T = Unit {0}} cut s x last n known left waiting o q (Err error.Output)
   follows_half None left es now m k rest new waiting w o p q goes gives adds some = tt
   follows_half (Some xs) left es now m k None new waiting w o p q goes gives adds some = absurd goes
   follows_half (Some xs) left es now m k (Some ys) None waiting w o p q goes gives adds some = absurd gives
@@ -119,27 +119,27 @@ module _ (s : GroupSetup) (x : Sharing) (last n : ℕ) where
       let split = ap (rest_text s x) is ∙ rest_none s x es None in
       subst (λ (z : List ℕ). AppendsPrefix o q (waiting ++ z)) (sym split) (adds_last o p q waiting w (by_lines s es x).text (end_line (length es)) adds some)
 
-  pub follows_stop : (laws : TextLaws) (known left : Option (List ℕ)) (es : List GroupEvent) (now m : ℕ) (rest : Option (List ℕ)) (waiting w : List ℕ) (o p q : Option (List ℕ)) (e : JournalError) (result : GroupError)
-      → GoesOn s last n known es now m rest → HasRead s last n known es now m rest → (e ≡ journal.ReadFault → StopsAtEvent rest left) → Refuses (next_part s now m) e rest → (e ≡ journal.Memory → ⊥) → Adds o p waiting w (by_lines s es x).text → Stops e w p q result
-      → Follows {T = Unit {0}} s x last n known left waiting o q (Err result)
-  follows_stop laws None left es now m rest waiting w o p q e result goes read amid told other adds stops = tt
-  follows_stop laws (Some xs) left es now m None waiting w o p q e result goes read amid told other adds stops = absurd goes
-  follows_stop laws (Some xs) left es now m (Some ys) waiting w o p q e result goes read amid told other adds (inl (is, appends)) =
+  pub follows_stop : (laws : TextLaws) (over : Bool) (known left : Option (List ℕ)) (es : List GroupEvent) (now m : ℕ) (rest : Option (List ℕ)) (waiting w : List ℕ) (o p q : Option (List ℕ)) (e : JournalError) (result : GroupError)
+      → GoesOn s last n known es now m rest → HasRead cut over s last n known es now m rest → (e ≡ journal.ReadFault → StopsAtEvent rest left) → (e ≡ journal.ReadFault → over ≡ false) → (IsOver over rest → Refuses (next_part s now m) e rest) → (e ≡ journal.Memory → ⊥) → Adds o p waiting w (by_lines s es x).text → Stops e w p q result
+      → Follows {T = Unit {0}} cut s x last n known left waiting o q (Err result)
+  follows_stop laws over None left es now m rest waiting w o p q e result goes read amid uncut told other adds stops = tt
+  follows_stop laws over (Some xs) left es now m None waiting w o p q e result goes read amid uncut told other adds stops = absurd goes
+  follows_stop laws over (Some xs) left es now m (Some ys) waiting w o p q e result goes read amid uncut told other adds (inl (is, appends)) =
       let whole : Appends o q (waiting ++ (by_lines s es x).text) =
       subst (Appends o q) (append-nil (waiting ++ (by_lines s es x).text)) (adds_all o p q waiting w (by_lines s es x).text [] adds (subst (Appends p q) (sym (append-nil w)) appends)) in
-      subst (λ (z : GroupError). Follows {T = Unit {0}} s x last n (Some xs) left waiting o q (Err z)) (sym is) (refused_by s x last n xs ys es now m left waiting o q e goes
-      (λ fault. breaks_in laws s x last n xs es now m ys left waiting read (amid fault)) whole told other)
-  follows_stop laws (Some xs) left es now m (Some ys) waiting w o p q e result goes read amid told other adds (inr (is, some)) =
-      subst (λ (z : GroupError). Follows {T = Unit {0}} s x last n (Some xs) left waiting o q (Err z)) (sym is) (follows_cut (Some xs) left es now m (Some ys) waiting w o p q goes adds some)
+      subst (λ (z : GroupError). Follows {T = Unit {0}} cut s x last n (Some xs) left waiting o q (Err z)) (sym is) (refused_by cut s x last n xs ys es now m left waiting o q e goes
+      (λ fault. breaks_in laws cut s x last n xs es now m ys left waiting (subst (λ (b : Bool). HasTaken cut b s last n xs es now m ys) (uncut fault) read) (amid fault)) whole (told (so_over cut over read.text ys read.so)) other)
+  follows_stop laws over (Some xs) left es now m (Some ys) waiting w o p q e result goes read amid uncut told other adds (inr (is, some)) =
+      subst (λ (z : GroupError). Follows {T = Unit {0}} cut s x last n (Some xs) left waiting o q (Err z)) (sym is) (follows_cut (Some xs) left es now m (Some ys) waiting w o p q goes adds some)
 
   -- the last line was written behind all, or some of both
   pub follows_finish : (known left : Option (List ℕ)) (es : List GroupEvent) (now m k : ℕ) (rest new : Option (List ℕ)) (waiting w : List ℕ) (o p q : Option (List ℕ)) (count : ℕ) (r : Result (Unit {0}) GroupError)
       → GoesOn s last n known es now m rest → Gives (next_part s now m) None k rest new → Adds o p waiting w (by_lines s es x).text → length es ≡ count
-      → OnOk r (Appends p q (w ++ end_line count)) → IfErr r (λ e. e ≡ error.Output) → OnErr r (AppendsPrefix p q (w ++ end_line count)) → Follows {T = Unit {0}} s x last n known left waiting o q r
+      → OnOk r (Appends p q (w ++ end_line count)) → IfErr r (λ e. e ≡ error.Output) → OnErr r (AppendsPrefix p q (w ++ end_line count)) → Follows {T = Unit {0}} cut s x last n known left waiting o q r
   follows_finish known left es now m k rest new waiting w o p q count (Ok u) goes gives adds many ok err some =
       follows_done u known left es now m k rest new waiting w o p q goes gives adds (subst (λ (z : ℕ). Appends p q (w ++ end_line z)) (sym many) ok)
   follows_finish known left es now m k rest new waiting w o p q count (Err e) goes gives adds many ok err some =
-      subst (λ (z : GroupError). Follows {T = Unit {0}} s x last n known left waiting o q (Err z)) (sym err)
+      subst (λ (z : GroupError). Follows {T = Unit {0}} cut s x last n known left waiting o q (Err z)) (sym err)
       (follows_half known left es now m k rest new waiting w o p q goes gives adds (subst (λ (z : ℕ). AppendsPrefix p q (w ++ end_line z)) (sym many) some))
 
 -- an error other than want of memory

@@ -7,6 +7,7 @@ mod Drawings
 mod Parts
 mod OneLines
 mod EventLines
+mod OwnLines
 mod Breaks
 mod Endings
 mod Faults

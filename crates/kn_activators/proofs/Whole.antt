@@ -16,12 +16,12 @@ use Rattle.kn_journal.specs.Texts.{TextLaws}
 use Rattle.kn_activators.specs.declared.error.GroupError.{GroupError}
 use Rattle.kn_activators.specs.declared.error.GroupError.TheVariants as error
 use Rattle.kn_activators.specs.declared.setup.GroupSetup.{GroupSetup}
-use Rattle.kn_activators.specs.Breaking.{BreaksBefore, BreaksBeyond, BreaksIn}
+use Rattle.kn_activators.specs.Breaking.{BreaksBefore, BreaksBeyond, BreaksIn, IsOver}
 use Rattle.kn_activators.specs.Replaying.{FailsToOpen, Follows, IsRefused, Opened, Opens, ReplaysSlices, Writes, WritesNothing, rest_text}
 use Rattle.kn_activators.specs.Sharing.{by_lines, opened, openings_text, run_text}
 use Rattle.kn_activators.specs.Verdict.{Read, ending, input_of, input_of_lines, opening_part, read_events, refusal_of, text_of}
 use Rattle.kn_report.specs.Waiting.{Adds}
-use Rattle.kn_activators.proofs.Breaks.{before_setup, before_start, breaks_after, breaks_before}
+use Rattle.kn_activators.proofs.Breaks.{before_setup, before_start, breaks_after, breaks_before, over_of}
 use Rattle.kn_activators.proofs.Pieces.{prefix_more}
 use Rattle.kn_activators.proofs.Waits.{adds_all, adds_last}
 
@@ -135,7 +135,7 @@ behind a b d w x y refused In All (Err (error.Input e)) adds other broken h = by
 
 pub whole_follows : (laws : TextLaws) (cut : Bool) (known rest : Option (List ℕ)) (ahead : List ℕ) (left : Option (List ℕ)) (given number : ℕ) (s : GroupSetup) (start : ℕ) (a b d : Option (List ℕ)) (w : List ℕ) (r : Result (Unit {0}) GroupError) → Opens known rest number (Ok (s, start))
     → TakesText cut known rest → (r ≡ Err (error.Input journal.ReadFault) → length ahead ≡ given - most_taken)
-    → Adds a b [] w (openings_text s start) → (WritesNothing r → ⊥) → Follows s (opened s start) start number rest (prepend_known ahead left) w b d r → ReplaysSlices known left given a d r
+    → Adds a b [] w (openings_text s start) → (WritesNothing r → ⊥) → (IsOver cut rest → Follows cut s (opened s start) start number rest (prepend_known ahead left) w b d r) → ReplaysSlices known left given a d r
 whole_follows laws cut None rest ahead left given number s start a b d w r o text beyond adds other h = tt
 whole_follows laws cut (Some xs) None ahead left given number s start a b d w r o text beyond adds other h = absurd o
 whole_follows laws cut (Some xs) (Some ys) ahead left given number s start a b d w r o text beyond adds other h =
@@ -146,8 +146,8 @@ whole_follows laws cut (Some xs) (Some ys) ahead left given number s start a b d
     let left_over = prepend_known ahead left in
     subst (λ (t : List ℕ). Writes t (refusal_of (input_of xs)) (BreaksBeyond xs left given) a d r) (sym told)
     (subst (λ (c : Option Cause). Writes (openings_text s start ++ rest_text s (opened s start) read) c (BreaksBeyond xs left given) a d r) (sym refused)
-    (behind a b d w (openings_text s start) (rest_text s (opened s start) read) read.refused (BreaksIn s (opened s start) start number ys left_over w) (BreaksBeyond xs left given) r adds other
-    (λ fault front breaks. (ahead, beyond fault, breaks_after laws cut xs ys s start number left_over adds.written w front o text adds.all breaks)) h))
+    (behind a b d w (openings_text s start) (rest_text s (opened s start) read) read.refused (BreaksIn cut s (opened s start) start number ys left_over w) (BreaksBeyond xs left given) r adds other
+    (λ fault front breaks. (ahead, beyond fault, breaks_after laws cut xs ys s start number left_over adds.written w front o text adds.all breaks)) (h (over_of cut text.0 ys text.2))))
 
 pub whole_unbegun : (known rest left : Option (List ℕ)) (given number : ℕ) (s : GroupSetup) (start : ℕ) (a d : Option (List ℕ)) → Opens known rest number (Ok (s, start)) → AppendsPrefix a d (openings_text s start)
     → ReplaysSlices {T = Unit {0}} known left given a d (Err error.Output)

@@ -1,5 +1,5 @@
 -- What was written where the source failed amid an input of several activators.
-use Rattle.std.specs.Prelude.{◌≡◌, ◌⊎◌, ℕ, ◌-◌, ◌++◌, List, [], ◌∷◌, length, Option, None, Some, Result, Ok, Err, codes, ⊤}
+use Rattle.std.specs.Prelude.{◌≡◌, ◌⊎◌, ℕ, ◌-◌, ◌++◌, Bool, true, false, List, [], length, Option, None, Some, Result, Ok, Err, ⊤}
 use Rattle.std.specs.Io.KnownBytes.{prepend_known}
 use Rattle.kn_io.specs.declared.traits.Source.{Ghosts}
 use Rattle.kn_io.specs.declared.traits.Faulty.{Ghosts as Counted}
@@ -7,8 +7,8 @@ use Rattle.kn_journal.specs.declared.error.JournalError.{JournalError}
 use Rattle.kn_journal.specs.Causes.{Cause, no_end}
 use Rattle.kn_journal.specs.Drawing.{Draws}
 use Rattle.kn_journal.specs.Lines.{lines}
-use Rattle.kn_journal.specs.Reading.{AreWhole, TakesPart, most_taken}
-use Rattle.kn_journal.specs.Telling.{LinesState, StopsAmid}
+use Rattle.kn_journal.specs.Reading.{AreWhole, EndsWithLf, TakesPart, most_taken}
+use Rattle.kn_journal.specs.Telling.{LinesState, StopsAmid, TakesEnd}
 use Rattle.kn_activators.specs.declared.setup.GroupSetup.{GroupSetup}
 use Rattle.kn_activators.specs.Sharing.{Sharing, by_lines, run_text}
 use Rattle.kn_activators.specs.Verdict.{Input, input_of, opening_part, read_events, refusal_of}
@@ -27,12 +27,16 @@ abbrev pub rows_of : Result Input Cause → List ℕ
 rows_of (Ok t) = run_text t.setup t.start t.read.events
 rows_of (Err cause) = []
 
+-- bytes that end with LF; or no start is among them, and no line begins in them and ends behind them
+abbrev pub AreEnded : List ℕ → List ℕ → Type 0
+AreEnded bytes mid = EndsWithLf bytes ⊎ (AreWhole bytes mid × (input_of bytes ≡ Err no_end))
+
 -- of the bytes taken, the lines that had ended are all good, and what was written is their rows; no LF stands behind them
 pub record Breaks (xs : List ℕ) (left : Option (List ℕ)) (front : List ℕ) : Type 0 where
   pub bytes : List ℕ
   pub mid : List ℕ
   pub split : xs ≡ bytes ++ mid
-  pub whole : AreWhole bytes mid
+  pub ended : AreEnded bytes mid
   pub good : IsGoodSoFar (refusal_of (input_of bytes))
   pub rows : front ≡ rows_of (input_of bytes)
   pub rest : TakesPart (Some mid) left
@@ -50,26 +54,27 @@ pub record BreaksBefore (xs : List ℕ) (left : Option (List ℕ)) : Type 0 wher
   pub reads : input_of bytes ≡ Err no_end
   pub rest : TakesPart (Some mid) left
 
--- .. of the bytes behind a start, whose line has this number: what waited, and the rows of the events in them
-pub record BreaksIn (s : GroupSetup) (x : Sharing) (last number : ℕ) (xs : List ℕ) (left : Option (List ℕ)) (waiting front : List ℕ) : Type 0 where
+-- .. of the bytes behind a start, whose line has this number and was cut or not: what waited, and the rows of the events in them
+pub record BreaksIn (cut : Bool) (s : GroupSetup) (x : Sharing) (last number : ℕ) (xs : List ℕ) (left : Option (List ℕ)) (waiting front : List ℕ) : Type 0 where
   pub bytes : List ℕ
   pub mid : List ℕ
   pub split : xs ≡ bytes ++ mid
-  pub whole : AreWhole bytes mid
+  pub ended : ((bytes ≡ []) × (cut ≡ false)) ⊎ EndsWithLf bytes
   pub good : IsGoodSoFar (read_events s last number (lines bytes)).refused
   pub rows : front ≡ waiting ++ (by_lines s (read_events s last number (lines bytes)).events x).text
   pub rest : TakesPart (Some mid) left
 
 -- ---- where a call that reads stopped
 
--- the line `end` was taken, and then some first bytes of a line, maybe none
-abbrev pub StopsBehindEnd : Option (List ℕ) → Option (List ℕ) → Type 0
-StopsBehindEnd None new = ⊤
-StopsBehindEnd (Some xs) None = ⊥
-StopsBehindEnd (Some xs) (Some ys) = (text mid : List ℕ) × (xs ≡ text ++ mid) × AreWhole text mid × (lines text ≡ codes "end" ∷ []) × TakesPart (Some mid) (Some ys)
+-- where the input said its end, nothing of it is unread
+abbrev pub IsOver : Bool → Option (List ℕ) → Type 0
+IsOver cut None = ⊤
+IsOver true (Some xs) = xs ≡ []
+IsOver false (Some xs) = ⊤
 
+-- some first bytes of a line were taken, maybe none, or `end` before them
 abbrev pub StopsAtEvent : Option (List ℕ) → Option (List ℕ) → Type 0
-StopsAtEvent old new = TakesPart old new ⊎ StopsBehindEnd old new
+StopsAtEvent old new = TakesPart old new ⊎ TakesEnd old new
 
 -- a call that reads an event, and what it does to its input and to its source
 abbrev pub DrawsEvent : {X : Type 0} → Option JournalError → LinesState → LinesState → Ghosts X → Counted X → X → X → Type 0

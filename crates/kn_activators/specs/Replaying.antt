@@ -1,5 +1,5 @@
 -- What replaying an input of several activators writes, and how it ends.
-use Rattle.std.specs.Prelude.{◌≡◌, ◌⊎◌, ℕ, ◌++◌, List, [], length, Option, None, Some, Result, Ok, Err, ⊤}
+use Rattle.std.specs.Prelude.{◌≡◌, ◌⊎◌, ℕ, ◌++◌, Bool, List, [], length, Option, None, Some, Result, Ok, Err, ⊤}
 use Rattle.std.specs.Io.KnownBytes.{Appends}
 use Rattle.kn_io.specs.Prefix.{AppendsPrefix}
 use Rattle.kn_journal.specs.declared.error.JournalError.{JournalError}
@@ -32,11 +32,11 @@ Writes text refused Broken old new (Err (error.Input e)) = IsRefused text refuse
 abbrev pub rest_text : GroupSetup → Sharing → Read → List ℕ
 rest_text s x r = (by_lines s r.events x).text ++ ending (length r.events) r.refused
 
--- of the bytes behind a start, whose line has this number, and those left: what waits, and what they add
-abbrev pub Follows : {T : Type 0} → GroupSetup → Sharing → ℕ → ℕ → Option (List ℕ) → Option (List ℕ) → List ℕ → Option (List ℕ) → Option (List ℕ) → Result T GroupError → Type 0
-Follows s x last number None left waiting old new r = ⊤
-Follows s x last number (Some xs) left waiting old new r =
-    let read = read_events s last number (lines xs) in Writes (waiting ++ rest_text s x read) read.refused (BreaksIn s x last number xs left waiting) old new r
+-- of the bytes behind a start, whose line was cut or not and has this number, and those left: what waits, and what they add
+abbrev pub Follows : {T : Type 0} → Bool → GroupSetup → Sharing → ℕ → ℕ → Option (List ℕ) → Option (List ℕ) → List ℕ → Option (List ℕ) → Option (List ℕ) → Result T GroupError → Type 0
+Follows cut s x last number None left waiting old new r = ⊤
+Follows cut s x last number (Some xs) left waiting old new r =
+    let read = read_events s last number (lines xs) in Writes (waiting ++ rest_text s x read) read.refused (BreaksIn cut s x last number xs left waiting) old new r
 
 -- of an input with these bytes, of which these are left and so many were given
 abbrev pub ReplaysSlices : {T : Type 0} → Option (List ℕ) → Option (List ℕ) → ℕ → Option (List ℕ) → Option (List ℕ) → Result T GroupError → Type 0

@@ -1,17 +1,18 @@
 //! An input of several activators, from its bytes to those of its report.
-ghost use Rattle.std.specs.Prelude.{◌≡◌, ◌≢◌, ◌⊎◌, ◌+◌, ◌-◌, ◌≤◌, ◌++◌, [], Err, IfErr, IfOk, OnErr, OnOk};
+ghost use Rattle.std.specs.Prelude.{◌≡◌, ◌≢◌, ◌⊎◌, ◌+◌, ◌-◌, ◌≤◌, ◌++◌, [], false, Err, IfErr, IfOk, OnErr, OnOk};
 ghost use Rattle.std.specs.Io.KnownBytes.{Appends};
 ghost use Rattle.kn_io.specs.Causes.{HasCause, Rose};
 ghost use Rattle.kn_io.specs.Prefix.{AppendsPrefix};
 ghost use Rattle.kn_journal.specs.Drawing.{error_in};
 ghost use Rattle.kn_journal.specs.Journal.{time_most};
 ghost use Rattle.kn_journal.specs.Reading.{TakesText, most_taken, unread};
-ghost use Rattle.kn_activators.specs.Breaking.{DrawsEvent};
+ghost use Rattle.kn_journal.specs.Telling.{Gives, Refuses};
+ghost use Rattle.kn_activators.specs.Breaking.{DrawsEvent, IsOver};
 ghost use Rattle.kn_activators.specs.Reading.{IsGroupEvent};
 ghost use Rattle.kn_activators.specs.Replaying.{Follows, Opens, ReplaysSlices, Stops, WritesNothing, read_error};
 ghost use Rattle.kn_activators.specs.Sharing.{Sharing, end_line, time_of};
 ghost use Rattle.kn_activators.specs.Standing.{AreBefore, IsBelow, IsGroupSetup, Stands};
-ghost use Rattle.kn_activators.specs.Verdict.{DrawsLines, OnEvent, Reads, next_part};
+ghost use Rattle.kn_activators.specs.Verdict.{DrawsLines, OnEvent, next_part};
 ghost use Rattle.kn_report.specs.Waiting.{Adds};
 
 use crate::error::GroupError;
@@ -68,7 +69,7 @@ fn write_unless<O: Sink>(replay: &mut Replay, more: bool, out: &mut O) -> Result
     replay.flush(out)
 }
 
-/// Reads the next event. What waits is written before the source may be read.
+/// Reads the next event. What waits is written before the source may be read. A source that said its end isn't read again.
 fn next<S: Source, O: Sink>(
     replay: &mut Replay,
     lines: &mut Lines,
@@ -77,11 +78,14 @@ fn next<S: Source, O: Sink>(
     last: u64,
     out: &mut O,
 ) -> Result<Result<Option<GroupEvent>, JournalError>, Failed>
+    requires few { lines.old.input.taken ≤ most_taken }
     ensures adds { OnOk result (Adds (O.held out.old) (O.held out.new) replay.old.waiting replay.new.waiting []) }
     ensures failed { OnErr result (AppendsPrefix (O.held out.old) (O.held out.new) replay.old.waiting) }
     ensures group { replay.new.group ≡ replay.old.group }
     ensures setup { replay.new.setup ≡ replay.old.setup }
-    ensures tells { IfOk result (λ read. Reads (next_part setup.now last) lines.old lines.new (S.left source.old) (S.left source.new) read) }
+    ensures gives { IfOk result (λ read. IfOk read (λ found. Gives (next_part setup.now last lines.old.number) found lines.new.number (unread lines.old.input (S.left source.old)) (unread lines.new.input (S.left source.new)))) }
+    ensures refuses { IfOk result (λ read. IfErr read (λ e. IsOver lines.old.cut (unread lines.old.input (S.left source.old)) → Refuses (next_part setup.now last lines.old.number) e (unread lines.old.input (S.left source.old)))) }
+    ensures uncut { IfOk result (λ read. read ≡ Err JournalError.ReadFault → lines.old.cut ≡ false) }
     ensures order { IfOk result (λ read. OnEvent read (λ e. last ≤ time_of e)) }
     ensures times { IfOk result (λ read. OnEvent read (λ e. time_of e ≤ time_most)) }
     ensures range { IfOk result (λ read. OnEvent read (IsGroupEvent setup.now.activators setup.now.pods)) }
@@ -93,12 +97,17 @@ fn next<S: Source, O: Sink>(
     ensures source { IfOk result (λ read. DrawsEvent (error_in read) lines.old lines.new S.Source.own S.Faulty source.old source.new) }
     ensures cause { HasCause (O.Faulty.faults out.old) (O.Faulty.faults out.new) result }
 {
-    if let Some(e) = next_ahead(lines, setup, last) {
-        return Ok(Ok(Some(e)));
+    text_laws();
+    match next_ahead(lines, setup, last) {
+        Some(e) => return Ok(Ok(Some(e))),
+        None => {}
     }
     match write_unless(replay, lines.holds_line(), out) {
         Ok(()) => {}
         Err(Failed) => return Err(Failed),
+    }
+    if lines.is_cut() {
+        return Ok(Err(JournalError::NoEnd));
     }
     Ok(read_next(lines, source, setup, last))
 }
@@ -118,7 +127,7 @@ fn follow<S: Source, O: Sink>(
     requires times { start ≤ time_most }
     requires few { IsBelow 1 replay.old.group }
     requires taken { lines.old.input.taken ≤ most_taken }
-    ensures follows { (x : Sharing) → Stands replay.old.group x → Follows setup.now x start lines.old.number (unread lines.old.input (S.left source.old)) (unread lines.new.input (S.left source.new)) replay.old.waiting (O.held out.old) (O.held out.new) result }
+    ensures follows { (x : Sharing) → Stands replay.old.group x → IsOver lines.old.cut (unread lines.old.input (S.left source.old)) → Follows lines.old.cut setup.now x start lines.old.number (unread lines.old.input (S.left source.old)) (unread lines.new.input (S.left source.new)) replay.old.waiting (O.held out.old) (O.held out.new) result }
     ensures memory { WritesNothing result → ⊥ }
     ensures source { DrawsLines (read_error result) lines.old lines.new S.Source.own S.Faulty source.old source.new }
     ensures write_fault { result ≡ Err GroupError.Output → Rose (O.Faulty.faults out.old) (O.Faulty.faults out.new) }

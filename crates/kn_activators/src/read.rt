@@ -145,6 +145,10 @@ pub fn read_next<S: Source>(
         Err(e) => return Err(e),
     }
     if lines.line() == b"end".as_slice() {
+        // There the input said its end.
+        if lines.is_cut() {
+            return Ok(None);
+        }
         return match lines.end(source) {
             Ok(()) => Ok(None),
             Err(e) => Err(e),

@@ -132,7 +132,7 @@ pub fn run<S: Source, O: Sink, E: Sink>(
     ensures unsaid { command_of (map string_bytes words.now) ≡ Some Command.Simulate → WritesNone result → out.new ≡ out.old }
 
     // The rows of activators that share pods, and the first refused line with its cause.
-    ensures slices { command_of (map string_bytes words.now) ≡ Some Command.Slices → ReplaysGroup (S.left input.old) (O.held out.old) (O.held out.new) result }
+    ensures slices { command_of (map string_bytes words.now) ≡ Some Command.Slices → ReplaysGroup (S.left input.old) (S.left input.new) (S.given input.new - S.given input.old) (O.held out.old) (O.held out.new) result }
 
     // A fault comes only where its count rose, or 2^56 bytes were read.
     ensures read_fault { result ≡ Status.ReadFault → Rose (S.Faulty.faults input.old) (S.Faulty.faults input.new) ⊎ (S.given input.old + most_taken ≤ S.given input.new) }

@@ -1,5 +1,5 @@
 //! An input of several activators, replayed.
-ghost use Rattle.std.specs.Prelude.{◌≡◌, ◌⊎◌, ◌+◌, ◌≤◌};
+ghost use Rattle.std.specs.Prelude.{◌≡◌, ◌⊎◌, ◌+◌, ◌-◌, ◌≤◌};
 ghost use Rattle.kn_io.specs.Causes.{Rose};
 ghost use Rattle.kn_journal.specs.Reading.{most_taken};
 ghost use Rattle.kn_replay.specs.Grouped.{ReplaysGroup};
@@ -13,7 +13,7 @@ use std::alloc::Global;
 
 /// Replays an input of several activators, and writes their rows. All memory is taken before the first of them.
 pub fn replay_group<S: Source, O: Sink>(alloc: Global, input: &mut S, out: &mut O) -> Status
-    ensures report { ReplaysGroup (S.left input.old) (O.held out.old) (O.held out.new) result }
+    ensures report { ReplaysGroup (S.left input.old) (S.left input.new) (S.given input.new - S.given input.old) (O.held out.old) (O.held out.new) result }
     ensures replayed { IsReplayed result }
     ensures memory { result ≡ Status.Memory → out.new ≡ out.old }
     ensures read_fault { result ≡ Status.ReadFault → Rose (S.Faulty.faults input.old) (S.Faulty.faults input.new) ⊎ (S.given input.old + most_taken ≤ S.given input.new) }

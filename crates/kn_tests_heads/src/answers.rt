@@ -14,7 +14,7 @@ fn bytes_of(alloc: Global, answer: Answer) -> Result<String, AllocError> {
 }
 
 /// Prints each answer.
-pub fn made<R: Print + AllocGlobal>(rt: &R) -> io::Result<()> {
+pub fn made(rt: &HostRuntime) -> io::Result<()> {
     let all = [
         Answer::BadHead,
         Answer::NoSuchRevision,
@@ -35,7 +35,7 @@ pub fn made<R: Print + AllocGlobal>(rt: &R) -> io::Result<()> {
 }
 
 /// Prints how a request is answered that is refused.
-pub fn of_faults<R: Print>(rt: &R) -> io::Result<()> {
+pub fn of_faults(rt: &HostRuntime) -> io::Result<()> {
     let all = [
         HeadError::NoRevision,
         HeadError::BadCoding,

@@ -18,27 +18,38 @@ mod outcome;
 mod sweeps;
 
 use std::io;
+use sweeps::Ways;
 
-/// Says what comes of a line.
-fn show<R: Print + AllocGlobal>(rt: &R, line: &str) -> io::Result<()> {
-    println!(rt; "{line}")?;
-    let (way, text) = line.split_once('|').unwrap_or((line, ""));
-    let input = input::input_of(rt.alloc(), text)?;
+/// Says what comes of what a client sends.
+fn try_by(rt: &HostRuntime, way: &str, input: &[u8]) -> io::Result<()> {
     match way {
-        "direct" => outcome::sent(rt, &input, false),
-        "activator" => outcome::sent(rt, &input, true),
-        "pieces" => sweeps::pieces(rt, &input),
-        "fronts" => sweeps::fronts(rt, &input),
-        "reads" => sweeps::reads(rt, &input),
-        "length" => outcome::length(rt, &input),
+        "direct" => outcome::sent(rt, input, false),
+        "activator" => outcome::sent(rt, input, true),
+        "pieces" => sweeps::swept(rt, input, &[Ways::Pieces]),
+        "fronts" => sweeps::swept(rt, input, &[Ways::Fronts(5), Ways::Fronts(7)]),
+        "reads" => sweeps::reads(rt, input),
+        "length" => outcome::length(rt, input),
         _ => println!(rt; "  no way"),
     }
 }
 
-fn main(rt: HostRuntime) -> io::Result<()> {
+/// Says what comes of a line.
+fn show(rt: &HostRuntime, line: &str) -> io::Result<()> {
+    println!(rt; "{line}")?;
+    let (way, text) = line.split_once('|').unwrap_or((line, ""));
+    let input = input::input_of(rt.alloc(), text)?;
+    try_by(rt, way, &input)
+}
+
+fn show_all(rt: &HostRuntime) -> io::Result<()> {
     for line in rt.lines(rt.alloc()) {
-        show(&rt, line?.as_str())?;
+        show(rt, line?.as_str())?;
     }
+    Ok(())
+}
+
+fn main(rt: HostRuntime) -> io::Result<()> {
+    show_all(&rt)?;
     answers::made(&rt)?;
     answers::of_faults(&rt)
 }

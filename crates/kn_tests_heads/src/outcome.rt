@@ -1,7 +1,7 @@
 //! What comes of a request.
 
 use kn_case::shown;
-use kn_head::{HeadError, forward_bytes, read_head};
+use kn_head::{Head, forward_bytes, read_head};
 use kn_io::MemSource;
 use std::alloc::{AllocError, Global};
 use std::io;
@@ -20,57 +20,63 @@ pub struct Reading {
 /// A number that no read has.
 pub const NEVER: u64 = u64::MAX;
 
-/// What is sent on, or why the request is refused.
-pub fn outcome(alloc: Global, input: &[u8], reading: Reading) -> Result<String, AllocError> {
+/// What a client sends, as it is read.
+fn source_of(alloc: Global, input: &[u8], reading: Reading) -> Result<MemSource, AllocError> {
     let bytes = Vec::from_slice(alloc, input)?;
     let fail = vec![in alloc; reading.failing]?;
-    let mut source = MemSource::in_pieces(bytes, reading.piece.max(1), fail);
-    let head = match read_head(alloc, &mut source) {
-        Ok(head) => head,
-        Err(error) => return format!(in alloc; "refused: {error:?}"),
-    };
-    match forward_bytes(alloc, &head, reading.proxied) {
+    Ok(MemSource::in_pieces(bytes, reading.piece.max(1), fail))
+}
+
+/// What is sent on, with escapes.
+fn sent_on(alloc: Global, head: &Head, proxied: bool) -> Result<String, AllocError> {
+    match forward_bytes(alloc, head, proxied) {
         Ok(text) => shown(alloc, text.bytes()),
         Err(_) => Err(AllocError),
     }
 }
 
-/// Prints what comes of a request that is read at once and byte by byte: one line where that is the same.
-pub fn sent<R: Print + AllocGlobal>(rt: &R, input: &[u8], proxied: bool) -> io::Result<()> {
-    let reading = Reading {
-        piece: 16384,
-        failing: NEVER,
-        proxied,
-    };
-    let whole = outcome(rt.alloc(), input, reading)?;
+/// What is sent on, or why the request is refused.
+fn read(alloc: Global, source: &mut MemSource, proxied: bool) -> Result<String, AllocError> {
+    match read_head(alloc, source) {
+        Ok(head) => sent_on(alloc, &head, proxied),
+        Err(error) => format!(in alloc; "refused: {error:?}"),
+    }
+}
+
+/// What comes of a request that is read so.
+pub fn outcome(alloc: Global, input: &[u8], reading: Reading) -> Result<String, AllocError> {
+    let mut source = source_of(alloc, input, reading)?;
+    read(alloc, &mut source, reading.proxied)
+}
+
+/// Prints one line where both are the same.
+fn say_both(rt: &HostRuntime, whole: &str, bytewise: &str) -> io::Result<()> {
     println!(rt; "  {whole}")?;
-    let bytewise = outcome(
-        rt.alloc(),
-        input,
-        Reading {
-            piece: 1,
-            ..reading
-        },
-    )?;
-    if bytewise.as_str() == whole.as_str() {
+    if bytewise == whole {
         return Ok(());
     }
     println!(rt; "  byte by byte: {bytewise}")
 }
 
-/// How long the body is.
-fn length_of(alloc: Global, input: &[u8]) -> Result<Result<usize, HeadError>, AllocError> {
-    let mut source = MemSource::new(Vec::from_slice(alloc, input)?, Vec::new(alloc));
-    match read_head(alloc, &mut source) {
-        Ok(head) => Ok(Ok(head.body.bytes().len())),
-        Err(error) => Ok(Err(error)),
-    }
+/// Prints what comes of a request that is read at once and byte by byte: one line where that is the same.
+pub fn sent(rt: &HostRuntime, input: &[u8], proxied: bool) -> io::Result<()> {
+    let mut reading = Reading {
+        piece: 16384,
+        failing: NEVER,
+        proxied,
+    };
+    let whole = outcome(rt.alloc(), input, reading)?;
+    reading.piece = 1;
+    let bytewise = outcome(rt.alloc(), input, reading)?;
+    say_both(rt, whole.as_str(), bytewise.as_str())
 }
 
 /// Prints how long the body is.
-pub fn length<R: Print + AllocGlobal>(rt: &R, input: &[u8]) -> io::Result<()> {
-    match length_of(rt.alloc(), input)? {
-        Ok(length) => println!(rt; "  {length} bytes"),
+pub fn length(rt: &HostRuntime, input: &[u8]) -> io::Result<()> {
+    let alloc = rt.alloc();
+    let mut source = MemSource::new(Vec::from_slice(alloc, input)?, Vec::new(alloc));
+    match read_head(alloc, &mut source) {
+        Ok(head) => println!(rt; "  {} bytes", head.body.bytes().len()),
         Err(error) => println!(rt; "  refused: {error:?}"),
     }
 }

@@ -3,11 +3,10 @@ ghost use Rattle.std.specs.Prelude.{◌≡◌};
 ghost use Rattle.kn_tests_scaler.specs.Empty.{IsEmpty};
 
 use crate::meters::Meter;
-use kn_case::case;
+use crate::outcome::Outcome;
 use kn_event::Metric;
 use kn_stats::{Change, Closed, PodArea, Run, Stats};
 use std::alloc::Global;
-use std::io;
 
 const fn run(second: u64, load: u64, arrived: u64) -> Option<Run> {
     Some(Run {
@@ -146,62 +145,46 @@ fn most_pods(alloc: Global) -> Option<[u64; 2]> {
     name_most(&mut meter)
 }
 
-fn arrivals<R: Print + AllocGlobal>(rt: &R) -> io::Result<()> {
-    let (alloc, rps, concurrency) = (rt.alloc(), Metric::Rps, Metric::Concurrency);
-    case(
-        rt,
-        "one arrival by rps",
-        &after_bursts(alloc, rps, 1),
-        &after_arrivals(true, 1),
-    )?;
-    case(
-        rt,
-        "one arrival by concurrency",
-        &after_bursts(alloc, concurrency, 1),
-        &after_arrivals(false, 1),
-    )?;
-    case(
-        rt,
-        "no arrival by rps",
-        &after_bursts(alloc, rps, 0),
-        &after_arrivals(false, 0),
-    )?;
-    let most = after_bursts(alloc, rps, 1_000_001);
-    case(
-        rt,
-        "a million arrivals are counted at most",
-        &most,
-        &after_arrivals(true, 1_000_000),
-    )
+pub fn arrivals(alloc: Global) -> [Outcome; 4] {
+    let (rps, concurrency) = (Metric::Rps, Metric::Concurrency);
+    let many = after_bursts(alloc, rps, 1_000_001);
+    [
+        (
+            "one arrival by rps",
+            after_bursts(alloc, rps, 1) == after_arrivals(true, 1),
+        ),
+        (
+            "one arrival by concurrency",
+            after_bursts(alloc, concurrency, 1) == after_arrivals(false, 1),
+        ),
+        (
+            "no arrival by rps",
+            after_bursts(alloc, rps, 0) == after_arrivals(false, 0),
+        ),
+        (
+            "a million arrivals are counted at most",
+            many == after_arrivals(true, 1_000_000),
+        ),
+    ]
 }
 
 const fn area(area: u64, proxied: u64) -> PodArea {
     PodArea { area, proxied }
 }
 
-pub fn cases<R: Print + AllocGlobal>(rt: &R) -> io::Result<()> {
-    let alloc = rt.alloc();
+pub fn cases(alloc: Global) -> [Outcome; 4] {
     let seconds = [
         closed(None, None),
         closed(None, None),
         closed(run(0, 500, 1), run(1, 1000, 0)),
         closed(run(2, 500, 0), None),
     ];
-    case(
-        rt,
-        "one request's seconds",
-        &one_request(alloc),
-        &Some(seconds),
-    )?;
     let areas = [area(200, 200), area(300, 250), area(200, 100)];
-    case(rt, "a pod's areas", &one_pod(alloc), &Some(areas))?;
     let left = closed(run(0, 400, 1), None);
-    case(rt, "a pod that left", &pod_that_left(alloc), &Some(left))?;
-    case(
-        rt,
-        "room for 20,500 pods",
-        &most_pods(alloc),
-        &Some([250, 0]),
-    )?;
-    arrivals(rt)
+    [
+        ("one request's seconds", one_request(alloc) == Some(seconds)),
+        ("a pod's areas", one_pod(alloc) == Some(areas)),
+        ("a pod that left", pod_that_left(alloc) == Some(left)),
+        ("room for 20,500 pods", most_pods(alloc) == Some([250, 0])),
+    ]
 }

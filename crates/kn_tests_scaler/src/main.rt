@@ -6,70 +6,37 @@
 
 mod areas;
 mod meters;
+mod outcome;
 mod pods;
 mod recount;
 mod scalers;
 
-use anyhow::bail;
+use outcome::tell;
 use pods::Scaled;
 use std::alloc::Global;
 use std::io;
 
-fn open(alloc: Global, pods: &mut Option<Scaled>) -> Option<()> {
-    *pods = Some(Scaled::new(alloc)?);
-    Some(())
-}
-
-/// A call with its answer.
-fn answered(alloc: Global, pods: &mut Option<Scaled>, line: &str) -> Option<String> {
-    let answer = pods.as_mut()?.answer(alloc, line)?;
-    format!(in alloc; "{line}: {answer}").ok()
-}
-
 /// A line that opens pods is printed as it is; a call with its answer.
-fn said(alloc: Global, pods: &mut Option<Scaled>, line: &str) -> Option<String> {
-    if line.starts_with(' ') {
-        return answered(alloc, pods, line);
-    }
-    open(alloc, pods)?;
-    String::from_str(alloc, line).ok()
-}
-
-fn say(rt: &HostRuntime, pods: &mut Option<Scaled>, line: &str) -> anyhow::Result<()> {
-    let Some(text) = said(rt.alloc(), pods, line) else {
-        bail!("a line is none, or memory is lacking");
-    };
-    println!(rt; "{text}")?;
-    Ok(())
-}
-
-fn say_next(
-    rt: &HostRuntime,
-    pods: &mut Option<Scaled>,
-    line: io::Result<String>,
-) -> anyhow::Result<()> {
-    let line = line?;
-    say(rt, pods, line.as_str())
-}
-
-fn say_all(rt: &HostRuntime, pods: &mut Option<Scaled>) -> anyhow::Result<()> {
+fn say_all(rt: &HostRuntime, pods: &mut Scaled) -> io::Result<()> {
     for line in rt.lines(rt.alloc()) {
-        say_next(rt, pods, line)?;
+        pods.say(rt, line?.as_str())?;
     }
     Ok(())
 }
 
 /// What the lines of standard input become, each printed.
-fn worked_rows(rt: &HostRuntime) -> anyhow::Result<()> {
-    let mut pods = None;
-    say_all(rt, &mut pods)
+fn worked_rows(rt: &HostRuntime) -> io::Result<()> {
+    match Scaled::new(rt.alloc()) {
+        Some(mut pods) => say_all(rt, &mut pods),
+        None => tell(rt, &[("pods, no memory", false)]),
+    }
 }
 
-fn main(rt: HostRuntime) -> anyhow::Result<()> {
+fn main(rt: HostRuntime) -> io::Result<()> {
     worked_rows(&rt)?;
     pods::most_pods(&rt)?;
-    areas::cases(&rt)?;
+    tell(&rt, &areas::cases(rt.alloc()))?;
+    tell(&rt, &areas::arrivals(rt.alloc()))?;
     recount::compare(&rt)?;
-    scalers::cases(&rt)?;
-    Ok(())
+    tell(&rt, &scalers::cases(rt.alloc()))
 }

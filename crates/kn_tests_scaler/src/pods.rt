@@ -1,40 +1,63 @@
 //! The pods of a revision. Each has a limit of 7, and each call is made at time 5.
-use kn_case::case;
-use kn_event::{Entry, EntryLog, Line, entry_line};
+use crate::outcome::{Outcome, tell};
+use kn_event::{Entry, EntryLog, Line, Row, entry_line};
 use kn_pods::{PodAnswer, Pods};
 use std::alloc::Global;
-use std::fmt::Display;
-use std::io;
+use std::fmt::{Display, Formatter, Write};
+use std::{fmt, io};
 
-fn text(alloc: Global, text: &str) -> Option<String> {
-    String::from_str(alloc, text).ok()
-}
-
-fn line_text(alloc: Global, line: &Line) -> Option<String> {
-    text(alloc, str::from_utf8(line.bytes()).ok()?.trim_end())
-}
-
-/// The entry as a report has it.
-fn entry_text(alloc: Global, entry: &Entry) -> Option<String> {
+/// Prints the entry as a report has it.
+fn say_entry(rt: &HostRuntime, before: &str, entry: &Entry) -> io::Result<()> {
     let mut line = Line::new();
     entry_line(entry, &mut line);
-    line_text(alloc, &line)
+    let text = str::from_utf8(line.bytes()).unwrap_or("").trim_end();
+    print!(rt; "{before}{text}")
 }
 
-/// Adds an entry to those before it.
-fn add_entry(alloc: Global, rows: &mut String, entry: &Entry) -> Option<()> {
-    if !rows.is_empty() {
-        rows.push_str(", ").ok()?;
+/// Prints the rows, one after the other.
+fn say_entries(rt: &HostRuntime, entries: &[Entry]) -> io::Result<()> {
+    if entries.is_empty() {
+        return println!(rt; "none");
     }
-    let text = entry_text(alloc, entry)?;
-    rows.push_str(text.as_str()).ok()
-}
-
-fn add_entries(alloc: Global, rows: &mut String, entries: &[Entry]) -> Option<()> {
+    let mut before = "";
     for entry in entries {
-        add_entry(alloc, rows, entry)?;
+        say_entry(rt, before, entry)?;
+        before = ", ";
     }
-    Some(())
+    println!(rt; "")
+}
+
+/// What a call answers.
+#[derive(Clone, Copy)]
+enum Answer {
+    NoCall,
+    Ready(PodAnswer),
+    Next(Option<u64>),
+    Count(u64),
+    Flag(bool),
+    /// Whether the pod drained, and whether it does once it is removed.
+    Removed(bool, bool),
+}
+
+fn ready_word(answer: PodAnswer) -> &'static str {
+    match answer {
+        PodAnswer::Done => "done",
+        PodAnswer::NotStarting => "not starting",
+        PodAnswer::NoPod => "no pod",
+    }
+}
+
+impl Display for Answer {
+    fn fmt<W: Write>(&self, f: &mut Formatter<W>) -> fmt::Result {
+        match self {
+            Answer::NoCall => f.write_str("no such call"),
+            Answer::Ready(answer) => f.write_str(ready_word(*answer)),
+            Answer::Next(None) => f.write_str("none"),
+            Answer::Next(Some(count)) | Answer::Count(count) => write!(f, "{count}"),
+            Answer::Flag(flag) => write!(f, "{flag}"),
+            Answer::Removed(before, after) => write!(f, "draining {before}, then {after}"),
+        }
+    }
 }
 
 /// Pods, and the rows of the last scale.
@@ -71,57 +94,51 @@ impl Scaled {
         (true, self.pods.is_draining(p))
     }
 
-    /// The rows, one after the other.
-    fn rows(&self, alloc: Global) -> Option<String> {
-        if self.log.entries().is_empty() {
-            return text(alloc, "none");
-        }
-        let mut rows = String::new(alloc);
-        add_entries(alloc, &mut rows, self.log.entries())?;
-        Some(rows)
-    }
-
-    /// The answer to a call and its number; none where it is no call, or memory is lacking.
-    pub fn answer(&mut self, alloc: Global, line: &str) -> Option<String> {
-        let (verb, number) = line.trim_start().split_once(' ')?;
-        let number = number.parse().ok()?;
+    /// The answer to a call and its number.
+    fn answer(&mut self, verb: &str, number: u64) -> Answer {
         match verb {
-            "scale" => {
-                self.scale(number);
-                self.rows(alloc)
-            }
-            "ready" => text(alloc, ready_word(self.pods.ready(number))),
-            "next-starting" => next_text(alloc, self.pods.next_starting(number)),
-            "count-ready" => shown(alloc, &self.pods.count_ready()),
-            "live" => shown(alloc, &self.pods.live(number)),
-            "lost" => shown(alloc, &self.pods.lost(number)),
-            "remove" => removed_text(alloc, self.remove(number)),
-            _ => None,
+            "ready" => Answer::Ready(self.pods.ready(number)),
+            "next-starting" => Answer::Next(self.pods.next_starting(number)),
+            "count-ready" => Answer::Count(self.pods.count_ready()),
+            "live" => Answer::Flag(self.pods.live(number)),
+            "lost" => Answer::Flag(self.pods.lost(number)),
+            "remove" => self.removed(number),
+            _ => Answer::NoCall,
         }
     }
-}
 
-fn ready_word(answer: PodAnswer) -> &'static str {
-    match answer {
-        PodAnswer::Done => "done",
-        PodAnswer::NotStarting => "not starting",
-        PodAnswer::NoPod => "no pod",
+    fn removed(&mut self, p: u64) -> Answer {
+        let (before, after) = self.remove(p);
+        Answer::Removed(before, after)
     }
-}
 
-fn shown<T: Display>(alloc: Global, answer: &T) -> Option<String> {
-    format!(in alloc; "{answer}").ok()
-}
+    /// Prints a call with its answer.
+    fn say_call(&mut self, rt: &HostRuntime, line: &str) -> io::Result<()> {
+        let (verb, number) = line.trim_start().split_once(' ').unwrap_or((line, ""));
+        let number = number.parse().unwrap_or(0);
+        if verb == "scale" {
+            self.scale(number);
+            print!(rt; "{line}: ")?;
+            return say_entries(rt, self.log.entries());
+        }
+        let answer = self.answer(verb, number);
+        println!(rt; "{line}: {answer}")
+    }
 
-fn removed_text(alloc: Global, drained: (bool, bool)) -> Option<String> {
-    let (before, after) = drained;
-    format!(in alloc; "draining {before}, then {after}").ok()
-}
+    /// Other pods take the place of these, if there is memory.
+    fn reopen(&mut self, alloc: Global) {
+        if let Ok(pods) = Pods::new(alloc) {
+            self.pods = pods;
+        }
+    }
 
-fn next_text(alloc: Global, next: Option<u64>) -> Option<String> {
-    match next {
-        None => text(alloc, "none"),
-        Some(p) => shown(alloc, &p),
+    /// Prints a line that opens pods, or a call with its answer.
+    pub fn say(&mut self, rt: &HostRuntime, line: &str) -> io::Result<()> {
+        if line.starts_with(' ') {
+            return self.say_call(rt, line);
+        }
+        self.reopen(rt.alloc());
+        println!(rt; "{line}")
     }
 }
 
@@ -148,37 +165,33 @@ fn remove_all(scaled: &mut Scaled, count: u64) -> u64 {
     removed
 }
 
-/// As many pods as there may be: 20,000 drain, and 500 more come and drain too.
-pub fn most_pods<R: Print + AllocGlobal>(rt: &R) -> io::Result<()> {
-    match Scaled::new(rt.alloc()) {
-        Some(mut scaled) => tell_most(rt, &mut scaled),
-        None => println!(rt; "most pods: no memory"),
+/// Whether a scale to one makes just the pod of this number.
+fn makes(scaled: &mut Scaled, pod: u64) -> bool {
+    scaled.scale(1);
+    match scaled.log.entries() {
+        [entry] => entry.time == 5 && entry.row == Row::Create(pod, 7),
+        _ => false,
     }
 }
 
-fn tell_most<R: Print + AllocGlobal>(rt: &R, scaled: &mut Scaled) -> io::Result<()> {
-    tell_scales(rt, scaled)?;
-    tell_removals(rt, scaled)?;
-    tell_next(rt, scaled)
+fn most(scaled: &mut Scaled) -> [Outcome; 6] {
+    [
+        ("most pods, scales", turn_over(scaled, 82) == 82),
+        ("most pods, created", scaled.pods.count_created() == 20_500),
+        (
+            "most pods, draining",
+            scaled.pods.count_draining() == 20_500,
+        ),
+        ("most pods, removed", remove_all(scaled, 20_500) == 20_500),
+        ("most pods, left", scaled.pods.count_draining() == 0),
+        ("most pods, next", makes(scaled, 20_500)),
+    ]
 }
 
-fn tell_scales(rt: &impl Print, scaled: &mut Scaled) -> io::Result<()> {
-    case(rt, "most pods, scales", &turn_over(scaled, 82), &82)?;
-    let created = scaled.pods.count_created();
-    case(rt, "most pods, created", &created, &20_500)?;
-    let draining = scaled.pods.count_draining();
-    case(rt, "most pods, draining", &draining, &20_500)
-}
-
-fn tell_removals(rt: &impl Print, scaled: &mut Scaled) -> io::Result<()> {
-    let removed = remove_all(scaled, 20_500);
-    case(rt, "most pods, removed", &removed, &20_500)?;
-    case(rt, "most pods, left", &scaled.pods.count_draining(), &0)
-}
-
-fn tell_next<R: Print + AllocGlobal>(rt: &R, scaled: &mut Scaled) -> io::Result<()> {
-    scaled.scale(1);
-    let row = scaled.rows(rt.alloc());
-    let row = row.as_ref().map_or("", |row| row.as_str());
-    case(rt, "most pods, next", &row, &"5 create 20500 7")
+/// As many pods as there may be: 20,000 drain, and 500 more come and drain too.
+pub fn most_pods(rt: &HostRuntime) -> io::Result<()> {
+    match Scaled::new(rt.alloc()) {
+        Some(mut scaled) => tell(rt, &most(&mut scaled)),
+        None => tell(rt, &[("most pods, no memory", false)]),
+    }
 }

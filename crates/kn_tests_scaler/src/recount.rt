@@ -225,7 +225,7 @@ fn recounted(alloc: Global, metric: Metric) -> Option<(u64, u64)> {
     turns(&mut recount)
 }
 
-pub fn compare<R: Print + AllocGlobal>(rt: &R) -> io::Result<()> {
+pub fn compare(rt: &HostRuntime) -> io::Result<()> {
     for (name, metric) in [("concurrency", Metric::Concurrency), ("rps", Metric::Rps)] {
         let (right, wrong) = recounted(rt.alloc(), metric).unwrap_or((0, 0));
         println!(rt; "requests by {name}: {right} right, {wrong} wrong")?;

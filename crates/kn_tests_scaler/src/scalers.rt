@@ -4,13 +4,12 @@ ghost use Rattle.kn_event.specs.declared.revision.Kind.TheVariants as kind;
 ghost use Rattle.kn_trace.specs.Events.{opening};
 ghost use Rattle.kn_scaler.specs.Stands.{StandsFor, StandsForSome};
 
-use kn_case::case;
+use crate::outcome::Outcome;
 use kn_event::{Decision, Frac, Kind, Mode, Phase, Row, Slots, Spec, Stand};
 use kn_laws::parts::part_laws;
 use kn_record::facts::fact_laws;
 use kn_scaler::{Ruled, Scaler};
 use std::alloc::Global;
-use std::io;
 
 /// The first request is admitted at this time.
 fn admit_first(scaler: &mut Scaler, spec: &Spec, time: u64)
@@ -144,20 +143,21 @@ fn held(alloc: Global) -> Option<Ruled> {
     hold_by(alloc, &spec)
 }
 
-pub fn cases<R: Print + AllocGlobal>(rt: &R) -> io::Result<()> {
-    let alloc = rt.alloc();
+pub fn cases(alloc: Global) -> [Outcome; 3] {
     let nothing = (Phase::Inactive, Mode::Proxy, 0, None);
-    case(rt, "opens with no pod", &opened(alloc), &Some(nothing))?;
     let waking = Ruled {
         decision: two_pods(1, 1),
         phase: Some(Phase::Activating),
         mode: None,
     };
-    case(rt, "scale from zero", &woken(alloc), &Some((waking, true)))?;
     let holding = Ruled {
         decision: two_pods(1500, 2000),
         phase: None,
         mode: None,
     };
-    case(rt, "areas of one request", &held(alloc), &Some(holding))
+    [
+        ("opens with no pod", opened(alloc) == Some(nothing)),
+        ("scale from zero", woken(alloc) == Some((waking, true))),
+        ("areas of one request", held(alloc) == Some(holding)),
+    ]
 }

@@ -20,14 +20,14 @@ use Rattle.kn_activators.proofs.follow.follow.Goals as goal
 
 pub loop-count-init : goal.loop-count-init
 loop-count-init g c = record {
-  on = λ x stands.
+  on = λ x stands over.
       let none = sym (lines_nil c.args.setup.now x) in (
         [],
         subst (λ (o : Outcome). Stands c.args.replay.now.group o.now) none stands,
         subst (λ (o : Outcome). Adds (g.O.Sink.held c.args.out.now) (g.O.Sink.held c.args.out.now) c.args.replay.now.waiting c.args.replay.now.waiting o.text) none (adds_nothing (g.O.Sink.held c.args.out.now) c.args.replay.now.waiting),
         refl,
         goes_none c.args.setup.now c.args.start c.args.lines.now.number (unread c.args.lines.now.input (g.S.Source.left c.args.source.now)),
-        read_none c.text_laws.ensures.laws c.args.setup.now c.args.start c.args.lines.now.number (unread c.args.lines.now.input (g.S.Source.left c.args.source.now)),
+        read_none c.text_laws.ensures.laws c.args.lines.now.cut c.args.setup.now c.args.start c.args.lines.now.number (unread c.args.lines.now.input (g.S.Source.left c.args.source.now)) over,
       );
   setup = c.requires.setup;
   order = c.requires.order;
@@ -40,25 +40,26 @@ loop-count-init g c = record {
 }
 
 pub returns-in-Err-clause-follows : goal.returns-in-Err-clause-follows
-returns-in-Err-clause-follows g c = λ x stands.
-    let on = c.loop-count.invariant.on x stands in
-    follows_cut c.args.setup.now x c.args.start c.args.lines.now.number (unread c.args.lines.now.input (g.S.Source.left c.args.source.now))
+returns-in-Err-clause-follows g c = λ x stands over.
+    let on = c.loop-count.invariant.on x stands over in
+    follows_cut c.args.lines.now.cut c.args.setup.now x c.args.start c.args.lines.now.number (unread c.args.lines.now.input (g.S.Source.left c.args.source.now))
     (unread c.next.new.lines.input (g.S.Source.left c.next.new.source)) on.0 c.loop-count.last c.loop-count.lines.number (unread c.loop-count.lines.input (g.S.Source.left c.loop-count.source))
     c.args.replay.now.waiting c.loop-count.replay.waiting (g.O.Sink.held c.args.out.now) (g.O.Sink.held c.loop-count.out) (g.O.Sink.held c.next.new.out) on.4 on.2 c.in-Err.ensures.failed
 
 pub returns-in-Err-read-clause-follows : goal.returns-in-Err-read-clause-follows
-returns-in-Err-read-clause-follows g c = λ x stands.
-    let on = c.loop-count.invariant.on x stands in
+returns-in-Err-read-clause-follows g c = λ x stands over.
+    let on = c.loop-count.invariant.on x stands over in
     let s = c.args.setup.now in
     let text = (by_lines s on.0 x).text in
     let adds = adds_on (g.O.Sink.held c.args.out.now) (g.O.Sink.held c.loop-count.out) (g.O.Sink.held c.next.new.out) c.args.replay.now.waiting c.loop-count.replay.waiting c.next.new.replay.waiting text on.2 c.in-Ok.ensures.adds in
-    let told = rw c.in-Err-read.is at c.in-Ok.ensures.tells in
+    let told = rw c.in-Err-read.is at c.in-Ok.ensures.refuses in
     let source = rw c.in-Err-read.is at c.in-Ok.ensures.source in
+    let not_cut = c.in-Ok.ensures.uncut in
     let no = c.in-Ok.ensures.memory in
-    follows_stop s x c.args.start c.args.lines.now.number c.text_laws.ensures.laws (unread c.args.lines.now.input (g.S.Source.left c.args.source.now))
+    follows_stop c.args.lines.now.cut s x c.args.start c.args.lines.now.number c.text_laws.ensures.laws c.loop-count.lines.cut (unread c.args.lines.now.input (g.S.Source.left c.args.source.now))
     (unread c.next.new.lines.input (g.S.Source.left c.next.new.source)) on.0 c.loop-count.last c.loop-count.lines.number (unread c.loop-count.lines.input (g.S.Source.left c.loop-count.source))
     c.args.replay.now.waiting c.next.new.replay.waiting (g.O.Sink.held c.args.out.now) (g.O.Sink.held c.next.new.out) (g.O.Sink.held c.stop.new.out) c.in-Err-read.e c.stop.result on.4 on.5
-    (λ fault. source.amid (ap (λ (e : JournalError). Some e) fault)) told
+    (λ fault. source.amid (ap (λ (e : JournalError). Some e) fault)) (λ fault. not_cut (c.in-Err-read.is ∙ ap (λ (e : JournalError). Err e) fault)) told
     (λ is. no (c.in-Err-read.is ∙ ap (λ (e : JournalError). Err e) is)) adds c.stop.ensures.stops
 
 pub returns-in-Err-read-clause-memory : goal.returns-in-Err-read-clause-memory
@@ -67,13 +68,13 @@ returns-in-Err-read-clause-memory g c =
     stops_told c.in-Err-read.e c.next.new.replay.waiting (g.O.Sink.held c.next.new.out) (g.O.Sink.held c.stop.new.out) c.stop.result c.stop.ensures.stops (λ is. no (c.in-Err-read.is ∙ ap (λ (e : JournalError). Err e) is))
 
 pub returns-in-None-clause-follows : goal.returns-in-None-clause-follows
-returns-in-None-clause-follows g c = λ x stands.
-    let on = c.loop-count.invariant.on x stands in
+returns-in-None-clause-follows g c = λ x stands over.
+    let on = c.loop-count.invariant.on x stands over in
     let s = c.args.setup.now in
     let text = (by_lines s on.0 x).text in
     let adds = adds_on (g.O.Sink.held c.args.out.now) (g.O.Sink.held c.loop-count.out) (g.O.Sink.held c.next.new.out) c.args.replay.now.waiting c.loop-count.replay.waiting c.next.new.replay.waiting text on.2 c.in-Ok.ensures.adds in
-    let gives = rw (c.in-Ok-read.is, c.in-None.is) at c.in-Ok.ensures.tells in
-    follows_finish s x c.args.start c.args.lines.now.number (unread c.args.lines.now.input (g.S.Source.left c.args.source.now))
+    let gives = rw (c.in-Ok-read.is, c.in-None.is) at c.in-Ok.ensures.gives in
+    follows_finish c.args.lines.now.cut s x c.args.start c.args.lines.now.number (unread c.args.lines.now.input (g.S.Source.left c.args.source.now))
     (unread c.next.new.lines.input (g.S.Source.left c.next.new.source)) on.0 c.loop-count.last c.loop-count.lines.number c.next.new.lines.number (unread c.loop-count.lines.input (g.S.Source.left c.loop-count.source)) (unread c.next.new.lines.input (g.S.Source.left c.next.new.source))
     c.args.replay.now.waiting c.next.new.replay.waiting (g.O.Sink.held c.args.out.now) (g.O.Sink.held c.next.new.out) (g.O.Sink.held c.finish.new.out) c.loop-count.count c.finish.result on.4 gives adds on.3 c.finish.ensures.ok c.finish.ensures.err c.finish.ensures.some
 
@@ -100,18 +101,18 @@ take-requires-clause-few g c =
     below_less c.next.new.replay.group (c.loop-count.count + 1) _ (subst (IsBelow (c.loop-count.count + 1)) (sym c.next.ensures.group) c.loop-count.invariant.few) (omega (arith, test))
 
 pub returns-in-Err-take-clause-follows : goal.returns-in-Err-take-clause-follows
-returns-in-Err-take-clause-follows g c = λ x stands.
-    let on = c.loop-count.invariant.on x stands in
+returns-in-Err-take-clause-follows g c = λ x stands over.
+    let on = c.loop-count.invariant.on x stands over in
     let s = c.args.setup.now in
     let e = c.in-Some.e in
     let y = (by_lines s on.0 x).now in
     let text = (by_lines s on.0 x).text in
     let adds = adds_on (g.O.Sink.held c.args.out.now) (g.O.Sink.held c.loop-count.out) (g.O.Sink.held c.next.new.out) c.args.replay.now.waiting c.loop-count.replay.waiting c.next.new.replay.waiting text on.2 c.in-Ok.ensures.adds in
-    let gives = rw (c.in-Ok-read.is, c.in-Some.is) at c.in-Ok.ensures.tells in
+    let gives = rw (c.in-Ok-read.is, c.in-Some.is) at c.in-Ok.ensures.gives in
     let stood = subst (λ (z : GroupState). Stands z y) (sym c.next.ensures.group) on.1 in
     let same = c.next.ensures.setup ∙ c.loop-count.invariant.setup in
     let some = subst (λ (z : GroupSetup). AppendsPrefix (g.O.Sink.held c.next.new.out) (g.O.Sink.held c.take.new.out) (c.next.new.replay.waiting ++ (by_line z e y).text)) same (c.in-Err-take.ensures.err y stood) in
-    follows_take s x c.args.start c.args.lines.now.number (unread c.args.lines.now.input (g.S.Source.left c.args.source.now))
+    follows_take c.args.lines.now.cut s x c.args.start c.args.lines.now.number (unread c.args.lines.now.input (g.S.Source.left c.args.source.now))
     (unread c.next.new.lines.input (g.S.Source.left c.next.new.source)) on.0 c.loop-count.last c.loop-count.lines.number (unread c.loop-count.lines.input (g.S.Source.left c.loop-count.source)) e c.next.new.lines.number (unread c.next.new.lines.input (g.S.Source.left c.next.new.source))
     c.args.replay.now.waiting c.next.new.replay.waiting (g.O.Sink.held c.args.out.now) (g.O.Sink.held c.next.new.out) (g.O.Sink.held c.take.new.out) on.4 gives adds some
 
@@ -122,12 +123,12 @@ loop-count-preserved g c =
     let e = c.in-Some.e in
     let bytes = rw (c.in-Ok-read.is, c.in-Some.is) at c.in-Ok.ensures.bytes in
     let times = rw (c.in-Ok-read.is, c.in-Some.is) at c.in-Ok.ensures.times in
-    let gives = rw (c.in-Ok-read.is, c.in-Some.is) at c.in-Ok.ensures.tells in
+    let gives = rw (c.in-Ok-read.is, c.in-Some.is) at c.in-Ok.ensures.gives in
     let text_taken = rw (c.in-Ok-read.is, c.in-Some.is) at c.in-Ok.ensures.text in
     let same = c.next.ensures.setup ∙ kept.setup in
     record {
-      on = λ x stands.
-          let on = kept.on x stands in
+      on = λ x stands over.
+          let on = kept.on x stands over in
           let es = on.0 in
           let y = (by_lines s es x).now in
           let text = (by_lines s es x).text in
@@ -141,7 +142,7 @@ loop-count-preserved g c =
             subst (λ (o : Outcome). Adds (g.O.Sink.held c.args.out.now) (g.O.Sink.held c.take.new.out) c.args.replay.now.waiting c.take.new.self.waiting o.text) one both,
             length-append es (e ∷ []) ∙ ap (λ (n : ℕ). n + 1) on.3,
             rw c.time-last.ensures (goes_next s c.args.start c.args.lines.now.number es c.loop-count.last c.loop-count.lines.number c.next.new.lines.number e (unread c.args.lines.now.input (g.S.Source.left c.args.source.now)) (unread c.loop-count.lines.input (g.S.Source.left c.loop-count.source)) (unread c.next.new.lines.input (g.S.Source.left c.next.new.source)) on.4 gives),
-            rw c.time-last.ensures (read_next c.text_laws.ensures.laws c.next.new.lines.cut s c.args.start c.args.lines.now.number es c.loop-count.last c.loop-count.lines.number c.next.new.lines.number e (unread c.args.lines.now.input (g.S.Source.left c.args.source.now))
+            rw c.time-last.ensures (read_next c.text_laws.ensures.laws c.args.lines.now.cut c.loop-count.lines.cut c.next.new.lines.cut s c.args.start c.args.lines.now.number es c.loop-count.last c.loop-count.lines.number c.next.new.lines.number e (unread c.args.lines.now.input (g.S.Source.left c.args.source.now))
                 (unread c.loop-count.lines.input (g.S.Source.left c.loop-count.source)) (unread c.next.new.lines.input (g.S.Source.left c.next.new.source)) on.5 gives text_taken),
           );
       setup = c.take.ensures.setup ∙ same;

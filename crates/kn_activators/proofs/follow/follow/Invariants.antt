@@ -5,6 +5,7 @@ use Rattle.kn_journal.specs.Drawing.{Draws}
 use Rattle.kn_activators.specs.Verdict.{Anywhere}
 use Rattle.kn_journal.specs.Reading.{most_taken, unread}
 use Rattle.kn_activators.specs.declared.event.GroupEvent.{GroupEvent}
+use Rattle.kn_activators.specs.Breaking.{IsOver}
 use Rattle.kn_activators.specs.Sharing.{Sharing, by_lines}
 use Rattle.kn_activators.specs.Standing.{AreBefore, IsBelow, Stands}
 use Rattle.kn_report.specs.Waiting.{Adds}
@@ -14,10 +15,10 @@ use Rattle.kn_activators.proofs.follow.follow.Given as goal
 
 abbrev pub invariant-loop-count : goal.invariant-loop-count
 invariant-loop-count g l = record {
-  on : (x : Sharing) → Stands l.fn.replay.group x
+  on : (x : Sharing) → Stands l.fn.replay.group x → IsOver l.fn.lines.cut (unread l.fn.lines.input (g.S.Source.left l.fn.source))
       → (es : List GroupEvent) × Stands l.replay.group (by_lines l.setup es x).now × Adds (g.O.Sink.held l.fn.out) (g.O.Sink.held l.out) l.fn.replay.waiting l.replay.waiting (by_lines l.setup es x).text
       × (length es ≡ l.count) × GoesOn l.setup l.start l.fn.lines.number (unread l.fn.lines.input (g.S.Source.left l.fn.source)) es l.last l.lines.number (unread l.lines.input (g.S.Source.left l.source))
-      × HasRead l.setup l.start l.fn.lines.number (unread l.fn.lines.input (g.S.Source.left l.fn.source)) es l.last l.lines.number (unread l.lines.input (g.S.Source.left l.source));
+      × HasRead l.fn.lines.cut l.lines.cut l.setup l.start l.fn.lines.number (unread l.fn.lines.input (g.S.Source.left l.fn.source)) es l.last l.lines.number (unread l.lines.input (g.S.Source.left l.source));
   setup : l.replay.setup ≡ l.setup;
   order : AreBefore l.last l.replay.group;
   times : l.last ≤ time_most;

@@ -1,12 +1,12 @@
 -- An event, `end` and what follows it, or no line.
-use Rattle.std.proofs.Common.{◌≡◌, true, false, inl, arith}
+use Rattle.std.proofs.Common.{◌≡◌, ◌∙◌, Bool, true, false, inl, sym, subst, arith}
 use Rattle.std.specs.Prelude.{codes}
 use Rattle.std.specs.Str.{bytes_eq}
 use Rattle.std.proofs.lemmas.Grind.{common_steps}
-use Rattle.kn_journal.specs.Reading.{unread}
+use Rattle.kn_journal.specs.Reading.{TakesText, unread}
 use Rattle.kn_activators.specs.Reading.{group_event_of}
 use Rattle.kn_activators.specs.Verdict.{in_time}
-use Rattle.kn_activators.proofs.Breaks.{end_stops}
+use Rattle.kn_activators.proofs.Breaks.{end_cut, end_stops}
 use Rattle.kn_activators.proofs.Drawings.{draws_as, draws_more, draws_then, draws_well, refused-no_fault}
 use Rattle.kn_activators.proofs.Parts.{event-lacks, event-next, event-refused, events-ended, events-more}
 use Rattle.kn_activators.proofs.read.read_next.Goals as goal
@@ -40,7 +40,9 @@ returns-in-Err-end-clause-source g c =
     let old = unread c.args.lines.now.input (g.S.Source.left c.args.source.now) in
     let mid = unread c.next_line.new.self.input (g.S.Source.left c.next_line.new.source) in
     let new = unread c.end.new.self.input (g.S.Source.left c.end.new.source) in
-    draws_then (end_stops c.text_laws.ensures.laws c.next_line.new.self.cut old mid new c.next_line.new.self.line c.in-Ok.ensures.line c.in-Ok.ensures.text ends) c.in-Ok.ensures.source c.in-Err-end.ensures.source
+    let not_cut : c.next_line.new.self.cut ≡ false = sym c.is_cut.ensures ∙ c.if-is_cut.false in
+    let uncut : TakesText false old mid = subst (λ (b : Bool). TakesText b old mid) not_cut c.in-Ok.ensures.text in
+    draws_then (end_stops c.text_laws.ensures.laws old mid new c.next_line.new.self.line c.in-Ok.ensures.line uncut ends) c.in-Ok.ensures.source c.in-Err-end.ensures.source
 
 pub returns-in-Ok-judge_event-clause-tells : goal.returns-in-Ok-judge_event-clause-tells
 returns-in-Ok-judge_event-clause-tells g c =
@@ -62,3 +64,16 @@ returns-in-Err-judge_event-clause-tells g c =
 pub returns-in-Err-judge_event-clause-source : goal.returns-in-Err-judge_event-clause-source
 returns-in-Err-judge_event-clause-source g c =
     draws_well (refused-no_fault (in_time c.number.result c.args.last (group_event_of c.args.setup.now.activators c.args.setup.now.pods c.line-2.result.now)) c.in-Err-judge_event.e c.in-Err-judge_event.ensures.err) c.in-Ok.ensures.source
+
+pub returns-then-is_cut-clause-tells : goal.returns-then-is_cut-clause-tells
+returns-then-is_cut-clause-tells g c =
+    let old = unread c.args.lines.now.input (g.S.Source.left c.args.source.now) in
+    let mid = unread c.next_line.new.self.input (g.S.Source.left c.next_line.new.source) in
+    let ends : bytes_eq c.next_line.new.self.line (codes "end") ≡ true = grind (arith, common_steps) in
+    let is_cut : c.next_line.new.self.cut ≡ true = sym c.is_cut.ensures ∙ c.if-is_cut.true in
+    let cut : TakesText true old mid = subst (λ (b : Bool). TakesText b old mid) is_cut c.in-Ok.ensures.text in
+    end_cut c.text_laws.ensures.laws c.args.setup.now c.args.last c.args.lines.now.number c.next_line.new.self.number old mid c.next_line.new.self.line
+    c.in-Ok.ensures.line cut c.in-Ok.ensures.fits c.in-Ok.ensures.number ends
+
+pub returns-then-is_cut-clause-source : goal.returns-then-is_cut-clause-source
+returns-then-is_cut-clause-source g c = draws_well tt c.in-Ok.ensures.source

@@ -482,7 +482,7 @@ returns-in-Some-Slices-clause-unsaid g c is none =
 
 pub returns-in-Some-Slices-clause-slices : goal.returns-in-Some-Slices-clause-slices
 returns-in-Some-Slices-clause-slices g c is =
-    subst (λ (x : Status). ReplaysGroup (g.S.Source.left c.args.input.now) (g.O.Sink.held c.args.out.now) (g.O.Sink.held c.replay_group.new.out) x) (sym c.tell-in-Some-Slices.ensures.same) c.replay_group.ensures.report
+    subst (λ (x : Status). ReplaysGroup (g.S.Source.left c.args.input.now) (g.S.Source.left c.replay_group.new.input) (g.S.Source.given c.replay_group.new.input - g.S.Source.given c.args.input.now) (g.O.Sink.held c.args.out.now) (g.O.Sink.held c.replay_group.new.out) x) (sym c.tell-in-Some-Slices.ensures.same) c.replay_group.ensures.report
 
 pub returns-in-None-clause-slices : goal.returns-in-None-clause-slices
 returns-in-None-clause-slices g c is =
