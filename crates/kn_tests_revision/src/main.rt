@@ -9,20 +9,18 @@ mod run;
 mod texts;
 mod trial;
 
-use anyhow::bail;
-use std::io::{self, BufRead, BufReader, Write};
+use std::io;
 
-/// Writes what a journal comes to.
-fn show(rt: &HostRuntime, journal: &[u8]) -> anyhow::Result<()> {
-    let Some(text) = trial::replayed(rt.alloc(), journal) else {
-        bail!("a journal is refused, or memory is lacking");
-    };
-    io::writer(rt).write_all(&text)?;
-    Ok(())
+/// Prints what a journal comes to.
+fn show(rt: &HostRuntime, journal: &[u8]) -> io::Result<()> {
+    match trial::replayed(rt.alloc(), journal) {
+        Some(text) => print!(rt; "{text}"),
+        None => println!(rt; "the journal is refused, or memory is lacking"),
+    }
 }
 
 /// One line more of a journal. `end` is its last.
-fn add_line(rt: &HostRuntime, journal: &mut Vec<u8>, line: &str) -> anyhow::Result<()> {
+fn add_line(rt: &HostRuntime, journal: &mut Vec<u8>, line: &str) -> io::Result<()> {
     journal.extend_from_slice(line.as_bytes())?;
     journal.push(b'\n')?;
     if line == "end" {
@@ -32,23 +30,21 @@ fn add_line(rt: &HostRuntime, journal: &mut Vec<u8>, line: &str) -> anyhow::Resu
     Ok(())
 }
 
-fn read_lines(rt: &HostRuntime, journal: &mut Vec<u8>) -> anyhow::Result<()> {
-    let alloc = rt.alloc();
-    for line in BufReader::new(alloc, rt.stdin())?.lines(alloc) {
+fn read_lines(rt: &HostRuntime, journal: &mut Vec<u8>) -> io::Result<()> {
+    for line in rt.lines(rt.alloc()) {
         add_line(rt, journal, line?.as_str())?;
     }
     Ok(())
 }
 
-fn journals(rt: &HostRuntime) -> anyhow::Result<()> {
+fn journals(rt: &HostRuntime) -> io::Result<()> {
     let mut journal = Vec::new(rt.alloc());
     read_lines(rt, &mut journal)
 }
 
-fn main(rt: HostRuntime) -> anyhow::Result<()> {
+fn main(rt: HostRuntime) -> io::Result<()> {
     journals(&rt)?;
     let refuses = long::breaker_refuses_9001(rt.alloc());
     let overloads = long::overload_at_20001(rt.alloc());
-    println!(rt; "9001 of 20001 are refused: {refuses}, the 20001st is one too many: {overloads}")?;
-    Ok(())
+    println!(rt; "9001 of 20001 are refused: {refuses}, the 20001st is one too many: {overloads}")
 }

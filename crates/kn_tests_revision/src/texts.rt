@@ -1,33 +1,32 @@
-//! The lines for answers and for stands.
+//! The words for answers and for stands.
 use kn_event::{Stand, Told};
-use std::alloc::{AllocError, Global};
 
-/// What an event is told, without what was decided.
-pub fn told_line(alloc: Global, told: Told) -> Result<String, AllocError> {
+/// The word for what an event is told, without what was decided, and the numbers behind it.
+pub fn told_words(told: Told) -> (&'static str, Option<u64>, Option<u64>) {
     match told {
-        Told::Run(request, pod) => format!(in alloc; "run {request} {pod}\n"),
-        Told::AtPod(request, pod) => format!(in alloc; "at-pod {request} {pod}\n"),
-        Told::Held(request) => format!(in alloc; "held {request}\n"),
-        Told::QueueFull(request) => format!(in alloc; "queue-full {request}\n"),
-        Told::Overload(request) => format!(in alloc; "overload {request}\n"),
-        Told::Done(request) => format!(in alloc; "done {request}\n"),
-        Told::NotRunning(request) => format!(in alloc; "not-running {request}\n"),
-        Told::NotWaiting(request) => format!(in alloc; "not-waiting {request}\n"),
-        Told::NotStarting(pod) => format!(in alloc; "not-starting {pod}\n"),
-        Told::NoPod(pod) => format!(in alloc; "no-pod {pod}\n"),
-        Told::Passed => String::from_str(alloc, "passed\n"),
-        Told::Decided(_) => String::from_str(alloc, "decided\n"),
-        Told::NoData => String::from_str(alloc, "no-data\n"),
+        Told::Run(request, pod) => ("run", Some(request), Some(pod)),
+        Told::AtPod(request, pod) => ("at-pod", Some(request), Some(pod)),
+        Told::Held(request) => ("held", Some(request), None),
+        Told::QueueFull(request) => ("queue-full", Some(request), None),
+        Told::Overload(request) => ("overload", Some(request), None),
+        Told::Done(request) => ("done", Some(request), None),
+        Told::NotRunning(request) => ("not-running", Some(request), None),
+        Told::NotWaiting(request) => ("not-waiting", Some(request), None),
+        Told::NotStarting(pod) => ("not-starting", Some(pod), None),
+        Told::NoPod(pod) => ("no-pod", Some(pod), None),
+        Told::Passed => ("passed", None, None),
+        Told::Decided(_) => ("decided", None, None),
+        Told::NoData => ("no-data", None, None),
     }
 }
 
-/// Where a request stands.
-pub fn stand_line(alloc: Global, request: u64, stand: Stand) -> Result<String, AllocError> {
+/// The word for where a request stands, and the pod behind it.
+pub fn stand_words(stand: Stand) -> (&'static str, Option<u64>) {
     match stand {
-        Stand::Unknown => format!(in alloc; "{request} unknown\n"),
-        Stand::Held => format!(in alloc; "{request} held\n"),
-        Stand::Queued(pod) => format!(in alloc; "{request} queued {pod}\n"),
-        Stand::Running(pod) => format!(in alloc; "{request} running {pod}\n"),
-        Stand::Ended => format!(in alloc; "{request} ended\n"),
+        Stand::Unknown => ("unknown", None),
+        Stand::Held => ("held", None),
+        Stand::Queued(pod) => ("queued", Some(pod)),
+        Stand::Running(pod) => ("running", Some(pod)),
+        Stand::Ended => ("ended", None),
     }
 }

@@ -1,12 +1,13 @@
 //! One journal, from its bytes to the lines of what it comes to.
 use crate::long::Rule;
 use crate::run::Run;
-use crate::texts::{stand_line, told_line};
+use crate::texts::{stand_words, told_words};
 use kn_core::Revision;
-use kn_event::{Entry, Event, Line, Row, Spec, Told, entry_line};
+use kn_event::{Entry, Event, Line, Row, Spec, Stand, Told, entry_line};
 use kn_io::MemSource;
 use kn_journal::{JournalReader, Setup};
-use std::alloc::Global;
+use std::alloc::{AllocError, Global};
+use std::fmt::Write;
 
 fn source_of(alloc: Global, journal: &[u8]) -> Option<MemSource> {
     match Vec::from_slice(alloc, journal) {
@@ -56,20 +57,19 @@ fn open_and_try(
     trial: Trial<'_>,
 ) -> Option<()> {
     match open_next(alloc, reader, source) {
-        Some(mut run) => try_on(alloc, reader, source, &mut run, trial),
+        Some(mut run) => try_on(reader, source, &mut run, trial),
         None => None,
     }
 }
 
 fn try_on(
-    alloc: Global,
     reader: &mut JournalReader,
     source: &mut MemSource,
     run: &mut Run,
     trial: Trial<'_>,
 ) -> Option<()> {
     match trial {
-        Trial::Replay(transcript, most) => replay(alloc, reader, source, run, transcript, most),
+        Trial::Replay(transcript, most) => replay(reader, source, run, transcript, most),
         Trial::Long(rule) => if rule.holds(run) { Some(()) } else { None },
     }
 }
@@ -92,23 +92,34 @@ pub fn goes_by(alloc: Global, setup: &[u8], rule: Rule) -> bool {
 /// The text of a trial so far.
 #[derive(Drop)]
 struct Transcript {
-    rows: Vec<u8>,
-    told: Vec<u8>,
+    rows: String,
+    told: String,
+}
+
+fn add_number(text: &mut String, number: Option<u64>) -> Result<(), AllocError> {
+    match number {
+        Some(number) => write!(text, " {number}"),
+        None => Ok(()),
+    }
 }
 
 impl Transcript {
-    fn add_rows(&mut self, entries: &[Entry]) -> Option<()> {
+    fn add_rows(&mut self, entries: &[Entry]) -> Result<(), AllocError> {
         let mut line = Line::new();
         for entry in entries {
             entry_line(entry, &mut line);
-            self.rows.extend_from_slice(line.bytes()).ok()?;
+            self.rows
+                .push_str(str::from_utf8(line.bytes()).unwrap_or("?"))?;
         }
-        Some(())
+        Ok(())
     }
 
-    fn add_told(&mut self, alloc: Global, told: Told) -> Option<()> {
-        let line = told_line(alloc, told).ok()?;
-        self.told.extend_from_slice(line.as_bytes()).ok()
+    fn add_told(&mut self, told: Told) -> Result<(), AllocError> {
+        let (word, first, second) = told_words(told);
+        self.told.push_str(word)?;
+        add_number(&mut self.told, first)?;
+        add_number(&mut self.told, second)?;
+        self.told.push('\n')
     }
 }
 
@@ -123,69 +134,69 @@ fn is_told_row(told: Told, entries: &[Entry]) -> bool {
 }
 
 /// Takes the event, and notes what comes of it.
-fn take(alloc: Global, run: &mut Run, event: &Event, transcript: &mut Transcript) -> Option<()> {
+fn take(run: &mut Run, event: &Event, transcript: &mut Transcript) -> Option<()> {
     let told = run.take(event)?;
     if !is_told_row(told, run.entries()) {
         return None;
     }
-    transcript.add_rows(run.entries())?;
-    transcript.add_told(alloc, told)
+    transcript.add_rows(run.entries()).ok()?;
+    transcript.add_told(told).ok()
+}
+
+fn add_stand(text: &mut String, request: u64, stand: Stand) -> Result<(), AllocError> {
+    let (word, pod) = stand_words(stand);
+    write!(text, "{request} {word}")?;
+    add_number(text, pod)?;
+    text.push('\n')
 }
 
 /// Where each request stands, and the number after the last one.
-fn add_stands(alloc: Global, revision: &Revision, text: &mut Vec<u8>) -> Option<()> {
+fn add_stands(revision: &Revision, text: &mut String) -> Result<(), AllocError> {
     for request in 0..=revision.arrivals() {
-        let line = stand_line(alloc, request, revision.stand(request)).ok()?;
-        text.extend_from_slice(line.as_bytes()).ok()?;
+        add_stand(text, request, revision.stand(request))?;
     }
-    Some(())
+    Ok(())
 }
 
 /// The requests that are proxied.
-fn add_proxied(alloc: Global, revision: &Revision, text: &mut Vec<u8>) -> Option<()> {
+fn add_proxied(revision: &Revision, text: &mut String) -> Result<(), AllocError> {
     for request in 0..=revision.arrivals() {
-        if revision.proxied(request) {
-            let word = format!(in alloc; " {request}").ok()?;
-            text.extend_from_slice(word.as_bytes()).ok()?;
-        }
+        let number = if revision.proxied(request) {
+            Some(request)
+        } else {
+            None
+        };
+        add_number(text, number)?;
     }
-    Some(())
+    Ok(())
 }
 
 /// The pods that start. There are at most 500.
-fn add_starting(alloc: Global, revision: &Revision, text: &mut Vec<u8>) -> Option<()> {
+fn add_starting(revision: &Revision, text: &mut String) -> Result<(), AllocError> {
     let mut from = 0;
     for _ in 0..500 {
         let Some(pod) = revision.next_starting(from) else {
             break;
         };
-        let word = format!(in alloc; " {pod}").ok()?;
-        text.extend_from_slice(word.as_bytes()).ok()?;
+        add_number(text, Some(pod))?;
         from = pod + 1;
     }
-    Some(())
+    Ok(())
 }
 
 /// What the calls that read a revision answer at the end.
-fn add_end(alloc: Global, revision: &Revision, text: &mut Vec<u8>) -> Option<()> {
-    add_stands(alloc, revision, text)?;
-    let counts = format!(in alloc;
-        "{} events until {}, {} live, proxied:",
-        revision.events(),
-        revision.now(),
-        revision.live()
-    )
-    .ok()?;
-    text.extend_from_slice(counts.as_bytes()).ok()?;
-    add_proxied(alloc, revision, text)?;
-    text.extend_from_slice(b", starting:").ok()?;
-    add_starting(alloc, revision, text)?;
-    text.push(b'\n').ok()
+fn add_end(revision: &Revision, text: &mut String) -> Result<(), AllocError> {
+    add_stands(revision, text)?;
+    let (events, now, live) = (revision.events(), revision.now(), revision.live());
+    write!(text, "{events} events until {now}, {live} live, proxied:")?;
+    add_proxied(revision, text)?;
+    text.push_str(", starting:")?;
+    add_starting(revision, text)?;
+    text.push('\n')
 }
 
 /// Takes the events that are left, at most so many.
 fn take_all(
-    alloc: Global,
     reader: &mut JournalReader,
     source: &mut MemSource,
     run: &mut Run,
@@ -196,25 +207,24 @@ fn take_all(
         let Some(event) = reader.next(source).ok()? else {
             break;
         };
-        take(alloc, run, &event, transcript)?;
+        take(run, &event, transcript)?;
     }
     Some(())
 }
 
 /// Adds the lines of a journal's rows, of what its events are told, and of its end.
 fn replay(
-    alloc: Global,
     reader: &mut JournalReader,
     source: &mut MemSource,
     run: &mut Run,
     transcript: &mut Transcript,
     most: usize,
 ) -> Option<()> {
-    transcript.add_rows(run.entries())?;
-    take_all(alloc, reader, source, run, transcript, most)?;
+    transcript.add_rows(run.entries()).ok()?;
+    take_all(reader, source, run, transcript, most)?;
     let Transcript { rows, told } = transcript;
-    rows.extend_from_slice(told).ok()?;
-    add_end(alloc, run.revision(), rows)
+    rows.push_str(told.as_str()).ok()?;
+    add_end(run.revision(), rows).ok()
 }
 
 fn replay_bytes(alloc: Global, journal: &[u8], transcript: &mut Transcript) -> Option<()> {
@@ -227,10 +237,10 @@ fn replay_bytes(alloc: Global, journal: &[u8], transcript: &mut Transcript) -> O
 
 /// The lines of the journal's rows, of what its events are told, and of its end; none where it is refused or memory lacks,
 /// and where a decision that is told is not the event's row.
-pub fn replayed(alloc: Global, journal: &[u8]) -> Option<Vec<u8>> {
+pub fn replayed(alloc: Global, journal: &[u8]) -> Option<String> {
     let mut transcript = Transcript {
-        rows: Vec::new(alloc),
-        told: Vec::new(alloc),
+        rows: String::new(alloc),
+        told: String::new(alloc),
     };
     let is_whole = replay_bytes(alloc, journal, &mut transcript).is_some();
     let Transcript { rows, told: _ } = transcript;

@@ -1,7 +1,7 @@
 //! Each call of a session's caller fails in turn, until none is left that could.
 
 use crate::reports::{has, replayed};
-use crate::sessions::{Size, Stage, serve_still, stage_of};
+use crate::sessions::{MemStage, ONCE, add_slots, mem_stage, serve_still};
 use kn_case::case;
 use kn_journal::Status;
 use std::alloc::{AllocError, Global};
@@ -29,30 +29,28 @@ fn judged(status: Option<Status>, report: &[u8]) -> Came {
     }
 }
 
+/// Adds a slot whose caller fails at this call.
+fn add_failing(alloc: Global, stage: &mut MemStage, call: u64) -> Result<(), AllocError> {
+    let words = format!(in alloc; "good/caller={call}")?;
+    add_slots(alloc, &mut stage.slots, words.as_str())
+}
+
 fn come_to<R: Threads + Wait + Sync>(
     rt: &R,
     alloc: Global,
-    stage: &mut Stage,
+    stage: &mut MemStage,
+    call: u64,
 ) -> Result<Came, AllocError> {
-    let Stage { slots, sinks } = stage;
-    let status = serve_still(rt, alloc, slots, Size::once(100), sinks)?;
-    let report = replayed(alloc, sinks.out.held())?;
-    let came = judged(status, &report);
-    drop(report);
-    Ok(came)
-}
-
-fn stage_at(alloc: Global, call: u64) -> Result<Stage, AllocError> {
-    let words = format!(in alloc; "good/caller={call}")?;
-    let stage = stage_of(alloc, words.as_str());
-    drop(words);
-    stage
+    add_failing(alloc, stage, call)?;
+    let status = serve_still(rt, alloc, stage, ONCE);
+    let report = replayed(alloc, stage.streams.out.held())?;
+    Ok(judged(status, &report))
 }
 
 /// A session whose caller fails at this call.
 fn fail_at<R: Threads + Wait + Sync>(rt: &R, alloc: Global, call: u64) -> Result<Came, AllocError> {
-    let mut stage = stage_at(alloc, call)?;
-    let came = come_to(rt, alloc, &mut stage);
+    let mut stage = mem_stage(alloc)?;
+    let came = come_to(rt, alloc, &mut stage, call);
     drop(stage);
     came
 }

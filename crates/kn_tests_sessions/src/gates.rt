@@ -3,7 +3,7 @@
 use crate::lines::{show_answer, show_calls};
 use crate::readings::Hands;
 use crate::reports::{has, reports};
-use crate::sessions::{Sinks, Size, Stage, serve_mem, stage_of};
+use crate::sessions::{MemStage, ONCE, add_slots, mem_stage, serve};
 use crate::setting::MemSlot;
 use kn_case::case;
 use kn_io::Gate;
@@ -15,14 +15,14 @@ use std::thread::Threads;
 
 /// A gate that holds each tag until both have passed, for some time. Then a second is over.
 #[derive(Drop)]
-struct BothGate<'a> {
+struct BothGate {
     first: AtomicU64,
     second: AtomicU64,
     late: AtomicBool,
-    hands: &'a Hands,
+    hands: Hands,
 }
 
-impl BothGate<'_> {
+impl BothGate {
     /// How often each passed.
     fn passes(&self) -> [u64; 2] {
         [
@@ -44,7 +44,7 @@ impl BothGate<'_> {
     }
 }
 
-impl Gate for BothGate<'_> {
+impl Gate for BothGate {
     fn pass(&self, tag: u64) {
         self.count(tag);
         for _ in 0..100_000_000u64 {
@@ -57,15 +57,18 @@ impl Gate for BothGate<'_> {
     }
 }
 
-fn show_passes<R: Print + AllocGlobal>(rt: &R, gate: &BothGate<'_>) -> io::Result<()> {
+fn show_passes<R: Print + AllocGlobal>(rt: &R, gate: &BothGate) -> io::Result<()> {
     let is_late = gate.late.load(Ordering::SeqCst);
     case(rt, "both passed it", &is_late, &false)?;
     case(rt, "each passed it once", &gate.passes(), &[1, 1])
 }
 
+/// The lines of both arrivals.
+const ARRIVALS: [&str; 2] = ["\n0 arrive 0\n", "\n0 arrive 1\n"];
+
 fn show_journal<R: Print + AllocGlobal>(rt: &R, journal: &[u8]) -> io::Result<()> {
-    for tag in ["\n0 arrive 0\n", "\n0 arrive 1\n"] {
-        let before = has(journal, tag.as_bytes());
+    for line in &ARRIVALS {
+        let before = has(journal, line.as_bytes());
         case(rt, "it had arrived before", &before, &true)?;
     }
     Ok(())
@@ -81,39 +84,29 @@ fn show_slots<R: Print + AllocGlobal>(rt: &R, slots: &[MemSlot]) -> io::Result<(
 
 fn show_session<R: Threads + Wait + Sync + Print + AllocGlobal>(
     rt: &R,
-    slots: &mut [MemSlot],
-    sinks: &mut Sinks,
-    hands: &Hands,
-    gate: &BothGate<'_>,
+    stage: &mut MemStage,
+    gate: &BothGate,
 ) -> io::Result<()> {
-    let status = serve_mem(rt, rt.alloc(), slots, Size::once(100), hands, gate, sinks)?;
+    add_slots(rt.alloc(), &mut stage.slots, "good good")?;
+    let status = serve(rt, rt.alloc(), stage, ONCE, &gate.hands, gate);
     case(rt, "two callers at a gate", &status, &Some(Status::Ok))?;
     show_passes(rt, gate)?;
-    show_journal(rt, sinks.out.held())?;
-    show_slots(rt, slots)?;
-    let finished = reports(rt.alloc(), sinks.out.held(), b" finished=2 ")?;
+    show_journal(rt, stage.streams.out.held())?;
+    show_slots(rt, &stage.slots)?;
+    let finished = reports(rt.alloc(), stage.streams.out.held(), b" finished=2 ")?;
     case(rt, "both are finished", &finished, &true)
-}
-
-fn show_at_gate<R: Threads + Wait + Sync + Print + AllocGlobal>(
-    rt: &R,
-    stage: &mut Stage,
-) -> io::Result<()> {
-    let hands = Hands::new();
-    let gate = BothGate {
-        first: AtomicU64::new(0),
-        second: AtomicU64::new(0),
-        late: AtomicBool::new(false),
-        hands: &hands,
-    };
-    let Stage { slots, sinks } = stage;
-    show_session(rt, slots, sinks, &hands, &gate)
 }
 
 /// Two callers at one pod.
 pub fn show<R: Threads + Wait + Sync + Print + AllocGlobal>(rt: &R) -> io::Result<()> {
-    let mut stage = stage_of(rt.alloc(), "good good")?;
-    let done = show_at_gate(rt, &mut stage);
+    let gate = BothGate {
+        first: AtomicU64::new(0),
+        second: AtomicU64::new(0),
+        late: AtomicBool::new(false),
+        hands: Hands::new(),
+    };
+    let mut stage = mem_stage(rt.alloc())?;
+    let done = show_session(rt, &mut stage, &gate);
     drop(stage);
     done
 }

@@ -2,17 +2,14 @@
 ghost use Rattle.std.specs.Prelude.{◌≤◌};
 ghost use Rattle.kn_io.specs.Causes.{Rose};
 
-use crate::sessions::{Sinks, Size, serve};
-use crate::setting::{had, one_caller, one_link};
+use crate::lines::{add, show_answer};
+use crate::sessions::{Stage, stage_of};
+use crate::setting::{caller_of, had, link_of};
 use kn_event::{Memory, Text};
-use kn_io::{
-    Caller, Clock, Failed, Faulty, LinkError, MemCaller, MemLink, OpenGate, PodLink, Sink, Source,
-};
-use kn_journal::Status;
+use kn_io::{Caller, Failed, Faulty, LinkError, MemCaller, MemLink, PodLink, Sink, Source};
 use kn_serve::{Slot, Work};
 use std::alloc::{AllocError, Global};
-use std::sync::Wait;
-use std::thread::Threads;
+use std::io;
 
 /// What is done where a caller or a link is used.
 pub trait Hook {
@@ -132,23 +129,39 @@ impl<C: Caller, H: Hook> Caller for HookedCaller<'_, C, H> {
 
 pub type HookedSlot<'a, H> = Slot<HookedCaller<'a, MemCaller, H>, HookedLink<'a, MemLink, H>>;
 
-/// A slot of one connection, whose caller and link tell the hook.
-pub fn slot_of<'a, H: Hook>(
+pub type HookedStage<'a, H> = Stage<HookedCaller<'a, MemCaller, H>, HookedLink<'a, MemLink, H>>;
+
+/// A stage without slots so far, whose keeper tells the hook. These of the keeper's calls fail.
+pub fn hooked_stage<'a, H: Hook>(
     alloc: Global,
-    request: &[u8],
+    setup: &[u8],
     hook: &'a H,
-) -> Result<HookedSlot<'a, H>, AllocError> {
-    let caller = had(one_caller(alloc, request, u64::MAX, u64::MAX))?;
-    match one_link(alloc, u64::MAX) {
-        Ok(link) => Ok(Slot {
-            caller: HookedCaller {
+    fails: &[u64],
+) -> Result<HookedStage<'a, H>, AllocError> {
+    let fails = Vec::from_slice(alloc, fails)?;
+    let link = had(MemLink::new(alloc, Vec::new(alloc), fails))?;
+    stage_of(alloc, setup, HookedLink { link, hook })
+}
+
+/// Adds a slot of one connection, whose caller and link tell the hook.
+pub fn add_slot<'a, H: Hook>(
+    alloc: Global,
+    slots: &mut Vec<HookedSlot<'a, H>>,
+    name: &str,
+    hook: &'a H,
+) -> Result<(), AllocError> {
+    let caller = had(caller_of(alloc, name, u64::MAX, u64::MAX))?;
+    match link_of(alloc, name, u64::MAX) {
+        Ok(link) => {
+            let caller = HookedCaller {
                 caller,
                 hook,
                 faults: 0,
-            },
-            link: HookedLink { link, hook },
-            work: Work::new(),
-        }),
+            };
+            let link = HookedLink { link, hook };
+            let work = Work::new();
+            add(slots, Slot { caller, link, work })
+        }
         Err(Memory) => {
             drop(caller);
             Err(AllocError)
@@ -156,35 +169,13 @@ pub fn slot_of<'a, H: Hook>(
     }
 }
 
-/// A session of such slots. These calls of its keeper fail, which tells the hook too.
-pub fn serve_hooked<'a, H: Hook + Sync, K: Clock + Sync, R: Threads + Wait + Sync>(
+/// Prints each caller's answer.
+pub fn show_answers<H: Hook, R: Print + AllocGlobal>(
     rt: &R,
-    alloc: Global,
-    setup: &[u8],
-    slots: &mut [HookedSlot<'a, H>],
-    hook: &'a H,
-    fails: Vec<u64>,
-    clock: &K,
-    sinks: &mut Sinks,
-) -> Result<Option<Status>, AllocError> {
-    match MemLink::new(alloc, Vec::new(alloc), fails) {
-        Ok(link) => {
-            let mut keeper = HookedLink { link, hook };
-            let size = Size::once(100);
-            let served = serve(
-                rt,
-                alloc,
-                setup,
-                slots,
-                &mut keeper,
-                size,
-                clock,
-                &OpenGate,
-                sinks,
-            );
-            drop(keeper);
-            served
-        }
-        Err(Memory) => Err(AllocError),
+    slots: &[HookedSlot<'_, H>],
+) -> io::Result<()> {
+    for slot in slots {
+        show_answer(rt, &slot.caller.caller)?;
     }
+    Ok(())
 }

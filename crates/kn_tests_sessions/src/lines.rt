@@ -35,11 +35,6 @@ pub fn add<T: Drop>(items: &mut Vec<T>, item: T) -> Result<(), AllocError> {
     }
 }
 
-/// The one number.
-pub fn one_number(alloc: Global, number: u64) -> Result<Vec<u64>, AllocError> {
-    Vec::from_slice(alloc, &[number])
-}
-
 /// The caller's one answer. A caller that met nobody has none.
 pub fn answer_of(caller: &MemCaller) -> &[u8] {
     if caller.texts() > 1 {
@@ -49,28 +44,25 @@ pub fn answer_of(caller: &MemCaller) -> &[u8] {
     }
 }
 
-/// Prints bytes between these texts.
-pub fn show_bytes<R: Print + AllocGlobal>(
-    rt: &R,
-    before: &str,
-    bytes: &[u8],
-    after: &str,
-) -> io::Result<()> {
+/// Prints bytes behind this text.
+pub fn show_bytes<R: Print + AllocGlobal>(rt: &R, before: &str, bytes: &[u8]) -> io::Result<()> {
     let text = shown(rt.alloc(), bytes)?;
-    let printed = println!(rt; "{before}\"{text}\"{after}");
+    let printed = println!(rt; "  {before} \"{text}\"");
     drop(text);
     printed
 }
 
 /// Prints the caller's one answer.
 pub fn show_answer<R: Print + AllocGlobal>(rt: &R, caller: &MemCaller) -> io::Result<()> {
-    show_bytes(rt, "  answered ", answer_of(caller), "")
+    show_bytes(rt, "answered", answer_of(caller))
 }
 
 fn show_call<R: Print + AllocGlobal>(rt: &R, call: &Call) -> io::Result<()> {
     let pod = call.pod;
-    print!(rt; "  sent to {pod} ")?;
-    show_bytes(rt, "", call.request.bytes(), "")
+    let text = shown(rt.alloc(), call.request.bytes())?;
+    let printed = println!(rt; "  sent to {pod} \"{text}\"");
+    drop(text);
+    printed
 }
 
 /// Prints what each pod was sent.

@@ -1,10 +1,11 @@
 //! A session over TCP on this machine: a client, the parts that `kactd` serves with, and a pod.
+use crate::lines::add;
 use crate::reports::{has, replayed};
-use crate::sessions::{Sinks, Size, serve};
+use crate::sessions::{ONCE, Stage, Streams, serve, stage_of};
 use crate::setting::{FORWARDED, REPLY, REQUEST, one_text};
 use kn_case::case;
 use kn_event::Items;
-use kn_io::{MachineClock, OpenGate, Sink};
+use kn_io::{MachineClock, OpenGate};
 use kn_journal::Status;
 use kn_serve::{Slot, Work};
 use kn_tcp::{TcpCaller, TcpLink};
@@ -29,12 +30,18 @@ fn address_of(alloc: Global, listener: &TcpListener) -> io::Result<String> {
 }
 
 /// A listening socket on loopback, and its address.
+#[derive(Drop)]
+pub struct Door {
+    pub listener: TcpListener,
+    pub address: String,
+}
+
 pub fn listening<R: Net<Listener = TcpListener, Stream = TcpStream> + AllocGlobal>(
     rt: &R,
-) -> io::Result<(TcpListener, String)> {
+) -> io::Result<Door> {
     let listener = TcpListener::bind(rt, "127.0.0.1:0")?;
     match address_of(rt.alloc(), &listener) {
-        Ok(address) => Ok((listener, address)),
+        Ok(address) => Ok(Door { listener, address }),
         Err(error) => {
             drop(listener);
             Err(error)
@@ -90,19 +97,21 @@ fn link_to<'a, N: Net>(net: &'a N, alloc: Global, pod: &str) -> Result<TcpLink<&
     Ok(TcpLink::new(net, Items::new(addresses)))
 }
 
-fn slot_of<'a, N: Net<Listener = TcpListener, Stream = TcpStream>>(
-    net: &'a N,
-    alloc: Global,
-    listener: &TcpListener,
-    pod: &str,
-) -> io::Result<Slot<TcpCaller, TcpLink<&'a N>>> {
-    let caller = TcpCaller::new(listener.try_clone()?);
-    match link_to(net, alloc, pod) {
-        Ok(link) => Ok(Slot {
-            caller,
-            link,
-            work: Work::new(),
-        }),
+type TcpStage<'a, R> = Stage<TcpCaller, TcpLink<&'a R>>;
+
+/// Adds a slot whose clients come to this door.
+fn add_slot<'a, R: Net<Listener = TcpListener, Stream = TcpStream> + AllocGlobal>(
+    rt: &'a R,
+    door: &Door,
+    pods: &Door,
+    stage: &mut TcpStage<'a, R>,
+) -> io::Result<()> {
+    let caller = TcpCaller::new(door.listener.try_clone()?);
+    match link_to(rt, rt.alloc(), pods.address.as_str()) {
+        Ok(link) => {
+            let work = Work::new();
+            Ok(add(&mut stage.slots, Slot { caller, link, work })?)
+        }
         Err(AllocError) => {
             drop(caller);
             Err(io::Error::from(AllocError))
@@ -110,54 +119,11 @@ fn slot_of<'a, N: Net<Listener = TcpListener, Stream = TcpStream>>(
     }
 }
 
-/// A session of one slot, whose clients come to this listener.
-fn session<
-    R: Threads + Wait + Sync + time::Clock + Net<Listener = TcpListener, Stream = TcpStream>,
->(
-    rt: &R,
-    alloc: Global,
-    listener: &TcpListener,
-    pod: &str,
-    sinks: &mut Sinks,
-) -> io::Result<Option<Status>> {
-    let mut keeper = link_to(rt, alloc, pod)?;
-    match slot_of(rt, alloc, listener, pod) {
-        Ok(slot) => {
-            let mut slots = [slot];
-            let served = serve_one(rt, alloc, &mut slots, &mut keeper, sinks);
-            drop(slots);
-            drop(keeper);
-            Ok(served?)
-        }
-        Err(error) => {
-            drop(keeper);
-            Err(error)
-        }
-    }
-}
-
-fn serve_one<
-    'a,
-    R: Threads + Wait + Sync + time::Clock + Net<Listener = TcpListener, Stream = TcpStream>,
->(
-    rt: &'a R,
-    alloc: Global,
-    slots: &mut [Slot<TcpCaller, TcpLink<&'a R>>],
-    keeper: &mut TcpLink<&'a R>,
-    sinks: &mut Sinks,
-) -> Result<Option<Status>, AllocError> {
-    let clock = MachineClock::new(rt);
-    let size = Size::once(100);
-    serve(
-        rt, alloc, SETUP, slots, keeper, size, &clock, &OpenGate, sinks,
-    )
-}
-
-/// What came of a session: its status, whether the pod answered, and whether the client got that.
+/// What came of a session: its status, and whether the pod answered and the client got that.
+#[derive(Drop)]
 struct Ended {
-    status: io::Result<Option<Status>>,
-    answered: bool,
-    got: bool,
+    status: Option<Status>,
+    answered: [bool; 2],
 }
 
 /// Serves one client, in a thread, through one pod, in another.
@@ -166,103 +132,50 @@ fn run_all<
 >(
     rt: &R,
     alloc: Global,
-    door: &TcpListener,
-    pods: &TcpListener,
-    pod_address: &str,
+    pods: &Door,
     stream: &mut TcpStream,
-    sinks: &mut Sinks,
+    stage: &mut TcpStage<'_, R>,
 ) -> Ended {
     let over = AtomicBool::new(false);
+    let clock = MachineClock::new(rt);
     let ((answered, got), status) = thread::join(
         rt,
-        || thread::join(rt, || pod(pods, &over), || client(stream)),
+        || thread::join(rt, || pod(&pods.listener, &over), || client(stream)),
         || {
-            let status = session(rt, alloc, door, pod_address, sinks);
+            let status = serve(rt, alloc, stage, ONCE, &clock, &OpenGate);
             over.store(true, Ordering::SeqCst);
             // A pod that waits for a connection has one.
-            drop(TcpStream::connect(rt, pod_address));
+            drop(TcpStream::connect(rt, pods.address.as_str()));
             status
         },
     );
     Ended {
         status,
-        answered,
-        got,
+        answered: [answered, got],
     }
 }
 
-/// A client who comes to this address.
-fn run_client<
-    R: Threads
-        + Wait
-        + Sync
-        + AllocGlobal
-        + time::Clock
-        + Net<Listener = TcpListener, Stream = TcpStream>,
->(
-    rt: &R,
-    door: &TcpListener,
-    address: &str,
-    pods: &TcpListener,
-    pod_address: &str,
-    sinks: &mut Sinks,
-) -> io::Result<Ended> {
-    let mut stream = TcpStream::connect(rt, address)?;
-    let ended = run_all(rt, rt.alloc(), door, pods, pod_address, &mut stream, sinks);
-    drop(stream);
-    Ok(ended)
-}
-
-fn run<
-    R: Threads
-        + Wait
-        + Sync
-        + AllocGlobal
-        + time::Clock
-        + Net<Listener = TcpListener, Stream = TcpStream>,
->(rt: &R, sinks: &mut Sinks) -> io::Result<Ended> {
-    let (door, address) = listening(rt)?;
-    match listening(rt) {
-        Ok((pods, pod_address)) => {
-            let ended = run_client(rt, &door, &address, &pods, &pod_address, sinks);
-            drop(pods);
-            drop(pod_address);
-            drop(door);
-            drop(address);
-            ended
-        }
-        Err(error) => {
-            drop(door);
-            drop(address);
-            Err(error)
-        }
-    }
-}
-
-fn show_ended<R: Print>(rt: &R, ended: Ended) -> io::Result<()> {
-    let Ended {
-        status,
-        answered,
-        got,
-    } = ended;
-    case(rt, "a session over loopback", &status?, &Some(Status::Ok))?;
+fn show_ended<R: Print>(rt: &R, ended: &Ended) -> io::Result<()> {
+    let Ended { status, answered } = ended;
+    case(rt, "a session over loopback", status, &Some(Status::Ok))?;
     case(
         rt,
         "the pod answered, and the client got it",
-        &[answered, got],
+        answered,
         &[true, true],
     )
 }
 
-fn show_sinks<R: Print + AllocGlobal>(rt: &R, sinks: &Sinks) -> io::Result<()> {
-    case(rt, "nothing is told", &sinks.err.held().is_empty(), &true)?;
-    let report = replayed(rt.alloc(), sinks.out.held())?;
+fn show_streams<R: Print + AllocGlobal>(rt: &R, streams: &Streams) -> io::Result<()> {
+    case(rt, "nothing is told", &streams.err.held().is_empty(), &true)?;
+    let report = replayed(rt.alloc(), streams.out.held())?;
     let found = has(&report, b" admitted=1 ") && has(&report, b" finished=1 ");
     drop(report);
     case(rt, "its journal has the request", &found, &true)
 }
 
-fn show_to<
+fn show_stage<
+    'a,
     R: Threads
         + Wait
         + Sync
@@ -270,9 +183,29 @@ fn show_to<
         + AllocGlobal
         + time::Clock
         + Net<Listener = TcpListener, Stream = TcpStream>,
->(rt: &R, sinks: &mut Sinks) -> io::Result<()> {
-    show_ended(rt, run(rt, sinks)?)?;
-    show_sinks(rt, sinks)
+>(rt: &'a R, door: &Door, pods: &Door, stage: &mut TcpStage<'a, R>) -> io::Result<()> {
+    add_slot(rt, door, pods, stage)?;
+    let mut stream = TcpStream::connect(rt, door.address.as_str())?;
+    let ended = run_all(rt, rt.alloc(), pods, &mut stream, stage);
+    drop(stream);
+    show_ended(rt, &ended)?;
+    show_streams(rt, &stage.streams)
+}
+
+fn show_by<
+    R: Threads
+        + Wait
+        + Sync
+        + Print
+        + AllocGlobal
+        + time::Clock
+        + Net<Listener = TcpListener, Stream = TcpStream>,
+>(rt: &R, door: &Door, pods: &Door) -> io::Result<()> {
+    let keeper = link_to(rt, rt.alloc(), pods.address.as_str())?;
+    let mut stage = stage_of(rt.alloc(), SETUP, keeper)?;
+    let done = show_stage(rt, door, pods, &mut stage);
+    drop(stage);
+    done
 }
 
 /// One request, from its client to the pod and back. The session's journal tells of it.
@@ -285,8 +218,17 @@ pub fn show<
         + time::Clock
         + Net<Listener = TcpListener, Stream = TcpStream>,
 >(rt: &R) -> io::Result<()> {
-    let mut sinks = Sinks::new(rt.alloc())?;
-    let done = show_to(rt, &mut sinks);
-    drop(sinks);
-    done
+    let door = listening(rt)?;
+    match listening(rt) {
+        Ok(pods) => {
+            let done = show_by(rt, &door, &pods);
+            drop(pods);
+            drop(door);
+            done
+        }
+        Err(error) => {
+            drop(door);
+            Err(error)
+        }
+    }
 }

@@ -1,12 +1,27 @@
 //! What is opened on loopback.
 
 use crate::loopback::listening;
-use crate::sessions::{Size, plan_of};
+use crate::setting::one_text;
+use kn_event::Text;
 use kn_io::Faulty;
 use kn_opener::TcpOpener;
-use kn_serve::{Opener, Plan};
+use kn_serve::{Hosts, Opener, Plan};
+use std::alloc::{AllocError, Global};
 use std::io;
 use std::net::{Net, TcpListener, TcpStream};
+
+/// Two slots for clients who come to this address.
+fn plan_of(alloc: Global, listen: &str) -> Result<Plan, AllocError> {
+    let listen = Vec::from_slice(alloc, listen.as_bytes())?;
+    let pods = one_text(alloc, b"127.0.0.1:9001")?;
+    Ok(Plan {
+        listen: Text::new(listen),
+        pods: Hosts::new(pods),
+        slots: 2,
+        rounds: 1,
+        room: 100,
+    })
+}
 
 /// Prints the answer, how many slots there are, whether there is a keeper, and how many faults.
 fn open_plan<R: Print + AllocGlobal, N: Net<Listener = TcpListener, Stream = TcpStream>>(
@@ -27,15 +42,13 @@ fn open_plan<R: Print + AllocGlobal, N: Net<Listener = TcpListener, Stream = Tcp
     println!(rt; "{name}: {answer:?}, slots {count}, keeper {kept}, faults {faults}")
 }
 
-/// Opens two slots for clients who come to this address.
 fn open<R: Print + AllocGlobal, N: Net<Listener = TcpListener, Stream = TcpStream>>(
     rt: &R,
     name: &str,
     opener: &mut TcpOpener<'_, N>,
     listen: &str,
 ) -> io::Result<()> {
-    let size = Size::once(100);
-    let plan = plan_of(rt.alloc(), listen.as_bytes(), b"127.0.0.1:9001", 2, size)?;
+    let plan = plan_of(rt.alloc(), listen)?;
     let done = open_plan(rt, name, opener, &plan);
     drop(plan);
     done
@@ -66,9 +79,8 @@ fn show_taken<R: Print + AllocGlobal + Net<Listener = TcpListener, Stream = TcpS
 pub fn show<R: Print + AllocGlobal + Net<Listener = TcpListener, Stream = TcpStream>>(
     rt: &R,
 ) -> io::Result<()> {
-    let (listener, taken) = listening(rt)?;
-    let done = show_taken(rt, taken.as_str());
-    drop(listener);
+    let taken = listening(rt)?;
+    let done = show_taken(rt, taken.address.as_str());
     drop(taken);
     done
 }

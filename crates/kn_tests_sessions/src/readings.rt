@@ -1,14 +1,12 @@
 //! A row has the time of a reading that was taken when it was due: an arrival's after its client was met, and a finish's after
 //! the pod's call.
-use crate::hooks::{Hook, HookedSlot, serve_hooked, slot_of};
-use crate::lines::show_answer;
+use crate::hooks::{Hook, HookedStage, add_slot, hooked_stage, show_answers};
 use crate::reports::has;
-use crate::sessions::Sinks;
-use crate::setting::{REQUEST, SETUP};
+use crate::sessions::{ONCE, serve};
+use crate::setting::SETUP;
 use kn_case::case;
-use kn_io::Clock;
+use kn_io::{Clock, OpenGate};
 use kn_journal::Status;
-use std::alloc::AllocError;
 use std::io;
 use std::sync::Wait;
 use std::sync::atomic::{AtomicU64, Ordering};
@@ -69,40 +67,20 @@ fn show_rows<R: Print + AllocGlobal>(rt: &R, journal: &[u8]) -> io::Result<()> {
 fn show_session<'a, R: Threads + Wait + Sync + Print + AllocGlobal>(
     rt: &R,
     hands: &'a Hands,
-    slots: &mut [HookedSlot<'a, Hands>; 1],
-    sinks: &mut Sinks,
+    stage: &mut HookedStage<'a, Hands>,
 ) -> io::Result<()> {
-    let alloc = rt.alloc();
+    add_slot(rt.alloc(), &mut stage.slots, "good", hands)?;
     // The keeper is never called, so it sets no time.
-    let status = serve_hooked(
-        rt,
-        alloc,
-        SETUP,
-        slots,
-        hands,
-        Vec::new(alloc),
-        hands,
-        sinks,
-    )?;
+    let status = serve(rt, rt.alloc(), stage, ONCE, hands, &OpenGate);
     case(rt, "a clock that is set on", &status, &Some(Status::Ok))?;
-    show_answer(rt, &slots[0].caller.caller)?;
-    show_rows(rt, sinks.out.held())
+    show_answers(rt, &stage.slots)?;
+    show_rows(rt, stage.streams.out.held())
 }
 
 pub fn show<R: Threads + Wait + Sync + Print + AllocGlobal>(rt: &R) -> io::Result<()> {
     let hands = Hands::new();
-    let mut sinks = Sinks::new(rt.alloc())?;
-    match slot_of(rt.alloc(), REQUEST, &hands) {
-        Ok(slot) => {
-            let mut slots = [slot];
-            let done = show_session(rt, &hands, &mut slots, &mut sinks);
-            drop(slots);
-            drop(sinks);
-            done
-        }
-        Err(AllocError) => {
-            drop(sinks);
-            Err(io::Error::from(AllocError))
-        }
-    }
+    let mut stage = hooked_stage(rt.alloc(), SETUP, &hands, &[])?;
+    let done = show_session(rt, &hands, &mut stage);
+    drop(stage);
+    done
 }

@@ -1,5 +1,6 @@
 //! What is found in a journal, and in the report of its replay.
-use crate::sessions::{Sinks, source_of};
+use crate::lines::add;
+use crate::sessions::Streams;
 use kn_case::spelled;
 use kn_journal::Status;
 use std::alloc::{AllocError, Global};
@@ -15,64 +16,36 @@ pub fn has(bytes: &[u8], part: &[u8]) -> bool {
     false
 }
 
-fn replay_to(alloc: Global, journal: &[u8], sinks: &mut Sinks) -> Result<Status, AllocError> {
-    let words = [String::from_str(alloc, "replay")?];
-    match source_of(alloc, journal) {
-        Ok(mut input) => {
-            let Sinks { out, err } = sinks;
-            let status = kn_replay::run(alloc, &words, &mut input, out, err);
-            drop(input);
-            drop(words);
-            Ok(status)
-        }
-        Err(AllocError) => {
-            drop(words);
-            Err(AllocError)
-        }
+fn report_of(alloc: Global, streams: &mut Streams) -> Result<Vec<u8>, AllocError> {
+    let mut words = Vec::new(alloc);
+    add(&mut words, String::from_str(alloc, "replay")?)?;
+    let Streams { input, out, err } = streams;
+    let status = kn_replay::run(alloc, &words, input, out, err);
+    drop(words);
+    match status {
+        Status::Ok => Vec::from_slice(alloc, out.held()),
+        _ => Ok(Vec::new(alloc)),
     }
 }
 
 /// The report of a journal, which is replayed; nothing where that goes wrong.
 pub fn replayed(alloc: Global, journal: &[u8]) -> Result<Vec<u8>, AllocError> {
-    match Sinks::new(alloc) {
-        Ok(mut sinks) => {
-            let report = report_of(alloc, journal, &mut sinks);
-            drop(sinks);
-            report
-        }
-        Err(AllocError) => Err(AllocError),
-    }
-}
-
-fn report_of(alloc: Global, journal: &[u8], sinks: &mut Sinks) -> Result<Vec<u8>, AllocError> {
-    match replay_to(alloc, journal, sinks)? {
-        Status::Ok => Vec::from_slice(alloc, sinks.out.held()),
-        _ => Ok(Vec::new(alloc)),
-    }
+    let mut streams = Streams::new(alloc, journal)?;
+    let report = report_of(alloc, &mut streams);
+    drop(streams);
+    report
 }
 
 /// Whether the journal's report has this text.
 pub fn reports(alloc: Global, journal: &[u8], text: &[u8]) -> Result<bool, AllocError> {
-    match replayed(alloc, journal) {
-        Ok(report) => {
-            let found = has(&report, text);
-            drop(report);
-            Ok(found)
-        }
-        Err(AllocError) => Err(AllocError),
-    }
+    let report = replayed(alloc, journal)?;
+    Ok(has(&report, text))
 }
 
 /// Whether the bytes have the text that is spelled so.
 fn has_spelled(alloc: Global, bytes: &[u8], text: &str) -> Result<bool, AllocError> {
-    match spelled(alloc, text) {
-        Ok(part) => {
-            let found = has(bytes, &part);
-            drop(part);
-            Ok(found)
-        }
-        Err(AllocError) => Err(AllocError),
-    }
+    let part = spelled(alloc, text)?;
+    Ok(has(bytes, &part))
 }
 
 /// Prints whether the bytes have each of these texts.

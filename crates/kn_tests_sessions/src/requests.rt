@@ -3,15 +3,24 @@ ghost use Rattle.std.specs.Prelude.{◌≡◌, ◌+◌};
 ghost use Rattle.kn_cell.specs.Shown.{IsLater};
 
 use crate::lines::{answer_of, number_of, show_calls, value_of};
-use crate::setting::{MemSlot, REQUEST, had, open, request_of, slot_of, spec};
+use crate::setting::{MemSlot, REQUEST, had, open, slot_of, spec};
 use kn_case::{Tally, shown};
 use kn_cell::{Pass, Past, RevisionCell};
 use kn_event::{Act, Memory, Spec};
-use kn_io::{ListClock, MemCaller, MemLink, OpenGate};
-use kn_request::{Served, Slot, serve_one};
+use kn_io::{ListClock, OpenGate};
+use kn_request::{Served, serve_one};
 use std::alloc::{AllocError, Global};
 use std::io;
 use std::sync::Wait;
+
+/// A request: the slot that serves it, its revision, its clock, and the letters of the history's rows.
+#[derive(Drop)]
+struct Trial {
+    slot: MemSlot,
+    spec: Spec,
+    clock: ListClock,
+    rows: String,
+}
 
 /// Makes the pod Ready, if it is to be.
 fn prepare<R: Wait>(rt: &R, cell: &RevisionCell, pass: &mut Pass, ready: bool)
@@ -29,13 +38,17 @@ fn serve<R: Wait>(
     alloc: Global,
     cell: &RevisionCell,
     pass: &mut Pass,
-    spec: &Spec,
-    slot: &mut Slot<MemCaller, MemLink>,
-    clock: &ListClock,
+    trial: &mut Trial,
 ) -> Served
     requires { pass.old.cell ≡ cell.now }
     ensures { IsLater pass.old pass.new }
 {
+    let Trial {
+        slot,
+        spec,
+        clock,
+        ..
+    } = trial;
     serve_one(rt, alloc, cell, pass, spec, slot, 7, clock, &OpenGate)
 }
 
@@ -77,54 +90,40 @@ fn add_times(times: &mut Vec<u64>, words: &str) -> Result<(), AllocError> {
     Ok(())
 }
 
-/// The times in the word `times=`, or 0.
-fn clock_of(alloc: Global, words: &str) -> Result<ListClock, AllocError> {
+/// One that was not tried, over a caller with the request of this name. Its clock has the times in the word `times=`, or 0.
+fn trial_of(alloc: Global, name: &str, words: &str) -> Result<Trial, AllocError> {
     let mut times = Vec::new(alloc);
-    match add_times(&mut times, words) {
-        Ok(()) => Ok(ListClock::new(times)),
-        Err(AllocError) => {
-            drop(times);
+    add_times(&mut times, words)?;
+    let slot = had(slot_of(alloc, name, 1, words))?;
+    match spec(alloc) {
+        Ok(spec) => Ok(Trial {
+            slot,
+            spec,
+            clock: ListClock::new(times),
+            rows: String::new(alloc),
+        }),
+        Err(Memory) => {
+            drop(slot);
             Err(AllocError)
         }
     }
 }
 
-fn run_in<R: Wait>(
+fn try_in<R: Wait>(
     rt: &R,
     alloc: Global,
     cell: RevisionCell,
     mut pass: Pass,
     ready: bool,
-    slot: &mut MemSlot,
-    spec: &Spec,
-    clock: &ListClock,
-    letters: &mut String,
+    trial: &mut Trial,
 ) -> Result<Served, AllocError>
     requires cell { pass.cell ≡ cell }
     requires all { 1 + pass.free + pass.back ≡ pass.passes }
 {
     prepare(rt, &cell, &mut pass, ready);
-    let served = serve(rt, alloc, &cell, &mut pass, spec, slot, clock);
-    match close(cell, pass, letters) {
-        Ok(()) => Ok(served),
-        Err(AllocError) => Err(AllocError),
-    }
-}
-
-fn run_by<R: Wait>(
-    rt: &R,
-    alloc: Global,
-    words: &str,
-    slot: &mut MemSlot,
-    spec: &Spec,
-    clock: &ListClock,
-    letters: &mut String,
-) -> Result<Served, AllocError> {
-    let ready = number_of(words, "ready", 1) == 1;
-    match open(alloc, number_of(words, "room", 100)) {
-        Ok((cell, pass)) => run_in(rt, alloc, cell, pass, ready, slot, spec, clock, letters),
-        Err(Memory) => Err(AllocError),
-    }
+    let served = serve(rt, alloc, &cell, &mut pass, trial);
+    close(cell, pass, &mut trial.rows)?;
+    Ok(served)
 }
 
 /// Serves the request over a new cell, with room for 100 rows and a Ready pod where the words don't say otherwise.
@@ -133,26 +132,18 @@ fn run<R: Wait>(
     rt: &R,
     alloc: Global,
     words: &str,
-    slot: &mut MemSlot,
-    letters: &mut String,
+    trial: &mut Trial,
 ) -> Result<Served, AllocError> {
-    let spec = had(spec(alloc))?;
-    match clock_of(alloc, words) {
-        Ok(clock) => {
-            let served = run_by(rt, alloc, words, slot, &spec, &clock, letters);
-            drop(clock);
-            drop(spec);
-            served
-        }
-        Err(AllocError) => {
-            drop(spec);
-            Err(AllocError)
-        }
+    let ready = number_of(words, "ready", 1) == 1;
+    match open(alloc, number_of(words, "room", 100)) {
+        Ok((cell, pass)) => try_in(rt, alloc, cell, pass, ready, trial),
+        Err(Memory) => Err(AllocError),
     }
 }
 
 /// How the request was served, the history's rows, how often the pod was called, and the caller's answer.
-fn told(alloc: Global, served: Served, rows: &str, slot: &MemSlot) -> Result<String, AllocError> {
+fn told(alloc: Global, served: Served, trial: &Trial) -> Result<String, AllocError> {
+    let Trial { slot, rows, .. } = trial;
     let calls = slot.link.calls().unwrap_or(&[]).len();
     let answer = shown(alloc, answer_of(&slot.caller))?;
     let text = format!(in alloc; "{served:?}, rows {rows}, calls {calls}, answered \"{answer}\"");
@@ -160,79 +151,49 @@ fn told(alloc: Global, served: Served, rows: &str, slot: &MemSlot) -> Result<Str
     text
 }
 
-fn outcome_by<R: Wait>(
-    rt: &R,
-    alloc: Global,
-    words: &str,
-    slot: &mut MemSlot,
-    rows: &mut String,
-) -> Result<String, AllocError> {
-    let served = run(rt, alloc, words, slot, rows)?;
-    told(alloc, served, rows.as_str(), slot)
-}
-
 /// What comes of a request.
 fn outcome<R: Wait>(
     rt: &R,
     alloc: Global,
     words: &str,
-    slot: &mut MemSlot,
+    trial: &mut Trial,
 ) -> Result<String, AllocError> {
-    let mut rows = String::new(alloc);
-    let text = outcome_by(rt, alloc, words, slot, &mut rows);
-    drop(rows);
-    text
+    let served = run(rt, alloc, words, trial)?;
+    told(alloc, served, trial)
 }
 
-fn show_outcome<R: Wait + Print + AllocGlobal>(
+fn show_trial<R: Wait + Print + AllocGlobal>(
     rt: &R,
     words: &str,
-    slot: &mut MemSlot,
+    trial: &mut Trial,
 ) -> io::Result<()> {
-    let came = outcome(rt, rt.alloc(), words, slot)?;
-    let done = println!(rt; "  {came}");
+    let came = outcome(rt, rt.alloc(), words, trial)?;
+    let printed = println!(rt; "  {came}");
     drop(came);
-    done
-}
-
-fn show_slot<R: Wait + Print + AllocGlobal>(
-    rt: &R,
-    words: &str,
-    slot: &mut MemSlot,
-) -> io::Result<()> {
-    show_outcome(rt, words, slot)?;
-    show_calls(rt, &slot.link)
+    printed?;
+    show_calls(rt, &trial.slot.link)
 }
 
 /// Prints what comes of a request, and what the pod was sent.
 pub fn show<R: Wait + Print + AllocGlobal>(rt: &R, line: &str) -> io::Result<()> {
     let (name, words) = line.split_once(' ').unwrap_or((line, ""));
-    let mut slot = had(slot_of(rt.alloc(), request_of(name), 1, words))?;
-    let done = show_slot(rt, words, &mut slot);
-    drop(slot);
+    let mut trial = trial_of(rt.alloc(), name, words)?;
+    let done = show_trial(rt, words, &mut trial);
+    drop(trial);
     done
 }
 
-fn outcome_of<R: Wait>(rt: &R, alloc: Global, words: &str) -> Result<String, AllocError> {
-    let mut slot = had(slot_of(alloc, REQUEST, 1, words))?;
-    let text = outcome(rt, alloc, words, &mut slot);
-    drop(slot);
-    text
-}
-
-fn count_outcome<R: Wait>(
+fn count_trial<R: Wait>(
     rt: &R,
     alloc: Global,
     tally: &mut Tally,
     words: &str,
 ) -> Result<(), AllocError> {
-    match outcome_of(rt, alloc, words) {
-        Ok(came) => {
-            tally.count(came);
-            Ok(())
-        }
-        Err(AllocError) => Err(AllocError),
-    }
+    let mut trial = trial_of(alloc, "good", words)?;
+    let came = outcome(rt, alloc, words, &mut trial);
+    drop(trial);
+    tally.count(came?);
+    Ok(())
 }
 
 fn count_fault<R: Wait>(
@@ -242,7 +203,7 @@ fn count_fault<R: Wait>(
     n: usize,
 ) -> Result<(), AllocError> {
     let words = format!(in alloc; "caller={n}")?;
-    let counted = count_outcome(rt, alloc, tally, words.as_str());
+    let counted = count_trial(rt, alloc, tally, words.as_str());
     drop(words);
     counted
 }

@@ -7,10 +7,10 @@ ghost use Rattle.kn_serve.specs.Running.{IsInRange};
 use crate::lines::{add, show_answer};
 use crate::readings::Hands;
 use crate::reports::{has, replayed, show_found};
-use crate::setting::{MemSlot, SETUP, had, keeper, one_text, request_of, slot_of, text_of};
+use crate::setting::{MemSlot, SETUP, had, keeper, slot_of};
 use kn_case::shown;
-use kn_event::Memory;
-use kn_io::{Caller, Clock, Gate, MemSink, MemSource, OpenGate, PodLink};
+use kn_event::Text;
+use kn_io::{Caller, Clock, Gate, MemCaller, MemLink, MemSink, MemSource, OpenGate, PodLink};
 use kn_journal::Status;
 use kn_serve::{Hosts, Plan, Slot, Work, serve_run};
 use std::alloc::{AllocError, Global};
@@ -18,26 +18,70 @@ use std::io;
 use std::sync::Wait;
 use std::thread::Threads;
 
-/// What a session wrote: its journal, and what it told.
+fn sink(alloc: Global, room: u64) -> Result<MemSink, AllocError> {
+    had(MemSink::new(alloc, room, Vec::new(alloc)))
+}
+
+/// What is read, what is written, and what is told.
 #[derive(Drop)]
-pub struct Sinks {
+pub struct Streams {
+    pub input: MemSource,
     pub out: MemSink,
     pub err: MemSink,
 }
 
-impl Sinks {
-    pub fn new(alloc: Global) -> Result<Sinks, AllocError> {
-        match MemSink::new(alloc, 10000, Vec::new(alloc)) {
-            Ok(out) => match MemSink::new(alloc, 1000, Vec::new(alloc)) {
-                Ok(err) => Ok(Sinks { out, err }),
-                Err(Memory) => {
-                    drop(out);
-                    Err(AllocError)
-                }
-            },
-            Err(Memory) => Err(AllocError),
+impl Streams {
+    /// These bytes, and nothing written or told.
+    pub fn new(alloc: Global, input: &[u8]) -> Result<Streams, AllocError> {
+        let input = Vec::from_slice(alloc, input)?;
+        let out = sink(alloc, 10000)?;
+        match sink(alloc, 1000) {
+            Ok(err) => Ok(Streams {
+                input: MemSource::new(input, Vec::new(alloc)),
+                out,
+                err,
+            }),
+            Err(AllocError) => {
+                drop(out);
+                Err(AllocError)
+            }
         }
     }
+}
+
+/// What a session is served over: its slots, what probes the pods, its setup, and what it writes.
+#[derive(Drop)]
+pub struct Stage<C, L> {
+    pub slots: Vec<Slot<C, L>>,
+    pub keeper: L,
+    pub streams: Streams,
+}
+
+/// One without slots so far.
+pub fn stage_of<C: Drop, L: Drop>(
+    alloc: Global,
+    setup: &[u8],
+    keeper: L,
+) -> Result<Stage<C, L>, AllocError> {
+    match Streams::new(alloc, setup) {
+        Ok(streams) => Ok(Stage {
+            slots: Vec::new(alloc),
+            keeper,
+            streams,
+        }),
+        Err(AllocError) => {
+            drop(keeper);
+            Err(AllocError)
+        }
+    }
+}
+
+pub type MemStage = Stage<MemCaller, MemLink>;
+
+/// One over memory, with a keeper that finds each pod.
+pub fn mem_stage(alloc: Global) -> Result<MemStage, AllocError> {
+    let keeper = had(keeper(alloc))?;
+    stage_of(alloc, SETUP, keeper)
 }
 
 fn is_empty(work: &Work) -> bool
@@ -75,47 +119,13 @@ pub struct Size {
     pub room: u64,
 }
 
-impl Size {
-    /// One round.
-    pub fn once(room: u64) -> Size {
-        Size { rounds: 1, room }
-    }
-}
+/// One round, and room for 100 rows.
+pub const ONCE: Size = Size {
+    rounds: 1,
+    room: 100,
+};
 
-/// A plan of these sizes, whose hosts nobody looks at.
-pub fn plan_of(
-    alloc: Global,
-    listen: &[u8],
-    pod: &[u8],
-    slots: u64,
-    size: Size,
-) -> Result<Plan, AllocError> {
-    match one_text(alloc, pod) {
-        Ok(pods) => match text_of(alloc, listen) {
-            Ok(listen) => Ok(Plan {
-                listen,
-                pods: Hosts::new(pods),
-                slots,
-                rounds: size.rounds,
-                room: size.room,
-            }),
-            Err(AllocError) => {
-                drop(pods);
-                Err(AllocError)
-            }
-        },
-        Err(AllocError) => Err(AllocError),
-    }
-}
-
-pub fn source_of(alloc: Global, bytes: &[u8]) -> Result<MemSource, AllocError> {
-    match Vec::from_slice(alloc, bytes) {
-        Ok(bytes) => Ok(MemSource::new(bytes, Vec::new(alloc))),
-        Err(AllocError) => Err(AllocError),
-    }
-}
-
-/// Serves a session over this setup, if its conditions are met.
+/// Serves a session, if its conditions are met.
 pub fn serve<
     C: Caller + Send,
     L: PodLink + Send,
@@ -125,40 +135,25 @@ pub fn serve<
 >(
     rt: &R,
     alloc: Global,
-    setup: &[u8],
-    slots: &mut [Slot<C, L>],
-    keeper: &mut L,
+    stage: &mut Stage<C, L>,
     size: Size,
     clock: &K,
     gate: &G,
-    sinks: &mut Sinks,
-) -> Result<Option<Status>, AllocError> {
-    let mut source = source_of(alloc, setup)?;
-    match plan_of(alloc, b"h:1", b"h:2", slots.len() as u64, size) {
-        Ok(plan) => {
-            let served = serve_source(
-                rt,
-                alloc,
-                &plan,
-                &mut source,
-                slots,
-                keeper,
-                clock,
-                gate,
-                sinks,
-            );
-            drop(plan);
-            drop(source);
-            Ok(served)
-        }
-        Err(AllocError) => {
-            drop(source);
-            Err(AllocError)
-        }
-    }
+) -> Option<Status> {
+    // Nobody looks at its hosts.
+    let plan = Plan {
+        listen: Text::new(Vec::new(alloc)),
+        pods: Hosts::new(Vec::new(alloc)),
+        slots: stage.slots.len() as u64,
+        rounds: size.rounds,
+        room: size.room,
+    };
+    let served = serve_plan(rt, alloc, &plan, stage, clock, gate);
+    drop(plan);
+    served
 }
 
-fn serve_source<
+fn serve_plan<
     C: Caller + Send,
     L: PodLink + Send,
     K: Clock + Sync,
@@ -168,108 +163,41 @@ fn serve_source<
     rt: &R,
     alloc: Global,
     plan: &Plan,
-    source: &mut MemSource,
-    slots: &mut [Slot<C, L>],
-    keeper: &mut L,
+    stage: &mut Stage<C, L>,
     clock: &K,
     gate: &G,
-    sinks: &mut Sinks,
 ) -> Option<Status> {
+    let slots = stage.slots.as_mut_slice();
     if !is_in_range(plan) || plan.slots != slots.len() as u64 || !are_empty(slots) {
         return None;
     }
-    let Sinks { out, err } = sinks;
-    Some(serve_run(
-        rt, alloc, plan, source, slots, keeper, clock, gate, out, err,
-    ))
+    let Streams { input, out, err } = &mut stage.streams;
+    let keeper = &mut stage.keeper;
+    Some(serve_run(rt, alloc, plan, input, slots, keeper, clock, gate, out, err))
 }
 
-/// Serves a session over memory, with a keeper that finds each pod.
-pub fn serve_mem<K: Clock + Sync, G: Gate + Sync, R: Threads + Wait + Sync>(
-    rt: &R,
-    alloc: Global,
-    slots: &mut [MemSlot],
-    size: Size,
-    clock: &K,
-    gate: &G,
-    sinks: &mut Sinks,
-) -> Result<Option<Status>, AllocError> {
-    match keeper(alloc) {
-        Ok(mut keeper) => {
-            let served = serve(
-                rt,
-                alloc,
-                SETUP,
-                slots,
-                &mut keeper,
-                size,
-                clock,
-                gate,
-                sinks,
-            );
-            drop(keeper);
-            served
-        }
-        Err(AllocError) => Err(AllocError),
-    }
-}
-
-/// The same, where the clock stands still and nothing is held up.
+/// Serves a session where the clock stands still and nothing is held up.
 pub fn serve_still<R: Threads + Wait + Sync>(
     rt: &R,
     alloc: Global,
-    slots: &mut [MemSlot],
+    stage: &mut MemStage,
     size: Size,
-    sinks: &mut Sinks,
-) -> Result<Option<Status>, AllocError> {
-    let hands = Hands::new();
-    serve_mem(rt, alloc, slots, size, &hands, &OpenGate, sinks)
+) -> Option<Status> {
+    serve(rt, alloc, stage, size, &Hands::new(), &OpenGate)
 }
 
 fn add_slot(alloc: Global, slots: &mut Vec<MemSlot>, word: &str) -> Result<(), AllocError> {
-    let (name, fails) = word.split_once('/').unwrap_or((word, ""));
-    match had(slot_of(alloc, request_of(name), u64::MAX, fails)) {
-        Ok(slot) => add(slots, slot),
-        Err(AllocError) => Err(AllocError),
-    }
+    let (names, fails) = word.split_once('/').unwrap_or((word, ""));
+    let slot = had(slot_of(alloc, names, u64::MAX, fails))?;
+    add(slots, slot)
 }
 
-fn add_slots(alloc: Global, slots: &mut Vec<MemSlot>, words: &str) -> Result<(), AllocError> {
+/// Adds a slot for each of these words.
+pub fn add_slots(alloc: Global, slots: &mut Vec<MemSlot>, words: &str) -> Result<(), AllocError> {
     for word in words.split(' ') {
         add_slot(alloc, slots, word)?;
     }
     Ok(())
-}
-
-/// A slot for each of these words.
-fn slots_of(alloc: Global, words: &str) -> Result<Vec<MemSlot>, AllocError> {
-    let mut slots = Vec::new(alloc);
-    match add_slots(alloc, &mut slots, words) {
-        Ok(()) => Ok(slots),
-        Err(AllocError) => {
-            drop(slots);
-            Err(AllocError)
-        }
-    }
-}
-
-/// What a session is served over, and what it writes.
-#[derive(Drop)]
-pub struct Stage {
-    pub slots: Vec<MemSlot>,
-    pub sinks: Sinks,
-}
-
-/// A slot for each of these words, and nothing written.
-pub fn stage_of(alloc: Global, words: &str) -> Result<Stage, AllocError> {
-    let sinks = Sinks::new(alloc)?;
-    match slots_of(alloc, words) {
-        Ok(slots) => Ok(Stage { slots, sinks }),
-        Err(AllocError) => {
-            drop(sinks);
-            Err(AllocError)
-        }
-    }
 }
 
 /// Whether the journal is of the setup and the start 0, and ends.
@@ -289,9 +217,7 @@ fn lines_in(text: &[u8]) -> u64 {
 
 fn show_report<R: Print + AllocGlobal>(rt: &R, journal: &[u8], texts: &str) -> io::Result<()> {
     let report = replayed(rt.alloc(), journal)?;
-    let done = show_found(rt, &report, texts);
-    drop(report);
-    done
+    show_found(rt, &report, texts)
 }
 
 /// Prints whether a session's journal is whole, how many lines it has, and which texts it and its report have.
@@ -310,9 +236,7 @@ fn show_told<R: Print + AllocGlobal>(
     told: &[u8],
 ) -> io::Result<()> {
     let told = shown(rt.alloc(), told)?;
-    let done = println!(rt; "  {status:?}, tells \"{told}\"");
-    drop(told);
-    done
+    println!(rt; "  {status:?}, tells \"{told}\"")
 }
 
 pub fn show_answers<R: Print + AllocGlobal>(rt: &R, slots: &[MemSlot]) -> io::Result<()> {
@@ -324,24 +248,25 @@ pub fn show_answers<R: Print + AllocGlobal>(rt: &R, slots: &[MemSlot]) -> io::Re
 
 fn show_stage<R: Threads + Wait + Sync + Print + AllocGlobal>(
     rt: &R,
-    stage: &mut Stage,
-    size: Size,
+    stage: &mut MemStage,
+    room: u64,
+    inputs: &str,
     texts: &str,
 ) -> io::Result<()> {
-    let Stage { slots, sinks } = stage;
-    let status = serve_still(rt, rt.alloc(), slots, size, sinks)?;
-    show_told(rt, status, sinks.err.held())?;
-    show_answers(rt, slots)?;
-    show_journal(rt, sinks.out.held(), texts)
+    add_slots(rt.alloc(), &mut stage.slots, inputs)?;
+    let status = serve_still(rt, rt.alloc(), stage, Size { rounds: 1, room });
+    show_told(rt, status, stage.streams.err.held())?;
+    show_answers(rt, &stage.slots)?;
+    show_journal(rt, stage.streams.out.held(), texts)
 }
 
 /// Serves a session, and prints its status, what it tells, each answer, and what is found in its journal.
 pub fn show<R: Threads + Wait + Sync + Print + AllocGlobal>(rt: &R, line: &str) -> io::Result<()> {
     let (head, texts) = line.split_once('|').unwrap_or((line, ""));
     let (room, inputs) = head.split_once(' ').unwrap_or((head, ""));
-    let size = Size::once(room.parse().unwrap_or(0));
-    let mut stage = stage_of(rt.alloc(), inputs)?;
-    let done = show_stage(rt, &mut stage, size, texts);
+    let room = room.parse().unwrap_or(0);
+    let mut stage = mem_stage(rt.alloc())?;
+    let done = show_stage(rt, &mut stage, room, inputs, texts);
     drop(stage);
     done
 }

@@ -6,7 +6,7 @@ ghost use Rattle.kn_io.specs.MemCaller.{kept_of};
 ghost use Rattle.kn_request.specs.Outside.{said};
 ghost use Rattle.kn_serve.specs.Opening.{IsFresh};
 
-use crate::lines::{number_of, one_number};
+use crate::lines::{add, number_of};
 use kn_cell::{Pass, RevisionCell};
 use kn_core::Revision;
 use kn_event::{EntryLog, Memory, Slots, Spec, Text};
@@ -29,6 +29,9 @@ const SECOND_REQUEST: &[u8] =
 const OTHER_REQUEST: &[u8] =
     b"GET /a HTTP/1.1\r\nHost: h\r\nKnative-Serving-Namespace: default\r\nKnative-Serving-Revision: other\r\nConnection: keep-alive\r\n\r\n";
 
+const HELLO_REQUEST: &[u8] =
+    b"GET /a HTTP/1.1\r\nHost: h\r\nKnative-Serving-Namespace: default\r\nKnative-Serving-Revision: hello-00001\r\n\r\n";
+
 const CUT_REQUEST: &[u8] = b"GET /a HTTP/1.1\r\nHost: h\r\n";
 
 /// What the pod is sent of the request.
@@ -41,9 +44,10 @@ pub const REPLY: &[u8] = b"HTTP/1.1 200 OK\r\nContent-Length: 0\r\nConnection: c
 const NEVER: u64 = u64::MAX;
 
 /// The request of this name.
-pub fn request_of(name: &str) -> &'static [u8] {
+fn request_of(name: &str) -> &'static [u8] {
     match name {
         "other" => OTHER_REQUEST,
+        "hello" => HELLO_REQUEST,
         "cut" => CUT_REQUEST,
         "second" => SECOND_REQUEST,
         _ => REQUEST,
@@ -58,42 +62,55 @@ pub fn had<T>(answer: Result<T, Memory>) -> Result<T, AllocError> {
     }
 }
 
-pub fn text_of(alloc: Global, bytes: &[u8]) -> Result<Text, AllocError> {
-    match Vec::from_slice(alloc, bytes) {
-        Ok(bytes) => Ok(Text::new(bytes)),
-        Err(AllocError) => Err(AllocError),
-    }
+fn add_text(alloc: Global, bytes: &[u8], texts: &mut Vec<Text>) -> Result<(), AllocError> {
+    add(texts, Text::new(Vec::from_slice(alloc, bytes)?))
 }
 
 /// The one text.
 pub fn one_text(alloc: Global, bytes: &[u8]) -> Result<Vec<Text>, AllocError> {
-    match Vec::with_capacity(alloc, 1) {
-        Ok(mut texts) => match text_of(alloc, bytes) {
-            Ok(text) => {
-                texts.push_reserved(text);
-                Ok(texts)
-            }
-            Err(AllocError) => {
-                drop(texts);
-                Err(AllocError)
-            }
-        },
-        Err(AllocError) => Err(AllocError),
+    let mut texts = Vec::new(alloc);
+    match add_text(alloc, bytes, &mut texts) {
+        Ok(()) => Ok(texts),
+        Err(AllocError) => {
+            drop(texts);
+            Err(AllocError)
+        }
     }
 }
 
-/// A caller of these inputs, of whose calls this one fails.
-pub fn caller_of(
+/// Adds the request of each of these names, between which a `+` stands, or a reply to it.
+fn add_texts(
     alloc: Global,
-    inputs: Vec<Text>,
-    piece: u64,
-    fail: u64,
-) -> Result<MemCaller, Memory>
+    names: &str,
+    replies: bool,
+    texts: &mut Vec<Text>,
+) -> Result<(), AllocError> {
+    for name in names.split('+') {
+        let bytes = if replies { REPLY } else { request_of(name) };
+        add_text(alloc, bytes, texts)?;
+    }
+    Ok(())
+}
+
+fn texts_of(alloc: Global, names: &str, replies: bool) -> Result<Vec<Text>, Memory> {
+    let mut texts = Vec::new(alloc);
+    match add_texts(alloc, names, replies, &mut texts) {
+        Ok(()) => Ok(texts),
+        Err(AllocError) => {
+            drop(texts);
+            Err(Memory)
+        }
+    }
+}
+
+/// A caller of these requests, which gives so many bytes at a time, and of whose calls this one fails.
+pub fn caller_of(alloc: Global, names: &str, piece: u64, fail: u64) -> Result<MemCaller, Memory>
     requires { 0 < piece }
     ensures kept { IfOk result (λ c. kept_of c.met ≡ []) }
     ensures held { IfOk result (λ c. c.held ≡ []) }
 {
-    match one_number(alloc, fail) {
+    let inputs = texts_of(alloc, names, false)?;
+    match Vec::from_slice(alloc, &[fail]) {
         Ok(fails) => MemCaller::in_pieces(alloc, inputs, 10000, piece, fails),
         Err(AllocError) => {
             drop(inputs);
@@ -102,11 +119,12 @@ pub fn caller_of(
     }
 }
 
-/// A link with these replies, of whose calls this one fails.
-pub fn link_of(alloc: Global, replies: Vec<Text>, fail: u64) -> Result<MemLink, Memory>
+/// A link with a reply to each, of whose calls this one fails.
+pub fn link_of(alloc: Global, names: &str, fail: u64) -> Result<MemLink, Memory>
     ensures { IfOk result (λ l. l.told ≡ Some unused) }
 {
-    match one_number(alloc, fail) {
+    let replies = texts_of(alloc, names, true)?;
+    match Vec::from_slice(alloc, &[fail]) {
         Ok(fails) => MemLink::new(alloc, replies, fails),
         Err(AllocError) => {
             drop(replies);
@@ -116,12 +134,14 @@ pub fn link_of(alloc: Global, replies: Vec<Text>, fail: u64) -> Result<MemLink, 
 }
 
 /// A link without replies, which answers true to each probe.
-pub fn keeper(alloc: Global) -> Result<MemLink, AllocError> {
-    had(MemLink::new(alloc, Vec::new(alloc), Vec::new(alloc)))
+pub fn keeper(alloc: Global) -> Result<MemLink, Memory>
+    ensures { IfOk result (λ l. l.told ≡ Some unused) }
+{
+    MemLink::new(alloc, Vec::new(alloc), Vec::new(alloc))
 }
 
 /// A slot that nobody used.
-pub fn slot(caller: MemCaller, link: MemLink) -> MemSlot
+fn slot(caller: MemCaller, link: MemLink) -> MemSlot
     requires kept { kept_of caller.met ≡ [] }
     requires held { caller.held ≡ [] }
     requires told { link.told ≡ Some unused }
@@ -131,43 +151,19 @@ pub fn slot(caller: MemCaller, link: MemLink) -> MemSlot
     Slot { caller, link, work }
 }
 
-/// A caller with this one input, and which of its calls fails.
-pub fn one_caller(alloc: Global, input: &[u8], piece: u64, fail: u64) -> Result<MemCaller, Memory>
-    requires { 0 < piece }
-    ensures kept { IfOk result (λ c. kept_of c.met ≡ []) }
-    ensures held { IfOk result (λ c. c.held ≡ []) }
-{
-    match one_text(alloc, input) {
-        Ok(inputs) => caller_of(alloc, inputs, piece, fail),
-        Err(AllocError) => Err(Memory),
-    }
-}
-
-/// A link with one reply, and which of its calls fails.
-pub fn one_link(alloc: Global, fail: u64) -> Result<MemLink, Memory>
-    ensures { IfOk result (λ l. l.told ≡ Some unused) }
-{
-    match one_text(alloc, REPLY) {
-        Ok(replies) => link_of(alloc, replies, fail),
-        Err(AllocError) => Err(Memory),
-    }
-}
-
-/// A slot with a caller of one connection, which gives so many bytes at a time, and a link with one reply. The words say
-/// which calls fail, as `caller=0 link=0`.
-pub fn slot_of(alloc: Global, input: &[u8], piece: u64, words: &str) -> Result<MemSlot, Memory>
+/// A slot with a caller of these requests, one a connection, which gives so many bytes at a time, and a link with a reply to
+/// each. The words say which calls fail, as `caller=0 link=0`.
+pub fn slot_of(alloc: Global, names: &str, piece: u64, words: &str) -> Result<MemSlot, Memory>
     requires { 0 < piece }
     ensures { IfOk result (λ s. IsFresh (said (⟦<MemCaller as Sink>⟧.kept s.caller) (⟦<MemCaller as Sink>⟧.held s.caller)) (⟦<MemLink as PodLink>⟧.told s.link) s.work) }
 {
-    match one_caller(alloc, input, piece, number_of(words, "caller", NEVER)) {
-        Ok(caller) => match one_link(alloc, number_of(words, "link", NEVER)) {
-            Ok(link) => Ok(slot(caller, link)),
-            Err(Memory) => {
-                drop(caller);
-                Err(Memory)
-            }
-        },
-        Err(Memory) => Err(Memory),
+    let caller = caller_of(alloc, names, piece, number_of(words, "caller", NEVER))?;
+    match link_of(alloc, names, number_of(words, "link", NEVER)) {
+        Ok(link) => Ok(slot(caller, link)),
+        Err(Memory) => {
+            drop(caller);
+            Err(Memory)
+        }
     }
 }
 
@@ -181,47 +177,32 @@ pub fn spec(alloc: Global) -> Result<Spec, Memory> {
     Spec::fixed(alloc, 1, 1, 300, slots)
 }
 
-fn revision_in(alloc: Global, log: &mut EntryLog) -> Result<Revision, Memory>
-    requires { log.old ≡ [] }
-    ensures { IfOk result (λ r. r.events ≡ 0) }
-{
-    match spec(alloc) {
-        Ok(spec) => Revision::new(alloc, spec, 0, log),
-        Err(Memory) => Err(Memory),
-    }
-}
-
 /// A new revision, whose pod starts.
 fn revision(alloc: Global) -> Result<Revision, Memory>
     ensures { IfOk result (λ r. r.events ≡ 0) }
 {
+    let spec = spec(alloc)?;
     match EntryLog::new(alloc) {
         Ok(mut log) => {
-            let made = revision_in(alloc, &mut log);
+            let made = Revision::new(alloc, spec, 0, &mut log);
             drop(log);
             made
         }
-        Err(Memory) => Err(Memory),
+        Err(Memory) => {
+            drop(spec);
+            Err(Memory)
+        }
     }
-}
-
-fn open_over(alloc: Global, revision: Revision, room: u64) -> Result<(RevisionCell, Pass), Memory>
-    requires { revision.events ≡ 0 }
-    ensures { IfOk result (λ r. (r.1.cell ≡ r.0) × (1 + r.1.free + r.1.back ≡ r.1.passes)) }
-{
-    if revision.live() > 0 || room > 1_000_000 {
-        drop(revision);
-        return Err(Memory);
-    }
-    RevisionCell::new(alloc, revision, room, 1)
 }
 
 /// A cell over it with one pass, and room for so many rows, at most 1,000,000.
 pub fn open(alloc: Global, room: u64) -> Result<(RevisionCell, Pass), Memory>
     ensures { IfOk result (λ r. (r.1.cell ≡ r.0) × (1 + r.1.free + r.1.back ≡ r.1.passes)) }
 {
-    match revision(alloc) {
-        Ok(revision) => open_over(alloc, revision, room),
-        Err(Memory) => Err(Memory),
+    let revision = revision(alloc)?;
+    if revision.live() > 0 || room > 1_000_000 {
+        drop(revision);
+        return Err(Memory);
     }
+    RevisionCell::new(alloc, revision, room, 1)
 }

@@ -4,7 +4,7 @@ ghost use Rattle.kn_cell.specs.Shown.{IsLater};
 
 use crate::hooks::{Hook, HookedLink};
 use crate::requests::close;
-use crate::setting::{had, open};
+use crate::setting::open;
 use kn_case::case;
 use kn_cell::{Pass, RevisionCell};
 use kn_event::Memory;
@@ -14,20 +14,6 @@ use std::alloc::{AllocError, Global};
 use std::io;
 use std::sync::Wait;
 use std::sync::atomic::{AtomicU64, Ordering};
-
-fn take_turn<R: Wait>(
-    rt: &R,
-    cell: &RevisionCell,
-    pass: &mut Pass,
-    keeper: &mut MemLink,
-    now: u64,
-    last: u64,
-) -> Turn
-    requires { pass.old.cell ≡ cell.now }
-    ensures { IsLater pass.old pass.new }
-{
-    tick_turn(rt, cell, pass, keeper, now, last)
-}
 
 /// A clock that answers times in turn, and counts its naps.
 #[derive(Drop)]
@@ -50,13 +36,13 @@ impl Clock for Naps {
 
 /// A slot that is done with the probe before which so many were made.
 #[derive(Drop)]
-struct Bell<'a> {
-    left: &'a Left,
+struct Bell {
+    left: Left,
     probes: AtomicU64,
     before: u64,
 }
 
-impl Hook for Bell<'_> {
+impl Hook for Bell {
     fn has_probed(&self) {
         if self.probes.fetch_add(1, Ordering::SeqCst) == self.before {
             self.left.done();
@@ -64,209 +50,183 @@ impl Hook for Bell<'_> {
     }
 }
 
-/// The ticker, as long as one slot is at work: four turns, each of which probes the pod in vain. Answers how often it naps.
-fn tick_by<R: Wait>(
+/// What turns are taken with: a keeper that tells a bell, a clock, and the letters of what they do.
+#[derive(Drop)]
+struct Ticking<'a> {
+    keeper: HookedLink<'a, MemLink, Bell>,
+    clock: Naps,
+    letters: String,
+}
+
+/// Of the keeper's probes these fail, and the clock has these times.
+fn ticking_of<'a>(
+    alloc: Global,
+    bell: &'a Bell,
+    fails: &[u64],
+    times: &[u64],
+) -> Result<Ticking<'a>, AllocError> {
+    let fails = Vec::from_slice(alloc, fails)?;
+    let times = Vec::from_slice(alloc, times)?;
+    match MemLink::new(alloc, Vec::new(alloc), fails) {
+        Ok(link) => Ok(Ticking {
+            keeper: HookedLink { link, hook: bell },
+            clock: Naps {
+                times: ListClock::new(times),
+                count: AtomicU64::new(0),
+            },
+            letters: String::new(alloc),
+        }),
+        Err(Memory) => Err(AllocError),
+    }
+}
+
+fn take_turn<R: Wait>(
     rt: &R,
     cell: &RevisionCell,
     pass: &mut Pass,
-    link: MemLink,
-    times: ListClock,
-) -> u64
+    ticking: &mut Ticking<'_>,
+    now: u64,
+    last: u64,
+) -> Turn
     requires { pass.old.cell ≡ cell.now }
     ensures { IsLater pass.old pass.new }
 {
-    let left = Left::new(1);
-    let bell = Bell {
-        left: &left,
-        probes: AtomicU64::new(0),
-        before: 3,
-    };
-    let mut keeper = HookedLink { link, hook: &bell };
-    let clock = Naps {
-        times,
-        count: AtomicU64::new(0),
-    };
-    ticker(rt, cell, pass, &mut keeper, &clock, &left, 0);
-    let naps = clock.count.load(Ordering::SeqCst);
-    drop(clock);
-    drop(keeper);
-    naps
+    tick_turn(rt, cell, pass, &mut ticking.keeper, now, last)
 }
 
-/// A link whose first probes fail, as many as there are numbers.
-fn failing_link(alloc: Global, fails: &[u64]) -> Result<MemLink, AllocError> {
-    let fails = Vec::from_slice(alloc, fails)?;
-    had(MemLink::new(alloc, Vec::new(alloc), fails))
-}
-
-fn clock_of(alloc: Global, times: &[u64]) -> Result<ListClock, AllocError> {
-    match Vec::from_slice(alloc, times) {
-        Ok(times) => Ok(ListClock::new(times)),
-        Err(AllocError) => Err(AllocError),
-    }
-}
-
-/// What the four turns come to, and the letters of what they do.
-fn tick_in<R: Wait>(
-    rt: &R,
-    cell: RevisionCell,
-    mut pass: Pass,
-    link: MemLink,
-    times: ListClock,
-    letters: &mut String,
-) -> Result<u64, AllocError>
-    requires cell { pass.cell ≡ cell }
-    requires all { 1 + pass.free + pass.back ≡ pass.passes }
-{
-    let naps = tick_by(rt, &cell, &mut pass, link, times);
-    match close(cell, pass, letters) {
-        Ok(()) => Ok(naps),
-        Err(AllocError) => Err(AllocError),
-    }
-}
-
-fn tick_over<R: Wait>(
-    rt: &R,
-    alloc: Global,
-    link: MemLink,
-    times: ListClock,
-    letters: &mut String,
-) -> Result<u64, AllocError> {
-    match open(alloc, 100) {
-        Ok((cell, pass)) => tick_in(rt, cell, pass, link, times, letters),
-        Err(Memory) => {
-            drop(link);
-            drop(times);
-            Err(AllocError)
-        }
-    }
-}
-
-/// How often a ticker naps that goes on, and the letters of what it does.
-fn tick_on_and_on<R: Wait>(rt: &R, alloc: Global, letters: &mut String) -> Result<u64, AllocError> {
-    let link = failing_link(alloc, &[0, 1, 2, 3])?;
-    match clock_of(alloc, &[2000, 4000, 5999, 6000]) {
-        Ok(times) => tick_over(rt, alloc, link, times, letters),
-        Err(AllocError) => {
-            drop(link);
-            Err(AllocError)
-        }
-    }
-}
-
-/// The ticker's first turn, no slot being at work.
+/// The ticker, as long as the bell's slot is at work.
 fn tick_on<R: Wait>(
     rt: &R,
     cell: &RevisionCell,
     pass: &mut Pass,
-    keeper: &mut MemLink,
-    clock: &ListClock,
+    ticking: &mut Ticking<'_>,
+    left: &Left,
     last: u64,
 )
     requires { pass.old.cell ≡ cell.now }
     ensures { IsLater pass.old pass.new }
 {
-    let left = Left::new(1);
-    left.done();
-    ticker(rt, cell, pass, keeper, clock, &left, last);
+    let Ticking { keeper, clock, .. } = ticking;
+    ticker(rt, cell, pass, keeper, clock, left, last);
 }
 
-/// Two turns of these times, and then the ticker's first. Answers what the two came to.
-fn take_turns<R: Wait>(
-    rt: &R,
-    cell: &RevisionCell,
-    pass: &mut Pass,
-    keeper: &mut MemLink,
-    clock: &ListClock,
-) -> [Turn; 2]
-    requires { pass.old.cell ≡ cell.now }
-    ensures cell { pass.new.cell ≡ pass.old.cell }
-    ensures numbers { (pass.new.free ≡ pass.old.free) × (pass.new.back ≡ pass.old.back) × (pass.new.passes ≡ pass.old.passes) }
-{
-    let first = take_turn(rt, cell, pass, keeper, 2000, 0);
-    let second = take_turn(rt, cell, pass, keeper, 3999, 2000);
-    tick_on(rt, cell, pass, keeper, clock, 2000);
-    [first, second]
-}
-
-fn turns_in<R: Wait>(
+fn four_in<R: Wait>(
     rt: &R,
     cell: RevisionCell,
     mut pass: Pass,
-    keeper: &mut MemLink,
-    clock: &ListClock,
-    letters: &mut String,
-) -> Result<[Turn; 2], AllocError>
+    ticking: &mut Ticking<'_>,
+    left: &Left,
+) -> Result<(), AllocError>
     requires cell { pass.cell ≡ cell }
     requires all { 1 + pass.free + pass.back ≡ pass.passes }
 {
-    let turns = take_turns(rt, &cell, &mut pass, keeper, clock);
-    match close(cell, pass, letters) {
-        Ok(()) => Ok(turns),
-        Err(AllocError) => Err(AllocError),
-    }
+    tick_on(rt, &cell, &mut pass, ticking, left, 0);
+    close(cell, pass, &mut ticking.letters)
 }
 
-/// What the two turns came to, and the letters of all.
-fn tick_all<R: Wait>(
+/// The ticker over a new cell.
+fn take_four<R: Wait>(
     rt: &R,
     alloc: Global,
-    keeper: &mut MemLink,
-    clock: &ListClock,
-    letters: &mut String,
-) -> Result<[Turn; 2], AllocError> {
+    ticking: &mut Ticking<'_>,
+    left: &Left,
+) -> Result<(), AllocError> {
     match open(alloc, 100) {
-        Ok((cell, pass)) => turns_in(rt, cell, pass, keeper, clock, letters),
+        Ok((cell, pass)) => four_in(rt, cell, pass, ticking, left),
         Err(Memory) => Err(AllocError),
     }
 }
 
-fn show_turns<R: Wait + Print + AllocGlobal>(
+/// Two turns, and then the ticker's first. Answers what the two came to.
+fn two_in<R: Wait>(
     rt: &R,
-    keeper: &mut MemLink,
-    clock: &ListClock,
-    letters: &mut String,
-) -> io::Result<()> {
-    let turns = tick_all(rt, rt.alloc(), keeper, clock, letters)?;
+    cell: RevisionCell,
+    mut pass: Pass,
+    ticking: &mut Ticking<'_>,
+    left: &Left,
+) -> Result<[Turn; 2], AllocError>
+    requires cell { pass.cell ≡ cell }
+    requires all { 1 + pass.free + pass.back ≡ pass.passes }
+{
+    let first = take_turn(rt, &cell, &mut pass, ticking, 2000, 0);
+    let second = take_turn(rt, &cell, &mut pass, ticking, 3999, 2000);
+    tick_on(rt, &cell, &mut pass, ticking, left, 2000);
+    close(cell, pass, &mut ticking.letters)?;
+    Ok([first, second])
+}
+
+fn take_two<R: Wait>(
+    rt: &R,
+    alloc: Global,
+    ticking: &mut Ticking<'_>,
+    left: &Left,
+) -> Result<[Turn; 2], AllocError> {
+    match open(alloc, 100) {
+        Ok((cell, pass)) => two_in(rt, cell, pass, ticking, left),
+        Err(Memory) => Err(AllocError),
+    }
+}
+
+fn show_turns<R: Print>(rt: &R, turns: &[Turn; 2], ticking: &Ticking<'_>) -> io::Result<()> {
     let turn = Turn {
         last: 2000,
         full: false,
     };
-    case(rt, "two turns", &turns, &[turn, turn])?;
-    println!(rt; "rows {letters}")?;
-    case(rt, "two probes", &keeper.probes().unwrap_or(&[]).len(), &2)
+    case(rt, "two turns", turns, &[turn, turn])?;
+    println!(rt; "rows {}", ticking.letters)?;
+    let probes = ticking.keeper.link.probes().unwrap_or(&[]).len();
+    case(rt, "two probes", &probes, &2)
 }
 
-/// A tick that is due and the pod that starts, whose first probe fails; then its Ready alone; then a tick alone.
-fn show_first<R: Wait + Print + AllocGlobal>(rt: &R, letters: &mut String) -> io::Result<()> {
-    let clock = clock_of(rt.alloc(), &[4000])?;
-    match failing_link(rt.alloc(), &[0]) {
-        Ok(mut keeper) => {
-            let done = show_turns(rt, &mut keeper, &clock, letters);
-            drop(keeper);
-            drop(clock);
-            done
-        }
-        Err(AllocError) => {
-            drop(clock);
-            Err(io::Error::from(AllocError))
-        }
-    }
+fn show_two<R: Wait + Print + AllocGlobal>(
+    rt: &R,
+    ticking: &mut Ticking<'_>,
+    left: &Left,
+) -> io::Result<()> {
+    let turns = take_two(rt, rt.alloc(), ticking, left)?;
+    show_turns(rt, &turns, ticking)
 }
 
-fn show_four<R: Wait + Print + AllocGlobal>(rt: &R, letters: &mut String) -> io::Result<()> {
-    let naps = tick_on_and_on(rt, rt.alloc(), letters)?;
-    println!(rt; "rows of four turns {letters}")?;
+/// A tick that is due and the pod that starts, whose first probe fails; then its Ready alone; then a tick alone, no slot being
+/// at work.
+fn two<R: Wait + Print + AllocGlobal>(rt: &R) -> io::Result<()> {
+    let bell = Bell {
+        left: Left::new(0),
+        probes: AtomicU64::new(0),
+        before: u64::MAX,
+    };
+    let mut ticking = ticking_of(rt.alloc(), &bell, &[0], &[4000])?;
+    let done = show_two(rt, &mut ticking, &bell.left);
+    drop(ticking);
+    done
+}
+
+fn show_four<R: Wait + Print + AllocGlobal>(
+    rt: &R,
+    ticking: &mut Ticking<'_>,
+    left: &Left,
+) -> io::Result<()> {
+    take_four(rt, rt.alloc(), ticking, left)?;
+    println!(rt; "rows of four turns {}", ticking.letters)?;
+    let naps = ticking.clock.count.load(Ordering::SeqCst);
     case(rt, "three naps", &naps, &3)
 }
 
-pub fn show<R: Wait + Print + AllocGlobal>(rt: &R) -> io::Result<()> {
-    let mut letters = String::new(rt.alloc());
-    let mut done = show_first(rt, &mut letters);
-    letters.clear();
-    if done.is_ok() {
-        done = show_four(rt, &mut letters);
-    }
-    drop(letters);
+/// Four turns, each of which probes the pod in vain.
+fn four<R: Wait + Print + AllocGlobal>(rt: &R) -> io::Result<()> {
+    let bell = Bell {
+        left: Left::new(1),
+        probes: AtomicU64::new(0),
+        before: 3,
+    };
+    let times = [2000, 4000, 5999, 6000];
+    let mut ticking = ticking_of(rt.alloc(), &bell, &[0, 1, 2, 3], &times)?;
+    let done = show_four(rt, &mut ticking, &bell.left);
+    drop(ticking);
     done
+}
+
+pub fn show<R: Wait + Print + AllocGlobal>(rt: &R) -> io::Result<()> {
+    two(rt)?;
+    four(rt)
 }
