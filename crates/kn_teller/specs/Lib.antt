@@ -1,0 +1,2 @@
+pub mod Manner
+pub mod Run

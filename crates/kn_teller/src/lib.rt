@@ -1,0 +1,6 @@
+//! What is written of a run, event after event: the report of a replay is one such text, and each form of `kact_show` is.
+#![tactic(auto)]
+
+mod teller;
+
+pub use teller::{Form, Teller};
