@@ -1,0 +1,17 @@
+-- What is told of a status.
+use Rattle.std.specs.Prelude.{ℕ, ◌++◌, List, [], codes}
+use Rattle.kn_journal.specs.declared.status.Status.{Status}
+use Rattle.kn_journal.specs.declared.status.Status.TheVariants as status
+use Rattle.kn_replay.specs.Texts.{error_text}
+
+abbrev pub told : List ℕ → List ℕ
+told what = codes "kact_show: " ++ (what ++ codes "\n")
+
+unfoldable pub status_text : Status → List ℕ
+status_text status.Usage = codes "usage: kact_show requests | kact_show summary | kact_show series STEP\n"
+status_text (status.BadInput e) = told (error_text e)
+status_text (status.BadSetup e) = told (error_text e)
+status_text status.ReadFault = codes "kact_show: read failed\n"
+status_text status.WriteFault = codes "kact_show: write failed\n"
+status_text status.Memory = codes "kact_show: out of memory\n"
+status_text _ = []
