@@ -1,5 +1,5 @@
 //! Activators that are replayed, event after event.
-ghost use Rattle.std.specs.Prelude.{◌≡◌, ◌<◌, ◌≤◌, ◌+◌, ◌-◌, ◌^◌, ◌++◌, ◌∷◌, ℕ, [], length, IfOk, IfSome, OnErr, OnOk, Some};
+ghost use Rattle.std.specs.Prelude.{◌≡◌, ◌<◌, ◌≤◌, ◌+◌, ◌-◌, ◌^◌, ◌++◌, ℕ, [], length, IfSome, OnErr, OnOk, Some};
 ghost use Rattle.kn_io.specs.Causes.{HasCause};
 ghost use Rattle.kn_io.specs.Prefix.{AppendsPrefix};
 ghost use Rattle.kn_core.specs.State.{RevisionState};

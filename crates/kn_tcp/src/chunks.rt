@@ -1,5 +1,5 @@
 //! A body in chunks.
-ghost use Rattle.std.specs.Prelude.{◌≡◌, ◌≤◌, ◌<◌, length};
+ghost use Rattle.std.specs.Prelude.{◌≤◌, ◌<◌, length};
 ghost use Rattle.httparse.specs.Grammar.{ChunkLine};
 ghost use Rattle.httparse.specs.Spans.{IsChunkLineAt};
 ghost use Rattle.kn_tcp.specs.Ends.{ChunkIs, FollowedIs};

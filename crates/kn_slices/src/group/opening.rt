@@ -2,11 +2,9 @@
 ghost use Rattle.std.specs.Prelude.{◌≡◌, ◌≤◌, ◌<◌, ◌^◌, ℕ, [], length, replicate, IfOk};
 ghost use Rattle.kn_event.specs.FixedSpec.{fixed_spec};
 ghost use Rattle.kn_event.specs.Ranges.{AreSlots};
-ghost use Rattle.kn_event.specs.declared.revision.Spec.{Spec as SpecValue};
 ghost use Rattle.kn_trace.specs.Events.{opening};
 ghost use Rattle.kn_core.specs.State.{RevisionState};
 ghost use Rattle.kn_slices.specs.Activators.{AreFresh, IsFresh, openings_of, slices_of};
-ghost use Rattle.kn_slices.specs.Slices.{slice_of};
 ghost use Rattle.kn_slices.specs.Traces.{AreLawful, AreSafe, AreTraces, load_of, part_at, specs_of, clocks_of};
 
 use super::Group;
