@@ -1,0 +1,4 @@
+pub mod Endings
+pub mod Account
+pub mod Following
+pub mod Cutting
