@@ -3,13 +3,9 @@ use Rattle.std.proofs.Common.{◌≡◌, ◌+◌, ◌-◌, ◌≤◌, ℕ, Bool,
 use Rattle.std.specs.Prelude.{◌⊎◌, Option, None, Some, Err, Ok, Contains}
 use Rattle.std.specs.Io.KnownBytes.{Appends, prepend_known}
 use Rattle.std.proofs.KnownBytes.{Appends-nil, Appends-trans}
-use Rattle.kn_event.specs.declared.event.Act.{Act}
-use Rattle.kn_event.specs.declared.event.Act.TheVariants as act
 use Rattle.kn_event.specs.declared.event.Event.{Event}
-use Rattle.kn_event.specs.EventLine.{IsInJournalRange}
 use Rattle.kn_io.specs.Causes.{Rose}
 use Rattle.kn_io.specs.Prefix.{AppendsPrefix}
-use Rattle.kn_core.specs.Steps.{IsWithinRange}
 use Rattle.kn_teller.specs.Manner.{Manner, told}
 use Rattle.kn_teller.specs.Run.{Run, begun, later}
 use Rattle.kn_journal.specs.declared.first.FirstLine.TheVariants.{Journal as JournalLine}
@@ -231,13 +227,6 @@ pub no_lf : ¬ Contains {X = ℕ} [] 10
 no_lf h = omega (arith, h.1)
 
 -- ---- small facts
-
-pub within_range : (a : Act) → IsInJournalRange a → IsWithinRange a
-within_range (act.Limit p n) h = h.1
-within_range _ h = tt
-
-pub never_usage : (x : Status) → IsReplayed x → x ≡ status.Usage → ⊥
-never_usage x h k = subst IsReplayed k h
 
 pub rose_on : (a b d : ℕ) → a ≤ b → Rose b d → Rose a d
 rose_on a b d h k = grind (arith)

@@ -3,6 +3,7 @@ pub mod Lines
 pub mod Pieces
 pub mod Waits
 pub mod Follows
+pub mod Accounts
 pub mod Behind
 pub mod Faults
 pub mod Cuts
