@@ -4,6 +4,7 @@ pub mod Pieces
 pub mod Waits
 pub mod Follows
 pub mod Accounts
+pub mod Nexts
 pub mod Behind
 pub mod Faults
 pub mod Cuts

@@ -1,14 +1,13 @@
 //! A journal's events that are followed, one after the other.
-ghost use Rattle.std.specs.Prelude.{◌≡◌, ◌≢◌, ◌⊎◌, ◌+◌, ◌<◌, ◌≤◌, ◌^◌, [], ◌++◌, length, Err, IfOk, IfErr, OnOk, OnErr, None, Some, false};
-ghost use Rattle.kn_io.specs.Causes.{HasCause, Rose};
+ghost use Rattle.std.specs.Prelude.{◌≡◌, ◌≢◌, ◌⊎◌, ◌+◌, ◌<◌, ◌≤◌, ◌^◌, [], ◌++◌, length, IfOk, OnOk, OnErr, false};
+ghost use Rattle.kn_io.specs.Causes.{HasCause};
 ghost use Rattle.kn_io.specs.Prefix.{AppendsPrefix};
 ghost use Rattle.kn_event.specs.EventLine.{IsInJournalRange};
 ghost use Rattle.kn_core.specs.State.{StandsFor};
-ghost use Rattle.kn_journal.specs.Reading.{IsBalanced, IsSpent, TakesPart, TakesText, most_taken, unread};
-ghost use Rattle.kn_journal.specs.Journal.{next_part, time_most};
-ghost use Rattle.kn_journal.specs.Telling.{Gives, IsLineFault, LeavesRest, OnEvent, Refuses, TakesEnd};
+ghost use Rattle.kn_journal.specs.Reading.{unread};
 ghost use Rattle.kn_report.specs.Waiting.{Adds};
 ghost use Rattle.kn_teller.specs.Run.{IsOpened, IsStep, Run, begun, later, now_of, trace};
+ghost use Rattle.kn_follow.specs.Calls.{Draws, IsBroken, IsCaused, IsNext, IsReady, IsSound};
 ghost use Rattle.kn_follow.specs.Cutting.{FollowsCut};
 ghost use Rattle.kn_follow.specs.Endings.{EndsThere, IsFollowed, IsRefusal, Stops};
 ghost use Rattle.kn_follow.specs.Following.{Follows, FollowsBehind, IsOver};
@@ -83,7 +82,8 @@ impl Follower {
         requires times { e.now.time ≤ 2 ^ 42 }
         requires events { self.old.revision.events < 2 ^ 54 }
         requires range { IsInJournalRange e.now.act }
-        ensures step { (r : Run) → StandsFor self.old.revision (trace r) → self.old.revision.spec ≡ r.spec → now_of r ≡ self.old.revision.clock → IsStep r e.now self.new.revision self.new.log }
+        ensures step { (r : Run) → StandsFor self.old.revision (trace r) → self.old.revision.spec ≡ r.spec →
+            now_of r ≡ self.old.revision.clock → IsStep r e.now self.new.revision self.new.log }
         ensures spec { self.new.revision.spec ≡ self.old.revision.spec }
         ensures clock { self.new.revision.clock ≡ e.now.time }
         ensures events { self.new.revision.events ≡ self.old.revision.events + 1 }
@@ -101,9 +101,12 @@ impl Follower {
         out: &mut O,
     ) -> Result<(), Failed>
         requires few { T.load teller.old ≤ 0 }
-        ensures ok { (r : Run) → T.awaits teller.old r → IsOpened r self.old.revision self.old.log → OnOk result (Adds (O.held out.old) (O.held out.new) self.old.waiting self.new.waiting ((T.manner teller.old).opens r)) }
-        ensures err { (r : Run) → T.awaits teller.old r → IsOpened r self.old.revision self.old.log → OnErr result (AppendsPrefix (O.held out.old) (O.held out.new) (self.old.waiting ++ (T.manner teller.old).opens r)) }
-        ensures knows { (r : Run) → T.awaits teller.old r → IsOpened r self.old.revision self.old.log → OnOk result (T.knows teller.new r) }
+        ensures ok { (r : Run) → T.awaits teller.old r → IsOpened r self.old.revision self.old.log → OnOk result
+            (Adds (O.held out.old) (O.held out.new) self.old.waiting self.new.waiting ((T.manner teller.old).opens r)) }
+        ensures err { (r : Run) → T.awaits teller.old r → IsOpened r self.old.revision self.old.log → OnErr result
+            (AppendsPrefix (O.held out.old) (O.held out.new) (self.old.waiting ++ (T.manner teller.old).opens r)) }
+        ensures knows { (r : Run) → T.awaits teller.old r → IsOpened r self.old.revision self.old.log →
+            OnOk result (T.knows teller.new r) }
         ensures manner { T.manner teller.new ≡ T.manner teller.old }
         ensures few { OnOk result (T.load teller.new < 2 ^ 64) }
         ensures revision { self.new.revision ≡ self.old.revision }
@@ -127,9 +130,12 @@ impl Follower {
         out: &mut O,
     ) -> Result<(), Failed>
         requires few { T.load teller.old ≤ 2 ^ 126 }
-        ensures ok { (r : Run) → T.knows teller.old r → IsStep r e.now self.old.revision self.old.log → OnOk result (Adds (O.held out.old) (O.held out.new) self.old.waiting self.new.waiting ((T.manner teller.old).tells r e.now)) }
-        ensures err { (r : Run) → T.knows teller.old r → IsStep r e.now self.old.revision self.old.log → OnErr result (AppendsPrefix (O.held out.old) (O.held out.new) (self.old.waiting ++ (T.manner teller.old).tells r e.now)) }
-        ensures knows { (r : Run) → T.knows teller.old r → IsStep r e.now self.old.revision self.old.log → OnOk result (T.knows teller.new (later r e.now)) }
+        ensures ok { (r : Run) → T.knows teller.old r → IsStep r e.now self.old.revision self.old.log → OnOk result
+            (Adds (O.held out.old) (O.held out.new) self.old.waiting self.new.waiting ((T.manner teller.old).tells r e.now)) }
+        ensures err { (r : Run) → T.knows teller.old r → IsStep r e.now self.old.revision self.old.log → OnErr result
+            (AppendsPrefix (O.held out.old) (O.held out.new) (self.old.waiting ++ (T.manner teller.old).tells r e.now)) }
+        ensures knows { (r : Run) → T.knows teller.old r → IsStep r e.now self.old.revision self.old.log →
+            OnOk result (T.knows teller.new (later r e.now)) }
         ensures manner { T.manner teller.new ≡ T.manner teller.old }
         ensures few { OnOk result (T.load teller.new < T.load teller.old + 2 ^ 64) }
         ensures revision { self.new.revision ≡ self.old.revision }
@@ -171,33 +177,19 @@ impl Follower {
         source: &mut S,
         out: &mut O,
     ) -> Result<Result<Option<Event>, JournalError>, Failed>
-        requires good { reader.old.failed ≡ None }
-        requires few { reader.old.input.taken ≤ most_taken }
+        requires sound { IsSound reader.old }
         ensures adds { OnOk result (Adds (O.held out.old) (O.held out.new) self.old.waiting self.new.waiting []) }
         ensures failed { OnErr result (AppendsPrefix (O.held out.old) (O.held out.new) self.old.waiting) }
         ensures still { OnErr result ((reader.new ≡ reader.old) × (source.new ≡ source.old)) }
         ensures room { length self.old.waiting ≤ 65536 }
         ensures fits { length self.new.waiting ≤ 65536 }
         ensures revision { self.new.revision ≡ self.old.revision }
-        ensures gives { IfOk result (λ read. IfOk read (λ found. Gives (next_part reader.old.version reader.old.last reader.old.number) found reader.new.number (unread reader.old.input (S.left source.old)) (unread reader.new.input (S.left source.new)))) }
-        ensures refuses { IfOk result (λ read. IfErr read (λ e. IsOver reader.old.cut (unread reader.old.input (S.left source.old)) → Refuses (next_part reader.old.version reader.old.last reader.old.number) e (unread reader.old.input (S.left source.old)))) }
-        ensures text { IfOk result (λ read. OnEvent read (λ e. TakesText reader.new.cut (unread reader.old.input (S.left source.old)) (unread reader.new.input (S.left source.new)))) }
-        ensures uncut { IfOk result (λ read. read ≡ Err JournalError.ReadFault → reader.old.cut ≡ false) }
-        ensures rest { IfOk result (λ read. IfErr read (λ e. IsLineFault e → LeavesRest (next_part reader.old.version reader.old.last reader.old.number) reader.old.number None e (unread reader.old.input (S.left source.old)) (unread reader.new.input (S.left source.new)))) }
-        ensures order { IfOk result (λ read. OnEvent read (λ e. reader.old.last ≤ e.time)) }
-        ensures times { IfOk result (λ read. OnEvent read (λ e. e.time ≤ time_most)) }
-        ensures last { IfOk result (λ read. OnEvent read (λ e. reader.new.last ≡ e.time)) }
-        ensures range { IfOk result (λ read. OnEvent read (λ e. IsInJournalRange e.act)) }
-        ensures bytes { IfOk result (λ read. OnEvent read (λ e. reader.old.input.taken + 6 ≤ reader.new.input.taken)) }
+        ensures next { IfOk result (IsNext reader.old reader.new
+            (unread reader.old.input (S.left source.old)) (unread reader.new.input (S.left source.new))
+            (S.Faulty.faults source.old) (S.Faulty.faults source.new)) }
         ensures version { reader.new.version ≡ reader.old.version }
-        ensures amid { IfOk result (λ read. read ≡ Err JournalError.ReadFault → TakesPart (unread reader.old.input (S.left source.old)) (unread reader.new.input (S.left source.new)) ⊎ TakesEnd (unread reader.old.input (S.left source.old)) (unread reader.new.input (S.left source.new))) }
-        ensures spent { IfOk result (λ read. read ≡ Err JournalError.ReadFault → IsSpent reader.new.input) }
-        ensures memory { IfOk result (λ read. read ≢ Err JournalError.Memory) }
-        ensures fault { IfOk result (λ read. read ≡ Err JournalError.ReadFault → Rose (S.Faulty.faults source.old) (S.Faulty.faults source.new) ⊎ (reader.new.input.taken ≡ most_taken)) }
-        ensures good { IfOk result (λ read. OnOk read (reader.new.failed ≡ None)) }
-        ensures few { OnOk result (reader.new.input.taken ≤ most_taken) }
-        ensures balance { IsBalanced reader.old.input reader.new.input (S.given source.old) (S.given source.new) }
-        ensures never_falls { S.Faulty.faults source.old ≤ S.Faulty.faults source.new }
+        ensures draws { Draws reader.old.input reader.new.input (S.given source.old) (S.given source.new)
+            (S.Faulty.faults source.old) (S.Faulty.faults source.new) }
         ensures cause { HasCause (O.Faulty.faults out.old) (O.Faulty.faults out.new) result }
     {
         text_laws();
@@ -219,8 +211,7 @@ impl Follower {
     /// Writes what waits, and answers the status, or that this failed.
     fn stop<O: Sink>(&mut self, status: Status, out: &mut O) -> Status
         ensures stops { Stops self.old.waiting (O.held out.old) (O.held out.new) status result }
-        ensures fault { result ≡ Status.WriteFault → status ≢ Status.WriteFault → Rose (O.Faulty.faults out.old) (O.Faulty.faults out.new) }
-        ensures never_falls { O.Faulty.faults out.old ≤ O.Faulty.faults out.new }
+        ensures cause { status ≢ Status.WriteFault → IsCaused (O.Faulty.faults out.old) (O.Faulty.faults out.new) result }
     {
         match self.waiting.flush(out) {
             Ok(()) => status,
@@ -237,9 +228,9 @@ impl Follower {
         out: &mut O,
     ) -> Status
         requires few { T.load teller.old ≤ 2 ^ 126 }
-        ensures stops { (r : Run) → T.knows teller.old r → events ≡ length r.events → Stops (self.old.waiting ++ (T.manner teller.old).ends version r) (O.held out.old) (O.held out.new) Status.Ok result }
-        ensures fault { result ≡ Status.WriteFault → Rose (O.Faulty.faults out.old) (O.Faulty.faults out.new) }
-        ensures never_falls { O.Faulty.faults out.old ≤ O.Faulty.faults out.new }
+        ensures stops { (r : Run) → T.knows teller.old r → events ≡ length r.events → Stops
+            (self.old.waiting ++ (T.manner teller.old).ends version r) (O.held out.old) (O.held out.new) Status.Ok result }
+        ensures cause { IsCaused (O.Faulty.faults out.old) (O.Faulty.faults out.new) result }
         ensures only { (result ≡ Status.Ok) ⊎ (result ≡ Status.WriteFault) }
     {
         match teller.end(version, events, &mut self.line, &mut self.waiting, out) {
@@ -258,28 +249,30 @@ impl Follower {
         source: &mut S,
         out: &mut O,
     ) -> Status
-        requires good { reader.old.failed ≡ None }
-        requires last { reader.old.last ≡ self.old.revision.clock }
-        requires clock { self.old.revision.clock ≤ 2 ^ 42 }
-        requires events { self.old.revision.events ≡ 0 }
-        requires load { T.load teller.old < 2 ^ 64 }
-        requires few { reader.old.input.taken ≤ most_taken }
+        requires ready { IsReady self.old.revision reader.old }
         requires stands { StandsFor self.old.revision (trace (begun self.old.revision.spec self.old.revision.clock)) }
         requires knows { T.knows teller.old (begun self.old.revision.spec self.old.revision.clock) }
+        requires load { T.load teller.old < 2 ^ 64 }
         ensures follows { IsOver reader.old.cut (unread reader.old.input (S.left source.old)) →
-            Follows reader.old.cut reader.old.version (T.manner teller.old) (begun self.old.revision.spec self.old.revision.clock) reader.old.last reader.old.number (unread reader.old.input (S.left source.old)) (unread reader.new.input (S.left source.new)) self.old.waiting (O.held out.old) (O.held out.new) result }
-        ensures rest { IsRefusal result →
-            FollowsBehind reader.old.version reader.old.last reader.old.number result (unread reader.old.input (S.left source.old)) (unread reader.new.input (S.left source.new)) }
+            Follows reader.old.cut reader.old.version (T.manner teller.old)
+            (begun self.old.revision.spec self.old.revision.clock) reader.old.last reader.old.number
+            (unread reader.old.input (S.left source.old)) (unread reader.new.input (S.left source.new))
+            self.old.waiting (O.held out.old) (O.held out.new) result }
+        ensures rest { IsRefusal result → FollowsBehind reader.old.version reader.old.last reader.old.number result
+            (unread reader.old.input (S.left source.old)) (unread reader.new.input (S.left source.new)) }
         ensures cut { IsOver reader.old.cut (unread reader.old.input (S.left source.old)) → result ≡ Status.WriteFault →
-            FollowsCut reader.old.version (T.manner teller.old) (begun self.old.revision.spec self.old.revision.clock) reader.old.last reader.old.number (unread reader.old.input (S.left source.old)) (unread reader.new.input (S.left source.new)) self.old.waiting (O.held out.old) (O.held out.new) }
+            FollowsCut reader.old.version (T.manner teller.old) (begun self.old.revision.spec self.old.revision.clock)
+            reader.old.last reader.old.number
+            (unread reader.old.input (S.left source.old)) (unread reader.new.input (S.left source.new))
+            self.old.waiting (O.held out.old) (O.held out.new) }
         ensures followed { IsFollowed result }
-        ensures ended { result ≡ Status.Ok → EndsThere (unread reader.old.input (S.left source.old)) (unread reader.new.input (S.left source.new)) }
-        ensures read_fault { result ≡ Status.ReadFault → Rose (S.Faulty.faults source.old) (S.Faulty.faults source.new) ⊎ (most_taken ≤ reader.new.input.taken) }
-        ensures spent { result ≡ Status.ReadFault → IsSpent reader.new.input }
-        ensures write_fault { result ≡ Status.WriteFault → Rose (O.Faulty.faults out.old) (O.Faulty.faults out.new) }
-        ensures balance { IsBalanced reader.old.input reader.new.input (S.given source.old) (S.given source.new) }
-        ensures never_falls { S.Faulty.faults source.old ≤ S.Faulty.faults source.new }
-        ensures out_never_falls { O.Faulty.faults out.old ≤ O.Faulty.faults out.new }
+        ensures ended { result ≡ Status.Ok →
+            EndsThere (unread reader.old.input (S.left source.old)) (unread reader.new.input (S.left source.new)) }
+        ensures broken { result ≡ Status.ReadFault → IsBroken reader.new.input
+            (S.Faulty.faults source.old) (S.Faulty.faults source.new) }
+        ensures draws { Draws reader.old.input reader.new.input (S.given source.old) (S.given source.new)
+            (S.Faulty.faults source.old) (S.Faulty.faults source.new) }
+        ensures cause { IsCaused (O.Faulty.faults out.old) (O.Faulty.faults out.new) result }
     {
         text_laws();
         // Each event takes six bytes at least, so after so many 2^56 bytes were taken.

@@ -1,9 +1,10 @@
 //! A journal that is followed, from its first byte to its last.
-ghost use Rattle.std.specs.Prelude.{◌≡◌, ◌⊎◌, ◌+◌, ◌-◌, ◌<◌, ◌≤◌, Err, IfOk, IfErr, OnOk, None};
+ghost use Rattle.std.specs.Prelude.{◌≡◌, ◌⊎◌, ◌+◌, ◌-◌, ◌≤◌, Err, IfOk, IfErr, OnOk, None};
 ghost use Rattle.kn_io.specs.Causes.{Rose};
-ghost use Rattle.kn_journal.specs.Reading.{IsBalanced, IsSpent, TakesText, most_taken, unread};
+ghost use Rattle.kn_journal.specs.Reading.{TakesText, most_taken, unread};
 ghost use Rattle.kn_journal.specs.Journal.{time_most};
 ghost use Rattle.kn_follow.specs.Account.{account_of};
+ghost use Rattle.kn_follow.specs.Calls.{Draws, IsBroken, IsSound};
 ghost use Rattle.kn_follow.specs.Cutting.{LeavesCut};
 ghost use Rattle.kn_follow.specs.Endings.{EndsThere, IsBehind, IsRefusal, IsReplayed, LeavesBehind, status_of};
 ghost use Rattle.kn_follow.specs.Following.{FollowsInput, Opens};
@@ -24,17 +25,19 @@ fn open<S: Source>(
 ) -> Result<(Setup, u64), JournalError>
     requires good { reader.old.failed ≡ None }
     requires number { reader.old.number ≡ 0 }
-    ensures opens { Opens (unread reader.old.input (S.left source.old)) (unread reader.new.input (S.left source.new)) reader.new.version reader.new.number result }
-    ensures rest { IfErr result (λ e. IsRefusal (status_of e) → IsBehind (status_of e) (unread reader.old.input (S.left source.old)) (unread reader.new.input (S.left source.new))) }
-    ensures text { OnOk result (TakesText reader.new.cut (unread reader.old.input (S.left source.old)) (unread reader.new.input (S.left source.new))) }
+    ensures opens { Opens (unread reader.old.input (S.left source.old)) (unread reader.new.input (S.left source.new))
+        reader.new.version reader.new.number result }
+    ensures rest { IfErr result (λ e. IsRefusal (status_of e) → IsBehind (status_of e)
+        (unread reader.old.input (S.left source.old)) (unread reader.new.input (S.left source.new))) }
+    ensures text { OnOk result (TakesText reader.new.cut
+        (unread reader.old.input (S.left source.old)) (unread reader.new.input (S.left source.new))) }
     ensures start { IfOk result (λ parts. reader.new.last ≡ parts.1) }
     ensures most { IfOk result (λ parts. parts.1 ≤ time_most) }
-    ensures good { OnOk result (reader.new.failed ≡ None) }
-    ensures fault { result ≡ Err JournalError.ReadFault → Rose (S.Faulty.faults source.old) (S.Faulty.faults source.new) ⊎ (reader.new.input.taken ≡ most_taken) }
-    ensures spent { result ≡ Err JournalError.ReadFault → IsSpent reader.new.input }
-    ensures few { OnOk result (reader.new.input.taken ≤ most_taken) }
-    ensures balance { IsBalanced reader.old.input reader.new.input (S.given source.old) (S.given source.new) }
-    ensures never_falls { S.Faulty.faults source.old ≤ S.Faulty.faults source.new }
+    ensures sound { OnOk result (IsSound reader.new) }
+    ensures broken { result ≡ Err JournalError.ReadFault → IsBroken reader.new.input
+        (S.Faulty.faults source.old) (S.Faulty.faults source.new) }
+    ensures draws { Draws reader.old.input reader.new.input (S.given source.old) (S.given source.new)
+        (S.Faulty.faults source.old) (S.Faulty.faults source.new) }
 {
     openings_are_whole();
     text_laws();
@@ -59,13 +62,16 @@ pub fn follow_journal<T: Teller + Drop, F: Form<T>, S: Source, O: Sink>(
     source: &mut S,
     out: &mut O,
 ) -> Status
-    ensures report { FollowsInput (account_of (F.writes form.now)) (S.left source.old) (S.left source.new) (S.given source.new - S.given source.old) (O.held out.old) (O.held out.new) result }
+    ensures report { FollowsInput (account_of (F.writes form.now)) (S.left source.old) (S.left source.new)
+        (S.given source.new - S.given source.old) (O.held out.old) (O.held out.new) result }
     ensures replayed { IsReplayed result }
     ensures rest { IsRefusal result → LeavesBehind result (S.left source.old) (S.left source.new) }
-    ensures cut { result ≡ Status.WriteFault → LeavesCut (account_of (F.writes form.now)) (S.left source.old) (S.left source.new) (O.held out.old) (O.held out.new) }
+    ensures cut { result ≡ Status.WriteFault → LeavesCut (account_of (F.writes form.now))
+        (S.left source.old) (S.left source.new) (O.held out.old) (O.held out.new) }
     ensures ended { result ≡ Status.Ok → EndsThere (S.left source.old) (S.left source.new) }
     ensures memory { result ≡ Status.Memory → out.new ≡ out.old }
-    ensures read_fault { result ≡ Status.ReadFault → Rose (S.Faulty.faults source.old) (S.Faulty.faults source.new) ⊎ (S.given source.old + most_taken ≤ S.given source.new) }
+    ensures read_fault { result ≡ Status.ReadFault → Rose (S.Faulty.faults source.old) (S.Faulty.faults source.new) ⊎
+        (S.given source.old + most_taken ≤ S.given source.new) }
     ensures write_fault { result ≡ Status.WriteFault → Rose (O.Faulty.faults out.old) (O.Faulty.faults out.new) }
     ensures never_falls { S.Faulty.faults source.old ≤ S.Faulty.faults source.new }
     ensures out_never_falls { O.Faulty.faults out.old ≤ O.Faulty.faults out.new }

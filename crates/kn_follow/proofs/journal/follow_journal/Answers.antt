@@ -1,4 +1,4 @@
-use Rattle.std.proofs.Common.{◌≡◌, ◌-◌, ℕ, List, length, refl, sym, ap, ap₂, ◌∙◌, subst, arith}
+use Rattle.std.proofs.Common.{◌-◌, ℕ, List, length, refl, sym, ap, ◌∙◌, subst, arith}
 use Rattle.std.specs.Prelude.{Option, Err, Ok}
 use Rattle.kn_core.specs.State.{RevisionState, StandsFor}
 use Rattle.kn_journal.specs.declared.error.JournalError.{JournalError}
@@ -14,6 +14,7 @@ use Rattle.kn_follow.proofs.Behind.{journal_behind}
 use Rattle.kn_follow.proofs.Cuts.{journal_follows_cut, opening_cut}
 use Rattle.kn_follow.proofs.Faults.{journal_follows}
 use Rattle.kn_follow.proofs.Follows.{IsMemory, IsWriteFault, beyond_is, either, ends_left, ends_opened, fault_of, followed_replayed, journal_cut, journal_fails, journal_memory, never_memory, never_ok, no_write_fault, nothing_ahead, rose_on}
+use Rattle.kn_follow.proofs.Runs.{same_start}
 use Rattle.kn_follow.proofs.journal.follow_journal.Goals as goal
 
 pub returns-in-Err-clause-report : goal.returns-in-Err-clause-report
@@ -55,7 +56,7 @@ returns-in-Err-open-clause-report g c =
     let start = nothing_ahead c.in-Ok.reader.input.ahead (g.S.Source.left c.args.source.now) c.in-Ok.ensures.ahead in
     let opens = subst (λ (x : Option (List ℕ)). Opens x (unread c.open.new.reader.input (g.S.Source.left c.open.new.source)) c.open.new.reader.version c.open.new.reader.number (Err c.in-Err-open.error)) start c.in-Err-open.ensures.opens in
     rw c.status_of.ensures.value (journal_fails (account_of (g.F.Form.writes c.args.form.now)) (g.S.Source.left c.args.source.now) (g.S.Source.left c.open.new.source) c.open.new.reader.input.ahead (g.S.Source.given c.open.new.source - g.S.Source.given c.args.source.now) c.open.new.reader.version c.open.new.reader.number c.in-Err-open.error (g.O.Sink.held c.args.out.now) opens
-    (λ is. beyond_is c.open.new.reader.input _ (omega (arith, c.open.ensures.balance, c.in-Ok.ensures.taken, ap length c.in-Ok.ensures.ahead)) (c.open.ensures.spent (c.in-Err-open.is ∙ ap (λ (e : JournalError). Err e) is))))
+    (λ is. beyond_is c.open.new.reader.input _ (omega (arith, c.open.ensures.draws.balance, c.in-Ok.ensures.taken, ap length c.in-Ok.ensures.ahead)) (c.open.ensures.broken (c.in-Err-open.is ∙ ap (λ (e : JournalError). Err e) is)).spent))
 
 pub returns-in-Err-open-clause-replayed : goal.returns-in-Err-open-clause-replayed
 returns-in-Err-open-clause-replayed g c = c.status_of.ensures.replayed
@@ -80,14 +81,14 @@ returns-in-Err-open-clause-memory g c is = refl
 pub returns-in-Err-open-clause-read_fault : goal.returns-in-Err-open-clause-read_fault
 returns-in-Err-open-clause-read_fault g c is =
     let fault = fault_of c.in-Err-open.error (sym c.status_of.ensures.value ∙ is) in
-    either (c.open.ensures.fault (c.in-Err-open.is ∙ ap (λ (e : JournalError). Err e) fault)) (λ rose. rose)
-    (λ all. omega (arith, all, c.open.ensures.balance, c.in-Ok.ensures.taken, ap length c.in-Ok.ensures.ahead))
+    either (c.open.ensures.broken (c.in-Err-open.is ∙ ap (λ (e : JournalError). Err e) fault)).fault (λ rose. rose)
+    (λ all. omega (arith, all, c.open.ensures.draws.balance, c.in-Ok.ensures.taken, ap length c.in-Ok.ensures.ahead))
 
 pub returns-in-Err-open-clause-write_fault : goal.returns-in-Err-open-clause-write_fault
 returns-in-Err-open-clause-write_fault g c is = absurd (no_write_fault c.in-Err-open.error (sym c.status_of.ensures.value ∙ is))
 
 pub returns-in-Err-open-clause-never_falls : goal.returns-in-Err-open-clause-never_falls
-returns-in-Err-open-clause-never_falls g c = c.open.ensures.never_falls
+returns-in-Err-open-clause-never_falls g c = c.open.ensures.draws.never_falls
 
 pub returns-in-Err-open-clause-out_never_falls : goal.returns-in-Err-open-clause-out_never_falls
 returns-in-Err-open-clause-out_never_falls g c = omega arith
@@ -118,7 +119,7 @@ pub returns-in-Err-make-clause-write_fault : goal.returns-in-Err-make-clause-wri
 returns-in-Err-make-clause-write_fault g c is = absurd (subst IsMemory is tt)
 
 pub returns-in-Err-make-clause-never_falls : goal.returns-in-Err-make-clause-never_falls
-returns-in-Err-make-clause-never_falls g c = c.open.ensures.never_falls
+returns-in-Err-make-clause-never_falls g c = c.open.ensures.draws.never_falls
 
 pub returns-in-Err-make-clause-out_never_falls : goal.returns-in-Err-make-clause-out_never_falls
 returns-in-Err-make-clause-out_never_falls g c = omega arith
@@ -149,7 +150,7 @@ pub returns-in-Err-new-clause-write_fault : goal.returns-in-Err-new-clause-write
 returns-in-Err-new-clause-write_fault g c is = absurd (subst IsMemory is tt)
 
 pub returns-in-Err-new-clause-never_falls : goal.returns-in-Err-new-clause-never_falls
-returns-in-Err-new-clause-never_falls g c = c.open.ensures.never_falls
+returns-in-Err-new-clause-never_falls g c = c.open.ensures.draws.never_falls
 
 pub returns-in-Err-new-clause-out_never_falls : goal.returns-in-Err-new-clause-out_never_falls
 returns-in-Err-new-clause-out_never_falls g c = omega arith
@@ -191,29 +192,20 @@ pub returns-in-Err-tell_start-clause-write_fault : goal.returns-in-Err-tell_star
 returns-in-Err-tell_start-clause-write_fault g c is = c.in-Err-tell_start.ensures.cause.failed
 
 pub returns-in-Err-tell_start-clause-never_falls : goal.returns-in-Err-tell_start-clause-never_falls
-returns-in-Err-tell_start-clause-never_falls g c = c.open.ensures.never_falls
+returns-in-Err-tell_start-clause-never_falls g c = c.open.ensures.draws.never_falls
 
 pub returns-in-Err-tell_start-clause-out_never_falls : goal.returns-in-Err-tell_start-clause-out_never_falls
 returns-in-Err-tell_start-clause-out_never_falls g c = c.tell_start.ensures.cause.never_falls
 
-pub follow-status-requires-clause-good : goal.follow-status-requires-clause-good
-follow-status-requires-clause-good g c = c.in-Ok-open.ensures.good
-
-pub follow-status-requires-clause-last : goal.follow-status-requires-clause-last
-follow-status-requires-clause-last g c =
-    c.in-Ok-open.ensures.start ∙ sym (ap (λ (x : RevisionState). x.clock) c.tell_start.ensures.revision ∙ c.in-Ok-new.ensures.opened.clock)
-
-pub follow-status-requires-clause-clock : goal.follow-status-requires-clause-clock
-follow-status-requires-clause-clock g c =
+pub follow-status-requires-clause-ready : goal.follow-status-requires-clause-ready
+follow-status-requires-clause-ready g c =
     let clock = ap (λ (x : RevisionState). x.clock) c.tell_start.ensures.revision ∙ c.in-Ok-new.ensures.opened.clock in
-    omega (arith, clock, c.in-Ok-open.ensures.most)
-
-pub follow-status-requires-clause-events : goal.follow-status-requires-clause-events
-follow-status-requires-clause-events g c =
-    ap (λ (r : RevisionState). r.events) c.tell_start.ensures.revision ∙ c.in-Ok-new.ensures.events
-
-pub follow-status-requires-clause-few : goal.follow-status-requires-clause-few
-follow-status-requires-clause-few g c = c.in-Ok-open.ensures.few
+    record {
+      sound = c.in-Ok-open.ensures.sound;
+      last = c.in-Ok-open.ensures.start ∙ sym clock;
+      clock = omega (arith, clock, c.in-Ok-open.ensures.most);
+      events = ap (λ (x : RevisionState). x.events) c.tell_start.ensures.revision ∙ c.in-Ok-new.ensures.events;
+    }
 
 pub follow-status-requires-clause-load : goal.follow-status-requires-clause-load
 follow-status-requires-clause-load g c = c.in-Ok-tell_start.ensures.few
@@ -222,7 +214,7 @@ pub follow-status-requires-clause-stands : goal.follow-status-requires-clause-st
 follow-status-requires-clause-stands g c =
     let b = begun c.in-Ok-open.parts.0.spec c.in-Ok-open.parts.1 in
     let opened = c.in-Ok-new.ensures.opened in
-    let same : begun c.tell_start.new.self.revision.spec c.tell_start.new.self.revision.clock ≡ b = ap (λ (x : RevisionState). begun x.spec x.clock) c.tell_start.ensures.revision ∙ ap₂ begun opened.spec opened.clock in
+    let same = same_start c.tell_start.new.self.revision c.in-Ok-new.follower.revision c.in-Ok-open.parts.0.spec c.in-Ok-open.parts.1 c.tell_start.ensures.revision opened.spec opened.clock in
     let stands = subst (λ (x : RevisionState). StandsFor x (trace b)) (sym c.tell_start.ensures.revision) opened.stands in
     subst (λ (r : Run). StandsFor c.tell_start.new.self.revision (trace r)) (sym same) stands
 
@@ -230,7 +222,7 @@ pub follow-status-requires-clause-knows : goal.follow-status-requires-clause-kno
 follow-status-requires-clause-knows g c =
     let b = begun c.in-Ok-open.parts.0.spec c.in-Ok-open.parts.1 in
     let opened = c.in-Ok-new.ensures.opened in
-    let same : begun c.tell_start.new.self.revision.spec c.tell_start.new.self.revision.clock ≡ b = ap (λ (x : RevisionState). begun x.spec x.clock) c.tell_start.ensures.revision ∙ ap₂ begun opened.spec opened.clock in
+    let same = same_start c.tell_start.new.self.revision c.in-Ok-new.follower.revision c.in-Ok-open.parts.0.spec c.in-Ok-open.parts.1 c.tell_start.ensures.revision opened.spec opened.clock in
     subst (λ (r : Run). g.T.Teller.knows c.tell_start.new.teller r) (sym same) (c.in-Ok-tell_start.ensures.knows b c.in-Ok-make.ensures.awaits opened)
 
 pub returns-clause-report : goal.returns-clause-report
@@ -243,14 +235,14 @@ returns-clause-report g c =
     let rest = unread c.follow-status.new.reader.input (g.S.Source.left c.follow-status.new.source) in
     let text = subst (λ (x : Option (List ℕ)). TakesText c.open.new.reader.cut x left) start c.in-Ok-open.ensures.text in
     let opened = c.in-Ok-new.ensures.opened in
-    let same : begun c.tell_start.new.self.revision.spec c.tell_start.new.self.revision.clock ≡ b = ap (λ (x : RevisionState). begun x.spec x.clock) c.tell_start.ensures.revision ∙ ap₂ begun opened.spec opened.clock in
+    let same = same_start c.tell_start.new.self.revision c.in-Ok-new.follower.revision c.in-Ok-open.parts.0.spec c.in-Ok-open.parts.1 c.tell_start.ensures.revision opened.spec opened.clock in
     let manner = c.tell_start.ensures.manner ∙ c.in-Ok-make.ensures.manner in
     let one = subst (λ (r : Run). IsOver c.open.new.reader.cut left → Follows c.open.new.reader.cut c.open.new.reader.version (g.T.Teller.manner c.tell_start.new.teller) r c.open.new.reader.last c.open.new.reader.number left rest c.tell_start.new.self.waiting (g.O.Sink.held c.tell_start.new.out) (g.O.Sink.held c.follow-status.new.out) c.follow-status.result) same c.follow-status.ensures.follows in
     let two = subst (λ (m : Manner). IsOver c.open.new.reader.cut left → Follows c.open.new.reader.cut c.open.new.reader.version m b c.open.new.reader.last c.open.new.reader.number left rest c.tell_start.new.self.waiting (g.O.Sink.held c.tell_start.new.out) (g.O.Sink.held c.follow-status.new.out) c.follow-status.result) manner one in
     let follows = subst (λ (n : ℕ). IsOver c.open.new.reader.cut left → Follows c.open.new.reader.cut c.open.new.reader.version w b n c.open.new.reader.number left rest c.tell_start.new.self.waiting (g.O.Sink.held c.tell_start.new.out) (g.O.Sink.held c.follow-status.new.out) c.follow-status.result) c.in-Ok-open.ensures.start two in
     let adds = rw (c.in-Ok-new.ensures.waiting, c.in-Ok-make.ensures.manner) at c.in-Ok-tell_start.ensures.ok b c.in-Ok-make.ensures.awaits opened in
     journal_follows c.text_laws.ensures.laws w (g.S.Source.left c.args.source.now) left (g.S.Source.left c.follow-status.new.source) c.open.new.reader.cut c.follow-status.new.reader.input.ahead (g.S.Source.given c.follow-status.new.source - g.S.Source.given c.args.source.now) c.open.new.reader.version c.in-Ok-open.parts.0 c.in-Ok-open.parts.1 c.open.new.reader.number (g.O.Sink.held c.args.out.now) (g.O.Sink.held c.tell_start.new.out) (g.O.Sink.held c.follow-status.new.out) c.tell_start.new.self.waiting c.follow-status.result c.openings_are_whole.ensures.opening c.openings_are_whole.ensures.start opens text adds follows c.follow-status.ensures.followed
-    (λ is. beyond_is c.follow-status.new.reader.input _ (omega (arith, c.open.ensures.balance, c.follow-status.ensures.balance, c.in-Ok.ensures.taken, ap length c.in-Ok.ensures.ahead)) (c.follow-status.ensures.spent is))
+    (λ is. beyond_is c.follow-status.new.reader.input _ (omega (arith, c.open.ensures.draws.balance, c.follow-status.ensures.draws.balance, c.in-Ok.ensures.taken, ap length c.in-Ok.ensures.ahead)) (c.follow-status.ensures.broken is).spent)
 
 pub returns-clause-replayed : goal.returns-clause-replayed
 returns-clause-replayed g c = followed_replayed c.follow-status.result c.follow-status.ensures.followed
@@ -284,7 +276,7 @@ returns-clause-cut g c is =
     let rest = unread c.follow-status.new.reader.input (g.S.Source.left c.follow-status.new.source) in
     let text = subst (λ (x : Option (List ℕ)). TakesText c.open.new.reader.cut x left) start c.in-Ok-open.ensures.text in
     let opened = c.in-Ok-new.ensures.opened in
-    let same : begun c.tell_start.new.self.revision.spec c.tell_start.new.self.revision.clock ≡ b = ap (λ (x : RevisionState). begun x.spec x.clock) c.tell_start.ensures.revision ∙ ap₂ begun opened.spec opened.clock in
+    let same = same_start c.tell_start.new.self.revision c.in-Ok-new.follower.revision c.in-Ok-open.parts.0.spec c.in-Ok-open.parts.1 c.tell_start.ensures.revision opened.spec opened.clock in
     let manner = c.tell_start.ensures.manner ∙ c.in-Ok-make.ensures.manner in
     let one = subst (λ (r : Run). IsOver c.open.new.reader.cut left → FollowsCut c.open.new.reader.version (g.T.Teller.manner c.tell_start.new.teller) r c.open.new.reader.last c.open.new.reader.number left rest c.tell_start.new.self.waiting (g.O.Sink.held c.tell_start.new.out) (g.O.Sink.held c.follow-status.new.out)) same (λ over. c.follow-status.ensures.cut over is) in
     let two = subst (λ (m : Manner). IsOver c.open.new.reader.cut left → FollowsCut c.open.new.reader.version m b c.open.new.reader.last c.open.new.reader.number left rest c.tell_start.new.self.waiting (g.O.Sink.held c.tell_start.new.out) (g.O.Sink.held c.follow-status.new.out)) manner one in
@@ -300,19 +292,19 @@ returns-clause-memory g c is = absurd (never_memory c.follow-status.result c.fol
 
 pub returns-clause-read_fault : goal.returns-clause-read_fault
 returns-clause-read_fault g c is =
-    either (c.follow-status.ensures.read_fault is) (rose_on _ _ _ c.open.ensures.never_falls)
-    (λ all. omega (arith, all, c.open.ensures.balance, c.follow-status.ensures.balance, c.in-Ok.ensures.taken, ap length c.in-Ok.ensures.ahead))
+    either (c.follow-status.ensures.broken is).fault (rose_on _ _ _ c.open.ensures.draws.never_falls)
+    (λ all. omega (arith, all, c.open.ensures.draws.balance, c.follow-status.ensures.draws.balance, c.in-Ok.ensures.taken, ap length c.in-Ok.ensures.ahead))
 
 pub returns-clause-write_fault : goal.returns-clause-write_fault
 returns-clause-write_fault g c is =
-    rose_on _ _ _ c.tell_start.ensures.cause.never_falls (c.follow-status.ensures.write_fault is)
+    rose_on _ _ _ c.tell_start.ensures.cause.never_falls (c.follow-status.ensures.cause.failed is)
 
 pub returns-clause-never_falls : goal.returns-clause-never_falls
-returns-clause-never_falls g c = omega (arith, c.open.ensures.never_falls, c.follow-status.ensures.never_falls)
+returns-clause-never_falls g c = omega (arith, c.open.ensures.draws.never_falls, c.follow-status.ensures.draws.never_falls)
 
 pub returns-clause-out_never_falls : goal.returns-clause-out_never_falls
 returns-clause-out_never_falls g c =
-    omega (arith, c.tell_start.ensures.cause.never_falls, c.follow-status.ensures.out_never_falls)
+    omega (arith, c.tell_start.ensures.cause.never_falls, c.follow-status.ensures.cause.never_falls)
 
 pub same-spec : goal.same-spec
 same-spec g c = refl

@@ -1,7 +1,8 @@
-use Rattle.std.proofs.Common.{ℕ, ◌+◌, ap, ◌∙◌, subst, sym}
+use Rattle.std.proofs.Common.{arith, ◌≡◌, ℕ, ◌+◌, ap, ◌∙◌, subst, sym}
 use Rattle.std.specs.Prelude.{Err, Ok, Some}
 use Rattle.kn_journal.specs.declared.first.FirstLine.TheVariants.{Journal as JournalLine}
 use Rattle.kn_journal.specs.declared.error.JournalError.{JournalError}
+use Rattle.kn_journal.specs.declared.error.JournalError.TheVariants as error
 use Rattle.kn_journal.specs.declared.journal.Opening.{Opening}
 use Rattle.kn_journal.specs.Journal.{opening_part}
 use Rattle.kn_journal.specs.Reading.{unread}
@@ -9,6 +10,7 @@ use Rattle.kn_journal.specs.Telling.{Gives, IsLineFault, LeavesRest, Refuses, St
 use Rattle.kn_follow.specs.Following.{Opens}
 use Rattle.kn_follow.proofs.Behind.{setup_behind, start_behind}
 use Rattle.kn_follow.proofs.Faults.{opens_well, setup_fails, start_fails}
+use Rattle.kn_follow.proofs.Nexts.{broken_on}
 use Rattle.kn_follow.proofs.journal.open.Goals as goal
 
 pub returns-in-Err-clause-opens : goal.returns-in-Err-clause-opens
@@ -64,3 +66,36 @@ returns-in-Ok-start-clause-opens g c =
     (opens_well old mid new c.setup.new.self.version c.in-Ok.setup c.setup.new.self.number c.in-Ok-start.start c.start.new.self.number
     (subst (λ (n : ℕ). Gives (opening_part JournalLine n) opening c.setup.new.self.number old mid) c.requires.number (c.in-Ok.ensures.tells c.requires.good))
     (c.in-Ok-start.ensures.tells c.in-Ok.ensures.good))
+
+-- ---- the source
+
+pub returns-in-Err-clause-broken : goal.returns-in-Err-clause-broken
+returns-in-Err-clause-broken g c is =
+    let same : c.in-Err.error ≡ error.ReadFault = cc in
+    let fault = c.in-Err.is ∙ ap (λ (e : JournalError). Err e) same in
+    broken_on {a = g.S.Faulty.faults c.args.source.now} (omega arith) (c.setup.ensures.spent c.requires.good fault) (c.setup.ensures.fault c.requires.good fault)
+
+pub returns-in-Err-clause-draws : goal.returns-in-Err-clause-draws
+returns-in-Err-clause-draws g c = record { balance = c.setup.ensures.balance; never_falls = c.setup.ensures.never_falls }
+
+pub returns-in-Err-start-clause-broken : goal.returns-in-Err-start-clause-broken
+returns-in-Err-start-clause-broken g c is =
+    let good = c.in-Ok.ensures.good in
+    let same : c.in-Err-start.error ≡ error.ReadFault = cc in
+    let fault = c.in-Err-start.is ∙ ap (λ (e : JournalError). Err e) same in
+    broken_on c.setup.ensures.never_falls (c.start.ensures.spent good fault) (c.start.ensures.fault good fault)
+
+pub returns-in-Err-start-clause-draws : goal.returns-in-Err-start-clause-draws
+returns-in-Err-start-clause-draws g c = record {
+  balance = omega (arith, c.setup.ensures.balance, c.start.ensures.balance);
+  never_falls = omega (arith, c.setup.ensures.never_falls, c.start.ensures.never_falls);
+}
+
+pub returns-in-Ok-start-clause-sound : goal.returns-in-Ok-start-clause-sound
+returns-in-Ok-start-clause-sound g c = record { good = c.in-Ok-start.ensures.good; few = c.start.ensures.few c.in-Ok.ensures.good }
+
+pub returns-in-Ok-start-clause-draws : goal.returns-in-Ok-start-clause-draws
+returns-in-Ok-start-clause-draws g c = record {
+  balance = omega (arith, c.setup.ensures.balance, c.start.ensures.balance);
+  never_falls = omega (arith, c.setup.ensures.never_falls, c.start.ensures.never_falls);
+}

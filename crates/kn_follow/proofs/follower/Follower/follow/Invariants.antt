@@ -1,10 +1,11 @@
-use Rattle.std.proofs.Common.{◌≡◌, ◌≤◌, ◌<◌, ◌+◌, ◌*◌, ◌^◌, List, None, length}
+use Rattle.std.proofs.Common.{◌≡◌, ◌≤◌, ◌<◌, ◌+◌, ◌*◌, ◌^◌, List, length}
 use Rattle.kn_event.specs.declared.event.Event.{Event}
 use Rattle.kn_core.specs.State.{StandsFor}
-use Rattle.kn_journal.specs.Reading.{IsBalanced, most_taken, unread}
+use Rattle.kn_journal.specs.Reading.{unread}
 use Rattle.kn_report.specs.Waiting.{Adds}
 use Rattle.kn_teller.specs.Manner.{told}
 use Rattle.kn_teller.specs.Run.{begun, now_of, trace}
+use Rattle.kn_follow.specs.Calls.{Draws, IsSound}
 use Rattle.kn_follow.specs.Following.{IsOver, ran}
 use Rattle.kn_follow.proofs.Faults.{HasRead}
 use Rattle.kn_follow.proofs.Follows.{GoesOn, IsStill}
@@ -23,14 +24,12 @@ invariant-loop-count g l =
       manner : g.T.Teller.manner l.teller ≡ g.T.Teller.manner l.fn.teller;
       load : g.T.Teller.load l.teller < 2 ^ 64 * (l.count + 1);
       spec : l.self.revision.spec ≡ l.fn.self.revision.spec;
-      good : l.reader.failed ≡ None;
+      sound : IsSound l.reader;
       version : l.reader.version ≡ l.fn.reader.version;
       last : l.reader.last ≡ l.self.revision.clock;
       clock : l.self.revision.clock ≤ 2 ^ 42;
       events : l.self.revision.events ≡ l.count;
       taken : l.fn.reader.input.taken + 6 * l.count ≤ l.reader.input.taken;
-      few : l.reader.input.taken ≤ most_taken;
-      balance : IsBalanced l.fn.reader.input l.reader.input (g.S.Source.given l.fn.source) (g.S.Source.given l.source);
-      read : g.S.Faulty.faults l.fn.source ≤ g.S.Faulty.faults l.source;
+      draws : Draws l.fn.reader.input l.reader.input (g.S.Source.given l.fn.source) (g.S.Source.given l.source) (g.S.Faulty.faults l.fn.source) (g.S.Faulty.faults l.source);
       write : g.O.Faulty.faults l.fn.out ≤ g.O.Faulty.faults l.out;
     }
