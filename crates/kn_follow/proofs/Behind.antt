@@ -16,7 +16,8 @@ use Rattle.kn_journal.specs.Telling.{Gives, IsLineFault, LeavesRest, refused_lin
 use Rattle.kn_follow.specs.Endings.{IsBehind, IsRefusal, Stops, line_of, refusal_of, status_by, status_of}
 use Rattle.kn_follow.specs.Following.{FollowsBehind, Opens}
 use Rattle.kn_follow.proofs.Lines.{next_refused, with_events}
-use Rattle.kn_follow.proofs.Follows.{GoesOn, status_is}
+use Rattle.kn_follow.proofs.Follows.{GoesOn}
+use Rattle.kn_follow.proofs.Statuses.{status_is}
 
 -- ---- statuses
 

@@ -27,7 +27,9 @@ use Rattle.kn_teller.specs.Run.{Run, begun}
 use Rattle.kn_report.specs.Waiting.{Adds}
 use Rattle.kn_follow.proofs.Behind.{AreOpenings, AreStarts, lines_read, lines_unopened, lines_unstarted}
 use Rattle.kn_follow.proofs.Lines.{end_line, no_line, with_events}
-use Rattle.kn_follow.proofs.Follows.{GoesOn, Reads, cut, goes_refused, none_more, opened_verdict, reads_all, status_is, text_is, verdict_unopened, verdict_unstarted, writes_after}
+use Rattle.kn_follow.proofs.Follows.{GoesOn, Reads, cut, goes_refused, none_more, reads_all}
+use Rattle.kn_follow.proofs.Journals.{opened_verdict, text_is, verdict_unopened, verdict_unstarted, writes_after}
+use Rattle.kn_follow.proofs.Statuses.{status_is}
 use Rattle.kn_follow.proofs.Waits.{adds_all, adds_stop}
 
 split-behind : (xs text ys more zs : List ℕ) → xs ≡ text ++ ys → ys ≡ more ++ zs → xs ≡ (text ++ more) ++ zs

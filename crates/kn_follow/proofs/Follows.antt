@@ -1,34 +1,24 @@
 -- One event of a journal, and how it ends.
-use Rattle.std.proofs.Common.{◌≡◌, ◌+◌, ◌-◌, ◌≤◌, ℕ, Bool, List, [], ◌∷◌, ◌++◌, length, length-append, append_assoc, append-nil, refl, sym, ap, ◌∙◌, subst, arith, inl, inr}
-use Rattle.std.specs.Prelude.{◌⊎◌, Option, None, Some, Err, Ok, Contains}
-use Rattle.std.specs.Io.KnownBytes.{Appends, prepend_known}
-use Rattle.std.proofs.KnownBytes.{Appends-nil, Appends-trans}
+use Rattle.std.proofs.Common.{◌≡◌, ◌+◌, ℕ, Bool, List, [], ◌∷◌, ◌++◌, length, length-append, append_assoc, append-nil, refl, sym, ap, ◌∙◌, subst, arith}
+use Rattle.std.specs.Prelude.{Option, None, Some, Err, Contains}
 use Rattle.kn_event.specs.declared.event.Event.{Event}
-use Rattle.kn_io.specs.Causes.{Rose}
 use Rattle.kn_io.specs.Prefix.{AppendsPrefix}
 use Rattle.kn_teller.specs.Manner.{Manner, told}
-use Rattle.kn_teller.specs.Run.{Run, begun, later}
-use Rattle.kn_journal.specs.declared.first.FirstLine.TheVariants.{Journal as JournalLine}
+use Rattle.kn_teller.specs.Run.{Run, later}
 use Rattle.kn_journal.specs.declared.error.JournalError.{JournalError}
-use Rattle.kn_journal.specs.declared.error.JournalError.TheVariants as error
-use Rattle.kn_journal.specs.declared.journal.Journal.{Journal}
-use Rattle.kn_journal.specs.declared.journal.Opening.{Opening}
-use Rattle.kn_journal.specs.declared.journal.Setup.{Setup}
 use Rattle.kn_journal.specs.declared.status.Status.{Status}
 use Rattle.kn_journal.specs.declared.status.Status.TheVariants as status
-use Rattle.kn_journal.specs.Causes.{Cause, after_end, bad_first_line, bad_line, bad_setup, error_of, line_too_long, no_end, time_back, time_too_large, too_many}
+use Rattle.kn_journal.specs.Causes.{Cause, error_of}
 use Rattle.kn_journal.specs.Lines.{lines}
-use Rattle.kn_journal.specs.Parts.{part}
-use Rattle.kn_journal.specs.Journal.{Read, Verdict, bad, from_read, journal_of, next_part, none_read, opening_part, read_events, start_part, verdict, verdict_of_lines, verdict_on}
-use Rattle.kn_journal.specs.Reading.{Ahead, IsSpent, most_taken}
+use Rattle.kn_journal.specs.Journal.{Read, next_part, none_read, read_events}
 use Rattle.kn_journal.specs.Telling.{Gives}
-use Rattle.kn_follow.specs.Endings.{EndsThere, IsFollowed, IsRefusal, IsReplayed, Stops, Writes, refusal_of, status_by, status_of}
-use Rattle.kn_follow.specs.Following.{BreaksFollowing, Follows, FollowsInput, Opened, Opens, ending, rest_of_text, ran}
-use Rattle.kn_follow.specs.Account.{Account, account_of, text_of}
+use Rattle.kn_follow.specs.Endings.{EndsThere, Stops, Writes, status_by, status_of}
+use Rattle.kn_follow.specs.Following.{BreaksFollowing, Follows, ending, rest_of_text, ran}
 use Rattle.kn_report.specs.Waiting.{Adds}
 use Rattle.kn_follow.proofs.Lines.{IsEventLine, next_end, next_event, next_none, next_refused, no_byte, with_events, with_events-more}
-use Rattle.kn_follow.proofs.Pieces.{prefix_after, prefix_more}
-use Rattle.kn_follow.proofs.Waits.{adds_all, adds_some}
+use Rattle.kn_follow.proofs.Pieces.{prefix_more}
+use Rattle.kn_follow.proofs.Waits.{adds_some}
+use Rattle.kn_follow.proofs.Statuses.{plain_end, stops_after, stops_nil, writes_stop}
 
 -- ---- what is told of events
 
@@ -114,51 +104,6 @@ none_more es refused = ap (λ (x : List Event). record { events = x; refused = r
 
 -- ---- how it stops
 
-abbrev IsPlain : Status → Type 0
-IsPlain status.Ok = Unit {0}
-IsPlain (status.BadInput e) = Unit {0}
-IsPlain (status.BadSetup e) = Unit {0}
-IsPlain _ = ⊥
-
-plain_cause : (cause : Cause) → IsPlain (status_of (error_of cause))
-plain_cause (line_too_long line) = tt
-plain_cause (bad_first_line due) = tt
-plain_cause (bad_setup line why) = tt
-plain_cause (bad_line line why) = tt
-plain_cause (time_back line before own) = tt
-plain_cause (time_too_large line) = tt
-plain_cause no_end = tt
-plain_cause (after_end line) = tt
-plain_cause (too_many line) = tt
-
-plain_end : (refused : Option Cause) → IsPlain (status_by refused)
-plain_end None = tt
-plain_end (Some cause) = plain_cause cause
-
-writes_end : (text : List ℕ) (end : Status) (P : List ℕ → Type 0) (old new : Option (List ℕ)) → IsPlain end → Appends old new text → Writes text end P old new end
-writes_end text status.Ok P old new plain h = (refl, h)
-writes_end text status.Usage P old new plain h = absurd plain
-writes_end text (status.BadInput e) P old new plain h = (refl, h)
-writes_end text (status.BadSetup e) P old new plain h = (refl, h)
-writes_end text status.ReadFault P old new plain h = absurd plain
-writes_end text status.WriteFault P old new plain h = absurd plain
-writes_end text status.Memory P old new plain h = absurd plain
-writes_end text (status.SlotFault slot) P old new plain h = absurd plain
-writes_end text status.ListenFault P old new plain h = absurd plain
-
-writes_stop : (text : List ℕ) (end : Status) (P : List ℕ → Type 0) (old new : Option (List ℕ)) (result : Status) → IsPlain end → Stops text old new end result → Writes text end P old new result
-writes_stop text end P old new result plain (inl (is, all)) = subst (λ (x : Status). Writes text end P old new x) (sym is) (writes_end text end P old new plain all)
-writes_stop text end P old new result plain (inr (is, some)) = subst (λ (x : Status). Writes text end P old new x) (sym is) some
-
-stops_after : (old mid new : Option (List ℕ)) (p q x y : List ℕ) (end result : Status) → Adds old mid p q x → Stops (q ++ y) mid new end result → Stops (p ++ (x ++ y)) old new end result
-stops_after old mid new p q x y end result h (inl (is, all)) = inl (is, subst (Appends old new) (append_assoc p x y) (adds_all old mid new p q x y h all))
-stops_after old mid new p q x y end result h (inr (is, some)) =
-    let text : p ++ (x ++ (y ++ [])) ≡ p ++ (x ++ y) = ap (λ (z : List ℕ). p ++ (x ++ z)) (append-nil y) in
-    inr (is, subst (AppendsPrefix old new) text (adds_some old mid new p q x y [] h some))
-
-stops_nil : (waiting : List ℕ) (old new : Option (List ℕ)) (end result : Status) → Stops waiting old new end result → Stops (waiting ++ []) old new end result
-stops_nil waiting old new end result h = subst (λ (z : List ℕ). Stops z old new end result) (sym (append-nil waiting)) h
-
 -- the lines end, or one is refused
 follows_end : (over : Bool) (version : ℕ) (w : Manner) (run : Run) (last number : ℕ) (xs : List ℕ) (left : Option (List ℕ)) (waiting now : List ℕ) (old mid new : Option (List ℕ)) (es : List Event) (refused : Option Cause) (result : Status)
     → read_events version last number (lines xs) ≡ record { events = es; refused = refused }
@@ -226,11 +171,6 @@ goes_cut over version w run last number (Some xs) waiting now old mid new es tim
 pub no_lf : ¬ Contains {X = ℕ} [] 10
 no_lf h = omega (arith, h.1)
 
--- ---- small facts
-
-pub rose_on : (a b d : ℕ) → a ≤ b → Rose b d → Rose a d
-rose_on a b d h k = grind (arith)
-
 -- ---- whether the bytes are known
 
 -- known bytes stay known
@@ -254,207 +194,3 @@ ends_there version last n m None b d h g = tt
 ends_there version last n m (Some xs) None d h g = absurd h
 ends_there version last n m (Some xs) (Some ys) None h g = absurd g
 ends_there version last n m (Some xs) (Some ys) (Some zs) h g = ap (λ (z : List ℕ). Some z) (no_byte zs (next_none version last n (lines ys) m (lines zs) g))
-
--- ---- statuses
-
-pub stop_followed : (waiting : List ℕ) (old new : Option (List ℕ)) (end result : Status) → Stops waiting old new end result → IsFollowed end → IsFollowed result
-stop_followed waiting old new end result (inl (is, all)) h = subst IsFollowed (sym is) h
-stop_followed waiting old new end result (inr (is, some)) h = subst IsFollowed (sym is) tt
-
-pub stop_reads : (waiting : List ℕ) (old new : Option (List ℕ)) (end result : Status) → Stops waiting old new end result → result ≡ status.ReadFault → end ≡ status.ReadFault
-stop_reads waiting old new end result (inl (is, all)) h = sym is ∙ h
-stop_reads waiting old new end result (inr (is, some)) h = absurd (other (sym is ∙ h))
-  where
-    other : status.WriteFault ≡ status.ReadFault → ⊥
-    other e = cc
-
--- it ends well, or writing failed
-pub end_unrefused : (result : Status) → (result ≡ status.Ok) ⊎ (result ≡ status.WriteFault) → IsRefusal result → ⊥
-end_unrefused result (inl is) h = subst IsRefusal is h
-end_unrefused result (inr is) h = subst IsRefusal is h
-
-pub stops_behind : (old mid new : Option (List ℕ)) (p q x : List ℕ) (end result : Status) → Adds old mid p q x → Stops q mid new end result → Stops (p ++ x) old new end result
-stops_behind old mid new p q x end result h stops =
-    subst (λ (z : List ℕ). Stops (p ++ z) old new end result) (append-nil x) (stops_after old mid new p q x [] end result h (stops_nil q mid new end result stops))
-
-pub followed_of : (e : JournalError) → (e ≡ error.Memory → ⊥) → IsFollowed (status_of e)
-followed_of error.Memory h = absurd (h refl)
-followed_of error.ReadFault h = tt
-followed_of (error.BadFirstLine due) h = tt
-followed_of (error.BadSetup line why) h = tt
-followed_of (error.LineTooLong line) h = tt
-followed_of (error.BadLine line why) h = tt
-followed_of (error.TimeBack line before own) h = tt
-followed_of (error.TimeTooLarge line) h = tt
-followed_of error.NoEnd h = tt
-followed_of (error.AfterEnd line) h = tt
-followed_of (error.TooMany line) h = tt
-
--- an end that is no other one
-abbrev pub IsMemory : Status → Type 0
-IsMemory status.Memory = Unit {0}
-IsMemory _ = ⊥
-
-abbrev pub IsWriteFault : Status → Type 0
-IsWriteFault status.WriteFault = Unit {0}
-IsWriteFault _ = ⊥
-
-pub fault_of : (e : JournalError) → status_of e ≡ status.ReadFault → e ≡ error.ReadFault
-fault_of error.ReadFault h = refl
-fault_of error.Memory h = cc
-fault_of (error.BadFirstLine due) h = cc
-fault_of (error.BadSetup line why) h = cc
-fault_of (error.LineTooLong line) h = cc
-fault_of (error.BadLine line why) h = cc
-fault_of (error.TimeBack line before own) h = cc
-fault_of (error.TimeTooLarge line) h = cc
-fault_of error.NoEnd h = cc
-fault_of (error.AfterEnd line) h = cc
-fault_of (error.TooMany line) h = cc
-
-pub no_write_fault : (e : JournalError) → status_of e ≡ status.WriteFault → ⊥
-no_write_fault error.ReadFault h = cc
-no_write_fault error.Memory h = cc
-no_write_fault (error.BadFirstLine due) h = cc
-no_write_fault (error.BadSetup line why) h = cc
-no_write_fault (error.LineTooLong line) h = cc
-no_write_fault (error.BadLine line why) h = cc
-no_write_fault (error.TimeBack line before own) h = cc
-no_write_fault (error.TimeTooLarge line) h = cc
-no_write_fault error.NoEnd h = cc
-no_write_fault (error.AfterEnd line) h = cc
-no_write_fault (error.TooMany line) h = cc
-
-pub either : {A B C D : Type 0} → A ⊎ B → (A → C) → (B → D) → C ⊎ D
-either (inl a) f g = inl (f a)
-either (inr b) f g = inr (g b)
-
--- ---- what stands before the events
-
-pub verdict_unopened : (xs : List ℕ) (cause : Cause) → opening_part JournalLine 0 (lines xs) ≡ Err cause → verdict xs ≡ bad None cause
-unfolding verdict verdict_of_lines
-verdict_unopened xs cause h = rw h refl
-
-pub verdict_unstarted : (xs : List ℕ) (opening : Opening) (n : ℕ) (left : List (List ℕ)) (cause : Cause) → opening_part JournalLine 0 (lines xs) ≡ Ok (part opening n left) → start_part n left ≡ Err cause
-    → verdict xs ≡ bad None cause
-unfolding verdict verdict_of_lines
-verdict_unstarted xs opening n left cause h k = rw h (rw k refl)
-
--- ---- the whole
-
-pub opened_verdict : (xs : List ℕ) (version : ℕ) (setup : Setup) (start number : ℕ) (left : List (List ℕ)) → Opened (lines xs) version setup start number left
-    → verdict xs ≡ from_read version setup start (read_events version start number left)
-unfolding verdict verdict_of_lines
-opened_verdict xs version setup start number left h = rw h.opening (rw h.begins refl)
-
--- what is written of a start, and behind it
-pub text_is : (w : Manner) (version : ℕ) (setup : Setup) (start : ℕ) (r : Read)
-    → text_of (account_of w) (from_read version setup start r) ≡ w.opens (begun setup.spec start) ++ rest_of_text version w (begun setup.spec start) r
-unfolding rest_of_text
-text_is w version setup start r = by_refused r.refused
-  where
-    run : Run
-    run = begun setup.spec start
-
-    by_refused : (o : Option Cause) → text_of (account_of w) (verdict_on (journal_of version setup start r.events) o) ≡ w.opens run ++ (told w run r.events ++ ending version w (ran run r.events) o)
-    by_refused None = append_assoc (w.opens run) (told w run r.events) (w.ends version (ran run r.events))
-    by_refused (Some cause) = ap (λ (z : List ℕ). w.opens run ++ z) (sym (append-nil (told w run r.events)))
-
-pub status_is : (j : Journal) (refused : Option Cause) → status_by (refusal_of (verdict_on j refused)) ≡ status_by refused
-status_is j None = refl
-status_is j (Some cause) = refl
-
-after_prefix : (x y : List ℕ) (a b d : Option (List ℕ)) → Appends a b x → AppendsPrefix b d y → AppendsPrefix a d (x ++ y)
-after_prefix x y a b d h k = subst (λ (z : List ℕ). AppendsPrefix a d (x ++ z)) (append-nil y) (prefix_after a b d x y [] h k)
-
-pub writes_after : (written text : List ℕ) (end : Status) (P Q : List ℕ → Type 0) (old mid new : Option (List ℕ)) (result : Status) → Appends old mid written
-    → (result ≡ status.ReadFault → (front : List ℕ) → P front → Q (written ++ front)) → IsFollowed result → Writes text end P mid new result → Writes (written ++ text) end Q old new result
-writes_after written text end P Q old mid new status.Ok h f k w = (w.0, Appends-trans old mid new written text h w.1)
-writes_after written text end P Q old mid new status.Usage h f k w = absurd k
-writes_after written text end P Q old mid new (status.BadInput e) h f k w = (w.0, Appends-trans old mid new written text h w.1)
-writes_after written text end P Q old mid new (status.BadSetup e) h f k w = (w.0, Appends-trans old mid new written text h w.1)
-writes_after written text end P Q old mid new status.ReadFault h f k (front, held, p) = (written ++ front, Appends-trans old mid new written front h held, f refl front p)
-writes_after written text end P Q old mid new status.WriteFault h f k w = after_prefix written text old mid new h w
-writes_after written text end P Q old mid new status.Memory h f k w = absurd k
-writes_after written text end P Q old mid new (status.SlotFault slot) h f k w = absurd k
-writes_after written text end P Q old mid new status.ListenFault h f k w = absurd k
-
--- what is written of the start was not all written
-pub journal_cut : (w : Manner) (known rest left : Option (List ℕ)) (given version : ℕ) (setup : Setup) (start number : ℕ) (old new : Option (List ℕ))
-    → Opens known rest version number (Ok (setup, start)) → AppendsPrefix old new (w.opens (begun setup.spec start))
-    → FollowsInput (account_of w) known left given old new status.WriteFault
-journal_cut w None rest left given version setup start number old new h some = tt
-journal_cut w (Some xs) None left given version setup start number old new h some = absurd h
-journal_cut w (Some xs) (Some ys) left given version setup start number old new h some =
-    let r = read_events version start number (lines ys) in
-    subst (λ (v : Verdict). AppendsPrefix old new (text_of (account_of w) v)) (sym (opened_verdict xs version setup start number (lines ys) h))
-    (subst (AppendsPrefix old new) (sym (text_is w version setup start r)) (prefix_more old new _ (rest_of_text version w (begun setup.spec start) r) some))
-
-pub journal_memory : (a : Account) (known left : Option (List ℕ)) (given : ℕ) (out : Option (List ℕ)) → FollowsInput a known left given out out status.Memory
-journal_memory a None left given out = tt
-journal_memory a (Some xs) left given out = Appends-nil out
-
--- no start was read
-pub journal_fails : (a : Account) (known left : Option (List ℕ)) (ahead : List ℕ) (given version number : ℕ) (e : JournalError) (out : Option (List ℕ)) → Opens known (prepend_known ahead left) version number (Err e)
-    → (e ≡ error.ReadFault → length ahead ≡ given - most_taken) → FollowsInput a known left given out out (status_of e)
-journal_fails a None left ahead given version number e out h beyond = tt
-journal_fails a (Some xs) left ahead given version number error.ReadFault out h beyond = ([], Appends-nil out, (ahead, beyond refl, inr (refl, h)))
-journal_fails a (Some xs) left ahead given version number error.Memory out h beyond = Appends-nil out
-journal_fails a (Some xs) left ahead given version number (error.BadFirstLine due) out (cause, is, h) beyond = rw h (ap status_of (sym is), Appends-nil out)
-journal_fails a (Some xs) left ahead given version number (error.BadSetup line why) out (cause, is, h) beyond = rw h (ap status_of (sym is), Appends-nil out)
-journal_fails a (Some xs) left ahead given version number (error.LineTooLong line) out (cause, is, h) beyond = rw h (ap status_of (sym is), Appends-nil out)
-journal_fails a (Some xs) left ahead given version number (error.BadLine line why) out (cause, is, h) beyond = rw h (ap status_of (sym is), Appends-nil out)
-journal_fails a (Some xs) left ahead given version number (error.TimeBack line before own) out (cause, is, h) beyond = rw h (ap status_of (sym is), Appends-nil out)
-journal_fails a (Some xs) left ahead given version number (error.TimeTooLarge line) out (cause, is, h) beyond = rw h (ap status_of (sym is), Appends-nil out)
-journal_fails a (Some xs) left ahead given version number error.NoEnd out (cause, is, h) beyond = rw h (ap status_of (sym is), Appends-nil out)
-journal_fails a (Some xs) left ahead given version number (error.AfterEnd line) out (cause, is, h) beyond = rw h (ap status_of (sym is), Appends-nil out)
-journal_fails a (Some xs) left ahead given version number (error.TooMany line) out (cause, is, h) beyond = rw h (ap status_of (sym is), Appends-nil out)
-
--- what is ahead at a fault was given beyond 2^56 bytes
-pub beyond_is : (input : Ahead) (given : ℕ) → input.taken + length input.ahead ≡ given → IsSpent input → length input.ahead ≡ given - most_taken
-beyond_is input given h (few, inl none) = omega (arith, ap length none, few, h)
-beyond_is input given h (few, inr all) = omega (arith, all, h)
-
-pub nothing_ahead : (ahead : List ℕ) (left : Option (List ℕ)) → ahead ≡ [] → prepend_known ahead left ≡ left
-nothing_ahead ahead None h = refl
-nothing_ahead ahead (Some xs) h = rw h refl
-
--- nothing is left of the source
-pub ends_left : (known left : Option (List ℕ)) (ahead : List ℕ) → EndsThere known (prepend_known ahead left) → EndsThere known left
-ends_left None left ahead h = tt
-ends_left (Some xs) None ahead h = cc
-ends_left (Some xs) (Some ys) [] h = h
-ends_left (Some xs) (Some ys) (b ∷ bs) h = cc
-
--- an opening that was read is known where the input was
-pub ends_opened : (known rest left : Option (List ℕ)) (version number : ℕ) (parts : Setup × ℕ) → Opens known rest version number (Ok parts) → EndsThere rest left → EndsThere known left
-ends_opened None rest left version number parts h k = tt
-ends_opened (Some xs) None left version number parts h k = absurd h
-ends_opened (Some xs) (Some ys) left version number parts h k = k
-
-pub never_memory : (x : Status) → IsFollowed x → x ≡ status.Memory → ⊥
-never_memory x h k = subst IsFollowed k h
-
-pub followed_replayed : (x : Status) → IsFollowed x → IsReplayed x
-followed_replayed status.Memory h = tt
-followed_replayed status.Ok h = h
-followed_replayed status.Usage h = h
-followed_replayed (status.BadInput e) h = h
-followed_replayed (status.BadSetup e) h = h
-followed_replayed status.ReadFault h = h
-followed_replayed status.WriteFault h = h
-followed_replayed (status.SlotFault slot) h = h
-followed_replayed status.ListenFault h = h
-
-pub never_ok : (e : JournalError) → status_of e ≡ status.Ok → ⊥
-never_ok error.ReadFault h = cc
-never_ok error.Memory h = cc
-never_ok (error.BadFirstLine due) h = cc
-never_ok (error.BadSetup line why) h = cc
-never_ok (error.LineTooLong line) h = cc
-never_ok (error.BadLine line why) h = cc
-never_ok (error.TimeBack line before own) h = cc
-never_ok (error.TimeTooLarge line) h = cc
-never_ok error.NoEnd h = cc
-never_ok (error.AfterEnd line) h = cc
-never_ok (error.TooMany line) h = cc

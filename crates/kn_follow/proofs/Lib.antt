@@ -2,7 +2,9 @@ pub mod Runs
 pub mod Lines
 pub mod Pieces
 pub mod Waits
+pub mod Statuses
 pub mod Follows
+pub mod Journals
 pub mod Accounts
 pub mod Nexts
 pub mod Behind

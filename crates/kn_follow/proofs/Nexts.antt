@@ -12,7 +12,7 @@ use Rattle.kn_journal.specs.Reading.{Ahead, IsSpent, TakesPart, TakesText, most_
 use Rattle.kn_journal.specs.Telling.{IsLineFault, LeavesRest, OnEvent, ReaderState, Refuses, TakesEnd, Tells}
 use Rattle.kn_follow.specs.Calls.{Draws, IsBroken, IsCaused, IsNext, StopsBy}
 use Rattle.kn_follow.specs.Following.{IsOver}
-use Rattle.kn_follow.proofs.Follows.{rose_on}
+use Rattle.kn_follow.proofs.Statuses.{rose_on}
 
 -- the clauses of the reader that speak of an event
 pub record OfEvent (before after : ReaderState) (old new : Option (List ℕ)) (r : Result (Option Event) JournalError) : Type 0 where

@@ -13,7 +13,8 @@ use Rattle.kn_follow.specs.Following.{Follows, FollowsBehind, IsOver, Opens}
 use Rattle.kn_follow.proofs.Behind.{journal_behind}
 use Rattle.kn_follow.proofs.Cuts.{journal_follows_cut, opening_cut}
 use Rattle.kn_follow.proofs.Faults.{journal_follows}
-use Rattle.kn_follow.proofs.Follows.{IsMemory, IsWriteFault, beyond_is, either, ends_left, ends_opened, fault_of, followed_replayed, journal_cut, journal_fails, journal_memory, never_memory, never_ok, no_write_fault, nothing_ahead, rose_on}
+use Rattle.kn_follow.proofs.Journals.{beyond_is, ends_left, ends_opened, journal_cut, journal_fails, journal_memory, nothing_ahead}
+use Rattle.kn_follow.proofs.Statuses.{IsMemory, IsWriteFault, either, fault_of, followed_replayed, never_memory, never_ok, no_write_fault, rose_on}
 use Rattle.kn_follow.proofs.Runs.{same_start}
 use Rattle.kn_follow.proofs.journal.follow_journal.Goals as goal
 

@@ -2,7 +2,7 @@ use Rattle.std.proofs.Common.{◌++◌, subst}
 use Rattle.kn_journal.specs.declared.status.Status.TheVariants as status
 use Rattle.kn_follow.specs.Endings.{Stops}
 use Rattle.kn_follow.specs.Following.{Running}
-use Rattle.kn_follow.proofs.Follows.{stops_behind}
+use Rattle.kn_follow.proofs.Statuses.{stops_behind}
 use Rattle.kn_follow.proofs.follower.Follower.end.Goals as goal
 
 pub returns-clause-stops : goal.returns-clause-stops

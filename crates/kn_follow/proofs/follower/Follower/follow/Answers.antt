@@ -14,7 +14,8 @@ use Rattle.kn_follow.proofs.Cuts.{cut_event, cut_full, cut_good, cut_stop, stop_
 use Rattle.kn_follow.proofs.Faults.{goes_stop, goes_unwritten, read_begin, read_more}
 use Rattle.kn_follow.proofs.Behind.{goes_behind, stop_refused, stop_unrefused}
 use Rattle.kn_follow.proofs.Waits.{adds_nothing, adds_on, adds_trans}
-use Rattle.kn_follow.proofs.Follows.{IsWriteFault, end_unrefused, ends_there, fault_of, followed_of, goes_begin, goes_cut, goes_good, goes_more, no_write_fault, rose_on, still_begin, still_more, stop_followed, stop_reads, told-more, told-nil}
+use Rattle.kn_follow.proofs.Follows.{ends_there, goes_begin, goes_cut, goes_good, goes_more, still_begin, still_more, told-more, told-nil}
+use Rattle.kn_follow.proofs.Statuses.{IsWriteFault, end_unrefused, fault_of, followed_of, no_write_fault, rose_on, stop_followed, stop_reads}
 use Rattle.kn_follow.proofs.follower.Follower.follow.Goals as goal
 
 pub loop-count-init : goal.loop-count-init
