@@ -1,20 +1,15 @@
 -- A generated journal, one event more.
-use Rattle.std.proofs.Common.{◌≡◌, ◌∙◌, ℕ, ◌+◌, List, [], ◌∷◌, ◌++◌, length, append-nil, ap, sym, refl, subst, arith, inl, inr}
+use Rattle.std.proofs.Common.{◌≡◌, ◌∙◌, ℕ, ◌+◌, List, [], ◌∷◌, ◌++◌, length, append-nil, ap, sym, refl, subst, arith}
 use Rattle.std.specs.Prelude.{Option, Some}
 use Rattle.std.proofs.lemmas.List.FromFn.{length-map-range_with_len, map-range_with_len_more}
 use Rattle.kn_event.specs.declared.event.Event.{Event}
 use Rattle.kn_trace.specs.Trace.{Trace}
 use Rattle.kn_trace.specs.Events.{added, opening, react, trace_of}
 use Rattle.kn_trace.specs.Report.{last_line, totals}
-use Rattle.kn_io.specs.Prefix.{AppendsPrefix}
-use Rattle.std.specs.Io.KnownBytes.{Appends}
 use Rattle.kn_generate.specs.Generated.{generated_event, generated_events, generated_spec}
-use Rattle.kn_journal.specs.declared.status.Status.{Status}
-use Rattle.kn_journal.specs.declared.status.Status.TheVariants as status
 use Rattle.kn_replay.specs.declared.command.Command.{Command}
 use Rattle.kn_replay.specs.declared.command.Command.TheVariants as command
-use Rattle.kn_replay.specs.Generating.{Generates, generated_journal}
-use Rattle.kn_replay.specs.Replaying.{IsReplayed, Stops}
+use Rattle.kn_replay.specs.Generating.{generated_journal}
 use Rattle.kn_replay.specs.Report.{journal_last_line}
 use Rattle.kn_replay.proofs.Replays.{added-nil, trace-more}
 
@@ -51,26 +46,6 @@ trace_next seed n e is =
 pub last_is : (seed n : ℕ) → last_line 1 n (totals (generated_trace seed n)) ≡ journal_last_line (generated_journal seed n)
 unfolding journal_last_line generated_journal
 last_is seed n = ap (λ (k : ℕ). last_line 1 k (totals (generated_trace seed n))) (sym (generated-length seed n))
-
-pub stops_generates : (seed n : ℕ) (old new : Option (List ℕ)) (waiting text : List ℕ) (result : Status) → waiting ≡ [] → text ≡ journal_last_line (generated_journal seed n)
-    → Stops (waiting ++ text) old new status.Ok result → Generates seed n old new result
-stops_generates seed n old new waiting text result none is (inl (ends, all)) =
-    subst (λ (r : Status). Generates seed n old new r) (sym ends) (subst (Appends old new) (ap (λ (w : List ℕ). w ++ text) none ∙ is) all)
-stops_generates seed n old new waiting text result none is (inr (fails, some)) =
-    subst (λ (r : Status). Generates seed n old new r) (sym fails) (subst (AppendsPrefix old new) (ap (λ (w : List ℕ). w ++ text) none ∙ is) some)
-
--- it ends well, or writing failed
-pub stops_replayed : (waiting : List ℕ) (old new : Option (List ℕ)) (result : Status) → Stops waiting old new status.Ok result → IsReplayed result
-stops_replayed waiting old new result (inl (ends, all)) = subst IsReplayed (sym ends) tt
-stops_replayed waiting old new result (inr (fails, some)) = subst IsReplayed (sym fails) tt
-
-pub stops_no_read : (waiting : List ℕ) (old new : Option (List ℕ)) (result : Status) → Stops waiting old new status.Ok result → result ≡ status.ReadFault → ⊥
-stops_no_read waiting old new result (inl (ends, all)) h = cc
-stops_no_read waiting old new result (inr (fails, some)) h = cc
-
-pub stops_no_memory : (waiting : List ℕ) (old new : Option (List ℕ)) (result : Status) → Stops waiting old new status.Ok result → result ≡ status.Memory → ⊥
-stops_no_memory waiting old new result (inl (ends, all)) h = cc
-stops_no_memory waiting old new result (inr (fails, some)) h = cc
 
 -- what was said of the command that the words give is said of this one
 pub of_same : (o : Option Command) (s n seed count : ℕ) (P : ℕ → ℕ → Type 0) → o ≡ Some (command.Generate s n) → o ≡ Some (command.Generate seed count) → P s n → P seed count

@@ -17,7 +17,7 @@ use Rattle.kn_journal.specs.Parts.{Part}
 use Rattle.kn_journal.specs.declared.journal.Journal.{Journal}
 use Rattle.kn_journal.specs.Journal.{Read, Verdict, bad, end_part, event_in, from_read, good, in_time, journal_of, next_part, nothing_part, opening_part, or_bad, read_events, start_part, then_events, time_most, verdict, verdict_of_lines, verdict_on}
 use Rattle.kn_replay.specs.Report.{OnJournal, OnJournalOf}
-use Rattle.kn_replay.proofs.Lines.{end_after}
+use Rattle.kn_follow.proofs.Lines.{end_after}
 
 on_verdict : (v : Verdict) (P : Journal → Type 0) → ((j : Journal) → P j) → OnJournal v P
 on_verdict (good j) P h = h j

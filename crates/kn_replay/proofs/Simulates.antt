@@ -8,7 +8,7 @@ use Rattle.kn_journal.specs.declared.status.Status.{Status}
 use Rattle.kn_journal.specs.declared.status.Status.TheVariants as status
 use Rattle.kn_journal.specs.Causes.{Cause, error_of}
 use Rattle.kn_journal.specs.Journal.{IsJournal, good, journal_text, verdict}
-use Rattle.kn_journal.specs.Parts.{Part, part}
+use Rattle.kn_journal.specs.Parts.{Part}
 use Rattle.kn_journal.specs.Telling.{Refused}
 use Rattle.kn_sim.specs.declared.workload.Workload.{Workload}
 use Rattle.kn_sim.specs.Reading.{TellsWorkload, workload_of}

@@ -3,6 +3,5 @@ pub mod Texts
 pub mod Commands
 pub mod Generating
 pub mod Replaying
-pub mod Cutting
 pub mod Simulating
 pub mod Grouped

@@ -4,11 +4,12 @@ ghost use Rattle.kn_io.specs.Causes.{Rose};
 ghost use Rattle.kn_replay.specs.Generating.{Generates};
 ghost use Rattle.kn_replay.specs.Replaying.{IsReplayed};
 
-use crate::replay::Replay;
-use kn_event::Memory;
+use kn_core::Revision;
+use kn_event::{EntryLog, Line, Memory};
 use kn_generate::{Events, generated_spec};
-use kn_io::Sink;
+use kn_io::{Failed, Sink, put_all};
 use kn_journal::Status;
+use kn_report::Tally;
 use std::alloc::Global;
 
 /// Steps through the journal of this seed and so many events, and writes the last line of its report.
@@ -24,13 +25,26 @@ pub fn generate<O: Sink>(alloc: Global, seed: u64, count: u64, out: &mut O) -> S
         Ok(spec) => spec,
         Err(Memory) => return Status::Memory,
     };
-    let mut replay = match Replay::new(alloc, spec, 0) {
-        Ok(replay) => replay,
+    let mut log = match EntryLog::new(alloc) {
+        Ok(log) => log,
         Err(Memory) => return Status::Memory,
     };
+    let mut revision = match Revision::new(alloc, spec, 0, &mut log) {
+        Ok(revision) => revision,
+        Err(Memory) => return Status::Memory,
+    };
+    let mut tally = Tally::new();
+    tally.add_all(&log);
     let mut events = Events::new(seed);
     for _ in 0..count {
-        replay.take(&events.next());
+        log.clear();
+        revision.take(&events.next(), &mut log);
+        tally.add_all(&log);
     }
-    replay.end(1, count, out)
+    let mut line = Line::new();
+    tally.last_line(1, count, &mut line);
+    match put_all(out, line.bytes()) {
+        Ok(()) => Status::Ok,
+        Err(Failed) => Status::WriteFault,
+    }
 }

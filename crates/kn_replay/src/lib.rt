@@ -5,12 +5,12 @@ mod command;
 mod generate;
 mod journal;
 mod lawful;
-mod replay;
+mod rows;
 mod simulate;
 mod slices;
 mod texts;
 
 pub use command::{run, tell};
+pub use kn_follow::status_of;
 pub use kn_journal::{FirstLine, JournalError, SetupError, Status};
-pub use replay::status_of;
 pub use texts::put_error;

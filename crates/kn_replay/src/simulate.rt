@@ -5,7 +5,7 @@ ghost use Rattle.kn_journal.specs.Reading.{most_taken};
 ghost use Rattle.kn_replay.specs.Replaying.{IsReplayed};
 ghost use Rattle.kn_replay.specs.Simulating.{Simulates, WritesNone};
 
-use crate::replay::status_of;
+use kn_follow::status_of;
 use kn_io::{Sink, Source};
 use kn_journal::{Status, journals_are_read};
 use kn_sim::{SimError, read_workload, simulate};

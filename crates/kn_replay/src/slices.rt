@@ -5,8 +5,8 @@ ghost use Rattle.kn_journal.specs.Reading.{most_taken};
 ghost use Rattle.kn_replay.specs.Grouped.{ReplaysGroup};
 ghost use Rattle.kn_replay.specs.Replaying.{IsReplayed};
 
-use crate::replay::status_of;
 use kn_activators::{GroupError, replay_slices};
+use kn_follow::status_of;
 use kn_io::{Sink, Source};
 use kn_journal::Status;
 use std::alloc::Global;

@@ -1,8 +1,6 @@
 -- What is written of a run.
-use Rattle.std.specs.Prelude.{◌≡◌, ℕ, ◌++◌, List, [], ◌∷◌, Option, Result, OnOk, OnErr}
+use Rattle.std.specs.Prelude.{ℕ, ◌++◌, List, [], ◌∷◌}
 use Rattle.kn_event.specs.declared.event.Event.{Event}
-use Rattle.kn_io.specs.Prefix.{AppendsPrefix}
-use Rattle.kn_report.specs.Waiting.{Adds}
 use Rattle.kn_teller.specs.Run.{Run, later}
 
 -- once its start was read, of each further event, and at the end of a good journal of this version

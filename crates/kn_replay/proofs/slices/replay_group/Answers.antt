@@ -1,11 +1,8 @@
 -- The status, by how the replay ended.
-use Rattle.std.proofs.Common.{◌≡◌, ◌-◌, ◌∙◌, ap, subst, sym}
-use Rattle.std.specs.Prelude.{Err}
-use Rattle.kn_journal.specs.declared.error.JournalError.{JournalError}
+use Rattle.std.proofs.Common.{◌-◌, subst}
 use Rattle.kn_activators.specs.declared.error.GroupError.{GroupError}
 use Rattle.kn_activators.specs.Replaying.{ReplaysSlices}
-use Rattle.kn_replay.proofs.Grouped.{failed, group_input, group_ok, group_output, memory_of}
-use Rattle.kn_replay.proofs.Replays.{fault_of, no_write_fault}
+use Rattle.kn_replay.proofs.Grouped.{failed, group_input, group_ok}
 use Rattle.kn_replay.proofs.slices.replay_group.Goals as goal
 
 pub returns-in-Ok-clause-report : goal.returns-in-Ok-clause-report

@@ -1,0 +1,12 @@
+pub mod Runs
+pub mod Lines
+pub mod Pieces
+pub mod Waits
+pub mod Statuses
+pub mod Follows
+pub mod Journals
+pub mod Accounts
+pub mod Nexts
+pub mod Behind
+pub mod Faults
+pub mod Cuts

@@ -1,0 +1,64 @@
+-- An event that is ahead, the end of the input, or what the reader answers over the source.
+use Rattle.std.proofs.Common.{◌≡◌, ◌∙◌, Bool, true, refl, sym, ap, subst}
+use Rattle.kn_journal.specs.Reading.{unread}
+use Rattle.kn_journal.specs.Telling.{ReaderState}
+use Rattle.kn_follow.specs.Calls.{IsNext}
+use Rattle.kn_follow.specs.Following.{IsOver}
+use Rattle.kn_follow.proofs.Faults.{over_refuses}
+use Rattle.kn_follow.proofs.Nexts.{OfError, OfEvent, next_is, no_end_stops}
+use Rattle.kn_follow.proofs.Waits.{adds_nothing}
+use Rattle.kn_follow.proofs.follower.Follower.next.Goals as goal
+
+pub returns-in-Some-clause-adds : goal.returns-in-Some-clause-adds
+returns-in-Some-clause-adds g c = adds_nothing (g.O.Sink.held c.args.out.now) c.args.self.now.waiting
+
+pub returns-in-Some-clause-next : goal.returns-in-Some-clause-next
+returns-in-Some-clause-next g c =
+    let said = c.in-Some.ensures in
+    record {
+      gives = said.tells (g.S.Source.left c.args.source.now);
+      text = said.text (g.S.Source.left c.args.source.now);
+      order = said.order;
+      times = said.times;
+      last = said.last;
+      range = said.range;
+      bytes = said.bytes;
+      sound = record { good = said.failed ∙ c.requires.sound.good; few = said.few };
+    }
+
+pub returns-then-is_cut-clause-next : goal.returns-then-is_cut-clause-next
+returns-then-is_cut-clause-next g c =
+    let old = unread c.args.reader.now.input (g.S.Source.left c.args.source.now) in
+    let cut : c.args.reader.now.cut ≡ true = sym (c.is_cut.ensures ∙ ap (λ (r : ReaderState). r.cut) (c.in-None.ensures.same refl)) ∙ c.if-is_cut.true in
+    no_end_stops c.args.reader.now c.next_ahead.new.self old (unread c.next_ahead.new.self.input (g.S.Source.left c.args.source.now)) (g.S.Faulty.faults c.args.source.now) (g.S.Faulty.faults c.args.source.now)
+    (λ over. over_refuses c.text_laws.ensures.laws c.args.reader.now.version c.args.reader.now.last c.args.reader.now.number old (subst (λ (b : Bool). IsOver b old) cut over))
+
+pub returns-clause-next : goal.returns-clause-next
+returns-clause-next g c =
+    let left = g.S.Source.left c.args.source.now in
+    let new = unread c.next.new.self.input (g.S.Source.left c.next.new.source) in
+    let faults = g.S.Faulty.faults c.args.source.now in
+    let faults_now = g.S.Faulty.faults c.next.new.source in
+    let before = c.next_ahead.new.self in
+    let good = c.in-None.ensures.failed ∙ c.requires.sound.good in
+    let said = c.next.ensures in
+    let event : OfEvent before c.next.new.self (unread before.input left) new c.next.result = record {
+      text = said.text;
+      order = said.order;
+      times = said.times;
+      last = said.last;
+      range = said.range;
+      bytes = said.bytes;
+      good = said.good;
+      few = said.few good;
+    } in
+    let stop : OfError before c.next.new.self (unread before.input left) new faults faults_now c.next.result = record {
+      rest = said.rest good;
+      memory = said.memory good;
+      uncut = sym c.is_cut.ensures ∙ c.if-is_cut.false;
+      amid = said.amid good;
+      spent = said.spent good;
+      fault = said.fault good;
+    } in
+    subst (λ (r : ReaderState). IsNext r c.next.new.self (unread r.input left) new faults faults_now c.next.result) (c.in-None.ensures.same refl)
+    (next_is before c.next.new.self (unread before.input left) new faults faults_now c.next.result (said.tells good) event stop)

@@ -1,0 +1,5 @@
+pub mod Endings
+pub mod Account
+pub mod Following
+pub mod Calls
+pub mod Cutting

@@ -1,0 +1,300 @@
+//! A journal's events that are followed, one after the other.
+ghost use Rattle.std.specs.Prelude.{◌≡◌, ◌≢◌, ◌⊎◌, ◌+◌, ◌<◌, ◌≤◌, ◌^◌, [], ◌++◌, length, IfOk, OnOk, OnErr, false};
+ghost use Rattle.kn_io.specs.Causes.{HasCause};
+ghost use Rattle.kn_io.specs.Prefix.{AppendsPrefix};
+ghost use Rattle.kn_event.specs.EventLine.{IsInJournalRange};
+ghost use Rattle.kn_core.specs.State.{StandsFor};
+ghost use Rattle.kn_journal.specs.Reading.{unread};
+ghost use Rattle.kn_report.specs.Waiting.{Adds};
+ghost use Rattle.kn_teller.specs.Run.{IsOpened, IsStep, Run, begun, later, now_of, trace};
+ghost use Rattle.kn_follow.specs.Calls.{Draws, IsBroken, IsCaused, IsNext, IsReady, IsSound};
+ghost use Rattle.kn_follow.specs.Cutting.{FollowsCut};
+ghost use Rattle.kn_follow.specs.Endings.{EndsThere, IsFollowed, IsRefusal, Stops};
+ghost use Rattle.kn_follow.specs.Following.{Follows, FollowsBehind, IsOver};
+
+use crate::ending::status_of;
+use kn_core::Revision;
+use kn_event::{EntryLog, Event, Line, Memory, Spec};
+use kn_io::{Failed, Sink, Source};
+use kn_journal::{JournalError, JournalReader, Status, text_laws};
+use kn_laws::laws::trace_laws;
+use kn_report::Waiting;
+use kn_teller::Teller;
+use std::alloc::Global;
+use std::marker::Model;
+
+/// A revision that takes a journal's events, with the entries of the last one, and the text that waits.
+pub struct Follower {
+    revision: Revision,
+    log: EntryLog,
+    line: Line,
+    waiting: Waiting,
+}
+
+impl Drop for Follower {
+    fn drop(self) {
+        let Follower {
+            revision: _,
+            log: _,
+            line: _,
+            waiting: _,
+        } = self;
+    }
+}
+
+impl Model for Follower {
+    ghost use Rattle.kn_follow.specs.Following.{Running};
+
+    ghost Value = { Running };
+
+    ghost view = { λ f. record { revision = f.revision; log = f.log; waiting = f.waiting } };
+}
+
+impl Follower {
+    /// Opens the revision, with all the memory that it will ever have.
+    pub fn new(alloc: Global, spec: Spec, start: u64) -> Result<Follower, Memory>
+        requires times { start ≤ 2 ^ 42 }
+        ensures opened { IfOk result (λ f. IsOpened (begun spec start) f.revision f.log) }
+        ensures events { IfOk result (λ f. f.revision.events ≡ 0) }
+        ensures waiting { IfOk result (λ f. f.waiting ≡ []) }
+    {
+        trace_laws();
+        let mut log = match EntryLog::new(alloc) {
+            Ok(log) => log,
+            Err(Memory) => return Err(Memory),
+        };
+        let revision = match Revision::new(alloc, spec, start, &mut log) {
+            Ok(revision) => revision,
+            Err(Memory) => return Err(Memory),
+        };
+        Ok(Follower {
+            revision,
+            log,
+            line: Line::new(),
+            waiting: Waiting::new(),
+        })
+    }
+
+    /// Takes one event, of which is still to be told.
+    #[inline(never)]
+    fn step(&mut self, e: &Event)
+        requires order { self.old.revision.clock ≤ e.now.time }
+        requires times { e.now.time ≤ 2 ^ 42 }
+        requires events { self.old.revision.events < 2 ^ 54 }
+        requires range { IsInJournalRange e.now.act }
+        ensures step { (r : Run) → StandsFor self.old.revision (trace r) → self.old.revision.spec ≡ r.spec →
+            now_of r ≡ self.old.revision.clock → IsStep r e.now self.new.revision self.new.log }
+        ensures spec { self.new.revision.spec ≡ self.old.revision.spec }
+        ensures clock { self.new.revision.clock ≡ e.now.time }
+        ensures events { self.new.revision.events ≡ self.old.revision.events + 1 }
+        ensures waiting { self.new.waiting ≡ self.old.waiting }
+    {
+        trace_laws();
+        self.log.clear();
+        self.revision.take(e, &mut self.log);
+    }
+
+    /// Adds what the teller tells of the start, behind what waits.
+    pub fn tell_start<T: Teller, O: Sink>(
+        &mut self,
+        teller: &mut T,
+        out: &mut O,
+    ) -> Result<(), Failed>
+        requires few { T.load teller.old ≤ 0 }
+        ensures ok { (r : Run) → T.awaits teller.old r → IsOpened r self.old.revision self.old.log → OnOk result
+            (Adds (O.held out.old) (O.held out.new) self.old.waiting self.new.waiting ((T.manner teller.old).opens r)) }
+        ensures err { (r : Run) → T.awaits teller.old r → IsOpened r self.old.revision self.old.log → OnErr result
+            (AppendsPrefix (O.held out.old) (O.held out.new) (self.old.waiting ++ (T.manner teller.old).opens r)) }
+        ensures knows { (r : Run) → T.awaits teller.old r → IsOpened r self.old.revision self.old.log →
+            OnOk result (T.knows teller.new r) }
+        ensures manner { T.manner teller.new ≡ T.manner teller.old }
+        ensures few { OnOk result (T.load teller.new < 2 ^ 64) }
+        ensures revision { self.new.revision ≡ self.old.revision }
+        ensures cause { HasCause (O.Faulty.faults out.old) (O.Faulty.faults out.new) result }
+    {
+        teller.open(
+            &self.revision,
+            &self.log,
+            &mut self.line,
+            &mut self.waiting,
+            out,
+        )
+    }
+
+    /// Adds what the teller tells of the last event, behind what waits.
+    #[inline(always)]
+    fn tell<T: Teller, O: Sink>(
+        &mut self,
+        teller: &mut T,
+        e: &Event,
+        out: &mut O,
+    ) -> Result<(), Failed>
+        requires few { T.load teller.old ≤ 2 ^ 126 }
+        ensures ok { (r : Run) → T.knows teller.old r → IsStep r e.now self.old.revision self.old.log → OnOk result
+            (Adds (O.held out.old) (O.held out.new) self.old.waiting self.new.waiting ((T.manner teller.old).tells r e.now)) }
+        ensures err { (r : Run) → T.knows teller.old r → IsStep r e.now self.old.revision self.old.log → OnErr result
+            (AppendsPrefix (O.held out.old) (O.held out.new) (self.old.waiting ++ (T.manner teller.old).tells r e.now)) }
+        ensures knows { (r : Run) → T.knows teller.old r → IsStep r e.now self.old.revision self.old.log →
+            OnOk result (T.knows teller.new (later r e.now)) }
+        ensures manner { T.manner teller.new ≡ T.manner teller.old }
+        ensures few { OnOk result (T.load teller.new < T.load teller.old + 2 ^ 64) }
+        ensures revision { self.new.revision ≡ self.old.revision }
+        ensures cause { HasCause (O.Faulty.faults out.old) (O.Faulty.faults out.new) result }
+    {
+        teller.tell(
+            e,
+            &self.revision,
+            &self.log,
+            &mut self.line,
+            &mut self.waiting,
+            out,
+        )
+    }
+
+    /// Writes what waits, unless more is to come at once.
+    fn write_unless<O: Sink>(&mut self, more: bool, out: &mut O) -> Result<(), Failed>
+        ensures ok { OnOk result (Adds (O.held out.old) (O.held out.new) self.old.waiting self.new.waiting []) }
+        ensures err { OnErr result (AppendsPrefix (O.held out.old) (O.held out.new) self.old.waiting) }
+        ensures written { more ≡ false → OnOk result (self.new.waiting ≡ []) }
+        ensures few { length self.old.waiting ≤ 65536 }
+        ensures fits { length self.new.waiting ≤ 65536 }
+        ensures revision { self.new.revision ≡ self.old.revision }
+        ensures cause { HasCause (O.Faulty.faults out.old) (O.Faulty.faults out.new) result }
+    {
+        let _few = self.waiting.len();
+        if more {
+            return Ok(());
+        }
+        self.waiting.flush(out)
+    }
+
+    /// Reads the next event. What waits is written before the source may be read; `Failed` says that this failed. A source that
+    /// said its end isn't read again.
+    #[inline(always)]
+    fn next<S: Source, O: Sink>(
+        &mut self,
+        reader: &mut JournalReader,
+        source: &mut S,
+        out: &mut O,
+    ) -> Result<Result<Option<Event>, JournalError>, Failed>
+        requires sound { IsSound reader.old }
+        ensures adds { OnOk result (Adds (O.held out.old) (O.held out.new) self.old.waiting self.new.waiting []) }
+        ensures failed { OnErr result (AppendsPrefix (O.held out.old) (O.held out.new) self.old.waiting) }
+        ensures still { OnErr result ((reader.new ≡ reader.old) × (source.new ≡ source.old)) }
+        ensures room { length self.old.waiting ≤ 65536 }
+        ensures fits { length self.new.waiting ≤ 65536 }
+        ensures revision { self.new.revision ≡ self.old.revision }
+        ensures next { IfOk result (IsNext reader.old reader.new
+            (unread reader.old.input (S.left source.old)) (unread reader.new.input (S.left source.new))
+            (S.Faulty.faults source.old) (S.Faulty.faults source.new)) }
+        ensures version { reader.new.version ≡ reader.old.version }
+        ensures draws { Draws reader.old.input reader.new.input (S.given source.old) (S.given source.new)
+            (S.Faulty.faults source.old) (S.Faulty.faults source.new) }
+        ensures cause { HasCause (O.Faulty.faults out.old) (O.Faulty.faults out.new) result }
+    {
+        text_laws();
+        let _few = self.waiting.len();
+        match reader.next_ahead() {
+            Some(e) => return Ok(Ok(Some(e))),
+            None => {}
+        }
+        match self.write_unless(reader.holds_line(), out) {
+            Ok(()) => {}
+            Err(Failed) => return Err(Failed),
+        }
+        if reader.is_cut() {
+            return Ok(Err(JournalError::NoEnd));
+        }
+        Ok(reader.next(source))
+    }
+
+    /// Writes what waits, and answers the status, or that this failed.
+    fn stop<O: Sink>(&mut self, status: Status, out: &mut O) -> Status
+        ensures stops { Stops self.old.waiting (O.held out.old) (O.held out.new) status result }
+        ensures cause { status ≢ Status.WriteFault → IsCaused (O.Faulty.faults out.old) (O.Faulty.faults out.new) result }
+    {
+        match self.waiting.flush(out) {
+            Ok(()) => status,
+            Err(Failed) => Status::WriteFault,
+        }
+    }
+
+    /// Adds what the teller tells at the end, and writes all that waits.
+    fn end<T: Teller, O: Sink>(
+        &mut self,
+        teller: &mut T,
+        version: u64,
+        events: u64,
+        out: &mut O,
+    ) -> Status
+        requires few { T.load teller.old ≤ 2 ^ 126 }
+        ensures stops { (r : Run) → T.knows teller.old r → events ≡ length r.events → Stops
+            (self.old.waiting ++ (T.manner teller.old).ends version r) (O.held out.old) (O.held out.new) Status.Ok result }
+        ensures cause { IsCaused (O.Faulty.faults out.old) (O.Faulty.faults out.new) result }
+        ensures only { (result ≡ Status.Ok) ⊎ (result ≡ Status.WriteFault) }
+    {
+        match teller.end(version, events, &mut self.line, &mut self.waiting, out) {
+            Ok(()) => {}
+            Err(Failed) => return Status::WriteFault,
+        }
+        self.stop(Status::Ok, out)
+    }
+
+    /// Takes the events of a journal behind its start, and has the teller tell of each, and of the end where all lines are
+    /// good. What waits is written before the source is read again, and before the answer.
+    pub fn follow<T: Teller, S: Source, O: Sink>(
+        &mut self,
+        teller: &mut T,
+        reader: &mut JournalReader,
+        source: &mut S,
+        out: &mut O,
+    ) -> Status
+        requires ready { IsReady self.old.revision reader.old }
+        requires stands { StandsFor self.old.revision (trace (begun self.old.revision.spec self.old.revision.clock)) }
+        requires knows { T.knows teller.old (begun self.old.revision.spec self.old.revision.clock) }
+        requires load { T.load teller.old < 2 ^ 64 }
+        ensures follows { IsOver reader.old.cut (unread reader.old.input (S.left source.old)) →
+            Follows reader.old.cut reader.old.version (T.manner teller.old)
+            (begun self.old.revision.spec self.old.revision.clock) reader.old.last reader.old.number
+            (unread reader.old.input (S.left source.old)) (unread reader.new.input (S.left source.new))
+            self.old.waiting (O.held out.old) (O.held out.new) result }
+        ensures rest { IsRefusal result → FollowsBehind reader.old.version reader.old.last reader.old.number result
+            (unread reader.old.input (S.left source.old)) (unread reader.new.input (S.left source.new)) }
+        ensures cut { IsOver reader.old.cut (unread reader.old.input (S.left source.old)) → result ≡ Status.WriteFault →
+            FollowsCut reader.old.version (T.manner teller.old) (begun self.old.revision.spec self.old.revision.clock)
+            reader.old.last reader.old.number
+            (unread reader.old.input (S.left source.old)) (unread reader.new.input (S.left source.new))
+            self.old.waiting (O.held out.old) (O.held out.new) }
+        ensures followed { IsFollowed result }
+        ensures ended { result ≡ Status.Ok →
+            EndsThere (unread reader.old.input (S.left source.old)) (unread reader.new.input (S.left source.new)) }
+        ensures broken { result ≡ Status.ReadFault → IsBroken reader.new.input
+            (S.Faulty.faults source.old) (S.Faulty.faults source.new) }
+        ensures draws { Draws reader.old.input reader.new.input (S.given source.old) (S.given source.new)
+            (S.Faulty.faults source.old) (S.Faulty.faults source.new) }
+        ensures cause { IsCaused (O.Faulty.faults out.old) (O.Faulty.faults out.new) result }
+    {
+        text_laws();
+        // Each event takes six bytes at least, so after so many 2^56 bytes were taken.
+        for count in 0..1u64 << 54 {
+            let read = match self.next(reader, source, out) {
+                Ok(read) => read,
+                Err(Failed) => return Status::WriteFault,
+            };
+            let found = match read {
+                Ok(found) => found,
+                Err(error) => return self.stop(status_of(error), out),
+            };
+            let e = match found {
+                Some(e) => e,
+                None => return self.end(teller, reader.version(), count, out),
+            };
+            self.step(&e);
+            match self.tell(teller, &e, out) {
+                Ok(()) => {}
+                Err(Failed) => return Status::WriteFault,
+            }
+        }
+        self.stop(Status::ReadFault, out)
+    }
+}

@@ -1,0 +1,111 @@
+//! A journal that is followed, from its first byte to its last.
+ghost use Rattle.std.specs.Prelude.{◌≡◌, ◌⊎◌, ◌+◌, ◌-◌, ◌≤◌, Err, IfOk, IfErr, OnOk, None};
+ghost use Rattle.kn_io.specs.Causes.{Rose};
+ghost use Rattle.kn_journal.specs.Reading.{TakesText, most_taken, unread};
+ghost use Rattle.kn_journal.specs.Journal.{time_most};
+ghost use Rattle.kn_follow.specs.Account.{account_of};
+ghost use Rattle.kn_follow.specs.Calls.{Draws, IsBroken, IsSound};
+ghost use Rattle.kn_follow.specs.Cutting.{LeavesCut};
+ghost use Rattle.kn_follow.specs.Endings.{EndsThere, IsBehind, IsRefusal, IsReplayed, LeavesBehind, status_of};
+ghost use Rattle.kn_follow.specs.Following.{FollowsInput, Opens};
+
+use crate::ending::status_of;
+use crate::follower::Follower;
+use kn_event::Memory;
+use kn_io::{Failed, Sink, Source};
+use kn_journal::{JournalError, JournalReader, Setup, Status, openings_are_whole, text_laws};
+use kn_teller::{Form, Teller};
+use std::alloc::Global;
+
+/// Reads what stands before a journal's events: the setup, and the start.
+fn open<S: Source>(
+    alloc: Global,
+    reader: &mut JournalReader,
+    source: &mut S,
+) -> Result<(Setup, u64), JournalError>
+    requires good { reader.old.failed ≡ None }
+    requires number { reader.old.number ≡ 0 }
+    ensures opens { Opens (unread reader.old.input (S.left source.old)) (unread reader.new.input (S.left source.new))
+        reader.new.version reader.new.number result }
+    ensures rest { IfErr result (λ e. IsRefusal (status_of e) → IsBehind (status_of e)
+        (unread reader.old.input (S.left source.old)) (unread reader.new.input (S.left source.new))) }
+    ensures text { OnOk result (TakesText reader.new.cut
+        (unread reader.old.input (S.left source.old)) (unread reader.new.input (S.left source.new))) }
+    ensures start { IfOk result (λ parts. reader.new.last ≡ parts.1) }
+    ensures most { IfOk result (λ parts. parts.1 ≤ time_most) }
+    ensures sound { OnOk result (IsSound reader.new) }
+    ensures broken { result ≡ Err JournalError.ReadFault → IsBroken reader.new.input
+        (S.Faulty.faults source.old) (S.Faulty.faults source.new) }
+    ensures draws { Draws reader.old.input reader.new.input (S.given source.old) (S.given source.new)
+        (S.Faulty.faults source.old) (S.Faulty.faults source.new) }
+{
+    openings_are_whole();
+    text_laws();
+    let setup = match reader.setup(alloc, source) {
+        Ok(setup) => setup,
+        Err(error) => return Err(error),
+    };
+    match reader.start(source) {
+        Ok(start) => Ok((setup, start)),
+        Err(error) => Err(error),
+    }
+}
+
+/// Reads a journal, and writes of its run what the form says: of its start, of each event, and at the end where all lines
+/// are good. At the first line that is refused all of the events before it was written. Where the input failed, the lines
+/// that ended before that are good, and all of their events was written. Where writing failed, some first bytes were. All
+/// memory is taken before the first of them, and what is read so far is written before the source is read again.
+#[tactic(none)]
+pub fn follow_journal<T: Teller + Drop, F: Form<T>, S: Source, O: Sink>(
+    alloc: Global,
+    form: &F,
+    source: &mut S,
+    out: &mut O,
+) -> Status
+    ensures report { FollowsInput (account_of (F.writes form.now)) (S.left source.old) (S.left source.new)
+        (S.given source.new - S.given source.old) (O.held out.old) (O.held out.new) result }
+    ensures replayed { IsReplayed result }
+    ensures rest { IsRefusal result → LeavesBehind result (S.left source.old) (S.left source.new) }
+    ensures cut { result ≡ Status.WriteFault → LeavesCut (account_of (F.writes form.now))
+        (S.left source.old) (S.left source.new) (O.held out.old) (O.held out.new) }
+    ensures ended { result ≡ Status.Ok → EndsThere (S.left source.old) (S.left source.new) }
+    ensures memory { result ≡ Status.Memory → out.new ≡ out.old }
+    ensures read_fault { result ≡ Status.ReadFault → Rose (S.Faulty.faults source.old) (S.Faulty.faults source.new) ⊎
+        (S.given source.old + most_taken ≤ S.given source.new) }
+    ensures write_fault { result ≡ Status.WriteFault → Rose (O.Faulty.faults out.old) (O.Faulty.faults out.new) }
+    ensures never_falls { S.Faulty.faults source.old ≤ S.Faulty.faults source.new }
+    ensures out_never_falls { O.Faulty.faults out.old ≤ O.Faulty.faults out.new }
+{
+    let mut reader = match JournalReader::new(alloc) {
+        Ok(reader) => reader,
+        Err(Memory) => return Status::Memory,
+    };
+    openings_are_whole();
+    text_laws();
+    let (setup, start) = match open(alloc, &mut reader, source) {
+        Ok(parts) => parts,
+        Err(error) => {
+            let _few = reader.ahead_len();
+            return status_of(error);
+        }
+    };
+    let Setup { spec, text: _ } = setup;
+    let mut teller = match form.make(alloc, &spec, start) {
+        Ok(teller) => teller,
+        Err(Memory) => return Status::Memory,
+    };
+    let mut follower = match Follower::new(alloc, spec, start) {
+        Ok(follower) => follower,
+        Err(Memory) => return Status::Memory,
+    };
+    match follower.tell_start(&mut teller, out) {
+        Ok(()) => {}
+        Err(Failed) => {
+            let _few = reader.ahead_len();
+            return Status::WriteFault;
+        }
+    }
+    let status = follower.follow(&mut teller, &mut reader, source, out);
+    let _few = reader.ahead_len();
+    status
+}
