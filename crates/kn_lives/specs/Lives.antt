@@ -1,5 +1,5 @@
 -- What is known of each live request of a run: what it came with, and what has come of it.
-use Rattle.std.specs.Prelude.{◌≡◌, ℕ, ◌==◌, List, [], ◌∷◌, ◌++◌, length, Option, None, Some, slice_index, unwrap_or, if◌then◌else◌}
+use Rattle.std.specs.Prelude.{◌≡◌, ℕ, true, ◌==◌, List, [], ◌∷◌, ◌++◌, length, Option, None, Some, slice_index, unwrap_or, if◌then◌else◌}
 use Rattle.std.specs.Bool.{then_some}
 use Rattle.std.specs.List.{filter_map}
 use Rattle.std.specs.Map.{lookup}
@@ -10,6 +10,7 @@ use Rattle.kn_event.specs.declared.event.Act.{Act}
 use Rattle.kn_event.specs.declared.event.Act.TheVariants as act
 use Rattle.kn_event.specs.declared.event.Event.{Event}
 use Rattle.kn_event.specs.declared.revision.Spec.{Spec}
+use Rattle.kn_trace.specs.Events.{react, trace_of}
 use Rattle.kn_trace.specs.Rows.{arrived_by, directed_by, taken_by}
 use Rattle.kn_trace.specs.Trace.{Trace, arrivals, contains, each_row, last_of, live, pod_of}
 use Rattle.kn_record.specs.Made.{IsMade, IsProper}
@@ -79,3 +80,24 @@ pub record ComesNext (s : Spec) (es : List Event) (tag : ℕ) (c : Trace) (x : R
   pub proper : IsProper s c x
   pub number : (r : ℕ) → arrived_by x ≡ Some r → r ≡ arrivals c
   pub tagged : (r : ℕ) → arrived_by x ≡ Some r → tag_of es r ≡ tag
+
+-- pairs go on by one row, which comes with this tag
+abbrev pub AddsRow : ℕ → Entry → List (ℕ × Life) → List (ℕ × Life) → Type 0
+AddsRow tag x old new = (s : Spec) (es : List Event) (c : Trace) → ComesNext s es tag c x.row → AreLives old es c → AreLives new es (c ++ x ∷ [])
+
+-- further events change no tag of those who have come
+abbrev pub StayLives : Spec → ℕ → List Event → List Event → Type 0
+StayLives s start es more = (l : List (ℕ × Life)) → AreLives l es (trace_of s start es) → AreLives l (es ++ more) (trace_of s start es)
+
+-- each row of one more event comes next, with the event's tag
+abbrev pub ComeInTurn : Spec → ℕ → List Event → Event → Type 0
+ComeInTurn s start es e = (before rest : Trace) (x : Entry) → react s (trace_of s start es) e ≡ before ++ x ∷ rest
+    → ComesNext s (es ++ e ∷ []) (unwrap_or (tag_by e.act) 0) (trace_of s start es ++ before) x.row
+
+-- who the row says of this kind is live
+abbrev pub AreLiveBy : (Row → Option ℕ) → Trace → Row → Type 0
+AreLiveBy said c x = (r : ℕ) → said x ≡ Some r → contains r (live c) ≡ true
+
+-- who is live has a life in the pairs
+abbrev pub AreKnown : List (ℕ × Life) → List Event → Trace → Type 0
+AreKnown l es c = (r : ℕ) → contains r (live c) ≡ true → life_at l r ≡ Some (life_in es c r)

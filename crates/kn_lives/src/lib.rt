@@ -4,4 +4,4 @@
 pub mod laws;
 mod lives;
 
-pub use lives::{Life, Lives, tag_of};
+pub use lives::{Life, Lives, arrival_tag};

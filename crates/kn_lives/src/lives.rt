@@ -1,14 +1,12 @@
-ghost use Rattle.std.specs.Prelude.{◌≡◌, ◌≢◌, ◌+◌, ◌<◌, ◌∷◌, ◌++◌, [], ℕ, All, List, MatchOption, IfOk, None, Some, IsTrue, ◌==◌, if◌then◌else◌, is_some, length, unwrap_or};
-ghost use Rattle.std.specs.Map.{remove_entry, set_value};
-ghost use Rattle.kn_event.specs.declared.event.Event.{Event};
-ghost use Rattle.kn_event.specs.declared.revision.Spec.{Spec};
+ghost use Rattle.std.specs.Prelude.{◌≡◌, ◌==◌, ◌+◌, ◌<◌, ◌∷◌, ◌++◌, [], ℕ, All, IfOk, IsSome, IsTrue, MatchOption, None, Some, if◌then◌else◌, length, unwrap_or};
+ghost use Rattle.std.specs.Map.{set_value};
 ghost use Rattle.kn_trace.specs.Rows.{ended_by};
-ghost use Rattle.kn_trace.specs.Trace.{Trace};
 ghost use Rattle.kn_lives.specs.declared.lives.Life.{Life};
-ghost use Rattle.kn_lives.specs.Lives.{AreLives, ComesNext, life_at, tag_by};
-ghost use Rattle.kn_lives.specs.Pairs.{AreAscending, IsPlaceOf};
+ghost use Rattle.kn_lives.specs.Lives.{AddsRow, AreLives, life_at, tag_by};
+ghost use Rattle.kn_lives.specs.Pairs.{IsPlaceOf};
 
 use kn_event::{Act, Entry, Memory, Row};
+use kn_record::facts::fact_laws;
 use std::alloc::Global;
 use std::collections::VecDeque;
 use std::marker::Model;
@@ -59,7 +57,7 @@ impl Model for Lives {
 }
 
 /// The tag that an arrival has; 0 of any other act.
-pub fn tag_of(act: &Act) -> u64
+pub fn arrival_tag(act: &Act) -> u64
     ensures { result ≡ unwrap_or (tag_by act.now) 0 }
 {
     match *act {
@@ -101,11 +99,30 @@ impl Lives {
 
     /// Goes on by one row. The tag is that of the event, which who arrives with the row has.
     pub fn add(&mut self, tag: u64, e: &Entry)
-        ensures { (s : Spec) (es : List Event) (c : Trace) → ComesNext s es tag c e.now.row → AreLives self.old es c → AreLives self.new es (c ++ e.now ∷ []) }
+        ensures { AddsRow tag e.now self.old self.new }
     {
+        fact_laws();
         match e.row {
-            Row::Admit(r, _) => self.take_in(r, Life { tag, arrived: e.time, direct: false, begun: None, pod: None }),
-            Row::Direct(r, p) => self.take_in(r, Life { tag, arrived: e.time, direct: true, begun: None, pod: Some(p) }),
+            Row::Admit(r, _) => self.take_in(
+                r,
+                Life {
+                    tag,
+                    arrived: e.time,
+                    direct: false,
+                    begun: None,
+                    pod: None,
+                },
+            ),
+            Row::Direct(r, p) => self.take_in(
+                r,
+                Life {
+                    tag,
+                    arrived: e.time,
+                    direct: true,
+                    begun: None,
+                    pod: Some(p),
+                },
+            ),
             Row::Assign(r, p) => self.assign(r, p, e.time),
             Row::Run(r) => self.run(r, e.time),
             _ => self.end_by(&e.row),
@@ -124,6 +141,7 @@ impl Lives {
 
     /// Whether one more may be taken in, of a number above all.
     fn has_room(&self, r: u64) -> bool
+        ensures few { IsTrue result → length self.now < 20000 }
         ensures above { IsTrue result → All (λ (x : ℕ × Life). x.0 < r) self.now }
         ensures room { All (λ (x : ℕ × Life). x.0 < r) self.now → length self.now < 20000 → IsTrue result }
     {
@@ -168,7 +186,8 @@ impl Lives {
     /// Forgets who ends with a row.
     fn end_by(&mut self, row: &Row)
         ensures none { ended_by row.now ≡ None → self.new ≡ self.old }
-        ensures some { (r : ℕ) → ended_by row.now ≡ Some r → self.new ≡ remove_entry (λ q. r == q) self.old }
+        ensures gone { (r q : ℕ) → ended_by row.now ≡ Some r → life_at self.new q ≡ if r == q then None else life_at self.old q }
+        ensures fewer { (r : ℕ) → ended_by row.now ≡ Some r → IsSome (life_at self.old r) → length self.new + 1 ≡ length self.old }
     {
         if let Some(r) = ended_by(row) {
             self.end(r);
@@ -177,7 +196,8 @@ impl Lives {
 
     /// Forgets a request.
     fn end(&mut self, r: u64)
-        ensures { self.new ≡ remove_entry (λ q. r == q) self.old }
+        ensures gone { (q : ℕ) → life_at self.new q ≡ if r == q then None else life_at self.old q }
+        ensures fewer { IsSome (life_at self.old r) → length self.new + 1 ≡ length self.old }
     {
         if let Some(place) = self.place_of(r) {
             self.pairs.remove(place);
