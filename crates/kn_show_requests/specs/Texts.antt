@@ -1,5 +1,5 @@
 -- The text of what is told of a request: fields parted by commas, nothing where there is none.
-use Rattle.std.specs.Prelude.{ℕ, List, [], ◌∷◌, ◌++◌, Option, None, Some, codes}
+use Rattle.std.specs.Prelude.{ℕ, List, [], ◌++◌, Option, None, Some, codes}
 use Rattle.std.specs.Fmt.{decimal}
 use Rattle.kn_show_requests.specs.declared.told.Outcome.{Outcome}
 use Rattle.kn_show_requests.specs.declared.told.Outcome.TheVariants as outcome

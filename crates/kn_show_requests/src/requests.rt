@@ -73,7 +73,12 @@ fn told_by(lives: &Lives, tag: u64, e: &Entry) -> Option<Told>
 }
 
 /// Adds the line of what is told behind what waits, where something is.
-fn add_line<O: Sink>(told: Option<Told>, line: &mut Line, waiting: &mut Waiting, out: &mut O) -> Result<(), Failed>
+fn add_line<O: Sink>(
+    told: Option<Told>,
+    line: &mut Line,
+    waiting: &mut Waiting,
+    out: &mut O,
+) -> Result<(), Failed>
     ensures ok { OnOk result (Adds (O.held out.old) (O.held out.new) waiting.old waiting.new (line_where told)) }
     ensures err { OnErr result (AppendsPrefix (O.held out.old) (O.held out.new) (waiting.old ++ line_where told)) }
     ensures cause { HasCause (O.Faulty.faults out.old) (O.Faulty.faults out.new) result }
@@ -150,8 +155,11 @@ fn add_live<O: Sink>(
 
 impl Teller for Requests {
     ghost manner = { λ t. requests };
+
     ghost awaits = { λ t r. AreLives t [] [] };
+
     ghost knows = { λ t r. AreLives t r.events (trace r) };
+
     ghost load = { λ t. 0 };
 
     fn open<O: Sink>(
@@ -176,7 +184,14 @@ impl Teller for Requests {
         out: &mut O,
     ) -> Result<(), Failed> {
         lives_laws();
-        add_rows(&mut self.lives, arrival_tag(&e.act), log, line, waiting, out)
+        add_rows(
+            &mut self.lives,
+            arrival_tag(&e.act),
+            log,
+            line,
+            waiting,
+            out,
+        )
     }
 
     fn end<O: Sink>(

@@ -192,21 +192,21 @@ fn way_of(life: &Life) -> Way
     }
 }
 
-/// From then to this time.
-fn between(then: Option<u64>, time: u64) -> Option<u64>
-    ensures { result ≡ option_map (λ t. time - t) then }
+/// From a time to this one.
+fn between(from: Option<u64>, time: u64) -> Option<u64>
+    ensures { result ≡ option_map (λ t. time - t) from }
 {
-    match then {
+    match from {
         Some(from) => Some(time.saturating_sub(from)),
         None => None,
     }
 }
 
-/// From this time to then.
-fn since(time: u64, then: Option<u64>) -> Option<u64>
-    ensures { result ≡ option_map (λ t. t - time) then }
+/// From this time to another.
+fn since(time: u64, to: Option<u64>) -> Option<u64>
+    ensures { result ≡ option_map (λ t. t - time) to }
 {
-    match then {
+    match to {
         Some(to) => Some(to.saturating_sub(time)),
         None => None,
     }
