@@ -1,0 +1,12 @@
+pub mod Pieces
+pub mod Lists
+pub mod Counting
+pub mod Steps
+pub mod Past
+pub mod Over
+pub mod Events
+pub mod Passing
+pub mod Counted
+pub mod Bounds
+pub mod Opened
+pub mod Told

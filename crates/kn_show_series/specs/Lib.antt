@@ -1,0 +1,6 @@
+pub mod Fields
+pub mod Steps
+pub mod Series
+pub mod Counting
+pub mod Open
+pub mod State
