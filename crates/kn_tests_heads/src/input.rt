@@ -20,6 +20,14 @@ fn times_of(part: &str) -> (u64, &str) {
     }
 }
 
+/// Adds the bytes so many times.
+fn add_times(input: &mut Vec<u8>, times: u64, bytes: &[u8]) -> Result<(), AllocError> {
+    for _ in 0..times {
+        input.extend_from_slice(bytes)?;
+    }
+    Ok(())
+}
+
 /// Adds a part.
 fn add(alloc: Global, input: &mut Vec<u8>, part: &str) -> Result<(), AllocError> {
     let (times, text) = times_of(part);
@@ -29,8 +37,14 @@ fn add(alloc: Global, input: &mut Vec<u8>, part: &str) -> Result<(), AllocError>
         _ => text,
     };
     let bytes = spelled(alloc, text)?;
-    for _ in 0..times {
-        input.extend_from_slice(&bytes)?;
+    let done = add_times(input, times, &bytes);
+    drop(bytes);
+    done
+}
+
+fn add_all(alloc: Global, input: &mut Vec<u8>, text: &str) -> Result<(), AllocError> {
+    for part in text.split('|') {
+        add(alloc, input, part)?;
     }
     Ok(())
 }
@@ -38,8 +52,6 @@ fn add(alloc: Global, input: &mut Vec<u8>, part: &str) -> Result<(), AllocError>
 /// All parts.
 pub fn input_of(alloc: Global, text: &str) -> Result<Vec<u8>, AllocError> {
     let mut input = Vec::new(alloc);
-    for part in text.split('|') {
-        add(alloc, &mut input, part)?;
-    }
+    add_all(alloc, &mut input, text)?;
     Ok(input)
 }
