@@ -20,14 +20,6 @@ fn times_of(part: &str) -> (u64, &str) {
     }
 }
 
-/// Adds the bytes so many times.
-fn add_times(input: &mut Vec<u8>, times: u64, bytes: &[u8]) -> Result<(), AllocError> {
-    for _ in 0..times {
-        input.extend_from_slice(bytes)?;
-    }
-    Ok(())
-}
-
 /// Adds a part.
 fn add(alloc: Global, input: &mut Vec<u8>, part: &str) -> Result<(), AllocError> {
     let (times, text) = times_of(part);
@@ -37,14 +29,8 @@ fn add(alloc: Global, input: &mut Vec<u8>, part: &str) -> Result<(), AllocError>
         _ => text,
     };
     let bytes = spelled(alloc, text)?;
-    let done = add_times(input, times, &bytes);
-    drop(bytes);
-    done
-}
-
-fn add_all(alloc: Global, input: &mut Vec<u8>, text: &str) -> Result<(), AllocError> {
-    for part in text.split('|') {
-        add(alloc, input, part)?;
+    for _ in 0..times {
+        input.extend_from_slice(&bytes)?;
     }
     Ok(())
 }
@@ -52,6 +38,8 @@ fn add_all(alloc: Global, input: &mut Vec<u8>, text: &str) -> Result<(), AllocEr
 /// All parts.
 pub fn input_of(alloc: Global, text: &str) -> Result<Vec<u8>, AllocError> {
     let mut input = Vec::new(alloc);
-    add_all(alloc, &mut input, text)?;
+    for part in text.split('|') {
+        add(alloc, &mut input, part)?;
+    }
     Ok(input)
 }
