@@ -8,9 +8,20 @@ use std::io;
 /// What is sent, with escapes.
 fn bytes_of(alloc: Global, answer: Answer) -> Result<String, AllocError> {
     match answer_bytes(alloc, answer) {
-        Ok(text) => shown(alloc, text.bytes()),
+        Ok(text) => {
+            let bytes = shown(alloc, text.bytes());
+            drop(text);
+            bytes
+        }
         Err(_) => Err(AllocError),
     }
+}
+
+fn show(rt: &HostRuntime, answer: Answer) -> io::Result<()> {
+    let bytes = bytes_of(rt.alloc(), answer)?;
+    let done = println!(rt; "{answer:?}: {bytes}");
+    drop(bytes);
+    done
 }
 
 /// Prints each answer.
@@ -27,9 +38,8 @@ pub fn made(rt: &HostRuntime) -> io::Result<()> {
         Answer::Expired,
         Answer::HistoryFull,
     ];
-    for answer in all {
-        let bytes = bytes_of(rt.alloc(), answer)?;
-        println!(rt; "{answer:?}: {bytes}")?;
+    for answer in &all {
+        show(rt, *answer)?;
     }
     Ok(())
 }
@@ -41,7 +51,7 @@ pub fn of_faults(rt: &HostRuntime) -> io::Result<()> {
         HeadError::BadCoding,
         HeadError::ReadFault,
     ];
-    for error in all {
+    for error in &all {
         let answer = error.answer();
         println!(rt; "{error:?} is answered with {answer:?}")?;
     }

@@ -29,16 +29,18 @@ fn try_by(rt: &HostRuntime, way: &str, input: &[u8]) -> io::Result<()> {
         "fronts" => sweeps::swept(rt, input, &[Ways::Fronts(5), Ways::Fronts(7)]),
         "reads" => sweeps::reads(rt, input),
         "length" => outcome::length(rt, input),
-        _ => println!(rt; "  no way"),
+        _ => rt.println("  no way"),
     }
 }
 
 /// Says what comes of a line.
 fn show(rt: &HostRuntime, line: &str) -> io::Result<()> {
-    println!(rt; "{line}")?;
+    rt.println(line)?;
     let (way, text) = line.split_once('|').unwrap_or((line, ""));
     let input = input::input_of(rt.alloc(), text)?;
-    try_by(rt, way, &input)
+    let done = try_by(rt, way, &input);
+    drop(input);
+    done
 }
 
 fn show_all(rt: &HostRuntime) -> io::Result<()> {

@@ -1,7 +1,7 @@
 //! What comes of a request.
 
 use kn_case::shown;
-use kn_head::{Head, forward_bytes, read_head};
+use kn_head::{Head, HeadError, forward_bytes, read_head};
 use kn_io::MemSource;
 use std::alloc::{AllocError, Global};
 use std::io;
@@ -23,14 +23,18 @@ pub const NEVER: u64 = u64::MAX;
 /// What a client sends, as it is read.
 fn source_of(alloc: Global, input: &[u8], reading: Reading) -> Result<MemSource, AllocError> {
     let bytes = Vec::from_slice(alloc, input)?;
-    let fail = vec![in alloc; reading.failing]?;
+    let fail = Vec::from_slice(alloc, &[reading.failing])?;
     Ok(MemSource::in_pieces(bytes, reading.piece.max(1), fail))
 }
 
 /// What is sent on, with escapes.
 fn sent_on(alloc: Global, head: &Head, proxied: bool) -> Result<String, AllocError> {
     match forward_bytes(alloc, head, proxied) {
-        Ok(text) => shown(alloc, text.bytes()),
+        Ok(text) => {
+            let bytes = shown(alloc, text.bytes());
+            drop(text);
+            bytes
+        }
         Err(_) => Err(AllocError),
     }
 }
@@ -38,7 +42,11 @@ fn sent_on(alloc: Global, head: &Head, proxied: bool) -> Result<String, AllocErr
 /// What is sent on, or why the request is refused.
 fn read(alloc: Global, source: &mut MemSource, proxied: bool) -> Result<String, AllocError> {
     match read_head(alloc, source) {
-        Ok(head) => sent_on(alloc, &head, proxied),
+        Ok(head) => {
+            let sent = sent_on(alloc, &head, proxied);
+            drop(head);
+            sent
+        }
         Err(error) => format!(in alloc; "refused: {error:?}"),
     }
 }
@@ -46,7 +54,9 @@ fn read(alloc: Global, source: &mut MemSource, proxied: bool) -> Result<String, 
 /// What comes of a request that is read so.
 pub fn outcome(alloc: Global, input: &[u8], reading: Reading) -> Result<String, AllocError> {
     let mut source = source_of(alloc, input, reading)?;
-    read(alloc, &mut source, reading.proxied)
+    let came = read(alloc, &mut source, reading.proxied);
+    drop(source);
+    came
 }
 
 /// Prints one line where both are the same.
@@ -68,15 +78,32 @@ pub fn sent(rt: &HostRuntime, input: &[u8], proxied: bool) -> io::Result<()> {
     let whole = outcome(rt.alloc(), input, reading)?;
     reading.piece = 1;
     let bytewise = outcome(rt.alloc(), input, reading)?;
-    say_both(rt, whole.as_str(), bytewise.as_str())
+    let done = say_both(rt, whole.as_str(), bytewise.as_str());
+    drop(bytewise);
+    drop(whole);
+    done
+}
+
+/// How long the body is.
+fn body_length(alloc: Global, source: &mut MemSource) -> Result<usize, HeadError> {
+    match read_head(alloc, source) {
+        Ok(head) => {
+            let length = head.body.bytes().len();
+            drop(head);
+            Ok(length)
+        }
+        Err(error) => Err(error),
+    }
 }
 
 /// Prints how long the body is.
 pub fn length(rt: &HostRuntime, input: &[u8]) -> io::Result<()> {
     let alloc = rt.alloc();
     let mut source = MemSource::new(Vec::from_slice(alloc, input)?, Vec::new(alloc));
-    match read_head(alloc, &mut source) {
-        Ok(head) => println!(rt; "  {} bytes", head.body.bytes().len()),
+    let length = body_length(alloc, &mut source);
+    drop(source);
+    match length {
+        Ok(length) => println!(rt; "  {length} bytes"),
         Err(error) => println!(rt; "  refused: {error:?}"),
     }
 }

@@ -66,5 +66,7 @@ pub fn reads(rt: &HostRuntime, input: &[u8]) -> io::Result<()> {
     swept(rt, input, &[Ways::Reads])?;
     let (_, reading) = way(Ways::Reads, input.len(), input.len());
     let last = outcome(rt.alloc(), input, reading)?;
-    println!(rt; "  then: {last}")
+    let done = println!(rt; "  then: {last}");
+    drop(last);
+    done
 }

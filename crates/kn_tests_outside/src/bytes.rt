@@ -1,7 +1,7 @@
 //! Bytes in memory, to read and to write.
 ghost use Rattle.std.specs.Prelude.{◌<◌};
 
-use crate::{had, tell};
+use crate::{had, say, tell};
 use kn_io::{Failed, Faulty, MemSink, MemSource, Sink, Source, put_all};
 use std::alloc::{AllocError, Global};
 use std::{io, str};
@@ -41,7 +41,7 @@ fn shown(bytes: &[u8]) -> &str {
 }
 
 /// Reads into a buffer of two bytes, and prints the byte count, the buffer and the faults so far.
-pub fn read_two<S: Source>(rt: &HostRuntime, name: &str, source: &mut S) -> io::Result<()> {
+fn read_two<S: Source>(rt: &HostRuntime, name: &str, source: &mut S) -> io::Result<()> {
     let mut buf = [b'-'; 2];
     let answer = source.read(&mut buf);
     let faults = source.faults();
@@ -77,7 +77,7 @@ pub fn read_twos<S: Source>(
 /// A source of five bytes, whose reads 1 and 3 fail.
 fn failing_source(alloc: Global) -> Result<MemSource, AllocError> {
     let bytes = Vec::from_slice(alloc, b"abcde")?;
-    Ok(MemSource::new(bytes, vec![in alloc; 1, 3]?))
+    Ok(MemSource::new(bytes, Vec::from_slice(alloc, &[1, 3])?))
 }
 
 fn failing_reads(rt: &HostRuntime) -> io::Result<()> {
@@ -86,17 +86,17 @@ fn failing_reads(rt: &HostRuntime) -> io::Result<()> {
 }
 
 fn write_five(rt: &HostRuntime, sink: &mut MemSink) -> io::Result<()> {
-    for word in ["ab", "ab", "cd", "cd", ""] {
+    for word in &["ab", "ab", "cd", "cd", ""] {
         put(rt, "write", sink, word)?;
         holds(rt, "it", sink)?;
     }
-    tell(rt, &[("nothing has room", sink.write(b"").is_err())])
+    say(rt, "nothing has room", sink.write(b"").is_err())
 }
 
 /// Writes 0 and 2 fail, and there is room for three bytes.
 fn failing_writes(rt: &HostRuntime) -> io::Result<()> {
     let alloc = rt.alloc();
-    let mut sink = had(MemSink::new(alloc, 3, vec![in alloc; 0, 2]?))?;
+    let mut sink = had(MemSink::new(alloc, 3, Vec::from_slice(alloc, &[0, 2])?))?;
     write_five(rt, &mut sink)
 }
 
@@ -131,7 +131,7 @@ fn pieces(rt: &HostRuntime) -> io::Result<()> {
 
 /// A sink that takes a byte at a time, whose fifth write fails.
 fn one_byte(alloc: Global) -> Result<OneByte, AllocError> {
-    let sink = had(MemSink::new(alloc, 8, vec![in alloc; 4]?))?;
+    let sink = had(MemSink::new(alloc, 8, Vec::from_slice(alloc, &[4])?))?;
     Ok(OneByte { sink })
 }
 

@@ -1,20 +1,13 @@
 //! Callers in memory.
 
-use crate::{goes, had, tell, text_of};
-use kn_event::Text;
+use crate::{goes, had, say, tell, texts_of};
 use kn_io::{Caller, Failed, Faulty, MemCaller, Sink, Source, caller_laws};
 use std::alloc::{AllocError, Global};
 use std::{io, str};
 
-fn two_texts(alloc: Global) -> Result<Vec<Text>, AllocError> {
-    let first = text_of(alloc, b"abcde")?;
-    let second = text_of(alloc, b"f")?;
-    Ok(vec![in alloc; first, second]?)
-}
-
 /// A caller of two inputs, `abcde` and `f`, with room for eight bytes, which gives two at a time.
 fn two_inputs(alloc: Global, fail: Vec<u64>) -> Result<MemCaller, AllocError> {
-    let inputs = two_texts(alloc)?;
+    let inputs = texts_of(alloc, &[b"abcde", b"f"])?;
     had(MemCaller::in_pieces(alloc, inputs, 8, 2, fail))
 }
 
@@ -62,14 +55,12 @@ fn show_texts(rt: &HostRuntime, caller: &MemCaller) -> io::Result<()> {
 }
 
 fn two_connections(rt: &HostRuntime, caller: &mut MemCaller) -> io::Result<()> {
-    tell(
-        rt,
-        &[("before a connection", caller.read(&mut [0; 3]) == Ok(0))],
-    )?;
+    say(rt, "before a connection", caller.read(&mut [0; 3]) == Ok(0))?;
     show_texts(rt, caller)?;
-    tell(rt, &[("first connection", talk(caller, b"12345") == Ok(5))])?;
+    say(rt, "first connection", talk(caller, b"12345") == Ok(5))?;
     show_texts(rt, caller)?;
-    tell(rt, &[("second connection", talk(caller, b"6789") == Ok(1))])
+    say(rt, "second connection", talk(caller, b"6789") == Ok(1))?;
+    at_the_end(rt, caller)
 }
 
 /// No more is written, and no other connection comes.
@@ -79,29 +70,23 @@ fn at_the_end(rt: &HostRuntime, caller: &mut MemCaller) -> io::Result<()> {
         ("no third connection", caller.meet().is_err()),
         ("two faults", caller.faults() == 2),
     ];
-    tell(rt, &cases)?;
-    show_texts(rt, caller)
-}
-
-fn talk_in_turn(rt: &HostRuntime, caller: &mut MemCaller) -> io::Result<()> {
-    two_connections(rt, caller)?;
-    at_the_end(rt, caller)?;
     caller_laws();
     goes(caller);
-    Ok(())
+    tell(rt, &cases)?;
+    show_texts(rt, caller)
 }
 
 /// Eight bytes in all have room, and there are two inputs.
 fn connections_in_turn(rt: &HostRuntime) -> io::Result<()> {
     let alloc = rt.alloc();
     let mut caller = two_inputs(alloc, Vec::new(alloc))?;
-    talk_in_turn(rt, &mut caller)
+    two_connections(rt, &mut caller)
 }
 
 /// The call of this number fails.
 fn failing_call(rt: &HostRuntime, k: u64) -> io::Result<()> {
     let alloc = rt.alloc();
-    let mut caller = two_inputs(alloc, vec![in alloc; k]?)?;
+    let mut caller = two_inputs(alloc, Vec::from_slice(alloc, &[k])?)?;
     let failed = failed_calls(&mut caller);
     let faults = caller.faults();
     println!(rt; "call {k} fails: {failed:?}, faults {faults}")
@@ -115,17 +100,10 @@ fn failing_calls(rt: &HostRuntime) -> io::Result<()> {
     Ok(())
 }
 
-fn add_inputs(alloc: Global, inputs: &mut Vec<Text>) -> Result<(), AllocError> {
-    for _ in 0..200 {
-        inputs.push(text_of(alloc, &[b'y'; 500])?)?;
-    }
-    Ok(())
-}
-
 /// A caller of 200 inputs of 500 bytes, with room for 4,000.
 fn many_inputs(alloc: Global) -> Result<MemCaller, AllocError> {
-    let mut inputs = Vec::new(alloc);
-    add_inputs(alloc, &mut inputs)?;
+    let text: &[u8] = &[b'y'; 500];
+    let inputs = texts_of(alloc, &[text; 200])?;
     had(MemCaller::new(alloc, inputs, 4_000, Vec::new(alloc)))
 }
 

@@ -1,19 +1,13 @@
 //! Links in memory.
 
-use crate::{goes, had, tell, text_of};
-use kn_event::Text;
+use crate::{goes, had, say, texts_of};
 use kn_io::{Failed, Faulty, LinkError, MemLink, PodLink};
 use std::alloc::{AllocError, Global};
 use std::io;
 
-fn replies(alloc: Global) -> Result<Vec<Text>, AllocError> {
-    let reply = text_of(alloc, b"okay")?;
-    Ok(vec![in alloc; reply]?)
-}
-
 /// A link with one reply of four bytes.
 fn one_reply(alloc: Global, fail: Vec<u64>) -> Result<MemLink, AllocError> {
-    had(MemLink::new(alloc, replies(alloc)?, fail))
+    had(MemLink::new(alloc, texts_of(alloc, &[b"okay"])?, fail))
 }
 
 /// The length of a pod's reply.
@@ -54,13 +48,13 @@ fn show_three(rt: &HostRuntime, link: &mut MemLink) -> io::Result<()> {
         show(rt, link, pod)?;
     }
     goes(link);
-    tell(rt, &[("three faults", link.faults() == 3)])
+    say(rt, "three faults", link.faults() == 3)
 }
 
 /// Calls 1 and 2 fail, and there is no second reply.
 fn failing_calls(rt: &HostRuntime) -> io::Result<()> {
     let alloc = rt.alloc();
-    let mut link = one_reply(alloc, vec![in alloc; 1, 2]?)?;
+    let mut link = one_reply(alloc, Vec::from_slice(alloc, &[1, 2])?)?;
     show_three(rt, &mut link)
 }
 
@@ -69,7 +63,7 @@ fn probe_all(rt: &HostRuntime, link: &mut MemLink) -> io::Result<()> {
         let _ = link.probe(pod);
     }
     let last = last_probe(link);
-    tell(rt, &[("4,096 probes", last == Some((4_095, Some(true))))])?;
+    say(rt, "4,096 probes", last == Some((4_095, Some(true))))?;
     show(rt, link, 9)
 }
 

@@ -21,9 +21,18 @@ fn had<T>(answer: Result<T, Memory>) -> Result<T, AllocError> {
     }
 }
 
-/// A text of these bytes.
-fn text_of(alloc: Global, bytes: &[u8]) -> Result<Text, AllocError> {
-    Ok(Text::new(Vec::from_slice(alloc, bytes)?))
+fn add_texts(alloc: Global, all: &mut Vec<Text>, texts: &[&[u8]]) -> Result<(), AllocError> {
+    for bytes in texts {
+        all.push(Text::new(Vec::from_slice(alloc, bytes)?))?;
+    }
+    Ok(())
+}
+
+/// Texts of these bytes.
+fn texts_of(alloc: Global, texts: &[&[u8]]) -> Result<Vec<Text>, AllocError> {
+    let mut all = Vec::new(alloc);
+    add_texts(alloc, &mut all, texts)?;
+    Ok(all)
 }
 
 /// Such a value may go to another thread.
@@ -32,11 +41,16 @@ fn goes<T: Send>(_value: &T) {}
 /// Such a value may be shared among threads.
 fn shares<T: Sync>(_value: &T) {}
 
-/// Prints of each case whether it is as it must be.
+/// Prints of a case whether it is as it must be.
+fn say(rt: &HostRuntime, name: &str, holds: bool) -> io::Result<()> {
+    rt.print(name)?;
+    rt.println(if holds { ": ok" } else { ": not so" })
+}
+
+/// The same of each of these cases.
 fn tell(rt: &HostRuntime, cases: &[(&str, bool)]) -> io::Result<()> {
     for (name, holds) in cases {
-        let word = if *holds { "ok" } else { "not so" };
-        println!(rt; "{name}: {word}")?;
+        say(rt, name, *holds)?;
     }
     Ok(())
 }

@@ -1,5 +1,6 @@
 //! Command lines of `kactd`.
 
+use kn_event::Text;
 use kn_plan::{Plan, plan_of};
 use std::alloc::{AllocError, Global};
 use std::{io, str};
@@ -22,14 +23,20 @@ fn shown(bytes: &[u8]) -> &str {
     str::from_utf8(bytes).unwrap_or("no text")
 }
 
+fn show_pods(rt: &HostRuntime, pods: &[Text]) -> io::Result<()> {
+    for pod in pods {
+        rt.print(" ")?;
+        rt.print(shown(pod.bytes()))?;
+    }
+    Ok(())
+}
+
 /// Prints what is to be served, with a word for each pod.
 fn show_plan(rt: &HostRuntime, plan: &Plan) -> io::Result<()> {
-    let listen = shown(plan.listen.bytes());
-    print!(rt; "  listen {listen}, pods")?;
-    for pod in plan.pods.items() {
-        let address = shown(pod.bytes());
-        print!(rt; " {address}")?;
-    }
+    rt.print("  listen ")?;
+    rt.print(shown(plan.listen.bytes()))?;
+    rt.print(", pods")?;
+    show_pods(rt, plan.pods.items())?;
     let Plan {
         slots,
         rounds,
@@ -42,14 +49,21 @@ fn show_plan(rt: &HostRuntime, plan: &Plan) -> io::Result<()> {
 /// Prints what a command line of these words asks for, or why it is refused.
 fn show_words(rt: &HostRuntime, words: &[String]) -> io::Result<()> {
     match plan_of(rt.alloc(), words) {
-        Ok(plan) => show_plan(rt, &plan),
+        Ok(plan) => {
+            let done = show_plan(rt, &plan);
+            drop(plan);
+            done
+        }
         Err(error) => println!(rt; "  {error}"),
     }
 }
 
 /// Prints a command line, and what it asks for, or why it is refused.
 pub fn show(rt: &HostRuntime, line: &str) -> io::Result<()> {
-    println!(rt; "kactd {line}")?;
+    rt.print("kactd ")?;
+    rt.println(line)?;
     let words = words_of(rt.alloc(), line)?;
-    show_words(rt, &words)
+    let done = show_words(rt, &words);
+    drop(words);
+    done
 }

@@ -1,7 +1,7 @@
 //! Readers and writers of std, and the standard streams.
 
-use crate::bytes::{put, read_two, read_twos};
-use crate::tell;
+use crate::bytes::{put, read_twos};
+use crate::say;
 use kn_io::{ReaderSource, Sink, Source, WriterSink};
 use std::io;
 use std::io::{Cursor, Read, Write};
@@ -84,65 +84,48 @@ impl Write for Stuck {
     }
 }
 
-fn readers(rt: &HostRuntime) -> io::Result<()> {
-    let mut source = ReaderSource::new(Cursor::new(b"abc".as_slice()));
-    read_twos(rt, "reader", &mut source, 3)
+/// Reads it so many times.
+fn read_from<R: Read + Drop>(
+    rt: &HostRuntime,
+    name: &str,
+    reader: R,
+    times: u32,
+) -> io::Result<()> {
+    let mut source = ReaderSource::new(reader);
+    read_twos(rt, name, &mut source, times)
 }
 
-fn broken_readers(rt: &HostRuntime) -> io::Result<()> {
-    let mut broken = ReaderSource::new(Broken);
-    read_twos(rt, "broken reader", &mut broken, 2)
+/// Writes three bytes.
+fn write_to<W: Write + Drop>(rt: &HostRuntime, name: &str, writer: W) -> io::Result<()> {
+    let mut out = WriterSink::new(writer);
+    put(rt, name, &mut out, "abc")
 }
 
-fn halting_readers(rt: &HostRuntime) -> io::Result<()> {
-    let mut halting = ReaderSource::new(Halting { calls: 101 });
-    read_two(rt, "halting reader", &mut halting)
-}
-
-fn writers(rt: &HostRuntime) -> io::Result<()> {
-    let mut taken = WriterSink::new(Vec::<u8>::new(rt.alloc()));
-    put(rt, "writer", &mut taken, "abc")
-}
-
-fn broken_writers(rt: &HostRuntime) -> io::Result<()> {
-    let mut broken = WriterSink::new(Broken);
-    put(rt, "broken writer", &mut broken, "abc")
-}
-
-fn halting_writers(rt: &HostRuntime) -> io::Result<()> {
-    let mut halting = WriterSink::new(Halting { calls: 101 });
-    put(rt, "halting writer", &mut halting, "abc")
-}
-
-fn put_nothing_and_three<O: Sink>(rt: &HostRuntime, stuck: &mut O) -> io::Result<()> {
-    tell(rt, &[("stuck writer, nothing", stuck.write(b"") == Ok(0))])?;
-    put(rt, "stuck writer", stuck, "abc")
-}
-
-fn stuck_writers(rt: &HostRuntime) -> io::Result<()> {
+fn stuck_writer(rt: &HostRuntime) -> io::Result<()> {
     let mut stuck = WriterSink::new(Stuck);
-    put_nothing_and_three(rt, &mut stuck)
+    say(rt, "stuck writer, nothing", stuck.write(b"") == Ok(0))?;
+    put(rt, "stuck writer", &mut stuck, "abc")
 }
 
 pub fn all(rt: &HostRuntime) -> io::Result<()> {
-    readers(rt)?;
-    broken_readers(rt)?;
-    halting_readers(rt)?;
-    writers(rt)?;
-    broken_writers(rt)?;
-    halting_writers(rt)?;
-    stuck_writers(rt)
+    read_from(rt, "reader", Cursor::new(b"abc".as_slice()), 3)?;
+    read_from(rt, "broken reader", Broken, 2)?;
+    read_from(rt, "halting reader", Halting { calls: 101 }, 1)?;
+    write_to(rt, "writer", Vec::<u8>::new(rt.alloc()))?;
+    write_to(rt, "broken writer", Broken)?;
+    write_to(rt, "halting writer", Halting { calls: 101 })?;
+    stuck_writer(rt)
 }
 
 /// Nothing is read there.
 pub fn read_nothing<I: Read + Drop>(rt: &HostRuntime, name: &str, reader: I) -> io::Result<()> {
     let mut input = ReaderSource::new(reader);
-    tell(rt, &[(name, input.read(&mut []) == Ok(0))])
+    say(rt, name, input.read(&mut []) == Ok(0))
 }
 
 fn put_nothing<O: Sink>(rt: &HostRuntime, name: &str, out: &mut O) -> io::Result<()> {
     put(rt, name, out, "")?;
-    tell(rt, &[(name, out.write(b"") == Ok(0))])
+    say(rt, name, out.write(b"") == Ok(0))
 }
 
 /// Nothing is written there, in two ways.

@@ -1,6 +1,6 @@
 //! Clocks and gates.
 
-use crate::{shares, tell};
+use crate::{say, shares, tell};
 use kn_io::{Clock, Gate, ListClock, MachineClock, OpenGate};
 use std::{io, time};
 
@@ -15,7 +15,7 @@ fn show_six(rt: &HostRuntime, clock: &ListClock) -> io::Result<()> {
 
 /// The last of its times comes again and again.
 fn listed(rt: &HostRuntime) -> io::Result<()> {
-    let clock = ListClock::new(vec![in rt.alloc(); 5, 9, 7]?);
+    let clock = ListClock::new(Vec::from_slice(rt.alloc(), &[5, 9, 7])?);
     show_six(rt, &clock)
 }
 
@@ -24,7 +24,7 @@ fn show_none(rt: &HostRuntime, none: &ListClock) -> io::Result<()> {
     shares(none);
     shares(&OpenGate);
     let are_none = [none.now_ms(), none.now_ms()] == [0, 0];
-    tell(rt, &[("no times", are_none)])
+    say(rt, "no times", are_none)
 }
 
 fn empty(rt: &HostRuntime) -> io::Result<()> {

@@ -1,5 +1,5 @@
 //! Journals that are read whole, cut, in pieces, and from an input that fails.
-use crate::texts::{say, text_of};
+use crate::texts::{add, add_behind, say, text_of};
 use kn_event::Memory;
 use kn_io::MemSource;
 use kn_journal::{JournalError, JournalReader, Setup};
@@ -20,10 +20,18 @@ struct Said {
 }
 
 /// A reader, and what it reads from.
-#[derive(Drop)]
 pub struct Reading {
     pub reader: JournalReader,
     pub source: MemSource,
+}
+
+impl Drop for Reading {
+    fn drop(self) {
+        let Reading {
+            reader: _,
+            source: _,
+        } = self;
+    }
 }
 
 /// A reader of these bytes, in pieces, where the read of this number fails.
@@ -34,7 +42,7 @@ pub fn reading_of(
     fail: u64,
 ) -> Result<Reading, AllocError> {
     let bytes = Vec::from_slice(alloc, bytes)?;
-    let source = MemSource::in_pieces(bytes, piece.max(1), vec![in alloc; fail]?);
+    let source = MemSource::in_pieces(bytes, piece.max(1), Vec::from_slice(alloc, &[fail])?);
     match JournalReader::new(alloc) {
         Ok(reader) => Ok(Reading { reader, source }),
         Err(Memory) => {
@@ -116,9 +124,10 @@ fn add_said(said: Option<Said>, out: &mut String) -> Result<(), AllocError> {
     let Some(Said { events, refused }) = said else {
         return out.push_str("not the same in all pieces");
     };
+    add(out, events)?;
     match refused {
-        Some(fault) => write!(out, "{events} events, {fault:?}"),
-        None => write!(out, "{events} events, whole"),
+        Some(fault) => add_behind(out, " events, ", fault),
+        None => out.push_str(" events, whole"),
     }
 }
 
@@ -158,8 +167,9 @@ pub fn cut(alloc: Global, bytes: &[u8], out: &mut String) -> Result<(), AllocErr
     let answers = bytes.len() + 1;
     write!(out, "{answers} answers")?;
     let mut last = None;
-    for len in 0..=bytes.len() {
-        add_change(len, says(alloc, &bytes[..len])?, &mut last, out)?;
+    for len in 0..answers {
+        let front = &bytes[..len.min(bytes.len())];
+        add_change(len, says(alloc, front)?, &mut last, out)?;
     }
     Ok(())
 }
@@ -186,11 +196,13 @@ fn add_setup(
     let (version, max) = (reader.version(), setup.spec.slots.max);
     let text = text_of(setup.text.bytes());
     let after = reader.holds_line();
-    write!(
-        out,
-        "{text:?}, version {version}, max {max}, a line ahead {before} {after}, "
-    )?;
-    say(out, &reader.finish_setup(source))
+    add(out, text)?;
+    add_behind(out, ", version ", version)?;
+    add_behind(out, ", max ", max)?;
+    add_behind(out, ", a line ahead ", before)?;
+    add_behind(out, " ", after)?;
+    out.push_str(", ")?;
+    say(out, reader.finish_setup(source))
 }
 
 fn add_setup_read(
@@ -205,7 +217,7 @@ fn add_setup_read(
             drop(setup);
             done
         }
-        Err(fault) => write!(out, "{fault:?}"),
+        Err(fault) => add(out, fault),
     }
 }
 

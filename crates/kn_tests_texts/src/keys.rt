@@ -46,7 +46,7 @@ pub fn key_of(name: &str) -> Key {
 }
 
 /// Prints how each key is written.
-pub fn texts(rt: &impl Print) -> io::Result<()> {
+pub fn texts(rt: &HostRuntime) -> io::Result<()> {
     for key in &KEYS {
         println!(rt; "{key:?}: {}", key.text())?;
     }

@@ -1,24 +1,22 @@
 //! The lines of a journal's events, alone and ahead in the input.
-use crate::texts::{say, text_of};
+use crate::texts::{add, add_behind, say, text_of};
 use kn_event::{Event, LastTime, Line, event_ahead, event_line, read_event, split_field};
 use std::alloc::AllocError;
-use std::fmt::Write;
 use std::io;
 
 /// Adds the line of an event.
 fn add_written(event: &Event, out: &mut String) -> Result<(), AllocError> {
     let mut line = Line::new();
     event_line(event, &mut line);
-    let text = text_of(line.bytes());
-    write!(out, "; {text:?}")
+    add_behind(out, "; ", text_of(line.bytes()))
 }
 
 /// What a line says in version 1 and in version 2, and the line of the event that it says.
 pub fn line(text: &[u8], out: &mut String) -> Result<(), AllocError> {
-    say(out, &read_event(text, 1))?;
+    say(out, read_event(text, 1))?;
     out.push_str("; ")?;
     let read = read_event(text, 2);
-    say(out, &read)?;
+    say(out, read)?;
     match &read {
         Ok(event) => add_written(event, out),
         Err(_) => Ok(()),
@@ -29,8 +27,8 @@ pub fn line(text: &[u8], out: &mut String) -> Result<(), AllocError> {
 pub fn split(text: &[u8], out: &mut String) -> Result<(), AllocError> {
     match split_field(text) {
         Some((field, rest)) => {
-            let (field, rest) = (text_of(field), text_of(rest));
-            write!(out, "{field:?} {rest:?}")
+            add(out, text_of(field))?;
+            add_behind(out, " ", text_of(rest))
         }
         None => out.push_str("no space"),
     }
@@ -39,7 +37,7 @@ pub fn split(text: &[u8], out: &mut String) -> Result<(), AllocError> {
 /// The event of the line at the front of the input, where its words are usual.
 pub fn ahead(text: &[u8], out: &mut String) -> Result<(), AllocError> {
     match event_ahead(text) {
-        Some((event, _)) => write!(out, "{event:?}"),
+        Some((event, _)) => add(out, event),
         None => out.push_str("nothing"),
     }
 }
@@ -62,7 +60,7 @@ const TURNS: [&str; 13] = [
     "1234567 ready 0\n",
 ];
 
-fn show_turn(rt: &impl Print, last: &mut LastTime, text: &str) -> io::Result<()> {
+fn show_turn(rt: &HostRuntime, last: &mut LastTime, text: &str) -> io::Result<()> {
     match last.event_ahead(text.as_bytes()) {
         Some((event, _)) => println!(rt; "then {text:?}: {}", event.time),
         None => println!(rt; "then {text:?}: nothing"),
@@ -70,7 +68,7 @@ fn show_turn(rt: &impl Print, last: &mut LastTime, text: &str) -> io::Result<()>
 }
 
 /// The time of each line by one reader of times.
-pub fn turns(rt: &impl Print) -> io::Result<()> {
+pub fn turns(rt: &HostRuntime) -> io::Result<()> {
     let mut last = LastTime::new();
     for text in &TURNS {
         show_turn(rt, &mut last, text)?;
@@ -94,7 +92,7 @@ fn add_fitting(place: usize, fitting: &mut Vec<u8>) -> Result<(), AllocError> {
 
 /// Prints the bytes that make an event of a line where they stand at this place in it: behind the digits of the time and of the
 /// request a space alone.
-pub fn fitting<R: Print + AllocGlobal>(rt: &R, place: usize) -> io::Result<()> {
+pub fn fitting(rt: &HostRuntime, place: usize) -> io::Result<()> {
     let mut fitting = Vec::new(rt.alloc());
     add_fitting(place, &mut fitting)?;
     println!(rt; "bytes that fit at {place}: {fitting:?}")

@@ -18,107 +18,113 @@ mod written;
 use kn_config::Config;
 use std::alloc::{AllocError, Global};
 use std::io;
-use std::io::Input;
-use std::rt::Files;
 use texts::{bytes_of, first_word, say, text_of};
 
-/// Adds what a text comes to by the calls of its subject, some of them over a ConfigMap.
-fn add_answer(
-    alloc: Global,
-    settings: &[u8],
-    subject: &str,
-    text: &[u8],
-    out: &mut String,
-) -> Result<(), AllocError> {
-    match subject {
-        "number" | "whole" | "duration" | "digits" | "quotient-up" | "quotient-down" => {
-            numbers::number(subject, text, out)
-        }
-        "line" => lines::line(text, out),
-        "split" => lines::split(text, out),
-        "ahead" => lines::ahead(text, out),
-        "config" => say(out, &Config::read(alloc, text)),
-        "setting" => {
-            let (name, text) = first_word(text_of(text));
-            settings::setting(alloc, name, name, text, out)
-        }
-        "default" => settings::setting(alloc, text_of(text), "_example", "", out),
-        "fixed" => revisions::fixed(alloc, text_of(text), out),
-        "revision" | "parts" | "annotation" | "limit" | "without" => {
-            revisions::revision(alloc, settings, subject, text, out)
-        }
-        _ => add_answer_to_journal(alloc, subject, text, out),
+/// The answer to a line, and what it is about.
+struct Page {
+    out: String,
+    settings: Vec<u8>,
+    text: Vec<u8>,
+}
+
+impl Drop for Page {
+    fn drop(self) {
+        let Page {
+            out: _,
+            settings: _,
+            text: _,
+        } = self;
     }
 }
 
-/// Adds what a journal, or a part of one, comes to.
-fn add_answer_to_journal(
+/// Adds what a text comes to by the calls of its subject.
+fn add_answer(
     alloc: Global,
     subject: &str,
     text: &[u8],
     out: &mut String,
 ) -> Result<(), AllocError> {
     match subject {
+        "config" => say(out, Config::read(alloc, text)),
+        "setting" => settings::named(alloc, text_of(text), out),
+        "default" => settings::setting(alloc, text_of(text), "_example", "", out),
+        "fixed" => revisions::fixed(alloc, text_of(text), out),
         "journal" => journals::journal(alloc, text, out),
         "events" => journals::events(alloc, text, out),
         "cut" => journals::cut(alloc, text, out),
         "failing" => journals::failing(alloc, text, out),
         "setup" => journals::setup(alloc, text, out),
         "back" => written::back(alloc, text, out),
-        _ => out.push_str("no such subject"),
+        _ => add_answer_to_line(subject, text, out),
     }
 }
 
-fn add_answer_over<R: Files + AllocGlobal>(
-    rt: &R,
-    settings: &[u8],
-    line: &str,
-    out: &mut String,
-) -> io::Result<()> {
-    let (subject, text) = first_word(line);
-    let text = bytes_of(rt, text)?;
-    Ok(add_answer(rt.alloc(), settings, subject, &text, out)?)
+/// Adds what a line of a journal, or a number, comes to.
+fn add_answer_to_line(subject: &str, text: &[u8], out: &mut String) -> Result<(), AllocError> {
+    match subject {
+        "line" => lines::line(text, out),
+        "split" => lines::split(text, out),
+        "ahead" => lines::ahead(text, out),
+        _ => numbers::number(subject, text, out),
+    }
 }
 
-/// Adds the answer to a line.
-fn add_answer_to_line<R: Files + AllocGlobal>(
-    rt: &R,
-    line: &str,
-    out: &mut String,
-) -> io::Result<()> {
-    let (settings, line) = match line.strip_prefix("over ") {
-        Some(rest) => first_word(rest),
-        None => ("", line),
-    };
-    let settings = bytes_of(rt, settings)?;
-    add_answer_over(rt, &settings, line, out)
+/// Adds the answer to a line with a subject and a text.
+fn add_answer_to_text(rt: &HostRuntime, line: &str, page: &mut Page) -> io::Result<()> {
+    let (subject, text) = first_word(line);
+    page.text = bytes_of(rt, text)?;
+    let Page { out, text, .. } = page;
+    Ok(add_answer(rt.alloc(), subject, text, out)?)
+}
+
+/// Adds the answer to a line of a Revision over a ConfigMap.
+fn add_answer_over(rt: &HostRuntime, line: &str, page: &mut Page) -> io::Result<()> {
+    let (settings, line) = first_word(line);
+    let (subject, text) = first_word(line);
+    page.settings = bytes_of(rt, settings)?;
+    page.text = bytes_of(rt, text)?;
+    let Page {
+        out,
+        settings,
+        text,
+    } = page;
+    Ok(revisions::revision(rt.alloc(), settings, subject, text, out)?)
 }
 
 /// Prints a line with its answer.
-fn show<R: Print + Files + AllocGlobal>(rt: &R, line: &str, out: &mut String) -> io::Result<()> {
-    add_answer_to_line(rt, line, out)?;
-    println!(rt; "{line}: {out}")
+fn show(rt: &HostRuntime, line: &str, page: &mut Page) -> io::Result<()> {
+    page.out.clear();
+    match line.strip_prefix("over ") {
+        Some(rest) => add_answer_over(rt, rest, page)?,
+        None => add_answer_to_text(rt, line, page)?,
+    }
+    texts::print_text(rt, line, page.out.as_str())
 }
 
-fn show_line<R: Print + Files + AllocGlobal>(rt: &R, line: io::Result<String>) -> io::Result<()> {
-    let line = line?;
-    let mut out = String::new(rt.alloc());
-    let done = show(rt, line.as_str(), &mut out);
-    drop(out);
-    drop(line);
-    done
-}
-
-/// The lines of standard input.
-fn show_lines<R: Print + Files + AllocGlobal + Input>(rt: &R) -> io::Result<()> {
-    for line in rt.lines(rt.alloc()) {
-        show_line(rt, line)?;
+fn show_all(rt: &HostRuntime, lines: &str, page: &mut Page) -> io::Result<()> {
+    for line in lines.lines() {
+        show(rt, line, page)?;
     }
     Ok(())
 }
 
+/// The lines of standard input.
+fn show_lines(rt: &HostRuntime) -> io::Result<()> {
+    let alloc = rt.alloc();
+    let lines = io::read_to_string(alloc, rt.stdin())?;
+    let mut page = Page {
+        out: String::new(alloc),
+        settings: Vec::new(alloc),
+        text: Vec::new(alloc),
+    };
+    let done = show_all(rt, lines.as_str(), &mut page);
+    drop(page);
+    drop(lines);
+    done
+}
+
 /// The cases that are no texts.
-fn cases<R: Print + AllocGlobal>(rt: &R) -> io::Result<()> {
+fn cases(rt: &HostRuntime) -> io::Result<()> {
     keys::texts(rt)?;
     rows::report(rt)?;
     lines::turns(rt)?;

@@ -3,7 +3,7 @@ ghost use Rattle.std.specs.Prelude.{IfSome};
 ghost use Rattle.kn_event.specs.Ranges.{AreSlots};
 
 use crate::keys::key_of;
-use crate::texts::{first_word, text_of};
+use crate::texts::{add, add_behind, first_word, text_of};
 use kn_config::{Config, Key};
 use kn_event::{Burst, Metric, Slots, Spec};
 use kn_revision::{SpecError, resolve};
@@ -26,36 +26,44 @@ fn resolved(alloc: Global, settings: &[u8], text: &[u8]) -> Result<Spec, SpecErr
 
 /// Adds the metric, the target and the windows.
 fn add_target(spec: &Spec, out: &mut String) -> Result<(), AllocError> {
-    let (metric, total, target) = (spec.metric, spec.total.0, spec.target);
-    let (stable_s, panic_s) = (spec.stable_s, spec.panic_s);
-    let (num, den) = (target.num, target.den);
-    write!(
-        out,
-        "{metric:?} total={total} target={num}/{den} stable_s={stable_s} panic_s={panic_s}"
-    )
+    add(out, spec.metric)?;
+    add_behind(out, " total=", spec.total.0)?;
+    add_behind(out, " target=", spec.target.num)?;
+    add_behind(out, "/", spec.target.den)?;
+    add_behind(out, " stable_s=", spec.stable_s)?;
+    add_behind(out, " panic_s=", spec.panic_s)
 }
 
-/// Adds the rates, the delay, the burst, the bounds, and what is kept when no request comes.
+/// Adds the rates, the delay and the burst.
 fn add_rates(spec: &Spec, out: &mut String) -> Result<(), AllocError> {
-    let (threshold, up, down) = (spec.panic_threshold.0, spec.up.0, spec.down.0);
-    let (activation, delay_s, burst) = (spec.activation, spec.delay_s, spec.burst);
-    let (min, max, initial, to_zero) = (spec.min, spec.max, spec.initial, spec.to_zero);
-    let (grace_ms, retention_ms) = (spec.grace_ms, spec.retention_ms);
-    write!(
-        out,
-        " panic_threshold={threshold} up={up} down={down} activation={activation} delay_s={delay_s} burst={burst:?} \
-         min={min} max={max} initial={initial} to_zero={to_zero} grace_ms={grace_ms} retention_ms={retention_ms}"
-    )
+    add_behind(out, " panic_threshold=", spec.panic_threshold.0)?;
+    add_behind(out, " up=", spec.up.0)?;
+    add_behind(out, " down=", spec.down.0)?;
+    add_behind(out, " activation=", spec.activation)?;
+    add_behind(out, " delay_s=", spec.delay_s)?;
+    add_behind(out, " burst=", spec.burst)
+}
+
+/// Adds the bounds, and what is kept when no request comes.
+fn add_bounds(spec: &Spec, out: &mut String) -> Result<(), AllocError> {
+    add_behind(out, " min=", spec.min)?;
+    add_behind(out, " max=", spec.max)?;
+    add_behind(out, " initial=", spec.initial)?;
+    add_behind(out, " to_zero=", spec.to_zero)?;
+    add_behind(out, " grace_ms=", spec.grace_ms)?;
+    add_behind(out, " retention_ms=", spec.retention_ms)?;
+    add_behind(out, " timeout_ms=", spec.timeout_ms)
 }
 
 /// Adds all parts of a specification.
 fn add_parts(spec: &Spec, out: &mut String) -> Result<(), AllocError> {
     let (namespace, name) = (text_of(spec.namespace.bytes()), text_of(spec.name.bytes()));
-    let (kind, cc, timeout_ms, slots) = (spec.kind, spec.cc, spec.timeout_ms, spec.slots);
+    let (kind, cc) = (spec.kind, spec.cc);
     write!(out, "{kind:?} {namespace}/{name} cc={cc} ")?;
     add_target(spec, out)?;
     add_rates(spec, out)?;
-    write!(out, " timeout_ms={timeout_ms} {slots:?}")
+    add_bounds(spec, out)?;
+    add_behind(out, " ", spec.slots)
 }
 
 /// What stands before the name of an annotation.
@@ -82,8 +90,10 @@ fn part(spec: &Spec, key: Key) -> u128 {
             Metric::Concurrency => 0,
             Metric::Rps => 1,
         },
-        Key::MinScale | Key::OldMinScale => u128::from(spec.min),
-        Key::MaxScale | Key::OldMaxScale => u128::from(spec.max),
+        Key::MinScale => u128::from(spec.min),
+        Key::OldMinScale => u128::from(spec.min),
+        Key::MaxScale => u128::from(spec.max),
+        Key::OldMaxScale => u128::from(spec.max),
         Key::InitialScale => u128::from(spec.initial),
         Key::Target => u128::from(spec.total.0),
         Key::TargetUtilizationPercentage => spec.target.num,
@@ -115,10 +125,7 @@ fn add_asked(asked: Asked, spec: &Spec, out: &mut String) -> Result<(), AllocErr
     match asked {
         Asked::Target => add_target(spec, out),
         Asked::All => add_parts(spec, out),
-        Asked::Part(key) => {
-            let part = part(spec, key);
-            write!(out, "{part}")
-        }
+        Asked::Part(key) => add(out, part(spec, key)),
     }
 }
 
@@ -136,7 +143,7 @@ fn add_resolved(
             drop(spec);
             done
         }
-        Err(fault) => write!(out, "{fault:?}"),
+        Err(fault) => add(out, fault),
     }
 }
 
@@ -160,7 +167,9 @@ fn add_alone(
     let (name, value) = first_word(text);
     let asked = Asked::Part(key_of(name));
     let text = written(alloc, subject, name, value)?;
-    add_resolved(alloc, settings, text.as_bytes(), asked, out)
+    let done = add_resolved(alloc, settings, text.as_bytes(), asked, out);
+    drop(text);
+    done
 }
 
 /// What a text comes to over a ConfigMap.

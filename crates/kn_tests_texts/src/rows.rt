@@ -102,14 +102,14 @@ const GREATEST: Decision = Decision {
 };
 
 /// Prints the line of a row at this time.
-fn print_row(rt: &impl Print, time: u64, row: Row) -> io::Result<()> {
+fn print_row(rt: &HostRuntime, time: u64, row: Row) -> io::Result<()> {
     let mut line = Line::new();
     entry_line(&Entry { time, row }, &mut line);
-    print!(rt; "{}", text_of(line.bytes()))
+    rt.print(text_of(line.bytes()))
 }
 
 /// Prints the line of each kind of row, and of three decisions.
-pub fn report(rt: &impl Print) -> io::Result<()> {
+pub fn report(rt: &HostRuntime) -> io::Result<()> {
     for row in &ROWS {
         print_row(rt, 5, *row)?;
     }

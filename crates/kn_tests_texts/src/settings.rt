@@ -1,9 +1,9 @@
 //! The settings of a ConfigMap.
 use crate::keys::key_of;
+use crate::texts::{add, first_word};
 use kn_config::{Config, Key};
 use kn_event::Burst;
 use std::alloc::{AllocError, Global};
-use std::fmt::Write;
 
 /// The setting of a key, and 0 for a key that the ConfigMap doesn't have. A boolean is 1 or 0.
 fn amount(config: &Config, key: Key) -> u64 {
@@ -44,10 +44,13 @@ pub fn setting(
     let read = Config::read(alloc, json.as_bytes());
     drop(json);
     match read {
-        Ok(config) => {
-            let amount = amount(&config, key_of(key));
-            write!(out, "{amount}")
-        }
-        Err(fault) => write!(out, "{fault:?}"),
+        Ok(config) => add(out, amount(&config, key_of(key))),
+        Err(fault) => add(out, fault),
     }
+}
+
+/// The setting of a key with this text, by the name that stands before it.
+pub fn named(alloc: Global, text: &str, out: &mut String) -> Result<(), AllocError> {
+    let (name, text) = first_word(text);
+    setting(alloc, name, name, text, out)
 }

@@ -2,7 +2,6 @@
 use kn_case::spelled;
 use std::alloc::{AllocError, Global};
 use std::fmt::{Debug, Write};
-use std::rt::Files;
 use std::{fs, io};
 
 /// Adds what a text spells, so many times.
@@ -32,7 +31,7 @@ fn add_all(alloc: Global, text: &str, bytes: &mut Vec<u8>) -> Result<(), AllocEr
 }
 
 /// The bytes that a row's text stands for.
-pub fn bytes_of<R: Files + AllocGlobal>(rt: &R, text: &str) -> io::Result<Vec<u8>> {
+pub fn bytes_of(rt: &HostRuntime, text: &str) -> io::Result<Vec<u8>> {
     if let Some(name) = text.strip_prefix('@') {
         return fs::read(rt, name);
     }
@@ -51,10 +50,39 @@ pub fn text_of(bytes: &[u8]) -> &str {
     str::from_utf8(bytes).unwrap_or("")
 }
 
+/// Adds the value.
+pub fn add<T: Debug + Copy>(out: &mut String, value: T) -> Result<(), AllocError> {
+    write!(out, "{value:?}")
+}
+
+/// Adds a text and the value.
+pub fn add_behind<T: Debug + Copy>(
+    out: &mut String,
+    text: &str,
+    value: T,
+) -> Result<(), AllocError> {
+    write!(out, "{text}{value:?}")
+}
+
 /// Adds the value, or the fault.
-pub fn say<T: Debug, E: Debug>(out: &mut String, answer: &Result<T, E>) -> Result<(), AllocError> {
+pub fn say<T: Debug + Copy, E: Debug + Copy>(
+    out: &mut String,
+    answer: Result<T, E>,
+) -> Result<(), AllocError> {
     match answer {
-        Ok(value) => write!(out, "{value:?}"),
-        Err(fault) => write!(out, "{fault:?}"),
+        Ok(value) => add(out, value),
+        Err(fault) => add(out, fault),
     }
+}
+
+/// Prints a text.
+pub fn print_text(rt: &HostRuntime, name: &str, text: &str) -> io::Result<()> {
+    rt.print(name)?;
+    rt.print(": ")?;
+    rt.println(text)
+}
+
+/// Prints a value.
+pub fn print_value<T: Debug + Copy>(rt: &HostRuntime, name: &str, value: T) -> io::Result<()> {
+    println!(rt; "{name}: {value:?}")
 }

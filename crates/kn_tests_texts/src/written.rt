@@ -76,7 +76,7 @@ fn write_back(alloc: Global, reading: &mut Reading, out: &mut MemSink) -> bool {
 }
 
 fn writes_same(alloc: Global, reading: &mut Reading, bytes: &[u8]) -> Result<bool, AllocError> {
-    let fail = vec![in alloc; NEVER]?;
+    let fail = Vec::from_slice(alloc, &[NEVER])?;
     match MemSink::new(alloc, 1 << 20, fail) {
         Ok(mut out) => {
             let same = write_back(alloc, reading, &mut out) && out.held() == bytes;
@@ -143,13 +143,13 @@ fn count_read(reading: &mut Reading) -> u64 {
     MANY
 }
 
-fn show_many<R: Print + AllocGlobal>(rt: &R, reading: &mut Reading) -> io::Result<()> {
-    if read_start(rt.alloc(), reading).is_err() {
-        return println!(rt; "no start");
+/// How many of these events are read in order behind a start, and whether the end is behind them.
+fn read_many(alloc: Global, reading: &mut Reading) -> (u64, bool) {
+    if read_start(alloc, reading).is_err() {
+        return (0, false);
     }
-    case(rt, "events read as written", &count_read(reading), &MANY)?;
-    let end = reading.reader.next(&mut reading.source);
-    case(rt, "end behind them", &end, &Ok(None))
+    let read = count_read(reading);
+    (read, reading.reader.next(&mut reading.source) == Ok(None))
 }
 
 fn reading_of_many(alloc: Global) -> Result<Reading, AllocError> {
@@ -158,11 +158,12 @@ fn reading_of_many(alloc: Global) -> Result<Reading, AllocError> {
 }
 
 /// Many events are read as they were written, and then the end.
-pub fn many<R: Print + AllocGlobal>(rt: &R) -> io::Result<()> {
+pub fn many(rt: &HostRuntime) -> io::Result<()> {
     let mut reading = reading_of_many(rt.alloc())?;
-    let done = show_many(rt, &mut reading);
+    let (read, ended) = read_many(rt.alloc(), &mut reading);
     drop(reading);
-    done
+    case(rt, "events read as written", &read, &MANY)?;
+    case(rt, "end behind them", &ended, &true)
 }
 
 /// Each status of a command.
@@ -179,7 +180,7 @@ const STATUSES: [Status; 9] = [
 ];
 
 /// Prints the exit status of a program that ended so.
-pub fn statuses(rt: &impl Print) -> io::Result<()> {
+pub fn statuses(rt: &HostRuntime) -> io::Result<()> {
     for status in &STATUSES {
         println!(rt; "{status:?}: exit {}", status.code())?;
     }
