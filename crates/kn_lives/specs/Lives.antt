@@ -74,7 +74,7 @@ unfoldable pub by_row : {X : Type 0} → (Trace → Entry → List X) → Trace 
 by_row f c [] = []
 by_row f c (x ∷ xs) = f c x ++ by_row f (c ++ x ∷ []) xs
 
--- a row comes where it is proper, on a trace that events made; where somebody arrives with it, it has the next number and this tag
+-- a row comes where it is proper, on a trace that events made; who arrives with it has the next number and this tag
 pub record ComesNext (s : Spec) (es : List Event) (tag : ℕ) (c : Trace) (x : Row) : Type 0 where
   pub made : IsMade s c
   pub proper : IsProper s c x
@@ -83,11 +83,13 @@ pub record ComesNext (s : Spec) (es : List Event) (tag : ℕ) (c : Trace) (x : R
 
 -- pairs go on by one row, which comes with this tag
 abbrev pub AddsRow : ℕ → Entry → List (ℕ × Life) → List (ℕ × Life) → Type 0
-AddsRow tag x old new = (s : Spec) (es : List Event) (c : Trace) → ComesNext s es tag c x.row → AreLives old es c → AreLives new es (c ++ x ∷ [])
+AddsRow tag x old new = (s : Spec) (es : List Event) (c : Trace)
+    → ComesNext s es tag c x.row → AreLives old es c → AreLives new es (c ++ x ∷ [])
 
 -- further events change no tag of those who have come
 abbrev pub StayLives : Spec → ℕ → List Event → List Event → Type 0
-StayLives s start es more = (l : List (ℕ × Life)) → AreLives l es (trace_of s start es) → AreLives l (es ++ more) (trace_of s start es)
+StayLives s start es more = (l : List (ℕ × Life))
+    → AreLives l es (trace_of s start es) → AreLives l (es ++ more) (trace_of s start es)
 
 -- each row of one more event comes next, with the event's tag
 abbrev pub ComeInTurn : Spec → ℕ → List Event → Event → Type 0

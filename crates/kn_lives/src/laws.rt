@@ -13,10 +13,11 @@ ghost use Rattle.kn_lives.specs.Lives.{AreKnown, AreLiveBy, AreLives, ComeInTurn
 use kn_laws::parts::part_laws;
 use kn_record::facts::fact_laws;
 
-/// Nobody lives after the opening. One more event changes no tag of those who have come; each of its rows comes where it is
-/// proper, and who arrives with it has its tag. As many tags have come as requests.
+/// Nobody lives after the opening. Further events change no tag of those who have come; each row of one more event comes where
+/// it is proper, and who arrives with it has its tag. As many tags have come as requests.
 pub fn lives_laws()
-    ensures opened { (s : Spec) (start : ℕ) (l : List (ℕ × Life)) → AreLives l [] [] → AreLives l [] (trace_of s start []) }
+    ensures opened { (s : Spec) (start : ℕ) (l : List (ℕ × Life))
+        → AreLives l [] [] → AreLives l [] (trace_of s start []) }
     ensures later { (s : Spec) (start : ℕ) (es more : List Event) → StayLives s start es more }
     ensures next { (s : Spec) (start : ℕ) (es : List Event) (e : Event) → ComeInTurn s start es e }
     ensures count { (s : Spec) (start : ℕ) (es : List Event) → arrivals (trace_of s start es) ≡ length (tags es) }
@@ -25,13 +26,16 @@ pub fn lives_laws()
     part_laws();
 }
 
-/// Who begins to run with a row that comes next, or ends with it, is live, and so has a life in the pairs. Row by row over rows
-/// in two parts.
+/// Who begins to run with a row that comes next, or ends with it, is live, and so has a life in the pairs. Row by row over
+/// rows in two parts.
 pub fn row_laws()
-    ensures begun { (s : Spec) (es : List Event) (tag : ℕ) (c : Trace) (x : Row) → ComesNext s es tag c x → AreLiveBy begun_by c x }
-    ensures ended { (s : Spec) (es : List Event) (tag : ℕ) (c : Trace) (x : Row) → ComesNext s es tag c x → AreLiveBy ended_by c x }
+    ensures begun { (s : Spec) (es : List Event) (tag : ℕ) (c : Trace) (x : Row)
+        → ComesNext s es tag c x → AreLiveBy begun_by c x }
+    ensures ended { (s : Spec) (es : List Event) (tag : ℕ) (c : Trace) (x : Row)
+        → ComesNext s es tag c x → AreLiveBy ended_by c x }
     ensures known { (es : List Event) (c : Trace) (l : List (ℕ × Life)) → AreLives l es c → AreKnown l es c }
-    ensures append { (f : Trace → Entry → List ℕ) (c xs ys : Trace) → by_row f c (xs ++ ys) ≡ by_row f c xs ++ by_row f (c ++ xs) ys }
+    ensures append { (f : Trace → Entry → List ℕ) (c xs ys : Trace)
+        → by_row f c (xs ++ ys) ≡ by_row f c xs ++ by_row f (c ++ xs) ys }
 {
     fact_laws();
 }

@@ -156,7 +156,8 @@ impl Lives {
 
     /// Takes in a request of a number above all.
     fn take_in(&mut self, r: u64, life: Life)
-        ensures { All (λ (x : ℕ × Life). x.0 < r) self.old → length self.old < 20000 → self.new ≡ self.old ++ (r, life) ∷ [] }
+        ensures { All (λ (x : ℕ × Life). x.0 < r) self.old → length self.old < 20000
+            → self.new ≡ self.old ++ (r, life) ∷ [] }
     {
         if self.has_room(r) {
             self.pairs.push_back_reserved((r, life));
@@ -165,7 +166,8 @@ impl Lives {
 
     /// The live request runs from now on, at the pod that it is assigned to.
     fn assign(&mut self, r: u64, p: u64, time: u64)
-        ensures { (x : Life) → life_at self.old r ≡ Some x → self.new ≡ set_value (λ q. r == q) self.old (record x { begun = Some time; pod = Some p }) }
+        ensures { (x : Life) → life_at self.old r ≡ Some x
+            → self.new ≡ set_value (λ q. r == q) self.old (record x { begun = Some time; pod = Some p }) }
     {
         if let Some(place) = self.place_of(r) {
             let life = &mut self.pairs[place].1;
@@ -176,7 +178,8 @@ impl Lives {
 
     /// The live request runs from now on, at the pod that it was sent to.
     fn run(&mut self, r: u64, time: u64)
-        ensures { (x : Life) → life_at self.old r ≡ Some x → self.new ≡ set_value (λ q. r == q) self.old (record x { begun = Some time }) }
+        ensures { (x : Life) → life_at self.old r ≡ Some x
+            → self.new ≡ set_value (λ q. r == q) self.old (record x { begun = Some time }) }
     {
         if let Some(place) = self.place_of(r) {
             self.pairs[place].1.begun = Some(time);
@@ -186,8 +189,10 @@ impl Lives {
     /// Forgets who ends with a row.
     fn end_by(&mut self, row: &Row)
         ensures none { ended_by row.now ≡ None → self.new ≡ self.old }
-        ensures gone { (r q : ℕ) → ended_by row.now ≡ Some r → life_at self.new q ≡ if r == q then None else life_at self.old q }
-        ensures fewer { (r : ℕ) → ended_by row.now ≡ Some r → IsSome (life_at self.old r) → length self.new + 1 ≡ length self.old }
+        ensures gone { (r q : ℕ) → ended_by row.now ≡ Some r
+            → life_at self.new q ≡ if r == q then None else life_at self.old q }
+        ensures fewer { (r : ℕ) → ended_by row.now ≡ Some r → IsSome (life_at self.old r)
+            → length self.new + 1 ≡ length self.old }
     {
         if let Some(r) = ended_by(row) {
             self.end(r);

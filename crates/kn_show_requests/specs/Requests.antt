@@ -23,7 +23,17 @@ use Rattle.kn_show_requests.specs.Texts.{header, line_text, line_where}
 
 -- it is refused at this time, by a pod or before any: it ended when it arrived
 abbrev pub refused : ℕ → ℕ → ℕ → Outcome → Option ℕ → Told
-refused r tag t how pod = record { request = r; tag = tag; arrived = t; way = way.Refused; outcome = how; ended = Some t; pod = pod; waited = Some 0; ran = None }
+refused r tag t how pod = record {
+  request = r;
+  tag = tag;
+  arrived = t;
+  way = way.Refused;
+  outcome = how;
+  ended = Some t;
+  pod = pod;
+  waited = Some 0;
+  ran = None;
+}
 
 abbrev pub way_of : Life → Way
 way_of x = if x.direct then way.Direct else way.Proxied
@@ -80,7 +90,8 @@ live_text es c r = line_text (live_told r (life_in es c r))
 
 -- each of these rows comes next, one after the other
 abbrev pub ComeNext : Spec → List Event → ℕ → Trace → List Entry → Type 0
-ComeNext s es tag c xs = (before rest : Trace) (x : Entry) → xs ≡ before ++ x ∷ rest → ComesNext s es tag (c ++ before) x.row
+ComeNext s es tag c xs = (before rest : Trace) (x : Entry)
+    → xs ≡ before ++ x ∷ rest → ComesNext s es tag (c ++ before) x.row
 
 -- the lines of these rows, after the trace
 unfoldable pub rows_text : List Event → Trace → List Entry → List ℕ

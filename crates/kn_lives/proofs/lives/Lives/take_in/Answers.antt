@@ -1,4 +1,4 @@
-use Rattle.std.proofs.Common.{◌≤◌, ◌<◌, ℕ, length, arith, refl, sym, ap, subst}
+use Rattle.std.proofs.Common.{List, ◌≤◌, ◌<◌, ℕ, length, arith, refl, sym, ap, subst}
 use Rattle.std.specs.List.{All}
 use Rattle.std.proofs.lemmas.List.Quantifiers.{all_pairs_push}
 use Rattle.kn_lives.specs.declared.lives.Life.{Life}
@@ -16,6 +16,6 @@ pub invariant_of-self : goal.invariant_of-self
 invariant_of-self c =
     let above = subst (λ l. All (λ (x : ℕ × Life). x.0 < c.args.r) l) (sym c.self.view_is) (c.if-has_room.ensures.above refl) in
     record {
-      order = subst AreAscending (sym c.push_back_reserved.ensures.items) (all_pairs_push (λ (x y : ℕ × Life). x.0 < y.0) c.self.inside.pairs.items (c.args.r, c.args.life) c.self.invariant.order above);
+      order = subst AreAscending (sym {A = List (ℕ × Life)} c.push_back_reserved.ensures.items) (all_pairs_push (λ (x y : ℕ × Life). x.0 < y.0) c.self.inside.pairs.items (c.args.r, c.args.life) c.self.invariant.order above);
       room = subst (λ n. 20000 ≤ n) (sym c.push_back_reserved.ensures.capacity) c.self.invariant.room;
     }
