@@ -1,5 +1,5 @@
 -- The rows of an event are counted one after the other.
-use Rattle.std.proofs.Common.{◌≡◌, ◌≤◌, ◌<◌, ◌+◌, ◌-◌, ℕ, Bool, true, false, ◌||◌, List, [], ◌∷◌, ◌++◌, length, take, drop, get_or, Option, None, Some, refl, ap, sym, ◌∙◌, subst, arith, add-one, append_assoc, append-nil, drop-cons}
+use Rattle.std.proofs.Common.{◌≡◌, ◌<◌, ◌+◌, ◌-◌, ℕ, ◌||◌, List, [], ◌∷◌, ◌++◌, length, take, drop, get_or, None, Some, refl, ap, sym, ◌∙◌, subst, add-one, append_assoc, append-nil, drop-cons}
 use Rattle.std.specs.Prelude.{unwrap_or}
 use Rattle.std.specs.List.{list_any}
 use Rattle.std.proofs.Math.Bool.{or-false, or_assoc}
@@ -9,10 +9,9 @@ use Rattle.kn_event.specs.declared.entry.Entry.{Entry}
 use Rattle.kn_event.specs.declared.event.Event.{Event}
 use Rattle.kn_event.specs.declared.revision.Spec.{Spec}
 use Rattle.kn_trace.specs.Events.{react}
-use Rattle.kn_trace.specs.Rows.{taken_by}
-use Rattle.kn_trace.specs.Trace.{Trace, contains, live}
+use Rattle.kn_trace.specs.Trace.{Trace}
 use Rattle.kn_lives.specs.declared.lives.Life.{Life}
-use Rattle.kn_lives.specs.Lives.{AddsRow, AreKnown, AreLiveBy, AreLives, ComeInTurn, ComesNext, StayLives, begun_by, by_row, life_at, life_in, tag_by, time_of}
+use Rattle.kn_lives.specs.Lives.{AddsRow, AreKnown, AreLiveBy, AreLives, ComeInTurn, ComesNext, StayLives, begun_by, by_row, life_at, life_in, tag_by}
 use Rattle.kn_teller.specs.Run.{Run, later, trace}
 use Rattle.kn_show_series.specs.declared.counts.Counts.{Counts}
 use Rattle.kn_show_series.specs.declared.current.OpenStep.{OpenStep}

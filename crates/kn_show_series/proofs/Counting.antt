@@ -1,6 +1,6 @@
 -- Counts, row by row.
-use Rattle.std.proofs.Common.{◌≡◌, ◌≤◌, ◌+◌, ◌-◌, ◌*◌, ◌^◌, ℕ, List, [], ◌∷◌, ◌++◌, length, take, get_or, ◌<◌, refl, ap, sym, ◌∙◌, arith}
-use Rattle.std.specs.Prelude.{min, max, fold, sum}
+use Rattle.std.proofs.Common.{◌≡◌, ◌+◌, ◌-◌, ◌^◌, ℕ, List, [], ◌∷◌, ◌++◌, ap, ◌∙◌, arith}
+use Rattle.std.specs.Prelude.{min, max, sum}
 use Rattle.std.proofs.lemmas.List.Sums.{fold-append, sum_by-append}
 use Rattle.kn_event.specs.declared.entry.Entry.{Entry}
 use Rattle.kn_trace.specs.Rows.{arrived_by, decision_by, ended_by, refused_by}

@@ -1,6 +1,6 @@
 -- One event more: what it changes of the step that it lies in.
-use Rattle.std.proofs.Common.{◌≡◌, ◌≢◌, ◌≤◌, ◌<◌, ◌+◌, ◌-◌, ◌*◌, ◌/◌, ℕ, zero, suc, Bool, true, false, cond, ◌||◌, ◌&&◌, eqb, ltb, List, [], ◌∷◌, ◌++◌, length, map, take, refl, ap, sym, ◌∙◌, arith, append_assoc, append-nil, length-append, inl, inr}
-use Rattle.std.specs.Prelude.{Option, Some, count_by, fold, max, sum_by, unwrap_or, ◌⊎◌}
+use Rattle.std.proofs.Common.{◌≡◌, ◌≤◌, ◌<◌, ◌+◌, ◌-◌, ℕ, Bool, true, false, cond, ◌||◌, ◌&&◌, eqb, ltb, List, [], ◌∷◌, ◌++◌, length, map, refl, ap, sym, ◌∙◌, arith, append-nil, length-append}
+use Rattle.std.specs.Prelude.{Option, fold, max, unwrap_or}
 use Rattle.std.specs.List.{All, filter, list_any, range_with_len}
 use Rattle.std.proofs.lemmas.Bool.{eq-eqb, le-ltb, lt-ltb, ltb-true, ne_eqb}
 use Rattle.std.proofs.lemmas.List.{take-append-le, take_all, map-append}
@@ -14,14 +14,12 @@ use Rattle.kn_trace.specs.Trace.{Trace, held, last_of}
 use Rattle.kn_laws.specs.Kinds.{EachAt}
 use Rattle.kn_lives.specs.Lives.{by_row}
 use Rattle.kn_teller.specs.Run.{Run, later, now_of, trace}
-use Rattle.kn_show_series.specs.declared.counts.Counts.{Counts}
 use Rattle.kn_show_series.specs.declared.current.OpenStep.{OpenStep}
 use Rattle.kn_show_series.specs.declared.gauges.Gauges.{Gauges}
-use Rattle.kn_show_series.specs.Series.{open_step}
 use Rattle.kn_show_series.specs.State.{IsPast, IsStepOf}
-use Rattle.kn_show_series.specs.Steps.{counts_in, counts_of, events_before, follows_filled, gauges_of, held_after, held_peak, is_filled, is_shown, rows_in, step_of, wait_in, wait_of, waits_in}
+use Rattle.kn_show_series.specs.Steps.{counts_of, events_before, follows_filled, gauges_of, held_after, held_peak, is_filled, is_shown, rows_in, step_of, wait_in, wait_of, waits_in}
 use Rattle.kn_show_series.proofs.Lists.{filter-all, greatest-range_more, last_of-push, map-range_agree}
-use Rattle.kn_show_series.proofs.Past.{AreElsewhere, events_before-all, rows_in-none}
+use Rattle.kn_show_series.proofs.Past.{events_before-all, rows_in-none}
 use Rattle.kn_show_series.proofs.Steps.{step_of-le}
 
 -- ---- the clock

@@ -1,10 +1,9 @@
 -- After the opening.
-use Rattle.std.proofs.Common.{◌≡◌, ◌≤◌, ◌<◌, ◌+◌, ◌-◌, ◌*◌, ◌/◌, ℕ, Bool, true, false, cond, eqb, List, [], ◌∷◌, ◌++◌, length, map, take, Option, None, Some, refl, ap, sym, ◌∙◌, subst, arith}
-use Rattle.std.specs.Prelude.{fold, max, option_map, unwrap_or}
-use Rattle.std.specs.List.{All, cons_option, filter}
+use Rattle.std.proofs.Common.{◌≡◌, ◌≤◌, ◌/◌, ℕ, Bool, true, false, cond, eqb, List, [], ◌∷◌, ◌++◌, length, map, Option, None, Some, refl, ap, sym, ◌∙◌, subst, arith}
+use Rattle.std.specs.Prelude.{max, option_map, unwrap_or}
+use Rattle.std.specs.List.{All, cons_option}
 use Rattle.std.proofs.Math.Nat.{sub_self, zero-div}
 use Rattle.std.proofs.lemmas.List.Elements.{All-nil}
-use Rattle.kn_event.specs.declared.entry.Decision.{Decision}
 use Rattle.kn_event.specs.declared.entry.Entry.{Entry}
 use Rattle.kn_event.specs.declared.entry.Row.{Row}
 use Rattle.kn_event.specs.declared.event.Event.{Event}
@@ -21,7 +20,7 @@ use Rattle.kn_show_series.specs.declared.current.OpenStep.{OpenStep}
 use Rattle.kn_show_series.specs.declared.gauges.Gauges.{Gauges}
 use Rattle.kn_show_series.specs.Series.{open_step}
 use Rattle.kn_show_series.specs.State.{IsPast, IsSeriesOf, IsStepOf, IsUnopened, SeriesState}
-use Rattle.kn_show_series.specs.Steps.{counts_in, counts_of, events_before, expired_by, failed_by, follows_filled, gauges_of, held_after, held_peak, is_filled, rows_in, step_of, wait_in, wait_until, waits_in}
+use Rattle.kn_show_series.specs.Steps.{counts_of, events_before, expired_by, failed_by, follows_filled, gauges_of, held_after, held_peak, is_filled, rows_in, step_of, wait_in, waits_in}
 use Rattle.kn_show_series.proofs.Bounds.{times_all}
 use Rattle.kn_show_series.proofs.Lists.{each_row-filter_none}
 

@@ -1,7 +1,6 @@
 -- A step behind all that has come: it opens with nothing in it.
-use Rattle.std.proofs.Common.{◌≡◌, ◌≢◌, ◌≤◌, ◌<◌, ◌+◌, ◌-◌, ◌*◌, ◌/◌, ℕ, zero, suc, Bool, true, false, cond, ◌||◌, ◌&&◌, eqb, ltb, List, [], ◌∷◌, ◌++◌, length, map, take, refl, ap, sym, ◌∙◌, arith}
-use Rattle.std.specs.Prelude.{count_by, fold, max}
-use Rattle.std.specs.List.{All, filter, list_any, range_with_len}
+use Rattle.std.proofs.Common.{◌≡◌, ◌≤◌, ◌<◌, ◌+◌, ◌-◌, ◌*◌, ℕ, Bool, true, false, eqb, ltb, [], ◌∷◌, ◌++◌, length, refl, ap, sym, ◌∙◌, arith}
+use Rattle.std.specs.List.{All}
 use Rattle.std.proofs.Math.Bool.{and-false}
 use Rattle.std.proofs.lemmas.Bool.{lt-ltb, ne_eqb}
 use Rattle.std.proofs.lemmas.List.{take_all}
@@ -9,14 +8,13 @@ use Rattle.std.proofs.lemmas.List.Elements.{All-head, All-tail, All-weaker}
 use Rattle.std.proofs.lemmas.List.Sums.{length-filter}
 use Rattle.kn_event.specs.declared.entry.Entry.{Entry}
 use Rattle.kn_event.specs.declared.event.Event.{Event}
-use Rattle.kn_trace.specs.Events.{trace_of}
 use Rattle.kn_trace.specs.Trace.{Trace, held}
 use Rattle.kn_lives.specs.Lives.{by_row}
 use Rattle.kn_teller.specs.Run.{Run, now_of, trace}
 use Rattle.kn_show_series.specs.Open.{begun_at}
 use Rattle.kn_show_series.specs.Series.{open_step}
 use Rattle.kn_show_series.specs.State.{IsPast, IsStepOf}
-use Rattle.kn_show_series.specs.Steps.{counts_in, counts_of, events_before, follows_filled, gauges_of, held_after, held_peak, is_filled, is_shown, is_told, rows_in, step_of, wait_in, wait_of, waits_in}
+use Rattle.kn_show_series.specs.Steps.{counts_in, counts_of, events_before, follows_filled, gauges_of, held_after, held_peak, is_filled, is_told, rows_in, step_of, wait_in, waits_in}
 use Rattle.kn_show_series.proofs.Lists.{filter-all, filter-none}
 use Rattle.kn_show_series.proofs.Steps.{step_of-le}
 

@@ -1,7 +1,6 @@
 -- After one more event.
-use Rattle.std.proofs.Common.{◌≡◌, ◌≤◌, ◌<◌, ◌+◌, ◌-◌, ◌*◌, ◌^◌, ℕ, Bool, ◌||◌, List, [], ◌∷◌, ◌++◌, length, refl, ap, sym, ◌∙◌, subst, arith}
-use Rattle.std.specs.Prelude.{fold, max, min, sum}
-use Rattle.std.specs.List.{list_any}
+use Rattle.std.proofs.Common.{◌≡◌, ◌≤◌, ◌<◌, ◌-◌, ◌^◌, ℕ, List, ◌++◌, refl, ap, sym, ◌∙◌, subst, arith}
+use Rattle.std.specs.Prelude.{max, min, sum}
 use Rattle.std.proofs.lemmas.List.Sums.{sum_by-append}
 use Rattle.kn_event.specs.declared.entry.Entry.{Entry}
 use Rattle.kn_event.specs.declared.event.Event.{Event}
@@ -9,15 +8,14 @@ use Rattle.kn_trace.specs.Trace.{Trace}
 use Rattle.kn_laws.specs.Kinds.{EachAt}
 use Rattle.kn_core.specs.State.{RevisionState}
 use Rattle.kn_lives.specs.Lives.{AreLives, by_row}
-use Rattle.kn_teller.specs.Run.{IsStep, Run, later, now_of, trace}
-use Rattle.kn_show_series.specs.declared.counts.Counts.{Counts}
+use Rattle.kn_teller.specs.Run.{IsStep, Run, later, trace}
 use Rattle.kn_show_series.specs.declared.current.OpenStep.{OpenStep}
 use Rattle.kn_show_series.specs.declared.gauges.Gauges.{Gauges}
 use Rattle.kn_show_series.specs.Counting.{with_cap}
 use Rattle.kn_show_series.specs.Open.{open_text}
 use Rattle.kn_show_series.specs.Series.{open_step, step_line}
 use Rattle.kn_show_series.specs.State.{CountsEvent, IsSeriesOf, IsStepOf, Precedes, SeriesState}
-use Rattle.kn_show_series.specs.Steps.{counts_in, counts_of, gauges_of, is_shown, pods_of, rows_in, step_of, wait_of, waits_in}
+use Rattle.kn_show_series.specs.Steps.{counts_of, gauges_of, pods_of, rows_in, step_of, wait_of, waits_in}
 use Rattle.kn_show_series.proofs.Events.{now_of-later, past_later, takes_event, waits_in-same}
 
 -- before it

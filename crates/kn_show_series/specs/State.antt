@@ -1,15 +1,17 @@
 -- What a teller of the series keeps of its run.
-use Rattle.std.specs.Prelude.{◌≡◌, ℕ, ◌+◌, ◌*◌, ◌≤◌, Bool, true, false, ◌||◌, ◌++◌, List, []}
+use Rattle.std.specs.Prelude.{◌≡◌, ℕ, ◌+◌, ◌*◌, ◌≤◌, true, false, ◌||◌, ◌++◌, List, []}
 use Rattle.std.specs.List.{All, list_any}
 use Rattle.kn_event.specs.Revision.{AreInRange}
 use Rattle.kn_event.specs.declared.entry.Entry.{Entry}
 use Rattle.kn_event.specs.declared.event.Event.{Event}
+use Rattle.kn_event.specs.declared.revision.Spec.{Spec}
+use Rattle.kn_trace.specs.Events.{react}
 use Rattle.kn_trace.specs.Trace.{Trace}
 use Rattle.kn_lives.specs.declared.lives.Life.{Life}
-use Rattle.kn_lives.specs.Lives.{AreLives, by_row}
+use Rattle.kn_lives.specs.Lives.{AreLives, ComesNext, begun_by, by_row}
 use Rattle.kn_teller.specs.Run.{Run, later, now_of, trace}
 use Rattle.kn_show_series.specs.declared.current.OpenStep.{OpenStep}
-use Rattle.kn_show_series.specs.Counting.{with_cap}
+use Rattle.kn_show_series.specs.Counting.{waits_by, with_cap}
 use Rattle.kn_show_series.specs.Series.{open_step}
 use Rattle.kn_show_series.specs.Steps.{counts_in, counts_of, follows_filled, gauges_of, held_peak, is_filled, is_shown, pods_of, wait_of}
 
@@ -73,3 +75,11 @@ pub record CountsEvent (r : Run) (e : Event) (log : Trace) (old new : SeriesStat
   pub gauges : new.current.gauges ≡ old.current.gauges
   pub peak : new.current.held_peak ≡ old.current.held_peak
   pub follows : new.current.follows_filled ≡ old.current.follows_filled
+
+-- so it is of any run whose rows they are
+abbrev pub CountsRows : Event → Trace → SeriesState → SeriesState → Type 0
+CountsRows e log old new = (r : Run) → AreLives old.lives r.events (trace r) → log ≡ react r.spec (trace r) e → CountsEvent r e log old new
+
+-- by these lives, the request that begins to run with the row had waited so long
+abbrev pub IsWaitOf : List (ℕ × Life) → Entry → ℕ → Type 0
+IsWaitOf l x wait = (s : Spec) (es : List Event) (tag : ℕ) (c : Trace) → ComesNext s es tag c x.row → AreLives l es c → waits_by (begun_by x.row) wait ≡ wait_of c x

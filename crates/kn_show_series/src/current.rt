@@ -1,12 +1,10 @@
 //! The step that is open.
-ghost use Rattle.std.specs.Prelude.{◌≡◌, ◌+◌, ◌<◌, ◌≤◌, ◌^◌, ◌||◌, ◌++◌, length, max, false, true, OnErr, OnOk};
+ghost use Rattle.std.specs.Prelude.{◌≡◌, ◌+◌, ◌<◌, ◌≤◌, ◌^◌, ◌++◌, OnErr, OnOk};
 ghost use Rattle.kn_io.specs.Causes.{HasCause};
 ghost use Rattle.kn_io.specs.Prefix.{AppendsPrefix};
 ghost use Rattle.kn_report.specs.Waiting.{Adds};
-ghost use Rattle.kn_lives.specs.Lives.{begun_by};
-ghost use Rattle.kn_show_series.specs.Counting.{size_of, waits_by, with_row};
-ghost use Rattle.kn_show_series.specs.Fields.{line_text};
-ghost use Rattle.kn_show_series.specs.Open.{begun_at, told_text};
+ghost use Rattle.kn_show_series.specs.Counting.{size_of};
+ghost use Rattle.kn_show_series.specs.Open.{begun_at, measured, open_text, told_text, with_entry};
 ghost use Rattle.kn_teller.specs.Run.{Run};
 ghost use Rattle.kn_show_series.specs.Series.{over_lines};
 ghost use Rattle.kn_show_series.specs.State.{IsFirst, IsStepOf, Precedes};
@@ -65,7 +63,7 @@ impl OpenStep {
     /// Counts a row. The wait is that of the request that begins to run with it.
     pub(crate) fn add(&mut self, row: &Row, wait: u64)
         requires { size_of self.old.counts < 2 ^ 127 }
-        ensures step { self.new ≡ record self.old { counts = with_row row.now (waits_by (begun_by row.now) wait) self.old.counts; filled = self.old.filled || is_shown row.now } }
+        ensures step { self.new ≡ with_entry row.now wait self.old }
         ensures few { size_of self.new.counts ≤ size_of self.old.counts + 2 }
     {
         self.counts.add(row, wait);
@@ -74,7 +72,7 @@ impl OpenStep {
 
     /// Takes what is counted after an event.
     pub(crate) fn measure(&mut self, gauges: Gauges)
-        ensures { self.new ≡ record self.old { gauges = gauges; held_peak = max self.old.held_peak gauges.held } }
+        ensures { self.new ≡ measured gauges self.old }
     {
         self.gauges = gauges;
         self.held_peak = self.held_peak.max(gauges.held);
@@ -83,7 +81,7 @@ impl OpenStep {
     /// Sets the line to that of the step.
     #[tactic(auto, using(crate::proofs::Pieces::four_pieces), unfolding(crate::specs::Fields::line_text))]
     fn set_line(&self, line: &mut Line)
-        ensures { line.new ≡ line_text self.now.from self.now.gauges self.now.counts self.now.held_peak }
+        ensures { line.new ≡ open_text self.now }
     {
         line.clear();
         line.put_integer(self.from);
@@ -100,8 +98,8 @@ impl OpenStep {
         waiting: &mut Waiting,
         out: &mut O,
     ) -> Result<(), Failed>
-        ensures ok { OnOk result (Adds (O.held out.old) (O.held out.new) waiting.old waiting.new (line_text self.now.from self.now.gauges self.now.counts self.now.held_peak)) }
-        ensures err { OnErr result (AppendsPrefix (O.held out.old) (O.held out.new) (waiting.old ++ line_text self.now.from self.now.gauges self.now.counts self.now.held_peak)) }
+        ensures ok { OnOk result (Adds (O.held out.old) (O.held out.new) waiting.old waiting.new (open_text self.now)) }
+        ensures err { OnErr result (AppendsPrefix (O.held out.old) (O.held out.new) (waiting.old ++ open_text self.now)) }
         ensures cause { HasCause (O.Faulty.faults out.old) (O.Faulty.faults out.new) result }
     {
         self.set_line(line);

@@ -1,18 +1,10 @@
 //! The teller of the series, and the form that makes it.
-ghost use Rattle.std.specs.Prelude.{◌≡◌, ℕ, ◌+◌, ◌*◌, ◌<◌, ◌≤◌, ◌^◌, ◌↔◌, ◌++◌, List, [], length, IfSome, IsSome};
-ghost use Rattle.kn_event.specs.declared.entry.Entry.{Entry as EntryValue};
-ghost use Rattle.kn_event.specs.declared.event.Event.{Event as EventValue};
-ghost use Rattle.kn_event.specs.declared.revision.Spec.{Spec as SpecValue};
-ghost use Rattle.kn_trace.specs.Events.{react};
-ghost use Rattle.kn_trace.specs.Trace.{Trace};
-ghost use Rattle.kn_lives.specs.Lives.{AreLives, ComesNext, begun_by};
-ghost use Rattle.kn_teller.specs.Run.{Run, later, trace};
-ghost use Rattle.kn_show_series.specs.Counting.{size_of, waits_by};
-ghost use Rattle.kn_show_series.specs.Series.{series};
-ghost use Rattle.kn_show_series.specs.State.{CountsEvent, IsSeriesOf, IsUnopened};
-ghost use Rattle.kn_show_series.specs.Steps.{pods_of, wait_of};
+ghost use Rattle.std.specs.Prelude.{◌≡◌, ◌+◌, ◌<◌, ◌≤◌, ◌^◌, ◌↔◌, IfSome, IsSome};
+ghost use Rattle.kn_lives.specs.Lives.{begun_by};
+ghost use Rattle.kn_show_series.specs.Counting.{size_of};
+ghost use Rattle.kn_show_series.specs.State.{CountsRows, IsWaitOf};
+ghost use Rattle.kn_show_series.specs.Steps.{pods_of};
 
-use crate::counts::Counts;
 use crate::current::OpenStep;
 use crate::gauges::Gauges;
 use crate::laws::{opening_laws, wait_laws};
@@ -69,7 +61,7 @@ impl Series {
     /// Counts the rows of an event, each by the trace before it.
     fn count(&mut self, e: &Event, log: &EntryLog)
         requires few { size_of self.old.current.counts ≤ 2 ^ 126 }
-        ensures counts { (r : Run) → AreLives self.old.lives r.events (trace r) → log.now ≡ react r.spec (trace r) e.now → CountsEvent r e.now log.now self.old self.new }
+        ensures counts { CountsRows e.now log.now self.old self.new }
         ensures few { size_of self.new.current.counts < size_of self.old.current.counts + 2 ^ 64 }
         ensures step { self.new.step ≡ self.old.step }
         ensures pods { self.new.pods ≡ self.old.pods }
@@ -87,7 +79,7 @@ impl Series {
 
 /// How long the request had waited that begins to run with this row; 0 where none does.
 fn waited(lives: &Lives, e: &Entry) -> u64
-    ensures { (s : SpecValue) (es : List EventValue) (tag : ℕ) (c : Trace) → ComesNext s es tag c e.now.row → AreLives lives.now es c → waits_by (begun_by e.now.row) result ≡ wait_of c e.now }
+    ensures { IsWaitOf lives.now e.now result }
 {
     row_laws();
     let Some(r) = begun(&e.row) else {
@@ -177,6 +169,7 @@ impl Teller for Series {
 }
 
 /// The series with steps of this many milliseconds, 1 to 86,400,000.
+#[derive(Clone, Copy, Debug, PartialEq, Eq)]
 pub struct SeriesForm {
     pub step: u64,
     pub ghost some: { 1 ≤ step },

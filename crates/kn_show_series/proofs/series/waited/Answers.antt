@@ -1,4 +1,3 @@
-use Rattle.std.proofs.Common.{sym}
 use Rattle.kn_show_series.proofs.Counted.{waited_is, waited_known}
 use Rattle.kn_show_series.proofs.series.waited.Goals as goal
 

@@ -1,5 +1,4 @@
-use Rattle.std.proofs.Common.{◌≡◌, ◌∙◌, [], ap, arith, sym, subst}
-use Rattle.kn_teller.specs.Run.{Run}
+use Rattle.std.proofs.Common.{[], ap, arith, sym, subst}
 use Rattle.kn_show_series.specs.Counting.{size_of}
 use Rattle.kn_show_series.specs.State.{CountsEvent, SeriesState}
 use Rattle.kn_show_series.proofs.Counted.{count_begin, count_more}
