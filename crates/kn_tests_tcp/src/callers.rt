@@ -1,7 +1,7 @@
 //! Callers, and the clients that come to them.
 
 use crate::loopback::{client, listening};
-use crate::tell;
+use crate::{tell, tell_all};
 use kn_io::{Caller, Failed, Faulty, Sink, Source};
 use kn_tcp::TcpCaller;
 use std::alloc::Global;
@@ -39,12 +39,12 @@ fn before_a_client(rt: &HostRuntime, caller: &mut TcpCaller) -> io::Result<()> {
         ("write before a client", caller.write(b"x").is_err()),
         ("two faults", caller.faults() == 2),
     ];
-    tell(rt, &cases)
+    tell_all(rt, &cases)
 }
 
 /// The caller takes a client who said hello, reads that, and answers.
 fn serve(rt: &HostRuntime, caller: &mut TcpCaller) -> io::Result<()> {
-    tell(rt, &[("a client", caller.meet().is_ok())])?;
+    tell(rt, "a client", caller.meet().is_ok())?;
     for _ in 0..3 {
         read_some(rt, caller)?;
     }
@@ -52,7 +52,7 @@ fn serve(rt: &HostRuntime, caller: &mut TcpCaller) -> io::Result<()> {
         ("an answer", caller.write(b"bye") == Ok(3)),
         ("two faults still", caller.faults() == 2),
     ];
-    tell(rt, &cases)
+    tell_all(rt, &cases)
 }
 
 /// The client says hello, and is answered.
@@ -61,7 +61,7 @@ fn say_hello(rt: &HostRuntime, caller: &mut TcpCaller, client: &mut TcpStream) -
     client.shutdown(Shutdown::Write)?;
     serve(rt, caller)?;
     let count = client.read(&mut [0; 4])?;
-    tell(rt, &[("the client is answered", count == 3)])
+    tell(rt, "the client is answered", count == 3)
 }
 
 /// Takes a connection, reads a part of what it sends, refuses it, and takes the next.
@@ -111,7 +111,7 @@ fn refuse_sender<T: Threads>(
         ("it reads the refusal", is_read),
         ("no fault", caller.faults() == 0),
     ];
-    tell(rt, &cases)
+    tell_all(rt, &cases)
 }
 
 /// Prints whether the client reads the refusal, and its end.
@@ -120,7 +120,7 @@ fn read_refusal(rt: &HostRuntime, stream: &mut TcpStream) -> io::Result<()> {
     let count = stream.read(&mut answer)?;
     let is_refusal = &answer[..count] == REFUSAL;
     let rest = stream.read(&mut answer)?;
-    tell(rt, &[("the refusal", is_refusal), ("its end", rest == 0)])
+    tell_all(rt, &[("the refusal", is_refusal), ("its end", rest == 0)])
 }
 
 fn refuse_and_read(
@@ -128,7 +128,7 @@ fn refuse_and_read(
     caller: &mut TcpCaller,
     first: &mut TcpStream,
 ) -> io::Result<()> {
-    tell(rt, &[("refused, and it stays", refuse(caller).is_ok())])?;
+    tell(rt, "refused, and it stays", refuse(caller).is_ok())?;
     read_refusal(rt, first)
 }
 
@@ -180,43 +180,27 @@ pub fn come<T: Threads>(rt: &HostRuntime, threads: &T, visit: Visit) -> io::Resu
 /// Such a value may go to another thread.
 fn goes<T: Send>(_value: &T) {}
 
-/// A peer who closes at once.
-fn come_and_go(rt: &HostRuntime, port: u16) -> io::Result<()> {
+/// The caller takes a peer who closes at once.
+fn meet_gone(rt: &HostRuntime, port: u16, name: &str, caller: &mut TcpCaller) -> io::Result<()> {
     drop(TcpStream::connect(rt, ("127.0.0.1", port))?);
-    Ok(())
+    tell(rt, name, caller.meet().is_ok())
 }
 
-/// A peer who closes early, and whom the second caller meets, is the end of the input.
-fn meet_second(rt: &HostRuntime, port: u16, second: &mut TcpCaller) -> io::Result<()> {
-    come_and_go(rt, port)?;
-    tell(rt, &[("second caller", second.meet().is_ok())])?;
-    read_some(rt, second)
-}
-
-/// The next connection of the first caller closes the one before.
-fn meet_again(
-    rt: &HostRuntime,
-    port: u16,
-    first: &mut TcpCaller,
-    client: &mut TcpStream,
-) -> io::Result<()> {
-    come_and_go(rt, port)?;
-    tell(rt, &[("first caller again", first.meet().is_ok())])?;
-    let count = client.read(&mut [0; 4])?;
-    tell(rt, &[("its first client is done", count == 0)])
-}
-
-/// The first caller has a client.
+/// The first caller has a client. A peer who closes early, and whom the second meets, is the end of the input; the next
+/// connection of the first closes the one before.
 fn meet_by_turns(
     rt: &HostRuntime,
     port: u16,
     first: &mut TcpCaller,
     second: &mut TcpCaller,
+    client: &mut TcpStream,
 ) -> io::Result<()> {
-    let mut client = client(rt, port)?;
-    tell(rt, &[("first caller", first.meet().is_ok())])?;
-    meet_second(rt, port, second)?;
-    meet_again(rt, port, first, &mut client)
+    tell(rt, "first caller", first.meet().is_ok())?;
+    meet_gone(rt, port, "second caller", second)?;
+    read_some(rt, second)?;
+    meet_gone(rt, port, "first caller again", first)?;
+    let count = client.read(&mut [0; 4])?;
+    tell(rt, "its first client is done", count == 0)
 }
 
 fn share(
@@ -225,10 +209,11 @@ fn share(
     first: &mut TcpCaller,
     second: &mut TcpCaller,
 ) -> io::Result<()> {
-    meet_by_turns(rt, port, first, second)?;
+    let mut client = client(rt, port)?;
+    meet_by_turns(rt, port, first, second, &mut client)?;
     goes(first);
     let none = first.faults() == 0 && second.faults() == 0;
-    tell(rt, &[("no faults", none)])
+    tell(rt, "no faults", none)
 }
 
 /// Two callers of one listener.

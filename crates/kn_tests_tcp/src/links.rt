@@ -2,7 +2,7 @@
 ghost use Rattle.std.specs.Prelude.{◌≤◌};
 
 use crate::loopback::{Link, Talk, address_of, exchange, link_to, listening, reply_length};
-use crate::{replies, tell};
+use crate::{replies, tell_all};
 use kn_io::{Faulty, PodLink};
 use std::alloc::Global;
 use std::io;
@@ -52,7 +52,7 @@ fn probe_and_call(rt: &HostRuntime, link: &mut Link<'_>) -> io::Result<()> {
         ("a call where no pod listens", failed),
         ("it is a fault", link.faults() == 3),
     ];
-    tell(rt, &cases)
+    tell_all(rt, &cases)
 }
 
 fn probe_none(rt: &HostRuntime, none: &mut Link<'_>) -> io::Result<()> {
@@ -61,7 +61,7 @@ fn probe_none(rt: &HostRuntime, none: &mut Link<'_>) -> io::Result<()> {
         ("a probe without addresses", failed),
         ("it is a fault", none.faults() == 1),
     ];
-    tell(rt, &cases)
+    tell_all(rt, &cases)
 }
 
 /// The length of a reply of a head and so many pieces, of 8,192 bytes each.
@@ -98,7 +98,7 @@ fn two_long_replies<T: Threads>(
         ("a longer one", longer),
         ("it is a fault", link.faults() == 1),
     ];
-    tell(rt, &cases)
+    tell_all(rt, &cases)
 }
 
 fn try_link<T: Threads>(

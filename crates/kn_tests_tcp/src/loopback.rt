@@ -34,14 +34,8 @@ pub fn client(rt: &HostRuntime, port: u16) -> io::Result<TcpStream> {
     Ok(stream)
 }
 
-fn text_of(alloc: Global, bytes: &[u8]) -> Result<Text, AllocError> {
-    Ok(Text::new(Vec::from_slice(alloc, bytes)?))
-}
-
-fn add_texts(alloc: Global, addresses: &[&[u8]], texts: &mut Vec<Text>) -> Result<(), AllocError> {
-    for address in addresses {
-        texts.push(text_of(alloc, address)?)?;
-    }
+fn add_text(alloc: Global, address: &[u8], texts: &mut Vec<Text>) -> Result<(), AllocError> {
+    texts.push(Text::new(Vec::from_slice(alloc, address)?))?;
     Ok(())
 }
 
@@ -51,7 +45,9 @@ pub type Link<'a> = TcpLink<&'a HostRuntime>;
 /// A link to these addresses.
 pub fn link_to<'a>(rt: &'a HostRuntime, addresses: &[&[u8]]) -> io::Result<Link<'a>> {
     let mut texts = Vec::new(rt.alloc());
-    add_texts(rt.alloc(), addresses, &mut texts)?;
+    for address in addresses {
+        add_text(rt.alloc(), address, &mut texts)?;
+    }
     Ok(TcpLink::new(rt, Items::new(texts)))
 }
 

@@ -12,11 +12,15 @@ use links::Trial;
 use std::io;
 use std::thread::Threads;
 
-/// Prints of each case whether it is as it must be.
-fn tell(rt: &HostRuntime, cases: &[(&str, bool)]) -> io::Result<()> {
+/// Prints whether a case is as it must be.
+fn tell(rt: &HostRuntime, name: &str, holds: bool) -> io::Result<()> {
+    let word = if holds { "ok" } else { "not so" };
+    println!(rt; "{name}: {word}")
+}
+
+fn tell_all(rt: &HostRuntime, cases: &[(&str, bool)]) -> io::Result<()> {
     for (name, holds) in cases {
-        let word = if *holds { "ok" } else { "not so" };
-        println!(rt; "{name}: {word}")?;
+        tell(rt, name, *holds)?;
     }
     Ok(())
 }
