@@ -74,14 +74,20 @@ fn plan_of(test: Test) -> Plan {
     }
 }
 
-/// Whether the rows are of these passes and times.
-fn are_of(rows: &[Past], wanted: &[(u64, u64)]) -> bool {
-    for i in 0..rows.len() {
-        if i >= wanted.len() || wanted[i].0 != rows[i].pass || wanted[i].1 != rows[i].event.time {
-            return false;
-        }
+/// Whether the row is of this pass and time.
+fn is_of(row: &Past, pass: u64, time: u64) -> bool {
+    row.pass == pass && row.event.time == time
+}
+
+/// Whether the rows are of the passes and times that the calls by turns are to have.
+fn are_by_turns(rows: &[Past]) -> bool {
+    match rows {
+        [a, b, c, d] => is_of(a, 0, 10)
+            && is_of(b, 1, 10)
+            && is_of(c, 0, 11)
+            && is_of(d, 1, 1 << 42),
+        _ => false,
     }
-    rows.len() == wanted.len()
 }
 
 /// How many rows the pass of this number brought.
@@ -124,8 +130,7 @@ fn room<R: Print>(rt: &R, outcome: &Outcome) -> io::Result<()> {
 }
 
 fn turns<R: Print>(rt: &R, outcome: &Outcome) -> io::Result<()> {
-    let wanted = [(0, 10), (1, 10), (0, 11), (1, 1 << 42)];
-    let are = are_of(outcome.history.items(), &wanted);
+    let are = are_by_turns(outcome.history.items());
     let cases = [
         ("turns, no wrong answer", right(outcome), 4),
         ("turns, passes and times", u64::from(are), 1),
