@@ -1,4 +1,7 @@
 //! What the lines speak of.
+ghost use Rattle.std.specs.Prelude.{◌≡◌};
+ghost use Rattle.kn_event.specs.declared.revision.Kind.TheVariants as kind;
+
 use crate::answers::Answer;
 use crate::decisions::Decisions;
 use crate::delays::Delays;
@@ -6,6 +9,7 @@ use crate::scale::Scale;
 use crate::windows::Windows;
 use crate::words::{number, word};
 use crate::{panics, parts, zeros};
+use kn_event::Spec;
 use kn_panic::Panic;
 use kn_zero::Zero;
 use std::alloc::Global;
@@ -20,14 +24,21 @@ pub enum Subject {
     Decisions(Decisions),
 }
 
-fn zero(alloc: Global, line: &str) -> Option<Subject> {
-    let spec = Scale::read(line, 2).spec(alloc)?;
-    Some(Subject::Zero(Zero::new(&spec, number(line, 1))))
+/// Decisions, or the scale-to-zero rule from this time on.
+fn by_spec(alloc: Global, spec: &Spec, since: Option<u64>) -> Option<Subject>
+    requires { spec.now.kind ≡ kind.Kpa }
+{
+    match since {
+        Some(time) => Some(Subject::Zero(Zero::new(spec, time))),
+        None => Decisions::new(alloc, spec).map(Subject::Decisions),
+    }
 }
 
-fn decisions(alloc: Global, line: &str) -> Option<Subject> {
-    let spec = Scale::read(line, 1).spec(alloc)?;
-    Decisions::new(alloc, &spec).map(Subject::Decisions)
+fn scaled(alloc: Global, scale: &Scale, since: Option<u64>) -> Option<Subject> {
+    match scale.spec(alloc) {
+        Some(spec) => by_spec(alloc, &spec, since),
+        None => None,
+    }
 }
 
 impl Subject {
@@ -38,8 +49,8 @@ impl Subject {
             "panic" => Some(Subject::Panic(Panic::new())),
             "delay" => Delays::new(alloc, number(line, 1)).map(Subject::Delay),
             "window" => Windows::new(alloc, number(line, 1)).map(Subject::Window),
-            "zero" => zero(alloc, line),
-            "decisions" => decisions(alloc, line),
+            "zero" => scaled(alloc, &Scale::read(line, 2), Some(number(line, 1))),
+            "decisions" => scaled(alloc, &Scale::read(line, 1), None),
             _ => None,
         }
     }
