@@ -56,6 +56,18 @@ impl Driver {
         })
     }
 
+    /// Another throttler in place of this one, if there is memory. Whether there was.
+    pub fn reopen(&mut self, alloc: Global, setting: &Setting) -> bool {
+        match with_pods(alloc, setting) {
+            Ok(throttle) => {
+                self.throttle = throttle;
+                self.clock = 0;
+                true
+            }
+            Err(_) => false,
+        }
+    }
+
     /// Its clock goes on to this time.
     pub fn at(&mut self, time: u64) {
         self.clock = self.clock.max(time);
