@@ -25,14 +25,14 @@ pub enum Answer {
 }
 
 /// Adds a word, where there is room.
-fn put(text: &mut Line, word: &str) {
+pub fn put(text: &mut Line, word: &str) {
     if text.bytes().len() <= 900 && word.len() <= 100 {
         text.put(word.as_bytes());
     }
 }
 
 /// Adds a number, where there is room, and what stands behind it.
-fn put_number(text: &mut Line, number: u64, behind: &str) {
+pub fn put_number(text: &mut Line, number: u64, behind: &str) {
     if text.bytes().len() <= 900 {
         text.put_integer(number);
     }
@@ -68,7 +68,7 @@ fn phase_word(phase: Phase) -> &'static str {
     }
 }
 
-fn either(first: bool, word: &'static str, other: &'static str) -> &'static str {
+pub fn either(first: bool, word: &'static str, other: &'static str) -> &'static str {
     if first { word } else { other }
 }
 

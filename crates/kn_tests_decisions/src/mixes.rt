@@ -2,13 +2,14 @@
 ghost use Rattle.std.specs.Prelude.{◌≡◌};
 ghost use Rattle.kn_event.specs.declared.revision.Kind.TheVariants as kind;
 
+use crate::answers::{either, put, put_number};
 use crate::decisions::Decisions;
 use crate::delays::Delays;
 use crate::past::Past;
 use crate::plain;
 use crate::scale::Scale;
 use crate::windows::Windows;
-use kn_event::Spec;
+use kn_event::{Line, Spec};
 use kn_scaling::{Asked, SampleRun};
 use std::alloc::Global;
 use std::io;
@@ -197,15 +198,15 @@ fn turns_of_both(spec: &Spec, decisions: &mut Decisions, past: &mut Past) -> u64
 
 /// What is compared, whether it is a delay, and its seconds.
 const PARTS: [(&str, bool, u64); 9] = [
-    ("delay", true, 0),
-    ("delay", true, 1),
-    ("delay", true, 2),
-    ("delay", true, 10),
-    ("delay", true, 60),
-    ("window", false, 1),
-    ("window", false, 2),
-    ("window", false, 6),
-    ("window", false, 13),
+    ("a delay of 0: ", true, 0),
+    ("a delay of 1: ", true, 1),
+    ("a delay of 2: ", true, 2),
+    ("a delay of 10: ", true, 10),
+    ("a delay of 60: ", true, 60),
+    ("a window of 1: ", false, 1),
+    ("a window of 2: ", false, 2),
+    ("a window of 6: ", false, 6),
+    ("a window of 13: ", false, 13),
 ];
 
 /// How many agree, of how many.
@@ -217,10 +218,19 @@ fn agreeing(alloc: Global, delays: bool, seconds: u64) -> (u64, u64) {
     }
 }
 
+fn say_text(rt: &HostRuntime, text: &Line) -> io::Result<()> {
+    let text = str::from_utf8(text.bytes()).unwrap_or("");
+    println!(rt; "{text}")
+}
+
 fn say_part(rt: &HostRuntime, part: &(&str, bool, u64)) -> io::Result<()> {
     let (name, delays, seconds) = *part;
     let (agreed, of) = agreeing(rt.alloc(), delays, seconds);
-    println!(rt; "a {name} of {seconds}: {agreed} of {of} agree")
+    let mut text = Line::new();
+    put(&mut text, name);
+    put_number(&mut text, agreed, " of ");
+    put_number(&mut text, of, " agree");
+    say_text(rt, &text)
 }
 
 fn compare_parts(rt: &HostRuntime) -> io::Result<()> {
@@ -230,9 +240,17 @@ fn compare_parts(rt: &HostRuntime) -> io::Result<()> {
     Ok(())
 }
 
+fn compare_turns(rt: &HostRuntime) -> io::Result<()> {
+    let (agreed, decided) = turns_agreeing(rt.alloc());
+    let mut text = Line::new();
+    put(&mut text, "decisions: ");
+    put_number(&mut text, agreed, " of 500 turns agree, ");
+    put(&mut text, "more than 300 decided: ");
+    put(&mut text, either(decided > 300, "true", "false"));
+    say_text(rt, &text)
+}
+
 pub fn compare(rt: &HostRuntime) -> io::Result<()> {
     compare_parts(rt)?;
-    let (agreed, decided) = turns_agreeing(rt.alloc());
-    let many = decided > 300;
-    println!(rt; "decisions: {agreed} of 500 turns agree, more than 300 decided: {many}")
+    compare_turns(rt)
 }

@@ -3,7 +3,7 @@ ghost use Rattle.std.specs.Prelude.{◌<◌};
 
 use crate::driver::{Call, Driver, Setting};
 use crate::mix::digests;
-use kn_event::Slots;
+use kn_event::{Entry, Row, Slots};
 use std::io;
 
 fn word(line: &str, place: usize) -> &str {
@@ -43,17 +43,25 @@ fn call_of(line: &str) -> Option<Call> {
     }
 }
 
+fn say_row(rt: &HostRuntime, before: &str, row: &Row) -> io::Result<()> {
+    print!(rt; "{before}{row:?}")
+}
+
+/// Prints the rows that follow a call.
+fn say_followers(rt: &HostRuntime, entries: &[Entry]) -> io::Result<()> {
+    for entry in entries {
+        say_row(rt, ", ", &entry.row)?;
+    }
+    println!(rt; "")
+}
+
 /// Prints the row that a call makes, if it makes one, and those that follow.
 fn say_rows(rt: &HostRuntime, driver: &mut Driver, call: Call) -> io::Result<()> {
     match driver.call(call) {
-        Some(row) => print!(rt; "{row:?}"),
-        None => print!(rt; "no row"),
-    }?;
-    for entry in driver.settle() {
-        let row = &entry.row;
-        print!(rt; ", {row:?}")?;
+        Some(row) => say_row(rt, "", &row)?,
+        None => print!(rt; "no row")?,
     }
-    println!(rt; "")
+    say_followers(rt, driver.settle())
 }
 
 /// Prints the digests of a mix.
