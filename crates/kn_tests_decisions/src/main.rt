@@ -34,13 +34,8 @@ fn answer(rt: &HostRuntime, subject: &mut Subject, line: &str) -> io::Result<()>
     if line.starts_with(' ') {
         return say_call(rt, subject, line);
     }
-    open(rt, subject, line);
+    *subject = Subject::open(rt.alloc(), line);
     println!(rt; "{line}")
-}
-
-/// Where a line opens nothing, or memory is lacking, the calls after it answer that there is no such call.
-fn open(rt: &HostRuntime, subject: &mut Subject, line: &str) {
-    *subject = Subject::open(rt.alloc(), line).unwrap_or(Subject::Parts);
 }
 
 fn answer_lines(rt: &HostRuntime, subject: &mut Subject) -> io::Result<()> {

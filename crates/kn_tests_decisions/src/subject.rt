@@ -24,34 +24,50 @@ pub enum Subject {
     Decisions(Decisions),
 }
 
-/// Decisions, or the scale-to-zero rule from this time on.
-fn by_spec(alloc: Global, spec: &Spec, since: Option<u64>) -> Option<Subject>
-    requires { spec.now.kind ≡ kind.Kpa }
-{
-    match since {
-        Some(time) => Some(Subject::Zero(Zero::new(spec, time))),
-        None => Decisions::new(alloc, spec).map(Subject::Decisions),
+fn delay(alloc: Global, seconds: u64) -> Subject {
+    match Delays::new(alloc, seconds) {
+        Some(delay) => Subject::Delay(delay),
+        None => Subject::Parts,
     }
 }
 
-fn scaled(alloc: Global, scale: &Scale, since: Option<u64>) -> Option<Subject> {
+fn window(alloc: Global, seconds: u64) -> Subject {
+    match Windows::new(alloc, seconds) {
+        Some(window) => Subject::Window(window),
+        None => Subject::Parts,
+    }
+}
+
+fn decisions(alloc: Global, spec: &Spec) -> Subject
+    requires { spec.now.kind ≡ kind.Kpa }
+{
+    match Decisions::new(alloc, spec) {
+        Some(decisions) => Subject::Decisions(decisions),
+        None => Subject::Parts,
+    }
+}
+
+/// The scale-to-zero rule from this time on, or decisions.
+fn scaled(alloc: Global, scale: &Scale, since: Option<u64>) -> Subject {
     match scale.spec(alloc) {
-        Some(spec) => by_spec(alloc, &spec, since),
-        None => None,
+        Some(spec) => match since {
+            Some(time) => Subject::Zero(Zero::new(&spec, time)),
+            None => decisions(alloc, &spec),
+        },
+        None => Subject::Parts,
     }
 }
 
 impl Subject {
-    /// The subject that a line opens; none where it is no such line, or memory is lacking.
-    pub fn open(alloc: Global, line: &str) -> Option<Subject> {
+    /// The subject that a line opens. Where it is no such line, or memory is lacking, calls of parts alone are answered.
+    pub fn open(alloc: Global, line: &str) -> Subject {
         match word(line, 0) {
-            "parts" => Some(Subject::Parts),
-            "panic" => Some(Subject::Panic(Panic::new())),
-            "delay" => Delays::new(alloc, number(line, 1)).map(Subject::Delay),
-            "window" => Windows::new(alloc, number(line, 1)).map(Subject::Window),
+            "panic" => Subject::Panic(Panic::new()),
+            "delay" => delay(alloc, number(line, 1)),
+            "window" => window(alloc, number(line, 1)),
             "zero" => scaled(alloc, &Scale::read(line, 2), Some(number(line, 1))),
             "decisions" => scaled(alloc, &Scale::read(line, 1), None),
-            _ => None,
+            _ => Subject::Parts,
         }
     }
 
