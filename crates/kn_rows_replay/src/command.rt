@@ -1,11 +1,46 @@
-//! A command that is run in memory.
+//! A command of `kact` or of `kact_show` that is run in memory.
 
 use kn_io::{MemSink, MemSource, Source};
 use kn_replay::run;
+use kn_show::show_run;
 use std::alloc::{AllocError, Global};
 
 /// A number that no call has.
 pub const NEVER: u64 = u64::MAX;
+
+/// Whose command it is.
+#[derive(Clone, Copy)]
+pub enum Program {
+    Kact,
+    Show,
+}
+
+impl Program {
+    /// The one that a row's name says.
+    pub fn of(name: &str) -> Program {
+        if name.starts_with("show_") {
+            Program::Show
+        } else {
+            Program::Kact
+        }
+    }
+
+    /// What is told of a fault of the input.
+    pub fn read_failed(self) -> &'static [u8] {
+        match self {
+            Program::Kact => b"kact: read failed\n",
+            Program::Show => b"kact_show: read failed\n",
+        }
+    }
+
+    /// What is told of a fault of the output.
+    pub fn write_failed(self) -> &'static [u8] {
+        match self {
+            Program::Kact => b"kact: write failed\n",
+            Program::Show => b"kact_show: write failed\n",
+        }
+    }
+}
 
 /// How the outside behaves while a command runs. Calls are numbered from 0.
 #[derive(Clone, Copy)]
@@ -51,9 +86,10 @@ fn count_left(source: &mut MemSource, most: usize) -> usize {
     left
 }
 
-/// Runs the command of these words over an input in memory.
+/// Runs a program's command of these words over an input in memory.
 pub fn outcome(
     alloc: Global,
+    program: Program,
     words: &[String],
     input: &[u8],
     outside: &Outside,
@@ -70,7 +106,10 @@ pub fn outcome(
     ) else {
         return Err(AllocError);
     };
-    let status = run(alloc, words, &mut source, &mut out, &mut err);
+    let status = match program {
+        Program::Kact => run(alloc, words, &mut source, &mut out, &mut err),
+        Program::Show => show_run(alloc, words, &mut source, &mut out, &mut err),
+    };
     Ok(Ended {
         status: status.code(),
         written: Vec::from_slice(alloc, out.held())?,

@@ -1,9 +1,9 @@
-//! Reruns rows of `kact`. Each line of standard input has a row's name, its exit status and the words of its command; data/
+//! Reruns rows of `kact`, and of `kact_show` where a row's name begins with `show_`. Each line of standard input has a row's name, its exit status and the words of its command; data/
 //! has what the command reads (NAME.journal), and what it must write (NAME.report) and tell (NAME.err). A file that is not
 //! there is empty. What became of each row is printed.
 //!
 //! Where there is NAME.ends, every read and every write fails once too. It has a number for each line of the journal: how
-//! many bytes of the report stand once that line has ended, but for the last line of the report.
+//! many bytes of the report stand once that line has ended, but for what is written at the end.
 #![tactic(auto)]
 
 mod command;

@@ -1,6 +1,6 @@
 //! A row: a command, what it reads, and what it must write, tell and answer.
 
-use crate::command::{Ended, Outside, outcome};
+use crate::command::{Ended, Outside, Program, outcome};
 use std::alloc::{AllocError, Global};
 use std::fs;
 use std::rt::Files;
@@ -66,6 +66,11 @@ impl Row {
         self.name.as_str()
     }
 
+    /// Whose command it is.
+    pub fn program(&self) -> Program {
+        Program::of(self.name.as_str())
+    }
+
     /// What the command reads.
     pub fn journal(&self) -> &[u8] {
         &self.journal
@@ -83,7 +88,13 @@ impl Row {
 
     /// Runs the command.
     pub fn outcome(&self, alloc: Global, outside: &Outside) -> Result<Ended, AllocError> {
-        outcome(alloc, &self.words, &self.journal, outside)
+        outcome(
+            alloc,
+            self.program(),
+            &self.words,
+            &self.journal,
+            outside,
+        )
     }
 
     /// Whether the command ended as it must where nothing fails.

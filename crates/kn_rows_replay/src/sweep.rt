@@ -10,11 +10,6 @@ use std::fmt::{Display, Formatter, Write};
 /// About how many numbers a sweep goes through.
 const STEPS: usize = 128;
 
-/// What is told of a fault of the input, and of the output.
-const READ_FAILED: &[u8] = b"kact: read failed\n";
-
-const WRITE_FAILED: &[u8] = b"kact: write failed\n";
-
 /// How many runs of a sweep were right: all, or those before the number at which one was not.
 #[derive(Clone, Copy)]
 pub enum Swept {
@@ -78,7 +73,7 @@ pub fn reads(alloc: Global, row: &Row) -> Result<Swept, AllocError> {
             ..sound(row, piece as u64)
         };
         let rows = row.rows_within(k.saturating_mul(piece));
-        if !row.outcome(alloc, &outside)?.is(5, rows, READ_FAILED) {
+        if !row.outcome(alloc, &outside)?.is(5, rows, row.program().read_failed()) {
             return Ok(Swept::Wrong(k as u64));
         }
     }
@@ -97,7 +92,7 @@ pub fn rooms(alloc: Global, row: &Row) -> Result<Swept, AllocError> {
             ..sound(row, 4096)
         };
         let front = row.report().get(..room).unwrap_or(&[]);
-        if !row.outcome(alloc, &outside)?.is(6, front, WRITE_FAILED) {
+        if !row.outcome(alloc, &outside)?.is(6, front, row.program().write_failed()) {
             return Ok(Swept::Wrong(room as u64));
         }
     }
@@ -128,7 +123,7 @@ pub fn writes(alloc: Global, row: &Row) -> Result<Swept, AllocError> {
         let len = end.written.len();
         let front = row.report().get(..len).unwrap_or(&[]);
         let grows = k == 0 || last < len;
-        if !end.is(6, front, WRITE_FAILED) || !grows || !is_timely(row, piece, len, end.left) {
+        if !end.is(6, front, row.program().write_failed()) || !grows || !is_timely(row, piece, len, end.left) {
             return Ok(Swept::Wrong(k));
         }
         last = len;
