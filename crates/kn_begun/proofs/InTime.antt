@@ -169,7 +169,7 @@ expire_takes timeout t u (r ∷ rs) = by (nat_le (u + timeout) t) (expire_takes 
     by false h = h
 
 module _ (facts : Facts) where
-  open facts use {lists.{in_filter}, members.{held_member, is_live, queued_member, moved_taken}, kinds.{admitted_taken, brought_moved, within-from}, lists.{first_member}, proper.{made_at, made_kept, made_react}}
+  open facts use {lists.{in_filter}, members.{held_member, queued_member, moved_taken}, kinds.{admitted_taken, brought_moved, within-from}, lists.{first_member}, proper.{made_at, made_kept, made_react}}
 
   expired_in_time : (s : Spec) (t : ℕ) (c : Trace) → IsInTime s t (c ++ expiries s t c)
   unfolding expiries due
@@ -229,9 +229,6 @@ module _ (facts : Facts) where
       subst (IsWaiting c) same
       (idle_waits c q (moved_taken c q numbered (within-from (brought_to p) moved_by (brought_moved p) q c queued.0)) queued.1.assigned queued.1.run queued.1.ended)
   begins_waiting s c _ r made proper is = absurd (cc)
-
-  pub begins_live : (s : Spec) (c : Trace) (x : Entry) (r : ℕ) → IsMade s c → IsProper s c x.row → begun_by x.row ≡ Some r → contains r (live c) ≡ true
-  begins_live s c x r made proper is = let w = begins_waiting s c x.row r made proper is in is_live c r w.taken w.ended
 
   module _ (parts : PartFacts) where
     open parts use {rows.{expiries-rows, react-at}}
