@@ -15,17 +15,10 @@ use Rattle.kn_record.specs.Rows.{counted, says}
 use Rattle.kn_record.specs.Views.{others}
 use Rattle.kn_lives.specs.Lives.{begun_by, by_row}
 use Rattle.kn_begun.specs.Begun.{wait_by, wait_of, waits}
+use Rattle.kn_begun.proofs.ByRow.{by_row-append}
 use Rattle.kn_begun.proofs.InTime.{IsWaiting, begins_waiting}
 
--- ---- row by row
-
-by_row-append : {X : Type 0} (f : Trace → Entry → List X) (c xs ys : Trace) → by_row f c (xs ++ ys) ≡ by_row f c xs ++ by_row f (c ++ xs) ys
-unfolding by_row
-by_row-append f c [] ys = ap (λ (d : Trace). by_row f d ys) (sym (append-nil c))
-by_row-append f c (x ∷ xs) ys =
-    ap (λ (l : List _). f c x ++ l) (by_row-append f (c ++ x ∷ []) xs ys)
-    ∙ sym (append_assoc (f c x) (by_row f (c ++ x ∷ []) xs) (by_row f ((c ++ x ∷ []) ++ xs) ys))
-    ∙ ap (λ (d : Trace). (f c x ++ by_row f (c ++ x ∷ []) xs) ++ by_row f d ys) (append_assoc c (x ∷ []) xs)
+-- ---- how long
 
 pub waits-nil : waits [] ≡ []
 unfolding waits by_row

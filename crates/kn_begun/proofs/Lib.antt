@@ -1,2 +1,3 @@
+pub mod ByRow
 mod InTime
 mod Few

@@ -1,1 +1,5 @@
 mod Pieces
+mod Counting
+mod Timing
+mod Pods
+mod Waits

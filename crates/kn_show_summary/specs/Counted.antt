@@ -1,5 +1,5 @@
 -- The rows of a trace by kind, and its decisions.
-use Rattle.std.specs.Prelude.{◌≡◌, ℕ, ◌+◌, Bool, true, false, not, ◌&&◌, ◌==◌, nat_lt, List, [], ◌∷◌, length, if◌then◌else◌}
+use Rattle.std.specs.Prelude.{◌≡◌, ℕ, ◌+◌, Bool, true, false, not, ◌&&◌, ◌==◌, nat_lt, List, [], ◌∷◌, length}
 use Rattle.std.specs.List.{cons_option, filter}
 use Rattle.kn_event.specs.declared.entry.Decision.{Decision}
 use Rattle.kn_event.specs.declared.entry.Entry.{Entry}
@@ -86,7 +86,8 @@ counted s c = record {
 -- ---- by one more row
 
 abbrev pub more_where : Bool → ℕ → ℕ
-more_where b n = n + (if b then 1 else 0)
+more_where true n = n + 1
+more_where false n = n
 
 abbrev pub with_decision : Decision → Counted → Counted
 with_decision d t = record t {

@@ -41,7 +41,7 @@ costs r = record { at_zero = area count_none r; pods = area count_pods r; ready 
 -- what is kept of them, with the time up to which the costs are counted
 pub record GaugesState : Type 0 where
   pub clock : ℕ
-  pub now : Now
+  pub present : Now
   pub peaks : Peaks
   pub costs : Costs
 

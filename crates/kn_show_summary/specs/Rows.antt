@@ -25,5 +25,6 @@ pub record AreRowsOf (x : RowsState) (s : Spec) (es : List Event) (c : Trace) : 
 -- an entry comes next; who begins to run with it had waited less than the timeout
 pub record CanCount (s : Spec) (es : List Event) (tag : ℕ) (c : Trace) (x : Entry) : Type 0 where
   pub comes : ComesNext s es tag c x.row
+  pub some : 0 < s.timeout_ms
   pub in_time : (r : ℕ) → begun_by x.row ≡ Some r → x.time < arrival c r + s.timeout_ms
   pub few : arrivals (c ++ x ∷ []) < 2 ^ 64

@@ -43,7 +43,7 @@ pub record KnowsRun (x : SummaryState) (r : Run) : Type 0 where
   pub ranges : AreInRange r.spec
   pub start : x.start ≡ r.start
   pub clock : x.gauges.clock ≡ now_of r
-  pub now : x.gauges.now ≡ gauges (trace r)
+  pub present : x.gauges.present ≡ gauges (trace r)
   pub peaks : x.gauges.peaks ≡ peaks r
   pub costs : x.gauges.costs ≡ costs r
   pub cold : x.cold ≡ cold r

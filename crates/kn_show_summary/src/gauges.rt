@@ -63,7 +63,8 @@ impl Now {
     /// Of a revision.
     #[tactic(auto, unfolding(crate::specs::Gauges::gauges))]
     pub fn of(revision: &Revision) -> Now
-        ensures { (r : Run) → AreInRange r.spec → StandsFor revision.now (trace r) → result ≡ gauges (trace r) }
+        ensures value { (r : Run) → AreInRange r.spec → StandsFor revision.now (trace r) → result ≡ gauges (trace r) }
+        ensures few { result.arrivals < 2 ^ 64 }
     {
         Now {
             arrivals: revision.arrivals(),
@@ -80,7 +81,7 @@ impl Now {
 #[derive(Drop)]
 pub struct Gauges {
     clock: u64,
-    now: Now,
+    present: Now,
     peaks: Peaks,
     costs: Costs,
 }
@@ -90,7 +91,7 @@ impl Model for Gauges {
 
     ghost Value = { GaugesState };
 
-    ghost view = { λ g. record { clock = g.clock; now = g.now; peaks = g.peaks; costs = g.costs } };
+    ghost view = { λ g. record { clock = g.clock; present = g.present; peaks = g.peaks; costs = g.costs } };
 
     ghost invariant = { λ g. AreFew g.clock g.costs };
 }
@@ -98,11 +99,11 @@ impl Model for Gauges {
 impl Gauges {
     /// Nothing yet, at this time.
     pub fn new(start: u64) -> Gauges
-        ensures { result ≡ record { clock = start; now = record { arrivals = 0; live = 0; held = 0; pods = 0; ready = 0; running = 0 }; peaks = record { pods = 0; ready = 0; held = 0; live = 0 }; costs = record { at_zero = 0; pods = 0; ready = 0; running = 0 } } }
+        ensures { result ≡ record { clock = start; present = record { arrivals = 0; live = 0; held = 0; pods = 0; ready = 0; running = 0 }; peaks = record { pods = 0; ready = 0; held = 0; live = 0 }; costs = record { at_zero = 0; pods = 0; ready = 0; running = 0 } } }
     {
         Gauges {
             clock: start,
-            now: Now {
+            present: Now {
                 arrivals: 0,
                 live: 0,
                 held: 0,
@@ -128,12 +129,12 @@ impl Gauges {
     /// Time passes up to here.
     pub fn pass(&mut self, time: u64)
         ensures clock { self.new.clock ≡ max self.old.clock time }
-        ensures now { self.new.now ≡ self.old.now }
+        ensures present { self.new.present ≡ self.old.present }
         ensures peaks { self.new.peaks ≡ self.old.peaks }
-        ensures costs { self.new.costs ≡ with_time (time - self.old.clock) self.old.now self.old.costs }
+        ensures costs { self.new.costs ≡ with_time (time - self.old.clock) self.old.present self.old.costs }
     {
         let ms = u128::from(time.saturating_sub(self.clock));
-        let now = self.now;
+        let now = self.present;
         let costs = self.costs;
         self.costs = Costs {
             at_zero: costs.at_zero + if now.pods == 0 { ms } else { 0 },
@@ -147,11 +148,11 @@ impl Gauges {
     /// So many there are now.
     pub fn see(&mut self, now: Now)
         ensures clock { self.new.clock ≡ self.old.clock }
-        ensures now { self.new.now ≡ now }
+        ensures present { self.new.present ≡ now }
         ensures peaks { self.new.peaks ≡ with_now now self.old.peaks }
         ensures costs { self.new.costs ≡ self.old.costs }
     {
-        self.now = now;
+        self.present = now;
         self.peaks = Peaks {
             pods: self.peaks.pods.max(now.pods),
             ready: self.peaks.ready.max(now.ready),
@@ -161,10 +162,10 @@ impl Gauges {
     }
 
     /// How many there are.
-    pub fn now(&self) -> Now
-        ensures { result ≡ self.now.now }
+    pub fn present(&self) -> Now
+        ensures { result ≡ self.now.present }
     {
-        self.now
+        self.present
     }
 
     /// Up to when the costs are counted.

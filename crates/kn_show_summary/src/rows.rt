@@ -5,7 +5,8 @@ ghost use Rattle.kn_event.specs.declared.revision.Spec.{Spec as SpecValue};
 ghost use Rattle.kn_trace.specs.Events.{react, trace_of};
 ghost use Rattle.kn_trace.specs.Trace.{Trace, arrivals};
 ghost use Rattle.kn_lives.specs.declared.lives.Life.{Life as LifeValue};
-ghost use Rattle.kn_lives.specs.Lives.{begun_by, life_at, tag_by};
+ghost use Rattle.kn_lives.specs.Lives.{AreLives, begun_by, life_at, tag_by};
+ghost use Rattle.kn_begun.specs.Begun.{waits};
 ghost use Rattle.kn_waits.specs.Waits.{AreWaits};
 ghost use Rattle.kn_show_summary.specs.Counted.{counted};
 ghost use Rattle.kn_show_summary.specs.Rows.{AreRowsOf, CanCount};
@@ -15,6 +16,7 @@ use kn_begun::begin_laws;
 use kn_event::{Entry, EntryLog, Memory, Row};
 use kn_lives::Lives;
 use kn_lives::laws::{lives_laws, row_laws};
+use kn_record::facts::fact_laws;
 use kn_waits::Waits;
 use std::alloc::Global;
 use std::marker::Model;
@@ -73,6 +75,23 @@ fn count_wait(waits: &mut Waits, wait: u64)
     waits.add(wait.min(longest));
 }
 
+/// Counts how long a request had waited that begins to run with an entry.
+fn count_begun(kept: &mut Waits, lives: &Lives, e: &Entry)
+    ensures limit { length kept.new.counters ≡ length kept.old.counters }
+    ensures waits { (s : SpecValue) (es : List EventValue) (tag : ℕ) (c : Trace) → CanCount s es tag c e.now → length kept.old.counters ≡ s.timeout_ms → AreLives lives.now es c → AreWaits kept.old (waits c) → AreWaits kept.new (waits (c ++ e.now ∷ [])) }
+{
+    fact_laws();
+    begin_laws();
+    row_laws();
+    match begun_by(&e.row) {
+        Some(r) => {
+            let wait = waited(lives, r, e.time);
+            count_wait(kept, wait)
+        }
+        None => {}
+    }
+}
+
 impl Rows {
     /// No row yet.
     pub fn new(alloc: Global, initial: u64, min: u64, timeout_ms: u64) -> Result<Rows, Memory>
@@ -97,13 +116,9 @@ impl Rows {
         ensures admitted { self.old.counts.counted.admitted ≤ self.new.counts.counted.admitted }
         ensures kept { (s : SpecValue) (es : List EventValue) (c : Trace) → CanCount s es tag c e.now → AreRowsOf self.old s es c → AreRowsOf self.new s es (c ++ e.now ∷ []) }
     {
-        begin_laws();
-        row_laws();
+        fact_laws();
         self.counts.add(&e.row);
-        if let Some(r) = begun_by(&e.row) {
-            let wait = waited(&self.lives, r, e.time);
-            count_wait(&mut self.waits, wait);
-        }
+        count_begun(&mut self.waits, &self.lives, e);
         self.lives.add(tag, e);
     }
 
@@ -115,6 +130,7 @@ impl Rows {
         ensures admitted { self.old.counts.counted.admitted ≤ self.new.counts.counted.admitted }
         ensures kept { (s : SpecValue) (start : ℕ) (es : List EventValue) (e : EventValue) → 0 < s.timeout_ms → log.now ≡ react s (trace_of s start es) e → tag ≡ unwrap_or (tag_by e.act) 0 → arrivals (trace_of s start es ++ log.now) < 2 ^ 64 → AreRowsOf self.old s (es ++ e ∷ []) (trace_of s start es) → AreRowsOf self.new s (es ++ e ∷ []) (trace_of s start es ++ log.now) }
     {
+        fact_laws();
         begin_laws();
         lives_laws();
         for e in log.entries() {
@@ -127,10 +143,12 @@ impl Rows {
         requires { self.old.counts.rows ≤ 2 ^ 126 }
         ensures rows { self.new.counts.rows ≡ self.old.counts.rows + length log.now }
         ensures few { length log.now < 2 ^ 64 }
+        ensures admitted { self.old.counts.counted.admitted ≤ self.new.counts.counted.admitted }
         ensures waits { self.new.waits ≡ self.old.waits }
         ensures lives { self.new.lives ≡ self.old.lives }
         ensures counted { (s : SpecValue) (c : Trace) → self.old.counts.counted ≡ counted s c → self.new.counts.counted ≡ counted s (c ++ log.now) }
     {
+        fact_laws();
         for e in log.entries() {
             self.counts.add(&e.row);
         }

@@ -1,5 +1,5 @@
 //! The teller of a summary.
-ghost use Rattle.std.specs.Prelude.{◌≡◌, ◌+◌, ◌<◌, ◌≤◌, ◌^◌, ◌++◌, length, IfOk, OnOk, OnErr, List, ℕ};
+ghost use Rattle.std.specs.Prelude.{◌≡◌, ◌==◌, if◌then◌else◌, ◌+◌, ◌-◌, ◌<◌, ◌≤◌, ◌^◌, ◌++◌, length, IfOk, OnOk, OnErr, List, ℕ};
 ghost use Rattle.kn_event.specs.Revision.{AreInRange};
 ghost use Rattle.kn_io.specs.Causes.{HasCause};
 ghost use Rattle.kn_io.specs.Prefix.{AppendsPrefix};
@@ -92,13 +92,11 @@ impl Teller for Summary {
         _out: &mut O,
     ) -> Result<(), Failed> {
         lives_laws();
-        let was_ready = self.gauges.now().ready;
+        let was_ready = self.gauges.present().ready;
         let admitted = self.rows.counts.admitted();
         self.gauges.pass(e.time);
         self.rows.add_all(arrival_tag(&e.act), log);
-        if was_ready == 0 {
-            self.cold += self.rows.counts.admitted() - admitted;
-        }
+        self.cold += admitted_cold(was_ready, admitted, self.rows.counts.admitted());
         self.gauges.see(Now::of(revision));
         Ok(())
     }
@@ -116,7 +114,7 @@ impl Teller for Summary {
             Ok(()) => {}
             Err(Failed) => return Err(Failed),
         }
-        put_waits(&self.rows.waits, line);
+        self.put_waits(line);
         match waiting.add(line.bytes(), out) {
             Ok(()) => {}
             Err(Failed) => return Err(Failed),
@@ -130,9 +128,9 @@ impl Summary {
     /// Sets the line to the run's times, and to what became of the requests.
     #[tactic(auto, using(crate::proofs::Pieces::five_pieces), unfolding(crate::specs::Text::requests_text))]
     fn put_requests(&self, events: u64, line: &mut Line)
-        ensures { line.new ≡ requests_text self.now.start self.now.gauges.clock events self.now.gauges.now self.now.rows.counts.counted }
+        ensures { line.new ≡ requests_text self.now.start self.now.gauges.clock events self.now.gauges.present self.now.rows.counts.counted }
     {
-        let now = self.gauges.now();
+        let now = self.gauges.present();
         line.clear();
         put_run(self.start, self.gauges.clock(), events, line);
         self.rows.counts.put_taken(now.arrivals, line);
@@ -141,7 +139,15 @@ impl Summary {
         self.rows.counts.put_left(now.live, line);
     }
 
+    /// Sets the line to how long those had waited that ran.
+    fn put_waits(&self, line: &mut Line)
+        ensures { (ws : List ℕ) → AreWaits self.now.rows.waits ws → line.new ≡ waits_text ws }
+    {
+        put_waits(&self.rows.waits, line);
+    }
+
     /// Sets the line to the pods, and to what they cost.
+    #[tactic(auto, using(crate::proofs::Pieces::five_pieces), unfolding(crate::specs::Text::pods_text))]
     fn put_pods(&self, line: &mut Line)
         ensures { line.new ≡ pods_text self.now.cold self.now.rows.counts.counted self.now.gauges.peaks self.now.gauges.costs }
     {
@@ -154,6 +160,7 @@ impl Summary {
     }
 
     /// How many pods were created, and the most of pods and requests.
+    #[tactic(auto, using(crate::proofs::Pieces::five_from), unfolding(crate::specs::Text::peaks_text))]
     fn put_peaks(&self, line: &mut Line)
         requires { length line.old ≤ 260 }
         ensures value { line.new ≡ line.old ++ peaks_text self.now.rows.counts.counted self.now.gauges.peaks }
@@ -166,6 +173,13 @@ impl Summary {
         put_figure(line, b"held-peak ", u128::from(peaks.held));
         put_figure(line, b"live-peak ", u128::from(peaks.live));
     }
+}
+
+/// How many requests were admitted in between, where no pod was Ready.
+fn admitted_cold(ready: u64, before: u128, after: u128) -> u128
+    ensures { result ≡ (if ready == 0 then after - before else 0) }
+{
+    if ready == 0 { after.saturating_sub(before) } else { 0 }
 }
 
 /// The times of the run, and its events.
