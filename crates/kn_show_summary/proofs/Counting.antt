@@ -1,7 +1,8 @@
 -- The counts of a trace by one more row.
-use Rattle.std.proofs.Common.{◌≡◌, ℕ, suc, ◌+◌, ◌<◌, ◌≤◌, take, drop, drop-cons, get_or, append_assoc, Bool, true, false, cond, List, [], ◌∷◌, ◌++◌, length, length-append, refl, sym, ap, ◌∙◌, add-zero, append-nil, arith}
+use Rattle.std.proofs.Common.{◌≡◌, ℕ, suc, ◌+◌, ◌<◌, ◌≤◌, take, drop, get_or, append_assoc, Bool, true, false, cond, List, [], ◌∷◌, ◌++◌, length, length-append, refl, sym, ap, ◌∙◌, add-zero, append-nil, arith}
 use Rattle.std.specs.Prelude.{Option, None, Some}
 use Rattle.std.specs.List.{cons_option, filter}
+use Rattle.std.proofs.Math.Seq.{drop-cons}
 use Rattle.std.proofs.lemmas.List.{take_more, take-append-drop}
 use Rattle.std.proofs.lemmas.List.Elements.{filter_map-append}
 use Rattle.std.proofs.lemmas.List.Sums.{sum_by_push}
@@ -59,7 +60,7 @@ with_row-admitted _ t = omega arith
 -- an entry between those before it and those behind it
 pub split_at : (xs : Trace) (i : ℕ) (x : Entry) → i < length xs → x ≡ get_or xs i x → xs ≡ take i xs ++ x ∷ drop (suc i) xs
 split_at xs i x h is =
-    sym (take-append-drop i xs) ∙ ap (λ (l : Trace). take i xs ++ l) (drop-cons xs i x ∙ ap (λ (y : Entry). y ∷ drop (suc i) xs) (sym is))
+    sym (take-append-drop i xs) ∙ ap (λ (l : Trace). take i xs ++ l) (drop-cons xs i x h ∙ ap (λ (y : Entry). y ∷ drop (suc i) xs) (sym is))
 
 pub one_more : (c xs : Trace) (i : ℕ) (x : Entry) → i < length xs → x ≡ get_or xs i x → (c ++ take i xs) ++ x ∷ [] ≡ c ++ take (i + 1) xs
 one_more c xs i x h is =

@@ -3,3 +3,4 @@ mod Counting
 mod Timing
 mod Pods
 mod Waits
+mod Runs

@@ -2,7 +2,7 @@ use Rattle.std.proofs.Common.{◌≡◌, ◌+◌, ◌++◌, ◌∷◌, [], ◌�
 use Rattle.kn_trace.specs.Events.{trace_of}
 use Rattle.kn_trace.specs.Trace.{Trace, arrivals}
 use Rattle.kn_lives.specs.Lives.{ComesNext}
-use Rattle.kn_show_summary.specs.Rows.{AreRowsOf}
+use Rattle.kn_show_summary.specs.Rows.{AreRowsOf, CanCount}
 use Rattle.kn_show_summary.proofs.Counting.{arrivals_front, one_more, split_at}
 use Rattle.kn_show_summary.proofs.rows.Rows.add_all.Goals as goal
 
@@ -28,7 +28,7 @@ loop-e-preserved c = record {
       let whole : (before ++ x ∷ []) ++ drop (suc i) xs ≡ trace_of s start es ++ xs =
       append_assoc before (x ∷ []) (drop (suc i) xs) ∙ append_assoc (trace_of s start es) (take i xs) (x ∷ drop (suc i) xs) ∙ ap (λ (l : Trace). trace_of s start es ++ l) (sym split) in
       let front = arrivals_front (before ++ x ∷ []) (drop (suc i) xs) in
-      let can = record {
+      let can : CanCount s (es ++ e ∷ []) c.args.tag before x = record {
         comes = subst (λ (n : ℕ). ComesNext s (es ++ e ∷ []) n before x.row) (sym tag) comes;
         some = some;
         in_time = λ r h. c.begin_laws.ensures.in_time s (trace_of s start es) e (take i xs) (drop (suc i) xs) x r some (c.fact_laws.ensures.proper.made_trace s start es) (sym rows ∙ split) h;
