@@ -27,9 +27,9 @@ steps_from-append s c t [] e = ap (λ (d : Trace). record { before = d; since = 
 steps_from-append s c t (x ∷ xs) e =
     ap (λ (l : List Step). record { before = c; since = t; event = x } ∷ l)
     (
-      steps_from-append s (c ++ react s c x) x.time xs e
-      ∙ ap (λ (d : Trace). steps_from s (c ++ react s c x) x.time xs ++ record { before = d; since = unwrap_or (last_of (map (λ (x : Event). x.time) xs)) x.time; event = e } ∷ [])
-        (append_assoc c (react s c x) (added s (c ++ react s c x) xs))
+    steps_from-append s (c ++ react s c x) x.time xs e
+    ∙ ap (λ (d : Trace). steps_from s (c ++ react s c x) x.time xs ++ record { before = d; since = unwrap_or (last_of (map (λ (x : Event). x.time) xs)) x.time; event = e } ∷ [])
+    (append_assoc c (react s c x) (added s (c ++ react s c x) xs))
     )
 
 -- what was before the next event

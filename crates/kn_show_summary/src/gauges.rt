@@ -56,7 +56,10 @@ fn count_pods(revision: &Revision) -> u64
     append_laws();
     trace_laws();
     size_laws();
-    revision.count_starting().saturating_add(revision.count_ready()).saturating_add(revision.count_draining())
+    revision
+        .count_starting()
+        .saturating_add(revision.count_ready())
+        .saturating_add(revision.count_draining())
 }
 
 impl Now {

@@ -153,4 +153,11 @@ impl Rows {
             self.counts.add(&e.row);
         }
     }
+
+    /// How many requests were admitted.
+    pub fn admitted(&self) -> u128
+        ensures { result ≡ self.now.counts.counted.admitted }
+    {
+        self.counts.admitted()
+    }
 }

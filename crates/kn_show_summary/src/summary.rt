@@ -19,8 +19,8 @@ use kn_core::Revision;
 use kn_event::{EntryLog, Event, Line, Memory, Spec};
 use kn_io::{Failed, Sink};
 use kn_laws::parts::part_laws;
-use kn_lives::laws::lives_laws;
 use kn_lives::arrival_tag;
+use kn_lives::laws::lives_laws;
 use kn_report::Waiting;
 use kn_teller::{Form, Teller};
 use kn_waits::Waits;
@@ -93,10 +93,10 @@ impl Teller for Summary {
     ) -> Result<(), Failed> {
         lives_laws();
         let was_ready = self.gauges.present().ready;
-        let admitted = self.rows.counts.admitted();
+        let admitted = self.rows.admitted();
         self.gauges.pass(e.time);
         self.rows.add_all(arrival_tag(&e.act), log);
-        self.cold += admitted_cold(was_ready, admitted, self.rows.counts.admitted());
+        self.cold += admitted_cold(was_ready, admitted, self.rows.admitted());
         self.gauges.see(Now::of(revision));
         Ok(())
     }
@@ -179,7 +179,11 @@ impl Summary {
 fn admitted_cold(ready: u64, before: u128, after: u128) -> u128
     ensures { result ≡ (if ready == 0 then after - before else 0) }
 {
-    if ready == 0 { after.saturating_sub(before) } else { 0 }
+    if ready == 0 {
+        after.saturating_sub(before)
+    } else {
+        0
+    }
 }
 
 /// The times of the run, and its events.

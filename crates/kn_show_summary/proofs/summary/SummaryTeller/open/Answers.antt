@@ -3,9 +3,10 @@ use Rattle.kn_event.specs.declared.event.Event.{Event}
 use Rattle.kn_trace.specs.Events.{trace_of}
 use Rattle.kn_trace.specs.Trace.{arrivals}
 use Rattle.kn_teller.specs.Run.{trace}
+use Rattle.kn_lives.specs.declared.lives.Life.{Life}
 use Rattle.kn_lives.specs.Lives.{AreLives}
 use Rattle.kn_begun.specs.Begun.{waits}
-use Rattle.kn_waits.specs.Waits.{AreWaits}
+use Rattle.kn_waits.specs.Waits.{AreWaits, WaitsState}
 use Rattle.kn_show_summary.specs.Counted.{counted}
 use Rattle.kn_show_summary.specs.Summary.{AwaitsRun, SummaryState}
 use Rattle.kn_show_summary.proofs.Runs.{no_tags, nothing}
@@ -29,8 +30,8 @@ returns-clause-knows g c r awaits opened =
       cold = held.cold ∙ sym (cold-none r none);
       rows = record {
         counted = c.add_opening.ensures.counted r.spec [] held.rows.counted ∙ ap (counted r.spec) (sym opened.trace_is);
-        waits = subst (λ (ws : List ℕ). AreWaits c.add_opening.new.self.waits ws) nobody ?;
-        limit = ?;
-        lives = subst (λ (es : List Event). AreLives c.add_opening.new.self.lives es (trace_of r.spec r.start es)) (sym none) (c.lives_laws.ensures.opened r.spec r.start c.add_opening.new.self.lives ?);
+        waits = subst (λ (ws : List ℕ). AreWaits c.add_opening.new.self.waits ws) nobody (subst (λ (w : WaitsState). AreWaits w (waits [])) (sym c.add_opening.ensures.waits) held.rows.waits);
+        limit = ap (λ (w : WaitsState). length w.counters) c.add_opening.ensures.waits ∙ held.rows.limit;
+        lives = subst (λ (es : List Event). AreLives c.add_opening.new.self.lives es (trace_of r.spec r.start es)) (sym none) (c.lives_laws.ensures.opened r.spec r.start c.add_opening.new.self.lives (subst (λ (l : List (ℕ × Life)). AreLives l [] []) (sym c.add_opening.ensures.lives) held.rows.lives));
       };
     }
