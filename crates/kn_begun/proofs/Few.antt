@@ -15,7 +15,6 @@ use Rattle.kn_record.specs.Rows.{counted, says}
 use Rattle.kn_record.specs.Views.{others}
 use Rattle.kn_lives.specs.Lives.{begun_by, by_row}
 use Rattle.kn_begun.specs.Begun.{wait_by, wait_of, waits}
-use Rattle.kn_begun.proofs.ByRow.{by_row-append}
 use Rattle.kn_begun.proofs.InTime.{IsWaiting, begins_waiting}
 
 -- ---- how long
@@ -24,9 +23,13 @@ pub waits-nil : waits [] ≡ []
 unfolding waits by_row
 waits-nil = refl
 
-pub waits-push : (c : Trace) (x : Entry) → waits (c ++ x ∷ []) ≡ waits c ++ wait_by c x
+-- row by row over rows in two parts
+abbrev pub AppendsRows : Type 0
+AppendsRows = (f : Trace → Entry → List ℕ) (c xs ys : Trace) → by_row f c (xs ++ ys) ≡ by_row f c xs ++ by_row f (c ++ xs) ys
+
+pub waits-push : AppendsRows → (c : Trace) (x : Entry) → waits (c ++ x ∷ []) ≡ waits c ++ wait_by c x
 unfolding waits by_row
-waits-push c x = by_row-append wait_by [] c (x ∷ []) ∙ ap (λ (l : List ℕ). by_row wait_by [] c ++ l) (append-nil (wait_by c x))
+waits-push append c x = append wait_by [] c (x ∷ []) ∙ ap (λ (l : List ℕ). by_row wait_by [] c ++ l) (append-nil (wait_by c x))
 
 length-wait : (o : Option ℕ) (c : Trace) (t : ℕ) → length (wait_of o c t) ≡ counted o
 length-wait None c t = refl
@@ -77,7 +80,7 @@ begins_one (row.Assign u p) r q a b d h = let same : r ≡ u = cc in rw same (as
 begins_one (row.Run u) r q a b d h = let same : r ≡ u = cc in rw same (runs_now a b d (u == q))
 begins_one _ r q a b d h = absurd (cc)
 
-module _ (facts : Facts) where
+module _ (append : AppendsRows) (facts : Facts) where
   open facts use {lists.{in_filter, length-filter-more, distinct-filter, others-length}, entries.{arrivals-push, has_not_begun-push, view-less}, proper.{made_kept, made_at}}
 
   abbrev IsFew : Trace → Type 0
@@ -128,7 +131,7 @@ module _ (facts : Facts) where
   few_next s c x made proper few = by (begun_by x.row) refl
     where
       sizes : length (waits (c ++ x ∷ [])) ≡ length (waits c) + counted (begun_by x.row)
-      sizes = ap length (waits-push c x) ∙ length-append (waits c) (wait_by c x) ∙ ap (λ (n : ℕ). length (waits c) + n) (length-wait (begun_by x.row) c x.time)
+      sizes = ap length (waits-push append c x) ∙ length-append (waits c) (wait_by c x) ∙ ap (λ (n : ℕ). length (waits c) + n) (length-wait (begun_by x.row) c x.time)
 
       by : (o : Option ℕ) → begun_by x.row ≡ o → IsFew (c ++ x ∷ [])
       by None is = omega (arith, sizes, ap (counted {X = ℕ}) is, waiting_more c x, takes_few x.row, arrivals-push c x)

@@ -1,3 +1,2 @@
-pub mod ByRow
 mod InTime
 mod Few

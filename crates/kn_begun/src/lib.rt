@@ -12,6 +12,7 @@ ghost use Rattle.kn_lives.specs.Lives.{begun_by};
 ghost use Rattle.kn_begun.specs.Begun.{arrival, wait_by, waits};
 
 use kn_laws::parts::part_laws;
+use kn_lives::laws::row_laws;
 use kn_record::facts::fact_laws;
 
 /// A request that begins to run had waited less than its timeout, since who waited too long expires first in each event. No more began than arrived.
@@ -23,4 +24,5 @@ pub fn begin_laws()
 {
     fact_laws();
     part_laws();
+    row_laws();
 }

@@ -18,7 +18,6 @@ use Rattle.kn_trace.specs.Trace.{Trace, arrivals, each_row}
 use Rattle.kn_record.specs.Facts.{Facts}
 use Rattle.kn_record.specs.Rows.{want_after}
 use Rattle.kn_lives.specs.Lives.{by_row}
-use Rattle.kn_begun.proofs.ByRow.{by_row-append}
 use Rattle.kn_show_summary.specs.Counted.{Counted, counted, decisions_where, is_change, is_create, is_in_panic, is_no_data, is_wake, more_where, wakes, wanted_changes, with_row}
 
 rows_with-push : (test : Row → Bool) (c : Trace) (e : Entry) → rows_with test (c ++ e ∷ []) ≡ more_where (test e.row) (rows_with test c)
@@ -29,6 +28,15 @@ rows_with-push test c e = by_test (test e.row) refl
     by_test false h = sum_by_push (λ (x : Entry). cond (test x.row) 1 0) c e ∙ rw h (add-zero (rows_with test c))
 
 -- ---- decisions
+
+-- row by row over rows in two parts
+by_row-append : {X : Type 0} (f : Trace → Entry → List X) (c xs ys : Trace) → by_row f c (xs ++ ys) ≡ by_row f c xs ++ by_row f (c ++ xs) ys
+unfolding by_row
+by_row-append f c [] ys = ap (λ (d : Trace). by_row f d ys) (sym (append-nil c))
+by_row-append f c (x ∷ xs) ys =
+    ap (λ (l : List _). f c x ++ l) (by_row-append f (c ++ x ∷ []) xs ys)
+    ∙ sym (append_assoc (f c x) (by_row f (c ++ x ∷ []) xs) (by_row f ((c ++ x ∷ []) ++ xs) ys))
+    ∙ ap (λ (d : Trace). (f c x ++ by_row f (c ++ x ∷ []) xs) ++ by_row f d ys) (append_assoc c (x ∷ []) xs)
 
 abbrev more_decided : (ℕ → Decision → Bool) → ℕ → Option Decision → ℕ → ℕ
 more_decided test before None n = n

@@ -1,6 +1,4 @@
 mod Pieces
 mod Counting
-mod Timing
-mod Pods
 mod Waits
 mod Runs

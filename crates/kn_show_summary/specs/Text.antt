@@ -3,9 +3,9 @@ use Rattle.std.specs.Prelude.{ℕ, List, [], ◌∷◌, ◌++◌, codes, length,
 use Rattle.std.specs.Fmt.{decimal}
 use Rattle.std.specs.List.{sum}
 use Rattle.kn_waits.specs.Waits.{greatest, percentile}
-use Rattle.kn_show_summary.specs.declared.gauges.Costs.{Costs}
-use Rattle.kn_show_summary.specs.declared.gauges.Now.{Now}
-use Rattle.kn_show_summary.specs.declared.gauges.Peaks.{Peaks}
+use Rattle.kn_costs.specs.declared.gauges.Costs.{Costs}
+use Rattle.kn_costs.specs.declared.gauges.Now.{Now}
+use Rattle.kn_costs.specs.declared.gauges.Peaks.{Peaks}
 use Rattle.kn_show_summary.specs.Counted.{Counted}
 
 -- a line: a name with its space, and a number

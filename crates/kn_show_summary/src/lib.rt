@@ -2,7 +2,6 @@
 #![tactic(auto)]
 
 mod counts;
-mod gauges;
 mod lines;
 mod rows;
 mod summary;

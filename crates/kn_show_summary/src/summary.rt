@@ -9,16 +9,15 @@ ghost use Rattle.kn_teller.specs.Run.{IsOpened, IsStep, Run, begun, later, trace
 ghost use Rattle.kn_begun.specs.Begun.{waits};
 ghost use Rattle.kn_waits.specs.Waits.{AreWaits};
 ghost use Rattle.kn_show_summary.specs.Summary.{AwaitsRun, KnowsRun, summarises, summary};
-ghost use Rattle.kn_show_summary.specs.Text.{longest, peaks_text, percentiles_text, pods_text, requests_text, run_text, waits_text};
+ghost use Rattle.kn_show_summary.specs.Text.{costs_text, longest, peaks_text, percentiles_text, pods_text, requests_text, run_text, waits_text};
 
-use crate::gauges::{Gauges, Now};
 use crate::lines::{put_figure, put_known};
 use crate::rows::Rows;
 use kn_begun::begin_laws;
 use kn_core::Revision;
+use kn_costs::{Costs, Gauges, Now, run_laws};
 use kn_event::{EntryLog, Event, Line, Memory, Spec};
 use kn_io::{Failed, Sink};
-use kn_laws::parts::part_laws;
 use kn_lives::arrival_tag;
 use kn_lives::laws::lives_laws;
 use kn_report::Waiting;
@@ -74,9 +73,9 @@ impl Teller for Summary {
         _waiting: &mut Waiting,
         _out: &mut O,
     ) -> Result<(), Failed> {
-        part_laws();
         begin_laws();
         lives_laws();
+        run_laws();
         self.rows.add_opening(log);
         self.gauges.see(Now::of(revision));
         Ok(())
@@ -92,6 +91,7 @@ impl Teller for Summary {
         _out: &mut O,
     ) -> Result<(), Failed> {
         lives_laws();
+        run_laws();
         let was_ready = self.gauges.present().ready;
         let admitted = self.rows.admitted();
         self.gauges.pass(e.time);
@@ -155,7 +155,7 @@ impl Summary {
         self.rows.counts.put_starts(self.cold, line);
         self.rows.counts.put_decisions(line);
         self.put_peaks(line);
-        self.gauges.put_costs(line);
+        put_costs(self.gauges.costs(), line);
         put_figure(line, b"wanted-changes ", self.rows.counts.changes());
     }
 
@@ -198,6 +198,19 @@ fn put_run(from: u64, to: u64, events: u64, line: &mut Line)
     put_figure(line, b"events ", u128::from(events));
 }
 
+/// What pods and requests cost.
+#[tactic(auto, using(crate::proofs::Pieces::four_pieces), unfolding(crate::specs::Text::costs_text))]
+fn put_costs(costs: Costs, line: &mut Line)
+    requires { length line.old ≤ 600 }
+    ensures value { line.new ≡ line.old ++ costs_text costs }
+    ensures short { length line.new ≤ length line.old + 210 }
+{
+    put_figure(line, b"at-zero-ms ", costs.at_zero);
+    put_figure(line, b"pod-ms ", costs.pods);
+    put_figure(line, b"ready-ms ", costs.ready);
+    put_figure(line, b"running-ms ", costs.running);
+}
+
 /// The percentiles.
 #[tactic(auto, using(crate::proofs::Pieces::four_pieces), unfolding(crate::specs::Text::percentiles_text))]
 fn put_percentiles(counted: &Waits, line: &mut Line)
@@ -234,7 +247,7 @@ fn put_waits(counted: &Waits, line: &mut Line)
 }
 
 /// The form that sums a run up.
-#[derive(Clone, Copy, Debug, PartialEq, Eq)]
+#[derive(Clone, Copy)]
 pub struct SummaryForm;
 
 impl Form<Summary> for SummaryForm {

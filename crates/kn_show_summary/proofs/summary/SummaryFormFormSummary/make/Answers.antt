@@ -1,7 +1,7 @@
 use Rattle.std.proofs.Common.{◌≡◌, ap, sym, subst, refl}
 use Rattle.kn_event.specs.declared.revision.Spec.{Spec}
 use Rattle.kn_event.specs.Revision.{AreInRange}
-use Rattle.kn_show_summary.specs.Gauges.{GaugesState}
+use Rattle.kn_costs.specs.Gauges.{GaugesState}
 use Rattle.kn_show_summary.proofs.summary.SummaryFormFormSummary.make.Goals as goal
 
 pub returns-clause-awaits : goal.returns-clause-awaits

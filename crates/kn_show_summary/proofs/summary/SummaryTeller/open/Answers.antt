@@ -10,7 +10,6 @@ use Rattle.kn_waits.specs.Waits.{AreWaits, WaitsState}
 use Rattle.kn_show_summary.specs.Counted.{counted}
 use Rattle.kn_show_summary.specs.Summary.{AwaitsRun, SummaryState}
 use Rattle.kn_show_summary.proofs.Runs.{no_tags, nothing}
-use Rattle.kn_show_summary.proofs.Timing.{clock-none, cold-none, costs_first, peaks_first}
 use Rattle.kn_show_summary.proofs.summary.SummaryTeller.open.Goals as goal
 
 pub returns-clause-knows : goal.returns-clause-knows
@@ -23,11 +22,11 @@ returns-clause-knows g c r awaits opened =
     record {
       ranges = held.ranges;
       start = held.start;
-      clock = c.see.ensures.clock ∙ held.clock ∙ sym (clock-none r none);
+      clock = c.see.ensures.clock ∙ held.clock ∙ sym (c.run_laws.ensures.clock_first r none);
       present = c.see.ensures.present ∙ c.of.ensures.value r held.ranges opened.stands;
-      peaks = c.see.ensures.peaks ∙ peaks_first r c.of.result _ none (c.of.ensures.value r held.ranges opened.stands) held.peaks;
-      costs = c.see.ensures.costs ∙ held.costs ∙ sym (costs_first r none);
-      cold = held.cold ∙ sym (cold-none r none);
+      peaks = c.see.ensures.peaks ∙ c.run_laws.ensures.peaks_first r c.of.result _ none (c.of.ensures.value r held.ranges opened.stands) held.peaks;
+      costs = c.see.ensures.costs ∙ held.costs ∙ sym (c.run_laws.ensures.costs_first r none);
+      cold = held.cold ∙ sym (c.run_laws.ensures.cold_first r none);
       rows = record {
         counted = c.add_opening.ensures.counted r.spec [] held.rows.counted ∙ ap (counted r.spec) (sym opened.trace_is);
         waits = subst (λ (ws : List ℕ). AreWaits c.add_opening.new.self.waits ws) nobody (subst (λ (w : WaitsState). AreWaits w (waits [])) (sym c.add_opening.ensures.waits) held.rows.waits);

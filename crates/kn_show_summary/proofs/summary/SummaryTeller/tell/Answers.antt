@@ -5,11 +5,10 @@ use Rattle.kn_trace.specs.Scale.{count_ready}
 use Rattle.kn_trace.specs.Trace.{Trace, arrivals}
 use Rattle.kn_teller.specs.Run.{later, now_of, trace}
 use Rattle.kn_show_summary.specs.Counted.{Counted, counted}
-use Rattle.kn_show_summary.specs.Gauges.{costs, gauges, peaks}
+use Rattle.kn_costs.specs.Gauges.{costs, gauges, peaks}
 use Rattle.kn_show_summary.specs.Rows.{AreRowsOf, RowsState}
 use Rattle.kn_show_summary.specs.Summary.{KnowsRun, SummaryState}
-use Rattle.kn_show_summary.specs.declared.gauges.Now.{Now}
-use Rattle.kn_show_summary.proofs.Timing.{clock-later, cold_next, costs_next, peaks_next}
+use Rattle.kn_costs.specs.declared.gauges.Now.{Now}
 use Rattle.kn_show_summary.proofs.summary.SummaryTeller.tell.Goals as goal
 
 pub returns-clause-knows : goal.returns-clause-knows
@@ -35,11 +34,11 @@ returns-clause-knows g c r knows step =
     record {
       ranges = held.ranges;
       start = held.start;
-      clock = c.see.ensures.clock ∙ c.pass.ensures.clock ∙ omega (arith, held.clock, step.order) ∙ sym (clock-later r e);
+      clock = c.see.ensures.clock ∙ c.pass.ensures.clock ∙ omega (arith, held.clock, step.order) ∙ sym (c.run_laws.ensures.clock_next r e);
       present = c.see.ensures.present ∙ seen;
-      peaks = c.see.ensures.peaks ∙ peaks_next r e c.of.result _ seen (c.pass.ensures.peaks ∙ held.peaks);
-      costs = c.see.ensures.costs ∙ c.pass.ensures.costs ∙ costs_next r e _ _ _ (ap (λ (n : ℕ). e.time - n) held.clock) held.present held.costs;
+      peaks = c.see.ensures.peaks ∙ c.run_laws.ensures.peaks_next r e c.of.result _ seen (c.pass.ensures.peaks ∙ held.peaks);
+      costs = c.see.ensures.costs ∙ c.pass.ensures.costs ∙ c.run_laws.ensures.costs_next r e _ _ _ (ap (λ (n : ℕ). e.time - n) held.clock) held.present held.costs;
       cold = ap (λ (n : ℕ). n + c.admitted_cold.result) held.cold
-          ∙ cold_next r e c.args.log.now c.present-was_ready.result.ready c.admitted_cold.result step.rows step.trace_is ready (rw (last, first) at c.admitted_cold.ensures);
+          ∙ c.run_laws.ensures.cold_next r e c.args.log.now c.present-was_ready.result.ready c.admitted_cold.result step.rows step.trace_is ready (rw (last, first) at c.admitted_cold.ensures);
       rows = rows;
     }

@@ -1,21 +1,17 @@
 //! How many there are of each after an event, the most of them, and what they come to over time.
-ghost use Rattle.std.specs.Prelude.{◌≡◌, ◌+◌, ◌-◌, ◌<◌, ◌≤◌, ◌^◌, ◌++◌, max, length};
+ghost use Rattle.std.specs.Prelude.{◌≡◌, ◌-◌, ◌<◌, ◌^◌, max};
 ghost use Rattle.kn_event.specs.Revision.{AreInRange};
 ghost use Rattle.kn_core.specs.State.{StandsFor};
 ghost use Rattle.kn_teller.specs.Run.{Run, trace};
-ghost use Rattle.kn_show_summary.specs.Gauges.{gauges, with_now, with_time};
-ghost use Rattle.kn_show_summary.specs.Text.{costs_text};
+ghost use Rattle.kn_costs.specs.Gauges.{gauges, with_now, with_time};
 
-use crate::lines::put_figure;
 use kn_core::Revision;
-use kn_event::Line;
-use kn_laws::laws::trace_laws;
 use kn_record::append::append_laws;
 use kn_sizes::sizes::size_laws;
 use std::marker::Model;
 
 /// How many there are.
-#[derive(Clone, Copy, Debug, PartialEq, Eq)]
+#[derive(Clone, Copy)]
 pub struct Now {
     /// Requests that have arrived.
     pub arrivals: u64,
@@ -32,7 +28,7 @@ pub struct Now {
 }
 
 /// The most that there were.
-#[derive(Clone, Copy, Debug, PartialEq, Eq)]
+#[derive(Clone, Copy)]
 pub struct Peaks {
     pub pods: u64,
     pub ready: u64,
@@ -41,7 +37,7 @@ pub struct Peaks {
 }
 
 /// Milliseconds: without a pod, of all pods' lives, of those Ready, and of all requests' running.
-#[derive(Clone, Copy, Debug, PartialEq, Eq)]
+#[derive(Clone, Copy)]
 pub struct Costs {
     pub at_zero: u128,
     pub pods: u128,
@@ -54,7 +50,6 @@ fn count_pods(revision: &Revision) -> u64
     ensures { (r : Run) → AreInRange r.spec → StandsFor revision.now (trace r) → result ≡ (gauges (trace r)).pods }
 {
     append_laws();
-    trace_laws();
     size_laws();
     revision
         .count_starting()
@@ -90,7 +85,7 @@ pub struct Gauges {
 }
 
 impl Model for Gauges {
-    ghost use Rattle.kn_show_summary.specs.Gauges.{AreFew, GaugesState};
+    ghost use Rattle.kn_costs.specs.Gauges.{AreFew, GaugesState};
 
     ghost Value = { GaugesState };
 
@@ -186,15 +181,9 @@ impl Gauges {
     }
 
     /// What they cost.
-    #[tactic(auto, using(crate::proofs::Pieces::four_pieces), unfolding(crate::specs::Text::costs_text))]
-    pub fn put_costs(&self, line: &mut Line)
-        requires { length line.old ≤ 600 }
-        ensures value { line.new ≡ line.old ++ costs_text self.now.costs }
-        ensures short { length line.new ≤ length line.old + 210 }
+    pub fn costs(&self) -> Costs
+        ensures { result ≡ self.now.costs }
     {
-        put_figure(line, b"at-zero-ms ", self.costs.at_zero);
-        put_figure(line, b"pod-ms ", self.costs.pods);
-        put_figure(line, b"ready-ms ", self.costs.ready);
-        put_figure(line, b"running-ms ", self.costs.running);
+        self.costs
     }
 }

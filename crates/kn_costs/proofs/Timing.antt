@@ -14,11 +14,11 @@ use Rattle.kn_trace.specs.Trace.{Trace, last_of}
 use Rattle.kn_throttle.specs.Gauges.{count_running}
 use Rattle.kn_teller.specs.Run.{Run, later, now_of, trace}
 use Rattle.kn_waits.specs.Waits.{greatest}
-use Rattle.kn_show_summary.specs.declared.gauges.Costs.{Costs}
-use Rattle.kn_show_summary.specs.declared.gauges.Now.{Now}
-use Rattle.kn_show_summary.specs.declared.gauges.Peaks.{Peaks}
-use Rattle.kn_show_summary.specs.Gauges.{costs, count_held, count_live, count_none, count_pods, gauges, peaks, with_now, with_time}
-use Rattle.kn_show_summary.specs.Steps.{Step, area, cold, cold_in, lasting, moments, peak, steps, steps_from}
+use Rattle.kn_costs.specs.declared.gauges.Costs.{Costs}
+use Rattle.kn_costs.specs.declared.gauges.Now.{Now}
+use Rattle.kn_costs.specs.declared.gauges.Peaks.{Peaks}
+use Rattle.kn_costs.specs.Gauges.{costs, count_held, count_live, count_none, count_pods, gauges, peaks, with_now, with_time}
+use Rattle.kn_costs.specs.Steps.{Step, area, cold, cold_in, lasting, moments, peak, steps, steps_from}
 
 steps_from-append : (s : Spec) (c : Trace) (t : ℕ) (es : List Event) (e : Event)
     → steps_from s c t (es ++ e ∷ []) ≡ steps_from s c t es ++ record { before = c ++ added s c es; since = unwrap_or (last_of (map (λ (x : Event). x.time) es)) t; event = e } ∷ []

@@ -1,8 +1,8 @@
 use Rattle.std.proofs.Common.{arith}
 use Rattle.kn_teller.specs.Run.{trace}
-use Rattle.kn_show_summary.specs.Gauges.{gauges}
-use Rattle.kn_show_summary.proofs.Pods.{pods_in_three, unstopped}
-use Rattle.kn_show_summary.proofs.gauges.count_pods.Goals as goal
+use Rattle.kn_costs.specs.Gauges.{gauges}
+use Rattle.kn_costs.proofs.Pods.{pods_in_three, unstopped}
+use Rattle.kn_costs.proofs.gauges.count_pods.Goals as goal
 
 pub returns : goal.returns
 unfolding gauges

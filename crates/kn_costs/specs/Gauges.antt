@@ -4,10 +4,10 @@ use Rattle.kn_throttle.specs.Gauges.{count_running}
 use Rattle.kn_trace.specs.Scale.{count_ready}
 use Rattle.kn_trace.specs.Trace.{Trace, arrivals, held, is_empty, live, live_pods}
 use Rattle.kn_teller.specs.Run.{Run}
-use Rattle.kn_show_summary.specs.declared.gauges.Costs.{Costs}
-use Rattle.kn_show_summary.specs.declared.gauges.Now.{Now}
-use Rattle.kn_show_summary.specs.declared.gauges.Peaks.{Peaks}
-use Rattle.kn_show_summary.specs.Steps.{area, peak}
+use Rattle.kn_costs.specs.declared.gauges.Costs.{Costs}
+use Rattle.kn_costs.specs.declared.gauges.Now.{Now}
+use Rattle.kn_costs.specs.declared.gauges.Peaks.{Peaks}
+use Rattle.kn_costs.specs.Steps.{area, peak}
 
 abbrev pub count_pods : Trace → ℕ
 count_pods c = length (live_pods c)
