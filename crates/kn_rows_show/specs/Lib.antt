@@ -1,1 +1,3 @@
-pub mod Summaries
+pub mod Sums
+pub mod Fixed
+pub mod Scaled
