@@ -1,0 +1,2 @@
+mod InTime
+mod Few

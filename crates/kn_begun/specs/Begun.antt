@@ -1,0 +1,22 @@
+-- How long requests waited until they began to run.
+use Rattle.std.specs.Prelude.{ℕ, ◌-◌, List, [], ◌∷◌, Option, None, Some, unwrap_or}
+use Rattle.kn_event.specs.declared.entry.Entry.{Entry}
+use Rattle.kn_trace.specs.Rows.{taken_by}
+use Rattle.kn_trace.specs.Trace.{Trace}
+use Rattle.kn_lives.specs.Lives.{begun_by, by_row, time_of}
+
+-- when request r was taken in
+abbrev pub arrival : Trace → ℕ → ℕ
+arrival c r = unwrap_or (time_of taken_by c r) 0
+
+abbrev pub wait_of : Option ℕ → Trace → ℕ → List ℕ
+wait_of None c t = []
+wait_of (Some r) c t = (t - arrival c r) ∷ []
+
+-- how long a request had waited that begins to run with the entry
+abbrev pub wait_by : Trace → Entry → List ℕ
+wait_by c x = wait_of (begun_by x.row) c x.time
+
+-- how long those had waited that have begun to run, in the order in which they did
+unfoldable pub waits : Trace → List ℕ
+waits c = by_row wait_by [] c

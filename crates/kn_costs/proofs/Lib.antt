@@ -1,0 +1,2 @@
+mod Timing
+mod Pods

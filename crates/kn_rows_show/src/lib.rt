@@ -1,0 +1,5 @@
+//! Summaries of small runs, computed by the checker.
+#![tactic(auto)]
+
+pub mod fixed;
+pub mod scaled;

@@ -1,0 +1,4 @@
+mod Pieces
+mod Counting
+mod Waits
+mod Runs

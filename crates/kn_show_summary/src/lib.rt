@@ -1,0 +1,9 @@
+//! The summary of a run: counts, waiting times, cold starts, and what the pods cost.
+#![tactic(auto)]
+
+mod counts;
+mod lines;
+mod rows;
+mod summary;
+
+pub use summary::{Summary, SummaryForm};
