@@ -5,7 +5,7 @@ use Rattle.kn_event.specs.Numbers.{number_of}
 use Rattle.kn_teller.specs.Manner.{Manner}
 use Rattle.kn_show_requests.specs.Requests.{requests}
 use Rattle.kn_show_series.specs.Series.{series}
-use Rattle.kn_show_summary.specs.Summary.{summary}
+use Rattle.kn_show_summary.specs.Summary.{summarises}
 use Rattle.kn_show.specs.declared.command.Command.{Command}
 use Rattle.kn_show.specs.declared.command.Command.TheVariants as command
 
@@ -28,5 +28,5 @@ command_of _ = None
 -- what is written then
 abbrev pub manner_of : Command → Manner
 manner_of command.Requests = requests
-manner_of command.Summary = summary
+manner_of command.Summary = summarises
 manner_of (command.Series step) = series step
