@@ -50,8 +50,17 @@ sum_waits step start k t before (x ∷ c) h =
 
 -- ---- an event lets no more begin than it has rows
 
-begun_added : (s : Spec) (c : Trace) (es : List Event) → ((s : Spec) (c : Trace) (e : Event) → AreInRange s → IsMade s c → IsSettled s c → length (react s c e) ≤ 41005)
-    → ((s : Spec) (c : Trace) (e : Event) → IsMade s c → IsMade s (c ++ react s c e)) → ((s : Spec) (c : Trace) (e : Event) → IsMade s c → IsSettled s (c ++ react s c e))
+abbrev pub AddsFew : Type 0
+AddsFew = (s : Spec) (c : Trace) (e : Event) → AreInRange s → IsMade s c → IsSettled s c → length (react s c e) ≤ 41005
+
+abbrev pub StaysMade : Type 0
+StaysMade = (s : Spec) (c : Trace) (e : Event) → IsMade s c → IsMade s (c ++ react s c e)
+
+abbrev pub IsThenSettled : Type 0
+IsThenSettled = (s : Spec) (c : Trace) (e : Event) → IsMade s c → IsSettled s (c ++ react s c e)
+
+begun_added : (s : Spec) (c : Trace) (es : List Event) → AddsFew
+    → StaysMade → IsThenSettled
     → AreInRange s → IsMade s c → IsSettled s c → length (each_row begun_by (added s c es)) ≤ 41005 * length es
 unfolding added
 begun_added s c [] few made_on settled_on range made settled = omega arith
@@ -71,8 +80,8 @@ begun_few s start es none more =
     omega arith
 
 -- so all that they waited comes to less
-pub waits_few : (step from k clock count : ℕ) (s : Spec) (start : ℕ) (c : Trace) → ((s : Spec) (c : Trace) (e : Event) → AreInRange s → IsMade s c → IsSettled s c → length (react s c e) ≤ 41005)
-    → ((s : Spec) (c : Trace) (e : Event) → IsMade s c → IsMade s (c ++ react s c e)) → ((s : Spec) (c : Trace) (e : Event) → IsMade s c → IsSettled s (c ++ react s c e))
+pub waits_few : (step from k clock count : ℕ) (s : Spec) (start : ℕ) (c : Trace) → AddsFew
+    → StaysMade → IsThenSettled
     → IsMade s (opening s start) → IsSettled s (opening s start) → each_row begun_by (opening s start) ≡ []
     → AreInRange s → AreTimesInOrder start c clock → clock ≤ 2 ^ 42 → count < 2 ^ 64 → History s start clock count c → sum (waits_in step from k c) < 2 ^ 128
 unfolding waits_in

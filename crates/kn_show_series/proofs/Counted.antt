@@ -18,6 +18,7 @@ use Rattle.kn_show_series.specs.declared.current.OpenStep.{OpenStep}
 use Rattle.kn_show_series.specs.Counting.{waits_by, with_cap, with_row}
 use Rattle.kn_show_series.specs.State.{CountsEvent, SeriesState}
 use Rattle.kn_show_series.specs.Steps.{counts_of, is_shown, wait_of}
+use Rattle.kn_show_series.proofs.Events.{GoesByParts}
 use Rattle.kn_show_series.proofs.Counting.{counts_more}
 
 -- ---- how long a request had waited
@@ -61,13 +62,13 @@ pub comes_next : (r : Run) (e : Event) (log : Trace) (i : ℕ) (x : Entry) → C
 comes_next r e log i x turn same low is =
     turn (take i log) (drop (i + 1) log) x (sym same ∙ parts log i x low ∙ ap (λ (y : Entry). take i log ++ (y ∷ drop (i + 1) log)) (sym is))
 
-by_row-push : (c xs : Trace) (y : Entry) → ((f : Trace → Entry → List ℕ) (c xs ys : Trace) → by_row f c (xs ++ ys) ≡ by_row f c xs ++ by_row f (c ++ xs) ys)
+by_row-push : (c xs : Trace) (y : Entry) → GoesByParts
     → by_row wait_of c (xs ++ y ∷ []) ≡ by_row wait_of c xs ++ wait_of (c ++ xs) y
 unfolding by_row
 by_row-push c xs y append = append wait_of c xs (y ∷ []) ∙ ap (λ (ws : List ℕ). by_row wait_of c xs ++ ws) (append-nil (wait_of (c ++ xs) y))
 
 -- with one row more
-counts_push : (c first : Trace) (x : Entry) (wait : ℕ) (now new : Counts) → ((f : Trace → Entry → List ℕ) (c xs ys : Trace) → by_row f c (xs ++ ys) ≡ by_row f c xs ++ by_row f (c ++ xs) ys)
+counts_push : (c first : Trace) (x : Entry) (wait : ℕ) (now new : Counts) → GoesByParts
     → waits_by (begun_by x.row) wait ≡ wait_of (c ++ first) x
     → new ≡ with_row x.row (waits_by (begun_by x.row) wait) now
     → (rows : Trace) (waits : List ℕ)
@@ -82,7 +83,7 @@ counts_push c first x wait now new append waited is rows waits before =
     ∙ ap (λ (vs : List ℕ). with_cap (counts_of (rows ++ (first ++ x ∷ [])) vs)) (append_assoc waits (by_row wait_of c first) v ∙ ap (λ (vs : List ℕ). waits ++ vs) (sym (by_row-push c first x append)))
 
 pub count_more : (r : Run) (e : Event) (log : Trace) (i tag wait : ℕ) (x : Entry) (old now new : SeriesState)
-    → ((f : Trace → Entry → List ℕ) (c xs ys : Trace) → by_row f c (xs ++ ys) ≡ by_row f c xs ++ by_row f (c ++ xs) ys)
+    → GoesByParts
     → ComeInTurn r.spec r.start r.events e → log ≡ react r.spec (trace r) e → i < length log → x ≡ get_or log i x
     → CountsEvent r e (take i log) old now
     → tag ≡ unwrap_or (tag_by e.act) 0

@@ -51,6 +51,10 @@ past_later r e log past order same at =
           );
     }
 
+-- row by row over rows in two parts
+abbrev pub GoesByParts : Type 0
+GoesByParts = (f : Trace → Entry → List ℕ) (c xs ys : Trace) → by_row f c (xs ++ ys) ≡ by_row f c xs ++ by_row f (c ++ xs) ys
+
 -- ---- rows of the step
 
 rows_in-same : (step start k t : ℕ) (c log : Trace) → step_of step start t ≡ k → EachAt t log → rows_in step start k (c ++ log) ≡ rows_in step start k c ++ log
@@ -78,7 +82,7 @@ by_row-same step start k t b (x ∷ log) e at =
     rw (eq-eqb (step_of step start x.time) k (ap (step_of step start) at.0 ∙ e))
     (ap (λ (ws : List ℕ). wait_of b x ++ ws) (by_row-same step start k t (b ++ x ∷ []) log e at.1))
 
-pub waits_in-same : (step start k t : ℕ) (c log : Trace) → ((f : Trace → Entry → List ℕ) (b xs ys : Trace) → by_row f b (xs ++ ys) ≡ by_row f b xs ++ by_row f (b ++ xs) ys)
+pub waits_in-same : (step start k t : ℕ) (c log : Trace) → GoesByParts
     → step_of step start t ≡ k → EachAt t log → waits_in step start k (c ++ log) ≡ waits_in step start k c ++ by_row wait_of c log
 unfolding waits_in
 waits_in-same step start k t c log parts e at =
@@ -155,7 +159,7 @@ held_peak-more step r e k pos past order here =
 
 -- ---- the step with the event
 
-pub takes_event : (step : ℕ) (r : Run) (e : Event) (log : Trace) (k : ℕ) (x y : OpenStep) → ((f : Trace → Entry → List ℕ) (b xs ys : Trace) → by_row f b (xs ++ ys) ≡ by_row f b xs ++ by_row f (b ++ xs) ys)
+pub takes_event : (step : ℕ) (r : Run) (e : Event) (log : Trace) (k : ℕ) (x y : OpenStep) → GoesByParts
     → 0 < step → IsPast r → now_of r ≤ e.time → trace (later r e) ≡ trace r ++ log → EachAt e.time log → step_of step r.start e.time ≡ k → IsStepOf step r k x
     → y.from ≡ x.from
     → y.gauges ≡ gauges_of r.spec (trace (later r e))

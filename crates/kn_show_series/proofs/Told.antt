@@ -2,7 +2,6 @@
 use Rattle.std.proofs.Common.{◌≡◌, ◌≤◌, ◌<◌, ◌-◌, ◌^◌, ℕ, List, ◌++◌, refl, ap, sym, ◌∙◌, subst, arith}
 use Rattle.std.specs.Prelude.{max, min, sum}
 use Rattle.std.proofs.lemmas.List.Sums.{sum_by-append}
-use Rattle.kn_event.specs.declared.entry.Entry.{Entry}
 use Rattle.kn_event.specs.declared.event.Event.{Event}
 use Rattle.kn_trace.specs.Trace.{Trace}
 use Rattle.kn_laws.specs.Kinds.{EachAt}
@@ -16,7 +15,7 @@ use Rattle.kn_show_series.specs.Open.{open_text}
 use Rattle.kn_show_series.specs.Series.{open_step, step_line}
 use Rattle.kn_show_series.specs.State.{CountsEvent, IsSeriesOf, IsStepOf, Precedes, SeriesState}
 use Rattle.kn_show_series.specs.Steps.{counts_of, gauges_of, pods_of, rows_in, step_of, wait_of, waits_in}
-use Rattle.kn_show_series.proofs.Events.{now_of-later, past_later, takes_event, waits_in-same}
+use Rattle.kn_show_series.proofs.Events.{GoesByParts, now_of-later, past_later, takes_event, waits_in-same}
 
 -- before it
 pub precedes : (x : SeriesState) (r : Run) (e : Event) (rev : RevisionState) (log : Trace) → IsSeriesOf x r → IsStep r e rev log → Precedes x.step r e.time x.current
@@ -34,7 +33,7 @@ with_cap-small rows waits h = rw (min_small (sum waits) (2 ^ 128 - 1) (omega ari
 -- ---- the step of the event
 
 pub told : (r : Run) (e : Event) (rev : RevisionState) (log : Trace) (old mid n : SeriesState) (g : Gauges) (y : OpenStep)
-    → ((f : Trace → Entry → List ℕ) (b xs ys : Trace) → by_row f b (xs ++ ys) ≡ by_row f b xs ++ by_row f (b ++ xs) ys)
+    → GoesByParts
     → EachAt e.time log → ((step from k : ℕ) → sum (waits_in step from k (trace (later r e))) < 2 ^ 128)
     → 0 < old.step → IsSeriesOf old r → IsStep r e rev log → IsStepOf old.step r (step_of old.step r.start e.time) mid.current
     → n.step ≡ old.step → n.pods ≡ old.pods → CountsEvent r e log mid n

@@ -82,7 +82,11 @@ impl Counts {
     /// A request begins to run. The sum never comes to the greatest that fits.
     fn run(&mut self, wait: u64)
         requires { size_of self.old < 2 ^ 127 }
-        ensures { self.new ≡ record self.old { ran = self.old.ran + 1; waited = capped (self.old.waited + wait); longest = max self.old.longest wait } }
+        ensures { self.new ≡ record self.old {
+          ran = self.old.ran + 1;
+          waited = capped (self.old.waited + wait);
+          longest = max self.old.longest wait;
+        } }
     {
         self.ran += 1;
         self.waited = self.waited.saturating_add(u128::from(wait));

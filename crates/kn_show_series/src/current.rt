@@ -133,9 +133,12 @@ impl OpenStep {
         out: &mut O,
     ) -> Result<(), Failed>
         requires { 0 < step }
-        ensures ok { (r : Run) → Precedes step r time self.old → OnOk result (Adds (O.held out.old) (O.held out.new) waiting.old waiting.new (over_lines step r time)) }
-        ensures err { (r : Run) → Precedes step r time self.old → OnErr result (AppendsPrefix (O.held out.old) (O.held out.new) (waiting.old ++ over_lines step r time)) }
-        ensures step { (r : Run) → Precedes step r time self.old → OnOk result (IsStepOf step r (step_of step r.start time) self.new) }
+        ensures ok { (r : Run) → Precedes step r time self.old
+            → OnOk result (Adds (O.held out.old) (O.held out.new) waiting.old waiting.new (over_lines step r time)) }
+        ensures err { (r : Run) → Precedes step r time self.old
+            → OnErr result (AppendsPrefix (O.held out.old) (O.held out.new) (waiting.old ++ over_lines step r time)) }
+        ensures step { (r : Run) → Precedes step r time self.old
+            → OnOk result (IsStepOf step r (step_of step r.start time) self.new) }
         ensures few { OnOk result (size_of self.new.counts ≤ size_of self.old.counts) }
         ensures cause { HasCause (O.Faulty.faults out.old) (O.Faulty.faults out.new) result }
     {

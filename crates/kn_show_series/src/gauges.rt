@@ -38,7 +38,8 @@ impl Gauges {
     /// Those of a revision. A fixed one wants these pods.
     #[tactic(auto, unfolding(crate::specs::Steps::gauges_of))]
     pub(crate) fn of(revision: &Revision, pods: u64) -> Gauges
-        ensures { (c : Trace) → StandsFor revision.now c → pods ≡ pods_of revision.now.spec.kind → result ≡ gauges_of revision.now.spec c }
+        ensures { (c : Trace) → StandsFor revision.now c → pods ≡ pods_of revision.now.spec.kind
+            → result ≡ gauges_of revision.now.spec c }
     {
         Gauges {
             ready: revision.count_ready(),
@@ -88,7 +89,8 @@ impl Gauges {
 
 /// How many pods a revision wants: by its decisions, or these where it is fixed.
 fn wanted(revision: &Revision, pods: u64) -> u64
-    ensures { (c : Trace) → StandsFor revision.now c → pods ≡ pods_of revision.now.spec.kind → result ≡ wanted_of revision.now.spec.kind revision.now.spec c }
+    ensures { (c : Trace) → StandsFor revision.now c → pods ≡ pods_of revision.now.spec.kind
+        → result ≡ wanted_of revision.now.spec.kind revision.now.spec c }
 {
     revision.wanted().unwrap_or(pods)
 }

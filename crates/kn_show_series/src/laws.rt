@@ -14,7 +14,8 @@ use kn_sizes::sizes::entry_laws;
 
 /// All that the requests of a step had waited comes to less than what its count holds.
 pub(crate) fn wait_laws(revision: &Revision)
-    ensures { (c : Trace) (step from k : ℕ) → StandsFor revision.now c → AreInRange revision.now.spec → sum (waits_in step from k c) < 2 ^ 128 }
+    ensures { (c : Trace) (step from k : ℕ) → StandsFor revision.now c → AreInRange revision.now.spec
+        → sum (waits_in step from k c) < 2 ^ 128 }
 {
     history_laws();
     step_laws();
@@ -26,7 +27,8 @@ pub(crate) fn wait_laws(revision: &Revision)
 
 /// No row of an opening is counted.
 pub(crate) fn opening_laws()
-    ensures { (s : Spec) (start step from k : ℕ) → counts_of (rows_in step from k (opening s start)) (waits_in step from k (opening s start)) ≡ counts_of [] [] }
+    ensures { (s : Spec) (start step from k : ℕ)
+        → counts_of (rows_in step from k (opening s start)) (waits_in step from k (opening s start)) ≡ counts_of [] [] }
 {
     part_laws();
 }

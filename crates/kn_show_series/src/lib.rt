@@ -1,4 +1,4 @@
-//! The form `series` of `kact_show`: a line of CSV for each step of a run in which something happened, and for the step after it.
+//! The form `series` of `kact_show`: a line of CSV for each step in which something happened, and for the next one.
 #![tactic(auto)]
 
 mod counts;

@@ -27,7 +27,7 @@ const HEADER: &[u8] =
 /// The longest step: a day, in milliseconds.
 const STEP_MOST: u64 = 86_400_000;
 
-/// Writes a line for each step in which something happens, and for the step after it. It keeps what is known of the open step.
+/// Writes a line for each step in which something happens, and for the next. It keeps what is known of the open step.
 pub struct Series {
     step: u64,
     pods: u64,
@@ -143,7 +143,6 @@ impl Teller for Series {
         waiting: &mut Waiting,
         out: &mut O,
     ) -> Result<(), Failed> {
-        history_laws();
         part_laws();
         row_laws();
         wait_laws(revision);
