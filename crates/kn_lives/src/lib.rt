@@ -1,7 +1,0 @@
-//! What each live request came with, and what has come of it: all that a row at its end has to say.
-#![tactic(auto)]
-
-pub mod laws;
-mod lives;
-
-pub use lives::{Life, Lives, arrival_tag};

@@ -1,6 +1,0 @@
-pub mod Fields
-pub mod Steps
-pub mod Series
-pub mod Counting
-pub mod Open
-pub mod State
