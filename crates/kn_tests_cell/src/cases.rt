@@ -74,14 +74,20 @@ fn plan_of(test: Test) -> Plan {
     }
 }
 
-/// Whether the rows are of these passes and times.
-fn are_of(rows: &[Past], wanted: &[(u64, u64)]) -> bool {
-    for i in 0..rows.len() {
-        if i >= wanted.len() || wanted[i] != (rows[i].pass, rows[i].event.time) {
-            return false;
-        }
+/// Whether the row is of this pass and time.
+fn is_of(row: &Past, pass: u64, time: u64) -> bool {
+    row.pass == pass && row.event.time == time
+}
+
+/// Whether the rows are of the passes and times that the calls by turns are to have.
+fn are_by_turns(rows: &[Past]) -> bool {
+    match rows {
+        [a, b, c, d] => is_of(a, 0, 10)
+            && is_of(b, 1, 10)
+            && is_of(c, 0, 11)
+            && is_of(d, 1, 1 << 42),
+        _ => false,
     }
-    rows.len() == wanted.len()
 }
 
 /// How many rows the pass of this number brought.
@@ -114,59 +120,66 @@ fn right(outcome: &Outcome) -> u64 {
     outcome.right as u64
 }
 
-fn room(outcome: &Outcome) -> [Want; 3] {
-    [
+fn room<R: Print>(rt: &R, outcome: &Outcome) -> io::Result<()> {
+    let cases = [
         ("no room, no wrong answer", right(outcome), 14),
         ("no room, rows", rows(outcome), 4),
         ("no room, live requests", outcome.left.live, 0),
-    ]
+    ];
+    print(rt, &cases)
 }
 
-fn turns(outcome: &Outcome) -> [Want; 3] {
-    let wanted = [(0, 10), (1, 10), (0, 11), (1, 1 << 42)];
-    let are = are_of(outcome.history.items(), &wanted);
-    [
+fn turns<R: Print>(rt: &R, outcome: &Outcome) -> io::Result<()> {
+    let are = are_by_turns(outcome.history.items());
+    let cases = [
         ("turns, no wrong answer", right(outcome), 4),
         ("turns, passes and times", u64::from(are), 1),
         ("turns, the last time", outcome.left.now, 1 << 42),
-    ]
+    ];
+    print(rt, &cases)
 }
 
 /// Beside the row of the Ready pod there are 200 of each thread.
-fn four(outcome: &Outcome) -> [Want; 5] {
+fn four<R: Print>(rt: &R, outcome: &Outcome) -> io::Result<()> {
     let each = brought_each(outcome.history.items(), &[1, 200, 200, 200, 200]);
-    [
+    let cases = [
         ("four threads, the pod is Ready", right(outcome), 1),
         ("four threads, rows", rows(outcome), 801),
         ("four threads, rows of each", u64::from(each), 1),
         ("four threads, arrivals", outcome.left.arrivals, 400),
         ("four threads, live requests", outcome.left.live, 0),
-    ]
+    ];
+    print(rt, &cases)
 }
 
 fn are_same(one: &Left, other: &Left) -> bool {
     one.now == other.now && one.arrivals == other.arrivals && one.live == other.live
 }
 
-fn one(outcome: &Outcome, count: u64, again: &Left) -> [Want; 4] {
+fn one<R: Print>(rt: &R, outcome: &Outcome, count: u64, again: &Left) -> io::Result<()> {
     let same = are_same(again, &outcome.left);
-    [
+    let cases = [
         ("eight threads, the pod is Ready", right(outcome), 1),
         ("eight threads, rows", rows(outcome), 481),
         ("eight threads, events replayed by one", count, 481),
         ("eight threads, what is left", u64::from(same), 1),
-    ]
+    ];
+    print(rt, &cases)
 }
 
-fn crowd(outcome: &Outcome) -> [Want; 2] {
-    [
+fn crowd<R: Print>(rt: &R, outcome: &Outcome) -> io::Result<()> {
+    let cases = [
         ("a crowd, rows", rows(outcome), 32_001),
         ("a crowd, arrivals", outcome.left.arrivals, 16_000),
-    ]
+    ];
+    print(rt, &cases)
 }
 
-fn busy(outcome: &Outcome) -> [Want; 1] {
-    [("one of two is told Busy", u64::from(outcome.busy), 1)]
+fn busy<R: Print>(rt: &R, outcome: &Outcome) -> io::Result<()> {
+    print(
+        rt,
+        &[("one of two is told Busy", u64::from(outcome.busy), 1)],
+    )
 }
 
 fn print<R: Print>(rt: &R, wants: &[Want]) -> io::Result<()> {
@@ -182,19 +195,19 @@ fn lacks() -> io::Result<()> {
 
 fn show_one<R: Print + AllocGlobal>(rt: &R, outcome: &Outcome) -> io::Result<()> {
     match replay(rt.alloc(), outcome.history.items()) {
-        Ok((count, again)) => print(rt, &one(outcome, count, &again)),
+        Ok((count, again)) => one(rt, outcome, count, &again),
         Err(Memory) => lacks(),
     }
 }
 
 fn show_outcome<R: Print + AllocGlobal>(rt: &R, test: Test, outcome: &Outcome) -> io::Result<()> {
     match test {
-        Test::Room => print(rt, &room(outcome)),
-        Test::Turns => print(rt, &turns(outcome)),
-        Test::Four => print(rt, &four(outcome)),
+        Test::Room => room(rt, outcome),
+        Test::Turns => turns(rt, outcome),
+        Test::Four => four(rt, outcome),
         Test::One => show_one(rt, outcome),
-        Test::Crowd => print(rt, &crowd(outcome)),
-        Test::Busy => print(rt, &busy(outcome)),
+        Test::Crowd => crowd(rt, outcome),
+        Test::Busy => busy(rt, outcome),
     }
 }
 
@@ -206,8 +219,8 @@ fn show_test<R: Print + AllocGlobal + Threads + Wait + Sync>(rt: &R, test: Test)
 }
 
 pub fn show<R: Print + AllocGlobal + Threads + Wait + Sync>(rt: &R) -> io::Result<()> {
-    for test in TESTS {
-        show_test(rt, test)?;
+    for test in &TESTS {
+        show_test(rt, *test)?;
     }
     Ok(())
 }

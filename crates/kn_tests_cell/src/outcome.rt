@@ -62,28 +62,8 @@ fn take_in(cell: &RevisionCell, first: &mut Pass, passes: &mut Vec<Pass>)
     }
 }
 
-/// The calls by turns, and then the threads.
-fn act<R: Threads + Wait + Sync>(
-    rt: &R,
-    cell: &RevisionCell,
-    first: &mut Pass,
-    passes: &mut [Pass],
-    plan: &Plan,
-    notes: &Notes,
-) -> usize
-    requires cell { first.old.cell ≡ cell.now }
-    requires some { 1 ≤ length passes.old }
-    requires each { All (IsLeaf cell.now) passes.old }
-    ensures first { IsStill first.old first.new }
-    ensures len { length passes.new ≡ length passes.old }
-    ensures each { All (IsLeaf cell.now) passes.new }
-{
-    let right = play(rt, cell, first, &mut passes[0], plan.script);
-    work_all(rt, cell, passes, plan.work, notes);
-    right
-}
-
-/// All passes are cut off the first, act, and are taken in again.
+/// All passes are cut off the first. Two of them make the calls by turns, then all but the first work in threads, and they
+/// are taken in again.
 fn use_all<R: Threads + Wait + Sync>(
     rt: &R,
     cell: &RevisionCell,
@@ -100,7 +80,8 @@ fn use_all<R: Threads + Wait + Sync>(
     ensures all { 1 + first.new.free + first.new.back ≡ first.new.passes }
 {
     cut(cell, first, passes, plan.others);
-    let right = act(rt, cell, first, passes, plan, notes);
+    let right = play(rt, cell, first, &mut passes[0], plan.script);
+    work_all(rt, cell, passes, plan.work, notes);
     take_in(cell, first, passes);
     right
 }
@@ -112,14 +93,14 @@ fn outcome_of<R: Threads + Wait + Sync>(
     mut first: Pass,
     passes: &mut Vec<Pass>,
     plan: &Plan,
-    notes: &Notes,
 ) -> Outcome
     requires first { IsFirst cell (plan.now.others + 1) first }
     requires some { 1 ≤ plan.now.others }
     requires empty { passes.old.items ≡ [] }
     requires room { plan.now.others ≤ vec_capacity passes.old }
 {
-    let right = use_all(rt, &cell, &mut first, passes, plan, notes);
+    let notes = Notes::new();
+    let right = use_all(rt, &cell, &mut first, passes, plan, &notes);
     let (revision, history) = cell.close(first);
     let left = left_of(&revision);
     drop(revision);
@@ -137,7 +118,6 @@ fn outcome_in<R: Threads + Wait + Sync>(
     alloc: Global,
     passes: &mut Vec<Pass>,
     plan: &Plan,
-    notes: &Notes,
 ) -> Result<Outcome, Memory>
     requires pod { (plan.now.seats ≤ 1000) × (1 ≤ plan.now.breaker) × (plan.now.breaker ≤ 1000) }
     requires cell { (plan.now.room ≤ 1000000) × (1 ≤ plan.now.others) × (plan.now.others < 1000) }
@@ -151,7 +131,7 @@ fn outcome_in<R: Threads + Wait + Sync>(
         plan.room,
         plan.others as u64 + 1,
     ) {
-        Ok((cell, first)) => Ok(outcome_of(rt, cell, first, passes, plan, notes)),
+        Ok((cell, first)) => Ok(outcome_of(rt, cell, first, passes, plan)),
         Err(Memory) => Err(Memory),
     }
 }
@@ -174,9 +154,8 @@ pub fn carry_out<R: Threads + Wait + Sync>(
     if !is_small(plan) {
         return Err(Memory);
     }
-    let notes = Notes::new();
     match Vec::with_capacity(alloc, plan.others) {
-        Ok(mut passes) => outcome_in(rt, alloc, &mut passes, plan, &notes),
+        Ok(mut passes) => outcome_in(rt, alloc, &mut passes, plan),
         Err(AllocError) => Err(Memory),
     }
 }

@@ -2,7 +2,7 @@
 //! numbers, so that a test's proof sees nothing of what was seen. They test when they run what a call wants, and are
 //! none where it isn't so.
 
-ghost use Rattle.std.specs.Prelude.{◌≡◌, ◌+◌, ◌≤◌, [], true, IfOk};
+ghost use Rattle.std.specs.Prelude.{◌≡◌, ◌+◌, ◌≤◌, true, IfOk};
 ghost use Rattle.kn_core.specs.Steps.{IsWithinRange};
 ghost use Rattle.kn_cell.specs.History.{MayCome};
 ghost use Rattle.kn_tests_cell.specs.Numbers.{IsFirst, IsStill};
@@ -13,8 +13,8 @@ use kn_event::{Act, EntryLog, Memory, Slots, Spec, Told};
 use std::alloc::Global;
 use std::sync::Wait;
 
-fn pod_in(alloc: Global, seats: u64, breaker: u64, log: &mut EntryLog) -> Result<Revision, Memory>
-    requires log { log.old ≡ [] }
+/// A new fixed revision of one pod, which starts, with so many seats and a breaker of this depth and maximum.
+pub fn one_pod(alloc: Global, seats: u64, breaker: u64) -> Result<Revision, Memory>
     requires seats { seats ≤ 1000 }
     requires breaker { (1 ≤ breaker) × (breaker ≤ 1000) }
     ensures { IfOk result (λ r. r.events ≡ 0) }
@@ -24,40 +24,9 @@ fn pod_in(alloc: Global, seats: u64, breaker: u64, log: &mut EntryLog) -> Result
         max: breaker,
         seed: 0,
     };
-    match Spec::fixed(alloc, seats, 1, 300, slots) {
-        Ok(spec) => Revision::new(alloc, spec, 0, log),
-        Err(Memory) => Err(Memory),
-    }
-}
-
-/// A new fixed revision of one pod, which starts, with so many seats and a breaker of this depth and maximum.
-pub fn one_pod(alloc: Global, seats: u64, breaker: u64) -> Result<Revision, Memory>
-    requires seats { seats ≤ 1000 }
-    requires breaker { (1 ≤ breaker) × (breaker ≤ 1000) }
-    ensures { IfOk result (λ r. r.events ≡ 0) }
-{
-    match EntryLog::new(alloc) {
-        Ok(mut log) => pod_in(alloc, seats, breaker, &mut log),
-        Err(Memory) => Err(Memory),
-    }
-}
-
-fn open_over(
-    alloc: Global,
-    revision: Revision,
-    room: u64,
-    passes: u64,
-) -> Result<(RevisionCell, Pass), Memory>
-    requires events { revision.events ≡ 0 }
-    requires room { room ≤ 1000000 }
-    requires passes { (1 ≤ passes) × (passes ≤ 1000) }
-    ensures { IfOk result (λ r. IsFirst r.0 passes r.1) }
-{
-    if revision.live() > 0 {
-        drop(revision);
-        return Err(Memory);
-    }
-    RevisionCell::new(alloc, revision, room, passes)
+    let mut log = EntryLog::new(alloc)?;
+    let spec = Spec::fixed(alloc, seats, 1, 300, slots)?;
+    Revision::new(alloc, spec, 0, &mut log)
 }
 
 /// A cell over such a revision, and the first of so many passes.
@@ -75,8 +44,8 @@ pub fn open(
     ensures { IfOk result (λ r. IsFirst r.0 passes r.1) }
 {
     match one_pod(alloc, seats, breaker) {
-        Ok(revision) => open_over(alloc, revision, room, passes),
-        Err(Memory) => Err(Memory),
+        Ok(revision) if revision.live() == 0 => RevisionCell::new(alloc, revision, room, passes),
+        _ => Err(Memory),
     }
 }
 

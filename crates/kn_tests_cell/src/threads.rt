@@ -35,22 +35,15 @@ fn act_of(word: u64) -> Act {
     }
 }
 
-/// A request arrives, and is finished where it runs.
-fn serve_one<R: Wait>(rt: &R, cell: &RevisionCell, pass: &mut Pass, tag: u64)
-    requires { pass.old.cell ≡ cell.now }
-    ensures { IsStill pass.old pass.new }
-{
-    if let Some(Ok(Told::Run(request, _))) = on(rt, cell, pass, Act::Arrive(tag), tag) {
-        let _ = on(rt, cell, pass, Act::Finish(request, true), tag);
-    }
-}
-
+/// So many requests arrive, and each is finished where it runs.
 fn serve<R: Wait>(rt: &R, cell: &RevisionCell, pass: &mut Pass, count: u64)
     requires { pass.old.cell ≡ cell.now }
     ensures { IsStill pass.old pass.new }
 {
     for i in 0..count {
-        serve_one(rt, cell, pass, i);
+        if let Some(Ok(Told::Run(request, _))) = on(rt, cell, pass, Act::Arrive(i), i) {
+            let _ = on(rt, cell, pass, Act::Finish(request, true), i);
+        }
     }
 }
 

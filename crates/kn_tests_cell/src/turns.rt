@@ -29,28 +29,6 @@ pub fn look<R: Wait>(rt: &R, cell: &RevisionCell, pass: &mut Pass, request: u64)
     cell.look(rt, pass, request)
 }
 
-fn proxied<R: Wait>(rt: &R, cell: &RevisionCell, pass: &mut Pass, request: u64) -> bool
-    requires { pass.old.cell ≡ cell.now }
-    ensures { IsStill pass.old pass.new }
-{
-    cell.proxied(rt, pass, request)
-}
-
-fn next_starting<R: Wait>(rt: &R, cell: &RevisionCell, pass: &mut Pass, from: u64) -> Option<u64>
-    requires { pass.old.cell ≡ cell.now }
-    ensures { IsStill pass.old pass.new }
-{
-    cell.next_starting(rt, pass, from)
-}
-
-fn rest<R: Wait>(rt: &R, cell: &RevisionCell, pass: &mut Pass) -> bool
-    requires { pass.old.cell ≡ cell.now }
-    ensures { IsStill pass.old pass.new }
-{
-    cell.rest(rt, pass);
-    true
-}
-
 /// A call, and what it is to answer.
 #[derive(Clone, Copy)]
 enum Call {
@@ -71,30 +49,12 @@ fn make<R: Wait>(rt: &R, cell: &RevisionCell, pass: &mut Pass, call: &Call) -> b
         Call::On(act, time, told) => on(rt, cell, pass, act, time) == Some(told),
         Call::Try(act, time, told) => try_on(cell, pass, act, time) == Some(told),
         Call::Look(request, stand) => look(rt, cell, pass, request) == stand,
-        Call::Proxied(request, is) => proxied(rt, cell, pass, request) == is,
-        Call::NextStarting(from, pod) => next_starting(rt, cell, pass, from) == pod,
-        Call::Rest => rest(rt, cell, pass),
-    }
-}
-
-/// One of two passes makes the call.
-fn make_by<R: Wait>(
-    rt: &R,
-    cell: &RevisionCell,
-    first: &mut Pass,
-    second: &mut Pass,
-    by_second: bool,
-    call: &Call,
-) -> bool
-    requires first { first.old.cell ≡ cell.now }
-    requires second { second.old.cell ≡ cell.now }
-    ensures first { IsStill first.old first.new }
-    ensures second { IsStill second.old second.new }
-{
-    if by_second {
-        make(rt, cell, second, call)
-    } else {
-        make(rt, cell, first, call)
+        Call::Proxied(request, is) => cell.proxied(rt, pass, request) == is,
+        Call::NextStarting(from, pod) => cell.next_starting(rt, pass, from) == pod,
+        Call::Rest => {
+            cell.rest(rt, pass);
+            true
+        }
     }
 }
 
@@ -112,7 +72,12 @@ fn make_all<R: Wait>(
     ensures second { IsStill second.old second.new }
 {
     for i in 0..calls.len() {
-        if !make_by(rt, cell, first, second, i % 2 == 1, &calls[i]) {
+        let is_right = if i % 2 == 0 {
+            make(rt, cell, first, &calls[i])
+        } else {
+            make(rt, cell, second, &calls[i])
+        };
+        if !is_right {
             return i;
         }
     }
@@ -193,9 +158,11 @@ pub fn play<R: Wait>(
     ensures first { IsStill first.old first.new }
     ensures second { IsStill second.old second.new }
 {
-    match script {
-        Script::Ready => make_all(rt, cell, first, second, &READY),
-        Script::Room => make_all(rt, cell, first, second, &ROOM),
-        Script::Turns => make_all(rt, cell, first, second, &TURNS),
-    }
+    let (ready, room, turns) = (READY, ROOM, TURNS);
+    let calls: &[Call] = match script {
+        Script::Ready => &ready,
+        Script::Room => &room,
+        Script::Turns => &turns,
+    };
+    make_all(rt, cell, first, second, calls)
 }

@@ -19,31 +19,21 @@ fn show(rt: &HostRuntime, journal: &[u8]) -> io::Result<()> {
     }
 }
 
-/// One line more of a journal. `end` is its last.
-fn add_line(rt: &HostRuntime, journal: &mut Vec<u8>, line: &str) -> io::Result<()> {
-    journal.extend_from_slice(line.as_bytes())?;
-    journal.push(b'\n')?;
-    if line == "end" {
-        show(rt, journal)?;
-        journal.clear();
+/// Each journal has the line `end` as its last.
+fn show_all(rt: &HostRuntime, journals: &str) -> io::Result<()> {
+    for journal in journals.split_inclusive("\nend\n") {
+        show(rt, journal.as_bytes())?;
     }
     Ok(())
 }
 
-fn read_lines(rt: &HostRuntime, journal: &mut Vec<u8>) -> io::Result<()> {
-    for line in rt.lines(rt.alloc()) {
-        add_line(rt, journal, line?.as_str())?;
-    }
-    Ok(())
-}
-
-fn journals(rt: &HostRuntime) -> io::Result<()> {
-    let mut journal = Vec::new(rt.alloc());
-    read_lines(rt, &mut journal)
+fn read_and_show(rt: &HostRuntime) -> io::Result<()> {
+    let journals = io::read_to_string(rt.alloc(), rt.reader())?;
+    show_all(rt, journals.as_str())
 }
 
 fn main(rt: HostRuntime) -> io::Result<()> {
-    journals(&rt)?;
+    read_and_show(&rt)?;
     let refuses = long::breaker_refuses_9001(rt.alloc());
     let overloads = long::overload_at_20001(rt.alloc());
     println!(rt; "9001 of 20001 are refused: {refuses}, the 20001st is one too many: {overloads}")

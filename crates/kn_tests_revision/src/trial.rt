@@ -3,37 +3,22 @@ use crate::long::Rule;
 use crate::run::Run;
 use crate::texts::{stand_words, told_words};
 use kn_core::Revision;
-use kn_event::{Entry, Event, Line, Row, Spec, Stand, Told, entry_line};
+use kn_event::{Entry, Event, Line, Row, Stand, Told, entry_line};
 use kn_io::MemSource;
 use kn_journal::{JournalReader, Setup};
 use std::alloc::{AllocError, Global};
 use std::fmt::Write;
 
-fn source_of(alloc: Global, journal: &[u8]) -> Option<MemSource> {
-    match Vec::from_slice(alloc, journal) {
-        Ok(bytes) => Some(MemSource::new(bytes, Vec::new(alloc))),
-        Err(_) => None,
-    }
-}
-
-fn start_of(reader: &mut JournalReader, source: &mut MemSource) -> Option<u64> {
-    reader.start(source).ok()
-}
-
-fn spec_of(alloc: Global, reader: &mut JournalReader, source: &mut MemSource) -> Option<Spec> {
-    match reader.setup(alloc, source) {
-        Ok(Setup { spec, text: _ }) => Some(spec),
-        Err(_) => None,
-    }
-}
-
 /// Reads up to the start, and opens the revision.
 fn open_next(alloc: Global, reader: &mut JournalReader, source: &mut MemSource) -> Option<Run> {
-    let spec = spec_of(alloc, reader, source)?;
-    open_at(alloc, spec, start_of(reader, source))
+    match reader.setup(alloc, source) {
+        Ok(setup) => open_at(alloc, setup, reader.start(source).ok()),
+        Err(_) => None,
+    }
 }
 
-fn open_at(alloc: Global, spec: Spec, start: Option<u64>) -> Option<Run> {
+fn open_at(alloc: Global, setup: Setup, start: Option<u64>) -> Option<Run> {
+    let Setup { spec, text: _ } = setup;
     match start {
         Some(start) => Run::open(alloc, spec, start),
         None => None,
@@ -81,12 +66,20 @@ fn try_source(alloc: Global, source: &mut MemSource, trial: Trial<'_>) -> Option
     }
 }
 
+/// Whether the trial of the revision that these bytes set up goes as it must.
+fn try_bytes(alloc: Global, bytes: &[u8], trial: Trial<'_>) -> bool {
+    match Vec::from_slice(alloc, bytes) {
+        Ok(bytes) => {
+            let mut source = MemSource::new(bytes, Vec::new(alloc));
+            try_source(alloc, &mut source, trial).is_some()
+        }
+        Err(_) => false,
+    }
+}
+
 /// Whether all goes as the rule says in the revision of this setup.
 pub fn goes_by(alloc: Global, setup: &[u8], rule: Rule) -> bool {
-    match source_of(alloc, setup) {
-        Some(mut source) => try_source(alloc, &mut source, Trial::Long(rule)).is_some(),
-        None => false,
-    }
+    try_bytes(alloc, setup, Trial::Long(rule))
 }
 
 /// The text of a trial so far.
@@ -123,12 +116,19 @@ impl Transcript {
     }
 }
 
+fn has_row(entries: &[Entry], row: Row) -> bool {
+    for entry in entries {
+        if entry.row == row {
+            return true;
+        }
+    }
+    false
+}
+
 /// Whether a decision that is told is the event's row.
 fn is_told_row(told: Told, entries: &[Entry]) -> bool {
     match told {
-        Told::Decided(decision) => entries
-            .iter()
-            .any(|entry| entry.row == Row::Decided(decision)),
+        Told::Decided(decision) => has_row(entries, Row::Decided(decision)),
         _ => true,
     }
 }
@@ -227,14 +227,6 @@ fn replay(
     add_end(run.revision(), rows).ok()
 }
 
-fn replay_bytes(alloc: Global, journal: &[u8], transcript: &mut Transcript) -> Option<()> {
-    let most = journal.len();
-    match source_of(alloc, journal) {
-        Some(mut source) => try_source(alloc, &mut source, Trial::Replay(transcript, most)),
-        None => None,
-    }
-}
-
 /// The lines of the journal's rows, of what its events are told, and of its end; none where it is refused or memory lacks,
 /// and where a decision that is told is not the event's row.
 pub fn replayed(alloc: Global, journal: &[u8]) -> Option<String> {
@@ -242,7 +234,8 @@ pub fn replayed(alloc: Global, journal: &[u8]) -> Option<String> {
         rows: String::new(alloc),
         told: String::new(alloc),
     };
-    let is_whole = replay_bytes(alloc, journal, &mut transcript).is_some();
+    let most = journal.len();
+    let is_whole = try_bytes(alloc, journal, Trial::Replay(&mut transcript, most));
     let Transcript { rows, told: _ } = transcript;
     if is_whole { Some(rows) } else { None }
 }

@@ -1,7 +1,7 @@
 //! Callers, and the clients that come to them.
 
 use crate::loopback::{client, listening};
-use crate::tell;
+use crate::{tell, tell_all};
 use kn_io::{Caller, Failed, Faulty, Sink, Source};
 use kn_tcp::TcpCaller;
 use std::alloc::Global;
@@ -12,6 +12,17 @@ use std::{io, str, thread};
 
 /// A refusal.
 const REFUSAL: &[u8] = b"HTTP/1.1 413 Payload Too Large\r\nContent-Length: 4\r\n\r\nlong";
+
+/// Who comes to a caller.
+#[derive(Clone, Copy)]
+pub enum Visit {
+    /// A client that says hello.
+    Hello,
+    /// One that still sends when it is refused, which is to reach it.
+    Sends,
+    /// One that never closes, and is left.
+    Stays,
+}
 
 /// Prints what one read gives, and the first two bytes of the buffer.
 fn read_some(rt: &HostRuntime, source: &mut TcpCaller) -> io::Result<()> {
@@ -28,12 +39,12 @@ fn before_a_client(rt: &HostRuntime, caller: &mut TcpCaller) -> io::Result<()> {
         ("write before a client", caller.write(b"x").is_err()),
         ("two faults", caller.faults() == 2),
     ];
-    tell(rt, &cases)
+    tell_all(rt, &cases)
 }
 
 /// The caller takes a client who said hello, reads that, and answers.
 fn serve(rt: &HostRuntime, caller: &mut TcpCaller) -> io::Result<()> {
-    tell(rt, &[("a client", caller.meet().is_ok())])?;
+    tell(rt, "a client", caller.meet().is_ok())?;
     for _ in 0..3 {
         read_some(rt, caller)?;
     }
@@ -41,7 +52,7 @@ fn serve(rt: &HostRuntime, caller: &mut TcpCaller) -> io::Result<()> {
         ("an answer", caller.write(b"bye") == Ok(3)),
         ("two faults still", caller.faults() == 2),
     ];
-    tell(rt, &cases)
+    tell_all(rt, &cases)
 }
 
 /// The client says hello, and is answered.
@@ -50,81 +61,7 @@ fn say_hello(rt: &HostRuntime, caller: &mut TcpCaller, client: &mut TcpStream) -
     client.shutdown(Shutdown::Write)?;
     serve(rt, caller)?;
     let count = client.read(&mut [0; 4])?;
-    tell(rt, &[("the client is answered", count == 3)])
-}
-
-fn meet_one(rt: &HostRuntime, address: &str, caller: &mut TcpCaller) -> io::Result<()> {
-    before_a_client(rt, caller)?;
-    let mut client = client(rt, address)?;
-    say_hello(rt, caller, &mut client)
-}
-
-pub fn one_client(rt: &HostRuntime) -> io::Result<()> {
-    let (listener, address) = listening(rt)?;
-    let mut caller = TcpCaller::new(listener);
-    meet_one(rt, address.as_str(), &mut caller)
-}
-
-/// Such a value may go to another thread.
-fn goes<T: Send>(_value: &T) {}
-
-/// A peer who closes at once.
-fn come_and_go(rt: &HostRuntime, address: &str) -> io::Result<()> {
-    drop(TcpStream::connect(rt, address)?);
-    Ok(())
-}
-
-/// The first caller has a client. A peer who closes early, and whom the second meets, is the end of the input; the next
-/// connection of the first closes the one before.
-fn meet_by_turns(
-    rt: &HostRuntime,
-    address: &str,
-    first: &mut TcpCaller,
-    second: &mut TcpCaller,
-    client: &mut TcpStream,
-) -> io::Result<()> {
-    tell(rt, &[("first caller", first.meet().is_ok())])?;
-    come_and_go(rt, address)?;
-    tell(rt, &[("second caller", second.meet().is_ok())])?;
-    read_some(rt, second)?;
-    come_and_go(rt, address)?;
-    tell(rt, &[("first caller again", first.meet().is_ok())])?;
-    let count = client.read(&mut [0; 4])?;
-    tell(rt, &[("its first client is done", count == 0)])
-}
-
-fn use_both(
-    rt: &HostRuntime,
-    address: &str,
-    first: &mut TcpCaller,
-    second: &mut TcpCaller,
-) -> io::Result<()> {
-    let mut client = client(rt, address)?;
-    meet_by_turns(rt, address, first, second, &mut client)
-}
-
-fn share(
-    rt: &HostRuntime,
-    address: &str,
-    first: &mut TcpCaller,
-    second: &mut TcpCaller,
-) -> io::Result<()> {
-    use_both(rt, address, first, second)?;
-    goes(first);
-    let none = first.faults() == 0 && second.faults() == 0;
-    tell(rt, &[("no faults", none)])
-}
-
-/// Two callers of one listener.
-fn two_callers(listener: TcpListener) -> io::Result<(TcpCaller, TcpCaller)> {
-    let copy = listener.try_clone()?;
-    Ok((TcpCaller::new(copy), TcpCaller::new(listener)))
-}
-
-pub fn shared_listener(rt: &HostRuntime) -> io::Result<()> {
-    let (listener, address) = listening(rt)?;
-    let (mut first, mut second) = two_callers(listener)?;
-    share(rt, address.as_str(), &mut first, &mut second)
+    tell(rt, "the client is answered", count == 3)
 }
 
 /// Takes a connection, reads a part of what it sends, refuses it, and takes the next.
@@ -142,12 +79,17 @@ fn send(stream: &mut TcpStream, kilobytes: usize) -> io::Result<()> {
     Ok(())
 }
 
-/// Sends so many KB, and reads to the end of the stream.
-fn send_and_read(alloc: Global, stream: &mut TcpStream, kilobytes: usize) -> io::Result<Vec<u8>> {
-    send(stream, kilobytes)?;
+/// Whether the refusal is what is read to the end of the stream.
+fn is_refusal(alloc: Global, stream: &mut TcpStream) -> io::Result<bool> {
     let mut answer = Vec::new(alloc);
     stream.read_to_end(&mut answer)?;
-    Ok(answer)
+    Ok(answer.as_slice() == REFUSAL)
+}
+
+/// Sends 200 KB, and says whether it reads the refusal.
+fn send_and_read(alloc: Global, stream: &mut TcpStream) -> io::Result<bool> {
+    send(stream, 200)?;
+    is_refusal(alloc, stream)
 }
 
 /// The caller refuses a client that still sends.
@@ -158,36 +100,18 @@ fn refuse_sender<T: Threads>(
     first: &mut TcpStream,
 ) -> io::Result<()> {
     let alloc = rt.alloc();
-    let (refused, answer) = thread::join(
+    let (refused, is_read) = thread::join(
         threads,
-        || refuse(caller),
-        || send_and_read(alloc, first, 200),
+        || refuse(caller).is_ok(),
+        || send_and_read(alloc, first),
     );
-    let is_read = answer?.as_slice() == REFUSAL;
+    let is_read = is_read?;
     let cases = [
-        ("refused while it sends", refused.is_ok()),
+        ("refused while it sends", refused),
         ("it reads the refusal", is_read),
+        ("no fault", caller.faults() == 0),
     ];
-    tell(rt, &cases)
-}
-
-fn refuse_first<T: Threads>(
-    rt: &HostRuntime,
-    threads: &T,
-    address: &str,
-    caller: &mut TcpCaller,
-) -> io::Result<()> {
-    let mut first = client(rt, address)?;
-    let _second = client(rt, address)?;
-    refuse_sender(rt, threads, caller, &mut first)
-}
-
-/// A refusal reaches a client that still sends.
-pub fn refusal_while_sending<T: Threads>(rt: &HostRuntime, threads: &T) -> io::Result<()> {
-    let (listener, address) = listening(rt)?;
-    let mut caller = TcpCaller::new(listener);
-    refuse_first(rt, threads, address.as_str(), &mut caller)?;
-    tell(rt, &[("no fault", caller.faults() == 0)])
+    tell_all(rt, &cases)
 }
 
 /// Prints whether the client reads the refusal, and its end.
@@ -196,7 +120,7 @@ fn read_refusal(rt: &HostRuntime, stream: &mut TcpStream) -> io::Result<()> {
     let count = stream.read(&mut answer)?;
     let is_refusal = &answer[..count] == REFUSAL;
     let rest = stream.read(&mut answer)?;
-    tell(rt, &[("the refusal", is_refusal), ("its end", rest == 0)])
+    tell_all(rt, &[("the refusal", is_refusal), ("its end", rest == 0)])
 }
 
 fn refuse_and_read(
@@ -204,30 +128,102 @@ fn refuse_and_read(
     caller: &mut TcpCaller,
     first: &mut TcpStream,
 ) -> io::Result<()> {
-    tell(rt, &[("refused, and it stays", refuse(caller).is_ok())])?;
+    tell(rt, "refused, and it stays", refuse(caller).is_ok())?;
     read_refusal(rt, first)
 }
 
-/// The first client sends enough to be refused, and a second one comes.
-fn send_and_stay(
+/// A second client comes, after the first has sent enough to be refused where it then stays.
+fn refuse_first<T: Threads>(
     rt: &HostRuntime,
-    address: &str,
+    threads: &T,
+    port: u16,
     caller: &mut TcpCaller,
     first: &mut TcpStream,
+    stays: bool,
 ) -> io::Result<()> {
-    first.write_all(&[b'x'; 2_000])?;
-    let _second = client(rt, address)?;
-    refuse_and_read(rt, caller, first)
+    if stays {
+        send(first, 2)?;
+    }
+    let _second = client(rt, port)?;
+    if stays {
+        refuse_and_read(rt, caller, first)
+    } else {
+        refuse_sender(rt, threads, caller, first)
+    }
 }
 
-fn leave_first(rt: &HostRuntime, address: &str, caller: &mut TcpCaller) -> io::Result<()> {
-    let mut first = client(rt, address)?;
-    send_and_stay(rt, address, caller, &mut first)
+fn meet_first<T: Threads>(
+    rt: &HostRuntime,
+    threads: &T,
+    port: u16,
+    caller: &mut TcpCaller,
+    visit: Visit,
+) -> io::Result<()> {
+    if matches!(visit, Visit::Hello) {
+        before_a_client(rt, caller)?;
+    }
+    let mut first = client(rt, port)?;
+    match visit {
+        Visit::Hello => say_hello(rt, caller, &mut first),
+        Visit::Sends => refuse_first(rt, threads, port, caller, &mut first, false),
+        Visit::Stays => refuse_first(rt, threads, port, caller, &mut first, true),
+    }
 }
 
-/// A client that never closes is left.
-pub fn client_that_stays(rt: &HostRuntime) -> io::Result<()> {
-    let (listener, address) = listening(rt)?;
+/// A new caller, and a visit to it.
+pub fn come<T: Threads>(rt: &HostRuntime, threads: &T, visit: Visit) -> io::Result<()> {
+    let (listener, port) = listening(rt)?;
     let mut caller = TcpCaller::new(listener);
-    leave_first(rt, address.as_str(), &mut caller)
+    meet_first(rt, threads, port, &mut caller, visit)
+}
+
+/// Such a value may go to another thread.
+fn goes<T: Send>(_value: &T) {}
+
+/// The caller takes a peer who closes at once.
+fn meet_gone(rt: &HostRuntime, port: u16, name: &str, caller: &mut TcpCaller) -> io::Result<()> {
+    drop(TcpStream::connect(rt, ("127.0.0.1", port))?);
+    tell(rt, name, caller.meet().is_ok())
+}
+
+/// The first caller has a client. A peer who closes early, and whom the second meets, is the end of the input; the next
+/// connection of the first closes the one before.
+fn meet_by_turns(
+    rt: &HostRuntime,
+    port: u16,
+    first: &mut TcpCaller,
+    second: &mut TcpCaller,
+    client: &mut TcpStream,
+) -> io::Result<()> {
+    tell(rt, "first caller", first.meet().is_ok())?;
+    meet_gone(rt, port, "second caller", second)?;
+    read_some(rt, second)?;
+    meet_gone(rt, port, "first caller again", first)?;
+    let count = client.read(&mut [0; 4])?;
+    tell(rt, "its first client is done", count == 0)
+}
+
+fn share(
+    rt: &HostRuntime,
+    port: u16,
+    first: &mut TcpCaller,
+    second: &mut TcpCaller,
+) -> io::Result<()> {
+    let mut client = client(rt, port)?;
+    meet_by_turns(rt, port, first, second, &mut client)?;
+    goes(first);
+    let none = first.faults() == 0 && second.faults() == 0;
+    tell(rt, "no faults", none)
+}
+
+/// Two callers of one listener.
+fn two_callers(listener: TcpListener) -> io::Result<(TcpCaller, TcpCaller)> {
+    let copy = listener.try_clone()?;
+    Ok((TcpCaller::new(copy), TcpCaller::new(listener)))
+}
+
+pub fn shared_listener(rt: &HostRuntime) -> io::Result<()> {
+    let (listener, port) = listening(rt)?;
+    let (mut first, mut second) = two_callers(listener)?;
+    share(rt, port, &mut first, &mut second)
 }

@@ -1,12 +1,38 @@
 //! Links to pods.
+ghost use Rattle.std.specs.Prelude.{◌≤◌};
 
-use crate::loopback::{Link, Talk, exchange, link_to, listening};
-use crate::tell;
+use crate::loopback::{Link, Talk, address_of, exchange, link_to, listening, reply_length};
+use crate::{replies, tell_all};
 use kn_io::{Faulty, PodLink};
 use std::alloc::Global;
 use std::io;
 use std::net::TcpListener;
 use std::thread::Threads;
+
+/// What is tried with a link.
+#[derive(Clone, Copy)]
+pub enum Trial {
+    /// Probes and a call, at an address where a pod listens, one where none does, and two that are no addresses.
+    Probes,
+    /// A probe without addresses.
+    NoAddress,
+    /// A reply has at most 1,114,112 bytes.
+    Longest,
+    /// The replies that the lines of standard input spell.
+    Lines,
+}
+
+/// The link has so many of the four addresses that there are.
+fn addresses_in(trial: Trial) -> usize
+    ensures { result ≤ 4 }
+{
+    match trial {
+        Trial::Probes => 4,
+        Trial::NoAddress => 0,
+        Trial::Longest => 1,
+        Trial::Lines => 1,
+    }
+}
 
 /// Prints what a probe of each of six pods gives. Pod 4 has the first address again.
 fn show_probes(rt: &HostRuntime, link: &mut Link<'_>) -> io::Result<()> {
@@ -18,53 +44,24 @@ fn show_probes(rt: &HostRuntime, link: &mut Link<'_>) -> io::Result<()> {
     Ok(())
 }
 
-/// An address where no pod listens.
-fn left_address(rt: &HostRuntime) -> io::Result<String> {
-    let (gone, address) = listening(rt)?;
-    drop(gone);
-    Ok(address)
-}
-
 /// Six probes, and a call where no pod listens.
 fn probe_and_call(rt: &HostRuntime, link: &mut Link<'_>) -> io::Result<()> {
     show_probes(rt, link)?;
-    let failed = link.call(rt.alloc(), 1, b"ask").is_err();
-    let is_fault = link.faults() == 3;
+    let failed = reply_length(rt.alloc(), link, 1, b"ask").is_none();
     let cases = [
         ("a call where no pod listens", failed),
-        ("it is a fault", is_fault),
+        ("it is a fault", link.faults() == 3),
     ];
-    tell(rt, &cases)
-}
-
-fn probe_all(rt: &HostRuntime, addresses: &[&[u8]]) -> io::Result<()> {
-    let mut link = link_to(rt, addresses)?;
-    probe_and_call(rt, &mut link)
-}
-
-fn probe_open(rt: &HostRuntime, open: &str) -> io::Result<()> {
-    let refused = left_address(rt)?;
-    let addresses = [open.as_bytes(), refused.as_bytes(), b"nowhere", &[0xff]];
-    probe_all(rt, &addresses)
-}
-
-/// An address where a pod listens, one where none does, and two that are no addresses.
-pub fn probes(rt: &HostRuntime) -> io::Result<()> {
-    let (_listener, open) = listening(rt)?;
-    probe_open(rt, open.as_str())
+    tell_all(rt, &cases)
 }
 
 fn probe_none(rt: &HostRuntime, none: &mut Link<'_>) -> io::Result<()> {
+    let failed = none.probe(0).is_err();
     let cases = [
-        ("a probe without addresses", none.probe(0).is_err()),
+        ("a probe without addresses", failed),
         ("it is a fault", none.faults() == 1),
     ];
-    tell(rt, &cases)
-}
-
-pub fn no_addresses(rt: &HostRuntime) -> io::Result<()> {
-    let mut none = link_to(rt, &[])?;
-    probe_none(rt, &mut none)
+    tell_all(rt, &cases)
 }
 
 /// The length of a reply of a head and so many pieces, of 8,192 bytes each.
@@ -92,31 +89,74 @@ fn two_long_replies<T: Threads>(
     listener: &TcpListener,
     link: &mut Link<'_>,
 ) -> io::Result<()> {
-    let alloc = rt.alloc();
-    let longest = long_reply(threads, alloc, listener, link, 135) == Some(1_114_112);
+    let longest = long_reply(threads, rt.alloc(), listener, link, 135) == Some(1_114_112);
     let no_fault = link.faults() == 0;
-    let longer = long_reply(threads, alloc, listener, link, 136).is_none();
+    let longer = long_reply(threads, rt.alloc(), listener, link, 136).is_none();
     let cases = [
         ("the longest reply", longest),
         ("no fault", no_fault),
         ("a longer one", longer),
         ("it is a fault", link.faults() == 1),
     ];
-    tell(rt, &cases)
+    tell_all(rt, &cases)
 }
 
-fn long_replies_at<T: Threads>(
+fn try_link<T: Threads>(
     rt: &HostRuntime,
     threads: &T,
     listener: &TcpListener,
-    address: &str,
+    link: &mut Link<'_>,
+    trial: Trial,
 ) -> io::Result<()> {
-    let mut link = link_to(rt, &[address.as_bytes()])?;
-    two_long_replies(rt, threads, listener, &mut link)
+    match trial {
+        Trial::Probes => probe_and_call(rt, link),
+        Trial::NoAddress => probe_none(rt, link),
+        Trial::Longest => two_long_replies(rt, threads, listener, link),
+        Trial::Lines => replies::show_all(rt, threads, listener, link),
+    }
 }
 
-/// A reply has at most 1,114,112 bytes.
-pub fn longest_reply<T: Threads>(rt: &HostRuntime, threads: &T) -> io::Result<()> {
-    let (listener, address) = listening(rt)?;
-    long_replies_at(rt, threads, &listener, address.as_str())
+/// A port where no pod listens.
+fn left_port(rt: &HostRuntime) -> io::Result<u16> {
+    let (gone, port) = listening(rt)?;
+    drop(gone);
+    Ok(port)
+}
+
+fn try_at<T: Threads>(
+    rt: &HostRuntime,
+    threads: &T,
+    listener: &TcpListener,
+    addresses: &[&[u8]],
+    trial: Trial,
+) -> io::Result<()> {
+    let mut link = link_to(rt, addresses)?;
+    try_link(rt, threads, listener, &mut link, trial)
+}
+
+/// One address is that of the listener, one where no pod listens, and two are no addresses.
+fn try_with<T: Threads>(
+    rt: &HostRuntime,
+    threads: &T,
+    listener: &TcpListener,
+    ports: (u16, u16),
+    trial: Trial,
+) -> io::Result<()> {
+    let open = address_of(rt.alloc(), ports.0)?;
+    let left = address_of(rt.alloc(), ports.1)?;
+    let addresses = [open.as_bytes(), left.as_bytes(), b"nowhere", &[0xff]];
+    try_at(
+        rt,
+        threads,
+        listener,
+        &addresses[..addresses_in(trial)],
+        trial,
+    )
+}
+
+/// A new link, and what is tried with it.
+pub fn try_one<T: Threads>(rt: &HostRuntime, threads: &T, trial: Trial) -> io::Result<()> {
+    let (listener, open) = listening(rt)?;
+    let left = left_port(rt)?;
+    try_with(rt, threads, &listener, (open, left), trial)
 }

@@ -10,16 +10,16 @@ use std::thread::Threads;
 use std::time::Duration;
 use std::{io, thread};
 
-fn address_of(alloc: Global, listener: &TcpListener) -> io::Result<String> {
+/// A listening socket, and its port.
+pub fn listening(rt: &HostRuntime) -> io::Result<(TcpListener, u16)> {
+    let listener = TcpListener::bind(rt, "127.0.0.1:0")?;
     let port = listener.local_addr()?.port();
-    Ok(format!(in alloc; "127.0.0.1:{port}")?)
+    Ok((listener, port))
 }
 
-/// A listening socket, and its address.
-pub fn listening(rt: &HostRuntime) -> io::Result<(TcpListener, String)> {
-    let listener = TcpListener::bind(rt, "127.0.0.1:0")?;
-    let address = address_of(rt.alloc(), &listener)?;
-    Ok((listener, address))
+/// The address of a port.
+pub fn address_of(alloc: Global, port: u16) -> Result<String, AllocError> {
+    format!(in alloc; "127.0.0.1:{port}")
 }
 
 fn set_timeouts(stream: &TcpStream) -> io::Result<()> {
@@ -28,20 +28,14 @@ fn set_timeouts(stream: &TcpStream) -> io::Result<()> {
 }
 
 /// A client that waits ten seconds at most for each read and write.
-pub fn client(rt: &HostRuntime, address: &str) -> io::Result<TcpStream> {
-    let stream = TcpStream::connect(rt, address)?;
+pub fn client(rt: &HostRuntime, port: u16) -> io::Result<TcpStream> {
+    let stream = TcpStream::connect(rt, ("127.0.0.1", port))?;
     set_timeouts(&stream)?;
     Ok(stream)
 }
 
-fn text_of(alloc: Global, bytes: &[u8]) -> Result<Text, AllocError> {
-    Ok(Text::new(Vec::from_slice(alloc, bytes)?))
-}
-
-fn add_texts(alloc: Global, addresses: &[&[u8]], texts: &mut Vec<Text>) -> Result<(), AllocError> {
-    for address in addresses {
-        texts.push(text_of(alloc, address)?)?;
-    }
+fn add_text(alloc: Global, address: &[u8], texts: &mut Vec<Text>) -> Result<(), AllocError> {
+    texts.push(Text::new(Vec::from_slice(alloc, address)?))?;
     Ok(())
 }
 
@@ -51,7 +45,9 @@ pub type Link<'a> = TcpLink<&'a HostRuntime>;
 /// A link to these addresses.
 pub fn link_to<'a>(rt: &'a HostRuntime, addresses: &[&[u8]]) -> io::Result<Link<'a>> {
     let mut texts = Vec::new(rt.alloc());
-    add_texts(rt.alloc(), addresses, &mut texts)?;
+    for address in addresses {
+        add_text(rt.alloc(), address, &mut texts)?;
+    }
     Ok(TcpLink::new(rt, Items::new(texts)))
 }
 
@@ -84,10 +80,12 @@ fn pod(alloc: Global, listener: &TcpListener, talk: Talk<'_>) -> io::Result<()> 
     talk_on(alloc, &mut stream, talk)
 }
 
-fn length_of(reply: &Result<Text, LinkError>) -> Option<usize> {
-    match reply {
+/// The length of the reply to a call.
+pub fn reply_length(alloc: Global, link: &mut Link<'_>, pod: u64, request: &[u8]) -> Option<usize> {
+    match link.call(alloc, pod, request) {
         Ok(reply) => Some(reply.bytes().len()),
-        Err(LinkError::Failed | LinkError::Memory) => None,
+        Err(LinkError::Failed) => None,
+        Err(LinkError::Memory) => None,
     }
 }
 
@@ -101,8 +99,8 @@ pub fn exchange<T: Threads>(
 ) -> Option<usize> {
     let served = thread::join(
         threads,
-        || pod(alloc, listener, talk),
-        || link.call(alloc, 0, talk.request),
+        || pod(alloc, listener, talk).is_ok(),
+        || reply_length(alloc, link, 0, talk.request),
     );
-    length_of(&served.1)
+    served.1
 }

@@ -7,64 +7,44 @@ mod links;
 mod loopback;
 mod replies;
 
-use kn_io::Faulty;
-use loopback::Link;
-use std::alloc::Global;
+use callers::Visit;
+use links::Trial;
 use std::io;
-use std::net::TcpListener;
 use std::thread::Threads;
 
-/// Prints of each case whether it is as it must be.
-fn tell(rt: &HostRuntime, cases: &[(&str, bool)]) -> io::Result<()> {
+/// Prints whether a case is as it must be.
+fn tell(rt: &HostRuntime, name: &str, holds: bool) -> io::Result<()> {
+    let word = if holds { "ok" } else { "not so" };
+    println!(rt; "{name}: {word}")
+}
+
+fn tell_all(rt: &HostRuntime, cases: &[(&str, bool)]) -> io::Result<()> {
     for (name, holds) in cases {
-        let word = if *holds { "ok" } else { "not so" };
-        println!(rt; "{name}: {word}")?;
+        tell(rt, name, *holds)?;
     }
     Ok(())
 }
 
-/// The tests of callers and links that have no line.
-fn fixed<T: Threads>(rt: &HostRuntime, threads: &T) -> io::Result<()> {
-    callers::one_client(rt)?;
+fn show_callers<T: Threads>(rt: &HostRuntime, threads: &T) -> io::Result<()> {
+    callers::come(rt, threads, Visit::Hello)?;
     callers::shared_listener(rt)?;
-    callers::refusal_while_sending(rt, threads)?;
-    callers::client_that_stays(rt)?;
-    links::probes(rt)?;
-    links::no_addresses(rt)?;
-    links::longest_reply(rt, threads)
+    callers::come(rt, threads, Visit::Sends)?;
+    callers::come(rt, threads, Visit::Stays)
 }
 
-/// Shows each line's reply, and how many faults there were: one for each that was not whole.
-fn show_by<T: Threads>(
-    rt: &HostRuntime,
-    threads: &T,
-    listener: &TcpListener,
-    link: &mut Link<'_>,
-) -> io::Result<()> {
-    for line in rt.lines(rt.alloc()) {
-        replies::show(rt, threads, listener, link, line?.as_str())?;
+fn show_links<T: Threads>(rt: &HostRuntime, threads: &T) -> io::Result<()> {
+    for trial in &[
+        Trial::Probes,
+        Trial::NoAddress,
+        Trial::Longest,
+        Trial::Lines,
+    ] {
+        links::try_one(rt, threads, *trial)?;
     }
-    let faults = link.faults();
-    println!(rt; "faults {faults}")
-}
-
-/// Shows the replies of a pod that listens here.
-fn show_at<T: Threads>(
-    rt: &HostRuntime,
-    threads: &T,
-    listener: &TcpListener,
-    address: &str,
-) -> io::Result<()> {
-    let mut link = loopback::link_to(rt, &[address.as_bytes()])?;
-    show_by(rt, threads, listener, &mut link)
-}
-
-fn show_replies<T: Threads>(rt: &HostRuntime, threads: &T) -> io::Result<()> {
-    let (listener, address) = loopback::listening(rt)?;
-    show_at(rt, threads, &listener, address.as_str())
+    Ok(())
 }
 
 fn main(rt: HostRuntime) -> io::Result<()> {
-    fixed(&rt, &rt)?;
-    show_replies(&rt, &rt)
+    show_callers(&rt, &rt)?;
+    show_links(&rt, &rt)
 }

@@ -2,6 +2,7 @@
 
 use crate::loopback::{Link, Talk, exchange};
 use kn_case::spelled;
+use kn_io::Faulty;
 use std::io;
 use std::net::TcpListener;
 use std::thread::Threads;
@@ -33,7 +34,7 @@ fn show_reply<T: Threads>(
 }
 
 /// Prints a line, and how long its reply is where that came whole.
-pub fn show<T: Threads>(
+fn show<T: Threads>(
     rt: &HostRuntime,
     threads: &T,
     listener: &TcpListener,
@@ -44,4 +45,18 @@ pub fn show<T: Threads>(
     let (request, reply) = line.split_once('|').unwrap_or((line, ""));
     let request = spelled(rt.alloc(), request)?;
     show_reply(rt, threads, listener, link, &request, reply)
+}
+
+/// Shows each line's reply, and how many faults there were: one for each that was not whole.
+pub fn show_all<T: Threads>(
+    rt: &HostRuntime,
+    threads: &T,
+    listener: &TcpListener,
+    link: &mut Link<'_>,
+) -> io::Result<()> {
+    for line in rt.lines(rt.alloc()) {
+        show(rt, threads, listener, link, line?.as_str())?;
+    }
+    let faults = link.faults();
+    println!(rt; "faults {faults}")
 }
