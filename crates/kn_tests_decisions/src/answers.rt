@@ -2,8 +2,6 @@
 use kn_event::{Counts, Entry, Frac, Line, Mode, Phase, entry_line};
 use kn_panic::Panicked;
 use kn_scaling::{Standing, ZeroAnswer};
-use std::fmt;
-use std::fmt::{Display, Formatter, Write};
 
 #[derive(Clone, Copy)]
 pub enum Answer {
@@ -26,6 +24,35 @@ pub enum Answer {
     Entry(Entry),
 }
 
+/// Adds a word, where there is room.
+pub fn put(text: &mut Line, word: &str) {
+    if text.bytes().len() <= 900 && word.len() <= 100 {
+        text.put(word.as_bytes());
+    }
+}
+
+/// Adds a number, where there is room, and what stands behind it.
+pub fn put_number(text: &mut Line, number: u64, behind: &str) {
+    if text.bytes().len() <= 900 {
+        text.put_integer(number);
+    }
+    put(text, behind);
+}
+
+fn put_excess(text: &mut Line, excess: i64) {
+    if text.bytes().len() <= 900 {
+        text.put_integer(excess);
+    }
+}
+
+fn put_fraction(text: &mut Line, f: &Frac) {
+    if text.bytes().len() <= 800 {
+        text.put_integer(f.num);
+        text.put(b"/");
+        text.put_integer(f.den);
+    }
+}
+
 fn mode_word(mode: Mode) -> &'static str {
     match mode {
         Mode::Proxy => "proxy",
@@ -41,67 +68,57 @@ fn phase_word(phase: Phase) -> &'static str {
     }
 }
 
-/// Of an answer that is one word.
-fn word(answer: &Answer) -> &'static str {
-    match answer {
-        Answer::Done => "done",
-        Answer::None => "none",
-        Answer::Mode(mode) => mode_word(*mode),
-        Answer::Phase(phase) => phase_word(*phase),
-        Answer::Flag(flag) => either(*flag, "true", "false"),
-        _ => "nothing",
-    }
-}
-
-fn either(first: bool, word: &'static str, other: &'static str) -> &'static str {
+pub fn either(first: bool, word: &'static str, other: &'static str) -> &'static str {
     if first { word } else { other }
 }
 
-fn put_counts<W: Write>(f: &mut Formatter<W>, counts: &Counts) -> fmt::Result {
-    let over = either(counts.over, "over", "calm");
-    let (dspc, dppc) = (counts.dspc, counts.dppc);
-    let (stable, panic) = (counts.stable_count, counts.panic_count);
-    write!(f, "{dspc} {dppc} {stable} {panic} {over}")
+fn put_counts(text: &mut Line, counts: &Counts) {
+    put_number(text, counts.dspc, " ");
+    put_number(text, counts.dppc, " ");
+    put_number(text, counts.stable_count, " ");
+    put_number(text, counts.panic_count, " ");
+    put(text, either(counts.over, "over", "calm"));
 }
 
-fn put_standing<W: Write>(f: &mut Formatter<W>, standing: &Standing) -> fmt::Result {
-    let (phase, mode) = (phase_word(standing.phase), mode_word(standing.mode));
-    let (phase_since, mode_since) = (standing.phase_since, standing.mode_since);
-    let want = standing.want;
-    write!(
-        f,
-        "{phase} since {phase_since}, {mode} since {mode_since}, {want} wanted"
-    )
+fn put_standing(text: &mut Line, standing: &Standing) {
+    put(text, phase_word(standing.phase));
+    put(text, " since ");
+    put_number(text, standing.phase_since, ", ");
+    put(text, mode_word(standing.mode));
+    put(text, " since ");
+    put_number(text, standing.mode_since, ", ");
+    put_number(text, standing.want, " wanted");
 }
 
-fn put_zero<W: Write>(f: &mut Formatter<W>, answer: &ZeroAnswer) -> fmt::Result {
-    let word = either(answer.applied, "applied", "kept");
-    write!(f, "{} {word} {}", answer.want, phase_word(answer.phase))
+fn put_zero(text: &mut Line, answer: &ZeroAnswer) {
+    put_number(text, answer.want, " ");
+    put(text, either(answer.applied, "applied ", "kept "));
+    put(text, phase_word(answer.phase));
 }
 
-fn put_panicked<W: Write>(f: &mut Formatter<W>, panicked: &Panicked) -> fmt::Result {
-    let word = either(panicked.panicking, "panicking", "calm");
-    write!(f, "{word} {}", panicked.count)
+fn put_panicked(text: &mut Line, panicked: &Panicked) {
+    put(text, either(panicked.panicking, "panicking ", "calm "));
+    put_number(text, panicked.count, "");
 }
 
-fn put_entry<W: Write>(f: &mut Formatter<W>, entry: &Entry) -> fmt::Result {
-    let mut line = Line::new();
-    entry_line(entry, &mut line);
-    f.write_str(str::from_utf8(line.bytes()).unwrap_or("").trim_end())
-}
-
-impl Display for Answer {
-    fn fmt<W: Write>(&self, f: &mut Formatter<W>) -> fmt::Result {
+impl Answer {
+    /// Adds its words. A row takes the place of what stood before.
+    pub fn put(&self, text: &mut Line) {
         match self {
-            Answer::Number(number) => write!(f, "{number}"),
-            Answer::Excess(excess) => write!(f, "{excess}"),
-            Answer::Average(average) => write!(f, "{}/{}", average.num, average.den),
-            Answer::Counts(counts) => put_counts(f, counts),
-            Answer::Panicked(panicked) => put_panicked(f, panicked),
-            Answer::Zero(answer) => put_zero(f, answer),
-            Answer::Standing(standing) => put_standing(f, standing),
-            Answer::Entry(entry) => put_entry(f, entry),
-            _ => f.write_str(word(self)),
+            Answer::Nothing => put(text, "nothing"),
+            Answer::Done => put(text, "done"),
+            Answer::None => put(text, "none"),
+            Answer::Mode(mode) => put(text, mode_word(*mode)),
+            Answer::Phase(phase) => put(text, phase_word(*phase)),
+            Answer::Flag(flag) => put(text, either(*flag, "true", "false")),
+            Answer::Number(number) => put_number(text, *number, ""),
+            Answer::Excess(excess) => put_excess(text, *excess),
+            Answer::Average(average) => put_fraction(text, average),
+            Answer::Counts(counts) => put_counts(text, counts),
+            Answer::Panicked(panicked) => put_panicked(text, panicked),
+            Answer::Zero(answer) => put_zero(text, answer),
+            Answer::Standing(standing) => put_standing(text, standing),
+            Answer::Entry(entry) => entry_line(entry, text),
         }
     }
 }

@@ -17,23 +17,25 @@ mod windows;
 mod words;
 mod zeros;
 
+use kn_event::Line;
 use std::io;
 use subject::Subject;
+
+/// Prints a call with its answer.
+fn say_call(rt: &HostRuntime, subject: &mut Subject, line: &str) -> io::Result<()> {
+    let mut text = Line::new();
+    subject.answer(rt.alloc(), line).put(&mut text);
+    let answer = str::from_utf8(text.bytes()).unwrap_or("").trim_end();
+    println!(rt; "{line}: {answer}")
+}
 
 /// A line that opens a subject is printed as it is; a call with its answer.
 fn answer(rt: &HostRuntime, subject: &mut Subject, line: &str) -> io::Result<()> {
     if line.starts_with(' ') {
-        let answer = subject.answer(rt.alloc(), line);
-        println!(rt; "{line}: {answer}")
-    } else {
-        open(rt, subject, line);
-        println!(rt; "{line}")
+        return say_call(rt, subject, line);
     }
-}
-
-/// Where a line opens nothing, or memory is lacking, the calls after it answer that there is no such call.
-fn open(rt: &HostRuntime, subject: &mut Subject, line: &str) {
-    *subject = Subject::open(rt.alloc(), line).unwrap_or(Subject::Parts);
+    *subject = Subject::open(rt.alloc(), line);
+    println!(rt; "{line}")
 }
 
 fn answer_lines(rt: &HostRuntime, subject: &mut Subject) -> io::Result<()> {

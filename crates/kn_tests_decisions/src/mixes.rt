@@ -2,13 +2,14 @@
 ghost use Rattle.std.specs.Prelude.{◌≡◌};
 ghost use Rattle.kn_event.specs.declared.revision.Kind.TheVariants as kind;
 
+use crate::answers::{either, put, put_number};
 use crate::decisions::Decisions;
 use crate::delays::Delays;
 use crate::past::Past;
 use crate::plain;
 use crate::scale::Scale;
 use crate::windows::Windows;
-use kn_event::Spec;
+use kn_event::{Line, Spec};
 use kn_scaling::{Asked, SampleRun};
 use std::alloc::Global;
 use std::io;
@@ -34,26 +35,34 @@ fn step(word: u64, seconds: u64) -> u64 {
 }
 
 /// How many of 500 decisions ask for what they should after this delay.
-fn delays_agreeing(alloc: Global, seconds: u64) -> Option<u64> {
-    let mut delays = Delays::new(alloc, seconds)?;
-    let mut asked = Vec::new(alloc);
-    delays_as_asked(&mut delays, &mut asked, seconds)
+fn delays_agreeing(alloc: Global, seconds: u64) -> u64 {
+    match Delays::new(alloc, seconds) {
+        Some(mut delays) => {
+            let mut asked = Vec::new(alloc);
+            delays_as_asked(&mut delays, &mut asked, seconds)
+        }
+        None => 0,
+    }
 }
 
-fn delays_as_asked(delays: &mut Delays, asked: &mut Vec<Asked>, seconds: u64) -> Option<u64> {
+fn delays_as_asked(delays: &mut Delays, asked: &mut Vec<Asked>, seconds: u64) -> u64 {
     let mut second: u64 = 0;
     let mut agreed: u64 = 0;
     for k in 0..500 {
         let word = mixed(k);
         second = second.saturating_add(step(word, seconds));
         let count = word / 64 % 8;
-        let expected = count.max(plain::recent_count(seconds, second, asked));
-        if delays.take(second, count)? == expected {
-            agreed = agreed.saturating_add(1);
-        }
-        asked.push(Asked { second, count }).ok()?;
+        let agrees = delay_agrees(delays, asked, seconds, Asked { second, count });
+        agreed = agreed.saturating_add(u64::from(agrees));
     }
-    Some(agreed)
+    agreed
+}
+
+/// Whether one more decision asks for what it should. Without memory none does.
+fn delay_agrees(delays: &mut Delays, asked: &mut Vec<Asked>, seconds: u64, now: Asked) -> bool {
+    let recent = plain::recent_count(seconds, now.second, asked);
+    let answer = delays.take(now.second, now.count);
+    answer == Some(now.count.max(recent)) && asked.push(now).is_ok()
 }
 
 /// A run that comes after this second: mostly at once, else after a gap of up to two windows.
@@ -76,30 +85,37 @@ fn next_run(word: u64, end: u64, seconds: u64) -> SampleRun {
 }
 
 /// How many of 150 averages over a window of so many seconds are as they should be.
-fn windows_agreeing(alloc: Global, seconds: u64) -> Option<u64> {
-    let mut window = Windows::new(alloc, seconds)?;
-    let mut runs = Vec::new(alloc);
-    windows_over_runs(&mut window, &mut runs, seconds)
+fn windows_agreeing(alloc: Global, seconds: u64) -> u64 {
+    match Windows::new(alloc, seconds) {
+        Some(mut window) => {
+            let mut runs = Vec::new(alloc);
+            windows_over_runs(&mut window, &mut runs, seconds)
+        }
+        None => 0,
+    }
 }
 
-fn windows_over_runs(window: &mut Windows, runs: &mut Vec<SampleRun>, seconds: u64) -> Option<u64> {
+fn windows_over_runs(window: &mut Windows, runs: &mut Vec<SampleRun>, seconds: u64) -> u64 {
     let mut end: u64 = 0;
     let mut agreed: u64 = 0;
     for k in 0..150 {
         let word = mixed(k);
         let run = next_run(word, end, seconds);
-        if !window.record(&run) {
-            return None;
-        }
         end = run.second.saturating_add(run.count);
-        runs.push(run).ok()?;
         let now = end.saturating_add(word % (seconds.min(3600) + 3));
-        let expected = plain::window_average(runs, seconds, now);
-        if window.average(now)? == expected {
-            agreed = agreed.saturating_add(1);
-        }
+        let agrees = record(window, runs, run) && average_agrees(window, runs, seconds, now);
+        agreed = agreed.saturating_add(u64::from(agrees));
     }
-    Some(agreed)
+    agreed
+}
+
+/// Whether both have taken the run.
+fn record(window: &mut Windows, runs: &mut Vec<SampleRun>, run: SampleRun) -> bool {
+    window.record(&run) && runs.push(run).is_ok()
+}
+
+fn average_agrees(window: &Windows, runs: &[SampleRun], seconds: u64, now: u64) -> bool {
+    window.average(now) == Some(plain::window_average(runs, seconds, now))
 }
 
 /// Some seconds that close, or pass without a sample. Whether there was memory.
@@ -136,9 +152,9 @@ fn turn(spec: &Spec, decisions: &mut Decisions, past: &mut Past, word: u64) -> b
     passes && agrees && is_right && decisions.state() == past.state()
 }
 
-/// In how many of 500 turns both agree, and how many decisions were made.
-fn turns_agreeing(alloc: Global) -> Option<(u64, usize)> {
-    let scale = Scale {
+/// The settings of the mix of decisions.
+const fn mix() -> Scale {
+    Scale {
         stable: 6,
         panic: 2,
         delay: 4,
@@ -146,18 +162,28 @@ fn turns_agreeing(alloc: Global) -> Option<(u64, usize)> {
         max: 9,
         grace: 2500,
         ..Scale::of(1)
-    };
-    let spec = scale.spec(alloc)?;
-    turns_by(alloc, &spec)
+    }
 }
 
-fn turns_by(alloc: Global, spec: &Spec) -> Option<(u64, usize)>
+/// In how many of 500 turns both agree, and how many decisions were made.
+fn turns_agreeing(alloc: Global) -> (u64, usize) {
+    match mix().spec(alloc) {
+        Some(spec) => turns_by(alloc, &spec),
+        None => (0, 0),
+    }
+}
+
+fn turns_by(alloc: Global, spec: &Spec) -> (u64, usize)
     requires { spec.now.kind ≡ kind.Kpa }
 {
-    let mut decisions = Decisions::new(alloc, spec)?;
-    let mut past = Past::new(alloc);
-    let agreed = turns_of_both(spec, &mut decisions, &mut past);
-    Some((agreed, past.count()))
+    match Decisions::new(alloc, spec) {
+        Some(mut decisions) => {
+            let mut past = Past::new(alloc);
+            let agreed = turns_of_both(spec, &mut decisions, &mut past);
+            (agreed, past.count())
+        }
+        None => (0, 0),
+    }
 }
 
 fn turns_of_both(spec: &Spec, decisions: &mut Decisions, past: &mut Past) -> u64 {
@@ -170,40 +196,61 @@ fn turns_of_both(spec: &Spec, decisions: &mut Decisions, past: &mut Past) -> u64
     agreed
 }
 
-fn agreeing(alloc: Global, delays: bool, seconds: u64) -> u64 {
-    let agreed = if delays {
-        delays_agreeing(alloc, seconds)
-    } else {
-        windows_agreeing(alloc, seconds)
-    };
-    agreed.unwrap_or(0)
-}
-
 /// What is compared, whether it is a delay, and its seconds.
 const PARTS: [(&str, bool, u64); 9] = [
-    ("delay", true, 0),
-    ("delay", true, 1),
-    ("delay", true, 2),
-    ("delay", true, 10),
-    ("delay", true, 60),
-    ("window", false, 1),
-    ("window", false, 2),
-    ("window", false, 6),
-    ("window", false, 13),
+    ("a delay of 0: ", true, 0),
+    ("a delay of 1: ", true, 1),
+    ("a delay of 2: ", true, 2),
+    ("a delay of 10: ", true, 10),
+    ("a delay of 60: ", true, 60),
+    ("a window of 1: ", false, 1),
+    ("a window of 2: ", false, 2),
+    ("a window of 6: ", false, 6),
+    ("a window of 13: ", false, 13),
 ];
 
+/// How many agree, of how many.
+fn agreeing(alloc: Global, delays: bool, seconds: u64) -> (u64, u64) {
+    if delays {
+        (delays_agreeing(alloc, seconds), 500)
+    } else {
+        (windows_agreeing(alloc, seconds), 150)
+    }
+}
+
+fn say_text(rt: &HostRuntime, text: &Line) -> io::Result<()> {
+    let text = str::from_utf8(text.bytes()).unwrap_or("");
+    println!(rt; "{text}")
+}
+
+fn say_part(rt: &HostRuntime, part: &(&str, bool, u64)) -> io::Result<()> {
+    let (name, delays, seconds) = *part;
+    let (agreed, of) = agreeing(rt.alloc(), delays, seconds);
+    let mut text = Line::new();
+    put(&mut text, name);
+    put_number(&mut text, agreed, " of ");
+    put_number(&mut text, of, " agree");
+    say_text(rt, &text)
+}
+
 fn compare_parts(rt: &HostRuntime) -> io::Result<()> {
-    for (name, delays, seconds) in PARTS {
-        let agreed = agreeing(rt.alloc(), delays, seconds);
-        let of = if delays { 500 } else { 150 };
-        println!(rt; "a {name} of {seconds}: {agreed} of {of} agree")?;
+    for part in &PARTS {
+        say_part(rt, part)?;
     }
     Ok(())
 }
 
+fn compare_turns(rt: &HostRuntime) -> io::Result<()> {
+    let (agreed, decided) = turns_agreeing(rt.alloc());
+    let mut text = Line::new();
+    put(&mut text, "decisions: ");
+    put_number(&mut text, agreed, " of 500 turns agree, ");
+    put(&mut text, "more than 300 decided: ");
+    put(&mut text, either(decided > 300, "true", "false"));
+    say_text(rt, &text)
+}
+
 pub fn compare(rt: &HostRuntime) -> io::Result<()> {
     compare_parts(rt)?;
-    let (agreed, decided) = turns_agreeing(rt.alloc()).unwrap_or((0, 0));
-    let many = decided > 300;
-    println!(rt; "decisions: {agreed} of 500 turns agree, more than 300 decided: {many}")
+    compare_turns(rt)
 }

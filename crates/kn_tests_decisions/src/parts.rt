@@ -7,17 +7,17 @@ use crate::answers::Answer;
 use crate::scale::Scale;
 use crate::words::{fraction, number, word};
 use kn_burst::{excess, mode};
-use kn_event::{Burst, Frac, Milli, Phase};
+use kn_event::{Burst, Frac, Milli, Phase, Spec};
 use kn_formula::counts;
 use kn_zero::bounds;
 use std::alloc::Global;
 
 pub fn answer(alloc: Global, line: &str) -> Answer {
     match word(line, 0) {
-        "counts" => counts_of(alloc, line).unwrap_or(Answer::Nothing),
+        "counts" => by_spec(alloc, &Scale::of(number(line, 1)), line),
         "excess" => excess_of(line),
         "mode" => mode_of(line),
-        "bounds" => bounds_of(alloc, line).unwrap_or(Answer::Nothing),
+        "bounds" => by_spec(alloc, &bounded(line), line),
         _ => Answer::Nothing,
     }
 }
@@ -41,12 +41,31 @@ fn average(line: &str, place: usize) -> Frac
     }
 }
 
-/// Of a containerConcurrency, with so many Ready pods, by the stable and the panic average.
-fn counts_of(alloc: Global, line: &str) -> Option<Answer> {
+/// By a specification: `counts` with a containerConcurrency, so many Ready pods, the stable and the panic average; or
+/// `bounds` with min-scale, max-scale and the initial scale, whether that was reached, and the count.
+fn by_spec(alloc: Global, scale: &Scale, line: &str) -> Answer {
+    match scale.spec(alloc) {
+        Some(spec) => of_spec(&spec, line),
+        None => Answer::Nothing,
+    }
+}
+
+fn of_spec(spec: &Spec, line: &str) -> Answer {
+    if word(line, 0) == "bounds" {
+        let reached = word(line, 4) == "reached";
+        return Answer::Number(bounds(spec, reached, number(line, 5)));
+    }
     let ready = number(line, 2).min(500);
-    let (stable, panic) = (average(line, 3), average(line, 4));
-    let spec = Scale::of(number(line, 1)).spec(alloc)?;
-    Some(Answer::Counts(counts(&spec, ready, stable, panic)))
+    Answer::Counts(counts(spec, ready, average(line, 3), average(line, 4)))
+}
+
+fn bounded(line: &str) -> Scale {
+    Scale {
+        min: number(line, 1),
+        max: number(line, 2),
+        initial: number(line, 3),
+        ..Scale::of(1)
+    }
 }
 
 /// A target burst capacity in thousandths, or none.
@@ -81,17 +100,4 @@ fn mode_of(line: &str) -> Answer {
     let excess = word(line, 2).parse().unwrap_or(0);
     let phase = phase_of(word(line, 3));
     Answer::Mode(mode(number(line, 1), excess, phase))
-}
-
-/// By min-scale, max-scale and the initial scale, whether that was reached, and the count.
-fn bounds_of(alloc: Global, line: &str) -> Option<Answer> {
-    let scale = Scale {
-        min: number(line, 1),
-        max: number(line, 2),
-        initial: number(line, 3),
-        ..Scale::of(1)
-    };
-    let (reached, count) = (word(line, 4) == "reached", number(line, 5));
-    let spec = scale.spec(alloc)?;
-    Some(Answer::Number(bounds(&spec, reached, count)))
 }

@@ -64,24 +64,23 @@ impl Past {
 
     /// Whether a tick with so many Ready pods has this decision.
     pub fn is_right(&mut self, spec: &Spec, time: u64, ready: u64, made: Option<Decision>) -> bool {
-        let stable = plain::window_average(&self.runs, spec.stable_s, time / 1000);
-        match (made, stable) {
-            (None, None) => true,
-            (Some(d), Some(stable)) => {
-                self.decide(spec, time, ready, stable, d.excess) == Some(d)
-            }
-            _ => false,
+        match plain::window_average(&self.runs, spec.stable_s, time / 1000) {
+            None => made.is_none(),
+            Some(stable) => match made {
+                Some(d) => self.decide(spec, time, ready, stable, d.excess) == d,
+                None => false,
+            },
         }
     }
 
-    /// What a decision asks for before the delay, and after it; none where memory is lacking.
-    fn ask(&mut self, spec: &Spec, judged: Judged) -> Option<(u64, u64)> {
+    /// What a decision asks for before the delay, and after it. Where memory is lacking, neither is kept.
+    fn ask(&mut self, spec: &Spec, judged: Judged) -> (u64, u64) {
         let second = judged.time / 1000;
-        self.judged.insert(0, judged).ok()?;
+        let _ = self.judged.insert(0, judged);
         let count = plain::undelayed_count(&self.judged);
         let delayed = count.max(plain::recent_count(spec.delay_s, second, &self.asked));
-        self.asked.insert(0, Asked { second, count }).ok()?;
-        Some((count, delayed))
+        let _ = self.asked.insert(0, Asked { second, count });
+        (count, delayed)
     }
 
     /// The decision by these averages. Its excess is taken as it is.
@@ -92,7 +91,7 @@ impl Past {
         ready: u64,
         stable: Frac,
         excess: i64,
-    ) -> Option<Decision> {
+    ) -> Decision {
         let panic = plain::window_average(&self.runs, spec.panic_s, time / 1000).unwrap_or(Frac {
             num: 0,
             den: 1,
@@ -106,13 +105,13 @@ impl Past {
                 counts,
                 window_ms,
             },
-        )?;
+        );
         let bounded = plain::bounded_count(spec, self.reached, delayed);
         let answer = plain::zero_rule(spec, time, ready, bounded, &self.standing);
         let is_through = answer.want == 0 || excess < 0 || answer.phase == Phase::Activating;
         let mode = if is_through { Mode::Proxy } else { Mode::Serve };
         self.stand(time, answer.phase, mode, answer.want);
-        Some(Decision {
+        Decision {
             stable,
             panic,
             ready,
@@ -127,7 +126,7 @@ impl Past {
             want: answer.want,
             applied: answer.applied,
             mode,
-        })
+        }
     }
 
     /// Where it stands after a decision.

@@ -5,7 +5,6 @@
 //! line that begins with # says what the next ones show. Then it says how longer runs of calls went.
 #![tactic(auto)]
 
-mod answers;
 mod breaker;
 mod marked;
 mod mix;
@@ -22,19 +21,10 @@ use run::Run;
 use std::alloc::Global;
 use std::io;
 
-/// Prints what a line says, or with what its call answers.
-fn say(rt: &HostRuntime, rows: &mut Rows, line: &str) -> io::Result<()> {
-    if line.starts_with('#') {
-        return println!(rt; "{line}");
-    }
-    let answer = rows.answer(rt.alloc(), line);
-    println!(rt; "{line}: {answer}")
-}
-
 /// Prints what each line of standard input becomes.
 fn say_all(rt: &HostRuntime, rows: &mut Rows) -> io::Result<()> {
     for line in rt.lines(rt.alloc()) {
-        say(rt, rows, line?.as_str())?;
+        rows.say(rt, line?.as_str())?;
     }
     Ok(())
 }

@@ -70,8 +70,14 @@ fn is_at(place: Place, p: u64) -> bool {
     }
 }
 
+/// Removes the request of this number, which no other one has.
 fn plain_remove(plain: &mut Vec<Request>, r: u64) {
-    plain.retain(|request| request.number != r);
+    for k in 0..plain.len() {
+        if plain[k].number == r {
+            plain.remove(k);
+            return;
+        }
+    }
 }
 
 /// Moves the request of this number, as an assignment or a run does.

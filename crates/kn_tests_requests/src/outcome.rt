@@ -8,6 +8,16 @@ pub fn ok(holds: bool) -> &'static str {
     if holds { "ok" } else { "not so" }
 }
 
+/// The first of these that isn't so; `ok` where all are.
+pub fn first_wrong(checks: &[(bool, &'static str)]) -> &'static str {
+    for (holds, what) in checks {
+        if !*holds {
+            return what;
+        }
+    }
+    "ok"
+}
+
 pub fn tell(rt: &HostRuntime, outcomes: &[Outcome]) -> io::Result<()> {
     for (name, outcome) in outcomes {
         println!(rt; "{name}: {outcome}")?;

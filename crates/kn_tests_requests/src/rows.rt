@@ -1,11 +1,12 @@
 //! The calls that lines of standard input name, and what they answer.
-use crate::answers::Answer;
-use crate::marked::{four_at_two, six_rounds};
+use crate::marked::{Rounds, four_at_two, six_rounds};
 use crate::run::{Run, firsts};
 use kn_event::Memory;
 use kn_policy::{Cand, Policy};
 use kn_record::Place;
 use std::alloc::{AllocError, Global};
+use std::fmt::Debug;
+use std::io;
 
 fn word(line: &str, place: usize) -> &str {
     line.split(' ').nth(place).unwrap_or("")
@@ -40,21 +41,36 @@ fn add_pods(ready: &mut Vec<Cand>, line: &str) -> Result<(), AllocError> {
     Ok(())
 }
 
+/// Prints a line with what its call answers.
+fn tell<T: Debug>(rt: &HostRuntime, line: &str, answer: &T) -> io::Result<()> {
+    println!(rt; "{line}: {answer:?}")
+}
+
+/// Prints a line with what is said of it.
+fn tell_word(rt: &HostRuntime, line: &str, word: &str) -> io::Result<()> {
+    println!(rt; "{line}: {word}")
+}
+
 /// Whom a policy picks among the pods that a line names.
-fn pick(alloc: Global, policy: &mut Policy, line: &str) -> Answer {
-    let mut ready = Vec::new(alloc);
+fn pick(rt: &HostRuntime, policy: &mut Policy, line: &str) -> io::Result<()> {
+    let mut ready = Vec::new(rt.alloc());
     match add_pods(&mut ready, line) {
-        Ok(()) => Answer::Number(policy.pick(&ready)),
-        Err(_) => Answer::NoMemory,
+        Ok(()) => tell(rt, line, &policy.pick(&ready)),
+        Err(_) => tell_word(rt, line, "memory is lacking"),
     }
 }
 
-fn rounds(alloc: Global, line: &str) -> Answer {
+fn rounds(rt: &HostRuntime, line: &str) -> io::Result<()> {
     let (cc, seed) = (number(line, 2), number(line, 4));
-    match six_rounds(alloc, cc, seed, number(line, 6), number(line, 8)) {
-        Ok(rounds) => Answer::Rounds(rounds),
-        Err(_) => Answer::NoMemory,
+    match six_rounds(rt.alloc(), cc, seed, number(line, 6), number(line, 8)) {
+        Ok(rounds) => tell_rounds(rt, line, &rounds),
+        Err(_) => tell_word(rt, line, "memory is lacking"),
     }
+}
+
+fn tell_rounds(rt: &HostRuntime, line: &str, rounds: &Rounds) -> io::Result<()> {
+    let (picks, marked_picks) = (&rounds.picks, &rounds.marked_picks);
+    println!(rt; "{line}: pick {picks:?}, pick_marked {marked_picks:?}")
 }
 
 /// The policy and the table to which the calls are made.
@@ -72,33 +88,35 @@ impl Rows {
         })
     }
 
-    /// What the call of a line answers. Numbers of requests rise by three.
-    pub fn answer(&mut self, alloc: Global, line: &str) -> Answer {
+    /// Prints what a line says, or with what its call answers. Numbers of requests rise by three.
+    pub fn say(&mut self, rt: &HostRuntime, line: &str) -> io::Result<()> {
         match word(line, 0) {
+            "#" => println!(rt; "{line}"),
             "policy" => {
                 self.policy = Policy::new(number(line, 2), number(line, 4));
-                Answer::Begins
+                tell_word(rt, line, "begins")
             }
-            "pick" => pick(alloc, &mut self.policy, line),
-            "two" => Answer::Flag(four_at_two(number(line, 2))),
-            "rounds" => rounds(alloc, line),
-            verb => table_answer(&mut self.run, verb, number(line, 1), number(line, 2)),
+            "pick" => pick(rt, &mut self.policy, line),
+            "two" => tell(rt, line, &four_at_two(number(line, 2))),
+            "rounds" => rounds(rt, line),
+            _ => say_table(rt, &mut self.run, line),
         }
     }
 }
 
-fn table_answer(run: &mut Run, verb: &str, first: u64, second: u64) -> Answer {
-    match verb {
-        "queued" => Answer::Request(run.arrive(Place::Queued(first), 3)),
-        "held" => Answer::Request(run.arrive(Place::Held, 3)),
-        "assign" => Answer::Number(run.assign(first)),
-        "run" => Answer::Flag(run.begin(first)),
-        "end" => Answer::Request(run.end(first)),
-        "lose" => Answer::Request(run.lose(first)),
-        "get" => Answer::Request(run.table.get(first)),
-        "firsts" => Answer::Firsts(firsts(&run.table, first, second)),
-        "len" => Answer::Count(run.table.len()),
-        "empty" => Answer::Flag(run.table.is_empty()),
-        _ => Answer::NoCall,
+fn say_table(rt: &HostRuntime, run: &mut Run, line: &str) -> io::Result<()> {
+    let (first, second) = (number(line, 1), number(line, 2));
+    match word(line, 0) {
+        "queued" => tell(rt, line, &run.arrive(Place::Queued(first), 3)),
+        "held" => tell(rt, line, &run.arrive(Place::Held, 3)),
+        "assign" => tell(rt, line, &run.assign(first)),
+        "run" => tell(rt, line, &run.begin(first)),
+        "end" => tell(rt, line, &run.end(first)),
+        "lose" => tell(rt, line, &run.lose(first)),
+        "get" => tell(rt, line, &run.table.get(first)),
+        "firsts" => tell(rt, line, &firsts(&run.table, first, second)),
+        "len" => tell(rt, line, &run.table.len()),
+        "empty" => tell(rt, line, &run.table.is_empty()),
+        _ => tell_word(rt, line, "no such call"),
     }
 }

@@ -85,9 +85,13 @@ impl Run {
 /// What the calls that only look answer: who is the first that is held, that waits, that is due after ten
 /// milliseconds, and that is at the pod.
 pub fn firsts(table: &Table, p: u64, time: u64) -> [Option<u64>; 4] {
+    let waiting = match table.first_waiting() {
+        Some(request) => Some(request.number),
+        None => None,
+    };
     [
         table.first_held(),
-        table.first_waiting().map(|request| request.number),
+        waiting,
         table.first_due(10, time),
         table.first_at(p),
     ]

@@ -1,6 +1,7 @@
 //! The seats at pods. Each case answers `ok`, or what isn't so.
 ghost use Rattle.std.specs.Prelude.{◌≡◌, []};
 
+use crate::outcome::first_wrong;
 use kn_seats::Seats;
 use std::alloc::Global;
 
@@ -63,23 +64,18 @@ fn cut_limit(seats: &mut Seats) -> &'static str
 {
     seats.add(3, 2);
     seats.add(7, 0);
-    if !seats.reserve_seat(3) {
-        return "one runs at pod 3";
-    }
-    if !seats.reserve_seat(3) {
-        return "two run at pod 3";
-    }
+    let (one, two) = (seats.reserve_seat(3), seats.reserve_seat(3));
     seats.set_limit(3, 1);
-    if seats.reserve_seat(3) {
-        return "pod 3 has no free seat";
-    }
+    let three = seats.reserve_seat(3);
     let pod = [seats.limit(3), seats.running(3), seats.queued(3)];
     let other = [seats.limit(7), seats.running(7), seats.queued(7)];
-    if pod == [1, 2, 0] && other == [0, 0, 0] {
-        "ok"
-    } else {
-        "pod 3 alone is changed"
-    }
+    let alone = pod == [1, 2, 0] && other == [0, 0, 0];
+    first_wrong(&[
+        (one, "one runs at pod 3"),
+        (two, "two run at pod 3"),
+        (!three, "pod 3 has no free seat"),
+        (alone, "pod 3 alone is changed"),
+    ])
 }
 
 fn drain_other(seats: &mut Seats) -> &'static str

@@ -22,45 +22,34 @@ const fn closed(first: Option<Run>, rest: Option<Run>) -> Closed {
     Closed { first, rest }
 }
 
-/// A change at a later time. Answers what closed before it.
-fn step(meter: &mut Meter, time: u64, change: Change) -> Option<Closed> {
-    let closed = meter.advance(time, true)?;
-    meter.change(change)?;
-    Some(closed)
-}
-
-fn steps_of_one(meter: &mut Meter) -> Option<[Closed; 4]> {
-    let before = step(meter, 500, Change::Admitted)?;
-    let held = step(meter, 700, Change::Assigned(0))?;
-    let over = step(meter, 2500, Change::EndedAt(0, true))?;
-    Some([before, held, over, meter.advance(3000, true)?])
+/// Whether this closes up to a later time, and the change there is allowed.
+fn closes(meter: &mut Meter, time: u64, change: Change, closed: Closed) -> bool {
+    meter.advance(time, true) == Some(closed) && meter.change(change).is_some()
 }
 
 /// What closes with each step of one request.
-fn one_request(alloc: Global) -> Option<[Closed; 4]> {
-    let mut meter = Meter::new(alloc, 0, Metric::Concurrency)?;
-    steps_of_one(&mut meter)
+fn one_request(meter: &mut Meter) -> bool {
+    let last = closed(run(2, 500, 0), None);
+    let middle = closed(run(0, 500, 1), run(1, 1000, 0));
+    closes(meter, 500, Change::Admitted, closed(None, None))
+        && closes(meter, 700, Change::Assigned(0), closed(None, None))
+        && closes(meter, 2500, Change::EndedAt(0, true), middle)
+        && meter.advance(3000, true) == Some(last)
 }
 
-/// The area of pod 0 at a later time.
-fn area_at(meter: &mut Meter, time: u64) -> Option<PodArea> {
-    let _ = meter.advance(time, true)?;
-    Some(meter.area(0))
-}
-
-fn areas_of_one(meter: &mut Meter) -> Option<[PodArea; 3]> {
-    let _ = step(meter, 500, Change::Admitted)?;
-    let _ = step(meter, 700, Change::Assigned(0))?;
-    let early = area_at(meter, 900)?;
-    meter.change(Change::Directed(0))?;
-    let late = area_at(meter, 950)?;
-    Some([early, late, area_at(meter, 1100)?])
+/// Whether pod 0 took this at a later time.
+fn takes(meter: &mut Meter, time: u64, area: u64, proxied: u64) -> bool {
+    meter.advance(time, true).is_some() && meter.area(0) == PodArea { area, proxied }
 }
 
 /// What pod 0 took at 900, at 950 and at 1,100, with one request from 700 on and one straight from 900 on.
-fn one_pod(alloc: Global) -> Option<[PodArea; 3]> {
-    let mut meter = Meter::new(alloc, 0, Metric::Concurrency)?;
-    areas_of_one(&mut meter)
+fn one_pod(meter: &mut Meter) -> bool {
+    closes(meter, 500, Change::Admitted, closed(None, None))
+        && closes(meter, 700, Change::Assigned(0), closed(None, None))
+        && takes(meter, 900, 200, 200)
+        && meter.change(Change::Directed(0)).is_some()
+        && takes(meter, 950, 300, 250)
+        && takes(meter, 1100, 200, 100)
 }
 
 /// What closes where a pod left that had a request from 500 to 900.
@@ -124,25 +113,50 @@ fn after_arrivals(sampled: bool, arrived: u64) -> Option<Closed> {
     Some(closed(Some(first), Some(rest)))
 }
 
-/// A request comes to the pod and ends at once.
-fn name_pod(meter: &mut Meter, p: u64) -> Option<()> {
-    meter.change(Change::Directed(p))?;
-    meter.change(Change::EndedAt(p, false))
+/// Whether a request comes to the pod and ends at once.
+fn names_pod(meter: &mut Meter, p: u64) -> bool {
+    meter.change(Change::Directed(p)).is_some() && meter.change(Change::EndedAt(p, false)).is_some()
 }
 
-fn name_most(meter: &mut Meter) -> Option<[u64; 2]> {
-    for k in 0..20_499 {
-        name_pod(meter, k * 7919 % 20_500)?;
+fn names_all(meter: &mut Meter, pods: u64) -> bool {
+    for k in 0..pods {
+        if !names_pod(meter, k % 20_500 * 7919 % 20_500) {
+            return false;
+        }
     }
-    meter.change(Change::Directed(20_499 * 7919 % 20_500))?;
-    let _ = meter.advance(250, false)?;
-    Some([meter.area(12_581).area, meter.area(20_499).area])
+    true
 }
 
 /// What two pods took by 250 where 20,500 are named: one with a request, the last to be named, and one whose request ended.
-fn most_pods(alloc: Global) -> Option<[u64; 2]> {
-    let mut meter = Meter::new(alloc, 0, Metric::Concurrency)?;
-    name_most(&mut meter)
+fn most_pods(meter: &mut Meter) -> bool {
+    names_all(meter, 20_499)
+        && meter.change(Change::Directed(12_581)).is_some()
+        && meter.advance(250, false).is_some()
+        && meter.area(12_581).area == 250
+        && meter.area(20_499).area == 0
+}
+
+/// A case over a meter that is new.
+#[derive(Clone, Copy)]
+enum Case {
+    OneRequest,
+    OnePod,
+    MostPods,
+}
+
+fn holds(meter: &mut Meter, case: Case) -> bool {
+    match case {
+        Case::OneRequest => one_request(meter),
+        Case::OnePod => one_pod(meter),
+        Case::MostPods => most_pods(meter),
+    }
+}
+
+fn metered(alloc: Global, case: Case) -> bool {
+    match Meter::new(alloc, 0, Metric::Concurrency) {
+        Some(mut meter) => holds(&mut meter, case),
+        None => false,
+    }
 }
 
 pub fn arrivals(alloc: Global) -> [Outcome; 4] {
@@ -168,23 +182,12 @@ pub fn arrivals(alloc: Global) -> [Outcome; 4] {
     ]
 }
 
-const fn area(area: u64, proxied: u64) -> PodArea {
-    PodArea { area, proxied }
-}
-
 pub fn cases(alloc: Global) -> [Outcome; 4] {
-    let seconds = [
-        closed(None, None),
-        closed(None, None),
-        closed(run(0, 500, 1), run(1, 1000, 0)),
-        closed(run(2, 500, 0), None),
-    ];
-    let areas = [area(200, 200), area(300, 250), area(200, 100)];
     let left = closed(run(0, 400, 1), None);
     [
-        ("one request's seconds", one_request(alloc) == Some(seconds)),
-        ("a pod's areas", one_pod(alloc) == Some(areas)),
+        ("one request's seconds", metered(alloc, Case::OneRequest)),
+        ("a pod's areas", metered(alloc, Case::OnePod)),
         ("a pod that left", pod_that_left(alloc) == Some(left)),
-        ("room for 20,500 pods", most_pods(alloc) == Some([250, 0])),
+        ("room for 20,500 pods", metered(alloc, Case::MostPods)),
     ]
 }

@@ -24,17 +24,22 @@ fn say_all(rt: &HostRuntime, pods: &mut Scaled) -> io::Result<()> {
     Ok(())
 }
 
-/// What the lines of standard input become, each printed.
-fn worked_rows(rt: &HostRuntime) -> io::Result<()> {
+/// What the lines of standard input become, each printed; and then other pods, as many as there may be.
+fn say_pods(rt: &HostRuntime, pods: &mut Scaled) -> io::Result<()> {
+    say_all(rt, pods)?;
+    pods.reopen(rt.alloc());
+    tell(rt, &pods::most(pods))
+}
+
+fn pods_alone(rt: &HostRuntime) -> io::Result<()> {
     match Scaled::new(rt.alloc()) {
-        Some(mut pods) => say_all(rt, &mut pods),
+        Some(mut pods) => say_pods(rt, &mut pods),
         None => tell(rt, &[("pods, no memory", false)]),
     }
 }
 
 fn main(rt: HostRuntime) -> io::Result<()> {
-    worked_rows(&rt)?;
-    pods::most_pods(&rt)?;
+    pods_alone(&rt)?;
     tell(&rt, &areas::cases(rt.alloc()))?;
     tell(&rt, &areas::arrivals(rt.alloc()))?;
     recount::compare(&rt)?;

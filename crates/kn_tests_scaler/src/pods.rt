@@ -1,42 +1,52 @@
 //! The pods of a revision. Each has a limit of 7, and each call is made at time 5.
-use crate::outcome::{Outcome, tell};
+use crate::outcome::Outcome;
 use kn_event::{Entry, EntryLog, Line, Row, entry_line};
 use kn_pods::{PodAnswer, Pods};
 use std::alloc::Global;
-use std::fmt::{Display, Formatter, Write};
-use std::{fmt, io};
+use std::io;
 
-/// Prints the entry as a report has it.
-fn say_entry(rt: &HostRuntime, before: &str, entry: &Entry) -> io::Result<()> {
+/// Adds a word, where there is room.
+fn put(text: &mut Line, word: &str) {
+    if text.bytes().len() <= 900 && word.len() <= 100 {
+        text.put(word.as_bytes());
+    }
+}
+
+fn put_number(text: &mut Line, number: u64) {
+    if text.bytes().len() <= 900 {
+        text.put_integer(number);
+    }
+}
+
+fn put_next(text: &mut Line, next: Option<u64>) {
+    match next {
+        Some(p) => put_number(text, p),
+        None => put(text, "none"),
+    }
+}
+
+fn put_flag(text: &mut Line, flag: bool) {
+    put(text, if flag { "true" } else { "false" });
+}
+
+/// Adds the entry as a report has it.
+fn put_entry(text: &mut Line, entry: &Entry) {
     let mut line = Line::new();
     entry_line(entry, &mut line);
-    let text = str::from_utf8(line.bytes()).unwrap_or("").trim_end();
-    print!(rt; "{before}{text}")
+    put(text, str::from_utf8(line.bytes()).unwrap_or("").trim_end());
 }
 
-/// Prints the rows, one after the other.
-fn say_entries(rt: &HostRuntime, entries: &[Entry]) -> io::Result<()> {
-    if entries.is_empty() {
-        return println!(rt; "none");
-    }
+/// Adds the rows, one after the other.
+fn put_entries(text: &mut Line, entries: &[Entry]) {
     let mut before = "";
     for entry in entries {
-        say_entry(rt, before, entry)?;
+        put(text, before);
+        put_entry(text, entry);
         before = ", ";
     }
-    println!(rt; "")
-}
-
-/// What a call answers.
-#[derive(Clone, Copy)]
-enum Answer {
-    NoCall,
-    Ready(PodAnswer),
-    Next(Option<u64>),
-    Count(u64),
-    Flag(bool),
-    /// Whether the pod drained, and whether it does once it is removed.
-    Removed(bool, bool),
+    if entries.is_empty() {
+        put(text, "none");
+    }
 }
 
 fn ready_word(answer: PodAnswer) -> &'static str {
@@ -47,31 +57,22 @@ fn ready_word(answer: PodAnswer) -> &'static str {
     }
 }
 
-impl Display for Answer {
-    fn fmt<W: Write>(&self, f: &mut Formatter<W>) -> fmt::Result {
-        match self {
-            Answer::NoCall => f.write_str("no such call"),
-            Answer::Ready(answer) => f.write_str(ready_word(*answer)),
-            Answer::Next(None) => f.write_str("none"),
-            Answer::Next(Some(count)) | Answer::Count(count) => write!(f, "{count}"),
-            Answer::Flag(flag) => write!(f, "{flag}"),
-            Answer::Removed(before, after) => write!(f, "draining {before}, then {after}"),
-        }
-    }
-}
-
 /// Pods, and the rows of the last scale.
-#[derive(Drop)]
 pub struct Scaled {
     pods: Pods,
     log: EntryLog,
 }
 
+impl Drop for Scaled {
+    fn drop(self) {
+        let Scaled { pods: _, log: _ } = self;
+    }
+}
+
 impl Scaled {
     pub fn new(alloc: Global) -> Option<Scaled> {
-        let log = EntryLog::new(alloc).ok()?;
-        match Pods::new(alloc) {
-            Ok(pods) => Some(Scaled { pods, log }),
+        match EntryLog::new(alloc) {
+            Ok(log) => with_log(alloc, log),
             Err(_) => None,
         }
     }
@@ -94,39 +95,44 @@ impl Scaled {
         (true, self.pods.is_draining(p))
     }
 
-    /// The answer to a call and its number.
-    fn answer(&mut self, verb: &str, number: u64) -> Answer {
+    /// Adds the answer to a call and its number.
+    fn answer(&mut self, verb: &str, number: u64, text: &mut Line) {
         match verb {
-            "ready" => Answer::Ready(self.pods.ready(number)),
-            "next-starting" => Answer::Next(self.pods.next_starting(number)),
-            "count-ready" => Answer::Count(self.pods.count_ready()),
-            "live" => Answer::Flag(self.pods.live(number)),
-            "lost" => Answer::Flag(self.pods.lost(number)),
-            "remove" => self.removed(number),
-            _ => Answer::NoCall,
+            "scale" => self.scaled(number, text),
+            "ready" => put(text, ready_word(self.pods.ready(number))),
+            "next-starting" => put_next(text, self.pods.next_starting(number)),
+            "count-ready" => put_number(text, self.pods.count_ready()),
+            "live" => put_flag(text, self.pods.live(number)),
+            "lost" => put_flag(text, self.pods.lost(number)),
+            "remove" => self.removed(number, text),
+            _ => put(text, "no such call"),
         }
     }
 
-    fn removed(&mut self, p: u64) -> Answer {
+    fn scaled(&mut self, want: u64, text: &mut Line) {
+        self.scale(want);
+        put_entries(text, self.log.entries());
+    }
+
+    fn removed(&mut self, p: u64, text: &mut Line) {
         let (before, after) = self.remove(p);
-        Answer::Removed(before, after)
+        put(text, "draining ");
+        put_flag(text, before);
+        put(text, ", then ");
+        put_flag(text, after);
     }
 
     /// Prints a call with its answer.
     fn say_call(&mut self, rt: &HostRuntime, line: &str) -> io::Result<()> {
         let (verb, number) = line.trim_start().split_once(' ').unwrap_or((line, ""));
-        let number = number.parse().unwrap_or(0);
-        if verb == "scale" {
-            self.scale(number);
-            print!(rt; "{line}: ")?;
-            return say_entries(rt, self.log.entries());
-        }
-        let answer = self.answer(verb, number);
+        let mut text = Line::new();
+        self.answer(verb, number.parse().unwrap_or(0), &mut text);
+        let answer = str::from_utf8(text.bytes()).unwrap_or("");
         println!(rt; "{line}: {answer}")
     }
 
     /// Other pods take the place of these, if there is memory.
-    fn reopen(&mut self, alloc: Global) {
+    pub fn reopen(&mut self, alloc: Global) {
         if let Ok(pods) = Pods::new(alloc) {
             self.pods = pods;
         }
@@ -139,6 +145,13 @@ impl Scaled {
         }
         self.reopen(rt.alloc());
         println!(rt; "{line}")
+    }
+}
+
+fn with_log(alloc: Global, log: EntryLog) -> Option<Scaled> {
+    match Pods::new(alloc) {
+        Ok(pods) => Some(Scaled { pods, log }),
+        Err(_) => None,
     }
 }
 
@@ -174,7 +187,8 @@ fn makes(scaled: &mut Scaled, pod: u64) -> bool {
     }
 }
 
-fn most(scaled: &mut Scaled) -> [Outcome; 6] {
+/// As many pods as there may be: 20,000 drain, and 500 more come and drain too.
+pub fn most(scaled: &mut Scaled) -> [Outcome; 6] {
     [
         ("most pods, scales", turn_over(scaled, 82) == 82),
         ("most pods, created", scaled.pods.count_created() == 20_500),
@@ -186,12 +200,4 @@ fn most(scaled: &mut Scaled) -> [Outcome; 6] {
         ("most pods, left", scaled.pods.count_draining() == 0),
         ("most pods, next", makes(scaled, 20_500)),
     ]
-}
-
-/// As many pods as there may be: 20,000 drain, and 500 more come and drain too.
-pub fn most_pods(rt: &HostRuntime) -> io::Result<()> {
-    match Scaled::new(rt.alloc()) {
-        Some(mut scaled) => tell(rt, &most(&mut scaled)),
-        None => tell(rt, &[("most pods, no memory", false)]),
-    }
 }

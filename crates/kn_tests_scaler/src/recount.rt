@@ -16,7 +16,8 @@ struct Request {
 }
 
 fn overlap(from: u64, until: u64, start: u64, end: Option<u64>) -> u64 {
-    end.map_or(until, |end| end.min(until))
+    end.unwrap_or(until)
+        .min(until)
         .saturating_sub(start.max(from))
 }
 
@@ -27,6 +28,17 @@ fn taken(requests: &[Request], from: u64, until: u64) -> u64 {
         sum = sum.saturating_add(overlap(from, until, r.start, r.end));
     }
     sum
+}
+
+/// How many came in this second.
+fn arrivals(requests: &[Request], second: u64) -> u64 {
+    let mut count: u64 = 0;
+    for r in requests {
+        if r.start / 1000 == second {
+            count = count.saturating_add(1);
+        }
+    }
+    count
 }
 
 /// What those at this pod took of it, all or those that came through the activator.
@@ -87,7 +99,6 @@ fn pause(word: u64) -> u64 {
 }
 
 /// All requests so far beside what is measured of them, and how many answers were right and wrong.
-#[derive(Drop)]
 struct Recount {
     metric: Metric,
     meter: Meter,
@@ -96,15 +107,30 @@ struct Recount {
     wrong: u64,
 }
 
+impl Drop for Recount {
+    fn drop(self) {
+        let Recount {
+            metric: _,
+            meter: _,
+            requests: _,
+            right: _,
+            wrong: _,
+        } = self;
+    }
+}
+
 impl Recount {
     fn new(alloc: Global, metric: Metric) -> Option<Recount> {
-        Some(Recount {
-            metric,
-            meter: Meter::new(alloc, 1234, metric)?,
-            requests: Vec::new(alloc),
-            right: 0,
-            wrong: 0,
-        })
+        match Meter::new(alloc, 1234, metric) {
+            Some(meter) => Some(Recount {
+                metric,
+                meter,
+                requests: Vec::new(alloc),
+                right: 0,
+                wrong: 0,
+            }),
+            None => None,
+        }
     }
 
     fn judge(&mut self, is_right: bool) {
@@ -122,11 +148,7 @@ impl Recount {
         }
         let begin = from.saturating_mul(1000);
         let load = taken(&self.requests, begin, begin.saturating_add(1000));
-        let arrived = self
-            .requests
-            .iter()
-            .filter(|r| r.start / 1000 == from)
-            .count() as u64;
+        let arrived = arrivals(&self.requests, from);
         let sampled = load > 0 || ready || arrived > 0 && self.metric == Metric::Rps;
         Some(Run {
             second: from,
@@ -174,20 +196,24 @@ impl Recount {
         Some(())
     }
 
-    /// One more request, that came now.
+    /// One more request, that came now: through the activator, or straight to a pod.
     fn begin(&mut self, pod: Option<u64>) -> Option<Change> {
         let start = self.meter.time();
+        let (change, place) = match pod {
+            None => (Change::Admitted, None),
+            Some(p) => (Change::Directed(p), Some((p, start))),
+        };
         let request = Request {
             start,
             end: None,
-            pod: pod.map(|p| (p, start)),
+            pod: place,
             proxied: pod.is_none(),
         };
-        self.requests.push(request).ok()?;
-        Some(match pod {
-            None => Change::Admitted,
-            Some(p) => Change::Directed(p),
-        })
+        if self.requests.push(request).is_ok() {
+            Some(change)
+        } else {
+            None
+        }
     }
 
     /// The change that the word picks, if it picks one, and what it makes of the requests.
@@ -212,23 +238,29 @@ impl Recount {
     }
 }
 
-fn turns(recount: &mut Recount) -> Option<(u64, u64)> {
+/// Goes through 400 turns, at each of which five answers are compared.
+fn turns(recount: &mut Recount) {
     for k in 0..400 {
-        recount.turn(mixed(k))?;
+        if recount.turn(mixed(k)).is_none() {
+            return;
+        }
     }
-    Some((recount.right, recount.wrong))
 }
 
-/// How many answers were right and wrong in 400 turns, at each of which five are compared.
-fn recounted(alloc: Global, metric: Metric) -> Option<(u64, u64)> {
-    let mut recount = Recount::new(alloc, metric)?;
-    turns(&mut recount)
+fn say(rt: &HostRuntime, name: &str, recount: &mut Recount) -> io::Result<()> {
+    turns(recount);
+    let (right, wrong) = (recount.right, recount.wrong);
+    println!(rt; "requests by {name}: {right} right, {wrong} wrong")
+}
+
+fn recounted(rt: &HostRuntime, name: &str, metric: Metric) -> io::Result<()> {
+    match Recount::new(rt.alloc(), metric) {
+        Some(mut recount) => say(rt, name, &mut recount),
+        None => println!(rt; "requests by {name}: no memory"),
+    }
 }
 
 pub fn compare(rt: &HostRuntime) -> io::Result<()> {
-    for (name, metric) in [("concurrency", Metric::Concurrency), ("rps", Metric::Rps)] {
-        let (right, wrong) = recounted(rt.alloc(), metric).unwrap_or((0, 0));
-        println!(rt; "requests by {name}: {right} right, {wrong} wrong")?;
-    }
-    Ok(())
+    recounted(rt, "concurrency", Metric::Concurrency)?;
+    recounted(rt, "rps", Metric::Rps)
 }

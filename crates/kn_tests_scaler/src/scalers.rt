@@ -68,96 +68,90 @@ fn scaled(alloc: Global, initial: u64) -> Option<Spec>
     Some(spec)
 }
 
-/// What one says of itself as it opens: phase, mode, pods wanted, and the decision of a tick.
-fn first_words(scaler: &mut Scaler) -> (Phase, Mode, u64, Option<Ruled>)
+/// What one that opens with no pod says of itself: phase, mode, pods wanted, and the decision of a tick.
+fn opens(scaler: &mut Scaler) -> bool
     requires { scaler.old.stats.time ≡ 0 }
 {
-    let (phase, mode, want) = (scaler.phase(), scaler.mode(), scaler.want());
-    (phase, mode, want, scaler.tick(0, 0))
+    scaler.phase() == Phase::Inactive
+        && scaler.mode() == Mode::Proxy
+        && scaler.want() == 0
+        && scaler.tick(0, 0).is_none()
 }
 
-fn open_by(alloc: Global, spec: &Spec) -> Option<(Phase, Mode, u64, Option<Ruled>)>
-    requires { spec.now.kind ≡ kind.Kpa }
-{
-    match Scaler::new(alloc, spec, 0) {
-        Ok(mut scaler) => Some(first_words(&mut scaler)),
-        Err(_) => None,
-    }
-}
-
-/// What one that opens with no pod says of itself.
-fn opened(alloc: Global) -> Option<(Phase, Mode, u64, Option<Ruled>)> {
-    let spec = scaled(alloc, 0)?;
-    open_by(alloc, &spec)
-}
-
-fn wake_first(scaler: &mut Scaler, spec: &Spec) -> (Ruled, bool)
+/// With no pod wanted, the first request that is admitted wakes the revision; then a pod is Ready.
+fn wakes(scaler: &mut Scaler, spec: &Spec) -> bool
     requires stands { StandsFor spec.now scaler.old (opening spec.now 0) }
     requires time { scaler.old.stats.time ≡ 0 }
     requires slots { 0 < spec.now.slots.depth + spec.now.slots.max }
 {
     admit_first(scaler, spec, 500);
-    let ruled = scaler.wake(500, 0);
-    (ruled, scaler.pod_ready(500, 1))
+    let waking = Ruled {
+        decision: two_pods(1, 1),
+        phase: Some(Phase::Activating),
+        mode: None,
+    };
+    scaler.wake(500, 0) == waking && scaler.pod_ready(500, 1)
 }
 
-fn wake_by(alloc: Global, spec: &Spec) -> Option<(Ruled, bool)>
-    requires kind { spec.now.kind ≡ kind.Kpa }
-    requires slots { 0 < spec.now.slots.depth + spec.now.slots.max }
-{
-    match Scaler::new(alloc, spec, 0) {
-        Ok(mut scaler) => Some(wake_first(&mut scaler, spec)),
-        Err(_) => None,
-    }
-}
-
-/// With no pod wanted, the first request that is admitted wakes the revision; then a pod is Ready.
-fn woken(alloc: Global) -> Option<(Ruled, bool)> {
-    let spec = scaled(alloc, 0)?;
-    wake_by(alloc, &spec)
-}
-
-fn hold_first(scaler: &mut Scaler, spec: &Spec) -> Option<Ruled>
+/// A request that is held from half a second on takes half of that one and all of the next.
+fn holds(scaler: &mut Scaler, spec: &Spec) -> bool
     requires stands { StandsFor spec.now scaler.old (opening spec.now 0) }
     requires time { scaler.old.stats.time ≡ 0 }
     requires slots { 0 < spec.now.slots.depth + spec.now.slots.max }
 {
     admit_first(scaler, spec, 500);
     scaler.advance(2000, false);
-    scaler.tick(2000, 0)
-}
-
-fn hold_by(alloc: Global, spec: &Spec) -> Option<Ruled>
-    requires kind { spec.now.kind ≡ kind.Kpa }
-    requires slots { 0 < spec.now.slots.depth + spec.now.slots.max }
-{
-    match Scaler::new(alloc, spec, 0) {
-        Ok(mut scaler) => hold_first(&mut scaler, spec),
-        Err(_) => None,
-    }
-}
-
-/// A request that is held from half a second on takes half of that one and all of the next.
-fn held(alloc: Global) -> Option<Ruled> {
-    let spec = scaled(alloc, 1)?;
-    hold_by(alloc, &spec)
-}
-
-pub fn cases(alloc: Global) -> [Outcome; 3] {
-    let nothing = (Phase::Inactive, Mode::Proxy, 0, None);
-    let waking = Ruled {
-        decision: two_pods(1, 1),
-        phase: Some(Phase::Activating),
-        mode: None,
-    };
     let holding = Ruled {
         decision: two_pods(1500, 2000),
         phase: None,
         mode: None,
     };
+    scaler.tick(2000, 0) == Some(holding)
+}
+
+#[derive(Clone, Copy)]
+enum Case {
+    Opens,
+    Wakes,
+    Holds,
+}
+
+fn goes_well(scaler: &mut Scaler, spec: &Spec, case: Case) -> bool
+    requires stands { StandsFor spec.now scaler.old (opening spec.now 0) }
+    requires time { scaler.old.stats.time ≡ 0 }
+    requires slots { 0 < spec.now.slots.depth + spec.now.slots.max }
+{
+    match case {
+        Case::Opens => opens(scaler),
+        Case::Wakes => wakes(scaler, spec),
+        Case::Holds => holds(scaler, spec),
+    }
+}
+
+fn by_spec(alloc: Global, spec: &Spec, case: Case) -> bool
+    requires kind { spec.now.kind ≡ kind.Kpa }
+    requires slots { 0 < spec.now.slots.depth + spec.now.slots.max }
+{
+    match Scaler::new(alloc, spec, 0) {
+        Ok(mut scaler) => goes_well(&mut scaler, spec, case),
+        Err(_) => false,
+    }
+}
+
+/// Of a revision that opens with so many pods.
+fn scales(alloc: Global, initial: u64, case: Case) -> bool
+    requires { initial ≤ 1 }
+{
+    match scaled(alloc, initial) {
+        Some(spec) => by_spec(alloc, &spec, case),
+        None => false,
+    }
+}
+
+pub fn cases(alloc: Global) -> [Outcome; 3] {
     [
-        ("opens with no pod", opened(alloc) == Some(nothing)),
-        ("scale from zero", woken(alloc) == Some((waking, true))),
-        ("areas of one request", held(alloc) == Some(holding)),
+        ("opens with no pod", scales(alloc, 0, Case::Opens)),
+        ("scale from zero", scales(alloc, 0, Case::Wakes)),
+        ("areas of one request", scales(alloc, 1, Case::Holds)),
     ]
 }

@@ -56,6 +56,18 @@ impl Driver {
         })
     }
 
+    /// Another throttler in place of this one, if there is memory. Whether there was.
+    pub fn reopen(&mut self, alloc: Global, setting: &Setting) -> bool {
+        match with_pods(alloc, setting) {
+            Ok(throttle) => {
+                self.throttle = throttle;
+                self.clock = 0;
+                true
+            }
+            Err(_) => false,
+        }
+    }
+
     /// Its clock goes on to this time.
     pub fn at(&mut self, time: u64) {
         self.clock = self.clock.max(time);
@@ -143,22 +155,28 @@ fn arrival_row(r: u64, arrival: Arrival) -> Row {
     }
 }
 
-fn without_pods(alloc: Global, setting: &Setting) -> Result<Throttle, Memory>
+/// A throttler to which nothing has come. What is out of range is taken as the nearest that is not.
+pub fn without_pods(
+    alloc: Global,
+    cc: u64,
+    timeout_s: u64,
+    slots: Slots,
+) -> Result<Throttle, Memory>
     ensures { IfOk result (λ t. t.admission ≡ nothing_yet) }
 {
     let slots = Slots {
-        depth: setting.slots.depth.clamp(1, 10_000),
-        max: setting.slots.max.clamp(1, 1_000),
-        seed: setting.slots.seed,
+        depth: slots.depth.clamp(1, 10_000),
+        max: slots.max.clamp(1, 1_000),
+        seed: slots.seed,
     };
-    let spec = Spec::fixed(alloc, setting.cc.min(1_000), 0, 1, slots)?;
+    let spec = Spec::fixed(alloc, cc.min(1_000), 1, timeout_s.clamp(1, 3_600), slots)?;
     Throttle::new(alloc, &spec)
 }
 
 fn with_pods(alloc: Global, setting: &Setting) -> Result<Throttle, Memory>
     ensures { IfOk result (λ t. AreTimed 0 t.admission) }
 {
-    let mut throttle = without_pods(alloc, setting)?;
+    let mut throttle = without_pods(alloc, setting.cc, 1, setting.slots)?;
     add_pods(&mut throttle, setting);
     Ok(throttle)
 }

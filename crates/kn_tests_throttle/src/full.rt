@@ -3,13 +3,12 @@ ghost use Rattle.std.specs.Prelude.{◌<◌};
 
 use crate::driver::{Call, Driver, Setting};
 use crate::outcome::{Outcome, tell};
-use kn_event::{Memory, Row, Slots, Stand};
-use std::alloc::Global;
+use kn_event::{Row, Slots, Stand};
 use std::io;
 
 /// Three Ready pods of this limit, which is the containerConcurrency too, where so many may wait and one may run.
-fn open(alloc: Global, limit: u64, depth: u64) -> Result<Driver, Memory> {
-    let setting = Setting {
+const fn three_pods(limit: u64, depth: u64) -> Setting {
+    Setting {
         pods: 3,
         limit,
         drains: 0,
@@ -19,8 +18,7 @@ fn open(alloc: Global, limit: u64, depth: u64) -> Result<Driver, Memory> {
             max: 1,
             seed: 7,
         },
-    };
-    Driver::open(alloc, &setting)
+    }
 }
 
 /// How many of so many requests run at the pods by turns, one after the other.
@@ -96,10 +94,11 @@ fn sweep(driver: &mut Driver) -> [Outcome; 6] {
 
 /// At pods without a limit 20,000 run, and the next one is refused. Then each that ends makes room for one, for 50,000
 /// more: the table is swept on the way, and each request is found before and after.
-pub fn full_and_swept(rt: &HostRuntime) -> io::Result<()> {
-    match open(rt.alloc(), 0, 1) {
-        Ok(mut driver) => tell(rt, &sweep(&mut driver)),
-        Err(_) => tell(rt, &[("full table, no memory", false)]),
+pub fn full_and_swept(rt: &HostRuntime, driver: &mut Driver) -> io::Result<()> {
+    if driver.reopen(rt.alloc(), &three_pods(0, 1)) {
+        tell(rt, &sweep(driver))
+    } else {
+        tell(rt, &[("full table, no memory", false)])
     }
 }
 
@@ -154,9 +153,10 @@ fn pass(driver: &mut Driver) -> [Outcome; 5] {
 
 /// One may run in all, and a thousand come: of each two the later gives up and the earlier is assigned when the slot
 /// is free, so the first that is held is found past those that gave up.
-pub fn cursors_pass_who_gave_up(rt: &HostRuntime) -> io::Result<()> {
-    match open(rt.alloc(), 1, 2_000) {
-        Ok(mut driver) => tell(rt, &pass(&mut driver)),
-        Err(_) => tell(rt, &[("cursors, no memory", false)]),
+pub fn cursors_pass_who_gave_up(rt: &HostRuntime, driver: &mut Driver) -> io::Result<()> {
+    if driver.reopen(rt.alloc(), &three_pods(1, 2_000)) {
+        tell(rt, &pass(driver))
+    } else {
+        tell(rt, &[("cursors, no memory", false)])
     }
 }

@@ -1,11 +1,12 @@
 //! A pod comes, its limit is cut, and it is lost with its request.
-ghost use Rattle.std.specs.Prelude.{◌≡◌, [], true, IfOk};
+ghost use Rattle.std.specs.Prelude.{◌≡◌, [], true};
 ghost use Rattle.kn_trace.specs.Trace.{contains};
 ghost use Rattle.kn_record.specs.Admission.{nothing_yet};
 ghost use Rattle.kn_record.specs.Views.{pod_numbers};
 
+use crate::driver::without_pods;
 use crate::outcome::{Outcome, tell};
-use kn_event::{EntryLog, Memory, Mode, Slots, Spec};
+use kn_event::{EntryLog, Memory, Mode, Slots};
 use kn_throttle::{Arrival, Throttle};
 use std::alloc::Global;
 use std::io;
@@ -63,17 +64,12 @@ fn settle(alloc: Global, throttle: &mut Throttle) -> Result<usize, Memory> {
     Ok(log.entries().len())
 }
 
-fn new_throttle(alloc: Global) -> Result<Throttle, Memory>
-    ensures { IfOk result (λ t. t.admission ≡ nothing_yet) }
-{
-    let slots = Slots {
-        depth: 1,
-        max: 1,
-        seed: 7,
-    };
-    let spec = Spec::fixed(alloc, 1, 1, 300, slots)?;
-    Throttle::new(alloc, &spec)
-}
+/// One may wait and one may run.
+const ONE_EACH: Slots = Slots {
+    depth: 1,
+    max: 1,
+    seed: 7,
+};
 
 fn serve_and_lose(alloc: Global, throttle: &mut Throttle) -> [Outcome; 5]
     requires { throttle.old.admission ≡ nothing_yet }
@@ -96,7 +92,7 @@ fn serve_and_lose(alloc: Global, throttle: &mut Throttle) -> [Outcome; 5]
 }
 
 pub fn pod_is_lost(rt: &HostRuntime) -> io::Result<()> {
-    match new_throttle(rt.alloc()) {
+    match without_pods(rt.alloc(), 1, 300, ONE_EACH) {
         Ok(mut throttle) => tell(rt, &serve_and_lose(rt.alloc(), &mut throttle)),
         Err(_) => tell(rt, &[("lost pod, no memory", false)]),
     }

@@ -40,17 +40,21 @@ fn say_all(rt: &HostRuntime, driver: &mut Driver) -> io::Result<()> {
     Ok(())
 }
 
-/// The worked rows.
-fn worked_rows(rt: &HostRuntime) -> io::Result<()> {
+/// The worked rows, and then longer runs of the same driver with other pods.
+fn say_and_run(rt: &HostRuntime, driver: &mut Driver) -> io::Result<()> {
+    say_all(rt, driver)?;
+    full::full_and_swept(rt, driver)?;
+    full::cursors_pass_who_gave_up(rt, driver)
+}
+
+fn driven(rt: &HostRuntime) -> io::Result<()> {
     match Driver::open(rt.alloc(), &NO_PODS) {
-        Ok(mut driver) => say_all(rt, &mut driver),
+        Ok(mut driver) => say_and_run(rt, &mut driver),
         Err(_) => tell(rt, &[("rows, no memory", false)]),
     }
 }
 
 fn main(rt: HostRuntime) -> io::Result<()> {
-    worked_rows(&rt)?;
-    full::full_and_swept(&rt)?;
-    full::cursors_pass_who_gave_up(&rt)?;
+    driven(&rt)?;
     life::pod_is_lost(&rt)
 }

@@ -1,7 +1,6 @@
 //! A seeded mix of calls, beside what a plain program answers that was written from the definitions over all the rows.
-use crate::driver::{Call, Driver, Setting};
-use kn_event::{Memory, Row, Stand};
-use std::alloc::Global;
+use crate::driver::{Call, Driver};
+use kn_event::{Row, Stand};
 
 /// Folds a number into a digest.
 fn fold(digest: u64, number: u64) -> u64 {
@@ -39,10 +38,40 @@ fn fold_stand(digest: u64, stand: Stand) -> u64 {
     fold(fold(digest, kind), pod)
 }
 
+/// Whether it runs, or waits.
+fn is_so(stand: Stand, runs: bool) -> bool {
+    match stand {
+        Stand::Running(_) => runs,
+        Stand::Held => !runs,
+        Stand::Queued(_) => !runs,
+        _ => false,
+    }
+}
+
+/// The first one from `r` on that runs, or that waits, or else `r`.
+fn first_from(driver: &Driver, r: u64, runs: bool) -> u64 {
+    for q in r..driver.arrivals() {
+        if is_so(driver.stand(q), runs) {
+            return q;
+        }
+    }
+    r
+}
+
+/// One call of eight kinds.
+fn call_of(kind: u64, r: u64) -> Call {
+    match kind {
+        0..=1 => Call::Direct,
+        2..=3 => Call::Proxied,
+        4..=5 => Call::Finish(r),
+        6 => Call::Cancel(r),
+        _ => Call::Expire,
+    }
+}
+
 /// A mix of calls under way.
 #[derive(Drop)]
 struct Mix {
-    driver: Driver,
     /// The last random number.
     random: u64,
     calls: u64,
@@ -50,83 +79,53 @@ struct Mix {
 }
 
 impl Mix {
-    fn open(alloc: Global, setting: &Setting, seed: u64) -> Result<Mix, Memory> {
-        let mut mix = Mix {
-            driver: Driver::open(alloc, setting)?,
-            random: seed,
-            calls: 0,
-            digest: 0xcbf2_9ce4_8422_2325,
-        };
-        mix.settle();
-        Ok(mix)
-    }
-
-    fn settle(&mut self) {
-        for entry in self.driver.settle() {
+    fn settle(&mut self, driver: &mut Driver) {
+        for entry in driver.settle() {
             self.digest = fold_row(self.digest, &entry.row);
         }
     }
 
-    /// The first one from `r` on that runs, or that waits, or else `r`.
-    fn first_from(&self, r: u64, runs: bool) -> u64 {
-        for q in r..self.driver.arrivals() {
-            match self.driver.stand(q) {
-                Stand::Running(_) if runs => return q,
-                Stand::Held | Stand::Queued(_) if !runs => return q,
-                _ => {}
-            }
-        }
-        r
-    }
-
     /// A call that a random number picks, and what follows.
-    fn call(&mut self) {
+    fn call(&mut self, driver: &mut Driver) {
         self.random = self
             .random
             .wrapping_mul(6_364_136_223_846_793_005)
             .wrapping_add(1_442_695_040_888_963_407);
         let word = self.random >> 33;
-        self.driver
-            .at(self.calls.saturating_mul(100).saturating_add(word % 100));
+        driver.at(self.calls.saturating_mul(100).saturating_add(word % 100));
         self.calls = self.calls.saturating_add(1);
-        let near = self.driver.arrivals().saturating_sub(word / 1_024 % 64);
+        let near = driver.arrivals().saturating_sub(word / 1_024 % 64);
         let kind = word / 128 % 8;
-        let r = self.first_from(near, kind == 4 || kind == 5);
-        let call = match kind {
-            0..=1 => Call::Direct,
-            2..=3 => Call::Proxied,
-            4..=5 => Call::Finish(r),
-            6 => Call::Cancel(r),
-            _ => Call::Expire,
-        };
-        if let Some(row) = self.driver.call(call) {
+        let r = first_from(driver, near, kind == 4 || kind == 5);
+        if let Some(row) = driver.call(call_of(kind, r)) {
             self.digest = fold_row(self.digest, &row);
         }
-        self.settle();
-        let stood = fold_stand(self.digest, self.driver.stand(r));
-        self.digest = fold(stood, self.driver.live());
+        self.settle(driver);
+        let stood = fold_stand(self.digest, driver.stand(r));
+        self.digest = fold(stood, driver.live());
     }
 
-    fn hundred_calls(&mut self) -> u64 {
+    fn hundred_calls(&mut self, driver: &mut Driver) -> u64 {
         for _ in 0..100 {
-            self.call();
+            self.call(driver);
         }
         self.digest
-    }
-
-    fn four_hundred_calls(&mut self) -> [u64; 4] {
-        [
-            self.hundred_calls(),
-            self.hundred_calls(),
-            self.hundred_calls(),
-            self.hundred_calls(),
-        ]
     }
 }
 
 /// All the rows of a mix of 400 calls, where a request stands after each, and how many are live: a digest after each
 /// hundred.
-pub fn digests(alloc: Global, setting: &Setting, seed: u64) -> Result<[u64; 4], Memory> {
-    let mut mix = Mix::open(alloc, setting, seed)?;
-    Ok(mix.four_hundred_calls())
+pub fn digests(driver: &mut Driver, seed: u64) -> [u64; 4] {
+    let mut mix = Mix {
+        random: seed,
+        calls: 0,
+        digest: 0xcbf2_9ce4_8422_2325,
+    };
+    mix.settle(driver);
+    [
+        mix.hundred_calls(driver),
+        mix.hundred_calls(driver),
+        mix.hundred_calls(driver),
+        mix.hundred_calls(driver),
+    ]
 }

@@ -3,8 +3,7 @@ ghost use Rattle.std.specs.Prelude.{◌<◌};
 
 use crate::driver::{Call, Driver, Setting};
 use crate::mix::digests;
-use kn_event::Slots;
-use std::alloc::Global;
+use kn_event::{Entry, Row, Slots};
 use std::io;
 
 fn word(line: &str, place: usize) -> &str {
@@ -44,35 +43,42 @@ fn call_of(line: &str) -> Option<Call> {
     }
 }
 
-/// Prints the row that a call makes, if it makes one, and those that follow.
-fn say_rows(rt: &HostRuntime, driver: &mut Driver, call: Call) -> io::Result<()> {
-    match driver.call(call) {
-        Some(row) => print!(rt; "{row:?}"),
-        None => print!(rt; "no row"),
-    }?;
-    for entry in driver.settle() {
-        let row = &entry.row;
-        print!(rt; ", {row:?}")?;
+fn say_row(rt: &HostRuntime, before: &str, row: &Row) -> io::Result<()> {
+    print!(rt; "{before}{row:?}")
+}
+
+/// Prints the rows that follow a call.
+fn say_followers(rt: &HostRuntime, entries: &[Entry]) -> io::Result<()> {
+    for entry in entries {
+        say_row(rt, ", ", &entry.row)?;
     }
     println!(rt; "")
 }
 
+/// Prints the row that a call makes, if it makes one, and those that follow.
+fn say_rows(rt: &HostRuntime, driver: &mut Driver, call: Call) -> io::Result<()> {
+    match driver.call(call) {
+        Some(row) => say_row(rt, "", &row)?,
+        None => print!(rt; "no row")?,
+    }
+    say_followers(rt, driver.settle())
+}
+
 /// Prints the digests of a mix.
-fn say_digests(rt: &HostRuntime, line: &str) -> io::Result<()> {
-    let digests = digests(rt.alloc(), &setting(line, 3), number(line, 2));
-    let [a, b, c, d] = digests.unwrap_or([0; 4]);
+fn say_digests(rt: &HostRuntime, driver: &mut Driver, line: &str) -> io::Result<()> {
+    let mut made = [0; 4];
+    if driver.reopen(rt.alloc(), &setting(line, 3)) {
+        made = digests(driver, number(line, 2));
+    }
+    let [a, b, c, d] = made;
     println!(rt; "{line}: {a:016x} {b:016x} {c:016x} {d:016x}")
 }
 
-/// Another throttler in place of this one, if there is memory. Whether there was.
-fn reopen(alloc: Global, driver: &mut Driver, line: &str) -> bool {
-    match Driver::open(alloc, &setting(line, 0)) {
-        Ok(opened) => {
-            *driver = opened;
-            true
-        }
-        Err(_) => false,
-    }
+/// Prints a line that opens another throttler in place of this one.
+fn say_opened(rt: &HostRuntime, driver: &mut Driver, line: &str) -> io::Result<()> {
+    let opens = driver.reopen(rt.alloc(), &setting(line, 0));
+    let answer = if opens { "open" } else { "no memory" };
+    println!(rt; "{line}: {answer}")
 }
 
 /// Prints what a line's call makes of the throttler.
@@ -89,15 +95,8 @@ fn say_call(rt: &HostRuntime, driver: &mut Driver, line: &str) -> io::Result<()>
 pub fn say(rt: &HostRuntime, driver: &mut Driver, line: &str) -> io::Result<()> {
     match word(line, 0) {
         "#" => println!(rt; "{line}"),
-        "mix" => say_digests(rt, line),
-        "pods" => {
-            let answer = if reopen(rt.alloc(), driver, line) {
-                "open"
-            } else {
-                "no memory"
-            };
-            println!(rt; "{line}: {answer}")
-        }
+        "mix" => say_digests(rt, driver, line),
+        "pods" => say_opened(rt, driver, line),
         _ => say_call(rt, driver, line),
     }
 }
