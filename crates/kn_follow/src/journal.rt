@@ -52,9 +52,9 @@ fn open<S: Source>(
 }
 
 /// Reads a journal, and writes of its run what the form says: of its start, of each event, and at the end where all lines
-/// are good. At the first line that is refused all of the events before it was written. Where the input failed, the lines
-/// that ended before that are good, and all of their events was written. Where writing failed, some first bytes were. All
-/// memory is taken before the first of them, and what is read so far is written before the source is read again.
+/// are good. At the first line that is refused, what is told of the start and of all events before it was written. Where the
+/// input failed, the lines that ended before that are good, and what is told of their events was written. Where writing
+/// failed, some first bytes of it all were. All memory is taken before the first of them.
 #[tactic(none)]
 pub fn follow_journal<T: Teller + Drop, F: Form<T>, S: Source, O: Sink>(
     alloc: Global,
