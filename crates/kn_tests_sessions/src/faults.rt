@@ -1,8 +1,9 @@
 //! Each call of a session's caller fails in turn, until none is left that could.
 
+use crate::lines::{add, holds};
 use crate::reports::{has, replayed};
-use crate::sessions::{MemStage, ONCE, add_slots, mem_stage, serve_still};
-use kn_case::case;
+use crate::sessions::{MemStage, ONCE, mem_stage, serve_still};
+use crate::setting::{MemSlot, NEVER, had, slot_with};
 use kn_journal::Status;
 use std::alloc::{AllocError, Global};
 use std::io;
@@ -30,9 +31,9 @@ fn judged(status: Option<Status>, report: &[u8]) -> Came {
 }
 
 /// Adds a slot whose caller fails at this call.
-fn add_failing(alloc: Global, stage: &mut MemStage, call: u64) -> Result<(), AllocError> {
-    let words = format!(in alloc; "good/caller={call}")?;
-    add_slots(alloc, &mut stage.slots, words.as_str())
+fn add_failing(alloc: Global, slots: &mut Vec<MemSlot>, call: u64) -> Result<(), AllocError> {
+    let slot = had(slot_with(alloc, "good", u64::MAX, call, NEVER))?;
+    add(slots, slot)
 }
 
 fn come_to<R: Threads + Wait + Sync>(
@@ -41,10 +42,12 @@ fn come_to<R: Threads + Wait + Sync>(
     stage: &mut MemStage,
     call: u64,
 ) -> Result<Came, AllocError> {
-    add_failing(alloc, stage, call)?;
+    add_failing(alloc, &mut stage.slots, call)?;
     let status = serve_still(rt, alloc, stage, ONCE);
     let report = replayed(alloc, stage.streams.out.held())?;
-    Ok(judged(status, &report))
+    let came = judged(status, &report);
+    drop(report);
+    Ok(came)
 }
 
 /// A session whose caller fails at this call.
@@ -55,24 +58,20 @@ fn fail_at<R: Threads + Wait + Sync>(rt: &R, alloc: Global, call: u64) -> Result
     came
 }
 
-/// At how many of the first 100 calls a session failed as it must, and what came of the next.
-fn sweep<R: Threads + Wait + Sync>(rt: &R, alloc: Global) -> Result<(u64, Came), AllocError> {
+/// At how many of the first 100 calls a session failed as it must, and whether all went well at the next.
+fn sweep<R: Threads + Wait + Sync>(rt: &R, alloc: Global) -> Result<(u64, bool), AllocError> {
     for call in 0..100 {
-        let came = fail_at(rt, alloc, call)?;
-        if !matches!(came, Came::SlotFault) {
-            return Ok((call, came));
+        match fail_at(rt, alloc, call)? {
+            Came::SlotFault => {}
+            Came::Ok => return Ok((call, true)),
+            Came::Wrong => return Ok((call, false)),
         }
     }
-    Ok((100, Came::Wrong))
+    Ok((100, false))
 }
 
 pub fn show<R: Threads + Wait + Sync + Print + AllocGlobal>(rt: &R) -> io::Result<()> {
-    let (calls, came) = sweep(rt, rt.alloc())?;
-    case(
-        rt,
-        "each call of the caller fails, and then none",
-        &matches!(came, Came::Ok),
-        &true,
-    )?;
-    case(rt, "at least three calls fail", &(calls > 2), &true)
+    let (calls, ended) = sweep(rt, rt.alloc())?;
+    holds(rt, "each call of the caller fails, and then none", ended)?;
+    holds(rt, "at least three calls fail", calls > 2)
 }

@@ -1,13 +1,12 @@
 //! The slots are served beside each other: each of two requests is held at a gate until the other has come there too.
 
-use crate::lines::{show_answer, show_calls};
+use crate::lines::{ends_well, holds, show_answer, show_calls};
 use crate::readings::Hands;
 use crate::reports::{has, reports};
 use crate::sessions::{MemStage, ONCE, add_slots, mem_stage, serve};
 use crate::setting::MemSlot;
 use kn_case::case;
 use kn_io::Gate;
-use kn_journal::Status;
 use std::io;
 use std::sync::Wait;
 use std::sync::atomic::{AtomicBool, AtomicU64, Ordering};
@@ -69,7 +68,7 @@ const ARRIVALS: [&str; 2] = ["\n0 arrive 0\n", "\n0 arrive 1\n"];
 fn show_journal<R: Print + AllocGlobal>(rt: &R, journal: &[u8]) -> io::Result<()> {
     for line in &ARRIVALS {
         let before = has(journal, line.as_bytes());
-        case(rt, "it had arrived before", &before, &true)?;
+        holds(rt, "it had arrived before", before)?;
     }
     Ok(())
 }
@@ -82,6 +81,14 @@ fn show_slots<R: Print + AllocGlobal>(rt: &R, slots: &[MemSlot]) -> io::Result<(
     Ok(())
 }
 
+fn show_stage<R: Print + AllocGlobal>(rt: &R, stage: &MemStage, gate: &BothGate) -> io::Result<()> {
+    show_passes(rt, gate)?;
+    show_journal(rt, stage.streams.out.held())?;
+    show_slots(rt, &stage.slots)?;
+    let finished = reports(rt.alloc(), stage.streams.out.held(), b" finished=2 ")?;
+    holds(rt, "both are finished", finished)
+}
+
 fn show_session<R: Threads + Wait + Sync + Print + AllocGlobal>(
     rt: &R,
     stage: &mut MemStage,
@@ -89,24 +96,21 @@ fn show_session<R: Threads + Wait + Sync + Print + AllocGlobal>(
 ) -> io::Result<()> {
     add_slots(rt.alloc(), &mut stage.slots, "good good")?;
     let status = serve(rt, rt.alloc(), stage, ONCE, &gate.hands, gate);
-    case(rt, "two callers at a gate", &status, &Some(Status::Ok))?;
-    show_passes(rt, gate)?;
-    show_journal(rt, stage.streams.out.held())?;
-    show_slots(rt, &stage.slots)?;
-    let finished = reports(rt.alloc(), stage.streams.out.held(), b" finished=2 ")?;
-    case(rt, "both are finished", &finished, &true)
+    ends_well(rt, "two callers at a gate", status)?;
+    show_stage(rt, stage, gate)
 }
 
 /// Two callers at one pod.
 pub fn show<R: Threads + Wait + Sync + Print + AllocGlobal>(rt: &R) -> io::Result<()> {
+    let mut stage = mem_stage(rt.alloc())?;
     let gate = BothGate {
         first: AtomicU64::new(0),
         second: AtomicU64::new(0),
         late: AtomicBool::new(false),
         hands: Hands::new(),
     };
-    let mut stage = mem_stage(rt.alloc())?;
     let done = show_session(rt, &mut stage, &gate);
+    drop(gate);
     drop(stage);
     done
 }

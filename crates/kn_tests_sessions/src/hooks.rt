@@ -2,14 +2,19 @@
 ghost use Rattle.std.specs.Prelude.{◌≤◌};
 ghost use Rattle.kn_io.specs.Causes.{Rose};
 
-use crate::lines::{add, show_answer};
-use crate::sessions::{Stage, stage_of};
+use crate::lines::{add, ends_well, show_answer};
+use crate::readings::Hands;
+use crate::sessions::{ONCE, Stage, serve, stage_of};
 use crate::setting::{caller_of, had, link_of};
 use kn_event::{Memory, Text};
-use kn_io::{Caller, Failed, Faulty, LinkError, MemCaller, MemLink, PodLink, Sink, Source};
+use kn_io::{
+    Caller, Failed, Faulty, LinkError, MemCaller, MemLink, OpenGate, PodLink, Sink, Source,
+};
 use kn_serve::{Slot, Work};
 use std::alloc::{AllocError, Global};
 use std::io;
+use std::sync::Wait;
+use std::thread::Threads;
 
 /// What is done where a caller or a link is used.
 pub trait Hook {
@@ -144,7 +149,7 @@ pub fn hooked_stage<'a, H: Hook>(
 }
 
 /// Adds a slot of one connection, whose caller and link tell the hook.
-pub fn add_slot<'a, H: Hook>(
+fn add_slot<'a, H: Hook>(
     alloc: Global,
     slots: &mut Vec<HookedSlot<'a, H>>,
     name: &str,
@@ -170,7 +175,7 @@ pub fn add_slot<'a, H: Hook>(
 }
 
 /// Prints each caller's answer.
-pub fn show_answers<H: Hook, R: Print + AllocGlobal>(
+fn show_answers<H: Hook, R: Print + AllocGlobal>(
     rt: &R,
     slots: &[HookedSlot<'_, H>],
 ) -> io::Result<()> {
@@ -178,4 +183,18 @@ pub fn show_answers<H: Hook, R: Print + AllocGlobal>(
         show_answer(rt, &slot.caller.caller)?;
     }
     Ok(())
+}
+
+/// Serves one client of this request, whose hook is the clock too, and prints whether that went well, and the answer.
+pub fn show_session<'a, R: Threads + Wait + Sync + Print + AllocGlobal>(
+    rt: &R,
+    name: &str,
+    request: &str,
+    hands: &'a Hands,
+    stage: &mut HookedStage<'a, Hands>,
+) -> io::Result<()> {
+    add_slot(rt.alloc(), &mut stage.slots, request, hands)?;
+    let status = serve(rt, rt.alloc(), stage, ONCE, hands, &OpenGate);
+    ends_well(rt, name, status)?;
+    show_answers(rt, &stage.slots)
 }

@@ -1,22 +1,19 @@
 //! Words of a line, and what is printed below it.
-use kn_case::shown;
+use kn_case::{case, shown};
 use kn_io::{Call, MemCaller, MemLink};
+use kn_journal::Status;
 use std::alloc::{AllocError, Global};
 use std::io;
 
-/// The value of a word `KEY=VALUE`, where there is one.
+/// What stands behind a key, as `caller=`, where the line has it.
 pub fn value_of<'a>(line: &'a str, key: &str) -> Option<&'a str> {
-    for word in line.split(' ') {
-        if let Some((name, value)) = word.split_once('=')
-            && name == key
-        {
-            return Some(value);
-        }
+    match line.split_once(key) {
+        Some((_, rest)) => Some(rest.split_once(' ').unwrap_or((rest, "")).0),
+        None => None,
     }
-    None
 }
 
-/// The number that such a word gives, or else another.
+/// The number behind a key, or else another.
 pub fn number_of(line: &str, key: &str, other: u64) -> u64 {
     match value_of(line, key) {
         Some(value) => value.parse().unwrap_or(other),
@@ -42,6 +39,16 @@ pub fn answer_of(caller: &MemCaller) -> &[u8] {
     } else {
         b""
     }
+}
+
+/// Prints whether this holds.
+pub fn holds<R: Print>(rt: &R, name: &str, found: bool) -> io::Result<()> {
+    case(rt, name, &found, &true)
+}
+
+/// Prints whether a session ended well.
+pub fn ends_well<R: Print>(rt: &R, name: &str, status: Option<Status>) -> io::Result<()> {
+    case(rt, name, &status, &Some(Status::Ok))
 }
 
 /// Prints bytes behind this text.

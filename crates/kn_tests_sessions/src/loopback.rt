@@ -1,5 +1,5 @@
 //! A session over TCP on this machine: a client, the parts that `kactd` serves with, and a pod.
-use crate::lines::add;
+use crate::lines::{add, ends_well, holds};
 use crate::reports::{has, replayed};
 use crate::sessions::{ONCE, Stage, Streams, serve, stage_of};
 use crate::setting::{FORWARDED, REPLY, REQUEST, one_text};
@@ -97,6 +97,8 @@ fn link_to<'a, N: Net>(net: &'a N, alloc: Global, pod: &str) -> Result<TcpLink<&
     Ok(TcpLink::new(net, Items::new(addresses)))
 }
 
+type TcpSlot<'a, R> = Slot<TcpCaller, TcpLink<&'a R>>;
+
 type TcpStage<'a, R> = Stage<TcpCaller, TcpLink<&'a R>>;
 
 /// Adds a slot whose clients come to this door.
@@ -104,13 +106,13 @@ fn add_slot<'a, R: Net<Listener = TcpListener, Stream = TcpStream> + AllocGlobal
     rt: &'a R,
     door: &Door,
     pods: &Door,
-    stage: &mut TcpStage<'a, R>,
+    slots: &mut Vec<TcpSlot<'a, R>>,
 ) -> io::Result<()> {
     let caller = TcpCaller::new(door.listener.try_clone()?);
     match link_to(rt, rt.alloc(), pods.address.as_str()) {
         Ok(link) => {
             let work = Work::new();
-            Ok(add(&mut stage.slots, Slot { caller, link, work })?)
+            Ok(add(slots, Slot { caller, link, work })?)
         }
         Err(AllocError) => {
             drop(caller);
@@ -120,7 +122,7 @@ fn add_slot<'a, R: Net<Listener = TcpListener, Stream = TcpStream> + AllocGlobal
 }
 
 /// What came of a session: its status, and whether the pod answered and the client got that.
-#[derive(Drop)]
+#[derive(Clone, Copy)]
 struct Ended {
     status: Option<Status>,
     answered: [bool; 2],
@@ -155,23 +157,23 @@ fn run_all<
     }
 }
 
-fn show_ended<R: Print>(rt: &R, ended: &Ended) -> io::Result<()> {
-    let Ended { status, answered } = ended;
-    case(rt, "a session over loopback", status, &Some(Status::Ok))?;
+fn show_ended<R: Print>(rt: &R, ended: Ended) -> io::Result<()> {
+    ends_well(rt, "a session over loopback", ended.status)?;
+    let answered = ended.answered;
     case(
         rt,
         "the pod answered, and the client got it",
-        answered,
+        &answered,
         &[true, true],
     )
 }
 
 fn show_streams<R: Print + AllocGlobal>(rt: &R, streams: &Streams) -> io::Result<()> {
-    case(rt, "nothing is told", &streams.err.held().is_empty(), &true)?;
+    holds(rt, "nothing is told", streams.err.held().is_empty())?;
     let report = replayed(rt.alloc(), streams.out.held())?;
     let found = has(&report, b" admitted=1 ") && has(&report, b" finished=1 ");
     drop(report);
-    case(rt, "its journal has the request", &found, &true)
+    holds(rt, "its journal has the request", found)
 }
 
 fn show_stage<
@@ -184,11 +186,11 @@ fn show_stage<
         + time::Clock
         + Net<Listener = TcpListener, Stream = TcpStream>,
 >(rt: &'a R, door: &Door, pods: &Door, stage: &mut TcpStage<'a, R>) -> io::Result<()> {
-    add_slot(rt, door, pods, stage)?;
+    add_slot(rt, door, pods, &mut stage.slots)?;
     let mut stream = TcpStream::connect(rt, door.address.as_str())?;
     let ended = run_all(rt, rt.alloc(), pods, &mut stream, stage);
     drop(stream);
-    show_ended(rt, &ended)?;
+    show_ended(rt, ended)?;
     show_streams(rt, &stage.streams)
 }
 

@@ -1,5 +1,4 @@
 //! What is found in a journal, and in the report of its replay.
-use crate::lines::add;
 use crate::sessions::Streams;
 use kn_case::spelled;
 use kn_journal::Status;
@@ -17,8 +16,7 @@ pub fn has(bytes: &[u8], part: &[u8]) -> bool {
 }
 
 fn report_of(alloc: Global, streams: &mut Streams) -> Result<Vec<u8>, AllocError> {
-    let mut words = Vec::new(alloc);
-    add(&mut words, String::from_str(alloc, "replay")?)?;
+    let words = [String::from_str(alloc, "replay")?];
     let Streams { input, out, err } = streams;
     let status = kn_replay::run(alloc, &words, input, out, err);
     drop(words);
@@ -39,13 +37,17 @@ pub fn replayed(alloc: Global, journal: &[u8]) -> Result<Vec<u8>, AllocError> {
 /// Whether the journal's report has this text.
 pub fn reports(alloc: Global, journal: &[u8], text: &[u8]) -> Result<bool, AllocError> {
     let report = replayed(alloc, journal)?;
-    Ok(has(&report, text))
+    let found = has(&report, text);
+    drop(report);
+    Ok(found)
 }
 
 /// Whether the bytes have the text that is spelled so.
 fn has_spelled(alloc: Global, bytes: &[u8], text: &str) -> Result<bool, AllocError> {
     let part = spelled(alloc, text)?;
-    Ok(has(bytes, &part))
+    let found = has(bytes, &part);
+    drop(part);
+    Ok(found)
 }
 
 /// Prints whether the bytes have each of these texts.

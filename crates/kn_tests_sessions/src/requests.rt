@@ -3,7 +3,7 @@ ghost use Rattle.std.specs.Prelude.{◌≡◌, ◌+◌};
 ghost use Rattle.kn_cell.specs.Shown.{IsLater};
 
 use crate::lines::{answer_of, number_of, show_calls, value_of};
-use crate::setting::{MemSlot, REQUEST, had, open, slot_of, spec};
+use crate::setting::{MemSlot, NEVER, REQUEST, had, open, slot_of, slot_with, spec};
 use kn_case::{Tally, shown};
 use kn_cell::{Pass, Past, RevisionCell};
 use kn_event::{Act, Memory, Spec};
@@ -84,25 +84,30 @@ pub fn close(cell: RevisionCell, pass: Pass, letters: &mut String) -> Result<(),
 }
 
 fn add_times(times: &mut Vec<u64>, words: &str) -> Result<(), AllocError> {
-    for time in value_of(words, "times").unwrap_or("0").split(',') {
+    for time in value_of(words, "times=").unwrap_or("0").split(',') {
         times.push(time.parse().unwrap_or(0))?;
     }
     Ok(())
 }
 
-/// One that was not tried, over a caller with the request of this name. Its clock has the times in the word `times=`, or 0.
-fn trial_of(alloc: Global, name: &str, words: &str) -> Result<Trial, AllocError> {
+/// The revision, and a clock.
+fn parts_of(alloc: Global, words: &str) -> Result<(Spec, ListClock), AllocError> {
     let mut times = Vec::new(alloc);
     add_times(&mut times, words)?;
-    let slot = had(slot_of(alloc, name, 1, words))?;
-    match spec(alloc) {
-        Ok(spec) => Ok(Trial {
+    let spec = had(spec(alloc))?;
+    Ok((spec, ListClock::new(times)))
+}
+
+/// One that was not tried, of this slot. Its clock has the times behind `times=`, or 0.
+fn trial_of(alloc: Global, slot: MemSlot, words: &str) -> Result<Trial, AllocError> {
+    match parts_of(alloc, words) {
+        Ok((spec, clock)) => Ok(Trial {
             slot,
             spec,
-            clock: ListClock::new(times),
+            clock,
             rows: String::new(alloc),
         }),
-        Err(Memory) => {
+        Err(AllocError) => {
             drop(slot);
             Err(AllocError)
         }
@@ -134,8 +139,8 @@ fn run<R: Wait>(
     words: &str,
     trial: &mut Trial,
 ) -> Result<Served, AllocError> {
-    let ready = number_of(words, "ready", 1) == 1;
-    match open(alloc, number_of(words, "room", 100)) {
+    let ready = number_of(words, "ready=", 1) == 1;
+    match open(alloc, number_of(words, "room=", 100)) {
         Ok((cell, pass)) => try_in(rt, alloc, cell, pass, ready, trial),
         Err(Memory) => Err(AllocError),
     }
@@ -177,40 +182,31 @@ fn show_trial<R: Wait + Print + AllocGlobal>(
 /// Prints what comes of a request, and what the pod was sent.
 pub fn show<R: Wait + Print + AllocGlobal>(rt: &R, line: &str) -> io::Result<()> {
     let (name, words) = line.split_once(' ').unwrap_or((line, ""));
-    let mut trial = trial_of(rt.alloc(), name, words)?;
+    let slot = had(slot_of(rt.alloc(), name, 1, words))?;
+    let mut trial = trial_of(rt.alloc(), slot, words)?;
     let done = show_trial(rt, words, &mut trial);
     drop(trial);
     done
 }
 
-fn count_trial<R: Wait>(
+/// Counts what comes of the request where this call of its caller fails.
+fn count_fault<R: Wait>(
     rt: &R,
     alloc: Global,
     tally: &mut Tally,
-    words: &str,
+    call: u64,
 ) -> Result<(), AllocError> {
-    let mut trial = trial_of(alloc, "good", words)?;
-    let came = outcome(rt, alloc, words, &mut trial);
+    let slot = had(slot_with(alloc, "good", 1, call, NEVER))?;
+    let mut trial = trial_of(alloc, slot, "")?;
+    let came = outcome(rt, alloc, "", &mut trial);
     drop(trial);
     tally.count(came?);
     Ok(())
 }
 
-fn count_fault<R: Wait>(
-    rt: &R,
-    alloc: Global,
-    tally: &mut Tally,
-    n: usize,
-) -> Result<(), AllocError> {
-    let words = format!(in alloc; "caller={n}")?;
-    let counted = count_trial(rt, alloc, tally, words.as_str());
-    drop(words);
-    counted
-}
-
 fn count_faults<R: Wait>(rt: &R, alloc: Global, tally: &mut Tally) -> Result<(), AllocError> {
-    for n in 0..=REQUEST.len() {
-        count_fault(rt, alloc, tally, n)?;
+    for call in 0..=REQUEST.len() as u64 {
+        count_fault(rt, alloc, tally, call)?;
     }
     Ok(())
 }

@@ -1,12 +1,10 @@
 //! Three rounds of two slots: each client gets the answer to its own request.
 
-use crate::lines::{show_bytes, show_calls};
+use crate::lines::{ends_well, holds, show_bytes, show_calls};
 use crate::reports::reports;
 use crate::sessions::{MemStage, Size, add_slots, mem_stage, serve_still};
 use crate::setting::MemSlot;
-use kn_case::case;
 use kn_io::MemCaller;
-use kn_journal::Status;
 use std::io;
 use std::sync::Wait;
 use std::thread::Threads;
@@ -51,14 +49,14 @@ fn show_session<R: Threads + Wait + Sync + Print + AllocGlobal>(
         room: 100,
     };
     let status = serve_still(rt, rt.alloc(), stage, size);
-    case(rt, "three rounds of two slots", &status, &Some(Status::Ok))?;
+    ends_well(rt, "three rounds of two slots", status)?;
     show_slots(rt, &stage.slots)?;
     let finished = reports(
         rt.alloc(),
         stage.streams.out.held(),
         b" finished=4 failed=0 ",
     )?;
-    case(rt, "four are finished", &finished, &true)
+    holds(rt, "four are finished", finished)
 }
 
 pub fn show<R: Threads + Wait + Sync + Print + AllocGlobal>(rt: &R) -> io::Result<()> {

@@ -217,7 +217,9 @@ fn lines_in(text: &[u8]) -> u64 {
 
 fn show_report<R: Print + AllocGlobal>(rt: &R, journal: &[u8], texts: &str) -> io::Result<()> {
     let report = replayed(rt.alloc(), journal)?;
-    show_found(rt, &report, texts)
+    let done = show_found(rt, &report, texts);
+    drop(report);
+    done
 }
 
 /// Prints whether a session's journal is whole, how many lines it has, and which texts it and its report have.
@@ -236,7 +238,9 @@ fn show_told<R: Print + AllocGlobal>(
     told: &[u8],
 ) -> io::Result<()> {
     let told = shown(rt.alloc(), told)?;
-    println!(rt; "  {status:?}, tells \"{told}\"")
+    let printed = println!(rt; "  {status:?}, tells \"{told}\"");
+    drop(told);
+    printed
 }
 
 pub fn show_answers<R: Print + AllocGlobal>(rt: &R, slots: &[MemSlot]) -> io::Result<()> {

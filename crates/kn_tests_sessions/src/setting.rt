@@ -41,7 +41,7 @@ pub const FORWARDED: &[u8] =
 pub const REPLY: &[u8] = b"HTTP/1.1 200 OK\r\nContent-Length: 0\r\nConnection: close\r\n\r\n";
 
 /// No call fails.
-const NEVER: u64 = u64::MAX;
+pub const NEVER: u64 = u64::MAX;
 
 /// The request of this name.
 fn request_of(name: &str) -> &'static [u8] {
@@ -152,19 +152,35 @@ fn slot(caller: MemCaller, link: MemLink) -> MemSlot
 }
 
 /// A slot with a caller of these requests, one a connection, which gives so many bytes at a time, and a link with a reply to
-/// each. The words say which calls fail, as `caller=0 link=0`.
-pub fn slot_of(alloc: Global, names: &str, piece: u64, words: &str) -> Result<MemSlot, Memory>
+/// each. This call of the caller and this one of the link fail.
+pub fn slot_with(
+    alloc: Global,
+    names: &str,
+    piece: u64,
+    caller: u64,
+    link: u64,
+) -> Result<MemSlot, Memory>
     requires { 0 < piece }
     ensures { IfOk result (λ s. IsFresh (said (⟦<MemCaller as Sink>⟧.kept s.caller) (⟦<MemCaller as Sink>⟧.held s.caller)) (⟦<MemLink as PodLink>⟧.told s.link) s.work) }
 {
-    let caller = caller_of(alloc, names, piece, number_of(words, "caller", NEVER))?;
-    match link_of(alloc, names, number_of(words, "link", NEVER)) {
+    let caller = caller_of(alloc, names, piece, caller)?;
+    match link_of(alloc, names, link) {
         Ok(link) => Ok(slot(caller, link)),
         Err(Memory) => {
             drop(caller);
             Err(Memory)
         }
     }
+}
+
+/// The same, where the words say which calls fail, as `caller=0 link=0`.
+pub fn slot_of(alloc: Global, names: &str, piece: u64, words: &str) -> Result<MemSlot, Memory>
+    requires { 0 < piece }
+    ensures { IfOk result (λ s. IsFresh (said (⟦<MemCaller as Sink>⟧.kept s.caller) (⟦<MemCaller as Sink>⟧.held s.caller)) (⟦<MemLink as PodLink>⟧.told s.link) s.work) }
+{
+    let caller = number_of(words, "caller=", NEVER);
+    let link = number_of(words, "link=", NEVER);
+    slot_with(alloc, names, piece, caller, link)
 }
 
 /// The revision of the setup.

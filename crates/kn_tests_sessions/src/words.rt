@@ -7,7 +7,7 @@ use crate::lines::add;
 use crate::readings::Hands;
 use crate::reports::reports;
 use crate::sessions::{Streams, show_answers};
-use crate::setting::{MemSlot, SETUP, had, keeper, slot_of};
+use crate::setting::{MemSlot, NEVER, SETUP, had, keeper, slot_with};
 use kn_case::shown;
 use kn_event::Memory;
 use kn_io::{MemCaller, MemLink, OpenGate, PodLink, Sink};
@@ -21,8 +21,8 @@ use std::thread::Threads;
 fn two_slots(alloc: Global) -> Result<Vec<MemSlot>, Memory>
     ensures { IfOk result (λ slots. All (λ s. IsFresh (said (⟦<MemCaller as Sink>⟧.kept s.caller) (⟦<MemCaller as Sink>⟧.held s.caller)) (⟦<MemLink as PodLink>⟧.told s.link) s.work) slots.items) }
 {
-    let first = slot_of(alloc, "good", u64::MAX, "")?;
-    match slot_of(alloc, "good", u64::MAX, "") {
+    let first = slot_with(alloc, "good", u64::MAX, NEVER, NEVER)?;
+    match slot_with(alloc, "good", u64::MAX, NEVER, NEVER) {
         Ok(second) => match vec![in alloc; first, second] {
             Ok(slots) => Ok(slots),
             Err(failed) => {
