@@ -88,13 +88,7 @@ impl Row {
 
     /// Runs the command.
     pub fn outcome(&self, alloc: Global, outside: &Outside) -> Result<Ended, AllocError> {
-        outcome(
-            alloc,
-            self.program(),
-            &self.words,
-            &self.journal,
-            outside,
-        )
+        outcome(alloc, self.program(), &self.words, &self.journal, outside)
     }
 
     /// Whether the command ended as it must where nothing fails.

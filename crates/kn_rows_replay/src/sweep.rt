@@ -73,7 +73,10 @@ pub fn reads(alloc: Global, row: &Row) -> Result<Swept, AllocError> {
             ..sound(row, piece as u64)
         };
         let rows = row.rows_within(k.saturating_mul(piece));
-        if !row.outcome(alloc, &outside)?.is(5, rows, row.program().read_failed()) {
+        if !row
+            .outcome(alloc, &outside)?
+            .is(5, rows, row.program().read_failed())
+        {
             return Ok(Swept::Wrong(k as u64));
         }
     }
@@ -92,7 +95,10 @@ pub fn rooms(alloc: Global, row: &Row) -> Result<Swept, AllocError> {
             ..sound(row, 4096)
         };
         let front = row.report().get(..room).unwrap_or(&[]);
-        if !row.outcome(alloc, &outside)?.is(6, front, row.program().write_failed()) {
+        if !row
+            .outcome(alloc, &outside)?
+            .is(6, front, row.program().write_failed())
+        {
             return Ok(Swept::Wrong(room as u64));
         }
     }
@@ -123,7 +129,10 @@ pub fn writes(alloc: Global, row: &Row) -> Result<Swept, AllocError> {
         let len = end.written.len();
         let front = row.report().get(..len).unwrap_or(&[]);
         let grows = k == 0 || last < len;
-        if !end.is(6, front, row.program().write_failed()) || !grows || !is_timely(row, piece, len, end.left) {
+        if !end.is(6, front, row.program().write_failed())
+            || !grows
+            || !is_timely(row, piece, len, end.left)
+        {
             return Ok(Swept::Wrong(k));
         }
         last = len;
