@@ -73,7 +73,6 @@ fn command_of(words: &[String]) -> Option<Command>
 /// alone. At the first line that is refused all of the events before it was written. Where the input failed, the lines that ended
 /// before that are good, and all of their events was written. Where writing failed, some first bytes were. All memory is taken
 /// before the first of them.
-#[tactic(none)]
 pub fn show_run<S: Source, O: Sink, E: Sink>(
     alloc: Global,
     words: &[String],

@@ -14,8 +14,10 @@ fn put_told(error: &JournalError, line: &mut Line)
     requires { length line.old ≤ 0 }
     ensures { line.new ≡ line.old ++ told (error_text error.now) }
 {
+    let mut why = Line::new();
+    put_error(error, &mut why);
     line.put(b"kact_show: ");
-    put_error(error, line);
+    line.put(why.bytes());
     line.put(b"\n");
 }
 
