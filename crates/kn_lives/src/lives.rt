@@ -1,18 +1,15 @@
-ghost use Rattle.std.specs.Prelude.{◌≡◌, ◌==◌, ◌+◌, ◌<◌, ◌∷◌, ◌++◌, [], ℕ, All, IfOk, IsSome, IsTrue, MatchOption, None, Some, if◌then◌else◌, length, unwrap_or};
+ghost use Rattle.std.specs.Prelude.{◌≡◌, ◌==◌, ◌+◌, ◌<◌, ◌∷◌, ◌++◌, [], ℕ, All, IfOk, IsSome, None, Some, if◌then◌else◌, length, unwrap_or};
 ghost use Rattle.std.specs.Map.{set_value};
 ghost use Rattle.kn_trace.specs.Rows.{ended_by};
 ghost use Rattle.kn_lives.specs.declared.lives.Life.{Life};
 ghost use Rattle.kn_lives.specs.Lives.{AddsRow, AreLives, life_at, tag_by};
-ghost use Rattle.kn_lives.specs.Pairs.{IsPlaceOf};
 
+use crate::hints::Hints;
+use crate::slots::{ROOM, Slot, make_room, place_of};
 use kn_event::{Act, Entry, Memory, Row};
 use kn_record::facts::fact_laws;
 use std::alloc::Global;
-use std::collections::VecDeque;
 use std::marker::Model;
-
-/// How many requests may be live.
-const ROOM: usize = 20_000;
 
 /// What a live request came with, and what has come of it. Times are in milliseconds.
 #[derive(Clone, Copy, Debug, PartialEq, Eq)]
@@ -30,29 +27,33 @@ pub struct Life {
 }
 
 /// The live requests of a run by their numbers, at most 20,000. It takes its memory once. Contracts see pairs.
+///
+/// A request that ended leaves its slot with a mark. All these are taken out once no slot is left, which happens after at
+/// least 20,000 ends.
 pub struct Lives {
-    pairs: VecDeque<(u64, Life)>,
+    slots: Vec<Slot>,
+    hints: Hints,
 }
 
 impl Drop for Lives {
     fn drop(self) {
-        let Lives { pairs: _ } = self;
+        let Lives { slots: _, hints: _ } = self;
     }
 }
 
 impl Model for Lives {
-    ghost use Rattle.std.specs.Prelude.{◌≤◌, ℕ, List};
-    ghost use Rattle.std.specs.VecDeque.{deque_capacity};
+    ghost use Rattle.std.specs.Prelude.{◌≤◌, ℕ, List, length, vec_capacity};
     ghost use Rattle.kn_lives.specs.declared.lives.Life.{Life};
-    ghost use Rattle.kn_lives.specs.Pairs.{AreAscending};
+    ghost use Rattle.kn_lives.specs.Slots.{AreAscending, live_of};
 
     ghost Value = { List (ℕ × Life) };
 
-    ghost view = { λ l. l.pairs.items };
+    ghost view = { λ l. live_of l.slots.items };
 
     ghost invariant = { λ l. record {
-      order : AreAscending l.pairs.items;
-      room : 20000 ≤ deque_capacity l.pairs;
+      order : AreAscending l.slots.items;
+      short : length l.slots.items ≤ 40000;
+      room : 40000 ≤ vec_capacity l.slots;
     } };
 }
 
@@ -81,23 +82,26 @@ impl Lives {
     pub fn new(alloc: Global) -> Result<Lives, Memory>
         ensures { IfOk result (λ l. AreLives l [] []) }
     {
-        match VecDeque::with_capacity(alloc, ROOM) {
-            Ok(pairs) => Ok(Lives { pairs }),
+        let hints = Hints::new(alloc)?;
+        match Vec::with_capacity(alloc, ROOM) {
+            Ok(slots) => Ok(Lives { slots, hints }),
             Err(_) => Err(Memory),
         }
     }
 
     /// What is known of a live request.
+    #[inline(always)]
     pub fn get(&self, r: u64) -> Option<Life>
         ensures { result ≡ life_at self.now r }
     {
-        match self.place_of(r) {
-            Some(place) => Some(self.pairs[place].1),
+        match place_of(&self.slots, self.hints.get(r), r) {
+            Some(place) => Some(self.slots[place].life),
             None => None,
         }
     }
 
     /// Goes on by one row. The tag is that of the event, which who arrives with the row has.
+    #[inline(always)]
     pub fn add(&mut self, tag: u64, e: &Entry)
         ensures { AddsRow tag e.now self.old self.new }
     {
@@ -129,64 +133,48 @@ impl Lives {
         }
     }
 
-    /// Where the pair of a number stands.
-    fn place_of(&self, r: u64) -> Option<usize>
-        ensures { MatchOption result (life_at self.now r ≡ None) (λ place. IsPlaceOf r self.now place) }
-    {
-        match self.pairs.binary_search_by_key(&r, |pair| pair.0) {
-            Ok(place) => Some(place),
-            Err(_) => None,
-        }
-    }
-
-    /// Whether one more may be taken in, of a number above all.
-    fn has_room(&self, r: u64) -> bool
-        ensures few { IsTrue result → length self.now < 20000 }
-        ensures above { IsTrue result → All (λ (x : ℕ × Life). x.0 < r) self.now }
-        ensures room { All (λ (x : ℕ × Life). x.0 < r) self.now → length self.now < 20000 → IsTrue result }
-    {
-        if self.pairs.len() >= ROOM {
-            return false;
-        }
-        match self.pairs.back() {
-            Some(pair) => pair.0 < r,
-            None => true,
-        }
-    }
-
     /// Takes in a request of a number above all.
+    #[inline(always)]
     fn take_in(&mut self, r: u64, life: Life)
         ensures { All (λ (x : ℕ × Life). x.0 < r) self.old → length self.old < 20000
             → self.new ≡ self.old ++ (r, life) ∷ [] }
     {
-        if self.has_room(r) {
-            self.pairs.push_back_reserved((r, life));
+        if make_room(&mut self.slots, &mut self.hints, r) {
+            self.hints.set(r, self.slots.len());
+            self.slots.push_reserved(Slot {
+                number: r,
+                life,
+                has_ended: false,
+            });
         }
     }
 
     /// The live request runs from now on, at the pod that it is assigned to.
+    #[inline(always)]
     fn assign(&mut self, r: u64, p: u64, time: u64)
         ensures { (x : Life) → life_at self.old r ≡ Some x
             → self.new ≡ set_value (λ q. r == q) self.old (record x { begun = Some time; pod = Some p }) }
     {
-        if let Some(place) = self.place_of(r) {
-            let life = &mut self.pairs[place].1;
+        if let Some(place) = place_of(&self.slots, self.hints.get(r), r) {
+            let life = &mut self.slots[place].life;
             life.begun = Some(time);
             life.pod = Some(p);
         }
     }
 
     /// The live request runs from now on, at the pod that it was sent to.
+    #[inline(always)]
     fn run(&mut self, r: u64, time: u64)
         ensures { (x : Life) → life_at self.old r ≡ Some x
             → self.new ≡ set_value (λ q. r == q) self.old (record x { begun = Some time }) }
     {
-        if let Some(place) = self.place_of(r) {
-            self.pairs[place].1.begun = Some(time);
+        if let Some(place) = place_of(&self.slots, self.hints.get(r), r) {
+            self.slots[place].life.begun = Some(time);
         }
     }
 
     /// Forgets who ends with a row.
+    #[inline(always)]
     fn end_by(&mut self, row: &Row)
         ensures none { ended_by row.now ≡ None → self.new ≡ self.old }
         ensures gone { (r q : ℕ) → ended_by row.now ≡ Some r
@@ -200,12 +188,13 @@ impl Lives {
     }
 
     /// Forgets a request.
+    #[inline(always)]
     fn end(&mut self, r: u64)
         ensures gone { (q : ℕ) → life_at self.new q ≡ if r == q then None else life_at self.old q }
         ensures fewer { IsSome (life_at self.old r) → length self.new + 1 ≡ length self.old }
     {
-        if let Some(place) = self.place_of(r) {
-            self.pairs.remove(place);
+        if let Some(place) = place_of(&self.slots, self.hints.get(r), r) {
+            self.slots[place].has_ended = true;
         }
     }
 }
