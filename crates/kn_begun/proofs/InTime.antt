@@ -21,7 +21,7 @@ use Rattle.kn_record.specs.Rows.{moved_by, says}
 use Rattle.kn_laws.specs.Facts.{PartFacts}
 use Rattle.kn_laws.specs.Kinds.{Each, EachAt, is_expire_row}
 use Rattle.kn_lives.specs.Lives.{begun_by, time_of}
-use Rattle.kn_begun.specs.Begun.{arrival}
+use Rattle.kn_begun.specs.Begun.{BeginInTime, arrival}
 
 -- ---- rows in two parts
 
@@ -248,9 +248,8 @@ module _ (facts : Facts) where
     time_at t [] ys x h = h.0
     time_at t (z ∷ zs) ys x h = time_at t zs ys x h.1
 
-    pub begins_in_time : (s : Spec) (c : Trace) (e : Event) (before rest : Trace) (x : Entry) (r : ℕ) → 0 < s.timeout_ms → IsMade s c → react s c e ≡ before ++ x ∷ rest → begun_by x.row ≡ Some r
-        → x.time < arrival (c ++ before) r + s.timeout_ms
-    begins_in_time s c e before rest x r some made is begins =
+    pub begins_in_time : (s : Spec) (c : Trace) (e : Event) → 0 < s.timeout_ms → IsMade s c → BeginInTime s c e
+    begins_in_time s c e some made before rest x r is begins =
         let t = e.time in
         let gone = expiries s t c in
         let cut = behind gone (later_rows s c e) before rest x r (expiries-rows s t c) (sym (in_parts s c e) ∙ is) begins in

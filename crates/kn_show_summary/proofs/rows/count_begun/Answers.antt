@@ -20,7 +20,7 @@ returns-in-Some-clause-waits c s es tag t can limit lives are =
     let few = c.begin_laws.ensures.few s (t ++ e ∷ []) made in
     let size = ap length next ∙ length-append (waits t) (c.waited-wait.result ∷ []) in
     subst (AreWaits c.count_wait.new.waits) (sym next)
-    (c.count_wait.ensures.waits (waits t) are (omega (arith, wait, can.in_time r begins, can.some, limit)) (omega (arith, size, few, can.few)))
+    (c.count_wait.ensures.waits (omega (arith, wait, can.in_time r begins, can.some, limit)) (waits t) are (omega (arith, size, few, can.few)))
 
 pub returns-in-None-clause-waits : goal.returns-in-None-clause-waits
 returns-in-None-clause-waits c s es tag t can limit lives are =

@@ -7,6 +7,8 @@ use Rattle.kn_lives.specs.declared.lives.Life.{Life}
 use Rattle.kn_lives.specs.Lives.{AreLives}
 use Rattle.kn_begun.specs.Begun.{waits}
 use Rattle.kn_waits.specs.Waits.{AreWaits, WaitsState}
+use Rattle.kn_costs.specs.declared.gauges.Now.{Now}
+use Rattle.kn_costs.specs.Gauges.{GaugesState, nothing_at, with_now}
 use Rattle.kn_show_summary.specs.Counted.{counted}
 use Rattle.kn_show_summary.specs.Summary.{AwaitsRun, SummaryState}
 use Rattle.kn_show_summary.proofs.Runs.{no_tags, nothing}
@@ -22,10 +24,12 @@ returns-clause-knows g c r awaits opened =
     record {
       ranges = held.ranges;
       start = held.start;
-      clock = c.see.ensures.clock ∙ held.clock ∙ sym (c.run_laws.ensures.clock_first r none);
+      clock = c.see.ensures.clock ∙ ap (λ (g : GaugesState). g.clock) held.gauges ∙ sym (c.run_laws.ensures.clock_first r none);
       present = c.see.ensures.present ∙ c.of.ensures.value r held.ranges opened.stands;
-      peaks = c.see.ensures.peaks ∙ c.run_laws.ensures.peaks_first r c.of.result _ none (c.of.ensures.value r held.ranges opened.stands) held.peaks;
-      costs = c.see.ensures.costs ∙ held.costs ∙ sym (c.run_laws.ensures.costs_first r none);
+      peaks =
+          c.see.ensures.peaks ∙ ap (λ (g : GaugesState). with_now c.of.result g.peaks) held.gauges
+          ∙ ap (λ (n : Now). with_now n (nothing_at r.start).peaks) (c.of.ensures.value r held.ranges opened.stands) ∙ sym (c.run_laws.ensures.peaks_first r none);
+      costs = c.see.ensures.costs ∙ ap (λ (g : GaugesState). g.costs) held.gauges ∙ sym (c.run_laws.ensures.costs_first r none);
       cold = held.cold ∙ sym (c.run_laws.ensures.cold_first r none);
       rows = record {
         counted = c.add_opening.ensures.counted r.spec [] held.rows.counted ∙ ap (counted r.spec) (sym opened.trace_is);
