@@ -23,7 +23,7 @@ use Rattle.kn_laws.specs.Kinds.{EachAt}
 use Rattle.kn_lives.specs.Lives.{begun_by, time_of}
 use Rattle.kn_begun.specs.Begun.{arrival, wait_by, waits}
 use Rattle.kn_begun.proofs.Few.{AppendsRows, few_began, nobody_taken, still_waits, waits_no_more, waits-push}
-use Rattle.kn_begun.proofs.InTime.{IsWaiting, begins_waiting}
+use Rattle.kn_begun.proofs.InTime.{begins_waiting}
 
 opened : (s : Spec) (start : ℕ) → trace_of s start [] ≡ opening s start
 unfolding trace_of added

@@ -1,8 +1,7 @@
 -- No sum is above what the most would come to all the time.
-use Rattle.std.proofs.Common.{◌≡◌, ℕ, ◌+◌, ◌*◌, ◌-◌, ◌≤◌, Bool, true, false, List, [], ◌∷◌, ◌++◌, length, refl, sym, ap, ◌∙◌, subst, arith, append-nil, append_assoc}
+use Rattle.std.proofs.Common.{◌≡◌, ℕ, ◌+◌, ◌*◌, ◌-◌, ◌≤◌, Bool, true, false, List, [], ◌∷◌, ◌++◌, length, refl, sym, subst, arith, append-nil, append_assoc}
 use Rattle.std.proofs.Math.Nat.{mul-le-mul_right}
 use Rattle.std.specs.Prelude.{◌==◌, if◌then◌else◌}
-use Rattle.kn_event.specs.Revision.{AreInRange}
 use Rattle.kn_event.specs.declared.event.Event.{Event}
 use Rattle.kn_event.specs.declared.revision.Spec.{Spec}
 use Rattle.kn_throttle.specs.Gauges.{count_running}
@@ -12,10 +11,10 @@ use Rattle.kn_trace.specs.Scale.{count_ready}
 use Rattle.kn_trace.specs.Trace.{Trace, each_row, is_live_pod, live, live_pods}
 use Rattle.kn_record.specs.Admission.{admission}
 use Rattle.kn_record.specs.Facts.{Facts}
-use Rattle.kn_record.specs.Made.{AreDistinct, IsMade, StandsFor}
+use Rattle.kn_record.specs.Made.{AreDistinct}
 use Rattle.kn_record.specs.Views.{AreViews}
 use Rattle.kn_laws.specs.History.{AreInOrder}
-use Rattle.kn_teller.specs.Run.{Run, begun, later, now_of, trace}
+use Rattle.kn_teller.specs.Run.{Run, later, now_of, trace}
 use Rattle.kn_costs.specs.Gauges.{AreBounded, costs, count_none, count_pods}
 use Rattle.kn_costs.specs.Steps.{area}
 use Rattle.kn_costs.proofs.Pods.{pods_in_three}

@@ -2,7 +2,7 @@
 use Rattle.std.specs.Prelude.{ℕ, ◌+◌, ◌-◌, ◌*◌, ◌≤◌, ◌^◌, ◌==◌, max, length, if◌then◌else◌}
 use Rattle.kn_throttle.specs.Gauges.{count_running}
 use Rattle.kn_trace.specs.Scale.{count_ready}
-use Rattle.kn_trace.specs.Trace.{Trace, arrivals, held, is_empty, live, live_pods}
+use Rattle.kn_trace.specs.Trace.{Trace, arrivals, held, live, live_pods}
 use Rattle.kn_teller.specs.Run.{Run, now_of}
 use Rattle.kn_costs.specs.declared.gauges.Costs.{Costs}
 use Rattle.kn_costs.specs.declared.gauges.Now.{Now}

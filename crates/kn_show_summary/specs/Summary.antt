@@ -1,7 +1,6 @@
 -- The summary of a run, and what its teller keeps.
 use Rattle.std.specs.Prelude.{◌≡◌, ℕ, List, [], ◌++◌, length}
 use Rattle.kn_event.specs.Revision.{AreInRange}
-use Rattle.kn_trace.specs.Trace.{Trace}
 use Rattle.kn_teller.specs.Manner.{Manner}
 use Rattle.kn_teller.specs.Run.{Run, now_of, trace}
 use Rattle.kn_begun.specs.Begun.{waits}

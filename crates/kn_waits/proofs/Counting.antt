@@ -1,7 +1,7 @@
 -- Counters by the millisecond, one wait more, and the least wait that is enough.
-use Rattle.std.proofs.Common.{below_more, subst, ◌≡◌, ◌≢◌, ◌+◌, ◌*◌, ◌-◌, ◌<◌, ◌≤◌, ◌^◌, ℕ, zero, suc, Bool, true, false, cond, max, ◌⊎◌, inl, inr, List, [], ◌∷◌, ◌++◌, length, get_or, set, refl, sym, ap, ◌∙◌, add-one, arith, length-append, length-set, get_or-set_same, get_or-set_other}
-use Rattle.std.specs.Prelude.{Option, None, Some, nat_le, nat_lt, ◌==◌}
-use Rattle.std.specs.List.{All, count_by, find, range_with_len, sum, sum_by}
+use Rattle.std.proofs.Common.{below_more, subst, ◌≡◌, ◌≢◌, ◌+◌, ◌*◌, ◌-◌, ◌<◌, ◌≤◌, ◌^◌, ℕ, zero, suc, Bool, true, false, cond, max, ◌⊎◌, inl, inr, List, [], ◌∷◌, ◌++◌, length, get_or, set, refl, sym, ap, ◌∙◌, arith, length-append, length-set, get_or-set_same, get_or-set_other}
+use Rattle.std.specs.Prelude.{None, Some, nat_le, nat_lt, ◌==◌}
+use Rattle.std.specs.List.{All, count_by, find, range_with_len, sum}
 use Rattle.std.proofs.lemmas.Bool.Decides.{nat_tests}
 use Rattle.std.proofs.lemmas.List.{get_or_default}
 use Rattle.std.proofs.lemmas.List.Elements.{All-head, All-push, All-tail}

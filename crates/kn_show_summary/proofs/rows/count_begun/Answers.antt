@@ -1,8 +1,7 @@
-use Rattle.std.proofs.Common.{◌≡◌, ◌<◌, ◌∙◌, ◌+◌, ◌-◌, ◌++◌, ◌∷◌, [], ℕ, List, ap, sym, subst, refl, arith, append-nil, length, length-append}
+use Rattle.std.proofs.Common.{◌≡◌, ◌∙◌, ◌-◌, ◌++◌, ◌∷◌, [], ℕ, List, ap, sym, subst, refl, arith, append-nil, length, length-append}
 use Rattle.std.specs.Prelude.{None, Some}
-use Rattle.kn_trace.specs.Trace.{Trace}
 use Rattle.kn_lives.specs.Lives.{begun_by, life_in}
-use Rattle.kn_begun.specs.Begun.{arrival, wait_by, wait_of, waits}
+use Rattle.kn_begun.specs.Begun.{arrival, wait_by, waits}
 use Rattle.kn_waits.specs.Waits.{AreWaits}
 use Rattle.kn_show_summary.proofs.rows.count_begun.Goals as goal
 

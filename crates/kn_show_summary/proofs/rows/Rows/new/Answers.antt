@@ -1,7 +1,6 @@
-use Rattle.std.proofs.Common.{◌≡◌, [], ◌∙◌, ap, sym, subst, length}
+use Rattle.std.proofs.Common.{◌∙◌, ap, sym, subst}
 use Rattle.kn_event.specs.declared.revision.Spec.{Spec}
 use Rattle.kn_event.specs.Revision.{AreInRange}
-use Rattle.kn_begun.specs.Begun.{waits}
 use Rattle.kn_waits.specs.Waits.{AreWaits}
 use Rattle.kn_show_summary.proofs.rows.Rows.new.Goals as goal
 
