@@ -8,14 +8,13 @@ use Rattle.kn_event.specs.declared.entry.Row.{Row}
 use Rattle.kn_event.specs.declared.entry.Row.TheVariants as row
 use Rattle.kn_event.specs.declared.revision.Spec.{Spec}
 use Rattle.kn_trace.specs.Rows.{arrived_by, assigned_by, ended_by, run_by, taken_by}
-use Rattle.kn_trace.specs.Trace.{Trace, arrivals, assigned, contains, each_row, ended, has_begun, has_not_begun, has_run, waiting}
+use Rattle.kn_trace.specs.Trace.{Trace, arrivals, assigned, each_row, ended, has_begun, has_not_begun, has_run, waiting}
 use Rattle.kn_record.specs.Facts.{Facts}
-use Rattle.kn_record.specs.Made.{Holds, IsMade, IsProper}
+use Rattle.kn_record.specs.Made.{IsMade, IsProper}
 use Rattle.kn_record.specs.Rows.{counted, says}
-use Rattle.kn_record.specs.Views.{others}
 use Rattle.kn_lives.specs.Lives.{begun_by, by_row}
 use Rattle.kn_begun.specs.Begun.{wait_by, wait_of, waits}
-use Rattle.kn_begun.proofs.InTime.{IsWaiting, begins_waiting}
+use Rattle.kn_begun.proofs.InTime.{begins_waiting}
 
 -- ---- how long
 
@@ -37,7 +36,7 @@ length-wait (Some r) c t = refl
 
 -- ---- who waits
 
-nobody_taken : (x : Row) (r : ℕ) → begun_by x ≡ Some r → taken_by x ≡ None
+pub nobody_taken : (x : Row) (r : ℕ) → begun_by x ≡ Some r → taken_by x ≡ None
 nobody_taken (row.Assign q p) r h = refl
 nobody_taken (row.Run q) r h = refl
 nobody_taken _ r h = absurd (cc)
@@ -95,12 +94,12 @@ module _ (append : AppendsRows) (facts : Facts) where
   fewer false false true false true p h = absurd (cc)
   fewer false false true false false p h = absurd (cc)
 
-  still_waits : (c : Trace) (x : Entry) (q : ℕ) → has_not_begun (c ++ x ∷ []) q ≡ true → has_not_begun c q ≡ true
+  pub still_waits : (c : Trace) (x : Entry) (q : ℕ) → has_not_begun (c ++ x ∷ []) q ≡ true → has_not_begun c q ≡ true
   unfolding has_not_begun has_begun
   still_waits c x q h =
       fewer (assigned c q) (has_run c q) (ended c q) (says (assigned_by x.row) q) (says (run_by x.row) q) (says (ended_by x.row) q) (sym (has_not_begun-push c x q) ∙ h)
 
-  waits_no_more : (c : Trace) (x : Entry) (r : ℕ) → begun_by x.row ≡ Some r → (q : ℕ) → has_not_begun (c ++ x ∷ []) q ≡ (has_not_begun c q && not (r == q))
+  pub waits_no_more : (c : Trace) (x : Entry) (r : ℕ) → begun_by x.row ≡ Some r → (q : ℕ) → has_not_begun (c ++ x ∷ []) q ≡ (has_not_begun c q && not (r == q))
   unfolding has_not_begun has_begun
   waits_no_more c x r is q = has_not_begun-push c x q ∙ begins_one x.row r q (assigned c q) (has_run c q) (ended c q) is
 

@@ -1,8 +1,8 @@
 -- Who begins to run had waited less than the timeout.
-use Rattle.std.proofs.Common.{◌≡◌, ℕ, ◌+◌, ◌<◌, ◌≤◌, Bool, true, false, not, cond, ◌&&◌, ◌||◌, ◌⊎◌, inl, inr, List, [], ◌∷◌, ◌++◌, map, refl, sym, ap, ◌∙◌, subst, arith, append-nil, append_assoc}
+use Rattle.std.proofs.Common.{◌≡◌, ℕ, ◌+◌, ◌<◌, ◌≤◌, Bool, true, false, not, ◌&&◌, ◌||◌, List, [], ◌∷◌, ◌++◌, map, refl, sym, ap, ◌∙◌, subst, arith, append-nil, append_assoc}
 use Rattle.std.specs.Prelude.{Option, None, Some, ◌==◌, nat_le, unwrap_or, if◌then◌else◌}
 use Rattle.std.specs.Bool.{then_some}
-use Rattle.std.specs.List.{filter, filter_map, cons_option}
+use Rattle.std.specs.List.{filter_map, cons_option}
 use Rattle.std.proofs.lemmas.Bool.Decides.{nat_tests}
 use Rattle.std.proofs.lemmas.List.Elements.{filter_map-append}
 use Rattle.std.proofs.lemmas.List.Folds.{list_any-append}
@@ -14,14 +14,14 @@ use Rattle.kn_event.specs.declared.revision.Spec.{Spec}
 use Rattle.kn_trace.specs.Events.{act_rows, activation, before_settling, departures, due, due_by, expiries, losses, react}
 use Rattle.kn_trace.specs.Rows.{admitted_by, assigned_by, brought_to, ended_by, run_by, taken_by}
 use Rattle.kn_trace.specs.Settling.{settling}
-use Rattle.kn_trace.specs.Trace.{Trace, assigned, contains, each_row, ended, entry, has_begun, has_not_begun, has_run, held, last_of, live, queued_at}
+use Rattle.kn_trace.specs.Trace.{Trace, assigned, contains, each_row, ended, entry, has_begun, has_not_begun, has_run, held, last_of, queued_at}
 use Rattle.kn_record.specs.Facts.{Facts}
 use Rattle.kn_record.specs.Made.{IsMade, IsNumbered, IsProper}
 use Rattle.kn_record.specs.Rows.{moved_by, says}
 use Rattle.kn_laws.specs.Facts.{PartFacts}
 use Rattle.kn_laws.specs.Kinds.{Each, EachAt, is_expire_row}
 use Rattle.kn_lives.specs.Lives.{begun_by, time_of}
-use Rattle.kn_begun.specs.Begun.{arrival}
+use Rattle.kn_begun.specs.Begun.{BeginInTime, arrival}
 
 -- ---- rows in two parts
 
@@ -248,9 +248,8 @@ module _ (facts : Facts) where
     time_at t [] ys x h = h.0
     time_at t (z ∷ zs) ys x h = time_at t zs ys x h.1
 
-    pub begins_in_time : (s : Spec) (c : Trace) (e : Event) (before rest : Trace) (x : Entry) (r : ℕ) → 0 < s.timeout_ms → IsMade s c → react s c e ≡ before ++ x ∷ rest → begun_by x.row ≡ Some r
-        → x.time < arrival (c ++ before) r + s.timeout_ms
-    begins_in_time s c e before rest x r some made is begins =
+    pub begins_in_time : (s : Spec) (c : Trace) (e : Event) → 0 < s.timeout_ms → IsMade s c → BeginInTime s c e
+    begins_in_time s c e some made before rest x r is begins =
         let t = e.time in
         let gone = expiries s t c in
         let cut = behind gone (later_rows s c e) before rest x r (expiries-rows s t c) (sym (in_parts s c e) ∙ is) begins in

@@ -1,2 +1,3 @@
 mod InTime
 mod Few
+mod Sums

@@ -1,6 +1,9 @@
 -- How long requests waited until they began to run.
-use Rattle.std.specs.Prelude.{ℕ, ◌-◌, List, [], ◌∷◌, Option, None, Some, unwrap_or}
+use Rattle.std.specs.Prelude.{◌≡◌, ℕ, ◌+◌, ◌-◌, ◌<◌, List, [], ◌∷◌, ◌++◌, Option, None, Some, unwrap_or}
 use Rattle.kn_event.specs.declared.entry.Entry.{Entry}
+use Rattle.kn_event.specs.declared.event.Event.{Event}
+use Rattle.kn_event.specs.declared.revision.Spec.{Spec}
+use Rattle.kn_trace.specs.Events.{react}
 use Rattle.kn_trace.specs.Rows.{taken_by}
 use Rattle.kn_trace.specs.Trace.{Trace}
 use Rattle.kn_lives.specs.Lives.{begun_by, by_row, time_of}
@@ -20,3 +23,8 @@ wait_by c x = wait_of (begun_by x.row) c x.time
 -- how long those had waited that have begun to run, in the order in which they did
 unfoldable pub waits : Trace → List ℕ
 waits c = by_row wait_by [] c
+
+-- who begins to run at an event had waited less than the timeout
+abbrev pub BeginInTime : Spec → Trace → Event → Type 0
+BeginInTime s c e = (before rest : Trace) (x : Entry) (r : ℕ) → react s c e ≡ before ++ x ∷ rest → begun_by x.row ≡ Some r
+    → x.time < arrival (c ++ before) r + s.timeout_ms

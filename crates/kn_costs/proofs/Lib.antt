@@ -1,2 +1,4 @@
 mod Timing
 mod Pods
+mod Running
+mod Bounds

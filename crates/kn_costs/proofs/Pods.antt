@@ -1,11 +1,10 @@
 -- The live pods are Starting, Ready or draining.
-use Rattle.std.proofs.Common.{◌≡◌, ℕ, ◌+◌, ◌-◌, ◌^◌, ◌≤◌, Bool, true, false, cond, List, [], ◌∷◌, map, length, refl, sym, ap, ◌∙◌, arith, min}
+use Rattle.std.proofs.Common.{◌≡◌, ℕ, ◌+◌, ◌-◌, ◌^◌, ◌≤◌, cond, List, [], ◌∷◌, map, length, refl, arith, min}
 use Rattle.std.specs.List.{filter}
 use Rattle.kn_event.specs.declared.revision.Spec.{Spec}
 use Rattle.kn_trace.specs.Scale.{count_ready}
-use Rattle.kn_trace.specs.Trace.{Trace, draining, live_pods, ready_pods, starting_pods}
+use Rattle.kn_trace.specs.Trace.{Trace, draining, live_pods, starting_pods}
 use Rattle.kn_record.specs.Admission.{Admission, is_draining_now, is_ready_now, is_starting_now, pods_in}
-use Rattle.kn_record.specs.Made.{StandsFor}
 use Rattle.kn_record.specs.Views.{AreViews, pod_numbers}
 use Rattle.kn_record.specs.declared.admission.Pod.{Pod}
 use Rattle.kn_record.specs.declared.admission.Readiness.{Readiness}

@@ -1,24 +1,19 @@
 -- One event more: what was the most, and what it came to over time.
-use Rattle.std.proofs.Common.{◌≡◌, ℕ, ◌+◌, ◌*◌, ◌-◌, ◌≤◌, Bool, true, false, cond, max, List, [], ◌∷◌, ◌++◌, map, refl, sym, ap, ◌∙◌, append-nil, append_assoc, arith}
-use Rattle.std.specs.Prelude.{Option, None, Some, unwrap_or, ◌==◌, if◌then◌else◌}
+use Rattle.std.proofs.Common.{◌≡◌, ℕ, ◌+◌, ◌*◌, ◌-◌, Bool, true, false, max, List, [], ◌∷◌, ◌++◌, map, refl, sym, ap, ◌∙◌, append-nil, append_assoc, arith}
+use Rattle.std.specs.Prelude.{Some, unwrap_or, ◌==◌, if◌then◌else◌}
 use Rattle.std.specs.List.{sum_by}
-use Rattle.std.proofs.lemmas.List.Sums.{sum_by-append, sum_by_push}
+use Rattle.std.proofs.lemmas.List.Sums.{sum_by_push}
 use Rattle.std.proofs.lemmas.List.{map-append}
-use Rattle.kn_event.specs.declared.entry.Entry.{Entry}
 use Rattle.kn_event.specs.declared.event.Event.{Event}
 use Rattle.kn_event.specs.declared.revision.Spec.{Spec}
 use Rattle.kn_trace.specs.Events.{added, opening, react, trace_of}
-use Rattle.kn_trace.specs.Report.{is_admit, rows_with}
 use Rattle.kn_trace.specs.Scale.{count_ready}
 use Rattle.kn_trace.specs.Trace.{Trace, last_of}
 use Rattle.kn_throttle.specs.Gauges.{count_running}
 use Rattle.kn_teller.specs.Run.{Run, later, now_of, trace}
 use Rattle.kn_waits.specs.Waits.{greatest}
-use Rattle.kn_costs.specs.declared.gauges.Costs.{Costs}
-use Rattle.kn_costs.specs.declared.gauges.Now.{Now}
-use Rattle.kn_costs.specs.declared.gauges.Peaks.{Peaks}
-use Rattle.kn_costs.specs.Gauges.{costs, count_held, count_live, count_none, count_pods, gauges, peaks, with_now, with_time}
-use Rattle.kn_costs.specs.Steps.{Step, area, cold, cold_in, lasting, moments, peak, steps, steps_from}
+use Rattle.kn_costs.specs.Gauges.{costs, count_held, count_live, count_none, count_pods, gauges, nothing_at, peaks, with_now, with_time}
+use Rattle.kn_costs.specs.Steps.{Step, area, cold, cold_at, lasting, moments, peak, steps, steps_from}
 
 steps_from-append : (s : Spec) (c : Trace) (t : ℕ) (es : List Event) (e : Event)
     → steps_from s c t (es ++ e ∷ []) ≡ steps_from s c t es ++ record { before = c ++ added s c es; since = unwrap_or (last_of (map (λ (x : Event). x.time) es)) t; event = e } ∷ []
@@ -74,9 +69,12 @@ pub area-none : (f : Trace → ℕ) (r : Run) → r.events ≡ [] → area f r �
 unfolding area
 area-none f r none = rw (steps-none r none) refl
 
-pub cold-later : (r : Run) (e : Event) → cold (later r e) ≡ cold r + cold_in r.spec (next_step r e)
+abbrev cold_in : Run → Step → ℕ
+cold_in r x = cold_at r.spec x.before x.event
+
+pub cold_next : (r : Run) (e : Event) → cold (later r e) ≡ cold r + cold_at r.spec (trace r) e
 unfolding cold
-cold-later r e = ap (sum_by (cold_in r.spec)) (steps-later r e) ∙ sum_by_push (cold_in r.spec) (steps r) (next_step r e)
+cold_next r e = ap (sum_by (cold_in r)) (steps-later r e) ∙ sum_by_push (cold_in r) (steps r) (next_step r e)
 
 pub cold-none : (r : Run) → r.events ≡ [] → cold r ≡ 0
 unfolding cold
@@ -95,15 +93,15 @@ clock-none r none = rw none refl
 
 -- ---- the gauges of a run
 
-pub peaks_first : (r : Run) (n : Now) (p : Peaks) → r.events ≡ [] → n ≡ gauges (trace r) → p ≡ record { pods = 0; ready = 0; held = 0; live = 0 } → with_now n p ≡ peaks r
+pub peaks_first : (r : Run) → r.events ≡ [] → peaks r ≡ with_now (gauges (trace r)) (nothing_at r.start).peaks
 unfolding peaks gauges
-peaks_first r n p none is zeros = rw (is, zeros, peak-none count_pods r none, peak-none count_ready r none, peak-none count_held r none, peak-none count_live r none) refl
+peaks_first r none = rw (peak-none count_pods r none, peak-none count_ready r none, peak-none count_held r none, peak-none count_live r none) refl
 
-pub peaks_next : (r : Run) (e : Event) (n : Now) (p : Peaks) → n ≡ gauges (trace (later r e)) → p ≡ peaks r → with_now n p ≡ peaks (later r e)
+pub peaks_next : (r : Run) (e : Event) → peaks (later r e) ≡ with_now (gauges (trace (later r e))) (peaks r)
 unfolding peaks gauges
-peaks_next r e n p is before = rw (is, before, peak-later count_pods r e, peak-later count_ready r e, peak-later count_held r e, peak-later count_live r e) refl
+peaks_next r e = rw (peak-later count_pods r e, peak-later count_ready r e, peak-later count_held r e, peak-later count_live r e) refl
 
-pub costs_first : (r : Run) → r.events ≡ [] → costs r ≡ record { at_zero = 0; pods = 0; ready = 0; running = 0 }
+pub costs_first : (r : Run) → r.events ≡ [] → costs r ≡ (nothing_at r.start).costs
 unfolding costs
 costs_first r none = rw (area-none count_none r none, area-none count_pods r none, area-none count_ready r none, area-none count_running r none) refl
 
@@ -114,28 +112,7 @@ none_lasts n ms = by (n == 0)
     by true = omega arith
     by false = omega arith
 
-pub costs_next : (r : Run) (e : Event) (ms : ℕ) (n : Now) (t : Costs) → ms ≡ e.time - now_of r → n ≡ gauges (trace r) → t ≡ costs r → with_time ms n t ≡ costs (later r e)
+pub costs_next : (r : Run) (e : Event) → costs (later r e) ≡ with_time (e.time - now_of r) (gauges (trace r)) (costs r)
 unfolding costs gauges
-costs_next r e ms n t long is before =
-    rw (is, before, long, none_lasts (count_pods (trace r)) (e.time - now_of r), area-later count_none r e, area-later count_pods r e, area-later count_ready r e, area-later count_running r e) refl
-
--- ---- admissions while no pod is Ready
-
-pub cold_next : (r : Run) (e : Event) (log : Trace) (ready more : ℕ) → log ≡ react r.spec (trace r) e → trace (later r e) ≡ trace r ++ log → ready ≡ count_ready (trace r)
-    → more ≡ (if ready == 0 then rows_with is_admit (trace (later r e)) - rows_with is_admit (trace r) else 0) → cold r + more ≡ cold (later r e)
-cold_next r e log ready more rows whole is said = by (ready == 0) refl
-  where
-    both : rows_with is_admit (trace (later r e)) ≡ rows_with is_admit (trace r) + rows_with is_admit (react r.spec (trace r) e)
-    both = ap (rows_with is_admit) (whole ∙ ap (λ (l : Trace). trace r ++ l) rows) ∙ sum_by-append (λ (x : Entry). cond (is_admit x.row) 1 0) (trace r) (react r.spec (trace r) e)
-
-    by : (b : Bool) → (ready == 0) ≡ b → cold r + more ≡ cold (later r e)
-    by true zero =
-        let same : (count_ready (trace r) == 0) ≡ true = ap (λ (n : ℕ). n == 0) (sym is) ∙ zero in
-        let here : cold_in r.spec (next_step r e) ≡ rows_with is_admit (react r.spec (trace r) e) = rw same refl in
-        let more_is : more ≡ rows_with is_admit (trace (later r e)) - rows_with is_admit (trace r) = rw zero at said in
-        omega (arith, cold-later r e, here, more_is, both)
-    by false some =
-        let same : (count_ready (trace r) == 0) ≡ false = ap (λ (n : ℕ). n == 0) (sym is) ∙ some in
-        let here : cold_in r.spec (next_step r e) ≡ 0 = rw same refl in
-        let more_is : more ≡ 0 = rw some at said in
-        omega (arith, cold-later r e, here, more_is)
+costs_next r e =
+    rw (none_lasts (count_pods (trace r)) (e.time - now_of r), area-later count_none r e, area-later count_pods r e, area-later count_ready r e, area-later count_running r e) refl

@@ -2,8 +2,8 @@
 use Rattle.std.specs.Prelude.{ℕ, ◌+◌, ◌-◌, ◌*◌, ◌≤◌, ◌^◌, ◌==◌, max, length, if◌then◌else◌}
 use Rattle.kn_throttle.specs.Gauges.{count_running}
 use Rattle.kn_trace.specs.Scale.{count_ready}
-use Rattle.kn_trace.specs.Trace.{Trace, arrivals, held, is_empty, live, live_pods}
-use Rattle.kn_teller.specs.Run.{Run}
+use Rattle.kn_trace.specs.Trace.{Trace, arrivals, held, live, live_pods}
+use Rattle.kn_teller.specs.Run.{Run, now_of}
 use Rattle.kn_costs.specs.declared.gauges.Costs.{Costs}
 use Rattle.kn_costs.specs.declared.gauges.Now.{Now}
 use Rattle.kn_costs.specs.declared.gauges.Peaks.{Peaks}
@@ -45,6 +45,15 @@ pub record GaugesState : Type 0 where
   pub peaks : Peaks
   pub costs : Costs
 
+-- before the first event of a run from this time
+abbrev pub nothing_at : ℕ → GaugesState
+nothing_at start = record {
+  clock = start;
+  present = record { arrivals = 0; live = 0; held = 0; pods = 0; ready = 0; running = 0 };
+  peaks = record { pods = 0; ready = 0; held = 0; live = 0 };
+  costs = record { at_zero = 0; pods = 0; ready = 0; running = 0 };
+}
+
 abbrev pub with_now : Now → Peaks → Peaks
 with_now n p = record { pods = max p.pods n.pods; ready = max p.ready n.ready; held = max p.held n.held; live = max p.live n.live }
 
@@ -62,3 +71,10 @@ pub record AreFew (clock : ℕ) (t : Costs) : Type 0 where
   pub pods : t.pods ≤ (2 ^ 64 - 1) * clock
   pub ready : t.ready ≤ (2 ^ 64 - 1) * clock
   pub running : t.running ≤ (2 ^ 64 - 1) * clock
+
+-- up to the last event at most 20,500 pods lived all the time, and 20,000 requests ran
+pub record AreBounded (r : Run) : Type 0 where
+  pub at_zero : (costs r).at_zero ≤ now_of r - r.start
+  pub pods : (costs r).pods ≤ 20500 * (now_of r - r.start)
+  pub ready : (costs r).ready ≤ 20500 * (now_of r - r.start)
+  pub running : (costs r).running ≤ 20000 * (now_of r - r.start)

@@ -38,9 +38,9 @@ lasting f x = f x.before * (x.event.time - x.since)
 unfoldable pub area : (Trace → ℕ) → Run → ℕ
 area f r = sum_by (lasting f) (steps r)
 
--- who is admitted at an event while no pod is Ready
-abbrev pub cold_in : Spec → Step → ℕ
-cold_in s x = if count_ready x.before == 0 then rows_with is_admit (react s x.before x.event) else 0
+-- how many are admitted at an event while no pod is Ready
+abbrev pub cold_at : Spec → Trace → Event → ℕ
+cold_at s c e = if count_ready c == 0 then rows_with is_admit (react s c e) else 0
 
 unfoldable pub cold : Run → ℕ
-cold r = sum_by (cold_in r.spec) (steps r)
+cold r = sum_by (λ (x : Step). cold_at r.spec x.before x.event) (steps r)

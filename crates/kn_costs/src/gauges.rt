@@ -3,7 +3,7 @@ ghost use Rattle.std.specs.Prelude.{◌≡◌, ◌-◌, ◌<◌, ◌^◌, max};
 ghost use Rattle.kn_event.specs.Revision.{AreInRange};
 ghost use Rattle.kn_core.specs.State.{StandsFor};
 ghost use Rattle.kn_teller.specs.Run.{Run, trace};
-ghost use Rattle.kn_costs.specs.Gauges.{gauges, with_now, with_time};
+ghost use Rattle.kn_costs.specs.Gauges.{count_pods, gauges, nothing_at, with_now, with_time};
 
 use kn_core::Revision;
 use kn_record::append::append_laws;
@@ -47,7 +47,7 @@ pub struct Costs {
 
 /// How many pods a revision has.
 fn count_pods(revision: &Revision) -> u64
-    ensures { (r : Run) → AreInRange r.spec → StandsFor revision.now (trace r) → result ≡ (gauges (trace r)).pods }
+    ensures { (r : Run) → AreInRange r.spec → StandsFor revision.now (trace r) → result ≡ count_pods (trace r) }
 {
     append_laws();
     size_laws();
@@ -97,7 +97,7 @@ impl Model for Gauges {
 impl Gauges {
     /// Nothing yet, at this time.
     pub fn new(start: u64) -> Gauges
-        ensures { result ≡ record { clock = start; present = record { arrivals = 0; live = 0; held = 0; pods = 0; ready = 0; running = 0 }; peaks = record { pods = 0; ready = 0; held = 0; live = 0 }; costs = record { at_zero = 0; pods = 0; ready = 0; running = 0 } } }
+        ensures { result ≡ nothing_at start }
     {
         Gauges {
             clock: start,

@@ -1,12 +1,11 @@
 -- The summary of a run, and what its teller keeps.
 use Rattle.std.specs.Prelude.{◌≡◌, ℕ, List, [], ◌++◌, length}
 use Rattle.kn_event.specs.Revision.{AreInRange}
-use Rattle.kn_trace.specs.Trace.{Trace}
 use Rattle.kn_teller.specs.Manner.{Manner}
 use Rattle.kn_teller.specs.Run.{Run, now_of, trace}
 use Rattle.kn_begun.specs.Begun.{waits}
 use Rattle.kn_show_summary.specs.Counted.{counted}
-use Rattle.kn_costs.specs.Gauges.{GaugesState, costs, gauges, peaks}
+use Rattle.kn_costs.specs.Gauges.{GaugesState, costs, gauges, nothing_at, peaks}
 use Rattle.kn_show_summary.specs.Rows.{AreRowsOf, RowsState}
 use Rattle.kn_costs.specs.Steps.{cold}
 use Rattle.kn_show_summary.specs.Text.{pods_text, requests_text, waits_text}
@@ -32,9 +31,7 @@ pub record SummaryState : Type 0 where
 pub record AwaitsRun (x : SummaryState) (r : Run) : Type 0 where
   pub ranges : AreInRange r.spec
   pub start : x.start ≡ r.start
-  pub clock : x.gauges.clock ≡ r.start
-  pub peaks : x.gauges.peaks ≡ record { pods = 0; ready = 0; held = 0; live = 0 }
-  pub costs : x.gauges.costs ≡ record { at_zero = 0; pods = 0; ready = 0; running = 0 }
+  pub gauges : x.gauges ≡ nothing_at r.start
   pub cold : x.cold ≡ 0
   pub rows : AreRowsOf x.rows r.spec [] []
 

@@ -1,11 +1,10 @@
 //! Rows by kind, and decisions by what was wanted before them.
 ghost use Rattle.std.specs.Prelude.{◌≡◌, ◌+◌, ◌<◌, ◌≤◌, ◌^◌, [], true, false, max};
-ghost use Rattle.kn_event.specs.declared.revision.Spec.{Spec as SpecValue};
 ghost use Rattle.kn_show_summary.specs.Counted.{CountsRow, counted, more_where, with_decision};
 
 mod text;
 
-use kn_event::{Decision, Row};
+use kn_event::{Decision, Row, Spec};
 use std::marker::Model;
 
 /// How many rows of each kind there were, and how many pods are wanted.
@@ -52,11 +51,11 @@ fn more_where(test: bool, n: u128) -> u128
 }
 
 impl Counts {
-    /// No row yet, of a revision that opens with so many pods wanted.
+    /// No row yet, of a revision of this specification.
     #[tactic(auto, unfolding(crate::specs::Counted::counted, crate::specs::Counted::wakes, crate::specs::Counted::wanted_changes, kn_lives::specs::Lives::by_row, kn_trace::specs::Scale::wanted))]
-    pub fn new(initial: u64, min: u64) -> Counts
+    pub fn new(spec: &Spec) -> Counts
         ensures rows { result.rows ≡ 0 }
-        ensures counted { (s : SpecValue) → s.initial ≡ initial → s.min ≡ min → result.counted ≡ counted s [] }
+        ensures counted { result.counted ≡ counted spec.now [] }
     {
         Counts {
             admitted: 0,
@@ -75,7 +74,7 @@ impl Counts {
             panicking: 0,
             wakes: 0,
             changes: 0,
-            wanted: initial.max(min),
+            wanted: spec.initial.max(spec.min),
         }
     }
 

@@ -1,19 +1,14 @@
 //! What is kept row by row: counts, waits, and who lives.
-ghost use Rattle.std.specs.Prelude.{◌≡◌, ℕ, ◌+◌, ◌-◌, ◌<◌, ◌≤◌, ◌^◌, ◌++◌, ◌∷◌, [], List, length, IfOk, Some, unwrap_or};
-ghost use Rattle.kn_event.specs.declared.event.Event.{Event as EventValue};
-ghost use Rattle.kn_event.specs.declared.revision.Spec.{Spec as SpecValue};
-ghost use Rattle.kn_trace.specs.Events.{react, trace_of};
-ghost use Rattle.kn_trace.specs.Trace.{Trace, arrivals};
+ghost use Rattle.std.specs.Prelude.{◌≡◌, ◌+◌, ◌-◌, ◌<◌, ◌≤◌, ◌^◌, [], length, IfOk, OnOk, Some};
+ghost use Rattle.kn_event.specs.Revision.{AreInRange};
 ghost use Rattle.kn_lives.specs.declared.lives.Life.{Life as LifeValue};
-ghost use Rattle.kn_lives.specs.Lives.{AreLives, begun_by, life_at, tag_by};
-ghost use Rattle.kn_begun.specs.Begun.{waits};
-ghost use Rattle.kn_waits.specs.Waits.{AreWaits};
-ghost use Rattle.kn_show_summary.specs.Counted.{counted};
-ghost use Rattle.kn_show_summary.specs.Rows.{AreRowsOf, CanCount};
+ghost use Rattle.kn_lives.specs.Lives.{begun_by, life_at};
+ghost use Rattle.kn_waits.specs.Waits.{AddsWait};
+ghost use Rattle.kn_show_summary.specs.Rows.{AreRowsOf, CountsAll, CountsBegun, GoesOnBy, GoesOnUpTo};
 
 use crate::counts::Counts;
 use kn_begun::begin_laws;
-use kn_event::{Entry, EntryLog, Memory, Row};
+use kn_event::{Entry, EntryLog, Memory, Row, Spec};
 use kn_lives::Lives;
 use kn_lives::laws::{lives_laws, row_laws};
 use kn_record::facts::fact_laws;
@@ -69,7 +64,7 @@ fn waited(lives: &Lives, r: u64, time: u64) -> u64
 /// Counts a wait. One at the limit or beyond would be counted as the longest below it, but there is none.
 fn count_wait(waits: &mut Waits, wait: u64)
     ensures limit { length waits.new.counters ≡ length waits.old.counters }
-    ensures waits { (ws : List ℕ) → AreWaits waits.old ws → wait < length waits.old.counters → length ws + 1 < 2 ^ 64 → AreWaits waits.new (ws ++ wait ∷ []) }
+    ensures waits { wait < length waits.old.counters → AddsWait wait waits.old waits.new }
 {
     let longest = waits.limit() - 1;
     waits.add(wait.min(longest));
@@ -78,7 +73,7 @@ fn count_wait(waits: &mut Waits, wait: u64)
 /// Counts how long a request had waited that begins to run with an entry.
 fn count_begun(kept: &mut Waits, lives: &Lives, e: &Entry)
     ensures limit { length kept.new.counters ≡ length kept.old.counters }
-    ensures waits { (s : SpecValue) (es : List EventValue) (tag : ℕ) (c : Trace) → CanCount s es tag c e.now → length kept.old.counters ≡ s.timeout_ms → AreLives lives.now es c → AreWaits kept.old (waits c) → AreWaits kept.new (waits (c ++ e.now ∷ [])) }
+    ensures waits { CountsBegun e.now lives.now kept.old kept.new }
 {
     fact_laws();
     begin_laws();
@@ -93,17 +88,17 @@ fn count_begun(kept: &mut Waits, lives: &Lives, e: &Entry)
 }
 
 impl Rows {
-    /// No row yet.
-    pub fn new(alloc: Global, initial: u64, min: u64, timeout_ms: u64) -> Result<Rows, Memory>
-        requires { 0 < timeout_ms }
+    /// No row yet, of a run of this specification.
+    pub fn new(alloc: Global, spec: &Spec) -> Result<Rows, Memory>
         ensures rows { IfOk result (λ x. x.counts.rows ≡ 0) }
-        ensures kept { IfOk result (λ x. (s : SpecValue) → s.initial ≡ initial → s.min ≡ min → s.timeout_ms ≡ timeout_ms → AreRowsOf x s [] []) }
+        ensures kept { IfOk result (λ x. AreRowsOf x spec.now [] []) }
+        ensures ranges { OnOk result (AreInRange spec.now) }
     {
         begin_laws();
-        let waits = Waits::new(alloc, timeout_ms)?;
+        let waits = Waits::new(alloc, spec.timeout_ms)?;
         let lives = Lives::new(alloc)?;
         Ok(Rows {
-            counts: Counts::new(initial, min),
+            counts: Counts::new(spec),
             waits,
             lives,
         })
@@ -114,7 +109,7 @@ impl Rows {
         requires { self.old.counts.rows < 2 ^ 127 }
         ensures rows { self.new.counts.rows ≡ self.old.counts.rows + 1 }
         ensures admitted { self.old.counts.counted.admitted ≤ self.new.counts.counted.admitted }
-        ensures kept { (s : SpecValue) (es : List EventValue) (c : Trace) → CanCount s es tag c e.now → AreRowsOf self.old s es c → AreRowsOf self.new s es (c ++ e.now ∷ []) }
+        ensures kept { GoesOnBy tag e.now self.old self.new }
     {
         fact_laws();
         self.counts.add(&e.row);
@@ -128,7 +123,7 @@ impl Rows {
         ensures rows { self.new.counts.rows ≡ self.old.counts.rows + length log.now }
         ensures few { length log.now < 2 ^ 64 }
         ensures admitted { self.old.counts.counted.admitted ≤ self.new.counts.counted.admitted }
-        ensures kept { (s : SpecValue) (start : ℕ) (es : List EventValue) (e : EventValue) → 0 < s.timeout_ms → log.now ≡ react s (trace_of s start es) e → tag ≡ unwrap_or (tag_by e.act) 0 → arrivals (trace_of s start es ++ log.now) < 2 ^ 64 → AreRowsOf self.old s (es ++ e ∷ []) (trace_of s start es) → AreRowsOf self.new s (es ++ e ∷ []) (trace_of s start es ++ log.now) }
+        ensures kept { GoesOnUpTo log.now tag log.now self.old self.new }
     {
         fact_laws();
         begin_laws();
@@ -146,7 +141,7 @@ impl Rows {
         ensures admitted { self.old.counts.counted.admitted ≤ self.new.counts.counted.admitted }
         ensures waits { self.new.waits ≡ self.old.waits }
         ensures lives { self.new.lives ≡ self.old.lives }
-        ensures counted { (s : SpecValue) (c : Trace) → self.old.counts.counted ≡ counted s c → self.new.counts.counted ≡ counted s (c ++ log.now) }
+        ensures counted { CountsAll log.now self.old.counts self.new.counts }
     {
         fact_laws();
         for e in log.entries() {

@@ -254,7 +254,7 @@ impl Form<Summary> for SummaryForm {
     ghost writes = { λ form. summarises };
 
     fn make(&self, alloc: Global, spec: &Spec, start: u64) -> Result<Summary, Memory> {
-        let rows = Rows::new(alloc, spec.initial, spec.min, spec.timeout_ms)?;
+        let rows = Rows::new(alloc, spec)?;
         Ok(Summary {
             start,
             gauges: Gauges::new(start),

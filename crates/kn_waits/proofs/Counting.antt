@@ -1,12 +1,12 @@
 -- Counters by the millisecond, one wait more, and the least wait that is enough.
-use Rattle.std.proofs.Common.{subst, ◌≡◌, ◌≢◌, ◌+◌, ◌*◌, ◌-◌, ◌<◌, ◌≤◌, ◌^◌, ℕ, zero, suc, Bool, true, false, cond, max, ◌⊎◌, inl, inr, List, [], ◌∷◌, ◌++◌, length, get_or, set, refl, sym, ap, ◌∙◌, add-one, arith, length-append, length-set, get_or-set_same, get_or-set_other}
-use Rattle.std.specs.Prelude.{Option, None, Some, nat_le, nat_lt, ◌==◌}
-use Rattle.std.specs.List.{All, count_by, find, range_with_len, sum, sum_by}
+use Rattle.std.proofs.Common.{below_more, subst, ◌≡◌, ◌≢◌, ◌+◌, ◌*◌, ◌-◌, ◌<◌, ◌≤◌, ◌^◌, ℕ, zero, suc, Bool, true, false, cond, max, ◌⊎◌, inl, inr, List, [], ◌∷◌, ◌++◌, length, get_or, set, refl, sym, ap, ◌∙◌, arith, length-append, length-set, get_or-set_same, get_or-set_other}
+use Rattle.std.specs.Prelude.{None, Some, nat_le, nat_lt, ◌==◌}
+use Rattle.std.specs.List.{All, count_by, find, range_with_len, sum}
 use Rattle.std.proofs.lemmas.Bool.Decides.{nat_tests}
 use Rattle.std.proofs.lemmas.List.{get_or_default}
 use Rattle.std.proofs.lemmas.List.Elements.{All-head, All-push, All-tail}
 use Rattle.std.proofs.lemmas.List.Sums.{sum_by-cons, sum_by_push, count_by-le-length}
-use Rattle.kn_waits.specs.Waits.{AreWaits, WaitsState, count_up_to, greatest, is_enough, percentile}
+use Rattle.kn_waits.specs.Waits.{AreWaits, IsLeastEnough, WaitsState, count_up_to, greatest, is_enough, percentile}
 
 -- ---- how many waited less than, just, and at most so long
 
@@ -161,6 +161,36 @@ percentile_is q n (x ∷ xs) w share some is before =
 pub enough_below : (q n limit : ℕ) (ws : List ℕ) → q ≤ n → 0 < limit → All (λ v. v < limit) ws → ((v : ℕ) → v < limit → is_enough q n ws v ≡ false) → ⊥
 enough_below q n limit ws share some all before =
     differ (sym (before (greatest ws) (greatest_below limit ws some all)) ∙ enough_at q n ws (greatest ws) share (omega arith))
+
+-- of an interval where one passes, the least that does
+least_from : (p : ℕ → Bool) (a n g : ℕ) → a ≤ g → g < a + n → p g ≡ true → ((v : ℕ) → v < a → p v ≡ false)
+    → (w : ℕ) × (find p (range_with_len a n) ≡ Some w) × (p w ≡ true) × ((v : ℕ) → v < w → p v ≡ false)
+least_from p a zero g low high passes before = absurd (omega arith)
+least_from p a (suc n) g low high passes before = by (p a) refl (λ off. least_from p (a + 1) n g (above off (apart a g)) (omega arith) passes (below_more _ a before off))
+  where
+    above : p a ≡ false → (a ≡ g) ⊎ (a ≢ g) → a + 1 ≤ g
+    above off (inl e) = absurd (differ (sym off ∙ ap p e ∙ passes))
+    above off (inr ne) = omega arith
+
+    by : (b : Bool) → p a ≡ b
+        → (p a ≡ false → (w : ℕ) × (find p (range_with_len (a + 1) n) ≡ Some w) × (p w ≡ true) × ((v : ℕ) → v < w → p v ≡ false))
+        → (w : ℕ) × (cond (p a) (Some a) (find p (range_with_len (a + 1) n)) ≡ Some w) × (p w ≡ true) × ((v : ℕ) → v < w → p v ≡ false)
+    by true e later = (a, rw e refl, e, before)
+    by false e later = let found = later e in (found.0, rw e found.1, found.2, found.3)
+
+means : (a b : ℕ) → nat_le a b ≡ true → a ≤ b
+means a b h = grind (arith, nat_tests)
+
+means_not : (a b : ℕ) → nat_le a b ≡ false → b < a
+means_not a b h = grind (arith, nat_tests)
+
+pub percentile_least : (q n : ℕ) (ws : List ℕ) → q ≤ n → 0 < length ws → IsLeastEnough q n ws (percentile q n ws)
+unfolding percentile
+percentile_least q n [] share some = absurd (omega arith)
+percentile_least q n (x ∷ xs) share some =
+    let ws = x ∷ xs in
+    let found = least_from (is_enough q n ws) 0 (greatest ws + 1) (greatest ws) (omega arith) (omega arith) (enough_at q n ws (greatest ws) share (omega arith)) (λ v h. absurd (omega arith)) in
+    subst (IsLeastEnough q n ws) (sym found.1) (means _ _ found.2, λ v h. means_not _ _ (found.3 v h))
 
 -- where nobody waited
 pub percentile_none : (q n : ℕ) (ws : List ℕ) → length ws ≡ 0 → percentile q n ws ≡ None

@@ -1,5 +1,5 @@
 ghost use Rattle.std.specs.Prelude.{◌≡◌, ℕ, ◌+◌, ◌<◌, ◌≤◌, ◌^◌, ◌++◌, ◌∷◌, [], List, length, IfOk, OnOk};
-ghost use Rattle.kn_waits.specs.Waits.{AreWaits, percentile};
+ghost use Rattle.kn_waits.specs.Waits.{AddsWait, AreWaits, percentile};
 
 use kn_event::Memory;
 use std::alloc::Global;
@@ -65,7 +65,7 @@ impl Waits {
     pub fn add(&mut self, wait: u64)
         requires { wait < length self.old.counters }
         ensures limit { length self.new.counters ≡ length self.old.counters }
-        ensures waits { (ws : List ℕ) → AreWaits self.old ws → length ws + 1 < 2 ^ 64 → AreWaits self.new (ws ++ wait ∷ []) }
+        ensures waits { AddsWait wait self.old self.new }
     {
         let at = wait as usize;
         self.counters[at] = self.counters[at].saturating_add(1);

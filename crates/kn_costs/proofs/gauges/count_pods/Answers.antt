@@ -1,11 +1,9 @@
 use Rattle.std.proofs.Common.{arith}
 use Rattle.kn_teller.specs.Run.{trace}
-use Rattle.kn_costs.specs.Gauges.{gauges}
 use Rattle.kn_costs.proofs.Pods.{pods_in_three, unstopped}
 use Rattle.kn_costs.proofs.gauges.count_pods.Goals as goal
 
 pub returns : goal.returns
-unfolding gauges
 returns c r ranges stands =
     unstopped _ _ _ _ c.saturating_add.result _
     (pods_in_three r.spec _ (trace r) (c.append_laws.ensures.views r.spec _ (trace r) stands.parts.admission))

@@ -1,8 +1,7 @@
-use Rattle.std.proofs.Common.{◌≡◌, ◌<◌, ◌∙◌, ◌+◌, ◌-◌, ◌++◌, ◌∷◌, [], ℕ, List, ap, sym, subst, refl, arith, append-nil, length, length-append}
+use Rattle.std.proofs.Common.{◌≡◌, ◌∙◌, ◌-◌, ◌++◌, ◌∷◌, [], ℕ, List, ap, sym, subst, refl, arith, append-nil, length, length-append}
 use Rattle.std.specs.Prelude.{None, Some}
-use Rattle.kn_trace.specs.Trace.{Trace}
 use Rattle.kn_lives.specs.Lives.{begun_by, life_in}
-use Rattle.kn_begun.specs.Begun.{arrival, wait_by, wait_of, waits}
+use Rattle.kn_begun.specs.Begun.{arrival, wait_by, waits}
 use Rattle.kn_waits.specs.Waits.{AreWaits}
 use Rattle.kn_show_summary.proofs.rows.count_begun.Goals as goal
 
@@ -20,7 +19,7 @@ returns-in-Some-clause-waits c s es tag t can limit lives are =
     let few = c.begin_laws.ensures.few s (t ++ e ∷ []) made in
     let size = ap length next ∙ length-append (waits t) (c.waited-wait.result ∷ []) in
     subst (AreWaits c.count_wait.new.waits) (sym next)
-    (c.count_wait.ensures.waits (waits t) are (omega (arith, wait, can.in_time r begins, can.some, limit)) (omega (arith, size, few, can.few)))
+    (c.count_wait.ensures.waits (omega (arith, wait, can.in_time r begins, can.some, limit)) (waits t) are (omega (arith, size, few, can.few)))
 
 pub returns-in-None-clause-waits : goal.returns-in-None-clause-waits
 returns-in-None-clause-waits c s es tag t can limit lives are =

@@ -1,4 +1,4 @@
-use Rattle.std.proofs.Common.{◌∙◌, [], ◌++◌, ◌≡◌, ℕ, List, ap, length, sym}
+use Rattle.std.proofs.Common.{[]}
 use Rattle.kn_show_summary.specs.Text.{waits_text}
 use Rattle.kn_show_summary.proofs.Pieces.{four_pieces}
 use Rattle.kn_show_summary.proofs.summary.put_waits.Goals as goal

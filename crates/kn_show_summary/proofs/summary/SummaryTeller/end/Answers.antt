@@ -1,4 +1,4 @@
-use Rattle.std.proofs.Common.{◌≡◌, ◌∙◌}
+use Rattle.std.proofs.Common.{◌∙◌}
 use Rattle.kn_begun.specs.Begun.{waits}
 use Rattle.kn_teller.specs.Run.{trace}
 use Rattle.kn_show_summary.specs.Summary.{summary}

@@ -1,12 +1,13 @@
 use Rattle.std.proofs.Common.{◌≡◌, ◌≤◌, ◌∙◌, [], ℕ, List, ap, sym, subst, arith, length}
 use Rattle.kn_event.specs.declared.event.Event.{Event}
 use Rattle.kn_trace.specs.Events.{trace_of}
-use Rattle.kn_trace.specs.Trace.{arrivals}
 use Rattle.kn_teller.specs.Run.{trace}
 use Rattle.kn_lives.specs.declared.lives.Life.{Life}
 use Rattle.kn_lives.specs.Lives.{AreLives}
 use Rattle.kn_begun.specs.Begun.{waits}
 use Rattle.kn_waits.specs.Waits.{AreWaits, WaitsState}
+use Rattle.kn_costs.specs.declared.gauges.Now.{Now}
+use Rattle.kn_costs.specs.Gauges.{GaugesState, nothing_at, with_now}
 use Rattle.kn_show_summary.specs.Counted.{counted}
 use Rattle.kn_show_summary.specs.Summary.{AwaitsRun, SummaryState}
 use Rattle.kn_show_summary.proofs.Runs.{no_tags, nothing}
@@ -22,10 +23,12 @@ returns-clause-knows g c r awaits opened =
     record {
       ranges = held.ranges;
       start = held.start;
-      clock = c.see.ensures.clock ∙ held.clock ∙ sym (c.run_laws.ensures.clock_first r none);
+      clock = c.see.ensures.clock ∙ ap (λ (g : GaugesState). g.clock) held.gauges ∙ sym (c.run_laws.ensures.clock_first r none);
       present = c.see.ensures.present ∙ c.of.ensures.value r held.ranges opened.stands;
-      peaks = c.see.ensures.peaks ∙ c.run_laws.ensures.peaks_first r c.of.result _ none (c.of.ensures.value r held.ranges opened.stands) held.peaks;
-      costs = c.see.ensures.costs ∙ held.costs ∙ sym (c.run_laws.ensures.costs_first r none);
+      peaks =
+          c.see.ensures.peaks ∙ ap (λ (g : GaugesState). with_now c.of.result g.peaks) held.gauges
+          ∙ ap (λ (n : Now). with_now n (nothing_at r.start).peaks) (c.of.ensures.value r held.ranges opened.stands) ∙ sym (c.run_laws.ensures.peaks_first r none);
+      costs = c.see.ensures.costs ∙ ap (λ (g : GaugesState). g.costs) held.gauges ∙ sym (c.run_laws.ensures.costs_first r none);
       cold = held.cold ∙ sym (c.run_laws.ensures.cold_first r none);
       rows = record {
         counted = c.add_opening.ensures.counted r.spec [] held.rows.counted ∙ ap (counted r.spec) (sym opened.trace_is);

@@ -1,7 +1,5 @@
-use Rattle.std.proofs.Common.{◌≡◌, ◌<◌, ◌≤◌, ◌*◌, ◌∙◌, ◌+◌, ℕ, List, false, length, subst, sym, refl, arith, get_or, below_more}
-use Rattle.std.specs.Prelude.{nat_lt}
-use Rattle.std.specs.List.{count_by}
-use Rattle.kn_waits.specs.Waits.{AreWaits, WaitsState, count_up_to, is_enough}
+use Rattle.std.proofs.Common.{◌≡◌, ◌∙◌, ℕ, List, length, subst, sym, arith, below_more}
+use Rattle.kn_waits.specs.Waits.{AreWaits, WaitsState, count_up_to}
 use Rattle.kn_waits.proofs.Counting.{below_next, below_zero, enough_below, enough_is, not_enough_is, percentile_is, percentile_none, waited_next}
 use Rattle.kn_waits.proofs.waits.Waits.percentile.Goals as goal
 
