@@ -4,7 +4,7 @@ use Rattle.std.specs.Prelude.{◌==◌}
 use Rattle.std.specs.List.{All, filter}
 use Rattle.std.specs.Map.{set_value}
 use Rattle.std.proofs.lemmas.Bool.{eq-eqb, eqb-true}
-use Rattle.std.proofs.lemmas.List.{get_or-map, get_or_default, length-map, length-set}
+use Rattle.std.proofs.lemmas.List.{get_or-map, length-map}
 use Rattle.std.proofs.lemmas.List.Kept.{AllPairs-filter}
 use Rattle.std.proofs.lemmas.List.Quantifiers.{all_pairs_push}
 use Rattle.kn_lives.specs.declared.lives.Life.{Life}
@@ -146,22 +146,6 @@ swept_below r xs all k d inside =
 
 -- ---- order
 
-number-set : (xs : List Slot) (i : ℕ) (y d : Slot) → i < length xs → ((e : Slot) → y.number ≡ (get_or xs i e).number) → (j : ℕ) → (get_or (set xs i y) j d).number ≡ (get_or xs j d).number
-number-set [] i y d inside same j = refl
-number-set (x ∷ xs) zero y d inside same zero = same x
-number-set (x ∷ xs) zero y d inside same (suc j) = refl
-number-set (x ∷ xs) (suc i) y d inside same zero = refl
-number-set (x ∷ xs) (suc i) y d inside same (suc j) = number-set xs i y d (omega arith) same j
-
--- a write that keeps the number
-pub order-set : (xs : List Slot) (i : ℕ) (x y : Slot) → AreAscending xs → i < length xs → x ≡ get_or xs i x → y.number ≡ x.number → AreAscending (set xs i y)
-order-set xs i x y pairs inside read number j k d lt end =
-    let same : (e : Slot) → y.number ≡ (get_or xs i e).number = λ e. number ∙ ap (λ (s : Slot). s.number) (read ∙ get_or_default xs i x e inside) in
-    let first = number-set xs i y d inside same j in
-    let second = number-set xs i y d inside same k in
-    let old = pairs j k d lt (omega (arith, end, length-set xs i y)) in
-    omega (arith, first, second, old)
-
 pub order-push : (xs : List Slot) (y : Slot) → AreAscending xs → All (λ (s : Slot). s.number < y.number) xs → AreAscending (xs ++ y ∷ [])
 order-push xs y pairs above = all_pairs_push (λ (a b : Slot). a.number < b.number) xs y pairs above
 
@@ -175,7 +159,7 @@ module _ (r : ℕ) (xs zs : List Slot) (l : List (ℕ × Life)) (seen : live_of 
   nobody_there none = ap (λ (k : List (ℕ × Life)). life_at k r) (sym seen) ∙ ap (λ ys. life_at (live_of ys) r) (sym same) ∙ none
 
   module _ (pairs : AreAscending xs) (i : ℕ) (there : IsPlaceOf r zs i) where
-    pub place : IsPlaceOf r xs i
+    place : IsPlaceOf r xs i
     place = subst (λ ys. IsPlaceOf r ys i) same there
 
     pub found_there : (x : Slot) → x ≡ get_or xs i x → Some x.life ≡ life_at l r

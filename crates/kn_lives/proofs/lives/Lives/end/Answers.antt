@@ -1,18 +1,7 @@
-use Rattle.std.proofs.Common.{refl, subst, sym, ◌≤◌}
-use Rattle.std.proofs.lemmas.List.{length-set}
+use Rattle.std.proofs.Common.{refl}
 use Rattle.kn_lives.proofs.Pairs.{nobody_gone}
-use Rattle.kn_lives.proofs.Marks.{fewer_there, forgotten_there, nobody_there, order-set, place}
+use Rattle.kn_lives.proofs.Marks.{fewer_there, forgotten_there, nobody_there}
 use Rattle.kn_lives.proofs.lives.Lives.end.Goals as goal
-
-pub invariant_of-self : goal.invariant_of-self
-invariant_of-self c =
-    let xs = c.self.inside.slots.items in
-    let there = place c.args.r xs c.deref.result.now c.args.self.now c.self.view_is c.deref.ensures.value c.self.invariant.order c.in-Some.place c.in-Some.ensures in
-    record {
-      order = order-set xs c.in-Some.place c.index_mut.result.now _ c.self.invariant.order there.inside c.index_mut.ensures.value refl;
-      short = subst (λ n. n ≤ 40000) (sym (length-set xs c.in-Some.place _)) c.self.invariant.short;
-      room = c.self.invariant.room;
-    }
 
 pub returns-in-Some-clause-gone : goal.returns-in-Some-clause-gone
 returns-in-Some-clause-gone c q =
