@@ -2,3 +2,4 @@ pub mod Pieces
 pub mod Places
 pub mod Names
 pub mod Shown
+pub mod Lined

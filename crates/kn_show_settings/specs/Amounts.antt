@@ -36,7 +36,7 @@ abbrev pub total_otherwise : Metric → ℕ → Data → Origin
 total_otherwise Concurrency cc config = if cc == 0 then configured key.ContainerConcurrencyTargetDefault config else origin.Revision
 total_otherwise Rps cc config = configured key.RequestsPerSecondTargetDefault config
 
-abbrev pub total_origin : Spec → Data → Data → Origin
+unfoldable pub total_origin : Spec → Data → Data → Origin
 total_origin spec config revision = annotated key.Target revision (total_otherwise spec.metric spec.cc config)
 
 -- ---- the utilisation, in thousandths of a per cent
@@ -68,14 +68,14 @@ abbrev pub number_or : ℕ → Option Data → ℕ
 number_or otherwise None = otherwise
 number_or otherwise (Some value) = number_in (as_str value)
 
-abbrev pub utilisation : Metric → Data → Data → ℕ
+unfoldable pub utilisation : Metric → Data → Data → ℕ
 utilisation metric config revision = number_or (utilisation_without metric config) (annotation key.TargetUtilizationPercentage revision)
 
 abbrev pub utilisation_otherwise : Metric → Data → Origin
 utilisation_otherwise Concurrency config = configured key.ContainerConcurrencyTargetPercentage config
 utilisation_otherwise Rps config = origin.Default
 
-abbrev pub utilisation_origin : Metric → Data → Data → Origin
+unfoldable pub utilisation_origin : Metric → Data → Data → Origin
 utilisation_origin metric config revision = annotated key.TargetUtilizationPercentage revision (utilisation_otherwise metric config)
 
 -- ---- the target and the windows
@@ -85,12 +85,12 @@ abbrev pub target_milli : Frac → ℕ
 target_milli target = 1000 * target.num / target.den
 
 -- the part or the total
-abbrev pub target_origin : Spec → Data → Data → Origin
+unfoldable pub target_origin : Spec → Data → Data → Origin
 target_origin spec config revision = above (utilisation_origin spec.metric config revision) (total_origin spec config revision)
 
-abbrev pub window_origin : Data → Data → Origin
+unfoldable pub window_origin : Data → Data → Origin
 window_origin config revision = annotated key.Window revision (configured key.StableWindow config)
 
 -- its part of the stable window, or that window
-abbrev pub panic_origin : Data → Data → Origin
+unfoldable pub panic_origin : Data → Data → Origin
 panic_origin config revision = above (annotated key.PanicWindowPercentage revision (configured key.PanicWindowPercentage config)) (window_origin config revision)

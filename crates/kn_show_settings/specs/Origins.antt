@@ -47,21 +47,21 @@ abbrev pub has_annotation : Key → Data → Bool
 has_annotation key revision = is_some (annotation key revision)
 
 -- the Revision where it has the annotation
-abbrev pub annotated : Key → Data → Origin → Origin
+unfoldable pub annotated : Key → Data → Origin → Origin
 annotated key revision otherwise = if has_annotation key revision then origin.Revision else otherwise
 
 -- the Revision where its `spec` has the member, else the default
-abbrev pub specified : Key → Data → Origin
+unfoldable pub specified : Key → Data → Origin
 specified key revision = if is_some (inner (codes "spec") (key_text key) revision) then origin.Revision else origin.Default
 
 -- the configuration where its `data` has the key, else the default
-abbrev pub configured : Key → Data → Origin
+unfoldable pub configured : Key → Data → Origin
 configured key config = if is_some (inner (codes "data") (key_text key) config) then origin.Config else origin.Default
 
 -- an annotation before the key of the same name
-abbrev pub overridden : Key → Data → Data → Origin
+unfoldable pub overridden : Key → Data → Data → Origin
 overridden key config revision = annotated key revision (configured key config)
 
 -- an annotation, its old spelling, the key
-abbrev pub renamed : Key → Key → Data → Data → Origin
+unfoldable pub renamed : Key → Key → Data → Data → Origin
 renamed key old config revision = annotated key revision (annotated old revision (configured key config))

@@ -34,6 +34,7 @@ fn total_otherwise(metric: Metric, cc: u64, config: &Value) -> Origin
 }
 
 /// What gives the total.
+#[tactic(auto, unfolding(crate::specs::Amounts::total_origin))]
 pub fn total_origin(
     alloc: Global,
     spec: &Spec,
@@ -94,6 +95,7 @@ fn configured_utilisation(config: &Value) -> u64
 }
 
 /// The utilisation, in thousandths of a per cent.
+#[tactic(auto, unfolding(crate::specs::Amounts::utilisation))]
 pub fn utilisation(
     alloc: Global,
     metric: Metric,
@@ -120,6 +122,7 @@ fn utilisation_otherwise(metric: Metric, config: &Value) -> Origin
 }
 
 /// What gives the utilisation.
+#[tactic(auto, unfolding(crate::specs::Amounts::utilisation_origin))]
 pub fn utilisation_origin(
     alloc: Global,
     metric: Metric,
@@ -141,6 +144,7 @@ pub fn target_milli(target: Frac) -> u128
 }
 
 /// What gives the target: the utilisation or the total.
+#[tactic(auto, unfolding(crate::specs::Amounts::target_origin))]
 pub fn target_origin(
     alloc: Global,
     spec: &Spec,
@@ -159,6 +163,7 @@ pub fn target_origin(
 }
 
 /// What gives the stable window.
+#[tactic(auto, unfolding(crate::specs::Amounts::window_origin))]
 pub fn window_origin(alloc: Global, config: &Value, revision: &Value) -> Result<Origin, Memory>
     ensures { IfOk result (λ from. from ≡ window_origin (view config.now) (view revision.now)) }
 {
@@ -166,6 +171,7 @@ pub fn window_origin(alloc: Global, config: &Value, revision: &Value) -> Result<
 }
 
 /// What gives the panic window: its part of the stable one, or that one.
+#[tactic(auto, unfolding(crate::specs::Amounts::panic_origin))]
 pub fn panic_origin(alloc: Global, config: &Value, revision: &Value) -> Result<Origin, Memory>
     ensures { IfOk result (λ from. from ≡ panic_origin (view config.now) (view revision.now)) }
 {

@@ -120,6 +120,7 @@ pub fn has_annotation(alloc: Global, key: Key, revision: &Value) -> Result<bool,
 }
 
 /// The Revision where it has the annotation, or what it is otherwise.
+#[tactic(auto, unfolding(crate::specs::Origins::annotated))]
 pub fn annotated(
     alloc: Global,
     key: Key,
@@ -136,6 +137,7 @@ pub fn annotated(
 }
 
 /// The Revision where its `spec` has the member, else the default.
+#[tactic(auto, unfolding(crate::specs::Origins::specified))]
 pub fn specified(key: Key, revision: &Value) -> Origin
     ensures { result ≡ specified key (view revision.now) }
 {
@@ -146,6 +148,7 @@ pub fn specified(key: Key, revision: &Value) -> Origin
 }
 
 /// The configuration where its `data` has the key, else the default.
+#[tactic(auto, unfolding(crate::specs::Origins::configured))]
 pub fn configured(key: Key, config: &Value) -> Origin
     ensures { result ≡ configured key (view config.now) }
 {
@@ -156,6 +159,7 @@ pub fn configured(key: Key, config: &Value) -> Origin
 }
 
 /// An annotation before the key of the same name.
+#[tactic(auto, unfolding(crate::specs::Origins::overridden))]
 pub fn overridden(
     alloc: Global,
     key: Key,
@@ -168,6 +172,7 @@ pub fn overridden(
 }
 
 /// An annotation before its old spelling, and that before the key.
+#[tactic(auto, unfolding(crate::specs::Origins::renamed))]
 pub fn renamed(
     alloc: Global,
     key: Key,

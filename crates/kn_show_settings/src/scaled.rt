@@ -27,7 +27,7 @@ fn add_burst(text: &mut Vec<u8>, name: &[u8], burst: Burst, from: Origin) -> Res
     }
 }
 
-#[tactic(auto, using(crate::proofs::Pieces::four_lines))]
+#[tactic(auto, using(crate::proofs::Pieces::four_lines), unfolding(crate::specs::Settings::own_settings))]
 fn add_own(text: &mut Vec<u8>, spec: &Spec, revision: &Value) -> Result<(), Memory>
     ensures { OnOk result (text.new.items ≡ text.old.items
         ++ setting_lines (own_settings spec.now (view revision.now))) }
@@ -40,7 +40,7 @@ fn add_own(text: &mut Vec<u8>, spec: &Spec, revision: &Value) -> Result<(), Memo
     add_number(text, b"timeoutSeconds", spec.timeout_ms / 1000, from)
 }
 
-#[tactic(auto, using(crate::proofs::Pieces::four_lines))]
+#[tactic(auto, using(crate::proofs::Pieces::four_lines), unfolding(crate::specs::Settings::load_settings))]
 fn add_load(
     alloc: Global,
     text: &mut Vec<u8>,
@@ -62,7 +62,7 @@ fn add_load(
     add_thousandths(text, b"target", target_milli(spec.target), target)
 }
 
-#[tactic(auto, using(crate::proofs::Pieces::four_lines))]
+#[tactic(auto, using(crate::proofs::Pieces::four_lines), unfolding(crate::specs::Settings::window_settings))]
 fn add_windows(
     alloc: Global,
     text: &mut Vec<u8>,
@@ -95,7 +95,7 @@ fn add_rates(text: &mut Vec<u8>, spec: &Spec, config: &Value) -> Result<(), Memo
     add_thousandths(text, b"max-scale-down-rate", u128::from(spec.down.0), from)
 }
 
-#[tactic(auto, using(crate::proofs::Pieces::three_lines))]
+#[tactic(auto, using(crate::proofs::Pieces::three_lines), unfolding(crate::specs::Settings::zero_settings))]
 fn add_zero(
     alloc: Global,
     text: &mut Vec<u8>,
@@ -114,7 +114,7 @@ fn add_zero(
     add_number(text, b"scale-to-zero-pod-retention-period-ms", spec.retention_ms, retention)
 }
 
-#[tactic(auto, using(crate::proofs::Pieces::five_lines))]
+#[tactic(auto, using(crate::proofs::Pieces::five_lines), unfolding(crate::specs::Settings::scale_settings))]
 fn add_scales(
     alloc: Global,
     text: &mut Vec<u8>,
