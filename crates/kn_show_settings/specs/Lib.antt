@@ -1,0 +1,7 @@
+pub mod Origins
+pub mod Lines
+pub mod Blocks
+pub mod Amounts
+pub mod Ignored
+pub mod Settings
+pub mod Showing

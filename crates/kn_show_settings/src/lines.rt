@@ -1,0 +1,121 @@
+//! The lines of settings, added to a text.
+ghost use Rattle.std.specs.Prelude.{◌≡◌, ◌++◌, OnOk, codes};
+ghost use Rattle.std.specs.Fmt.{decimal};
+ghost use Rattle.kn_show_settings.specs.Lines.{flag_text, milli_text, point_text, setting, setting_line};
+ghost use Rattle.kn_show_settings.specs.Origins.{origin_text};
+
+use crate::origin::Origin;
+use itoa::{Buffer, Integer};
+use kn_event::Memory;
+
+/// Adds bytes at the end.
+pub fn add(text: &mut Vec<u8>, bytes: &[u8]) -> Result<(), Memory>
+    ensures { OnOk result (text.new.items ≡ text.old.items ++ bytes.now) }
+{
+    match text.extend_from_slice(bytes) {
+        Ok(()) => Ok(()),
+        Err(_) => Err(Memory),
+    }
+}
+
+/// Adds a number in decimal.
+fn add_decimal<I: Integer>(text: &mut Vec<u8>, n: I) -> Result<(), Memory>
+    ensures { OnOk result (text.new.items ≡ text.old.items ++ I.text n) }
+{
+    let mut digits = Buffer::new();
+    add(text, digits.format(n).as_bytes())
+}
+
+/// Adds what stands behind the whole part, of thousandths below 1,000.
+#[tactic(auto, using(crate::proofs::Pieces::two_pieces, crate::proofs::Pieces::three_pieces, crate::proofs::Pieces::four_pieces), unfolding(crate::specs::Lines::point_text))]
+fn add_point(text: &mut Vec<u8>, n: u128) -> Result<(), Memory>
+    ensures { OnOk result (text.new.items ≡ text.old.items ++ point_text n) }
+{
+    if n == 0 {
+        return Ok(());
+    }
+    add(text, b".")?;
+    add_decimal(text, n / 100)?;
+    if n % 100 == 0 {
+        return Ok(());
+    }
+    add_decimal(text, n / 10 % 10)?;
+    if n % 10 == 0 {
+        return Ok(());
+    }
+    add_decimal(text, n % 10)
+}
+
+/// Adds thousandths as a number.
+#[tactic(auto, using(std::proofs::Common::append_assoc), unfolding(crate::specs::Lines::milli_text))]
+fn add_milli(text: &mut Vec<u8>, n: u128) -> Result<(), Memory>
+    ensures { OnOk result (text.new.items ≡ text.old.items ++ milli_text n) }
+{
+    add_decimal(text, n / 1000)?;
+    add_point(text, n % 1000)
+}
+
+/// Adds the name of a setting, and a space.
+#[tactic(auto, using(std::proofs::Common::append_assoc))]
+fn begin(text: &mut Vec<u8>, name: &[u8]) -> Result<(), Memory>
+    ensures { OnOk result (text.new.items ≡ text.old.items ++ (name.now ++ codes " ")) }
+{
+    add(text, name)?;
+    add(text, b" ")
+}
+
+/// Adds a space, where a setting comes from, and an LF.
+#[tactic(auto, using(crate::proofs::Pieces::three_pieces))]
+fn end(text: &mut Vec<u8>, from: Origin) -> Result<(), Memory>
+    ensures { OnOk result (text.new.items ≡ text.old.items ++ (codes " " ++ (origin_text from ++ codes "\n"))) }
+{
+    add(text, b" ")?;
+    add(text, from.text())?;
+    add(text, b"\n")
+}
+
+/// Adds a setting whose value is a word.
+#[tactic(auto, using(crate::proofs::Pieces::line_pieces), unfolding(crate::specs::Lines::setting_line))]
+pub fn add_word(text: &mut Vec<u8>, name: &[u8], word: &[u8], from: Origin) -> Result<(), Memory>
+    ensures { OnOk result (text.new.items ≡ text.old.items ++ setting_line (setting name.now word.now from)) }
+{
+    begin(text, name)?;
+    add(text, word)?;
+    end(text, from)
+}
+
+/// Adds a setting whose value is a whole number.
+#[tactic(auto, using(crate::proofs::Pieces::line_pieces), unfolding(crate::specs::Lines::setting_line))]
+pub fn add_number(text: &mut Vec<u8>, name: &[u8], n: u64, from: Origin) -> Result<(), Memory>
+    ensures { OnOk result (text.new.items ≡ text.old.items ++ setting_line (setting name.now (decimal n) from)) }
+{
+    begin(text, name)?;
+    add_decimal(text, n)?;
+    end(text, from)
+}
+
+/// Adds a setting whose value is a number of thousandths.
+#[tactic(auto, using(crate::proofs::Pieces::line_pieces), unfolding(crate::specs::Lines::setting_line))]
+pub fn add_thousandths(
+    text: &mut Vec<u8>,
+    name: &[u8],
+    n: u128,
+    from: Origin,
+) -> Result<(), Memory>
+    ensures { OnOk result (text.new.items ≡ text.old.items ++ setting_line (setting name.now (milli_text n) from)) }
+{
+    begin(text, name)?;
+    add_milli(text, n)?;
+    end(text, from)
+}
+
+/// Adds a setting that is on or off.
+pub fn add_flag(text: &mut Vec<u8>, name: &[u8], flag: bool, from: Origin) -> Result<(), Memory>
+    ensures { OnOk result (text.new.items ≡ text.old.items ++ setting_line (setting name.now (flag_text flag) from)) }
+{
+    if flag {
+        add_word(text, name, b"true", from)
+    } else {
+        add_word(text, name, b"false", from)
+    }
+}
