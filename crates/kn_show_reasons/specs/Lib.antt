@@ -1,0 +1,6 @@
+pub mod Numbers
+pub mod Texts
+pub mod Sentences
+pub mod Notices
+pub mod Reasons
+pub mod State

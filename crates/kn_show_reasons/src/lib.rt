@@ -1,0 +1,12 @@
+//! Each decision of a run in words: which rules held, and by which numbers. And why requests were refused or given up.
+#![tactic(auto)]
+
+mod notice;
+mod numbers;
+mod reason;
+mod reasons;
+mod seen;
+mod sentences;
+mod words;
+
+pub use reasons::{Reasons, ReasonsForm};
