@@ -6,3 +6,6 @@ pub mod Several
 pub mod Rows
 pub mod Opened
 pub mod Told
+pub mod Ruled
+pub mod Reading
+pub mod Holding

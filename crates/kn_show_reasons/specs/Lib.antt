@@ -4,3 +4,5 @@ pub mod Sentences
 pub mod Notices
 pub mod Reasons
 pub mod State
+pub mod Reading
+pub mod Holding
