@@ -60,6 +60,7 @@ pub tells : (s : Spec) (past : Past) (t ready : ℕ) (stable panic : Frac) → A
 unfolding ruling desired_counts delayed_count bounded_count
 tells s past t ready stable panic range = record {
   over = refl;
+  panicking = refl;
   delay = delay_is _ (recent_count s.delay_s (second_of t) (map asked_of past.decisions));
   least = least_is (lower_bound s past.reached) s.max _ (lower_most s past.reached range);
   min = λ less. min_is s past.reached _ range less;

@@ -1,27 +1,40 @@
 -- The lines of rows, one after the other.
-use Rattle.std.proofs.Common.{◌≡◌, refl, sym, ap, ◌∙◌, ℕ, ◌+◌, ◌-◌, ◌<◌, true, List, [], ◌∷◌, ◌++◌, length, get_or, take, drop, append_assoc, append-nil, Option}
+use Rattle.std.proofs.Common.{◌≡◌, refl, sym, ap, ◌∙◌, ℕ, ◌+◌, ◌-◌, ◌<◌, true, List, [], ◌∷◌, ◌++◌, length, get_or, take, drop, append_assoc, append-nil, Option, Some, None}
 use Rattle.std.specs.Prelude.{option_map, unwrap_or}
 use Rattle.std.proofs.lemmas.List.{drop_more, take-append-drop, take_more}
+use Rattle.kn_event.specs.declared.entry.Decision.{Decision}
 use Rattle.kn_event.specs.declared.entry.Entry.{Entry}
 use Rattle.kn_event.specs.declared.entry.Phase.{Phase}
 use Rattle.kn_event.specs.declared.entry.Row.{Row}
 use Rattle.kn_event.specs.declared.entry.Row.TheVariants as row
 use Rattle.kn_event.specs.declared.event.Event.{Event}
 use Rattle.kn_event.specs.declared.revision.Spec.{Spec}
-use Rattle.kn_trace.specs.Rows.{ended_by}
+use Rattle.kn_trace.specs.Rows.{decision_by, ended_by}
 use Rattle.kn_trace.specs.Scale.{count_ready, phase_of, phase_since}
 use Rattle.kn_trace.specs.Trace.{Trace, contains, live, pod_of}
 use Rattle.kn_laws.specs.Kinds.{is_expire_row}
 use Rattle.kn_lives.specs.declared.lives.Life.{Life}
 use Rattle.kn_lives.specs.Lives.{AreKnown, AreLiveBy, by_row, life_in}
+use Rattle.kn_show_reasons.specs.declared.notice.Notice.{Notice}
 use Rattle.kn_show_reasons.specs.declared.notice.Notice.TheVariants as notice
+use Rattle.kn_show_reasons.specs.declared.reason.Reason.{Reason}
 use Rattle.kn_show_reasons.specs.declared.seen.Seen.{Seen}
-use Rattle.kn_show_reasons.specs.Notices.{arrived_at, arrived_in, notice_line, pod_in, pod_where}
-use Rattle.kn_show_reasons.specs.Reasons.{line, row_text, rows_text}
+use Rattle.kn_show_reasons.specs.Notices.{arrived_at, arrived_in, notice_by, notice_line, notice_where, pod_in, pod_where}
+use Rattle.kn_show_reasons.specs.Reasons.{line, row_text, rows_text, text_where}
 use Rattle.kn_show_reasons.specs.Sentences.{sentences_of}
 use Rattle.kn_show_reasons.specs.State.{SeesPhase}
 use Rattle.kn_show_reasons.specs.Texts.{sentences_text}
 use Rattle.kn_show_reasons.proofs.Several.{sentences_same}
+
+-- ---- the text of a row, by its decision or without one
+
+pub row_decided : (s : Spec) (p : Option Phase) (since : ℕ) (arrived : ℕ → ℕ) (pod : ℕ → Option ℕ) (ready t : ℕ) (y : Row) (d : Decision) (xs : List (Option Reason)) → xs ≡ sentences_of s t p since d → Some d ≡ decision_by y
+    → sentences_text t xs ≡ row_text s p since arrived pod ready t y
+row_decided s p since arrived pod ready t y d xs is decided = ap (sentences_text t) is ∙ ap (text_where s p since t (notice_where t (notice_by s arrived pod ready t y))) decided
+
+pub row_other : (s : Spec) (p : Option Phase) (since : ℕ) (arrived : ℕ → ℕ) (pod : ℕ → Option ℕ) (ready t : ℕ) (y : Row) (o : Option Notice) → o ≡ notice_by s arrived pod ready t y → None ≡ decision_by y
+    → notice_where t o ≡ row_text s p since arrived pod ready t y
+row_other s p since arrived pod ready t y o is none = ap (notice_where t) is ∙ ap (text_where s p since t (notice_where t (notice_by s arrived pod ready t y))) none
 
 -- ---- what is kept tells of a row what the trace does
 
