@@ -1,0 +1,11 @@
+pub mod Pieces
+pub mod Waits
+pub mod Phases
+pub mod Expiries
+pub mod Several
+pub mod Rows
+pub mod Opened
+pub mod Told
+pub mod Ruled
+pub mod Reading
+pub mod Holding

@@ -1,0 +1,8 @@
+pub mod Numbers
+pub mod Texts
+pub mod Sentences
+pub mod Notices
+pub mod Reasons
+pub mod State
+pub mod Reading
+pub mod Holding

@@ -1,0 +1,13 @@
+//! Each decision of a run in words: which rules held, and by which numbers. And why requests were refused or given up.
+#![tactic(auto)]
+
+pub mod laws;
+mod notice;
+mod numbers;
+mod reason;
+mod reasons;
+mod seen;
+mod sentences;
+mod words;
+
+pub use reasons::{Reasons, ReasonsForm};

@@ -1,0 +1,255 @@
+//! The teller of reasons.
+ghost use Rattle.std.specs.Prelude.{◌≡◌, ◌++◌, List, OnErr, OnOk};
+ghost use Rattle.kn_event.specs.declared.event.Event.{Event as EventValue};
+ghost use Rattle.kn_io.specs.Causes.{HasCause};
+ghost use Rattle.kn_io.specs.Prefix.{AppendsPrefix};
+ghost use Rattle.kn_report.specs.Waiting.{Adds};
+ghost use Rattle.kn_trace.specs.Rows.{decision_by};
+ghost use Rattle.kn_trace.specs.Trace.{Trace};
+ghost use Rattle.kn_show_reasons.specs.Notices.{arrived_in, notice_where, pod_in};
+ghost use Rattle.kn_show_reasons.specs.Reasons.{reasons, row_text, rows_text};
+ghost use Rattle.kn_show_reasons.specs.State.{AreReasonsOf, Follows, IsUnopened, Knows};
+ghost use Rattle.kn_show_reasons.specs.Texts.{sentence_text, sentences_text};
+
+use crate::notice::Notice;
+use crate::reason::Reason;
+use crate::seen::Seen;
+use crate::sentences::sentences_of;
+use kn_core::Revision;
+use kn_event::{Decision, Entry, EntryLog, Event, Line, Memory, Row, Spec};
+use kn_io::{Failed, Sink};
+use kn_laws::parts::part_laws;
+use kn_lives::laws::{lives_laws, row_laws};
+use kn_lives::{Lives, arrival_tag};
+use kn_past::changes::entry_laws;
+use kn_report::Waiting;
+use kn_teller::{Form, Teller};
+use std::alloc::Global;
+use std::marker::Model;
+
+/// Writes each decision in words, and why requests were refused or given up. It keeps what the lines of a row need of the
+/// rows before it.
+pub struct Reasons {
+    spec: Spec,
+    seen: Seen,
+}
+
+impl Drop for Reasons {
+    fn drop(self) {
+        let Reasons { spec: _, seen: _ } = self;
+    }
+}
+
+impl Model for Reasons {
+    ghost use Rattle.kn_show_reasons.specs.State.{ReasonsState};
+
+    ghost Value = { ReasonsState };
+
+    ghost view = { λ t. record { spec = t.spec; seen = t.seen } };
+}
+
+/// Adds the line of a sentence behind what waits, where it stands.
+fn add_sentence<O: Sink>(
+    sentence: Option<Reason>,
+    time: u64,
+    line: &mut Line,
+    waiting: &mut Waiting,
+    out: &mut O,
+) -> Result<(), Failed>
+    ensures ok { OnOk result (Adds (O.held out.old) (O.held out.new) waiting.old waiting.new (sentence_text time sentence)) }
+    ensures err { OnErr result (AppendsPrefix (O.held out.old) (O.held out.new) (waiting.old ++ sentence_text time sentence)) }
+    ensures cause { HasCause (O.Faulty.faults out.old) (O.Faulty.faults out.new) result }
+{
+    match sentence {
+        Some(reason) => {
+            reason.set_line(time, line);
+            waiting.add(line.bytes(), out)
+        }
+        None => Ok(()),
+    }
+}
+
+/// Adds those of several.
+fn add_sentences<O: Sink>(
+    sentences: &[Option<Reason>],
+    time: u64,
+    line: &mut Line,
+    waiting: &mut Waiting,
+    out: &mut O,
+) -> Result<(), Failed>
+    ensures ok { OnOk result (Adds (O.held out.old) (O.held out.new) waiting.old waiting.new (sentences_text time sentences.now)) }
+    ensures err { OnErr result (AppendsPrefix (O.held out.old) (O.held out.new) (waiting.old ++ sentences_text time sentences.now)) }
+    ensures cause { HasCause (O.Faulty.faults out.old) (O.Faulty.faults out.new) result }
+{
+    for sentence in sentences {
+        match add_sentence(*sentence, time, line, waiting, out) {
+            Ok(()) => {}
+            Err(Failed) => return Err(Failed),
+        }
+    }
+    Ok(())
+}
+
+/// Adds the line of a notice behind what waits, where there is one.
+fn add_notice<O: Sink>(
+    notice: Option<Notice>,
+    time: u64,
+    line: &mut Line,
+    waiting: &mut Waiting,
+    out: &mut O,
+) -> Result<(), Failed>
+    ensures ok { OnOk result (Adds (O.held out.old) (O.held out.new) waiting.old waiting.new (notice_where time notice)) }
+    ensures err { OnErr result (AppendsPrefix (O.held out.old) (O.held out.new) (waiting.old ++ notice_where time notice)) }
+    ensures cause { HasCause (O.Faulty.faults out.old) (O.Faulty.faults out.new) result }
+{
+    match notice {
+        Some(notice) => {
+            notice.set_line(time, line);
+            waiting.add(line.bytes(), out)
+        }
+        None => Ok(()),
+    }
+}
+
+/// The decision of a row.
+fn decision_by(row: &Row) -> Option<Decision>
+    ensures { result ≡ decision_by row.now }
+{
+    match *row {
+        Row::Decided(d) => Some(d),
+        _ => None,
+    }
+}
+
+/// Adds the lines of a row behind what waits, by what was seen before it.
+fn add_row<O: Sink>(
+    spec: &Spec,
+    seen: &Seen,
+    e: &Entry,
+    line: &mut Line,
+    waiting: &mut Waiting,
+    out: &mut O,
+) -> Result<(), Failed>
+    ensures ok { OnOk result (Adds (O.held out.old) (O.held out.new) waiting.old waiting.new
+        (row_text spec.now seen.now.phase seen.now.since (arrived_in seen.now.lives) (pod_in seen.now.lives) seen.now.ready e.now.time e.now.row)) }
+    ensures err { OnErr result (AppendsPrefix (O.held out.old) (O.held out.new)
+        (waiting.old ++ row_text spec.now seen.now.phase seen.now.since (arrived_in seen.now.lives) (pod_in seen.now.lives) seen.now.ready e.now.time e.now.row)) }
+    ensures cause { HasCause (O.Faulty.faults out.old) (O.Faulty.faults out.new) result }
+{
+    match decision_by(&e.row) {
+        Some(d) => {
+            let sentences = sentences_of(spec, e.time, seen.phase, seen.since, &d);
+            add_sentences(&sentences, e.time, line, waiting, out)
+        }
+        None => {
+            let notice = Notice::of(spec, &seen.lives, seen.ready, e);
+            add_notice(notice, e.time, line, waiting, out)
+        }
+    }
+}
+
+/// Adds the lines of each row behind what waits, row by row.
+fn add_rows<O: Sink>(
+    spec: &Spec,
+    seen: &mut Seen,
+    tag: u64,
+    log: &EntryLog,
+    line: &mut Line,
+    waiting: &mut Waiting,
+    out: &mut O,
+) -> Result<(), Failed>
+    ensures ok { (es : List EventValue) (c : Trace) → Follows spec.now es tag seen.old c log.now
+        → OnOk result (Adds (O.held out.old) (O.held out.new) waiting.old waiting.new (rows_text spec.now c log.now)) }
+    ensures err { (es : List EventValue) (c : Trace) → Follows spec.now es tag seen.old c log.now
+        → OnErr result (AppendsPrefix (O.held out.old) (O.held out.new) (waiting.old ++ rows_text spec.now c log.now)) }
+    ensures knows { (es : List EventValue) (c : Trace) → Follows spec.now es tag seen.old c log.now → OnOk result (Knows seen.new es (c ++ log.now)) }
+    ensures cause { HasCause (O.Faulty.faults out.old) (O.Faulty.faults out.new) result }
+{
+    row_laws();
+    for e in log.entries() {
+        match add_row(spec, seen, e, line, waiting, out) {
+            Ok(()) => {}
+            Err(Failed) => return Err(Failed),
+        }
+        seen.add(tag, e);
+    }
+    Ok(())
+}
+
+impl Teller for Reasons {
+    ghost manner = { λ t. reasons };
+
+    ghost awaits = { λ t r. IsUnopened t r };
+
+    ghost knows = { λ t r. AreReasonsOf t r };
+
+    ghost load = { λ t. 0 };
+
+    fn open<O: Sink>(
+        &mut self,
+        revision: &Revision,
+        log: &EntryLog,
+        _line: &mut Line,
+        _waiting: &mut Waiting,
+        _out: &mut O,
+    ) -> Result<(), Failed> {
+        lives_laws();
+        self.seen.open(log);
+        self.seen.ready = revision.count_ready();
+        Ok(())
+    }
+
+    fn tell<O: Sink>(
+        &mut self,
+        e: &Event,
+        revision: &Revision,
+        log: &EntryLog,
+        line: &mut Line,
+        waiting: &mut Waiting,
+        out: &mut O,
+    ) -> Result<(), Failed> {
+        lives_laws();
+        part_laws();
+        entry_laws();
+        let tag = arrival_tag(&e.act);
+        match add_rows(&self.spec, &mut self.seen, tag, log, line, waiting, out) {
+            Ok(()) => {}
+            Err(Failed) => return Err(Failed),
+        }
+        self.seen.ready = revision.count_ready();
+        Ok(())
+    }
+
+    fn end<O: Sink>(
+        &mut self,
+        _version: u64,
+        _events: u64,
+        _line: &mut Line,
+        _waiting: &mut Waiting,
+        _out: &mut O,
+    ) -> Result<(), Failed> {
+        Ok(())
+    }
+}
+
+/// Asks for the reasons.
+#[derive(Clone, Copy, Debug, PartialEq, Eq)]
+pub struct ReasonsForm;
+
+impl Form<Reasons> for ReasonsForm {
+    ghost writes = { λ f. reasons };
+
+    fn make(&self, alloc: Global, spec: &Spec, _start: u64) -> Result<Reasons, Memory> {
+        let lives = Lives::new(alloc)?;
+        let spec = spec.copy(alloc)?;
+        Ok(Reasons {
+            spec,
+            seen: Seen {
+                lives,
+                phase: None,
+                since: 0,
+                ready: 0,
+            },
+        })
+    }
+}
