@@ -1,10 +1,18 @@
--- What the words after the program's name ask for.
-use Rattle.std.specs.Prelude.{ℕ, Bool, ◌&&◌, List, [], ◌∷◌, Option, None, Some, codes, nat_le, if◌then◌else◌}
+-- What the words after the program's name ask for, and what is written then.
+use Rattle.std.specs.Prelude.{◌≡◌, ℕ, Bool, ◌&&◌, List, [], ◌∷◌, Option, None, Some, codes, nat_le, if◌then◌else◌, ⊤}
 use Rattle.std.specs.Str.{bytes_eq}
 use Rattle.kn_event.specs.Numbers.{number_of}
+use Rattle.kn_journal.specs.declared.status.Status.{Status}
+use Rattle.kn_journal.specs.declared.status.Status.TheVariants as status
 use Rattle.kn_teller.specs.Manner.{Manner}
+use Rattle.kn_follow.specs.Account.{account_of}
+use Rattle.kn_follow.specs.Cutting.{LeavesCut}
+use Rattle.kn_follow.specs.Endings.{EndsThere}
+use Rattle.kn_follow.specs.Following.{FollowsInput}
+use Rattle.kn_show_reasons.specs.Reasons.{reasons}
 use Rattle.kn_show_requests.specs.Requests.{requests}
 use Rattle.kn_show_series.specs.Series.{series}
+use Rattle.kn_show_settings.specs.Showing.{IsShown, LeavesOpening, ShowsInput}
 use Rattle.kn_show_summary.specs.Summary.{summarises}
 use Rattle.kn_show.specs.declared.command.Command.{Command}
 use Rattle.kn_show.specs.declared.command.Command.TheVariants as command
@@ -17,16 +25,39 @@ abbrev pub series_of : Option ℕ → Option Command
 series_of (Some step) = if is_step step then Some (command.Series step) else None
 series_of None = None
 
--- the one word `requests` or `summary`, or `series` and a step, spelled as a number of a journal
+abbrev pub word_of : List ℕ → Option Command
+word_of word =
+    if bytes_eq word (codes "reasons") then Some command.Reasons
+    else (if bytes_eq word (codes "requests") then Some command.Requests
+    else (if bytes_eq word (codes "summary") then Some command.Summary
+    else (if bytes_eq word (codes "settings") then Some command.Settings else None)))
+
+-- one word, or `series` and a step, spelled as a number of a journal
 unfoldable pub command_of : List (List ℕ) → Option Command
-command_of (word ∷ []) =
-    if bytes_eq word (codes "requests") then Some command.Requests
-    else (if bytes_eq word (codes "summary") then Some command.Summary else None)
+command_of (word ∷ []) = word_of word
 command_of (word ∷ step ∷ []) = if bytes_eq word (codes "series") then series_of (number_of step) else None
 command_of _ = None
 
--- what is written then
-abbrev pub manner_of : Command → Manner
-manner_of command.Requests = requests
-manner_of command.Summary = summarises
-manner_of (command.Series step) = series step
+-- what is written of the run of a journal; of its settings nothing is
+abbrev pub manner_of : Command → Option Manner
+manner_of command.Reasons = Some reasons
+manner_of command.Requests = Some requests
+manner_of command.Summary = Some summarises
+manner_of (command.Series step) = Some (series step)
+manner_of command.Settings = None
+
+-- ---- what a form says of input and output: that manner's text of the run, or the settings of the setup alone
+
+abbrev pub ShowsBy : Option Manner → Option (List ℕ) → Option (List ℕ) → ℕ → Option (List ℕ) → Option (List ℕ) → Status → Type 0
+ShowsBy (Some m) bytes left given old new result = FollowsInput (account_of m) bytes left given old new result
+ShowsBy None bytes left given old new result = ShowsInput bytes old new result
+
+-- what is left of the input where nothing was refused: nothing, or what stands behind the setup
+abbrev pub LeavesBy : Option Manner → Option (List ℕ) → Option (List ℕ) → Status → Type 0
+LeavesBy (Some m) old new result = result ≡ status.Ok → EndsThere old new
+LeavesBy None old new result = IsShown result → LeavesOpening old new
+
+-- how much of a run was written where writing failed
+abbrev pub CutsBy : Option Manner → Option (List ℕ) → Option (List ℕ) → Option (List ℕ) → Option (List ℕ) → Status → Type 0
+CutsBy (Some m) known left old new result = result ≡ status.WriteFault → LeavesCut (account_of m) known left old new
+CutsBy None known left old new result = ⊤

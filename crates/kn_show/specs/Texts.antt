@@ -8,7 +8,7 @@ abbrev pub told : List ℕ → List ℕ
 told what = codes "kact_show: " ++ (what ++ codes "\n")
 
 unfoldable pub status_text : Status → List ℕ
-status_text status.Usage = codes "usage: kact_show requests | kact_show summary | kact_show series STEP\n"
+status_text status.Usage = codes "usage: kact_show reasons | kact_show requests | kact_show summary | kact_show series STEP | kact_show settings\n"
 status_text (status.BadInput e) = told (error_text e)
 status_text (status.BadSetup e) = told (error_text e)
 status_text status.ReadFault = codes "kact_show: read failed\n"

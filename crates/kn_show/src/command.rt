@@ -2,13 +2,10 @@
 ghost use Rattle.std.specs.Prelude.{◌≡◌, ◌⊎◌, ◌↔◌, ◌+◌, ◌-◌, ◌≤◌, ℕ, None, Some, map, string_bytes};
 ghost use Rattle.kn_event.specs.Numbers.{number_of};
 ghost use Rattle.kn_io.specs.Causes.{Rose};
-ghost use Rattle.kn_follow.specs.Account.{account_of};
-ghost use Rattle.kn_follow.specs.Cutting.{LeavesCut};
-ghost use Rattle.kn_follow.specs.Endings.{EndsThere, IsRefusal, IsReplayed, LeavesBehind};
-ghost use Rattle.kn_follow.specs.Following.{FollowsInput};
+ghost use Rattle.kn_follow.specs.Endings.{IsRefusal, IsReplayed, LeavesBehind};
 ghost use Rattle.kn_journal.specs.Reading.{most_taken};
 ghost use Rattle.kn_replay.specs.Replaying.{Tells};
-ghost use Rattle.kn_show.specs.Commands.{command_of, manner_of, series_of};
+ghost use Rattle.kn_show.specs.Commands.{CutsBy, LeavesBy, ShowsBy, command_of, manner_of, series_of, word_of};
 ghost use Rattle.kn_show.specs.Texts.{status_text};
 
 use crate::texts::tell;
@@ -16,19 +13,25 @@ use kn_event::read_number;
 use kn_follow::follow_journal;
 use kn_io::{Sink, Source};
 use kn_journal::Status;
+use kn_show_reasons::{Reasons, ReasonsForm};
 use kn_show_requests::{Requests, RequestsForm};
 use kn_show_series::{Series, SeriesForm};
+use kn_show_settings::show_settings;
 use kn_show_summary::{Summary, SummaryForm};
 use std::alloc::Global;
 
 /// What `kact_show` is asked for.
 enum Command {
+    /// Each decision and each refusal in words.
+    Reasons,
     /// A line of CSV for each request.
     Requests,
     /// Counts, waiting times, what the pods cost.
     Summary,
     /// A line of CSV for each step of so many milliseconds.
     Series(u64),
+    /// The settings in force, and where each comes from.
+    Settings,
 }
 
 /// The step of `series`.
@@ -44,6 +47,24 @@ fn series_of(step: &[u8]) -> Option<Command>
     }
 }
 
+/// What one word asks for.
+fn word_of(word: &str) -> Option<Command>
+    ensures value { result ≡ word_of (string_bytes word.now) }
+    ensures range { (n : ℕ) → result ≡ Some (Command.Series n) → (1 ≤ n) × (n ≤ 86400000) }
+{
+    if word == "reasons" {
+        Some(Command::Reasons)
+    } else if word == "requests" {
+        Some(Command::Requests)
+    } else if word == "summary" {
+        Some(Command::Summary)
+    } else if word == "settings" {
+        Some(Command::Settings)
+    } else {
+        None
+    }
+}
+
 /// What the words ask for.
 #[tactic(auto, unfolding(crate::specs::Commands::command_of))]
 fn command_of(words: &[String]) -> Option<Command>
@@ -51,13 +72,7 @@ fn command_of(words: &[String]) -> Option<Command>
     ensures range { (n : ℕ) → result ≡ Some (Command.Series n) → (1 ≤ n) × (n ≤ 86400000) }
 {
     match words {
-        [word] => if word.as_str() == "requests" {
-            Some(Command::Requests)
-        } else if word.as_str() == "summary" {
-            Some(Command::Summary)
-        } else {
-            None
-        },
+        [word] => word_of(word.as_str()),
         [word, step] => if word.as_str() == "series" {
             series_of(step.as_bytes())
         } else {
@@ -69,10 +84,10 @@ fn command_of(words: &[String]) -> Option<Command>
 
 /// Reads a journal and writes what the words after the program's name ask for, and tells of a status other than `Ok` on `err`.
 ///
-/// `requests` and `series` write as the journal is read, and their closing lines where every line is good; `summary` writes then
-/// alone. At the first line that is refused all of the events before it was written. Where the input failed, the lines that ended
+/// `reasons`, `requests` and `series` write as the journal is read, and their closing lines where every line is good; `summary` writes
+/// then alone. At the first line that is refused all of the events before it was written. Where the input failed, the lines that ended
 /// before that are good, and all of their events was written. Where writing failed, some first bytes were. All memory is taken
-/// before the first of them.
+/// before the first of them. `settings` reads a journal up to its setup, and writes what that settles.
 pub fn show_run<S: Source, O: Sink, E: Sink>(
     alloc: Global,
     words: &[String],
@@ -85,23 +100,31 @@ pub fn show_run<S: Source, O: Sink, E: Sink>(
     ensures unwritten { (result ≡ Status.Usage) ⊎ (result ≡ Status.Memory) → out.new ≡ out.old }
     ensures only { (result ≡ Status.Usage) ⊎ IsReplayed result }
 
-    // The text of the run that the bytes are, and the first refused line with its cause.
+    // The text of the run that the bytes are, or of their setup, and the first refused line with its cause.
     ensures shows { (asked : Command) → command_of (map string_bytes words.now) ≡ Some asked →
-        FollowsInput (account_of (manner_of asked)) (S.left input.old) (S.left input.new) (S.given input.new - S.given input.old) (O.held out.old) (O.held out.new) result }
-    ensures ended { result ≡ Status.Ok → EndsThere (S.left input.old) (S.left input.new) }
+        ShowsBy (manner_of asked) (S.left input.old) (S.left input.new) (S.given input.new - S.given input.old)
+        (O.held out.old) (O.held out.new) result }
+    ensures ended { (asked : Command) → command_of (map string_bytes words.now) ≡ Some asked →
+        LeavesBy (manner_of asked) (S.left input.old) (S.left input.new) result }
     // The lines taken are those up to the refused one, and behind it at most 65,536 bytes were read ahead.
     ensures rest { IsRefusal result → LeavesBehind result (S.left input.old) (S.left input.new) }
     // Where writing failed, all of the events that were taken was written, but the last event's and 65,536 bytes at most.
-    ensures cut { (asked : Command) → command_of (map string_bytes words.now) ≡ Some asked → result ≡ Status.WriteFault →
-        LeavesCut (account_of (manner_of asked)) (S.left input.old) (S.left input.new) (O.held out.old) (O.held out.new) }
+    ensures cut { (asked : Command) → command_of (map string_bytes words.now) ≡ Some asked →
+        CutsBy (manner_of asked) (S.left input.old) (S.left input.new) (O.held out.old) (O.held out.new) result }
 
     // A fault comes only where its count rose, or 2^56 bytes were read.
-    ensures read_fault { result ≡ Status.ReadFault → Rose (S.Faulty.faults input.old) (S.Faulty.faults input.new) ⊎ (S.given input.old + most_taken ≤ S.given input.new) }
+    ensures read_fault { result ≡ Status.ReadFault → Rose (S.Faulty.faults input.old) (S.Faulty.faults input.new)
+        ⊎ (S.given input.old + most_taken ≤ S.given input.new) }
     ensures write_fault { result ≡ Status.WriteFault → Rose (O.Faulty.faults out.old) (O.Faulty.faults out.new) }
-    ensures told { Tells (status_text result) (E.held err.old) (E.held err.new) (E.Faulty.faults err.old) (E.Faulty.faults err.new) }
+    ensures told { Tells (status_text result) (E.held err.old) (E.held err.new)
+        (E.Faulty.faults err.old) (E.Faulty.faults err.new) }
 {
     match command_of(words) {
         None => tell(Status::Usage, err),
+        Some(Command::Reasons) => tell(
+            follow_journal::<Reasons, ReasonsForm, S, O>(alloc, &ReasonsForm, input, out),
+            err,
+        ),
         Some(Command::Requests) => tell(
             follow_journal::<Requests, RequestsForm, S, O>(alloc, &RequestsForm, input, out),
             err,
@@ -114,5 +137,6 @@ pub fn show_run<S: Source, O: Sink, E: Sink>(
             follow_journal::<Series, SeriesForm, S, O>(alloc, &SeriesForm { step }, input, out),
             err,
         ),
+        Some(Command::Settings) => tell(show_settings(alloc, input, out), err),
     }
 }

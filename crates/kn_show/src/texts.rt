@@ -29,7 +29,7 @@ fn put_status(status: &Status, line: &mut Line)
     line.clear();
     match *status {
         Status::Usage => line.put(
-            b"usage: kact_show requests | kact_show summary | kact_show series STEP\n",
+            b"usage: kact_show reasons | kact_show requests | kact_show summary | kact_show series STEP | kact_show settings\n",
         ),
         Status::BadInput(error) => put_told(&error, line),
         Status::BadSetup(error) => put_told(&error, line),
