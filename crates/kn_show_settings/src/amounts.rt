@@ -167,7 +167,12 @@ pub fn target_origin(
 pub fn window_origin(alloc: Global, config: &Value, revision: &Value) -> Result<Origin, Memory>
     ensures { IfOk result (λ from. from ≡ window_origin (view config.now) (view revision.now)) }
 {
-    annotated(alloc, Key::Window, revision, configured(Key::StableWindow, config))
+    annotated(
+        alloc,
+        Key::Window,
+        revision,
+        configured(Key::StableWindow, config),
+    )
 }
 
 /// What gives the panic window: its part of the stable one, or that one.

@@ -26,11 +26,7 @@ fn place_of(word: &[u8], text: &[u8]) -> usize
 fn front(text: &[u8], n: usize) -> &[u8]
     ensures { result.now ≡ take n text.now }
 {
-    if n < text.len() {
-        &text[..n]
-    } else {
-        text
-    }
+    if n < text.len() { &text[..n] } else { text }
 }
 
 /// What stands behind so many bytes.

@@ -96,12 +96,7 @@ pub fn add_number(text: &mut Vec<u8>, name: &[u8], n: u64, from: Origin) -> Resu
 
 /// Adds a setting whose value is a number of thousandths.
 #[tactic(auto, using(crate::proofs::Pieces::line_pieces), unfolding(crate::specs::Lines::setting_line))]
-pub fn add_thousandths(
-    text: &mut Vec<u8>,
-    name: &[u8],
-    n: u128,
-    from: Origin,
-) -> Result<(), Memory>
+pub fn add_thousandths(text: &mut Vec<u8>, name: &[u8], n: u128, from: Origin) -> Result<(), Memory>
     ensures { OnOk result (text.new.items ≡ text.old.items ++ setting_line (setting name.now (milli_text n) from)) }
 {
     begin(text, name)?;

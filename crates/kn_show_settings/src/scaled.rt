@@ -58,7 +58,12 @@ fn add_load(
     let target = target_origin(alloc, spec, config, revision)?;
     add_word(text, b"metric", metric_text(spec.metric), metric)?;
     add_thousandths(text, b"target-total", u128::from(spec.total.0), total)?;
-    add_thousandths(text, b"target-utilization-percentage", u128::from(part), part_from)?;
+    add_thousandths(
+        text,
+        b"target-utilization-percentage",
+        u128::from(part),
+        part_from,
+    )?;
     add_thousandths(text, b"target", target_milli(spec.target), target)
 }
 
@@ -111,7 +116,12 @@ fn add_zero(
     let retention = overridden(alloc, Key::ScaleToZeroPodRetentionPeriod, config, revision)?;
     add_flag(text, b"enable-scale-to-zero", spec.to_zero, on)?;
     add_number(text, b"scale-to-zero-grace-period-ms", spec.grace_ms, grace)?;
-    add_number(text, b"scale-to-zero-pod-retention-period-ms", spec.retention_ms, retention)
+    add_number(
+        text,
+        b"scale-to-zero-pod-retention-period-ms",
+        spec.retention_ms,
+        retention,
+    )
 }
 
 #[tactic(auto, using(crate::proofs::Pieces::five_lines), unfolding(crate::specs::Settings::scale_settings))]

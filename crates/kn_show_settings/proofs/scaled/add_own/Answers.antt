@@ -18,8 +18,8 @@ returns c =
     let revision = view c.args.revision.now in
     on_ok_weaker c.add_number-2.result
     (λ e. four_lines c.args.text.now.items _ _ _ _ _ _ _ _
-        (lined c.add_word.new.text.items c.args.text.now.items (codes "namespace") _ spec.namespace _ origin.Revision c.in_ok-add_word.ensures (search rules) refl)
-        (lined c.add_word-2.new.text.items c.add_word.new.text.items (codes "name") _ spec.name _ origin.Revision c.in_ok-add_word-2.ensures (search rules) refl)
-        (lined c.add_number.new.text.items c.add_word-2.new.text.items (codes "containerConcurrency") _ (decimal spec.cc) _ (specified key.ContainerConcurrency revision) c.in_ok-add_number.ensures (search rules) c.specified-from.ensures)
-        (lined c.add_number-2.new.text.items c.add_number.new.text.items (codes "timeoutSeconds") _ (decimal (spec.timeout_ms / 1000)) _ (specified key.TimeoutSeconds revision) e (search rules) c.specified-from-2.ensures))
+    (lined c.add_word.new.text.items c.args.text.now.items (codes "namespace") _ spec.namespace _ origin.Revision c.in_ok-add_word.ensures (search rules) refl)
+    (lined c.add_word-2.new.text.items c.add_word.new.text.items (codes "name") _ spec.name _ origin.Revision c.in_ok-add_word-2.ensures (search rules) refl)
+    (lined c.add_number.new.text.items c.add_word-2.new.text.items (codes "containerConcurrency") _ (decimal spec.cc) _ (specified key.ContainerConcurrency revision) c.in_ok-add_number.ensures (search rules) c.specified-from.ensures)
+    (lined c.add_number-2.new.text.items c.add_number.new.text.items (codes "timeoutSeconds") _ (decimal (spec.timeout_ms / 1000)) _ (specified key.TimeoutSeconds revision) e (search rules) c.specified-from-2.ensures))
     c.add_number-2.ensures

@@ -20,8 +20,8 @@ returns c =
     let revision = view c.args.revision.now in
     on_ok_weaker c.add_burst.result
     (λ e. four_lines c.args.text.now.items _ _ _ _ _ _ _ _
-        (lined c.add_number.new.text.items c.args.text.now.items (codes "stable-window-s") _ (decimal spec.stable_s) _ (window_origin config revision) c.in_ok-add_number.ensures (search rules) c.in_ok-stable.ensures)
-        (lined c.add_number-2.new.text.items c.add_number.new.text.items (codes "panic-window-s") _ (decimal spec.panic_s) _ (panic_origin config revision) c.in_ok-add_number-2.ensures (search rules) c.in_ok-panic.ensures)
-        (lined c.add_thousandths.new.text.items c.add_number-2.new.text.items (codes "panic-threshold-percentage") _ (milli_text spec.panic_threshold.0) _ (overridden key.PanicThresholdPercentage config revision) c.in_ok-add_thousandths.ensures (search rules) c.in_ok-threshold.ensures)
-        (lined c.add_burst.new.text.items c.add_thousandths.new.text.items (codes "target-burst-capacity") _ (burst_text spec.burst) _ (overridden key.TargetBurstCapacity config revision) e (search rules) c.in_ok-burst.ensures))
+    (lined c.add_number.new.text.items c.args.text.now.items (codes "stable-window-s") _ (decimal spec.stable_s) _ (window_origin config revision) c.in_ok-add_number.ensures (search rules) c.in_ok-stable.ensures)
+    (lined c.add_number-2.new.text.items c.add_number.new.text.items (codes "panic-window-s") _ (decimal spec.panic_s) _ (panic_origin config revision) c.in_ok-add_number-2.ensures (search rules) c.in_ok-panic.ensures)
+    (lined c.add_thousandths.new.text.items c.add_number-2.new.text.items (codes "panic-threshold-percentage") _ (milli_text spec.panic_threshold.0) _ (overridden key.PanicThresholdPercentage config revision) c.in_ok-add_thousandths.ensures (search rules) c.in_ok-threshold.ensures)
+    (lined c.add_burst.new.text.items c.add_thousandths.new.text.items (codes "target-burst-capacity") _ (burst_text spec.burst) _ (overridden key.TargetBurstCapacity config revision) e (search rules) c.in_ok-burst.ensures))
     c.add_burst.ensures

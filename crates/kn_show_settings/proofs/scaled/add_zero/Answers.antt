@@ -19,7 +19,7 @@ returns c =
     let revision = view c.args.revision.now in
     on_ok_weaker c.add_number-2.result
     (λ e. three_lines c.args.text.now.items _ _ _ _ _ _
-        (lined c.add_flag.new.text.items c.args.text.now.items (codes "enable-scale-to-zero") _ (flag_text spec.to_zero) _ (configured key.EnableScaleToZero config) c.in_ok-add_flag.ensures (search rules) c.configured-on.ensures)
-        (lined c.add_number.new.text.items c.add_flag.new.text.items (codes "scale-to-zero-grace-period-ms") _ (decimal spec.grace_ms) _ (configured key.ScaleToZeroGracePeriod config) c.in_ok-add_number.ensures (search rules) c.configured-grace.ensures)
-        (lined c.add_number-2.new.text.items c.add_number.new.text.items (codes "scale-to-zero-pod-retention-period-ms") _ (decimal spec.retention_ms) _ (overridden key.ScaleToZeroPodRetentionPeriod config revision) e (search rules) c.in_ok-retention.ensures))
+    (lined c.add_flag.new.text.items c.args.text.now.items (codes "enable-scale-to-zero") _ (flag_text spec.to_zero) _ (configured key.EnableScaleToZero config) c.in_ok-add_flag.ensures (search rules) c.configured-on.ensures)
+    (lined c.add_number.new.text.items c.add_flag.new.text.items (codes "scale-to-zero-grace-period-ms") _ (decimal spec.grace_ms) _ (configured key.ScaleToZeroGracePeriod config) c.in_ok-add_number.ensures (search rules) c.configured-grace.ensures)
+    (lined c.add_number-2.new.text.items c.add_number.new.text.items (codes "scale-to-zero-pod-retention-period-ms") _ (decimal spec.retention_ms) _ (overridden key.ScaleToZeroPodRetentionPeriod config revision) e (search rules) c.in_ok-retention.ensures))
     c.add_number-2.ensures
