@@ -17,7 +17,8 @@ use kn_lives::laws::row_laws;
 use kn_record::facts::fact_laws;
 use kn_sizes::sizes::size_laws;
 
-/// A request that begins to run had waited less than its timeout, since who waited too long expires first in each event. No more began than arrived.
+/// A request that begins to run had waited less than its timeout, since who waited too long expires first in each event.
+/// No more began than arrived.
 pub fn begin_laws()
     ensures in_time { (s : Spec) (c : Trace) (e : Event) → 0 < s.timeout_ms → IsMade s c → BeginInTime s c e }
     ensures few { (s : Spec) (c : Trace) → IsMade s c → length (waits c) ≤ arrivals c }
@@ -29,8 +30,8 @@ pub fn begin_laws()
     row_laws();
 }
 
-/// Together those that ran had waited no longer than the 20,000 requests that may live would all the time, from the start to the
-/// last event.
+/// Together those that ran had waited no longer than the 20,000 requests that may live would all the time, from the start
+/// to the last event.
 pub fn sum_laws()
     ensures { (s : Spec) (start to : ℕ) (es : List Event) → AreInOrder start es to → sum (waits (trace_of s start es)) ≤ 20000 * (to - start) }
 {

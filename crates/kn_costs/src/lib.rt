@@ -28,8 +28,8 @@ pub fn run_laws()
     ensures cold_next { (r : Run) (e : Event) → cold (later r e) ≡ cold r + cold_at r.spec (trace r) e }
 {}
 
-/// No sum is above what the most pods and requests that may live would come to, from the start to the last event. Nothing is
-/// computed here.
+/// No sum is above what the most pods and requests that may live would come to, from the start to the last event. Nothing
+/// is computed here.
 pub fn bound_laws()
     ensures { (r : Run) → AreInRange r.spec → AreInOrder r.start r.events (now_of r) → AreBounded r }
 {

@@ -10,9 +10,9 @@ use Rattle.kn_trace.specs.Scale.{count_ready}
 use Rattle.kn_trace.specs.Trace.{Trace}
 use Rattle.kn_teller.specs.Run.{Run, later, now_of, trace}
 use Rattle.kn_lives.specs.Lives.{tags}
-use Rattle.kn_show_summary.specs.Counted.{counted}
 use Rattle.kn_costs.specs.Gauges.{costs, gauges, peaks}
 use Rattle.kn_costs.specs.Steps.{cold, cold_at}
+use Rattle.kn_show_summary.specs.Counted.{counted}
 use Rattle.kn_show_summary.specs.Summary.{KnowsRun, SummaryState}
 use Rattle.kn_show_summary.specs.Text.{pods_text, requests_text}
 

@@ -4,10 +4,10 @@ use Rattle.kn_event.specs.Revision.{AreInRange}
 use Rattle.kn_teller.specs.Manner.{Manner}
 use Rattle.kn_teller.specs.Run.{Run, now_of, trace}
 use Rattle.kn_begun.specs.Begun.{waits}
-use Rattle.kn_show_summary.specs.Counted.{counted}
 use Rattle.kn_costs.specs.Gauges.{GaugesState, costs, gauges, nothing_at, peaks}
-use Rattle.kn_show_summary.specs.Rows.{AreRowsOf, RowsState}
 use Rattle.kn_costs.specs.Steps.{cold}
+use Rattle.kn_show_summary.specs.Counted.{counted}
+use Rattle.kn_show_summary.specs.Rows.{AreRowsOf, RowsState}
 use Rattle.kn_show_summary.specs.Text.{pods_text, requests_text, waits_text}
 
 -- all its lines

@@ -3,12 +3,12 @@ use Rattle.kn_trace.specs.Report.{is_admit, rows_with}
 use Rattle.kn_trace.specs.Scale.{count_ready}
 use Rattle.kn_trace.specs.Trace.{arrivals}
 use Rattle.kn_teller.specs.Run.{later, now_of, trace}
-use Rattle.kn_show_summary.specs.Counted.{Counted, counted}
 use Rattle.kn_costs.specs.Gauges.{gauges, with_now, with_time}
 use Rattle.kn_costs.specs.Steps.{cold}
+use Rattle.kn_costs.specs.declared.gauges.Now.{Now}
+use Rattle.kn_show_summary.specs.Counted.{Counted, counted}
 use Rattle.kn_show_summary.specs.Rows.{AreRowsOf}
 use Rattle.kn_show_summary.specs.Summary.{KnowsRun, SummaryState}
-use Rattle.kn_costs.specs.declared.gauges.Now.{Now}
 use Rattle.kn_show_summary.proofs.Runs.{cold_is}
 use Rattle.kn_show_summary.proofs.summary.SummaryTeller.tell.Goals as goal
 
