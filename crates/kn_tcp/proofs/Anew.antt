@@ -1,5 +1,5 @@
 -- A head that is written anew, read again.
-use Rattle.std.proofs.Common.{◌≡◌, ◌⊎◌, ◌<◌, ◌≤◌, ◌+◌, ◌*◌, ℕ, Bool, true, false, not, ◌&&◌, ◌||◌, cond, bytes_eq, IsTrue, Option, None, Some, List, [], ◌∷◌, ◌++◌, length, map, filter, codes, refl, sym, ap, ap₂, subst, ◌∙◌, arith, append_assoc, length-append, inl, inr, lit<}
+use Rattle.std.proofs.Common.{◌≡◌, ◌⊎◌, ◌≤◌, ◌+◌, ◌*◌, ℕ, Bool, true, false, not, ◌&&◌, ◌||◌, cond, bytes_eq, IsTrue, Option, None, Some, List, [], ◌∷◌, ◌++◌, length, map, filter, codes, refl, sym, ap, ap₂, subst, ◌∙◌, arith, append_assoc, length-append, inl, inr, lit<}
 use Rattle.std.specs.List.{flat_map, list_all, list_any}
 use Rattle.std.specs.Char.{to_ascii_lowercase}
 use Rattle.std.proofs.lemmas.List.{map-append}
@@ -12,7 +12,7 @@ use Rattle.httparse.specs.Spans.{name_and_value}
 use Rattle.httparse.proofs.TrimLemmas.{AllPass-trim_ows}
 use Rattle.kn_tcp.specs.Replies.{is_chunks_coding, is_coding, is_word, ends_in_chunks}
 use Rattle.kn_tcp.specs.Ends.{ReadsBody, ReadsBodyAs, agrees, is_length, says}
-use Rattle.kn_tcp.specs.Closing.{closing_field, closing_head, field_line, is_kept, is_of_connection, kept_lines, last_lines, line_start, status_line}
+use Rattle.kn_tcp.specs.Closing.{closing_field, closing_head, field_line, is_kept, kept_lines, last_lines, line_start, status_line}
 use Rattle.kn_tcp.proofs.Replied.{both}
 use Rattle.kn_tcp.proofs.Trimmed.{length-trim_ows, trimmed}
 

@@ -1,6 +1,6 @@
 -- A reply by itself: what was taken of a stream, up to its end.
 use Rattle.std.proofs.Common.{◌≡◌, ◌+◌, ℕ, Bool, List, [], ◌∷◌, ◌++◌, length, take, drop, map, true, false, Option, None, Some, sym, subst, ap, ◌∙◌, refl, arith, rules, append_assoc, append-nil, inl, inr}
-use Rattle.std.specs.Prelude.{not, ◌||◌, ◌&&◌, ◌==◌, ◌⊎◌, nat_lt, nat_le, IsTrue, IfSome, Result, Ok, Err, is_ok, is_err, IfOk}
+use Rattle.std.specs.Prelude.{not, ◌||◌, ◌&&◌, ◌==◌, ◌⊎◌, nat_lt, nat_le, IsTrue, IfSome, Result, Ok, Err, is_ok, is_err}
 use Rattle.std.specs.List.{list_all, list_any}
 use Rattle.std.specs.Char.{is_ascii_digit}
 use Rattle.std.specs.Str.Parse.{digits_value}

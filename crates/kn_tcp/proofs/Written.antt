@@ -1,5 +1,5 @@
 -- The head of an answer as it is written.
-use Rattle.std.proofs.Common.{◌≡◌, ◌<◌, ◌≤◌, ◌+◌, ◌-◌, ◌*◌, ◌/◌, ◌%◌, ℕ, Bool, true, false, cond, ◌&&◌, ◌==◌, nat_le, nat_lt, List, [], ◌∷◌, ◌++◌, length, take, drop, map, get_or, filter, codes, refl, sym, ap, ap₂, ◌∙◌, arith, append_assoc, append-nil, add_comm, zero-add, eq-eqb, ne_eqb, leb-true, le-ltb, lt-ltb}
+use Rattle.std.proofs.Common.{◌≡◌, ◌<◌, ◌≤◌, ◌+◌, ◌-◌, ◌*◌, ◌/◌, ◌%◌, ℕ, Bool, true, false, cond, ◌==◌, nat_le, nat_lt, List, [], ◌∷◌, ◌++◌, length, take, drop, map, get_or, filter, codes, sym, ap, ap₂, ◌∙◌, arith, append_assoc, append-nil, add_comm, zero-add, eq-eqb, ne_eqb, leb-true, le-ltb, lt-ltb}
 use Rattle.std.specs.List.{flat_map}
 use Rattle.std.specs.Char.{is_ascii_digit, digit_value}
 use Rattle.std.specs.Str.Parse.{digits_value}

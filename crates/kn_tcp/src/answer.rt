@@ -92,37 +92,29 @@ fn put_status(out: &mut Vec<u8>, version: u8, code: u16, reason: &[u8]) -> Resul
     requires code { code < 1000 }
     ensures { OnOk result (out.new.items ≡ out.old.items ++ status_line version (three_digits code) reason.now) }
 {
-    put(out, &line_start(version, code))?;
+    put_start(out, version, code)?;
     put(out, reason)?;
     put(out, b"\r\n")?;
     Ok(())
 }
 
-/// A first line up to its phrase.
-#[tactic(auto, unfolding(crate::specs::Closing::line_start))]
-fn line_start(version: u8, code: u16) -> [u8; 13]
+/// Writes the first line up to its phrase.
+#[tactic(auto, using(std::proofs::Common::append_assoc), unfolding(crate::specs::Closing::line_start))]
+fn put_start(out: &mut Vec<u8>, version: u8, code: u16) -> Result<(), LinkError>
     requires version { version ≤ 1 }
     requires code { code < 1000 }
-    ensures { result ≡ line_start version (three_digits code) }
+    ensures { OnOk result (out.new.items ≡ out.old.items ++ line_start version (three_digits code)) }
 {
-    let hundreds = last_digit(code / 100);
-    let tens = last_digit(code / 10);
-    let ones = last_digit(code);
-    [
-        b'H',
-        b'T',
-        b'T',
-        b'P',
-        b'/',
-        b'1',
-        b'.',
-        b'0' + version,
-        b' ',
-        hundreds,
-        tens,
-        ones,
-        b' ',
-    ]
+    let digits = [
+        last_digit(code / 100),
+        last_digit(code / 10),
+        last_digit(code),
+    ];
+    put(out, b"HTTP/1.")?;
+    put(out, &[b'0' + version, b' '])?;
+    put(out, &digits)?;
+    put(out, b" ")?;
+    Ok(())
 }
 
 fn last_digit(n: u16) -> u8

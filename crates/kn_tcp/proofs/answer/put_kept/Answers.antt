@@ -1,6 +1,6 @@
-use Rattle.std.proofs.Common.{◌≡◌, ◌++◌, [], cond, take, map, get_or, not, true, false, List, ℕ, sym, ap, ap₂, ◌∙◌, append-nil}
+use Rattle.std.proofs.Common.{◌≡◌, ◌++◌, [], cond, take, map, get_or, not, List, ℕ, sym, ap, ap₂, ◌∙◌, append-nil}
 use Rattle.httparse.specs.Spans.{header_bytes}
-use Rattle.kn_tcp.specs.Closing.{field_line, is_kept, is_of_connection, kept_lines}
+use Rattle.kn_tcp.specs.Closing.{field_line, is_of_connection, kept_lines}
 use Rattle.kn_tcp.proofs.Wholes.{blank}
 use Rattle.kn_tcp.proofs.Written.{kept_next}
 use Rattle.kn_tcp.proofs.answer.put_kept.Goals as goal

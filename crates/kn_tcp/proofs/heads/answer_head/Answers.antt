@@ -1,11 +1,11 @@
-use Rattle.std.proofs.Common.{◌≡◌, ◌+◌, ◌≤◌, ◌-◌, length, drop, take, sym, subst, ap, ◌∙◌, arith, length-drop}
+use Rattle.std.proofs.Common.{◌≡◌, ◌+◌, ◌-◌, length, drop, take, sym, subst, ap, ◌∙◌, arith, length-drop}
 use Rattle.std.proofs.lemmas.List.{take_all, drop-drop}
 use Rattle.httparse.specs.Grammar.{HasNoResponse}
 use Rattle.httparse.specs.Spans.{ResponseOverflows}
 use Rattle.kn_tcp.specs.Replies.{is_interim}
 use Rattle.kn_tcp.specs.Ends.{most_fields, SameHeads}
 use Rattle.kn_tcp.proofs.ChunkEnds.{few_fields}
-use Rattle.kn_tcp.proofs.HeadEnds.{cut_heads, found_at, full_heads, never_heads, next_head}
+use Rattle.kn_tcp.proofs.HeadEnds.{cut_heads, found_at, never_heads, next_head}
 use Rattle.kn_tcp.proofs.heads.answer_head.Goals as goal
 
 pub returns-then-not-is_interim-clause-whole : goal.returns-then-not-is_interim-clause-whole
