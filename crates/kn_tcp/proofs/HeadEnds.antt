@@ -2,20 +2,14 @@
 use Rattle.std.proofs.Common.{◌≡◌, ◌<◌, ◌≤◌, ◌+◌, ℕ, Bool, List, [], ◌++◌, length, take, drop, map, true, false, sym, subst, ap, ◌∙◌, arith, rules, append-nil, length-append}
 use Rattle.std.proofs.lemmas.List.{drop-append-le, drop-drop}
 use Rattle.httparse.specs.Grammar.{ResponseHead, ReadsResponse, HasNoResponse, status_code}
-use Rattle.httparse.specs.Spans.{IsResponseAt, ResponseOverflows, header_bytes, name_and_value}
+use Rattle.httparse.specs.Spans.{IsResponseAt, IsResponseWithin, ResponseOverflows, header_bytes, name_and_value}
 use Rattle.httparse.specs.declared.spans.HeaderSpan.{HeaderSpan}
 use Rattle.httparse.specs.declared.spans.ResponseSpans.{ResponseSpans}
 use Rattle.httparse.proofs.GrammarLemmas.{response_unique, ReadsResponse-append}
 use Rattle.kn_tcp.specs.declared.reply.Stage.{Stage}
 use Rattle.kn_tcp.proofs.Bodies.{within_more}
 use Rattle.kn_tcp.specs.Replies.{is_interim, has_no_body}
-use Rattle.kn_tcp.specs.Ends.{most_fields, most_heads, ReadsHeads, answer, interim, ReadsReply, ReadsBody, IsStageOf, NoStage, StageWithin, Meets, NoReply, NeverReply}
-
--- whatever follows, the heads from the next place on, after k of them, are the heads
-abbrev pub SameHeads : ℕ → List ℕ → List ℕ → Type 0
-SameHeads k bytes next =
-    (more : List ℕ) (head : ResponseHead) (rest : List ℕ) → (ReadsHeads 0 (bytes ++ more) head rest → ReadsHeads k (next ++ more) head rest)
-    × (ReadsHeads k (next ++ more) head rest → ReadsHeads 0 (bytes ++ more) head rest)
+use Rattle.kn_tcp.specs.Ends.{most_fields, most_heads, IsHeadAt, ReadsHeads, answer, interim, ReadsReply, ReadsBody, IsStageOf, NoStage, StageWithin, Meets, NoHeads, NeverHeads, NeverReply, SameHeads}
 
 apart : {b : Bool} → b ≡ true → b ≡ false → ⊥
 apart {b} x y = absurd (differ (sym x ∙ y))
@@ -64,16 +58,37 @@ never_head k text more head rest over (answer fewer there few final) =
 never_head k text more head rest over (interim before next fewer there few goes later) =
     let many = over more before next there in absurd (omega (arith, many, few))
 
-pub cut_heads : (request bytes text : List ℕ) (k : ℕ) → SameHeads k bytes text → HasNoResponse text → NoReply request bytes
-cut_heads request bytes text k same none rest r =
-    no_head k text r.head r.body none (subst (λ t. ReadsHeads k t r.head r.body) (append-nil text)
-    ((same [] r.head r.body).0 (subst (λ t. ReadsHeads 0 t r.head r.body) (sym (append-nil bytes)) r.heads)))
+too_many : (k : ℕ) (text : List ℕ) (head : ResponseHead) (rest : List ℕ) → ¬ (k < most_heads) → ¬ (ReadsHeads k text head rest)
+too_many k text head rest full (answer fewer there few final) = full fewer
+too_many k text head rest full (interim before next fewer there few goes later) = full fewer
 
-pub never_heads : (request bytes text : List ℕ) (k : ℕ) → SameHeads k bytes text → ResponseOverflows most_fields text → NeverReply request bytes
-never_heads request bytes text k same over more rest r =
-    never_head k text more r.head r.body over ((same more r.head r.body).0 r.heads)
+pub cut_heads : (bytes text : List ℕ) (k : ℕ) → SameHeads k bytes text → HasNoResponse text → NoHeads bytes
+cut_heads bytes text k same none head rest r =
+    no_head k text head rest none (subst (λ t. ReadsHeads k t head rest) (append-nil text)
+    ((same [] head rest).0 (subst (λ t. ReadsHeads 0 t head rest) (sym (append-nil bytes)) r)))
+
+pub never_heads : (bytes text : List ℕ) (k : ℕ) → SameHeads k bytes text → ResponseOverflows most_fields text → NeverHeads bytes
+never_heads bytes text k same over more head rest r = never_head k text more head rest over ((same more head rest).0 r)
+
+pub full_heads : (bytes text : List ℕ) (k : ℕ) → SameHeads k bytes text → ¬ (k < most_heads) → NeverHeads bytes
+full_heads bytes text k same full more head rest r = too_many k (text ++ more) head rest full ((same more head rest).0 r)
 
 -- ---- the answer's head
+
+pub found_at : (reply text : List ℕ) (start k : ℕ) (spans : List HeaderSpan) (r : ResponseSpans) (h : ResponseHead) → start ≤ length reply
+    → text ≡ drop start reply → IsResponseWithin text spans r → IsResponseAt text spans r h → length h.fields ≤ most_fields
+    → SameHeads k reply text → k < most_heads → is_interim r.code ≡ false → IsHeadAt reply spans start r
+found_at reply text start k spans r h place same within parts few heads fewer final = record {
+  place = place;
+  within = subst (λ t. IsResponseWithin t spans r) same within;
+  before = k;
+  same = subst (λ t. SameHeads k reply t) same heads;
+  fewer = fewer;
+  head = h;
+  parts = subst (λ t. IsResponseAt t spans r h) same parts;
+  few = few;
+  final = final;
+}
 
 module _ (request bytes text : List ℕ) (k at : ℕ) (spans : List HeaderSpan) (r : ResponseSpans) (h : ResponseHead) (none : Bool)
     (same : SameHeads k bytes text) (place : text ≡ drop at bytes) (room : at + r.len ≤ length bytes) (of : IsResponseAt text spans r h)

@@ -14,7 +14,7 @@ use Rattle.kn_tcp.specs.Ends.{ReadsHeads, answer, interim, ReadsChunks, ends, go
 use Rattle.kn_tcp.proofs.HeadEnds.{last_head, after_head}
 use Rattle.kn_tcp.proofs.Replied.{both}
 
-heads_unique : (k : ℕ) (bytes : List ℕ) (h g : ResponseHead) (r q : List ℕ) → ReadsHeads k bytes h r → ReadsHeads k bytes g q
+pub heads_unique : (k : ℕ) (bytes : List ℕ) (h g : ResponseHead) (r q : List ℕ) → ReadsHeads k bytes h r → ReadsHeads k bytes g q
     → (h ≡ g) × (r ≡ q)
 heads_unique k bytes h g r q (answer fewer there few final) y =
     let same = last_head k bytes h r [] g q there final (subst (λ b. ReadsHeads k b g q) (sym (append-nil bytes)) y) in

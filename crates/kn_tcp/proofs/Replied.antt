@@ -1,6 +1,6 @@
 -- A reply by itself: what was taken of a stream, up to its end.
 use Rattle.std.proofs.Common.{◌≡◌, ◌+◌, ℕ, Bool, List, [], ◌∷◌, ◌++◌, length, take, drop, map, true, false, Option, None, Some, sym, subst, ap, ◌∙◌, refl, arith, rules, append_assoc, append-nil, inl, inr}
-use Rattle.std.specs.Prelude.{not, ◌||◌, ◌&&◌, ◌==◌, ◌⊎◌, nat_lt, nat_le, IsTrue, IfSome, Result, Ok, Err, is_ok, is_err, IfOk}
+use Rattle.std.specs.Prelude.{not, ◌||◌, ◌&&◌, ◌==◌, ◌⊎◌, nat_lt, nat_le, IsTrue, IfSome, Result, Ok, Err, is_ok, is_err}
 use Rattle.std.specs.List.{list_all, list_any}
 use Rattle.std.specs.Char.{is_ascii_digit}
 use Rattle.std.specs.Str.Parse.{digits_value}
@@ -131,7 +131,7 @@ none_said n (field ∷ fields) e =
     let two = not_any (is_length field) (list_any is_length fields) e in
     rw two.0 (none_said n fields two.1)
 
-whole_body : (a b c d : Bool) (fields : List (List ℕ × List ℕ)) (bytes : List ℕ) → d ≡ list_any is_length fields
+pub whole_body : (a b c d : Bool) (fields : List (List ℕ × List ℕ)) (bytes : List ℕ) → d ≡ list_any is_length fields
     → ReadsBodyAs a b c d fields bytes [] → IsTrue a ⊎ IsWholeAs b c fields bytes
 whole_body true b c d fields bytes said r = inl refl
 whole_body false true c d fields bytes said r = inr (has_chunks bytes [] r)
@@ -178,8 +178,3 @@ pub read_all : (mid new : Option (List ℕ)) (buf : List ℕ) (n : ℕ) → Cons
 read_all None new buf n d e zero = tt
 read_all (Some b) None buf n d e zero = absurd d
 read_all (Some b) (Some r) buf n d e zero = d ∙ (ap (λ k. take k buf ++ r) zero ∙ e)
-
-pub whole_if : {E : Type 0} (request : List ℕ) (r : Result (List ℕ) E) → IfOk r (λ reply. ReadsReply request reply [])
-    → IfOk r (λ reply. IsWholeReply request reply)
-whole_if request (Ok reply) e = whole_reply request reply e
-whole_if request (Err x) e = tt

@@ -4,7 +4,9 @@ use Rattle.std.specs.List.{list_all, list_any}
 use Rattle.std.specs.Char.{is_ascii_digit}
 use Rattle.std.specs.Str.Parse.{digits_value}
 use Rattle.httparse.specs.Grammar.{ChunkLine, ReadsChunkLine, chunk_size, Field, LineEnd, ReadsSection, ResponseHead, ReadsResponse, status_code}
-use Rattle.httparse.specs.Spans.{name_and_value}
+use Rattle.httparse.specs.Spans.{IsResponseAt, IsResponseWithin, name_and_value}
+use Rattle.httparse.specs.declared.spans.HeaderSpan.{HeaderSpan}
+use Rattle.httparse.specs.declared.spans.ResponseSpans.{ResponseSpans}
 use Rattle.kn_tcp.specs.Replies.{is_word, is_coding, is_chunks_coding, is_interim, has_no_body}
 use Rattle.kn_tcp.specs.declared.chunks.Chunk.{Chunk}
 use Rattle.kn_tcp.specs.declared.chunks.Chunk.TheVariants as chunk
@@ -91,6 +93,32 @@ NoReply request bytes = (rest : List ℕ) → ¬ (ReadsReply request bytes rest)
 -- and whatever follows makes none of them
 abbrev pub NeverReply : List ℕ → List ℕ → Type 0
 NeverReply request bytes = (more rest : List ℕ) → ¬ (ReadsReply request (bytes ++ more) rest)
+
+-- the bytes that came don't have the heads of a reply
+abbrev pub NoHeads : List ℕ → Type 0
+NoHeads bytes = (head : ResponseHead) (rest : List ℕ) → ¬ (ReadsHeads 0 bytes head rest)
+
+-- and whatever follows makes none of them
+abbrev pub NeverHeads : List ℕ → Type 0
+NeverHeads bytes = (more : List ℕ) (head : ResponseHead) (rest : List ℕ) → ¬ (ReadsHeads 0 (bytes ++ more) head rest)
+
+-- whatever follows, the heads from the next place on, after k of them, are the heads
+abbrev pub SameHeads : ℕ → List ℕ → List ℕ → Type 0
+SameHeads k bytes next =
+    (more : List ℕ) (head : ResponseHead) (rest : List ℕ) → (ReadsHeads 0 (bytes ++ more) head rest → ReadsHeads k (next ++ more) head rest)
+    × (ReadsHeads k (next ++ more) head rest → ReadsHeads 0 (bytes ++ more) head rest)
+
+-- the head of the answer begins at this place, and the spans cover its parts
+pub record IsHeadAt (reply : List ℕ) (spans : List HeaderSpan) (at : ℕ) (r : ResponseSpans) : Type 0 where
+  pub place : at ≤ length reply
+  pub within : IsResponseWithin (drop at reply) spans r
+  pub before : ℕ
+  pub same : SameHeads before reply (drop at reply)
+  pub fewer : before < most_heads
+  pub head : ResponseHead
+  pub parts : IsResponseAt (drop at reply) spans r head
+  pub few : length head.fields ≤ most_fields
+  pub final : is_interim r.code ≡ false
 
 abbrev pub NoChunks : List ℕ → Type 0
 NoChunks bytes = (rest : List ℕ) → ¬ (ReadsChunks bytes rest)

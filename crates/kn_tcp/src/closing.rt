@@ -12,11 +12,13 @@ const DROPPED_PIECES: u32 = 128;
 /// How many milliseconds one of them is waited for, which the system rounds up to its ticks: together about a second.
 const DROP_WAIT: u64 = 8;
 
-/// Closes a connection. Closing one that has unread bytes resets it, and the client may then lose the end of its answer.
-/// So where there are some, the client is told that the answer has ended, and what it sends is dropped, until it closes
-/// too, for about a second and up to a MiB. A connection with nothing unread is closed at once.
+/// Closes a connection. First the client is told that its answer has ended, since one that waits for that is to be woken
+/// right after the last byte. Closing a connection that has unread bytes resets it, and the client may then lose the end of
+/// its answer. So where there are some, what it sends is dropped, until it closes too, for about a second and up to a MiB. A
+/// connection with nothing unread is closed at once.
 pub(crate) fn finish(mut stream: TcpStream) {
-    if has_unread(&stream).unwrap_or(false) && end_answer(&stream).is_ok() {
+    let told = stream.shutdown(Shutdown::Write).is_ok();
+    if told && has_unread(&stream).unwrap_or(false) && wait_shortly(&stream).is_ok() {
         drop_rest(&mut stream);
     }
 }
@@ -27,11 +29,10 @@ fn has_unread(stream: &TcpStream) -> io::Result<bool> {
     Ok(stream.peek(&mut [0; 1])? > 0)
 }
 
-/// Tells the client that its answer has ended. Each read waits for a short time from now on.
-fn end_answer(stream: &TcpStream) -> io::Result<()> {
+/// Each read waits for a short time from now on.
+fn wait_shortly(stream: &TcpStream) -> io::Result<()> {
     stream.set_nonblocking(false)?;
-    stream.set_read_timeout(Some(Duration::from_millis(DROP_WAIT)))?;
-    stream.shutdown(Shutdown::Write)
+    stream.set_read_timeout(Some(Duration::from_millis(DROP_WAIT)))
 }
 
 /// Reads on, until the client closes.

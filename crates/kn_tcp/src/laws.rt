@@ -1,10 +1,19 @@
 //! What the definitions say of themselves.
-ghost use Rattle.std.specs.Prelude.{◌≡◌, [], ℕ, List};
+ghost use Rattle.std.specs.Prelude.{◌≡◌, ◌≤◌, ◌+◌, [], ℕ, List, length};
 ghost use Rattle.kn_tcp.specs.Replies.{IsWholeReply};
 ghost use Rattle.kn_tcp.specs.Ends.{IsReplyOf, ReadsReply};
+ghost use Rattle.kn_tcp.specs.Closing.{Closes, ReadsAgain};
 
 /// What a pod sent has one reply at most. A reply with nothing behind it is a whole reply.
 pub fn replies_are_determined()
     ensures one { (request sent a b : List ℕ) → IsReplyOf request sent a → IsReplyOf request sent b → a ≡ b }
     ensures whole { (request reply : List ℕ) → ReadsReply request reply [] → IsWholeReply request reply }
+{}
+
+/// A reply has one answer, which is a whole reply to the request again, with the same status and the same body.
+pub fn answers_are_replies()
+    ensures one { (reply a b : List ℕ) → Closes reply a → Closes reply b → a ≡ b }
+    ensures again { (request reply answer : List ℕ) → ReadsReply request reply [] → (c : Closes reply answer)
+        → ReadsAgain request answer c.head c.body }
+    ensures longer { (reply answer : List ℕ) → Closes reply answer → length answer ≤ length reply + 534 }
 {}

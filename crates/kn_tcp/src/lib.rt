@@ -2,13 +2,15 @@
 //! is dead holds nobody for ever.
 #![tactic(auto)]
 
+mod answer;
 mod caller;
 mod chunks;
 mod closing;
+mod heads;
 mod laws;
 mod link;
 mod reply;
 
 pub use caller::TcpCaller;
-pub use laws::replies_are_determined;
+pub use laws::{answers_are_replies, replies_are_determined};
 pub use link::TcpLink;

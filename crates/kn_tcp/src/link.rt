@@ -3,7 +3,9 @@ ghost use Rattle.std.specs.Prelude.{◌≡◌, ◌≤◌, ◌%◌, length, None,
 ghost use Rattle.kn_io.specs.Causes.{Rose};
 ghost use Rattle.kn_tcp.specs.Replies.{IsWholeReply};
 ghost use Rattle.kn_tcp.specs.Ends.{IsReplyOf, ReadsReply};
+ghost use Rattle.kn_tcp.specs.Closing.{IsHandedOn};
 
+use crate::answer::closed;
 use crate::reply::{Judged, MOST_REPLY, Stage, judge};
 use kn_event::{Items, Text};
 use kn_io::{Failed, Faulty, LinkError, PIECE, PodLink, fault};
@@ -23,8 +25,9 @@ const CONNECT_WAIT: u64 = 10;
 const REPLY_WAIT: u64 = 600;
 
 /// A link whose pod p is the address at position p modulo their number, each spelled as a host and a port with a colon
-/// between. A call reads to the end of the reply, and drops what is behind it. Each error is a fault, and so are a pod where
-/// there is no address, a reply above 1,114,112 bytes, and one that didn't come whole.
+/// between. A call reads to the end of the reply, and drops what is behind it. It answers that reply with `Connection: close`
+/// in place of the fields of the pod's connection. Each error is a fault, and so are a pod where there is no address, a reply
+/// above 1,114,112 bytes, and one that didn't come whole.
 #[derive(Drop)]
 pub struct TcpLink<N> {
     net: N,
@@ -114,21 +117,22 @@ fn receive<R: Read>(alloc: Global, request: &[u8], stream: &mut R) -> Result<Tex
     Err(LinkError::Failed)
 }
 
-/// Sends a pod the request, and answers its reply, which came whole.
+/// Sends a pod the request, and answers what the client is handed of its reply, which came whole.
 fn exchange<N: Net>(
     net: &N,
     alloc: Global,
     address: &[u8],
     request: &[u8],
 ) -> Result<Text, LinkError>
-    ensures short { IfOk result (λ reply. length reply ≤ 1114112) }
-    ensures whole { IfOk result (λ reply. IsWholeReply request.now reply) }
-    ensures exact { IfOk result (λ reply. ReadsReply request.now reply []) }
+    ensures short { IfOk result (λ answer. length answer ≤ 1114646) }
+    ensures whole { IfOk result (λ answer. IsWholeReply request.now answer) }
+    ensures exact { IfOk result (λ answer. IsHandedOn request.now answer) }
 {
-    match send(net, address, request) {
-        Ok(mut stream) => receive(alloc, request, &mut stream),
-        Err(_) => Err(LinkError::Failed),
-    }
+    let Ok(mut stream) = send(net, address, request) else {
+        return Err(LinkError::Failed);
+    };
+    let reply = receive(alloc, request, &mut stream)?;
+    closed(alloc, reply.bytes())
 }
 
 impl<N: Net> Faulty for TcpLink<N> {
@@ -154,19 +158,19 @@ impl<N: Net> PodLink for TcpLink<N> {
     }
 
     fn call(&mut self, alloc: Global, pod: u64, request: &[u8]) -> Result<Text, LinkError>
-        ensures short { IfOk result (λ reply. length reply ≤ 1114112) }
-        ensures whole { IfOk result (λ reply. IsWholeReply request.now reply) }
-        ensures exact { IfOk result (λ reply. ReadsReply request.now reply []) }
+        ensures short { IfOk result (λ answer. length answer ≤ 1114646) }
+        ensures whole { IfOk result (λ answer. IsWholeReply request.now answer) }
+        ensures exact { IfOk result (λ answer. IsHandedOn request.now answer) }
         ensures never_falls { self.old.faults ≤ self.new.faults }
         ensures cause { result ≡ Err LinkError.Failed → Rose self.old.faults self.new.faults }
     {
-        let reply = match address_of(self.addresses.items(), pod) {
+        let answer = match address_of(self.addresses.items(), pod) {
             Some(address) => exchange(&self.net, alloc, address, request),
             None => Err(LinkError::Failed),
         };
-        if let Err(LinkError::Failed) = &reply {
+        if let Err(LinkError::Failed) = &answer {
             let _ = fault(&mut self.faults);
         }
-        reply
+        answer
     }
 }

@@ -5,19 +5,14 @@ ghost use Rattle.std.specs.Char.{is_ascii_digit, to_ascii_lowercase};
 ghost use Rattle.std.specs.Str.Parse.{digits_value};
 ghost use Rattle.httparse.specs.Outcome.{IfComplete, OnPartial};
 ghost use Rattle.httparse.specs.Spans.{IsHeaderWithin, header_bytes};
-ghost use Rattle.kn_tcp.specs.Replies.{ends_in_chunks, has_no_body, is_chunks_coding, is_coding, is_interim, is_word};
+ghost use Rattle.kn_tcp.specs.Replies.{ends_in_chunks, has_no_body, is_chunks_coding, is_coding, is_word};
 ghost use Rattle.kn_tcp.specs.Ends.{IsStageOf, JudgedIs, Meets, MeetsAny, NeverReply, NoReply, NoStage, StageWithin, agrees, is_length, says};
 
 use crate::chunks::{Followed, follow};
+use crate::heads::{MOST_FIELDS, Never, answer_head};
 use httparse::Status;
-use httparse::spans::{EMPTY_HEADER_SPAN, HeaderSpan, parse_response};
+use httparse::spans::{EMPTY_HEADER_SPAN, HeaderSpan};
 use std::str;
-
-/// How many fields a head may have.
-const MOST_FIELDS: usize = 256;
-
-/// How many heads, with the answer's own.
-const MOST_HEADS: u32 = 16;
 
 /// How many bytes a reply may have.
 pub(crate) const MOST_REPLY: usize = 1_114_112;
@@ -39,10 +34,6 @@ pub(crate) enum Judged {
     More(Option<Stage>),
     Never,
 }
-
-/// What never is a reply, whatever follows.
-#[derive(Clone, Copy)]
-pub(crate) struct Never;
 
 /// Judges what came of the reply to a request, from the stage that was reached before on. A reply is at most 15 interim
 /// heads, of a status 1xx that isn't 101, then the head of the answer, with at most 256 fields each, and a body. An answer
@@ -93,33 +84,18 @@ fn stage_of(request: &[u8], reply: &[u8]) -> Result<Status<Stage>, Never>
     ensures never { OnErr result (NeverReply request.now reply.now) }
 {
     let mut spans = [EMPTY_HEADER_SPAN; MOST_FIELDS];
-    let mut at = 0;
-    let mut seen = 0;
-    'heads: while seen < MOST_HEADS {
-        let text = &reply[at..];
-        match parse_response(text, &mut spans) {
-            Ok(Status::Complete(head)) => {
-                at += head.len;
-                if !is_interim(head.code) {
-                    let none = has_no_body(request, head.code);
-                    return match body_of(none, text, &spans[..head.headers], at) {
-                        Some(stage) => Ok(Status::Complete(stage)),
-                        None => Err(Never),
-                    };
-                }
-                seen += 1;
+    match answer_head(reply, &mut spans) {
+        Ok(Status::Complete((start, head))) => {
+            let none = has_no_body(request, head.code);
+            let fields = &spans[..head.headers];
+            match body_of(none, &reply[start..], fields, start + head.len) {
+                Some(stage) => Ok(Status::Complete(stage)),
+                None => Err(Never),
             }
-            Ok(Status::Partial) => return Ok(Status::Partial),
-            Err(_) => return Err(Never),
         }
+        Ok(Status::Partial) => Ok(Status::Partial),
+        Err(_) => Err(Never),
     }
-    Err(Never)
-}
-
-fn is_interim(code: u16) -> bool
-    ensures { result ≡ is_interim code }
-{
-    100 <= code && code < 200 && code != 101
 }
 
 fn is_bodiless(code: u16) -> bool
@@ -238,7 +214,7 @@ fn is_in_chunks(text: &[u8], fields: &[HeaderSpan]) -> bool
 }
 
 /// Whether the bytes are this word, which is in lower case, whatever their own case.
-fn is_word(bytes: &[u8], word: &[u8]) -> bool
+pub(crate) fn is_word(bytes: &[u8], word: &[u8]) -> bool
     requires { map to_ascii_lowercase word.now ≡ word.now }
     ensures { result ≡ is_word word.now bytes.now }
 {

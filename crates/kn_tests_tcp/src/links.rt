@@ -1,7 +1,7 @@
 //! Links to pods.
 ghost use Rattle.std.specs.Prelude.{◌≤◌};
 
-use crate::loopback::{Link, Talk, address_of, exchange, link_to, listening, reply_length};
+use crate::loopback::{Link, Talk, address_of, answer_of, exchange, link_to, listening};
 use crate::{replies, tell_all};
 use kn_io::{Faulty, PodLink};
 use std::alloc::Global;
@@ -47,7 +47,7 @@ fn show_probes(rt: &HostRuntime, link: &mut Link<'_>) -> io::Result<()> {
 /// Six probes, and a call where no pod listens.
 fn probe_and_call(rt: &HostRuntime, link: &mut Link<'_>) -> io::Result<()> {
     show_probes(rt, link)?;
-    let failed = reply_length(rt.alloc(), link, 1, b"ask").is_none();
+    let failed = answer_of(rt.alloc(), link, 1, b"ask").is_none();
     let cases = [
         ("a call where no pod listens", failed),
         ("it is a fault", link.faults() == 3),
@@ -64,8 +64,8 @@ fn probe_none(rt: &HostRuntime, none: &mut Link<'_>) -> io::Result<()> {
     tell_all(rt, &cases)
 }
 
-/// The length of a reply of a head and so many pieces, of 8,192 bytes each.
-fn long_reply<T: Threads>(
+/// The length of the answer where the reply is a head and so many pieces, of 8,192 bytes each.
+fn long_answer<T: Threads>(
     threads: &T,
     alloc: Global,
     listener: &TcpListener,
@@ -79,19 +79,19 @@ fn long_reply<T: Threads>(
         reply: &head,
         pieces,
     };
-    exchange(threads, alloc, listener, link, talk)
+    exchange(threads, alloc, listener, link, talk).map(|answer| answer.bytes().len())
 }
 
-/// A reply of the greatest length, and a longer one.
+/// A reply of the greatest length, which is 19 bytes longer where it is answered, and a longer one.
 fn two_long_replies<T: Threads>(
     rt: &HostRuntime,
     threads: &T,
     listener: &TcpListener,
     link: &mut Link<'_>,
 ) -> io::Result<()> {
-    let longest = long_reply(threads, rt.alloc(), listener, link, 135) == Some(1_114_112);
+    let longest = long_answer(threads, rt.alloc(), listener, link, 135) == Some(1_114_131);
     let no_fault = link.faults() == 0;
-    let longer = long_reply(threads, rt.alloc(), listener, link, 136).is_none();
+    let longer = long_answer(threads, rt.alloc(), listener, link, 136).is_none();
     let cases = [
         ("the longest reply", longest),
         ("no fault", no_fault),

@@ -80,27 +80,27 @@ fn pod(alloc: Global, listener: &TcpListener, talk: Talk<'_>) -> io::Result<()> 
     talk_on(alloc, &mut stream, talk)
 }
 
-/// The length of the reply to a call.
-pub fn reply_length(alloc: Global, link: &mut Link<'_>, pod: u64, request: &[u8]) -> Option<usize> {
+/// The answer to a call.
+pub fn answer_of(alloc: Global, link: &mut Link<'_>, pod: u64, request: &[u8]) -> Option<Text> {
     match link.call(alloc, pod, request) {
-        Ok(reply) => Some(reply.bytes().len()),
+        Ok(answer) => Some(answer),
         Err(LinkError::Failed) => None,
         Err(LinkError::Memory) => None,
     }
 }
 
-/// The length of the reply that the link gives of such a pod.
+/// What the link answers of such a pod.
 pub fn exchange<T: Threads>(
     threads: &T,
     alloc: Global,
     listener: &TcpListener,
     link: &mut Link<'_>,
     talk: Talk<'_>,
-) -> Option<usize> {
+) -> Option<Text> {
     let served = thread::join(
         threads,
         || pod(alloc, listener, talk).is_ok(),
-        || reply_length(alloc, link, 0, talk.request),
+        || answer_of(alloc, link, 0, talk.request),
     );
     served.1
 }

@@ -1,5 +1,5 @@
 //! Callers and links over TCP on loopback. Each line of standard input is a request and a pod's reply with `|` between
-//! them, and below it is printed whether the reply came whole.
+//! them, and below it is printed what the client is answered, or that the reply didn't come whole.
 #![tactic(auto)]
 
 mod callers;

@@ -1,20 +1,24 @@
 //! Replies of pods, whole and cut.
 
 use crate::loopback::{Link, Talk, exchange};
-use kn_case::spelled;
+use kn_case::{shown, spelled};
+use kn_event::Text;
 use kn_io::Faulty;
 use std::io;
 use std::net::TcpListener;
 use std::thread::Threads;
 
-fn show_length(rt: &HostRuntime, length: Option<usize>) -> io::Result<()> {
-    match length {
-        Some(length) => println!(rt; "  whole, {length} bytes"),
+fn show_answer(rt: &HostRuntime, answer: Option<Text>) -> io::Result<()> {
+    match answer {
+        Some(answer) => {
+            let text = shown(rt.alloc(), answer.bytes())?;
+            println!(rt; "  {text}")
+        }
         None => println!(rt; "  not whole"),
     }
 }
 
-/// How long the reply to this request is, which is spelled so.
+/// What is answered where this is the reply to the request.
 fn show_reply<T: Threads>(
     rt: &HostRuntime,
     threads: &T,
@@ -29,11 +33,11 @@ fn show_reply<T: Threads>(
         reply: &reply,
         pieces: 0,
     };
-    let length = exchange(threads, rt.alloc(), listener, link, talk);
-    show_length(rt, length)
+    let answer = exchange(threads, rt.alloc(), listener, link, talk);
+    show_answer(rt, answer)
 }
 
-/// Prints a line, and how long its reply is where that came whole.
+/// Prints a line, and what is answered where its reply came whole.
 fn show<T: Threads>(
     rt: &HostRuntime,
     threads: &T,
@@ -47,7 +51,7 @@ fn show<T: Threads>(
     show_reply(rt, threads, listener, link, &request, reply)
 }
 
-/// Shows each line's reply, and how many faults there were: one for each that was not whole.
+/// Shows each line's answer, and how many faults there were: one for each that was not whole.
 pub fn show_all<T: Threads>(
     rt: &HostRuntime,
     threads: &T,

@@ -1,7 +1,6 @@
 use Rattle.std.proofs.Common.{◌-◌, ◌≤◌, ◌≡◌, length, drop}
-use Rattle.kn_tcp.specs.Ends.{most_fields}
-use Rattle.kn_tcp.proofs.HeadEnds.{SameHeads}
-use Rattle.kn_tcp.proofs.reply.stage_of.Given as goal
+use Rattle.kn_tcp.specs.Ends.{most_fields, SameHeads}
+use Rattle.kn_tcp.proofs.heads.answer_head.Given as goal
 
 abbrev pub invariant-heads : goal.invariant-heads
 invariant-heads l = record {
