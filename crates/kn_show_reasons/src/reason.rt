@@ -57,7 +57,7 @@ pub(crate) enum Reason {
     Panic(u64, Frac, u64),
     /// Pods asked for, by how many ready ones they are measured, and the threshold that they reach.
     Over(u64, u64, Milli),
-    /// An earlier panic goes on: the pods below which it takes no count.
+    /// The pods that a panic which goes on keeps at least.
     GoesOn(u64),
     /// The most pods asked for since the panic began.
     Most(u64),

@@ -27,8 +27,8 @@ use kn_teller::{Form, Teller};
 use std::alloc::Global;
 use std::marker::Model;
 
-/// Writes each decision in words, and why requests were refused or given up. It keeps what the lines of a row need of the
-/// rows before it.
+/// Writes each decision in words, and why requests were refused or given up. It keeps what the lines of a row need of
+/// the rows before it.
 pub struct Reasons {
     spec: Spec,
     seen: Seen,

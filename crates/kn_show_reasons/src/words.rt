@@ -3,7 +3,7 @@ ghost use Rattle.std.specs.Prelude.{◌≡◌, ◌+◌, ◌≤◌, ◌++◌, cod
 ghost use Rattle.std.specs.Fmt.{signed_decimal};
 ghost use Rattle.kn_event.specs.EntryLine.{labelled};
 ghost use Rattle.kn_show_reasons.specs.Numbers.{pods_text};
-ghost use Rattle.kn_show_reasons.specs.Texts.{active_text, burst_text, goes_text, left_text, less_text, lever_word, line_text, not_yet_text, over_text, panic_text, rate_text, reason_text, stable_text, total_text, wants_text, way_word};
+ghost use Rattle.kn_show_reasons.specs.Texts.{active_text, burst_text, goes_text, left_text, less_text, lever_word, line_text, not_yet_text, over_text, panic_text, rate_text, reason_text, setting_text, stable_text, total_text, wants_text, way_word};
 
 use crate::numbers::{put_count, put_frac, put_milli, put_pods, put_rate, put_setting};
 use crate::reason::{Lever, Reason, Seats};
@@ -71,6 +71,44 @@ fn put_end(line: &mut Line, words: &[u8], pods: u64)
     ensures short { length line.new ≤ 900 }
 {
     put_pods(line, words, pods as u128);
+}
+
+fn put_most(line: &mut Line, pods: u64)
+    requires { length line.old ≤ 40 }
+    ensures value { line.new ≡ line.old ++ labelled (codes "   panic: the most asked for since it began: ") (pods_text pods) }
+    ensures short { length line.new ≤ 900 }
+{
+    put_end(line, b"   panic: the most asked for since it began: ", pods);
+}
+
+fn put_delay(line: &mut Line, seconds: u64, pods: u64)
+    requires { length line.old ≤ 40 }
+    ensures value { line.new ≡ line.old ++ setting_text (codes "   scale-down-delay ") seconds (codes " s: still ") pods }
+    ensures short { length line.new ≤ 900 }
+{
+    put_setting(line, b"   scale-down-delay ", seconds, b" s: still ", pods);
+}
+
+fn put_initial(line: &mut Line, scale: u64, pods: u64)
+    requires { length line.old ≤ 40 }
+    ensures value { line.new ≡ line.old ++ setting_text (codes "   initial-scale ") scale (codes ", never reached yet: ") pods }
+    ensures short { length line.new ≤ 900 }
+{
+    put_setting(
+        line,
+        b"   initial-scale ",
+        scale,
+        b", never reached yet: ",
+        pods,
+    );
+}
+
+fn put_inactive(line: &mut Line, passed: u64, pods: u64)
+    requires { length line.old ≤ 40 }
+    ensures value { line.new ≡ line.old ++ setting_text (codes "   inactive for ") passed (codes " ms: ") pods }
+    ensures short { length line.new ≤ 900 }
+{
+    put_setting(line, b"   inactive for ", passed, b" ms: ", pods);
 }
 
 fn put_up_rate(line: &mut Line, rate: Milli, pods: u128)
@@ -236,32 +274,16 @@ impl Reason {
     {
         match *self {
             Reason::Wants(want, ready) => put_wants(line, want, ready),
-            Reason::Stable(window, average, target, pods) => {
-                put_stable(line, window, average, target, pods)
-            }
+            Reason::Stable(s, mean, target, pods) => put_stable(line, s, mean, target, pods),
             Reason::UpRate(rate, pods) => put_up_rate(line, rate, pods),
             Reason::DownRate(rate, pods) => put_down_rate(line, rate, pods),
             Reason::Activation(n) => put_setting(line, b"   activation-scale ", n, b": ", n),
-            Reason::Panic(window, average, pods) => put_panic(line, window, average, pods),
+            Reason::Panic(s, mean, pods) => put_panic(line, s, mean, pods),
             Reason::Over(pods, ready, threshold) => put_over(line, pods, ready, threshold),
             Reason::GoesOn(pods) => put_end(line, b"   panic goes on: not below ", pods),
-            Reason::Most(pods) => put_end(
-                line,
-                b"   panic: the most asked for since it began: ",
-                pods,
-            ),
-            Reason::Delay(s, pods) => {
-                put_setting(line, b"   scale-down-delay ", s, b" s: still ", pods)
-            }
-            Reason::Initial(n, pods) => {
-                put_setting(
-                    line,
-                    b"   initial-scale ",
-                    n,
-                    b", never reached yet: ",
-                    pods,
-                )
-            }
+            Reason::Most(pods) => put_most(line, pods),
+            Reason::Delay(s, pods) => put_delay(line, s, pods),
+            Reason::Initial(n, pods) => put_initial(line, n, pods),
             Reason::Min(n, pods) => put_setting(line, b"   min-scale ", n, b": ", pods),
             Reason::Max(n, pods) => put_setting(line, b"   max-scale ", n, b": ", pods),
             Reason::Ceiling(pods) => put_end(line, b"   no more than ", pods),
@@ -269,13 +291,7 @@ impl Reason {
             Reason::Waits(pods) => put_end(line, b"   activating: stays at ", pods),
             Reason::Active(passed, window, pods) => put_active(line, passed, window, pods),
             Reason::GoesInactive(passed, window) => put_goes(line, passed, window),
-            Reason::Inactive(ms, pods) => put_setting(
-                line,
-                b"   inactive for ",
-                ms,
-                b" ms: ",
-                pods,
-            ),
+            Reason::Inactive(passed, pods) => put_inactive(line, passed, pods),
             Reason::NotYet(ms, grace, retention) => put_not_yet(line, ms, grace, retention),
             Reason::Burst(seats) => put_burst(line, &seats),
             Reason::BurstUnlimited(way) => put_way(line, b"   burst capacity unlimited: ", way),
