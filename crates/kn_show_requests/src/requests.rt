@@ -47,6 +47,7 @@ impl Model for Requests {
 }
 
 /// What is told of a request that ends at this time.
+#[inline(always)]
 fn ended(lives: &Lives, r: u64, time: u64, outcome: Outcome) -> Option<Told>
     ensures { result ≡ option_map (λ x. ended r x time outcome) (life_at lives.now r) }
 {
@@ -57,6 +58,7 @@ fn ended(lives: &Lives, r: u64, time: u64, outcome: Outcome) -> Option<Told>
 }
 
 /// What is told of the request that is refused or ends with a row.
+#[inline(always)]
 fn told_by(lives: &Lives, tag: u64, e: &Entry) -> Option<Told>
     ensures { result ≡ told_by (λ _. tag) (life_at lives.now) e.now.time e.now.row }
 {
@@ -73,6 +75,7 @@ fn told_by(lives: &Lives, tag: u64, e: &Entry) -> Option<Told>
 }
 
 /// Adds the line of what is told behind what waits, where something is.
+#[inline(always)]
 fn add_line<O: Sink>(
     told: Option<Told>,
     line: &mut Line,
@@ -93,6 +96,7 @@ fn add_line<O: Sink>(
 }
 
 /// Adds the line of each request that is refused or ends with a row behind what waits, row by row.
+#[inline(always)]
 fn add_rows<O: Sink>(
     lives: &mut Lives,
     tag: u64,

@@ -84,6 +84,7 @@ pub struct Told {
 
 impl Told {
     /// Of a request that is refused at this time, by a pod or before any.
+    #[inline(always)]
     pub fn refused(request: u64, tag: u64, time: u64, outcome: Outcome, pod: Option<u64>) -> Told
         ensures { result ≡ refused request tag time outcome pod }
     {
@@ -101,6 +102,7 @@ impl Told {
     }
 
     /// Of a request that ends at this time.
+    #[inline(always)]
     pub fn ended(request: u64, life: &Life, time: u64, outcome: Outcome) -> Told
         ensures { result ≡ ended request life.now time outcome }
     {
@@ -137,6 +139,7 @@ impl Told {
 
     /// Sets the line to what is told, with its LF.
     #[tactic(auto, using(crate::proofs::Pieces::three_pieces), unfolding(crate::specs::Texts::line_text))]
+    #[inline(always)]
     pub fn set_line(&self, line: &mut Line)
         ensures { line.new ≡ line_text self.now }
     {
@@ -147,6 +150,7 @@ impl Told {
     }
 
     #[tactic(auto, using(crate::proofs::Pieces::three_pieces), unfolding(crate::specs::Texts::figures_text))]
+    #[inline(always)]
     fn put_figures(&self, line: &mut Line)
         requires { length line.old ≤ 0 }
         ensures value { line.new ≡ line.old ++ figures_text self.now }
@@ -158,6 +162,7 @@ impl Told {
     }
 
     #[tactic(auto, using(crate::proofs::Pieces::four_pieces), unfolding(crate::specs::Texts::words_text))]
+    #[inline(always)]
     fn put_words(&self, line: &mut Line)
         requires { length line.old ≤ 130 }
         ensures value { line.new ≡ line.old ++ words_text self.now }
@@ -170,6 +175,7 @@ impl Told {
     }
 
     #[tactic(auto, using(crate::proofs::Pieces::five_pieces), unfolding(crate::specs::Texts::ends_text))]
+    #[inline(always)]
     fn put_ends(&self, line: &mut Line)
         requires { length line.old ≤ 150 }
         ensures { line.new ≡ line.old ++ ends_text self.now }
@@ -182,6 +188,7 @@ impl Told {
     }
 }
 
+#[inline(always)]
 fn way_of(life: &Life) -> Way
     ensures { result ≡ if life.now.direct then way.Direct else way.Proxied }
 {
@@ -193,6 +200,7 @@ fn way_of(life: &Life) -> Way
 }
 
 /// From a time to this one.
+#[inline(always)]
 fn between(from: Option<u64>, time: u64) -> Option<u64>
     ensures { result ≡ option_map (λ t. time - t) from }
 {
@@ -203,6 +211,7 @@ fn between(from: Option<u64>, time: u64) -> Option<u64>
 }
 
 /// From this time to another.
+#[inline(always)]
 fn since(time: u64, to: Option<u64>) -> Option<u64>
     ensures { result ≡ option_map (λ t. t - time) to }
 {
@@ -214,6 +223,7 @@ fn since(time: u64, to: Option<u64>) -> Option<u64>
 
 /// A comma, and the number where there is one.
 #[tactic(auto, using(std::proofs::Common::append_assoc))]
+#[inline(always)]
 fn put_cell(line: &mut Line, n: Option<u64>)
     requires { length line.old ≤ 900 }
     ensures value { line.new ≡ line.old ++ cell n }
