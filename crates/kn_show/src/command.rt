@@ -49,7 +49,7 @@ fn series_of(step: &[u8]) -> Option<Command>
 
 /// What one word asks for.
 fn word_of(word: &str) -> Option<Command>
-    ensures value { result ≡ word_of (string_bytes word.now) }
+    ensures value { result ≡ word_of word.now }
     ensures range { (n : ℕ) → result ≡ Some (Command.Series n) → (1 ≤ n) × (n ≤ 86400000) }
 {
     if word == "reasons" {
