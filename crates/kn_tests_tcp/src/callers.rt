@@ -86,7 +86,7 @@ fn is_refusal(alloc: Global, stream: &mut TcpStream) -> io::Result<bool> {
     Ok(answer.as_slice() == REFUSAL)
 }
 
-/// Sends 200 KB, and says whether it reads the refusal.
+/// Sends 200 KB more, and says whether it reads the refusal.
 fn send_and_read(alloc: Global, stream: &mut TcpStream) -> io::Result<bool> {
     send(stream, 200)?;
     is_refusal(alloc, stream)
@@ -132,7 +132,7 @@ fn refuse_and_read(
     read_refusal(rt, first)
 }
 
-/// A second client comes, after the first has sent enough to be refused where it then stays.
+/// A second client comes, after the first has sent more than is read of it before it is refused.
 fn refuse_first<T: Threads>(
     rt: &HostRuntime,
     threads: &T,
@@ -141,9 +141,7 @@ fn refuse_first<T: Threads>(
     first: &mut TcpStream,
     stays: bool,
 ) -> io::Result<()> {
-    if stays {
-        send(first, 2)?;
-    }
+    send(first, 2)?;
     let _second = client(rt, port)?;
     if stays {
         refuse_and_read(rt, caller, first)
