@@ -1,5 +1,5 @@
 //! What is told of a status.
-ghost use Rattle.std.specs.Prelude.{◌≡◌, ◌≤◌, ◌++◌, List, ℕ, codes, length};
+ghost use Rattle.std.specs.Prelude.{◌≡◌, ◌≤◌, ◌++◌, length};
 ghost use Rattle.kn_replay.specs.Texts.{error_text};
 ghost use Rattle.kn_replay.specs.Replaying.{Tells};
 ghost use Rattle.kn_show.specs.Texts.{status_text, told};

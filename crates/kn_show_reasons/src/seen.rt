@@ -1,5 +1,5 @@
 //! What is kept of the rows so far.
-ghost use Rattle.std.specs.Prelude.{◌≡◌, ◌++◌, ◌∷◌, [], List, ℕ, None, unwrap_or};
+ghost use Rattle.std.specs.Prelude.{◌≡◌, ◌++◌, ◌∷◌, [], List, None, unwrap_or};
 ghost use Rattle.std.specs.Option.{option_or};
 ghost use Rattle.kn_event.specs.declared.event.Event.{Event as EventValue};
 ghost use Rattle.kn_event.specs.declared.revision.Spec.{Spec as SpecValue};

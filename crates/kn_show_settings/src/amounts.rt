@@ -1,8 +1,7 @@
 //! Amounts of a scaled revision that its specification has in other parts, and what gives each of them.
-ghost use Rattle.std.specs.Prelude.{◌≡◌, ◌≤◌, ◌<◌, IfOk, Option, option_and_then, option_map};
-ghost use Rattle.serde_json.specs.Find.{as_str};
+ghost use Rattle.std.specs.Prelude.{◌≡◌, ◌≤◌, ◌<◌, IfOk, Option, option_map};
 ghost use Rattle.serde_json.specs.View.{view};
-ghost use Rattle.kn_show_settings.specs.Amounts.{metric_text, number_in, number_or, panic_origin, percentage_in, percentage_or_default, target_milli, target_origin, total_origin, total_otherwise, utilisation, utilisation_origin, utilisation_otherwise, utilisation_without, window_origin};
+ghost use Rattle.kn_show_settings.specs.Amounts.{metric_text, number_in, panic_origin, percentage_in, target_milli, target_origin, total_origin, total_otherwise, utilisation, utilisation_origin, utilisation_otherwise, utilisation_without, window_origin};
 
 use crate::origin::{Origin, annotated, annotation, configured, inner};
 use kn_config::{Key, value};

@@ -1,5 +1,5 @@
 //! What a ConfigMap and a Revision say and no setting comes from.
-ghost use Rattle.std.specs.Prelude.{◌≡◌, ◌++◌, OnOk, bytes_eq, codes};
+ghost use Rattle.std.specs.Prelude.{◌≡◌, ◌++◌, OnOk, bytes_eq};
 ghost use Rattle.std.specs.List.{filter};
 ghost use Rattle.serde_json.specs.View.{members_view, view};
 ghost use Rattle.kn_config.specs.Keys.{key_text};

@@ -1,5 +1,5 @@
 //! Where a setting comes from.
-ghost use Rattle.std.specs.Prelude.{◌≡◌, IfOk, codes, option_map, string_bytes};
+ghost use Rattle.std.specs.Prelude.{◌≡◌, IfOk, option_map, string_bytes};
 ghost use Rattle.serde_json.specs.View.{view};
 ghost use Rattle.kn_revision.specs.Members.{inner};
 ghost use Rattle.kn_show_settings.specs.Origins.{above, annotated, annotation, annotation_text, annotations, config_or, configured, has_annotation, origin_text, overridden, prefix, renamed, specified};

@@ -2,7 +2,7 @@
 ghost use Rattle.std.specs.Prelude.{◌≡◌, ◌++◌, [], IfOk, OnOk};
 ghost use Rattle.kn_show_settings.specs.Lines.{setting_lines};
 ghost use Rattle.kn_show_settings.specs.Blocks.{config_block, revision_block, value_of};
-ghost use Rattle.kn_show_settings.specs.Settings.{fixed_settings, scaled_text, settings_text, text_by};
+ghost use Rattle.kn_show_settings.specs.Settings.{fixed_settings, scaled_text, settings_text};
 
 use crate::blocks::{config_block, revision_block, value_of};
 use crate::lines::add_number;

@@ -6,7 +6,7 @@ use Rattle.kn_event.specs.declared.entry.Entry.{Entry}
 use Rattle.kn_event.specs.declared.entry.Row.{Row}
 use Rattle.kn_event.specs.declared.entry.Row.TheVariants as row
 use Rattle.kn_event.specs.declared.revision.Spec.{Spec}
-use Rattle.kn_trace.specs.Report.{is_admit, is_cancel, is_decision, is_direct, is_expire, is_failure, is_finish, is_loss, is_overload, is_queue_full, rows_with}
+use Rattle.kn_trace.specs.Report.{is_admit, is_cancel, is_decision, is_direct, is_expire, is_failure, is_finish, is_loss, is_overload, is_queue_full, rows_with, totals}
 use Rattle.kn_trace.specs.Rows.{decision_by}
 use Rattle.kn_trace.specs.Scale.{wanted}
 use Rattle.kn_trace.specs.Trace.{Trace}
@@ -82,6 +82,19 @@ counted s c = record {
   changes = wanted_changes s c;
   wanted = wanted s c;
 }
+
+-- what the last line of a report counts too is the same there
+pub record AgreesWithReport (s : Spec) (c : Trace) : Type 0 where
+  pub admitted : (counted s c).admitted ≡ (totals c).admitted
+  pub direct : (counted s c).direct ≡ (totals c).direct
+  pub queue_full : (counted s c).queue_full ≡ (totals c).queue_full
+  pub overload : (counted s c).overload ≡ (totals c).overload
+  pub ok : (counted s c).ok ≡ (totals c).finished
+  pub failed : (counted s c).failed ≡ (totals c).failed
+  pub expired : (counted s c).expired ≡ (totals c).expired
+  pub cancelled : (counted s c).cancelled ≡ (totals c).cancelled
+  pub lost : (counted s c).lost ≡ (totals c).lost
+  pub decisions : (counted s c).decisions ≡ (totals c).decisions
 
 -- ---- by one more row
 

@@ -1,5 +1,5 @@
 //! Rows by kind, and decisions by what was wanted before them.
-ghost use Rattle.std.specs.Prelude.{◌≡◌, ◌+◌, ◌<◌, ◌≤◌, ◌^◌, [], true, false, max};
+ghost use Rattle.std.specs.Prelude.{◌≡◌, ◌+◌, ◌<◌, ◌≤◌, ◌^◌, [], true, false};
 ghost use Rattle.kn_show_summary.specs.Counted.{CountsRow, counted, more_where, with_decision};
 
 mod text;

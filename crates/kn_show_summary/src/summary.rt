@@ -1,12 +1,5 @@
 //! The teller of a summary.
-ghost use Rattle.std.specs.Prelude.{◌≡◌, ◌==◌, if◌then◌else◌, ◌+◌, ◌-◌, ◌<◌, ◌≤◌, ◌^◌, ◌++◌, length, IfOk, OnOk, OnErr, List, ℕ};
-ghost use Rattle.kn_event.specs.Revision.{AreInRange};
-ghost use Rattle.kn_io.specs.Causes.{HasCause};
-ghost use Rattle.kn_io.specs.Prefix.{AppendsPrefix};
-ghost use Rattle.kn_report.specs.Waiting.{Adds};
-ghost use Rattle.kn_teller.specs.Manner.{Manner};
-ghost use Rattle.kn_teller.specs.Run.{IsOpened, IsStep, Run, begun, later, trace};
-ghost use Rattle.kn_begun.specs.Begun.{waits};
+ghost use Rattle.std.specs.Prelude.{◌≡◌, ◌==◌, if◌then◌else◌, ◌+◌, ◌-◌, ◌<◌, ◌≤◌, ◌++◌, length, List, ℕ};
 ghost use Rattle.kn_waits.specs.Waits.{AreWaits};
 ghost use Rattle.kn_show_summary.specs.Summary.{AwaitsRun, KnowsRun, summarises, summary};
 ghost use Rattle.kn_show_summary.specs.Text.{costs_text, longest, peaks_text, percentiles_text, pods_text, requests_text, run_text, waits_text};
