@@ -2,6 +2,7 @@
 ghost use Rattle.std.specs.Prelude.{◌≡◌, None};
 
 use crate::closing::finish;
+use crate::leave::{CONTINUE, Leave};
 use kn_io::{Caller, Failed, Faulty, PIECE, Sink, Source, fault, read_piece};
 use std::io;
 use std::io::{ErrorKind, Write};
@@ -16,11 +17,13 @@ const TRIES: u32 = 10;
 
 /// A caller whose connections come to a listening socket, which other callers may share. A connection is closed before
 /// the next is taken. Each error is a fault, and so are a write of 0 bytes of a piece that isn't empty, a read or write
-/// before the first connection, and a read for which the count of the bytes given has no room.
+/// before the first connection, and a read for which the count of the bytes given has no room. A client that waits for leave to
+/// send its body (`Expect: 100-continue`) gets it where the body is read.
 #[derive(Drop)]
 pub struct TcpCaller {
     listener: TcpListener,
     stream: Option<TcpStream>,
+    leave: Leave,
     buffer: [u8; PIECE],
     given: u128,
     faults: u64,
@@ -35,6 +38,7 @@ impl TcpCaller {
         TcpCaller {
             listener,
             stream: None,
+            leave: Leave::new(),
             buffer: [0; PIECE],
             given: 0,
             faults: 0,
@@ -87,8 +91,12 @@ impl Source for TcpCaller {
         let Some(stream) = &mut self.stream else {
             return Err(fault(&mut self.faults));
         };
+        if self.leave.take_due() && stream.write_all(CONTINUE).is_err() {
+            return Err(fault(&mut self.faults));
+        }
         match read_piece(stream, &mut self.buffer, buf) {
             Ok(n) => {
+                self.leave.hear(&self.buffer[..n]);
                 self.given += n as u128;
                 Ok(n)
             }
@@ -128,6 +136,7 @@ impl Caller for TcpCaller {
         match accept_in_time(&self.listener) {
             Ok(stream) => {
                 self.stream = Some(stream);
+                self.leave = Leave::new();
                 Ok(())
             }
             Err(_) => Err(fault(&mut self.faults)),

@@ -8,7 +8,9 @@ mod chunks;
 mod closing;
 mod heads;
 mod laws;
+mod leave;
 mod link;
+mod names;
 mod reply;
 
 pub use caller::TcpCaller;

@@ -1,18 +1,19 @@
 //! Links to pods.
-ghost use Rattle.std.specs.Prelude.{◌≡◌, ◌≤◌, ◌%◌, length, None, Err, [], IfOk, IfSome, option_copied, slice_get};
+ghost use Rattle.std.specs.Prelude.{◌≡◌, ◌≤◌, ◌%◌, length, None, Err, [], IfOk, IfSome, option_map, slice_get};
 ghost use Rattle.kn_io.specs.Causes.{Rose};
 ghost use Rattle.kn_tcp.specs.Replies.{IsWholeReply};
 ghost use Rattle.kn_tcp.specs.Ends.{IsReplyOf, ReadsReply};
 ghost use Rattle.kn_tcp.specs.Closing.{IsHandedOn};
 
 use crate::answer::closed;
+use crate::names::Names;
 use crate::reply::{Judged, MOST_REPLY, Stage, judge};
 use kn_event::{Items, Text};
 use kn_io::{Failed, Faulty, LinkError, PIECE, PodLink, fault};
 use std::alloc::Global;
 use std::io::{ErrorKind, Read, Write};
-use std::net::{Net, OpenStream, ToSocketAddrs};
-use std::time::Duration;
+use std::net::{Net, OpenStream, SocketAddr, ToSocketAddrs};
+use std::time::{Clock, Duration, Instant};
 use std::{io, str};
 
 /// How many seconds a probe waits for a connection with one address of the pod.
@@ -32,10 +33,11 @@ const REPLY_WAIT: u64 = 600;
 pub struct TcpLink<N> {
     net: N,
     addresses: Items<Text>,
+    names: Names,
     faults: u64,
 }
 
-impl<N: Net> TcpLink<N> {
+impl<N: Net + Clock> TcpLink<N> {
     /// A link to these addresses, without faults so far.
     pub fn new(net: N, addresses: Items<Text>) -> TcpLink<N>
         ensures { ⟦<TcpLink<N> as Faulty>⟧.faults result ≡ 0 }
@@ -43,44 +45,77 @@ impl<N: Net> TcpLink<N> {
         TcpLink {
             net,
             addresses,
+            names: Names::new(),
             faults: 0,
         }
     }
 }
 
-/// The address of a pod.
-fn address_of(addresses: &[Text], pod: u64) -> Option<&[u8]>
-    ensures { option_copied result ≡ slice_get addresses.now (pod % length addresses.now) }
+/// A pod's name, and its place among the names.
+#[derive(Clone, Copy)]
+struct Name<'a> {
+    text: &'a [u8],
+    place: usize,
+}
+
+/// The name of a pod.
+fn name_of(addresses: &[Text], pod: u64) -> Option<Name<'_>>
+    ensures { option_map (λ n. n.text.now) result ≡ slice_get addresses.entry.now (pod % length addresses.entry.now) }
 {
     let count = addresses.len() as u64;
     if count == 0 {
         return None;
     }
-    Some(addresses[(pod % count) as usize].bytes())
+    let place = (pod % count) as usize;
+    Some(Name {
+        text: addresses[place].bytes(),
+        place,
+    })
 }
 
-/// A connection with the first address of this name that takes it, in time.
-fn connect<N: Net>(net: &N, address: &[u8], seconds: u64) -> io::Result<N::Stream> {
+/// A connection with the first address of this name that takes it, in time, and that address.
+fn connect_anew<N: Net>(net: &N, text: &[u8], seconds: u64) -> io::Result<(N::Stream, SocketAddr)> {
     let mut last = io::Error::from(ErrorKind::InvalidInput);
-    let Ok(address) = str::from_utf8(address) else {
+    let Ok(text) = str::from_utf8(text) else {
         return Err(last);
     };
-    for address in address.to_socket_addrs(net)? {
+    for address in text.to_socket_addrs(net)? {
         match net.connect_timeout(address, Duration::from_secs(seconds)) {
-            Ok(stream) => return Ok(stream),
+            Ok(stream) => return Ok((stream, address)),
             Err(e) => last = e,
         }
     }
     Err(last)
 }
 
-/// Sends a pod the request.
-fn send<N: Net>(net: &N, address: &[u8], request: &[u8]) -> io::Result<N::Stream> {
-    let mut stream = connect(net, address, CONNECT_WAIT)?;
+/// A connection with the address that this name had not long ago, or else with the first one that takes it.
+fn connect<N: Net + Clock>(
+    net: &N,
+    names: &mut Names,
+    name: Name<'_>,
+    seconds: u64,
+) -> io::Result<N::Stream> {
+    let now = Instant::now(net)?;
+    if let Some(address) = names.get(name.place, now) {
+        if let Ok(stream) = net.connect_timeout(address, Duration::from_secs(seconds)) {
+            return Ok(stream);
+        }
+        names.forget(name.place);
+    }
+    let (stream, address) = connect_anew(net, name.text, seconds)?;
+    names.keep(name.place, now, address);
+    Ok(stream)
+}
+
+/// Sends the request. A pod may answer and close before it took all of it: what it answered is read all the same.
+fn send<S: OpenStream + Write>(stream: &mut S, request: &[u8]) -> io::Result<()> {
     stream.set_read_timeout(Some(Duration::from_secs(REPLY_WAIT)))?;
     stream.set_write_timeout(Some(Duration::from_secs(REPLY_WAIT)))?;
-    stream.write_all(request)?;
-    Ok(stream)
+    match stream.write_all(request) {
+        Err(e) if e.kind() == ErrorKind::BrokenPipe => Ok(()),
+        Err(e) if e.kind() == ErrorKind::ConnectionReset => Ok(()),
+        sent => sent,
+    }
 }
 
 /// What comes, to the end of the reply. What is behind it is dropped.
@@ -118,19 +153,23 @@ fn receive<R: Read>(alloc: Global, request: &[u8], stream: &mut R) -> Result<Tex
 }
 
 /// Sends a pod the request, and answers what the client is handed of its reply, which came whole.
-fn exchange<N: Net>(
+fn exchange<N: Net + Clock>(
     net: &N,
+    names: &mut Names,
     alloc: Global,
-    address: &[u8],
+    name: Name<'_>,
     request: &[u8],
 ) -> Result<Text, LinkError>
     ensures short { IfOk result (λ answer. length answer ≤ 1114646) }
     ensures whole { IfOk result (λ answer. IsWholeReply request.now answer) }
     ensures exact { IfOk result (λ answer. IsHandedOn request.now answer) }
 {
-    let Ok(mut stream) = send(net, address, request) else {
+    let Ok(mut stream) = connect(net, names, name, CONNECT_WAIT) else {
         return Err(LinkError::Failed);
     };
+    if send(&mut stream, request).is_err() {
+        return Err(LinkError::Failed);
+    }
     let reply = receive(alloc, request, &mut stream)?;
     closed(alloc, reply.bytes())
 }
@@ -143,14 +182,14 @@ impl<N: Net> Faulty for TcpLink<N> {
     }
 }
 
-impl<N: Net> PodLink for TcpLink<N> {
+impl<N: Net + Clock> PodLink for TcpLink<N> {
     ghost told = { λ _. None };
 
     fn probe(&mut self, pod: u64) -> Result<bool, Failed> {
-        let Some(address) = address_of(self.addresses.items(), pod) else {
+        let Some(name) = name_of(self.addresses.items(), pod) else {
             return Err(fault(&mut self.faults));
         };
-        match connect(&self.net, address, PROBE_WAIT) {
+        match connect(&self.net, &mut self.names, name, PROBE_WAIT) {
             Ok(_) => Ok(true),
             Err(e) if e.kind() == ErrorKind::ConnectionRefused => Ok(false),
             Err(_) => Err(fault(&mut self.faults)),
@@ -164,8 +203,8 @@ impl<N: Net> PodLink for TcpLink<N> {
         ensures never_falls { self.old.faults ≤ self.new.faults }
         ensures cause { result ≡ Err LinkError.Failed → Rose self.old.faults self.new.faults }
     {
-        let answer = match address_of(self.addresses.items(), pod) {
-            Some(address) => exchange(&self.net, alloc, address, request),
+        let answer = match name_of(self.addresses.items(), pod) {
+            Some(name) => exchange(&self.net, &mut self.names, alloc, name, request),
             None => Err(LinkError::Failed),
         };
         if let Err(LinkError::Failed) = &answer {

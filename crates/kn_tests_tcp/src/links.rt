@@ -1,7 +1,9 @@
 //! Links to pods.
 ghost use Rattle.std.specs.Prelude.{◌≤◌};
 
-use crate::loopback::{Link, Talk, address_of, answer_of, exchange, link_to, listening};
+use crate::loopback::{
+    Ask, Link, Talk, address_of, answer_of, ask_of, exchange, link_to, listening,
+};
 use crate::{replies, tell_all};
 use kn_io::{Faulty, PodLink};
 use std::alloc::Global;
@@ -18,6 +20,8 @@ pub enum Trial {
     NoAddress,
     /// A reply has at most 1,114,112 bytes.
     Longest,
+    /// A pod that answers and closes before it took the whole request.
+    Early,
     /// The replies that the lines of standard input spell.
     Lines,
 }
@@ -30,6 +34,7 @@ fn addresses_in(trial: Trial) -> usize
         Trial::Probes => 4,
         Trial::NoAddress => 0,
         Trial::Longest => 1,
+        Trial::Early => 1,
         Trial::Lines => 1,
     }
 }
@@ -101,6 +106,35 @@ fn two_long_replies<T: Threads>(
     tell_all(rt, &cases)
 }
 
+/// The pod takes three bytes of sixteen million, answers, and closes.
+fn answer_early<T: Threads>(
+    rt: &HostRuntime,
+    threads: &T,
+    listener: &TcpListener,
+    link: &mut Link<'_>,
+) -> io::Result<()> {
+    let long = vec![in rt.alloc(); b'a'; 1 << 24]?;
+    let talk = Talk {
+        request: b"ask",
+        reply: b"HTTP/1.1 413 Too Long\r\nContent-Length: 0\r\n\r\n",
+        pieces: 0,
+    };
+    let all = Ask {
+        pod: 0,
+        request: &long,
+    };
+    let answer = ask_of(threads, rt.alloc(), listener, link, talk, all);
+    let head = b"HTTP/1.1 413 Too Long\r\nContent-Length: 0\r\nConnection: close\r\n\r\n";
+    let cases = [
+        (
+            "an early answer",
+            answer.is_some_and(|it| it.bytes() == head.as_slice()),
+        ),
+        ("no fault", link.faults() == 0),
+    ];
+    tell_all(rt, &cases)
+}
+
 fn try_link<T: Threads>(
     rt: &HostRuntime,
     threads: &T,
@@ -112,6 +146,7 @@ fn try_link<T: Threads>(
         Trial::Probes => probe_and_call(rt, link),
         Trial::NoAddress => probe_none(rt, link),
         Trial::Longest => two_long_replies(rt, threads, listener, link),
+        Trial::Early => answer_early(rt, threads, listener, link),
         Trial::Lines => replies::show_all(rt, threads, listener, link),
     }
 }

@@ -81,12 +81,41 @@ fn pod(alloc: Global, listener: &TcpListener, talk: Talk<'_>) -> io::Result<()> 
 }
 
 /// The answer to a call.
-pub fn answer_of(alloc: Global, link: &mut Link<'_>, pod: u64, request: &[u8]) -> Option<Text> {
+pub fn answer_of<L: PodLink>(
+    alloc: Global,
+    link: &mut L,
+    pod: u64,
+    request: &[u8],
+) -> Option<Text> {
     match link.call(alloc, pod, request) {
         Ok(answer) => Some(answer),
         Err(LinkError::Failed) => None,
         Err(LinkError::Memory) => None,
     }
+}
+
+/// A request to a pod of a link.
+#[derive(Clone, Copy)]
+pub struct Ask<'a> {
+    pub pod: u64,
+    pub request: &'a [u8],
+}
+
+/// What the link answers where a pod behind this listener talks so.
+pub fn ask_of<T: Threads, L: PodLink + Send>(
+    threads: &T,
+    alloc: Global,
+    listener: &TcpListener,
+    link: &mut L,
+    talk: Talk<'_>,
+    ask: Ask<'_>,
+) -> Option<Text> {
+    let served = thread::join(
+        threads,
+        || pod(alloc, listener, talk).is_ok(),
+        || answer_of(alloc, link, ask.pod, ask.request),
+    );
+    served.1
 }
 
 /// What the link answers of such a pod.
@@ -97,10 +126,9 @@ pub fn exchange<T: Threads>(
     link: &mut Link<'_>,
     talk: Talk<'_>,
 ) -> Option<Text> {
-    let served = thread::join(
-        threads,
-        || pod(alloc, listener, talk).is_ok(),
-        || answer_of(alloc, link, 0, talk.request),
-    );
-    served.1
+    let whole = Ask {
+        pod: 0,
+        request: talk.request,
+    };
+    ask_of(threads, alloc, listener, link, talk, whole)
 }

@@ -3,8 +3,10 @@
 #![tactic(auto)]
 
 mod callers;
+mod leave;
 mod links;
 mod loopback;
+mod names;
 mod replies;
 
 use callers::Visit;
@@ -37,6 +39,7 @@ fn show_links<T: Threads>(rt: &HostRuntime, threads: &T) -> io::Result<()> {
         Trial::Probes,
         Trial::NoAddress,
         Trial::Longest,
+        Trial::Early,
         Trial::Lines,
     ] {
         links::try_one(rt, threads, *trial)?;
@@ -46,5 +49,7 @@ fn show_links<T: Threads>(rt: &HostRuntime, threads: &T) -> io::Result<()> {
 
 fn main(rt: HostRuntime) -> io::Result<()> {
     show_callers(&rt, &rt)?;
+    leave::all(&rt, &rt)?;
+    names::all(&rt, &rt)?;
     show_links(&rt, &rt)
 }
