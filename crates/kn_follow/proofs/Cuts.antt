@@ -18,7 +18,7 @@ use Rattle.kn_journal.specs.Parts.{part}
 use Rattle.kn_journal.specs.declared.journal.Opening.{Opening}
 use Rattle.kn_journal.specs.declared.journal.Setup.{Setup}
 use Rattle.kn_journal.specs.Journal.{Read, bad, end_part, event_in, from_read, in_time, journal_of, next_part, read_events, time_most, verdict_of_lines}
-use Rattle.kn_journal.specs.Reading.{TakesPart, TakesText}
+use Rattle.kn_journal.specs.Reading.{IsOver, TakesPart, TakesText}
 use Rattle.kn_journal.specs.Telling.{Gives, IsLineFault, LeavesRest, Refuses, TakesEnd, refused_line}
 use Rattle.kn_journal.specs.Texts.{TextLaws}
 use Rattle.kn_follow.specs.Account.{Account, account_of}
@@ -26,7 +26,7 @@ use Rattle.kn_teller.specs.Manner.{Manner, told}
 use Rattle.kn_teller.specs.Run.{Run, begun}
 use Rattle.kn_follow.specs.Cutting.{AreBegun, CutsIn, FollowsCut, HasNoLine, IsCut, StopsSoon}
 use Rattle.kn_follow.specs.Endings.{Stops}
-use Rattle.kn_follow.specs.Following.{IsOver, Opened, Opens}
+use Rattle.kn_follow.specs.Following.{Opened, Opens}
 use Rattle.kn_report.specs.Waiting.{Adds}
 use Rattle.kn_follow.proofs.Behind.{AreOpenings, AreStarts, lines_read}
 use Rattle.kn_follow.proofs.Faults.{HasRead, is_over, over_of}

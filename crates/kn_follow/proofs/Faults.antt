@@ -16,11 +16,11 @@ use Rattle.kn_journal.specs.Causes.{Cause, error_of, no_end}
 use Rattle.kn_journal.specs.Lines.{lines}
 use Rattle.kn_journal.specs.Parts.{part}
 use Rattle.kn_journal.specs.Journal.{Read, Verdict, bad, from_read, journal_of, next_part, opening_part, read_events, start_part, verdict, verdict_of_lines}
-use Rattle.kn_journal.specs.Reading.{AreWhole, EndsWithLf, IsCutOff, TakesPart, TakesText, most_taken}
+use Rattle.kn_journal.specs.Reading.{AreWhole, EndsWithLf, IsCutOff, IsOver, TakesPart, TakesText, most_taken}
 use Rattle.kn_journal.specs.Telling.{Gives, Refuses, StopsAmid, TakesEnd}
 use Rattle.kn_journal.specs.Texts.{TextLaws}
 use Rattle.kn_follow.specs.Endings.{IsFollowed, Stops, Writes, refusal_of, status_by, status_of}
-use Rattle.kn_follow.specs.Following.{BreaksAmid, BreaksBefore, BreaksBeyond, BreaksFollowing, BreaksIn, Follows, FollowsInput, IsOver, Opened, Opens, rest_of_text}
+use Rattle.kn_follow.specs.Following.{BreaksAmid, BreaksBefore, BreaksBeyond, BreaksFollowing, BreaksIn, Follows, FollowsInput, Opened, Opens, rest_of_text}
 use Rattle.kn_follow.specs.Account.{account_of, text_of}
 use Rattle.kn_teller.specs.Manner.{Manner, told}
 use Rattle.kn_teller.specs.Run.{Run, begun}

@@ -8,10 +8,9 @@ use Rattle.kn_journal.specs.declared.error.JournalError.{JournalError}
 use Rattle.kn_journal.specs.declared.error.JournalError.TheVariants as error
 use Rattle.kn_journal.specs.Journal.{next_part, time_most}
 use Rattle.kn_journal.specs.declared.status.Status.{Status}
-use Rattle.kn_journal.specs.Reading.{Ahead, IsSpent, TakesPart, TakesText, most_taken}
+use Rattle.kn_journal.specs.Reading.{Ahead, IsOver, IsSpent, TakesPart, TakesText, most_taken}
 use Rattle.kn_journal.specs.Telling.{IsLineFault, LeavesRest, OnEvent, ReaderState, Refuses, TakesEnd, Tells}
 use Rattle.kn_follow.specs.Calls.{Draws, IsBroken, IsCaused, IsNext, StopsBy}
-use Rattle.kn_follow.specs.Following.{IsOver}
 use Rattle.kn_follow.proofs.Statuses.{rose_on}
 
 -- the clauses of the reader that speak of an event
@@ -23,6 +22,7 @@ pub record OfEvent (before after : ReaderState) (old new : Option (List ℕ)) (r
   pub range : OnEvent r (λ e. IsInJournalRange e.act)
   pub bytes : OnEvent r (λ e. before.input.taken + 6 ≤ after.input.taken)
   pub good : OnOk r (after.failed ≡ None)
+  pub alone : after.bundle ≡ false
   pub few : after.input.taken ≤ most_taken
 
 -- and those that speak of an error
@@ -45,7 +45,7 @@ next_is before after old new faults faults_now (Ok (Some e)) tells event stop = 
   last = event.last;
   range = event.range;
   bytes = event.bytes;
-  sound = record { good = event.good; few = event.few };
+  sound = record { good = event.good; alone = event.alone; few = event.few };
 }
 next_is before after old new faults faults_now (Ok None) tells event stop = tells
 next_is before after old new faults faults_now (Err e) tells event stop = record {

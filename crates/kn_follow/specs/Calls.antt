@@ -9,13 +9,13 @@ use Rattle.kn_journal.specs.declared.error.JournalError.TheVariants as error
 use Rattle.kn_journal.specs.declared.status.Status.{Status}
 use Rattle.kn_journal.specs.declared.status.Status.TheVariants as status
 use Rattle.kn_journal.specs.Journal.{next_part, time_most}
-use Rattle.kn_journal.specs.Reading.{Ahead, IsBalanced, IsSpent, TakesPart, TakesText, most_taken}
+use Rattle.kn_journal.specs.Reading.{Ahead, IsBalanced, IsOver, IsSpent, TakesPart, TakesText, most_taken}
 use Rattle.kn_journal.specs.Telling.{Gives, IsLineFault, LeavesRest, ReaderState, Refuses, TakesEnd}
-use Rattle.kn_follow.specs.Following.{IsOver}
 
--- a reader that told no error
+-- a reader of a journal that is no bundle's, which told no error
 pub record IsSound (reader : ReaderState) : Type 0 where
   pub good : reader.failed ≡ None
+  pub alone : reader.bundle ≡ false
   pub few : reader.input.taken ≤ most_taken
 
 -- a revision that took no event, at the start that was read last

@@ -1,5 +1,5 @@
 -- What following a journal writes, in the words of an account or in the manner of a teller.
-use Rattle.std.specs.Prelude.{◌≡◌, ◌⊎◌, ℕ, ◌-◌, ◌+◌, ◌++◌, Bool, true, false, List, [], length, Option, None, Some, Result, Ok, Err, ⊤}
+use Rattle.std.specs.Prelude.{◌≡◌, ◌⊎◌, ℕ, ◌-◌, ◌+◌, ◌++◌, Bool, false, List, [], length, Option, None, Some, Result, Ok, Err, ⊤}
 use Rattle.std.specs.Io.KnownBytes.{prepend_known}
 use Rattle.kn_event.specs.declared.entry.Entry.{Entry}
 use Rattle.kn_event.specs.declared.event.Event.{Event}
@@ -102,12 +102,6 @@ ending version m run (Some cause) = []
 -- what is written of the events behind a run, and at the end
 unfoldable pub rest_of_text : ℕ → Manner → Run → Read → List ℕ
 rest_of_text version m run r = told m run r.events ++ ending version m (ran run r.events) r.refused
-
--- where the input said its end, nothing of it is unread
-abbrev pub IsOver : Bool → Option (List ℕ) → Type 0
-IsOver cut None = ⊤
-IsOver true (Some xs) = xs ≡ []
-IsOver false (Some xs) = ⊤
 
 -- where the source failed: these events ended before it, or none behind a line that wasn't cut
 pub record BreaksIn (cut : Bool) (version last number : ℕ) (xs : List ℕ) (left : Option (List ℕ)) (read : Read) : Type 0 where

@@ -4,13 +4,13 @@ ghost use Rattle.kn_io.specs.Causes.{HasCause};
 ghost use Rattle.kn_io.specs.Prefix.{AppendsPrefix};
 ghost use Rattle.kn_event.specs.EventLine.{IsInJournalRange};
 ghost use Rattle.kn_core.specs.State.{StandsFor};
-ghost use Rattle.kn_journal.specs.Reading.{unread};
+ghost use Rattle.kn_journal.specs.Reading.{IsOver, unread};
 ghost use Rattle.kn_report.specs.Waiting.{Adds};
 ghost use Rattle.kn_teller.specs.Run.{IsOpened, IsStep, Run, begun, later, now_of, trace};
 ghost use Rattle.kn_follow.specs.Calls.{Draws, IsBroken, IsCaused, IsNext, IsReady, IsSound};
 ghost use Rattle.kn_follow.specs.Cutting.{FollowsCut};
 ghost use Rattle.kn_follow.specs.Endings.{EndsThere, IsFollowed, IsRefusal, Stops};
-ghost use Rattle.kn_follow.specs.Following.{Follows, FollowsBehind, IsOver};
+ghost use Rattle.kn_follow.specs.Following.{Follows, FollowsBehind};
 
 use crate::ending::status_of;
 use kn_core::Revision;
@@ -77,7 +77,7 @@ impl Follower {
 
     /// Takes one event, of which is still to be told.
     #[inline(never)]
-    fn step(&mut self, e: &Event)
+    pub fn step(&mut self, e: &Event)
         requires order { self.old.revision.clock ≤ e.now.time }
         requires times { e.now.time ≤ 2 ^ 42 }
         requires events { self.old.revision.events < 2 ^ 54 }
@@ -123,7 +123,7 @@ impl Follower {
 
     /// Adds what the teller tells of the last event, behind what waits.
     #[inline(always)]
-    fn tell<T: Teller, O: Sink>(
+    pub fn tell<T: Teller, O: Sink>(
         &mut self,
         teller: &mut T,
         e: &Event,
@@ -152,7 +152,7 @@ impl Follower {
     }
 
     /// Writes what waits, unless more is to come at once.
-    fn write_unless<O: Sink>(&mut self, more: bool, out: &mut O) -> Result<(), Failed>
+    pub fn write_unless<O: Sink>(&mut self, more: bool, out: &mut O) -> Result<(), Failed>
         ensures ok { OnOk result (Adds (O.held out.old) (O.held out.new) self.old.waiting self.new.waiting []) }
         ensures err { OnErr result (AppendsPrefix (O.held out.old) (O.held out.new) self.old.waiting) }
         ensures written { more ≡ false → OnOk result (self.new.waiting ≡ []) }
@@ -209,7 +209,7 @@ impl Follower {
     }
 
     /// Writes what waits, and answers the status, or that this failed.
-    fn stop<O: Sink>(&mut self, status: Status, out: &mut O) -> Status
+    pub fn stop<O: Sink>(&mut self, status: Status, out: &mut O) -> Status
         ensures stops { Stops self.old.waiting (O.held out.old) (O.held out.new) status result }
         ensures cause { status ≢ Status.WriteFault → IsCaused (O.Faulty.faults out.old) (O.Faulty.faults out.new) result }
     {
@@ -220,7 +220,7 @@ impl Follower {
     }
 
     /// Adds what the teller tells at the end, and writes all that waits.
-    fn end<T: Teller, O: Sink>(
+    pub fn end<T: Teller, O: Sink>(
         &mut self,
         teller: &mut T,
         version: u64,

@@ -1,5 +1,5 @@
 //! A journal that is followed, from its first byte to its last.
-ghost use Rattle.std.specs.Prelude.{◌≡◌, ◌⊎◌, ◌+◌, ◌-◌, ◌≤◌, Err, IfOk, IfErr, OnOk, None};
+ghost use Rattle.std.specs.Prelude.{◌≡◌, ◌⊎◌, ◌+◌, ◌-◌, ◌≤◌, Err, IfOk, IfErr, OnOk, None, false};
 ghost use Rattle.kn_io.specs.Causes.{Rose};
 ghost use Rattle.kn_journal.specs.Reading.{TakesText, most_taken, unread};
 ghost use Rattle.kn_journal.specs.Journal.{time_most};
@@ -25,6 +25,8 @@ fn open<S: Source>(
 ) -> Result<(Setup, u64), JournalError>
     requires good { reader.old.failed ≡ None }
     requires number { reader.old.number ≡ 0 }
+    requires bundle { reader.old.bundle ≡ false }
+    requires begun { reader.old.begun ≡ false }
     ensures opens { Opens (unread reader.old.input (S.left source.old)) (unread reader.new.input (S.left source.new))
         reader.new.version reader.new.number result }
     ensures rest { IfErr result (λ e. IsRefusal (status_of e) → IsBehind (status_of e)

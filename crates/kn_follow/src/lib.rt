@@ -6,4 +6,5 @@ mod follower;
 mod journal;
 
 pub use ending::status_of;
+pub use follower::Follower;
 pub use journal::follow_journal;

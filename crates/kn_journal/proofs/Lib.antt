@@ -1,10 +1,12 @@
 pub mod Aheads
 pub mod Blocks
+pub mod Bundles
 pub mod Consumed
 pub mod Drawings
 pub mod Fronts
 pub mod Kept
 pub mod LineTexts
+pub mod Listings
 pub mod Pieces
 pub mod Plain
 pub mod Printed

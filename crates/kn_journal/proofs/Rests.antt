@@ -8,6 +8,7 @@ use Rattle.kn_event.specs.EventLine.{event_of}
 use Rattle.kn_journal.specs.declared.error.JournalError.{JournalError}
 use Rattle.kn_journal.specs.declared.error.JournalError.TheVariants as error
 use Rattle.kn_journal.specs.Causes.{Cause, after_end, bad_line, error_of, time_back, time_too_large}
+use Rattle.kn_journal.specs.Bundle.{next_by, next_of_in, next_of_part}
 use Rattle.kn_journal.specs.Journal.{in_time, next_in, next_part, nothing_part, start_in, start_line_in, start_of, start_part, time_most}
 use Rattle.kn_journal.specs.Lines.{fits}
 use Rattle.kn_journal.specs.Parts.{Part, part, with_line}
@@ -78,10 +79,14 @@ start-rest n number old new line r h fit is j = line-rest n number None old new 
 
 -- ---- an event, and the end
 
-pub event-rest : (version last n number : ℕ) (old new : Option (List ℕ)) (line : List ℕ) (e : JournalError) → TakesLine old new true line → fits line ≡ true → number ≡ n + 1
-    → bytes_eq line (codes "end") ≡ false → IsCauseOf e (in_time number last (event_of version line)) → LeavesRest (next_part version last n) n None e old new
-unfolding next_part
-event-rest version last n number old new line e h fit is other (cause, same, read) =
+pub event-rest : (bundle : Bool) (version last n number : ℕ) (old new : Option (List ℕ)) (line : List ℕ) (e : JournalError) → TakesLine old new true line → fits line ≡ true → number ≡ n + 1
+    → bytes_eq line (codes "end") ≡ false → IsCauseOf e (in_time number last (event_of version line)) → LeavesRest (next_by bundle version last n) n None e old new
+unfolding next_part next_of_part
+event-rest true version last n number old new line e h fit is other (cause, same, read) =
+    let read_as : in_time (n + 1) last (event_of version line) ≡ Err cause = subst (λ (m : ℕ). in_time m last (event_of version line) ≡ Err cause) is read in
+    let named : refused_line None e ≡ Some (n + 1) = subst (λ (x : JournalError). refused_line None x ≡ Some (n + 1)) same (event-named (n + 1) last (event_of version line) cause read_as) in
+    line-leaves n None old new line (next_of_in version last) e cause h fit same named (rw (other, read_as) refl)
+event-rest false version last n number old new line e h fit is other (cause, same, read) =
     let read_as : in_time (n + 1) last (event_of version line) ≡ Err cause = subst (λ (m : ℕ). in_time m last (event_of version line) ≡ Err cause) is read in
     let named : refused_line None e ≡ Some (n + 1) = subst (λ (x : JournalError). refused_line None x ≡ Some (n + 1)) same (event-named (n + 1) last (event_of version line) cause read_as) in
     line-leaves n None old new line (next_in version last) e cause h fit same named (rw (other, read_as) refl)

@@ -1,12 +1,12 @@
 -- A part that stopped at a fault.
-use Rattle.std.proofs.Common.{◌≡◌, ◌+◌, ℕ, Bool, true, false, List, [], ◌∷◌, ◌++◌, length, append_assoc, refl, sym, ap, ◌∙◌, inl}
+use Rattle.std.proofs.Common.{◌≡◌, ◌+◌, ℕ, Bool, true, false, List, [], ◌∷◌, ◌++◌, length, refl, ap, ◌∙◌, inl}
 use Rattle.std.specs.Prelude.{Option, None, Some, Result, Ok, Err, codes}
 use Rattle.std.specs.Str.{bytes_eq}
 use Rattle.kn_journal.specs.Causes.{Cause, no_end}
 use Rattle.kn_journal.specs.Lines.{fits, lines}
 use Rattle.kn_journal.specs.Parts.{Part, part, then_part, with_line}
 use Rattle.kn_journal.specs.Reading.{TakesLine, TakesPart, TakesText}
-use Rattle.kn_journal.specs.Telling.{Gives, StopsAmid, TakesEnd}
+use Rattle.kn_journal.specs.Telling.{AmidNext, Gives, StopsAmid, TakesEnd}
 use Rattle.kn_journal.proofs.Consumed.{Takes, same_bytes, with_line-fits}
 use Rattle.kn_journal.proofs.Tellings.{lines-nil}
 use Rattle.kn_journal.proofs.Texts.{lines-behind, lines-own, split-behind, whole-cut, whole-more}
@@ -75,3 +75,8 @@ end-stops (Some xs) (Some ys) None line h t e k = absurd k
 end-stops (Some xs) (Some ys) (Some zs) line h (text, is, ends) e k =
     let own : lines text ≡ line ∷ [] = lines-own xs text ys (line ∷ []) is (whole-cut false text ys ends) h in
     (text, ys, is, ends, own ∙ ap (λ (x : List ℕ). x ∷ []) (same_bytes line (codes "end") e), k)
+
+-- some first bytes of a line were taken
+pub amid_next : (bundle : Bool) (old new : Option (List ℕ)) → TakesPart old new → AmidNext bundle old new
+amid_next true old new part = part
+amid_next false old new part = inl part

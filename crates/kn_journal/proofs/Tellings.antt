@@ -1,6 +1,6 @@
 -- A part that is read line by line.
-use Rattle.std.proofs.Common.{◌≡◌, ◌+◌, ◌<◌, ◌≤◌, ℕ, true, false, List, [], ◌∷◌, ◌++◌, length, take, drop, refl, sym, ap, ◌∙◌, subst, arith}
-use Rattle.std.specs.Prelude.{Option, None, Some, Result, Ok, Err, codes, nat_le}
+use Rattle.std.proofs.Common.{◌≡◌, ◌+◌, ◌<◌, ◌≤◌, ℕ, Bool, true, false, List, [], ◌∷◌, ◌++◌, length, take, drop, refl, sym, ap, ◌∙◌, subst, arith}
+use Rattle.std.specs.Prelude.{Option, None, Some, Result, Ok, Err, codes, nat_le, if◌then◌else◌}
 use Rattle.std.specs.Io.KnownBytes.{prepend_known}
 use Rattle.std.specs.Str.{bytes_eq}
 use Rattle.kn_event.specs.declared.event.Event.{Event}
@@ -11,7 +11,8 @@ use Rattle.kn_journal.specs.declared.first.FirstLine.{FirstLine}
 use Rattle.kn_journal.specs.declared.error.JournalError.{JournalError}
 use Rattle.kn_journal.specs.declared.error.JournalError.TheVariants as error
 use Rattle.kn_journal.specs.Causes.{Cause, after_end, bad_first_line, bad_line, error_of, line_too_long, no_end, time_back, time_too_large}
-use Rattle.kn_journal.specs.Journal.{nothing_part, first_in, first_part, in_time, next_in, next_part, start_line_in, start_of, start_part, time_most, version_by}
+use Rattle.kn_journal.specs.Bundle.{next_by, next_of_in, next_of_part}
+use Rattle.kn_journal.specs.Journal.{end_part, event_in, nothing_part, first_in, first_part, in_time, next_in, next_part, start_line_in, start_of, start_part, time_most, version_by}
 use Rattle.kn_journal.specs.Lines.{fits, line_most, lines, lines_at_lf, without_crs}
 use Rattle.kn_journal.specs.Parts.{Part, part, then_part, with_line}
 use Rattle.kn_journal.specs.Reading.{Counts, HasLongLine, TakesLine, TakesText}
@@ -184,14 +185,28 @@ event-back n last e r h most back =
 pub event-bad : (n last : ℕ) (why : LineError) (r : Result Event LineError) → Err why ≡ r → IsCauseOf (error.BadLine n why) (in_time n last r)
 event-bad n last why r h = (bad_line n why, refl, rw (sym h) refl)
 
--- an event that was read, or why none was
-pub next-event : (version last n number : ℕ) (old new : Option (List ℕ)) (line : List ℕ) (e : Event) → TakesLine old new true line → fits line ≡ true → number ≡ n + 1
-    → bytes_eq line (codes "end") ≡ false → in_time number last (event_of version line) ≡ Ok e → Tells (next_part version last n) number old new (Ok (Some e))
-unfolding next_part
-next-event version last n number old new line e h fit is other read =
+-- an event's line, or `end` and what is asked for behind it
+abbrev next_with : (ℕ → List (List ℕ) → Result (Part (Option Event)) Cause) → ℕ → ℕ → ℕ → List ℕ → List (List ℕ) → Result (Part (Option Event)) Cause
+next_with ended version last number line left =
+    if bytes_eq line (codes "end") then ended number left else event_in number left (in_time number last (event_of version line))
+
+-- nothing
+abbrev whatever : ℕ → List (List ℕ) → Result (Part (Option Event)) Cause
+whatever n left = Ok (part None n left)
+
+event-with : (ended : ℕ → List (List ℕ) → Result (Part (Option Event)) Cause) (version last n number : ℕ) (old new : Option (List ℕ)) (line : List ℕ) (e : Event) → TakesLine old new true line → fits line ≡ true → number ≡ n + 1
+    → bytes_eq line (codes "end") ≡ false → in_time number last (event_of version line) ≡ Ok e → Gives (λ ls. with_line n ls (next_with ended version last)) (Some e) number old new
+event-with ended version last n number old new line e h fit is other read =
     let read_as : in_time (n + 1) last (event_of version line) ≡ Ok e = subst (λ (m : ℕ). in_time m last (event_of version line) ≡ Ok e) is read in
-    let P : ℕ → Type 0 = λ m. Gives (λ ls. with_line n ls (next_in version last)) (Some e) m old new in
-    subst P (sym is) (line-gives n old new line (next_in version last) (Some e) h fit (λ left. rw (other, read_as) refl))
+    let P : ℕ → Type 0 = λ m. Gives (λ ls. with_line n ls (next_with ended version last)) (Some e) m old new in
+    subst P (sym is) (line-gives n old new line (next_with ended version last) (Some e) h fit (λ left. rw (other, read_as) refl))
+
+-- an event that was read, or why none was
+pub next-event : (bundle : Bool) (version last n number : ℕ) (old new : Option (List ℕ)) (line : List ℕ) (e : Event) → TakesLine old new true line → fits line ≡ true → number ≡ n + 1
+    → bytes_eq line (codes "end") ≡ false → in_time number last (event_of version line) ≡ Ok e → Tells (next_by bundle version last n) number old new (Ok (Some e))
+unfolding next_part next_of_part
+next-event true version last n number old new line e h fit is other read = event-with whatever version last n number old new line e h fit is other read
+next-event false version last n number old new line e h fit is other read = event-with end_part version last n number old new line e h fit is other read
 
 -- a line that lies whole in what is ahead
 takes-ahead : (len : ℕ) (ahead : List ℕ) (left : Option (List ℕ)) → ((later : List ℕ) → lines (ahead ++ later) ≡ take len ahead ∷ lines (drop (len + 1) ahead ++ later))
@@ -208,26 +223,41 @@ not_end line h = grind (arith, common_steps)
 pub length-ahead : (len : ℕ) (ahead : List ℕ) → len < length ahead → length (take len ahead) ≡ len
 length-ahead len ahead h = grind (arith, common_steps)
 
-pub ahead-event : (version last n number len : ℕ) (ahead : List ℕ) (left : Option (List ℕ)) (e : Event)
+pub ahead-event : (bundle : Bool) (version last n number len : ℕ) (ahead : List ℕ) (left : Option (List ℕ)) (e : Event)
     → ((later : List ℕ) → lines (ahead ++ later) ≡ take len ahead ∷ lines (drop (len + 1) ahead ++ later)) → len < length ahead → len ≤ line_most → 6 ≤ len → number ≡ n + 1
     → in_time (n + 1) last (event_of version (take len ahead)) ≡ Ok e
-    → Tells (next_part version last n) number (prepend_known ahead left) (prepend_known (drop (len + 1) ahead) left) (Ok (Some e))
-ahead-event version last n number len ahead left e line inside fit bytes is read =
+    → Tells (next_by bundle version last n) number (prepend_known ahead left) (prepend_known (drop (len + 1) ahead) left) (Ok (Some e))
+ahead-event bundle version last n number len ahead left e line inside fit bytes is read =
     let count = length-ahead len ahead inside in
-    next-event version last n number (prepend_known ahead left) (prepend_known (drop (len + 1) ahead) left) (take len ahead) e (takes-ahead len ahead left line)
+    next-event bundle version last n number (prepend_known ahead left) (prepend_known (drop (len + 1) ahead) left) (take len ahead) e (takes-ahead len ahead left line)
     (short-fits (take len ahead) (omega (arith, count))) is (not_end (take len ahead) (omega (arith, count)))
     (rw is read)
 
-pub next-refused : (version last n number : ℕ) (old new : Option (List ℕ)) (line : List ℕ) (e : JournalError) → TakesLine old new true line → fits line ≡ true → number ≡ n + 1
-    → bytes_eq line (codes "end") ≡ false → IsCauseOf e (in_time number last (event_of version line)) → Refuses (next_part version last n) e old
-unfolding next_part
-next-refused version last n number old new line e h fit is other (cause, error, read) =
+refused-with : (ended : ℕ → List (List ℕ) → Result (Part (Option Event)) Cause) (version last n number : ℕ) (old new : Option (List ℕ)) (line : List ℕ) (e : JournalError) → TakesLine old new true line → fits line ≡ true → number ≡ n + 1
+    → bytes_eq line (codes "end") ≡ false → IsCauseOf e (in_time number last (event_of version line)) → Refuses (λ ls. with_line n ls (next_with ended version last)) e old
+refused-with ended version last n number old new line e h fit is other (cause, error, read) =
     let read_as : in_time (n + 1) last (event_of version line) ≡ Err cause = subst (λ (m : ℕ). in_time m last (event_of version line) ≡ Err cause) is read in
-    line-refuses n old new line (next_in version last) e h fit cause error (λ left. rw (other, read_as) refl)
+    line-refuses n old new line (next_with ended version last) e h fit cause error (λ left. rw (other, read_as) refl)
 
-pub next-lacks : (version last n : ℕ) (e : JournalError) (old : Option (List ℕ)) → Lacks n e old → Refuses (next_part version last n) e old
-unfolding next_part
-next-lacks version last n e old h = lacks_refuses n e old (next_in version last) h
+pub next-refused : (bundle : Bool) (version last n number : ℕ) (old new : Option (List ℕ)) (line : List ℕ) (e : JournalError) → TakesLine old new true line → fits line ≡ true → number ≡ n + 1
+    → bytes_eq line (codes "end") ≡ false → IsCauseOf e (in_time number last (event_of version line)) → Refuses (next_by bundle version last n) e old
+unfolding next_part next_of_part
+next-refused true version last n number old new line e h fit is other why = refused-with whatever version last n number old new line e h fit is other why
+next-refused false version last n number old new line e h fit is other why = refused-with end_part version last n number old new line e h fit is other why
+
+pub next-lacks : (bundle : Bool) (version last n : ℕ) (e : JournalError) (old : Option (List ℕ)) → Lacks n e old → Refuses (next_by bundle version last n) e old
+unfolding next_part next_of_part
+next-lacks true version last n e old h = lacks_refuses n e old (next_of_in version last) h
+next-lacks false version last n e old h = lacks_refuses n e old (next_in version last) h
+
+-- `end` in a bundle
+pub next-closed : (bundle : Bool) (version last n number : ℕ) (old new : Option (List ℕ)) (line : List ℕ) → bundle ≡ true → TakesLine old new true line → fits line ≡ true → number ≡ n + 1
+    → bytes_eq line (codes "end") ≡ true → Gives (next_by bundle version last n) None number old new
+unfolding next_of_part
+next-closed true version last n number old new line true_is h fit is ends =
+    let P : ℕ → Type 0 = λ m. Gives (λ ls. with_line n ls (next_of_in version last)) None m old new in
+    subst P (sym is) (line-gives n old new line (next_of_in version last) None h fit (λ left. rw ends refl))
+next-closed false version last n number old new line true_is h fit is ends = cc
 
 -- ---- the end
 

@@ -50,6 +50,11 @@ opening-whole ls left o n h =
     let taken = opening-takes ls (part o n left) h in
     takes-whole 0 (opening_part JournalLine 0) ls o n left taken.0 taken.1 taken.2
 
+pub setup-whole : (m : ℕ) (ls left : List (List ℕ)) (s : Setup) (n : ℕ) → setup_part m ls ≡ Ok (part s n left) → IsWhole m (setup_part m) ls s n left
+setup-whole m ls left s n h =
+    let two = setup-takes m ls (part s n left) h in
+    takes-whole m (setup_part m) ls s n left (two.line ∷ two.more) two.count two.takes
+
 -- ---- the start
 
 start-one : (number : ℕ) (line : List ℕ) (left : List (List ℕ)) (p : Part ℕ) → start_line_in number line left ≡ Ok p → IsOneLine start_line_in number line p left

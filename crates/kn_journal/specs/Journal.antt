@@ -10,7 +10,7 @@ use Rattle.kn_event.specs.EventLine.{event_of, event_text, IsInJournalRange, IsI
 use Rattle.kn_event.specs.Fields.{fields}
 use Rattle.kn_event.specs.Numbers.{number_of}
 use Rattle.kn_journal.specs.declared.first.FirstLine.{FirstLine}
-use Rattle.kn_journal.specs.declared.first.FirstLine.TheVariants.{Journal as JournalLine, Slices as SlicesLine, Workload as WorkloadLine}
+use Rattle.kn_journal.specs.declared.first.FirstLine.TheVariants.{Journal as JournalLine, Setups as SetupsLine, Slices as SlicesLine, Workload as WorkloadLine}
 use Rattle.kn_journal.specs.declared.journal.Setup.{Setup}
 use Rattle.kn_journal.specs.declared.journal.Journal.{Journal}
 use Rattle.kn_journal.specs.declared.journal.Opening.{Opening}
@@ -32,6 +32,10 @@ version_of line = if bytes_eq line (codes "kact journal 1") then Some 1 else (if
 abbrev pub workload_version_of : List ℕ → Option ℕ
 workload_version_of line = if bytes_eq line (codes "kact workload 1") then Some 1 else None
 
+-- the version of a list of setups that a first line names
+abbrev pub setups_version_of : List ℕ → Option ℕ
+setups_version_of line = if bytes_eq line (codes "kact setups 1") then Some 1 else None
+
 -- how many activators there may be
 abbrev pub activators_most : ℕ
 activators_most = 16
@@ -49,12 +53,14 @@ abbrev pub version_by : FirstLine → List ℕ → Option ℕ
 version_by JournalLine line = version_of line
 version_by WorkloadLine line = workload_version_of line
 version_by SlicesLine line = activators_of line
+version_by SetupsLine line = setups_version_of line
 
 -- the greatest that it may name
 abbrev pub version_most : FirstLine → ℕ
 version_most JournalLine = 2
 version_most WorkloadLine = 2
 version_most SlicesLine = activators_most
+version_most SetupsLine = 1
 
 abbrev pub version_in : FirstLine → ℕ → List (List ℕ) → Option ℕ → Result (Part ℕ) Cause
 version_in due n left None = Err (bad_first_line due)

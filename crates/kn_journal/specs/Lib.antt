@@ -5,6 +5,7 @@ pub mod Parts
 pub mod SetupLine
 pub mod Setup
 pub mod Journal
+pub mod Bundle
 pub mod Status
 pub mod Reading
 pub mod Texts

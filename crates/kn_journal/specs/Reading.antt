@@ -53,6 +53,12 @@ TakesText cut (Some xs) (Some ys) = (text : List ℕ) × (xs ≡ text ++ ys) × 
 abbrev pub AreWhole : List ℕ → List ℕ → Type 0
 AreWhole text ys = (text ≡ []) ⊎ (EndsWithLf text ⊎ (ys ≡ []))
 
+-- where the input said its end, nothing of it is unread
+abbrev pub IsOver : Bool → Option (List ℕ) → Type 0
+IsOver cut None = ⊤
+IsOver true (Some xs) = xs ≡ []
+IsOver false (Some xs) = ⊤
+
 -- some first bytes were taken, maybe none, but no LF
 abbrev pub TakesPart : Option (List ℕ) → Option (List ℕ) → Type 0
 TakesPart None new = ⊤

@@ -1,5 +1,5 @@
 -- What a call of the reader tells of its input. Of an input that isn't known nothing is said.
-use Rattle.std.specs.Prelude.{◌≡◌, ℕ, ◌+◌, ◌++◌, Bool, false, List, [], ◌∷◌, length, Option, None, Some, Result, Ok, Err, codes, ⊤}
+use Rattle.std.specs.Prelude.{◌≡◌, ◌⊎◌, ℕ, ◌+◌, ◌++◌, Bool, true, false, List, [], ◌∷◌, length, Option, None, Some, Result, Ok, Err, codes, ⊤}
 use Rattle.kn_event.specs.declared.event.Event.{Event}
 use Rattle.kn_journal.specs.declared.error.JournalError.{JournalError}
 use Rattle.kn_journal.specs.declared.error.JournalError.TheVariants as error
@@ -23,7 +23,8 @@ pub record LinesState : Type 0 where
   pub cut : Bool
 
 -- what a reader of a journal has: its input, the number of the line read last, whether the input said its end then, the version,
--- the last time, and the error that it answers from then on
+-- the last time, the error that it answers from then on, whether a journal ends at its `end`, and whether a first line was taken
+-- before the setup
 pub record ReaderState : Type 0 where
   pub input : Ahead
   pub number : ℕ
@@ -31,6 +32,8 @@ pub record ReaderState : Type 0 where
   pub version : ℕ
   pub last : ℕ
   pub failed : Option JournalError
+  pub bundle : Bool
+  pub begun : Bool
 
 -- the lines of the old bytes give this part, up to line number n, and the lines of the new ones are left
 abbrev pub Gives : {T : Type 0} → (List (List ℕ) → Result (Part T) Cause) → T → ℕ → Option (List ℕ) → Option (List ℕ) → Type 0
@@ -58,6 +61,12 @@ abbrev pub TellsOpening : (List (List ℕ) → Result (Part Opening) Cause) → 
 TellsOpening read version n old new (Ok setup) = Gives read (record { version = version; setup = setup }) n old new
 TellsOpening read version n old new (Err e) = Refuses read e old
 
+-- a call that reads a first line of this version, or finds none at the end of the input
+abbrev pub TellsFirst : (List (List ℕ) → Result (Part (Option ℕ)) Cause) → ℕ → ℕ → Option (List ℕ) → Option (List ℕ) → Result Bool JournalError → Type 0
+TellsFirst read version n old new (Ok true) = Gives read (Some version) n old new
+TellsFirst read version n old new (Ok false) = Gives read None n old new
+TellsFirst read version n old new (Err e) = Refuses read e old
+
 -- a call that reads this part stopped at a fault: whole lines were taken of which none is refused, and then some first bytes
 -- of a line, maybe none
 abbrev pub StopsAmid : {T : Type 0} → (List (List ℕ) → Result (Part T) Cause) → Option (List ℕ) → Option (List ℕ) → Type 0
@@ -70,6 +79,12 @@ abbrev pub TakesEnd : Option (List ℕ) → Option (List ℕ) → Type 0
 TakesEnd None new = ⊤
 TakesEnd (Some xs) None = ⊥
 TakesEnd (Some xs) (Some ys) = (text mid : List ℕ) × (xs ≡ text ++ mid) × EndsWithLf text × (lines text ≡ codes "end" ∷ []) × TakesPart (Some mid) (Some ys)
+
+-- a call for the next event stopped at a fault: some first bytes of a line were taken; or, where a journal doesn't end at its
+-- `end`, that line before them
+abbrev pub AmidNext : Bool → Option (List ℕ) → Option (List ℕ) → Type 0
+AmidNext true old new = TakesPart old new
+AmidNext false old new = TakesPart old new ⊎ TakesEnd old new
 
 -- why something was refused
 abbrev pub IsCauseOf : {T : Type 0} → JournalError → Result T Cause → Type 0
@@ -126,6 +141,16 @@ LacksLine n _ ls = ⊥
 abbrev pub Lacks : ℕ → JournalError → Option (List ℕ) → Type 0
 Lacks n e None = ⊤
 Lacks n e (Some xs) = LacksLine n e (lines xs)
+
+-- what is said of the version of a first line that was read
+abbrev pub OnFirst : Result (Option ℕ) JournalError → (ℕ → Type 0) → Type 0
+OnFirst (Ok (Some version)) P = P version
+OnFirst _ P = ⊤
+
+-- what it is where no line could be read: at the end of the input there is no further journal
+abbrev pub none_at_end : JournalError → Result (Option ℕ) JournalError
+none_at_end error.NoEnd = Ok None
+none_at_end e = Err e
 
 -- what is said of an event that was read
 abbrev pub OnEvent : Result (Option Event) JournalError → (Event → Type 0) → Type 0

@@ -16,6 +16,8 @@ pub enum SetupError {
     BlockTooLong,
     /// The first word is not one that may stand there.
     BadWord,
+    /// An earlier setup has the same namespace and name.
+    Duplicate,
 }
 
 /// Why a journal, or a workload, was not read to its end. Lines are counted from 1.

@@ -15,6 +15,8 @@ pub enum FirstLine {
     Workload,
     /// `kact slices N`, for N activators, from 1 to 16.
     Slices,
+    /// `kact setups 1`.
+    Setups,
 }
 
 /// What stands before the number of activators.
@@ -38,7 +40,7 @@ fn activators_of(line: &[u8]) -> Option<u64>
 
 impl FirstLine {
     /// The version that the line names, where it is such a line.
-    fn version(self, line: &[u8]) -> Option<u64>
+    pub fn version(self, line: &[u8]) -> Option<u64>
         ensures value { result ≡ version_by self line.now }
         ensures least { IfSome result (λ version. 1 ≤ version) }
         ensures most { IfSome result (λ version. version ≤ version_most self) }
@@ -57,6 +59,11 @@ impl FirstLine {
                 None
             },
             FirstLine::Slices => activators_of(line),
+            FirstLine::Setups => if line == b"kact setups 1".as_slice() {
+                Some(1)
+            } else {
+                None
+            },
         }
     }
 }

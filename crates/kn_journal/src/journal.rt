@@ -8,6 +8,9 @@ pub struct Setup {
     pub text: Text,
 }
 
+/// Setups, in order. Contracts see the list of them.
+pub type Setups = Items<Setup>;
+
 /// A version and a setup.
 #[derive(Drop)]
 pub struct Opening {

@@ -3,8 +3,10 @@ ghost use Rattle.std.specs.Prelude.{◌≡◌, ℕ, List, Ok};
 ghost use Rattle.kn_journal.specs.declared.first.FirstLine.TheVariants.{Journal as JournalLine};
 ghost use Rattle.kn_journal.specs.declared.journal.Journal.{Journal};
 ghost use Rattle.kn_journal.specs.declared.journal.Opening.{Opening};
+ghost use Rattle.kn_journal.specs.declared.journal.Setup.{Setup};
 ghost use Rattle.kn_journal.specs.Journal.{IsJournal, good, journal_text, opening_part, start_part, verdict};
 ghost use Rattle.kn_journal.specs.Parts.{IsWhole, part};
+ghost use Rattle.kn_journal.specs.Setup.{setup_part};
 ghost use Rattle.kn_journal.specs.Texts.{TextLaws};
 
 use kn_event::spellings_are_read;
@@ -21,6 +23,7 @@ pub fn journals_are_read()
 /// What stands before the events is read from lines of its own, whatever follows them.
 pub fn openings_are_whole()
     ensures opening { (ls left : List (List ℕ)) (o : Opening) (n : ℕ) → opening_part JournalLine 0 ls ≡ Ok (part o n left) → IsWhole 0 (opening_part JournalLine 0) ls o n left }
+    ensures setup { (m : ℕ) (ls left : List (List ℕ)) (s : Setup) (n : ℕ) → setup_part m ls ≡ Ok (part s n left) → IsWhole m (setup_part m) ls s n left }
     ensures start { (m : ℕ) (ls left : List (List ℕ)) (time n : ℕ) → start_part m ls ≡ Ok (part time n left) → IsWhole m (start_part m) ls time n left }
 {}
 

@@ -1,12 +1,15 @@
-//! Journals, read and written: their lines, setups, starts and events, and why one is refused.
+//! Journals, bundles of them and lists of setups, read, and journals written: their lines, setups, starts and events, and why one is
+//! refused.
 #![tactic(auto)]
 
+mod bundle;
 mod error;
 mod first;
 mod input;
 mod journal;
 mod laws;
 mod lines;
+mod listed;
 mod parts;
 mod reader;
 mod setting;
@@ -16,7 +19,7 @@ mod write;
 
 pub use error::{JournalError, SetupError};
 pub use first::FirstLine;
-pub use journal::{Events, Journal, Opening, Setup};
+pub use journal::{Events, Journal, Opening, Setup, Setups};
 pub use laws::{journals_are_read, openings_are_whole, text_laws};
 pub use parts::{Lines, TIME_MOST};
 pub use reader::JournalReader;

@@ -1,12 +1,13 @@
 //! The parts of a journal, each read from the lines that come next.
-ghost use Rattle.std.specs.Prelude.{◌≡◌, ◌≢◌, ◌⊎◌, ◌+◌, ◌≤◌, ◌<◌, ◌↔◌, ℕ, [], ◌∷◌, ◌++◌, List, true, Err, Ok, None, Option, Some, Contains, IfOk, IfErr, IfSome, IsTrue, OnOk, drop, false, length, slice_range, take};
+ghost use Rattle.std.specs.Prelude.{◌≡◌, ◌≢◌, ◌+◌, ◌≤◌, ◌<◌, ◌↔◌, ℕ, Bool, [], ◌∷◌, ◌++◌, List, true, Err, Ok, None, Option, Some, Contains, IfOk, IfErr, IfSome, IsTrue, OnOk, drop, false, length, slice_range, take};
 ghost use Rattle.std.specs.List.{list_all};
 ghost use Rattle.kn_event.specs.EventLine.{event_of, is_printable, IsInJournalRange, IsInVersion, Spells};
 ghost use Rattle.kn_journal.specs.Lines.{fits, line_most, lines};
 ghost use Rattle.kn_journal.specs.Reading.{TakesLine, TakesPart, TakesText, most_taken, unread};
 ghost use Rattle.kn_journal.specs.Drawing.{Draws, error_in};
-ghost use Rattle.kn_journal.specs.Telling.{IsCauseOf, IsEventFault, IsLineFault, Judges, Lacks, LeavesRest, OnEvent, TakesEnd, Tells};
-ghost use Rattle.kn_journal.specs.Journal.{first_part, in_time, next_part, nothing_part, start_line_in, start_of, start_part, time_most, version_most};
+ghost use Rattle.kn_journal.specs.Telling.{AmidNext, Gives, IsCauseOf, IsEventFault, IsLineFault, Judges, Lacks, LeavesRest, OnEvent, Tells};
+ghost use Rattle.kn_journal.specs.Bundle.{next_by};
+ghost use Rattle.kn_journal.specs.Journal.{first_part, in_time, nothing_part, start_line_in, start_of, start_part, time_most, version_most};
 
 use crate::error::JournalError;
 use crate::first::{FirstLine, judge_first};
@@ -105,6 +106,7 @@ impl Lines {
         ensures ahead { IfOk result (λ r. r.input.ahead ≡ []) }
         ensures taken { IfOk result (λ r. r.input.taken ≡ 0) }
         ensures number { IfOk result (λ r. r.number ≡ 0) }
+        ensures cut { IfOk result (λ r. r.cut ≡ false) }
     {
         match Vec::with_capacity(alloc, 65536) {
             Ok(line) => Ok(Lines {
@@ -162,8 +164,10 @@ impl Lines {
         ensures fits { OnOk result (fits self.new.line ≡ true) }
         ensures no_lf { OnOk result (¬ Contains self.new.line 10) }
         ensures count { OnOk result (self.old.input.taken + length self.new.line ≤ self.new.input.taken) }
+        ensures strict { OnOk result (self.old.input.taken < self.new.input.taken) }
         ensures none { IfErr result (λ e. Lacks self.old.number e (unread self.old.input (S.left source.old))) }
         ensures memory { result ≢ Err JournalError.Memory }
+        ensures over { result ≡ Err JournalError.NoEnd → Gives (nothing_part self.old.number) tt self.new.number (unread self.old.input (S.left source.old)) (unread self.new.input (S.left source.new)) }
         ensures short { IfErr result (λ e. ¬ IsLineFault e) }
         ensures source { Draws TakesPart (error_in result) self.old.input self.new.input S.Source.own S.Faulty source.old source.new }
         ensures ready { Contains self.old.input.ahead 10 → source.new ≡ source.old }
@@ -311,7 +315,7 @@ impl Lines {
     /// takes nothing.
     #[inline(always)]
     pub fn next_ahead(&mut self, version: u64, last: u64) -> Option<Event>
-        ensures tells { IfSome result (λ e. (left : Option (List ℕ)) → Tells (next_part version last self.old.number) self.new.number (unread self.old.input left) (unread self.new.input left) (Ok (Some e))) }
+        ensures tells { IfSome result (λ e. (bundle : Bool) (left : Option (List ℕ)) → Tells (next_by bundle version last self.old.number) self.new.number (unread self.old.input left) (unread self.new.input left) (Ok (Some e))) }
         ensures text { IfSome result (λ e. (left : Option (List ℕ)) → TakesText self.new.cut (unread self.old.input left) (unread self.new.input left)) }
         ensures order { IfSome result (λ e. last ≤ e.time) }
         ensures times { IfSome result (λ e. e.time ≤ time_most) }
@@ -329,17 +333,18 @@ impl Lines {
         Some(e)
     }
 
-    /// Reads the next event, at this time or later, or `end` and the end of the input.
+    /// Reads the next event, at this time or later, or `end`, and the end of the input where this is no bundle's.
     pub fn next<S: Source>(
         &mut self,
         source: &mut S,
+        bundle: bool,
         version: u64,
         last: u64,
     ) -> Result<Option<Event>, JournalError>
         requires least { 1 ≤ version }
         requires most { version ≤ 2 }
-        ensures tells { Tells (next_part version last self.old.number) self.new.number (unread self.old.input (S.left source.old)) (unread self.new.input (S.left source.new)) result }
-        ensures rest { IfErr result (λ e. IsLineFault e → LeavesRest (next_part version last self.old.number) self.old.number None e (unread self.old.input (S.left source.old)) (unread self.new.input (S.left source.new))) }
+        ensures tells { Tells (next_by bundle version last self.old.number) self.new.number (unread self.old.input (S.left source.old)) (unread self.new.input (S.left source.new)) result }
+        ensures rest { IfErr result (λ e. IsLineFault e → LeavesRest (next_by bundle version last self.old.number) self.old.number None e (unread self.old.input (S.left source.old)) (unread self.new.input (S.left source.new))) }
         ensures text { OnEvent result (λ e. TakesText self.new.cut (unread self.old.input (S.left source.old)) (unread self.new.input (S.left source.new))) }
         ensures order { OnEvent result (λ e. last ≤ e.time) }
         ensures times { OnEvent result (λ e. e.time ≤ time_most) }
@@ -347,7 +352,8 @@ impl Lines {
         ensures version { OnEvent result (λ e. IsInVersion version e.act) }
         ensures bytes { OnEvent result (λ e. self.old.input.taken + 6 ≤ self.new.input.taken) }
         ensures memory { result ≢ Err JournalError.Memory }
-        ensures source { Draws (λ old new. TakesPart old new ⊎ TakesEnd old new) (error_in result) self.old.input self.new.input S.Source.own S.Faulty source.old source.new }
+        ensures closes { bundle ≡ true → OnOk result (TakesText self.new.cut (unread self.old.input (S.left source.old)) (unread self.new.input (S.left source.new))) }
+        ensures source { Draws (AmidNext bundle) (error_in result) self.old.input self.new.input S.Source.own S.Faulty source.old source.new }
         ensures ready { OnEvent result (λ e. Contains self.old.input.ahead 10 → source.new ≡ source.old) }
         ensures refused { IfErr result (λ e. IsEventFault e → Contains self.old.input.ahead 10 → source.new ≡ source.old) }
         ensures few { self.new.input.taken ≤ most_taken }
@@ -361,6 +367,9 @@ impl Lines {
             Err(e) => return Err(e),
         }
         if self.line.as_slice() == b"end".as_slice() {
+            if bundle {
+                return Ok(None);
+            }
             // There the input said its end.
             if self.cut {
                 return Ok(None);

@@ -300,7 +300,7 @@ fn line_text(alloc: Global, line: &[u8]) -> Result<Vec<u8>, Memory>
 }
 
 /// Reads a setup.
-fn read_setup<S: Source>(
+pub fn read_setup<S: Source>(
     alloc: Global,
     lines: &mut Lines,
     source: &mut S,

@@ -5,3 +5,4 @@ pub mod Generating
 pub mod Replaying
 pub mod Simulating
 pub mod Grouped
+pub mod Bundled

@@ -47,6 +47,7 @@ setup_text (setup_error.Config why) = codes "bad config: " ++ config_text why
 setup_text (setup_error.Revision why) = codes "bad revision: " ++ spec_text why
 setup_text setup_error.BlockTooLong = codes "bad setup: block too long"
 setup_text setup_error.BadWord = codes "bad setup: unknown word"
+setup_text setup_error.Duplicate = codes "same revision twice"
 
 unfoldable pub fault_text : LineError → List ℕ
 fault_text line_error.BadTime = codes "bad time"
@@ -62,6 +63,7 @@ abbrev pub first_line_text : FirstLine → List ℕ
 first_line_text first.Journal = codes "line 1: not a kact journal 1 or 2"
 first_line_text first.Workload = codes "line 1: not a kact workload 1"
 first_line_text first.Slices = codes "line 1: not a kact slices N"
+first_line_text first.Setups = codes "line 1: not a kact setups 1"
 
 unfoldable pub error_text : JournalError → List ℕ
 error_text error.ReadFault = codes "read failed"

@@ -1,4 +1,4 @@
-//! The commands of `kact`: it replays a journal, generates one, writes the one of a workload's schedule, or replays several activators.
+//! The commands of `kact`: it replays a journal, or one of a bundle, generates one, writes the one of a workload's schedule, or replays several activators.
 ghost use Rattle.std.specs.Prelude.{◌≡◌, ◌⊎◌, ◌↔◌, ◌+◌, ◌-◌, ◌≤◌, ℕ, None, Some, map, string_bytes, take};
 ghost use Rattle.kn_event.specs.Numbers.{number_of};
 ghost use Rattle.kn_io.specs.Causes.{Rose};
@@ -9,13 +9,15 @@ ghost use Rattle.kn_laws.specs.Losses.{LosesNothing};
 ghost use Rattle.kn_core.specs.Refused.{LeavesByAnswer};
 ghost use Rattle.kn_journal.specs.Reading.{most_taken};
 ghost use Rattle.kn_replay.specs.Report.{OnJournalOf, trace_of_journal};
+ghost use Rattle.kn_replay.specs.Bundled.{ReplaysBundle, TakesMemoryFirst};
 ghost use Rattle.kn_replay.specs.Replaying.{EndsThere, IsRefusal, IsReplayed, LeavesBehind, LeavesCut, Replays, Tells};
 ghost use Rattle.kn_replay.specs.Texts.{status_text};
-ghost use Rattle.kn_replay.specs.Commands.{command_of, generate_of};
+ghost use Rattle.kn_replay.specs.Commands.{command_of, generate_of, replay_of};
 ghost use Rattle.kn_replay.specs.Generating.{Generates};
 ghost use Rattle.kn_replay.specs.Grouped.{ReplaysGroup};
 ghost use Rattle.kn_replay.specs.Simulating.{Simulates, WritesNone};
 
+use crate::bundle::replay_bundle;
 use crate::generate::generate;
 use crate::journal::replay_journal;
 use crate::lawful::journal_laws;
@@ -31,6 +33,8 @@ use std::alloc::Global;
 enum Command {
     /// A journal is replayed.
     Replay,
+    /// The journal of this number, from 0, of a bundle is replayed.
+    Bundle(u64),
     /// The journal of this seed and so many events is stepped through.
     Generate(u64, u64),
     /// A workload's schedule is written as a journal.
@@ -53,6 +57,21 @@ fn generate_of(seed: &[u8], count: &[u8]) -> Option<Command>
     }
 }
 
+/// The journal of a bundle whose number this is.
+fn replay_of(number: &[u8]) -> Option<Command>
+    ensures value { result ≡ replay_of (number_of number.now) }
+    ensures other { (s n : ℕ) → result ≡ Some (Command.Generate s n) → n ≤ 1000000 }
+{
+    match read_number(number) {
+        Some(k) => if k <= 15 {
+            Some(Command::Bundle(k))
+        } else {
+            None
+        },
+        None => None,
+    }
+}
+
 /// What the words ask for.
 #[tactic(auto, unfolding(crate::specs::Commands::command_of))]
 fn command_of(words: &[String]) -> Option<Command>
@@ -66,6 +85,11 @@ fn command_of(words: &[String]) -> Option<Command>
             Some(Command::Simulate)
         } else if word.as_str() == "slices" {
             Some(Command::Slices)
+        } else {
+            None
+        },
+        [word, number] => if word.as_str() == "replay" {
+            replay_of(number.as_bytes())
         } else {
             None
         },
@@ -96,6 +120,10 @@ pub fn tell<E: Sink>(status: Status, err: &mut E) -> Status
 /// the lines that ended before that are good, and the rows of their events were written. Where writing failed, some first
 /// bytes of the report were. All memory is taken before the first of them.
 ///
+/// `replay K` reads a bundle, which is journals one after the other, each with its first line, and writes the report of journal K,
+/// from 0 to 15. Every line is judged, up to the end of the input, and lines are counted through all journals. Where there is no
+/// journal K, it is `NoEnd`. Memory is taken for each setup, so that it may be lacking behind the report.
+///
 /// `simulate` reads a workload to its end, and then writes the journal of its schedule, which reads as that journal. Nothing is
 /// written of a workload that is refused, and some first bytes of the journal where writing failed.
 ///
@@ -124,7 +152,12 @@ pub fn run<S: Source, O: Sink, E: Sink>(
     // The last line of the generated journal.
     ensures generates { (seed count : ℕ) → command_of (map string_bytes words.now) ≡ Some (Command.Generate seed count) → Generates seed count (O.held out.old) (O.held out.new) result }
     ensures untouched { (seed count : ℕ) → command_of (map string_bytes words.now) ≡ Some (Command.Generate seed count) → input.new ≡ input.old }
-    ensures memory { result ≡ Status.Memory → out.new ≡ out.old }
+    ensures memory { TakesMemoryFirst (command_of (map string_bytes words.now)) → result ≡ Status.Memory → out.new ≡ out.old }
+
+    // The report of journal k of a bundle, and the first refused line of all with its cause. Where memory was lacking, while a
+    // setup was read or opened, it is that of the whole journals before it.
+    ensures bundle { (k : ℕ) → command_of (map string_bytes words.now) ≡ Some (Command.Bundle k) → ReplaysBundle k (S.left input.old) (S.left input.new) (S.given input.new - S.given input.old) (O.held out.old) (O.held out.new) result }
+    ensures read_out { (k : ℕ) → command_of (map string_bytes words.now) ≡ Some (Command.Bundle k) → result ≡ Status.Ok → EndsThere (S.left input.old) (S.left input.new) }
 
     // The journal of a good workload's schedule; the first cause of one that is refused, and then nothing is written.
     ensures simulates { command_of (map string_bytes words.now) ≡ Some Command.Simulate → Simulates (S.left input.old) (O.held out.old) (O.held out.new) result }
@@ -151,6 +184,7 @@ pub fn run<S: Source, O: Sink, E: Sink>(
     match command_of(words) {
         None => tell(Status::Usage, err),
         Some(Command::Replay) => tell(replay_journal(alloc, input, out), err),
+        Some(Command::Bundle(k)) => tell(replay_bundle(alloc, k, input, out), err),
         Some(Command::Generate(seed, count)) => tell(generate(alloc, seed, count, out), err),
         Some(Command::Simulate) => tell(simulate_input(alloc, input, out), err),
         Some(Command::Slices) => tell(replay_group(alloc, input, out), err),

@@ -1,6 +1,7 @@
 //! `kact`: from the bytes of a journal to the bytes of its report; journals that are generated, and those of workloads.
 #![tactic(auto)]
 
+mod bundle;
 mod command;
 mod generate;
 mod journal;

@@ -100,6 +100,7 @@ fn put_setup(why: &SetupError, line: &mut Line)
         }
         SetupError::BlockTooLong => line.put(b"bad setup: block too long"),
         SetupError::BadWord => line.put(b"bad setup: unknown word"),
+        SetupError::Duplicate => line.put(b"same revision twice"),
     }
 }
 
@@ -151,6 +152,7 @@ fn put_first_line(due: FirstLine, line: &mut Line)
         FirstLine::Journal => line.put(b"line 1: not a kact journal 1 or 2"),
         FirstLine::Workload => line.put(b"line 1: not a kact workload 1"),
         FirstLine::Slices => line.put(b"line 1: not a kact slices N"),
+        FirstLine::Setups => line.put(b"line 1: not a kact setups 1"),
     }
 }
 

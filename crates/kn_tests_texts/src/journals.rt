@@ -14,9 +14,9 @@ const PIECES: [u64; 4] = [1, 2, 7, 65536];
 
 /// How many events came, and why no more did; after `end` nothing refused them.
 #[derive(Clone, Copy, PartialEq, Eq)]
-struct Said {
+pub struct Said {
     events: u64,
-    refused: Option<JournalError>,
+    pub refused: Option<JournalError>,
 }
 
 /// A reader, and what it reads from.
@@ -90,7 +90,7 @@ fn read_events(reading: &mut Reading) -> Said {
 }
 
 /// Reads a journal to its end.
-fn read_all(alloc: Global, reading: &mut Reading) -> Said {
+pub fn read_all(alloc: Global, reading: &mut Reading) -> Said {
     match read_start(alloc, reading) {
         Ok(()) => read_events(reading),
         Err(fault) => Said {
@@ -120,7 +120,7 @@ fn says(alloc: Global, bytes: &[u8]) -> Result<Option<Said>, AllocError> {
     Ok(Some(first))
 }
 
-fn add_said(said: Option<Said>, out: &mut String) -> Result<(), AllocError> {
+pub fn add_said(said: Option<Said>, out: &mut String) -> Result<(), AllocError> {
     let Some(Said { events, refused }) = said else {
         return out.push_str("not the same in all pieces");
     };

@@ -4,6 +4,7 @@
 //! In a text `\n` is LF, `\r` CR, `\x20` a byte and `\[3:x]` is `xxx`; `@NAME` is the file of that name in data/.
 #![tactic(auto)]
 
+mod bundles;
 mod holders;
 mod journals;
 mod keys;
@@ -54,6 +55,8 @@ fn add_answer(
         "cut" => journals::cut(alloc, text, out),
         "failing" => journals::failing(alloc, text, out),
         "setup" => journals::setup(alloc, text, out),
+        "bundle" => bundles::bundle(alloc, text, out),
+        "setups" => bundles::setups(alloc, text, out),
         "back" => written::back(alloc, text, out),
         _ => add_answer_to_line(subject, text, out),
     }

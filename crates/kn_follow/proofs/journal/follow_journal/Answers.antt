@@ -3,13 +3,13 @@ use Rattle.std.specs.Prelude.{Option, Err, Ok}
 use Rattle.kn_core.specs.State.{RevisionState, StandsFor}
 use Rattle.kn_journal.specs.declared.error.JournalError.{JournalError}
 use Rattle.kn_journal.specs.declared.status.Status.{Status}
-use Rattle.kn_journal.specs.Reading.{TakesText, unread}
+use Rattle.kn_journal.specs.Reading.{IsOver, TakesText, unread}
 use Rattle.kn_teller.specs.Manner.{Manner}
 use Rattle.kn_teller.specs.Run.{Run, begun, trace}
 use Rattle.kn_follow.specs.Account.{account_of}
 use Rattle.kn_follow.specs.Cutting.{FollowsCut}
 use Rattle.kn_follow.specs.Endings.{IsBehind, IsRefusal, status_of}
-use Rattle.kn_follow.specs.Following.{Follows, FollowsBehind, IsOver, Opens}
+use Rattle.kn_follow.specs.Following.{Follows, FollowsBehind, Opens}
 use Rattle.kn_follow.proofs.Behind.{journal_behind}
 use Rattle.kn_follow.proofs.Cuts.{journal_follows_cut, opening_cut}
 use Rattle.kn_follow.proofs.Faults.{journal_follows}
@@ -51,6 +51,12 @@ open-requires-clause-good g c = c.in-Ok.ensures.failed
 
 pub open-requires-clause-number : goal.open-requires-clause-number
 open-requires-clause-number g c = c.in-Ok.ensures.number
+
+pub open-requires-clause-bundle : goal.open-requires-clause-bundle
+open-requires-clause-bundle g c = c.in-Ok.ensures.bundle
+
+pub open-requires-clause-begun : goal.open-requires-clause-begun
+open-requires-clause-begun g c = c.in-Ok.ensures.begun
 
 pub returns-in-Err-open-clause-report : goal.returns-in-Err-open-clause-report
 returns-in-Err-open-clause-report g c =

@@ -4,6 +4,7 @@ use Rattle.kn_journal.specs.declared.status.Status.{Status}
 use Rattle.kn_journal.specs.declared.status.Status.TheVariants as status
 use Rattle.kn_replay.specs.declared.command.Command.{Command}
 use Rattle.kn_replay.specs.declared.command.Command.TheVariants as command
+use Rattle.kn_replay.specs.Bundled.{ReplaysBundle, TakesMemoryFirst}
 use Rattle.kn_replay.specs.Commands.{command_of}
 use Rattle.kn_replay.specs.Generating.{Generates}
 use Rattle.kn_replay.specs.Grouped.{ReplaysGroup}
@@ -44,6 +45,24 @@ simulate_or_slices o here there = cc
 
 slices_or_generate : (o : Option Command) (s n : ℕ) → o ≡ Some command.Slices → o ≡ Some (command.Generate s n) → ⊥
 slices_or_generate o s n here there = cc
+
+none_bundles : (o : Option Command) (k : ℕ) → o ≡ None → o ≡ Some (command.Bundle k) → ⊥
+none_bundles o k here there = cc
+
+replay_or_bundle : (o : Option Command) (k : ℕ) → o ≡ Some command.Replay → o ≡ Some (command.Bundle k) → ⊥
+replay_or_bundle o k here there = cc
+
+bundle_or_generate : (o : Option Command) (k s n : ℕ) → o ≡ Some (command.Bundle k) → o ≡ Some (command.Generate s n) → ⊥
+bundle_or_generate o k s n here there = cc
+
+simulate_or_bundle : (o : Option Command) (k : ℕ) → o ≡ Some command.Simulate → o ≡ Some (command.Bundle k) → ⊥
+simulate_or_bundle o k here there = cc
+
+slices_or_bundle : (o : Option Command) (k : ℕ) → o ≡ Some command.Slices → o ≡ Some (command.Bundle k) → ⊥
+slices_or_bundle o k here there = cc
+
+same_number : (o : Option Command) (k i : ℕ) → o ≡ Some (command.Bundle k) → o ≡ Some (command.Bundle i) → k ≡ i
+same_number o k i here there = cc
 
 -- ---- a usage fault is no other
 
@@ -98,7 +117,7 @@ returns-in-None-clause-untouched g c s n is =
     refl
 
 pub returns-in-None-clause-memory : goal.returns-in-None-clause-memory
-returns-in-None-clause-memory g c is =
+returns-in-None-clause-memory g c first is =
     refl
 
 pub returns-in-None-clause-read_fault : goal.returns-in-None-clause-read_fault
@@ -158,7 +177,7 @@ returns-in-Some-Replay-clause-only g c =
     inr (subst IsReplayed (sym c.tell-in-Some-Replay.ensures.same) c.replay_journal.ensures.replayed)
 
 pub returns-in-Some-Replay-clause-memory : goal.returns-in-Some-Replay-clause-memory
-returns-in-Some-Replay-clause-memory g c is =
+returns-in-Some-Replay-clause-memory g c first is =
     c.replay_journal.ensures.memory (sym c.tell-in-Some-Replay.ensures.same ∙ is)
 
 pub returns-in-Some-Replay-clause-write_fault : goal.returns-in-Some-Replay-clause-write_fault
@@ -244,7 +263,7 @@ returns-in-Some-Generate-clause-only g c =
     inr (subst IsReplayed (sym c.tell-in-Some-Generate.ensures.same) c.generate.ensures.replayed)
 
 pub returns-in-Some-Generate-clause-memory : goal.returns-in-Some-Generate-clause-memory
-returns-in-Some-Generate-clause-memory g c is =
+returns-in-Some-Generate-clause-memory g c first is =
     c.generate.ensures.memory (sym c.tell-in-Some-Generate.ensures.same ∙ is)
 
 pub returns-in-Some-Generate-clause-write_fault : goal.returns-in-Some-Generate-clause-write_fault
@@ -353,7 +372,7 @@ returns-in-Some-Simulate-clause-untouched g c s n is =
     absurd (simulate_or_generate _ s n (sym c.command_of.ensures.value ∙ c.in-Some-Simulate.is ∙ ap (λ (k : Command). Some k) c.in-Some-Simulate.field-0-is) is)
 
 pub returns-in-Some-Simulate-clause-memory : goal.returns-in-Some-Simulate-clause-memory
-returns-in-Some-Simulate-clause-memory g c is =
+returns-in-Some-Simulate-clause-memory g c first is =
     c.simulate_input.ensures.unwritten (subst WritesNone (sym (sym c.tell-in-Some-Simulate.ensures.same ∙ is)) tt)
 
 pub returns-in-Some-Simulate-clause-read_fault : goal.returns-in-Some-Simulate-clause-read_fault
@@ -437,7 +456,7 @@ returns-in-Some-Slices-clause-untouched g c s n is =
     absurd (slices_or_generate _ s n (sym c.command_of.ensures.value ∙ c.in-Some-Slices.is ∙ ap (λ (k : Command). Some k) c.in-Some-Slices.field-0-is) is)
 
 pub returns-in-Some-Slices-clause-memory : goal.returns-in-Some-Slices-clause-memory
-returns-in-Some-Slices-clause-memory g c is =
+returns-in-Some-Slices-clause-memory g c first is =
     c.replay_group.ensures.memory (sym c.tell-in-Some-Slices.ensures.same ∙ is)
 
 pub returns-in-Some-Slices-clause-read_fault : goal.returns-in-Some-Slices-clause-read_fault
@@ -499,3 +518,140 @@ returns-in-Some-Generate-clause-slices g c is =
 pub returns-in-Some-Simulate-clause-slices : goal.returns-in-Some-Simulate-clause-slices
 returns-in-Some-Simulate-clause-slices g c is =
     absurd (simulate_or_slices _ (sym c.command_of.ensures.value ∙ c.in-Some-Simulate.is ∙ ap (λ (k : Command). Some k) c.in-Some-Simulate.field-0-is) is)
+
+pub returns-in-Some-Bundle-clause-usage : goal.returns-in-Some-Bundle-clause-usage
+returns-in-Some-Bundle-clause-usage g c =
+    (λ is. absurd (never_usage _ (subst IsReplayed (sym c.tell-in-Some-Bundle.ensures.same) c.replay_bundle.ensures.replayed) is), λ none. absurd (none_bundles _ c.in-Some-Bundle.k none (sym c.command_of.ensures.value ∙ c.in-Some-Bundle.is ∙ ap (λ (k : Command). Some k) c.in-Some-Bundle.field-0-is)))
+
+pub returns-in-Some-Bundle-clause-unread : goal.returns-in-Some-Bundle-clause-unread
+returns-in-Some-Bundle-clause-unread g c is =
+    absurd (never_usage _ (subst IsReplayed (sym c.tell-in-Some-Bundle.ensures.same) c.replay_bundle.ensures.replayed) is)
+
+pub returns-in-Some-Bundle-clause-unwritten : goal.returns-in-Some-Bundle-clause-unwritten
+returns-in-Some-Bundle-clause-unwritten g c is =
+    absurd (never_usage _ (subst IsReplayed (sym c.tell-in-Some-Bundle.ensures.same) c.replay_bundle.ensures.replayed) is)
+
+pub returns-in-Some-Bundle-clause-only : goal.returns-in-Some-Bundle-clause-only
+returns-in-Some-Bundle-clause-only g c =
+    inr (subst IsReplayed (sym c.tell-in-Some-Bundle.ensures.same) c.replay_bundle.ensures.replayed)
+
+pub returns-in-Some-Bundle-clause-report : goal.returns-in-Some-Bundle-clause-report
+returns-in-Some-Bundle-clause-report g c is =
+    absurd (replay_or_bundle _ c.in-Some-Bundle.k is (sym c.command_of.ensures.value ∙ c.in-Some-Bundle.is ∙ ap (λ (k : Command). Some k) c.in-Some-Bundle.field-0-is))
+
+pub returns-in-Some-Bundle-clause-rest : goal.returns-in-Some-Bundle-clause-rest
+returns-in-Some-Bundle-clause-rest g c is refused =
+    absurd (replay_or_bundle _ c.in-Some-Bundle.k is (sym c.command_of.ensures.value ∙ c.in-Some-Bundle.is ∙ ap (λ (k : Command). Some k) c.in-Some-Bundle.field-0-is))
+
+pub returns-in-Some-Bundle-clause-cut : goal.returns-in-Some-Bundle-clause-cut
+returns-in-Some-Bundle-clause-cut g c is fault =
+    absurd (replay_or_bundle _ c.in-Some-Bundle.k is (sym c.command_of.ensures.value ∙ c.in-Some-Bundle.is ∙ ap (λ (k : Command). Some k) c.in-Some-Bundle.field-0-is))
+
+pub returns-in-Some-Bundle-clause-ended : goal.returns-in-Some-Bundle-clause-ended
+returns-in-Some-Bundle-clause-ended g c is ok =
+    absurd (replay_or_bundle _ c.in-Some-Bundle.k is (sym c.command_of.ensures.value ∙ c.in-Some-Bundle.is ∙ ap (λ (k : Command). Some k) c.in-Some-Bundle.field-0-is))
+
+pub returns-in-Some-Bundle-clause-generates : goal.returns-in-Some-Bundle-clause-generates
+returns-in-Some-Bundle-clause-generates g c s n is =
+    absurd (bundle_or_generate _ c.in-Some-Bundle.k s n (sym c.command_of.ensures.value ∙ c.in-Some-Bundle.is ∙ ap (λ (k : Command). Some k) c.in-Some-Bundle.field-0-is) is)
+
+pub returns-in-Some-Bundle-clause-untouched : goal.returns-in-Some-Bundle-clause-untouched
+returns-in-Some-Bundle-clause-untouched g c s n is =
+    absurd (bundle_or_generate _ c.in-Some-Bundle.k s n (sym c.command_of.ensures.value ∙ c.in-Some-Bundle.is ∙ ap (λ (k : Command). Some k) c.in-Some-Bundle.field-0-is) is)
+
+pub returns-in-Some-Bundle-clause-memory : goal.returns-in-Some-Bundle-clause-memory
+returns-in-Some-Bundle-clause-memory g c first is =
+    absurd (subst TakesMemoryFirst (sym c.command_of.ensures.value ∙ c.in-Some-Bundle.is ∙ ap (λ (k : Command). Some k) c.in-Some-Bundle.field-0-is) first)
+
+pub returns-in-Some-Bundle-clause-bundle : goal.returns-in-Some-Bundle-clause-bundle
+returns-in-Some-Bundle-clause-bundle g c k is =
+    let all = subst (λ (x : Status). ReplaysBundle c.in-Some-Bundle.k (g.S.Source.left c.args.input.now) (g.S.Source.left c.replay_bundle.new.source) (g.S.Source.given c.replay_bundle.new.source - g.S.Source.given c.args.input.now) (g.O.Sink.held c.args.out.now) (g.O.Sink.held c.replay_bundle.new.out) x) (sym c.tell-in-Some-Bundle.ensures.same) c.replay_bundle.ensures.report in
+    subst (λ (i : ℕ). ReplaysBundle i (g.S.Source.left c.args.input.now) (g.S.Source.left c.replay_bundle.new.source) (g.S.Source.given c.replay_bundle.new.source - g.S.Source.given c.args.input.now) (g.O.Sink.held c.args.out.now) (g.O.Sink.held c.replay_bundle.new.out) c.tell-in-Some-Bundle.result) (same_number _ c.in-Some-Bundle.k k (sym c.command_of.ensures.value ∙ c.in-Some-Bundle.is ∙ ap (λ (k : Command). Some k) c.in-Some-Bundle.field-0-is) is) all
+
+pub returns-in-Some-Bundle-clause-simulates : goal.returns-in-Some-Bundle-clause-simulates
+returns-in-Some-Bundle-clause-simulates g c is =
+    absurd (simulate_or_bundle _ c.in-Some-Bundle.k is (sym c.command_of.ensures.value ∙ c.in-Some-Bundle.is ∙ ap (λ (k : Command). Some k) c.in-Some-Bundle.field-0-is))
+
+pub returns-in-Some-Bundle-clause-unsaid : goal.returns-in-Some-Bundle-clause-unsaid
+returns-in-Some-Bundle-clause-unsaid g c is none =
+    absurd (simulate_or_bundle _ c.in-Some-Bundle.k is (sym c.command_of.ensures.value ∙ c.in-Some-Bundle.is ∙ ap (λ (k : Command). Some k) c.in-Some-Bundle.field-0-is))
+
+pub returns-in-Some-Bundle-clause-slices : goal.returns-in-Some-Bundle-clause-slices
+returns-in-Some-Bundle-clause-slices g c is =
+    absurd (slices_or_bundle _ c.in-Some-Bundle.k is (sym c.command_of.ensures.value ∙ c.in-Some-Bundle.is ∙ ap (λ (k : Command). Some k) c.in-Some-Bundle.field-0-is))
+
+pub returns-in-Some-Bundle-clause-read_fault : goal.returns-in-Some-Bundle-clause-read_fault
+returns-in-Some-Bundle-clause-read_fault g c is =
+    c.replay_bundle.ensures.read_fault (sym c.tell-in-Some-Bundle.ensures.same ∙ is)
+
+pub returns-in-Some-Bundle-clause-write_fault : goal.returns-in-Some-Bundle-clause-write_fault
+returns-in-Some-Bundle-clause-write_fault g c is =
+    c.replay_bundle.ensures.write_fault (sym c.tell-in-Some-Bundle.ensures.same ∙ is)
+
+pub returns-in-Some-Bundle-clause-lawful : goal.returns-in-Some-Bundle-clause-lawful
+returns-in-Some-Bundle-clause-lawful g c =
+    c.journal_laws.ensures.lawful (g.S.Source.left c.args.input.now)
+
+pub returns-in-Some-Bundle-clause-settled : goal.returns-in-Some-Bundle-clause-settled
+returns-in-Some-Bundle-clause-settled g c =
+    c.journal_laws.ensures.settled (g.S.Source.left c.args.input.now)
+
+pub returns-in-Some-Bundle-clause-no_loss : goal.returns-in-Some-Bundle-clause-no_loss
+returns-in-Some-Bundle-clause-no_loss g c =
+    c.journal_laws.ensures.no_loss (g.S.Source.left c.args.input.now)
+
+pub returns-in-Some-Bundle-clause-inert : goal.returns-in-Some-Bundle-clause-inert
+returns-in-Some-Bundle-clause-inert g c =
+    c.journal_laws.ensures.inert (g.S.Source.left c.args.input.now)
+
+pub returns-in-Some-Bundle-clause-beside : goal.returns-in-Some-Bundle-clause-beside
+returns-in-Some-Bundle-clause-beside g c =
+    c.journal_laws.ensures.beside (g.S.Source.left c.args.input.now)
+
+pub returns-in-Some-Bundle-clause-told : goal.returns-in-Some-Bundle-clause-told
+returns-in-Some-Bundle-clause-told g c =
+    c.tell-in-Some-Bundle.ensures.told
+
+pub returns-in-None-clause-bundle : goal.returns-in-None-clause-bundle
+returns-in-None-clause-bundle g c k is =
+    absurd (none_bundles _ k (sym c.command_of.ensures.value ∙ c.in-None.is) is)
+
+pub returns-in-Some-Replay-clause-bundle : goal.returns-in-Some-Replay-clause-bundle
+returns-in-Some-Replay-clause-bundle g c k is =
+    absurd (replay_or_bundle _ k (sym c.command_of.ensures.value ∙ c.in-Some-Replay.is ∙ ap (λ (x : Command). Some x) c.in-Some-Replay.field-0-is) is)
+
+pub returns-in-Some-Generate-clause-bundle : goal.returns-in-Some-Generate-clause-bundle
+returns-in-Some-Generate-clause-bundle g c k is =
+    absurd (bundle_or_generate _ k c.in-Some-Generate.seed c.in-Some-Generate.count is (sym c.command_of.ensures.value ∙ c.in-Some-Generate.is ∙ ap (λ (x : Command). Some x) c.in-Some-Generate.field-0-is))
+
+pub returns-in-Some-Simulate-clause-bundle : goal.returns-in-Some-Simulate-clause-bundle
+returns-in-Some-Simulate-clause-bundle g c k is =
+    absurd (simulate_or_bundle _ k (sym c.command_of.ensures.value ∙ c.in-Some-Simulate.is ∙ ap (λ (x : Command). Some x) c.in-Some-Simulate.field-0-is) is)
+
+pub returns-in-Some-Slices-clause-bundle : goal.returns-in-Some-Slices-clause-bundle
+returns-in-Some-Slices-clause-bundle g c k is =
+    absurd (slices_or_bundle _ k (sym c.command_of.ensures.value ∙ c.in-Some-Slices.is ∙ ap (λ (x : Command). Some x) c.in-Some-Slices.field-0-is) is)
+
+pub returns-in-None-clause-read_out : goal.returns-in-None-clause-read_out
+returns-in-None-clause-read_out g c k is ok =
+    absurd (none_bundles _ k (sym c.command_of.ensures.value ∙ c.in-None.is) is)
+
+pub returns-in-Some-Replay-clause-read_out : goal.returns-in-Some-Replay-clause-read_out
+returns-in-Some-Replay-clause-read_out g c k is ok =
+    absurd (replay_or_bundle _ k (sym c.command_of.ensures.value ∙ c.in-Some-Replay.is ∙ ap (λ (x : Command). Some x) c.in-Some-Replay.field-0-is) is)
+
+pub returns-in-Some-Generate-clause-read_out : goal.returns-in-Some-Generate-clause-read_out
+returns-in-Some-Generate-clause-read_out g c k is ok =
+    absurd (bundle_or_generate _ k c.in-Some-Generate.seed c.in-Some-Generate.count is (sym c.command_of.ensures.value ∙ c.in-Some-Generate.is ∙ ap (λ (x : Command). Some x) c.in-Some-Generate.field-0-is))
+
+pub returns-in-Some-Simulate-clause-read_out : goal.returns-in-Some-Simulate-clause-read_out
+returns-in-Some-Simulate-clause-read_out g c k is ok =
+    absurd (simulate_or_bundle _ k (sym c.command_of.ensures.value ∙ c.in-Some-Simulate.is ∙ ap (λ (x : Command). Some x) c.in-Some-Simulate.field-0-is) is)
+
+pub returns-in-Some-Slices-clause-read_out : goal.returns-in-Some-Slices-clause-read_out
+returns-in-Some-Slices-clause-read_out g c k is ok =
+    absurd (slices_or_bundle _ k (sym c.command_of.ensures.value ∙ c.in-Some-Slices.is ∙ ap (λ (x : Command). Some x) c.in-Some-Slices.field-0-is) is)
+
+pub returns-in-Some-Bundle-clause-read_out : goal.returns-in-Some-Bundle-clause-read_out
+returns-in-Some-Bundle-clause-read_out g c k is ok =
+    c.replay_bundle.ensures.ended (sym c.tell-in-Some-Bundle.ensures.same ∙ ok)

@@ -1,12 +1,12 @@
 use Rattle.std.proofs.Common.{◌≡◌, ◌≤◌, ◌<◌, ◌+◌, ◌*◌, ◌^◌, List, length}
 use Rattle.kn_event.specs.declared.event.Event.{Event}
 use Rattle.kn_core.specs.State.{StandsFor}
-use Rattle.kn_journal.specs.Reading.{unread}
+use Rattle.kn_journal.specs.Reading.{IsOver, unread}
 use Rattle.kn_report.specs.Waiting.{Adds}
 use Rattle.kn_teller.specs.Manner.{told}
 use Rattle.kn_teller.specs.Run.{begun, now_of, trace}
 use Rattle.kn_follow.specs.Calls.{Draws, IsSound}
-use Rattle.kn_follow.specs.Following.{IsOver, ran}
+use Rattle.kn_follow.specs.Following.{ran}
 use Rattle.kn_follow.proofs.Faults.{HasRead}
 use Rattle.kn_follow.proofs.Follows.{GoesOn, IsStill}
 use Rattle.kn_follow.proofs.follower.Follower.follow.Given as goal

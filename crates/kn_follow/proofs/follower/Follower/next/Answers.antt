@@ -1,9 +1,11 @@
 -- An event that is ahead, the end of the input, or what the reader answers over the source.
-use Rattle.std.proofs.Common.{◌≡◌, ◌∙◌, Bool, true, refl, sym, ap, subst}
-use Rattle.kn_journal.specs.Reading.{unread}
-use Rattle.kn_journal.specs.Telling.{ReaderState}
+use Rattle.std.proofs.Common.{◌≡◌, ◌∙◌, Bool, None, Some, false, true, refl, sym, ap, subst}
+use Rattle.std.specs.Prelude.{Err, IfErr}
+use Rattle.kn_journal.specs.declared.error.JournalError.TheVariants as error
+use Rattle.kn_journal.specs.Bundle.{next_by}
+use Rattle.kn_journal.specs.Reading.{IsOver, unread}
+use Rattle.kn_journal.specs.Telling.{AmidNext, Gives, IsLineFault, LeavesRest, ReaderState, Tells}
 use Rattle.kn_follow.specs.Calls.{IsNext}
-use Rattle.kn_follow.specs.Following.{IsOver}
 use Rattle.kn_follow.proofs.Faults.{over_refuses}
 use Rattle.kn_follow.proofs.Nexts.{OfError, OfEvent, next_is, no_end_stops}
 use Rattle.kn_follow.proofs.Waits.{adds_nothing}
@@ -15,15 +17,17 @@ returns-in-Some-clause-adds g c = adds_nothing (g.O.Sink.held c.args.out.now) c.
 pub returns-in-Some-clause-next : goal.returns-in-Some-clause-next
 returns-in-Some-clause-next g c =
     let said = c.in-Some.ensures in
+    let left = g.S.Source.left c.args.source.now in
+    let r = c.args.reader.now in
     record {
-      gives = said.tells (g.S.Source.left c.args.source.now);
+      gives = subst (λ (b : Bool). Gives (next_by b r.version r.last r.number) (Some c.in-Some.e) c.next_ahead.new.self.number (unread r.input left) (unread c.next_ahead.new.self.input left)) c.requires.sound.alone (said.tells left);
       text = said.text (g.S.Source.left c.args.source.now);
       order = said.order;
       times = said.times;
       last = said.last;
       range = said.range;
       bytes = said.bytes;
-      sound = record { good = said.failed ∙ c.requires.sound.good; few = said.few };
+      sound = record { good = said.failed ∙ c.requires.sound.good; alone = said.bundle ∙ c.requires.sound.alone; few = said.few };
     }
 
 pub returns-then-is_cut-clause-next : goal.returns-then-is_cut-clause-next
@@ -41,6 +45,8 @@ returns-clause-next g c =
     let faults_now = g.S.Faulty.faults c.next.new.source in
     let before = c.next_ahead.new.self in
     let good = c.in-None.ensures.failed ∙ c.requires.sound.good in
+    let alone : before.bundle ≡ false = c.in-None.ensures.bundle ∙ c.requires.sound.alone in
+    let old = unread before.input left in
     let said = c.next.ensures in
     let event : OfEvent before c.next.new.self (unread before.input left) new c.next.result = record {
       text = said.text;
@@ -50,15 +56,17 @@ returns-clause-next g c =
       range = said.range;
       bytes = said.bytes;
       good = said.good;
+      alone = said.bundle ∙ alone;
       few = said.few good;
     } in
     let stop : OfError before c.next.new.self (unread before.input left) new faults faults_now c.next.result = record {
-      rest = said.rest good;
+      rest = subst (λ (b : Bool). IfErr c.next.result (λ e. IsLineFault e → LeavesRest (next_by b before.version before.last before.number) before.number None e old new)) alone (said.rest good);
       memory = said.memory good;
       uncut = sym c.is_cut.ensures ∙ c.if-is_cut.false;
-      amid = said.amid good;
+      amid = subst (λ (b : Bool). c.next.result ≡ Err error.ReadFault → AmidNext b old new) alone (said.amid good);
       spent = said.spent good;
       fault = said.fault good;
     } in
     subst (λ (r : ReaderState). IsNext r c.next.new.self (unread r.input left) new faults faults_now c.next.result) (c.in-None.ensures.same refl)
-    (next_is before c.next.new.self (unread before.input left) new faults faults_now c.next.result (said.tells good) event stop)
+    (next_is before c.next.new.self (unread before.input left) new faults faults_now c.next.result
+    (subst (λ (b : Bool). Tells (next_by b before.version before.last before.number) c.next.new.self.number old new c.next.result) alone (said.tells good)) event stop)

@@ -1,40 +1,45 @@
 -- An event, `end` and what follows it, or no line.
-use Rattle.std.proofs.Common.{◌≡◌, ◌∙◌, Bool, Some, true, false, ap, refl, subst, sym, arith, inl, inr}
+use Rattle.std.proofs.Common.{◌≡◌, ◌∙◌, Bool, None, Some, true, false, ap, refl, subst, sym, arith, inr}
 use Rattle.std.specs.Prelude.{codes}
 use Rattle.std.specs.Str.{bytes_eq}
 use Rattle.std.proofs.lemmas.Grind.{common_steps}
 use Rattle.kn_journal.specs.Reading.{TakesText, unread}
-use Rattle.kn_journal.specs.Telling.{LinesState}
+use Rattle.kn_journal.specs.Bundle.{next_by}
+use Rattle.kn_journal.specs.Telling.{AmidNext, Gives, LeavesRest, LinesState, Refuses}
 use Rattle.kn_journal.proofs.Rests.{ended-rest, event-rest}
 use Rattle.kn_journal.specs.declared.error.JournalError.{JournalError}
 use Rattle.kn_journal.proofs.Drawings.{IsNoFault, cause-no_fault, draws_ahead, draws_both, draws_in, draws_more, draws_well}
-use Rattle.kn_journal.proofs.Stops.{end-stops}
-use Rattle.kn_journal.proofs.Tellings.{next-cut, next-ended, next-event, next-lacks, next-more, next-refused}
+use Rattle.kn_journal.proofs.Stops.{amid_next, end-stops}
+use Rattle.kn_journal.proofs.Tellings.{next-closed, next-cut, next-ended, next-event, next-lacks, next-more, next-refused}
 use Rattle.kn_journal.proofs.parts.Lines.next.Goals as goal
 use Rattle.kn_journal.proofs.parts.Lines.next.Goals.{in-Ok-judge_event, in-Err-judge_event}
 
 pub returns-in-Err-clause-tells : goal.returns-in-Err-clause-tells
 returns-in-Err-clause-tells g c =
     let same : c.next_ahead.new.self ≡ c.args.self.now = c.in-None.ensures.same refl in
-    next-lacks c.args.version c.args.last c.args.self.now.number c.in-Err.e (unread c.args.self.now.input (g.S.Source.left c.args.source.now)) (rw same at c.in-Err.ensures.none)
+    next-lacks c.args.bundle c.args.version c.args.last c.args.self.now.number c.in-Err.e (unread c.args.self.now.input (g.S.Source.left c.args.source.now)) (rw same at c.in-Err.ensures.none)
 
 pub returns-in-Ok-end-clause-tells : goal.returns-in-Ok-end-clause-tells
 returns-in-Ok-end-clause-tells g c =
     let same : c.next_ahead.new.self ≡ c.args.self.now = c.in-None.ensures.same refl in
     let line : c.as_slice.result.now ≡ c.next_line.new.self.line = c.as_slice.ensures.value ∙ ap (λ (r : LinesState). r.line) c.self.view_is in
     let ends : bytes_eq c.next_line.new.self.line (codes "end") ≡ true = grind (arith, common_steps, line) in
+    let alone : false ≡ c.args.bundle = sym c.if-bundle.false in
+    subst (λ (b : Bool). Gives (next_by b c.args.version c.args.last c.args.self.now.number) None c.end.new.self.number (unread c.args.self.now.input (g.S.Source.left c.args.source.now)) (unread c.end.new.self.input (g.S.Source.left c.end.new.source))) alone (
     next-ended c.in-Ok-end.field-0 c.args.version c.args.last c.args.self.now.number c.next_line.new.self.number c.end.new.self.number (unread c.args.self.now.input (g.S.Source.left c.args.source.now))
     (unread c.next_line.new.self.input (g.S.Source.left c.next_line.new.source)) (unread c.end.new.self.input (g.S.Source.left c.end.new.source)) c.next_line.new.self.line
-    (rw same at c.in-Ok.ensures.line) c.in-Ok.ensures.fits (rw same at c.in-Ok.ensures.number) ends c.in-Ok-end.ensures.tells
+    (rw same at c.in-Ok.ensures.line) c.in-Ok.ensures.fits (rw same at c.in-Ok.ensures.number) ends c.in-Ok-end.ensures.tells)
 
 pub returns-in-Err-end-clause-tells : goal.returns-in-Err-end-clause-tells
 returns-in-Err-end-clause-tells g c =
     let same : c.next_ahead.new.self ≡ c.args.self.now = c.in-None.ensures.same refl in
     let line : c.as_slice.result.now ≡ c.next_line.new.self.line = c.as_slice.ensures.value ∙ ap (λ (r : LinesState). r.line) c.self.view_is in
     let ends : bytes_eq c.next_line.new.self.line (codes "end") ≡ true = grind (arith, common_steps, line) in
+    let alone : false ≡ c.args.bundle = sym c.if-bundle.false in
+    subst (λ (b : Bool). Refuses (next_by b c.args.version c.args.last c.args.self.now.number) c.in-Err-end.e (unread c.args.self.now.input (g.S.Source.left c.args.source.now))) alone (
     next-more c.args.version c.args.last c.args.self.now.number c.next_line.new.self.number (unread c.args.self.now.input (g.S.Source.left c.args.source.now))
     (unread c.next_line.new.self.input (g.S.Source.left c.next_line.new.source)) c.next_line.new.self.line c.in-Err-end.e
-    (rw same at c.in-Ok.ensures.line) c.in-Ok.ensures.fits (rw same at c.in-Ok.ensures.number) ends c.in-Err-end.ensures.tells
+    (rw same at c.in-Ok.ensures.line) c.in-Ok.ensures.fits (rw same at c.in-Ok.ensures.number) ends c.in-Err-end.ensures.tells)
 
 pub returns-clause-tells : goal.returns-clause-tells
 returns-clause-tells g c =
@@ -47,24 +52,26 @@ returns-clause-tells g c =
     let number : c.self.inside.number ≡ c.next_line.new.self.number = ap (λ (r : LinesState). r.number) c.self.view_is in
     elim c.match-judge_event.branch [
       | in-Ok-judge_event w ↦
-          rw w.result-is (next-event c.args.version c.args.last c.args.self.now.number c.next_line.new.self.number old mid c.next_line.new.self.line w.in-Ok-judge_event.e
+          rw w.result-is (next-event c.args.bundle c.args.version c.args.last c.args.self.now.number c.next_line.new.self.number old mid c.next_line.new.self.line w.in-Ok-judge_event.e
           (rw same at c.in-Ok.ensures.line) c.in-Ok.ensures.fits (rw same at c.in-Ok.ensures.number) other (rw (line, number) at w.in-Ok-judge_event.ensures.ok))
       | in-Err-judge_event w ↦
-          rw w.result-is (next-refused c.args.version c.args.last c.args.self.now.number c.next_line.new.self.number old mid c.next_line.new.self.line w.in-Err-judge_event.e
+          rw w.result-is (next-refused c.args.bundle c.args.version c.args.last c.args.self.now.number c.next_line.new.self.number old mid c.next_line.new.self.line w.in-Err-judge_event.e
           (rw same at c.in-Ok.ensures.line) c.in-Ok.ensures.fits (rw same at c.in-Ok.ensures.number) other (rw (line, number) at w.in-Err-judge_event.ensures.err))
     ]
 
 pub returns-in-Some-clause-tells : goal.returns-in-Some-clause-tells
-returns-in-Some-clause-tells g c = c.in-Some.ensures.tells (g.S.Source.left c.args.source.now)
+returns-in-Some-clause-tells g c = c.in-Some.ensures.tells c.args.bundle (g.S.Source.left c.args.source.now)
 
 pub returns-in-Err-end-clause-rest : goal.returns-in-Err-end-clause-rest
 returns-in-Err-end-clause-rest g c is =
     let same : c.next_ahead.new.self ≡ c.args.self.now = c.in-None.ensures.same refl in
     let line : c.as_slice.result.now ≡ c.next_line.new.self.line = c.as_slice.ensures.value ∙ ap (λ (r : LinesState). r.line) c.self.view_is in
     let ends : bytes_eq c.next_line.new.self.line (codes "end") ≡ true = grind (arith, common_steps, line) in
+    let alone : false ≡ c.args.bundle = sym c.if-bundle.false in
+    subst (λ (b : Bool). LeavesRest (next_by b c.args.version c.args.last c.args.self.now.number) c.args.self.now.number None c.in-Err-end.e (unread c.args.self.now.input (g.S.Source.left c.args.source.now)) (unread c.end.new.self.input (g.S.Source.left c.end.new.source))) alone (
     ended-rest c.args.version c.args.last c.args.self.now.number c.next_line.new.self.number (unread c.args.self.now.input (g.S.Source.left c.args.source.now))
     (unread c.next_line.new.self.input (g.S.Source.left c.next_line.new.source)) (unread c.end.new.self.input (g.S.Source.left c.end.new.source)) c.next_line.new.self.line c.in-Err-end.e
-    (rw same at c.in-Ok.ensures.line) c.in-Ok.ensures.fits (rw same at c.in-Ok.ensures.number) ends (c.in-Err-end.ensures.rest is)
+    (rw same at c.in-Ok.ensures.line) c.in-Ok.ensures.fits (rw same at c.in-Ok.ensures.number) ends (c.in-Err-end.ensures.rest is))
 
 pub returns-clause-rest : goal.returns-clause-rest
 returns-clause-rest g c =
@@ -78,7 +85,7 @@ returns-clause-rest g c =
     elim c.match-judge_event.branch [
       | in-Ok-judge_event w ↦ rw w.result-is tt
       | in-Err-judge_event w ↦
-          rw w.result-is (λ is. event-rest c.args.version c.args.last c.args.self.now.number c.next_line.new.self.number old mid c.next_line.new.self.line w.in-Err-judge_event.e
+          rw w.result-is (λ is. event-rest c.args.bundle c.args.version c.args.last c.args.self.now.number c.next_line.new.self.number old mid c.next_line.new.self.line w.in-Err-judge_event.e
           (rw same at c.in-Ok.ensures.line) c.in-Ok.ensures.fits (rw same at c.in-Ok.ensures.number) other (rw (line, number) at w.in-Err-judge_event.ensures.err))
     ]
 
@@ -92,8 +99,8 @@ returns-in-Err-end-clause-source g c =
     let not_cut : c.next_line.new.self.cut ≡ false = ap (λ (r : LinesState). r.cut) (sym c.self.view_is) ∙ c.if-self.false in
     let uncut : TakesText false old mid = subst (λ (b : Bool). TakesText b old mid) not_cut (rw same at c.in-Ok.ensures.text) in
     draws_more (rw same at c.in-Ok.ensures.source) c.in-Err-end.ensures.source
-    (λ h. inr (end-stops (unread c.args.self.now.input (g.S.Source.left c.args.source.now)) (unread c.next_line.new.self.input (g.S.Source.left c.next_line.new.source))
-    (unread c.end.new.self.input (g.S.Source.left c.end.new.source)) c.next_line.new.self.line (rw same at c.in-Ok.ensures.line) uncut ends (c.in-Err-end.ensures.source.amid h)))
+    (λ h. subst (λ (b : Bool). AmidNext b (unread c.args.self.now.input (g.S.Source.left c.args.source.now)) (unread c.end.new.self.input (g.S.Source.left c.end.new.source))) (sym c.if-bundle.false) (inr (end-stops (unread c.args.self.now.input (g.S.Source.left c.args.source.now)) (unread c.next_line.new.self.input (g.S.Source.left c.next_line.new.source))
+    (unread c.end.new.self.input (g.S.Source.left c.end.new.source)) c.next_line.new.self.line (rw same at c.in-Ok.ensures.line) uncut ends (c.in-Err-end.ensures.source.amid h))))
 
 pub returns-in-Some-clause-source : goal.returns-in-Some-clause-source
 returns-in-Some-clause-source g c =
@@ -102,7 +109,7 @@ returns-in-Some-clause-source g c =
 pub returns-in-Err-clause-source : goal.returns-in-Err-clause-source
 returns-in-Err-clause-source g c =
     let same : c.next_ahead.new.self ≡ c.args.self.now = c.in-None.ensures.same refl in
-    draws_in (rw same at c.in-Err.ensures.source) (λ part. inl part)
+    draws_in (rw same at c.in-Err.ensures.source) (amid_next c.args.bundle _ _)
 
 pub returns-in-Ok-end-clause-source : goal.returns-in-Ok-end-clause-source
 returns-in-Ok-end-clause-source g c =
@@ -128,8 +135,10 @@ returns-then-self-clause-tells g c =
     let ends : bytes_eq c.next_line.new.self.line (codes "end") ≡ true = grind (arith, common_steps, line) in
     let is_cut : c.next_line.new.self.cut ≡ true = ap (λ (r : LinesState). r.cut) (sym c.self.view_is) ∙ c.if-self.true in
     let cut : TakesText true old mid = subst (λ (b : Bool). TakesText b old mid) is_cut (rw same at c.in-Ok.ensures.text) in
+    let alone : false ≡ c.args.bundle = sym c.if-bundle.false in
+    subst (λ (b : Bool). Gives (next_by b c.args.version c.args.last c.args.self.now.number) None c.next_line.new.self.number old mid) alone (
     next-cut c.args.version c.args.last c.args.self.now.number c.next_line.new.self.number old mid c.next_line.new.self.line
-    (rw same at c.in-Ok.ensures.line) cut c.in-Ok.ensures.fits (rw same at c.in-Ok.ensures.number) ends
+    (rw same at c.in-Ok.ensures.line) cut c.in-Ok.ensures.fits (rw same at c.in-Ok.ensures.number) ends)
 
 pub returns-then-self-clause-source : goal.returns-then-self-clause-source
 returns-then-self-clause-source g c =
@@ -174,3 +183,12 @@ returns-clause-version g c =
       | in-Ok-judge_event w ↦ rw w.result-is w.in-Ok-judge_event.ensures.version
       | in-Err-judge_event w ↦ rw w.result-is tt
     ]
+
+pub returns-then-bundle-clause-tells : goal.returns-then-bundle-clause-tells
+returns-then-bundle-clause-tells g c =
+    let same : c.next_ahead.new.self ≡ c.args.self.now = c.in-None.ensures.same refl in
+    let line : c.as_slice.result.now ≡ c.next_line.new.self.line = c.as_slice.ensures.value ∙ ap (λ (r : LinesState). r.line) c.self.view_is in
+    let ends : bytes_eq c.next_line.new.self.line (codes "end") ≡ true = grind (arith, common_steps, line) in
+    next-closed c.args.bundle c.args.version c.args.last c.args.self.now.number c.next_line.new.self.number (unread c.args.self.now.input (g.S.Source.left c.args.source.now))
+    (unread c.next_line.new.self.input (g.S.Source.left c.next_line.new.source)) c.next_line.new.self.line c.if-bundle.true
+    (rw same at c.in-Ok.ensures.line) c.in-Ok.ensures.fits (rw same at c.in-Ok.ensures.number) ends

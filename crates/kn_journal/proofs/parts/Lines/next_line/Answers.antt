@@ -1,9 +1,9 @@
 -- A line was read, or none was there.
-use Rattle.std.proofs.Common.{◌≡◌, ◌+◌, ap}
+use Rattle.std.proofs.Common.{◌≡◌, ◌+◌, ap, sym}
 use Rattle.kn_journal.specs.Reading.{unread}
 use Rattle.kn_journal.specs.Telling.{LinesState}
 use Rattle.kn_journal.proofs.Drawings.{draws_well}
-use Rattle.kn_journal.proofs.Tellings.{lacks_end, lacks_fault, lacks_long}
+use Rattle.kn_journal.proofs.Tellings.{end-none, lacks_end, lacks_fault, lacks_long}
 use Rattle.kn_journal.proofs.parts.Lines.next_line.Goals as goal
 
 pub returns-in-Ok-true-clause-source : goal.returns-in-Ok-true-clause-source
@@ -45,3 +45,11 @@ returns-in-Err-TooLong-clause-none g c =
 
 pub returns-in-Err-Fault-clause-none : goal.returns-in-Err-Fault-clause-none
 returns-in-Err-Fault-clause-none g c = lacks_fault c.args.self.now.number (unread c.args.self.now.input (g.S.Source.left c.args.source.now))
+
+pub returns-in-Ok-false-clause-over : goal.returns-in-Ok-false-clause-over
+returns-in-Ok-false-clause-over g c none =
+    let input : c.self.inside.input ≡ c.args.self.now.input = ap (λ (r : LinesState). r.input) c.self.view_is in
+    let number : c.args.self.now.number ≡ c.self.inside.number = sym (ap (λ (r : LinesState). r.number) c.self.view_is) in
+    end-none c.args.self.now.number c.self.inside.number c.args.self.now.input.taken c.read_line.new.input.taken (unread c.args.self.now.input (g.S.Source.left c.args.source.now))
+    (unread c.read_line.new.input (g.S.Source.left c.read_line.new.source)) c.read_line.new.line.items number (rw (input, c.in-Ok-false.field-0-test) at c.in-Ok-false.ensures.taken)
+    (rw input at c.in-Ok-false.ensures.exact) (rw input at c.in-Ok-false.ensures.source).grows

@@ -1,0 +1,11 @@
+mod Parts
+mod Openings
+mod Alongs
+mod Courses
+mod Ends
+mod Nexts
+mod Journals
+mod Bundles
+mod Texts
+mod Wholes
+mod Accounts

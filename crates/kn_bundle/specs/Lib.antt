@@ -1,0 +1,4 @@
+pub mod Bundle
+pub mod Following
+pub mod Calls
+pub mod Stages

@@ -1,0 +1,100 @@
+//! Setups of different revisions, one after the other.
+ghost use Rattle.std.specs.Prelude.{◌≡◌, IfErr, IfOk, length};
+ghost use Rattle.std.specs.List.{list_any};
+ghost use Rattle.kn_journal.specs.Bundle.{AreSetups, Reaches, is_same, listed_part, new_in, new_part, setups_part};
+ghost use Rattle.kn_journal.specs.Drawing.{Draws, error_in};
+ghost use Rattle.kn_journal.specs.Journal.{IsSetup};
+ghost use Rattle.kn_journal.specs.Reading.{unread};
+ghost use Rattle.kn_journal.specs.Telling.{Tells};
+
+use crate::error::{JournalError, SetupError};
+use crate::first::FirstLine;
+use crate::journal::{Setup, Setups};
+use crate::parts::Lines;
+use crate::setup::read_setup;
+use kn_event::Items;
+use kn_io::Source;
+use std::alloc::Global;
+
+/// Whether both are of one revision.
+fn is_same(x: &Setup, y: &Setup) -> bool
+    ensures { result ≡ is_same x.now y.now }
+{
+    x.spec.namespace.bytes() == y.spec.namespace.bytes()
+        && x.spec.name.bytes() == y.spec.name.bytes()
+}
+
+/// Whether the setup is of a revision that one of these is of.
+fn is_among(setup: &Setup, before: &[Setup]) -> bool
+    ensures { result ≡ list_any (is_same setup.now) before.now }
+{
+    before.iter().any(|other| is_same(setup, other))
+}
+
+/// Reads a setup of a revision that none of these is of.
+fn read_new<S: Source>(
+    alloc: Global,
+    lines: &mut Lines,
+    source: &mut S,
+    before: &[Setup],
+) -> Result<Setup, JournalError>
+    ensures kept { IfOk result IsSetup }
+    ensures tells { Tells (new_part before.now lines.old.number) lines.new.number (unread lines.old.input (S.left source.old)) (unread lines.new.input (S.left source.new)) result }
+    ensures source { Draws Reaches (error_in result) lines.old.input lines.new.input S.Source.own S.Faulty source.old source.new }
+{
+    let setup = match read_setup(alloc, lines, source) {
+        Ok(setup) => setup,
+        Err(e) => return Err(e),
+    };
+    if is_among(&setup, before) {
+        return Err(JournalError::BadSetup(lines.number(), SetupError::Duplicate));
+    }
+    Ok(setup)
+}
+
+/// Reads so many setups of different revisions, and the end of the input.
+fn read_all<S: Source>(
+    alloc: Global,
+    lines: &mut Lines,
+    source: &mut S,
+    n: u64,
+) -> Result<Setups, JournalError>
+    ensures kept { IfOk result AreSetups }
+    ensures count { IfOk result (λ setups. length setups ≡ n) }
+    ensures tells { Tells (setups_part lines.old.number n) lines.new.number (unread lines.old.input (S.left source.old)) (unread lines.new.input (S.left source.new)) result }
+    ensures source { Draws Reaches (error_in result) lines.old.input lines.new.input S.Source.own S.Faulty source.old source.new }
+{
+    let mut setups = Vec::new(alloc);
+    for _ in 0..n {
+        let setup = match read_new(alloc, lines, source, &setups) {
+            Ok(setup) => setup,
+            Err(e) => return Err(e),
+        };
+        if setups.push(setup).is_err() {
+            return Err(JournalError::Memory);
+        }
+    }
+    match lines.end(source) {
+        Ok(()) => Ok(Items::new(setups)),
+        Err(e) => Err(e),
+    }
+}
+
+/// Reads `kact setups 1`, so many setups of different revisions, and the end of the input.
+pub fn read_setups<S: Source>(
+    alloc: Global,
+    lines: &mut Lines,
+    source: &mut S,
+    n: u64,
+) -> Result<Setups, JournalError>
+    ensures kept { IfOk result AreSetups }
+    ensures count { IfOk result (λ setups. length setups ≡ n) }
+    ensures tells { Tells (listed_part lines.old.number n) lines.new.number (unread lines.old.input (S.left source.old)) (unread lines.new.input (S.left source.new)) result }
+    ensures source { Draws Reaches (error_in result) lines.old.input lines.new.input S.Source.own S.Faulty source.old source.new }
+{
+    match lines.first(source, FirstLine::Setups) {
+        Ok(_) => {}
+        Err(e) => return Err(e),
+    }
+    read_all(alloc, lines, source, n)
+}
