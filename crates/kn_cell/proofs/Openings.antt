@@ -1,5 +1,5 @@
 -- The rule holds of a new table.
-use Rattle.std.proofs.Common.{◌≡◌, inl, ℕ, suc, zero, [], ◌∷◌, false, refl, sym, subst, arith}
+use Rattle.std.proofs.Common.{◌≡◌, inl, List, ℕ, suc, zero, [], ◌∷◌, false, refl, sym, subst, arith}
 use mathlib.Core.Option.{some, some-injective, some-ne-none}
 use lib.ListN.{get_elem?}
 use Rattle.atomic_table.specs.Table.{opening as first_state}
@@ -15,8 +15,8 @@ first_alone : (P : ℕ → View → Type 0) (w : View) → P 0 w → (id : ℕ) 
 first_alone P w p zero v at = subst (P 0) (some-injective w v at) p
 first_alone P w p (suc id) v at = absurd (some-ne-none v (sym at))
 
-pub opens : (key : Key) (x : DeskState) → IsBounded key → GoesWith key [] x → IsKept key (first_state (0 ∷ 0 ∷ []) (x ∷ []) (first_view key))
-opens key x bounded goes =
+pub opens : (key : Key) (x : DeskState) (bells : List ℕ) → IsBounded key → GoesWith key [] x → IsKept key (first_state (0 ∷ 0 ∷ bells) (x ∷ []) (first_view key))
+opens key x bells bounded goes =
     let w = first_view key in
     let owner : ℕ → ℕ = (λ _. 0) in
     let passes = bounded.passes in
@@ -31,6 +31,7 @@ opens key x bounded goes =
     record {
       log = [];
       turn = 0;
+      bells = bells;
       words = refl;
       passes = record {
         given = 1;

@@ -178,6 +178,7 @@ splits key id v idle fresh some_free s k me =
     record {
       log = k.log;
       turn = k.turn;
+      bells = k.bells;
       words = k.words;
       passes = passes_split key k.log s.views id v k.passes me fresh some_free;
       phase = phase_stays key k.log k.turn s.homes s.views (rest ++ new ∷ []) k.phase
@@ -324,6 +325,7 @@ joins key id v other w idle fresh idle' fresh' s k me apart it' =
     record {
       log = k.log;
       turn = k.turn;
+      bells = k.bells;
       words = k.words;
       passes = passes_join key k.log s.views id other v w k.passes me it fresh fresh' apart;
       phase = phase_stays key k.log k.turn s.homes s.views (slice_set one other spent_view) k.phase

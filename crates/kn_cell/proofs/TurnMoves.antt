@@ -14,7 +14,7 @@ use Rattle.kn_cell.specs.State.{DeskState}
 use Rattle.kn_cell.specs.Lists.{Each}
 use Rattle.kn_cell.specs.History.{IsInBounds, IsLegal, rows_by}
 use Rattle.kn_cell.specs.Views.{opening, weight, Knows, IsBounded, Passes}
-use Rattle.kn_cell.specs.Rule.{GoesWith, IsResting, IsTaken, IsKept, Learns, with_turn, missed_one, without_turn, recorded, Takes, Records, Gives, Confirms}
+use Rattle.kn_cell.specs.Rule.{GoesWith, IsResting, IsTaken, IsKept, Learns, with_turn, missed_one, without_turn, recorded, Takes, Records, Gives, Confirms, Rings}
 use Rattle.kn_cell.proofs.ListFacts.{at_within, at_same, whole, two_weights}
 use Rattle.kn_cell.proofs.HistoryFacts.{Knows-else, Each-one, legal-front}
 use Rattle.kn_cell.proofs.PassMoves.{IsSamePass, passes_move}
@@ -68,6 +68,7 @@ take_free key id v st f s k never me fresh zero_turn rest =
       record {
         log = k.log;
         turn = f k.turn;
+        bells = k.bells;
         words = ap (λ l. slice_set l 1 (f (slice_index l 1))) k.words;
         passes = moved;
         phase = inr (
@@ -116,7 +117,7 @@ take_held key id v st f s k never me fresh idle has_turn held =
       w,
       keeps,
       tt,
-      record { log = k.log; turn = f k.turn; words = ap (λ l. slice_set l 1 (f (slice_index l 1))) k.words; passes = moved; phase = inr (never k.turn, still) },
+      record { log = k.log; turn = f k.turn; bells = k.bells; words = ap (λ l. slice_set l 1 (f (slice_index l 1))) k.words; passes = moved; phase = inr (never k.turn, still) },
       (
         (λ z. absurd (has_turn (sym found ∙ z))),
         (λ _. record { after = refl; others = subst (λ (q : Key). 1 + v.free + v.back < q.passes) (sym mine.key_is) few }),
@@ -205,7 +206,8 @@ record_held key id v x row st s k me turn fresh small added own bounds legal hel
       record {
         log = next;
         turn = k.turn;
-        words = ap (λ l. slice_set l 0 ((slice_index s.words 0 + 1) % 2 ^ 64)) k.words ∙ ap (λ n. n ∷ k.turn ∷ []) counted;
+        bells = k.bells;
+        words = ap (λ l. slice_set l 0 ((slice_index s.words 0 + 1) % 2 ^ 64)) k.words ∙ ap (λ n. n ∷ k.turn ∷ k.bells) counted;
         passes = moved;
         phase = inr (
           has_turn,
@@ -264,6 +266,7 @@ give_held key id v x st s k me turn fresh goes held =
       record {
         log = k.log;
         turn = 0;
+        bells = k.bells;
         words = ap (λ l. slice_set l 1 0) k.words;
         passes = moved;
         phase = inl (
@@ -297,6 +300,25 @@ give_allows key slots id m x st turn fresh slot goes =
     subst (λ (c : List (ℕ × DeskState)). Allows (IsKept key) slots id (m.0, c) 1 (λ _. 0) (Gives st (m.0, c)))
     (sym slot) (give_from key slots id m.0 x st turn fresh goes)
 
+-- ---- the fetch_add of a bell, a word of which the rule says nothing
+
+pub ring_allows : (key : Key) (slots id bell : ℕ) (m : Me DeskState View) (st : Step DeskState) → Allows (IsKept key) slots id m (suc (suc bell)) (λ n. (n + 1) % 2 ^ 64) (Rings st m)
+ring_allows key slots id bell m st s k wide me _ =
+    let same = sym (set_again s.views id m.0 me) in (
+      m.0,
+      keeps,
+      tt,
+      record {
+        log = k.log;
+        turn = k.turn;
+        bells = slice_set k.bells bell ((slice_index k.bells bell + 1) % 2 ^ 64);
+        words = ap (λ l. slice_set l (suc (suc bell)) ((slice_index l (suc (suc bell)) + 1) % 2 ^ 64)) k.words;
+        passes = subst (λ vs. Passes key k.log vs) same k.passes;
+        phase = subst (λ vs. ((k.turn ≡ 0) × IsResting key k.log s.homes vs) ⊎ ((k.turn ≢ 0) × IsTaken k.log s.homes vs)) same k.phase;
+      },
+      refl,
+    )
+
 -- ---- a load
 
 pub confirm_allows : (key : Key) (slots id : ℕ) (m : Me DeskState View) (st : Step DeskState) → m.0.spent ≡ false
@@ -311,6 +333,7 @@ confirm_allows key slots id m st fresh s k wide me _ =
       record {
         log = k.log;
         turn = k.turn;
+        bells = k.bells;
         words = ap (λ l. slice_set l 0 (slice_index l 0)) k.words;
         passes = subst (λ vs. Passes key k.log vs) same k.passes;
         phase = subst (λ vs. ((k.turn ≡ 0) × IsResting key k.log s.homes vs) ⊎ ((k.turn ≢ 0) × IsTaken k.log s.homes vs)) same k.phase;

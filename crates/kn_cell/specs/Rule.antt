@@ -45,7 +45,8 @@ pub record IsTaken (log : List Past) (homes : List (Option DeskState)) (views : 
 pub record IsKept (key : Key) (s : State DeskState View) : Type 0 where
   pub log : List Past
   pub turn : ℕ
-  pub words : s.words ≡ length log ∷ turn ∷ []
+  pub bells : List ℕ
+  pub words : s.words ≡ length log ∷ turn ∷ bells
   pub passes : Passes key log s.views
   pub phase : ((turn ≡ 0) × IsResting key log s.homes s.views) ⊎ ((turn ≢ 0) × IsTaken log s.homes s.views)
 
@@ -105,3 +106,7 @@ pub record IsSound (v : View) : Type 0 where
 -- a load that changes nothing
 abbrev pub Confirms : Step DeskState → Me DeskState View → ℕ → Me DeskState View → Type 0
 Confirms st m n w = (w ≡ m) × IsSound m.0
+
+-- a bell is rung, and nothing else changes
+abbrev pub Rings : Step DeskState → Me DeskState View → ℕ → Me DeskState View → Type 0
+Rings st m n w = w ≡ m

@@ -54,6 +54,9 @@ pub record IsIdle (seat : Seat DeskState View) (number free passes : ℕ) : Type
   pub free_is : seat.me.0.free ≡ free
   pub passes_is : seat.me.0.key.passes ≡ passes
   pub low : free ≤ passes
+  pub mine : number < passes
+  pub few : passes ≤ 1100
+  pub words : seat.table_id.words ≡ passes + 2
   pub fresh : seat.me.0.spent ≡ false
   pub idle : seat.me.0.turn ≡ false
   pub empty : seat.me.1 ≡ []

@@ -17,7 +17,7 @@ opening k = k.opening.value
 pub record IsBounded (k : Key) : Type 0 where
   pub room : k.room ≤ 1000000
   pub events : (opening k).events < 2 ^ 53
-  pub passes : (1 ≤ k.passes) × (k.passes ≤ 1000)
+  pub passes : (1 ≤ k.passes) × (k.passes ≤ 1100)
   pub some : StandsForSome (opening k)
 
 -- how many of the cell's passes a view stands for

@@ -12,7 +12,7 @@ ghost use Rattle.kn_cell.specs.Shown.{first_shown, Looks, Adds, Misfits, Tries, 
 use crate::desk::Desk;
 use crate::past::{Full, History, TryError};
 use crate::rule::{Cut, Glue, Order};
-use crate::steps::{AWAITED, Place, confirm, give, take};
+use crate::steps::{AWAITED, Place, confirm, give, heard, take, wait_bell};
 use crate::turn::{attempt, proxied_at, stand_at, starting_at, take_turn};
 use crate::view::{Key, View};
 use atomic_table::{Refused, Table};
@@ -37,7 +37,7 @@ impl Drop for RevisionCell {
 }
 
 impl Model for RevisionCell {
-    ghost use Rattle.std.specs.Prelude.{◌≡◌};
+    ghost use Rattle.std.specs.Prelude.{◌≡◌, ◌≤◌};
     ghost use Rattle.atomic_table.specs.Seated.{TableId, table_id_coded};
 
     ghost Value = { TableId };
@@ -46,7 +46,7 @@ impl Model for RevisionCell {
 
     ghost view = { λ c. c.table.shared.table_id };
 
-    ghost invariant = { λ c. (c.table.shared.table_id.words ≡ 2) × (c.table.shared.table_id.slots ≡ 1) };
+    ghost invariant = { λ c. (2 ≤ c.table.shared.table_id.words) × (c.table.shared.table_id.slots ≡ 1) };
 }
 
 /// A thread's way to the cell, with what it has seen.
@@ -56,6 +56,10 @@ pub struct Pass {
     free: u64,
     passes: u64,
     place: Place,
+    /// The request of the last look.
+    asked: Option<u64>,
+    /// What the pass's bell read at the last look.
+    heard: u64,
 }
 
 impl Model for Pass {
@@ -80,7 +84,7 @@ impl RevisionCell {
         requires live { (c : Trace) → StandsFor revision c → live_of c ≡ 0 }
         requires events { revision.events < 2 ^ 53 }
         requires room { room ≤ 1000000 }
-        requires passes { (1 ≤ passes) × (passes ≤ 1000) }
+        requires passes { (1 ≤ passes) × (passes ≤ 1100) }
         ensures { IfOk result (λ r. r.1 ≡ first_shown r.0 revision room passes) }
     {
         let _live = revision.live();
@@ -89,12 +93,15 @@ impl RevisionCell {
             room,
             passes,
         };
-        let desk = Desk::new(alloc, revision, room)?;
+        let desk = Desk::new(alloc, revision, room, passes)?;
         let Ok(mut slots) = Vec::with_capacity(alloc, 1) else {
             return Err(Memory);
         };
         slots.push_reserved(desk);
-        match Table::new(alloc, &[0, 0], slots, &key) {
+        let Ok(words) = Vec::from_elem(alloc, 0, passes as usize + 2) else {
+            return Err(Memory);
+        };
+        match Table::new(alloc, &words, slots, &key) {
             Ok((table, place)) => Ok((
                 RevisionCell { table },
                 Pass {
@@ -102,6 +109,8 @@ impl RevisionCell {
                     free: passes - 1,
                     passes,
                     place,
+                    asked: None,
+                    heard: 0,
                 },
             )),
             Err(Refused { slots: _ }) => Err(Memory),
@@ -118,9 +127,10 @@ impl RevisionCell {
     {
         let board = &self.table.shared;
         let number = pass.number;
+        let passes = pass.passes;
         let place = &mut pass.place;
         take_turn(rt, board, place);
-        attempt(board, place, number, act, time)
+        attempt(board, place, number, passes, act, time)
     }
 
     /// The same, where no other pass has the turn just now.
@@ -131,18 +141,19 @@ impl RevisionCell {
     {
         let board = &self.table.shared;
         let number = pass.number;
+        let passes = pass.passes;
         let place = &mut pass.place;
         // A mark of AWAITED erases no other's; at worst it wakes one for nothing.
         if take(board, place, AWAITED) != 0 {
             return Err(TryError::Busy);
         }
-        match attempt(board, place, number, act, time) {
+        match attempt(board, place, number, passes, act, time) {
             Ok(told) => Ok(told),
             Err(full) => Err(TryError::Full(full)),
         }
     }
 
-    /// Where the request stands after all that is then seen.
+    /// Where the request stands after all that is then seen. Where it is held or queued, the pass's bell is rung once it is not.
     pub fn look<R: Wait>(&self, rt: &R, pass: &mut Pass, r: u64) -> Stand
         requires { pass.old.cell ≡ self.now }
         ensures looks { Looks pass.old pass.new }
@@ -150,9 +161,12 @@ impl RevisionCell {
         ensures stand { (c : Trace) → StandsFor pass.new.opening c → result ≡ stand_of (trace_after pass.new.opening.spec c pass.new.seen) r }
     {
         let board = &self.table.shared;
+        let number = pass.number;
         let place = &mut pass.place;
         take_turn(rt, board, place);
-        let stand = stand_at(board, place, r);
+        let stand = stand_at(board, place, number, pass.asked, r);
+        pass.asked = Some(r);
+        pass.heard = heard(board, number);
         give(board, place);
         stand
     }
@@ -205,6 +219,15 @@ impl RevisionCell {
         );
     }
 
+    /// Waits until an event has moved the request of the pass's last look, where that was held or queued, but for no longer
+    /// than so many milliseconds; or returns at once. Nothing changes.
+    pub fn wait<R: Wait>(&self, rt: &R, pass: &mut Pass, ms: u64)
+        requires { pass.old.cell ≡ self.now }
+        ensures { pass.new ≡ pass.old }
+    {
+        wait_bell(rt, &self.table.shared, pass.number, pass.heard, ms);
+    }
+
     /// A pass for another thread, which has seen as much.
     pub fn split(&self, pass: &mut Pass) -> Pass
         requires cell { pass.old.cell ≡ self.now }
@@ -223,6 +246,8 @@ impl RevisionCell {
             free: 0,
             passes: pass.passes,
             place,
+            asked: None,
+            heard: 0,
         }
     }
 
@@ -237,6 +262,8 @@ impl RevisionCell {
             free: _,
             passes: _,
             place,
+            asked: _,
+            heard: _,
         } = other;
         self.table.shared.join_seat::<Glue>(&mut pass.place, place);
     }
@@ -259,6 +286,8 @@ impl RevisionCell {
             free: _,
             passes: _,
             place,
+            asked: _,
+            heard: _,
         } = pass;
         let mut closed = table.close_with(place);
         let desk = closed.take(0);

@@ -12,6 +12,7 @@ use kn_core::Revision;
 use kn_event::{Act, EntryLog, Event, Memory, Stand, Told};
 use kn_laws::laws::history_laws;
 use kn_sizes::server::request_laws;
+use kn_waiters::Waiters;
 use std::alloc::Global;
 use std::marker::Model;
 
@@ -20,6 +21,7 @@ pub struct Desk {
     revision: Revision,
     history: Vec<Past>,
     log: EntryLog,
+    waiters: Waiters,
 }
 
 impl Drop for Desk {
@@ -29,6 +31,7 @@ impl Drop for Desk {
             revision: _,
             history: _,
             log: _,
+            waiters: _,
         } = self;
     }
 }
@@ -45,8 +48,8 @@ impl Model for Desk {
 }
 
 impl Desk {
-    /// The revision with room for so many rows, and none yet.
-    pub fn new(alloc: Global, revision: Revision, room: u64) -> Result<Desk, Memory>
+    /// The revision with room for so many rows, and none yet, and for so many passes that wait.
+    pub fn new(alloc: Global, revision: Revision, room: u64, passes: u64) -> Result<Desk, Memory>
         requires { live_in revision ≤ room }
         ensures { IfOk result (λ d. d ≡ record { room = room; revision = revision; history = [] }) }
     {
@@ -54,11 +57,13 @@ impl Desk {
             return Err(Memory);
         };
         let log = EntryLog::new(alloc)?;
+        let waiters = Waiters::new(alloc, passes)?;
         Ok(Desk {
             room,
             revision,
             history,
             log,
+            waiters,
         })
     }
 
@@ -85,6 +90,7 @@ impl Desk {
         self.log.clear();
         let told = self.revision.step(&event, &mut self.log);
         self.history.push_reserved(Past { pass, event, told });
+        self.waiters.call_all(self.log.entries());
         Ok(told)
     }
 
@@ -98,15 +104,31 @@ impl Desk {
             revision,
             history,
             log: _,
+            waiters: _,
         } = self;
         (revision, History::new(history))
     }
 
-    /// Where the request stands.
-    pub fn stand(&self, r: u64) -> Stand
-        ensures { (c : Trace) → StandsFor self.now.revision c → result ≡ stand_of c r }
+    /// Where the request stands. Where it waits, the pass is put down for it, and no more for the one that it asked for before.
+    pub fn look(&mut self, pass: u64, asked: Option<u64>, r: u64) -> Stand
+        ensures same { self.new ≡ self.old }
+        ensures stand { (c : Trace) → StandsFor self.old.revision c → result ≡ stand_of c r }
     {
-        self.revision.stand(r)
+        if let Some(before) = asked {
+            self.waiters.remove(before, pass);
+        }
+        let stand = self.revision.stand(r);
+        if waits(stand) {
+            self.waiters.put(r, pass);
+        }
+        stand
+    }
+
+    /// The next pass whose bell is to be rung.
+    pub fn next_called(&mut self) -> Option<u64>
+        ensures { self.new ≡ self.old }
+    {
+        self.waiters.next_called()
     }
 
     /// Whether the request was assigned to a pod, and has not ended.
@@ -124,6 +146,11 @@ impl Desk {
     {
         self.revision.next_starting(from)
     }
+}
+
+/// Whether a request waits where it stands.
+fn waits(stand: Stand) -> bool {
+    matches!(stand, Stand::Held | Stand::Queued(_))
 }
 
 /// How much room an act needs: an arrival its row and, later, its end; the end of a live request none.

@@ -1,5 +1,5 @@
 //! The rule of the table, and the names of its steps.
-ghost use Rattle.kn_cell.specs.Rule.{IsKept, Takes, Records, Gives, Confirms, first_view};
+ghost use Rattle.kn_cell.specs.Rule.{IsKept, Takes, Records, Gives, Confirms, Rings, first_view};
 ghost use Rattle.kn_cell.specs.Splitting.{less_one, newcomer, with_other, spent_view};
 
 use crate::desk::Desk;
@@ -33,6 +33,13 @@ pub struct Confirm;
 
 impl Play<Desk, View> for Confirm {
     ghost then = { Confirms };
+}
+
+/// Rings a bell.
+pub struct Ring;
+
+impl Play<Desk, View> for Ring {
+    ghost then = { Rings };
 }
 
 /// Gives the turn back.

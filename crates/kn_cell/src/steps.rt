@@ -1,5 +1,5 @@
 //! The steps on the table, each with what it asks.
-ghost use Rattle.std.specs.Prelude.{◌≡◌, ◌≢◌, ◌<◌, ◌+◌, ◌++◌, ◌∷◌, [], ◌^◌, length, true, false};
+ghost use Rattle.std.specs.Prelude.{◌≡◌, ◌≢◌, ◌<◌, ◌≤◌, ◌+◌, ◌++◌, ◌∷◌, [], ◌^◌, length, true, false};
 ghost use Rattle.kn_cell.specs.declared.past.Past.{Past};
 ghost use Rattle.kn_cell.specs.State.{DeskState};
 ghost use Rattle.kn_cell.specs.Views.{opening};
@@ -7,9 +7,11 @@ ghost use Rattle.kn_cell.specs.History.{IsInBounds, IsLegal};
 ghost use Rattle.kn_cell.specs.Rule.{GetsTurn, Misses, GoesWith, recorded, without_turn, IsSound};
 
 use crate::desk::Desk;
-use crate::rule::{Confirm, Give, Order, Record, Take};
+use crate::rule::{Confirm, Give, Order, Record, Ring, Take};
 use crate::view::{Key, View};
 use atomic_table::{Seat, Shared};
+use std::sync::Wait;
+use std::time::Duration;
 
 pub type Board = Shared<Desk, View, Key, Order>;
 
@@ -25,7 +27,7 @@ pub const AWAITED: u64 = 2;
 /// has it.
 pub fn take(board: &Board, place: &mut Place, mark: u64) -> u64
     requires same { place.old.table_id ≡ board.now.table_id }
-    requires sized { board.now.table_id.words ≡ 2 }
+    requires sized { 2 ≤ board.now.table_id.words }
     requires mark { mark ≢ 0 }
     requires free { (place.old.me.0.turn ≡ false) × (place.old.me.0.spent ≡ false) × (place.old.me.1 ≡ []) }
     ensures same { (place.new.table_id ≡ place.old.table_id) × (place.new.id ≡ place.old.id) }
@@ -38,7 +40,7 @@ pub fn take(board: &Board, place: &mut Place, mark: u64) -> u64
 /// Counts the row that was added to the history in the slot.
 pub fn record(board: &Board, place: &mut Place)
     requires same { place.old.table_id ≡ board.now.table_id }
-    requires sized { board.now.table_id.words ≡ 2 }
+    requires sized { 2 ≤ board.now.table_id.words }
     requires turn { (place.old.me.0.turn ≡ true) × (place.old.me.0.spent ≡ false) }
     requires added { (x : DeskState) × (row : Past) × (place.old.me.1 ≡ (0, x) ∷ []) × (x.history ≡ place.old.me.0.seen ++ row ∷ []) × (row.pass ≡ place.old.me.0.number) × IsInBounds row.event × IsLegal (opening place.old.me.0.key) x.history }
     requires small { length place.old.me.0.seen < 2 ^ 63 }
@@ -51,7 +53,7 @@ pub fn record(board: &Board, place: &mut Place)
 /// Gives the turn back, and wakes one where somebody may be parked.
 pub fn give(board: &Board, place: &mut Place)
     requires same { place.old.table_id ≡ board.now.table_id }
-    requires sized { board.now.table_id.words ≡ 2 }
+    requires sized { 2 ≤ board.now.table_id.words }
     requires turn { (place.old.me.0.turn ≡ true) × (place.old.me.0.spent ≡ false) }
     requires slot { (x : DeskState) × (place.old.me.1 ≡ (0, x) ∷ []) × GoesWith place.old.me.0.key place.old.me.0.seen x }
     ensures same { (place.new.table_id ≡ place.old.table_id) × (place.new.id ≡ place.old.id) }
@@ -62,10 +64,43 @@ pub fn give(board: &Board, place: &mut Place)
     }
 }
 
+/// Rings a pass's bell: its word is another, and whoever parks on it is woken.
+pub fn ring(board: &Board, place: &mut Place, pass: u64)
+    requires same { place.old.table_id ≡ board.now.table_id }
+    requires sized { pass + 2 < board.now.table_id.words }
+    requires small { pass < 2 ^ 32 }
+    ensures same { (place.new.table_id ≡ place.old.table_id) × (place.new.id ≡ place.old.id) × (place.new.me ≡ place.old.me) }
+{
+    let bell = pass as usize + 2;
+    board.fetch_add::<Ring>(place, bell, 1);
+    board.wake_one(bell);
+}
+
+/// What the pass's bell reads: it parks until the bell reads otherwise.
+pub fn heard(board: &Board, pass: u64) -> u64
+    requires sized { pass + 2 < board.now.table_id.words }
+    requires small { pass < 2 ^ 32 }
+{
+    board.peek(pass as usize + 2)
+}
+
+/// Parks until the pass's bell is rung, or for so many milliseconds.
+pub fn wait_bell<R: Wait>(rt: &R, board: &Board, pass: u64, heard: u64, ms: u64)
+    requires sized { pass + 2 < board.now.table_id.words }
+    requires small { pass < 2 ^ 32 }
+{
+    board.park_timeout(
+        rt,
+        pass as usize + 2,
+        (heard & 0xffff_ffff) as u32,
+        Duration::from_millis(ms),
+    );
+}
+
 /// Changes nothing, and learns that what the seat knows is so.
 pub fn confirm(board: &Board, place: &mut Place)
     requires same { place.old.table_id ≡ board.now.table_id }
-    requires sized { board.now.table_id.words ≡ 2 }
+    requires sized { 2 ≤ board.now.table_id.words }
     requires fresh { place.old.me.0.spent ≡ false }
     ensures same { (place.new.table_id ≡ place.old.table_id) × (place.new.id ≡ place.old.id) × (place.new.me ≡ place.old.me) }
     ensures so { IsSound place.old.me.0 }

@@ -1,5 +1,5 @@
 //! What a pass does with the turn: it waits for it, and records one event.
-ghost use Rattle.std.specs.Prelude.{◌≡◌, ◌<◌, ◌≤◌, ◌∷◌, [], ◌^◌, false, IfOk, IfErr, IfSome};
+ghost use Rattle.std.specs.Prelude.{◌≡◌, ◌<◌, ◌≤◌, ◌+◌, ◌∷◌, [], ◌^◌, false, IfOk, IfErr, IfSome};
 ghost use Rattle.kn_core.specs.State.{StandsFor};
 ghost use Rattle.kn_trace.specs.Trace.{Trace, stand_of, proxied, next_starting};
 ghost use Rattle.kn_cell.specs.State.{DeskState};
@@ -10,7 +10,7 @@ ghost use Rattle.kn_cell.specs.Rule.{without_turn};
 ghost use Rattle.kn_cell.specs.Turns.{HasTurn, WaitsForTurn, RecordsRow, Overflows};
 
 use crate::past::Full;
-use crate::steps::{AWAITED, Board, Place, TAKEN, give, record, take};
+use crate::steps::{AWAITED, Board, Place, TAKEN, give, record, ring, take};
 use kn_event::{Act, Stand, Told};
 use std::sync::Wait;
 
@@ -20,7 +20,7 @@ const LOOKS: u64 = 100;
 /// Waits until it has the turn.
 pub fn take_turn<R: Wait>(rt: &R, board: &Board, place: &mut Place)
     requires same { place.old.table_id ≡ board.now.table_id }
-    requires sized { board.now.table_id.words ≡ 2 }
+    requires sized { 2 ≤ board.now.table_id.words }
     requires free { (place.old.me.0.turn ≡ false) × (place.old.me.0.spent ≡ false) × (place.old.me.1 ≡ []) }
     ensures same { (place.new.table_id ≡ place.old.table_id) × (place.new.id ≡ place.old.id) }
     ensures turn { WaitsForTurn place.old.me.0 place.new.me }
@@ -69,16 +69,45 @@ fn apply_at(
     place.slot_mut(board, 0).apply(number, act, time)
 }
 
-/// Takes the event in, records it, and gives the turn back.
+/// The next pass whose bell is to be rung.
+fn called_at(board: &Board, place: &mut Place) -> Option<u64>
+    requires same { place.old.table_id ≡ board.now.table_id }
+    requires slot { (x : DeskState) × (place.old.me.1 ≡ (0, x) ∷ []) }
+    ensures same { (place.new.table_id ≡ place.old.table_id) × (place.new.id ≡ place.old.id) × (place.new.me ≡ place.old.me) }
+{
+    place.slot_mut(board, 0).next_called()
+}
+
+/// Rings the bells of the passes that were called.
+fn ring_called(board: &Board, place: &mut Place, passes: u64)
+    requires same { place.old.table_id ≡ board.now.table_id }
+    requires sized { board.now.table_id.words ≡ passes + 2 }
+    requires few { passes ≤ 1100 }
+    requires slot { (x : DeskState) × (place.old.me.1 ≡ (0, x) ∷ []) }
+    ensures same { (place.new.table_id ≡ place.old.table_id) × (place.new.id ≡ place.old.id) × (place.new.me ≡ place.old.me) }
+{
+    for _ in 0..passes {
+        let Some(pass) = called_at(board, place) else {
+            return;
+        };
+        if pass < passes {
+            ring(board, place, pass);
+        }
+    }
+}
+
+/// Takes the event in, records it, rings the bells of those whose request it moved, and gives the turn back.
 pub fn attempt(
     board: &Board,
     place: &mut Place,
     number: u64,
+    passes: u64,
     act: Act,
     time: u64,
 ) -> Result<Told, Full>
     requires same { place.old.table_id ≡ board.now.table_id }
-    requires sized { board.now.table_id.words ≡ 2 }
+    requires sized { board.now.table_id.words ≡ passes + 2 }
+    requires few { passes ≤ 1100 }
     requires turn { HasTurn place.old.me }
     requires number { place.old.me.0.number ≡ number }
     requires act { MayCome act }
@@ -89,6 +118,7 @@ pub fn attempt(
     match apply_at(board, place, number, act, time) {
         Ok(told) => {
             record(board, place);
+            ring_called(board, place, passes);
             give(board, place);
             Ok(told)
         }
@@ -99,14 +129,14 @@ pub fn attempt(
     }
 }
 
-/// Where the request stands after all that is seen.
-pub fn stand_at(board: &Board, place: &mut Place, r: u64) -> Stand
+/// Where the request stands after all that is seen. The pass is put down for it where it waits.
+pub fn stand_at(board: &Board, place: &mut Place, number: u64, asked: Option<u64>, r: u64) -> Stand
     requires same { place.old.table_id ≡ board.now.table_id }
     requires turn { HasTurn place.old.me }
     ensures same { (place.new.table_id ≡ place.old.table_id) × (place.new.id ≡ place.old.id) × (place.new.me ≡ place.old.me) }
     ensures value { (c : Trace) → StandsFor (opening place.old.me.0.key) c → result ≡ stand_of (trace_after (opening place.old.me.0.key).spec c place.old.me.0.seen) r }
 {
-    place.slot_mut(board, 0).stand(r)
+    place.slot_mut(board, 0).look(number, asked, r)
 }
 
 /// Whether the request is proxied, after all that is seen.

@@ -12,6 +12,9 @@ use kn_event::{Act, Stand};
 use kn_io::Clock;
 use std::sync::Wait;
 
+// The longest that a request waits before it looks again though nobody rang: a clock that was set costs no more than this.
+const LONGEST_MS: u64 = 1000;
+
 #[derive(Clone, Copy, Debug, PartialEq, Eq, Drop)]
 pub enum Waited {
     /// It runs at the pod.
@@ -50,7 +53,7 @@ fn wait_while<R: Wait, K: Clock>(
         if now >= due {
             return Waited::Late(now);
         }
-        cell.rest(rt, pass);
+        cell.wait(rt, pass, (due - now).min(LONGEST_MS));
     }
     unreachable!()
 }

@@ -6,11 +6,12 @@ use crate::threads::Work;
 use crate::turns::Script;
 use kn_case::case;
 use kn_cell::Past;
-use kn_event::Memory;
+use kn_event::{Act, Memory};
 use std::alloc::AllocError;
 use std::io;
 use std::sync::Wait;
 use std::thread::Threads;
+use std::time::Clock;
 
 /// What a test is to give: a name, what came, and what is wanted.
 type Want = (&'static str, u64, u64);
@@ -29,15 +30,24 @@ enum Test {
     Crowd,
     /// One thread looks while another tries.
     Busy,
+    /// 32 requests at one seat: of each pass that waits the bell is rung, once.
+    Queue,
+    /// A request that waits is cancelled by another pass.
+    Cancelled,
+    /// It expires by another pass's event.
+    Expired,
 }
 
-const TESTS: [Test; 6] = [
+const TESTS: [Test; 9] = [
     Test::Room,
     Test::Turns,
     Test::Four,
     Test::One,
     Test::Crowd,
     Test::Busy,
+    Test::Queue,
+    Test::Cancelled,
+    Test::Expired,
 ];
 
 fn by_turns(room: u64, script: Script) -> Plan {
@@ -48,6 +58,18 @@ fn by_turns(room: u64, script: Script) -> Plan {
         script,
         others: 1,
         work: Work::Nothing,
+    }
+}
+
+/// The pod is Ready at once, and has one seat.
+fn at_one_seat(others: usize, work: Work) -> Plan {
+    Plan {
+        seats: 1,
+        breaker: 100,
+        room: 1000,
+        script: Script::Ready,
+        others,
+        work,
     }
 }
 
@@ -71,6 +93,9 @@ fn plan_of(test: Test) -> Plan {
         Test::One => by_threads(2, 1000, 8, Work::Mix),
         Test::Crowd => by_threads(0, 40_000, 8, Work::Serve(2000)),
         Test::Busy => by_threads(0, 300_000, 2, Work::Meet),
+        Test::Queue => at_one_seat(32, Work::Queue(31)),
+        Test::Cancelled => at_one_seat(2, Work::End(Act::Cancel(1), 0)),
+        Test::Expired => at_one_seat(2, Work::End(Act::Pass, 400_000)),
     }
 }
 
@@ -182,6 +207,36 @@ fn busy<R: Print>(rt: &R, outcome: &Outcome) -> io::Result<()> {
     )
 }
 
+/// Whether there were so many waits, or a few more: a wait may end for no reason.
+fn waited(outcome: &Outcome, count: u64) -> u64 {
+    u64::from(count <= outcome.waits && outcome.waits < count.saturating_add(5))
+}
+
+/// Whether it took less than the half of a wait that nobody ended.
+fn soon(ms: u64) -> u64 {
+    u64::from(ms < 15_000)
+}
+
+fn queued<R: Print>(rt: &R, outcome: &Outcome, ms: u64) -> io::Result<()> {
+    let cases = [
+        ("32 requests at one seat, rows", rows(outcome), 65),
+        ("32 requests at one seat, live", outcome.left.live, 0),
+        ("each wait is ended once", waited(outcome, 31), 1),
+        ("each wait is ended soon", soon(ms), 1),
+    ];
+    print(rt, &cases)
+}
+
+fn ended<R: Print>(rt: &R, outcome: &Outcome, ms: u64, name: &'static str) -> io::Result<()> {
+    let cases = [
+        (name, waited(outcome, 1), 1),
+        ("the wait is ended soon", soon(ms), 1),
+        ("one that waits, rows", rows(outcome), 55),
+        ("one that waits, live requests", outcome.left.live, 0),
+    ];
+    print(rt, &cases)
+}
+
 fn print<R: Print>(rt: &R, wants: &[Want]) -> io::Result<()> {
     for (name, got, want) in wants {
         case(rt, name, got, want)?;
@@ -200,7 +255,12 @@ fn show_one<R: Print + AllocGlobal>(rt: &R, outcome: &Outcome) -> io::Result<()>
     }
 }
 
-fn show_outcome<R: Print + AllocGlobal>(rt: &R, test: Test, outcome: &Outcome) -> io::Result<()> {
+fn show_outcome<R: Print + AllocGlobal>(
+    rt: &R,
+    test: Test,
+    outcome: &Outcome,
+    ms: u64,
+) -> io::Result<()> {
     match test {
         Test::Room => room(rt, outcome),
         Test::Turns => turns(rt, outcome),
@@ -208,17 +268,32 @@ fn show_outcome<R: Print + AllocGlobal>(rt: &R, test: Test, outcome: &Outcome) -
         Test::One => show_one(rt, outcome),
         Test::Crowd => crowd(rt, outcome),
         Test::Busy => busy(rt, outcome),
+        Test::Queue => queued(rt, outcome, ms),
+        Test::Cancelled => ended(rt, outcome, ms, "who is cancelled is rung, once"),
+        Test::Expired => ended(rt, outcome, ms, "who expires is rung, once"),
     }
 }
 
-fn show_test<R: Print + AllocGlobal + Threads + Wait + Sync>(rt: &R, test: Test) -> io::Result<()> {
+/// Milliseconds since some start, or 0 where they can't be read.
+fn now_ms<R: Clock>(rt: &R) -> u64 {
+    match rt.monotonic() {
+        Ok(time) => u64::try_from(time.as_millis()).unwrap_or(u64::MAX),
+        Err(_) => 0,
+    }
+}
+
+fn show_test<R: Print + AllocGlobal + Clock + Threads + Wait + Sync>(
+    rt: &R,
+    test: Test,
+) -> io::Result<()> {
+    let start = now_ms(rt);
     match carry_out(rt, rt.alloc(), &plan_of(test)) {
-        Ok(outcome) => show_outcome(rt, test, &outcome),
+        Ok(outcome) => show_outcome(rt, test, &outcome, now_ms(rt).saturating_sub(start)),
         Err(Memory) => lacks(),
     }
 }
 
-pub fn show<R: Print + AllocGlobal + Threads + Wait + Sync>(rt: &R) -> io::Result<()> {
+pub fn show<R: Print + AllocGlobal + Clock + Threads + Wait + Sync>(rt: &R) -> io::Result<()> {
     for test in &TESTS {
         show_test(rt, *test)?;
     }

@@ -4,6 +4,7 @@
 //! One function owns a cell with its passes; all others work over references, which are cheap to prove.
 #![tactic(auto)]
 
+mod bells;
 mod cases;
 mod meeting;
 mod outcome;

@@ -6,15 +6,17 @@ use crate::turns::{look, try_on};
 use kn_cell::{Pass, RevisionCell, TryError};
 use kn_event::Act;
 use std::sync::Wait;
-use std::sync::atomic::{AtomicBool, Ordering};
+use std::sync::atomic::{AtomicBool, AtomicU64, Ordering};
 
-/// What two threads say to each other.
+/// What threads say to each other.
 #[derive(Drop)]
 pub struct Notes {
     /// Whether one has begun to look.
     looks: AtomicBool,
     /// Whether one was told that another has the turn.
     busy: AtomicBool,
+    /// How many waits for a request there were.
+    waits: AtomicU64,
 }
 
 impl Notes {
@@ -22,11 +24,20 @@ impl Notes {
         Notes {
             looks: AtomicBool::new(false),
             busy: AtomicBool::new(false),
+            waits: AtomicU64::new(0),
         }
     }
 
     pub fn busy(&self) -> bool {
         self.busy.load(Ordering::SeqCst)
+    }
+
+    pub fn has_wait(&self) {
+        self.waits.fetch_add(1, Ordering::SeqCst);
+    }
+
+    pub fn waits(&self) -> u64 {
+        self.waits.load(Ordering::SeqCst)
     }
 }
 

@@ -25,11 +25,13 @@ pub struct Plan {
     pub work: Work,
 }
 
-/// How many calls were answered as they are to be, whether a thread was told Busy, and what is left.
+/// How many calls were answered as they are to be, whether a thread was told Busy, how many waits there were, and what is
+/// left.
 #[derive(Drop)]
 pub struct Outcome {
     pub right: usize,
     pub busy: bool,
+    pub waits: u64,
     pub left: Left,
     pub history: History,
 }
@@ -107,6 +109,7 @@ fn outcome_of<R: Threads + Wait + Sync>(
     Outcome {
         right,
         busy: notes.busy(),
+        waits: notes.waits(),
         left,
         history,
     }

@@ -2,6 +2,7 @@
 ghost use Rattle.std.specs.Prelude.{◌≡◌, ◌+◌, ◌≤◌, All, length};
 ghost use Rattle.kn_tests_cell.specs.Numbers.{IsLeaf, IsStill};
 
+use crate::bells::{end_other, queue};
 use crate::meeting::{Notes, look_on, try_until_busy};
 use crate::shared::on;
 use kn_cell::{Pass, RevisionCell};
@@ -19,6 +20,10 @@ pub enum Work {
     Mix,
     /// The first thread looks until the second, which tries, is told that it has the turn.
     Meet,
+    /// One request each at one seat: so many wait before the first ends.
+    Queue(u64),
+    /// Of two requests one runs, and the other waits until it is ended by this act at this time.
+    End(Act, u64),
 }
 
 /// The word picks an act; about as many requests arrive as end.
@@ -78,6 +83,8 @@ fn work_on<R: Wait>(
         Work::Mix => mix(rt, cell, pass, number as u64),
         Work::Meet if number == 0 => look_on(rt, cell, pass, notes),
         Work::Meet => try_until_busy(cell, pass, notes),
+        Work::Queue(others) => queue(rt, cell, pass, others, notes),
+        Work::End(act, time) => end_other(rt, cell, pass, act, time, notes),
     }
 }
 

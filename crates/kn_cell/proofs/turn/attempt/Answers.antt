@@ -29,11 +29,17 @@ record-requires-clause-added c =
       subst (λ (u : View). IsLegal (opening u.key) y.0.history) same (subst (IsLegal (opening v.key)) (sym on.row) on.legal),
     )
 
+pub ring_called-requires-clause-slot : goal.ring_called-requires-clause-slot
+ring_called-requires-clause-slot c =
+    let t = c.requires.turn in
+    let y = c.in-Ok.ensures.ok t.value t.slot in
+    (y.0, ap (λ (m : Me DeskState View). m.1) (c.record.ensures.seen y.0 y.1) ∙ y.1)
+
 pub give-requires-clause-turn : goal.give-requires-clause-turn
 give-requires-clause-turn c =
     let t = c.requires.turn in
     let y = c.in-Ok.ensures.ok t.value t.slot in
-    let is = c.record.ensures.seen y.0 y.1 in
+    let is = c.ring_called.ensures.same.2 ∙ c.record.ensures.seen y.0 y.1 in
     let same = c.apply_at.ensures.same.2 in (
       ap (λ (m : Me DeskState View). m.0.turn) is ∙ (ap (λ (u : View). u.turn) same ∙ t.turn),
       ap (λ (m : Me DeskState View). m.0.spent) is ∙ (ap (λ (u : View). u.spent) same ∙ t.fresh),
@@ -47,7 +53,7 @@ give-requires-clause-slot c =
     let y = c.in-Ok.ensures.ok t.value t.slot in
     let a = subst (λ n. Applies t.value n c.args.act c.args.time told y.0) (sym c.requires.number) y.2 in
     let on = applied v t.value c.args.act c.args.time told y.0 t.goes t.legal a in
-    let is = recorded_is v c.args.act c.args.time told y.0 c.apply_at.new.place.me c.record.new.place.me on c.apply_at.ensures.same.2 y.1 (c.record.ensures.seen y.0 y.1) in
+    let is = c.ring_called.ensures.same.2 ∙ recorded_is v c.args.act c.args.time told y.0 c.apply_at.new.place.me c.record.new.place.me on c.apply_at.ensures.same.2 y.1 (c.record.ensures.seen y.0 y.1) in
     (y.0, ap (λ (m : Me DeskState View). m.1) is, subst (λ (m : Me DeskState View). GoesWith m.0.key m.0.seen y.0) (sym is) on.goes)
 
 pub returns-in-Ok-clause-ok : goal.returns-in-Ok-clause-ok
@@ -58,7 +64,7 @@ returns-in-Ok-clause-ok c =
     let y = c.in-Ok.ensures.ok t.value t.slot in
     let a = subst (λ n. Applies t.value n c.args.act c.args.time told y.0) (sym c.requires.number) y.2 in
     let on = applied v t.value c.args.act c.args.time told y.0 t.goes t.legal a in
-    let is = recorded_is v c.args.act c.args.time told y.0 c.apply_at.new.place.me c.record.new.place.me on c.apply_at.ensures.same.2 y.1 (c.record.ensures.seen y.0 y.1) in
+    let is = c.ring_called.ensures.same.2 ∙ recorded_is v c.args.act c.args.time told y.0 c.apply_at.new.place.me c.record.new.place.me on c.apply_at.ensures.same.2 y.1 (c.record.ensures.seen y.0 y.1) in
     record {
       after_is = c.give.ensures.free ∙ ap (λ (m : Me DeskState View). (without_turn m.0, [])) is;
       legal = on.legal;

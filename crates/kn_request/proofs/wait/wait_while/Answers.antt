@@ -25,7 +25,7 @@ pub loop-preserved : goal.loop-preserved
 loop-preserved g c =
     let l = looks_after c.args.pass.now c.loop.pass c.look.new.pass c.loop.invariant.seen c.look.ensures.looks in
     record {
-      cell = ap (λ (p : PassView). p.cell) c.rest.ensures ∙ (cell_is c.loop.pass c.look.new.pass c.look.ensures.looks ∙ c.loop.invariant.cell);
-      mine = ap (λ (p : PassView). p.mine) c.rest.ensures ∙ (c.look.ensures.mine ∙ c.loop.invariant.mine);
-      seen = inr (subst (λ (p : PassView). Looks c.args.pass.now p) (sym c.rest.ensures) l);
+      cell = ap (λ (p : PassView). p.cell) c.wait.ensures ∙ (cell_is c.loop.pass c.look.new.pass c.look.ensures.looks ∙ c.loop.invariant.cell);
+      mine = ap (λ (p : PassView). p.mine) c.wait.ensures ∙ (c.look.ensures.mine ∙ c.loop.invariant.mine);
+      seen = inr (subst (λ (p : PassView). Looks c.args.pass.now p) (sym c.wait.ensures) l);
     }

@@ -1,4 +1,4 @@
-use Rattle.std.proofs.Common.{◌≡◌, ◌++◌, ◌∷◌, [], ap, sym, ◌∙◌, subst, refl, arith, List}
+use Rattle.std.proofs.Common.{◌≡◌, ◌+◌, ◌++◌, ◌∷◌, [], ℕ, suc, ap, sym, ◌∙◌, subst, refl, arith, List, replicate}
 use Rattle.atomic_table.specs.Table.{opening as first_state}
 use Rattle.kn_core.specs.State.{RevisionState, StandsFor, StandsForSome}
 use Rattle.kn_cell.specs.State.{DeskState}
@@ -37,5 +37,9 @@ new-requires-2 c =
     } in
     let few = c.requires.events in
     let e = ap (λ (r : RevisionState). r.events) is in
-    subst (λ (l : List DeskState). IsKept key (first_state (0 ∷ 0 ∷ []) l (first_view key))) (sym slots)
-    (opens key x record { room = c.requires.room; events = omega arith; passes = c.requires.passes; some = subst StandsForSome (sym is) c.live-live.ensures.some } goes)
+    let two : c.args.passes + 2 ≡ suc (suc c.args.passes) = omega arith in
+    let zeros : c.deref.result.now ≡ 0 ∷ 0 ∷ replicate c.args.passes 0 =
+    c.deref.ensures.value ∙ (c.in-Ok-from_elem.ensures.items_if_clones_equal (λ y h. h) ∙ ap (λ n. replicate n 0) two) in
+    subst (λ (ws : List ℕ). IsKept key (first_state ws c.push_reserved.new.self.items (first_view key))) (sym zeros)
+    (subst (λ (l : List DeskState). IsKept key (first_state (0 ∷ 0 ∷ replicate c.args.passes 0) l (first_view key))) (sym slots)
+    (opens key x (replicate c.args.passes 0) record { room = c.requires.room; events = omega arith; passes = c.requires.passes; some = subst StandsForSome (sym is) c.live-live.ensures.some } goes))
