@@ -2,13 +2,13 @@
 ghost use Rattle.std.specs.Prelude.{◌≡◌, [], All, OnOk, length};
 ghost use Rattle.kn_serve.specs.Opening.{IsEmptyWork};
 
-use kn_event::{Items, Memory, Text};
+use crate::sockets::{caller, link, listen};
 use kn_io::Faulty;
 use kn_serve::{OpenError, Opener, Plan, Slot, Work};
 use kn_tcp::{TcpCaller, TcpLink};
 use std::alloc::Global;
 use std::net::{Net, TcpListener, TcpStream};
-use std::str;
+use std::time::Clock;
 
 /// An opener that listens on the plan's address, with all callers on the one socket. It tells no content.
 #[derive(Drop)]
@@ -17,30 +17,13 @@ pub struct TcpOpener<'a, N> {
     faults: u64,
 }
 
-impl<'a, N: Net<Listener = TcpListener, Stream = TcpStream>> TcpOpener<'a, N> {
+impl<'a, N: Net<Listener = TcpListener, Stream = TcpStream> + Clock> TcpOpener<'a, N> {
     /// An opener without faults so far.
     pub fn new(net: &'a N) -> TcpOpener<'a, N>
         ensures { ⟦<TcpOpener<'a, N> as Faulty>⟧.faults result ≡ 0 }
     {
         TcpOpener { net, faults: 0 }
     }
-
-    /// The socket that is listened on.
-    fn listen(&self, plan: &Plan) -> Option<TcpListener> {
-        let address = str::from_utf8(plan.listen.bytes()).ok()?;
-        TcpListener::bind(self.net, address).ok()
-    }
-}
-
-/// The texts, copied.
-fn copies(alloc: Global, texts: &Items<Text>) -> Result<Items<Text>, Memory> {
-    let mut copied = Vec::new(alloc);
-    for text in texts.items() {
-        if copied.push(text.copy(alloc)?).is_err() {
-            return Err(Memory);
-        }
-    }
-    Ok(Items::new(copied))
 }
 
 impl<N> Faulty for TcpOpener<'_, N> {
@@ -51,8 +34,10 @@ impl<N> Faulty for TcpOpener<'_, N> {
     }
 }
 
-impl<'a, N: Net<Listener = TcpListener, Stream = TcpStream>> Opener<TcpCaller, TcpLink<&'a N>>
-    for TcpOpener<'a, N> {
+impl<'a, N: Net<Listener = TcpListener, Stream = TcpStream> + Clock> Opener<
+    TcpCaller,
+    TcpLink<&'a N>,
+> for TcpOpener<'a, N> {
     ghost gives = { λ _ _ _ _ _. Unit {0} };
 
     fn open(
@@ -62,7 +47,7 @@ impl<'a, N: Net<Listener = TcpListener, Stream = TcpStream>> Opener<TcpCaller, T
         slots: &mut Vec<Slot<TcpCaller, TcpLink<&'a N>>>,
         keeper: &mut Option<TcpLink<&'a N>>,
     ) -> Result<(), OpenError> {
-        let Some(listener) = self.listen(plan) else {
+        let Some(listener) = listen(self.net, &plan.listen) else {
             self.faults = self.faults.saturating_add(1);
             return Err(OpenError::Failed);
         };
@@ -83,7 +68,7 @@ impl<'a, N: Net<Listener = TcpListener, Stream = TcpStream>> Opener<TcpCaller, T
 }
 
 /// Makes the slots, and answers the keeper.
-fn fill<'a, N: Net<Listener = TcpListener, Stream = TcpStream>>(
+fn fill<'a, N: Net<Listener = TcpListener, Stream = TcpStream> + Clock>(
     alloc: Global,
     net: &'a N,
     listener: &TcpListener,
@@ -97,30 +82,12 @@ fn fill<'a, N: Net<Listener = TcpListener, Stream = TcpStream>>(
     for _ in 0..plan.slots {
         let slot = Slot {
             caller: caller(listener)?,
-            link: link(alloc, net, plan)?,
+            link: link(alloc, net, &plan.pods)?,
             work: Work::new(),
         };
         if slots.push(slot).is_err() {
             return Err(OpenError::Memory);
         }
     }
-    link(alloc, net, plan)
-}
-
-fn caller(listener: &TcpListener) -> Result<TcpCaller, OpenError> {
-    match listener.try_clone() {
-        Ok(listener) => Ok(TcpCaller::new(listener)),
-        Err(_) => Err(OpenError::Failed),
-    }
-}
-
-fn link<'a, N: Net<Listener = TcpListener, Stream = TcpStream>>(
-    alloc: Global,
-    net: &'a N,
-    plan: &Plan,
-) -> Result<TcpLink<&'a N>, OpenError> {
-    match copies(alloc, &plan.pods) {
-        Ok(addresses) => Ok(TcpLink::new(net, addresses)),
-        Err(Memory) => Err(OpenError::Memory),
-    }
+    link(alloc, net, &plan.pods)
 }

@@ -1,3 +1,4 @@
 pub mod Reading
 pub mod Parted
 pub mod Listed
+pub mod Lists

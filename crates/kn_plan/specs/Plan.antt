@@ -1,10 +1,11 @@
 -- What the words of the program ask for.
-use Rattle.std.specs.Prelude.{◌≡◌, ℕ, ◌≤◌, nat_le, Bool, true, false, not, ◌&&◌, ◌==◌, List, [], ◌∷◌, ◌++◌, length, All, Option, None, Some, codes}
+use Rattle.std.specs.Prelude.{◌≡◌, ℕ, ◌≤◌, nat_le, Bool, true, false, not, ◌&&◌, ◌==◌, List, [], ◌∷◌, ◌++◌, ◌*◌, length, map, All, Option, None, Some, codes}
 use Rattle.std.specs.List.{list_all, slice_split}
 use Rattle.clap.specs.Walk.{Text}
 use Rattle.clap.specs.Faults.{fault_of}
 use Rattle.kn_event.specs.Numbers.{number_of}
 use Rattle.kn_plan.specs.declared.plan.Plan.{Plan}
+use Rattle.kn_plan.specs.declared.wide_plan.WidePlan.{WidePlan}
 use Rattle.kn_plan.specs.Command.{kactd, given}
 
 abbrev pub is_comma : ℕ → Bool
@@ -38,6 +39,9 @@ pub record IsAddress (text : List ℕ) : Type 0 where
 abbrev pub IsGivenAddress : Option Text → List ℕ → Type 0
 IsGivenAddress value text = (value ≡ Some text) × IsAddress text
 
+abbrev pub is_semicolon : ℕ → Bool
+is_semicolon b = b == 59
+
 -- 1 to 500, between commas
 pub record AreGivenAddresses (value : Option Text) (texts : List (List ℕ)) : Type 0 where
   pub list : Text
@@ -61,3 +65,22 @@ pub record AsksFor (words : List Text) (plan : Plan) : Type 0 where
   pub slots : IsGivenNumber (given words (codes "slots")) 1 64 plan.slots
   pub rounds : IsGivenNumber (given words (codes "rounds")) 1 10000 plan.rounds
   pub room : IsGivenNumber (given words (codes "room")) 1 1000000 plan.room
+
+-- 1 to 16 lists between semicolons, each of 1 to 500 addresses between commas
+pub record AreGivenLists (value : Option Text) (lists : List (List (List ℕ))) : Type 0 where
+  pub list : Text
+  pub is : value ≡ Some list
+  pub parts : map (slice_split is_comma) (slice_split is_semicolon list) ≡ lists
+  pub each : All (All IsAddress) lists
+  pub fit : All (λ texts. length texts ≤ 500) lists
+  pub few : length lists ≤ 16
+
+-- the same words, with a list of pods for each revision. All revisions together have room for as much as one alone
+pub record AsksForMany (words : List Text) (plan : WidePlan) : Type 0 where
+  pub accepted : fault_of kactd words ≡ []
+  pub listen : IsGivenAddress (given words (codes "listen")) plan.listen
+  pub pods : AreGivenLists (given words (codes "pods")) plan.pods
+  pub slots : IsGivenNumber (given words (codes "slots")) 1 64 plan.slots
+  pub rounds : IsGivenNumber (given words (codes "rounds")) 1 10000 plan.rounds
+  pub room : IsGivenNumber (given words (codes "room")) 1 1000000 plan.room
+  pub product : plan.room * length plan.pods ≤ 1000000

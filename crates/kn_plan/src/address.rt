@@ -1,7 +1,7 @@
 //! How `HOST:PORT` and lists of it are read.
-ghost use Rattle.std.specs.Prelude.{◌≡◌, All, IfOk, MatchBool, map};
+ghost use Rattle.std.specs.Prelude.{◌≡◌, ◌<◌, ◌==◌, All, IfOk, MatchBool, map};
 ghost use Rattle.std.specs.List.{list_all, slice_split};
-ghost use Rattle.kn_plan.specs.Plan.{IsAddress, is_comma, is_host, is_host_byte, is_port};
+ghost use Rattle.kn_plan.specs.Plan.{IsAddress, is_host, is_host_byte, is_port};
 
 use kn_event::{Items, Memory, Text, read_number};
 use std::alloc::Global;
@@ -71,11 +71,12 @@ pub fn copy(alloc: Global, text: &str) -> Result<Text, Memory>
     }
 }
 
-/// The parts of the text between its commas.
-pub fn parts<'a>(alloc: Global, text: &'a str) -> Result<Vec<&'a str>, Memory>
-    ensures { IfOk result (λ v. map (λ t. t.now) v.items ≡ slice_split is_comma text.entry.now) }
+/// The parts of the text between these characters.
+pub fn parts<'a>(alloc: Global, text: &'a str, between: char) -> Result<Vec<&'a str>, Memory>
+    requires { between < 128 }
+    ensures { IfOk result (λ v. map (λ t. t.now) v.items ≡ slice_split (λ b. b == between) text.entry.now) }
 {
-    match text.split(',').collect(alloc) {
+    match text.split(between).collect(alloc) {
         Ok(found) => Ok(found),
         Err(_) => Err(Memory),
     }

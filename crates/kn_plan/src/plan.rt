@@ -27,7 +27,7 @@ pub struct Plan {
 }
 
 /// The address that is given.
-fn address(alloc: Global, given: Option<&str>) -> Result<Text, PlanError>
+pub(crate) fn address(alloc: Global, given: Option<&str>) -> Result<Text, PlanError>
     ensures ok { IfOk result (IsGivenAddress (option_map (λ s. s.now) given.entry)) }
     ensures usage { result ≡ Err PlanError.Usage → (text : List ℕ) → IsGivenAddress (option_map (λ s. s.now) given.entry) text → ⊥ }
 {
@@ -44,14 +44,14 @@ fn address(alloc: Global, given: Option<&str>) -> Result<Text, PlanError>
 }
 
 /// The 1 to 500 addresses that are given.
-fn addresses(alloc: Global, given: Option<&str>) -> Result<Hosts, PlanError>
+pub(crate) fn addresses(alloc: Global, given: Option<&str>) -> Result<Hosts, PlanError>
     ensures ok { IfOk result (AreGivenAddresses (option_map (λ s. s.now) given.entry)) }
     ensures usage { result ≡ Err PlanError.Usage → (texts : List (List ℕ)) → AreGivenAddresses (option_map (λ s. s.now) given.entry) texts → ⊥ }
 {
     let Some(text) = given else {
         return Err(PlanError::Usage);
     };
-    let Ok(parts) = parts(alloc, text) else {
+    let Ok(parts) = parts(alloc, text, ',') else {
         return Err(PlanError::Memory);
     };
     if parts.len() > 500 {
@@ -67,7 +67,7 @@ fn addresses(alloc: Global, given: Option<&str>) -> Result<Hosts, PlanError>
 }
 
 /// The number that is given, in this range.
-fn number(given: Option<&str>, least: u64, most: u64) -> Result<u64, PlanError>
+pub(crate) fn number(given: Option<&str>, least: u64, most: u64) -> Result<u64, PlanError>
     ensures ok { IfOk result (IsGivenNumber (option_map (λ s. s.now) given.entry) least most) }
     ensures usage { result ≡ Err PlanError.Usage → (n : ℕ) → IsGivenNumber (option_map (λ s. s.now) given.entry) least most n → ⊥ }
 {

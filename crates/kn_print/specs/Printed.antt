@@ -1,11 +1,14 @@
 -- The journal that a session prints.
 use Rattle.std.specs.Prelude.{ℕ, ◌<◌, ◌^◌, List, map}
+use Rattle.std.specs.List.{flat_map}
+use Rattle.std.specs.Simd.Lanes.{zip2}
 use Rattle.kn_event.specs.declared.event.Act.{Act}
 use Rattle.kn_event.specs.declared.event.Act.TheVariants as act
 use Rattle.kn_event.specs.declared.event.Event.{Event}
 use Rattle.kn_cell.specs.declared.past.Past.{Past}
 use Rattle.kn_journal.specs.declared.journal.Journal.{Journal}
 use Rattle.kn_journal.specs.declared.journal.Setup.{Setup}
+use Rattle.kn_journal.specs.Journal.{journal_text}
 
 abbrev pub events_of : List Past → List Event
 events_of h = map (λ p. p.event) h
@@ -13,6 +16,14 @@ events_of h = map (λ p. p.event) h
 -- a journal 1 of the setup, the start and the events of the history
 abbrev pub printed_journal : Setup → ℕ → List Past → Journal
 printed_journal setup start h = record { version = 1; setup = setup; start = start; events = events_of h }
+
+-- the journals of these setups and histories, one for each revision
+abbrev pub printed_journals : List Setup → ℕ → List (List Past) → List Journal
+printed_journals setups start hs = zip2 (λ setup h. printed_journal setup start h) setups hs
+
+-- the texts one after the other
+abbrev pub journals_text : List Journal → List ℕ
+journals_text js = flat_map journal_text js
 
 -- its numbers fit a line of a journal
 abbrev pub HasSmall : Act → Type 0

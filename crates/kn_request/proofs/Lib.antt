@@ -9,3 +9,5 @@ pub mod Talking
 pub mod TickFacts
 pub mod TurnFacts
 pub mod TickTimes
+pub mod WideFacts
+pub mod WideTurns

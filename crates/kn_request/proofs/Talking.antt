@@ -1,21 +1,17 @@
 -- From the parts of a connection to the whole.
-use Rattle.std.proofs.Common.{◌≡◌, ◌⊎◌, inl, inr, ℕ, List, [], ◌∷◌, ◌++◌, Bool, true, false, refl, sym, ap, ◌∙◌, subst, append_assoc}
+use Rattle.std.proofs.Common.{◌≡◌, ◌⊎◌, inl, inr, ℕ, List, [], ◌∷◌, ◌++◌, true, refl, sym, ap, ◌∙◌, subst, append_assoc}
 use Rattle.std.proofs.lemmas.List.{append-nil, append_cancel_right}
-use Rattle.std.specs.Prelude.{Option, None, Some, IfSome, Result, Ok, Err, take, length, ◌≤◌, ⊤}
+use Rattle.std.specs.Prelude.{Option, None, Some, IfSome, Result, take}
 use Rattle.std.specs.Io.KnownBytes.{Appends}
-use Rattle.kn_event.specs.declared.revision.Spec.{Spec}
-use Rattle.kn_cell.specs.Shown.{PassView}
 use Rattle.kn_io.specs.Callers.{IsHeard, IsPaired, Meets, every_second, followed, streams_of, texts_of, told_as}
-use Rattle.kn_io.specs.Links.{Link}
 use Rattle.kn_io.specs.Prefix.{AppendsPrefix}
 use Rattle.kn_head.specs.declared.head.Head.{Head}
 use Rattle.kn_head.specs.declared.head.HeadError.{HeadError}
-use Rattle.kn_head.specs.declared.head.HeadError.TheVariants as error
 use Rattle.kn_head.specs.Reading.{Reads}
 use Rattle.kn_request.specs.declared.slot.Served.{Served}
 use Rattle.kn_request.specs.declared.slot.Served.TheVariants as served
-use Rattle.kn_request.specs.Outside.{Grows, GrowsFront, Said, Talks, Tells, said, wrote}
-use Rattle.kn_request.specs.One.{HasMet, IsText, IsUnread, ServesMet, Writes}
+use Rattle.kn_request.specs.Outside.{Grows, Said, Talks, Tells, said, wrote}
+use Rattle.kn_request.specs.One.{HasMetBy, IsText, ServesMetBy, Writes}
 
 -- ---- what is told
 
@@ -157,9 +153,9 @@ module _ (law_texts : (kept : List (List ℕ)) (held input : List ℕ) → IsPai
             (z.0, z.1, (talk h a z.0 input pair kz has, inr (g.0, (z.2.0, ap (λ (s : Said). s.text) z.2.1))))
       ]
 
-  pub met_of : (reading : ℕ → Type 0) (spec : Spec) (tag : ℕ) (p q : PassView) (wire wire' : Option Link) (k0 k1 : Option (List (List ℕ))) (h0 h1 l0 l1 : Option (List ℕ)) (s3 : Option Said) (result : Served)
-      → IsPaired k0 → IsHeard k0 l0 → Meets k0 k1 h0 h1 l0 l1 → ServesMet reading spec tag p q wire wire' l1 (said k1 h1) s3 result → HasMet reading spec tag p q wire wire' (said k0 h0) s3 result
-  met_of reading spec tag p q wire wire' k0 k1 h0 h1 l0 l1 s3 result paired heard m x = record {
+  pub met_of : (Way : Result Head HeadError → Served → List ℕ → Type 0) (k0 k1 : Option (List (List ℕ))) (h0 h1 l0 l1 : Option (List ℕ)) (s3 : Option Said) (result : Served)
+      → IsPaired k0 → IsHeard k0 l0 → Meets k0 k1 h0 h1 l0 l1 → ServesMetBy Way l1 (said k1 h1) s3 result → HasMetBy Way (said k0 h0) s3 result
+  met_of Way k0 k1 h0 h1 l0 l1 s3 result paired heard m x = record {
     found = x.found;
     meant = x.meant;
     text = x.text;

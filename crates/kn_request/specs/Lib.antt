@@ -7,3 +7,4 @@ pub mod Requests
 pub mod Served
 pub mod One
 pub mod Ticking
+pub mod Wide

@@ -93,29 +93,37 @@ IsWay reading spec tag old new wire wire' (Ok h) s text =
     ⊎ ((IsFor spec h → ⊥) × IsIdle old new wire wire' × IsRefusal answer.NoSuchRevision s text)
 IsWay reading spec tag old new wire wire' (Err e) s text = IsIdle old new wire wire' × IsUnread e (answer_for e) s text
 
--- what became of the connection that was met last, with these bytes to read
-pub record ServesMet (reading : ℕ → Type 0) (spec : Spec) (tag : ℕ) (old new : PassView) (wire wire' : Option Link) (left : Option (List ℕ)) (said said' : Option Said) (result : Served) : Type 0 where
+-- what became of the connection that was met last, with these bytes to read, by what is said of each way
+pub record ServesMetBy (Way : Result Head HeadError → Served → List ℕ → Type 0) (left : Option (List ℕ)) (said said' : Option Said) (result : Served) : Type 0 where
   pub found : Result Head HeadError
   pub reads : IfSome left (λ bytes. Reads bytes found)
   pub meant : Served
   pub text : List ℕ
-  pub way : IsWay reading spec tag old new wire wire' found meant text
+  pub way : Way found meant text
   pub writes : Writes said said' result meant text
+
+abbrev pub ServesMet : (ℕ → Type 0) → Spec → ℕ → PassView → PassView → Option Link → Option Link → Option (List ℕ) → Option Said → Option Said → Served → Type 0
+ServesMet reading spec tag old new wire wire' left said said' result = ServesMetBy (IsWay reading spec tag old new wire wire') left said said' result
 
 -- the text is what was meant, or a first part of it where the caller failed
 abbrev pub IsText : Served → Served → List ℕ → List ℕ → Type 0
 IsText result meant full text = ((result ≡ meant) × (text ≡ full)) ⊎ ((result ≡ served.CallerFault) × ((n : ℕ) × (text ≡ take n full)))
 
-pub record HasMet (reading : ℕ → Type 0) (spec : Spec) (tag : ℕ) (old new : PassView) (wire wire' : Option Link) (said said' : Option Said) (result : Served) : Type 0 where
+pub record HasMetBy (Way : Result Head HeadError → Served → List ℕ → Type 0) (said said' : Option Said) (result : Served) : Type 0 where
   pub found : Result Head HeadError
   pub meant : Served
   pub text : List ℕ
-  pub way : IsWay reading spec tag old new wire wire' found meant text
+  pub way : Way found meant text
   pub answers : (result ≡ meant) ⊎ (result ≡ served.CallerFault)
   pub talks : Tells said said' (λ a b. Talks found a b × IsText result meant text b.text)
 
+abbrev pub HasMet : (ℕ → Type 0) → Spec → ℕ → PassView → PassView → Option Link → Option Link → Option Said → Option Said → Served → Type 0
+HasMet reading spec tag old new wire wire' said said' result = HasMetBy (IsWay reading spec tag old new wire wire') said said' result
+
 -- nobody was met, or somebody was
+abbrev pub ServesOneBy : Type 0 → (Result Head HeadError → Served → List ℕ → Type 0) → Option Said → Option Said → Served → Type 0
+ServesOneBy Idle Way said said' result = (Idle × (said' ≡ said) × (result ≡ served.CallerFault)) ⊎ HasMetBy Way said said' result
+
 abbrev pub ServesOne : (ℕ → Type 0) → Spec → ℕ → PassView → PassView → Option Link → Option Link → Option Said → Option Said → Served → Type 0
 ServesOne reading spec tag old new wire wire' said said' result =
-    (IsIdle old new wire wire' × (said' ≡ said) × (result ≡ served.CallerFault))
-    ⊎ HasMet reading spec tag old new wire wire' said said' result
+    ServesOneBy (IsIdle old new wire wire') (IsWay reading spec tag old new wire wire') said said' result

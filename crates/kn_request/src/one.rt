@@ -59,7 +59,7 @@ fn answer<C: Caller>(caller: &mut C, forms: &Forms, meant: Meant) -> Served
 }
 
 /// Refuses a request of which no event is made.
-fn refuse<C: Caller>(alloc: Global, caller: &mut C, answer: Answer) -> Served
+pub fn refuse<C: Caller>(alloc: Global, caller: &mut C, answer: Answer) -> Served
     ensures refuses { Refuses (said (C.Sink.kept caller.old) (C.Sink.held caller.old)) (said (C.Sink.kept caller.new) (C.Sink.held caller.new)) answer result }
     ensures never_falls { C.Faulty.faults caller.old ≤ C.Faulty.faults caller.new }
     ensures cause { result ≡ Served.CallerFault → Rose (C.Faulty.faults caller.old) (C.Faulty.faults caller.new) }
@@ -71,7 +71,7 @@ fn refuse<C: Caller>(alloc: Global, caller: &mut C, answer: Answer) -> Served
 }
 
 /// Whether the request is one to the revision.
-fn is_for(spec: &Spec, head: &Head) -> bool
+pub fn is_for(spec: &Spec, head: &Head) -> bool
     ensures { MatchBool result (IsFor spec.now head.now) (IsFor spec.now head.now → ⊥) }
 {
     head.namespace.bytes() == spec.namespace.bytes() && head.revision.bytes() == spec.name.bytes()
@@ -123,7 +123,7 @@ pub fn serve_read<R: Wait, C: Caller, L: PodLink, K: Clock, G: Gate>(
 }
 
 /// How a head is answered that was not read, and of which nothing is written.
-fn fault_of(error: HeadError) -> Served
+pub fn fault_of(error: HeadError) -> Served
     requires { answer_for error ≡ None }
     ensures unread { IsUnread error None result [] }
     ensures fault { result ≡ Served.CallerFault → error ≡ HeadError.ReadFault }

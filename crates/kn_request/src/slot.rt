@@ -46,3 +46,19 @@ pub struct Slot<C, L> {
     pub link: L,
     pub work: Work,
 }
+
+/// A caller, and for each revision a link of its own to the pods and what is held while it is served.
+#[derive(Drop)]
+pub struct WideSlot<C, L> {
+    pub caller: C,
+    pub links: Vec<L>,
+    pub works: Vec<Work>,
+}
+
+/// How a request to one of several revisions was answered, and the place of the one that its head named: none where nobody was
+/// met, where the head was refused, and where it names none.
+#[derive(Clone, Copy, Debug, PartialEq, Eq, Drop)]
+pub struct Ended {
+    pub revision: Option<usize>,
+    pub served: Served,
+}

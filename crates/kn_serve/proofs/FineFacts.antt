@@ -1,5 +1,5 @@
 -- Where a session ends well, no slot has a round that ended in a fault or in want of memory.
-use Rattle.std.proofs.Common.{◌≡◌, ◌<◌, ◌≤◌, ℕ, Bool, List, length, map, refl, sym, ◌∙◌, cond, arith, true, false}
+use Rattle.std.proofs.Common.{◌≡◌, ◌<◌, ℕ, Bool, List, length, map, refl, sym, ◌∙◌, cond, arith, true, false}
 use Rattle.std.specs.Prelude.{Option, None, Some, nat_lt, slice_index_or}
 use Rattle.std.specs.List.{list_any, position, position_or_len}
 use Rattle.std.proofs.lemmas.Bool.{ltb-false}
@@ -15,17 +15,17 @@ none_if : (b : Bool) (n : ℕ) → cond b (Some n) None ≡ None → b ≡ false
 none_if true n h = cc
 none_if false n h = refl
 
-no_place : {A : Type 0} (p : A → Bool) (xs : List A) (i : ℕ) (d : A) → position p xs ≡ None → i < length xs → p (slice_index_or xs i d) ≡ false
+pub no_place : {A : Type 0} (p : A → Bool) (xs : List A) (i : ℕ) (d : A) → position p xs ≡ None → i < length xs → p (slice_index_or xs i d) ≡ false
 no_place p xs i d none low =
     let all = ltb-false (position_or_len p xs) (length xs) (none_if (nat_lt (position_or_len p xs) (length xs)) (position_or_len p xs) none) in
     let below : i < position_or_len p xs = omega (arith, all, low) in
     fails_before_first p xs i d below
 
-no_one_if : {A : Type 0} (p : A → Bool) (xs : List A) (i : ℕ) (d : A) (b : Bool) → list_any p xs ≡ false → i < length xs → p (slice_index_or xs i d) ≡ b → p (slice_index_or xs i d) ≡ false
+pub no_one_if : {A : Type 0} (p : A → Bool) (xs : List A) (i : ℕ) (d : A) (b : Bool) → list_any p xs ≡ false → i < length xs → p (slice_index_or xs i d) ≡ b → p (slice_index_or xs i d) ≡ false
 no_one_if p xs i d true none low is = (let one = list_any_at p xs i d low is in cc)
 no_one_if p xs i d false none low is = is
 
-ok_by : (o : Option ℕ) (want : Bool) → status_by o want ≡ status.Ok → (o ≡ None) × (want ≡ false)
+pub ok_by : (o : Option ℕ) (want : Bool) → status_by o want ≡ status.Ok → (o ≡ None) × (want ≡ false)
 ok_by (Some slot) want h = (cc, cc)
 ok_by None true h = (refl, cc)
 ok_by None false h = (refl, refl)

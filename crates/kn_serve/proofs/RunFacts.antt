@@ -1,10 +1,10 @@
 -- A session, from what its calls say.
-use Rattle.std.proofs.Common.{◌≡◌, ◌+◌, ◌<◌, ◌≤◌, ◌^◌, ℕ, Bool, List, length, map, refl, sym, ap, ap₂, ◌∙◌, subst, arith, lit≤}
+use Rattle.std.proofs.Common.{◌≡◌, ◌<◌, ◌≤◌, ◌^◌, ℕ, Bool, List, length, map, sym, ap₂, ◌∙◌, subst, arith, lit≤}
 use Rattle.std.specs.Prelude.{All, None, Option, Some, false, slice_index_or, true}
 use Rattle.std.proofs.lemmas.List.{get_or-map}
 use Rattle.kn_event.specs.declared.revision.Spec.{Spec}
 use Rattle.kn_trace.specs.Trace.{Trace}
-use Rattle.kn_trace.specs.Events.{opening, tolds}
+use Rattle.kn_trace.specs.Events.{opening}
 use Rattle.kn_trace.specs.Laws.{IsLawful, IsSettled}
 use Rattle.kn_core.specs.State.{RevisionState, StandsFor}
 use Rattle.kn_cell.specs.declared.past.Past.{Past}
@@ -20,7 +20,7 @@ use Rattle.kn_session.specs.Session.{IsFine, IsRowOf}
 use Rattle.kn_serve.specs.Ending.{AreCleared, status_by}
 use Rattle.kn_serve.specs.Opening.{IsEmptyWork}
 use Rattle.kn_journal.specs.declared.status.Status.TheVariants as status
-use Rattle.kn_print.specs.Printed.{HasSmall, events_of}
+use Rattle.kn_print.specs.Printed.{HasSmall}
 use Rattle.kn_serve.specs.Running.{IsSession, IsStart, Session, journal_of, status_after}
 use Rattle.kn_serve.proofs.SessionFacts.{are_events, tolds-legal, trace_after-opening}
 

@@ -1,6 +1,6 @@
 -- A history, its trace and its journal.
-use Rattle.std.proofs.Common.{zero, suc, ◌≡◌, ◌+◌, ◌<◌, ◌≤◌, ◌^◌, ℕ, List, [], ◌∷◌, ◌++◌, length, map, append_assoc, append-nil, refl, sym, ap, ap₂, ◌∙◌, subst, arith, lit≤}
-use Rattle.std.specs.Prelude.{All, slice_index_or}
+use Rattle.std.proofs.Common.{zero, suc, ◌≡◌, ◌≤◌, ℕ, List, [], ◌∷◌, ◌++◌, map, append_assoc, append-nil, refl, sym, ap₂, ◌∙◌, arith}
+use Rattle.std.specs.Prelude.{All}
 use Rattle.std.specs.List.{filter_map, range_with_len}
 use Rattle.kn_trace.specs.Scale.{opening_scale}
 use Rattle.kn_event.specs.declared.entry.Row.TheVariants as row
@@ -12,7 +12,7 @@ use Rattle.kn_event.specs.declared.revision.Spec.{Spec}
 use Rattle.kn_event.specs.EventLine.{IsInJournalRange, IsInVersion}
 use Rattle.kn_trace.specs.Trace.{Trace, each_row, entry, live}
 use Rattle.kn_trace.specs.Rows.{taken_by}
-use Rattle.kn_trace.specs.Events.{added, opening, opening_of, react, told_of, tolds, trace_of}
+use Rattle.kn_trace.specs.Events.{added, opening, opening_of, react, tolds, trace_of}
 use Rattle.kn_cell.specs.declared.past.Past.{Past}
 use Rattle.kn_cell.specs.Lists.{Each}
 use Rattle.kn_cell.specs.History.{IsInBounds, IsLegalFrom, MayCome, trace_after}

@@ -2,22 +2,20 @@
 use Rattle.std.proofs.Common.{arith, drop, inl, inr, length, refl, take, List, Option, ℕ, ◌++◌, ◌≡◌, ◌≤◌, ◌⊎◌, ◌∙◌}
 use Rattle.std.proofs.lemmas.List.{take-append-le, take_all}
 use Rattle.kn_journal.specs.declared.status.Status.{Status}
-use Rattle.kn_plan.specs.declared.plan.Plan.{Plan}
 use Rattle.kn_plan.specs.declared.plan_error.PlanError.{PlanError}
 use Rattle.kn_plan.specs.declared.plan_error.PlanError.TheVariants as plan_error
-use Rattle.kn_plan.specs.Plan.{AsksFor}
 use Rattle.kn_serve.specs.declared.open_error.OpenError.{OpenError}
 use Rattle.kn_serve.specs.declared.open_error.OpenError.TheVariants as open_error
 use Rattle.kn_serve.specs.Running.{Declines, Serves, Session}
-use Rattle.kn_serve.specs.Shut.{IsShutBy, status_of_opening, status_of_plan}
+use Rattle.kn_serve.specs.Shut.{IsShutWhere, status_of_opening, status_of_plan}
 
-pub shut_by_plan : (words : List (List ℕ)) (Rises : Type 0) (e : PlanError) → (e ≡ plan_error.Usage → (plan : Plan) → AsksFor words plan → ⊥) → IsShutBy words Rises (status_of_plan e)
-shut_by_plan words Rises plan_error.Usage h = h refl
-shut_by_plan words Rises plan_error.Memory h = tt
+pub shut_by_plan : {P : Type 0} (Asks : P → Type 0) (Rises : Type 0) (e : PlanError) → (e ≡ plan_error.Usage → (plan : P) → Asks plan → ⊥) → IsShutWhere Asks Rises (status_of_plan e)
+shut_by_plan Asks Rises plan_error.Usage h = h refl
+shut_by_plan Asks Rises plan_error.Memory h = tt
 
-pub shut_by_opening : (words : List (List ℕ)) (Rises : Type 0) (e : OpenError) (plan : Plan) → AsksFor words plan → (e ≡ open_error.Failed → Rises) → IsShutBy words Rises (status_of_opening e)
-shut_by_opening words Rises open_error.Failed plan asks h = (h refl, (plan, asks))
-shut_by_opening words Rises open_error.Memory plan asks h = tt
+pub shut_by_opening : {P : Type 0} (Asks : P → Type 0) (Rises : Type 0) (e : OpenError) (plan : P) → Asks plan → (e ≡ open_error.Failed → Rises) → IsShutWhere Asks Rises (status_of_opening e)
+shut_by_opening Asks Rises open_error.Failed plan asks h = (h refl, (plan, asks))
+shut_by_opening Asks Rises open_error.Memory plan asks h = tt
 
 -- what more follows from what became of the keeper, and from what stayed as it was
 pub serves_more : (reading : ℕ → Type 0) (count : ℕ) (left left' held held' : Option (List ℕ)) (Slots Ticker More : Session → Type 0) (result : Status)

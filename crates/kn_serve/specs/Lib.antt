@@ -1,6 +1,9 @@
 pub mod Ending
+pub mod Many
 pub mod Opening
 pub mod Running
 pub mod Setup
+pub mod Setups
 pub mod Shut
 pub mod Texts
+pub mod WideOpening

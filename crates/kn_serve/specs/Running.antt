@@ -1,10 +1,8 @@
 -- What a session is, and how a run of one ends.
-use Rattle.std.specs.Prelude.{◌≡◌, ◌⊎◌, ℕ, ◌≤◌, ◌^◌, min, Bool, true, false, List, map, Option, None, Some, Result, Err, Ok, ⊤, length}
+use Rattle.std.specs.Prelude.{◌≡◌, ◌⊎◌, ℕ, ◌≤◌, ◌^◌, min, Bool, List, map, Option, Err, Ok, length}
 use Rattle.std.specs.List.{list_any, position}
 use Rattle.std.specs.Io.KnownBytes.{Appends}
-use Rattle.kn_event.specs.declared.revision.Spec.{Spec}
 use Rattle.kn_io.specs.Prefix.{AppendsPrefix}
-use Rattle.kn_trace.specs.Trace.{Trace}
 use Rattle.kn_trace.specs.Events.{opening, tolds, trace_of}
 use Rattle.kn_trace.specs.Laws.{IsLawful, IsSettled}
 use Rattle.kn_core.specs.State.{RevisionState, StandsFor}

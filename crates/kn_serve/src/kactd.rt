@@ -26,7 +26,7 @@ use std::sync::Wait;
 use std::thread::Threads;
 
 /// How it ends where the words give no plan.
-fn refused(error: PlanError) -> Status
+pub fn refused(error: PlanError) -> Status
     ensures { result ≡ status_of_plan error }
 {
     match error {
@@ -36,7 +36,7 @@ fn refused(error: PlanError) -> Status
 }
 
 /// How it ends where nothing was opened.
-fn unopened(error: OpenError) -> Status
+pub fn unopened(error: OpenError) -> Status
     ensures { result ≡ status_of_opening error }
 {
     match error {

@@ -1,19 +1,26 @@
-//! The serving part of `kactd`: words, opening, a whole session, and its printed journal.
+//! The serving part of `kactd`: words, opening, a whole session over one revision or several, and its printed journals.
 #![tactic(auto)]
 
 mod ending;
 mod kactd;
+mod kactd_many;
+mod many;
 mod open_error;
 mod opening;
 mod run;
 mod setups;
 mod telling;
+mod wide_opening;
 
 pub use kactd::kactd_run;
-pub use kn_plan::{Hosts, Plan, PlanError, plan_of};
+pub use kactd_many::kactd_many_run;
+pub use kn_plan::{HostLists, Hosts, Plan, PlanError, WidePlan, plan_of, wide_plan_of};
 pub use kn_request::{
-    Answer, Left, Served, Slot, Turn, Work, serve_one, serve_read, tick_turn, ticker,
+    Answer, Ended, Left, Served, Slot, Turn, WideSlot, Work, serve_one, serve_read, tick_turn,
+    ticker,
 };
+pub use many::serve_many;
 pub use open_error::OpenError;
 pub use opening::{MemOpener, Opener};
 pub use run::serve_run;
+pub use wide_opening::{MemWideOpener, WideOpener};

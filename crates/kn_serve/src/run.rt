@@ -34,7 +34,7 @@ use std::thread::Threads;
 const LATEST: u64 = 4_398_046_511_104;
 
 /// The clock's time, or 2^42 where that is more.
-fn start_of<K: Clock>(clock: &K) -> u64
+pub fn start_of<K: Clock>(clock: &K) -> u64
     ensures start { IsStart (K.reading clock.now) result }
     ensures most { result ≤ 2 ^ 42 }
 {
@@ -43,7 +43,7 @@ fn start_of<K: Clock>(clock: &K) -> u64
 }
 
 /// The revision at its start, with all the memory that it will ever have.
-fn open_revision(alloc: Global, spec: &Spec, start: u64) -> Result<Revision, Memory>
+pub fn open_revision(alloc: Global, spec: &Spec, start: u64) -> Result<Revision, Memory>
     requires { start ≤ 2 ^ 42 }
     ensures stands { IfOk result (λ r. StandsFor r (opening spec.now start)) }
     ensures spec { IfOk result (λ r. r.spec ≡ spec.now) }

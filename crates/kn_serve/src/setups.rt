@@ -1,13 +1,15 @@
-//! The setup of a session.
-ghost use Rattle.std.specs.Prelude.{◌≡◌, ◌⊎◌, ◌+◌, ◌≤◌, Err, IfOk, OnOk};
+//! The setup of a session, and those of one over several revisions.
+ghost use Rattle.std.specs.Prelude.{◌≡◌, ◌⊎◌, ◌+◌, ◌≤◌, Err, IfOk, OnOk, length};
 ghost use Rattle.kn_io.specs.Causes.{Rose};
+ghost use Rattle.kn_journal.specs.Bundle.{AreSetups};
 ghost use Rattle.kn_journal.specs.Journal.{IsSetup};
 ghost use Rattle.kn_journal.specs.Reading.{most_taken};
 ghost use Rattle.kn_serve.specs.Setup.{IsReadOut, SaysSetup};
+ghost use Rattle.kn_serve.specs.Setups.{SaysSetups};
 
 use kn_event::Memory;
 use kn_io::Source;
-use kn_journal::{JournalError, JournalReader, Setup};
+use kn_journal::{JournalError, JournalReader, Setup, Setups};
 use std::alloc::Global;
 
 /// Reads a setup that stands alone: a journal's lines before its start, and then the end of the input.
@@ -30,4 +32,24 @@ pub fn read_setup<S: Source>(alloc: Global, source: &mut S) -> Result<Setup, Jou
         Ok(()) => Ok(setup),
         Err(error) => Err(error),
     }
+}
+
+/// Reads so many setups of different revisions: `kact setups 1`, the setups, and then the end of the input.
+pub fn read_setups<S: Source>(
+    alloc: Global,
+    source: &mut S,
+    count: u64,
+) -> Result<Setups, JournalError>
+    ensures says { SaysSetups count (S.left source.old) result }
+    ensures kept { IfOk result AreSetups }
+    ensures many { IfOk result (λ setups. length setups ≡ count) }
+    ensures whole { OnOk result (IsReadOut (S.left source.old) (S.left source.new)) }
+    ensures fault { result ≡ Err JournalError.ReadFault → Rose (S.Faulty.faults source.old) (S.Faulty.faults source.new) ⊎ (S.given source.old + most_taken ≤ S.given source.new) }
+    ensures never_falls { S.Faulty.faults source.old ≤ S.Faulty.faults source.new }
+{
+    let mut reader = match JournalReader::new(alloc) {
+        Ok(reader) => reader,
+        Err(Memory) => return Err(JournalError::Memory),
+    };
+    reader.setups(alloc, source, count)
 }

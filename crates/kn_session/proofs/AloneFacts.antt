@@ -1,9 +1,7 @@
 -- In a legal history whose passes end their own requests alone, nobody ends another's request.
-use Rattle.std.proofs.Common.{◌≡◌, ◌≢◌, inl, inr, ℕ, suc, zero, ◌≤◌, List, [], ◌∷◌, ◌++◌, Bool, true, false, refl, sym, ap, ◌∙◌, subst, arith, eqb-true}
-use Rattle.std.specs.Prelude.{Some, cond, ◌==◌, ⊤}
+use Rattle.std.proofs.Common.{◌≡◌, ◌≢◌, inl, inr, ℕ, ◌≤◌, List, [], ◌∷◌, ◌++◌, Bool, true, false, refl, sym, ap, ◌∙◌, subst, arith, eqb-true}
+use Rattle.std.specs.Prelude.{Some, cond, ◌==◌}
 use Rattle.std.proofs.Math.Logic.{∥∥₁_elim}
-use mathlib.Core.Option.{some}
-use lib.ListN.{get_elem?}
 use Rattle.kn_event.specs.declared.event.Act.TheVariants as act
 use Rattle.kn_event.specs.declared.revision.Spec.{Spec}
 use Rattle.kn_trace.specs.Events.{react, told_of}
@@ -20,7 +18,7 @@ use Rattle.kn_request.specs.Sight.{EndsBy, IsAlone}
 use Rattle.kn_session.specs.Laws.{SessionLaws}
 use Rattle.kn_session.specs.Lists.{HasOne}
 use Rattle.kn_session.specs.Own.{IsEndOf, IsArrivalOf, IsAloneIn, NamesOwn}
-use Rattle.kn_session.proofs.ListFacts.{each_left, each_tail, in_rows, trace_after-append}
+use Rattle.kn_session.proofs.ListFacts.{each_left, in_rows, trace_after-append}
 
 -- an arrival is told how many there were
 number_is : SessionLaws → (s : Spec) (c : Trace) (x : Past) (r : ℕ) → Made s c → x.told ≡ told_of s c x.event → IsArrivalOf r x → r ≡ arrivals c

@@ -1,6 +1,6 @@
 -- What a round that ended so came to.
 use Rattle.std.proofs.Common.{◌≡◌, ◌⊎◌, ◌<◌, ◌≤◌, inl, inr, ℕ, ◌+◌, ◌-◌, ◌^◌, List, [], ◌∷◌, ◌++◌, Bool, true, false, refl, sym, ap, ◌∙◌, subst, append_assoc, length, length-append, arith}
-use Rattle.std.specs.Prelude.{Option, None, Some, Result, Ok, Err, is_ok, min, ◌||◌}
+use Rattle.std.specs.Prelude.{Option, None, Some, Result, Ok, Err, min, ◌||◌}
 use Rattle.std.proofs.lemmas.List.{append-nil}
 use Rattle.kn_event.specs.declared.event.Act.TheVariants as act
 use Rattle.kn_event.specs.declared.revision.Spec.{Spec}
@@ -13,8 +13,6 @@ use Rattle.kn_cell.specs.History.{live_of, trace_after}
 use Rattle.kn_cell.specs.Shown.{PassView, Misfits}
 use Rattle.kn_io.specs.Causes.{Rose}
 use Rattle.kn_io.specs.Links.{Link}
-use Rattle.kn_io.specs.declared.links.LinkError.{LinkError}
-use Rattle.kn_io.specs.declared.links.LinkError.TheVariants as link
 use Rattle.kn_head.specs.declared.answer.Answer.{Answer}
 use Rattle.kn_head.specs.declared.head.Head.{Head}
 use Rattle.kn_head.specs.declared.head.HeadError.{HeadError}
@@ -26,9 +24,9 @@ use Rattle.kn_request.specs.declared.slot.Served.{Served}
 use Rattle.kn_request.specs.declared.slot.Served.TheVariants as served
 use Rattle.kn_io.specs.Callers.{texts_of}
 use Rattle.kn_request.specs.Outside.{Said}
-use Rattle.kn_request.specs.Requests.{AreCancels, AreFinishes, WasRun}
+use Rattle.kn_request.specs.Requests.{AreCancels, AreFinishes}
 use Rattle.kn_request.specs.Served.{HasArrived, IsServed, IsCourse}
-use Rattle.kn_request.specs.One.{IsRefusal, IsUnread, IsWay, ServesOne, served_by}
+use Rattle.kn_request.specs.One.{IsIdle, IsRefusal, IsUnread, IsWay, ServesOne, ServesOneBy, served_by}
 use Rattle.kn_session.specs.Laws.{SessionLaws}
 use Rattle.kn_session.specs.Lists.{HasOne}
 use Rattle.kn_session.specs.Own.{Lasts}
@@ -177,7 +175,7 @@ fine_one reading spec tag p q w w' a a' s f g o = elim o [
   ]
 ]
 
-either_false : (i j : Bool) → (i || j) ≡ false → (i ≡ false) × (j ≡ false)
+pub either_false : (i j : Bool) → (i || j) ≡ false → (i ≡ false) × (j ≡ false)
 either_false false j e = (refl, e)
 either_false true j e = absurd (cc)
 
@@ -192,15 +190,14 @@ rounds_fine Then reading spec tag (s ∷ ss) p q a b f g r =
 
 -- ---- texts
 
-told_trans : (n m : ℕ) (a b c : Option Said) → HasTexts n a b → HasTexts m b c → HasTexts (n + m) a c
+pub told_trans : (n m : ℕ) (a b c : Option Said) → HasTexts n a b → HasTexts m b c → HasTexts (n + m) a c
 told_trans n m a b c x y s is =
     let u = x s is in
     let v = y u.0 u.1 in
     (v.0, v.1, (u.2.0 ++ v.2.0, length-append u.2.0 v.2.0 ∙ (let i = u.2.1 in let j = v.2.1 in omega arith), v.2.2 ∙ (ap (λ l. l ++ v.2.0) u.2.2 ∙ append_assoc (texts_of s.kept s.text) u.2.0 v.2.0)))
 
-texts_one : (reading : ℕ → Type 0) (spec : Spec) (tag : ℕ) (p q : PassView) (w w' : Option Link) (a a' : Option Said) (s : Served) → is_fault s ≡ false
-    → ServesOne reading spec tag p q w w' a a' s → HasTexts 1 a a'
-texts_one reading spec tag p q w w' a a' s f o = elim o [
+pub texts_one : (Idle : Type 0) (Way : Result Head HeadError → Served → List ℕ → Type 0) (a a' : Option Said) (s : Served) → is_fault s ≡ false → ServesOneBy Idle Way a a' s → HasTexts 1 a a'
+texts_one Idle Way a a' s f o = elim o [
   | inl x ↦ (let k : is_fault s ≡ true = ap is_fault x.2 in absurd (let j = f in cc))
   | inr m ↦ (λ t is. let z = m.talks t is in (z.0, z.1, (z.0.text ∷ [], refl, z.2.0.texts)))
 ]
@@ -213,7 +210,7 @@ rounds_texts Then reading spec tag (s ∷ ss) p q a b f r t is =
     let f' = either_false (is_fault s) (any_fault ss) f in
     let n : 1 + length ss ≡ length (s ∷ ss) = omega arith in
     let all : HasTexts (1 + length ss) a.said b.said =
-    told_trans 1 (length ss) a.said r.1.said b.said (texts_one reading spec tag p r.0 a.wire r.1.wire a.said r.1.said s f'.0 r.2.served) (rounds_texts Then reading spec (tag + 1) ss r.0 q r.1 b f'.1 r.3) in
+    told_trans 1 (length ss) a.said r.1.said b.said (texts_one (IsIdle p r.0 a.wire r.1.wire) (IsWay reading spec tag p r.0 a.wire r.1.wire) a.said r.1.said s f'.0 r.2.served) (rounds_texts Then reading spec (tag + 1) ss r.0 q r.1 b f'.1 r.3) in
     (subst (λ k. HasTexts k a.said b.said) n all) t is
 
 -- ---- for want of room, in the history
@@ -237,10 +234,10 @@ rounds_full laws h x room reading spec tag (s ∷ ss) p q a b e f r has =
 
 -- ---- a fault
 
-rose_until : (a b d : ℕ) → Rose a b → b ≤ d → Rose a d
+pub rose_until : (a b d : ℕ) → Rose a b → b ≤ d → Rose a d
 rose_until a b d h k = grind (arith)
 
-rose_since : (a b d : ℕ) → a ≤ b → Rose b d → Rose a d
+pub rose_since : (a b d : ℕ) → a ≤ b → Rose b d → Rose a d
 rose_since a b d h k = grind (arith)
 
 record FallsNot (a b : Sides) : Type 0 where
@@ -261,7 +258,7 @@ rounds_fall_not Then reading spec tag (s ∷ ss) p q a b r =
     let link' = rest.link in
     record { caller = omega (arith, caller, caller'); link = omega (arith, link, link') }
 
-fault_is : (s : Served) → is_fault s ≡ true → (s ≡ served.CallerFault) ⊎ (s ≡ served.LinkFault)
+pub fault_is : (s : Served) → is_fault s ≡ true → (s ≡ served.CallerFault) ⊎ (s ≡ served.LinkFault)
 fault_is served.CallerFault e = inl refl
 fault_is served.LinkFault e = inr refl
 fault_is served.Replied e = absurd (cc)
@@ -269,7 +266,7 @@ fault_is (served.Refused a) e = absurd (cc)
 fault_is (served.Full f) e = absurd (cc)
 fault_is served.Memory e = absurd (cc)
 
-either_true : (i j : Bool) → (i || j) ≡ true → (i ≡ true) ⊎ (j ≡ true)
+pub either_true : (i j : Bool) → (i || j) ≡ true → (i ≡ true) ⊎ (j ≡ true)
 either_true true j e = inl refl
 either_true false j e = inr e
 

@@ -9,7 +9,7 @@ use Rattle.kn_cell.specs.declared.view.Joined.{Joined}
 use Rattle.kn_cell.specs.Lists.{Each}
 use Rattle.kn_cell.specs.Shown.{PassView, joined_shown}
 use Rattle.kn_request.specs.declared.slot.Slot.{Slot}
-use Rattle.kn_session.specs.Passes.{IsGiven, joined_all, where_some, found_in, front_of}
+use Rattle.kn_session.specs.Passes.{IsGiven, joined_all, where_some, found_by, front_of}
 use Rattle.kn_session.proofs.ListFacts.{at_left, at_later, each_both, none, one}
 
 pub one_given : {C L : Type 0} (cell : TableId) (old p : PassView) (i : ℕ) (s t : Slot C L) → p ≡ record old { free = old.free - i } → i < old.free → old.free ≤ old.passes
@@ -41,23 +41,23 @@ rest_still {A} xs ys i y rest j d high =
 
 -- ---- taken back
 
-step_found : {C L : Type 0} (p : PassView) (s : Slot C L) (xs : List (Slot C L)) → joined_all (where_some s.work.pass p) (found_in xs) ≡ joined_all p (found_in (s ∷ xs))
-step_found {C} {L} p s xs = by_found s.work.pass
+step_found : {A : Type 0} (f : A → Option PassView) (p : PassView) (s : A) (xs : List A) → joined_all (where_some (f s) p) (found_by f xs) ≡ joined_all p (found_by f (s ∷ xs))
+step_found {A} f p s xs = by_found (f s)
   where
-    by_found : (o : Option PassView) → joined_all (where_some o p) (found_in xs) ≡ joined_all p (front_of o (found_in xs))
+    by_found : (o : Option PassView) → joined_all (where_some o p) (found_by f xs) ≡ joined_all p (front_of o (found_by f xs))
     by_found None = refl
     by_found (Some q) = refl
 
-pub took_one : {C L : Type 0} (p p' : PassView) (xs : List (Slot C L)) (i : ℕ) (s d : Slot C L) → i < length xs → s ≡ slice_index_or xs i d → p' ≡ where_some s.work.pass p
-    → joined_all p' (found_in (drop (i + 1) xs)) ≡ joined_all p (found_in (drop i xs))
-took_one {C} {L} p p' xs i s d low is new =
+pub took_one : {A : Type 0} (f : A → Option PassView) (p p' : PassView) (xs : List A) (i : ℕ) (s d : A) → i < length xs → s ≡ slice_index_or xs i d → p' ≡ where_some (f s) p
+    → joined_all p' (found_by f (drop (i + 1) xs)) ≡ joined_all p (found_by f (drop i xs))
+took_one {A} f p p' xs i s d low is new =
     let a = slice_index_or xs i d in
-    let e1 : p' ≡ where_some a.work.pass p = new ∙ ap (λ (x : Slot C L). where_some x.work.pass p) is in
+    let e1 : p' ≡ where_some (f a) p = new ∙ ap (λ (x : A). where_some (f x) p) is in
     let n : i + 1 ≡ suc i = omega arith in
     let e2 : drop i xs ≡ a ∷ drop (suc i) xs = drop-cons xs i d low in
-    ap (λ x. joined_all x (found_in (drop (i + 1) xs))) e1
-    ∙ (ap (λ k. joined_all (where_some a.work.pass p) (found_in (drop k xs))) n
-    ∙ (step_found p a (drop (suc i) xs) ∙ ap (λ l. joined_all p (found_in l)) (sym e2)))
+    ap (λ x. joined_all x (found_by f (drop (i + 1) xs))) e1
+    ∙ (ap (λ k. joined_all (where_some (f a) p) (found_by f (drop k xs))) n
+    ∙ (step_found f p a (drop (suc i) xs) ∙ ap (λ l. joined_all p (found_by f l)) (sym e2)))
 
 -- ---- what is so of all that was taken back
 
@@ -74,21 +74,21 @@ abbrev pub AllOf : (PassView → Type 0) → List PassView → Type 0
 AllOf Q [] = Unit {0}
 AllOf Q (q ∷ qs) = Q q × AllOf Q qs
 
-pub all_found : {C L : Type 0} (Q : PassView → Type 0) (xs : List (Slot C L)) → ((i : ℕ) (d : Slot C L) → i < length xs → (q : PassView) × ((slice_index_or xs i d).work.pass ≡ Some q) × Q q)
-    → AllOf Q (found_in xs) × (length (found_in xs) ≡ length xs)
-all_found {C} {L} Q [] all = (tt, refl)
-all_found {C} {L} Q (s ∷ xs) all =
+pub all_found : {A : Type 0} (f : A → Option PassView) (Q : PassView → Type 0) (xs : List A) → ((i : ℕ) (d : A) → i < length xs → (q : PassView) × (f (slice_index_or xs i d) ≡ Some q) × Q q)
+    → AllOf Q (found_by f xs) × (length (found_by f xs) ≡ length xs)
+all_found {A} f Q [] all = (tt, refl)
+all_found {A} f Q (s ∷ xs) all =
     let first = all 0 s (omega arith) in
-    let rest = all_found Q xs (λ i d low. all (suc i) d (omega (arith, low))) in
-    let e : found_in (s ∷ xs) ≡ first.0 ∷ found_in xs = ap (λ o. front_of o (found_in xs)) first.1 in
+    let rest = all_found f Q xs (λ i d low. all (suc i) d (omega (arith, low))) in
+    let e : found_by f (s ∷ xs) ≡ first.0 ∷ found_by f xs = ap (λ o. front_of o (found_by f xs)) first.1 in
     (subst (AllOf Q) (sym e) (first.2, rest.0), ap length e ∙ omega (arith, rest.1))
 
-pub found_member : {C L : Type 0} (Q : PassView → Type 0) (xs : List (Slot C L)) → AllOf Q (found_in xs) → (i : ℕ) (d : Slot C L) (q : PassView) → i < length xs → (slice_index_or xs i d).work.pass ≡ Some q → Q q
-found_member {C} {L} Q [] all i d q low is = absurd (omega (arith, low))
-found_member {C} {L} Q (s ∷ xs) all zero d q low is =
-    let e : found_in (s ∷ xs) ≡ q ∷ found_in xs = ap (λ o. front_of o (found_in xs)) is in
+pub found_member : {A : Type 0} (f : A → Option PassView) (Q : PassView → Type 0) (xs : List A) → AllOf Q (found_by f xs) → (i : ℕ) (d : A) (q : PassView) → i < length xs → f (slice_index_or xs i d) ≡ Some q → Q q
+found_member {A} f Q [] all i d q low is = absurd (omega (arith, low))
+found_member {A} f Q (s ∷ xs) all zero d q low is =
+    let e : found_by f (s ∷ xs) ≡ q ∷ found_by f xs = ap (λ o. front_of o (found_by f xs)) is in
     (subst (AllOf Q) e all).0
-found_member {C} {L} Q (s ∷ xs) all (suc i) d q low is = found_member Q xs (rest_of s.work.pass (found_in xs) all) i d q (omega (arith, low)) is
+found_member {A} f Q (s ∷ xs) all (suc i) d q low is = found_member f Q xs (rest_of (f s) (found_by f xs) all) i d q (omega (arith, low)) is
   where
     rest_of : (o : Option PassView) (qs : List PassView) → AllOf Q (front_of o qs) → AllOf Q qs
     rest_of None qs a = a

@@ -9,3 +9,11 @@ mod KeeperFacts
 mod AloneFacts
 mod EndingFacts
 mod SessionFacts
+mod CloseFacts
+mod PlaceFacts
+mod ShareFacts
+mod ShareEndings
+mod WideRounds
+mod SeenFacts
+mod WideCourse
+mod WideEnds

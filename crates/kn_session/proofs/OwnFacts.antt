@@ -1,6 +1,6 @@
 -- A pass's rows end its own requests alone.
 use Rattle.std.proofs.Common.{◌≡◌, ◌⊎◌, inl, inr, ℕ, suc, zero, ◌+◌, ◌^◌, List, [], ◌∷◌, ◌++◌, Bool, true, false, sym, ap, ◌∙◌, subst, append_assoc}
-use Rattle.std.specs.Prelude.{Option, None, Some, Result, Ok, Err, is_ok, min, ⊤}
+use Rattle.std.specs.Prelude.{Option, None, Some, Result, Ok, Err, is_ok, min}
 use Rattle.std.proofs.lemmas.Bool.{cases_lt}
 use Rattle.std.proofs.lemmas.List.{append-nil}
 use mathlib.Core.Option.{some-injective}
@@ -22,7 +22,7 @@ use Rattle.kn_request.specs.declared.slot.Served.{Served}
 use Rattle.kn_request.specs.declared.ticks.Turn.{Turn}
 use Rattle.kn_request.specs.Outside.{Said}
 use Rattle.kn_request.specs.Requests.{AreCancels, AreFinishes, WasRun}
-use Rattle.kn_request.specs.Served.{HasArrived, IsServed, IsCourse, IsTaken}
+use Rattle.kn_request.specs.Served.{HasArrived, IsServed, IsCourse}
 use Rattle.kn_request.specs.One.{ServesOne, IsWay, IsIdle}
 use Rattle.kn_request.specs.Ticking.{AreReady, ReadyOf, TakesTurn, TurnsFrom, Turns}
 use Rattle.kn_session.specs.Lists.{HasOne}

@@ -20,9 +20,9 @@ rounds_one Then reading spec tag (x ∷ xs) s p q q' a b b' r one =
     let n : tag + length (x ∷ xs) ≡ (tag + 1) + length xs = omega arith in
     (r.0, r.1, r.2, rounds_one Then reading spec (tag + 1) xs s r.0 q q' r.1 b b' r.3 (subst (λ k. OneRound Then reading spec k q q' b b' s) n one))
 
-any_one : (f : Served → Bool) (any : List Served → Bool) → (any [] ≡ false) → ((s : Served) (ss : List Served) → any (s ∷ ss) ≡ (f s || any ss)) → (ss : List Served) (s : Served) → any (ss ++ s ∷ []) ≡ (f s || any ss)
-any_one f any none more [] s = more s []
-any_one f any none more (x ∷ xs) s = more x (xs ++ s ∷ []) ∙ (ap (λ b. f x || b) (any_one f any none more xs s) ∙ (swap (f x) (f s) (any xs) ∙ ap (λ b. f s || b) (sym (more x xs))))
+pub any_one : {A : Type 0} (f : A → Bool) (any : List A → Bool) → (any [] ≡ false) → ((s : A) (ss : List A) → any (s ∷ ss) ≡ (f s || any ss)) → (ss : List A) (s : A) → any (ss ++ s ∷ []) ≡ (f s || any ss)
+any_one {A} f any none more [] s = more s []
+any_one {A} f any none more (x ∷ xs) s = more x (xs ++ s ∷ []) ∙ (ap (λ b. f x || b) (any_one f any none more xs s) ∙ (swap (f x) (f s) (any xs) ∙ ap (λ b. f s || b) (sym (more x xs))))
   where
     swap : (i j k : Bool) → (i || (j || k)) ≡ (j || (i || k))
     swap true true k = refl

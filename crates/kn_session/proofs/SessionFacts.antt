@@ -1,5 +1,5 @@
 -- From a slot's rounds to the history.
-use Rattle.std.proofs.Common.{◌≡◌, ◌⊎◌, ◌<◌, inl, inr, ℕ, ◌+◌, ◌*◌, List, [], ◌∷◌, length, Bool, false, true, refl, sym, ap, ◌∙◌, subst, arith}
+use Rattle.std.proofs.Common.{◌≡◌, ◌⊎◌, ◌<◌, inl, inr, ℕ, ◌+◌, ◌*◌, List, [], ◌∷◌, length, Bool, false, true, sym, ap, ◌∙◌, subst, arith}
 use Rattle.std.specs.Prelude.{⊤}
 use mathlib.Core.Option.{some}
 use lib.ListN.{get_elem?}
@@ -16,13 +16,23 @@ use Rattle.kn_session.specs.Own.{IsArrivalOf, IsAloneIn, Lasts, NamesOwn}
 use Rattle.kn_session.specs.Passes.{IsNew}
 use Rattle.kn_session.specs.Rounds.{AllRounds, HasFaulted, HasTexts, IsFullOf, IsRounds, OneRound, Sides}
 use Rattle.kn_session.specs.Session.{IsPart, IsSlots, SlotServed, WasShort}
-use Rattle.kn_session.proofs.ListFacts.{each_both, in_rows, none, starts_trans}
-use Rattle.kn_session.proofs.OwnFacts.{has_grown, rounds_own}
+use Rattle.kn_session.proofs.ListFacts.{in_rows, none, starts_trans}
+use Rattle.kn_session.proofs.OwnFacts.{GrowsOwn, has_grown, rounds_own}
 use Rattle.kn_session.proofs.AloneFacts.{alone_part, outcome_part}
 use Rattle.kn_session.proofs.EndingFacts.{rounds_cause, rounds_full, rounds_texts}
-use Rattle.kn_session.proofs.Nexts.{rounds_next}
+use Rattle.kn_session.proofs.Nexts.{IsNext, rounds_next}
 
--- what the pass knew after each round holds of the whole history
+-- what a pass knew holds of the whole history
+pub lasts_of : SessionLaws → (h : List Past) (m q : PassView) → IsNext m q → GrowsOwn m q → StartsWith h q.seen → ((r : ℕ) → HasOne (IsArrivalOf r) q.mine → IsAloneIn h q.number r) → Lasts h m
+lasts_of laws h m q next own front alone =
+    let start : StartsWith h m.seen = starts_trans m.seen q.seen h next.longer front in
+    record {
+      front = start;
+      alone = λ i has. alone_part h m i start (subst (λ n. IsAloneIn h n i) next.number (alone i (has_grown (IsArrivalOf i) m q own has)));
+      outcome = λ i o ends c st. outcome_part laws h m i o start ends c st;
+    }
+
+-- .. after each round
 pub rounds_last : SessionLaws → (h : List Past) (reading : ℕ → Type 0) (spec : Spec) (tag : ℕ) (ss : List Served) (p q : PassView) (a b : Sides)
     → StartsWith h q.seen → ((r : ℕ) → HasOne (IsArrivalOf r) q.mine → IsAloneIn h q.number r) → IsRounds (λ _. ⊤) reading spec tag ss p q a b → IsRounds (Lasts h) reading spec tag ss p q a b
 rounds_last laws h reading spec tag [] p q a b front alone r = r
@@ -30,12 +40,7 @@ rounds_last laws h reading spec tag (s ∷ ss) p q a b front alone r =
     let m = r.0 in
     let next = rounds_next (λ _. ⊤) reading spec (tag + 1) ss m q r.1 b r.3 in
     let own = rounds_own (λ _. ⊤) reading spec (tag + 1) ss m q r.1 b r.3 in
-    let start : StartsWith h m.seen = starts_trans m.seen q.seen h next.longer front in
-    let lasts : Lasts h m = record {
-      front = start;
-      alone = λ i has. alone_part h m i start (subst (λ n. IsAloneIn h n i) next.number (alone i (has_grown (IsArrivalOf i) m q own has)));
-      outcome = λ i o ends c st. outcome_part laws h m i o start ends c st;
-    } in
+    let lasts = lasts_of laws h m q next own front alone in
     let here : OneRound (Lasts h) reading spec tag p m a r.1 s = record { later = r.2.later; then = lasts; served = r.2.served; causes = r.2.causes } in
     (m, r.1, here, rounds_last laws h reading spec (tag + 1) ss m q r.1 b front alone r.3)
 

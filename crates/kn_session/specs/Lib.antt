@@ -4,3 +4,5 @@ pub mod Own
 pub mod Rounds
 pub mod Passes
 pub mod Session
+pub mod Wide
+pub mod WidePasses

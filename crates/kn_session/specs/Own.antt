@@ -1,5 +1,5 @@
 -- A pass's rows end its own requests alone.
-use Rattle.std.specs.Prelude.{ℕ, ◌≡◌, ◌≢◌, ◌⊎◌, List, Bool, Option, Some}
+use Rattle.std.specs.Prelude.{ℕ, ◌≡◌, ◌≢◌, ◌⊎◌, List, Bool, Some}
 use Rattle.kn_event.specs.declared.event.Act.TheVariants as act
 use Rattle.kn_trace.specs.Outcome.{Outcome, outcome_of}
 use Rattle.kn_trace.specs.Trace.{Trace}

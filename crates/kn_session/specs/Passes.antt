@@ -54,9 +54,12 @@ abbrev pub front_of : Option PassView → List PassView → List PassView
 front_of None qs = qs
 front_of (Some q) qs = q ∷ qs
 
+abbrev pub found_by : {A : Type 0} → (A → Option PassView) → List A → List PassView
+found_by {A} f [] = []
+found_by {A} f (x ∷ xs) = front_of (f x) (found_by f xs)
+
 abbrev pub found_in : {C L : Type 0} → List (Slot C L) → List PassView
-found_in {C} {L} [] = []
-found_in {C} {L} (s ∷ xs) = front_of s.work.pass (found_in xs)
+found_in {C} {L} slots = found_by (λ (s : Slot C L). s.work.pass) slots
 
 -- a pass that took in these others
 abbrev pub joined_all : PassView → List PassView → PassView

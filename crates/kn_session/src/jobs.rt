@@ -66,7 +66,11 @@ impl<'a, C: Caller, L: PodLink, K: Clock, G: Gate> Job<Shared<'a, K, G>> for Slo
 }
 
 /// Each job in a thread of its own, where one can be made.
-fn work_all<X: Sync, J: Job<X> + Send, R: Threads + Wait + Sync>(rt: &R, shared: &X, jobs: &mut [J])
+pub fn work_all<X: Sync, J: Job<X> + Send, R: Threads + Wait + Sync>(
+    rt: &R,
+    shared: &X,
+    jobs: &mut [J],
+)
     requires few { length jobs.old ≤ 64 }
     requires ready { EachIs (J.ready shared.now) jobs.old }
     ensures { EachDone (J.done shared.now) jobs.old jobs.new }

@@ -1,10 +1,12 @@
 //! How the slots get their passes, and how these come back.
-ghost use Rattle.std.specs.Prelude.{◌≡◌, ◌≤◌, ◌<◌, ◌+◌, ◌-◌, length, []};
+ghost use Rattle.std.specs.Prelude.{◌≡◌, ◌≤◌, ◌<◌, ◌+◌, ◌-◌, length, [], Some};
+ghost use Rattle.kn_cell.specs.Shown.{PassView};
 ghost use Rattle.kn_session.specs.Lists.{EachDone, EachIs};
 ghost use Rattle.kn_session.specs.Passes.{HasPass, IsEmptied, IsGiven, found_in, joined_all, where_some};
+ghost use Rattle.kn_session.specs.WidePasses.{IsTakenOut};
 
 use kn_cell::{Pass, RevisionCell};
-use kn_request::Slot;
+use kn_request::{Slot, Work};
 
 /// Hands a pass to each slot.
 pub fn hand_out<C, L>(cell: &RevisionCell, pass: &mut Pass, slots: &mut [Slot<C, L>])
@@ -49,7 +51,18 @@ fn take_pass<C, L>(cell: &RevisionCell, pass: &mut Pass, slot: &mut Slot<C, L>)
     ensures emptied { IsEmptied slot.old slot.new }
     ensures cell { pass.new.cell ≡ pass.old.cell }
 {
-    match slot.work.pass.take() {
+    take_work(cell, pass, &mut slot.work);
+}
+
+/// Takes the pass of a work in, where there is one.
+pub fn take_work(cell: &RevisionCell, pass: &mut Pass, work: &mut Work)
+    requires cell { pass.old.cell ≡ cell.now }
+    requires found { (p : PassView) → work.old.pass ≡ Some p → p.cell ≡ cell.now }
+    ensures pass { pass.new ≡ where_some work.old.pass pass.old }
+    ensures work { IsTakenOut work.old work.new }
+    ensures cell { pass.new.cell ≡ pass.old.cell }
+{
+    match work.pass.take() {
         None => {}
         Some(other) => cell.join(pass, other),
     }

@@ -10,7 +10,7 @@ use kn_request::{Served, Slot, serve_one};
 use std::alloc::Global;
 use std::sync::Wait;
 
-fn is_fault(served: &Served) -> bool
+pub fn is_fault(served: &Served) -> bool
     ensures { result ≡ is_fault served.now }
 {
     match *served {
@@ -20,7 +20,7 @@ fn is_fault(served: &Served) -> bool
     }
 }
 
-fn is_memory(served: &Served) -> bool
+pub fn is_memory(served: &Served) -> bool
     ensures { result ≡ is_memory served.now }
 {
     match *served {
@@ -29,7 +29,7 @@ fn is_memory(served: &Served) -> bool
     }
 }
 
-fn either(a: bool, b: bool) -> bool
+pub fn either(a: bool, b: bool) -> bool
     ensures { result ≡ (a || b) }
 {
     a || b

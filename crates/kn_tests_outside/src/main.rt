@@ -70,7 +70,8 @@ fn outside(rt: &HostRuntime) -> io::Result<()> {
     callers::all(rt)?;
     links::all(rt)?;
     times::all(rt)?;
-    times::machine(rt, rt)
+    times::machine(rt, rt)?;
+    times::set_back(rt)
 }
 
 /// The command lines.

@@ -1,7 +1,7 @@
 //! Command lines of `kactd`.
 
 use kn_event::Text;
-use kn_plan::{Plan, plan_of};
+use kn_plan::{Hosts, Plan, WidePlan, plan_of, wide_plan_of};
 use std::alloc::{AllocError, Global};
 use std::{io, str};
 
@@ -58,12 +58,58 @@ fn show_words(rt: &HostRuntime, words: &[String]) -> io::Result<()> {
     }
 }
 
+fn show_lists(rt: &HostRuntime, lists: &[Hosts]) -> io::Result<()> {
+    for hosts in lists {
+        rt.print(";")?;
+        show_pods(rt, hosts.items())?;
+    }
+    Ok(())
+}
+
+/// Prints what is to be served of several revisions, with a word for each pod of each.
+fn show_wide_plan(rt: &HostRuntime, plan: &WidePlan) -> io::Result<()> {
+    rt.print("  listen ")?;
+    rt.print(shown(plan.listen.bytes()))?;
+    rt.print(", pods")?;
+    show_lists(rt, plan.pods.items())?;
+    let WidePlan {
+        slots,
+        rounds,
+        room,
+        ..
+    } = plan;
+    println!(rt; ", slots {slots}, rounds {rounds}, room {room}")
+}
+
+/// Prints what a command line with these words behind `many` asks for, or why it is refused.
+fn show_wide_words(rt: &HostRuntime, words: &[String]) -> io::Result<()> {
+    match wide_plan_of(rt.alloc(), words) {
+        Ok(plan) => {
+            let done = show_wide_plan(rt, &plan);
+            drop(plan);
+            done
+        }
+        Err(error) => println!(rt; "  {error}"),
+    }
+}
+
+fn show_any(rt: &HostRuntime, line: &str, many: bool) -> io::Result<()> {
+    let words = words_of(rt.alloc(), line)?;
+    let done = if many {
+        show_wide_words(rt, &words)
+    } else {
+        show_words(rt, &words)
+    };
+    drop(words);
+    done
+}
+
 /// Prints a command line, and what it asks for, or why it is refused.
 pub fn show(rt: &HostRuntime, line: &str) -> io::Result<()> {
     rt.print("kactd ")?;
     rt.println(line)?;
-    let words = words_of(rt.alloc(), line)?;
-    let done = show_words(rt, &words);
-    drop(words);
-    done
+    match line.strip_prefix("many ") {
+        Some(rest) => show_any(rt, rest, true),
+        None => show_any(rt, line, false),
+    }
 }

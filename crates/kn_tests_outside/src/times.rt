@@ -2,6 +2,9 @@
 
 use crate::{say, shares, tell};
 use kn_io::{Clock, Gate, ListClock, MachineClock, OpenGate};
+use std::io::ErrorKind;
+use std::sync::atomic::{AtomicU64, Ordering};
+use std::time::Duration;
 use std::{io, time};
 
 fn show_six(rt: &HostRuntime, clock: &ListClock) -> io::Result<()> {
@@ -50,4 +53,52 @@ pub fn machine<T: time::Clock + Drop>(rt: &HostRuntime, timer: T) -> io::Result<
     let machine = MachineClock::new(timer);
     machine.nap();
     show_now(rt, machine.now_ms())
+}
+
+/// A machine whose time of day is set back to 1970 once it was read, and whose other clock goes on by a second a reading, if it
+/// has one.
+#[derive(Drop)]
+struct SetBack {
+    days: AtomicU64,
+    seconds: AtomicU64,
+    counts: bool,
+}
+
+impl SetBack {
+    fn new(counts: bool) -> SetBack {
+        SetBack {
+            days: AtomicU64::new(0),
+            seconds: AtomicU64::new(100),
+            counts,
+        }
+    }
+}
+
+impl time::Clock for SetBack {
+    fn monotonic(&self) -> io::Result<Duration> {
+        if self.counts {
+            Ok(Duration::from_secs(self.seconds.fetch_add(1, Ordering::SeqCst)))
+        } else {
+            Err(io::Error::from(ErrorKind::Unsupported))
+        }
+    }
+
+    fn since_1970(&self) -> io::Result<Duration> {
+        match self.days.fetch_add(1, Ordering::SeqCst) {
+            0 => Ok(Duration::from_secs(1_000_000)),
+            more => Ok(Duration::from_secs(more)),
+        }
+    }
+}
+
+/// Only what passes since the time of day was read once counts. Without the other clock the time of day is read each time.
+pub fn set_back(rt: &HostRuntime) -> io::Result<()> {
+    let steady = MachineClock::new(SetBack::new(true));
+    let alone = MachineClock::new(SetBack::new(false));
+    let steadily = [steady.now_ms(), steady.now_ms()] == [1_000_001_000, 1_000_002_000];
+    let each = [alone.now_ms(), alone.now_ms()] == [1_000, 2_000];
+    tell(
+        rt,
+        &[("set back, once read", steadily), ("one clock alone", each)],
+    )
 }

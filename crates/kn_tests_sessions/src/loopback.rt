@@ -92,7 +92,11 @@ fn client(stream: &mut TcpStream) -> bool {
 }
 
 /// A link to one pod.
-fn link_to<'a, N: Net>(net: &'a N, alloc: Global, pod: &str) -> Result<TcpLink<&'a N>, AllocError> {
+fn link_to<'a, N: Net + time::Clock>(
+    net: &'a N,
+    alloc: Global,
+    pod: &str,
+) -> Result<TcpLink<&'a N>, AllocError> {
     let addresses = one_text(alloc, pod.as_bytes())?;
     Ok(TcpLink::new(net, Items::new(addresses)))
 }
@@ -102,7 +106,7 @@ type TcpSlot<'a, R> = Slot<TcpCaller, TcpLink<&'a R>>;
 type TcpStage<'a, R> = Stage<TcpCaller, TcpLink<&'a R>>;
 
 /// Adds a slot whose clients come to this door.
-fn add_slot<'a, R: Net<Listener = TcpListener, Stream = TcpStream> + AllocGlobal>(
+fn add_slot<'a, R: Net<Listener = TcpListener, Stream = TcpStream> + time::Clock + AllocGlobal>(
     rt: &'a R,
     door: &Door,
     pods: &Door,

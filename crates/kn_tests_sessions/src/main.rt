@@ -3,10 +3,12 @@
 //! - `request INPUT ..`: a single request by `serve_one`;
 //! - `session ROOM INPUT ..|TEXT|..||TEXT`: a session of a slot for each input, the texts that are looked for in its
 //!   journal, and one that is looked for in the report of that journal, replayed;
-//! - `opens WORDS` and `fails WORDS`: `kactd_run` with these words, where listening goes well or fails.
+//! - `opens WORDS` and `fails WORDS`: `kactd_run` with these words, where listening goes well or fails;
+//! - `many NAMES INPUT ..|WORDS|TEXT||TEXT..` and `closed ..`: `kactd_many_run` with these words over setups of these names, of
+//!   `fixed`, `hello` and `third`, and a slot for each input; and of each journal a text that is looked for in its report.
 //!
-//! An input is `good`, `other` (it names another revision) or `cut`. Behind it, or in a session behind a `/`, stands
-//! which call of its caller or of its link fails, as `caller=0`. Then come turns of the ticker, and sessions over a
+//! An input is `good`, `other` (it names another revision) or `cut`, or the name of a revision. Behind it, or in a session behind a
+//! `/`, stands which call of its caller or of its link fails, as `caller=0`, or `link1=0` of several links. Then come turns of the ticker, and sessions over a
 //! gate, a ticker that goes on, callers that fail, and TCP on loopback; at last what is opened there.
 #![tactic(auto)]
 
@@ -15,6 +17,8 @@ mod gates;
 mod hooks;
 mod lines;
 mod loopback;
+mod many;
+mod many_slots;
 mod opener;
 mod readings;
 mod reports;
@@ -40,6 +44,8 @@ fn show<R: Threads + Wait + Sync + Print + AllocGlobal>(rt: &R, line: &str) -> i
         "session" => sessions::show(rt, rest),
         "opens" => words::show(rt, rest, false),
         "fails" => words::show(rt, rest, true),
+        "many" => many::show(rt, rest, false),
+        "closed" => many::show(rt, rest, true),
         _ => println!(rt; "  no way"),
     }
 }

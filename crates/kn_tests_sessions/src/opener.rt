@@ -9,6 +9,7 @@ use kn_serve::{Hosts, Opener, Plan};
 use std::alloc::{AllocError, Global};
 use std::io;
 use std::net::{Net, TcpListener, TcpStream};
+use std::time::Clock;
 
 /// Two slots for clients who come to this address.
 fn plan_of(alloc: Global, listen: &str) -> Result<Plan, AllocError> {
@@ -24,7 +25,7 @@ fn plan_of(alloc: Global, listen: &str) -> Result<Plan, AllocError> {
 }
 
 /// Prints the answer, how many slots there are, whether there is a keeper, and how many faults.
-fn open_plan<R: Print + AllocGlobal, N: Net<Listener = TcpListener, Stream = TcpStream>>(
+fn open_plan<R: Print + AllocGlobal, N: Net<Listener = TcpListener, Stream = TcpStream> + Clock>(
     rt: &R,
     name: &str,
     opener: &mut TcpOpener<'_, N>,
@@ -42,7 +43,7 @@ fn open_plan<R: Print + AllocGlobal, N: Net<Listener = TcpListener, Stream = Tcp
     println!(rt; "{name}: {answer:?}, slots {count}, keeper {kept}, faults {faults}")
 }
 
-fn open<R: Print + AllocGlobal, N: Net<Listener = TcpListener, Stream = TcpStream>>(
+fn open<R: Print + AllocGlobal, N: Net<Listener = TcpListener, Stream = TcpStream> + Clock>(
     rt: &R,
     name: &str,
     opener: &mut TcpOpener<'_, N>,
@@ -54,7 +55,7 @@ fn open<R: Print + AllocGlobal, N: Net<Listener = TcpListener, Stream = TcpStrea
     done
 }
 
-fn open_all<R: Print + AllocGlobal, N: Net<Listener = TcpListener, Stream = TcpStream>>(
+fn open_all<R: Print + AllocGlobal, N: Net<Listener = TcpListener, Stream = TcpStream> + Clock>(
     rt: &R,
     opener: &mut TcpOpener<'_, N>,
     taken: &str,
@@ -65,7 +66,7 @@ fn open_all<R: Print + AllocGlobal, N: Net<Listener = TcpListener, Stream = TcpS
     open(rt, "a free address again", opener, "127.0.0.1:0")
 }
 
-fn show_taken<R: Print + AllocGlobal + Net<Listener = TcpListener, Stream = TcpStream>>(
+fn show_taken<R: Print + AllocGlobal + Net<Listener = TcpListener, Stream = TcpStream> + Clock>(
     rt: &R,
     taken: &str,
 ) -> io::Result<()> {
@@ -76,7 +77,7 @@ fn show_taken<R: Print + AllocGlobal + Net<Listener = TcpListener, Stream = TcpS
 }
 
 /// An address that is free, one that is taken, one without a port, and a free one again.
-pub fn show<R: Print + AllocGlobal + Net<Listener = TcpListener, Stream = TcpStream>>(
+pub fn show<R: Print + AllocGlobal + Net<Listener = TcpListener, Stream = TcpStream> + Clock>(
     rt: &R,
 ) -> io::Result<()> {
     let taken = listening(rt)?;

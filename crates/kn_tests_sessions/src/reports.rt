@@ -1,5 +1,6 @@
 //! What is found in a journal, and in the report of its replay.
 use crate::sessions::Streams;
+use crate::words::add_words;
 use kn_case::spelled;
 use kn_journal::Status;
 use std::alloc::{AllocError, Global};
@@ -15,23 +16,44 @@ pub fn has(bytes: &[u8], part: &[u8]) -> bool {
     false
 }
 
-fn report_of(alloc: Global, streams: &mut Streams) -> Result<Vec<u8>, AllocError> {
-    let words = [String::from_str(alloc, "replay")?];
+/// Replays what is read by these words.
+fn replay(alloc: Global, streams: &mut Streams, line: &str) -> Result<Status, AllocError> {
+    let mut words = Vec::new(alloc);
+    add_words(alloc, &mut words, line)?;
     let Streams { input, out, err } = streams;
     let status = kn_replay::run(alloc, &words, input, out, err);
     drop(words);
+    Ok(status)
+}
+
+fn report_of(
+    alloc: Global,
+    streams: &mut Streams,
+    line: &str,
+) -> Result<(Status, Vec<u8>), AllocError> {
+    let status = replay(alloc, streams, line)?;
     match status {
-        Status::Ok => Vec::from_slice(alloc, out.held()),
-        _ => Ok(Vec::new(alloc)),
+        Status::Ok => Ok((status, Vec::from_slice(alloc, streams.out.held())?)),
+        _ => Ok((status, Vec::new(alloc))),
     }
+}
+
+/// How a replay of this input by these words ends, and its report; no report where that goes wrong.
+pub fn replayed_by(
+    alloc: Global,
+    input: &[u8],
+    line: &str,
+) -> Result<(Status, Vec<u8>), AllocError> {
+    let mut streams = Streams::new(alloc, input)?;
+    let report = report_of(alloc, &mut streams, line);
+    drop(streams);
+    report
 }
 
 /// The report of a journal, which is replayed; nothing where that goes wrong.
 pub fn replayed(alloc: Global, journal: &[u8]) -> Result<Vec<u8>, AllocError> {
-    let mut streams = Streams::new(alloc, journal)?;
-    let report = report_of(alloc, &mut streams);
-    drop(streams);
-    report
+    let (_, report) = replayed_by(alloc, journal, "replay")?;
+    Ok(report)
 }
 
 /// Whether the journal's report has this text.

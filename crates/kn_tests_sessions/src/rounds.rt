@@ -10,7 +10,7 @@ use std::sync::Wait;
 use std::thread::Threads;
 
 /// Prints how each answer of a caller begins.
-fn show_answers<R: Print + AllocGlobal>(rt: &R, caller: &MemCaller) -> io::Result<()> {
+pub fn show_answers<R: Print + AllocGlobal>(rt: &R, caller: &MemCaller) -> io::Result<()> {
     for i in 1..caller.texts() {
         show_bytes(rt, "answered", first_line(caller.text(i)))?;
     }

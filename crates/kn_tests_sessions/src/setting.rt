@@ -32,6 +32,9 @@ const OTHER_REQUEST: &[u8] =
 const HELLO_REQUEST: &[u8] =
     b"GET /a HTTP/1.1\r\nHost: h\r\nKnative-Serving-Namespace: default\r\nKnative-Serving-Revision: hello-00001\r\n\r\n";
 
+const THIRD_REQUEST: &[u8] =
+    b"GET /a HTTP/1.1\r\nHost: h\r\nKnative-Serving-Namespace: default\r\nKnative-Serving-Revision: third-00001\r\n\r\n";
+
 const CUT_REQUEST: &[u8] = b"GET /a HTTP/1.1\r\nHost: h\r\n";
 
 /// What the pod is sent of the request.
@@ -48,6 +51,7 @@ fn request_of(name: &str) -> &'static [u8] {
     match name {
         "other" => OTHER_REQUEST,
         "hello" => HELLO_REQUEST,
+        "third" => THIRD_REQUEST,
         "cut" => CUT_REQUEST,
         "second" => SECOND_REQUEST,
         _ => REQUEST,

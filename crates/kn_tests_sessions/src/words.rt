@@ -49,7 +49,7 @@ fn opener(alloc: Global, fail: bool) -> Result<MemOpener<MemCaller, MemLink>, Me
     }
 }
 
-fn add_words(alloc: Global, words: &mut Vec<String>, line: &str) -> Result<(), AllocError> {
+pub fn add_words(alloc: Global, words: &mut Vec<String>, line: &str) -> Result<(), AllocError> {
     for word in line.split_ascii_whitespace() {
         add(words, String::from_str(alloc, word)?)?;
     }

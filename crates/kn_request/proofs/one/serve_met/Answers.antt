@@ -1,6 +1,5 @@
-use Rattle.std.proofs.Common.{[], inl, inr, refl, subst, sym, ap, ◌∙◌, ◌≡◌}
-use Rattle.std.specs.Prelude.{Ok, Err, None, Option}
-use Rattle.kn_head.specs.declared.answer.Answer.TheVariants as answer
+use Rattle.std.proofs.Common.{[], inl, inr, refl, subst, sym, ◌∙◌}
+use Rattle.std.specs.Prelude.{Ok, Err, Option}
 use Rattle.kn_head.specs.declared.answer.Answer.{Answer}
 use Rattle.kn_request.specs.Outside.{Said, said}
 use Rattle.kn_request.specs.One.{IsUnread, Writes}

@@ -5,24 +5,25 @@ use Rattle.kn_session.specs.Lists.{EachIs}
 use Rattle.kn_serve.specs.Opening.{IsEmptyWork}
 use Rattle.kn_io.specs.Causes.{Rose}
 use Rattle.kn_plan.specs.declared.plan_error.PlanError.{PlanError}
+use Rattle.kn_plan.specs.Plan.{AsksFor}
 use Rattle.kn_serve.specs.declared.open_error.OpenError.{OpenError}
-use Rattle.kn_serve.specs.Shut.{IsShutBy}
+use Rattle.kn_serve.specs.Shut.{IsShutWhere}
 use Rattle.kn_serve.proofs.ShutFacts.{course_more, shut_by_opening, shut_by_plan, written_back}
 use Rattle.kn_serve.proofs.kactd.serve_words.Goals as goal
 
 pub returns-in-Err-clause-course : goal.returns-in-Err-clause-course
 returns-in-Err-clause-course g c =
-    let words = map string_bytes c.args.words.now in
+    let asks = AsksFor (map string_bytes c.args.words.now) in
     let rises = Rose (g.W.Faulty.faults c.args.opener.now) (g.W.Faulty.faults c.args.opener.now) in
-    let why = shut_by_plan words rises c.in-Err.error (λ is. c.plan_of.ensures.usage (c.in-Err.is ∙ ap (λ (e : PlanError). Err e) is)) in
-    inl (record { why = subst (IsShutBy words rises) (sym c.refused.ensures) why; same = (refl, refl, c.requires.slots, c.requires.keeper) })
+    let why = shut_by_plan asks rises c.in-Err.error (λ is. c.plan_of.ensures.usage (c.in-Err.is ∙ ap (λ (e : PlanError). Err e) is)) in
+    inl (record { why = subst (IsShutWhere asks rises) (sym c.refused.ensures) why; same = (refl, refl, c.requires.slots, c.requires.keeper) })
 
 pub returns-in-Err-open-clause-course : goal.returns-in-Err-open-clause-course
 returns-in-Err-open-clause-course g c =
-    let words = map string_bytes c.args.words.now in
+    let asks = AsksFor (map string_bytes c.args.words.now) in
     let rises = Rose (g.W.Faulty.faults c.args.opener.now) (g.W.Faulty.faults c.open.new.self) in
-    let why = shut_by_opening words rises c.in-Err-open.error c.in-Ok.plan c.in-Ok.ensures.plan (λ is. c.open.ensures.failed (c.in-Err-open.is ∙ ap (λ (e : OpenError). Err e) is)) in
-    inl (record { why = subst (IsShutBy words rises) (sym c.unopened.ensures) why; same = (refl, refl, c.in-Err-open.ensures.no_slots, c.in-Err-open.ensures.no_keeper) })
+    let why = shut_by_opening asks rises c.in-Err-open.error c.in-Ok.plan c.in-Ok.ensures.plan (λ is. c.open.ensures.failed (c.in-Err-open.is ∙ ap (λ (e : OpenError). Err e) is)) in
+    inl (record { why = subst (IsShutWhere asks rises) (sym c.unopened.ensures) why; same = (refl, refl, c.in-Err-open.ensures.no_slots, c.in-Err-open.ensures.no_keeper) })
 
 pub serve-requires-clause-works : goal.serve-requires-clause-works
 serve-requires-clause-works g c κs within =

@@ -1,13 +1,13 @@
-use Rattle.std.proofs.Common.{◌≡◌, ℕ, Option, List, subst, length, ap, ◌∙◌, arith}
+use Rattle.std.proofs.Common.{ℕ, Option, List, subst, length, ap, ◌∙◌, arith}
 use Rattle.std.specs.Prelude.{Err, Ok, Result}
 use Rattle.kn_journal.specs.declared.first.FirstLine.TheVariants.{Journal as JournalLine}
 use Rattle.kn_journal.specs.declared.error.JournalError.{JournalError}
 use Rattle.kn_journal.specs.declared.error.JournalError.TheVariants as error
 use Rattle.kn_journal.specs.declared.journal.Opening.{Opening}
-use Rattle.kn_journal.specs.Journal.{nothing_part, opening_part}
+use Rattle.kn_journal.specs.Journal.{opening_part}
 use Rattle.kn_journal.specs.Reading.{unread}
 use Rattle.kn_journal.specs.Telling.{Gives, Refuses}
-use Rattle.kn_serve.proofs.SetupFacts.{either, rose_on, nothing_ahead, memory_said, opening_refused, end_refused, read_out, setup_said}
+use Rattle.kn_serve.proofs.SetupFacts.{either, rose_on, given_from_start, nothing_ahead, memory_said, opening_refused, end_refused, read_out, refused_from_start, setup_said}
 use Rattle.kn_serve.proofs.setups.read_setup.Goals as goal
 
 -- the error, or this one
@@ -21,7 +21,7 @@ returns-in-Err-clause-says g c = memory_said (g.S.Source.left c.args.source.now)
 pub returns-in-Err-setup-clause-says : goal.returns-in-Err-setup-clause-says
 returns-in-Err-setup-clause-says g c =
     let start = nothing_ahead c.in-Ok.reader.input.ahead (g.S.Source.left c.args.source.now) c.in-Ok.ensures.ahead in
-    let tells = subst (λ (n : ℕ). Refuses (opening_part JournalLine n) c.in-Err-setup.error (unread c.in-Ok.reader.input (g.S.Source.left c.args.source.now))) c.in-Ok.ensures.number (c.in-Err-setup.ensures.tells c.in-Ok.ensures.failed) in
+    let tells = refused_from_start c.in-Ok.reader c.in-Err-setup.error (unread c.in-Ok.reader.input (g.S.Source.left c.args.source.now)) c.in-Ok.ensures.begun c.in-Ok.ensures.number (c.in-Err-setup.ensures.tells c.in-Ok.ensures.failed) in
     opening_refused (g.S.Source.left c.args.source.now) c.in-Err-setup.error (subst (Refuses (opening_part JournalLine 0) c.in-Err-setup.error) start tells)
 
 pub returns-in-Err-setup-clause-fault : goal.returns-in-Err-setup-clause-fault
@@ -36,7 +36,7 @@ returns-in-Ok-finish_setup-clause-says g c =
     let new = unread c.finish_setup.new.self.input (g.S.Source.left c.finish_setup.new.source) in
     let opening : Opening = record { version = c.setup.new.self.version; setup = c.in-Ok-setup.setup } in
     let start = nothing_ahead c.in-Ok.reader.input.ahead old c.in-Ok.ensures.ahead in
-    let first = subst (λ (n : ℕ). Gives (opening_part JournalLine n) opening c.setup.new.self.number (unread c.in-Ok.reader.input old) mid) c.in-Ok.ensures.number (c.in-Ok-setup.ensures.tells c.in-Ok.ensures.failed) in
+    let first = given_from_start c.in-Ok.reader opening c.setup.new.self.number (unread c.in-Ok.reader.input old) mid c.in-Ok.ensures.begun c.in-Ok.ensures.number (c.in-Ok-setup.ensures.tells c.in-Ok.ensures.failed) in
     setup_said old mid new c.setup.new.self.version c.in-Ok-setup.setup c.setup.new.self.number c.finish_setup.new.self.number
     (subst (λ (x : Option (List ℕ)). Gives (opening_part JournalLine 0) opening c.setup.new.self.number x mid) start first)
     (c.in-Ok-finish_setup.ensures.tells c.in-Ok-setup.ensures.good)
@@ -47,7 +47,7 @@ returns-in-Ok-finish_setup-clause-whole g c =
     let mid = unread c.setup.new.self.input (g.S.Source.left c.setup.new.source) in
     let opening : Opening = record { version = c.setup.new.self.version; setup = c.in-Ok-setup.setup } in
     let start = nothing_ahead c.in-Ok.reader.input.ahead old c.in-Ok.ensures.ahead in
-    let first = subst (λ (n : ℕ). Gives (opening_part JournalLine n) opening c.setup.new.self.number (unread c.in-Ok.reader.input old) mid) c.in-Ok.ensures.number (c.in-Ok-setup.ensures.tells c.in-Ok.ensures.failed) in
+    let first = given_from_start c.in-Ok.reader opening c.setup.new.self.number (unread c.in-Ok.reader.input old) mid c.in-Ok.ensures.begun c.in-Ok.ensures.number (c.in-Ok-setup.ensures.tells c.in-Ok.ensures.failed) in
     read_out old mid c.finish_setup.new.self.input.ahead (g.S.Source.left c.finish_setup.new.source) opening c.setup.new.self.number c.finish_setup.new.self.number
     (subst (λ (x : Option (List ℕ)). Gives (opening_part JournalLine 0) opening c.setup.new.self.number x mid) start first)
     (c.in-Ok-finish_setup.ensures.tells c.in-Ok-setup.ensures.good)
@@ -58,7 +58,7 @@ returns-clause-says g c =
     let mid = unread c.setup.new.self.input (g.S.Source.left c.setup.new.source) in
     let opening : Opening = record { version = c.setup.new.self.version; setup = c.in-Ok-setup.setup } in
     let start = nothing_ahead c.in-Ok.reader.input.ahead old c.in-Ok.ensures.ahead in
-    let first = subst (λ (n : ℕ). Gives (opening_part JournalLine n) opening c.setup.new.self.number (unread c.in-Ok.reader.input old) mid) c.in-Ok.ensures.number (c.in-Ok-setup.ensures.tells c.in-Ok.ensures.failed) in
+    let first = given_from_start c.in-Ok.reader opening c.setup.new.self.number (unread c.in-Ok.reader.input old) mid c.in-Ok.ensures.begun c.in-Ok.ensures.number (c.in-Ok-setup.ensures.tells c.in-Ok.ensures.failed) in
     end_refused old mid opening c.setup.new.self.number c.in-Err-finish_setup.error
     (subst (λ (x : Option (List ℕ)). Gives (opening_part JournalLine 0) opening c.setup.new.self.number x mid) start first)
     (c.in-Err-finish_setup.ensures.tells c.in-Ok-setup.ensures.good)

@@ -23,7 +23,7 @@ loop-i-preserved g c =
     let s0 = slice_index_or l.slots l.i d0 in
     record {
       cell = c.take_pass.ensures.cell ∙ i.cell;
-      pass = took_one l.pass c.take_pass.new.pass c.args.slots.now l.i s0 d0 test (i.rest l.i d0 (omega arith)) c.take_pass.ensures.pass ∙ i.pass;
+      pass = took_one (λ (s : Slot g.row.C.Denot g.row.L.Denot). s.work.pass) l.pass c.take_pass.new.pass c.args.slots.now l.i s0 d0 test (i.rest l.i d0 (omega arith)) c.take_pass.ensures.pass ∙ i.pass;
       len = length-set l.slots l.i c.take_pass.new.slot ∙ i.len;
       done = done_more (λ j s t. IsEmptied s t) c.args.slots.now l.slots l.i c.take_pass.new.slot within i.done
           (λ d. subst (λ (s : Slot g.row.C.Denot g.row.L.Denot). IsEmptied s c.take_pass.new.slot) (get_or_default l.slots l.i d0 d within ∙ i.rest l.i d (omega arith)) c.take_pass.ensures.emptied);

@@ -1,0 +1,48 @@
+//! The socket that is listened on, and a slot's caller and link.
+use kn_event::{Items, Memory, Text};
+use kn_serve::{Hosts, OpenError};
+use kn_tcp::{TcpCaller, TcpLink};
+use std::alloc::Global;
+use std::net::{Net, TcpListener, TcpStream};
+use std::str;
+use std::time::Clock;
+
+/// A socket that listens on this address.
+pub fn listen<N: Net<Listener = TcpListener, Stream = TcpStream>>(
+    net: &N,
+    address: &Text,
+) -> Option<TcpListener> {
+    let address = str::from_utf8(address.bytes()).ok()?;
+    TcpListener::bind(net, address).ok()
+}
+
+/// The texts, copied.
+fn copies(alloc: Global, texts: &Items<Text>) -> Result<Items<Text>, Memory> {
+    let mut copied = Vec::new(alloc);
+    for text in texts.items() {
+        if copied.push(text.copy(alloc)?).is_err() {
+            return Err(Memory);
+        }
+    }
+    Ok(Items::new(copied))
+}
+
+/// A caller that meets the clients of this socket.
+pub fn caller(listener: &TcpListener) -> Result<TcpCaller, OpenError> {
+    match listener.try_clone() {
+        Ok(listener) => Ok(TcpCaller::new(listener)),
+        Err(_) => Err(OpenError::Failed),
+    }
+}
+
+/// A link to these pods.
+pub fn link<'a, N: Net<Listener = TcpListener, Stream = TcpStream> + Clock>(
+    alloc: Global,
+    net: &'a N,
+    pods: &Hosts,
+) -> Result<TcpLink<&'a N>, OpenError> {
+    match copies(alloc, pods) {
+        Ok(addresses) => Ok(TcpLink::new(net, addresses)),
+        Err(Memory) => Err(OpenError::Memory),
+    }
+}

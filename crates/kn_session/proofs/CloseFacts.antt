@@ -1,0 +1,77 @@
+-- What the history of a closed cell is to the first pass, to those that it took in, and to the ticker's.
+use Rattle.std.proofs.Common.{◌≡◌, ◌⊎◌, ◌<◌, ◌+◌, inl, inr, ℕ, List, [], sym, ap, ◌∙◌, subst, length, arith}
+use Rattle.std.specs.Prelude.{Option, Some, slice_index_or}
+use Rattle.atomic_table.specs.Seated.{TableId}
+use Rattle.kn_core.specs.State.{RevisionState}
+use Rattle.kn_cell.specs.declared.past.Past.{Past}
+use Rattle.kn_cell.specs.declared.view.Joined.{Joined}
+use Rattle.kn_cell.specs.Lists.{Each, StartsWith}
+use Rattle.kn_cell.specs.History.{rows_by}
+use Rattle.kn_cell.specs.Shown.{Closes, PassView, joined_shown}
+use Rattle.kn_session.specs.Passes.{HasLone, IsLone, found_by, joined_all}
+use Rattle.kn_session.specs.Session.{IsPart, IsSlots}
+use Rattle.kn_session.proofs.HandFacts.{all_found, as_other, found_member, joined_back, joined_each, joined_last, joined_members, joined_same, joined_step}
+use Rattle.kn_session.proofs.ListFacts.{none}
+use Rattle.kn_session.proofs.SessionFacts.{first_has_none}
+
+-- the slots' passes by their numbers
+abbrev pub AreLone : {A : Type 0} → TableId → (A → Option PassView) → List A → Type 0
+AreLone {A} cell f xs = (i : ℕ) (d : A) → i < length xs → HasLone cell (2 + i) (f (slice_index_or xs i d))
+
+-- the pass that closes the cell
+abbrev pub closing : {A : Type 0} → (A → Option PassView) → List A → PassView → PassView → PassView
+closing {A} f xs p ticks = joined_shown (joined_all p (found_by f xs)) ticks
+
+pub closing_full : {A : Type 0} (cell : TableId) (f : A → Option PassView) (xs : List A) (p ticks : PassView) → AreLone cell f xs → IsLone cell 1 ticks → 1 + p.free + p.back + 1 + length xs ≡ p.passes
+    → 1 + (closing f xs p ticks).free + (closing f xs p ticks).back ≡ (closing f xs p ticks).passes
+closing_full {A} cell f xs p ticks lone last all =
+    let qs = found_by f xs in
+    let same = joined_same p qs in
+    let found = all_found f (λ q. (q.free ≡ 0) × (q.back ≡ 0)) xs (λ i d low. let x = lone i d low in (x.0, x.1, (x.2.free, x.2.back))) in
+    let e = same.free in
+    let e' = same.passes in
+    let b = joined_back p qs found.0 in
+    let n = found.1 in
+    let zero = last.free in
+    let zero' = last.back in
+    omega arith
+
+pub closing_kept : {A : Type 0} (cell : TableId) (f : A → Option PassView) (xs : List A) (p ticks : PassView) (now : RevisionState) (h : List Past) → AreLone cell f xs → Closes (closing f xs p ticks) now h
+    → (i : ℕ) (d : A) → i < length xs → (q : PassView) → f (slice_index_or xs i d) ≡ Some q → IsPart h (2 + i) q
+closing_kept {A} cell f xs p ticks now h lone closes i d low q is =
+    let P : Joined → Type 0 = λ o. StartsWith h o.seen × (o.mine ≡ rows_by o.number h) in
+    let qs = found_by f xs in
+    let x = joined_last P (joined_all p qs) ticks closes.others in
+    let m = (joined_members P p qs x.0).1 in
+    let z = found_member f (λ v. P (as_other v)) xs m i d q low is in
+    let it = lone i d low in
+    let same : q ≡ it.0 = (let e = is in let e' = it.1 in cc) in
+    let named : q.number ≡ 2 + i = ap (λ (v : PassView). v.number) same ∙ it.2.named in
+    record { named = named; front = z.0; whole = z.1 ∙ ap (λ n. rows_by n h) named }
+
+pub closing_ticker : {A : Type 0} (f : A → Option PassView) (xs : List A) (p ticks : PassView) (now : RevisionState) (h : List Past) → ticks.number ≡ 1 → Closes (closing f xs p ticks) now h → IsPart h 1 ticks
+closing_ticker {A} f xs p ticks now h named closes =
+    let P : Joined → Type 0 = λ o. StartsWith h o.seen × (o.mine ≡ rows_by o.number h) in
+    let z = (joined_last P (joined_all p (found_by f xs)) ticks closes.others).1 in
+    record { named = named; front = z.0; whole = z.1 ∙ ap (λ n. rows_by n h) named }
+
+pub closing_rows : {A : Type 0} (cell : TableId) (f : A → Option PassView) (xs : List A) (p ticks : PassView) (now : RevisionState) (h : List Past) → AreLone cell f xs → IsLone cell 1 ticks
+    → p.number ≡ 0 → p.mine ≡ [] → p.others ≡ [] → Closes (closing f xs p ticks) now h → Each (λ x. (x.pass ≡ 1) ⊎ IsSlots (length xs) x) h
+closing_rows {A} cell f xs p ticks now h lone last number mine others closes k x at =
+    let qs = found_by f xs in
+    let N : Joined → Type 0 = λ o. (o.number ≡ 1) ⊎ ((i : ℕ) × (i < length xs) × (o.number ≡ 2 + i)) in
+    let found = (all_found f (λ q. (q.others ≡ []) × N (as_other q)) xs (λ i d low. let y = lone i d low in (y.0, y.1, (y.2.others, inr (i, low, y.2.named))))).0 in
+    let start : Each N p.others = subst (Each N) (sym others) (none N) in
+    let taken : Each N (joined_all p qs).others = joined_each N p qs start found in
+    let all : Each N (closing f xs p ticks).others = joined_step N (joined_all p qs) ticks taken last.others (inl last.named) in
+    let same = joined_same p qs in
+    let zero : (closing f xs p ticks).number ≡ 0 = same.number ∙ number in
+    let nothing : (closing f xs p ticks).mine ≡ [] = same.mine ∙ mine in
+    let rows : rows_by 0 h ≡ [] = ap (λ n. rows_by n h) (sym zero) ∙ (sym closes.mine ∙ nothing) in
+    elim (closes.numbers k x at) [
+      | inl e ↦ first_has_none h (length xs) k x at rows (e ∙ zero)
+      | inr o ↦ elim (all o.0 o.1 o.2) [ inl n ↦ inl (o.3 ∙ n) | inr n ↦ inr (n.0, n.1, o.3 ∙ n.2) ]
+    ]
+
+pub closing_opening : {A : Type 0} (f : A → Option PassView) (xs : List A) (p ticks : PassView) → (closing f xs p ticks).opening ≡ p.opening
+closing_opening {A} f xs p ticks = (joined_same p (found_by f xs)).opening
