@@ -21,7 +21,7 @@ use Rattle.kn_costs.proofs.Pods.{pods_in_three}
 use Rattle.kn_costs.proofs.Running.{running_few}
 use Rattle.kn_costs.proofs.Timing.{area-later, area-none, clock-later}
 
-abbrev run_of : Spec → ℕ → List Event → Run
+abbrev pub run_of : Spec → ℕ → List Event → Run
 run_of s start es = record { spec = s; start = start; events = es }
 
 grows : (a x p d n b : ℕ) → a ≤ b * p → n ≤ b → x ≡ a + n * d → x ≤ b * (p + d)

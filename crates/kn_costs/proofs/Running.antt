@@ -15,10 +15,10 @@ use Rattle.kn_record.specs.declared.admission.Place.{Place}
 use Rattle.kn_record.specs.declared.admission.Place.TheVariants as place
 use Rattle.kn_record.specs.declared.admission.Request.{Request}
 
-abbrev bit : Bool → ℕ
+abbrev pub bit : Bool → ℕ
 bit b = cond b 1 0
 
-sum_same : (f g : ℕ → ℕ) → ((p : ℕ) → f p ≡ g p) → (ps : List ℕ) → sum_by f ps ≡ sum_by g ps
+pub sum_same : (f g : ℕ → ℕ) → ((p : ℕ) → f p ≡ g p) → (ps : List ℕ) → sum_by f ps ≡ sum_by g ps
 sum_same f g same [] = refl
 sum_same f g same (p ∷ ps) = omega (arith, sum_by-cons f p ps, sum_by-cons g p ps, same p, sum_same f g same ps)
 
@@ -26,14 +26,14 @@ sum_both : (f g h : ℕ → ℕ) → ((p : ℕ) → f p ≡ g p + h p) → (ps :
 sum_both f g h both [] = refl
 sum_both f g h both (p ∷ ps) = omega (arith, sum_by-cons f p ps, sum_by-cons g p ps, sum_by-cons h p ps, both p, sum_both f g h both ps)
 
-sum_none : (f : ℕ → ℕ) → ((p : ℕ) → f p ≡ 0) → (ps : List ℕ) → sum_by f ps ≡ 0
+pub sum_none : (f : ℕ → ℕ) → ((p : ℕ) → f p ≡ 0) → (ps : List ℕ) → sum_by f ps ≡ 0
 sum_none f none [] = refl
 sum_none f none (p ∷ ps) = omega (arith, sum_by-cons f p ps, none p, sum_none f none ps)
 
-turned : (p q : ℕ) → (q == p) ≡ (p == q)
+pub turned : (p q : ℕ) → (q == p) ≡ (p == q)
 turned p q = grind (arith, nat_tests)
 
-absent : (q : ℕ) (ps : List ℕ) → contains q ps ≡ false → sum_by (λ p. bit (q == p)) ps ≡ 0
+pub absent : (q : ℕ) (ps : List ℕ) → contains q ps ≡ false → sum_by (λ p. bit (q == p)) ps ≡ 0
 absent q [] h = refl
 absent q (p ∷ ps) h = by (p == q) refl h (absent q ps)
   where
@@ -63,20 +63,23 @@ one_place place.Held ps d = omega (arith, sum_none (λ (p : ℕ). bit (runs_at p
 one_place (place.Queued q) ps d = omega (arith, sum_none (λ (p : ℕ). bit (runs_at p (place.Queued q))) (λ p. refl) ps)
 one_place (place.Running q x) ps d = once q ps d
 
+pub length-placed : (test : Place → Bool) (q : Request) (qs : List Request) → length (placed_in test (q ∷ qs)) ≡ bit (test q.place) + length (placed_in test qs)
+length-placed test q qs = by (test q.place)
+  where
+    by : (b : Bool) → length (map (λ (r : Request). r.number) (cond b (q ∷ filter (λ (r : Request). test r.place) qs) (filter (λ (r : Request). test r.place) qs)))
+        ≡ bit b + length (map (λ (r : Request). r.number) (filter (λ (r : Request). test r.place) qs))
+    by true = omega arith
+    by false = omega arith
+
+-- one request more, at each pod
+pub sum_placed : (ps : List ℕ) (q : Request) (qs : List Request) → sum_by (λ p. length (placed_in (runs_at p) (q ∷ qs))) ps
+    ≡ sum_by (λ p. bit (runs_at p q.place)) ps + sum_by (λ p. length (placed_in (runs_at p) qs)) ps
+sum_placed ps q qs =
+    sum_both (λ (p : ℕ). length (placed_in (runs_at p) (q ∷ qs))) (λ (p : ℕ). bit (runs_at p q.place)) (λ (p : ℕ). length (placed_in (runs_at p) qs)) (λ p. length-placed (runs_at p) q qs) ps
+
 spread : (ps : List ℕ) → AreDistinct ps → (all : List Request) → sum_by (λ p. length (placed_in (runs_at p) all)) ps ≤ length all
 spread ps d [] = omega (arith, sum_none (λ (p : ℕ). length (placed_in (runs_at p) [])) (λ p. refl) ps)
-spread ps d (q ∷ qs) =
-    omega (
-      arith,
-      sum_both (λ (p : ℕ). length (placed_in (runs_at p) (q ∷ qs))) (λ (p : ℕ). bit (runs_at p q.place)) (λ (p : ℕ). length (placed_in (runs_at p) qs)) (λ p. one p (runs_at p q.place)) ps,
-      one_place q.place ps d,
-      spread ps d qs,
-    )
-  where
-    one : (p : ℕ) (b : Bool) → length (map (λ (r : Request). r.number) (cond b (q ∷ filter (λ (r : Request). runs_at p r.place) qs) (filter (λ (r : Request). runs_at p r.place) qs)))
-        ≡ bit b + length (map (λ (r : Request). r.number) (filter (λ (r : Request). runs_at p r.place) qs))
-    one p true = omega arith
-    one p false = omega arith
+spread ps d (q ∷ qs) = omega (arith, sum_placed ps q qs, one_place q.place ps d, spread ps d qs)
 
 pub running_few : (s : Spec) (a : Admission) (c : Trace) → AreViews s a c → AreDistinct (live_pods c) → count_running c ≤ length (live c)
 unfolding count_running

@@ -8,11 +8,14 @@ ghost use Rattle.kn_laws.specs.History.{AreInOrder};
 ghost use Rattle.kn_teller.specs.Run.{Run, later, now_of, trace};
 ghost use Rattle.kn_costs.specs.Gauges.{AreBounded, costs, gauges, nothing_at, peaks, with_now, with_time};
 ghost use Rattle.kn_costs.specs.Steps.{cold, cold_at};
+ghost use Rattle.kn_costs.specs.Sums.{AreSums};
 
 mod gauges;
 
 pub use gauges::{Costs, Gauges, Now, Peaks};
-use kn_record::append::append_laws;
+use kn_laws::laws::{history_laws, trace_laws};
+use kn_laws::parts::part_laws;
+use kn_record::append::{append_laws, order_laws};
 use kn_record::facts::fact_laws;
 use kn_sizes::sizes::size_laws;
 
@@ -36,4 +39,17 @@ pub fn bound_laws()
     append_laws();
     fact_laws();
     size_laws();
+}
+
+/// What a run's pods and requests cost is the sum over each pod's life, over each one's time of being Ready, and over each
+/// request's time of running, from when it began to when it ended or up to the last event. Nothing is computed here.
+pub fn cost_laws()
+    ensures { (r : Run) → AreInOrder r.start r.events (now_of r) → AreSums r }
+{
+    append_laws();
+    order_laws();
+    fact_laws();
+    part_laws();
+    trace_laws();
+    history_laws();
 }

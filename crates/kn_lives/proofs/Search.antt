@@ -51,6 +51,19 @@ last_item xs x is = by xs (length xs - 1) is (λ some. omega (arith, some))
         at (y ∷ ys) zero d low e = let same : Some x ≡ Some y = e in (cc)
         at (y ∷ ys) (suc i) d low e = at ys i d (omega arith) e
 
+-- what is below the first one is nowhere
+pub none_below : (xs : List Slot) (x : Slot) (n : ℕ) → Some x ≡ slice_get xs 0 → AreAscending xs → n < x.number → All (λ (s : Slot). s.number ≢ n) xs
+none_below [] x n is pairs below k d inside = absurd (omega arith)
+none_below (y ∷ ys) x n is pairs below zero d inside =
+    let same : x ≡ y = cc in
+    let number : x.number ≡ y.number = ap (λ (s : Slot). s.number) same in
+    λ e. omega (arith, number, below, e)
+none_below (y ∷ ys) x n is pairs below (suc k) d inside =
+    let same : x ≡ y = cc in
+    let number : x.number ≡ y.number = ap (λ (s : Slot). s.number) same in
+    let more : y.number < (get_or ys k d).number = pairs 0 (suc k) d (omega arith) inside in
+    λ e. omega (arith, number, below, more, e)
+
 module _ (xs : List Slot) (x : Slot) (is : Some x ≡ slice_get xs (length xs - 1)) (n : ℕ) where
   -- what is above the last one is above all
   pub above_last : AreAscending xs → x.number < n → All (λ (s : Slot). s.number < n) xs
@@ -60,3 +73,9 @@ module _ (xs : List Slot) (x : Slot) (is : Some x ≡ slice_get xs (length xs - 
       let before : k < length xs - 1 → (get_or xs k d).number < (get_or xs (length xs - 1) d).number = λ lt. pairs k (length xs - 1) d lt (omega (arith, inside)) in
       let here : k ≡ length xs - 1 → (get_or xs k d).number ≡ (get_or xs (length xs - 1) d).number = λ at. ap (λ j. (get_or xs j d).number) at in
       grind (arith, number, before, here, inside, above)
+
+-- what is above the last one is nowhere
+pub none_above : (xs : List Slot) (x : Slot) (n : ℕ) → Some x ≡ slice_get xs (length xs - 1) → AreAscending xs → x.number < n → All (λ (s : Slot). s.number ≢ n) xs
+none_above xs x n is pairs above k d inside =
+    let low = above_last xs x is n pairs above k d inside in
+    λ same. omega (arith, low, same)

@@ -100,6 +100,26 @@ impl Lives {
         }
     }
 
+    /// A number below which no live request has one.
+    pub fn least(&self) -> u64
+        ensures { (q : ℕ) → q < result → life_at self.now q ≡ None }
+    {
+        match self.slots.first() {
+            Some(slot) => slot.number,
+            None => 0,
+        }
+    }
+
+    /// A number above which none has one.
+    pub fn greatest(&self) -> u64
+        ensures { (q : ℕ) → result < q → life_at self.now q ≡ None }
+    {
+        match self.slots.last() {
+            Some(slot) => slot.number,
+            None => 0,
+        }
+    }
+
     /// Goes on by one row. The tag is that of the event, which who arrives with the row has.
     #[inline(always)]
     pub fn add(&mut self, tag: u64, e: &Entry)

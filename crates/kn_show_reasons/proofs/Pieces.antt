@@ -1,13 +1,5 @@
 -- What is put into a line piece by piece.
-use Rattle.std.proofs.Common.{◌≡◌, List, ◌++◌, ℕ, [], append_assoc, append-nil, sym}
-
--- no piece
-pub nothing : (a : List ℕ) → a ≡ a ++ []
-nothing a = sym (append-nil a)
-
--- words, and two pieces that belong together
-pub words_and_two : (start w a b one two three : List ℕ) → one ≡ start ++ w → two ≡ one ++ a → three ≡ two ++ b → three ≡ start ++ (w ++ (a ++ b))
-words_and_two start w a b one two three p q r = rw (r, q, p) (simp append_assoc)
+use Rattle.std.proofs.Common.{◌≡◌, List, ◌++◌, ℕ, append_assoc}
 
 -- two pieces in a row
 pub two_pieces : (start a b one two : List ℕ) → one ≡ start ++ a → two ≡ one ++ b → two ≡ start ++ (a ++ b)
@@ -20,8 +12,3 @@ three_pieces start a b c one two three p q r = rw (r, q, p) (simp append_assoc)
 -- four
 pub four_pieces : (start a b c d one two three four : List ℕ) → one ≡ start ++ a → two ≡ one ++ b → three ≡ two ++ c → four ≡ three ++ d → four ≡ start ++ (a ++ b ++ c ++ d)
 four_pieces start a b c d one two three four p q r s = rw (s, r, q, p) (simp append_assoc)
-
--- five
-pub five_pieces : (start a b c d e one two three four five : List ℕ) → one ≡ start ++ a → two ≡ one ++ b → three ≡ two ++ c → four ≡ three ++ d → five ≡ four ++ e
-    → five ≡ start ++ (a ++ b ++ c ++ d ++ e)
-five_pieces start a b c d e one two three four five p q r s t = rw (t, s, r, q, p) (simp append_assoc)

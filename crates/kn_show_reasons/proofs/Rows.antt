@@ -17,13 +17,13 @@ use Rattle.kn_lives.specs.declared.lives.Life.{Life}
 use Rattle.kn_lives.specs.Lives.{AreKnown, AreLiveBy, by_row, life_in}
 use Rattle.kn_show_reasons.specs.declared.notice.Notice.{Notice}
 use Rattle.kn_show_reasons.specs.declared.notice.Notice.TheVariants as notice
-use Rattle.kn_show_reasons.specs.declared.reason.Reason.{Reason}
+use Rattle.kn_reason.specs.declared.reason.Reason.{Reason}
 use Rattle.kn_show_reasons.specs.declared.seen.Seen.{Seen}
 use Rattle.kn_show_reasons.specs.Notices.{arrived_at, arrived_in, notice_by, notice_line, notice_where, pod_in, pod_where}
 use Rattle.kn_show_reasons.specs.Reasons.{line, row_text, rows_text, text_where}
 use Rattle.kn_show_reasons.specs.Sentences.{sentences_of}
 use Rattle.kn_show_reasons.specs.State.{SeesPhase}
-use Rattle.kn_show_reasons.specs.Texts.{sentences_text}
+use Rattle.kn_reason.specs.Texts.{sentences_text}
 use Rattle.kn_show_reasons.proofs.Several.{sentences_same}
 
 -- ---- the text of a row, by its decision or without one
@@ -35,6 +35,11 @@ row_decided s p since arrived pod ready t y d xs is decided = ap (sentences_text
 pub row_other : (s : Spec) (p : Option Phase) (since : ℕ) (arrived : ℕ → ℕ) (pod : ℕ → Option ℕ) (ready t : ℕ) (y : Row) (o : Option Notice) → o ≡ notice_by s arrived pod ready t y → None ≡ decision_by y
     → notice_where t o ≡ row_text s p since arrived pod ready t y
 row_other s p since arrived pod ready t y o is none = ap (notice_where t) is ∙ ap (text_where s p since t (notice_where t (notice_by s arrived pod ready t y))) none
+
+-- a row that is no decision
+pub no_decision : (y : Row) → ((d : Decision) → y ≡ row.Decided d → ⊥) → None ≡ decision_by y
+no_decision (row.Decided d) other = absurd (other d refl)
+no_decision _ other = refl
 
 -- ---- what is kept tells of a row what the trace does
 

@@ -6,9 +6,9 @@ use Rattle.std.proofs.lemmas.List.Concat.{flat_map-append}
 use Rattle.kn_event.specs.declared.entry.Decision.{Decision}
 use Rattle.kn_event.specs.declared.entry.Phase.{Phase}
 use Rattle.kn_event.specs.declared.revision.Spec.{Spec}
-use Rattle.kn_show_reasons.specs.declared.reason.Reason.{Reason}
+use Rattle.kn_reason.specs.declared.reason.Reason.{Reason}
 use Rattle.kn_show_reasons.specs.Sentences.{sentences_of}
-use Rattle.kn_show_reasons.specs.Texts.{sentence_text, sentences_text}
+use Rattle.kn_reason.specs.Texts.{sentence_text, sentences_text}
 
 pub sentences_nothing : (t : ℕ) → sentences_text t [] ≡ []
 unfolding sentences_text

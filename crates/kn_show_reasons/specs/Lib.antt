@@ -1,5 +1,3 @@
-pub mod Numbers
-pub mod Texts
 pub mod Sentences
 pub mod Notices
 pub mod Reasons

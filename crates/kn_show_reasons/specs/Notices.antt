@@ -11,7 +11,7 @@ use Rattle.kn_lives.specs.declared.lives.Life.{Life}
 use Rattle.kn_lives.specs.Lives.{life_at, time_of}
 use Rattle.kn_show_reasons.specs.declared.notice.Notice.{Notice}
 use Rattle.kn_show_reasons.specs.declared.notice.Notice.TheVariants as notice
-use Rattle.kn_show_reasons.specs.Numbers.{pods_text}
+use Rattle.kn_reason.specs.Numbers.{pods_text}
 
 -- ---- of which row
 

@@ -3,8 +3,8 @@ use Rattle.std.specs.Prelude.{◌≡◌, ℕ, max, fold, List, Option, None, Som
 use Rattle.kn_event.specs.declared.units.Frac.{Frac}
 use Rattle.kn_event.specs.declared.revision.Spec.{Spec}
 use Rattle.kn_scaling.specs.Decide.{Past, ruling}
-use Rattle.kn_show_reasons.specs.declared.reason.Reason.{Reason}
-use Rattle.kn_show_reasons.specs.declared.reason.Reason.TheVariants as reason
+use Rattle.kn_reason.specs.declared.reason.Reason.{Reason}
+use Rattle.kn_reason.specs.declared.reason.Reason.TheVariants as reason
 use Rattle.kn_show_reasons.specs.Sentences.{reasons_of}
 
 -- the count so far, and, while its lines are read, what the panic window asks for

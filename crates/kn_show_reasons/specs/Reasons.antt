@@ -15,7 +15,7 @@ use Rattle.kn_teller.specs.Manner.{Manner}
 use Rattle.kn_teller.specs.Run.{Run, trace}
 use Rattle.kn_show_reasons.specs.Notices.{arrived_at, notice_by, notice_where}
 use Rattle.kn_show_reasons.specs.Sentences.{sentences_of}
-use Rattle.kn_show_reasons.specs.Texts.{sentences_text}
+use Rattle.kn_reason.specs.Texts.{sentences_text}
 
 -- the text of a row at this time: the lines of its decision, in the phase that began then, or else the other text
 abbrev pub text_where : Spec → Option Phase → ℕ → ℕ → List ℕ → Option Decision → List ℕ

@@ -9,10 +9,10 @@ use Rattle.kn_event.specs.declared.revision.Burst.{Burst}
 use Rattle.kn_event.specs.declared.revision.Burst.TheVariants as burst
 use Rattle.kn_event.specs.declared.revision.Spec.{Spec}
 use Rattle.kn_scaling.specs.Demand.{count_for, max_scale_down, max_scale_up, one_or_more, within_rates}
-use Rattle.kn_show_reasons.specs.declared.reason.Lever.{Lever}
-use Rattle.kn_show_reasons.specs.declared.reason.Lever.TheVariants as lever
-use Rattle.kn_show_reasons.specs.declared.reason.Reason.{Reason}
-use Rattle.kn_show_reasons.specs.declared.reason.Reason.TheVariants as reason
+use Rattle.kn_reason.specs.declared.reason.Lever.{Lever}
+use Rattle.kn_reason.specs.declared.reason.Lever.TheVariants as lever
+use Rattle.kn_reason.specs.declared.reason.Reason.{Reason}
+use Rattle.kn_reason.specs.declared.reason.Reason.TheVariants as reason
 
 -- ---- what an average asks for: so many pods, at so many ready ones
 

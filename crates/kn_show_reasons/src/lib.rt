@@ -3,11 +3,8 @@
 
 pub mod laws;
 mod notice;
-mod numbers;
-mod reason;
 mod reasons;
 mod seen;
 mod sentences;
-mod words;
 
 pub use reasons::{Reasons, ReasonsForm};

@@ -2,9 +2,9 @@
 ghost use Rattle.std.specs.Prelude.{◌≡◌, ◌+◌, ◌-◌, ◌≤◌, ◌++◌, length};
 ghost use Rattle.kn_show_reasons.specs.Notices.{arrived_in, breaker_text, cancelled_text, expired_text, lost_text, notice_by, notice_line, notice_text, overload_text, pod_full_text, pod_in, ready_text, request_text, sample_text, slots_text, with_pod_text};
 
-use crate::numbers::{put_count, put_pods};
 use kn_event::{Entry, Line, Row, Spec};
 use kn_lives::Lives;
+use kn_reason::{put_count, put_pods};
 
 /// A line of a row, with the numbers that it names. The first one is mostly a request's. Times are in milliseconds.
 #[derive(Clone, Copy)]

@@ -4,15 +4,14 @@ ghost use Rattle.kn_event.specs.declared.event.Event.{Event as EventValue};
 ghost use Rattle.kn_io.specs.Causes.{HasCause};
 ghost use Rattle.kn_io.specs.Prefix.{AppendsPrefix};
 ghost use Rattle.kn_report.specs.Waiting.{Adds};
-ghost use Rattle.kn_trace.specs.Rows.{decision_by};
 ghost use Rattle.kn_trace.specs.Trace.{Trace};
+ghost use Rattle.kn_reason.specs.Texts.{sentence_text, sentences_text};
 ghost use Rattle.kn_show_reasons.specs.Notices.{arrived_in, notice_where, pod_in};
 ghost use Rattle.kn_show_reasons.specs.Reasons.{reasons, row_text, rows_text};
+ghost use Rattle.kn_show_reasons.specs.Sentences.{sentences_of};
 ghost use Rattle.kn_show_reasons.specs.State.{AreReasonsOf, Follows, IsUnopened, Knows};
-ghost use Rattle.kn_show_reasons.specs.Texts.{sentence_text, sentences_text};
 
 use crate::notice::Notice;
-use crate::reason::Reason;
 use crate::seen::Seen;
 use crate::sentences::sentences_of;
 use kn_core::Revision;
@@ -22,6 +21,7 @@ use kn_laws::parts::part_laws;
 use kn_lives::laws::{lives_laws, row_laws};
 use kn_lives::{Lives, arrival_tag};
 use kn_past::changes::entry_laws;
+use kn_reason::Reason;
 use kn_report::Waiting;
 use kn_teller::{Form, Teller};
 use std::alloc::Global;
@@ -111,14 +111,26 @@ fn add_notice<O: Sink>(
     }
 }
 
-/// The decision of a row.
-fn decision_by(row: &Row) -> Option<Decision>
-    ensures { result ≡ decision_by row.now }
+/// Adds the lines of a decision behind what waits, in the phase that was seen before it. No other row pays for the room that
+/// its sentences take.
+#[inline(never)]
+fn add_decision<O: Sink>(
+    spec: &Spec,
+    seen: &Seen,
+    time: u64,
+    d: &Decision,
+    line: &mut Line,
+    waiting: &mut Waiting,
+    out: &mut O,
+) -> Result<(), Failed>
+    ensures ok { OnOk result (Adds (O.held out.old) (O.held out.new) waiting.old waiting.new
+        (sentences_text time (sentences_of spec.now time seen.now.phase seen.now.since d.now))) }
+    ensures err { OnErr result (AppendsPrefix (O.held out.old) (O.held out.new)
+        (waiting.old ++ sentences_text time (sentences_of spec.now time seen.now.phase seen.now.since d.now))) }
+    ensures cause { HasCause (O.Faulty.faults out.old) (O.Faulty.faults out.new) result }
 {
-    match *row {
-        Row::Decided(d) => Some(d),
-        _ => None,
-    }
+    let sentences = sentences_of(spec, time, seen.phase, seen.since, d);
+    add_sentences(&sentences, time, line, waiting, out)
 }
 
 /// Adds the lines of a row behind what waits, by what was seen before it.
@@ -136,12 +148,9 @@ fn add_row<O: Sink>(
         (waiting.old ++ row_text spec.now seen.now.phase seen.now.since (arrived_in seen.now.lives) (pod_in seen.now.lives) seen.now.ready e.now.time e.now.row)) }
     ensures cause { HasCause (O.Faulty.faults out.old) (O.Faulty.faults out.new) result }
 {
-    match decision_by(&e.row) {
-        Some(d) => {
-            let sentences = sentences_of(spec, e.time, seen.phase, seen.since, &d);
-            add_sentences(&sentences, e.time, line, waiting, out)
-        }
-        None => {
+    match &e.row {
+        Row::Decided(d) => add_decision(spec, seen, e.time, d, line, waiting, out),
+        _ => {
             let notice = Notice::of(spec, &seen.lives, seen.ready, e);
             add_notice(notice, e.time, line, waiting, out)
         }

@@ -3,8 +3,8 @@ ghost use Rattle.std.specs.Prelude.{◌≡◌, ◌-◌};
 ghost use Rattle.kn_scaling.specs.Demand.{count_for, max_scale_down, max_scale_up, one_or_more, within_rates};
 ghost use Rattle.kn_show_reasons.specs.Sentences.{activation, asked_lever, asked_more, at_zero, bound, bound_lever, burst_by, by_phase, capped_by, delay, demand_lever, down_rate, in_active, in_inactive, is_cut, is_kept, is_raised, lever_of, most, panic_reason, panics, phase_lever, raised_by, sentences_of, stable_reason, up_rate, wait_lever, zero_lever};
 
-use crate::reason::{Lever, Reason, Seats};
 use kn_event::{Burst, Decision, Phase, Spec};
+use kn_reason::{Lever, Reason, Seats};
 
 /// How many sentences a decision may have.
 pub(crate) const SENTENCES: usize = 16;

@@ -70,23 +70,46 @@ live_around es c l r n less are =
     let text = line_where (option_map (live_told r) (life_at l r)) in
     (more.0, sym (append_assoc (live_below es c r) text more.0) ∙ ap (λ (m : List ℕ). m ++ more.0) (live_more es c l r are) ∙ sym more.1 ∙ ap (λ k. live_below es c k) e)
 
--- the numbers from one on that nobody who is live has
-live_past : (es : List Event) (c : Trace) (n m : ℕ) → ((q : ℕ) → n ≤ q → contains q (live c) ≡ false) → live_below es c (n + m) ≡ live_below es c n
-live_past es c n zero none = let e : n + 0 ≡ n = omega arith in ap (λ k. live_below es c k) e
-live_past es c n (suc m) none =
+-- the numbers from one up to another that nobody who is live has
+live_gap : (es : List Event) (c : Trace) (n m : ℕ) → ((q : ℕ) → n ≤ q → q < n + m → contains q (live c) ≡ false) → live_below es c (n + m) ≡ live_below es c n
+live_gap es c n zero none = let e : n + 0 ≡ n = omega arith in ap (λ k. live_below es c k) e
+live_gap es c n (suc m) none =
     let e : n + suc m ≡ (n + m) + 1 = omega arith in
     ap (λ k. live_below es c k) e
     ∙ live_step es c (n + m)
-    ∙ ap (λ (b : Bool). live_below es c (n + m) ++ cond b (live_text es c (n + m)) []) (none (n + m) (omega arith))
+    ∙ ap (λ (b : Bool). live_below es c (n + m) ++ cond b (live_text es c (n + m)) []) (none (n + m) (omega arith) (omega arith))
     ∙ append-nil (live_below es c (n + m))
-    ∙ live_past es c n m none
+    ∙ live_gap es c n m (λ q high low. none q high (omega (arith, low)))
 
 -- all who are live have come
 pub live_all : (es : List Event) (c : Trace) (n : ℕ) → ((q : ℕ) → contains q (live c) ≡ true → q < arrivals c) → arrivals c ≤ n → live_below es c n ≡ live_below es c (arrivals c)
 live_all es c n come le =
     let e : n ≡ arrivals c + (n - arrivals c) = omega arith in
-    ap (λ k. live_below es c k) e ∙ live_past es c (arrivals c) (n - arrivals c) (λ q high. by q high (contains q (live c)) refl)
+    ap (λ k. live_below es c k) e ∙ live_gap es c (arrivals c) (n - arrivals c) (λ q high low. by q high (contains q (live c)) refl)
   where
     by : (q : ℕ) → arrivals c ≤ q → (b : Bool) → contains q (live c) ≡ b → b ≡ false
     by q high true is = absurd (let low = come q is in omega arith)
     by q high false is = refl
+
+-- who has no life in a table isn't live
+not_live : (es : List Event) (c : Trace) (l : List (ℕ × Life)) (q : ℕ) → AreLives l es c → life_at l q ≡ None → contains q (live c) ≡ false
+unfolding life_of
+not_live es c l q are none = by (contains q (live c)) (sym (are.each q) ∙ none)
+  where
+    by : (b : Bool) → cond b (Some (life_in es c q)) None ≡ None → b ≡ false
+    by true some = absurd (cc)
+    by false is = refl
+
+-- nobody is below the least number
+pub live_first : (es : List Event) (c : Trace) (l : List (ℕ × Life)) (first least : ℕ) → AreLives l es c → ((q : ℕ) → q < least → life_at l q ≡ None)
+    → first ≤ least → live_below es c first ≡ []
+live_first es c l first least are none low =
+    let e : first ≡ 0 + first = omega arith in
+    ap (λ k. live_below es c k) e ∙ live_gap es c 0 first (λ q high below. not_live es c l q are (none q (omega (arith, low, below)))) ∙ live_nothing es c
+
+-- nor above the greatest
+pub live_last : (es : List Event) (c : Trace) (l : List (ℕ × Life)) (end below greatest : ℕ) → AreLives l es c → ((q : ℕ) → greatest < q → life_at l q ≡ None)
+    → end ≤ below → (end < below → greatest < end) → live_below es c end ≡ live_below es c below
+live_last es c l end below greatest are none le past =
+    let e : below ≡ end + (below - end) = omega (arith, le) in
+    sym (ap (λ k. live_below es c k) e ∙ live_gap es c end (below - end) (λ q high low. not_live es c l q are (none q (omega (arith, high, low, le, past)))))

@@ -148,7 +148,9 @@ fn add_live<O: Sink>(
         → OnErr result (AppendsPrefix (O.held out.old) (O.held out.new) (waiting.old ++ live_below es c below)) }
     ensures cause { HasCause (O.Faulty.faults out.old) (O.Faulty.faults out.new) result }
 {
-    for r in 0..below {
+    let end = below.min(lives.greatest().saturating_add(1));
+    let first = end.min(lives.least());
+    for r in first..end {
         match add_line(live(lives, r), line, waiting, out) {
             Ok(()) => {}
             Err(Failed) => return Err(Failed),

@@ -1,5 +1,6 @@
 //! What is told of one request, and the text of it.
 ghost use Rattle.std.specs.Prelude.{◌≡◌, ◌+◌, ◌-◌, ◌≤◌, ◌++◌, if◌then◌else◌, length, option_map};
+ghost use Rattle.std.specs.Fmt.{decimal};
 ghost use Rattle.kn_show_requests.specs.declared.told.Way.TheVariants as way;
 ghost use Rattle.kn_show_requests.specs.Requests.{ended, live_told, refused};
 ghost use Rattle.kn_show_requests.specs.Texts.{cell, ends_text, figures_text, line_text, outcome_word, way_word, words_text};
@@ -221,6 +222,20 @@ fn since(time: u64, to: Option<u64>) -> Option<u64>
     }
 }
 
+/// A number; one of a single digit without a buffer.
+#[inline(always)]
+fn put_number(line: &mut Line, n: u64)
+    requires { length line.old ≤ 920 }
+    ensures value { line.new ≡ line.old ++ decimal n }
+    ensures short { length line.new ≤ length line.old + 40 }
+{
+    if n < 10 {
+        line.put(&[b'0' + n as u8]);
+        return;
+    }
+    line.put_integer(n);
+}
+
 /// A comma, and the number where there is one.
 #[tactic(auto, using(std::proofs::Common::append_assoc))]
 #[inline(always)]
@@ -231,6 +246,6 @@ fn put_cell(line: &mut Line, n: Option<u64>)
 {
     line.put(b",");
     if let Some(n) = n {
-        line.put_integer(n);
+        put_number(line, n);
     }
 }

@@ -64,7 +64,7 @@ rows_in-same step start k t c log e at =
     filter-append test c log ∙ ap (λ (xs : Trace). filter test c ++ xs)
     (filter-all test log (each_at-all (λ x. test x ≡ true) t log (λ x h. eq-eqb (step_of step start x.time) k (ap (step_of step start) h ∙ e)) at))
 
-rows_in-append : (step start j : ℕ) (c log : Trace) → rows_in step start j (c ++ log) ≡ rows_in step start j c ++ rows_in step start j log
+pub rows_in-append : (step start j : ℕ) (c log : Trace) → rows_in step start j (c ++ log) ≡ rows_in step start j c ++ rows_in step start j log
 unfolding rows_in
 rows_in-append step start j c log = filter-append (λ (x : Entry). eqb (step_of step start x.time) j) c log
 

@@ -10,3 +10,8 @@ pub mod Counted
 pub mod Bounds
 pub mod Opened
 pub mod Told
+pub mod UpTo
+pub mod Lines
+pub mod Summed
+pub mod Totals
+pub mod SumUp

@@ -28,7 +28,7 @@ pub rows_in-none : (step start k : ℕ) (c : Trace) → AreElsewhere step start 
 unfolding rows_in
 rows_in-none step start k c h = filter-none (λ (x : Entry). eqb (step_of step start x.time) k) c h
 
-by_row-none : (step start k : ℕ) (b c : Trace) → AreElsewhere step start k c → by_row (wait_in step start k) b c ≡ []
+pub by_row-none : (step start k : ℕ) (b c : Trace) → AreElsewhere step start k c → by_row (wait_in step start k) b c ≡ []
 unfolding by_row
 by_row-none step start k b [] h = refl
 by_row-none step start k b (x ∷ c) h =

@@ -4,3 +4,4 @@ pub mod Series
 pub mod Counting
 pub mod Open
 pub mod State
+pub mod Laws

@@ -1,15 +1,19 @@
-//! What the proofs of the teller rest on. Nothing is computed here.
+//! What the lines of a whole run are and come to, and what the proofs of the teller rest on. Nothing is computed here.
 ghost use Rattle.std.specs.Prelude.{◌≡◌, ◌<◌, ◌^◌, [], ℕ, sum};
 ghost use Rattle.kn_event.specs.Revision.{AreInRange};
 ghost use Rattle.kn_event.specs.declared.revision.Spec.{Spec};
 ghost use Rattle.kn_trace.specs.Events.{opening};
 ghost use Rattle.kn_trace.specs.Trace.{Trace};
 ghost use Rattle.kn_core.specs.State.{StandsFor};
+ghost use Rattle.kn_laws.specs.History.{AreInOrder};
+ghost use Rattle.kn_teller.specs.Run.{Run, now_of};
+ghost use Rattle.kn_show_series.specs.Laws.{HasLines, SumUp};
 ghost use Rattle.kn_show_series.specs.Steps.{counts_of, rows_in, waits_in};
 
 use kn_core::Revision;
-use kn_laws::laws::{history_laws, step_laws};
+use kn_laws::laws::{history_laws, step_laws, trace_laws};
 use kn_laws::parts::part_laws;
+use kn_lives::laws::row_laws;
 use kn_sizes::sizes::entry_laws;
 
 /// All that the requests of a step had waited comes to less than what its count holds.
@@ -31,4 +35,18 @@ pub(crate) fn opening_laws()
         → counts_of (rows_in step from k (opening s start)) (waits_in step from k (opening s start)) ≡ counts_of [] [] }
 {
     part_laws();
+}
+
+/// What is written of a run whose events are in order is a line for each step that has one, of what had come by the end of
+/// that step; and over all these lines each count comes to that of the whole run, as the last line of its report says it.
+pub fn series_laws()
+    ensures lines { (step : ℕ) (r : Run)
+        → 0 < step → AreInOrder r.start r.events (now_of r) → HasLines step r }
+    ensures sums { (step : ℕ) (r : Run)
+        → 0 < step → AreInOrder r.start r.events (now_of r) → SumUp step r }
+{
+    trace_laws();
+    history_laws();
+    part_laws();
+    row_laws();
 }

@@ -4,7 +4,7 @@
 mod counts;
 mod current;
 mod gauges;
-mod laws;
+pub mod laws;
 mod series;
 
 pub use series::{Series, SeriesForm};

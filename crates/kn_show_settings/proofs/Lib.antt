@@ -3,3 +3,7 @@ pub mod Places
 pub mod Names
 pub mod Shown
 pub mod Lined
+pub mod Blocked
+pub mod Setups
+pub mod Targets
+pub mod ByBlocks

@@ -1,10 +1,10 @@
 -- The first place of some bytes.
-use Rattle.std.proofs.Common.{◌≡◌, ◌<◌, ◌+◌, ℕ, List, ◌∷◌, drop, get_or, length, refl, sym, ap, ◌∙◌, subst, add-one, drop-cons}
+use Rattle.std.proofs.Common.{◌≡◌, ◌<◌, ◌+◌, ℕ, List, ◌∷◌, drop, get_or, length, refl, ap, ◌∙◌, subst, add-one, drop-cons}
 use Rattle.std.specs.Prelude.{nat_eq, true, false}
 use Rattle.std.specs.List.{starts_with}
 use Rattle.kn_show_settings.specs.Blocks.{place_of}
 
-here_at : (word bs : List ℕ) (b : ℕ) → starts_with nat_eq (b ∷ bs) word ≡ true → place_of word (b ∷ bs) ≡ 0
+pub here_at : (word bs : List ℕ) (b : ℕ) → starts_with nat_eq (b ∷ bs) word ≡ true → place_of word (b ∷ bs) ≡ 0
 unfolding place_of
 here_at word bs b is = rw is refl
 

@@ -10,7 +10,6 @@ use Rattle.kn_event.specs.declared.revision.Metric.{Metric}
 use Rattle.kn_event.specs.declared.revision.Metric.TheVariants.{Concurrency, Rps}
 use Rattle.kn_event.specs.declared.revision.Spec.{Spec}
 use Rattle.kn_event.specs.Defaults.{default_utilisation}
-use Rattle.kn_config.specs.declared.key.Key.{Key}
 use Rattle.kn_config.specs.declared.key.Key.TheVariants as key
 use Rattle.kn_config.specs.declared.value.KeyError.{KeyError}
 use Rattle.kn_config.specs.Keys.{key_text, rule_of}
@@ -19,7 +18,7 @@ use Rattle.kn_revision.specs.Members.{inner}
 use Rattle.kn_show_settings.specs.declared.origin.Origin.{Origin}
 use Rattle.kn_show_settings.specs.declared.origin.Origin.TheVariants as origin
 use Rattle.kn_show_settings.specs.Origins.{above, annotated, annotation, configured}
-use Rattle.kn_show_settings.specs.Lines.{milli_text}
+use Rattle.kn_milli.specs.Milli.{milli_text}
 
 abbrev pub metric_text : Metric → List ℕ
 metric_text Concurrency = codes "concurrency"

@@ -1,6 +1,6 @@
 -- What a ConfigMap and a Revision say and no setting comes from.
-use Rattle.std.specs.Prelude.{ℕ, Bool, true, false, not, ◌&&◌, ◌||◌, nat_eq, bytes_eq, List, [], ◌∷◌, ◌++◌, drop, length, Option, None, Some, codes}
-use Rattle.std.specs.List.{filter, list_any, starts_with}
+use Rattle.std.specs.Prelude.{ℕ, ◌+◌, ◌/◌, ◌%◌, ◌==◌, Bool, true, false, not, ◌&&◌, ◌||◌, nat_eq, nat_lt, bytes_eq, List, [], ◌∷◌, ◌++◌, drop, length, Option, None, Some, codes, if◌then◌else◌}
+use Rattle.std.specs.List.{filter, flat_map, list_any, starts_with}
 use Rattle.serde_json.specs.Data.{Data, Members, no_members, member}
 use Rattle.serde_json.specs.Find.{as_object, get}
 use Rattle.kn_config.specs.declared.key.Key.{Key}
@@ -61,8 +61,20 @@ ignored_annotations revision = filter (is_unread (has_annotation key.MinScale re
 
 -- ---- their lines
 
+abbrev pub hex_digit : ℕ → ℕ
+hex_digit n = if nat_lt n 10 then 48 + n else 87 + n
+
+-- a byte of a name, as JSON spells it: a control code would break the line
+abbrev pub byte_text : ℕ → List ℕ
+byte_text b =
+    if nat_lt b 32 then 92 ∷ (codes "u00" ++ (hex_digit (b / 16) ∷ hex_digit (b % 16) ∷ []))
+    else (if b == 92 then 92 ∷ 92 ∷ [] else b ∷ [])
+
+unfoldable pub name_text : List ℕ → List ℕ
+name_text name = flat_map byte_text name
+
 unfoldable pub ignored_line : List ℕ → List ℕ
-ignored_line name = codes "ignored " ++ (name ++ codes "\n")
+ignored_line name = codes "ignored " ++ (name_text name ++ codes "\n")
 
 abbrev pub ignored_lines : List (List ℕ) → List ℕ
 ignored_lines [] = []

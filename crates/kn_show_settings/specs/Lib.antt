@@ -5,3 +5,4 @@ pub mod Amounts
 pub mod Ignored
 pub mod Settings
 pub mod Showing
+pub mod Laws

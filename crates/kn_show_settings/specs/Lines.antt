@@ -1,6 +1,5 @@
 -- The lines of settings.
-use Rattle.std.specs.Prelude.{ℕ, Bool, true, false, ◌/◌, ◌%◌, ◌==◌, ◌++◌, List, [], ◌∷◌, codes, if◌then◌else◌}
-use Rattle.std.specs.Fmt.{decimal}
+use Rattle.std.specs.Prelude.{ℕ, Bool, true, false, ◌++◌, List, [], ◌∷◌, codes}
 use Rattle.kn_show_settings.specs.declared.origin.Origin.{Origin}
 use Rattle.kn_show_settings.specs.Origins.{origin_text}
 
@@ -23,18 +22,6 @@ setting_lines [] = []
 setting_lines (s ∷ more) = setting_line s ++ setting_lines more
 
 -- ---- values
-
--- what stands behind the whole part, of thousandths below 1,000: a point and the digits, without the zeros at the end
-unfoldable pub point_text : ℕ → List ℕ
-point_text n =
-    if n == 0 then []
-    else (if n % 100 == 0 then codes "." ++ decimal (n / 100)
-    else (if n % 10 == 0 then codes "." ++ (decimal (n / 100) ++ decimal (n / 10 % 10))
-    else codes "." ++ (decimal (n / 100) ++ (decimal (n / 10 % 10) ++ decimal (n % 10)))))
-
--- thousandths as a number: 70000 is 70, 1500 is 1.5, 1 is 0.001
-unfoldable pub milli_text : ℕ → List ℕ
-milli_text n = decimal (n / 1000) ++ point_text (n % 1000)
 
 abbrev pub flag_text : Bool → List ℕ
 flag_text true = codes "true"

@@ -1,5 +1,5 @@
 -- Where a setting comes from.
-use Rattle.std.specs.Prelude.{ℕ, Bool, ◌++◌, List, Option, None, Some, is_some, option_and_then, if◌then◌else◌, codes}
+use Rattle.std.specs.Prelude.{ℕ, Bool, ◌++◌, List, Option, is_some, option_and_then, if◌then◌else◌, codes}
 use Rattle.serde_json.specs.Data.{Data}
 use Rattle.serde_json.specs.Find.{get}
 use Rattle.kn_config.specs.declared.key.Key.{Key}

@@ -10,7 +10,8 @@ use Rattle.kn_config.specs.declared.key.Key.TheVariants as key
 use Rattle.kn_journal.specs.declared.journal.Setup.{Setup}
 use Rattle.kn_show_settings.specs.declared.origin.Origin.TheVariants as origin
 use Rattle.kn_show_settings.specs.Origins.{annotated, configured, overridden, renamed, specified}
-use Rattle.kn_show_settings.specs.Lines.{Setting, flag_text, milli_text, setting, setting_lines}
+use Rattle.kn_milli.specs.Milli.{milli_text}
+use Rattle.kn_show_settings.specs.Lines.{Setting, flag_text, setting, setting_lines}
 use Rattle.kn_show_settings.specs.Blocks.{config_block, revision_block, value_of}
 use Rattle.kn_show_settings.specs.Amounts.{burst_text, metric_text, panic_origin, target_milli, target_origin, total_origin, utilisation, utilisation_origin, window_origin}
 use Rattle.kn_show_settings.specs.Ignored.{ignored_annotations, ignored_keys, ignored_lines}

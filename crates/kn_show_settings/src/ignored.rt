@@ -1,9 +1,9 @@
 //! What a ConfigMap and a Revision say and no setting comes from.
-ghost use Rattle.std.specs.Prelude.{◌≡◌, ◌++◌, OnOk, bytes_eq};
+ghost use Rattle.std.specs.Prelude.{◌≡◌, ◌<◌, ◌++◌, OnOk, bytes_eq};
 ghost use Rattle.std.specs.List.{filter};
 ghost use Rattle.serde_json.specs.View.{members_view, view};
 ghost use Rattle.kn_config.specs.Keys.{key_text};
-ghost use Rattle.kn_show_settings.specs.Ignored.{ignored_annotations, ignored_if, ignored_keys, ignored_lines, is_among, is_old, is_read, is_unread, is_unset, names_of};
+ghost use Rattle.kn_show_settings.specs.Ignored.{byte_text, hex_digit, ignored_annotations, ignored_if, ignored_keys, ignored_lines, is_among, is_old, is_read, is_unread, is_unset, name_text, names_of};
 ghost use Rattle.kn_show_settings.specs.Settings.{ignored_text};
 
 use crate::lines::add;
@@ -95,6 +95,39 @@ fn is_unread(has_min: bool, has_max: bool, name: &[u8]) -> bool
     name.starts_with(start) && !is_read(has_min, has_max, &name[start.len()..])
 }
 
+/// A digit of a byte in base 16.
+fn hex_digit(n: u8) -> u8
+    requires { n < 16 }
+    ensures { result ≡ hex_digit n }
+{
+    if n < 10 { 48 + n } else { 87 + n }
+}
+
+/// Adds a byte of a name as JSON spells it, so that no control code breaks the line.
+fn add_byte(text: &mut Vec<u8>, b: u8) -> Result<(), Memory>
+    ensures { OnOk result (text.new.items ≡ text.old.items ++ byte_text b) }
+{
+    if b < 32 {
+        let spelled = [92, 117, 48, 48, hex_digit(b / 16), hex_digit(b % 16)];
+        return add(text, &spelled);
+    }
+    if b == 92 {
+        return add(text, &[92, 92]);
+    }
+    add(text, &[b])
+}
+
+/// Adds a name as it stands in a line.
+#[tactic(auto, unfolding(crate::specs::Ignored::name_text))]
+fn add_spelled(text: &mut Vec<u8>, name: &[u8]) -> Result<(), Memory>
+    ensures { OnOk result (text.new.items ≡ text.old.items ++ name_text name.now) }
+{
+    for b in name {
+        add_byte(text, *b)?;
+    }
+    Ok(())
+}
+
 /// Adds the line of a name, where it is ignored.
 #[tactic(auto, using(crate::proofs::Pieces::three_pieces), unfolding(crate::specs::Ignored::ignored_line))]
 fn add_name(text: &mut Vec<u8>, name: &[u8], is_ignored: bool) -> Result<(), Memory>
@@ -104,7 +137,7 @@ fn add_name(text: &mut Vec<u8>, name: &[u8], is_ignored: bool) -> Result<(), Mem
         return Ok(());
     }
     add(text, b"ignored ")?;
-    add(text, name)?;
+    add_spelled(text, name)?;
     add(text, b"\n")
 }
 

@@ -4,6 +4,7 @@
 mod amounts;
 mod blocks;
 mod ignored;
+pub mod laws;
 mod lines;
 mod origin;
 mod scaled;

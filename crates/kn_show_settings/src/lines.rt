@@ -1,12 +1,14 @@
 //! The lines of settings, added to a text.
 ghost use Rattle.std.specs.Prelude.{◌≡◌, ◌++◌, OnOk, codes};
 ghost use Rattle.std.specs.Fmt.{decimal};
-ghost use Rattle.kn_show_settings.specs.Lines.{flag_text, milli_text, point_text, setting, setting_line};
+ghost use Rattle.kn_milli.specs.Milli.{milli_text};
+ghost use Rattle.kn_show_settings.specs.Lines.{flag_text, setting, setting_line};
 ghost use Rattle.kn_show_settings.specs.Origins.{origin_text};
 
 use crate::origin::Origin;
 use itoa::{Buffer, Integer};
-use kn_event::Memory;
+use kn_event::{Line, Memory};
+use kn_milli::put_thousandths;
 
 /// Adds bytes at the end.
 pub fn add(text: &mut Vec<u8>, bytes: &[u8]) -> Result<(), Memory>
@@ -26,33 +28,13 @@ fn add_decimal<I: Integer>(text: &mut Vec<u8>, n: I) -> Result<(), Memory>
     add(text, digits.format(n).as_bytes())
 }
 
-/// Adds what stands behind the whole part, of thousandths below 1,000.
-#[tactic(auto, using(crate::proofs::Pieces::two_pieces, crate::proofs::Pieces::three_pieces, crate::proofs::Pieces::four_pieces), unfolding(crate::specs::Lines::point_text))]
-fn add_point(text: &mut Vec<u8>, n: u128) -> Result<(), Memory>
-    ensures { OnOk result (text.new.items ≡ text.old.items ++ point_text n) }
-{
-    if n == 0 {
-        return Ok(());
-    }
-    add(text, b".")?;
-    add_decimal(text, n / 100)?;
-    if n % 100 == 0 {
-        return Ok(());
-    }
-    add_decimal(text, n / 10 % 10)?;
-    if n % 10 == 0 {
-        return Ok(());
-    }
-    add_decimal(text, n % 10)
-}
-
 /// Adds thousandths as a number.
-#[tactic(auto, using(std::proofs::Common::append_assoc), unfolding(crate::specs::Lines::milli_text))]
 fn add_milli(text: &mut Vec<u8>, n: u128) -> Result<(), Memory>
     ensures { OnOk result (text.new.items ≡ text.old.items ++ milli_text n) }
 {
-    add_decimal(text, n / 1000)?;
-    add_point(text, n % 1000)
+    let mut line = Line::new();
+    put_thousandths(&mut line, n);
+    add(text, line.bytes())
 }
 
 /// Adds the name of a setting, and a space.

@@ -3,7 +3,7 @@ use Rattle.std.proofs.lemmas.Grind.{common_steps}
 use Rattle.std.proofs.lemmas.List.{take_all}
 use Rattle.kn_io.specs.Prefix.{AppendsPrefix}
 use Rattle.kn_report.specs.Waiting.{Adds}
-use Rattle.kn_show_reasons.specs.Texts.{sentences_text}
+use Rattle.kn_reason.specs.Texts.{sentences_text}
 use Rattle.kn_show_reasons.proofs.Several.{sentences_around, sentences_more, sentences_nothing}
 use Rattle.kn_show_reasons.proofs.Waits.{adds_nothing, adds_some, adds_trans}
 use Rattle.kn_show_reasons.proofs.reasons.add_sentences.Goals as goal

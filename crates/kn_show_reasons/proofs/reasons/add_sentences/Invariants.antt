@@ -1,6 +1,6 @@
 use Rattle.std.proofs.Common.{◌≤◌, take}
 use Rattle.kn_report.specs.Waiting.{Adds}
-use Rattle.kn_show_reasons.specs.Texts.{sentences_text}
+use Rattle.kn_reason.specs.Texts.{sentences_text}
 use Rattle.kn_show_reasons.proofs.reasons.add_sentences.Given as goal
 
 abbrev pub invariant-loop-sentence : goal.invariant-loop-sentence

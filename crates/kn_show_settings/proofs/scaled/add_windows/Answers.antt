@@ -5,7 +5,7 @@ use Rattle.std.proofs.lemmas.Result.{on_ok_weaker}
 use Rattle.serde_json.specs.View.{view}
 use Rattle.kn_config.specs.declared.key.Key.TheVariants as key
 use Rattle.kn_show_settings.specs.Amounts.{burst_text, panic_origin, window_origin}
-use Rattle.kn_show_settings.specs.Lines.{milli_text}
+use Rattle.kn_milli.specs.Milli.{milli_text}
 use Rattle.kn_show_settings.specs.Origins.{overridden}
 use Rattle.kn_show_settings.specs.Settings.{window_settings}
 use Rattle.kn_show_settings.proofs.Lined.{lined}

@@ -1,4 +1,4 @@
-use Rattle.std.proofs.Common.{◌≡◌, ◌+◌, ℕ, List, length, refl, sym, ap, ◌∙◌, subst, arith}
+use Rattle.std.proofs.Common.{◌≡◌, ◌+◌, Bool, ℕ, List, length, refl, sym, ap, ◌∙◌, subst, arith}
 use Rattle.std.specs.Prelude.{Option, Err, Some}
 use Rattle.std.specs.Io.KnownBytes.{Appends}
 use Rattle.kn_io.specs.Prefix.{AppendsPrefix}
@@ -6,6 +6,7 @@ use Rattle.kn_journal.specs.declared.first.FirstLine.TheVariants.{Journal as Jou
 use Rattle.kn_journal.specs.declared.error.JournalError.{JournalError}
 use Rattle.kn_journal.specs.declared.journal.Opening.{Opening}
 use Rattle.kn_journal.specs.declared.status.Status.{Status}
+use Rattle.kn_journal.specs.Bundle.{opening_by}
 use Rattle.kn_journal.specs.Journal.{opening_part}
 use Rattle.kn_journal.specs.Reading.{unread}
 use Rattle.kn_journal.specs.Telling.{Gives, IsLineFault, LeavesRest, Refuses}
@@ -26,7 +27,8 @@ pub returns-in-Err-setup-clause-shows : goal.returns-in-Err-setup-clause-shows
 returns-in-Err-setup-clause-shows g c =
     let left = g.S.Source.left c.args.source.now in
     let start = nothing_ahead c.in-Ok.reader.input.ahead left c.in-Ok.ensures.ahead in
-    let refuses = subst (λ (n : ℕ). Refuses (opening_part JournalLine n) c.in-Err-setup.error (unread c.in-Ok.reader.input left)) c.in-Ok.ensures.number (c.in-Err-setup.ensures.tells c.in-Ok.ensures.failed) in
+    let refuses = subst (λ (n : ℕ). Refuses (opening_part JournalLine n) c.in-Err-setup.error (unread c.in-Ok.reader.input left)) c.in-Ok.ensures.number
+    (subst (λ (b : Bool). Refuses (opening_by b c.in-Ok.reader.version c.in-Ok.reader.number) c.in-Err-setup.error (unread c.in-Ok.reader.input left)) c.in-Ok.ensures.begun (c.in-Err-setup.ensures.tells c.in-Ok.ensures.failed)) in
     rw c.status_of.ensures.value (refusal_shown left c.in-Err-setup.error (g.O.Sink.held c.args.out.now) (subst (λ (x : Option (List ℕ)). Refuses (opening_part JournalLine 0) c.in-Err-setup.error x) start refuses))
 
 pub returns-in-Err-setup-clause-rest : goal.returns-in-Err-setup-clause-rest
@@ -35,7 +37,8 @@ returns-in-Err-setup-clause-rest g c refused =
     let new = unread c.setup.new.self.input (g.S.Source.left c.setup.new.source) in
     let e = c.in-Err-setup.error in
     let start = nothing_ahead c.in-Ok.reader.input.ahead left c.in-Ok.ensures.ahead in
-    let rest = subst (λ (n : ℕ). IsLineFault e → LeavesRest (opening_part JournalLine n) n (Some (n + 1)) e (unread c.in-Ok.reader.input left) new) c.in-Ok.ensures.number (c.in-Err-setup.ensures.rest c.in-Ok.ensures.failed) in
+    let rest = subst (λ (n : ℕ). IsLineFault e → LeavesRest (opening_part JournalLine n) n (Some (n + 1)) e (unread c.in-Ok.reader.input left) new) c.in-Ok.ensures.number
+    (subst (λ (b : Bool). IsLineFault e → LeavesRest (opening_by b c.in-Ok.reader.version c.in-Ok.reader.number) c.in-Ok.reader.number (Some (c.in-Ok.reader.number + 1)) e (unread c.in-Ok.reader.input left) new) c.in-Ok.ensures.begun (c.in-Err-setup.ensures.rest c.in-Ok.ensures.failed)) in
     let behind = setup_behind left new e (subst (λ (x : Option (List ℕ)). IsLineFault e → LeavesRest (opening_part JournalLine 0) 0 (Some 1) e x new) start rest) (subst IsRefusal c.status_of.ensures.value refused) in
     (c.setup.new.self.input.ahead, c.ahead_len-few.ensures.most, subst (λ (x : Status). IsBehind x left new) (sym c.status_of.ensures.value) behind)
 
@@ -58,7 +61,8 @@ returns-in-Ok-put_all-clause-shows g c =
     let opening : Opening = record { version = c.setup.new.self.version; setup = c.in-Ok-setup.setup } in
     let n = c.setup.new.self.number in
     let start = nothing_ahead c.in-Ok.reader.input.ahead left c.in-Ok.ensures.ahead in
-    let gives = subst (λ (m : ℕ). Gives (opening_part JournalLine m) opening n (unread c.in-Ok.reader.input left) new) c.in-Ok.ensures.number (c.in-Ok-setup.ensures.tells c.in-Ok.ensures.failed) in
+    let gives = subst (λ (m : ℕ). Gives (opening_part JournalLine m) opening n (unread c.in-Ok.reader.input left) new) c.in-Ok.ensures.number
+    (subst (λ (b : Bool). Gives (opening_by b c.in-Ok.reader.version c.in-Ok.reader.number) opening n (unread c.in-Ok.reader.input left) new) c.in-Ok.ensures.begun (c.in-Ok-setup.ensures.tells c.in-Ok.ensures.failed)) in
     let old = g.O.Sink.held c.args.out.now in
     let now = g.O.Sink.held c.put_all.new.out in
     let text = subst (Appends old now) (c.as_slice.ensures.value ∙ c.in-Ok-settings_text.ensures) c.in-Ok-put_all.ensures.ok in
@@ -71,7 +75,8 @@ returns-clause-shows g c =
     let opening : Opening = record { version = c.setup.new.self.version; setup = c.in-Ok-setup.setup } in
     let n = c.setup.new.self.number in
     let start = nothing_ahead c.in-Ok.reader.input.ahead left c.in-Ok.ensures.ahead in
-    let gives = subst (λ (m : ℕ). Gives (opening_part JournalLine m) opening n (unread c.in-Ok.reader.input left) new) c.in-Ok.ensures.number (c.in-Ok-setup.ensures.tells c.in-Ok.ensures.failed) in
+    let gives = subst (λ (m : ℕ). Gives (opening_part JournalLine m) opening n (unread c.in-Ok.reader.input left) new) c.in-Ok.ensures.number
+    (subst (λ (b : Bool). Gives (opening_by b c.in-Ok.reader.version c.in-Ok.reader.number) opening n (unread c.in-Ok.reader.input left) new) c.in-Ok.ensures.begun (c.in-Ok-setup.ensures.tells c.in-Ok.ensures.failed)) in
     let old = g.O.Sink.held c.args.out.now in
     let now = g.O.Sink.held c.put_all.new.out in
     let text = subst (AppendsPrefix old now) (c.as_slice.ensures.value ∙ c.in-Ok-settings_text.ensures) c.in-Err-put_all.ensures.err in
@@ -84,7 +89,8 @@ returns-in-Ok-put_all-clause-left g c shown =
     let opening : Opening = record { version = c.setup.new.self.version; setup = c.in-Ok-setup.setup } in
     let n = c.setup.new.self.number in
     let start = nothing_ahead c.in-Ok.reader.input.ahead left c.in-Ok.ensures.ahead in
-    let gives = subst (λ (m : ℕ). Gives (opening_part JournalLine m) opening n (unread c.in-Ok.reader.input left) new) c.in-Ok.ensures.number (c.in-Ok-setup.ensures.tells c.in-Ok.ensures.failed) in
+    let gives = subst (λ (m : ℕ). Gives (opening_part JournalLine m) opening n (unread c.in-Ok.reader.input left) new) c.in-Ok.ensures.number
+    (subst (λ (b : Bool). Gives (opening_by b c.in-Ok.reader.version c.in-Ok.reader.number) opening n (unread c.in-Ok.reader.input left) new) c.in-Ok.ensures.begun (c.in-Ok-setup.ensures.tells c.in-Ok.ensures.failed)) in
     (c.setup.new.self.input.ahead, c.ahead_len-few-2.ensures.most, opening_left left new opening n (subst (λ (x : Option (List ℕ)). Gives (opening_part JournalLine 0) opening n x new) start gives))
 
 pub returns-clause-left : goal.returns-clause-left
@@ -94,5 +100,6 @@ returns-clause-left g c shown =
     let opening : Opening = record { version = c.setup.new.self.version; setup = c.in-Ok-setup.setup } in
     let n = c.setup.new.self.number in
     let start = nothing_ahead c.in-Ok.reader.input.ahead left c.in-Ok.ensures.ahead in
-    let gives = subst (λ (m : ℕ). Gives (opening_part JournalLine m) opening n (unread c.in-Ok.reader.input left) new) c.in-Ok.ensures.number (c.in-Ok-setup.ensures.tells c.in-Ok.ensures.failed) in
+    let gives = subst (λ (m : ℕ). Gives (opening_part JournalLine m) opening n (unread c.in-Ok.reader.input left) new) c.in-Ok.ensures.number
+    (subst (λ (b : Bool). Gives (opening_by b c.in-Ok.reader.version c.in-Ok.reader.number) opening n (unread c.in-Ok.reader.input left) new) c.in-Ok.ensures.begun (c.in-Ok-setup.ensures.tells c.in-Ok.ensures.failed)) in
     (c.setup.new.self.input.ahead, c.ahead_len-few-2.ensures.most, opening_left left new opening n (subst (λ (x : Option (List ℕ)). Gives (opening_part JournalLine 0) opening n x new) start gives))

@@ -1,0 +1,18 @@
+-- What is put into a line piece by piece.
+use Rattle.std.proofs.Common.{◌≡◌, List, ◌++◌, ℕ, append_assoc}
+
+-- words, and two pieces that belong together
+pub words_and_two : (start w a b one two three : List ℕ) → one ≡ start ++ w → two ≡ one ++ a → three ≡ two ++ b → three ≡ start ++ (w ++ (a ++ b))
+words_and_two start w a b one two three p q r = rw (r, q, p) (simp append_assoc)
+
+-- two pieces in a row
+pub two_pieces : (start a b one two : List ℕ) → one ≡ start ++ a → two ≡ one ++ b → two ≡ start ++ (a ++ b)
+two_pieces start a b one two p q = rw (q, p) (simp append_assoc)
+
+-- three
+pub three_pieces : (start a b c one two three : List ℕ) → one ≡ start ++ a → two ≡ one ++ b → three ≡ two ++ c → three ≡ start ++ (a ++ b ++ c)
+three_pieces start a b c one two three p q r = rw (r, q, p) (simp append_assoc)
+
+-- four
+pub four_pieces : (start a b c d one two three four : List ℕ) → one ≡ start ++ a → two ≡ one ++ b → three ≡ two ++ c → four ≡ three ++ d → four ≡ start ++ (a ++ b ++ c ++ d)
+four_pieces start a b c d one two three four p q r s = rw (s, r, q, p) (simp append_assoc)

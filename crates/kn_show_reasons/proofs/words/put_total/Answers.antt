@@ -1,8 +1,0 @@
--- What was put piece by piece is the text.
-use Rattle.kn_show_reasons.specs.Texts.{total_text}
-use Rattle.kn_show_reasons.proofs.Pieces.{two_pieces}
-use Rattle.kn_show_reasons.proofs.words.put_total.Goals as goal
-
-pub returns-clause-value : goal.returns-clause-value
-unfolding total_text
-returns-clause-value c = two_pieces _ _ _ _ _ c.put_count.ensures.value c.put_milli.ensures.value
