@@ -1,9 +1,7 @@
 //! A run of a session over several revisions: the setups are read, each revision opened, the slots served, and the journals printed.
 ghost use Rattle.std.specs.Prelude.{◌≡◌, ◌⊎◌, ◌≤◌, ◌<◌, ◌+◌, ◌^◌, ℕ, length, map, slice_index_or, IfOk};
 ghost use Rattle.kn_io.specs.Causes.{Rose};
-ghost use Rattle.kn_trace.specs.Trace.{Trace};
-ghost use Rattle.kn_core.specs.State.{RevisionState, StandsFor};
-ghost use Rattle.kn_cell.specs.History.{live_of};
+ghost use Rattle.kn_core.specs.State.{RevisionState};
 ghost use Rattle.kn_journal.specs.declared.journal.Setup.{Setup as SetupValue};
 ghost use Rattle.kn_journal.specs.Reading.{most_taken};
 ghost use Rattle.kn_replay.specs.Replaying.{Tells};

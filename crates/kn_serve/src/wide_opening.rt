@@ -1,5 +1,5 @@
 //! What makes the slots and the keepers that a plan for several revisions asks for.
-ghost use Rattle.std.specs.Prelude.{◌≡◌, ◌≤◌, List, [], All, Err, MatchBool, OnErr, OnOk, length, map};
+ghost use Rattle.std.specs.Prelude.{◌≡◌, ◌≤◌, List, [], All, Err, MatchBool, OnErr, OnOk, map};
 ghost use Rattle.kn_io.specs.Causes.{Rose};
 ghost use Rattle.kn_plan.specs.declared.wide_plan.WidePlan.{WidePlan as WideValue};
 ghost use Rattle.kn_request.specs.declared.slot.WideSlot.{WideSlot as WideSlotValue};

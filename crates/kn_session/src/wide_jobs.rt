@@ -1,6 +1,6 @@
 //! The slots over several revisions beside each other in threads, and the ticker of all revisions beside them.
 ghost use Rattle.std.specs.Prelude.{◌≡◌, ◌≤◌, ◌<◌, ◌*◌, ℕ, List, length, map};
-ghost use Rattle.kn_request.specs.Wide.{ArePassesOf, TicksAll};
+ghost use Rattle.kn_request.specs.Wide.{ArePassesOf};
 ghost use Rattle.kn_session.specs.Lists.{EachDone, EachIs};
 ghost use Rattle.kn_session.specs.Wide.{wide_sides};
 ghost use Rattle.kn_session.specs.WidePasses.{HaveTicked, IsWideDone, IsWideReady};

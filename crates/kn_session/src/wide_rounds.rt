@@ -1,5 +1,5 @@
 //! The rounds of one slot that serves several revisions.
-ghost use Rattle.std.specs.Prelude.{◌≡◌, ◌≤◌, ◌<◌, ◌+◌, ◌^◌, ◌||◌, ℕ, length, map, Some, IfSome};
+ghost use Rattle.std.specs.Prelude.{◌≡◌, ◌<◌, ◌+◌, ◌^◌, ◌||◌, ℕ, length, map, Some, IfSome};
 ghost use Rattle.kn_request.specs.Wide.{faults_in, memories_in, passes_in};
 ghost use Rattle.kn_session.specs.Rounds.{is_fault, is_memory};
 ghost use Rattle.kn_session.specs.Wide.{at_flag, faults_at, wants_at, wide_sides};

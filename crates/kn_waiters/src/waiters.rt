@@ -1,6 +1,6 @@
 //! Which pass waits for which request. An event calls those passes alone whose request it assigned to a pod, or whose request
 //! runs or has ended by it.
-ghost use Rattle.std.specs.Prelude.{◌≡◌, ◌++◌, ◌∷◌, [], ◌==◌, IfOk, option_to_list};
+ghost use Rattle.std.specs.Prelude.{◌≡◌, ◌++◌, ◌∷◌, [], ◌==◌, IfOk, None, option_to_list};
 ghost use Rattle.std.specs.List.Sorted.{IsPermutation};
 ghost use Rattle.kn_waiters.specs.Waiting.{waiter, woken_by, rouses, AreByRequest, HasFreePlace, IsFull, IsStartOf, IsPlaceIn, TakesOut, Calls};
 
@@ -142,6 +142,7 @@ impl Waiters {
     pub fn next_called(&mut self) -> Option<u64>
         ensures same { (self.new.room ≡ self.old.room) × (self.new.waiting ≡ self.old.waiting) }
         ensures next { self.old.called ≡ self.new.called ++ option_to_list result }
+        ensures none { result ≡ None → self.old.called ≡ [] }
     {
         self.called.pop()
     }
