@@ -95,17 +95,17 @@ def fixed(pods, limit=0, depth=10000, most=1000, timeout=30):
 
 
 class Session:
-    """kactd, from its start to its end. `before` is called in its process before it starts."""
+    """kactd, from its start to its end. `before` is called in its process before it starts. With `many`, each port is of a revision's pods."""
 
-    def __init__(self, setup, ports, slots=16, rounds=1, room=100000, server=None, before=None):
+    def __init__(self, setup, ports, slots=16, rounds=1, room=100000, server=None, before=None, many=False):
         self.port, self.clients = free_port(), slots * rounds
-        pods = ",".join(f"127.0.0.1:{port}" for port in ports)
+        pods = (";" if many else ",").join(f"127.0.0.1:{port}" for port in ports)
         words = ["--listen", f"127.0.0.1:{self.port}", "--pods", pods, "--slots", slots, "--rounds", rounds, "--room", room]
         self.folder = pathlib.Path(tempfile.mkdtemp(prefix="kactd-session-"))
         (self.folder / "setup").write_text(setup)
         files = {"stdin": open(self.folder / "setup"), "stdout": open(self.folder / "journal", "w")}
         self.process = subprocess.Popen(
-            [server or program("kactd"), *map(str, words)],
+            [server or program("kactd"), *(["many"] if many else []), *map(str, words)],
             stderr=open(self.folder / "stderr", "w"),
             preexec_fn=before,
             **files,
