@@ -1,11 +1,7 @@
 -- Reads one after the other.
-use Rattle.std.proofs.Common.{ℕ, List, [], ◌++◌, Option, None, Some, IfSome, refl, sym, subst, ap, ◌∙◌, arith, append_assoc}
+use Rattle.std.proofs.Common.{ℕ, List, ◌++◌, Option, None, Some, IfSome, sym, subst, ap, ◌∙◌, arith, append_assoc}
 use Rattle.std.specs.Io.KnownBytes.{Consumes, Keeps}
 use Rattle.kn_head.specs.Told.{Draws}
-
-consumes_none : (known : Option (List ℕ)) → Consumes known known []
-consumes_none None = tt
-consumes_none (Some xs) = refl
 
 consumes_more : (a b c : Option (List ℕ)) (xs ys : List ℕ) → Consumes a b xs → Consumes b c ys → Consumes a c (xs ++ ys)
 consumes_more None b c xs ys p q = tt
@@ -13,18 +9,11 @@ consumes_more (Some x) None c xs ys p q = absurd p
 consumes_more (Some x) (Some y) None xs ys p q = absurd q
 consumes_more (Some x) (Some y) (Some z) xs ys p q = p ∙ (ap (λ l. xs ++ l) q ∙ sym (append_assoc xs ys z))
 
-pub keeps_itself : (known : Option (List ℕ)) → Keeps known known
-keeps_itself None = tt
-keeps_itself (Some xs) = refl
-
 pub keeps_more : (a b c : Option (List ℕ)) → Keeps a b → Keeps b c → Keeps a c
 keeps_more None b c p q = tt
 keeps_more (Some x) None c p q = absurd p
 keeps_more (Some x) (Some y) None p q = absurd q
 keeps_more (Some x) (Some y) (Some z) p q = q ∙ p
-
-pub draws_none : (left : Option (List ℕ)) (apart : Option (List (List ℕ))) (faults : ℕ) → Draws left left apart apart faults faults
-draws_none left apart faults = record { front = ([], consumes_none left); apart_stays = refl; never_falls = omega arith }
 
 pub draws_more : {a b c : Option (List ℕ)} {x y z : Option (List (List ℕ))} {f g h : ℕ}
     → Draws a b x y f g → Draws b c y z g h → Draws a c x z f h

@@ -19,13 +19,7 @@ head_refused error.Malformed waiting more short never =
 head_refused error.TooLong waiting more short many =
     inl (length waiting, short, subst HasTooManyFields (sym (take-append_seam waiting more)) many)
 head_refused error.ReadFault waiting more short never = tt
-head_refused error.EndedEarly waiting more short never = absurd never
-head_refused error.NoRevision waiting more short never = absurd never
-head_refused error.BadLength waiting more short never = absurd never
-head_refused error.BodyTooLong waiting more short never = absurd never
-head_refused error.Memory waiting more short never = absurd never
-head_refused error.BadCoding waiting more short never = absurd never
-head_refused error.BadChunk waiting more short never = absurd never
+head_refused e waiting more short never = absurd never
 
 -- all room is taken
 pub head_too_long : (waiting more : List ℕ) → length waiting ≡ limit → IsUnfinished waiting → HeadFails (waiting ++ more) error.TooLong
@@ -39,14 +33,7 @@ head_stopped e None waiting short open_ fits stops = tt
 head_stopped error.EndedEarly (Some bytes) waiting short open_ fits same =
     subst (λ b. HeadFails b error.EndedEarly) (sym same) (short, open_, fits refl)
 head_stopped error.ReadFault (Some bytes) waiting short open_ fits stops = tt
-head_stopped error.Malformed (Some bytes) waiting short open_ fits stops = absurd stops
-head_stopped error.TooLong (Some bytes) waiting short open_ fits stops = absurd stops
-head_stopped error.NoRevision (Some bytes) waiting short open_ fits stops = absurd stops
-head_stopped error.BadLength (Some bytes) waiting short open_ fits stops = absurd stops
-head_stopped error.BodyTooLong (Some bytes) waiting short open_ fits stops = absurd stops
-head_stopped error.Memory (Some bytes) waiting short open_ fits stops = absurd stops
-head_stopped error.BadCoding (Some bytes) waiting short open_ fits stops = absurd stops
-head_stopped error.BadChunk (Some bytes) waiting short open_ fits stops = absurd stops
+head_stopped e (Some bytes) waiting short open_ fits stops = absurd stops
 
 -- it ended after more than 100 fields
 pub head_ended_long : (known : Option (List ℕ)) (waiting : List ℕ) → length waiting < limit → HasTooManyFields waiting

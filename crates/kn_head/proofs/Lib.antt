@@ -1,4 +1,3 @@
-pub mod Names
 pub mod LineCounts
 pub mod Keeping
 pub mod Pieces

@@ -11,7 +11,7 @@ use Rattle.httparse.specs.Pieces.{Stops, is_newline, FieldLines}
 use Rattle.httparse.proofs.PieceLemmas.{Stops_token}
 use Rattle.httparse.proofs.GrammarLemmas.{print_request-append, cons-append}
 use Rattle.kn_head.specs.Heads.{room, IsUnfinished, HasTooManyFields}
-use Rattle.kn_head.specs.Chunks.{IsUnfinishedTrailer}
+use Rattle.kn_http.specs.Parts.{IsUnfinishedTrailer}
 use Rattle.kn_head.specs.Lines.{line_feeds, after_blank}
 
 -- ---- line feeds

@@ -3,11 +3,12 @@ use Rattle.std.proofs.Common.{◌≡◌, ℕ, ◌+◌, ◌≤◌, ◌<◌, List,
 use Rattle.std.proofs.lemmas.List.{length-take-le, take-append-drop}
 use Rattle.kn_head.proofs.ChunkFronts.{kept_taken}
 use Rattle.std.specs.Io.KnownBytes.{Keeps}
+use Rattle.kn_http.specs.Chunks.{last, chunk}
 use Rattle.kn_head.specs.declared.head.HeadError.{HeadError}
 use Rattle.kn_head.specs.declared.head.HeadError.TheVariants as error
 use Rattle.kn_head.specs.Told.{unread, IfTold, Stops}
 use Rattle.kn_head.specs.Rules.{body_limit}
-use Rattle.kn_head.specs.Chunks.{IsSizeLine, IsTrailer, IsChunked, last, chunk, BytesFail, LineEndFails, TakesChunk, EndsChunks, ChunksFail, at_size, too_long, at_trailer, at_piece, at_end, later, SizeFails, TrailerFails}
+use Rattle.kn_head.specs.Chunks.{IsSizeLine, IsTrailer, IsChunked, BytesFail, LineEndFails, TakesChunk, EndsChunks, ChunksFail, at_size, too_long, at_trailer, at_piece, at_end, later, SizeFails, TrailerFails}
 
 -- ---- one after the other
 
@@ -58,16 +59,9 @@ pub bytes_stopped : (old now : Option (List ℕ)) {before body : List ℕ} {left
 bytes_stopped None now e taken some stops = tt
 bytes_stopped (Some x) None e taken some stops = absurd taken.told
 bytes_stopped (Some x) (Some y) error.ReadFault taken some stops = tt
-bytes_stopped (Some x) (Some y) error.Malformed taken some stops = absurd stops
-bytes_stopped (Some x) (Some y) error.TooLong taken some stops = absurd stops
 bytes_stopped (Some x) (Some y) error.EndedEarly taken some none =
     omega (arith, taken.count, ap length taken.told, length-append taken.piece y, ap length none)
-bytes_stopped (Some x) (Some y) error.NoRevision taken some stops = absurd stops
-bytes_stopped (Some x) (Some y) error.BadLength taken some stops = absurd stops
-bytes_stopped (Some x) (Some y) error.BodyTooLong taken some stops = absurd stops
-bytes_stopped (Some x) (Some y) error.Memory taken some stops = absurd stops
-bytes_stopped (Some x) (Some y) error.BadCoding taken some stops = absurd stops
-bytes_stopped (Some x) (Some y) error.BadChunk taken some stops = absurd stops
+bytes_stopped (Some x) (Some y) e taken some stops = absurd stops
 
 -- ---- chunks
 
@@ -82,22 +76,24 @@ pub goes_on_more : (body bytes rest piece more : List ℕ) → GoesOn body bytes
 goes_on_more body bytes rest piece more goes taken = record {
   chunked = λ value end it.
       subst (λ l. IsChunked bytes l end) (sym (append_assoc body piece value))
-      (goes.chunked (piece ++ value) end (chunk piece more taken.size taken.some it));
+      (goes.chunked (piece ++ value) end (chunk piece more taken.chunk it));
   fails = λ e it. goes.fails e (later piece more taken (subst (λ n. ChunksFail n more e) (length-append body piece) it));
 }
 
 -- the last one
 pub goes_on_last : (body bytes rest end : List ℕ) → GoesOn body bytes rest → EndsChunks rest end → IsChunked bytes body end
 goes_on_last body bytes rest end goes ends =
-    subst (λ l. IsChunked bytes l end) (append-nil body) (goes.chunked [] end (last ends.0 ends.1 ends.2))
+    subst (λ l. IsChunked bytes l end) (append-nil body) (goes.chunked [] end (last ends))
 
 -- ---- one chunk
 
 size_then_piece : (before : ℕ) (bytes piece after rest : List ℕ) (n : ℕ) → IsSizeLine bytes n (piece ++ after) → length piece ≡ n
     → 0 < n → before + n ≤ body_limit → after ≡ 13 ∷ 10 ∷ rest → TakesChunk before bytes piece rest
 size_then_piece before bytes piece after rest n p len some short end_ = record {
-  size = subst (λ m. IsSizeLine bytes m (piece ++ (13 ∷ 10 ∷ rest))) (sym len) (subst (λ l. IsSizeLine bytes n (piece ++ l)) end_ p);
-  some = omega (arith, len, some);
+  chunk = (
+    subst (λ m. IsSizeLine bytes m (piece ++ (13 ∷ 10 ∷ rest))) (sym len) (subst (λ l. IsSizeLine bytes n (piece ++ l)) end_ p),
+    omega (arith, len, some),
+  );
   short = omega (arith, len, short);
 }
 

@@ -1,6 +1,5 @@
 -- What the parts that were taken say of all the bytes.
-use Rattle.std.proofs.Common.{◌≡◌, ℕ, ◌≤◌, List, [], ◌++◌, length, take, drop, map, Option, None, Some, IfSome, Ok, Err, sym, subst, ap, ◌∙◌, arith, length-append}
-use Rattle.std.proofs.Math.Seq.{take-append_seam}
+use Rattle.std.proofs.Common.{◌≡◌, ℕ, ◌≤◌, List, [], ◌++◌, length, take, drop, map, Option, None, Some, IfSome, Ok, Err, subst, ap, ◌∙◌, arith, length-append}
 use Rattle.httparse.specs.Grammar.{RequestHead, print_request}
 use Rattle.httparse.specs.Spans.{IsRequestAt, span_bytes, header_bytes}
 use Rattle.httparse.specs.declared.spans.HeaderSpan.{HeaderSpan}
@@ -12,9 +11,8 @@ use Rattle.kn_head.specs.declared.head.HeadError.TheVariants as error
 use Rattle.kn_head.specs.declared.rules.Form.{Form}
 use Rattle.kn_head.specs.Told.{unread, IfTold}
 use Rattle.kn_head.specs.Heads.{room, limit, HeadFails}
-use Rattle.kn_head.specs.Rules.{body_limit, owner_of, form_of}
-use Rattle.kn_head.specs.Chunks.{IsChunked}
-use Rattle.kn_head.specs.Reading.{HasBodyOf, HasBody, BodyFails, is_chunked, HasHead, GivesOwner, Reads, no_head, no_owner, no_form, no_body, no_memory, whole}
+use Rattle.kn_head.specs.Rules.{owner_of, form_of}
+use Rattle.kn_head.specs.Reading.{HasBody, BodyFails, is_chunked, HasHead, GivesOwner, Reads, no_head, no_owner, no_form, no_body, no_memory, whole}
 use Rattle.kn_head.proofs.Taking.{told_here}
 
 -- ---- from the start
@@ -52,39 +50,16 @@ head_at window bytes more spans r h method target minor headers at_ few short sa
   };
 }
 
--- ---- bodies
-
-pub plain_body : (old new : Option (List ℕ)) (n : ℕ) (d body : List ℕ) → IfTold old new (λ bytes rest. bytes ≡ d ++ rest) → length d ≡ n → body ≡ d
-    → IfSome old (HasBodyOf n body)
-plain_body None new n d body told len same = tt
-plain_body (Some x) None n d body told len same = absurd told
-plain_body (Some x) (Some y) n d body told len same =
-    let front : take n x ≡ d = ap (take n) told ∙ (ap (λ k. take k (d ++ y)) (sym len) ∙ take-append_seam d y) in
-    (omega (arith, ap length told, length-append d y, len), same ∙ sym front)
-
-pub chunked_body : (old new : Option (List ℕ)) (body : List ℕ) → IfTold old new (λ bytes rest. IsChunked bytes body rest) → length body ≤ body_limit
-    → IfSome old (λ bytes. (rest : List ℕ) × IsChunked bytes body rest × (length body ≤ body_limit))
-chunked_body None new body told short = tt
-chunked_body (Some x) None body told short = absurd told
-chunked_body (Some x) (Some y) body told short = (y, told, short)
-
 -- ---- the whole
 
 pub without_owner : (old mid : Option (List ℕ)) (method target : List ℕ) (minor : ℕ) (headers : List (List ℕ × List ℕ)) (e : HeadError)
     → IfTold old mid (HasHead method target minor headers) → GivesOwner headers (Err e) → IfSome old (λ bytes. Reads bytes (Err e))
 without_owner None mid method target minor headers e told none = tt
 without_owner (Some x) None method target minor headers e told none = absurd told
-without_owner (Some x) (Some y) method target minor headers error.ReadFault head none = absurd none
-without_owner (Some x) (Some y) method target minor headers error.Malformed head none = absurd none
-without_owner (Some x) (Some y) method target minor headers error.TooLong head none = absurd none
-without_owner (Some x) (Some y) method target minor headers error.EndedEarly head none = absurd none
 without_owner (Some x) (Some y) method target minor headers error.NoRevision head none =
     no_owner head.text y head.begins (subst (λ hs. owner_of hs ≡ None) head.parts.headers_are none)
-without_owner (Some x) (Some y) method target minor headers error.BadLength head none = absurd none
-without_owner (Some x) (Some y) method target minor headers error.BodyTooLong head none = absurd none
 without_owner (Some x) (Some y) method target minor headers error.Memory head none = no_memory
-without_owner (Some x) (Some y) method target minor headers error.BadCoding head none = absurd none
-without_owner (Some x) (Some y) method target minor headers error.BadChunk head none = absurd none
+without_owner (Some x) (Some y) method target minor headers e head none = absurd none
 
 pub without_form : (old mid : Option (List ℕ)) (method target : List ℕ) (minor : ℕ) (headers : List (List ℕ × List ℕ)) (owner : List ℕ × List ℕ) (e : HeadError)
     → IfTold old mid (HasHead method target minor headers) → owner_of headers ≡ Some owner → form_of headers ≡ Err e

@@ -36,14 +36,7 @@ IsUnfinished bytes = HasNoRequest bytes × MayBecomeRequest bytes
 abbrev pub HeadRefused : List ℕ → HeadError → Type 0
 HeadRefused bytes error.Malformed = NeverHasRequest bytes
 HeadRefused bytes error.TooLong = HasTooManyFields bytes
-HeadRefused bytes error.ReadFault = ⊥
-HeadRefused bytes error.EndedEarly = ⊥
-HeadRefused bytes error.NoRevision = ⊥
-HeadRefused bytes error.BadLength = ⊥
-HeadRefused bytes error.BodyTooLong = ⊥
-HeadRefused bytes error.Memory = ⊥
-HeadRefused bytes error.BadCoding = ⊥
-HeadRefused bytes error.BadChunk = ⊥
+HeadRefused bytes e = ⊥
 
 -- why the bytes of a stream, whole, don't begin with a head. They end early only where no front of them and an empty line
 -- are a head of more than 100 fields. Of a fault nothing is said.
@@ -54,9 +47,4 @@ HeadFails bytes error.TooLong =
     ⊎ ((limit ≤ length bytes) × IsUnfinished (take limit bytes))
 HeadFails bytes error.EndedEarly = (length bytes < limit) × IsUnfinished bytes × ¬ (RequestExceeds room bytes)
 HeadFails bytes error.ReadFault = ⊤
-HeadFails bytes error.NoRevision = ⊥
-HeadFails bytes error.BadLength = ⊥
-HeadFails bytes error.BodyTooLong = ⊥
-HeadFails bytes error.Memory = ⊥
-HeadFails bytes error.BadCoding = ⊥
-HeadFails bytes error.BadChunk = ⊥
+HeadFails bytes e = ⊥

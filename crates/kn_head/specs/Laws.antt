@@ -10,14 +10,7 @@ use Rattle.kn_head.specs.Heads.{limit, HasTooManyFields}
 abbrev pub IsUntold : HeadError → Type 0
 IsUntold error.ReadFault = ⊤
 IsUntold error.Memory = ⊤
-IsUntold error.Malformed = ⊥
-IsUntold error.TooLong = ⊥
-IsUntold error.EndedEarly = ⊥
-IsUntold error.NoRevision = ⊥
-IsUntold error.BadLength = ⊥
-IsUntold error.BodyTooLong = ⊥
-IsUntold error.BadCoding = ⊥
-IsUntold error.BadChunk = ⊥
+IsUntold e = ⊥
 
 -- the answer is this request, unless the source failed or memory was lacking
 abbrev pub IsOkUnlessUntold : Result Head HeadError → Head → Type 0
@@ -33,14 +26,7 @@ ComeTooMany bytes = (k : ℕ) × (k ≤ limit) × HasTooManyFields (take k bytes
 abbrev pub MayStandForMalformed : List ℕ → HeadError → Type 0
 MayStandForMalformed bytes error.EndedEarly = EndsInTarget (take limit bytes)
 MayStandForMalformed bytes error.TooLong = EndsInTarget (take limit bytes) ⊎ ComeTooMany bytes
-MayStandForMalformed bytes error.ReadFault = ⊥
-MayStandForMalformed bytes error.Malformed = ⊥
-MayStandForMalformed bytes error.NoRevision = ⊥
-MayStandForMalformed bytes error.BadLength = ⊥
-MayStandForMalformed bytes error.BodyTooLong = ⊥
-MayStandForMalformed bytes error.Memory = ⊥
-MayStandForMalformed bytes error.BadCoding = ⊥
-MayStandForMalformed bytes error.BadChunk = ⊥
+MayStandForMalformed bytes e = ⊥
 
 -- two faults of a head are the same, or the source failed, or one is Malformed and the other may stand for it
 abbrev pub AreAlike : List ℕ → HeadError → HeadError → Type 0

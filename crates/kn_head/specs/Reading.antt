@@ -51,14 +51,7 @@ abbrev pub GivesOwner : List (List ℕ × List ℕ) → Result (List ℕ × List
 GivesOwner headers (Ok owner) = owner_of headers ≡ Some owner
 GivesOwner headers (Err error.NoRevision) = owner_of headers ≡ None
 GivesOwner headers (Err error.Memory) = ⊤
-GivesOwner headers (Err error.ReadFault) = ⊥
-GivesOwner headers (Err error.Malformed) = ⊥
-GivesOwner headers (Err error.TooLong) = ⊥
-GivesOwner headers (Err error.EndedEarly) = ⊥
-GivesOwner headers (Err error.BadLength) = ⊥
-GivesOwner headers (Err error.BodyTooLong) = ⊥
-GivesOwner headers (Err error.BadCoding) = ⊥
-GivesOwner headers (Err error.BadChunk) = ⊥
+GivesOwner headers (Err e) = ⊥
 
 -- what the bytes say; of want of memory nothing is said
 pub data Reads : List ℕ → Result Head HeadError → Type 0 where

@@ -1,15 +1,14 @@
 -- What the fields of a head settle: whose request it is, and how its body comes.
 use Rattle.std.specs.Prelude.{◌≡◌, ◌<◌, ℕ, Bool, ◌&&◌, if◌then◌else◌, nat_le, List, [], ◌∷◌, length, codes, Option, None, Some, Result, Ok, Err}
-use Rattle.std.specs.List.{list_all}
-use Rattle.std.specs.Char.{is_ascii_digit}
 use Rattle.std.specs.Str.Parse.{digits_value}
+use Rattle.kn_http.specs.Numbers.{are_digits}
 use Rattle.kn_head.specs.declared.head.HeadError.{HeadError}
 use Rattle.kn_head.specs.declared.head.HeadError.TheVariants as error
 use Rattle.kn_head.specs.declared.rules.Form.{Form}
 use Rattle.kn_head.specs.declared.rules.Form.TheVariants as form
 use Rattle.kn_head.specs.declared.rules.Values.{Values}
 use Rattle.kn_head.specs.declared.rules.Values.TheVariants as values
-use Rattle.kn_head.specs.Fields.{has_name, values_named}
+use Rattle.kn_head.specs.Fields.{is_word, values_named}
 
 -- the most bytes of a body
 abbrev pub body_limit : ℕ
@@ -33,7 +32,7 @@ owner_of fields =
 
 -- 1 to 19 digits
 abbrev pub is_length : List ℕ → Bool
-is_length v = nat_le 1 (length v) && nat_le (length v) 19 && list_all is_ascii_digit v
+is_length v = are_digits v && nat_le (length v) 19
 
 -- a body of so many bytes, where that isn't too many
 abbrev pub sized : ℕ → Result Form HeadError
@@ -49,7 +48,7 @@ form_by_length (v ∷ w ∷ vs) = Err error.BadLength
 abbrev pub form_by_coding : List (List ℕ) → List (List ℕ) → Result Form HeadError
 form_by_coding [] lengths = form_by_length lengths
 form_by_coding (c ∷ cs) (l ∷ ls) = Err error.BadLength
-form_by_coding (c ∷ []) [] = if has_name (codes "chunked") c then Ok form.Chunked else Err error.BadCoding
+form_by_coding (c ∷ []) [] = if is_word (codes "chunked") c then Ok form.Chunked else Err error.BadCoding
 form_by_coding (c ∷ d ∷ cs) [] = Err error.BadCoding
 
 -- how the body comes, or why it isn't read

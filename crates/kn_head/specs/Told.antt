@@ -24,15 +24,13 @@ pub record Draws (left left' : Option (List ℕ)) (apart apart' : Option (List (
   pub apart_stays : apart' ≡ apart
   pub never_falls : faults ≤ faults'
 
+-- a part of what is wanted is refused, or cut; of a fault of the source nothing is said
+abbrev pub PartFails : Type 0 → Type 0 → HeadError → Type 0
+PartFails refused cut error.BadChunk = refused
+PartFails refused cut error.EndedEarly = cut
+PartFails refused cut error.ReadFault = ⊤
+PartFails refused cut e = ⊥
+
 -- no more bytes came behind those that wait: these are all, or the source failed
 abbrev pub Stops : List ℕ → Option (List ℕ) → HeadError → Type 0
-Stops waiting known error.EndedEarly = IfSome known (λ bytes. bytes ≡ waiting)
-Stops waiting known error.ReadFault = ⊤
-Stops waiting known error.Malformed = ⊥
-Stops waiting known error.TooLong = ⊥
-Stops waiting known error.NoRevision = ⊥
-Stops waiting known error.BadLength = ⊥
-Stops waiting known error.BodyTooLong = ⊥
-Stops waiting known error.Memory = ⊥
-Stops waiting known error.BadCoding = ⊥
-Stops waiting known error.BadChunk = ⊥
+Stops waiting known e = PartFails ⊥ (IfSome known (λ bytes. bytes ≡ waiting)) e

@@ -1,10 +1,8 @@
 //! The answers that are made here, and not by a pod.
 ghost use Rattle.std.specs.Prelude.{◌≡◌, IfOk};
-ghost use Rattle.http.specs.StatusCode.{status_text};
-ghost use Rattle.kn_head.specs.Answers.{status_of, text_of, answered, answer_for};
+ghost use Rattle.kn_head.specs.Answers.{answered, answer_for};
 
 use crate::head::HeadError;
-use http::StatusCode;
 use kn_event::{Memory, Text};
 use std::alloc::Global;
 
@@ -23,50 +21,42 @@ pub enum Answer {
     HistoryFull,
 }
 
-#[tactic(auto, unfolding(std::specs::Fmt::digits))]
-fn status(answer: Answer) -> StatusCode
-    ensures { status_text result ≡ status_of answer }
-{
-    match answer {
-        Answer::BadHead => StatusCode::BAD_REQUEST,
-        Answer::NoSuchRevision => StatusCode::NOT_FOUND,
-        Answer::BodyTooLong => StatusCode::PAYLOAD_TOO_LARGE,
-        Answer::HeadTooLong => StatusCode::REQUEST_HEADER_FIELDS_TOO_LARGE,
-        Answer::BadCoding => StatusCode::NOT_IMPLEMENTED,
-        Answer::LinkFailed => StatusCode::BAD_GATEWAY,
-        Answer::QueueFull | Answer::Overload | Answer::Expired => StatusCode::SERVICE_UNAVAILABLE,
-        Answer::HistoryFull => StatusCode::INSUFFICIENT_STORAGE,
+impl Answer {
+    /// The whole answer: its status line, three fields, an empty line and the text.
+    pub fn bytes(self) -> &'static [u8]
+        ensures { result.now ≡ answered self }
+    {
+        match self {
+            Answer::BadHead =>
+                b"HTTP/1.1 400 Bad Request\r\nContent-Type: text/plain\r\nContent-Length: 11\r\nConnection: close\r\n\r\nbad request",
+            Answer::NoSuchRevision =>
+                b"HTTP/1.1 404 Not Found\r\nContent-Type: text/plain\r\nContent-Length: 16\r\nConnection: close\r\n\r\nunknown revision",
+            Answer::BodyTooLong =>
+                b"HTTP/1.1 413 Payload Too Large\r\nContent-Type: text/plain\r\nContent-Length: 21\r\nConnection: close\r\n\r\nrequest body too long",
+            Answer::HeadTooLong =>
+                b"HTTP/1.1 431 Request Header Fields Too Large\r\nContent-Type: text/plain\r\nContent-Length: 21\r\nConnection: close\r\n\r\nrequest head too long",
+            Answer::BadCoding =>
+                b"HTTP/1.1 501 Not Implemented\r\nContent-Type: text/plain\r\nContent-Length: 32\r\nConnection: close\r\n\r\ntransfer coding is not supported",
+            Answer::LinkFailed =>
+                b"HTTP/1.1 502 Bad Gateway\r\nContent-Type: text/plain\r\nContent-Length: 15\r\nConnection: close\r\n\r\npod call failed",
+            Answer::QueueFull =>
+                b"HTTP/1.1 503 Service Unavailable\r\nContent-Type: text/plain\r\nContent-Length: 26\r\nConnection: close\r\n\r\npending request queue full",
+            Answer::Overload =>
+                b"HTTP/1.1 503 Service Unavailable\r\nContent-Type: text/plain\r\nContent-Length: 17\r\nConnection: close\r\n\r\ntoo many requests",
+            Answer::Expired =>
+                b"HTTP/1.1 503 Service Unavailable\r\nContent-Type: text/plain\r\nContent-Length: 27\r\nConnection: close\r\n\r\ntimed out waiting for a pod",
+            Answer::HistoryFull =>
+                b"HTTP/1.1 507 Insufficient Storage\r\nContent-Type: text/plain\r\nContent-Length: 12\r\nConnection: close\r\n\r\nhistory full",
+        }
     }
 }
 
-fn text(answer: Answer) -> &'static str
-    ensures { result.now ≡ text_of answer }
-{
-    match answer {
-        Answer::BadHead => "bad request",
-        Answer::NoSuchRevision => "unknown revision",
-        Answer::BodyTooLong => "request body too long",
-        Answer::HeadTooLong => "request head too long",
-        Answer::BadCoding => "transfer coding is not supported",
-        Answer::LinkFailed => "pod call failed",
-        Answer::QueueFull => "pending request queue full",
-        Answer::Overload => "too many requests",
-        Answer::Expired => "timed out waiting for a pod",
-        Answer::HistoryFull => "history full",
-    }
-}
-
-/// The bytes of an answer: its status line, three fields, an empty line and the text.
+/// A copy of an answer's bytes.
 pub fn answer_bytes(alloc: Global, answer: Answer) -> Result<Text, Memory>
     ensures { IfOk result (λ bytes. bytes ≡ answered answer) }
 {
-    let status = status(answer);
-    let text = text(answer);
-    let length = text.len();
-    match format!(in alloc;
-        "HTTP/1.1 {status}\r\nContent-Type: text/plain\r\nContent-Length: {length}\r\nConnection: close\r\n\r\n{text}"
-    ) {
-        Ok(bytes) => Ok(Text::new(bytes.into_bytes())),
+    match Vec::from_slice(alloc, answer.bytes()) {
+        Ok(bytes) => Ok(Text::new(bytes)),
         Err(_) => Err(Memory),
     }
 }

@@ -1,52 +1,28 @@
 //! A body in chunks.
-ghost use Rattle.std.specs.Prelude.{◌≡◌, ℕ, ◌≤◌, ◌<◌, List, ◌∷◌, ◌++◌, length, Option, vec_len, true, false, Ok, IfOk, IfErr, IfSome, IfNone, OnOk};
-ghost use Rattle.httparse.specs.Grammar.{ChunkLine, Field, LineEnd};
-ghost use Rattle.httparse.specs.Spans.{IsChunkLineAt, IsSectionAt};
+ghost use Rattle.std.specs.Prelude.{◌≡◌, ℕ, ◌≤◌, ◌<◌, List, ◌∷◌, ◌++◌, length, Option, vec_len, true, false, Ok, IfOk, IfErr, IfSome, OnOk};
 ghost use Rattle.kn_io.specs.Causes.{Rose};
+ghost use Rattle.kn_http.specs.Parts.{TrailerCut};
 ghost use Rattle.kn_head.specs.Told.{unread, IfTold, Draws, Stops};
-ghost use Rattle.kn_head.specs.Heads.{room, limit};
 ghost use Rattle.kn_head.specs.Rules.{body_limit};
-ghost use Rattle.kn_head.specs.Chunks.{IsSizeLine, IsTrailer, SizeRefused, IsUnfinishedSize, SizeFails, TrailerRefused, IsUnfinishedTrailer, TrailerFails, BytesFail, line_end_at, LineEndFails, TakesChunk, EndsChunks, IsChunked, ChunksFail};
+ghost use Rattle.kn_head.specs.Chunks.{request_bounds, IsSizeLine, IsTrailer, SizeFails, TrailerFails, BytesFail, LineEndFails, TakesChunk, EndsChunks, IsChunked, ChunksFail};
 
 use crate::head::HeadError;
 use crate::lines::line_feeds;
 use crate::window::Window;
-use httparse::spans::{EMPTY_HEADER_SPAN, HeaderSpan, parse_headers};
-use httparse::{Status, parse_chunk_size};
+use kn_http::{Bounds, Front, line_end, size_line, trailer};
 use kn_io::Source;
 use std::alloc::Global;
 
-/// The size line at the front with where it ends, or that more is wanted, or that it is refused.
-fn judge_size(bytes: &[u8]) -> Result<Option<(usize, u64)>, HeadError>
-    ensures whole { IfOk result (λ found. IfSome found (λ r. (line : ChunkLine) × IsChunkLineAt bytes.now r.0 r.1 line)) }
-    ensures more { IfOk result (λ found. IfNone found (IsUnfinishedSize bytes.now)) }
-    ensures refused { IfErr result (SizeRefused bytes.now) }
-{
-    match parse_chunk_size(bytes) {
-        Ok(Status::Complete(found)) => Ok(Some(found)),
-        Ok(Status::Partial) => Ok(None),
-        Err(_) => Err(HeadError::BadChunk),
-    }
-}
-
-/// The trailer at the front with where it ends, or that more is wanted, or that it is refused.
-fn judge_trailer(bytes: &[u8], spans: &mut [HeaderSpan]) -> Result<Option<usize>, HeadError>
-    requires { length spans.old ≡ room }
-    ensures whole { IfOk result (λ found. IfSome found (λ end. (count : ℕ) × (fields : List Field) × (last : LineEnd) × IsSectionAt bytes.now 0 spans.new end count fields last × (length fields ≤ room))) }
-    ensures more { IfOk result (λ found. IfNone found (IsUnfinishedTrailer bytes.now)) }
-    ensures refused { IfErr result (TrailerRefused bytes.now) }
-{
-    match parse_headers(bytes, spans) {
-        Ok(Status::Complete((end, _))) => Ok(Some(end)),
-        Ok(Status::Partial) => Ok(None),
-        Err(_) => Err(HeadError::BadChunk),
-    }
-}
+/// A size line has at most 1,024 bytes, and a trailer as many fields and bytes as a head.
+const BOUNDS: Bounds = Bounds {
+    line: Some(1024),
+    fields: 100,
+    trailer: Some(16384),
+};
 
 /// Why there is no trailer where the source stopped after these bytes: where it ended, more than 100 fields may have come.
 fn cut_trailer(stop: HeadError, bytes: &[u8]) -> HeadError
-    requires unfinished { IsUnfinishedTrailer bytes.now }
-    requires short { length bytes.now < limit }
+    requires { TrailerCut request_bounds bytes.now }
     ensures why { (known : Option (List ℕ)) → Stops bytes.now known stop → IfSome known (λ all. TrailerFails all result) }
     ensures fault { result ≡ HeadError.ReadFault → stop ≡ HeadError.ReadFault }
 {
@@ -64,18 +40,13 @@ fn take_size<S: Source>(source: &mut S, window: &mut Window) -> Result<u64, Head
     ensures source { Draws (S.left source.old) (S.left source.new) (S.apart source.old) (S.apart source.new) (S.Faulty.faults source.old) (S.Faulty.faults source.new) }
 {
     'pieces: loop {
-        let bytes = window.bytes();
-        let count = bytes.len().min(1024);
-        match judge_size(&bytes[..count]) {
-            Ok(Some((end, size))) => {
+        match size_line(window.bytes(), BOUNDS) {
+            Front::Whole((end, size)) => {
                 window.advance(end);
                 return Ok(size);
             }
-            Ok(None) => {}
-            Err(e) => return Err(e),
-        }
-        if count == 1024 {
-            return Err(HeadError::BadChunk);
+            Front::Cut => {}
+            Front::Never => return Err(HeadError::BadChunk),
         }
         match window.fill(source) {
             Ok(()) => {}
@@ -91,34 +62,19 @@ fn take_trailer<S: Source>(source: &mut S, window: &mut Window) -> Result<(), He
     ensures fault { result ≡ Err HeadError.ReadFault → Rose (S.Faulty.faults source.old) (S.Faulty.faults source.new) }
     ensures source { Draws (S.left source.old) (S.left source.new) (S.apart source.old) (S.apart source.new) (S.Faulty.faults source.old) (S.Faulty.faults source.new) }
 {
-    let mut spans = [EMPTY_HEADER_SPAN; 100];
     'pieces: loop {
-        match judge_trailer(window.bytes(), &mut spans) {
-            Ok(Some(end)) => {
+        match trailer(window.bytes(), BOUNDS) {
+            Front::Whole(end) => {
                 window.advance(end);
                 return Ok(());
             }
-            Ok(None) => {}
-            Err(e) => return Err(e),
-        }
-        if window.bytes().len() == 16384 {
-            return Err(HeadError::BadChunk);
+            Front::Cut => {}
+            Front::Never => return Err(HeadError::BadChunk),
         }
         match window.fill(source) {
             Ok(()) => {}
             Err(e) => return Err(cut_trailer(e, window.bytes())),
         }
-    }
-}
-
-fn judge_line_end(bytes: &[u8]) -> Result<bool, HeadError>
-    ensures { result ≡ line_end_at bytes.now }
-{
-    match bytes {
-        [] => Ok(false),
-        [first] if *first == b'\r' => Ok(false),
-        [first, second, ..] if *first == b'\r' && *second == b'\n' => Ok(true),
-        _ => Err(HeadError::BadChunk),
     }
 }
 
@@ -130,13 +86,13 @@ fn take_line_end<S: Source>(source: &mut S, window: &mut Window) -> Result<(), H
     ensures source { Draws (S.left source.old) (S.left source.new) (S.apart source.old) (S.apart source.new) (S.Faulty.faults source.old) (S.Faulty.faults source.new) }
 {
     'pieces: loop {
-        match judge_line_end(window.bytes()) {
-            Ok(true) => {
-                window.advance(2);
+        match line_end(window.bytes()) {
+            Front::Whole(end) => {
+                window.advance(end);
                 return Ok(());
             }
-            Ok(false) => {}
-            Err(e) => return Err(e),
+            Front::Cut => {}
+            Front::Never => return Err(HeadError::BadChunk),
         }
         match window.fill(source) {
             Ok(()) => {}

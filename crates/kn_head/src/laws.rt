@@ -8,6 +8,8 @@ ghost use Rattle.kn_head.specs.Chunks.{IsChunked};
 ghost use Rattle.kn_head.specs.Reading.{Reads};
 ghost use Rattle.kn_head.specs.Laws.{IsOkUnlessUntold, IsUntold, AreAlike, AreSameUnlessUntold};
 
+use kn_http::chunks_are_determined;
+
 /// The same bytes never have two answers, of which one is a request: where they begin with a request, each answer is this
 /// request, unless the source failed or memory was lacking. Bytes begin with one head at most, and with one body in chunks. Two
 /// causes for which there is no head are the same, but that EndedEarly or TooLong may stand for Malformed where the bytes end
@@ -20,4 +22,6 @@ pub fn answers_are_determined()
     ensures faults { (bytes : List ℕ) (e f : HeadError) → HeadFails bytes e → HeadFails bytes f → AreAlike bytes e f }
     ensures behind { (bytes rest : List ℕ) (h : RequestHead) (e f : HeadError) → BeginsWithHead bytes h rest → Reads bytes (Err e) → Reads bytes (Err f) → AreSameUnlessUntold e f }
     ensures chunked { (bytes v w r q : List ℕ) → IsChunked bytes v r → IsChunked bytes w q → (v ≡ w) × (r ≡ q) }
-{}
+{
+    chunks_are_determined();
+}

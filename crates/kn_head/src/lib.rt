@@ -15,7 +15,7 @@ mod rules;
 mod window;
 
 pub use answer::{Answer, answer_bytes};
-pub use forward::forward_bytes;
+pub use forward::{Forward, forward_bytes};
 pub use head::{Head, HeadError, Headers};
 pub use laws::answers_are_determined;
 pub use read::read_head;

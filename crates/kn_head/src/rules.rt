@@ -1,15 +1,11 @@
 //! What the fields of a head settle: whose request it is, and how its body comes.
-ghost use Rattle.std.specs.Prelude.{◌≡◌, ◌≢◌, true, ◌++◌, ◌∷◌, [], ℕ, List, IsTrue, None, Some, Err, MatchOption};
-ghost use Rattle.std.specs.List.{list_all};
-ghost use Rattle.std.specs.Char.{is_ascii_digit};
-ghost use Rattle.std.specs.Str.Parse.{digits_value};
-ghost use Rattle.http_header.specs.FieldName.{is_header_name};
+ghost use Rattle.std.specs.Prelude.{◌≡◌, ◌≢◌, ◌++◌, ◌∷◌, [], ℕ, List, map, None, Some, MatchOption};
+ghost use Rattle.std.specs.Char.{to_ascii_lowercase};
 ghost use Rattle.kn_head.specs.Fields.{values_named};
-ghost use Rattle.kn_head.specs.Rules.{is_length, form_by_length, form_by_coding, form_of, owner_of, AreValues};
+ghost use Rattle.kn_head.specs.Rules.{form_by_length, form_by_coding, form_of, owner_of, AreValues};
 
-use crate::fields::is_named;
 use crate::head::{HeadError, Headers};
-use std::str;
+use kn_http::{is_word, number};
 
 /// How a body comes: as so many bytes, or in chunks.
 #[derive(Clone, Copy, Debug)]
@@ -37,13 +33,13 @@ fn with_value<'a>(found: Values<'a>, value: &'a [u8]) -> Values<'a>
 }
 
 /// The values of the fields with this name, which is given in lower case.
-fn values_of<'a>(headers: &'a Headers, known: &'static str) -> Values<'a>
-    requires { IsTrue (is_header_name known.now) }
+fn values_of<'a>(headers: &'a Headers, known: &[u8]) -> Values<'a>
+    requires { map to_ascii_lowercase known.now ≡ known.now }
     ensures { AreValues (values_named known.now headers.now) result }
 {
     let mut found = Values::Absent;
     for field in headers.items() {
-        if is_named(field.0.bytes(), known) {
+        if is_word(field.0.bytes(), known) {
             found = with_value(found, field.1.bytes());
         }
     }
@@ -54,8 +50,8 @@ fn values_of<'a>(headers: &'a Headers, known: &'static str) -> Values<'a>
 pub(crate) fn owner(headers: &Headers) -> Option<(&[u8], &[u8])>
     ensures { MatchOption result (owner_of headers.now ≡ None) (λ owner. owner_of headers.now ≡ Some (owner.0.now, owner.1.now)) }
 {
-    let namespaces = values_of(headers, "knative-serving-namespace");
-    let revisions = values_of(headers, "knative-serving-revision");
+    let namespaces = values_of(headers, b"knative-serving-namespace");
+    let revisions = values_of(headers, b"knative-serving-revision");
     match namespaces {
         Values::One(namespace) => match revisions {
             Values::One(revision) => Some((namespace, revision)),
@@ -65,40 +61,16 @@ pub(crate) fn owner(headers: &Headers) -> Option<(&[u8], &[u8])>
     }
 }
 
-fn are_digits(value: &[u8]) -> bool
-    ensures { result ≡ list_all is_ascii_digit value.now }
-{
-    value.iter().all(|b| b.is_ascii_digit())
-}
-
-fn is_length(value: &[u8]) -> bool
-    ensures { result ≡ is_length value.now }
-{
-    1 <= value.len() && value.len() <= 19 && are_digits(value)
-}
-
-/// The number that 1 to 19 digits spell.
-fn number(value: &[u8]) -> u64
-    requires { is_length value.now ≡ true }
-    ensures { result ≡ digits_value 10 value.now }
-{
-    match str::from_utf8(value) {
-        Ok(digits) => digits.parse().unwrap_or(0),
-        Err(_) => 0,
-    }
-}
-
 fn form_of_length(value: &[u8]) -> Result<Form, HeadError>
     ensures { result ≡ form_by_length (value.now ∷ []) }
 {
-    if !is_length(value) {
+    if value.len() > 19 {
         return Err(HeadError::BadLength);
     }
-    let n = number(value);
-    if n <= 1_048_576 {
-        Ok(Form::Plain(n))
-    } else {
-        Err(HeadError::BodyTooLong)
+    match number(value) {
+        Some(n) if n <= 1_048_576 => Ok(Form::Plain(n)),
+        Some(_) => Err(HeadError::BodyTooLong),
+        None => Err(HeadError::BadLength),
     }
 }
 
@@ -117,7 +89,7 @@ fn form_of_codings(codings: Values) -> Result<Form, HeadError>
     ensures { (cs : List (List ℕ)) → AreValues cs codings.entry → cs ≢ [] → result ≡ form_by_coding cs [] }
 {
     match codings {
-        Values::One(coding) if is_named(coding, "chunked") => Ok(Form::Chunked),
+        Values::One(coding) if is_word(coding, b"chunked") => Ok(Form::Chunked),
         _ => Err(HeadError::BadCoding),
     }
 }
@@ -126,8 +98,8 @@ fn form_of_codings(codings: Values) -> Result<Form, HeadError>
 pub(crate) fn body_form(headers: &Headers) -> Result<Form, HeadError>
     ensures { result ≡ form_of headers.now }
 {
-    let codings = values_of(headers, "transfer-encoding");
-    let lengths = values_of(headers, "content-length");
+    let codings = values_of(headers, b"transfer-encoding");
+    let lengths = values_of(headers, b"content-length");
     match codings {
         Values::Absent => form_of_lengths(lengths),
         Values::One(_) | Values::Several => match lengths {

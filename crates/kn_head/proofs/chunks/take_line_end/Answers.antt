@@ -7,5 +7,5 @@ pieces-preserved g c = record {
   source = draws_more c.pieces.invariant.source c.in-Ok.ensures.source;
 }
 
-pub returns-in-Err-fill-clause-source : goal.returns-in-Err-fill-clause-source
-returns-in-Err-fill-clause-source g c = draws_more c.pieces.invariant.source c.fill.ensures.source
+pub returns-in-Err-clause-source : goal.returns-in-Err-clause-source
+returns-in-Err-clause-source g c = draws_more c.pieces.invariant.source c.fill.ensures.source

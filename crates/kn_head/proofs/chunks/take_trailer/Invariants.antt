@@ -1,7 +1,7 @@
-use Rattle.std.proofs.Common.{◌≡◌, ◌-◌, length}
+use Rattle.std.proofs.Common.{◌-◌, length}
 use Rattle.std.specs.Io.KnownBytes.{Keeps}
 use Rattle.kn_head.specs.Told.{unread, Draws}
-use Rattle.kn_head.specs.Heads.{limit, room}
+use Rattle.kn_head.specs.Heads.{limit}
 use Rattle.kn_head.proofs.chunks.take_trailer.Given as goal
 
 abbrev pub invariant-pieces : goal.invariant-pieces
@@ -9,7 +9,6 @@ invariant-pieces g l = record {
   stays : Keeps (unread l.fn.window (g.S.Source.left l.fn.source)) (unread l.window (g.S.Source.left l.source));
   source : Draws (g.S.Source.left l.fn.source) (g.S.Source.left l.source) (g.S.Source.apart l.fn.source) (g.S.Source.apart l.source)
       (g.S.Faulty.faults l.fn.source) (g.S.Faulty.faults l.source);
-  spans : length l.spans ≡ room;
 }
 
 abbrev pub decreases-pieces : goal.decreases-pieces

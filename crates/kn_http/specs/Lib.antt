@@ -1,0 +1,6 @@
+pub mod Names
+pub mod Numbers
+pub mod Chunks
+pub mod Parts
+pub mod Next
+pub mod Laws
