@@ -1,13 +1,14 @@
 //! `kactd`: serves clients through the pods of one revision, or with `many` of several, and prints the journals of what it did.
 #![tactic(auto)]
 
-ghost use Rattle.std.specs.Prelude.{◌≡◌, ◌≤◌, length, true};
-
 use kn_io::{MachineClock, OpenGate, ReaderSource, WriterSink};
+use kn_journal::Status;
 use kn_opener::{TcpOpener, TcpWideOpener};
 use kn_serve::{kactd_many_run, kactd_run};
-use std::env;
 use std::process::ExitCode;
+use std::sync::Wait;
+use std::thread::Threads;
+use std::{env, thread};
 
 /// The words after the program's name. Where they can't be had there are none, which is no command.
 fn words(rt: &HostRuntime) -> Vec<String> {
@@ -25,58 +26,66 @@ fn words(rt: &HostRuntime) -> Vec<String> {
     words
 }
 
-/// Whether the words ask for several revisions, by the first of them.
-fn are_many(words: &[String]) -> bool
-    ensures { result ≡ true → 1 ≤ length words.now }
-{
-    match words.first() {
-        Some(first) => first.as_str() == "many",
-        None => false,
+/// Whether a thread can be made beside this one.
+fn can_make_thread<T: Threads>(threads: &T) -> bool {
+    match thread::spawn(threads, || ()) {
+        Ok(made) => {
+            made.join(threads);
+            true
+        }
+        Err(_) => false,
     }
 }
 
+/// Serves one revision.
+fn serve_one<T: Threads + Wait + Sync>(rt: &HostRuntime, threads: &T, words: &[String]) -> Status {
+    let mut opener = TcpOpener::new(rt);
+    let mut slots = Vec::new(rt.alloc());
+    let mut keeper = None;
+    kactd_run(
+        threads,
+        rt.alloc(),
+        words,
+        &mut opener,
+        &mut ReaderSource::new(rt.stdin()),
+        &mut slots,
+        &mut keeper,
+        &MachineClock::new(rt),
+        &OpenGate,
+        &mut WriterSink::new(rt.stdout()),
+        &mut WriterSink::new(rt.stderr()),
+    )
+}
+
+/// Serves several revisions.
+fn serve_many<T: Threads + Wait + Sync>(rt: &HostRuntime, threads: &T, words: &[String]) -> Status {
+    let mut opener = TcpWideOpener::new(rt);
+    let mut slots = Vec::new(rt.alloc());
+    let mut keepers = Vec::new(rt.alloc());
+    kactd_many_run(
+        threads,
+        rt.alloc(),
+        words,
+        &mut opener,
+        &mut ReaderSource::new(rt.stdin()),
+        &mut slots,
+        &mut keepers,
+        &MachineClock::new(rt),
+        &OpenGate,
+        &mut WriterSink::new(rt.stdout()),
+        &mut WriterSink::new(rt.stderr()),
+    )
+}
+
 fn main(rt: HostRuntime) -> ExitCode {
-    let alloc = rt.alloc();
     let words = words(&rt);
-    let mut setups = ReaderSource::new(rt.stdin());
-    let clock = MachineClock::new(&rt);
-    let mut out = WriterSink::new(rt.stdout());
-    let mut err = WriterSink::new(rt.stderr());
-    let status = if are_many(&words) {
-        let words = &words[1..];
-        let mut opener = TcpWideOpener::new(&rt);
-        let mut slots = Vec::new(alloc);
-        let mut keepers = Vec::new(alloc);
-        kactd_many_run(
-            &rt,
-            alloc,
-            words,
-            &mut opener,
-            &mut setups,
-            &mut slots,
-            &mut keepers,
-            &clock,
-            &OpenGate,
-            &mut out,
-            &mut err,
-        )
-    } else {
-        let mut opener = TcpOpener::new(&rt);
-        let mut slots = Vec::new(alloc);
-        let mut keeper = None;
-        kactd_run(
-            &rt,
-            alloc,
-            &words,
-            &mut opener,
-            &mut setups,
-            &mut slots,
-            &mut keeper,
-            &clock,
-            &OpenGate,
-            &mut out,
-            &mut err,
-        )
+    if !can_make_thread(&rt) {
+        // Nobody is told where standard error takes nothing.
+        let _ = eprintln!(rt; "kactd: no thread can be made, so everything is done in one");
+    }
+    let status = match words.split_first() {
+        Some((first, rest)) if first.as_str() == "many" => serve_many(&rt, &rt, rest),
+        _ => serve_one(&rt, &rt, &words),
     };
     ExitCode::from(status.code())
 }

@@ -10,8 +10,10 @@ use Rattle.httparse.specs.Ascii.{crlf_bytes}
 use Rattle.httparse.specs.Grammar.{AllPass, Field, IsField, IsResponseHead, LineEnd, ResponseHead, crlf, lf, is_token_byte, is_value_byte, print_blank, print_end, print_field, print_reason, print_response, print_version, reason_phrase, trim_ows}
 use Rattle.httparse.specs.Spans.{name_and_value}
 use Rattle.httparse.proofs.TrimLemmas.{AllPass-trim_ows}
-use Rattle.kn_tcp.specs.Replies.{is_chunks_coding, is_coding, is_word, ends_in_chunks}
-use Rattle.kn_tcp.specs.Ends.{ReadsBody, ReadsBodyAs, agrees, is_length, says}
+use Rattle.kn_http.specs.Names.{is_word}
+use Rattle.kn_http.specs.Numbers.{says}
+use Rattle.kn_tcp.specs.Replies.{is_chunks_coding, is_coding, ends_in_chunks}
+use Rattle.kn_tcp.specs.Ends.{ReadsBody, ReadsBodyAs, agrees, is_length}
 use Rattle.kn_tcp.specs.Closing.{closing_field, closing_head, field_line, is_kept, kept_lines, last_lines, line_start, status_line}
 use Rattle.kn_tcp.proofs.Replied.{both}
 use Rattle.kn_tcp.proofs.Trimmed.{length-trim_ows, trimmed}
@@ -128,7 +130,7 @@ apart_words : (w u bytes : List ℕ) → bytes_eq w u ≡ false → is_word w by
 apart_words w u bytes apart is =
     subst (λ l. bytes_eq l u ≡ false) (sym ((bytes_eq-Decides (map to_ascii_lowercase bytes) w).0 is)) apart
 
-three : (a b c : Bool) → not (a || b || c) ≡ false → (a ≡ true) ⊎ ((b ≡ true) ⊎ (c ≡ true))
+three : (a b c : Bool) → not (a || (b || (c || false))) ≡ false → (a ≡ true) ⊎ ((b ≡ true) ⊎ (c ≡ true))
 three true b c e = inl refl
 three false true c e = inr (inl refl)
 three false false true e = inr (inr refl)

@@ -8,8 +8,10 @@ use Rattle.httparse.specs.Spans.{header_bytes}
 use Rattle.kn_tcp.specs.declared.reply.Stage.{Stage}
 use Rattle.kn_tcp.specs.declared.reply.Stage.TheVariants as stage
 use Rattle.kn_tcp.specs.declared.chunks.Followed.TheVariants as followed
+use Rattle.kn_tcp.specs.declared.reply.Judged.TheVariants as judged
+use Rattle.kn_http.specs.Numbers.{says}
 use Rattle.kn_tcp.specs.Replies.{is_coding, is_chunks_coding}
-use Rattle.kn_tcp.specs.Ends.{most_reply, ReadsChunks, ReadsReply, is_length, says, agrees, IsStageOf, Meets, FollowedIs, NoReply, NeverReply, MeetsAny, StageReads, StageWithin}
+use Rattle.kn_tcp.specs.Ends.{most_reply, ReadsChunks, ReadsReply, is_length, agrees, IsStageOf, Meets, JudgedIs, FollowedIs, NoReply, NeverReply, MeetsAny, StageReads, StageWithin}
 use Rattle.kn_tcp.proofs.Wholes.{blank, all_at}
 
 -- ---- lengths
@@ -77,6 +79,14 @@ chunks_open request reply at n m f =
       λ rest reads. f.1 rest (subst (λ b. ReadsChunks b rest) (from [] ∙ append-nil (drop at reply))
           (m.to [] rest (with_nil request reply rest reads))),
     )
+
+pub chunks_ended : (request reply : List ℕ) (at n : ℕ) → Meets request reply (stage.Chunks at) → FollowedIs reply at (followed.Ended n)
+    → JudgedIs request reply (judged.Ended n)
+chunks_ended request reply at n m f = (
+  f.0,
+  λ more. m.back more (drop n reply ++ more)
+      (subst (λ b. ReadsChunks b (drop n reply ++ more)) (sym (drop-append-le at reply more m.within)) (f.1 more)),
+)
 
 pub chunks_never : (request reply : List ℕ) (at : ℕ) → Meets request reply (stage.Chunks at) → FollowedIs reply at followed.Never
     → NeverReply request reply

@@ -59,7 +59,7 @@ is_of : (k : ℕ) (bytes : List ℕ) (head : ResponseHead) (body : List ℕ) →
 is_of k bytes head body (answer fewer there few final) = there.0
 is_of k bytes head body (interim before text fewer there few goes later) = is_of (k + 1) text head body later
 
-same_front : (front other : List ℕ) (head : ResponseHead) (body bytes : List ℕ) → bytes ≡ front ++ print_response head ++ body
+pub same_front : (front other : List ℕ) (head : ResponseHead) (body bytes : List ℕ) → bytes ≡ front ++ print_response head ++ body
     → bytes ≡ other ++ (print_response head ++ body) → other ≡ front
 same_front front other head body bytes x y =
     append_cancel_right other front (print_response head ++ body) (sym y ∙ (x ∙ append_assoc front (print_response head) body))
@@ -175,23 +175,34 @@ longer reply text c =
 
 -- ---- where it is written
 
+-- what an answer's head and the bytes behind it are
+pub heads_at : (reply : List ℕ) (spans : List HeaderSpan) (start : ℕ) (r : ResponseSpans) (found : IsHeadAt reply spans start r)
+    → ReadsHeads 0 reply found.head (drop r.len (drop start reply))
+heads_at reply spans start r found =
+    let behind = drop r.len (drop start reply) in
+    subst (λ b. ReadsHeads 0 b found.head behind) (append-nil reply)
+    (subst (λ b. ReadsHeads 0 (reply ++ []) found.head b) (append-nil behind)
+    ((found.same [] found.head (behind ++ [])).1
+    (answer found.fewer (ReadsResponse-append (drop start reply) found.head behind [] found.parts.reads) found.few
+    (ap is_interim (sym found.parts.code) ∙ found.final))))
+
+pub came_at : (reply : List ℕ) (spans : List HeaderSpan) (start : ℕ) (r : ResponseSpans) (found : IsHeadAt reply spans start r)
+    → reply ≡ take start reply ++ print_response found.head ++ drop r.len (drop start reply)
+came_at reply spans start r found =
+    sym (take-append-drop start reply)
+    ∙ (ap (λ l. take start reply ++ l) found.parts.reads.1
+    ∙ sym (append_assoc (take start reply) (print_response found.head) (drop r.len (drop start reply))))
+
 pub closes_at : (reply text : List ℕ) (spans : List HeaderSpan) (start : ℕ) (r : ResponseSpans) (found : IsHeadAt reply spans start r)
     → text ≡ take start reply ++ handed_head found.head ++ drop r.len (drop start reply) → Closes reply text
-closes_at reply text spans start r found goes =
-    let behind = drop r.len (drop start reply) in
-    record {
-      interim = take start reply;
-      head = found.head;
-      body = behind;
-      heads = subst (λ b. ReadsHeads 0 b found.head behind) (append-nil reply)
-          (subst (λ b. ReadsHeads 0 (reply ++ []) found.head b) (append-nil behind)
-          ((found.same [] found.head (behind ++ [])).1
-          (answer found.fewer (ReadsResponse-append (drop start reply) found.head behind [] found.parts.reads) found.few
-          (ap is_interim (sym found.parts.code) ∙ found.final))));
-      came = sym (take-append-drop start reply)
-          ∙ (ap (λ l. take start reply ++ l) found.parts.reads.1 ∙ sym (append_assoc (take start reply) (print_response found.head) behind));
-      goes = goes;
-    }
+closes_at reply text spans start r found goes = record {
+  interim = take start reply;
+  head = found.head;
+  body = drop r.len (drop start reply);
+  heads = heads_at reply spans start r found;
+  came = came_at reply spans start r found;
+  goes = goes;
+}
 
 pub joined : (reply text front behind a b d e head : List ℕ) (start n : ℕ) → a ≡ [] → front ≡ take start reply → text ≡ drop start reply
     → b ≡ a ++ front → d ≡ b ++ head → e ≡ d ++ behind → behind ≡ drop n text

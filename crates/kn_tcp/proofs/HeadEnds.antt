@@ -1,7 +1,7 @@
 -- Where the heads of a reply end.
 use Rattle.std.proofs.Common.{◌≡◌, ◌<◌, ◌≤◌, ◌+◌, ℕ, Bool, List, [], ◌++◌, length, take, drop, map, true, false, sym, subst, ap, ◌∙◌, arith, rules, append-nil, length-append}
-use Rattle.std.proofs.lemmas.List.{drop-append-le, drop-drop}
-use Rattle.httparse.specs.Grammar.{ResponseHead, ReadsResponse, HasNoResponse, status_code}
+use Rattle.std.proofs.lemmas.List.{drop-append-le, drop-drop, length-map, length-take-le}
+use Rattle.httparse.specs.Grammar.{Field, ResponseHead, ReadsResponse, HasNoResponse, status_code}
 use Rattle.httparse.specs.Spans.{IsResponseAt, IsResponseWithin, ResponseOverflows, header_bytes, name_and_value}
 use Rattle.httparse.specs.declared.spans.HeaderSpan.{HeaderSpan}
 use Rattle.httparse.specs.declared.spans.ResponseSpans.{ResponseSpans}
@@ -10,6 +10,21 @@ use Rattle.kn_tcp.specs.declared.reply.Stage.{Stage}
 use Rattle.kn_tcp.proofs.Bodies.{within_more}
 use Rattle.kn_tcp.specs.Replies.{is_interim, has_no_body}
 use Rattle.kn_tcp.specs.Ends.{most_fields, most_heads, IsHeadAt, ReadsHeads, answer, interim, ReadsReply, ReadsBody, IsStageOf, NoStage, StageWithin, Meets, NoHeads, NeverHeads, NeverReply, SameHeads}
+
+-- the fields that the first spans cover are within their room
+pub few_fields : (buf : List ℕ) (spans : List HeaderSpan) (count : ℕ) (fields : List Field)
+    → map (header_bytes buf) (take count spans) ≡ map name_and_value fields → count ≤ length spans → length spans ≡ most_fields
+    → length fields ≤ most_fields
+few_fields buf spans count fields same fits room =
+    omega (
+      arith,
+      fits,
+      room,
+      ap length same,
+      length-map (take count spans) (header_bytes buf),
+      length-map fields name_and_value,
+      length-take-le count spans fits,
+    )
 
 apart : {b : Bool} → b ≡ true → b ≡ false → ⊥
 apart {b} x y = absurd (differ (sym x ∙ y))
@@ -58,10 +73,6 @@ never_head k text more head rest over (answer fewer there few final) =
 never_head k text more head rest over (interim before next fewer there few goes later) =
     let many = over more before next there in absurd (omega (arith, many, few))
 
-too_many : (k : ℕ) (text : List ℕ) (head : ResponseHead) (rest : List ℕ) → ¬ (k < most_heads) → ¬ (ReadsHeads k text head rest)
-too_many k text head rest full (answer fewer there few final) = full fewer
-too_many k text head rest full (interim before next fewer there few goes later) = full fewer
-
 pub cut_heads : (bytes text : List ℕ) (k : ℕ) → SameHeads k bytes text → HasNoResponse text → NoHeads bytes
 cut_heads bytes text k same none head rest r =
     no_head k text head rest none (subst (λ t. ReadsHeads k t head rest) (append-nil text)
@@ -69,9 +80,6 @@ cut_heads bytes text k same none head rest r =
 
 pub never_heads : (bytes text : List ℕ) (k : ℕ) → SameHeads k bytes text → ResponseOverflows most_fields text → NeverHeads bytes
 never_heads bytes text k same over more head rest r = never_head k text more head rest over ((same more head rest).0 r)
-
-pub full_heads : (bytes text : List ℕ) (k : ℕ) → SameHeads k bytes text → ¬ (k < most_heads) → NeverHeads bytes
-full_heads bytes text k same full more head rest r = too_many k (text ++ more) head rest full ((same more head rest).0 r)
 
 -- ---- the answer's head
 

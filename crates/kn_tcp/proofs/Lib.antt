@@ -2,9 +2,11 @@ pub mod Anew
 pub mod Bodies
 pub mod ChunkEnds
 pub mod Closed
-pub mod Digits
 pub mod HeadEnds
 pub mod OneReply
+pub mod PlainChunks
+pub mod PlainHeads
+pub mod Puts
 pub mod Replied
 pub mod Trimmed
 pub mod Wholes

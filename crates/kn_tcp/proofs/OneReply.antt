@@ -5,12 +5,11 @@ use Rattle.std.specs.List.{list_all, list_any}
 use Rattle.std.specs.Char.{is_ascii_digit}
 use Rattle.std.specs.Str.Parse.{digits_value}
 use Rattle.std.proofs.lemmas.List.{drop_at, append_cancel_right}
-use Rattle.httparse.specs.Grammar.{ReadsSection, ResponseHead, chunk_size, status_code}
+use Rattle.httparse.specs.Grammar.{ResponseHead, status_code}
 use Rattle.httparse.specs.Spans.{name_and_value}
-use Rattle.httparse.proofs.ChunkLemmas.{chunk_line_unique}
-use Rattle.httparse.proofs.GrammarLemmas.{section_unique}
+use Rattle.kn_http.specs.Laws.{AreDetermined}
 use Rattle.kn_tcp.specs.Replies.{has_no_body, is_chunks_coding, is_coding}
-use Rattle.kn_tcp.specs.Ends.{ReadsHeads, answer, interim, ReadsChunks, ends, goes_on, ReadsBody, ReadsBodyAs, ReadsReply, IsReplyOf, is_length, agrees}
+use Rattle.kn_tcp.specs.Ends.{ReadsHeads, answer, interim, reply_bounds, ReadsBody, ReadsBodyAs, ReadsReply, IsReplyOf, is_length, agrees}
 use Rattle.kn_tcp.proofs.HeadEnds.{last_head, after_head}
 use Rattle.kn_tcp.proofs.Replied.{both}
 
@@ -22,23 +21,6 @@ heads_unique k bytes h g r q (answer fewer there few final) y =
 heads_unique k bytes h g r q (interim before text fewer there few goes later) y =
     let next = after_head k bytes before text [] g q there goes (subst (λ b. ReadsHeads k b g q) (sym (append-nil bytes)) y) in
     heads_unique (k + 1) text h g r q later (subst (λ t. ReadsHeads (k + 1) t g q) (append-nil text) next)
-
-chunks_unique : (b r q : List ℕ) → ReadsChunks b r → ReadsChunks b q → r ≡ q
-chunks_unique b r q (ends l f e t reads zero section few) (ends l' f' e' t' reads' zero' section' few') =
-    let same = chunk_line_unique b l l' t t' reads reads' in
-    (section_unique t' f f' e e' r q (subst (λ x. ReadsSection x f e r) same.1 section) section').2
-chunks_unique b r q (ends l f e t reads zero section few) (goes_on l' p' n' reads' size' some' whole') =
-    let same = chunk_line_unique b l l' t (p' ++ (13 ∷ 10 ∷ n')) reads reads' in
-    absurd (omega (arith, zero, some', ap chunk_size same.0))
-chunks_unique b r q (goes_on l p n reads size some whole) (ends l' f' e' t' reads' zero' section' few') =
-    let same = chunk_line_unique b l l' (p ++ (13 ∷ 10 ∷ n)) t' reads reads' in
-    absurd (omega (arith, zero', some, ap chunk_size same.0))
-chunks_unique b r q (goes_on l p n reads size some whole) (goes_on l' p' n' reads' size' some' whole') =
-    let same = chunk_line_unique b l l' (p ++ (13 ∷ 10 ∷ n)) (p' ++ (13 ∷ 10 ∷ n')) reads reads' in
-    let long : length p' ≡ length p = omega (arith, size, size', ap chunk_size same.0) in
-    let behind : 13 ∷ 10 ∷ n ≡ 13 ∷ 10 ∷ n' =
-    sym (drop_at p (13 ∷ 10 ∷ n) (length p) refl) ∙ (ap (drop (length p)) same.1 ∙ drop_at p' (13 ∷ 10 ∷ n') (length p) long) in
-    chunks_unique n' r q (subst (λ x. ReadsChunks x r) (ap (drop 2) behind) whole) whole'
 
 -- ---- lengths
 
@@ -69,26 +51,26 @@ one_length n m (field ∷ fields) any p q =
         ∙ here m e (both (agrees m field) (list_all (agrees m) fields) q).0
     by_named false e later = later e
 
-body_unique : (a b c d : Bool) (fields : List (List ℕ × List ℕ)) (bytes r q : List ℕ) → list_any is_length fields ≡ d
+body_unique : AreDetermined → (a b c d : Bool) (fields : List (List ℕ × List ℕ)) (bytes r q : List ℕ) → list_any is_length fields ≡ d
     → ReadsBodyAs a b c d fields bytes r → ReadsBodyAs a b c d fields bytes q → r ≡ q
-body_unique true b c d fields bytes r q said x y = x ∙ sym y
-body_unique false true c d fields bytes r q said x y = chunks_unique bytes r q x y
-body_unique false false true d fields bytes r q said x y = x ∙ sym y
-body_unique false false false true fields bytes r q said x y =
+body_unique one true b c d fields bytes r q said x y = x ∙ sym y
+body_unique one false true c d fields bytes r q said x y = (one.body reply_bounds bytes x.0 y.0 r q x.1 y.1).1
+body_unique one false false true d fields bytes r q said x y = x ∙ sym y
+body_unique one false false false true fields bytes r q said x y =
     let long = one_length (length x.0) (length y.0) fields said x.3 y.3 in
     sym (drop_at x.0 r (length x.0) refl) ∙ (ap (drop (length x.0)) (sym x.1 ∙ y.1) ∙ drop_at y.0 q (length x.0) (sym long))
-body_unique false false false false fields bytes r q said x y = x ∙ sym y
+body_unique one false false false false fields bytes r q said x y = x ∙ sym y
 
-pub one_rest : (request sent r q : List ℕ) → ReadsReply request sent r → ReadsReply request sent q → r ≡ q
-one_rest request sent r q x y =
+pub one_rest : AreDetermined → (request sent r q : List ℕ) → ReadsReply request sent r → ReadsReply request sent q → r ≡ q
+one_rest one request sent r q x y =
     let same = heads_unique 0 sent y.head x.head y.body x.body y.heads x.heads in
     let fields = map name_and_value x.head.fields in
     let there = subst (λ (h : ResponseHead). ReadsBody (has_no_body request (status_code h)) (map name_and_value h.fields) y.body q) same.0 y.ends in
     let moved = subst (λ b. ReadsBody (has_no_body request (status_code x.head)) fields b q) same.1 there in
-    body_unique (has_no_body request (status_code x.head)) (list_any is_chunks_coding fields) (list_any is_coding fields) (list_any is_length fields)
+    body_unique one (has_no_body request (status_code x.head)) (list_any is_chunks_coding fields) (list_any is_coding fields) (list_any is_length fields)
     fields x.body r q refl x.ends moved
 
-pub one_reply : (request sent a b : List ℕ) → IsReplyOf request sent a → IsReplyOf request sent b → a ≡ b
-one_reply request sent a b x y =
-    let same = one_rest request sent x.0 y.0 x.2 y.2 in
+pub one_reply : AreDetermined → (request sent a b : List ℕ) → IsReplyOf request sent a → IsReplyOf request sent b → a ≡ b
+one_reply one request sent a b x y =
+    let same = one_rest one request sent x.0 y.0 x.2 y.2 in
     append_cancel_right a b x.0 (sym x.1 ∙ (y.1 ∙ ap (λ l. b ++ l) (sym same)))

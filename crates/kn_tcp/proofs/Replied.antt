@@ -10,9 +10,9 @@ use Rattle.httparse.specs.Grammar.{ResponseHead, ReadsResponse, print_response, 
 use Rattle.httparse.specs.Spans.{name_and_value}
 use Rattle.kn_tcp.specs.declared.reply.Stage.TheVariants as stage
 use Rattle.kn_tcp.specs.declared.reply.Judged.TheVariants as judged
-use Rattle.kn_tcp.specs.Chunks.{HasChunks, last, chunk}
+use Rattle.kn_http.specs.Numbers.{says}
 use Rattle.kn_tcp.specs.Replies.{FollowsInterims, none, one_more, IsWholeAs, IsWholeReply, is_interim, allows, is_met}
-use Rattle.kn_tcp.specs.Ends.{ReadsHeads, answer, interim, ReadsChunks, ends, goes_on, ReadsReply, ReadsBodyAs, IsReplyOf, Meets, JudgedIs, is_length, says, agrees}
+use Rattle.kn_tcp.specs.Ends.{ReadsHeads, answer, interim, reply_bounds, ReadsChunks, ReadsReply, ReadsBodyAs, IsReplyOf, Meets, JudgedIs, is_length, agrees}
 use Rattle.kn_tcp.proofs.ChunkEnds.{chunks_alone}
 
 -- ---- alone
@@ -90,10 +90,6 @@ follows_heads reply k bytes head body follows (answer fewer there few final) = (
 follows_heads reply k bytes head body follows (interim before text fewer there few goes later) =
     follows_heads reply (k + 1) text head body (one_more before text follows there goes) later
 
-pub has_chunks : (bytes rest : List ℕ) → ReadsChunks bytes rest → HasChunks bytes
-has_chunks bytes rest (ends line fields end trailer reads zero section few) = last line fields end trailer rest reads zero section
-has_chunks bytes rest (goes_on line piece next reads size some whole) = chunk line piece next reads size (has_chunks next rest whole)
-
 -- a length that says so many is met by them
 says_is_met : (n : ℕ) (a b : Bool) (v : ℕ) → a && b && (v == n) ≡ true → a && b && nat_le v n ≡ true
 says_is_met n true true v e = grind (arith, rules)
@@ -134,7 +130,7 @@ none_said n (field ∷ fields) e =
 pub whole_body : (a b c d : Bool) (fields : List (List ℕ × List ℕ)) (bytes : List ℕ) → d ≡ list_any is_length fields
     → ReadsBodyAs a b c d fields bytes [] → IsTrue a ⊎ IsWholeAs b c fields bytes
 whole_body true b c d fields bytes said r = inl refl
-whole_body false true c d fields bytes said r = inr (has_chunks bytes [] r)
+whole_body false true c d fields bytes said r = inr (reply_bounds, r.0, [], r.1)
 whole_body false false true d fields bytes said r = inr tt
 whole_body false false false true fields bytes said r = inr (truth (all_met (length bytes) fields same))
   where

@@ -77,6 +77,14 @@ kept_next out text xs i within =
 
 -- ---- the head
 
+module _ (text : List ℕ) (spans : List HeaderSpan) (r : ResponseSpans) (h : ResponseHead) (parts : IsResponseAt text spans r h) where
+  pub same_line : status_line r.version (three_digits r.code) (span_bytes text r.reason) ≡ status_line h.minor h.digits (reason_phrase h.reason)
+  same_line =
+      let digits : three_digits r.code ≡ h.digits =
+      ap three_digits parts.code ∙ same_digits h.digits parts.reads.0.digits.0 parts.reads.0.digits.1 in
+      ap (λ v. status_line v (three_digits r.code) (span_bytes text r.reason)) parts.version
+      ∙ (ap (λ d. status_line h.minor d (span_bytes text r.reason)) digits ∙ ap (status_line h.minor h.digits) parts.reason)
+
 module _ (out text : List ℕ) (spans : List HeaderSpan) (r : ResponseSpans) (h : ResponseHead) (parts : IsResponseAt text spans r h) where
   pub as_came : r.code ≡ 101 → out ++ take r.len text ≡ out ++ handed_head h
   unfolding handed_head
@@ -91,15 +99,10 @@ module _ (out text : List ℕ) (spans : List HeaderSpan) (r : ResponseSpans) (h 
       ++ kept_lines (map (header_bytes text) (take r.headers spans)) ++ (codes "Connection: close" ++ crlf_bytes ++ crlf_bytes)) ≡ out ++ handed_head h
   unfolding handed_head closing_head last_lines
   anew other =
-      let digits : three_digits r.code ≡ h.digits =
-      ap three_digits parts.code ∙ same_digits h.digits parts.reads.0.digits.0 parts.reads.0.digits.1 in
-      let line : status_line r.version (three_digits r.code) (span_bytes text r.reason) ≡ status_line h.minor h.digits (reason_phrase h.reason) =
-      ap (λ v. status_line v (three_digits r.code) (span_bytes text r.reason)) parts.version
-      ∙ (ap (λ d. status_line h.minor d (span_bytes text r.reason)) digits ∙ ap (status_line h.minor h.digits) parts.reason) in
       let s = status_line h.minor h.digits (reason_phrase h.reason) in
       let k = kept_lines (map name_and_value h.fields) in
       let l = codes "Connection: close" ++ crlf_bytes ++ crlf_bytes in
-      ap₂ (λ a b. out ++ a ++ kept_lines b ++ l) line parts.fields
+      ap₂ (λ a b. out ++ a ++ kept_lines b ++ l) (same_line text spans r h parts) parts.fields
       ∙ (ap (λ a. a ++ l) (append_assoc out s k) ∙ (append_assoc out (s ++ k) l
       ∙ ap (λ a. out ++ a) (sym (cond-false (status_code h == 101) (print_response h) (closing_head h)
       (ne_eqb (status_code h) 101 (λ e. other (parts.code ∙ e)))))))

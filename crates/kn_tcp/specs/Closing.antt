@@ -1,20 +1,16 @@
 -- What a client is handed of a pod's reply. Its connection ends with the answer, whatever the pod does with its own.
-use Rattle.std.specs.Prelude.{◌≡◌, ℕ, ◌+◌, ◌/◌, ◌%◌, ◌≤◌, Bool, not, ◌||◌, ◌==◌, if◌then◌else◌, List, [], ◌∷◌, ◌++◌, length, map, codes}
+use Rattle.std.specs.Prelude.{◌≡◌, ℕ, ◌+◌, ◌/◌, ◌%◌, ◌≤◌, Bool, not, ◌==◌, if◌then◌else◌, List, [], ◌∷◌, ◌++◌, length, map, codes}
 use Rattle.std.specs.List.{filter, flat_map}
 use Rattle.httparse.specs.Ascii.{crlf_bytes}
 use Rattle.httparse.specs.Grammar.{ResponseHead, print_version, print_response, reason_phrase, status_code}
 use Rattle.httparse.specs.Spans.{name_and_value}
-use Rattle.kn_tcp.specs.Replies.{IsWholeReply, is_word}
+use Rattle.kn_http.specs.Names.{connection_names, is_among}
+use Rattle.kn_tcp.specs.Replies.{IsWholeReply}
 use Rattle.kn_tcp.specs.Ends.{most_fields, most_reply, ReadsHeads, ReadsReply}
 
--- a field of this name belongs to one connection
-abbrev pub is_of_connection : List ℕ → Bool
-is_of_connection name =
-    is_word (codes "connection") name || is_word (codes "keep-alive") name || is_word (codes "proxy-connection") name
-
--- a field stays
+-- a field stays, unless it belongs to one connection
 abbrev pub is_kept : List ℕ × List ℕ → Bool
-is_kept field = not (is_of_connection field.0)
+is_kept field = not (is_among connection_names field.0)
 
 -- a number below 1,000 in three digits
 abbrev pub three_digits : ℕ → List ℕ

@@ -1,15 +1,15 @@
 -- Where a pod's reply to a request ends. The forms of heads, of size lines and of trailers are those that httparse reads.
-use Rattle.std.specs.Prelude.{◌≡◌, ℕ, ◌<◌, ◌≤◌, ◌+◌, Bool, true, false, not, ◌&&◌, ◌||◌, ◌==◌, nat_lt, List, [], ◌∷◌, ◌++◌, length, drop, map, codes, Option, None, Some, ⊤}
+use Rattle.std.specs.Prelude.{◌≡◌, ℕ, ◌<◌, ◌≤◌, ◌+◌, Bool, true, false, not, ◌||◌, List, [], ◌++◌, length, drop, map, codes, Option, None, Some, ⊤}
 use Rattle.std.specs.List.{list_all, list_any}
-use Rattle.std.specs.Char.{is_ascii_digit}
-use Rattle.std.specs.Str.Parse.{digits_value}
-use Rattle.httparse.specs.Grammar.{ChunkLine, ReadsChunkLine, chunk_size, Field, LineEnd, ReadsSection, ResponseHead, ReadsResponse, status_code}
+use Rattle.httparse.specs.Grammar.{ResponseHead, ReadsResponse, status_code}
 use Rattle.httparse.specs.Spans.{IsResponseAt, IsResponseWithin, name_and_value}
 use Rattle.httparse.specs.declared.spans.HeaderSpan.{HeaderSpan}
 use Rattle.httparse.specs.declared.spans.ResponseSpans.{ResponseSpans}
-use Rattle.kn_tcp.specs.Replies.{is_word, is_coding, is_chunks_coding, is_interim, has_no_body}
-use Rattle.kn_tcp.specs.declared.chunks.Chunk.{Chunk}
-use Rattle.kn_tcp.specs.declared.chunks.Chunk.TheVariants as chunk
+use Rattle.kn_http.specs.declared.parts.Bounds.{Bounds}
+use Rattle.kn_http.specs.Chunks.{IsChunked}
+use Rattle.kn_http.specs.Names.{is_word}
+use Rattle.kn_http.specs.Numbers.{says}
+use Rattle.kn_tcp.specs.Replies.{is_coding, is_chunks_coding, is_interim, has_no_body}
 use Rattle.kn_tcp.specs.declared.chunks.Followed.{Followed}
 use Rattle.kn_tcp.specs.declared.chunks.Followed.TheVariants as followed
 use Rattle.kn_tcp.specs.declared.reply.Stage.{Stage}
@@ -37,22 +37,16 @@ pub data ReadsHeads : ℕ → List ℕ → ResponseHead → List ℕ → Type 0 
       → k < most_heads → ReadsResponse bytes before text → length before.fields ≤ most_fields
       → is_interim (status_code before) ≡ true → ReadsHeads (k + 1) text head rest → ReadsHeads k bytes head rest
 
--- the bytes are a body in chunks and the rest: a size line of 0 and a trailer; or another size line, so many bytes, CR LF and
--- again such a body
-pub data ReadsChunks : List ℕ → List ℕ → Type 0 where
-  ends : {bytes rest : List ℕ} → (line : ChunkLine) (fields : List Field) (end : LineEnd) (trailer : List ℕ)
-      → ReadsChunkLine bytes line trailer → chunk_size line ≡ 0 → ReadsSection trailer fields end rest
-      → length fields ≤ most_fields → ReadsChunks bytes rest
-  goes_on : {bytes rest : List ℕ} → (line : ChunkLine) (piece more : List ℕ)
-      → ReadsChunkLine bytes line (piece ++ (13 ∷ 10 ∷ more)) → length piece ≡ chunk_size line → 0 < chunk_size line
-      → ReadsChunks more rest → ReadsChunks bytes rest
+-- a size line and a trailer may have any number of bytes
+abbrev pub reply_bounds : Bounds
+reply_bounds = record { line = None; fields = most_fields; trailer = None }
+
+-- the bytes are a body in chunks and the rest
+abbrev pub ReadsChunks : List ℕ → List ℕ → Type 0
+ReadsChunks bytes rest = (value : List ℕ) × IsChunked reply_bounds bytes value rest
 
 abbrev pub is_length : List ℕ × List ℕ → Bool
 is_length field = is_word (codes "content-length") field.0
-
--- digits that say so many
-abbrev pub says : ℕ → List ℕ → Bool
-says count value = nat_lt 0 (length value) && list_all is_ascii_digit value && (digits_value 10 value == count)
 
 -- a field is no length, or says so many
 abbrev pub agrees : ℕ → List ℕ × List ℕ → Bool
@@ -131,13 +125,6 @@ abbrev pub SameChunks : List ℕ → List ℕ → Type 0
 SameChunks bytes next =
     (more rest : List ℕ) → (ReadsChunks (bytes ++ more) rest → ReadsChunks (next ++ more) rest)
     × (ReadsChunks (next ++ more) rest → ReadsChunks (bytes ++ more) rest)
-
--- what is said of the chunk at the front
-abbrev pub ChunkIs : List ℕ → Chunk → Type 0
-ChunkIs bytes (chunk.Last n) = (n ≤ length bytes) × ((more : List ℕ) → ReadsChunks (bytes ++ more) (drop n bytes ++ more))
-ChunkIs bytes (chunk.Inner n) = (0 < n) × (n ≤ length bytes) × SameChunks bytes (drop n bytes)
-ChunkIs bytes chunk.Cut = NoChunks bytes
-ChunkIs bytes chunk.Never = NeverChunks bytes
 
 -- what is said of the chunks from a place on
 abbrev pub FollowedIs : List ℕ → ℕ → Followed → Type 0

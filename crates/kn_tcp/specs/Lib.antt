@@ -1,4 +1,4 @@
-pub mod Chunks
 pub mod Closing
 pub mod Ends
+pub mod Plain
 pub mod Replies

@@ -1,15 +1,13 @@
 -- When a pod's reply to a request is whole. The form of a head is the one that httparse reads.
-use Rattle.std.specs.Prelude.{◌≡◌, ◌⊎◌, ℕ, ◌-◌, Bool, true, false, not, ◌&&◌, ◌||◌, ◌==◌, nat_le, nat_lt, nat_eq, IsTrue, List, length, drop, map, codes, bytes_eq, ⊤}
+use Rattle.std.specs.Prelude.{◌≡◌, ◌⊎◌, ℕ, ◌-◌, Bool, true, false, not, ◌&&◌, ◌||◌, ◌==◌, nat_le, nat_lt, nat_eq, IsTrue, List, length, drop, map, codes, ⊤}
 use Rattle.std.specs.List.{list_all, list_any, starts_with}
-use Rattle.std.specs.Char.{is_ascii_digit, to_ascii_lowercase}
 use Rattle.std.specs.Str.Parse.{digits_value}
 use Rattle.httparse.specs.Grammar.{ResponseHead, ReadsResponse, status_code}
 use Rattle.httparse.specs.Spans.{name_and_value}
-use Rattle.kn_tcp.specs.Chunks.{HasChunks}
-
--- the same letters, whatever their case
-abbrev pub is_word : List ℕ → List ℕ → Bool
-is_word word bytes = bytes_eq (map to_ascii_lowercase bytes) word
+use Rattle.kn_http.specs.declared.parts.Bounds.{Bounds}
+use Rattle.kn_http.specs.Chunks.{IsChunked}
+use Rattle.kn_http.specs.Names.{is_word}
+use Rattle.kn_http.specs.Numbers.{are_digits}
 
 -- a field is its name and its value without spaces and tabs at both ends
 abbrev pub is_coding : List ℕ × List ℕ → Bool
@@ -24,11 +22,15 @@ is_chunks_coding field = is_coding field && ends_in_chunks field.1
 
 -- digits that say at most count
 abbrev pub is_met : ℕ → List ℕ → Bool
-is_met count value = nat_lt 0 (length value) && list_all is_ascii_digit value && nat_le (digits_value 10 value) count
+is_met count value = are_digits value && nat_le (digits_value 10 value) count
 
 -- a length is met by so many bytes
 abbrev pub allows : ℕ → List ℕ × List ℕ → Bool
 allows count field = not (is_word (codes "content-length") field.0) || is_met count field.1
+
+-- the bytes begin with a body in chunks, within some bounds
+abbrev pub HasChunks : List ℕ → Type 0
+HasChunks bytes = (bounds : Bounds) × (value : List ℕ) × (rest : List ℕ) × IsChunked bounds bytes value rest
 
 -- by whether a coding ends in chunks, and whether there is one
 abbrev pub IsWholeAs : Bool → Bool → List (List ℕ × List ℕ) → List ℕ → Type 0

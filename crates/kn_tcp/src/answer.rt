@@ -1,15 +1,15 @@
 //! What a client is handed of a pod's reply.
-ghost use Rattle.std.specs.Prelude.{◌≡◌, ◌≤◌, ◌<◌, ◌+◌, ◌%◌, ◌++◌, ℕ, List, length, map, codes, All, IfOk, OnOk};
+ghost use Rattle.std.specs.Prelude.{◌≡◌, ◌≤◌, ◌<◌, ◌+◌, ◌%◌, ◌++◌, ℕ, List, length, map, All, IfOk, OnOk};
 ghost use Rattle.httparse.specs.Grammar.{ResponseHead};
 ghost use Rattle.httparse.specs.Spans.{IsHeaderWithin, IsResponseAt, IsResponseWithin, header_bytes};
 ghost use Rattle.kn_tcp.specs.Ends.{IsHeadAt, ReadsHeads};
-ghost use Rattle.kn_tcp.specs.Closing.{Closes, field_line, handed_head, is_of_connection, kept_lines, line_start, status_line, three_digits};
+ghost use Rattle.kn_tcp.specs.Closing.{Closes, field_line, handed_head, kept_lines, line_start, status_line, three_digits};
 
 use crate::heads::{MOST_FIELDS, answer_head};
-use crate::reply::is_word;
 use httparse::Status;
 use httparse::spans::{EMPTY_HEADER_SPAN, HeaderSpan, ResponseSpans};
 use kn_event::Text;
+use kn_http::is_of_connection;
 use kn_io::LinkError;
 use std::alloc::Global;
 
@@ -117,7 +117,7 @@ fn put_start(out: &mut Vec<u8>, version: u8, code: u16) -> Result<(), LinkError>
     Ok(())
 }
 
-fn last_digit(n: u16) -> u8
+pub(crate) fn last_digit(n: u16) -> u8
     ensures { result ≡ 48 + n % 10 }
 {
     b'0' + (n % 10) as u8
@@ -135,15 +135,6 @@ fn put_kept(out: &mut Vec<u8>, text: &[u8], fields: &[HeaderSpan]) -> Result<(),
         }
     }
     Ok(())
-}
-
-/// Whether a field of this name belongs to one connection.
-fn is_of_connection(name: &[u8]) -> bool
-    ensures { result ≡ is_of_connection name.now }
-{
-    is_word(name, b"connection")
-        || is_word(name, b"keep-alive")
-        || is_word(name, b"proxy-connection")
 }
 
 #[tactic(auto, using(std::proofs::Common::append_assoc), unfolding(crate::specs::Closing::field_line))]

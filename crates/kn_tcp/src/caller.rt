@@ -2,7 +2,9 @@
 ghost use Rattle.std.specs.Prelude.{◌≡◌, None};
 
 use crate::closing::finish;
-use crate::leave::{CONTINUE, Leave};
+use crate::course::{CONTINUE, Course};
+use crate::line::Line;
+use crate::plain::put_plain;
 use kn_io::{Caller, Failed, Faulty, PIECE, Sink, Source, fault, read_piece};
 use std::io;
 use std::io::{ErrorKind, Write};
@@ -18,30 +20,41 @@ const TRIES: u32 = 10;
 /// A caller whose connections come to a listening socket, which other callers may share. A connection is closed before
 /// the next is taken. Each error is a fault, and so are a write of 0 bytes of a piece that isn't empty, a read or write
 /// before the first connection, and a read for which the count of the bytes given has no room. A client that waits for leave to
-/// send its body (`Expect: 100-continue`) gets it where the body is read.
+/// send its body (`Expect: 100-continue`) gets it where the body is read. One of HTTP/1.0 is sent an answer as `put_plain` says,
+/// where the first write after its request is the whole answer.
 #[derive(Drop)]
 pub struct TcpCaller {
     listener: TcpListener,
-    stream: Option<TcpStream>,
-    leave: Leave,
-    buffer: [u8; PIECE],
+    wait: Duration,
+    line: Line,
+    course: Course,
+    // Whether something of an answer was written.
+    answers: bool,
     given: u128,
-    faults: u64,
 }
 
 impl TcpCaller {
-    /// A caller that takes its connections here, without faults so far.
+    /// A caller that takes its connections here, without faults so far. Each read and each write of a connection waits for a
+    /// minute at most.
     pub fn new(listener: TcpListener) -> TcpCaller
+        ensures faults { ⟦<TcpCaller as Faulty>⟧.faults result ≡ 0 }
+        ensures given { ⟦<TcpCaller as Source>⟧.given result ≡ 0 }
+    {
+        TcpCaller::waiting(listener, Duration::from_secs(CLIENT_WAIT))
+    }
+
+    /// One whose reads and writes wait so long at most. Where that is no time at all, no connection is taken.
+    pub fn waiting(listener: TcpListener, wait: Duration) -> TcpCaller
         ensures faults { ⟦<TcpCaller as Faulty>⟧.faults result ≡ 0 }
         ensures given { ⟦<TcpCaller as Source>⟧.given result ≡ 0 }
     {
         TcpCaller {
             listener,
-            stream: None,
-            leave: Leave::new(),
-            buffer: [0; PIECE],
+            wait,
+            line: Line::new(),
+            course: Course::new(),
+            answers: false,
             given: 0,
-            faults: 0,
         }
     }
 }
@@ -62,18 +75,18 @@ fn accept(listener: &TcpListener) -> io::Result<TcpStream> {
 }
 
 /// The next connection, whose reads and writes don't wait for ever.
-fn accept_in_time(listener: &TcpListener) -> io::Result<TcpStream> {
+fn accept_in_time(listener: &TcpListener, wait: Duration) -> io::Result<TcpStream> {
     let stream = accept(listener)?;
-    stream.set_read_timeout(Some(Duration::from_secs(CLIENT_WAIT)))?;
-    stream.set_write_timeout(Some(Duration::from_secs(CLIENT_WAIT)))?;
+    stream.set_read_timeout(Some(wait))?;
+    stream.set_write_timeout(Some(wait))?;
     Ok(stream)
 }
 
 impl Faulty for TcpCaller {
-    ghost faults = { λ c. c.faults };
+    ghost faults = { λ c. c.line.faults };
 
     fn faults(&self) -> u64 {
-        self.faults
+        self.line.faults
     }
 }
 
@@ -86,21 +99,22 @@ impl Source for TcpCaller {
 
     fn read(&mut self, buf: &mut [u8]) -> Result<usize, Failed> {
         if self.given > u128::MAX - PIECE as u128 {
-            return Err(fault(&mut self.faults));
+            return Err(fault(&mut self.line.faults));
         }
-        let Some(stream) = &mut self.stream else {
-            return Err(fault(&mut self.faults));
+        let Some(stream) = &mut self.line.stream else {
+            return Err(fault(&mut self.line.faults));
         };
-        if self.leave.take_due() && stream.write_all(CONTINUE).is_err() {
-            return Err(fault(&mut self.faults));
+        if self.course.take_due() && stream.write_all(CONTINUE).is_err() {
+            return Err(fault(&mut self.line.faults));
         }
-        match read_piece(stream, &mut self.buffer, buf) {
+        match read_piece(stream, &mut self.line.buffer, buf) {
             Ok(n) => {
-                self.leave.hear(&self.buffer[..n]);
+                let is_full = n == buf.len().min(PIECE);
+                self.course.hear(&self.line.buffer[..n], is_full);
                 self.given += n as u128;
                 Ok(n)
             }
-            Err(_) => Err(fault(&mut self.faults)),
+            Err(_) => Err(fault(&mut self.line.faults)),
         }
     }
 }
@@ -111,13 +125,14 @@ impl Sink for TcpCaller {
     ghost kept = { λ _. None };
 
     fn write(&mut self, bytes: &[u8]) -> Result<usize, Failed> {
-        let Some(stream) = &mut self.stream else {
-            return Err(fault(&mut self.faults));
-        };
-        match stream.write(bytes) {
-            Ok(n) if n > 0 || bytes.is_empty() => Ok(n),
-            Ok(_) | Err(_) => Err(fault(&mut self.faults)),
+        let is_first = !self.answers;
+        self.answers = true;
+        if is_first && self.course.is_old() {
+            put_plain(&mut self.line, bytes)?;
+            self.line.send_gathered()?;
+            return Ok(bytes.len());
         }
+        self.line.send(bytes)
     }
 }
 
@@ -133,19 +148,20 @@ impl Caller for TcpCaller {
     fn meet(&mut self) -> Result<(), Failed> {
         // The client before sees the end of its answer, also while nobody else comes.
         self.part();
-        match accept_in_time(&self.listener) {
+        match accept_in_time(&self.listener, self.wait) {
             Ok(stream) => {
-                self.stream = Some(stream);
-                self.leave = Leave::new();
+                self.line.begin(stream);
+                self.course = Course::new();
+                self.answers = false;
                 Ok(())
             }
-            Err(_) => Err(fault(&mut self.faults)),
+            Err(_) => Err(fault(&mut self.line.faults)),
         }
     }
 
     fn part(&mut self) {
-        if let Some(stream) = self.stream.take() {
-            finish(stream);
+        if let Some(stream) = self.line.stream.take() {
+            finish(stream, self.course.is_whole());
         }
     }
 }

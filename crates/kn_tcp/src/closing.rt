@@ -12,12 +12,15 @@ const DROPPED_PIECES: u32 = 128;
 /// How many milliseconds one of them is waited for, which the system rounds up to its ticks: together about a second.
 const DROP_WAIT: u64 = 8;
 
-/// Closes a connection. First the client is told that its answer has ended, since one that waits for that is to be woken
-/// right after the last byte. Closing a connection that has unread bytes resets it, and the client may then lose the end of
-/// its answer. So where there are some, what it sends is dropped, until it closes too, for about a second and up to a MiB. A
-/// connection with nothing unread is closed at once.
-pub(crate) fn finish(mut stream: TcpStream) {
+/// Closes a connection, on which the client's request came whole and nothing more, or maybe not. First the client is told that
+/// its answer has ended, since one that waits for that is to be woken right after the last byte. Closing a connection that has
+/// unread bytes resets it, and the client may then lose the end of its answer. So where there may be some it is looked for them,
+/// and where there are some, what it sends is dropped, until it closes too, for about a second and up to a MiB.
+pub(crate) fn finish(mut stream: TcpStream, is_whole: bool) {
     let told = stream.shutdown(Shutdown::Write).is_ok();
+    if is_whole {
+        return;
+    }
     if told && has_unread(&stream).unwrap_or(false) && wait_shortly(&stream).is_ok() {
         drop_rest(&mut stream);
     }

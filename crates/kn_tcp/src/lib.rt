@@ -3,16 +3,21 @@
 #![tactic(auto)]
 
 mod answer;
+mod attempt;
+mod attempts;
 mod caller;
 mod chunks;
 mod closing;
+mod course;
 mod heads;
 mod laws;
-mod leave;
+mod line;
 mod link;
 mod names;
+mod plain;
 mod reply;
 
 pub use caller::TcpCaller;
-pub use laws::{answers_are_replies, replies_are_determined};
+pub use laws::{answers_are_replies, plain_forms_are_determined, replies_are_determined};
 pub use link::TcpLink;
+pub use plain::put_plain;

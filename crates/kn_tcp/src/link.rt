@@ -6,7 +6,8 @@ ghost use Rattle.kn_tcp.specs.Ends.{IsReplyOf, ReadsReply};
 ghost use Rattle.kn_tcp.specs.Closing.{IsHandedOn};
 
 use crate::answer::closed;
-use crate::names::Names;
+use crate::attempts::Attempts;
+use crate::names::{Name, Names};
 use crate::reply::{Judged, MOST_REPLY, Stage, judge};
 use kn_event::{Items, Text};
 use kn_io::{Failed, Faulty, LinkError, PIECE, PodLink, fault};
@@ -15,9 +16,6 @@ use std::io::{ErrorKind, Read, Write};
 use std::net::{Net, OpenStream, SocketAddr, ToSocketAddrs};
 use std::time::{Clock, Duration, Instant};
 use std::{io, str};
-
-/// How many seconds a probe waits for a connection with one address of the pod.
-const PROBE_WAIT: u64 = 1;
 
 /// How many seconds a call waits for a connection with one address of the pod.
 const CONNECT_WAIT: u64 = 10;
@@ -34,6 +32,7 @@ pub struct TcpLink<N> {
     net: N,
     addresses: Items<Text>,
     names: Names,
+    attempts: Attempts,
     faults: u64,
 }
 
@@ -46,16 +45,10 @@ impl<N: Net + Clock> TcpLink<N> {
             net,
             addresses,
             names: Names::new(),
+            attempts: Attempts::new(),
             faults: 0,
         }
     }
-}
-
-/// A pod's name, and its place among the names.
-#[derive(Clone, Copy)]
-struct Name<'a> {
-    text: &'a [u8],
-    place: usize,
 }
 
 /// The name of a pod.
@@ -74,13 +67,13 @@ fn name_of(addresses: &[Text], pod: u64) -> Option<Name<'_>>
 }
 
 /// A connection with the first address of this name that takes it, in time, and that address.
-fn connect_anew<N: Net>(net: &N, text: &[u8], seconds: u64) -> io::Result<(N::Stream, SocketAddr)> {
+fn connect_anew<N: Net>(net: &N, text: &[u8]) -> io::Result<(N::Stream, SocketAddr)> {
     let mut last = io::Error::from(ErrorKind::InvalidInput);
     let Ok(text) = str::from_utf8(text) else {
         return Err(last);
     };
     for address in text.to_socket_addrs(net)? {
-        match net.connect_timeout(address, Duration::from_secs(seconds)) {
+        match net.connect_timeout(address, Duration::from_secs(CONNECT_WAIT)) {
             Ok(stream) => return Ok((stream, address)),
             Err(e) => last = e,
         }
@@ -89,20 +82,15 @@ fn connect_anew<N: Net>(net: &N, text: &[u8], seconds: u64) -> io::Result<(N::St
 }
 
 /// A connection with the address that this name had not long ago, or else with the first one that takes it.
-fn connect<N: Net + Clock>(
-    net: &N,
-    names: &mut Names,
-    name: Name<'_>,
-    seconds: u64,
-) -> io::Result<N::Stream> {
+fn connect<N: Net + Clock>(net: &N, names: &mut Names, name: Name<'_>) -> io::Result<N::Stream> {
     let now = Instant::now(net)?;
     if let Some(address) = names.get(name.place, now) {
-        if let Ok(stream) = net.connect_timeout(address, Duration::from_secs(seconds)) {
+        if let Ok(stream) = net.connect_timeout(address, Duration::from_secs(CONNECT_WAIT)) {
             return Ok(stream);
         }
         names.forget(name.place);
     }
-    let (stream, address) = connect_anew(net, name.text, seconds)?;
+    let (stream, address) = connect_anew(net, name.text)?;
     names.keep(name.place, now, address);
     Ok(stream)
 }
@@ -164,7 +152,7 @@ fn exchange<N: Net + Clock>(
     ensures whole { IfOk result (λ answer. IsWholeReply request.now answer) }
     ensures exact { IfOk result (λ answer. IsHandedOn request.now answer) }
 {
-    let Ok(mut stream) = connect(net, names, name, CONNECT_WAIT) else {
+    let Ok(mut stream) = connect(net, names, name) else {
         return Err(LinkError::Failed);
     };
     if send(&mut stream, request).is_err() {
@@ -189,8 +177,8 @@ impl<N: Net + Clock> PodLink for TcpLink<N> {
         let Some(name) = name_of(self.addresses.items(), pod) else {
             return Err(fault(&mut self.faults));
         };
-        match connect(&self.net, &mut self.names, name, PROBE_WAIT) {
-            Ok(_) => Ok(true),
+        match self.attempts.probe(&self.net, &mut self.names, name) {
+            Ok(is_there) => Ok(is_there),
             Err(e) if e.kind() == ErrorKind::ConnectionRefused => Ok(false),
             Err(_) => Err(fault(&mut self.faults)),
         }

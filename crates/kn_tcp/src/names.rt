@@ -9,6 +9,13 @@ const LASTS: u64 = 10;
 /// How many addresses are kept, each at its place modulo this.
 const KEPT: usize = 64;
 
+/// A pod's name, and its place among the names.
+#[derive(Clone, Copy)]
+pub(crate) struct Name<'a> {
+    pub(crate) text: &'a [u8],
+    pub(crate) place: usize,
+}
+
 /// The address that the name at a place had, and when it took a connection.
 #[derive(Clone, Copy, Drop)]
 struct Found {

@@ -1,18 +1,17 @@
 //! Where a pod's reply ends.
-ghost use Rattle.std.specs.Prelude.{◌≡◌, ◌≤◌, ◌<◌, ◌^◌, ◌==◌, ◌||◌, ℕ, true, false, IfSome, MatchOption, All, length, map, OnErr, IsNone};
+ghost use Rattle.std.specs.Prelude.{◌≡◌, ◌≤◌, ◌==◌, ◌||◌, ℕ, true, false, IfSome, MatchOption, All, length, map, OnErr, IsNone};
 ghost use Rattle.std.specs.List.{list_all, list_any};
-ghost use Rattle.std.specs.Char.{is_ascii_digit, to_ascii_lowercase};
-ghost use Rattle.std.specs.Str.Parse.{digits_value};
 ghost use Rattle.httparse.specs.Outcome.{IfComplete, OnPartial};
 ghost use Rattle.httparse.specs.Spans.{IsHeaderWithin, header_bytes};
-ghost use Rattle.kn_tcp.specs.Replies.{ends_in_chunks, has_no_body, is_chunks_coding, is_coding, is_word};
-ghost use Rattle.kn_tcp.specs.Ends.{IsStageOf, JudgedIs, Meets, MeetsAny, NeverReply, NoReply, NoStage, StageWithin, agrees, is_length, says};
+ghost use Rattle.kn_http.specs.Numbers.{says};
+ghost use Rattle.kn_tcp.specs.Replies.{ends_in_chunks, has_no_body, is_chunks_coding, is_coding};
+ghost use Rattle.kn_tcp.specs.Ends.{IsStageOf, JudgedIs, Meets, MeetsAny, NeverReply, NoReply, NoStage, StageWithin, agrees, is_length};
 
 use crate::chunks::{Followed, follow};
 use crate::heads::{MOST_FIELDS, Never, answer_head};
 use httparse::Status;
 use httparse::spans::{EMPTY_HEADER_SPAN, HeaderSpan};
-use std::str;
+use kn_http::{is_word, number};
 
 /// How many bytes a reply may have.
 pub(crate) const MOST_REPLY: usize = 1_114_112;
@@ -149,9 +148,6 @@ fn size_of(text: &[u8], fields: &[HeaderSpan], value: &[u8]) -> Option<usize>
     ensures none { IsNone result → (m : ℕ) → m ≤ 1114112
         → list_all (agrees m) (map (header_bytes text.now) fields.now) ≡ false }
 {
-    if value.is_empty() || !are_digits(value) {
-        return None;
-    }
     match number(value) {
         Some(n) if n <= MOST_REPLY as u64 && all_agree(text, fields, n) => Some(n as usize),
         _ => None,
@@ -188,7 +184,7 @@ fn all_agree(text: &[u8], fields: &[HeaderSpan], count: u64) -> bool
 }
 
 /// Whether there is a coding.
-fn is_coded(text: &[u8], fields: &[HeaderSpan]) -> bool
+pub(crate) fn is_coded(text: &[u8], fields: &[HeaderSpan]) -> bool
     requires { All (IsHeaderWithin (length text.now)) fields.now }
     ensures { result ≡ list_any is_coding (map (header_bytes text.now) fields.now) }
 {
@@ -213,14 +209,6 @@ fn is_in_chunks(text: &[u8], fields: &[HeaderSpan]) -> bool
     false
 }
 
-/// Whether the bytes are this word, which is in lower case, whatever their own case.
-pub(crate) fn is_word(bytes: &[u8], word: &[u8]) -> bool
-    requires { map to_ascii_lowercase word.now ≡ word.now }
-    ensures { result ≡ is_word word.now bytes.now }
-{
-    bytes.eq_ignore_ascii_case(word)
-}
-
 fn is_chunks_coding(name: &[u8], value: &[u8]) -> bool
     ensures { result ≡ is_chunks_coding (name.now, value.now) }
 {
@@ -240,33 +228,12 @@ fn agrees(name: &[u8], value: &[u8], count: u64) -> bool
     !is_word(name, b"content-length") || says(value, count)
 }
 
-/// Whether this spells the number.
+/// Whether this says the number.
 fn says(value: &[u8], count: u64) -> bool
     ensures { result ≡ says count value.now }
 {
-    if value.is_empty() || !are_digits(value) {
-        return false;
-    }
     match number(value) {
         Some(n) => n == count,
         None => false,
-    }
-}
-
-fn are_digits(value: &[u8]) -> bool
-    ensures { result ≡ list_all is_ascii_digit value.now }
-{
-    value.iter().all(|b| b.is_ascii_digit())
-}
-
-/// The number that digits spell, where it is below 2^64.
-fn number(digits: &[u8]) -> Option<u64>
-    requires digits { list_all is_ascii_digit digits.now ≡ true }
-    requires some { 0 < length digits.now }
-    ensures { MatchOption result (2 ^ 64 ≤ digits_value 10 digits.now) (λ n. n ≡ digits_value 10 digits.now) }
-{
-    match str::from_utf8(digits) {
-        Ok(digits) => digits.parse().ok(),
-        Err(_) => None,
     }
 }

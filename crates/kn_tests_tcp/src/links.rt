@@ -2,7 +2,7 @@
 ghost use Rattle.std.specs.Prelude.{◌≤◌};
 
 use crate::loopback::{
-    Ask, Link, Talk, address_of, answer_of, ask_of, exchange, link_to, listening,
+    Ask, Link, Talk, address_of, answer_of, ask_of, exchange, left_port, link_to, listening,
 };
 use crate::{replies, tell_all};
 use kn_io::{Faulty, PodLink};
@@ -149,13 +149,6 @@ fn try_link<T: Threads>(
         Trial::Early => answer_early(rt, threads, listener, link),
         Trial::Lines => replies::show_all(rt, threads, listener, link),
     }
-}
-
-/// A port where no pod listens.
-fn left_port(rt: &HostRuntime) -> io::Result<u16> {
-    let (gone, port) = listening(rt)?;
-    drop(gone);
-    Ok(port)
 }
 
 fn try_at<T: Threads>(

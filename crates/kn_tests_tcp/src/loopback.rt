@@ -5,9 +5,10 @@ use kn_io::{LinkError, PodLink};
 use kn_tcp::TcpLink;
 use std::alloc::{AllocError, Global};
 use std::io::{Read, Write};
-use std::net::{TcpListener, TcpStream};
+use std::net::{Net, TcpListener, TcpStream};
+use std::os::fd::AsRawFd;
 use std::thread::Threads;
-use std::time::Duration;
+use std::time::{Clock, Duration};
 use std::{io, thread};
 
 /// A listening socket, and its port.
@@ -39,16 +40,58 @@ fn add_text(alloc: Global, address: &[u8], texts: &mut Vec<Text>) -> Result<(), 
     Ok(())
 }
 
+/// Adds a name at this port.
+pub fn add_name(rt: &HostRuntime, names: &mut Vec<Text>, port: u16) -> io::Result<()> {
+    let name = format!(in rt.alloc(); "pod.example:{port}")?;
+    names.push(Text::new(Vec::from_slice(rt.alloc(), name.as_bytes())?))?;
+    Ok(())
+}
+
 /// A link over the machine's sockets.
 pub type Link<'a> = TcpLink<&'a HostRuntime>;
 
+/// A link over this world to these addresses.
+pub fn link_over<N: Net + Clock + Drop>(
+    alloc: Global,
+    net: N,
+    addresses: &[&[u8]],
+) -> io::Result<TcpLink<N>> {
+    let mut texts = Vec::new(alloc);
+    for address in addresses {
+        add_text(alloc, address, &mut texts)?;
+    }
+    Ok(TcpLink::new(net, Items::new(texts)))
+}
+
 /// A link to these addresses.
 pub fn link_to<'a>(rt: &'a HostRuntime, addresses: &[&[u8]]) -> io::Result<Link<'a>> {
-    let mut texts = Vec::new(rt.alloc());
-    for address in addresses {
-        add_text(rt.alloc(), address, &mut texts)?;
-    }
-    Ok(TcpLink::new(rt, Items::new(texts)))
+    link_over(rt.alloc(), rt, addresses)
+}
+
+/// A port where nobody listens.
+pub fn left_port(rt: &HostRuntime) -> io::Result<u16> {
+    let (gone, port) = listening(rt)?;
+    drop(gone);
+    Ok(port)
+}
+
+/// A socket that takes no connection more: one waits in it, and what else comes is swallowed.
+#[derive(Drop)]
+pub struct Swallows {
+    pub listener: TcpListener,
+    pub port: u16,
+    _waiting: TcpStream,
+}
+
+pub fn swallowing(rt: &HostRuntime) -> io::Result<Swallows> {
+    let (listener, port) = listening(rt)?;
+    let _ = libc::net::listen(listener.as_raw_fd(), 0);
+    let waiting = TcpStream::connect(rt, ("127.0.0.1", port))?;
+    Ok(Swallows {
+        listener,
+        port,
+        _waiting: waiting,
+    })
 }
 
 /// What a pod is asked, and what it answers: these bytes, and then so many pieces of 8,192 bytes.

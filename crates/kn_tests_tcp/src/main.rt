@@ -1,13 +1,20 @@
 //! Callers and links over TCP on loopback. Each line of standard input is a request and a pod's reply with `|` between
-//! them, and below it is printed what the client is answered, or that the reply didn't come whole.
+//! them, and below it is printed what the client is answered, or that the reply didn't come whole. Where the request is `old`,
+//! what stands behind is an answer, and below it is printed what a client of HTTP/1.0 is sent.
 #![tactic(auto)]
 
+mod addresses;
 mod callers;
+mod endings;
 mod leave;
 mod links;
 mod loopback;
 mod names;
+mod old;
+mod probes;
 mod replies;
+mod waits;
+mod world;
 
 use callers::Visit;
 use links::Trial;
@@ -49,7 +56,12 @@ fn show_links<T: Threads>(rt: &HostRuntime, threads: &T) -> io::Result<()> {
 
 fn main(rt: HostRuntime) -> io::Result<()> {
     show_callers(&rt, &rt)?;
+    waits::all(&rt, &rt)?;
     leave::all(&rt, &rt)?;
+    endings::all(&rt)?;
+    old::all(&rt, &rt)?;
     names::all(&rt, &rt)?;
+    addresses::all(&rt, &rt)?;
+    probes::all(&rt)?;
     show_links(&rt, &rt)
 }

@@ -3,7 +3,8 @@
 use crate::loopback::{Link, Talk, exchange};
 use kn_case::{shown, spelled};
 use kn_event::Text;
-use kn_io::Faulty;
+use kn_io::{Faulty, MemSink};
+use kn_tcp::put_plain;
 use std::io;
 use std::net::TcpListener;
 use std::thread::Threads;
@@ -37,6 +38,17 @@ fn show_reply<T: Threads>(
     show_answer(rt, answer)
 }
 
+/// What a client of HTTP/1.0 is sent of this answer.
+fn show_plain(rt: &HostRuntime, answer: &str) -> io::Result<()> {
+    let answer = spelled(rt.alloc(), answer)?;
+    let Ok(mut sent) = MemSink::new(rt.alloc(), 1_024, Vec::new(rt.alloc())) else {
+        return println!(rt; "  no memory");
+    };
+    let done = put_plain(&mut sent, &answer);
+    let text = shown(rt.alloc(), sent.held())?;
+    println!(rt; "  {done:?}: {text}")
+}
+
 /// Prints a line, and what is answered where its reply came whole.
 fn show<T: Threads>(
     rt: &HostRuntime,
@@ -47,6 +59,9 @@ fn show<T: Threads>(
 ) -> io::Result<()> {
     println!(rt; "{line}")?;
     let (request, reply) = line.split_once('|').unwrap_or((line, ""));
+    if request == "old" {
+        return show_plain(rt, reply);
+    }
     let request = spelled(rt.alloc(), request)?;
     show_reply(rt, threads, listener, link, &request, reply)
 }

@@ -1,6 +1,7 @@
 use Rattle.std.proofs.Common.{◌≡◌, ◌++◌, [], cond, take, map, get_or, not, List, ℕ, sym, ap, ap₂, ◌∙◌, append-nil}
 use Rattle.httparse.specs.Spans.{header_bytes}
-use Rattle.kn_tcp.specs.Closing.{field_line, is_of_connection, kept_lines}
+use Rattle.kn_http.specs.Names.{connection_names, is_among}
+use Rattle.kn_tcp.specs.Closing.{field_line, kept_lines}
 use Rattle.kn_tcp.proofs.Wholes.{blank}
 use Rattle.kn_tcp.proofs.Written.{kept_next}
 use Rattle.kn_tcp.proofs.answer.put_kept.Goals as goal
@@ -21,7 +22,8 @@ loop-field-preserved c =
     let f = header_bytes text (get_or xs i blank) in
     let before = c.args.out.now.items ++ kept_lines (map (header_bytes text) (take i xs)) in
     let next = kept_next c.args.out.now.items text xs i c.loop-field-test.true in
-    let named : is_of_connection f.0 ≡ c.is_of_connection.result = ap is_of_connection (sym c.of-name.ensures) ∙ sym c.is_of_connection.ensures in
+    let named : is_among connection_names f.0 ≡ c.is_of_connection.result =
+    ap (is_among connection_names) (sym c.of-name.ensures) ∙ sym c.is_of_connection.ensures in
     elim c.if-not-is_of_connection.branch [
       | then-not-is_of_connection+in_ok-put_field w ↦
           ap (λ v. v.items) w.out-is ∙ (w.in_ok-put_field.ensures

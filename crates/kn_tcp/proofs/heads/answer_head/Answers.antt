@@ -1,11 +1,10 @@
 use Rattle.std.proofs.Common.{◌≡◌, ◌+◌, ◌-◌, length, drop, take, sym, subst, ap, ◌∙◌, arith, length-drop}
-use Rattle.std.proofs.lemmas.List.{take_all, drop-drop}
+use Rattle.std.proofs.lemmas.List.{take_rest, drop-drop}
 use Rattle.httparse.specs.Grammar.{HasNoResponse}
 use Rattle.httparse.specs.Spans.{ResponseOverflows}
 use Rattle.kn_tcp.specs.Replies.{is_interim}
 use Rattle.kn_tcp.specs.Ends.{most_fields, SameHeads}
-use Rattle.kn_tcp.proofs.ChunkEnds.{few_fields}
-use Rattle.kn_tcp.proofs.HeadEnds.{cut_heads, found_at, never_heads, next_head}
+use Rattle.kn_tcp.proofs.HeadEnds.{cut_heads, few_fields, found_at, never_heads, next_head}
 use Rattle.kn_tcp.proofs.heads.answer_head.Goals as goal
 
 pub returns-then-not-is_interim-clause-whole : goal.returns-then-not-is_interim-clause-whole
@@ -13,7 +12,7 @@ returns-then-not-is_interim-clause-whole c =
     let reply = c.args.reply.now in
     let at_ = c.heads.at in
     let text = take (length reply - at_) (drop at_ reply) in
-    let all : text ≡ drop at_ reply = take_all (length reply - at_) (drop at_ reply) (omega (arith, length-drop at_ reply)) in
+    let all : text ≡ drop at_ reply = take_rest reply at_ in
     let found = rw c.in-Ok-Complete.field-0-is at c.in-Ok-Complete.ensures.complete in
     let within = rw c.in-Ok-Complete.field-0-is at c.in-Ok-Complete.ensures.within in
     let spans = c.parse_response.new.headers in
@@ -29,7 +28,7 @@ heads-preserved c =
     let reply = c.args.reply.now in
     let at_ = c.heads.at in
     let text = take (length reply - at_) (drop at_ reply) in
-    let all : text ≡ drop at_ reply = take_all (length reply - at_) (drop at_ reply) (omega (arith, length-drop at_ reply)) in
+    let all : text ≡ drop at_ reply = take_rest reply at_ in
     let found = rw c.in-Ok-Complete.field-0-is at c.in-Ok-Complete.ensures.complete in
     let within = (rw c.in-Ok-Complete.field-0-is at c.in-Ok-Complete.ensures.within).section in
     let spans = c.parse_response.new.headers in
@@ -50,7 +49,7 @@ pub returns-in-Ok-Partial-clause-cut : goal.returns-in-Ok-Partial-clause-cut
 returns-in-Ok-Partial-clause-cut c =
     let reply = c.args.reply.now in
     let here = drop c.heads.at reply in
-    let all = take_all (length reply - c.heads.at) here (omega (arith, length-drop c.heads.at reply)) in
+    let all = take_rest reply c.heads.at in
     let none = rw c.in-Ok-Partial.field-0-is at c.in-Ok-Partial.ensures.partial in
     cut_heads reply here c.heads.seen c.heads.invariant.same (subst HasNoResponse all none)
 
@@ -58,6 +57,6 @@ pub returns-in-Err-clause-never : goal.returns-in-Err-clause-never
 returns-in-Err-clause-never c =
     let reply = c.args.reply.now in
     let here = drop c.heads.at reply in
-    let all = take_all (length reply - c.heads.at) here (omega (arith, length-drop c.heads.at reply)) in
+    let all = take_rest reply c.heads.at in
     let over = subst (λ n. ResponseOverflows n (take (length reply - c.heads.at) here)) c.heads.invariant.spans c.in-Err.ensures.no_room in
     never_heads reply here c.heads.seen c.heads.invariant.same (subst (ResponseOverflows most_fields) all over)

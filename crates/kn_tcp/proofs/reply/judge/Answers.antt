@@ -1,7 +1,13 @@
 use Rattle.std.proofs.Common.{subst}
 use Rattle.kn_tcp.specs.Ends.{Meets}
-use Rattle.kn_tcp.proofs.Bodies.{until_open, chunks_open, chunks_never}
+use Rattle.kn_tcp.proofs.Bodies.{until_open, chunks_ended, chunks_open, chunks_never}
 use Rattle.kn_tcp.proofs.reply.judge.Goals as goal
+
+pub returns-in-Ended : goal.returns-in-Ended
+returns-in-Ended c =
+    let meets = rw c.in-Ok-Complete.field-0-is at c.in-Ok-Complete.ensures.whole in
+    chunks_ended c.args.request.now c.args.reply.now c.in-Chunks.at c.in-Ended.n
+    (subst (Meets c.args.request.now c.args.reply.now) c.in-Chunks.is meets) c.in-Ended.ensures
 
 pub returns-in-Cut : goal.returns-in-Cut
 returns-in-Cut c =

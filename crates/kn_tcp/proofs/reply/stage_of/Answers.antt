@@ -1,5 +1,5 @@
-use Rattle.std.proofs.Common.{◌≡◌, ◌+◌, ◌≤◌, ◌-◌, length, drop, take, map, subst, refl, arith, length-drop}
-use Rattle.std.proofs.lemmas.List.{take_all}
+use Rattle.std.proofs.Common.{◌+◌, ◌≤◌, length, drop, take, map, subst, refl, arith, length-drop}
+use Rattle.std.proofs.lemmas.List.{take_rest}
 use Rattle.httparse.specs.Spans.{header_bytes}
 use Rattle.kn_tcp.specs.Ends.{IsStageOf, NoStage}
 use Rattle.kn_tcp.proofs.HeadEnds.{meets, no_body}
@@ -11,8 +11,7 @@ returns-in-Some-clause-whole c =
     let start = c.in-Ok-Complete.start in
     let r = c.in-Ok-Complete.head in
     let here = drop start reply in
-    let text = take (length reply - start) here in
-    let all : text ≡ here = take_all (length reply - start) here (omega (arith, length-drop start reply)) in
+    let all = take_rest reply start in
     let found = rw c.in-Ok-Complete.field-0-is at c.in-Ok-Complete.ensures.whole in
     let spans = c.answer_head.new.spans in
     let none = c.has_no_body-none.result in
@@ -27,8 +26,7 @@ returns-in-None-clause-never c =
     let start = c.in-Ok-Complete.start in
     let r = c.in-Ok-Complete.head in
     let here = drop start reply in
-    let text = take (length reply - start) here in
-    let all : text ≡ here = take_all (length reply - start) here (omega (arith, length-drop start reply)) in
+    let all = take_rest reply start in
     let found = rw c.in-Ok-Complete.field-0-is at c.in-Ok-Complete.ensures.whole in
     let spans = c.answer_head.new.spans in
     let none = c.has_no_body-none.result in
