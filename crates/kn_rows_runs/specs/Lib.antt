@@ -1,3 +1,4 @@
 pub mod Long
 pub mod Policies
 pub mod Counts
+pub mod Books

@@ -1,9 +1,10 @@
 //! Replays one journal after the other from standard input. Of each it prints its rows as a report has them, then a line
 //! for what each event is told, then a line for where each request stands at the end, and one line more of counts. It is a
 //! test of the calls of a revision: `stdin` and `stdout` hold worked rows, and mixes with what a plain program answers. At last
-//! it says whether the long rows went as they must.
+//! it shows books of addresses, and says whether the long rows went as they must.
 #![tactic(auto)]
 
+mod books;
 mod long;
 mod run;
 mod texts;
@@ -36,5 +37,6 @@ fn main(rt: HostRuntime) -> io::Result<()> {
     read_and_show(&rt)?;
     let refuses = long::breaker_refuses_9001(rt.alloc());
     let overloads = long::overload_at_20001(rt.alloc());
+    books::show(&rt)?;
     println!(rt; "9001 of 20001 are refused: {refuses}, the 20001st is one too many: {overloads}")
 }

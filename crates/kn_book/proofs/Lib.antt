@@ -1,0 +1,11 @@
+pub mod Lists
+pub mod Holdings
+pub mod Addresses
+pub mod Sound
+pub mod Follows
+pub mod Turns
+pub mod Lawful
+pub mod Giving
+pub mod States
+pub mod Rooms
+pub mod Probes
