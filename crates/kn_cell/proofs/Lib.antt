@@ -3,9 +3,13 @@ pub mod Needs
 pub mod ListFacts
 pub mod HistoryFacts
 pub mod PassMoves
+pub mod TakenMoves
 pub mod TurnMoves
 pub mod TurnFacts
+pub mod Entering
 pub mod ShownFacts
+pub mod TakeFacts
 pub mod Openings
 pub mod SeatMoves
 pub mod Closings
+pub mod Bookkeeping

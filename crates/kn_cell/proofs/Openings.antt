@@ -1,5 +1,5 @@
 -- The rule holds of a new table.
-use Rattle.std.proofs.Common.{◌≡◌, inl, List, ℕ, suc, zero, [], ◌∷◌, false, refl, sym, subst, arith}
+use Rattle.std.proofs.Common.{◌≡◌, ◌≤◌, inl, List, ℕ, suc, zero, [], ◌∷◌, true, false, refl, sym, subst, arith}
 use mathlib.Core.Option.{some, some-injective, some-ne-none}
 use lib.ListN.{get_elem?}
 use Rattle.atomic_table.specs.Table.{opening as first_state}
@@ -15,11 +15,12 @@ first_alone : (P : ℕ → View → Type 0) (w : View) → P 0 w → (id : ℕ) 
 first_alone P w p zero v at = subst (P 0) (some-injective w v at) p
 first_alone P w p (suc id) v at = absurd (some-ne-none v (sym at))
 
-pub opens : (key : Key) (x : DeskState) (bells : List ℕ) → IsBounded key → GoesWith key [] x → IsKept key (first_state (0 ∷ 0 ∷ bells) (x ∷ []) (first_view key))
-opens key x bells bounded goes =
+pub opens : (key : Key) (x : DeskState) (bells : List ℕ) → IsBounded key → GoesWith key [] x → x.taken ≡ 0 → IsKept key (first_state (0 ∷ 0 ∷ bells) (x ∷ []) (first_view key))
+opens key x bells bounded goes none =
     let w = first_view key in
     let owner : ℕ → ℕ = (λ _. 0) in
     let passes = bounded.passes in
+    let low : 0 ≤ 0 = omega arith in
     let first : IsPass key [] 1 0 owner 0 w = record {
       key_is = refl;
       knows = record { front = whole []; own = refl; whole = refl };
@@ -32,6 +33,7 @@ opens key x bells bounded goes =
       log = [];
       turn = 0;
       bells = bells;
+      taken = 0;
       words = refl;
       passes = record {
         given = 1;
@@ -45,5 +47,11 @@ opens key x bells bounded goes =
         bounds = λ k r at. absurd (some-ne-none r (sym at));
         holders = λ n low. record { view = w; there = refl; fresh = refl; has = inl (omega arith) };
       };
-      phase = inl (refl, record { value = x; home = refl; goes = goes; free = first_alone (λ i u. u.turn ≡ false) w refl });
+      takings = record {
+        scribe = 0;
+        plain = λ _. refl;
+        gone = λ id v at fresh. first_alone (λ _ u. u.gone ≤ 0) w low id v at;
+        takes = λ id v at fresh. first_alone (λ i u. u.scribe ≡ true → (i ≡ 0) × (u.gone ≡ 0) × (key.lasting ≡ true)) w (λ is. (refl, refl, is)) id v at;
+      };
+      phase = inl (refl, record { value = x; home = refl; goes = goes; taken_is = none; free = first_alone (λ i u. u.turn ≡ false) w refl });
     }

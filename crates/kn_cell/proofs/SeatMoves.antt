@@ -20,26 +20,28 @@ use Rattle.kn_cell.specs.Splitting.{less_one, newcomer, as_joined, with_other, s
 use Rattle.kn_cell.proofs.ListFacts.{at_within, at_same, at_append, at_later, at_one_more, total-set, total-append}
 use Rattle.kn_cell.proofs.HistoryFacts.{rows_by-none}
 use Rattle.kn_cell.proofs.PassMoves.{held_on}
+use Rattle.kn_cell.proofs.TakenMoves.{takings_split, takings_join}
 
 -- ---- the phase, where the views with the turn stay what they are
 
-abbrev Phase : Key → List Past → ℕ → List (Option DeskState) → List View → Type 0
-Phase key log turn homes views = ((turn ≡ 0) × IsResting key log homes views) ⊎ ((turn ≢ 0) × IsTaken log homes views)
+abbrev Phase : Key → List Past → ℕ → ℕ → List (Option DeskState) → List View → Type 0
+Phase key log taken turn homes views = ((turn ≡ 0) × IsResting key log taken homes views) ⊎ ((turn ≢ 0) × IsTaken log taken homes views)
 
 not_turn : (b : Bool) → (b ≡ true → ⊥) → b ≡ false
 not_turn true h = absurd (h refl)
 not_turn false h = refl
 
-phase_stays : (key : Key) (log : List Past) (turn : ℕ) (homes : List (Option DeskState)) (views next : List View) → Phase key log turn homes views
+phase_stays : (key : Key) (log : List Past) (taken turn : ℕ) (homes : List (Option DeskState)) (views next : List View) → Phase key log taken turn homes views
     → ((j : ℕ) (u : View) → get_elem? next j ≡ some u → u.turn ≡ true → get_elem? views j ≡ some u)
-    → ((j : ℕ) (u : View) → get_elem? views j ≡ some u → u.turn ≡ true → get_elem? next j ≡ some u) → Phase key log turn homes next
-phase_stays key log turn homes views next phase back forth = elim phase [
+    → ((j : ℕ) (u : View) → get_elem? views j ≡ some u → u.turn ≡ true → get_elem? next j ≡ some u) → Phase key log taken turn homes next
+phase_stays key log taken turn homes views next phase back forth = elim phase [
   | inl p ↦ inl (
     p.0,
     record {
       value = p.1.value;
       home = p.1.home;
       goes = p.1.goes;
+      taken_is = p.1.taken_is;
       free = λ j u at. not_turn u.turn (λ has. let no = p.1.free j u (back j u at has) in cc);
     },
   )
@@ -53,6 +55,7 @@ phase_stays key log turn homes views next phase back forth = elim phase [
       has = p.1.has;
       fresh = p.1.fresh;
       seen = p.1.seen;
+      gone = p.1.gone;
       alone = λ j u at has. p.1.alone j u (back j u at has) has;
     },
   )
@@ -179,9 +182,11 @@ splits key id v idle fresh some_free s k me =
       log = k.log;
       turn = k.turn;
       bells = k.bells;
+      taken = k.taken;
       words = k.words;
       passes = passes_split key k.log s.views id v k.passes me fresh some_free;
-      phase = phase_stays key k.log k.turn s.homes s.views (rest ++ new ∷ []) k.phase
+      takings = takings_split key k.taken s.views id v k.takings me fresh;
+      phase = phase_stays key k.log k.taken k.turn s.homes s.views (rest ++ new ∷ []) k.phase
           (λ j u at has. elim (at_one_more rest new u j at) [
             | inl h ↦ elim (at_set s.views id j left u h) [
               | inl i ↦ let t : v.turn ≡ u.turn = ap (λ (x : View). x.turn) i.1 in let no : false ≡ true = sym idle ∙ (t ∙ has) in cc
@@ -326,9 +331,11 @@ joins key id v other w idle fresh idle' fresh' s k me apart it' =
       log = k.log;
       turn = k.turn;
       bells = k.bells;
+      taken = k.taken;
       words = k.words;
       passes = passes_join key k.log s.views id other v w k.passes me it fresh fresh' apart;
-      phase = phase_stays key k.log k.turn s.homes s.views (slice_set one other spent_view) k.phase
+      takings = takings_join key k.taken s.views id other v w k.takings me it fresh fresh' apart;
+      phase = phase_stays key k.log k.taken k.turn s.homes s.views (slice_set one other spent_view) k.phase
           (λ j u at has. elim (at_set one other j spent_view u at) [
             | inl h ↦ let no : false ≡ true = ap (λ (x : View). x.turn) h.1 ∙ has in cc
             | inr h ↦ elim (at_set s.views id j both u h.1) [

@@ -1,34 +1,38 @@
 -- What a seat with the turn does, as facts on plain data.
-use Rattle.std.proofs.Common.{◌≡◌, ℕ, ◌+◌, ◌-◌, ◌<◌, ◌≤◌, List, [], ◌∷◌, ◌++◌, false, length, refl, sym, ap, ◌∙◌, subst, arith, length-append, Result, Ok, Err, IfOk}
+use Rattle.std.proofs.Common.{◌≡◌, ℕ, ◌+◌, ◌-◌, ◌<◌, ◌≤◌, ◌^◌, List, [], ◌∷◌, ◌++◌, Bool, true, false, length, refl, sym, ap, ◌∙◌, subst, arith, append_assoc, length-append, Result, Ok, Err, IfOk}
+use Rattle.std.specs.Prelude.{min}
 use mathlib.Core.Path.{ap₂}
 use Rattle.atomic_table.specs.Table.{Me, rest}
 use Rattle.kn_event.specs.declared.event.Act.{Act}
 use Rattle.kn_event.specs.declared.event.Told.{Told}
+use Rattle.kn_book.specs.State.{StandsFor as IsBookOf}
 use Rattle.kn_core.specs.State.{StandsFor}
 use Rattle.kn_trace.specs.Events.{react, told_of, need_of}
 use Rattle.kn_trace.specs.Trace.{Trace}
 use Rattle.kn_cell.specs.declared.past.Past.{Past}
 use Rattle.kn_cell.specs.declared.past.Full.{Full}
 use Rattle.kn_cell.specs.declared.view.View.{View}
-use Rattle.kn_cell.specs.History.{trace_after, clock_after, live_of, IsInBounds, IsLegal, past}
+use Rattle.kn_cell.specs.History.{trace_after, clock_after, live_of, room_for, IsInBounds, IsLegal, past}
 use Rattle.kn_cell.specs.State.{DeskState}
-use Rattle.kn_cell.specs.Desk.{Applies, Refuses, event_at, time_at}
-use Rattle.kn_cell.specs.Views.{opening}
-use Rattle.kn_cell.specs.Rule.{GoesWith, GetsTurn, recorded}
-use Rattle.kn_cell.specs.Turns.{HasTurn, WaitsForTurn, Overflows, row_of}
+use Rattle.kn_cell.specs.Desk.{Applies, Refuses, event_at, time_at, left_at}
+use Rattle.kn_cell.specs.Views.{opening, IsBounded}
+use Rattle.kn_cell.specs.Rule.{GoesWith, GetsTurn, last_row, recorded}
+use Rattle.kn_cell.specs.Turns.{HasTurn, WaitsForTurn, Overflows, row_of, room_of, trace_of}
+use Rattle.kn_cell.proofs.TakenMoves.{taken_within, last_row-one}
 use Rattle.kn_cell.proofs.TurnMoves.{first_or}
 use Rattle.kn_cell.proofs.HistoryFacts.{trace_after-one, clock_after-one, legal-one}
 
 gets_at : (v : View) (k : ℕ) (c : List (ℕ × DeskState)) (m : Me DeskState View) → v.missed ≤ k → (1 + v.free + v.back ≡ v.key.passes → k ≡ v.missed) → v.spent ≡ false → GetsTurn (record v { missed = k }, c) m → WaitsForTurn v m
 gets_at v k c m later alone fresh g = record {
   log = g.log;
+  taken = g.value.taken;
   missed = k;
   later = later;
   alone = alone;
-  learns = record { bounded = g.learns.bounded; legal = g.learns.legal; bounds = g.learns.bounds; longer = g.learns.longer; others = g.learns.others; own = g.learns.own };
+  learns = record { bounded = g.learns.bounded; legal = g.learns.legal; bounds = g.learns.bounds; longer = g.learns.longer; others = g.learns.others; own = g.learns.own; gone = g.learns.gone; most = g.learns.most; plain = g.learns.plain; scribe = g.learns.scribe };
   view_is = ap (λ (x : Me DeskState View). x.0) g.after;
   has = subst HasTurn (sym g.after)
-      record { turn = refl; fresh = fresh; value = g.value; slot = refl; goes = g.goes; bounded = g.learns.bounded; legal = g.learns.legal };
+      record { turn = refl; fresh = fresh; value = g.value; slot = refl; goes = g.goes; gone = refl; bounded = g.learns.bounded; legal = g.learns.legal };
 }
 
 -- after some misses the turn was got
@@ -36,21 +40,34 @@ pub waits_of : (v u : View) (c : List (ℕ × DeskState)) (m : Me DeskState View
     → GetsTurn (u, c) m → WaitsForTurn v m
 waits_of v u c m later alone fresh is g = gets_at v u.missed c m later alone fresh (subst (λ (x : View). GetsTurn (x, c) m) is g)
 
+-- the room that the desk finds is the room that the view knows of
+left_for : (lasting : Bool) (room gone total taken rows live : ℕ) → room ≤ 1000000 → gone ≡ taken → taken + rows ≡ total → (lasting ≡ false → taken ≡ 0)
+    → min room (2 ^ 53 - taken) - rows - live ≡ room_for lasting room gone total live
+left_for true room gone total taken rows live small same all plain = omega arith
+left_for false room gone total taken rows live small same all plain = let none = plain refl in omega arith
+
+left_is : (v : View) (x : DeskState) (live : ℕ) → IsBounded v.key → GoesWith v.key v.seen x → v.gone ≡ x.taken → left_at x live ≡ room_of v live
+left_is v x live bounded goes gone =
+    ap (λ r. min r (2 ^ 53 - x.taken) - length x.history - live) goes.room
+    ∙ left_for v.key.lasting v.key.room v.gone (length v.seen) x.taken (length x.history) live bounded.room gone (taken_within v.key v.seen x goes) goes.plain
+
 -- what the slot has after an event, beside the log with its row
 pub record GoesOn (v : View) (act : Act) (time : ℕ) (told : Told) (y : DeskState) : Type 0 where
-  pub row : y.history ≡ v.seen ++ row_of v act time told ∷ []
+  pub before : List Past
+  pub row : y.history ≡ before ++ row_of v act time told ∷ []
   pub legal : IsLegal (opening v.key) (v.seen ++ row_of v act time told ∷ [])
   pub goes : GoesWith v.key (v.seen ++ row_of v act time told ∷ []) y
+  pub gone : v.gone ≡ y.taken
   pub bounds : IsInBounds (row_of v act time told).event
-  pub need : (c : Trace) → StandsFor (opening v.key) c → need_of (trace_after (opening v.key).spec c v.seen) act ≤ v.key.room - length v.seen - live_of (trace_after (opening v.key).spec c v.seen)
+  pub need : (c : Trace) → StandsFor (opening v.key) c → need_of (trace_of v c) act ≤ room_of v (live_of (trace_of v c))
 
-pub applied : (v : View) (x : DeskState) (act : Act) (time : ℕ) (told : Told) (y : DeskState) → GoesWith v.key v.seen x → IsLegal (opening v.key) v.seen
-    → Applies x v.number act time told y → GoesOn v act time told y
-applied v x act time told y goes legal a =
+pub applied : (v : View) (x : DeskState) (act : Act) (time : ℕ) (told : Told) (y : DeskState) → IsBounded v.key → GoesWith v.key v.seen x → v.gone ≡ x.taken
+    → IsLegal (opening v.key) v.seen → Applies x v.number act time told y → GoesOn v act time told y
+applied v x act time told y bounded goes gone legal a =
     let h = v.seen in
     let b = opening v.key in
     let p = row_of v act time told in
-    let row' : y.history ≡ h ++ p ∷ [] = a.row ∙ ap₂ (λ (l : List Past) (k : ℕ). l ++ past v.number (event_at k time act) told ∷ []) goes.history goes.clock in
+    let row' : y.history ≡ x.history ++ p ∷ [] = a.row ∙ ap (λ (k : ℕ). x.history ++ past v.number (event_at k time act) told ∷ []) goes.clock in
     let order : clock_after b.clock h ≤ time_at (clock_after b.clock h) time = subst (λ k. k ≤ time_at k time) goes.clock a.order in
     let answer : (c : Trace) → StandsFor b c → told ≡ told_of b.spec (trace_after b.spec c h) p.event =
     (λ c s. subst (λ k. told ≡ told_of b.spec (trace_after b.spec c h) (event_at k time act)) goes.clock
@@ -64,10 +81,14 @@ applied v x act time told y goes legal a =
     let events = a.events in
     let before = goes.events in
     record {
+      before = x.history;
       row = row';
       legal = legal-one b h p legal order answer;
       goes = record {
-        history = row';
+        front = goes.front;
+        whole = ap (λ l. l ++ p ∷ []) goes.whole ∙ (append_assoc goes.front x.history (p ∷ []) ∙ ap (λ l. goes.front ++ l) (sym row'));
+        count = goes.count ∙ sym a.taken;
+        plain = λ no. a.taken ∙ goes.plain no;
         room = a.room ∙ goes.room;
         spec = a.spec ∙ goes.spec;
         start = a.start ∙ goes.start;
@@ -75,41 +96,41 @@ applied v x act time told y goes legal a =
         clock = a.clock ∙ (ap (λ k. time_at k time) goes.clock ∙ sym (clock_after-one b.clock h p));
         events = omega arith;
         fits = a.fits;
+        few = a.few;
+        addresses = a.addresses ∙ goes.addresses;
+        book = λ c s.
+            subst (IsBookOf y.book) (sym (trace_after-one b.spec c h p))
+            (subst (λ k. IsBookOf y.book (trace_after b.spec c h ++ react b.spec (trace_after b.spec c h) (event_at k time act))) goes.clock
+            (subst (λ q. IsBookOf y.book (trace_after b.spec c h ++ react q (trace_after b.spec c h) (event_at x.revision.clock time act))) goes.spec
+            (a.book (trace_after b.spec c h) (goes.stands c s) (goes.book c s))));
       };
+      gone = gone ∙ sym a.taken;
       bounds = subst (λ k. IsInBounds (event_at k time act)) goes.clock a.bounds;
-      need = λ c s. subst (λ (l : List Past). need_of (trace_after b.spec c h) act ≤ v.key.room - length l - live_of (trace_after b.spec c h)) goes.history
-          (subst (λ r. need_of (trace_after b.spec c h) act ≤ r - length x.history - live_of (trace_after b.spec c h)) goes.room (a.need (trace_after b.spec c h) (goes.stands c s)));
+      need = λ c s. subst (λ n. need_of (trace_of v c) act ≤ n) (left_is v x (live_of (trace_of v c)) bounded goes gone) (a.need (trace_of v c) (goes.stands c s));
     }
 
-pub refused : (v : View) (x : DeskState) (act : Act) (full : Full) → GoesWith v.key v.seen x → Refuses x act full → Overflows v act full
-refused v x act full goes r =
-    let b = opening v.key in
+pub refused : (v : View) (x : DeskState) (act : Act) (full : Full) → IsBounded v.key → GoesWith v.key v.seen x → v.gone ≡ x.taken → Refuses x act full
+    → Overflows v act full
+refused v x act full bounded goes gone r =
+    let within = taken_within v.key v.seen x goes in
+    let used = r.used in
     record {
       room = r.room ∙ goes.room;
-      used = r.used ∙ ap length goes.history;
-      live = λ c s. r.live (trace_after b.spec c v.seen) (goes.stands c s);
-      short = λ c s. subst (λ (l : List Past). v.key.room - length l - live_of (trace_after b.spec c v.seen) < need_of (trace_after b.spec c v.seen) act) goes.history
-          (subst (λ k. k - length x.history - live_of (trace_after b.spec c v.seen) < need_of (trace_after b.spec c v.seen) act) goes.room (r.short (trace_after b.spec c v.seen) (goes.stands c s)));
+      used = omega arith;
+      live = λ c s. r.live (trace_of v c) (goes.stands c s);
+      short = λ c s. subst (λ n. n < need_of (trace_of v c) act) (left_is v x (live_of (trace_of v c)) bounded goes gone) (r.short (trace_of v c) (goes.stands c s));
     }
 
 -- the seat after the row was counted
 pub recorded_is : (v : View) (act : Act) (time : ℕ) (told : Told) (y : DeskState) (m w : Me DeskState View) → GoesOn v act time told y → m.0 ≡ v → m.1 ≡ (0, y) ∷ []
-    → w ≡ (recorded m.0 y.history, m.1) → w ≡ (recorded v (v.seen ++ row_of v act time told ∷ []), (0, y) ∷ [])
+    → w ≡ (recorded m.0 (m.0.seen ++ last_row y.history), m.1) → w ≡ (recorded v (v.seen ++ row_of v act time told ∷ []), (0, y) ∷ [])
 recorded_is v act time told y m w on same slot is =
-    is ∙ (ap₂ (λ (u : View) (l : List (ℕ × DeskState)). (recorded u y.history, l)) same slot
-    ∙ ap (λ (h : List Past). (recorded v h, (0, y) ∷ [])) on.row)
+    is ∙ (ap₂ (λ (u : View) (l : List (ℕ × DeskState)). (recorded u (u.seen ++ last_row y.history), l)) same slot
+    ∙ ap (λ (l : List Past). (recorded v (v.seen ++ l), (0, y) ∷ [])) (ap last_row on.row ∙ last_row-one on.before (row_of v act time told)))
 
 -- a slot that is held alone was taken last
 pub slot_first : (l : List (ℕ × DeskState)) (x : DeskState) → l ≡ (0, x) ∷ [] → l ≡ (0, x) ∷ rest l
 slot_first l x e = e ∙ ap (λ k. (0, x) ∷ rest k) (sym e)
-
--- a seat with the turn that did not change can give it back
-pub has_slot : (m w : Me DeskState View) → HasTurn m → w ≡ m → (x : DeskState) × (w.1 ≡ (0, x) ∷ []) × GoesWith w.0.key w.0.seen x
-has_slot m w has same = (
-  has.value,
-  ap (λ (u : Me DeskState View). u.1) same ∙ has.slot,
-  subst (λ (u : Me DeskState View). GoesWith u.0.key u.0.seen has.value) (sym same) has.goes,
-)
 
 -- what the value in the slot became is what the seat has
 pub applied_at : (l : List (ℕ × DeskState)) (z x y : DeskState) (number : ℕ) (act : Act) (time : ℕ) (told : Told) → l ≡ (0, z) ∷ rest l → l ≡ (0, x) ∷ []

@@ -5,6 +5,7 @@ use Rattle.kn_event.specs.declared.event.Event.{Event}
 use Rattle.kn_event.specs.declared.event.Told.{Told}
 use Rattle.kn_trace.specs.Events.{react, told_of, need_of}
 use Rattle.kn_trace.specs.Trace.{Trace}
+use Rattle.kn_book.specs.State.{StandsFor as IsBookOf}
 use Rattle.kn_core.specs.State.{StandsFor}
 use Rattle.kn_cell.specs.declared.past.Full.{Full}
 use Rattle.kn_cell.specs.History.{past, live_of, IsInBounds}
@@ -17,11 +18,21 @@ time_at clock time = min (max time clock) (2 ^ 42)
 abbrev pub event_at : ℕ → ℕ → Act → Event
 event_at clock time act = record { time = time_at clock time; act = act }
 
+-- how many rows there is room for, beside so many live requests
+abbrev pub left_at : DeskState → ℕ → ℕ
+left_at x live = min x.room (2 ^ 53 - x.taken) - length x.history - live
+
+-- all rows were taken out
+abbrev pub emptied : DeskState → DeskState
+emptied x = record x { taken = x.taken + length x.history; history = [] }
+
 -- the event was told what it is told after the rows that there were, and has its row
 pub record Applies (old : DeskState) (pass : ℕ) (act : Act) (time : ℕ) (told : Told) (new : DeskState) : Type 0 where
   pub room : new.room ≡ old.room
+  pub taken : new.taken ≡ old.taken
   pub row : new.history ≡ old.history ++ past pass (event_at old.revision.clock time act) told ∷ []
   pub fits : length new.history + live_in new.revision ≤ new.room
+  pub few : new.taken + length new.history + live_in new.revision ≤ 2 ^ 53
   pub order : old.revision.clock ≤ time_at old.revision.clock time
   pub bounds : IsInBounds (event_at old.revision.clock time act)
   pub spec : new.revision.spec ≡ old.revision.spec
@@ -30,11 +41,14 @@ pub record Applies (old : DeskState) (pass : ℕ) (act : Act) (time : ℕ) (told
   pub events : new.revision.events ≡ old.revision.events + 1
   pub answer : (c : Trace) → StandsFor old.revision c → told ≡ told_of old.revision.spec c (event_at old.revision.clock time act)
   pub stands : (c : Trace) → StandsFor old.revision c → StandsFor new.revision (c ++ react old.revision.spec c (event_at old.revision.clock time act))
-  pub need : (c : Trace) → StandsFor old.revision c → need_of c act ≤ old.room - length old.history - live_of c
+  pub need : (c : Trace) → StandsFor old.revision c → need_of c act ≤ left_at old (live_of c)
+  pub addresses : new.book.addresses ≡ old.book.addresses
+  pub book : (c : Trace) → StandsFor old.revision c → IsBookOf old.book c
+      → IsBookOf new.book (c ++ react old.revision.spec c (event_at old.revision.clock time act))
 
 -- the room is too small for the act
 pub record Refuses (old : DeskState) (act : Act) (full : Full) : Type 0 where
   pub room : full.room ≡ old.room
   pub used : full.used ≡ length old.history
   pub live : (c : Trace) → StandsFor old.revision c → full.live ≡ live_of c
-  pub short : (c : Trace) → StandsFor old.revision c → old.room - length old.history - live_of c < need_of c act
+  pub short : (c : Trace) → StandsFor old.revision c → left_at old (live_of c) < need_of c act

@@ -1,5 +1,5 @@
 -- Histories: which are legal, and which trace one makes.
-use Rattle.std.specs.Prelude.{ℕ, ◌≡◌, ◌≤◌, ◌==◌, ◌^◌, List, [], ◌∷◌, ◌++◌, length, ⊤}
+use Rattle.std.specs.Prelude.{ℕ, ◌≡◌, ◌≤◌, ◌==◌, ◌-◌, ◌^◌, Bool, cond, min, List, [], ◌∷◌, ◌++◌, length, ⊤}
 use Rattle.std.specs.List.{filter}
 use Rattle.kn_event.specs.declared.event.Act.{Act}
 use Rattle.kn_event.specs.declared.event.Act.TheVariants as act
@@ -40,6 +40,11 @@ rows_by n h = filter (λ p. p.pass == n) h
 -- how many requests are live
 abbrev pub live_of : Trace → ℕ
 live_of c = length (live c)
+
+-- How many rows there is room for: `room` less the rows that were not taken out, `gone` of `total`, and less the live requests, each of which
+-- may still end. Where rows may be taken out there are 2^53 at most in all
+abbrev pub room_for : Bool → ℕ → ℕ → ℕ → ℕ → ℕ
+room_for lasting room gone total live = let here = room - (total - gone) - live in cond lasting (min here (2 ^ 53 - total - live)) here
 
 -- ---- the events of a cell
 

@@ -1,9 +1,11 @@
 pub mod Lists
 pub mod History
 pub mod State
+pub mod Books
 pub mod Desk
 pub mod Views
 pub mod Rule
 pub mod Turns
 pub mod Splitting
 pub mod Shown
+pub mod Course

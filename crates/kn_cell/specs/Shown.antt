@@ -1,13 +1,15 @@
 -- What contracts see of a pass, and what the calls of a cell do to it.
-use Rattle.std.specs.Prelude.{ℕ, ◌≡◌, ◌⊎◌, ◌≤◌, ◌<◌, ◌+◌, ◌-◌, List, [], ◌∷◌, ◌++◌, false, length, Result, Ok, Err}
+use Rattle.std.specs.Prelude.{ℕ, ◌≡◌, ◌⊎◌, ◌≤◌, ◌<◌, ◌+◌, ◌-◌, ◌||◌, max, Bool, List, [], ◌∷◌, ◌++◌, true, false, length, Result, Ok, Err}
 use mathlib.Core.Option.{some}
 use lib.ListN.{get_elem?}
 use Rattle.atomic_table.specs.Seated.{TableId}
 use Rattle.atomic_table.specs.declared.shared.Seat.{Seat}
 use Rattle.kn_event.specs.declared.event.Act.{Act}
+use Rattle.kn_event.specs.declared.event.Event.{Event}
 use Rattle.kn_event.specs.declared.event.Told.{Told}
 use Rattle.kn_core.specs.State.{RevisionState, StandsFor, StandsForSome}
 use Rattle.kn_trace.specs.Events.{need_of}
+use Rattle.kn_trace.specs.Laws.{IsInert, IsLawful, IsSettled}
 use Rattle.kn_trace.specs.Trace.{Trace}
 use Rattle.kn_cell.specs.declared.past.Past.{Past}
 use Rattle.kn_cell.specs.declared.past.Full as kept
@@ -16,7 +18,7 @@ use Rattle.kn_cell.specs.declared.past.TryError.TheVariants.{Busy, Full}
 use Rattle.kn_cell.specs.declared.view.Joined.{Joined}
 use Rattle.kn_cell.specs.declared.view.View.{View}
 use Rattle.kn_cell.specs.Lists.{StartsWith, Each}
-use Rattle.kn_cell.specs.History.{trace_after, clock_after, live_of, IsInBounds, IsLegal, rows_by, past}
+use Rattle.kn_cell.specs.History.{trace_after, clock_after, live_of, room_for, IsInBounds, IsLegal, rows_by, past}
 use Rattle.kn_cell.specs.State.{DeskState}
 use Rattle.kn_cell.specs.Desk.{event_at}
 
@@ -32,6 +34,14 @@ pub record PassView : Type 0 where
   pub opening : RevisionState
   pub room : ℕ
   pub passes : ℕ
+  -- rows may be taken out of this cell's history
+  pub lasting : Bool
+  -- this pass may take them
+  pub scribe : Bool
+  -- how many had been taken out when the pass last had the turn
+  pub gone : ℕ
+  -- how many addresses the book of this cell's pods has; with 0 there is none, and a pod's number is its address
+  pub book : ℕ
 
 abbrev pub shown : TableId → View → PassView
 shown t v = record {
@@ -46,6 +56,10 @@ shown t v = record {
   opening = v.key.opening.value;
   room = v.key.room;
   passes = v.key.passes;
+  lasting = v.key.lasting;
+  scribe = v.scribe;
+  gone = v.gone;
+  book = v.key.addresses;
 }
 
 -- the seat of a pass between two calls, beside the numbers that the pass keeps itself
@@ -61,9 +75,10 @@ pub record IsIdle (seat : Seat DeskState View) (number free passes : ℕ) : Type
   pub idle : seat.me.0.turn ≡ false
   pub empty : seat.me.1 ≡ []
 
--- the pass has seen more, and nothing else has changed but `mine` and `missed`. No row that it has seen lost a pod
-pub record Looks (old new : PassView) : Type 0 where
-  pub same : new ≡ record old { seen = new.seen; mine = new.mine; missed = new.missed }
+-- The pass has seen more, of its rows and of those that were taken out, `given` of them by itself. Nothing else has changed but `mine` and
+-- `missed`. No row that it has seen lost a pod
+pub record LooksBy (given : ℕ) (old new : PassView) : Type 0 where
+  pub same : new ≡ record old { seen = new.seen; mine = new.mine; missed = new.missed; gone = new.gone }
   pub missed : old.missed ≤ new.missed
   pub alone : 1 + old.free + old.back ≡ old.passes → new.missed ≡ old.missed
   pub longer : StartsWith new.seen old.seen
@@ -72,6 +87,18 @@ pub record Looks (old new : PassView) : Type 0 where
   pub bounds : Each (λ r. IsInBounds r.event) new.seen
   pub own : new.mine ≡ rows_by old.number new.seen
   pub some : StandsForSome old.opening
+  pub gone : old.gone ≤ new.gone
+  pub most : new.gone ≤ length new.seen
+  pub plain : old.lasting ≡ false → new.gone ≡ 0
+  pub still : old.scribe ≡ true → new.gone ≡ old.gone + given
+
+-- the same, where the pass takes no row out
+abbrev pub Looks : PassView → PassView → Type 0
+Looks = LooksBy 0
+
+-- how many rows there is room for after these, beside so many live requests. Where rows are never taken out, it is the room less both
+abbrev pub left_in : PassView → List Past → ℕ → ℕ
+left_in p front live = room_for p.lasting p.room p.gone (length front) live
 
 -- the row of this act was recorded, last of all that is seen
 pub record Adds (old : PassView) (act : Act) (time : ℕ) (told : Told) (new : PassView) : Type 0 where
@@ -81,17 +108,17 @@ pub record Adds (old : PassView) (act : Act) (time : ℕ) (told : Told) (new : P
   pub seen : new.seen ≡ front ++ row ∷ []
   pub mine : new.mine ≡ old.mine ++ row ∷ []
   pub longer : StartsWith front old.seen
-  pub room : (c : Trace) → StandsFor old.opening c → need_of (trace_after old.opening.spec c front) act ≤ old.room - length front - live_of (trace_after old.opening.spec c front)
+  pub room : (c : Trace) → StandsFor old.opening c → need_of (trace_after old.opening.spec c front) act ≤ left_in new front (live_of (trace_after old.opening.spec c front))
 
 -- nothing was recorded, since the room is too small after all that is seen
 pub record Misfits (old : PassView) (act : Act) (full : kept.Full) (new : PassView) : Type 0 where
   pub mine : new.mine ≡ old.mine
   pub room : full.room ≡ old.room
-  pub used : full.used ≡ length new.seen
+  pub used : full.used ≡ length new.seen - new.gone
   pub live : (c : Trace) → StandsFor old.opening c → full.live ≡ live_of (trace_after old.opening.spec c new.seen)
-  pub short : (c : Trace) → StandsFor old.opening c → old.room - length new.seen - live_of (trace_after old.opening.spec c new.seen) < need_of (trace_after old.opening.spec c new.seen) act
+  pub short : (c : Trace) → StandsFor old.opening c → left_in new new.seen (live_of (trace_after old.opening.spec c new.seen)) < need_of (trace_after old.opening.spec c new.seen) act
 
--- a new cell's first pass
+-- the first pass of a new cell whose history is kept whole
 abbrev pub first_shown : TableId → RevisionState → ℕ → ℕ → PassView
 first_shown t b room passes = record {
   cell = t;
@@ -105,7 +132,15 @@ first_shown t b room passes = record {
   opening = b;
   room = room;
   passes = passes;
+  lasting = false;
+  scribe = false;
+  gone = 0;
+  book = 0;
 }
+
+-- the same, where rows may be taken out, by this pass, and pods have so many addresses
+abbrev pub first_lasting : TableId → RevisionState → ℕ → ℕ → ℕ → PassView
+first_lasting t b room passes addresses = record (first_shown t b room passes) { lasting = true; scribe = true; book = addresses }
 
 -- the whole answer of an attempt that does not wait
 abbrev pub Tries : PassView → Act → ℕ → Result Told TryError → PassView → Type 0
@@ -126,10 +161,19 @@ new_shown p = record {
   opening = p.opening;
   room = p.room;
   passes = p.passes;
+  lasting = p.lasting;
+  scribe = false;
+  gone = p.gone;
+  book = p.book;
 }
 
 abbrev pub joined_shown : PassView → PassView → PassView
-joined_shown p q = record p { back = p.back + 1 + q.free + q.back; others = p.others ++ q.others ++ record { number = q.number; seen = q.seen; mine = q.mine } ∷ [] }
+joined_shown p q = record p {
+  back = p.back + 1 + q.free + q.back;
+  others = p.others ++ q.others ++ record { number = q.number; seen = q.seen; mine = q.mine } ∷ [];
+  scribe = p.scribe || q.scribe;
+  gone = max p.gone q.gone;
+}
 
 -- the number is the pass's own, or of a pass that was joined to it
 abbrev pub IsNumberOf : PassView → ℕ → Type 0
@@ -149,6 +193,21 @@ pub record Closes (p : PassView) (revision : RevisionState) (history : List Past
   pub others : Each (λ o. StartsWith history o.seen × (o.mine ≡ rows_by o.number history)) p.others
   pub numbers : Each (λ r. IsNumberOf p r.pass) history
 
+-- The last pass closes the cell with the rows that are left. The history is `front`, the rows that were taken out, and then these. It is
+-- lawful; after each beginning of it the trace is settled, and an event that is refused changes nothing else
+pub record IsClosed (p : PassView) (revision : RevisionState) (rest : List Past) : Type 0 where
+  pub front : List Past
+  pub plain : p.lasting ≡ false → front ≡ []
+  pub gone : p.gone ≤ length front
+  pub exact : p.scribe ≡ true → length front ≡ p.gone
+  pub closes : Closes p revision (front ++ rest)
+  pub lawful : (c : Trace) → StandsFor p.opening c → IsLawful p.opening.spec (trace_after p.opening.spec c (front ++ rest))
+  pub settled : (c : Trace) → StandsFor p.opening c → IsSettled p.opening.spec (trace_after p.opening.spec c (front ++ rest))
+  pub always_settled : (c : Trace) (first : List Past) → StandsFor p.opening c → StartsWith (front ++ rest) first
+      → IsSettled p.opening.spec (trace_after p.opening.spec c first)
+  pub inert : (c : Trace) (first : List Past) (e : Event) → StandsFor p.opening c → StartsWith (front ++ rest) first
+      → IsInert p.opening.spec (trace_after p.opening.spec c first) e
+
 -- the same pass, which may have seen and done more
 abbrev pub IsLater : PassView → PassView → Type 0
-IsLater old new = new ≡ record old { seen = new.seen; mine = new.mine; missed = new.missed }
+IsLater old new = new ≡ record old { seen = new.seen; mine = new.mine; missed = new.missed; gone = new.gone }

@@ -1,5 +1,5 @@
 -- How a pass is cut in two, and how two are made one.
-use Rattle.std.specs.Prelude.{◌+◌, ◌-◌, [], ◌∷◌, ◌++◌, None, true, false}
+use Rattle.std.specs.Prelude.{◌+◌, ◌-◌, ◌||◌, max, [], ◌∷◌, ◌++◌, None, true, false}
 use Rattle.kn_event.specs.FixedSpec.{fixed_spec}
 use Rattle.kn_event.specs.declared.revision.Slots.{Slots}
 use Rattle.kn_record.specs.Admission.{admission}
@@ -11,16 +11,18 @@ use Rattle.kn_cell.specs.declared.view.View.{View}
 abbrev pub less_one : View → View
 less_one v = record v { free = v.free - 1 }
 
--- a new pass has seen as much, and has the next number
+-- a new pass has seen as much, has the next number, and is not the scribe
 abbrev pub newcomer : View → View
 newcomer v = record {
   spent = false;
   turn = false;
+  scribe = false;
   key = v.key;
   number = v.key.passes - v.free;
   free = 0;
   back = 0;
   missed = 0;
+  gone = v.gone;
   seen = v.seen;
   mine = [];
   others = [];
@@ -30,7 +32,7 @@ abbrev pub as_joined : View → Joined
 as_joined w = record { number = w.number; seen = w.seen; mine = w.mine }
 
 abbrev pub with_other : View → View → View
-with_other v w = record v { back = v.back + 1 + w.free + w.back; others = v.others ++ w.others ++ as_joined w ∷ [] }
+with_other v w = record v { scribe = v.scribe || w.scribe; back = v.back + 1 + w.free + w.back; gone = max v.gone w.gone; others = v.others ++ w.others ++ as_joined w ∷ [] }
 
 abbrev no_slots : Slots
 no_slots = record { depth = 0; max = 0; seed = 0 }
@@ -50,11 +52,13 @@ abbrev pub spent_view : View
 spent_view = record {
   spent = true;
   turn = false;
-  key = record { opening = record { marker = record {}; value = blank }; room = 0; passes = 0 };
+  scribe = false;
+  key = record { opening = record { marker = record {}; value = blank }; lasting = false; room = 0; passes = 0; addresses = 0 };
   number = 0;
   free = 0;
   back = 0;
   missed = 0;
+  gone = 0;
   seen = [];
   mine = [];
   others = [];

@@ -1,5 +1,5 @@
 -- What seats know, and what the rule says of them all.
-use Rattle.std.specs.Prelude.{ℕ, ◌≡◌, ◌≢◌, ◌⊎◌, ◌≤◌, ◌<◌, ◌+◌, ◌^◌, List, false, cond}
+use Rattle.std.specs.Prelude.{ℕ, ◌≡◌, ◌≢◌, ◌⊎◌, ◌≤◌, ◌<◌, ◌+◌, ◌^◌, List, true, false, cond}
 use mathlib.Core.Option.{some}
 use lib.ListN.{get_elem?}
 use Rattle.kn_core.specs.State.{RevisionState, StandsForSome}
@@ -61,3 +61,10 @@ pub record Passes (key : Key) (log : List Past) (views : List View) : Type 0 whe
   pub rows : Each (λ p. p.pass < given) log
   pub bounds : Each (λ p. IsInBounds p.event) log
   pub holders : (n : ℕ) → n < given → Holds views (owner n) n
+
+-- what the views that are not spent know of the rows that were taken out. One at most is the scribe's, who alone takes them
+pub record Takings (key : Key) (taken : ℕ) (views : List View) : Type 0 where
+  pub scribe : ℕ
+  pub plain : key.lasting ≡ false → taken ≡ 0
+  pub gone : (id : ℕ) (v : View) → get_elem? views id ≡ some v → v.spent ≡ false → v.gone ≤ taken
+  pub takes : (id : ℕ) (v : View) → get_elem? views id ≡ some v → v.spent ≡ false → v.scribe ≡ true → (id ≡ scribe) × (v.gone ≡ taken) × (key.lasting ≡ true)

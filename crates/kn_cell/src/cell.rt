@@ -1,27 +1,32 @@
 //! The cell and its passes.
-ghost use Rattle.std.specs.Prelude.{◌≡◌, ◌<◌, ◌≤◌, ◌+◌, ◌-◌, ◌^◌, List, IfOk, IfErr, IfSome};
-ghost use Rattle.kn_event.specs.declared.event.Event.{Event as EventValue};
-ghost use Rattle.kn_trace.specs.Laws.{IsInert, IsLawful, IsSettled};
+ghost use Rattle.std.specs.Prelude.{◌≡◌, ◌<◌, ◌≤◌, ◌+◌, ◌++◌, ◌-◌, ◌^◌, List, [], true, length, vec_capacity, IfOk, IfErr, IfSome, Some, ℕ};
+ghost use Rattle.kn_event.specs.declared.event.Act.TheVariants as act;
+ghost use Rattle.kn_sizes.specs.Told.{arrival_told};
 ghost use Rattle.kn_trace.specs.Trace.{Trace, next_starting, proxied, stand_of};
+ghost use Rattle.kn_book.specs.Book.{next_to_probe};
 ghost use Rattle.kn_core.specs.State.{StandsFor};
 ghost use Rattle.kn_cell.specs.declared.past.Past.{Past};
-ghost use Rattle.kn_cell.specs.Lists.{StartsWith};
-ghost use Rattle.kn_cell.specs.History.{MayCome, live_of, rows_by, trace_after};
-ghost use Rattle.kn_cell.specs.Shown.{first_shown, Looks, Adds, Misfits, Tries, new_shown, joined_shown, Closes};
+ghost use Rattle.kn_cell.specs.Course.{IsCourseOf};
+ghost use Rattle.kn_cell.specs.History.{MayCome, rows_by, trace_after};
+ghost use Rattle.kn_cell.specs.Shown.{Looks, LooksBy, Adds, Misfits, Tries, new_shown, joined_shown, IsClosed};
 
+mod opening;
+
+use crate::course::{Course, arrival_at, arrived, course_at};
 use crate::desk::Desk;
-use crate::past::{Full, History, TryError};
+use crate::past::{Full, History, Past, TryError};
 use crate::rule::{Cut, Glue, Order};
-use crate::steps::{AWAITED, Place, confirm, give, heard, take, wait_bell};
-use crate::turn::{attempt, proxied_at, stand_at, starting_at, take_turn};
+use crate::steps::{AWAITED, Place, confirm, give, hand_back, heard, take, wait_bell};
+use crate::turn::{
+    attempt, enter, proxied_at, rows_at, stand_at, starting_at, take_turn, to_probe_at,
+};
 use crate::view::{Key, View};
-use atomic_table::{Refused, Table};
+use atomic_table::Table;
 use kn_core::Revision;
-use kn_event::{Act, Memory, Stand, Told};
+use kn_event::{Act, Stand, Told};
 use kn_laws::laws::history_laws;
 use std::alloc::Global;
 use std::marker::Model;
-use std::snapshot::Snapshot;
 use std::sync::Wait;
 use std::time::Duration;
 
@@ -73,50 +78,6 @@ impl Model for Pass {
 }
 
 impl RevisionCell {
-    /// Opens the cell over a revision with no live request, with room for so many rows. The answered pass is the first of
-    /// so many, and stands for all of them.
-    pub fn new(
-        alloc: Global,
-        revision: Revision,
-        room: u64,
-        passes: u64,
-    ) -> Result<(RevisionCell, Pass), Memory>
-        requires live { (c : Trace) → StandsFor revision c → live_of c ≡ 0 }
-        requires events { revision.events < 2 ^ 53 }
-        requires room { room ≤ 1000000 }
-        requires passes { (1 ≤ passes) × (passes ≤ 1100) }
-        ensures { IfOk result (λ r. r.1 ≡ first_shown r.0 revision room passes) }
-    {
-        let _live = revision.live();
-        let key = Key {
-            opening: Snapshot::of(&revision),
-            room,
-            passes,
-        };
-        let desk = Desk::new(alloc, revision, room, passes)?;
-        let Ok(mut slots) = Vec::with_capacity(alloc, 1) else {
-            return Err(Memory);
-        };
-        slots.push_reserved(desk);
-        let Ok(words) = Vec::from_elem(alloc, 0, passes as usize + 2) else {
-            return Err(Memory);
-        };
-        match Table::new(alloc, &words, slots, &key) {
-            Ok((table, place)) => Ok((
-                RevisionCell { table },
-                Pass {
-                    number: 0,
-                    free: passes - 1,
-                    passes,
-                    place,
-                    asked: None,
-                    heard: 0,
-                },
-            )),
-            Err(Refused { slots: _ }) => Err(Memory),
-        }
-    }
-
     /// Records the event, behind all that others recorded, or says that the room is too small.
     pub fn on<R: Wait>(&self, rt: &R, pass: &mut Pass, act: Act, time: u64) -> Result<Told, Full>
         requires cell { pass.old.cell ≡ self.now }
@@ -171,6 +132,59 @@ impl RevisionCell {
         stand
     }
 
+    /// How the request goes on after all that is then seen. Where it waits, the pass's bell is rung once it doesn't.
+    pub fn course<R: Wait>(&self, rt: &R, pass: &mut Pass, r: u64) -> Course
+        requires { pass.old.cell ≡ self.now }
+        ensures looks { Looks pass.old pass.new }
+        ensures mine { pass.new.mine ≡ pass.old.mine }
+        ensures course { (c : Trace) → StandsFor pass.new.opening c → IsCourseOf pass.new.book (trace_after pass.new.opening.spec c pass.new.seen) r result }
+    {
+        let board = &self.table.shared;
+        let number = pass.number;
+        let place = &mut pass.place;
+        take_turn(rt, board, place);
+        let course = course_at(board, place, number, pass.asked, r);
+        pass.asked = Some(r);
+        pass.heard = heard(board, number);
+        give(board, place);
+        course
+    }
+
+    /// Records an arrival as `on` does, and says how its request goes on then, as `course` does.
+    pub fn arrive<R: Wait>(
+        &self,
+        rt: &R,
+        pass: &mut Pass,
+        tag: u64,
+        time: u64,
+    ) -> Result<(Told, Course), Full>
+        requires cell { pass.old.cell ≡ self.now }
+        ensures looks { Looks pass.old pass.new }
+        ensures ok { IfOk result (λ x. Adds pass.old (act.Arrive tag) time x.0 pass.new) }
+        ensures course { IfOk result (λ x. (c : Trace) (r : ℕ) → StandsFor pass.new.opening c → arrival_told x.0 ≡ Some r → IsCourseOf pass.new.book (trace_after pass.new.opening.spec c pass.new.seen) r x.1) }
+        ensures full { IfErr result (λ full. Misfits pass.old (act.Arrive tag) full pass.new) }
+    {
+        let board = &self.table.shared;
+        let number = pass.number;
+        let passes = pass.passes;
+        let place = &mut pass.place;
+        take_turn(rt, board, place);
+        match enter(board, place, number, passes, Act::Arrive(tag), time) {
+            Ok(told) => {
+                // Those called have been rung, so there is room for one more that waits.
+                let course = arrival_at(board, place, number, pass.asked, told);
+                pass.asked = arrived(told).or(pass.asked);
+                pass.heard = heard(board, number);
+                give(board, place);
+                Ok((told, course))
+            }
+            Err(full) => {
+                give(board, place);
+                Err(full)
+            }
+        }
+    }
+
     /// Whether the request is proxied, after all that is then seen.
     pub fn proxied<R: Wait>(&self, rt: &R, pass: &mut Pass, r: u64) -> bool
         requires { pass.old.cell ≡ self.now }
@@ -199,6 +213,23 @@ impl RevisionCell {
         let place = &mut pass.place;
         take_turn(rt, board, place);
         let next = starting_at(board, place, from);
+        give(board, place);
+        next
+    }
+
+    /// The least Starting pod that is not below this one and has an address, after all that is then seen, with that address.
+    pub fn next_to_probe<R: Wait>(&self, rt: &R, pass: &mut Pass, from: u64) -> Option<(u64, u64)>
+        requires { pass.old.cell ≡ self.now }
+        ensures looks { Looks pass.old pass.new }
+        ensures mine { pass.new.mine ≡ pass.old.mine }
+        ensures probe { (c : Trace) → StandsFor pass.new.opening c → result ≡ next_to_probe pass.new.book (trace_after pass.new.opening.spec c pass.new.seen) from }
+        ensures from { IfSome result (λ x. from ≤ x.0) }
+        ensures most { IfSome result (λ x. x.0 < 2 ^ 63) }
+    {
+        let board = &self.table.shared;
+        let place = &mut pass.place;
+        take_turn(rt, board, place);
+        let next = to_probe_at(board, place, from);
         give(board, place);
         next
     }
@@ -268,16 +299,30 @@ impl RevisionCell {
         self.table.shared.join_seat::<Glue>(&mut pass.place, place);
     }
 
-    /// Ends the cell. Every number has come back to the pass. The whole history is lawful; after each beginning of it the
-    /// trace is settled, and an event that is refused changes nothing else.
+    /// Takes out all rows that are there. The cell goes on in the memory of the empty list that it is given.
+    pub fn take<R: Wait>(&self, rt: &R, pass: &mut Pass, rows: &mut Vec<Past>)
+        requires cell { pass.old.cell ≡ self.now }
+        requires scribe { pass.old.scribe ≡ true }
+        requires empty { rows.old.items ≡ [] }
+        requires room { pass.old.room ≤ vec_capacity rows.old }
+        ensures looks { LooksBy (length rows.new.items) pass.old pass.new }
+        ensures mine { pass.new.mine ≡ pass.old.mine }
+        ensures taken { (front : List Past) × (length front ≡ pass.old.gone) × (pass.new.seen ≡ front ++ rows.new.items) }
+        ensures room { pass.old.room ≤ vec_capacity rows.new }
+    {
+        let board = &self.table.shared;
+        let place = &mut pass.place;
+        take_turn(rt, board, place);
+        rows_at(board, place, rows);
+        hand_back(board, place);
+    }
+
+    /// Ends the cell, and answers the rows that are left. Every number has come back to the pass. The whole history, the
+    /// rows that were taken out and then these, is lawful, and the trace is settled after each beginning of it.
     pub fn close(self, pass: Pass) -> (Revision, History)
         requires cell { pass.cell ≡ self }
         requires all { 1 + pass.free + pass.back ≡ pass.passes }
-        ensures closes { Closes pass result.0 result.1 }
-        ensures lawful { (c : Trace) → StandsFor pass.opening c → IsLawful pass.opening.spec (trace_after pass.opening.spec c result.1) }
-        ensures settled { (c : Trace) → StandsFor pass.opening c → IsSettled pass.opening.spec (trace_after pass.opening.spec c result.1) }
-        ensures always_settled { (c : Trace) (front : List Past) → StandsFor pass.opening c → StartsWith result.1 front → IsSettled pass.opening.spec (trace_after pass.opening.spec c front) }
-        ensures inert { (c : Trace) (front : List Past) (e : EventValue) → StandsFor pass.opening c → StartsWith result.1 front → IsInert pass.opening.spec (trace_after pass.opening.spec c front) e }
+        ensures closes { IsClosed pass result.0 result.1 }
     {
         history_laws();
         let RevisionCell { table } = self;

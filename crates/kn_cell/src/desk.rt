@@ -1,13 +1,18 @@
 //! What lies in the slot: the revision with its history. What an event does is said here, and needs no thread.
-ghost use Rattle.std.specs.Prelude.{◌≡◌, ◌<◌, ◌≤◌, ◌^◌, IfOk, IfErr, IfSome, []};
+ghost use Rattle.std.specs.Prelude.{◌≡◌, ◌<◌, ◌≤◌, ◌^◌, IfOk, IfErr, IfSome, [], vec_capacity};
 ghost use Rattle.kn_trace.specs.Events.{need_of};
 ghost use Rattle.kn_trace.specs.Trace.{Trace, next_starting, proxied, stand_of};
+ghost use Rattle.kn_book.specs.Book.{call_address, next_to_probe};
+ghost use Rattle.kn_book.specs.State.{StandsFor as IsBookOf};
 ghost use Rattle.kn_core.specs.State.{StandsFor};
 ghost use Rattle.kn_cell.specs.History.{MayCome};
-ghost use Rattle.kn_cell.specs.Desk.{Applies, Refuses};
+ghost use Rattle.kn_cell.specs.Desk.{Applies, Refuses, emptied};
+ghost use Rattle.kn_cell.specs.Books.{HasBook};
 ghost use Rattle.kn_cell.specs.State.{live_in};
 
 use crate::past::{Full, History, Past};
+use kn_book::Book;
+use kn_book::laws::{book_laws, room_laws};
 use kn_core::Revision;
 use kn_event::{Act, EntryLog, Event, Memory, Stand, Told};
 use kn_laws::laws::history_laws;
@@ -16,12 +21,20 @@ use kn_waiters::Waiters;
 use std::alloc::Global;
 use std::marker::Model;
 
+// The most rows that are ever recorded in all, and live requests beside them.
+const MOST_ROWS: u64 = 1 << 53;
+
 pub struct Desk {
     room: u64,
     revision: Revision,
+    /// How many rows were taken out.
+    taken: u64,
+    /// The rows that are left.
     history: Vec<Past>,
     log: EntryLog,
     waiters: Waiters,
+    /// Which address each live pod has.
+    book: Book,
 }
 
 impl Drop for Desk {
@@ -29,29 +42,40 @@ impl Drop for Desk {
         let Desk {
             room: _,
             revision: _,
+            taken: _,
             history: _,
             log: _,
             waiters: _,
+            book: _,
         } = self;
     }
 }
 
 impl Model for Desk {
-    ghost use Rattle.std.specs.Prelude.{◌≤◌, ◌+◌, length, vec_capacity};
+    ghost use Rattle.std.specs.Prelude.{◌≤◌, ◌+◌, ◌^◌, length, vec_capacity};
+    ghost use Rattle.kn_cell.specs.Books.{HasBook};
     ghost use Rattle.kn_cell.specs.State.{DeskState, live_in};
 
     ghost Value = { DeskState };
 
-    ghost view = { λ d. record { room = d.room; revision = d.revision; history = d.history.items } };
+    ghost view = { λ d. record { room = d.room; revision = d.revision; taken = d.taken; history = d.history.items; book = d.book } };
 
-    ghost invariant = { λ d. (length d.history.items + live_in d.revision ≤ d.room) × (d.room ≤ vec_capacity d.history) };
+    ghost invariant = { λ d. (length d.history.items + live_in d.revision ≤ d.room) × (d.room ≤ vec_capacity d.history) × (d.taken + length d.history.items + live_in d.revision ≤ 2 ^ 53) × HasBook d.book d.revision };
 }
 
 impl Desk {
-    /// The revision with room for so many rows, and none yet, and for so many passes that wait.
-    pub fn new(alloc: Global, revision: Revision, room: u64, passes: u64) -> Result<Desk, Memory>
-        requires { live_in revision ≤ room }
-        ensures { IfOk result (λ d. d ≡ record { room = room; revision = revision; history = [] }) }
+    /// The revision and the book of its pods, with room for so many rows, and none yet, and for so many passes that wait.
+    pub fn new(
+        alloc: Global,
+        revision: Revision,
+        book: Book,
+        room: u64,
+        passes: u64,
+    ) -> Result<Desk, Memory>
+        requires live { live_in revision ≤ room }
+        requires room { room ≤ 1000000 }
+        requires book { HasBook book revision }
+        ensures { IfOk result (λ d. d ≡ record { room = room; revision = revision; taken = 0; history = []; book = book }) }
     {
         let Ok(history) = Vec::with_capacity(alloc, room as usize) else {
             return Err(Memory);
@@ -61,9 +85,11 @@ impl Desk {
         Ok(Desk {
             room,
             revision,
+            taken: 0,
             history,
             log,
             waiters,
+            book,
         })
     }
 
@@ -74,10 +100,12 @@ impl Desk {
         ensures ok { IfOk result (λ told. Applies self.old pass act time told self.new) }
         ensures err { IfErr result (λ full. (self.new ≡ self.old) × Refuses self.old act full) }
     {
+        history_laws();
+        room_laws();
         let live = self.revision.live();
         let used = self.history.len() as u64;
         let need = need(&self.revision, &act);
-        let left = self.room - used - live;
+        let left = self.room.min(MOST_ROWS - self.taken) - used - live;
         if left < need {
             return Err(Full {
                 room: self.room,
@@ -90,11 +118,24 @@ impl Desk {
         self.log.clear();
         let told = self.revision.step(&event, &mut self.log);
         self.history.push_reserved(Past { pass, event, told });
+        self.book.apply(self.log.entries());
         self.waiters.call_all(self.log.entries());
         Ok(told)
     }
 
-    /// Its revision and its history.
+    /// Takes all rows out, and keeps the memory of the empty list that it is given.
+    pub fn take(&mut self, rows: &mut Vec<Past>)
+        requires empty { rows.old.items ≡ [] }
+        requires room { self.old.room ≤ vec_capacity rows.old }
+        ensures desk { self.new ≡ emptied self.old }
+        ensures rows { rows.new.items ≡ self.old.history }
+        ensures room { self.old.room ≤ vec_capacity rows.new }
+    {
+        self.taken += self.history.len() as u64;
+        std::mem::swap(&mut self.history, rows);
+    }
+
+    /// Its revision and the rows that are left.
     pub fn into_parts(self) -> (Revision, History)
         ensures revision { result.0 ≡ self.revision }
         ensures history { result.1 ≡ self.history }
@@ -102,9 +143,11 @@ impl Desk {
         let Desk {
             room: _,
             revision,
+            taken: _,
             history,
             log: _,
             waiters: _,
+            book: _,
         } = self;
         (revision, History::new(history))
     }
@@ -145,6 +188,26 @@ impl Desk {
         ensures most { IfSome result (λ p. p < 2 ^ 63) }
     {
         self.revision.next_starting(from)
+    }
+
+    /// Whom a call of the pod reaches: its address, or the number of addresses where it has none.
+    pub fn call_address(&self, pod: u64) -> u64
+        ensures { (c : Trace) → IsBookOf self.now.book c → result ≡ call_address self.now.book.addresses c pod }
+    {
+        self.book.call_address(pod)
+    }
+
+    /// The least Starting pod that is not below this number and has an address, with that address.
+    pub fn next_to_probe(&self, from: u64) -> Option<(u64, u64)>
+        ensures probe { (c : Trace) → StandsFor self.now.revision c → IsBookOf self.now.book c → result ≡ next_to_probe self.now.book.addresses c from }
+        ensures from { IfSome result (λ x. from ≤ x.0) }
+        ensures most { IfSome result (λ x. x.0 < 2 ^ 63) }
+    {
+        book_laws();
+        // Behind a pod that waits for an address each waits.
+        let pod = self.next_starting(from)?;
+        let address = self.book.address(pod)?;
+        Some((pod, address))
     }
 }
 

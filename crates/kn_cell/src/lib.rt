@@ -2,6 +2,7 @@
 #![tactic(auto)]
 
 mod cell;
+mod course;
 mod desk;
 mod past;
 mod rule;
@@ -10,4 +11,5 @@ mod turn;
 mod view;
 
 pub use cell::{Pass, RevisionCell};
+pub use course::{Course, Run};
 pub use past::{Full, History, Past, TryError};

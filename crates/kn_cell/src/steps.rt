@@ -1,10 +1,8 @@
 //! The steps on the table, each with what it asks.
 ghost use Rattle.std.specs.Prelude.{◌≡◌, ◌≢◌, ◌<◌, ◌≤◌, ◌+◌, ◌++◌, ◌∷◌, [], ◌^◌, length, true, false};
-ghost use Rattle.kn_cell.specs.declared.past.Past.{Past};
 ghost use Rattle.kn_cell.specs.State.{DeskState};
-ghost use Rattle.kn_cell.specs.Views.{opening};
-ghost use Rattle.kn_cell.specs.History.{IsInBounds, IsLegal};
-ghost use Rattle.kn_cell.specs.Rule.{GetsTurn, Misses, GoesWith, recorded, without_turn, IsSound};
+ghost use Rattle.kn_cell.specs.Rule.{GetsTurn, Misses, GoesBack, HasRow, last_row, recorded, gives_back, without_turn, IsSound};
+ghost use Rattle.kn_cell.specs.Turns.{HasTurn};
 
 use crate::desk::Desk;
 use crate::rule::{Confirm, Give, Order, Record, Ring, Take};
@@ -42,22 +40,33 @@ pub fn record(board: &Board, place: &mut Place)
     requires same { place.old.table_id ≡ board.now.table_id }
     requires sized { 2 ≤ board.now.table_id.words }
     requires turn { (place.old.me.0.turn ≡ true) × (place.old.me.0.spent ≡ false) }
-    requires added { (x : DeskState) × (row : Past) × (place.old.me.1 ≡ (0, x) ∷ []) × (x.history ≡ place.old.me.0.seen ++ row ∷ []) × (row.pass ≡ place.old.me.0.number) × IsInBounds row.event × IsLegal (opening place.old.me.0.key) x.history }
+    requires added { HasRow place.old.me }
     requires small { length place.old.me.0.seen < 2 ^ 63 }
     ensures same { (place.new.table_id ≡ place.old.table_id) × (place.new.id ≡ place.old.id) }
-    ensures seen { (x : DeskState) → place.old.me.1 ≡ (0, x) ∷ [] → place.new.me ≡ (recorded place.old.me.0 x.history, place.old.me.1) }
+    ensures seen { (x : DeskState) → place.old.me.1 ≡ (0, x) ∷ [] → place.new.me ≡ (recorded place.old.me.0 (place.old.me.0.seen ++ last_row x.history), place.old.me.1) }
 {
     board.fetch_add::<Record>(place, 0, 1);
 }
 
-/// Gives the turn back, and wakes one where somebody may be parked.
+/// Gives the turn back, where no row was taken out.
 pub fn give(board: &Board, place: &mut Place)
     requires same { place.old.table_id ≡ board.now.table_id }
     requires sized { 2 ≤ board.now.table_id.words }
-    requires turn { (place.old.me.0.turn ≡ true) × (place.old.me.0.spent ≡ false) }
-    requires slot { (x : DeskState) × (place.old.me.1 ≡ (0, x) ∷ []) × GoesWith place.old.me.0.key place.old.me.0.seen x }
+    requires turn { HasTurn place.old.me }
     ensures same { (place.new.table_id ≡ place.old.table_id) × (place.new.id ≡ place.old.id) }
     ensures free { place.new.me ≡ (without_turn place.old.me.0, []) }
+{
+    hand_back(board, place);
+}
+
+/// Gives the turn back, and wakes one where somebody may be parked.
+pub fn hand_back(board: &Board, place: &mut Place)
+    requires same { place.old.table_id ≡ board.now.table_id }
+    requires sized { 2 ≤ board.now.table_id.words }
+    requires turn { (place.old.me.0.turn ≡ true) × (place.old.me.0.spent ≡ false) }
+    requires slot { (x : DeskState) × (place.old.me.1 ≡ (0, x) ∷ []) × GoesBack place.old.me.0 x }
+    ensures same { (place.new.table_id ≡ place.old.table_id) × (place.new.id ≡ place.old.id) }
+    ensures free { (x : DeskState) → place.old.me.1 ≡ (0, x) ∷ [] → place.new.me ≡ (gives_back place.old.me.0 x.taken, []) }
 {
     if board.swap::<Give>(place, 1, 0) == AWAITED {
         board.wake_one(1);

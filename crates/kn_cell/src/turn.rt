@@ -1,15 +1,16 @@
 //! What a pass does with the turn: it waits for it, and records one event.
-ghost use Rattle.std.specs.Prelude.{◌≡◌, ◌<◌, ◌≤◌, ◌+◌, ◌∷◌, [], ◌^◌, false, IfOk, IfErr, IfSome};
+ghost use Rattle.std.specs.Prelude.{◌≡◌, ◌<◌, ◌≤◌, ◌+◌, ◌∷◌, [], ◌^◌, false, IfOk, IfErr, IfSome, vec_capacity};
+ghost use Rattle.kn_book.specs.Book.{call_address, next_to_probe};
 ghost use Rattle.kn_core.specs.State.{StandsFor};
 ghost use Rattle.kn_trace.specs.Trace.{Trace, stand_of, proxied, next_starting};
 ghost use Rattle.kn_cell.specs.State.{DeskState};
-ghost use Rattle.kn_cell.specs.Desk.{Applies, Refuses};
+ghost use Rattle.kn_cell.specs.Desk.{Applies, Refuses, emptied};
 ghost use Rattle.kn_cell.specs.Views.{opening};
 ghost use Rattle.kn_cell.specs.History.{trace_after, MayCome};
 ghost use Rattle.kn_cell.specs.Rule.{without_turn};
-ghost use Rattle.kn_cell.specs.Turns.{HasTurn, WaitsForTurn, RecordsRow, Overflows};
+ghost use Rattle.kn_cell.specs.Turns.{HasTurn, WaitsForTurn, Enters, RecordsRow, Overflows, trace_of};
 
-use crate::past::Full;
+use crate::past::{Full, Past};
 use crate::steps::{AWAITED, Board, Place, TAKEN, give, record, ring, take};
 use kn_event::{Act, Stand, Told};
 use std::sync::Wait;
@@ -69,6 +70,19 @@ fn apply_at(
     place.slot_mut(board, 0).apply(number, act, time)
 }
 
+/// Takes all rows out of the value in the slot.
+pub fn rows_at(board: &Board, place: &mut Place, rows: &mut Vec<Past>)
+    requires same { place.old.table_id ≡ board.now.table_id }
+    requires slot { (x : DeskState) × (place.old.me.1 ≡ (0, x) ∷ []) × (x.room ≤ vec_capacity rows.old) }
+    requires empty { rows.old.items ≡ [] }
+    ensures same { (place.new.table_id ≡ place.old.table_id) × (place.new.id ≡ place.old.id) × (place.new.me.0 ≡ place.old.me.0) }
+    ensures slot { (x : DeskState) → place.old.me.1 ≡ (0, x) ∷ [] → place.new.me.1 ≡ (0, emptied x) ∷ [] }
+    ensures rows { (x : DeskState) → place.old.me.1 ≡ (0, x) ∷ [] → rows.new.items ≡ x.history }
+    ensures room { (x : DeskState) → place.old.me.1 ≡ (0, x) ∷ [] → x.room ≤ vec_capacity rows.new }
+{
+    place.slot_mut(board, 0).take(rows);
+}
+
 /// The next pass whose bell is to be rung.
 fn called_at(board: &Board, place: &mut Place) -> Option<u64>
     requires same { place.old.table_id ≡ board.now.table_id }
@@ -96,6 +110,35 @@ fn ring_called(board: &Board, place: &mut Place, passes: u64)
     }
 }
 
+/// Takes the event in, records it, and rings the bells of those whose request it moved. The turn is kept.
+pub fn enter(
+    board: &Board,
+    place: &mut Place,
+    number: u64,
+    passes: u64,
+    act: Act,
+    time: u64,
+) -> Result<Told, Full>
+    requires same { place.old.table_id ≡ board.now.table_id }
+    requires sized { board.now.table_id.words ≡ passes + 2 }
+    requires few { passes ≤ 1100 }
+    requires turn { HasTurn place.old.me }
+    requires number { place.old.me.0.number ≡ number }
+    requires act { MayCome act }
+    ensures same { (place.new.table_id ≡ place.old.table_id) × (place.new.id ≡ place.old.id) }
+    ensures ok { IfOk result (λ told. Enters place.old.me.0 act time told place.new.me) }
+    ensures err { IfErr result (λ full. (place.new.me ≡ place.old.me) × Overflows place.old.me.0 act full) }
+{
+    match apply_at(board, place, number, act, time) {
+        Ok(told) => {
+            record(board, place);
+            ring_called(board, place, passes);
+            Ok(told)
+        }
+        Err(full) => Err(full),
+    }
+}
+
 /// Takes the event in, records it, rings the bells of those whose request it moved, and gives the turn back.
 pub fn attempt(
     board: &Board,
@@ -115,10 +158,8 @@ pub fn attempt(
     ensures ok { IfOk result (λ told. RecordsRow place.old.me.0 act time told place.new.me) }
     ensures err { IfErr result (λ full. (place.new.me ≡ (without_turn place.old.me.0, [])) × Overflows place.old.me.0 act full) }
 {
-    match apply_at(board, place, number, act, time) {
+    match enter(board, place, number, passes, act, time) {
         Ok(told) => {
-            record(board, place);
-            ring_called(board, place, passes);
             give(board, place);
             Ok(told)
         }
@@ -159,4 +200,26 @@ pub fn starting_at(board: &Board, place: &mut Place, from: u64) -> Option<u64>
     ensures most { IfSome result (λ p. p < 2 ^ 63) }
 {
     place.slot_mut(board, 0).next_starting(from)
+}
+
+/// Whom a call of the pod reaches, after all that is seen.
+pub fn call_address_at(board: &Board, place: &mut Place, pod: u64) -> u64
+    requires same { place.old.table_id ≡ board.now.table_id }
+    requires turn { HasTurn place.old.me }
+    ensures same { (place.new.table_id ≡ place.old.table_id) × (place.new.id ≡ place.old.id) × (place.new.me ≡ place.old.me) }
+    ensures value { (c : Trace) → StandsFor (opening place.old.me.0.key) c → result ≡ call_address place.old.me.0.key.addresses (trace_of place.old.me.0 c) pod }
+{
+    place.slot_mut(board, 0).call_address(pod)
+}
+
+/// The next pod to probe, with its address, after all that is seen.
+pub fn to_probe_at(board: &Board, place: &mut Place, from: u64) -> Option<(u64, u64)>
+    requires same { place.old.table_id ≡ board.now.table_id }
+    requires turn { HasTurn place.old.me }
+    ensures same { (place.new.table_id ≡ place.old.table_id) × (place.new.id ≡ place.old.id) × (place.new.me ≡ place.old.me) }
+    ensures value { (c : Trace) → StandsFor (opening place.old.me.0.key) c → result ≡ next_to_probe place.old.me.0.key.addresses (trace_of place.old.me.0 c) from }
+    ensures from { IfSome result (λ x. from ≤ x.0) }
+    ensures most { IfSome result (λ x. x.0 < 2 ^ 63) }
+{
+    place.slot_mut(board, 0).next_to_probe(from)
 }

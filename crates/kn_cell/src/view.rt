@@ -8,8 +8,12 @@ use std::snapshot::Snapshot;
 #[derive(Drop)]
 pub struct Key {
     pub opening: Snapshot<Revision>,
+    /// Rows may be taken out of the history.
+    pub lasting: bool,
     pub room: u64,
     pub passes: u64,
+    /// How many addresses the pods have; with 0 a pod's number is its address.
+    pub addresses: u64,
 }
 
 /// A pass that was joined, as it was then.
@@ -23,6 +27,8 @@ pub struct View {
     /// It was joined, so nobody has it.
     pub spent: bool,
     pub turn: bool,
+    /// It may take rows out.
+    pub scribe: bool,
     pub key: Key,
     pub number: u64,
     /// How many numbers it may still give away.
@@ -30,6 +36,8 @@ pub struct View {
     /// How many numbers came back to it.
     pub back: u64,
     pub missed: u64,
+    /// How many rows had been taken out when it last had the turn.
+    pub gone: u64,
     pub seen: LinkedList<Past>,
     pub mine: LinkedList<Past>,
     pub others: LinkedList<Joined>,

@@ -9,9 +9,9 @@ use Rattle.kn_cell.specs.declared.past.TryError.TheVariants.{Busy, Full}
 use Rattle.kn_cell.specs.Shown.{PassView, Tries}
 use Rattle.kn_tests_cell.specs.Numbers.{IsStill}
 
--- only what it has seen, done and missed is new
-pub still_of : (p q : PassView) (seen mine : List Past) (missed : ℕ) → q ≡ record p { seen = seen; mine = mine; missed = missed } → IsStill p q
-still_of p q seen mine missed e = record {
+-- only what it has seen, done and missed is new, and what was taken out
+pub still_of : (p q : PassView) (seen mine : List Past) (missed gone : ℕ) → q ≡ record p { seen = seen; mine = mine; missed = missed; gone = gone } → IsStill p q
+still_of p q seen mine missed gone e = record {
   of = ap (λ (v : PassView). v.cell) e;
   free = ap (λ (v : PassView). v.free) e;
   back = ap (λ (v : PassView). v.back) e;
@@ -20,9 +20,9 @@ still_of p q seen mine missed e = record {
 
 -- whatever the attempt answered
 pub tries_still : (p q : PassView) (act : Act) (time : ℕ) (r : Result Told TryError) → Tries p act time r q → IsStill p q
-tries_still p q act time (Ok told) t = still_of p q q.seen q.mine q.missed t.0.same
-tries_still p q act time (Err Busy) t = still_of p q p.seen p.mine (p.missed + 1) t.0
-tries_still p q act time (Err (Full full)) t = still_of p q q.seen q.mine q.missed t.0.same
+tries_still p q act time (Ok told) t = still_of p q q.seen q.mine q.missed q.gone t.0.same
+tries_still p q act time (Err Busy) t = still_of p q p.seen p.mine (p.missed + 1) p.gone t.0
+tries_still p q act time (Err (Full full)) t = still_of p q q.seen q.mine q.missed q.gone t.0.same
 
 pub still_trans : (p q r : PassView) → IsStill p q → IsStill q r → IsStill p r
 still_trans p q r s t = record { of = t.of ∙ s.of; free = t.free ∙ s.free; back = t.back ∙ s.back; passes = t.passes ∙ s.passes }

@@ -1,5 +1,5 @@
 -- The numbers that a pass of a cell has to give away, and those that came back to it.
-use Rattle.std.specs.Prelude.{ℕ, ◌≡◌, ◌+◌}
+use Rattle.std.specs.Prelude.{ℕ, ◌≡◌, ◌+◌, true}
 use Rattle.atomic_table.specs.Seated.{TableId}
 use Rattle.kn_cell.specs.Shown.{PassView}
 
@@ -22,3 +22,18 @@ pub record IsStill (old new : PassView) : Type 0 where
   pub free : new.free ≡ old.free
   pub back : new.back ≡ old.back
   pub passes : new.passes ≡ old.passes
+
+-- the scribe, one of two passes of a cell with room for so many rows, with a number to give away
+pub record IsScribe (cell : TableId) (rows : ℕ) (p : PassView) : Type 0 where
+  pub of : p.cell ≡ cell
+  pub scribe : p.scribe ≡ true
+  pub room : p.room ≡ rows
+  pub free : p.free ≡ 1
+  pub back : p.back ≡ 0
+  pub passes : p.passes ≡ 2
+
+-- the scribe has the same numbers
+pub record IsStillScribe (old new : PassView) : Type 0 where
+  pub still : IsStill old new
+  pub scribe : new.scribe ≡ old.scribe
+  pub room : new.room ≡ old.room

@@ -3,14 +3,11 @@ ghost use Rattle.std.specs.Prelude.{◌≡◌};
 ghost use Rattle.kn_tests_cell.specs.Numbers.{IsStill};
 
 use crate::meeting::Notes;
-use crate::shared::on;
+use crate::shared::{LONG_MS, arrive, course, on};
 use crate::turns::look;
-use kn_cell::{Pass, RevisionCell};
+use kn_cell::{Course, Pass, RevisionCell};
 use kn_event::{Act, Stand, Told};
 use std::sync::Wait;
-
-/// Longer than a test may take: who isn't rung is late.
-const LONG_MS: u64 = 30_000;
 
 /// Waits while the request waits. Says whether it runs then.
 fn await_run<R: Wait>(
@@ -60,6 +57,57 @@ pub fn queue<R: Wait>(rt: &R, cell: &RevisionCell, pass: &mut Pass, others: u64,
         }
         Some(Ok(Told::Held(request))) => {
             if await_run(rt, cell, pass, request, notes) {
+                let _ = on(rt, cell, pass, Act::Finish(request, true), 0);
+            }
+        }
+        _ => {}
+    }
+}
+
+/// Waits while the request goes on so. Says whether it runs then.
+fn await_course<R: Wait>(
+    rt: &R,
+    cell: &RevisionCell,
+    pass: &mut Pass,
+    request: u64,
+    first: Course,
+    notes: &Notes,
+) -> bool
+    requires { pass.old.cell ≡ cell.now }
+    ensures { IsStill pass.old pass.new }
+{
+    let mut now = first;
+    for _ in 0..1000 {
+        match now {
+            Course::Runs(_) => return true,
+            Course::Over => return false,
+            Course::Waits => {}
+        }
+        notes.has_wait();
+        cell.wait(rt, pass, LONG_MS);
+        now = course(rt, cell, pass, request);
+    }
+    false
+}
+
+/// The same as `queue`, in two turns of the cell where nothing hinders the request.
+pub fn queue_by_course<R: Wait>(
+    rt: &R,
+    cell: &RevisionCell,
+    pass: &mut Pass,
+    others: u64,
+    notes: &Notes,
+)
+    requires { pass.old.cell ≡ cell.now }
+    ensures { IsStill pass.old pass.new }
+{
+    match arrive(rt, cell, pass, 0, 0) {
+        Ok((Told::Run(request, _), Course::Runs(_))) => {
+            await_waits(rt, cell, pass, others, notes);
+            let _ = on(rt, cell, pass, Act::Finish(request, true), 0);
+        }
+        Ok((Told::Held(request), first)) => {
+            if await_course(rt, cell, pass, request, first, notes) {
                 let _ = on(rt, cell, pass, Act::Finish(request, true), 0);
             }
         }

@@ -1,9 +1,11 @@
 //! The tests, and what is printed of each.
+use crate::addressed::right_calls;
+use crate::lasting::{COUNT, MORE, ROOM, Rows, last};
 use crate::outcome::{Outcome, Plan, carry_out};
 use crate::replay::replay;
 use crate::shared::Left;
 use crate::threads::Work;
-use crate::turns::Script;
+use crate::turns::{NAP_MS, Script};
 use kn_case::case;
 use kn_cell::Past;
 use kn_event::{Act, Memory};
@@ -22,6 +24,8 @@ enum Test {
     Room,
     /// Two passes by turns. No time falls, and none is above 2^42.
     Turns,
+    /// Two passes by turns: arrivals and courses, and waits that are ended.
+    Courses,
     /// Each request of four threads runs at once and ends.
     Four,
     /// What eight threads were told is what one thread is told.
@@ -32,20 +36,24 @@ enum Test {
     Busy,
     /// 32 requests at one seat: of each pass that waits the bell is rung, once.
     Queue,
+    /// The same by arrivals and courses.
+    Arrivals,
     /// A request that waits is cancelled by another pass.
     Cancelled,
     /// It expires by another pass's event.
     Expired,
 }
 
-const TESTS: [Test; 9] = [
+const TESTS: [Test; 11] = [
     Test::Room,
     Test::Turns,
+    Test::Courses,
     Test::Four,
     Test::One,
     Test::Crowd,
     Test::Busy,
     Test::Queue,
+    Test::Arrivals,
     Test::Cancelled,
     Test::Expired,
 ];
@@ -89,11 +97,13 @@ fn plan_of(test: Test) -> Plan {
     match test {
         Test::Room => by_turns(4, Script::Room),
         Test::Turns => by_turns(100, Script::Turns),
+        Test::Courses => by_turns(9, Script::Courses),
         Test::Four => by_threads(0, 1000, 4, Work::Serve(100)),
         Test::One => by_threads(2, 1000, 8, Work::Mix),
         Test::Crowd => by_threads(0, 40_000, 8, Work::Serve(2000)),
         Test::Busy => by_threads(0, 300_000, 2, Work::Meet),
         Test::Queue => at_one_seat(32, Work::Queue(31)),
+        Test::Arrivals => at_one_seat(32, Work::Courses(31)),
         Test::Cancelled => at_one_seat(2, Work::End(Act::Cancel(1), 0)),
         Test::Expired => at_one_seat(2, Work::End(Act::Pass, 400_000)),
     }
@@ -160,6 +170,17 @@ fn turns<R: Print>(rt: &R, outcome: &Outcome) -> io::Result<()> {
         ("turns, no wrong answer", right(outcome), 4),
         ("turns, passes and times", u64::from(are), 1),
         ("turns, the last time", outcome.left.now, 1 << 42),
+    ];
+    print(rt, &cases)
+}
+
+fn courses<R: Print>(rt: &R, outcome: &Outcome, ms: u64) -> io::Result<()> {
+    let cases = [
+        ("courses, no wrong answer", right(outcome), 19),
+        ("courses, rows", rows(outcome), 7),
+        ("courses, live requests", outcome.left.live, 1),
+        ("courses, each ring is heard", soon(ms), 1),
+        ("courses, none is heard twice", u64::from(NAP_MS <= ms), 1),
     ];
     print(rt, &cases)
 }
@@ -268,7 +289,8 @@ fn show_outcome<R: Print + AllocGlobal>(
         Test::One => show_one(rt, outcome),
         Test::Crowd => crowd(rt, outcome),
         Test::Busy => busy(rt, outcome),
-        Test::Queue => queued(rt, outcome, ms),
+        Test::Courses => courses(rt, outcome, ms),
+        Test::Queue | Test::Arrivals => queued(rt, outcome, ms),
         Test::Cancelled => ended(rt, outcome, ms, "who is cancelled is rung, once"),
         Test::Expired => ended(rt, outcome, ms, "who expires is rung, once"),
     }
@@ -293,9 +315,35 @@ fn show_test<R: Print + AllocGlobal + Clock + Threads + Wait + Sync>(
     }
 }
 
+fn lasts<R: Print>(rt: &R, rows: &Rows) -> io::Result<()> {
+    let cases = [
+        ("a lasting cell, full at its room", u64::from(rows.full), 1),
+        ("a lasting cell, most rows at once", rows.most, ROOM),
+        ("a lasting cell, rows left", rows.left, MORE),
+        ("a lasting cell, rows", rows.count, COUNT + MORE),
+        ("a lasting cell, rows in order", u64::from(rows.in_order), 1),
+    ];
+    print(rt, &cases)
+}
+
+fn show_lasting<R: Print + AllocGlobal + Threads + Wait + Sync>(rt: &R) -> io::Result<()> {
+    match last(rt, rt.alloc()) {
+        Ok(rows) => lasts(rt, &rows),
+        Err(Memory) => lacks(),
+    }
+}
+
+fn show_addressed<R: Print + AllocGlobal + Wait>(rt: &R) -> io::Result<()> {
+    match right_calls(rt, rt.alloc()) {
+        Ok(right) => case(rt, "two addresses, no wrong answer", &(right as u64), &11),
+        Err(Memory) => lacks(),
+    }
+}
+
 pub fn show<R: Print + AllocGlobal + Clock + Threads + Wait + Sync>(rt: &R) -> io::Result<()> {
     for test in &TESTS {
         show_test(rt, *test)?;
     }
-    Ok(())
+    show_lasting(rt)?;
+    show_addressed(rt)
 }

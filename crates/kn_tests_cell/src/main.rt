@@ -4,8 +4,10 @@
 //! One function owns a cell with its passes; all others work over references, which are cheap to prove.
 #![tactic(auto)]
 
+mod addressed;
 mod bells;
 mod cases;
+mod lasting;
 mod meeting;
 mod outcome;
 mod replay;

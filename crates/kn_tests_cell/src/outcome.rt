@@ -1,6 +1,6 @@
 //! A cell is opened, used by its passes, and closed.
-ghost use Rattle.std.specs.Prelude.{◌≡◌, ◌+◌, ◌≤◌, ◌<◌, [], true, All, length, vec_len, vec_capacity};
-ghost use Rattle.kn_tests_cell.specs.Numbers.{IsFirst, IsLeaf, IsStill};
+ghost use Rattle.std.specs.Prelude.{◌≡◌, ◌+◌, ◌≤◌, ◌<◌, [], true, All, vec_len, vec_capacity};
+ghost use Rattle.kn_tests_cell.specs.Numbers.{IsFirst, IsLeaf};
 
 use crate::meeting::Notes;
 use crate::shared::{Left, left_of, open};

@@ -2,16 +2,19 @@
 //! numbers, so that a test's proof sees nothing of what was seen. They test when they run what a call wants, and are
 //! none where it isn't so.
 
-ghost use Rattle.std.specs.Prelude.{◌≡◌, ◌+◌, ◌≤◌, true, IfOk};
+ghost use Rattle.std.specs.Prelude.{◌≡◌, ◌≤◌, true, IfOk};
 ghost use Rattle.kn_core.specs.Steps.{IsWithinRange};
 ghost use Rattle.kn_cell.specs.History.{MayCome};
 ghost use Rattle.kn_tests_cell.specs.Numbers.{IsFirst, IsStill};
 
-use kn_cell::{Full, Pass, RevisionCell};
+use kn_cell::{Course, Full, Pass, RevisionCell};
 use kn_core::Revision;
 use kn_event::{Act, EntryLog, Memory, Slots, Spec, Told};
 use std::alloc::Global;
 use std::sync::Wait;
+
+/// Milliseconds, more than a test may take: who isn't rung is late.
+pub const LONG_MS: u64 = 30_000;
 
 /// A new fixed revision of one pod, which starts, with so many seats and a breaker of this depth and maximum.
 pub fn one_pod(alloc: Global, seats: u64, breaker: u64) -> Result<Revision, Memory>
@@ -91,4 +94,24 @@ pub fn on<R: Wait>(
         return None;
     }
     Some(cell.on(rt, pass, act, time))
+}
+
+pub fn arrive<R: Wait>(
+    rt: &R,
+    cell: &RevisionCell,
+    pass: &mut Pass,
+    tag: u64,
+    time: u64,
+) -> Result<(Told, Course), Full>
+    requires { pass.old.cell ≡ cell.now }
+    ensures { IsStill pass.old pass.new }
+{
+    cell.arrive(rt, pass, tag, time)
+}
+
+pub fn course<R: Wait>(rt: &R, cell: &RevisionCell, pass: &mut Pass, request: u64) -> Course
+    requires { pass.old.cell ≡ cell.now }
+    ensures { IsStill pass.old pass.new }
+{
+    cell.course(rt, pass, request)
 }

@@ -2,7 +2,7 @@
 ghost use Rattle.std.specs.Prelude.{◌≡◌, ◌+◌, ◌≤◌, All, length};
 ghost use Rattle.kn_tests_cell.specs.Numbers.{IsLeaf, IsStill};
 
-use crate::bells::{end_other, queue};
+use crate::bells::{end_other, queue, queue_by_course};
 use crate::meeting::{Notes, look_on, try_until_busy};
 use crate::shared::on;
 use kn_cell::{Pass, RevisionCell};
@@ -22,6 +22,8 @@ pub enum Work {
     Meet,
     /// One request each at one seat: so many wait before the first ends.
     Queue(u64),
+    /// The same by `arrive` and `course`.
+    Courses(u64),
     /// Of two requests one runs, and the other waits until it is ended by this act at this time.
     End(Act, u64),
 }
@@ -84,6 +86,7 @@ fn work_on<R: Wait>(
         Work::Meet if number == 0 => look_on(rt, cell, pass, notes),
         Work::Meet => try_until_busy(cell, pass, notes),
         Work::Queue(others) => queue(rt, cell, pass, others, notes),
+        Work::Courses(others) => queue_by_course(rt, cell, pass, others, notes),
         Work::End(act, time) => end_other(rt, cell, pass, act, time, notes),
     }
 }

@@ -1,15 +1,14 @@
-use Rattle.std.proofs.Common.{arith}
-use mathlib.Core.Option.{none}
-use Rattle.atomic_table.specs.Table.{step}
-use Rattle.kn_cell.proofs.TurnMoves.{give_allows}
+use Rattle.std.proofs.Common.{[], ap, ◌∙◌}
+use Rattle.kn_cell.specs.declared.view.View.{View}
+use Rattle.kn_cell.proofs.TakenMoves.{goes_back, gives_same}
 use Rattle.kn_cell.proofs.steps.give.Goals as goal
 
-pub swap-requires : goal.swap-requires
-swap-requires c =
-    let board = c.args.board.now in
-    let place = c.args.place.now in
-    let a = c.requires.slot in (
-      c.requires.same,
-      omega arith,
-      give_allows board.key board.table_id.slots place.id place.me a.0 (step board.table_id.slots 1 0 0 none) c.requires.turn.0 c.requires.turn.1 a.1 a.2,
-    )
+pub hand_back-requires-clause-slot : goal.hand_back-requires-clause-slot
+hand_back-requires-clause-slot c =
+    let t = c.requires.turn in
+    (t.value, t.slot, goes_back c.args.place.now.me.0 t.value t.goes t.gone)
+
+pub returns-clause-free : goal.returns-clause-free
+returns-clause-free c =
+    let t = c.requires.turn in
+    c.hand_back.ensures.free t.value t.slot ∙ ap (λ (u : View). (u, [])) (gives_same c.args.place.now.me.0 t.value.taken t.gone)

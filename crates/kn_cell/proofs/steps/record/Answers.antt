@@ -11,6 +11,6 @@ fetch_add-requires c =
     let a = c.requires.added in (
       c.requires.same,
       omega arith,
-      record_allows board.key board.table_id.slots place.id place.me a.0 a.1 (step board.table_id.slots 0 1 0 none)
-          c.requires.turn.0 c.requires.turn.1 c.requires.small a.2 a.3 a.4 a.5 a.6,
+      record_allows board.key board.table_id.slots place.id place.me a.value a.before a.row (step board.table_id.slots 0 1 0 none)
+          c.requires.turn.0 c.requires.turn.1 c.requires.small a.slot a.last a.own a.bounds a.legal,
     )

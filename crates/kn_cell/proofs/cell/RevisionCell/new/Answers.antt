@@ -1,45 +1,12 @@
-use Rattle.std.proofs.Common.{◌≡◌, ◌+◌, ◌++◌, ◌∷◌, [], ℕ, suc, ap, sym, ◌∙◌, subst, refl, arith, List, replicate}
-use Rattle.atomic_table.specs.Table.{opening as first_state}
-use Rattle.kn_core.specs.State.{RevisionState, StandsFor, StandsForSome}
-use Rattle.kn_cell.specs.State.{DeskState}
-use Rattle.kn_cell.specs.Rule.{IsKept, GoesWith, first_view}
-use Rattle.kn_cell.specs.declared.view.Key.{Key}
-use Rattle.kn_cell.proofs.Openings.{opens}
-use Rattle.kn_cell.proofs.Rooms.{none_live}
+use Rattle.std.proofs.Common.{◌≡◌, IfOk, subst, false}
+use Rattle.kn_cell.specs.Shown.{first_shown}
+use Rattle.kn_cell.proofs.Bookkeeping.{none-addresses, none_for}
 use Rattle.kn_cell.proofs.cell.RevisionCell.new.Goals as goal
 
-pub new-requires : goal.new-requires
-new-requires c =
-    let low = none_live c.args.revision c.live-live.result c.live-live.ensures.some c.live-live.ensures.live c.requires.live in
-    let is = c.live-live.ensures.value in
-    omega arith
+pub opened-requires-clause-book : goal.opened-requires-clause-book
+opened-requires-clause-book c = none_for c.none.result c.args.revision c.none.ensures
 
-pub new-requires-2 : goal.new-requires-2
-new-requires-2 c =
-    let key : Key = record { opening = c.of.result; room = c.args.room; passes = c.args.passes } in
-    let b : RevisionState = c.args.revision in
-    let x : DeskState = record { room = c.args.room; revision = b; history = [] } in
-    let is : c.of.result.value ≡ b = c.of.ensures in
-    let desk : c.in_ok-desk.desk ≡ x = c.in_ok-desk.ensures in
-    let slots : c.push_reserved.new.self.items ≡ x ∷ [] =
-    c.push_reserved.ensures.items ∙ (ap (λ l. l ++ c.in_ok-desk.desk ∷ []) c.in-Ok.ensures.items ∙ ap (λ d. d ∷ []) desk) in
-    let low = none_live b c.live-live.result c.live-live.ensures.some c.live-live.ensures.live c.requires.live in
-    let live_is = c.live-live.ensures.value in
-    let goes : GoesWith key [] x = record {
-      history = refl;
-      room = refl;
-      spec = ap (λ (r : RevisionState). r.spec) (sym is);
-      start = ap (λ (r : RevisionState). r.start) (sym is);
-      stands = λ t s. subst (λ (r : RevisionState). StandsFor r t) is s;
-      clock = ap (λ (r : RevisionState). r.clock) (sym is);
-      events = let e = ap (λ (r : RevisionState). r.events) is in omega arith;
-      fits = omega arith;
-    } in
-    let few = c.requires.events in
-    let e = ap (λ (r : RevisionState). r.events) is in
-    let two : c.args.passes + 2 ≡ suc (suc c.args.passes) = omega arith in
-    let zeros : c.deref.result.now ≡ 0 ∷ 0 ∷ replicate c.args.passes 0 =
-    c.deref.ensures.value ∙ (c.in-Ok-from_elem.ensures.items_if_clones_equal (λ y h. h) ∙ ap (λ n. replicate n 0) two) in
-    subst (λ (ws : List ℕ). IsKept key (first_state ws c.push_reserved.new.self.items (first_view key))) (sym zeros)
-    (subst (λ (l : List DeskState). IsKept key (first_state (0 ∷ 0 ∷ replicate c.args.passes 0) l (first_view key))) (sym slots)
-    (opens key x (replicate c.args.passes 0) record { room = c.requires.room; events = omega arith; passes = c.requires.passes; some = subst StandsForSome (sym is) c.live-live.ensures.some } goes))
+pub returns : goal.returns
+returns c =
+    subst (λ n. IfOk c.opened.result (λ r. r.1 ≡ record (first_shown r.0 c.args.revision c.args.room c.args.passes) { lasting = false; scribe = false; book = n }))
+    (none-addresses c.none.result c.none.ensures) c.opened.ensures

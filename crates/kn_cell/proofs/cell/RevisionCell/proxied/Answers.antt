@@ -3,7 +3,6 @@ use Rattle.atomic_table.specs.Table.{Me}
 use Rattle.kn_cell.specs.declared.view.View.{View}
 use Rattle.kn_cell.specs.State.{DeskState}
 use Rattle.kn_cell.specs.Rule.{without_turn}
-use Rattle.kn_cell.proofs.TurnFacts.{has_slot}
 use Rattle.kn_cell.proofs.ShownFacts.{looks_idle}
 use Rattle.kn_cell.proofs.cell.RevisionCell.proxied.Goals as goal
 
@@ -14,6 +13,3 @@ returns-clause-looks g c =
     let is : c.give.new.place.me ≡ (without_turn m.0, []) = c.give.ensures.free ∙ ap (λ (x : Me DeskState View). (without_turn x.0, [])) c.proxied_at-proxied.ensures.same.2 in
     let looks = looks_idle place.table_id place.me.0 m c.give.new.place.me c.take_turn.ensures.turn is in
     rw (← c.pass.view_is, c.give.ensures.same.0, c.proxied_at-proxied.ensures.same.0, c.take_turn.ensures.same.0) looks
-
-pub give-requires-clause-slot : goal.give-requires-clause-slot
-give-requires-clause-slot g c = has_slot c.take_turn.new.place.me c.proxied_at-proxied.new.place.me c.take_turn.ensures.turn.has c.proxied_at-proxied.ensures.same.2

@@ -1,0 +1,90 @@
+//! How a request goes on, as a pass with the turn finds it.
+ghost use Rattle.std.specs.Prelude.{◌≡◌, ℕ, Some};
+ghost use Rattle.kn_core.specs.State.{StandsFor};
+ghost use Rattle.kn_sizes.specs.Told.{arrival_told};
+ghost use Rattle.kn_trace.specs.Trace.{Trace};
+ghost use Rattle.kn_cell.specs.Course.{IsCourseOf};
+ghost use Rattle.kn_cell.specs.History.{trace_after};
+ghost use Rattle.kn_cell.specs.Turns.{HasTurn};
+ghost use Rattle.kn_cell.specs.Views.{opening};
+
+use crate::steps::{Board, Place};
+use crate::turn::{call_address_at, proxied_at, stand_at};
+use kn_event::{Stand, Told};
+
+/// Where a request runs.
+#[derive(Clone, Copy, Debug, PartialEq, Eq)]
+pub struct Run {
+    pub pod: u64,
+    /// Where a call reaches it: its address, or the number of addresses, at which there is nobody.
+    pub address: u64,
+    /// It came to the pod through the activator.
+    pub proxied: bool,
+}
+
+/// How a request goes on.
+#[derive(Clone, Copy, Debug, PartialEq, Eq)]
+pub enum Course {
+    /// It is held, or queued at a pod.
+    Waits,
+    Runs(Run),
+    /// It has ended, or never came.
+    Over,
+}
+
+/// The request that an arrival was told, and none where something else was told.
+pub fn arrived(told: Told) -> Option<u64>
+    ensures { result ≡ arrival_told told }
+{
+    match told {
+        Told::Run(r, _)
+        | Told::AtPod(r, _)
+        | Told::Held(r)
+        | Told::QueueFull(r)
+        | Told::Overload(r) => Some(r),
+        _ => None,
+    }
+}
+
+/// How the request goes on after all that is seen. The pass is put down for it where it waits.
+pub fn course_at(
+    board: &Board,
+    place: &mut Place,
+    number: u64,
+    asked: Option<u64>,
+    r: u64,
+) -> Course
+    requires same { place.old.table_id ≡ board.now.table_id }
+    requires turn { HasTurn place.old.me }
+    ensures same { (place.new.table_id ≡ place.old.table_id) × (place.new.id ≡ place.old.id) × (place.new.me ≡ place.old.me) }
+    ensures value { (c : Trace) → StandsFor (opening place.old.me.0.key) c → IsCourseOf place.old.me.0.key.addresses (trace_after (opening place.old.me.0.key).spec c place.old.me.0.seen) r result }
+{
+    match stand_at(board, place, number, asked, r) {
+        Stand::Held | Stand::Queued(_) => Course::Waits,
+        Stand::Running(pod) => Course::Runs(Run {
+            pod,
+            address: call_address_at(board, place, pod),
+            proxied: proxied_at(board, place, r),
+        }),
+        Stand::Ended | Stand::Unknown => Course::Over,
+    }
+}
+
+/// The same of the request that an arrival was told. Who names nobody is over.
+pub fn arrival_at(
+    board: &Board,
+    place: &mut Place,
+    number: u64,
+    asked: Option<u64>,
+    told: Told,
+) -> Course
+    requires same { place.old.table_id ≡ board.now.table_id }
+    requires turn { HasTurn place.old.me }
+    ensures same { (place.new.table_id ≡ place.old.table_id) × (place.new.id ≡ place.old.id) × (place.new.me ≡ place.old.me) }
+    ensures value { (c : Trace) (r : ℕ) → StandsFor (opening place.old.me.0.key) c → arrival_told told ≡ Some r → IsCourseOf place.old.me.0.key.addresses (trace_after (opening place.old.me.0.key).spec c place.old.me.0.seen) r result }
+{
+    match arrived(told) {
+        Some(r) => course_at(board, place, number, asked, r),
+        None => Course::Over,
+    }
+}
