@@ -2,8 +2,6 @@
 use Rattle.std.proofs.Common.{◌≡◌, ◌<◌, ◌+◌, ℕ, List, [], ◌∷◌, ◌++◌, length, take, drop, get_or, append_assoc, append-nil, sym, ap, ◌∙◌, subst, arith, inl, inr}
 use Rattle.std.specs.Prelude.{All, slice_index_or}
 use Rattle.std.specs.Prelude.{Option, ◌≤◌}
-use Rattle.std.specs.Io.KnownBytes.{Appends}
-use Rattle.std.proofs.KnownBytes.{Appends-trans}
 use Rattle.std.proofs.lemmas.Bool.Decides.{eqb_tells}
 use Rattle.std.proofs.lemmas.Grind.{flat_map-append}
 use Rattle.std.proofs.lemmas.List.{get_or_default, take_all, take_more, take-append-drop}
@@ -13,8 +11,9 @@ use Rattle.kn_io.specs.Prefix.{AppendsPrefix}
 use Rattle.kn_journal.specs.declared.journal.Journal.{Journal}
 use Rattle.kn_journal.specs.declared.journal.Setup.{Setup}
 use Rattle.kn_journal.specs.Journal.{journal_text}
-use Rattle.kn_print.specs.Printed.{HasSmall, journals_text, printed_journal, printed_journals}
-use Rattle.kn_print.proofs.Pieces.{prefix_after}
+use Rattle.kn_print.specs.Printed.{HasSmall, journals_text, printed_journal, printed_journals, printed}
+use Rattle.kn_report.specs.Waiting.{Adds}
+use Rattle.kn_print.proofs.Waits.{adds_some, adds_trans}
 
 -- the journals up to one, and that one
 pub journals-more : (js : List Journal) (i : ℕ) (j : Journal) → i < length js → j ≡ get_or js i j
@@ -42,35 +41,35 @@ printed-at setups start hs i s h d low same is_s is_h =
 pub printed-many : (setups : List Setup) (start : ℕ) (hs : List (List Past)) → length hs ≡ length setups → length (printed_journals setups start hs) ≡ length setups
 printed-many setups start hs same = length-zip2 (λ (x : Setup) (y : List Past). printed_journal x start y) setups hs (sym same)
 
--- one journal more was written
-pub wrote_more : (a b c : Option (List ℕ)) (setups : List Setup) (start : ℕ) (hs : List (List Past)) (i : ℕ) (s : Setup) (h : List Past) → i < length setups → length hs ≡ length setups
-    → s ≡ get_or setups i s → h ≡ get_or hs i h → Appends a b (journals_text (take i (printed_journals setups start hs))) → Appends b c (journal_text (printed_journal s start h))
-    → Appends a c (journals_text (take (i + 1) (printed_journals setups start hs)))
-wrote_more a b c setups start hs i s h low same is_s is_h before here =
+-- one journal more was added
+pub added_more : (a b c : Option (List ℕ)) (p q r : List ℕ) (setups : List Setup) (start : ℕ) (hs : List (List Past)) (i : ℕ) (s : Setup) (h : List Past) → i < length setups → length hs ≡ length setups
+    → s ≡ get_or setups i s → h ≡ get_or hs i h → Adds a b p q (journals_text (take i (printed_journals setups start hs))) → Adds b c q r (printed s start h)
+    → Adds a c p r (journals_text (take (i + 1) (printed_journals setups start hs)))
+added_more a b c p q r setups start hs i s h low same is_s is_h before here =
     let js = printed_journals setups start hs in
     let j = printed_journal s start h in
     let low' : i < length js = omega (arith, printed-many setups start hs same, low) in
-    subst (Appends a c) (sym (journals-more js i j low' (printed-at setups start hs i s h j low same is_s is_h)))
-    (Appends-trans a b c (journals_text (take i js)) (journal_text j) before here)
+    subst (Adds a c p r) (sym (journals-more js i j low' (printed-at setups start hs i s h j low same is_s is_h)))
+    (adds_trans a b c p q r (journals_text (take i js)) (journal_text j) before here)
 
--- .. or some of it
-pub wrote_some : (a b c : Option (List ℕ)) (setups : List Setup) (start : ℕ) (hs : List (List Past)) (i : ℕ) (s : Setup) (h : List Past) → i < length setups → length hs ≡ length setups
-    → s ≡ get_or setups i s → h ≡ get_or hs i h → Appends a b (journals_text (take i (printed_journals setups start hs))) → AppendsPrefix b c (journal_text (printed_journal s start h))
-    → AppendsPrefix a c (journals_text (printed_journals setups start hs))
-wrote_some a b c setups start hs i s h low same is_s is_h before here =
+-- .. or some of it was written
+pub added_some : (a b c : Option (List ℕ)) (p q : List ℕ) (setups : List Setup) (start : ℕ) (hs : List (List Past)) (i : ℕ) (s : Setup) (h : List Past) → i < length setups → length hs ≡ length setups
+    → s ≡ get_or setups i s → h ≡ get_or hs i h → Adds a b p q (journals_text (take i (printed_journals setups start hs))) → AppendsPrefix b c (q ++ printed s start h)
+    → AppendsPrefix a c (p ++ journals_text (printed_journals setups start hs))
+added_some a b c p q setups start hs i s h low same is_s is_h before here =
     let js = printed_journals setups start hs in
     let j = printed_journal s start h in
     let low' : i < length js = omega (arith, printed-many setups start hs same, low) in
-    subst (AppendsPrefix a c) (sym (journals-around js i j low' (printed-at setups start hs i s h j low same is_s is_h)))
-    (prefix_after a b c (journals_text (take i js)) (journal_text j) (journals_text (drop (i + 1) js)) before here)
+    subst (λ (z : List ℕ). AppendsPrefix a c (p ++ z)) (sym (journals-around js i j low' (printed-at setups start hs i s h j low same is_s is_h)))
+    (adds_some a b c p q (journals_text (take i js)) (journal_text j) (journals_text (drop (i + 1) js)) before here)
 
 -- .. all
-pub wrote_all : (a b : Option (List ℕ)) (setups : List Setup) (start : ℕ) (hs : List (List Past)) (i : ℕ) → length setups ≤ i → length hs ≡ length setups
-    → Appends a b (journals_text (take i (printed_journals setups start hs))) → Appends a b (journals_text (printed_journals setups start hs))
-wrote_all a b setups start hs i most same h =
+pub added_all : (a b : Option (List ℕ)) (p q : List ℕ) (setups : List Setup) (start : ℕ) (hs : List (List Past)) (i : ℕ) → length setups ≤ i → length hs ≡ length setups
+    → Adds a b p q (journals_text (take i (printed_journals setups start hs))) → Adds a b p q (journals_text (printed_journals setups start hs))
+added_all a b p q setups start hs i most same h =
     let js = printed_journals setups start hs in
     let all : length js ≤ i = omega (arith, printed-many setups start hs same, most) in
-    subst (λ (l : List Journal). Appends a b (journals_text l)) (take_all i js all) h
+    subst (λ (l : List Journal). Adds a b p q (journals_text l)) (take_all i js all) h
 
 -- the numbers of the histories up to one, and of that one
 pub small_upto : (hs : List (List Past)) (i : ℕ) (h : List Past) → i < length hs → h ≡ get_or hs i h → ((k : ℕ) (d : List Past) → k < i → All (λ (p : Past). HasSmall p.event.act) (slice_index_or hs k d))

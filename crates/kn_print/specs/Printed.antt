@@ -1,14 +1,16 @@
 -- The journal that a session prints.
-use Rattle.std.specs.Prelude.{ℕ, ◌<◌, ◌^◌, List, map}
+use Rattle.std.specs.Prelude.{ℕ, ◌<◌, ◌^◌, ◌++◌, List, [], ◌∷◌, Option, codes, map}
+use Rattle.std.specs.Fmt.{decimal}
 use Rattle.std.specs.List.{flat_map}
 use Rattle.std.specs.Simd.Lanes.{zip2}
 use Rattle.kn_event.specs.declared.event.Act.{Act}
 use Rattle.kn_event.specs.declared.event.Act.TheVariants as act
 use Rattle.kn_event.specs.declared.event.Event.{Event}
 use Rattle.kn_cell.specs.declared.past.Past.{Past}
+use Rattle.kn_io.specs.Prefix.{AppendsPrefix}
 use Rattle.kn_journal.specs.declared.journal.Journal.{Journal}
 use Rattle.kn_journal.specs.declared.journal.Setup.{Setup}
-use Rattle.kn_journal.specs.Journal.{journal_text}
+use Rattle.kn_journal.specs.Journal.{events_text, first_line, journal_text}
 
 abbrev pub events_of : List Past → List Event
 events_of h = map (λ p. p.event) h
@@ -24,6 +26,23 @@ printed_journals setups start hs = zip2 (λ setup h. printed_journal setup start
 -- the texts one after the other
 abbrev pub journals_text : List Journal → List ℕ
 journals_text js = flat_map journal_text js
+
+-- the parts of a journal's text: line 1 and the setup; the start and the rows, of which each has a line; and all of it, with its end
+abbrev pub lines_of : List Past → List ℕ
+lines_of h = events_text (events_of h)
+
+abbrev pub first_part : Setup → List ℕ
+first_part setup = (first_line 1 ++ 10 ∷ []) ++ setup.text
+
+abbrev pub timed_part : ℕ → List Past → List ℕ
+timed_part start h = ((codes "start " ++ decimal start) ++ 10 ∷ []) ++ lines_of h
+
+abbrev pub printed : Setup → ℕ → List Past → List ℕ
+printed setup start h = journal_text (printed_journal setup start h)
+
+-- some first bytes of a text that waited and of one behind it were written
+abbrev pub AddsPrefix : Option (List ℕ) → Option (List ℕ) → List ℕ → List ℕ → Type 0
+AddsPrefix old new before text = AppendsPrefix old new (before ++ text)
 
 -- its numbers fit a line of a journal
 abbrev pub HasSmall : Act → Type 0

@@ -5,10 +5,12 @@ ghost use Rattle.kn_io.specs.Causes.{HasCause};
 ghost use Rattle.kn_io.specs.Prefix.{AppendsPrefix};
 ghost use Rattle.kn_print.specs.Printed.{HasSmall, journals_text, printed_journals};
 
-use crate::print::print_journal;
+use crate::print::add_journal;
 use kn_cell::History;
+use kn_event::Line;
 use kn_io::{Failed, Sink};
 use kn_journal::Setup;
+use kn_report::Waiting;
 
 /// Writes the journal of each history, in order, or on `Failed` some first bytes of these journals.
 pub fn print_journals<O: Sink>(
@@ -23,11 +25,14 @@ pub fn print_journals<O: Sink>(
     ensures small { OnOk result (All (All (λ p. HasSmall p.event.act)) histories.now) }
     ensures cause { HasCause (O.Faulty.faults out.old) (O.Faulty.faults out.new) result }
 {
+    let mut line = Line::new();
+    let mut text = Waiting::new();
     for i in 0..setups.len() {
-        match print_journal(&setups[i], start, histories[i].items(), out) {
+        let rows = histories[i].items();
+        match add_journal(&setups[i], start, rows, &mut line, &mut text, out) {
             Ok(()) => {}
             Err(Failed) => return Err(Failed),
         }
     }
-    Ok(())
+    text.flush(out)
 }

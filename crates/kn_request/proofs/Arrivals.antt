@@ -1,8 +1,7 @@
 -- What an arrival was told, and where its request stands just after.
-use Rattle.std.proofs.Common.{◌≡◌, ◌≢◌, inl, inr, ℕ, Bool, true, false, ◌+◌, ◌^◌, ◌||◌, List, [], ◌∷◌, ◌++◌, refl, sym, ap, ◌∙◌, subst}
+use Rattle.std.proofs.Common.{◌≡◌, ◌≢◌, ◌⊎◌, inl, inr, ℕ, Bool, true, ◌+◌, ◌^◌, ◌||◌, List, [], ◌∷◌, ◌++◌, refl, sym, ap, ◌∙◌, subst}
 use Rattle.std.specs.Prelude.{Option, None, Some, min}
 use Rattle.std.proofs.Math.Logic.{∥∥₁_elim, ∥∥₁_map}
-use Rattle.std.proofs.lemmas.Bool.{or_left, or_right}
 use mathlib.Core.Bool.{Bool-set}
 use Rattle.kn_event.specs.declared.event.Act.TheVariants as act
 use Rattle.kn_event.specs.declared.event.Told.{Told}
@@ -11,7 +10,7 @@ use Rattle.kn_event.specs.declared.event.Stand.{Stand}
 use Rattle.kn_event.specs.declared.event.Stand.TheVariants as stand
 use Rattle.kn_event.specs.declared.revision.Spec.{Spec}
 use Rattle.kn_trace.specs.Events.{react, told_of}
-use Rattle.kn_trace.specs.Outcome.{Outcome, outcome_of}
+use Rattle.kn_trace.specs.Outcome.{Outcome, Refused, Overload, Expired, Cancelled, Finished, Lost, outcome_of}
 use Rattle.kn_trace.specs.Trace.{Trace, arrivals, stand_of}
 use Rattle.kn_sizes.specs.Course.{runs_by, waits_by}
 use Rattle.kn_sizes.specs.Told.{IsTold, arrival_told, outcome_told, stand_told}
@@ -23,8 +22,8 @@ use Rattle.kn_io.specs.Links.{Link}
 use Rattle.kn_head.specs.declared.head.Head.{Head}
 use Rattle.kn_request.specs.declared.meant.Meant.{Meant}
 use Rattle.kn_request.specs.declared.meant.Meant.TheVariants as meant
-use Rattle.kn_request.specs.Laws.{RequestLaws, is_lapsed, is_left}
-use Rattle.kn_request.specs.Sight.{IsKnown, IsLeft, StandsAt, sight}
+use Rattle.kn_request.specs.Laws.{RequestLaws, is_left}
+use Rattle.kn_request.specs.Sight.{IsKnown, IsLeft, sight}
 use Rattle.kn_request.specs.Served.{HasArrived, IsCourse, IsRefusedBy, IsServed}
 use Rattle.kn_request.proofs.LawFacts.{ended_by, outcome_by}
 use Rattle.kn_request.proofs.Later.{added_last, made_after, recorded_of, stands_is}
@@ -71,7 +70,7 @@ told_at laws tag time r told p q l x named c s =
     ∥∥₁_map (laws.told spec f x.row.event tag made act_is) (λ (i : IsTold spec f x.row.event). as_told spec f (sight q c) x.row told same (added_last p q (act.Arrive tag) time told l x c) i r named)
 
 -- an arrival is told a request
-told_some : RequestLaws → (tag time : ℕ) (told : Told) (p q : PassView) (l : Looks p q) (x : Adds p (act.Arrive tag) time told q) → arrival_told told ≡ None → ⊥
+pub told_some : RequestLaws → (tag time : ℕ) (told : Told) (p q : PassView) (l : Looks p q) (x : Adds p (act.Arrive tag) time told q) → arrival_told told ≡ None → ⊥
 told_some laws tag time told p q l x un = ∥∥₁_elim l.some (λ u v. absurd u) (λ m.
     let c = m.0 in
     let spec = p.opening.spec in
@@ -85,7 +84,7 @@ told_some laws tag time told p q l x un = ∥∥₁_elim l.some (λ u v. absurd 
     let e : Some (arrivals f) ≡ None = sym i.number ∙ (ap arrival_told same ∙ un) in absurd (cc)))
 
 -- what an arrival is never told
-told_none : (x : Told) → ((r k : ℕ) → x ≡ told.Run r k → ⊥) → ((r k : ℕ) → x ≡ told.AtPod r k → ⊥) → ((r : ℕ) → x ≡ told.Held r → ⊥) → ((r : ℕ) → x ≡ told.QueueFull r → ⊥) → ((r : ℕ) → x ≡ told.Overload r → ⊥) → arrival_told x ≡ None
+pub told_none : (x : Told) → ((r k : ℕ) → x ≡ told.Run r k → ⊥) → ((r k : ℕ) → x ≡ told.AtPod r k → ⊥) → ((r : ℕ) → x ≡ told.Held r → ⊥) → ((r : ℕ) → x ≡ told.QueueFull r → ⊥) → ((r : ℕ) → x ≡ told.Overload r → ⊥) → arrival_told x ≡ None
 told_none (told.Run r k) a b d e f = absurd (a r k refl)
 told_none (told.AtPod r k) a b d e f = absurd (b r k refl)
 told_none (told.Held r) a b d e f = absurd (d r refl)
@@ -99,10 +98,6 @@ told_none (told.NoPod r) a b d e f = refl
 told_none told.Passed a b d e f = refl
 told_none (told.Decided x) a b d e f = refl
 told_none told.NoData a b d e f = refl
-
-pub told_else : RequestLaws → (tag time : ℕ) (x : Told) (p q : PassView) (l : Looks p q) → Adds p (act.Arrive tag) time x q → ((r k : ℕ) → x ≡ told.Run r k → ⊥) → ((r k : ℕ) → x ≡ told.AtPod r k → ⊥) → ((r : ℕ) → x ≡ told.Held r → ⊥)
-    → ((r : ℕ) → x ≡ told.QueueFull r → ⊥) → ((r : ℕ) → x ≡ told.Overload r → ⊥) → ⊥
-told_else laws tag time x p q l y a b d e f = told_some laws tag time x p q l y (told_none x a b d e f)
 
 -- a test of the stand that it was told
 stand_test : (test : Stand → Bool) (t : Trace) (r : ℕ) (x : Told) (s : Stand) → stand_told x ≡ Some s → test s ≡ true → IsAsTold t r x → test (stand_of t r) ≡ true
@@ -133,7 +128,7 @@ pub told_known : RequestLaws → (tag time r : ℕ) (told : Told) (s : Stand) (p
 told_known laws tag time r told s p q l x named is live c st = live_known (stand_of (sight q c) r) (is_live_told laws tag time r told s p q l x named is live c st)
 
 -- the whole of it
-pub refused_served : RequestLaws → (reading : ℕ → Type 0) (timeout tag time r : ℕ) (head : Head) (x : Told) (o : Outcome) (m : Meant) (p q : PassView) (wire : Option Link) (l : Looks p q) (y : Adds p (act.Arrive tag) time x q) (now : reading time)
+refused_served : RequestLaws → (reading : ℕ → Type 0) (timeout tag time r : ℕ) (head : Head) (x : Told) (o : Outcome) (m : Meant) (p q : PassView) (wire : Option Link) (l : Looks p q) (y : Adds p (act.Arrive tag) time x q) (now : reading time)
     → arrival_told x ≡ Some r → stand_told x ≡ Some stand.Ended → outcome_told x ≡ Some o → IsRefusedBy o m → HasArrived reading timeout tag head p q wire wire m
 refused_served laws reading timeout tag time r head x o m p q wire l y now named stands outcome is = record {
   mid = q;
@@ -153,12 +148,24 @@ refused_served laws reading timeout tag time r head x o m p q wire l y now named
   };
 }
 
-pub taken_served : (reading : ℕ → Type 0) (timeout tag time due r : ℕ) (x : Told) (head : Head) (p q s : PassView) (wire wire' : Option Link) (m : Meant) (l : Looks p q) (y : Adds p (act.Arrive tag) time x q) (now : reading time)
-    → Looks q s → arrival_told x ≡ Some r → due ≡ min time (2 ^ 42) + timeout → IsLeft q r → IsCourse reading due head r q s wire wire' m → HasArrived reading timeout tag head p s wire wire' m
+-- the outcome is one by which arrivals are refused
+pub away_served : RequestLaws → (reading : ℕ → Type 0) (timeout tag time r : ℕ) (head : Head) (x : Told) (o : Outcome) (m : Meant) (p q : PassView) (wire : Option Link) (l : Looks p q) (y : Adds p (act.Arrive tag) time x q) (now : reading time)
+    → arrival_told x ≡ Some r → stand_told x ≡ Some stand.Ended → outcome_told x ≡ Some o → IsRefusedBy o m → IsServed reading timeout tag head p q wire wire m
+away_served laws reading timeout tag time r head x Refused m p q wire l y now named stands outcome is =
+    subst (λ (v : Meant). IsServed reading timeout tag head p q wire wire v) (sym is) (refused_served laws reading timeout tag time r head x Refused meant.QueueFull p q wire l y now named stands outcome refl)
+away_served laws reading timeout tag time r head x Overload m p q wire l y now named stands outcome is =
+    subst (λ (v : Meant). IsServed reading timeout tag head p q wire wire v) (sym is) (refused_served laws reading timeout tag time r head x Overload meant.Overload p q wire l y now named stands outcome refl)
+away_served laws reading timeout tag time r head x Expired m p q wire l y now named stands outcome is = absurd is
+away_served laws reading timeout tag time r head x Cancelled m p q wire l y now named stands outcome is = absurd is
+away_served laws reading timeout tag time r head x (Finished ok) m p q wire l y now named stands outcome is = absurd is
+away_served laws reading timeout tag time r head x Lost m p q wire l y now named stands outcome is = absurd is
+
+taken_served : (reading : ℕ → Type 0) (timeout tag time due r : ℕ) (x : Told) (head : Head) (p q s : PassView) (wire wire' : Option Link) (m : Meant) (l : Looks p q) (y : Adds p (act.Arrive tag) time x q) (now : reading time)
+    → (s ≡ q) ⊎ Looks q s → arrival_told x ≡ Some r → due ≡ min time (2 ^ 42) + timeout → IsLeft q r → IsCourse reading due head r q s wire wire' m → HasArrived reading timeout tag head p s wire wire' m
 taken_served reading timeout tag time due r x head p q s wire wire' m l y now since named is left course = record {
   mid = q;
   before = l;
-  since = inr since;
+  since = since;
   arrive = recorded_of reading p q (act.Arrive tag) time x l y now;
   mine = y.mine;
   number = r;
@@ -168,7 +175,7 @@ taken_served reading timeout tag time due r x head p q s wire wire' m l y now si
 
 -- a request that was taken in is never answered as Full
 pub served_of : (reading : ℕ → Type 0) (timeout tag time due r : ℕ) (x : Told) (head : Head) (p q s : PassView) (wire wire' : Option Link) (m : Meant) (l : Looks p q) (y : Adds p (act.Arrive tag) time x q) (now : reading time)
-    → Looks q s → arrival_told x ≡ Some r → due ≡ min time (2 ^ 42) + timeout → IsLeft q r → IsCourse reading due head r q s wire wire' m → IsServed reading timeout tag head p s wire wire' m
+    → (s ≡ q) ⊎ Looks q s → arrival_told x ≡ Some r → due ≡ min time (2 ^ 42) + timeout → IsLeft q r → IsCourse reading due head r q s wire wire' m → IsServed reading timeout tag head p s wire wire' m
 served_of reading timeout tag time due r x head p q s wire wire' (meant.Full f) l y now since named is left course = absurd course
 served_of reading timeout tag time due r x head p q s wire wire' (meant.Reply t) l y now since named is left course = taken_served reading timeout tag time due r x head p q s wire wire' (meant.Reply t) l y now since named is left course
 served_of reading timeout tag time due r x head p q s wire wire' meant.QueueFull l y now since named is left course = absurd course

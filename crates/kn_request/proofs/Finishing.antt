@@ -1,15 +1,14 @@
 -- A request that runs is finished.
-use Rattle.std.proofs.Common.{◌≡◌, ◌≢◌, ℕ, true, false, List, [], ◌∷◌, ◌++◌, Bool, refl, sym, ap, ◌∙◌, subst, arith}
+use Rattle.std.proofs.Common.{◌≡◌, ◌≢◌, ℕ, true, List, [], ◌∷◌, ◌++◌, Bool, refl, sym, ap, ◌∙◌, subst, arith}
 use Rattle.std.specs.Prelude.{◌==◌}
 use Rattle.std.proofs.lemmas.List.{append-nil, append_cancel_left, append_cancel_right}
 use Rattle.std.proofs.lemmas.List.Elements.{filter-append}
 use Rattle.kn_event.specs.declared.event.Act.TheVariants as act
 use Rattle.kn_event.specs.declared.event.Told.{Told}
-use Rattle.kn_event.specs.declared.event.Stand.TheVariants as stand
 use Rattle.kn_trace.specs.Outcome.{outcome_of}
 use Rattle.kn_trace.specs.Trace.{Trace, stand_of}
 use Rattle.kn_sizes.specs.Course.{runs_by}
-use Rattle.kn_core.specs.State.{RevisionState, StandsFor}
+use Rattle.kn_core.specs.State.{StandsFor}
 use Rattle.kn_cell.specs.declared.past.Past.{Past}
 use Rattle.kn_cell.specs.declared.past.Full.{Full}
 use Rattle.kn_cell.specs.Lists.{Each}

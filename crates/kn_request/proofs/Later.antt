@@ -7,7 +7,6 @@ use mathlib.Core.Option.{some}
 use lib.ListN.{get_elem?}
 use Rattle.kn_event.specs.declared.event.Act.{Act}
 use Rattle.kn_event.specs.declared.event.Act.TheVariants as act
-use Rattle.kn_event.specs.declared.event.Stand.{Stand}
 use Rattle.kn_event.specs.declared.event.Stand.TheVariants as stand
 use Rattle.kn_event.specs.declared.event.Told.{Told}
 use Rattle.kn_event.specs.declared.revision.Spec.{Spec}
@@ -18,12 +17,13 @@ use Rattle.kn_sizes.specs.Course.{runs_by, waits_by}
 use Rattle.kn_core.specs.State.{RevisionState, StandsFor}
 use Rattle.kn_cell.specs.declared.past.Past.{Past}
 use Rattle.kn_cell.specs.declared.past.Full.{Full}
-use Rattle.kn_cell.specs.Lists.{StartsWith, Each}
+use Rattle.kn_cell.specs.declared.course.Course.TheVariants as course
+use Rattle.kn_cell.specs.Lists.{Each}
 use Rattle.kn_cell.specs.History.{IsInBounds, IsLegal, MayCome, clock_after, past, rows_by, trace_after}
 use Rattle.kn_cell.specs.Desk.{event_at}
 use Rattle.kn_cell.specs.Shown.{PassView, Looks, Adds, Misfits, IsLater}
 use Rattle.kn_request.specs.Laws.{Made, RequestLaws, Spares, is_left}
-use Rattle.kn_request.specs.Sight.{IsAlone, IsKnown, IsLeft, IsOwn, IsRunning, StandsAt, sight}
+use Rattle.kn_request.specs.Sight.{HasCourse, IsAlone, IsKnown, IsLeft, IsOwn, IsRunning, StandsAt, sight}
 use Rattle.kn_request.specs.Requests.{Cancels, Recorded}
 use Rattle.kn_request.specs.Served.{IsWaitingNoMore}
 use Rattle.kn_request.proofs.Lists.{at_left, by_whom, each_right, each_tail, none, one, starts_trans, trace_after-append}
@@ -46,11 +46,20 @@ along laws s P Q step (x ∷ xs) all c made p =
 pub opening_is : (p q : PassView) → Looks p q → q.opening ≡ p.opening
 opening_is p q l = ap (λ (v : PassView). v.opening) l.same
 
+pub book_is : (p q : PassView) → Looks p q → q.book ≡ p.book
+book_is p q l = ap (λ (v : PassView). v.book) l.same
+
 pub number_is : (p q : PassView) → Looks p q → q.number ≡ p.number
 number_is p q l = ap (λ (v : PassView). v.number) l.same
 
 pub cell_is : (p q : PassView) → Looks p q → q.cell ≡ p.cell
 cell_is p q l = ap (λ (v : PassView). v.cell) l.same
+
+pub lasting_is : (p q : PassView) → Looks p q → q.lasting ≡ p.lasting
+lasting_is p q l = ap (λ (v : PassView). v.lasting) l.same
+
+pub scribe_is : (p q : PassView) → Looks p q → q.scribe ≡ p.scribe
+scribe_is p q l = ap (λ (v : PassView). v.scribe) l.same
 
 pub own_is : (p q : PassView) → Looks p q → IsOwn q
 own_is p q l = l.own ∙ ap (λ n. rows_by n q.seen) (sym (number_is p q l))
@@ -128,7 +137,7 @@ alone_before r p q l alone k x at ne =
 
 pub looks_trans : (a b c : PassView) → Looks a b → Looks b c → Looks a c
 looks_trans a b c l m = record {
-  same = m.same ∙ ap (λ (v : PassView). record v { seen = c.seen; mine = c.mine; missed = c.missed }) l.same;
+  same = m.same ∙ ap (λ (v : PassView). record v { seen = c.seen; mine = c.mine; missed = c.missed; gone = c.gone }) l.same;
   missed = let x = l.missed in let y = m.missed in omega arith;
   alone = λ e.
       let f = ap (λ (v : PassView). v.free) l.same in let g = ap (λ (v : PassView). v.back) l.same in let h = ap (λ (v : PassView). v.passes) l.same in
@@ -139,6 +148,10 @@ looks_trans a b c l m = record {
   bounds = m.bounds;
   own = m.own ∙ ap (λ n. rows_by n c.seen) (number_is a b l);
   some = l.some;
+  gone = let x = l.gone in let y = m.gone in omega (arith, x, y);
+  most = m.most;
+  plain = λ e. m.plain (lasting_is a b l ∙ e);
+  still = λ e. let x = l.still e in let y = m.still (scribe_is a b l ∙ e) in omega (arith, x, y);
 }
 
 -- ---- rows
@@ -173,6 +186,9 @@ added_last p q a time told l x c = sight_is p q l c ∙ (ap (trace_after p.openi
 pub looks_after : (p q s : PassView) → (q ≡ p) ⊎ Looks p q → Looks q s → Looks p s
 looks_after p q s so l = elim so [ inl e ↦ subst (λ (v : PassView). Looks v s) e l | inr m ↦ looks_trans p q s m l ]
 
+pub looks_from : (p q s : PassView) → Looks p q → (s ≡ q) ⊎ Looks q s → Looks p s
+looks_from p q s l so = elim so [ inl e ↦ subst (λ (v : PassView). Looks p v) (sym e) l | inr m ↦ looks_trans p q s l m ]
+
 pub known_after : RequestLaws → (r : ℕ) (p q : PassView) → (q ≡ p) ⊎ Looks p q → IsKnown p r → IsKnown q r
 known_after laws r p q so known = elim so [ inl e ↦ subst (λ (v : PassView). IsKnown v r) (sym e) known | inr m ↦ known_later laws r p q m known ]
 
@@ -200,6 +216,12 @@ left_over laws reading due r p q l own c old alone = elim c [
   | inr x ↦ left_later laws r p q (x.0.row ∷ []) l own x.2 (one (SparesIt r) x.0.row (cancel_spares r x.0.row.event.act (ap (λ (y : Past). y.event.act) x.0.row_is))) old alone
 ]
 
+pub left_after : RequestLaws → (r : ℕ) (p q : PassView) → (q ≡ p) ⊎ Looks p q → IsOwn p → q.mine ≡ p.mine → IsLeft p r → IsAlone q r → IsLeft q r
+left_after laws r p q so own same old alone = elim so [
+  | inl e ↦ subst (λ (v : PassView). IsLeft v r) (sym e) old
+  | inr l ↦ left_later laws r p q [] l own (same ∙ sym (append-nil p.mine)) (none (SparesIt r)) old alone
+]
+
 -- after a cancel the request waits no more: it was recorded, or there was no need of room for it
 pub ok_cancelled : RequestLaws → (r time : ℕ) (told : Told) (p q : PassView) → Looks p q → Adds p (act.Cancel r) time told q → IsWaitingNoMore q r
 ok_cancelled laws r time told p q l x c s =
@@ -221,19 +243,17 @@ full_cancelled laws r full p q l x c s = by_test (waits_by (stand_of (sight q c)
         let m = x.short c s' in
         absurd (omega (arith, n, m))
 
--- what is known, and waits no more, runs or has ended
-pub is_over : (r : ℕ) (q : PassView) (x : Stand) → waits_by x ≡ true → IsWaitingNoMore q r → StandsAt q r x → StandsAt q r stand.Ended
-is_over r q x waits left at c s =
-    let a = left c s in
-    let b = at c s in
-    absurd (true_false (sym waits ∙ (ap waits_by (sym b) ∙ a)))
+-- what waits no more, and was found waiting
+pub waits_no_more : (r : ℕ) (q : PassView) → IsWaitingNoMore q r → HasCourse q r course.Waits → StandsAt q r stand.Ended
+waits_no_more r q left waits c s = absurd (true_false (sym (waits c s) ∙ left c s))
   where
     true_false : true ≡ false → ⊥
     true_false e = absurd (cc)
 
-pub is_known : (r : ℕ) (q : PassView) → IsKnown q r → StandsAt q r stand.Unknown → StandsAt q r stand.Ended
-is_known r q known un c s = absurd (known c s (un c s))
+-- what came, and is over, has ended
+pub is_over : (r : ℕ) (q : PassView) → IsKnown q r → HasCourse q r course.Over → StandsAt q r stand.Ended
+is_over r q known over c s = elim (over c s) [ inl e ↦ e | inr un ↦ absurd (known c s un) ]
 
 -- the same pass, which may have seen and done more
 pub later_of : (p q : PassView) → (q ≡ p) ⊎ Looks p q → IsLater p q
-later_of p q so = elim so [ inl e ↦ e ∙ ap (λ (v : PassView). record p { seen = v.seen; mine = v.mine; missed = v.missed }) (sym e) | inr l ↦ l.same ]
+later_of p q so = elim so [ inl e ↦ e ∙ ap (λ (v : PassView). record p { seen = v.seen; mine = v.mine; missed = v.missed; gone = v.gone }) (sym e) | inr l ↦ l.same ]

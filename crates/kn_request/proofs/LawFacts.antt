@@ -1,6 +1,6 @@
 -- The laws of one request, as the server cites them.
-use Rattle.std.proofs.Common.{◌≡◌, ◌≢◌, ◌≤◌, ◌<◌, ◌⊎◌, inl, inr, ℕ, suc, zero, Bool, true, false, ◌||◌, ◌++◌, refl, sym, ap, ◌∙◌, subst, arith}
-use Rattle.std.specs.Prelude.{Option, None, Some, ◌↔◌}
+use Rattle.std.proofs.Common.{◌≡◌, ◌≢◌, ◌≤◌, ◌<◌, ◌⊎◌, inl, inr, ℕ, suc, zero, Bool, true, false, ◌||◌, ◌++◌, refl, sym, ap, ◌∙◌, arith}
+use Rattle.std.specs.Prelude.{Option, None, Some}
 use Rattle.std.proofs.Math.Logic.{∥∥₁_elim, ∥∥₁_map}
 use Rattle.std.proofs.lemmas.Bool.{cases_lt, or_left, or_right}
 use mathlib.Core.Bool.{Bool-set}
@@ -20,7 +20,7 @@ use Rattle.kn_sizes.specs.Course.{HasFinished, IsToldByStand, IsUnfinished, MayE
 use Rattle.kn_sizes.specs.Stays.{Stays}
 use Rattle.kn_sizes.specs.Told.{IsTold}
 use Rattle.kn_core.specs.State.{RevisionState, StandsFor}
-use Rattle.kn_request.specs.Laws.{Made, RequestLaws, Spares, is_lapsed, is_left}
+use Rattle.kn_request.specs.Laws.{Made, Spares, is_lapsed, is_left}
 
 -- ---- tests of a stand and of an outcome
 

@@ -1,5 +1,5 @@
 -- The ticker's rows and probes.
-use Rattle.std.proofs.Common.{◌≡◌, ◌⊎◌, inl, inr, ℕ, ◌+◌, ◌-◌, ◌≤◌, ◌<◌, List, [], ◌∷◌, ◌++◌, length, Bool, true, false, suc, zero, refl, sym, ap, ◌∙◌, subst, arith, append_assoc}
+use Rattle.std.proofs.Common.{◌≡◌, ◌⊎◌, inl, inr, ℕ, ◌+◌, ◌≤◌, ◌<◌, List, [], ◌∷◌, ◌++◌, Bool, true, false, suc, zero, refl, sym, ap, ◌∙◌, subst, arith, append_assoc}
 use Rattle.std.proofs.lemmas.Bool.{cases_lt}
 use Rattle.std.proofs.lemmas.List.{append-nil}
 use Rattle.std.specs.Prelude.{Option, None, Some, ◌||◌, ⊤}
@@ -16,7 +16,7 @@ use Rattle.kn_cell.specs.declared.past.Past.{Past}
 use Rattle.kn_cell.specs.declared.past.Full.{Full}
 use Rattle.kn_cell.specs.Lists.{StartsWith, Each}
 use Rattle.kn_cell.specs.History.{live_of, trace_after}
-use Rattle.kn_cell.specs.Shown.{PassView, Looks, Adds, Misfits}
+use Rattle.kn_cell.specs.Shown.{PassView, Looks, Adds, Misfits, left_in}
 use Rattle.kn_io.specs.Links.{Link, Tells}
 use Rattle.kn_io.specs.declared.records.Probe.{Probe}
 use Rattle.kn_request.specs.Laws.{Made, RequestLaws}
@@ -24,7 +24,7 @@ use Rattle.kn_request.specs.Pods.{IsStarting, PodLaws}
 use Rattle.kn_request.specs.Requests.{Recorded}
 use Rattle.kn_request.specs.Ticking.{AreAscending, AreBelow, AreReady, HasNoStarting, IsAt, Probing, ProbesOne, ReadyOf, TicksOnce, WasFull, WasStarting, is_probed, probed_all}
 use Rattle.kn_request.proofs.Lists.{none, one, starts_trans, trace_after-append}
-use Rattle.kn_request.proofs.Later.{along, looks_after, made_after, opening_is, recorded_later, recorded_of}
+use Rattle.kn_request.proofs.Later.{along, looks_after, made_after, opening_is, recorded_later, recorded_of, lasting_is}
 
 -- ---- what a link tells
 
@@ -62,7 +62,17 @@ was_full laws p q a full what l x = record {
   front = q.seen;
   early = ([], sym (append-nil q.seen));
   late = l.longer;
-  none_left = λ c s. let m = x.short c s in let n = need_one laws (trace_after p.opening.spec c q.seen) a what in omega (arith, m, n);
+  gone = q.gone;
+  since = l.gone;
+  until = omega arith;
+  most = l.most;
+  plain = l.plain;
+  none_left = λ c s.
+      let m = x.short c s in
+      let n = need_one laws (trace_after p.opening.spec c q.seen) a what in
+      let same = ap (λ (v : PassView). left_in v q.seen (live_of (trace_after p.opening.spec c q.seen))) l.same in
+      let here : left_in q q.seen (live_of (trace_after p.opening.spec c q.seen)) < 1 = omega (arith, m, n) in
+      subst (λ k. k < 1) same here;
 }
 
 at_append : {A : Type 0} (xs ys : List A) (k : ℕ) (x : A) → get_elem? (xs ++ ys) k ≡ some x → ((i : ℕ) × (get_elem? xs i ≡ some x)) ⊎ ((i : ℕ) × (get_elem? ys i ≡ some x))
@@ -79,12 +89,17 @@ at_later now p q xs l all k x at = let y = all k x at in (recorded_later (λ t. 
 -- fullness, seen from earlier and from later
 full_before : (p q s : PassView) → Looks p q → WasFull q s → WasFull p s
 full_before p q s l w =
-    let Q : RevisionState → ℕ → Type 0 = λ b r. (c : Trace) → StandsFor b c → r - length w.front - live_of (trace_after b.spec c w.front) < 1 in
+    let Q : PassView → Type 0 = λ v. (c : Trace) → StandsFor v.opening c → left_in (record v { gone = w.gone }) w.front (live_of (trace_after v.opening.spec c w.front)) < 1 in
     record {
       front = w.front;
       early = w.early;
       late = starts_trans p.seen q.seen w.front l.longer w.late;
-      none_left = subst (λ (b : RevisionState). Q b p.room) (opening_is p q l) (subst (Q q.opening) (ap (λ (v : PassView). v.room) l.same) w.none_left);
+      gone = w.gone;
+      since = let a = l.gone in let b = w.since in omega (arith, a, b);
+      until = w.until;
+      most = w.most;
+      plain = λ e. w.plain (lasting_is p q l ∙ e);
+      none_left = subst Q l.same w.none_left;
     }
 
 pub full_after : (p q s : PassView) → Looks q s → WasFull p q → WasFull p s
@@ -92,6 +107,11 @@ full_after p q s l w = record {
   front = w.front;
   early = starts_trans w.front q.seen s.seen w.early l.longer;
   late = w.late;
+  gone = w.gone;
+  since = w.since;
+  until = let a = l.gone in let b = w.until in omega (arith, a, b);
+  most = w.most;
+  plain = w.plain;
   none_left = w.none_left;
 }
 

@@ -1,5 +1,5 @@
 -- The ticks of turn after turn are apart.
-use Rattle.std.proofs.Common.{◌≡◌, ◌⊎◌, inl, inr, ℕ, ◌+◌, ◌<◌, ◌≤◌, List, [], ◌∷◌, ◌++◌, Bool, true, false, refl, sym, ap, ◌∙◌, subst, arith, append_assoc}
+use Rattle.std.proofs.Common.{◌≡◌, ◌⊎◌, inl, inr, ℕ, ◌+◌, ◌≤◌, List, [], ◌∷◌, ◌++◌, Bool, true, false, refl, sym, ap, ◌∙◌, subst, arith, append_assoc}
 use Rattle.std.proofs.lemmas.Bool.{cases_lt}
 use Rattle.std.proofs.lemmas.List.{append-nil}
 use Rattle.std.proofs.lemmas.List.Elements.{filter-append}
@@ -12,7 +12,7 @@ use Rattle.kn_io.specs.Links.{Link}
 use Rattle.kn_io.specs.declared.records.Probe.{Probe}
 use Rattle.kn_request.specs.declared.ticks.Turn.{Turn}
 use Rattle.kn_request.specs.Ticking.{AreApart, AreReady, AreRecordedAt, IsAt, IsTickerRow, ReadyOf, TakesTurn, TicksApart, TurnsFrom, TurnsTo, is_tick, ticks_of}
-use Rattle.kn_request.proofs.Lists.{each_left, each_tail, none, one}
+use Rattle.kn_request.proofs.Lists.{each_tail, none, one}
 use Rattle.kn_request.proofs.Later.{looks_trans}
 use Rattle.kn_request.proofs.TickFacts.{at_later, each_both}
 

@@ -55,13 +55,11 @@ pub record HasCauses (callers callers' links links' : ℕ) (result : Served) : T
 
 -- what is meant where no event is made
 abbrev pub IsRefusal : Answer → Served → List ℕ → Type 0
-IsRefusal a meant text = ((meant ≡ served.Refused a) × (text ≡ answered a)) ⊎ ((meant ≡ served.Memory) × (text ≡ []))
+IsRefusal a meant text = (meant ≡ served.Refused a) × (text ≡ answered a)
 
-pub record Refuses (old new : Option Said) (a : Answer) (result : Served) : Type 0 where
-  pub meant : Served
-  pub text : List ℕ
-  pub refusal : IsRefusal a meant text
-  pub writes : Writes old new result meant text
+-- the answer was written, or a first part of it, and the caller failed
+abbrev pub Refuses : Option Said → Option Said → Answer → Served → Type 0
+Refuses old new a result = Writes old new result (served.Refused a) (answered a)
 
 -- no event was made, and no pod was called
 pub record IsIdle (old new : PassView) (wire wire' : Option Link) : Type 0 where

@@ -1,10 +1,11 @@
 -- What a pass records of one request, and what its pod is called with.
-use Rattle.std.specs.Prelude.{◌≡◌, ◌⊎◌, ◌≤◌, ◌^◌, ℕ, Bool, true, false, List, [], ◌∷◌, ◌++◌, Option, Some, Result, is_ok}
+use Rattle.std.specs.Prelude.{◌≡◌, ◌⊎◌, ◌≤◌, ℕ, Bool, true, List, [], ◌∷◌, ◌++◌, Option, Some, Result, is_ok}
 use Rattle.kn_event.specs.declared.event.Act.{Act}
 use Rattle.kn_event.specs.declared.event.Act.TheVariants as act
 use Rattle.kn_event.specs.declared.event.Stand.TheVariants as stand
 use Rattle.kn_trace.specs.Outcome.{Finished, outcome_of}
 use Rattle.kn_trace.specs.Trace.{Trace, proxied, stand_of}
+use Rattle.kn_book.specs.Book.{call_address}
 use Rattle.kn_core.specs.State.{StandsFor}
 use Rattle.kn_cell.specs.declared.past.Past.{Past}
 use Rattle.kn_cell.specs.Lists.{StartsWith}
@@ -50,16 +51,15 @@ Finishes reading r ok old new = (xs : List Past) × AreFinishes reading r ok new
 pub record CallsPod (head : Head) (wire wire' : Option Link) (p : PassView) (r : ℕ) (reply : Result (List ℕ) LinkError) : Type 0 where
   pub pod : ℕ
   pub way : Bool
-  -- it was found running at the pod
+  -- it was found running at the pod, to which it had come by this way
   pub before : List Past
   pub early : StartsWith p.seen before
   pub ran : (c : Trace) → StandsFor p.opening c → stand_of (trace_after p.opening.spec c before) r ≡ stand.Running pod
-  -- and then by which way it had come
-  pub front : List Past
-  pub later : StartsWith front before
-  pub seen : StartsWith p.seen front
-  pub form : (c : Trace) → StandsFor p.opening c → way ≡ proxied (trace_after p.opening.spec c front) r
-  pub calls : Tells wire wire' (λ link. called link pod (forwarded head way) reply)
+  pub form : (c : Trace) → StandsFor p.opening c → way ≡ proxied (trace_after p.opening.spec c before) r
+  -- the call went to the address that the pod had then: to its number, where the cell has no book of addresses
+  pub at : ℕ
+  pub address : (c : Trace) → StandsFor p.opening c → at ≡ call_address p.book (trace_after p.opening.spec c before) pod
+  pub calls : Tells wire wire' (λ link. called link at (forwarded head way) reply)
 
 -- the request ran, and was finished
 pub record WasRun (reading : ℕ → Type 0) (due : ℕ) (head : Head) (r : ℕ) (old new : PassView) (wire wire' : Option Link) (reply : Result (List ℕ) LinkError) : Type 0 where

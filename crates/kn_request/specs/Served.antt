@@ -1,11 +1,13 @@
 -- What became of a request.
-use Rattle.std.specs.Prelude.{◌≡◌, ◌⊎◌, ◌≤◌, ◌+◌, ◌^◌, ℕ, List, [], ◌∷◌, ◌++◌, Option, Some, Ok, Err, min, false}
+use Rattle.std.specs.Prelude.{◌≡◌, ◌⊎◌, ◌≤◌, ◌+◌, ◌^◌, ◌||◌, ℕ, [], ◌∷◌, ◌++◌, Option, Some, Ok, Err, min, true, false}
 use Rattle.kn_event.specs.declared.event.Act.TheVariants as act
+use Rattle.kn_event.specs.declared.event.Stand.{Stand}
 use Rattle.kn_event.specs.declared.event.Stand.TheVariants as stand
+use Rattle.kn_event.specs.declared.event.Told.{Told}
 use Rattle.kn_trace.specs.Outcome.{Outcome, Refused, Overload}
 use Rattle.kn_trace.specs.Trace.{Trace, stand_of}
-use Rattle.kn_sizes.specs.Told.{arrival_told}
-use Rattle.kn_sizes.specs.Course.{waits_by}
+use Rattle.kn_sizes.specs.Told.{arrival_told, outcome_told, stand_told}
+use Rattle.kn_sizes.specs.Course.{runs_by, waits_by}
 use Rattle.kn_core.specs.State.{StandsFor}
 use Rattle.kn_cell.specs.Shown.{PassView, Looks, Misfits}
 use Rattle.kn_io.specs.Causes.{Rose}
@@ -16,14 +18,14 @@ use Rattle.kn_request.specs.declared.meant.Meant.{Meant}
 use Rattle.kn_request.specs.declared.meant.Meant.TheVariants as meant
 use Rattle.kn_request.specs.declared.wait.Waited.{Waited}
 use Rattle.kn_request.specs.declared.wait.Waited.TheVariants as waited
-use Rattle.kn_request.specs.Sight.{EndsBy, IsLeft, StandsAt, sight}
+use Rattle.kn_request.specs.Sight.{EndsBy, IsLeft, RunsAt, StandsAt, sight}
 use Rattle.kn_request.specs.Requests.{Recorded, WasLost, WasRun}
 
 -- ---- waiting
 
 -- what was found
 abbrev pub IsFound : (ℕ → Type 0) → ℕ → PassView → ℕ → Waited → Type 0
-IsFound reading due p r (waited.Runs k) = StandsAt p r (stand.Running k)
+IsFound reading due p r (waited.Runs x) = RunsAt p r x
 IsFound reading due p r waited.Ended = StandsAt p r stand.Ended
 IsFound reading due p r (waited.Late now) = (due ≤ now) × reading now
 
@@ -52,6 +54,16 @@ abbrev pub IsRefusedBy : Outcome → Meant → Type 0
 IsRefusedBy Refused m = m ≡ meant.QueueFull
 IsRefusedBy Overload m = m ≡ meant.Overload
 IsRefusedBy _ m = ⊥
+
+-- an arrival was told so: the request was taken in, and waits or runs
+abbrev pub IsTakenIn : Told → ℕ → Type 0
+IsTakenIn x r = (s : Stand) × (arrival_told x ≡ Some r) × (stand_told x ≡ Some s) × ((waits_by s || runs_by s) ≡ true)
+
+-- an arrival was told so: the request was refused, by this outcome
+abbrev pub IsTurnedAway : Told → Meant → Type 0
+IsTurnedAway x m =
+    (r : ℕ) × (o : Outcome) × (arrival_told x ≡ Some r) × (stand_told x ≡ Some stand.Ended) × (outcome_told x ≡ Some o)
+    × IsRefusedBy o m
 
 -- the arrival was refused: it is answered so, and nothing else happens
 pub record IsRefused (r : ℕ) (new mid : PassView) (wire wire' : Option Link) (m : Meant) : Type 0 where

@@ -7,6 +7,10 @@ use Rattle.kn_trace.specs.Outcome.{Outcome, outcome_of}
 use Rattle.kn_trace.specs.Trace.{Trace, stand_of}
 use Rattle.kn_sizes.specs.Course.{runs_by}
 use Rattle.kn_core.specs.State.{StandsFor}
+use Rattle.kn_cell.specs.declared.course.Course.{Course}
+use Rattle.kn_cell.specs.declared.course.Course.TheVariants as course
+use Rattle.kn_cell.specs.declared.course.Run.{Run}
+use Rattle.kn_cell.specs.Course.{IsCourseOf}
 use Rattle.kn_cell.specs.Lists.{Each}
 use Rattle.kn_cell.specs.History.{rows_by, trace_after}
 use Rattle.kn_cell.specs.Shown.{PassView}
@@ -19,6 +23,14 @@ sight p c = trace_after p.opening.spec c p.seen
 -- where the request stands
 abbrev pub StandsAt : PassView → ℕ → Stand → Type 0
 StandsAt p r s = (c : Trace) → StandsFor p.opening c → stand_of (sight p c) r ≡ s
+
+-- how the request goes on
+abbrev pub HasCourse : PassView → ℕ → Course → Type 0
+HasCourse p r x = (c : Trace) → StandsFor p.opening c → IsCourseOf p.book (sight p c) r x
+
+-- where the request runs, and by which way it came there
+abbrev pub RunsAt : PassView → ℕ → Run → Type 0
+RunsAt p r x = HasCourse p r (course.Runs x)
 
 abbrev pub IsRunning : PassView → ℕ → Type 0
 IsRunning p r = (c : Trace) → StandsFor p.opening c → runs_by (stand_of (sight p c) r) ≡ true

@@ -1,6 +1,6 @@
 -- The turns of the ticker.
 use Rattle.std.specs.List.{filter}
-use Rattle.std.specs.Prelude.{◌≡◌, ◌⊎◌, ◌≤◌, ◌<◌, ◌+◌, ◌-◌, ◌^◌, ℕ, Bool, true, false, List, [], ◌∷◌, ◌++◌, length, Option, None, Some, ⊤}
+use Rattle.std.specs.Prelude.{◌≡◌, ◌⊎◌, ◌≤◌, ◌<◌, ◌+◌, ◌^◌, ℕ, Bool, true, false, List, [], ◌∷◌, ◌++◌, length, Option, None, Some, ⊤}
 use Rattle.kn_event.specs.declared.event.Act.{Act}
 use Rattle.kn_event.specs.declared.event.Act.TheVariants as act
 use Rattle.kn_trace.specs.Trace.{Trace, next_starting}
@@ -8,7 +8,7 @@ use Rattle.kn_core.specs.State.{StandsFor}
 use Rattle.kn_cell.specs.declared.past.Past.{Past}
 use Rattle.kn_cell.specs.Lists.{Each, StartsWith}
 use Rattle.kn_cell.specs.History.{live_of, trace_after}
-use Rattle.kn_cell.specs.Shown.{PassView, Looks}
+use Rattle.kn_cell.specs.Shown.{PassView, Looks, left_in}
 use Rattle.kn_io.specs.Links.{Link, Tells}
 use Rattle.kn_io.specs.declared.records.Probe.{Probe}
 use Rattle.kn_request.specs.declared.ticks.Turn.{Turn}
@@ -26,7 +26,14 @@ pub record WasFull (old new : PassView) : Type 0 where
   pub front : List Past
   pub early : StartsWith new.seen front
   pub late : StartsWith front old.seen
-  pub none_left : (c : Trace) → StandsFor old.opening c → old.room - length front - live_of (trace_after old.opening.spec c front) < 1
+  -- how many of these rows had been taken out: none of a cell that keeps them all
+  pub gone : ℕ
+  pub since : old.gone ≤ gone
+  pub until : gone ≤ new.gone
+  pub most : gone ≤ length front
+  pub plain : old.lasting ≡ false → gone ≡ 0
+  pub none_left : (c : Trace) → StandsFor old.opening c
+      → left_in (record old { gone = gone }) front (live_of (trace_after old.opening.spec c front)) < 1
 
 -- the pod was starting, after something that was seen in the call
 pub record WasStarting (old new : PassView) (pod : ℕ) : Type 0 where

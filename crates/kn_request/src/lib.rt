@@ -1,7 +1,6 @@
 //! What one request of a client comes to at the cell, and the ticker.
 #![tactic(auto)]
 
-mod forms;
 mod laws;
 mod meant;
 mod one;

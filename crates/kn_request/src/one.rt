@@ -1,20 +1,17 @@
 //! One request: a connection is met, its head is read, and it is answered.
 ghost use Rattle.std.specs.Prelude.{◌≡◌, ◌≢◌, ◌≤◌, ◌⊎◌, ◌^◌, [], None, MatchBool};
 ghost use Rattle.kn_cell.specs.Shown.{Looks};
-ghost use Rattle.kn_io.specs.Causes.{Rose};
 ghost use Rattle.kn_head.specs.Answers.{answer_for};
-ghost use Rattle.kn_head.specs.declared.head.Head.{Head as HeadValue};
-ghost use Rattle.kn_request.specs.Answers.{AreForms, IsFor};
+ghost use Rattle.kn_request.specs.Answers.{IsFor};
 ghost use Rattle.kn_request.specs.Outside.{said};
 ghost use Rattle.kn_request.specs.One.{text_of, served_by, Writes, Refuses, IsUnread, ServesRead, ServesMet, ServesOne, CallerCause, HasCauses};
 
-use crate::forms::Forms;
 use crate::meant::Meant;
 use crate::serve::serve_event;
 use crate::slot::{Served, Slot};
 use kn_cell::{Pass, RevisionCell};
 use kn_event::Spec;
-use kn_head::{Answer, Head, HeadError, answer_bytes, read_head};
+use kn_head::{Answer, Forward, Head, HeadError, read_head};
 use kn_io::{Caller, Clock, Gate, PodLink, caller_laws, put_all};
 use std::alloc::Global;
 use std::sync::Wait;
@@ -30,43 +27,27 @@ fn put<C: Caller>(caller: &mut C, bytes: &[u8], served: Served) -> Served
     }
 }
 
+/// Refuses a request.
+pub fn refuse<C: Caller>(caller: &mut C, answer: Answer) -> Served
+    ensures refuses { Refuses (said (C.Sink.kept caller.old) (C.Sink.held caller.old)) (said (C.Sink.kept caller.new) (C.Sink.held caller.new)) answer result }
+    ensures cause { CallerCause (C.Faulty.faults caller.old) (C.Faulty.faults caller.new) (Served.Refused answer) result }
+{
+    put(caller, answer.bytes(), Served::Refused(answer))
+}
+
 /// Answers what is meant.
-fn answer<C: Caller>(caller: &mut C, forms: &Forms, meant: Meant) -> Served
-    ensures writes { (head : HeadValue) → AreForms head forms.now → Writes (said (C.Sink.kept caller.old) (C.Sink.held caller.old)) (said (C.Sink.kept caller.new) (C.Sink.held caller.new)) result (served_by meant) (text_of meant) }
+fn answer<C: Caller>(caller: &mut C, meant: Meant) -> Served
+    ensures writes { Writes (said (C.Sink.kept caller.old) (C.Sink.held caller.old)) (said (C.Sink.kept caller.new) (C.Sink.held caller.new)) result (served_by meant) (text_of meant) }
     ensures cause { CallerCause (C.Faulty.faults caller.old) (C.Faulty.faults caller.new) (served_by meant) result }
 {
     match meant {
         Meant::Reply(text) => put(caller, text.bytes(), Served::Replied),
-        Meant::QueueFull => put(
-            caller,
-            forms.queue_full.bytes(),
-            Served::Refused(Answer::QueueFull),
-        ),
-        Meant::Overload => put(
-            caller,
-            forms.overload.bytes(),
-            Served::Refused(Answer::Overload),
-        ),
-        Meant::Expired => put(
-            caller,
-            forms.expired.bytes(),
-            Served::Refused(Answer::Expired),
-        ),
-        Meant::LinkFault => put(caller, forms.link_failed.bytes(), Served::LinkFault),
-        Meant::Full(full) => put(caller, forms.history_full.bytes(), Served::Full(full)),
+        Meant::QueueFull => refuse(caller, Answer::QueueFull),
+        Meant::Overload => refuse(caller, Answer::Overload),
+        Meant::Expired => refuse(caller, Answer::Expired),
+        Meant::LinkFault => put(caller, Answer::LinkFailed.bytes(), Served::LinkFault),
+        Meant::Full(full) => put(caller, Answer::HistoryFull.bytes(), Served::Full(full)),
         Meant::Memory => Served::Memory,
-    }
-}
-
-/// Refuses a request of which no event is made.
-pub fn refuse<C: Caller>(alloc: Global, caller: &mut C, answer: Answer) -> Served
-    ensures refuses { Refuses (said (C.Sink.kept caller.old) (C.Sink.held caller.old)) (said (C.Sink.kept caller.new) (C.Sink.held caller.new)) answer result }
-    ensures never_falls { C.Faulty.faults caller.old ≤ C.Faulty.faults caller.new }
-    ensures cause { result ≡ Served.CallerFault → Rose (C.Faulty.faults caller.old) (C.Faulty.faults caller.new) }
-{
-    match answer_bytes(alloc, answer) {
-        Ok(text) => put(caller, text.bytes(), Served::Refused(answer)),
-        Err(_) => Served::Memory,
     }
 }
 
@@ -104,7 +85,7 @@ pub fn serve_read<R: Wait, C: Caller, L: PodLink, K: Clock, G: Gate>(
     ensures serves { ServesRead (K.reading clock.now) spec.now.timeout_ms tag head.now pass.old pass.new (L.told link.old) (L.told link.new) (said (C.Sink.kept caller.old) (C.Sink.held caller.old)) (said (C.Sink.kept caller.new) (C.Sink.held caller.new)) result }
     ensures causes { HasCauses (C.Faulty.faults caller.old) (C.Faulty.faults caller.new) (L.Faulty.faults link.old) (L.Faulty.faults link.new) result }
 {
-    let Ok(forms) = Forms::new(alloc, head) else {
+    let Ok(room) = Forward::reserve(alloc, head) else {
         return Served::Memory;
     };
     let meant = serve_event(
@@ -114,12 +95,13 @@ pub fn serve_read<R: Wait, C: Caller, L: PodLink, K: Clock, G: Gate>(
         pass,
         timeout(spec),
         link,
-        &forms,
+        head,
+        room,
         tag,
         clock,
         gate,
     );
-    answer(caller, &forms, meant)
+    answer(caller, meant)
 }
 
 /// How a head is answered that was not read, and of which nothing is written.
@@ -158,10 +140,10 @@ fn serve_met<R: Wait, C: Caller, L: PodLink, K: Clock, G: Gate>(
             true => serve_read(
                 rt, alloc, cell, pass, spec, caller, link, &head, tag, clock, gate,
             ),
-            false => refuse(alloc, caller, Answer::NoSuchRevision),
+            false => refuse(caller, Answer::NoSuchRevision),
         },
         Err(error) => match error.answer() {
-            Some(answer) => refuse(alloc, caller, answer),
+            Some(answer) => refuse(caller, answer),
             None => fault_of(error),
         },
     }

@@ -1,44 +1,21 @@
 //! A request runs: its pod is called, and it is finished.
-ghost use Rattle.std.specs.Prelude.{◌≡◌, ◌≤◌, ◌++◌, List, Err, is_ok};
-ghost use Rattle.kn_event.specs.declared.event.Stand.TheVariants as stand;
+ghost use Rattle.std.specs.Prelude.{◌≡◌, ◌≤◌, ◌++◌, Bool, List, length, Err, is_ok};
 ghost use Rattle.kn_trace.specs.Trace.{Trace};
 ghost use Rattle.kn_core.specs.State.{StandsFor};
 ghost use Rattle.kn_cell.specs.declared.past.Past.{Past};
 ghost use Rattle.kn_cell.specs.Shown.{Looks};
 ghost use Rattle.kn_io.specs.Causes.{Rose};
-ghost use Rattle.kn_io.specs.Links.{Tells, called};
-ghost use Rattle.kn_head.specs.declared.head.Head.{Head as HeadValue};
 ghost use Rattle.kn_head.specs.Forwarding.{forwarded};
-ghost use Rattle.kn_request.specs.Answers.{AreForms};
-ghost use Rattle.kn_request.specs.Sight.{StandsAt, IsRunning, IsAlone, IsOwn};
+ghost use Rattle.kn_request.specs.Sight.{IsRunning, IsAlone, IsOwn, RunsAt};
 ghost use Rattle.kn_request.specs.Requests.{AreFinishes, IsFinished, CallsPod, Finishes};
 
-use crate::forms::Forms;
 use crate::laws::server_laws;
-use kn_cell::{Pass, RevisionCell};
+use kn_cell::{Pass, RevisionCell, Run};
 use kn_event::{Act, Text};
+use kn_head::{Forward, Head};
 use kn_io::{Clock, LinkError, PodLink};
 use std::alloc::Global;
 use std::sync::Wait;
-
-/// Calls the pod, in one of the two forms.
-fn call_pod<L: PodLink>(
-    alloc: Global,
-    link: &mut L,
-    pod: u64,
-    forms: &Forms,
-    proxied: bool,
-) -> Result<Text, LinkError>
-    ensures calls { (head : HeadValue) → AreForms head forms.now → Tells (L.told link.old) (L.told link.new) (λ wire. called wire pod (forwarded head proxied) result) }
-    ensures never_falls { L.Faulty.faults link.old ≤ L.Faulty.faults link.new }
-    ensures cause { result ≡ Err LinkError.Failed → Rose (L.Faulty.faults link.old) (L.Faulty.faults link.new) }
-{
-    if proxied {
-        link.call(alloc, pod, forms.proxied.bytes())
-    } else {
-        link.call(alloc, pod, forms.direct.bytes())
-    }
-}
 
 /// Finishes the request. Where nobody else ended it, this is recorded, and is how it ended.
 fn finish<R: Wait, K: Clock>(
@@ -63,30 +40,32 @@ fn finish<R: Wait, K: Clock>(
     }
 }
 
-/// Calls the pod where the request runs, and finishes the request by what came.
+/// Calls the pod where the request runs, with the form of its way there, and finishes the request by what came.
 pub fn run_at<R: Wait, L: PodLink, K: Clock>(
     rt: &R,
     alloc: Global,
     cell: &RevisionCell,
     pass: &mut Pass,
     r: u64,
-    pod: u64,
+    run: Run,
     link: &mut L,
-    forms: &Forms,
+    head: &Head,
+    room: Forward,
     clock: &K,
 ) -> Result<Text, LinkError>
     requires cell { pass.old.cell ≡ cell.now }
     requires own { IsOwn pass.old }
-    requires runs { StandsAt pass.old r (stand.Running pod) }
+    requires runs { RunsAt pass.old r run }
+    requires room { (proxied : Bool) → length (forwarded head.now proxied) ≤ room }
     ensures looks { Looks pass.old pass.new }
-    ensures call { (head : HeadValue) → AreForms head forms.now → CallsPod head (L.told link.old) (L.told link.new) pass.new r result }
+    ensures call { CallsPod head.now (L.told link.old) (L.told link.new) pass.new r result }
     ensures never_falls { L.Faulty.faults link.old ≤ L.Faulty.faults link.new }
     ensures cause { result ≡ Err LinkError.Failed → Rose (L.Faulty.faults link.old) (L.Faulty.faults link.new) }
     ensures finish { Finishes (K.reading clock.now) r (is_ok result) pass.old pass.new }
 {
     server_laws();
-    let proxied = cell.proxied(rt, pass, r);
-    let reply = call_pod(alloc, link, pod, forms, proxied);
+    let text = room.fill(head, run.proxied);
+    let reply = link.call(alloc, run.address, text.bytes());
     let ok = reply.is_ok();
     finish(rt, cell, pass, r, ok, clock);
     reply

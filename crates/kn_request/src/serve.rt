@@ -1,18 +1,18 @@
 //! One request, from its arrival to what is to be answered.
-ghost use Rattle.std.specs.Prelude.{◌≡◌, ◌≤◌, ◌+◌, ◌^◌};
+ghost use Rattle.std.specs.Prelude.{◌≡◌, ◌≢◌, ◌⊎◌, ◌≤◌, ◌^◌, Bool, length, None, MatchResult};
+ghost use Rattle.kn_sizes.specs.Told.{arrival_told};
 ghost use Rattle.kn_cell.specs.Shown.{Looks};
-ghost use Rattle.kn_head.specs.declared.head.Head.{Head as HeadValue};
-ghost use Rattle.kn_request.specs.Answers.{AreForms};
-ghost use Rattle.kn_request.specs.Sight.{IsKnown, IsOwn};
-ghost use Rattle.kn_request.specs.Served.{IsCourse, IsServed, MeantCause};
+ghost use Rattle.kn_head.specs.Forwarding.{forwarded};
+ghost use Rattle.kn_request.specs.Sight.{HasCourse, IsKnown, IsOwn};
+ghost use Rattle.kn_request.specs.Served.{IsCourse, IsServed, IsTakenIn, IsTurnedAway, MeantCause};
 
-use crate::forms::Forms;
 use crate::laws::server_laws;
 use crate::meant::Meant;
 use crate::run::run_at;
 use crate::wait::leave_queue;
-use kn_cell::{Pass, RevisionCell};
-use kn_event::{Act, Told};
+use kn_cell::{Course, Pass, RevisionCell};
+use kn_event::Told;
+use kn_head::{Forward, Head};
 use kn_io::{Clock, Gate, LinkError, PodLink};
 use std::alloc::Global;
 use std::sync::Wait;
@@ -24,21 +24,26 @@ fn serve_request<R: Wait, L: PodLink, K: Clock>(
     cell: &RevisionCell,
     pass: &mut Pass,
     r: u64,
+    course: Course,
     due: u64,
     link: &mut L,
-    forms: &Forms,
+    head: &Head,
+    room: Forward,
     clock: &K,
 ) -> Meant
     requires cell { pass.old.cell ≡ cell.now }
     requires own { IsOwn pass.old }
     requires known { IsKnown pass.old r }
-    ensures looks { Looks pass.old pass.new }
-    ensures course { (head : HeadValue) → AreForms head forms.now → IsCourse (K.reading clock.now) due head r pass.old pass.new (L.told link.old) (L.told link.new) result }
+    requires course { HasCourse pass.old r course }
+    requires room { (proxied : Bool) → length (forwarded head.now proxied) ≤ room }
+    ensures looks { (pass.new ≡ pass.old) ⊎ Looks pass.old pass.new }
+    ensures course { IsCourse (K.reading clock.now) due head.now r pass.old pass.new (L.told link.old) (L.told link.new)
+        result }
     ensures cause { MeantCause (L.Faulty.faults link.old) (L.Faulty.faults link.new) result }
 {
-    match leave_queue(rt, cell, pass, r, due, clock) {
+    match leave_queue(rt, cell, pass, r, course, due, clock) {
         None => Meant::Expired,
-        Some(pod) => match run_at(rt, alloc, cell, pass, r, pod, link, forms, clock) {
+        Some(run) => match run_at(rt, alloc, cell, pass, r, run, link, head, room, clock) {
             Ok(text) => Meant::Reply(text),
             Err(error) => match error {
                 LinkError::Failed => Meant::LinkFault,
@@ -48,7 +53,22 @@ fn serve_request<R: Wait, L: PodLink, K: Clock>(
     }
 }
 
-/// Records the arrival of a request, and serves it.
+/// The request that an arrival was told, where it was taken in, or what is meant where it was not.
+fn taken_in(told: Told) -> Result<u64, Meant>
+    requires { arrival_told told ≢ None }
+    ensures { MatchResult result (λ r. IsTakenIn told r) (λ m. IsTurnedAway told m) }
+{
+    match told {
+        Told::Run(r, _) => Ok(r),
+        Told::AtPod(r, _) => Ok(r),
+        Told::Held(r) => Ok(r),
+        Told::QueueFull(_) => Err(Meant::QueueFull),
+        Told::Overload(_) => Err(Meant::Overload),
+        _ => unreachable!(),
+    }
+}
+
+/// Records the arrival of a request, and serves it. There is room for it as it may be sent on.
 pub fn serve_event<R: Wait, L: PodLink, K: Clock, G: Gate>(
     rt: &R,
     alloc: Global,
@@ -56,31 +76,32 @@ pub fn serve_event<R: Wait, L: PodLink, K: Clock, G: Gate>(
     pass: &mut Pass,
     timeout: u64,
     link: &mut L,
-    forms: &Forms,
+    head: &Head,
+    room: Forward,
     tag: u64,
     clock: &K,
     gate: &G,
 ) -> Meant
     requires cell { pass.old.cell ≡ cell.now }
     requires timeout { timeout ≤ 2 ^ 42 }
+    requires room { (proxied : Bool) → length (forwarded head.now proxied) ≤ room }
     ensures looks { Looks pass.old pass.new }
-    ensures served { (head : HeadValue) → AreForms head forms.now → IsServed (K.reading clock.now) timeout tag head pass.old pass.new (L.told link.old) (L.told link.new) result }
+    ensures served { IsServed (K.reading clock.now) timeout tag head.now pass.old pass.new
+        (L.told link.old) (L.told link.new) result }
     ensures cause { MeantCause (L.Faulty.faults link.old) (L.Faulty.faults link.new) result }
 {
     server_laws();
     let at = clock.now_ms();
-    let told = cell.on(rt, pass, Act::Arrive(tag), at);
+    let arrived = cell.arrive(rt, pass, tag, at);
     gate.pass(tag);
     let due = at.min(1 << 42) + timeout;
-    match told {
+    match arrived {
         Err(full) => Meant::Full(full),
-        Ok(told) => match told {
-            Told::Run(r, _) => serve_request(rt, alloc, cell, pass, r, due, link, forms, clock),
-            Told::AtPod(r, _) => serve_request(rt, alloc, cell, pass, r, due, link, forms, clock),
-            Told::Held(r) => serve_request(rt, alloc, cell, pass, r, due, link, forms, clock),
-            Told::QueueFull(_) => Meant::QueueFull,
-            Told::Overload(_) => Meant::Overload,
-            _ => unreachable!(),
+        Ok(arrival) => match taken_in(arrival.0) {
+            Err(meant) => meant,
+            Ok(r) => serve_request(
+                rt, alloc, cell, pass, r, arrival.1, due, link, head, room, clock,
+            ),
         },
     }
 }

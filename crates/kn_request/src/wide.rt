@@ -108,13 +108,13 @@ fn serve_named<R: Wait, C: Caller, L: PodLink, K: Clock, G: Gate>(
             }
             None => Ended {
                 revision: None,
-                served: refuse(alloc, caller, Answer::NoSuchRevision),
+                served: refuse(caller, Answer::NoSuchRevision),
             },
         },
         Err(error) => match error.answer() {
             Some(answer) => Ended {
                 revision: None,
-                served: refuse(alloc, caller, answer),
+                served: refuse(caller, answer),
             },
             None => Ended {
                 revision: None,

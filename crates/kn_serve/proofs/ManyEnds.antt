@@ -12,7 +12,7 @@ use Rattle.kn_request.specs.Wide.{faults_in, memories_in}
 use Rattle.kn_session.specs.Lists.{EachIs}
 use Rattle.kn_session.specs.Wide.{at_flag}
 use Rattle.kn_serve.specs.Ending.{has_fault, has_want, status_by}
-use Rattle.kn_serve.specs.Many.{any_fault, any_want, status_after_all}
+use Rattle.kn_serve.specs.Many.{one_failed, one_wanted, status_after_all}
 use Rattle.kn_serve.specs.Running.{Session}
 use Rattle.kn_serve.proofs.ManyFacts.{AreAsMany, IsSessionAt, session_at, sessions, sessions-many}
 use Rattle.kn_serve.proofs.Slots.{list_any-map}
@@ -93,11 +93,11 @@ any_by {A} p q k (t ∷ ts) same =
     ap₂ (λ (a b : Bool). a || b) first more
 
 -- a slot's works have a fault where one of the sessions has one of the slot
-fault_same : {C L : Type 0} (xs : List Session) (t : WideSlot C L) (i : ℕ) → map (λ (y : Session). at_flag y.faults i) xs ≡ faults_in t.works.items → has_fault t ≡ any_fault xs i
+fault_same : {C L : Type 0} (xs : List Session) (t : WideSlot C L) (i : ℕ) → map (λ (y : Session). at_flag y.faults i) xs ≡ faults_in t.works.items → has_fault t ≡ one_failed xs i
 fault_same xs t i same =
     sym (list_any-map (λ b. b) (λ w. w.fault) t.works.items) ∙ ap (list_any (λ b. b)) (sym same) ∙ list_any-map (λ b. b) (λ (y : Session). at_flag y.faults i) xs
 
-want_same : {C L : Type 0} (xs : List Session) (t : WideSlot C L) (i : ℕ) → map (λ (y : Session). at_flag y.wants i) xs ≡ memories_in t.works.items → has_want t ≡ any_want xs i
+want_same : {C L : Type 0} (xs : List Session) (t : WideSlot C L) (i : ℕ) → map (λ (y : Session). at_flag y.wants i) xs ≡ memories_in t.works.items → has_want t ≡ one_wanted xs i
 want_same xs t i same =
     sym (list_any-map (λ b. b) (λ w. w.memory) t.works.items) ∙ ap (list_any (λ b. b)) (sym same) ∙ list_any-map (λ b. b) (λ (y : Session). at_flag y.wants i) xs
 
@@ -108,7 +108,7 @@ status_is {C} {L} start ts ss bs hs count m some long many =
     let xs = sessions_of start ts ss bs hs in
     let none : (i : ℕ) → 0 + i ≡ i = λ i. omega arith in
     let flags : (i : ℕ) (d : WideSlot C L) → i < length ts → _ = λ i d low. flags_at start ts ss bs hs i d m some low (many i d low) in
-    let places = position_by has_fault (any_fault xs) 0 ts (λ i d low. fault_same xs (slice_index_or ts i d) i (flags i d low).0 ∙ ap (any_fault xs) (sym (none i))) in
-    let wants = any_by has_want (any_want xs) 0 ts (λ i d low. want_same xs (slice_index_or ts i d) i (flags i d low).1 ∙ ap (any_want xs) (sym (none i))) in
-    let first : position has_fault ts ≡ position (any_fault xs) (range_with_len 0 (length ts)) = rw (places, length-range_with_len 0 (length ts)) refl in
+    let places = position_by has_fault (one_failed xs) 0 ts (λ i d low. fault_same xs (slice_index_or ts i d) i (flags i d low).0 ∙ ap (one_failed xs) (sym (none i))) in
+    let wants = any_by has_want (one_wanted xs) 0 ts (λ i d low. want_same xs (slice_index_or ts i d) i (flags i d low).1 ∙ ap (one_wanted xs) (sym (none i))) in
+    let first : position has_fault ts ≡ position (one_failed xs) (range_with_len 0 (length ts)) = rw (places, length-range_with_len 0 (length ts)) refl in
     ap₂ status_by first wants ∙ ap (λ (n : ℕ). status_after_all n xs) long

@@ -1,6 +1,7 @@
 -- A session over several revisions, from what its calls say.
 use Rattle.std.proofs.Common.{◌≡◌, ◌<◌, ◌≤◌, ◌+◌, ◌∙◌, ◌^◌, ℕ, Bool, List, [], ◌∷◌, length, map, get_or, refl, sym, ap, subst, arith}
-use Rattle.std.specs.Prelude.{All, None, Option, Some, Err, false, slice_index_or, suc, zero}
+use Rattle.std.specs.Prelude.{All, None, Option, Some, Err, false, slice_index_or, suc, zero, Vec}
+use Rattle.std.specs.Global.{Global}
 use Rattle.std.specs.List.{list_any, position}
 use Rattle.std.proofs.lemmas.List.{get_or-map, length-map}
 use Rattle.kn_event.specs.declared.revision.Spec.{Spec}
@@ -18,10 +19,10 @@ use Rattle.kn_print.specs.Printed.{HasSmall}
 use Rattle.kn_request.specs.declared.slot.WideSlot.{WideSlot}
 use Rattle.kn_request.specs.Wide.{at_count, at_wire, faults_in, memories_in}
 use Rattle.kn_session.specs.Lists.{EachDone, EachIs}
-use Rattle.kn_session.specs.Session.{IsFine}
-use Rattle.kn_session.specs.Wide.{IsOneHistory, IsTicked, WideSides, WideSlotServed, at_flag, at_history}
+use Rattle.kn_session.specs.Session.{IsFine, IsOneHistory, IsTicked}
+use Rattle.kn_session.specs.Wide.{AreFine, AreHistories, WideSides, WideSlotServed, at_flag, at_history}
 use Rattle.kn_serve.specs.Ending.{AreAllCleared}
-use Rattle.kn_serve.specs.Many.{AreTicked, IsOpenedAt, IsReadyFor, IsSlotOf}
+use Rattle.kn_serve.specs.Many.{AreOpenedAt, AreTicked, IsOpenedAt, IsReadyFor, IsSlotOf}
 use Rattle.kn_serve.specs.Running.{IsSession, IsStart, Session, journal_of, status_after}
 use Rattle.kn_serve.specs.Setups.{SaysSetups}
 use Rattle.kn_serve.proofs.FineFacts.{no_one_if, no_place, ok_by}
@@ -40,7 +41,7 @@ pub record Ran {C L : Type 0} (reading : ℕ → Type 0) (slots start : ℕ) (ss
   pub kept : AreSetups ss
   pub many : AreAsMany ss bs hs
   pub some : 1 ≤ length ss
-  pub opened : (v : ℕ) (b : RevisionState) (s : Setup) → v < length ss → IsOpenedAt (slice_index_or ss v s).spec start (slice_index_or bs v b)
+  pub opened : AreOpenedAt ss start bs
   pub histories : (v : ℕ) (b : RevisionState) → v < length ss → IsOneHistory slots (slice_index_or bs v b) (at_history hs v)
   pub fine : (v : ℕ) → v < length ss → EachIs (λ (t : WideSlot C L). (at_flag (faults_in t.works.items) v ≡ false) × (at_flag (memories_in t.works.items) v ≡ false)) ts → Each IsFine (at_history hs v)
   pub long : length ts ≡ slots
@@ -90,7 +91,7 @@ each_session {C} {L} reading slots start ss bs hs ts ran v d low =
     let wants : x.wants ≡ wants_of ts v = at.wants ∙ ap W here in
     let opened = opened_there start F W v ss bs hs x at (λ b s. ran.opened v b s low') in
     let one = history_there slots start F W v ss bs hs x at (λ b. ran.histories v b low') in
-    is_session reading slots x (subst (IsStart reading) (sym at.begins) ran.begins) opened.stands opened.spec_is opened.clock one.legal one.bounds one.rows one.alone one.lawful one.settled
+    is_session reading slots x (subst (IsStart reading) (sym at.begins) ran.begins) opened.stands opened.spec_is opened.clock one
     (ap length faults ∙ length-map ts (λ (t : WideSlot C L). at_flag (faults_in t.works.items) v) ∙ ran.long)
     (ap length wants ∙ length-map ts (λ (t : WideSlot C L). at_flag (memories_in t.works.items) v) ∙ ran.long)
     (λ ok. subst (Each IsFine) (at.history []) (ran.fine v low' (no_flags ts v x faults wants ok)))
@@ -200,37 +201,31 @@ slots_served {C} {L} reading slots room rounds start specs ss bs hs side os ts u
     clear
 
 -- the calls that read, open and serve: the specifications, and the setups as two calls were lent them
-pub ran_of : {C L : Type 0} (reading : ℕ → Type 0) (slots start : ℕ) (ss lent lent' : List Setup) (specs : List Spec) (bs : List RevisionState) (hs : List (List Past)) (os ts : List (WideSlot C L))
+pub ran_of : {C L : Type 0} (reading : ℕ → Type 0) (slots start : ℕ) (ss lent lent' : List Setup) (specs : List Spec) (bs : List RevisionState) (hs : Vec (List Past) Global) (os ts : List (WideSlot C L))
     → IsStart reading start → start ≤ 2 ^ 42 → AreSetups ss → 1 ≤ length ss → lent ≡ ss → lent' ≡ ss → specs ≡ map (λ (s : Setup). s.spec) lent → length bs ≡ length lent'
-    → ((v : ℕ) (b : RevisionState) (s : Setup) → v < length lent' → IsOpenedAt (slice_index_or lent' v s).spec start (slice_index_or bs v b))
-    → length hs ≡ length specs
-    → ((v : ℕ) (b : RevisionState) → v < length specs → IsOneHistory slots (slice_index_or bs v b) (at_history hs v))
-    → ((v : ℕ) → v < length specs → EachIs (λ (t : WideSlot C L). (at_flag (faults_in t.works.items) v ≡ false) × (at_flag (memories_in t.works.items) v ≡ false)) ts → Each IsFine (at_history hs v))
+    → AreOpenedAt lent' start bs
+    → AreHistories slots bs hs
+    → AreFine (length specs) ts hs
     → length os ≡ slots → EachIs (IsReadyFor (length ss)) os → EachDone (λ i s t. (length t.links.items ≡ length s.links.items) × (length t.works.items ≡ length s.works.items)) os ts
-    → Ran reading slots start ss bs hs ts
-ran_of {C} {L} reading slots start ss lent lent' specs bs hs os ts begins early kept some same same' of opened_many opened hs_many histories fine long ready did =
+    → Ran reading slots start ss bs hs.items ts
+ran_of {C} {L} reading slots start ss lent lent' specs bs hs os ts begins early kept some same same' of opened_many opened histories fine long ready did =
     let count : length specs ≡ length ss = ap length of ∙ length-map lent (λ (s : Setup). s.spec) ∙ ap length same in
     let count' : length lent' ≡ length ss = ap length same' in
     record {
       begins = begins;
       early = early;
       kept = kept;
-      many = record { revisions = opened_many ∙ count'; histories = hs_many ∙ count };
+      many = record { revisions = opened_many ∙ count'; histories = histories.many ∙ (opened_many ∙ count') };
       some = some;
-      opened = λ v b s low. subst (λ (zs : List Setup). IsOpenedAt (slice_index_or zs v s).spec start (slice_index_or bs v b)) same' (opened v b s (omega (arith, low, count')));
-      histories = λ v b low. histories v b (omega (arith, low, count));
+      opened = subst (λ (zs : List Setup). AreOpenedAt zs start bs) same' opened;
+      histories = λ v b low. histories.each v b (omega (arith, low, opened_many, count'));
       fine = λ v low. fine v (omega (arith, low, count));
       long = did.0 ∙ long;
       works = works_many (length ss) os ts ready did;
     }
 
 -- a revision that was opened has no live request
-pub opened_dead : (start : ℕ) (ss lent lent' : List Setup) (specs : List Spec) (bs : List RevisionState) → lent ≡ ss → lent' ≡ ss → specs ≡ map (λ (s : Setup). s.spec) lent
-    → ((v : ℕ) (b : RevisionState) (s : Setup) → v < length lent' → IsOpenedAt (slice_index_or lent' v s).spec start (slice_index_or bs v b))
-    → (v : ℕ) (b : RevisionState) → v < length specs → (s : Setup) × IsOpenedAt s.spec start (slice_index_or bs v b)
-opened_dead start ss lent lent' specs bs same same' of opened v b low =
-    let count : length specs ≡ length ss = ap length of ∙ length-map lent (λ (s : Setup). s.spec) ∙ ap length same in
-    let count' : length lent' ≡ length ss = ap length same' in
-    let low' : v < length lent' = omega (arith, low, count, count') in
-    let some : 1 ≤ length lent' = omega (arith, low') in
-    some_of lent' some (λ s. (slice_index_or lent' v s, opened v b s low'))
+pub opened_dead : (start : ℕ) (ss lent : List Setup) (bs : List RevisionState) → lent ≡ ss → AreOpenedAt lent start bs → (v : ℕ) (b : RevisionState) → v < length lent → (s : Setup) × IsOpenedAt s.spec start (slice_index_or bs v b)
+opened_dead start ss lent bs same opened v b low =
+    let some : 1 ≤ length lent = omega (arith, low) in
+    some_of lent some (λ s. (slice_index_or lent v s, opened v b s low))

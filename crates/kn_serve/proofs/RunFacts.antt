@@ -9,14 +9,13 @@ use Rattle.kn_trace.specs.Laws.{IsLawful, IsSettled}
 use Rattle.kn_core.specs.State.{RevisionState, StandsFor}
 use Rattle.kn_cell.specs.declared.past.Past.{Past}
 use Rattle.kn_cell.specs.Lists.{Each}
-use Rattle.kn_cell.specs.History.{IsInBounds, IsLegal, IsLegalFrom, rows_by, trace_after}
+use Rattle.kn_cell.specs.History.{IsLegal, IsLegalFrom, trace_after}
 use Rattle.kn_journal.specs.declared.journal.Journal.{Journal}
 use Rattle.kn_journal.specs.Journal.{IsJournal, IsSetup, good, journal_text, verdict}
 use Rattle.kn_request.specs.declared.slot.Slot.{Slot}
-use Rattle.kn_session.specs.Lists.{EachDone, EachIs, HasOne}
-use Rattle.kn_session.specs.Own.{IsAloneIn, IsArrivalOf}
+use Rattle.kn_session.specs.Lists.{EachDone, EachIs}
 use Rattle.kn_session.specs.Rounds.{Sides}
-use Rattle.kn_session.specs.Session.{IsFine, IsRowOf}
+use Rattle.kn_session.specs.Session.{IsFine, IsOneHistory}
 use Rattle.kn_serve.specs.Ending.{AreCleared, status_by}
 use Rattle.kn_serve.specs.Opening.{IsEmptyWork}
 use Rattle.kn_journal.specs.declared.status.Status.TheVariants as status
@@ -40,26 +39,23 @@ of_journal P x stands spec h =
     subst (λ (s : Spec). P s (trace_after s (opening x.setup.spec x.start) x.history)) spec (h (opening x.setup.spec x.start) stands)
 
 pub is_session : (reading : ℕ → Type 0) (count : ℕ) (x : Session) → IsStart reading x.start → StandsFor x.opened (opening x.setup.spec x.start) → x.opened.spec ≡ x.setup.spec → x.opened.clock ≡ x.start
-    → IsLegal x.opened x.history → Each (λ r. IsInBounds r.event) x.history → Each (IsRowOf count) x.history
-    → ((n i : ℕ) → HasOne (IsArrivalOf i) (rows_by n x.history) → IsAloneIn x.history n i)
-    → ((c : Trace) → StandsFor x.opened c → IsLawful x.opened.spec (trace_after x.opened.spec c x.history))
-    → ((c : Trace) → StandsFor x.opened c → IsSettled x.opened.spec (trace_after x.opened.spec c x.history))
+    → IsOneHistory count x.opened x.history
     → length x.faults ≡ count → length x.wants ≡ count → (status_after x ≡ status.Ok → Each IsFine x.history)
     → IsSession reading count x
-is_session reading count x begins opens spec clock legal bounds rows alone lawful settled faults wants fine =
+is_session reading count x begins opens spec clock one faults wants fine =
     let same = trace_after-opening x.setup.spec x.start x.history in
     record {
       begins = begins;
       opens = opens;
       spec = spec;
       clock = clock;
-      legal = legal;
-      bounds = bounds;
-      rows = rows;
-      alone = alone;
-      lawful = subst (IsLawful x.setup.spec) same (of_journal IsLawful x opens spec lawful);
-      settled = subst (IsSettled x.setup.spec) same (of_journal IsSettled x opens spec settled);
-      answers = tolds-legal x.setup.spec x.start (opening x.setup.spec x.start) x.history (legal_from x.opened x.setup.spec x.start x.history opens spec clock legal);
+      legal = one.legal;
+      bounds = one.bounds;
+      rows = one.rows;
+      alone = one.alone;
+      lawful = subst (IsLawful x.setup.spec) same (of_journal IsLawful x opens spec one.lawful);
+      settled = subst (IsSettled x.setup.spec) same (of_journal IsSettled x opens spec one.settled);
+      answers = tolds-legal x.setup.spec x.start (opening x.setup.spec x.start) x.history (legal_from x.opened x.setup.spec x.start x.history opens spec clock one.legal);
       faults = faults;
       wants = wants;
       fine = fine;

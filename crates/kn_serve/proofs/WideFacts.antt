@@ -8,9 +8,10 @@ use Rattle.kn_plan.specs.declared.wide_plan.WidePlan.{WidePlan}
 use Rattle.kn_plan.specs.Plan.{AsksForMany, is_comma, is_semicolon}
 use Rattle.kn_request.specs.declared.slot.WideSlot.{WideSlot}
 use Rattle.kn_session.specs.Lists.{EachIs}
+use Rattle.kn_session.specs.Wide.{HasOfEach}
 use Rattle.kn_serve.specs.Many.{IsInWideRange, IsReadyFor}
 use Rattle.kn_serve.specs.Opening.{IsEmptyWork}
-use Rattle.kn_serve.specs.WideOpening.{AreOpened, HasOfEach, IsWideOffer}
+use Rattle.kn_serve.specs.WideOpening.{AreOpened, IsWideOffer}
 
 pub offered : {C L : Type 0} (F : WideSlot C L → Type 0) (K : L → Type 0) (plan : WidePlan) (ss ts : List (WideSlot C L)) (ks ls : List L) → IsWideOffer F K ss ks → ts ≡ ss → ls ≡ ks
     → length ss ≡ plan.slots → length ks ≡ length plan.pods → All (HasOfEach (length plan.pods)) ss → AreOpened F K plan ts ls

@@ -1,6 +1,6 @@
 -- How a session ends by its slots, and what is left of a slot.
-use Rattle.std.specs.Prelude.{◌≡◌, ◌<◌, ℕ, Bool, true, false, List, All, length, slice_index_or, Option, None, Some}
-use Rattle.std.specs.List.{list_any}
+use Rattle.std.specs.Prelude.{◌≡◌, ◌<◌, ℕ, Bool, true, false, List, All, length, map, slice_index_or, Option, None, Some}
+use Rattle.std.specs.List.{list_any, position}
 use Rattle.kn_journal.specs.declared.status.Status.{Status}
 use Rattle.kn_journal.specs.declared.status.Status.TheVariants as status
 use Rattle.kn_request.specs.declared.slot.Slot.{Slot}
@@ -22,6 +22,10 @@ abbrev pub status_by : Option ℕ → Bool → Status
 status_by (Some slot) want = status.SlotFault slot
 status_by None true = status.Memory
 status_by None false = status.Ok
+
+-- .. by the works of slots
+abbrev pub status_of_slots : {C L : Type 0} → List (Slot C L) → Status
+status_of_slots {C} {L} slots = status_by (position (λ b. b) (map (λ (s : Slot C L). s.work.fault) slots)) (list_any (λ b. b) (map (λ (s : Slot C L). s.work.memory) slots))
 
 -- the same of a slot over several revisions
 pub record IsAllCleared {C L : Type 0} (s t : WideSlot C L) : Type 0 where

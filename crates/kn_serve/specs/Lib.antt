@@ -1,5 +1,7 @@
+pub mod Course
 pub mod Ending
 pub mod Many
+pub mod ManyCourse
 pub mod Opening
 pub mod Running
 pub mod Setup

@@ -10,6 +10,7 @@ use Rattle.kn_cell.specs.History.{live_of}
 use Rattle.kn_io.specs.Links.{Link}
 use Rattle.kn_io.specs.Prefix.{AppendsPrefix}
 use Rattle.kn_journal.specs.declared.error.JournalError.{JournalError}
+use Rattle.kn_journal.specs.declared.journal.Setup.{Setup}
 use Rattle.kn_journal.specs.declared.status.Status.{Status}
 use Rattle.kn_journal.specs.declared.status.Status.TheVariants as status
 use Rattle.kn_journal.specs.Journal.{good, journal_text, verdict}
@@ -19,7 +20,8 @@ use Rattle.kn_replay.specs.Replaying.{status_of}
 use Rattle.kn_request.specs.declared.slot.WideSlot.{WideSlot}
 use Rattle.kn_request.specs.Wide.{at_count, at_wire}
 use Rattle.kn_session.specs.Lists.{EachIs}
-use Rattle.kn_session.specs.Wide.{IsTicked, WideSides, WideSlotServed, at_flag}
+use Rattle.kn_session.specs.Session.{IsTicked}
+use Rattle.kn_session.specs.Wide.{WideSides, WideSlotServed, at_flag}
 use Rattle.kn_serve.specs.Ending.{status_by}
 use Rattle.kn_serve.specs.Opening.{IsEmptyWork}
 use Rattle.kn_serve.specs.Running.{IsSession, Session, journal_of}
@@ -51,18 +53,23 @@ pub record IsOpenedAt (spec : Spec) (start : ℕ) (r : RevisionState) : Type 0 w
   pub events : r.events ≡ 0
   pub live : (c : Trace) → StandsFor r c → live_of c ≡ 0
 
+-- the revision of each setup
+abbrev pub AreOpenedAt : List Setup → ℕ → List RevisionState → Type 0
+AreOpenedAt setups start rs =
+    (v : ℕ) (b : RevisionState) (s : Setup) → v < length setups → IsOpenedAt (slice_index_or setups v s).spec start (slice_index_or rs v b)
+
 -- ---- the ending
 
 -- whether a round of the slot ended in a fault, of whichever revision, and whether one did in want of memory
-abbrev pub any_fault : List Session → ℕ → Bool
-any_fault xs i = list_any (λ x. at_flag x.faults i) xs
+abbrev pub one_failed : List Session → ℕ → Bool
+one_failed xs i = list_any (λ x. at_flag x.faults i) xs
 
-abbrev pub any_want : List Session → ℕ → Bool
-any_want xs i = list_any (λ x. at_flag x.wants i) xs
+abbrev pub one_wanted : List Session → ℕ → Bool
+one_wanted xs i = list_any (λ x. at_flag x.wants i) xs
 
 -- the least of so many slots with a fault, or else whether one was in want of memory
 abbrev pub status_after_all : ℕ → List Session → Status
-status_after_all slots xs = status_by (position (any_fault xs) (range_with_len 0 slots)) (list_any (any_want xs) (range_with_len 0 slots))
+status_after_all slots xs = status_by (position (one_failed xs) (range_with_len 0 slots)) (list_any (one_wanted xs) (range_with_len 0 slots))
 
 -- all journals were printed, one after the other, and the text of each reads as that journal
 pub record EndsAllWhole (held held' : Option (List ℕ)) (slots : ℕ) (xs : List Session) (result : Status) : Type 0 where

@@ -5,6 +5,7 @@ use Rattle.kn_io.specs.Links.{Link, unused}
 use Rattle.kn_request.specs.declared.slot.Slot.{Slot}
 use Rattle.kn_request.specs.declared.slot.Work.{Work}
 use Rattle.kn_request.specs.Outside.{Said}
+use Rattle.kn_session.specs.Rounds.{Sides}
 
 -- nothing is in it
 pub record IsEmptyWork (w : Work) : Type 0 where
@@ -26,6 +27,10 @@ pub record IsFresh (said : Option Said) (told : Option Link) (work : Work) : Typ
   pub link_unused : IsUnused told
   pub empty : IsEmptyWork work
 
+-- .. by what is told of the slot
+abbrev pub IsFreshBy : {C L : Type 0} → (Slot C L → Sides) → Slot C L → Type 0
+IsFreshBy at s = IsFresh (at s).said (at s).wire s.work
+
 -- as many slots as asked for, each new, and a keeper; of each slot and of the keeper this says whether it is new
 pub record IsOpened {C L : Type 0} (FreshSlot : Slot C L → Type 0) (FreshKeeper : L → Type 0) (count : ℕ) (slots : List (Slot C L)) (keeper : Option L) : Type 0 where
   pub many : length slots ≡ count
@@ -33,6 +38,10 @@ pub record IsOpened {C L : Type 0} (FreshSlot : Slot C L → Type 0) (FreshKeepe
   pub keeper_is : L
   pub there : keeper ≡ Some keeper_is
   pub keeper_new : FreshKeeper keeper_is
+
+-- .. by what is told of a slot, and of a keeper
+abbrev pub MadeNew : {C L : Type 0} → (Slot C L → Sides) → (L → Option Link) → ℕ → List (Slot C L) → Option L → Type 0
+MadeNew at told count slots keeper = IsOpened (IsFreshBy at) (λ k. IsUnused (told k)) count slots keeper
 
 -- what an opener in memory has
 pub record Offer (C L : Type 0) : Type 0 where

@@ -1,5 +1,5 @@
 -- A setup that stands alone: a first line, a setup, and then the end of the input.
-use Rattle.std.specs.Prelude.{◌≡◌, ℕ, List, [], Option, None, Some, Result, Ok, Err, ⊤}
+use Rattle.std.specs.Prelude.{◌≡◌, ◌⊎◌, ◌≤◌, ◌+◌, ℕ, List, [], Option, None, Some, Result, Ok, Err, ⊤}
 use Rattle.kn_journal.specs.declared.first.FirstLine.TheVariants.{Journal as JournalLine}
 use Rattle.kn_journal.specs.declared.error.JournalError.{JournalError}
 use Rattle.kn_journal.specs.declared.journal.Opening.{Opening}
@@ -8,7 +8,10 @@ use Rattle.kn_journal.specs.Causes.{Cause}
 use Rattle.kn_journal.specs.Journal.{nothing_part, opening_part}
 use Rattle.kn_journal.specs.Lines.{lines}
 use Rattle.kn_journal.specs.Parts.{Part, part, then_part}
+use Rattle.kn_journal.specs.Reading.{most_taken}
 use Rattle.kn_journal.specs.Telling.{Refused}
+use Rattle.kn_io.specs.Causes.{Rose}
+use Rattle.kn_session.specs.Changes.{Change, became, was}
 
 abbrev pub nothing_behind : Opening → ℕ → List (List ℕ) → Result (Part Opening) Cause
 nothing_behind opening n lines = then_part (nothing_part n lines) (λ _ n left. Ok (part opening n left))
@@ -28,6 +31,10 @@ abbrev pub SaysSetup : Option (List ℕ) → Result Setup JournalError → Type 
 SaysSetup None r = ⊤
 SaysSetup (Some xs) (Ok setup) = IsAlone (lines xs) setup
 SaysSetup (Some xs) (Err e) = Refused e (setup_alone (lines xs))
+
+-- its count of faults rose, or it gave as many bytes as are ever read
+abbrev pub HasBrokenOff : {S : Type 0} → (S → ℕ) → (S → ℕ) → Change S → Type 0
+HasBrokenOff faults given source = Rose (faults (was source)) (faults (became source)) ⊎ (given (was source) + most_taken ≤ given (became source))
 
 -- where the input was told, nothing of it is left
 abbrev pub IsReadOut : Option (List ℕ) → Option (List ℕ) → Type 0

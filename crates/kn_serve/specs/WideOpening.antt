@@ -5,6 +5,7 @@ use Rattle.kn_plan.specs.declared.wide_plan.WidePlan.{WidePlan}
 use Rattle.kn_request.specs.declared.slot.WideSlot.{WideSlot}
 use Rattle.kn_request.specs.declared.slot.Work.{Work}
 use Rattle.kn_request.specs.Outside.{Said}
+use Rattle.kn_session.specs.Wide.{HasOfEach, WideSides}
 use Rattle.kn_serve.specs.Opening.{IsEmptyWork, IsSilent, IsUnused}
 
 -- what is told of a slot's caller and of its links, and its works
@@ -13,9 +14,9 @@ pub record IsFreshWide (said : Option Said) (wires : List (Option Link)) (works 
   pub unused : All IsUnused wires
   pub empty : All IsEmptyWork works
 
--- a link and a work for each of so many revisions
-abbrev pub HasOfEach : {C L : Type 0} → ℕ → WideSlot C L → Type 0
-HasOfEach {C} {L} n s = (length s.links.items ≡ n) × (length s.works.items ≡ n)
+-- .. by what is told of the slot
+abbrev pub IsFreshWideBy : {C L : Type 0} → (WideSlot C L → WideSides) → WideSlot C L → Type 0
+IsFreshWideBy at s = IsFreshWide (at s).said (at s).wires s.works.items
 
 -- as many slots as asked for, each new, with a link and a work for each list of pods; and a new keeper for each list
 pub record AreOpened {C L : Type 0} (FreshSlot : WideSlot C L → Type 0) (FreshKeeper : L → Type 0) (plan : WidePlan) (slots : List (WideSlot C L)) (keepers : List L) : Type 0 where
@@ -24,6 +25,10 @@ pub record AreOpened {C L : Type 0} (FreshSlot : WideSlot C L → Type 0) (Fresh
   pub of_each : All (HasOfEach (length plan.pods)) slots
   pub kept : length keepers ≡ length plan.pods
   pub keepers_new : All FreshKeeper keepers
+
+-- .. by what is told of a slot, and of a keeper
+abbrev pub AllNew : {C L : Type 0} → (WideSlot C L → WideSides) → (L → Option Link) → WidePlan → List (WideSlot C L) → List L → Type 0
+AllNew at told plan slots keepers = AreOpened (IsFreshWideBy at) (λ k. IsUnused (told k)) plan slots keepers
 
 -- what an opener in memory has
 pub record WideOffer (C L : Type 0) : Type 0 where

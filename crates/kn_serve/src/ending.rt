@@ -1,15 +1,15 @@
 //! How a session ends by what became of its slots.
-ghost use Rattle.std.specs.Prelude.{◌≡◌, All, length, map};
+ghost use Rattle.std.specs.Prelude.{◌≡◌, All, length};
 ghost use Rattle.kn_serve.specs.Opening.{IsEmptyWork};
 ghost use Rattle.std.specs.List.{list_any, position};
-ghost use Rattle.kn_serve.specs.Ending.{AreAllCleared, AreCleared, has_fault, has_want, status_by};
+ghost use Rattle.kn_serve.specs.Ending.{AreAllCleared, AreCleared, has_fault, has_want, status_by, status_of_slots};
 
 use kn_journal::Status;
 use kn_request::{Slot, WideSlot, Work};
 
 /// The least slot with a round that ended in a fault comes first, then want of memory in a round.
 pub fn end_of<C, L>(slots: &[Slot<C, L>]) -> Status
-    ensures { result ≡ status_by (position (λ b. b) (map (λ s. s.work.fault) slots.now)) (list_any (λ b. b) (map (λ s. s.work.memory) slots.now)) }
+    ensures { result ≡ status_of_slots slots.now }
 {
     match least_fault(slots) {
         Some(slot) => Status::SlotFault(slot as u64),

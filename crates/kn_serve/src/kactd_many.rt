@@ -1,21 +1,15 @@
 //! The top call of `kactd many`: its words, its opening, and a session over several revisions.
-ghost use Rattle.std.specs.Prelude.{◌≡◌, ◌⊎◌, ◌≤◌, ◌+◌, List, [], All, length, map, string_bytes};
+ghost use Rattle.std.specs.Prelude.{◌≡◌, [], All};
 ghost use Rattle.kn_io.specs.Causes.{Rose};
-ghost use Rattle.kn_journal.specs.Reading.{most_taken};
-ghost use Rattle.kn_plan.specs.Plan.{AsksForMany};
-ghost use Rattle.kn_replay.specs.Replaying.{Tells};
-ghost use Rattle.kn_request.specs.declared.slot.WideSlot.{WideSlot as WideSlotValue};
-ghost use Rattle.kn_request.specs.Outside.{said};
-ghost use Rattle.kn_session.specs.Lists.{EachDone, EachIs};
-ghost use Rattle.kn_session.specs.Wide.{wide_sides};
-ghost use Rattle.kn_serve.specs.Many.{AreTicked, DeclinesAll, IsSlotOf, ServesAll};
-ghost use Rattle.kn_serve.specs.Opening.{IsEmptyWork, IsUnused};
-ghost use Rattle.kn_serve.specs.Shut.{ServesWhere, StaysShutWhere};
-ghost use Rattle.kn_serve.specs.Texts.{status_text};
-ghost use Rattle.kn_serve.specs.WideOpening.{AreOpened, IsFreshWide};
+ghost use Rattle.kn_session.specs.Lists.{EachIs};
+ghost use Rattle.kn_serve.specs.ManyCourse.{CourseOfMany};
+ghost use Rattle.kn_serve.specs.Opening.{IsEmptyWork};
+ghost use Rattle.kn_serve.specs.Setup.{HasBrokenOff};
+ghost use Rattle.kn_serve.specs.Texts.{IsToldOn, status_text};
 
 use crate::kactd::{refused, unopened};
 use crate::many::serve_all;
+use crate::outside::OpensAll;
 use crate::telling::tell;
 use crate::wide_opening::WideOpener;
 use kn_io::{Caller, Clock, Gate, PodLink, Sink, Source};
@@ -50,17 +44,9 @@ fn serve_words<
 ) -> Status
     requires slots { slots.old.items ≡ [] }
     requires keepers { keepers.old.items ≡ [] }
-    ensures course { StaysShutWhere (AsksForMany (map string_bytes words.now)) (Rose (W.Faulty.faults opener.old) (W.Faulty.faults opener.new)) ((setups.new ≡ setups.old) × (out.new ≡ out.old) × (slots.new.items ≡ []) × (keepers.new.items ≡ [])) result
-        ⊎ ServesWhere (WideSlotValue C L) (List L) (AsksForMany (map string_bytes words.now))
-        (λ plan made ks. AreOpened (λ s. IsFreshWide (said (C.Sink.kept s.caller) (C.Sink.held s.caller)) (map (λ l. L.told l) s.links.items) s.works.items) (λ k. IsUnused (L.told k)) plan made ks × W.gives opener.old plan opener.new made ks)
-        (λ plan made ks. DeclinesAll (length plan.pods) (S.left setups.old) ((slots.new.items ≡ made) × (keepers.new.items ≡ ks) × (out.new ≡ out.old)) result
-        ⊎ ServesAll (K.reading clock.now) (length made) (length plan.pods) (S.left setups.old) (S.left setups.new) (O.held out.old) (O.held out.new)
-        (λ xs. EachDone (λ i s t. IsSlotOf (K.reading clock.now) plan.room plan.rounds xs i
-        (wide_sides (C.Sink.kept s.caller) (C.Sink.held s.caller) (C.Faulty.faults s.caller) (map (λ l. L.told l) s.links.items) (map (λ l. L.Faulty.faults l) s.links.items))
-        (wide_sides (C.Sink.kept t.caller) (C.Sink.held t.caller) (C.Faulty.faults t.caller) (map (λ l. L.told l) t.links.items) (map (λ l. L.Faulty.faults l) t.links.items))) made slots.new.items)
-        (λ xs. AreTicked (K.reading clock.now) plan.room xs (map (λ l. L.told l) ks) (map (λ l. L.told l) keepers.new.items) (map (λ l. L.Faulty.faults l) ks) (map (λ l. L.Faulty.faults l) keepers.new.items)) result) }
+    ensures course { CourseOfMany ⟦<W as OpensAll<S, C, L, K, O>>⟧.seen words opener setups slots keepers clock out result }
     ensures works { EachIs (λ s. All IsEmptyWork s.works.items) slots.new.items }
-    ensures read_fault { result ≡ Status.ReadFault → Rose (S.Faulty.faults setups.old) (S.Faulty.faults setups.new) ⊎ (S.given setups.old + most_taken ≤ S.given setups.new) }
+    ensures read_fault { result ≡ Status.ReadFault → HasBrokenOff S.Faulty.faults S.given setups }
     ensures write_fault { result ≡ Status.WriteFault → Rose (O.Faulty.faults out.old) (O.Faulty.faults out.new) }
 {
     let plan = match wide_plan_of(alloc, words) {
@@ -103,19 +89,11 @@ pub fn kactd_many_run<
 ) -> Status
     requires slots { slots.old.items ≡ [] }
     requires keepers { keepers.old.items ≡ [] }
-    ensures course { StaysShutWhere (AsksForMany (map string_bytes words.now)) (Rose (W.Faulty.faults opener.old) (W.Faulty.faults opener.new)) ((setups.new ≡ setups.old) × (out.new ≡ out.old) × (slots.new.items ≡ []) × (keepers.new.items ≡ [])) result
-        ⊎ ServesWhere (WideSlotValue C L) (List L) (AsksForMany (map string_bytes words.now))
-        (λ plan made ks. AreOpened (λ s. IsFreshWide (said (C.Sink.kept s.caller) (C.Sink.held s.caller)) (map (λ l. L.told l) s.links.items) s.works.items) (λ k. IsUnused (L.told k)) plan made ks × W.gives opener.old plan opener.new made ks)
-        (λ plan made ks. DeclinesAll (length plan.pods) (S.left setups.old) ((slots.new.items ≡ made) × (keepers.new.items ≡ ks) × (out.new ≡ out.old)) result
-        ⊎ ServesAll (K.reading clock.now) (length made) (length plan.pods) (S.left setups.old) (S.left setups.new) (O.held out.old) (O.held out.new)
-        (λ xs. EachDone (λ i s t. IsSlotOf (K.reading clock.now) plan.room plan.rounds xs i
-        (wide_sides (C.Sink.kept s.caller) (C.Sink.held s.caller) (C.Faulty.faults s.caller) (map (λ l. L.told l) s.links.items) (map (λ l. L.Faulty.faults l) s.links.items))
-        (wide_sides (C.Sink.kept t.caller) (C.Sink.held t.caller) (C.Faulty.faults t.caller) (map (λ l. L.told l) t.links.items) (map (λ l. L.Faulty.faults l) t.links.items))) made slots.new.items)
-        (λ xs. AreTicked (K.reading clock.now) plan.room xs (map (λ l. L.told l) ks) (map (λ l. L.told l) keepers.new.items) (map (λ l. L.Faulty.faults l) ks) (map (λ l. L.Faulty.faults l) keepers.new.items)) result) }
+    ensures course { CourseOfMany ⟦<W as OpensAll<S, C, L, K, O>>⟧.seen words opener setups slots keepers clock out result }
     ensures works { EachIs (λ s. All IsEmptyWork s.works.items) slots.new.items }
-    ensures read_fault { result ≡ Status.ReadFault → Rose (S.Faulty.faults setups.old) (S.Faulty.faults setups.new) ⊎ (S.given setups.old + most_taken ≤ S.given setups.new) }
+    ensures read_fault { result ≡ Status.ReadFault → HasBrokenOff S.Faulty.faults S.given setups }
     ensures write_fault { result ≡ Status.WriteFault → Rose (O.Faulty.faults out.old) (O.Faulty.faults out.new) }
-    ensures told { Tells (status_text result) (E.held err.old) (E.held err.new) (E.Faulty.faults err.old) (E.Faulty.faults err.new) }
+    ensures told { IsToldOn E.held E.Faulty.faults (status_text result) err }
 {
     let status = serve_words(
         rt, alloc, words, opener, setups, slots, keepers, clock, gate, out,

@@ -7,6 +7,7 @@ mod kactd_many;
 mod many;
 mod open_error;
 mod opening;
+mod outside;
 mod run;
 mod setups;
 mod telling;
@@ -22,5 +23,6 @@ pub use kn_request::{
 pub use many::serve_many;
 pub use open_error::OpenError;
 pub use opening::{MemOpener, Opener};
+pub use outside::{Opens, OpensAll, Outside};
 pub use run::serve_run;
 pub use wide_opening::{MemWideOpener, WideOpener};

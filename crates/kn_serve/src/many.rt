@@ -1,16 +1,14 @@
 //! A run of a session over several revisions: the setups are read, each revision opened, the slots served, and the journals printed.
-ghost use Rattle.std.specs.Prelude.{◌≡◌, ◌⊎◌, ◌≤◌, ◌<◌, ◌+◌, ◌^◌, ℕ, length, map, slice_index_or, IfOk};
+ghost use Rattle.std.specs.Prelude.{◌≡◌, ◌≤◌, ◌^◌, length, map, IfOk};
 ghost use Rattle.kn_io.specs.Causes.{Rose};
-ghost use Rattle.kn_core.specs.State.{RevisionState};
-ghost use Rattle.kn_journal.specs.declared.journal.Setup.{Setup as SetupValue};
-ghost use Rattle.kn_journal.specs.Reading.{most_taken};
-ghost use Rattle.kn_replay.specs.Replaying.{Tells};
-ghost use Rattle.kn_session.specs.Lists.{EachDone, EachIs};
-ghost use Rattle.kn_session.specs.Wide.{wide_sides};
-ghost use Rattle.kn_serve.specs.Many.{AreTicked, DeclinesAll, IsInWideRange, IsOpenedAt, IsReadyFor, IsSlotOf, ServesAll};
-ghost use Rattle.kn_serve.specs.Texts.{status_text};
+ghost use Rattle.kn_session.specs.Lists.{EachIs};
+ghost use Rattle.kn_serve.specs.Many.{AreOpenedAt, IsInWideRange, IsReadyFor};
+ghost use Rattle.kn_serve.specs.ManyCourse.{CourseAll};
+ghost use Rattle.kn_serve.specs.Setup.{HasBrokenOff};
+ghost use Rattle.kn_serve.specs.Texts.{IsToldOn, status_text};
 
 use crate::ending::{clear_all, end_of_all};
+use crate::outside::Outside;
 use crate::run::{open_revision, start_of};
 use crate::setups::read_setups;
 use crate::telling::tell;
@@ -22,7 +20,7 @@ use kn_plan::WidePlan;
 use kn_print::print_journals;
 use kn_replay::status_of;
 use kn_request::WideSlot;
-use kn_session::serve_wide_session;
+use kn_session::{WideSetting, serve_wide_session};
 use std::alloc::Global;
 use std::sync::Wait;
 use std::thread::Threads;
@@ -48,7 +46,7 @@ fn specs_of(alloc: Global, setups: &[Setup]) -> Result<Vec<Spec>, Memory>
 fn open_revisions(alloc: Global, setups: &[Setup], start: u64) -> Result<Vec<Revision>, Memory>
     requires { start ≤ 2 ^ 42 }
     ensures many { IfOk result (λ rs. length rs.items ≡ length setups.now) }
-    ensures opened { IfOk result (λ rs. (v : ℕ) (b : RevisionState) (s : SetupValue) → v < length setups.now → IsOpenedAt (slice_index_or setups.now v s).spec start (slice_index_or rs.items v b)) }
+    ensures opened { IfOk result (λ rs. AreOpenedAt setups.now start rs.items) }
 {
     let mut revisions = Vec::new(alloc);
     for setup in setups {
@@ -86,15 +84,10 @@ pub fn serve_all<
     requires plan { IsInWideRange plan.now }
     requires count { (length slots.old ≡ plan.now.slots) × (length keepers.old ≡ length plan.now.pods) }
     requires slots { EachIs (IsReadyFor (length plan.now.pods)) slots.old }
-    ensures course { DeclinesAll (length plan.now.pods) (S.left setups.old) ((slots.new ≡ slots.old) × (keepers.new ≡ keepers.old) × (out.new ≡ out.old)) result
-        ⊎ ServesAll (K.reading clock.now) (length slots.old) (length plan.now.pods) (S.left setups.old) (S.left setups.new) (O.held out.old) (O.held out.new)
-        (λ xs. EachDone (λ i s t. IsSlotOf (K.reading clock.now) plan.now.room plan.now.rounds xs i
-        (wide_sides (C.Sink.kept s.caller) (C.Sink.held s.caller) (C.Faulty.faults s.caller) (map (λ l. L.told l) s.links.items) (map (λ l. L.Faulty.faults l) s.links.items))
-        (wide_sides (C.Sink.kept t.caller) (C.Sink.held t.caller) (C.Faulty.faults t.caller) (map (λ l. L.told l) t.links.items) (map (λ l. L.Faulty.faults l) t.links.items))) slots.old slots.new)
-        (λ xs. AreTicked (K.reading clock.now) plan.now.room xs (map (λ l. L.told l) keepers.old) (map (λ l. L.told l) keepers.new) (map (λ l. L.Faulty.faults l) keepers.old) (map (λ l. L.Faulty.faults l) keepers.new)) result }
+    ensures course { CourseAll ⟦<() as Outside<S, C, L, K, O>>⟧.seen plan clock setups slots keepers out result }
     ensures slots { EachIs (IsReadyFor (length plan.now.pods)) slots.new }
     ensures keepers { length keepers.new ≡ length keepers.old }
-    ensures read_fault { result ≡ Status.ReadFault → Rose (S.Faulty.faults setups.old) (S.Faulty.faults setups.new) ⊎ (S.given setups.old + most_taken ≤ S.given setups.new) }
+    ensures read_fault { result ≡ Status.ReadFault → HasBrokenOff S.Faulty.faults S.given setups }
     ensures write_fault { result ≡ Status.WriteFault → Rose (O.Faulty.faults out.old) (O.Faulty.faults out.new) }
 {
     journals_are_read();
@@ -109,19 +102,16 @@ pub fn serve_all<
     let Ok(revisions) = open_revisions(alloc, read.items(), start) else {
         return Status::Memory;
     };
-    let histories = match serve_wide_session(
-        rt,
+    let setting = WideSetting {
         alloc,
-        revisions,
-        plan.room,
-        &specs,
-        slots,
-        keepers,
+        specs: &specs,
         clock,
         gate,
-        plan.rounds,
+        room: plan.room,
+        rounds: plan.rounds,
         start,
-    ) {
+    };
+    let histories = match serve_wide_session(rt, &setting, revisions, slots, keepers) {
         Ok(histories) => histories,
         Err(Memory) => return Status::Memory,
     };
@@ -164,17 +154,12 @@ pub fn serve_many<
     requires plan { IsInWideRange plan.now }
     requires count { (length slots.old ≡ plan.now.slots) × (length keepers.old ≡ length plan.now.pods) }
     requires slots { EachIs (IsReadyFor (length plan.now.pods)) slots.old }
-    ensures course { DeclinesAll (length plan.now.pods) (S.left setups.old) ((slots.new ≡ slots.old) × (keepers.new ≡ keepers.old) × (out.new ≡ out.old)) result
-        ⊎ ServesAll (K.reading clock.now) (length slots.old) (length plan.now.pods) (S.left setups.old) (S.left setups.new) (O.held out.old) (O.held out.new)
-        (λ xs. EachDone (λ i s t. IsSlotOf (K.reading clock.now) plan.now.room plan.now.rounds xs i
-        (wide_sides (C.Sink.kept s.caller) (C.Sink.held s.caller) (C.Faulty.faults s.caller) (map (λ l. L.told l) s.links.items) (map (λ l. L.Faulty.faults l) s.links.items))
-        (wide_sides (C.Sink.kept t.caller) (C.Sink.held t.caller) (C.Faulty.faults t.caller) (map (λ l. L.told l) t.links.items) (map (λ l. L.Faulty.faults l) t.links.items))) slots.old slots.new)
-        (λ xs. AreTicked (K.reading clock.now) plan.now.room xs (map (λ l. L.told l) keepers.old) (map (λ l. L.told l) keepers.new) (map (λ l. L.Faulty.faults l) keepers.old) (map (λ l. L.Faulty.faults l) keepers.new)) result }
+    ensures course { CourseAll ⟦<() as Outside<S, C, L, K, O>>⟧.seen plan clock setups slots keepers out result }
     ensures slots { EachIs (IsReadyFor (length plan.now.pods)) slots.new }
     ensures keepers { length keepers.new ≡ length keepers.old }
-    ensures read_fault { result ≡ Status.ReadFault → Rose (S.Faulty.faults setups.old) (S.Faulty.faults setups.new) ⊎ (S.given setups.old + most_taken ≤ S.given setups.new) }
+    ensures read_fault { result ≡ Status.ReadFault → HasBrokenOff S.Faulty.faults S.given setups }
     ensures write_fault { result ≡ Status.WriteFault → Rose (O.Faulty.faults out.old) (O.Faulty.faults out.new) }
-    ensures told { Tells (status_text result) (E.held err.old) (E.held err.new) (E.Faulty.faults err.old) (E.Faulty.faults err.new) }
+    ensures told { IsToldOn E.held E.Faulty.faults (status_text result) err }
 {
     let status = serve_all(rt, alloc, plan, setups, slots, keepers, clock, gate, out);
     tell(status, err)

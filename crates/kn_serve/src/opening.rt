@@ -3,13 +3,13 @@ ghost use Rattle.std.specs.Prelude.{◌≡◌, ◌≤◌, List, [], Option, None
 ghost use Rattle.kn_io.specs.Causes.{Rose};
 ghost use Rattle.kn_plan.specs.declared.plan.Plan.{Plan as PlanValue};
 ghost use Rattle.kn_request.specs.declared.slot.Slot.{Slot as SlotValue};
-ghost use Rattle.kn_request.specs.Outside.{said};
-ghost use Rattle.kn_serve.specs.Opening.{IsFresh, IsOpened, IsUnused};
+ghost use Rattle.kn_serve.specs.Opening.{IsFreshBy, IsUnused, MadeNew};
 
 use crate::open_error::OpenError;
 use kn_io::{Caller, Faulty, PodLink};
 use kn_plan::Plan;
 use kn_request::Slot;
+use kn_session::Sided;
 use std::alloc::Global;
 use std::marker::Model;
 use std::mem;
@@ -30,7 +30,7 @@ pub trait Opener<C: Caller, L: PodLink>: Faulty {
     ) -> Result<(), OpenError>
         requires slots { slots.old.items ≡ [] }
         requires keeper { keeper.old ≡ None }
-        ensures opened { OnOk result (IsOpened (λ s. IsFresh (said (C.Sink.kept s.caller) (C.Sink.held s.caller)) (L.told s.link) s.work) (λ k. IsUnused (L.told k)) plan.now.slots slots.new.items keeper.new) }
+        ensures opened { OnOk result (MadeNew ⟦<Slot<C, L> as Sided>⟧.at L.told plan.now.slots slots.new.items keeper.new) }
         ensures given { OnOk result (gives self.old plan.now self.new slots.new.items keeper.new) }
         ensures no_slots { OnErr result (slots.new.items ≡ []) }
         ensures no_keeper { OnErr result (keeper.new ≡ None) }
@@ -63,7 +63,7 @@ impl<C: Caller, L: PodLink> MemOpener<C, L> {
 
     /// Hands out these slots and this keeper, or fails.
     pub fn new(slots: Vec<Slot<C, L>>, keeper: L, fail: bool) -> MemOpener<C, L>
-        requires slots { All (λ s. IsFresh (said (C.Sink.kept s.caller) (C.Sink.held s.caller)) (L.told s.link) s.work) slots.items }
+        requires slots { All (IsFreshBy ⟦<Slot<C, L> as Sided>⟧.at) slots.items }
         requires keeper { IsUnused (L.told keeper) }
         ensures slots { result.slots ≡ slots.items }
         ensures keeper { result.keeper ≡ Some keeper }

@@ -1,20 +1,19 @@
 //! A run of a session: its setup is read, its revision opened, its slots served, and its journal printed.
-ghost use Rattle.std.specs.Prelude.{◌≡◌, ◌⊎◌, ◌≤◌, ◌+◌, ◌^◌, false, length, slice_index_or, IfOk};
+ghost use Rattle.std.specs.Prelude.{◌≡◌, ◌≤◌, ◌^◌, length, IfOk};
 ghost use Rattle.kn_io.specs.Causes.{Rose};
 ghost use Rattle.kn_trace.specs.Events.{opening};
 ghost use Rattle.kn_trace.specs.Trace.{Trace};
 ghost use Rattle.kn_core.specs.State.{StandsFor};
 ghost use Rattle.kn_cell.specs.History.{live_of};
-ghost use Rattle.kn_journal.specs.Reading.{most_taken};
-ghost use Rattle.kn_replay.specs.Replaying.{Tells};
-ghost use Rattle.kn_session.specs.Lists.{EachDone, EachIs};
-ghost use Rattle.kn_session.specs.Rounds.{sides};
-ghost use Rattle.kn_session.specs.Session.{Probed, SlotServed, TickerServed};
+ghost use Rattle.kn_session.specs.Lists.{EachIs};
+ghost use Rattle.kn_serve.specs.Course.{CourseBy};
 ghost use Rattle.kn_serve.specs.Opening.{IsEmptyWork};
-ghost use Rattle.kn_serve.specs.Running.{Declines, IsInRange, IsStart, Serves};
-ghost use Rattle.kn_serve.specs.Texts.{status_text};
+ghost use Rattle.kn_serve.specs.Running.{IsInRange, IsStart};
+ghost use Rattle.kn_serve.specs.Setup.{HasBrokenOff};
+ghost use Rattle.kn_serve.specs.Texts.{IsToldOn, status_text};
 
 use crate::ending::{clear, end_of};
+use crate::outside::Outside;
 use crate::setups::read_setup;
 use crate::telling::tell;
 use kn_core::Revision;
@@ -25,7 +24,7 @@ use kn_plan::Plan;
 use kn_print::print_journal;
 use kn_replay::status_of;
 use kn_request::Slot;
-use kn_session::serve_session;
+use kn_session::{Setting, serve_session};
 use std::alloc::Global;
 use std::sync::Wait;
 use std::thread::Threads;
@@ -91,15 +90,9 @@ pub fn serve<
     requires plan { IsInRange plan.now }
     requires count { length slots.old ≡ plan.now.slots }
     requires works { EachIs (λ s. IsEmptyWork s.work) slots.old }
-    ensures course { Declines (S.left setup.old) ((slots.new ≡ slots.old) × (keeper.new ≡ keeper.old) × (out.new ≡ out.old)) result
-        ⊎ Serves (K.reading clock.now) (length slots.old) (S.left setup.old) (S.left setup.new) (O.held out.old) (O.held out.new)
-        (λ x. EachDone (λ i s t. SlotServed (K.reading clock.now) x.setup.spec x.opened plan.now.room plan.now.rounds x.history i
-        (sides (C.Sink.kept s.caller) (C.Sink.held s.caller) (C.Faulty.faults s.caller) (L.told s.link) (L.Faulty.faults s.link))
-        (sides (C.Sink.kept t.caller) (C.Sink.held t.caller) (C.Faulty.faults t.caller) (L.told t.link) (L.Faulty.faults t.link))
-        (slice_index_or x.faults i false) (slice_index_or x.wants i false)) slots.old slots.new)
-        (λ x. TickerServed (K.reading clock.now) x.start x.opened plan.now.room x.history (L.told keeper.old) (L.told keeper.new) × Probed x.opened x.history (L.told keeper.old) (L.told keeper.new)) result }
+    ensures course { CourseBy ⟦<() as Outside<S, C, L, K, O>>⟧.seen plan clock setup slots keeper out result }
     ensures works { EachIs (λ s. IsEmptyWork s.work) slots.new }
-    ensures read_fault { result ≡ Status.ReadFault → Rose (S.Faulty.faults setup.old) (S.Faulty.faults setup.new) ⊎ (S.given setup.old + most_taken ≤ S.given setup.new) }
+    ensures read_fault { result ≡ Status.ReadFault → HasBrokenOff S.Faulty.faults S.given setup }
     ensures write_fault { result ≡ Status.WriteFault → Rose (O.Faulty.faults out.old) (O.Faulty.faults out.new) }
 {
     journals_are_read();
@@ -112,19 +105,16 @@ pub fn serve<
         Ok(revision) => revision,
         Err(Memory) => return Status::Memory,
     };
-    let history = match serve_session(
-        rt,
+    let setting = Setting {
         alloc,
-        revision,
-        plan.room,
-        &read.spec,
-        slots,
-        keeper,
+        spec: &read.spec,
         clock,
         gate,
-        plan.rounds,
+        room: plan.room,
+        rounds: plan.rounds,
         start,
-    ) {
+    };
+    let history = match serve_session(rt, &setting, revision, slots, keeper) {
         Ok((_, history)) => history,
         Err(Memory) => return Status::Memory,
     };
@@ -166,17 +156,11 @@ pub fn serve_run<
     requires plan { IsInRange plan.now }
     requires count { length slots.old ≡ plan.now.slots }
     requires works { EachIs (λ s. IsEmptyWork s.work) slots.old }
-    ensures course { Declines (S.left setup.old) ((slots.new ≡ slots.old) × (keeper.new ≡ keeper.old) × (out.new ≡ out.old)) result
-        ⊎ Serves (K.reading clock.now) (length slots.old) (S.left setup.old) (S.left setup.new) (O.held out.old) (O.held out.new)
-        (λ x. EachDone (λ i s t. SlotServed (K.reading clock.now) x.setup.spec x.opened plan.now.room plan.now.rounds x.history i
-        (sides (C.Sink.kept s.caller) (C.Sink.held s.caller) (C.Faulty.faults s.caller) (L.told s.link) (L.Faulty.faults s.link))
-        (sides (C.Sink.kept t.caller) (C.Sink.held t.caller) (C.Faulty.faults t.caller) (L.told t.link) (L.Faulty.faults t.link))
-        (slice_index_or x.faults i false) (slice_index_or x.wants i false)) slots.old slots.new)
-        (λ x. TickerServed (K.reading clock.now) x.start x.opened plan.now.room x.history (L.told keeper.old) (L.told keeper.new) × Probed x.opened x.history (L.told keeper.old) (L.told keeper.new)) result }
+    ensures course { CourseBy ⟦<() as Outside<S, C, L, K, O>>⟧.seen plan clock setup slots keeper out result }
     ensures works { EachIs (λ s. IsEmptyWork s.work) slots.new }
-    ensures read_fault { result ≡ Status.ReadFault → Rose (S.Faulty.faults setup.old) (S.Faulty.faults setup.new) ⊎ (S.given setup.old + most_taken ≤ S.given setup.new) }
+    ensures read_fault { result ≡ Status.ReadFault → HasBrokenOff S.Faulty.faults S.given setup }
     ensures write_fault { result ≡ Status.WriteFault → Rose (O.Faulty.faults out.old) (O.Faulty.faults out.new) }
-    ensures told { Tells (status_text result) (E.held err.old) (E.held err.new) (E.Faulty.faults err.old) (E.Faulty.faults err.new) }
+    ensures told { IsToldOn E.held E.Faulty.faults (status_text result) err }
 {
     let status = serve(rt, alloc, plan, setup, slots, keeper, clock, gate, out);
     tell(status, err)

@@ -1,10 +1,8 @@
 //! The setup of a session, and those of one over several revisions.
-ghost use Rattle.std.specs.Prelude.{◌≡◌, ◌⊎◌, ◌+◌, ◌≤◌, Err, IfOk, OnOk, length};
-ghost use Rattle.kn_io.specs.Causes.{Rose};
+ghost use Rattle.std.specs.Prelude.{◌≡◌, ◌≤◌, Err, IfOk, OnOk, length};
 ghost use Rattle.kn_journal.specs.Bundle.{AreSetups};
 ghost use Rattle.kn_journal.specs.Journal.{IsSetup};
-ghost use Rattle.kn_journal.specs.Reading.{most_taken};
-ghost use Rattle.kn_serve.specs.Setup.{IsReadOut, SaysSetup};
+ghost use Rattle.kn_serve.specs.Setup.{HasBrokenOff, IsReadOut, SaysSetup};
 ghost use Rattle.kn_serve.specs.Setups.{SaysSetups};
 
 use kn_event::Memory;
@@ -17,7 +15,7 @@ pub fn read_setup<S: Source>(alloc: Global, source: &mut S) -> Result<Setup, Jou
     ensures says { SaysSetup (S.left source.old) result }
     ensures kept { IfOk result IsSetup }
     ensures whole { OnOk result (IsReadOut (S.left source.old) (S.left source.new)) }
-    ensures fault { result ≡ Err JournalError.ReadFault → Rose (S.Faulty.faults source.old) (S.Faulty.faults source.new) ⊎ (S.given source.old + most_taken ≤ S.given source.new) }
+    ensures fault { result ≡ Err JournalError.ReadFault → HasBrokenOff S.Faulty.faults S.given source }
     ensures never_falls { S.Faulty.faults source.old ≤ S.Faulty.faults source.new }
 {
     let mut reader = match JournalReader::new(alloc) {
@@ -44,7 +42,7 @@ pub fn read_setups<S: Source>(
     ensures kept { IfOk result AreSetups }
     ensures many { IfOk result (λ setups. length setups ≡ count) }
     ensures whole { OnOk result (IsReadOut (S.left source.old) (S.left source.new)) }
-    ensures fault { result ≡ Err JournalError.ReadFault → Rose (S.Faulty.faults source.old) (S.Faulty.faults source.new) ⊎ (S.given source.old + most_taken ≤ S.given source.new) }
+    ensures fault { result ≡ Err JournalError.ReadFault → HasBrokenOff S.Faulty.faults S.given source }
     ensures never_falls { S.Faulty.faults source.old ≤ S.Faulty.faults source.new }
 {
     let mut reader = match JournalReader::new(alloc) {

@@ -1,9 +1,8 @@
 //! What is told of a status.
 ghost use Rattle.std.specs.Prelude.{◌≡◌, ◌≤◌, ◌++◌, codes, length};
 ghost use Rattle.std.specs.Fmt.{decimal};
-ghost use Rattle.kn_replay.specs.Replaying.{Tells};
 ghost use Rattle.kn_replay.specs.Texts.{error_text};
-ghost use Rattle.kn_serve.specs.Texts.{status_text, told_of};
+ghost use Rattle.kn_serve.specs.Texts.{IsToldOn, status_text, told_of};
 
 use kn_event::Line;
 use kn_io::{Sink, put_all};
@@ -54,7 +53,7 @@ fn put_status(status: &Status, line: &mut Line)
 /// Tells of a status, and answers it.
 pub fn tell<E: Sink>(status: Status, err: &mut E) -> Status
     ensures same { result ≡ status }
-    ensures told { Tells (status_text result) (E.held err.old) (E.held err.new) (E.Faulty.faults err.old) (E.Faulty.faults err.new) }
+    ensures told { IsToldOn E.held E.Faulty.faults (status_text result) err }
 {
     let mut line = Line::new();
     put_status(&status, &mut line);

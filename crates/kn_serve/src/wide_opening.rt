@@ -1,16 +1,17 @@
 //! What makes the slots and the keepers that a plan for several revisions asks for.
-ghost use Rattle.std.specs.Prelude.{◌≡◌, ◌≤◌, List, [], All, Err, MatchBool, OnErr, OnOk, map};
+ghost use Rattle.std.specs.Prelude.{◌≡◌, ◌≤◌, List, [], All, Err, MatchBool, OnErr, OnOk};
 ghost use Rattle.kn_io.specs.Causes.{Rose};
 ghost use Rattle.kn_plan.specs.declared.wide_plan.WidePlan.{WidePlan as WideValue};
 ghost use Rattle.kn_request.specs.declared.slot.WideSlot.{WideSlot as WideSlotValue};
-ghost use Rattle.kn_request.specs.Outside.{said};
+ghost use Rattle.kn_session.specs.Wide.{HasOfEach};
 ghost use Rattle.kn_serve.specs.Opening.{IsUnused};
-ghost use Rattle.kn_serve.specs.WideOpening.{AreOpened, HasOfEach, IsFreshWide};
+ghost use Rattle.kn_serve.specs.WideOpening.{IsFreshWideBy, AllNew};
 
 use crate::open_error::OpenError;
 use kn_io::{Caller, Faulty, PodLink};
 use kn_plan::WidePlan;
 use kn_request::WideSlot;
+use kn_session::Sided;
 use std::alloc::Global;
 use std::marker::Model;
 use std::mem;
@@ -32,7 +33,7 @@ pub trait WideOpener<C: Caller, L: PodLink>: Faulty {
     ) -> Result<(), OpenError>
         requires slots { slots.old.items ≡ [] }
         requires keepers { keepers.old.items ≡ [] }
-        ensures opened { OnOk result (AreOpened (λ s. IsFreshWide (said (C.Sink.kept s.caller) (C.Sink.held s.caller)) (map (λ l. L.told l) s.links.items) s.works.items) (λ k. IsUnused (L.told k)) plan.now slots.new.items keepers.new.items) }
+        ensures opened { OnOk result (AllNew ⟦<WideSlot<C, L> as Sided>⟧.at L.told plan.now slots.new.items keepers.new.items) }
         ensures given { OnOk result (gives self.old plan.now self.new slots.new.items keepers.new.items) }
         ensures no_slots { OnErr result (slots.new.items ≡ []) }
         ensures no_keepers { OnErr result (keepers.new.items ≡ []) }
@@ -65,7 +66,7 @@ impl<C: Caller, L: PodLink> Model for MemWideOpener<C, L> {
 impl<C: Caller, L: PodLink> MemWideOpener<C, L> {
     /// Hands out these slots and these keepers, or fails.
     pub fn new(slots: Vec<WideSlot<C, L>>, keepers: Vec<L>, fail: bool) -> MemWideOpener<C, L>
-        requires slots { All (λ s. IsFreshWide (said (C.Sink.kept s.caller) (C.Sink.held s.caller)) (map (λ l. L.told l) s.links.items) s.works.items) slots.items }
+        requires slots { All (IsFreshWideBy ⟦<WideSlot<C, L> as Sided>⟧.at) slots.items }
         requires keepers { All (λ k. IsUnused (L.told k)) keepers.items }
         ensures slots { result.slots ≡ slots.items }
         ensures keepers { result.keepers ≡ keepers.items }

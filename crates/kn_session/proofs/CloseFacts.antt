@@ -1,5 +1,5 @@
 -- What the history of a closed cell is to the first pass, to those that it took in, and to the ticker's.
-use Rattle.std.proofs.Common.{◌≡◌, ◌⊎◌, ◌<◌, ◌+◌, inl, inr, ℕ, List, [], sym, ap, ◌∙◌, subst, length, arith}
+use Rattle.std.proofs.Common.{◌≡◌, ◌⊎◌, ◌<◌, ◌+◌, inl, inr, ℕ, false, List, [], ◌++◌, sym, ap, ◌∙◌, subst, length, arith}
 use Rattle.std.specs.Prelude.{Option, Some, slice_index_or}
 use Rattle.atomic_table.specs.Seated.{TableId}
 use Rattle.kn_core.specs.State.{RevisionState}
@@ -7,9 +7,9 @@ use Rattle.kn_cell.specs.declared.past.Past.{Past}
 use Rattle.kn_cell.specs.declared.view.Joined.{Joined}
 use Rattle.kn_cell.specs.Lists.{Each, StartsWith}
 use Rattle.kn_cell.specs.History.{rows_by}
-use Rattle.kn_cell.specs.Shown.{Closes, PassView, joined_shown}
+use Rattle.kn_cell.specs.Shown.{Closes, IsClosed, PassView, joined_shown}
 use Rattle.kn_session.specs.Passes.{HasLone, IsLone, found_by, joined_all}
-use Rattle.kn_session.specs.Session.{IsPart, IsSlots}
+use Rattle.kn_session.specs.Session.{IsPart, IsSlots, ClosesWhole}
 use Rattle.kn_session.proofs.HandFacts.{all_found, as_other, found_member, joined_back, joined_each, joined_last, joined_members, joined_same, joined_step}
 use Rattle.kn_session.proofs.ListFacts.{none}
 use Rattle.kn_session.proofs.SessionFacts.{first_has_none}
@@ -72,6 +72,10 @@ closing_rows {A} cell f xs p ticks now h lone last number mine others closes k x
       | inl e ↦ first_has_none h (length xs) k x at rows (e ∙ zero)
       | inr o ↦ elim (all o.0 o.1 o.2) [ inl n ↦ inl (o.3 ∙ n) | inr n ↦ inr (n.0, n.1, o.3 ∙ n.2) ]
     ]
+
+-- where no row was taken out, the history is what is left
+pub closed_whole : (p : PassView) (now : RevisionState) (h : List Past) → p.lasting ≡ false → IsClosed p now h → ClosesWhole p now h
+closed_whole p now h plain x = subst (λ (front : List Past). ClosesWhole p now (front ++ h)) (x.plain plain) record { closes = x.closes; lawful = x.lawful; settled = x.settled }
 
 pub closing_opening : {A : Type 0} (f : A → Option PassView) (xs : List A) (p ticks : PassView) → (closing f xs p ticks).opening ≡ p.opening
 closing_opening {A} f xs p ticks = (joined_same p (found_by f xs)).opening

@@ -9,11 +9,12 @@ use Rattle.kn_core.specs.State.{RevisionState, StandsFor}
 use Rattle.kn_cell.specs.declared.past.Past.{Past}
 use Rattle.kn_cell.specs.declared.past.Full.{Full}
 use Rattle.kn_cell.specs.Lists.{Each}
-use Rattle.kn_cell.specs.History.{live_of, trace_after}
+use Rattle.kn_cell.specs.History.{live_of, room_for, trace_after}
 use Rattle.kn_cell.specs.Shown.{PassView, Misfits}
 use Rattle.kn_io.specs.Causes.{Rose}
 use Rattle.kn_io.specs.Links.{Link}
 use Rattle.kn_head.specs.declared.answer.Answer.{Answer}
+use Rattle.kn_head.specs.declared.answer.Answer.TheVariants as answer
 use Rattle.kn_head.specs.declared.head.Head.{Head}
 use Rattle.kn_head.specs.declared.head.HeadError.{HeadError}
 use Rattle.kn_head.specs.declared.head.HeadError.TheVariants as error
@@ -47,7 +48,7 @@ full_meant meant.LinkFault f e = absurd (cc)
 full_meant meant.Memory f e = absurd (cc)
 
 not_refusal : (a : Answer) (s : Served) (text : List ℕ) (f : Full) → IsRefusal a s text → s ≡ served.Full f → ⊥
-not_refusal a s text f r e = elim r [ inl x ↦ (let k = x.0 in cc) | inr x ↦ (let k = x.0 in cc) ]
+not_refusal a s text f r e = (let k = r.0 in cc)
 
 not_unread : (e : HeadError) (o : Option Answer) (s : Served) (text : List ℕ) (f : Full) → IsUnread e o s text → s ≡ served.Full f → ⊥
 not_unread e (Some a) s text f u is = not_refusal a s text f u is
@@ -69,7 +70,7 @@ misfits_way reading spec tag p q w w' (Ok h) s text f way e = elim way [
     | inl y ↦ (let k = y.1 in absurd cc)
     | inr y ↦ (subst (λ (m : Meant). IsServed reading spec.timeout_ms tag h p q w w' m) (full_meant y.0 f (sym y.2 ∙ e)) y.1).0
   ]
-  | inr x ↦ (let u = x.2 in absurd (elim u [ inl z ↦ (let k = z.0 in cc) | inr z ↦ (let k = z.0 in cc) ]))
+  | inr x ↦ absurd (not_refusal answer.NoSuchRevision s text f x.2 e)
 ]
 misfits_way reading spec tag p q w w' (Err e) s text f way is = absurd (not_unread e (answer_for e) s text f way.1 is)
 
@@ -215,10 +216,15 @@ rounds_texts Then reading spec tag (s ∷ ss) p q a b f r t is =
 
 -- ---- for want of room, in the history
 
-pub rounds_full : SessionLaws → (h : List Past) (x : RevisionState) (room : ℕ) (reading : ℕ → Type 0) (spec : Spec) (tag : ℕ) (ss : List Served) (p q : PassView) (a b : Sides) → p.opening ≡ x → p.room ≡ room
+-- where no row was taken out, the room is less by all
+left_whole : (lasting : Bool) (room gone total live : ℕ) → lasting ≡ false → gone ≡ 0 → room_for lasting room gone total live ≡ room - total - live
+left_whole true room gone total live e f = absurd (cc)
+left_whole false room gone total live e f = omega arith
+
+pub rounds_full : SessionLaws → (h : List Past) (x : RevisionState) (room : ℕ) (reading : ℕ → Type 0) (spec : Spec) (tag : ℕ) (ss : List Served) (p q : PassView) (a b : Sides) → p.opening ≡ x → p.room ≡ room → p.lasting ≡ false → p.gone ≡ 0
     → IsRounds (Lasts h) reading spec tag ss p q a b → HasOne IsFullOf ss → WasShort x room h
-rounds_full laws h x room reading spec tag [] p q a b e f r has = absurd has
-rounds_full laws h x room reading spec tag (s ∷ ss) p q a b e f r has =
+rounds_full laws h x room reading spec tag [] p q a b e f plain whole r has = absurd has
+rounds_full laws h x room reading spec tag (s ∷ ss) p q a b e f plain whole r has =
     let m = r.0 in
     let next = next_of p m r.2.later in
     elim has [
@@ -227,9 +233,13 @@ rounds_full laws h x room reading spec tag (s ∷ ss) p q a b e f r has =
           let mis = misfits_of reading spec tag p m a.wire r.1.wire a.said r.1.said y.0 o in
           let Short : RevisionState → ℕ → Type 0 = λ v k. (c : Trace) → StandsFor v c → k - length m.seen - live_of (trace_after v.spec c m.seen) < 2 in
           let short : Short p.opening p.room = λ c st.
-          (let k = mis.short c st in let n = laws.need (trace_after p.opening.spec c m.seen) tag in omega (arith, k, n)) in
+          (let t = trace_after p.opening.spec c m.seen in
+          let k = mis.short c st in
+          let left = left_whole m.lasting m.room m.gone (length m.seen) (live_of t) (next.lasting ∙ plain) (next.whole plain whole) in
+          let n = laws.need t tag in
+          omega (arith, k, n, left, next.room)) in
           record { front = m.seen; early = r.2.then.front; short = subst (λ v. Short v room) e (subst (λ k. Short p.opening k) f short) }
-      | inr y ↦ rounds_full laws h x room reading spec (tag + 1) ss m q r.1 b (next.opening ∙ e) (next.room ∙ f) r.3 y
+      | inr y ↦ rounds_full laws h x room reading spec (tag + 1) ss m q r.1 b (next.opening ∙ e) (next.room ∙ f) (next.lasting ∙ plain) (next.whole plain whole) r.3 y
     ]
 
 -- ---- a fault

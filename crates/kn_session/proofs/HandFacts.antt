@@ -7,10 +7,25 @@ use Rattle.std.proofs.lemmas.Bool.Decides.{eqb_tells}
 use Rattle.atomic_table.specs.Seated.{TableId}
 use Rattle.kn_cell.specs.declared.view.Joined.{Joined}
 use Rattle.kn_cell.specs.Lists.{Each}
-use Rattle.kn_cell.specs.Shown.{PassView, joined_shown}
+use Rattle.kn_cell.specs.Shown.{PassView, joined_shown, new_shown}
 use Rattle.kn_request.specs.declared.slot.Slot.{Slot}
-use Rattle.kn_session.specs.Passes.{IsGiven, joined_all, where_some, found_by, front_of}
+use Rattle.kn_session.specs.Passes.{IsBlank, IsGiven, IsNew, joined_all, where_some, found_by, front_of}
 use Rattle.kn_session.proofs.ListFacts.{at_left, at_later, each_both, none, one}
+
+-- what a blank pass gives away is new
+pub new_of : (p q : PassView) → IsBlank p → q ≡ new_shown p → IsNew p.opening p.room (p.passes - p.free) q
+new_of p q blank is = record {
+  named = ap (λ (v : PassView). v.number) is;
+  free = ap (λ (v : PassView). v.free) is;
+  back = ap (λ (v : PassView). v.back) is;
+  seen = ap (λ (v : PassView). v.seen) is ∙ blank.unseen;
+  mine = ap (λ (v : PassView). v.mine) is;
+  others = ap (λ (v : PassView). v.others) is;
+  opening = ap (λ (v : PassView). v.opening) is;
+  roomy = ap (λ (v : PassView). v.room) is;
+  plain = ap (λ (v : PassView). v.lasting) is ∙ blank.plain;
+  whole = ap (λ (v : PassView). v.gone) is ∙ blank.whole;
+}
 
 pub one_given : {C L : Type 0} (cell : TableId) (old p : PassView) (i : ℕ) (s t : Slot C L) → p ≡ record old { free = old.free - i } → i < old.free → old.free ≤ old.passes
     → IsGiven cell p.opening p.room (p.passes - p.free) s t → IsGiven cell old.opening old.room (old.passes - old.free + i) s t
@@ -129,9 +144,10 @@ pub record IsSame (p q : PassView) : Type 0 where
   pub opening : q.opening ≡ p.opening
   pub number : q.number ≡ p.number
   pub mine : q.mine ≡ p.mine
+  pub lasting : q.lasting ≡ p.lasting
 
 pub joined_same : (p : PassView) (qs : List PassView) → IsSame p (joined_all p qs)
-joined_same p [] = record { cell = refl; free = refl; passes = refl; opening = refl; number = refl; mine = refl }
+joined_same p [] = record { cell = refl; free = refl; passes = refl; opening = refl; number = refl; mine = refl; lasting = refl }
 joined_same p (q ∷ qs) =
     let x = joined_same (joined_shown p q) qs in
-    record { cell = x.cell; free = x.free; passes = x.passes; opening = x.opening; number = x.number; mine = x.mine }
+    record { cell = x.cell; free = x.free; passes = x.passes; opening = x.opening; number = x.number; mine = x.mine; lasting = x.lasting }

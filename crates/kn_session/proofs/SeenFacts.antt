@@ -1,6 +1,6 @@
 -- One revision of a session over several: its history, its ticker, and what its slots did, from the passes of its cell.
 use Rattle.std.proofs.Common.{◌≡◌, ◌⊎◌, ◌<◌, ◌+◌, inl, inr, ℕ, List, [], ◌∙◌, subst, length}
-use Rattle.std.specs.Prelude.{Option, Some, slice_index_or}
+use Rattle.std.specs.Prelude.{Option, Some, false, slice_index_or}
 use Rattle.atomic_table.specs.Seated.{TableId}
 use Rattle.kn_trace.specs.Laws.{IsLawful, IsSettled}
 use Rattle.kn_trace.specs.Trace.{Trace}
@@ -15,9 +15,8 @@ use Rattle.kn_session.specs.Laws.{SessionLaws}
 use Rattle.kn_session.specs.Lists.{HasOne}
 use Rattle.kn_session.specs.Own.{IsAloneIn, IsArrivalOf}
 use Rattle.kn_session.specs.Passes.{IsLone, IsNew}
-use Rattle.kn_session.specs.Session.{IsFine, IsPart, IsRowOf, IsSlots}
-use Rattle.kn_session.specs.Wide.{IsOneHistory, IsTicked}
-use Rattle.kn_session.specs.WidePasses.{IsClosed}
+use Rattle.kn_session.specs.Session.{IsFine, IsOneHistory, IsPart, IsRowOf, IsSlots, IsTicked}
+use Rattle.kn_session.specs.WidePasses.{IsShut}
 use Rattle.kn_session.proofs.AloneFacts.{alone_of}
 use Rattle.kn_session.proofs.CloseFacts.{AreLone, closing, closing_kept, closing_opening, closing_rows, closing_ticker}
 use Rattle.kn_session.proofs.KeeperFacts.{keeper_probed}
@@ -40,6 +39,7 @@ pub record Spot {A : Type 0} (f : A → Option PassView) (xs : List A) (reading 
   pub others : first.others ≡ []
   pub opening : first.opening ≡ b
   pub full : 1 + first.free + first.back + 1 + length xs ≡ first.passes
+  pub plain : first.lasting ≡ false
   pub fresh : IsNew b room 1 old
   pub ticks : TicksOf reading start old new w w' k k'
   pub lone : AreLone cell f xs
@@ -53,7 +53,7 @@ pub record Seen {A : Type 0} (f : A → Option PassView) (xs : List A) (reading 
   pub old : PassView
   pub new : PassView
   pub spot : Spot f xs reading b room start w w' k k' cell first old new
-  pub closed : IsClosed (closing f xs first new) h
+  pub closed : IsShut (closing f xs first new) h
 
 opening_is : {A : Type 0} (f : A → Option PassView) (xs : List A) (reading : ℕ → Type 0) (b : RevisionState) (room start : ℕ) (w w' : Option Link) (k k' : ℕ) (h : List Past) → (x : Seen f xs reading b room start w w' k k' h)
     → (closing f xs x.first x.new).opening ≡ b
@@ -61,11 +61,11 @@ opening_is f xs reading b room start w w' k k' h x = closing_opening f xs x.firs
 
 pub seen_part : {A : Type 0} (f : A → Option PassView) (xs : List A) (reading : ℕ → Type 0) (b : RevisionState) (room start : ℕ) (w w' : Option Link) (k k' : ℕ) (h : List Past) → Seen f xs reading b room start w w' k k' h
     → (i : ℕ) (d : A) → i < length xs → (q : PassView) → f (slice_index_or xs i d) ≡ Some q → IsPart h (2 + i) q
-seen_part f xs reading b room start w w' k k' h x = closing_kept x.cell f xs x.first x.new x.closed.revision h x.spot.lone x.closed.closes
+seen_part f xs reading b room start w w' k k' h x = closing_kept x.cell f xs x.first x.new x.closed.revision h x.spot.lone x.closed.whole.closes
 
 ticker_part : {A : Type 0} (f : A → Option PassView) (xs : List A) (reading : ℕ → Type 0) (b : RevisionState) (room start : ℕ) (w w' : Option Link) (k k' : ℕ) (h : List Past) → (x : Seen f xs reading b room start w w' k k' h)
     → IsPart h 1 x.new
-ticker_part f xs reading b room start w w' k k' h x = closing_ticker f xs x.first x.new x.closed.revision h x.spot.last.named x.closed.closes
+ticker_part f xs reading b room start w w' k k' h x = closing_ticker f xs x.first x.new x.closed.revision h x.spot.last.named x.closed.whole.closes
 
 own_ticks : {A : Type 0} (f : A → Option PassView) (xs : List A) (reading : ℕ → Type 0) (b : RevisionState) (room start : ℕ) (w w' : Option Link) (k k' : ℕ) (h : List Past) → (x : Seen f xs reading b room start w w' k k' h)
     → Each Ticking x.new.mine
@@ -73,7 +73,7 @@ own_ticks f xs reading b room start w w' k k' h x = ticker_ticking reading start
 
 numbers_of : {A : Type 0} (f : A → Option PassView) (xs : List A) (reading : ℕ → Type 0) (b : RevisionState) (room start : ℕ) (w w' : Option Link) (k k' : ℕ) (h : List Past) → Seen f xs reading b room start w w' k k' h
     → Each (λ r. (r.pass ≡ 1) ⊎ IsSlots (length xs) r) h
-numbers_of f xs reading b room start w w' k k' h x = closing_rows x.cell f xs x.first x.new x.closed.revision h x.spot.lone x.spot.last x.spot.number x.spot.mine x.spot.others x.closed.closes
+numbers_of f xs reading b room start w w' k k' h x = closing_rows x.cell f xs x.first x.new x.closed.revision h x.spot.lone x.spot.last x.spot.number x.spot.mine x.spot.others x.closed.whole.closes
 
 seen_rows : {A : Type 0} (f : A → Option PassView) (xs : List A) (reading : ℕ → Type 0) (b : RevisionState) (room start : ℕ) (w w' : Option Link) (k k' : ℕ) (h : List Past) → Seen f xs reading b room start w w' k k' h
     → Each (IsRowOf (length xs)) h
@@ -89,7 +89,7 @@ seen_rows f xs reading b room start w w' k k' h x j r at =
     ]
 
 seen_legal : {A : Type 0} (f : A → Option PassView) (xs : List A) (reading : ℕ → Type 0) (b : RevisionState) (room start : ℕ) (w w' : Option Link) (k k' : ℕ) (h : List Past) → Seen f xs reading b room start w w' k k' h → IsLegal b h
-seen_legal f xs reading b room start w w' k k' h x = subst (λ (v : RevisionState). IsLegal v h) (opening_is f xs reading b room start w w' k k' h x) x.closed.closes.legal
+seen_legal f xs reading b room start w w' k k' h x = subst (λ (v : RevisionState). IsLegal v h) (opening_is f xs reading b room start w w' k k' h x) x.closed.whole.closes.legal
 
 pub seen_alone : {A : Type 0} (f : A → Option PassView) (xs : List A) (reading : ℕ → Type 0) (b : RevisionState) (room start : ℕ) (w w' : Option Link) (k k' : ℕ) (h : List Past) → SessionLaws
     → Seen f xs reading b room start w w' k k' h → (n r : ℕ) → HasOne (IsArrivalOf r) (rows_by n h) → IsAloneIn h n r
@@ -108,9 +108,9 @@ one_history f xs reading b room start w w' k k' h laws x =
     let o = opening_is f xs reading b room start w w' k k' h x in
     record {
       legal = seen_legal f xs reading b room start w w' k k' h x;
-      bounds = x.closed.closes.bounds;
-      lawful = subst (λ (v : RevisionState). (c : Trace) → StandsFor v c → IsLawful v.spec (trace_after v.spec c h)) o x.closed.lawful;
-      settled = subst (λ (v : RevisionState). (c : Trace) → StandsFor v c → IsSettled v.spec (trace_after v.spec c h)) o x.closed.settled;
+      bounds = x.closed.whole.closes.bounds;
+      lawful = subst (λ (v : RevisionState). (c : Trace) → StandsFor v c → IsLawful v.spec (trace_after v.spec c h)) o x.closed.whole.lawful;
+      settled = subst (λ (v : RevisionState). (c : Trace) → StandsFor v c → IsSettled v.spec (trace_after v.spec c h)) o x.closed.whole.settled;
       alone = seen_alone f xs reading b room start w w' k k' h laws x;
       rows = seen_rows f xs reading b room start w w' k k' h x;
     }

@@ -66,7 +66,7 @@ slot_served laws reading spec b room rounds h i p q s0 s1 s2 s3 f2 f3 m2 m3 alon
     } in
     slot_of reading spec b room rounds h i p q s0 s1 s2 s3 f2 f3 m2 m3 new whole e0 e3 ff fm part
     (λ e. subst (λ n. HasTexts n s1.said s2.said) all.all (rounds_texts (λ _. ⊤) reading spec (i * rounds) all.endings p q s1 s2 (sym all.faulty ∙ e) all.rounds))
-    (rounds_full laws h b room reading spec (i * rounds) all.endings p q s1 s2 new.opening new.roomy whole.rounds)
+    (rounds_full laws h b room reading spec (i * rounds) all.endings p q s1 s2 new.opening new.roomy new.plain new.whole whole.rounds)
     (λ e. rounds_cause (λ _. ⊤) reading spec (i * rounds) all.endings p q s1 s2 (sym all.faulty ∙ e) all.rounds)
 
 -- a first pass that did nothing has no row
@@ -83,6 +83,8 @@ new_as b b' room room' n n' p e f g x = record {
   others = x.others;
   opening = x.opening ∙ e;
   roomy = x.roomy ∙ f;
+  plain = x.plain;
+  whole = x.whole;
 }
 
 -- a list that has a place has a member

@@ -136,7 +136,7 @@ idle_round reading spec tag v p a b w f k = record {
     found = Err error.Malformed;
     meant = elsewhere;
     text = answered answer.BadHead;
-    way = (record { pass = refl; unused = w }, inl (refl, refl));
+    way = (record { pass = refl; unused = w }, (refl, refl));
     answers = inl refl;
     talks = λ t none. absurd (cc);
   });

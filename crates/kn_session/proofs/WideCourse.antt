@@ -13,13 +13,14 @@ use Rattle.kn_request.specs.declared.slot.WideSlot.{WideSlot}
 use Rattle.kn_request.specs.declared.slot.Work.{Work}
 use Rattle.kn_request.specs.Wide.{ArePassesOf, at_count, at_pass, at_wire, passes_in}
 use Rattle.kn_session.specs.Laws.{SessionLaws}
-use Rattle.kn_session.specs.Passes.{IsNew}
+use Rattle.kn_session.specs.Passes.{IsNew, found_by}
 use Rattle.kn_session.specs.Rounds.{IsRounds}
 use Rattle.kn_session.specs.Wide.{WideSides, at_history}
-use Rattle.kn_session.specs.WidePasses.{AreOpen, EachMayGive, HasRun, HasSame, HaveTicked, IsClosed, IsOpen, MayCloseAll, SlotRan, gave, pass_at}
+use Rattle.kn_session.specs.WidePasses.{AreShut, AreOpen, EachMayGive, HasRun, HasSame, HaveTicked, IsShut, IsOpen, MayCloseAll, SlotRan, gave, pass_at}
 use Rattle.kn_session.proofs.Nexts.{next_of, rounds_next}
 use Rattle.kn_session.proofs.OwnFacts.{rounds_own}
 use Rattle.kn_session.proofs.CloseFacts.{closing_full}
+use Rattle.kn_session.proofs.HandFacts.{joined_same}
 use Rattle.kn_session.proofs.PlaceFacts.{lent}
 use Rattle.kn_session.proofs.SeenFacts.{Seen, Spot}
 use Rattle.kn_session.proofs.SessionFacts.{new_as, some_of}
@@ -43,7 +44,7 @@ pub record Way {C L : Type 0} (at : WideSlot C L → WideSides) (reading : ℕ �
 pub record Course {C L : Type 0} (at : WideSlot C L → WideSides) (reading : ℕ → Type 0) (specs : List Spec) (bs : List RevisionState) (room rounds start : ℕ) (slots slots' : List (WideSlot C L)) (ws ws' : List (Option Link)) (ks ks' : List ℕ) (hs : List (List Past)) : Type 0 where
   pub laws : SessionLaws
   pub way : Way at reading specs bs room rounds start slots slots' ws ws' ks ks'
-  pub closed : (v : ℕ) (p : PassView) → v < length way.cells → IsClosed (joined_shown (slice_index_or way.firsts' v p) (slice_index_or way.ticks' v p)) (at_history hs v)
+  pub closed : AreShut (length way.cells) way.firsts' way.ticks' hs
 
 -- ---- one slot's share in one revision
 
@@ -122,7 +123,7 @@ open_may bs room n cells firsts ticks o =
           let is = (o.each v (some_of bs v lowb) c p lowb).first_is in
           let free = ap (λ (q : PassView). q.free) is in
           let passes = ap (λ (q : PassView). q.passes) is in
-          record { of = ap (λ (q : PassView). q.cell) is; free = omega arith; low = omega arith; unseen = ap (λ (q : PassView). q.seen) is },
+          record { of = ap (λ (q : PassView). q.cell) is; free = omega arith; low = omega arith; blank = record { unseen = ap (λ (q : PassView). q.seen) is; plain = ap (λ (q : PassView). q.lasting) is; whole = ap (λ (q : PassView). q.gone) is } },
     )
 
 pub open_ticks : (bs : List RevisionState) (room n : ℕ) (cells : List TableId) (firsts ticks : List PassView) → AreOpen bs room n cells firsts ticks → ArePassesOf cells ticks
@@ -170,6 +171,7 @@ way_spot at reading specs bs room rounds start slots slots' ws ws' ks ks' x v b0
       others = ap (λ (q : PassView). q.others) is;
       opening = ap (λ (q : PassView). q.opening) is;
       full = omega arith;
+      plain = ap (λ (q : PassView). q.lasting) is;
       fresh = record {
         named = named;
         free = ap (λ (q : PassView). q.free) o.ticks_is;
@@ -179,6 +181,8 @@ way_spot at reading specs bs room rounds start slots slots' ws ws' ks ks' x v b0
         others = ap (λ (q : PassView). q.others) o.ticks_is;
         opening = ap (λ (q : PassView). q.opening) o.ticks_is;
         roomy = ap (λ (q : PassView). q.room) o.ticks_is;
+        plain = ap (λ (q : PassView). q.lasting) o.ticks_is;
+        whole = ap (λ (q : PassView). q.gone) o.ticks_is;
       };
       ticks = t;
       lone = λ i d low.
@@ -220,7 +224,7 @@ way_closes at reading specs bs room rounds start slots slots' ws ws' ks ks' x of
           let took = x.run.took.1 v p (omega arith) in
           record {
             ticks_of = y.last.of;
-            closes = record { of = of.1 v c p low; all = subst (λ (q : PassView). 1 + (joined_shown q T').free + (joined_shown q T').back ≡ (joined_shown q T').passes) (sym took) full };
+            closes = record { of = of.1 v c p low; plain = ap (λ (q : PassView). q.lasting) took ∙ ((joined_same G (found_by (pass_at v) x.run.mids)).lasting ∙ y.plain); all = subst (λ (q : PassView). 1 + (joined_shown q T').free + (joined_shown q T').back ≡ (joined_shown q T').passes) (sym took) full };
           };
     }
 
@@ -243,22 +247,22 @@ course_seen at reading specs bs room rounds start slots slots' ws ws' ks ks' hs 
       old = slice_index_or x.way.ticks v p;
       new = T';
       spot = way_spot at reading specs bs room rounds start slots slots' ws ws' ks ks' x.way v b c p inside;
-      closed = subst (λ (q : PassView). IsClosed (joined_shown q T') (at_history hs v)) (x.way.run.took.1 v p (omega arith)) (x.closed v p lowc);
+      closed = subst (λ (q : PassView). IsShut (joined_shown q T') (at_history hs v)) (x.way.run.took.1 v p (omega arith)) (x.closed v p lowc);
     }
 
 -- ---- what was lent of the lists of cells and of first passes is what they hold
 
 abbrev pub way_of : {C L : Type 0} {at : WideSlot C L → WideSides} {reading : ℕ → Type 0} {specs : List Spec} {bs : List RevisionState} {room rounds start : ℕ} {slots slots' : List (WideSlot C L)} {ws ws' : List (Option Link)} {ks ks' : List ℕ}
-    (cells cells0 : List TableId) (firsts firsts0 ticks firsts' ticks' : List PassView) → AreOpen bs room (length slots + 2) cells0 firsts0 ticks → cells ≡ cells0 → firsts ≡ firsts0
+    (cells cells0 : List TableId) (firsts firsts0 ticks ticks0 firsts' ticks' : List PassView) → AreOpen bs room (length slots + 2) cells0 firsts0 ticks0 → cells ≡ cells0 → firsts ≡ firsts0 → ticks ≡ ticks0
     → HasRun at reading cells specs rounds firsts firsts' slots slots' → HaveTicked reading start ticks ticks' ws ws' ks ks' → length bs ≡ length specs → 0 < length specs → ((s t : WideSlot C L) → HasSame s t → at t ≡ at s)
     → Way at reading specs bs room rounds start slots slots' ws ws' ks ks'
-way_of cells cells0 firsts firsts0 ticks firsts' ticks' opened e f run ticked count some same = record {
+way_of cells cells0 firsts firsts0 ticks ticks0 firsts' ticks' opened e f h run ticked count some same = record {
   cells = cells;
   firsts = firsts;
   ticks = ticks;
   firsts' = firsts';
   ticks' = ticks';
-  opened = rw (e, f) opened;
+  opened = rw (e, f, h) opened;
   run = run;
   ticked = ticked;
   count = count;
@@ -276,10 +280,10 @@ come_back cells firsts firsts0 ticks firsts' len opened long of =
     lent len firsts' firsts0 (omega arith)
 
 abbrev pub course_of : {C L : Type 0} {at : WideSlot C L → WideSides} {reading : ℕ → Type 0} {specs : List Spec} {bs : List RevisionState} {room rounds start : ℕ} {slots slots' : List (WideSlot C L)} {ws ws' : List (Option Link)} {ks ks' : List ℕ}
-    (hs : List (List Past)) (cells0 : List TableId) (back : List PassView) → SessionLaws → (way : Way at reading specs bs room rounds start slots slots' ws ws' ks ks') → way.cells ≡ cells0 → back ≡ way.firsts'
-    → ((v : ℕ) (p : PassView) → v < length cells0 → IsClosed (joined_shown (slice_index_or back v p) (slice_index_or way.ticks' v p)) (at_history hs v)) → Course at reading specs bs room rounds start slots slots' ws ws' ks ks' hs
-course_of hs cells0 back laws way e f closed = record {
+    (hs : List (List Past)) (cells0 : List TableId) (back back' : List PassView) → SessionLaws → (way : Way at reading specs bs room rounds start slots slots' ws ws' ks ks') → way.cells ≡ cells0 → back ≡ way.firsts' → back' ≡ way.ticks'
+    → AreShut (length cells0) back back' hs → Course at reading specs bs room rounds start slots slots' ws ws' ks ks' hs
+course_of hs cells0 back back' laws way e f f' closed = record {
   laws = laws;
   way = way;
-  closed = λ v p low. subst (λ l. IsClosed (joined_shown (slice_index_or l v p) (slice_index_or way.ticks' v p)) (at_history hs v)) f (closed v p (let n = ap length e in omega (arith, low, n)));
+  closed = subst (λ n. AreShut n way.firsts' way.ticks' hs) (sym (ap length e)) (subst (λ l. AreShut (length cells0) way.firsts' l hs) f' (subst (λ l. AreShut (length cells0) l back' hs) f closed));
 }

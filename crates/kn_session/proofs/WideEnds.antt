@@ -94,7 +94,7 @@ course_slot at reading specs bs room rounds start slots slots' ws ws' ks ks' hs 
             is = y.is;
             fresh = y.fresh;
             part = part;
-            full = λ has. rounds_full laws h (slice_index_or bs v b) room reading spec (i * rounds) ss y.old y.new (side_at v (at s)) (side_at v (at m)) y.fresh.opening y.fresh.roomy later (full_at v es has);
+            full = λ has. rounds_full laws h (slice_index_or bs v b) room reading spec (i * rounds) ss y.old y.new (side_at v (at s)) (side_at v (at m)) y.fresh.opening y.fresh.roomy y.fresh.plain y.fresh.whole later (full_at v es has);
             cause = λ f. cause_at (λ _. ⊤) reading specs v (i * rounds) es given last (at s) (at m) (sym (all.faulty v inside) ∙ f) all.rounds;
           };
       texts = λ none.

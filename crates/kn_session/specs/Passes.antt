@@ -1,11 +1,18 @@
 -- The passes that the slots hold.
-use Rattle.std.specs.Prelude.{ℕ, ◌≡◌, List, [], ◌∷◌, Option, None, Some}
+use Rattle.std.specs.Prelude.{ℕ, ◌≡◌, ◌+◌, ◌-◌, List, [], ◌∷◌, Option, None, Some, false}
 use Rattle.atomic_table.specs.Seated.{TableId}
 use Rattle.kn_core.specs.State.{RevisionState}
 use Rattle.kn_cell.specs.Shown.{PassView, joined_shown}
 use Rattle.kn_request.specs.declared.slot.Slot.{Slot}
+use Rattle.kn_request.specs.declared.slot.Work.{Work}
 
--- a new pass with this number, of a cell over this revision with this room, which has seen and done nothing
+-- a pass of a cell whose history is kept whole, which has seen none of it
+pub record IsBlank (p : PassView) : Type 0 where
+  pub unseen : p.seen ≡ []
+  pub plain : p.lasting ≡ false
+  pub whole : p.gone ≡ 0
+
+-- a new pass with this number, of a cell over this revision with this room, whose history is kept whole, which has seen and done nothing
 pub record IsNew (b : RevisionState) (room number : ℕ) (p : PassView) : Type 0 where
   pub named : p.number ≡ number
   pub free : p.free ≡ 0
@@ -15,6 +22,12 @@ pub record IsNew (b : RevisionState) (room number : ℕ) (p : PassView) : Type 0
   pub others : p.others ≡ []
   pub opening : p.opening ≡ b
   pub roomy : p.room ≡ room
+  pub plain : p.lasting ≡ false
+  pub whole : p.gone ≡ 0
+
+-- nothing is noted in the work
+abbrev pub IsUnmarked : Work → Type 0
+IsUnmarked w = (w.fault ≡ false) × (w.memory ≡ false)
 
 -- there is a pass of the cell
 abbrev pub HasPass : TableId → Option PassView → Type 0
@@ -44,6 +57,10 @@ pub record IsKept {C L : Type 0} (s t : Slot C L) : Type 0 where
 -- a slot got a new pass
 abbrev pub IsGiven : {C L : Type 0} → TableId → RevisionState → ℕ → ℕ → Slot C L → Slot C L → Type 0
 IsGiven {C} {L} cell b room number s t = IsHanded cell b room number t.work.pass × IsKept s t
+
+-- .. by this pass, after so many that it gave away before
+abbrev pub IsGivenOf : {C L : Type 0} → TableId → PassView → ℕ → Slot C L → Slot C L → Type 0
+IsGivenOf {C} {L} cell p i s t = IsGiven cell p.opening p.room (p.passes - p.free + i) s t
 
 -- a slot gave its pass away
 abbrev pub IsEmptied : {C L : Type 0} → Slot C L → Slot C L → Type 0

@@ -1,5 +1,5 @@
 -- The rounds of one slot.
-use Rattle.std.specs.Prelude.{ℕ, ◌≡◌, ◌⊎◌, ◌+◌, List, [], ◌∷◌, ◌++◌, length, Option, Some, Bool, true, false, ◌||◌}
+use Rattle.std.specs.Prelude.{ℕ, ◌≡◌, ◌⊎◌, ◌+◌, ◌*◌, List, [], ◌∷◌, ◌++◌, length, Option, Some, ⊤, Bool, true, false, ◌||◌}
 use Rattle.kn_event.specs.declared.revision.Spec.{Spec}
 use Rattle.kn_cell.specs.declared.past.Full.{Full}
 use Rattle.kn_cell.specs.Shown.{PassView, Looks}
@@ -9,7 +9,11 @@ use Rattle.kn_io.specs.Links.{Link}
 use Rattle.kn_request.specs.declared.slot.Served.{Served}
 use Rattle.kn_request.specs.declared.slot.Served.TheVariants as served
 use Rattle.kn_request.specs.Outside.{Said, said}
+use Rattle.kn_request.specs.declared.slot.Slot.{Slot}
 use Rattle.kn_request.specs.One.{HasCauses, ServesOne}
+use Rattle.kn_session.specs.declared.setting.Setting.{Setting}
+use Rattle.kn_session.specs.Changes.{Change, became, was}
+use Rattle.kn_session.specs.Lists.{EachDone}
 
 -- what is told of a slot's caller and of its link, and how many faults each counted
 pub record Sides : Type 0 where
@@ -71,3 +75,18 @@ pub record AllRounds (Then : PassView → Type 0) (reading : ℕ → Type 0) (sp
   pub rounds : IsRounds Then reading spec tag endings p q a b
   pub faulty : fault ≡ any_fault endings
   pub wanting : memory ≡ any_memory endings
+
+-- .. all rounds of a slot, from this tag on, with this pass. What is told of a slot is given by `at`, and the clock's readings by `reading`
+abbrev pub HasMade : {C L K G : Type 0} → (Slot C L → Sides) → (K → ℕ → Type 0) → Setting K G → ℕ → Change PassView → Change (Slot C L) → Bool → Bool → Type 0
+HasMade at reading setting tag pass slot fault memory =
+    AllRounds (λ _. ⊤) (reading setting.clock.now) setting.spec.now tag setting.rounds (was pass) (became pass) (at (was slot)) (at (became slot)) fault memory
+
+-- .. of slot i, with the pass in its work, which notes whether one ended in a fault, or in want of memory
+abbrev pub HasServed : {C L K G : Type 0} → (Slot C L → Sides) → (K → ℕ → Type 0) → Setting K G → ℕ → Slot C L → Slot C L → Type 0
+HasServed at reading setting i s t =
+    (p : PassView) → s.work.pass ≡ Some p → (q : PassView) × (t.work.pass ≡ Some q) × (q.cell ≡ p.cell)
+    × AllRounds (λ _. ⊤) (reading setting.clock.now) setting.spec.now (i * setting.rounds) setting.rounds p q (at s) (at t) t.work.fault t.work.memory
+
+-- .. of each slot
+abbrev pub HaveServed : {C L K G : Type 0} → (Slot C L → Sides) → (K → ℕ → Type 0) → Setting K G → Change (List (Slot C L)) → Type 0
+HaveServed at reading setting slots = EachDone (HasServed at reading setting) (was slots) (became slots)

@@ -1,20 +1,24 @@
 -- A whole session.
-use Rattle.std.specs.Prelude.{ℕ, ◌≡◌, ◌≢◌, ◌⊎◌, ◌<◌, ◌+◌, ◌-◌, ◌*◌, List, length, Option, Some, Bool, true, false}
+use Rattle.std.specs.Prelude.{ℕ, ◌≡◌, ◌≢◌, ◌⊎◌, ◌<◌, ◌≤◌, ◌+◌, ◌-◌, ◌*◌, ◌^◌, List, length, Option, Some, Bool, true, false}
 use Rattle.kn_event.specs.declared.event.Act.{Act}
 use Rattle.kn_event.specs.declared.event.Act.TheVariants as act
 use Rattle.kn_event.specs.declared.revision.Spec.{Spec}
+use Rattle.kn_trace.specs.Laws.{IsLawful, IsSettled}
 use Rattle.kn_trace.specs.Trace.{Trace}
 use Rattle.kn_core.specs.State.{RevisionState, StandsFor}
 use Rattle.kn_cell.specs.declared.past.Past.{Past}
 use Rattle.kn_cell.specs.Lists.{Each, StartsWith}
-use Rattle.kn_cell.specs.History.{clock_after, live_of, rows_by, trace_after}
-use Rattle.kn_cell.specs.Shown.{PassView}
+use Rattle.kn_cell.specs.History.{IsInBounds, IsLegal, clock_after, live_of, rows_by, trace_after}
+use Rattle.kn_cell.specs.Shown.{Closes, PassView}
 use Rattle.kn_io.specs.Links.{Link, Tells}
 use Rattle.kn_io.specs.declared.records.Probe.{Probe}
+use Rattle.kn_request.specs.declared.slot.Slot.{Slot}
 use Rattle.kn_request.specs.Pods.{IsStarting}
 use Rattle.kn_request.specs.Ticking.{TicksApart, Turns, is_probed, probed_all}
-use Rattle.kn_session.specs.Lists.{HasOne}
-use Rattle.kn_session.specs.Own.{Lasts}
+use Rattle.kn_session.specs.declared.setting.Setting.{Setting}
+use Rattle.kn_session.specs.Changes.{Change, became, was}
+use Rattle.kn_session.specs.Lists.{EachDone, HasOne}
+use Rattle.kn_session.specs.Own.{IsAloneIn, IsArrivalOf, Lasts}
 use Rattle.kn_session.specs.Passes.{IsNew}
 use Rattle.kn_session.specs.Rounds.{AllRounds, HasFaulted, HasTexts, IsFullOf, Sides}
 
@@ -92,3 +96,55 @@ pub record Probed (b : RevisionState) (h : List Past) (wire wire' : Option Link)
   pub told : Tells wire wire' (probed_all probes)
   pub found : Each (λ x. (pod : ℕ) → x.event.act ≡ act.Ready pod → IsFound probes pod) h
   pub starting : (c : Trace) → StandsFor b c → (pod : ℕ) → IsStarting c pod → IsStarting (trace_after b.spec c h) pod → is_probed pod probes
+
+-- the one history of a revision: legal from its opening, and each row is its ticker's or one of so many slots'. No pass ends another's request
+pub record IsOneHistory (slots : ℕ) (b : RevisionState) (h : List Past) : Type 0 where
+  pub legal : IsLegal b h
+  pub bounds : Each (λ x. IsInBounds x.event) h
+  pub lawful : (c : Trace) → StandsFor b c → IsLawful b.spec (trace_after b.spec c h)
+  pub settled : (c : Trace) → StandsFor b c → IsSettled b.spec (trace_after b.spec c h)
+  pub alone : (n r : ℕ) → HasOne (IsArrivalOf r) (rows_by n h) → IsAloneIn h n r
+  pub rows : Each (IsRowOf slots) h
+
+-- the ticker made its turns of the revision, and its keeper gained probes alone, and no count of faults fell
+pub record IsTicked (reading : ℕ → Type 0) (start : ℕ) (b : RevisionState) (room : ℕ) (h : List Past) (wire wire' : Option Link) (breaks breaks' : ℕ) : Type 0 where
+  pub served : TickerServed reading start b room h wire wire'
+  pub probed : Probed b h wire wire'
+  pub never_falls : breaks ≤ breaks'
+
+-- ---- a whole session
+
+-- a revision with no live request, and with room for events
+pub record MayBegin (b : RevisionState) : Type 0 where
+  pub live : (c : Trace) → StandsFor b c → live_of c ≡ 0
+  pub events : b.events < 2 ^ 53
+
+-- the whole history that the last pass of a cell closed it with, and the revision then
+pub record ClosesWhole (p : PassView) (now : RevisionState) (h : List Past) : Type 0 where
+  pub closes : Closes p now h
+  pub lawful : (c : Trace) → StandsFor p.opening c → IsLawful p.opening.spec (trace_after p.opening.spec c h)
+  pub settled : (c : Trace) → StandsFor p.opening c → IsSettled p.opening.spec (trace_after p.opening.spec c h)
+
+-- .. as a history of this revision
+pub record IsClosedAs (b now : RevisionState) (h : List Past) : Type 0 where
+  pub legal : IsLegal b h
+  pub bounds : Each (λ x. IsInBounds x.event) h
+  pub after : IsAfter b h now
+  pub lawful : (c : Trace) → StandsFor b c → IsLawful b.spec (trace_after b.spec c h)
+  pub settled : (c : Trace) → StandsFor b c → IsSettled b.spec (trace_after b.spec c h)
+
+-- the ticker's pass made its turns with the keeper
+pub record HasTicked {L K G : Type 0} (told : L → Option Link) (faults : L → ℕ) (reading : K → ℕ → Type 0) (setting : Setting K G) (pass : Change PassView) (keeper : Change L) : Type 0 where
+  pub turns : Turns (reading setting.clock.now) setting.start (was pass) (became pass) (told (was keeper)) (told (became keeper))
+  pub apart : TicksApart (reading setting.clock.now) setting.start (was pass) (became pass)
+  pub never_falls : faults (was keeper) ≤ faults (became keeper)
+
+-- each slot served its rounds. What is told of a slot is given by `at`, and the clock's readings by `reading`
+abbrev pub AreServed : {C L K G : Type 0} → (Slot C L → Sides) → (K → ℕ → Type 0) → Setting K G → RevisionState → List Past → Change (List (Slot C L)) → Type 0
+AreServed at reading setting b h slots =
+    EachDone (λ i s t. SlotServed (reading setting.clock.now) setting.spec.now b setting.room setting.rounds h i (at s) (at t) t.work.fault t.work.memory) (was slots) (became slots)
+
+-- the ticker made its turns with the keeper, of which this is told, and which counts these faults
+abbrev pub KeeperServed : {L K G : Type 0} → (L → Option Link) → (L → ℕ) → (K → ℕ → Type 0) → Setting K G → RevisionState → List Past → Change L → Type 0
+KeeperServed told faults reading setting b h keeper =
+    IsTicked (reading setting.clock.now) setting.start b setting.room h (told (was keeper)) (told (became keeper)) (faults (was keeper)) (faults (became keeper))

@@ -1,24 +1,25 @@
 -- The rounds of a slot that serves several revisions, and what becomes of each revision. Revisions go by their places.
 use Rattle.std.specs.List.{list_any}
-use Rattle.std.specs.Prelude.{ℕ, ◌≡◌, ◌⊎◌, ◌≤◌, ◌<◌, ◌+◌, ◌*◌, ◌==◌, ◌&&◌, List, [], ◌∷◌, length, Option, None, Some, Bool, true, false, slice_index_or}
+use Rattle.std.specs.Prelude.{ℕ, ◌≡◌, ◌⊎◌, ◌≤◌, ◌<◌, ◌+◌, ◌*◌, ◌==◌, ◌&&◌, List, [], ◌∷◌, length, map, Option, None, Some, Bool, true, false, slice_index_or, Vec}
+use Rattle.std.specs.Global.{Global}
 use Rattle.kn_event.specs.declared.revision.Spec.{Spec}
-use Rattle.kn_trace.specs.Trace.{Trace}
-use Rattle.kn_trace.specs.Laws.{IsLawful, IsSettled}
-use Rattle.kn_core.specs.State.{RevisionState, StandsFor}
+use Rattle.kn_core.specs.State.{RevisionState}
 use Rattle.kn_cell.specs.declared.past.Past.{Past}
 use Rattle.kn_cell.specs.Lists.{Each}
-use Rattle.kn_cell.specs.History.{IsInBounds, IsLegal, rows_by, trace_after}
 use Rattle.kn_cell.specs.Shown.{PassView}
 use Rattle.kn_io.specs.Causes.{Rose}
 use Rattle.kn_io.specs.Links.{Link}
 use Rattle.kn_request.specs.declared.slot.Ended.{Ended}
+use Rattle.kn_request.specs.declared.slot.WideSlot.{WideSlot}
 use Rattle.kn_request.specs.Outside.{Said, said}
-use Rattle.kn_request.specs.Wide.{ServesWide, WideCauses, at_count, at_pass}
-use Rattle.kn_session.specs.Lists.{HasOne}
-use Rattle.kn_session.specs.Own.{IsAloneIn, IsArrivalOf, Lasts}
+use Rattle.kn_request.specs.Wide.{ServesWide, WideCauses, at_count, at_pass, at_wire, faults_in, memories_in}
+use Rattle.kn_session.specs.declared.wide_setting.WideSetting.{WideSetting}
+use Rattle.kn_session.specs.Changes.{Change, became, was}
+use Rattle.kn_session.specs.Lists.{EachDone, EachIs, HasOne}
+use Rattle.kn_session.specs.Own.{Lasts}
 use Rattle.kn_session.specs.Passes.{IsNew}
 use Rattle.kn_session.specs.Rounds.{HasTexts, IsFullOf, is_fault, is_memory}
-use Rattle.kn_session.specs.Session.{IsPart, IsRowOf, Probed, TickerServed, WasShort}
+use Rattle.kn_session.specs.Session.{IsFine, IsOneHistory, IsPart, IsTicked, WasShort}
 
 abbrev pub at_flag : List Bool → ℕ → Bool
 at_flag fs v = slice_index_or fs v false
@@ -106,19 +107,41 @@ pub record WideSlotServed (reading : ℕ → Type 0) (specs : List Spec) (bs : L
   -- where none ended in a fault, each round wrote one text more
   pub texts : ((v : ℕ) → v < length specs → at_flag faults v ≡ false) → HasTexts rounds from.said to.said
 
--- ---- each revision
+-- ---- a whole session over several revisions
 
--- the one history of a revision: legal from its opening, and each row is its ticker's or one of so many slots'. No pass ends another's request
-pub record IsOneHistory (slots : ℕ) (b : RevisionState) (h : List Past) : Type 0 where
-  pub legal : IsLegal b h
-  pub bounds : Each (λ x. IsInBounds x.event) h
-  pub lawful : (c : Trace) → StandsFor b c → IsLawful b.spec (trace_after b.spec c h)
-  pub settled : (c : Trace) → StandsFor b c → IsSettled b.spec (trace_after b.spec c h)
-  pub alone : (n r : ℕ) → HasOne (IsArrivalOf r) (rows_by n h) → IsAloneIn h n r
-  pub rows : Each (IsRowOf slots) h
+-- a link and a work for each of so many revisions
+abbrev pub HasOfEach : {C L : Type 0} → ℕ → WideSlot C L → Type 0
+HasOfEach {C} {L} n s = (length s.links.items ≡ n) × (length s.works.items ≡ n)
 
--- the ticker made its turns of the revision, and its keeper gained probes alone, and no count of faults fell
-pub record IsTicked (reading : ℕ → Type 0) (start : ℕ) (b : RevisionState) (room : ℕ) (h : List Past) (wire wire' : Option Link) (breaks breaks' : ℕ) : Type 0 where
-  pub served : TickerServed reading start b room h wire wire'
-  pub probed : Probed b h wire wire'
-  pub never_falls : breaks ≤ breaks'
+-- as many revisions and as many keepers as specifications, which are 1 to 16
+pub record AreOneEach (specs revisions keepers : ℕ) : Type 0 where
+  pub least : 1 ≤ specs
+  pub most : specs ≤ 16
+  pub of_each : revisions ≡ specs
+  pub kept : keepers ≡ specs
+
+-- a history of each revision, in their order
+pub record AreHistories (slots : ℕ) (bs : List RevisionState) (hs : Vec (List Past) Global) : Type 0 where
+  pub many : length hs.items ≡ length bs
+  pub each : (v : ℕ) (b : RevisionState) → v < length bs → IsOneHistory slots (slice_index_or bs v b) (at_history hs.items v)
+
+-- each slot served its rounds. What is told of a slot is given by `at`, and the clock's readings by `reading`
+abbrev pub AreServedWide : {C L K G : Type 0} → (WideSlot C L → WideSides) → (K → ℕ → Type 0) → WideSetting K G → List RevisionState → Change (List (WideSlot C L)) → Vec (List Past) Global → Type 0
+AreServedWide at reading setting bs slots hs =
+    EachDone (λ i s t. WideSlotServed (reading setting.clock.now) setting.specs.now bs setting.room setting.rounds hs.items i (at s) (at t) (faults_in t.works.items) (memories_in t.works.items)) (was slots) (became slots)
+
+-- a slot has as many links and works as it had, and there are as many keepers
+pub record StayMany {C L : Type 0} (slots : Change (List (WideSlot C L))) (keepers : Change (List L)) : Type 0 where
+  pub slots_kept : EachDone (λ i s t. (length t.links.items ≡ length s.links.items) × (length t.works.items ≡ length s.works.items)) (was slots) (became slots)
+  pub keepers_kept : length (became keepers) ≡ length (was keepers)
+
+-- the ticker made its turns of each revision with its keeper, of which this is told, and which counts these faults
+abbrev pub KeepersServed : {L K G : Type 0} → (L → Option Link) → (L → ℕ) → (K → ℕ → Type 0) → WideSetting K G → List RevisionState → Change (List L) → Vec (List Past) Global → Type 0
+KeepersServed told faults reading setting bs keepers hs =
+    (v : ℕ) (b : RevisionState) → v < length setting.specs.now → IsTicked (reading setting.clock.now) setting.start (slice_index_or bs v b) setting.room (at_history hs.items v)
+    (at_wire (map told (was keepers)) v) (at_wire (map told (became keepers)) v) (at_count (map faults (was keepers)) v) (at_count (map faults (became keepers)) v)
+
+-- where no round that counts at a revision ended in a fault or in want of memory, its history has no finish of a request that failed
+abbrev pub AreFine : {C L : Type 0} → ℕ → List (WideSlot C L) → Vec (List Past) Global → Type 0
+AreFine {C} {L} count slots hs =
+    (v : ℕ) → v < count → EachIs (λ (t : WideSlot C L). (at_flag (faults_in t.works.items) v ≡ false) × (at_flag (memories_in t.works.items) v ≡ false)) slots → Each IsFine (at_history hs.items v)

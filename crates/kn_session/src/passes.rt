@@ -1,8 +1,8 @@
 //! How the slots get their passes, and how these come back.
-ghost use Rattle.std.specs.Prelude.{◌≡◌, ◌≤◌, ◌<◌, ◌+◌, ◌-◌, length, [], Some};
+ghost use Rattle.std.specs.Prelude.{◌≡◌, ◌≤◌, ◌<◌, ◌-◌, length, Some};
 ghost use Rattle.kn_cell.specs.Shown.{PassView};
 ghost use Rattle.kn_session.specs.Lists.{EachDone, EachIs};
-ghost use Rattle.kn_session.specs.Passes.{HasPass, IsEmptied, IsGiven, found_in, joined_all, where_some};
+ghost use Rattle.kn_session.specs.Passes.{HasPass, IsBlank, IsEmptied, IsGiven, IsGivenOf, found_in, joined_all, where_some};
 ghost use Rattle.kn_session.specs.WidePasses.{IsTakenOut};
 
 use kn_cell::{Pass, RevisionCell};
@@ -13,9 +13,9 @@ pub fn hand_out<C, L>(cell: &RevisionCell, pass: &mut Pass, slots: &mut [Slot<C,
     requires cell { pass.old.cell ≡ cell.now }
     requires free { length slots.old ≤ pass.old.free }
     requires low { pass.old.free ≤ pass.old.passes }
-    requires unseen { pass.old.seen ≡ [] }
+    requires blank { IsBlank pass.old }
     ensures pass { pass.new ≡ record pass.old { free = pass.old.free - length slots.old } }
-    ensures slots { EachDone (λ i s t. IsGiven cell.now pass.old.opening pass.old.room (pass.old.passes - pass.old.free + i) s t) slots.old slots.new }
+    ensures slots { EachDone (IsGivenOf cell.now pass.old) slots.old slots.new }
 {
     for i in 0..slots.len() {
         hand_pass(cell, pass, &mut slots[i]);
@@ -25,7 +25,7 @@ pub fn hand_out<C, L>(cell: &RevisionCell, pass: &mut Pass, slots: &mut [Slot<C,
 fn hand_pass<C, L>(cell: &RevisionCell, pass: &mut Pass, slot: &mut Slot<C, L>)
     requires cell { pass.old.cell ≡ cell.now }
     requires free { 0 < pass.old.free }
-    requires unseen { pass.old.seen ≡ [] }
+    requires blank { IsBlank pass.old }
     ensures pass { pass.new ≡ record pass.old { free = pass.old.free - 1 } }
     ensures given { IsGiven cell.now pass.old.opening pass.old.room (pass.old.passes - pass.old.free) slot.old slot.new }
 {

@@ -1,13 +1,13 @@
 //! The rounds of one slot, one after the other.
-ghost use Rattle.std.specs.Prelude.{◌≡◌, ◌≤◌, ◌<◌, ◌+◌, ◌*◌, ◌^◌, ◌||◌, Some, ⊤};
-ghost use Rattle.kn_cell.specs.Shown.{PassView};
-ghost use Rattle.kn_session.specs.Rounds.{AllRounds, is_fault, is_memory, sides};
+ghost use Rattle.std.specs.Prelude.{◌≡◌, ◌≤◌, ◌<◌, ◌+◌, ◌^◌, ◌||◌, Some};
+ghost use Rattle.kn_session.specs.Passes.{HasPass};
+ghost use Rattle.kn_session.specs.Rounds.{HasMade, HasServed, is_fault, is_memory};
 
+use crate::setting::Setting;
+use crate::sided::Sided;
 use kn_cell::{Pass, RevisionCell};
-use kn_event::Spec;
 use kn_io::{Caller, Clock, Gate, PodLink};
 use kn_request::{Served, Slot, serve_one};
-use std::alloc::Global;
 use std::sync::Wait;
 
 pub fn is_fault(served: &Served) -> bool
@@ -35,31 +35,35 @@ pub fn either(a: bool, b: bool) -> bool
     a || b
 }
 
-/// Serves so many rounds with the pass, and says whether one ended in a fault, and whether one in want of memory.
+/// Serves all rounds of a slot with the pass, and says whether one ended in a fault, and whether one in want of memory.
 fn serve_passes<R: Wait, C: Caller, L: PodLink, K: Clock, G: Gate>(
     rt: &R,
-    alloc: Global,
     cell: &RevisionCell,
+    setting: &Setting<K, G>,
     pass: &mut Pass,
-    spec: &Spec,
     slot: &mut Slot<C, L>,
     first: u64,
-    rounds: u64,
-    clock: &K,
-    gate: &G,
 ) -> (bool, bool)
     requires cell { pass.old.cell ≡ cell.now }
-    requires few { first + rounds < 2 ^ 64 }
-    ensures rounds { AllRounds (λ _. ⊤) (K.reading clock.now) spec.now first rounds pass.old pass.new
-        (sides (C.Sink.kept slot.old.caller) (C.Sink.held slot.old.caller) (C.Faulty.faults slot.old.caller) (L.told slot.old.link) (L.Faulty.faults slot.old.link))
-        (sides (C.Sink.kept slot.new.caller) (C.Sink.held slot.new.caller) (C.Faulty.faults slot.new.caller) (L.told slot.new.link) (L.Faulty.faults slot.new.link)) result.0 result.1 }
+    requires few { first + setting.now.rounds < 2 ^ 64 }
+    ensures rounds { HasMade ⟦<Slot<C, L> as Sided>⟧.at K.reading setting.now first pass slot result.0 result.1 }
     ensures cell { pass.new.cell ≡ pass.old.cell }
     ensures work { slot.new.work ≡ slot.old.work }
 {
     let mut fault = false;
     let mut memory = false;
-    for j in 0..rounds {
-        let served = serve_one(rt, alloc, cell, pass, spec, slot, first + j, clock, gate);
+    for j in 0..setting.rounds {
+        let served = serve_one(
+            rt,
+            setting.alloc,
+            cell,
+            pass,
+            setting.spec,
+            slot,
+            first + j,
+            setting.clock,
+            setting.gate,
+        );
         fault = either(is_fault(&served), fault);
         memory = either(is_memory(&served), memory);
     }
@@ -71,39 +75,22 @@ fn serve_passes<R: Wait, C: Caller, L: PodLink, K: Clock, G: Gate>(
 /// Serves the rounds of slot i, with the pass that lies in its work.
 pub fn serve_rounds<R: Wait, C: Caller, L: PodLink, K: Clock, G: Gate>(
     rt: &R,
-    alloc: Global,
     cell: &RevisionCell,
-    spec: &Spec,
+    setting: &Setting<K, G>,
     slot: &mut Slot<C, L>,
     i: u64,
-    rounds: u64,
-    clock: &K,
-    gate: &G,
 )
-    requires pass { (p : PassView) × (slot.old.work.pass ≡ Some p) × (p.cell ≡ cell.now) }
-    requires few { (i < 64) × (rounds ≤ 10000) }
-    ensures rounds { (p : PassView) → slot.old.work.pass ≡ Some p → (q : PassView) × (slot.new.work.pass ≡ Some q) × (q.cell ≡ p.cell)
-        × AllRounds (λ _. ⊤) (K.reading clock.now) spec.now (i * rounds) rounds p q
-        (sides (C.Sink.kept slot.old.caller) (C.Sink.held slot.old.caller) (C.Faulty.faults slot.old.caller) (L.told slot.old.link) (L.Faulty.faults slot.old.link))
-        (sides (C.Sink.kept slot.new.caller) (C.Sink.held slot.new.caller) (C.Faulty.faults slot.new.caller) (L.told slot.new.link) (L.Faulty.faults slot.new.link)) slot.new.work.fault slot.new.work.memory }
+    requires pass { HasPass cell.now slot.old.work.pass }
+    requires few { i < 64 }
+    requires rounds { setting.now.rounds ≤ 10000 }
+    ensures { HasServed ⟦<Slot<C, L> as Sided>⟧.at K.reading setting.now i slot.old slot.new }
 {
-    let pass = slot.work.pass.take();
-    match pass {
+    match slot.work.pass.take() {
         None => {}
         Some(pass) => {
             let mut pass = pass;
-            let (fault, memory) = serve_passes(
-                rt,
-                alloc,
-                cell,
-                &mut pass,
-                spec,
-                slot,
-                i * rounds,
-                rounds,
-                clock,
-                gate,
-            );
+            let first = i * setting.rounds;
+            let (fault, memory) = serve_passes(rt, cell, setting, &mut pass, slot, first);
             slot.work.pass = Some(pass);
             slot.work.fault = fault;
             slot.work.memory = memory;

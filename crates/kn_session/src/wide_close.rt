@@ -1,8 +1,7 @@
 //! How the cells of several revisions are closed.
-ghost use Rattle.std.specs.Prelude.{◌≡◌, ◌≤◌, ◌<◌, [], ℕ, length, slice_index_or, vec_capacity};
-ghost use Rattle.kn_cell.specs.Shown.{PassView, joined_shown};
-ghost use Rattle.kn_session.specs.Wide.{at_history};
-ghost use Rattle.kn_session.specs.WidePasses.{IsClosed, MayCloseAll, MayCloseBy};
+ghost use Rattle.std.specs.Prelude.{◌≡◌, ◌≤◌, [], length, vec_capacity};
+ghost use Rattle.kn_cell.specs.Shown.{joined_shown};
+ghost use Rattle.kn_session.specs.WidePasses.{AreShut, IsShut, MayCloseAll, MayCloseBy};
 
 use kn_cell::{History, Pass, RevisionCell};
 
@@ -10,7 +9,7 @@ use kn_cell::{History, Pass, RevisionCell};
 fn close_cell(cell: RevisionCell, first: Pass, ticks: Pass) -> History
     requires may { MayCloseBy cell first ticks }
     requires of { first.cell ≡ cell }
-    ensures { IsClosed (joined_shown first ticks) result }
+    ensures { IsShut (joined_shown first ticks) result }
 {
     let mut pass = first;
     cell.join(&mut pass, ticks);
@@ -29,7 +28,7 @@ pub fn close_cells(
     requires empty { histories.items ≡ [] }
     requires room { length cells.items ≤ vec_capacity histories }
     ensures count { length result.items ≡ length cells.items }
-    ensures closed { (v : ℕ) (p : PassView) → v < length cells.items → IsClosed (joined_shown (slice_index_or firsts.items v p) (slice_index_or ticks.items v p)) (at_history result.items v) }
+    ensures closed { AreShut (length cells.items) firsts.items ticks.items result.items }
 {
     let mut cells = cells;
     let mut firsts = firsts;

@@ -1,9 +1,8 @@
 //! The cells of several revisions, and what is held beside them.
-ghost use Rattle.std.specs.Prelude.{◌≡◌, ◌≤◌, ◌<◌, ◌^◌, ℕ, [], length, slice_index_or, vec_capacity, IfOk};
-ghost use Rattle.kn_core.specs.State.{RevisionState, StandsFor};
-ghost use Rattle.kn_trace.specs.Trace.{Trace};
-ghost use Rattle.kn_cell.specs.History.{live_of};
-ghost use Rattle.kn_session.specs.WidePasses.{AreOpen, IsOpen};
+ghost use Rattle.std.specs.Prelude.{◌≡◌, ◌≤◌, [], length, vec_capacity, IfOk};
+ghost use Rattle.kn_session.specs.Lists.{EachIs};
+ghost use Rattle.kn_session.specs.Session.{MayBegin};
+ghost use Rattle.kn_session.specs.WidePasses.{AreOpen, IsOpen, IsReserved};
 
 use kn_cell::{History, Pass, RevisionCell};
 use kn_core::Revision;
@@ -29,8 +28,7 @@ pub struct OpenedAll {
 }
 
 fn open_cell(alloc: Global, revision: Revision, room: u64, passes: u64) -> Result<Opened, Memory>
-    requires live { (c : Trace) → StandsFor revision c → live_of c ≡ 0 }
-    requires events { revision.events < 2 ^ 53 }
+    requires revision { MayBegin revision }
     requires room { room ≤ 1000000 }
     requires passes { (2 ≤ passes) × (passes ≤ 1000) }
     ensures { IfOk result (λ o. IsOpen revision room passes o.cell o.first o.ticks) }
@@ -43,9 +41,7 @@ fn open_cell(alloc: Global, revision: Revision, room: u64, passes: u64) -> Resul
 
 /// Memory for what is held of so many revisions.
 fn reserve(alloc: Global, count: usize) -> Result<OpenedAll, Memory>
-    ensures empty { IfOk result (λ o. (o.cells.items ≡ []) × (o.firsts.items ≡ []) × (o.ticks.items ≡ []) × (o.histories.items ≡ [])) }
-    ensures lasts { IfOk result (λ o. length o.lasts.items ≡ count) }
-    ensures room { IfOk result (λ o. (count ≤ vec_capacity o.cells) × (count ≤ vec_capacity o.firsts) × (count ≤ vec_capacity o.ticks) × (count ≤ vec_capacity o.histories)) }
+    ensures { IfOk result (IsReserved count) }
 {
     let Ok(cells) = Vec::with_capacity(alloc, count) else {
         return Err(Memory);
@@ -78,8 +74,7 @@ pub fn open_cells(
     room: u64,
     passes: u64,
 ) -> Result<OpenedAll, Memory>
-    requires live { (v : ℕ) (b : RevisionState) (c : Trace) → v < length revisions.items → StandsFor (slice_index_or revisions.items v b) c → live_of c ≡ 0 }
-    requires events { (v : ℕ) (b : RevisionState) → v < length revisions.items → (slice_index_or revisions.items v b).events < 2 ^ 53 }
+    requires revisions { EachIs MayBegin revisions.items }
     requires room { room ≤ 1000000 }
     requires passes { (2 ≤ passes) × (passes ≤ 1000) }
     ensures opened { IfOk result (λ o. AreOpen revisions.items room passes o.cells.items o.firsts.items o.ticks.items) }

@@ -1,16 +1,16 @@
 //! The rounds of one slot that serves several revisions.
-ghost use Rattle.std.specs.Prelude.{◌≡◌, ◌<◌, ◌+◌, ◌^◌, ◌||◌, ℕ, length, map, Some, IfSome};
+ghost use Rattle.std.specs.Prelude.{◌≡◌, ◌≤◌, ◌<◌, ◌||◌, length, IfSome};
 ghost use Rattle.kn_request.specs.Wide.{faults_in, memories_in, passes_in};
 ghost use Rattle.kn_session.specs.Rounds.{is_fault, is_memory};
-ghost use Rattle.kn_session.specs.Wide.{at_flag, faults_at, wants_at, wide_sides};
-ghost use Rattle.kn_session.specs.WidePasses.{IsWideDone, IsWideReady};
+ghost use Rattle.kn_session.specs.Wide.{faults_at, wants_at};
+ghost use Rattle.kn_session.specs.WidePasses.{HasServedWide, IsNoted, IsReadySlot};
 
 use crate::rounds::{either, is_fault, is_memory};
+use crate::sided::Sided;
+use crate::wide_setting::WideSetting;
 use kn_cell::RevisionCell;
-use kn_event::Spec;
 use kn_io::{Caller, Clock, Gate, PodLink};
 use kn_request::{Ended, Served, WideSlot, Work, serve_wide};
-use std::alloc::Global;
 use std::sync::Wait;
 
 /// Keeps in the work whether a round ended so, beside what is noted there.
@@ -29,8 +29,8 @@ fn note(works: &mut [Work], ended: &Ended)
     requires inside { IfSome ended.now.revision (λ v. v < length works.old) }
     ensures count { length works.new ≡ length works.old }
     ensures passes { passes_in works.new ≡ passes_in works.old }
-    ensures faults { (v : ℕ) → v < length works.old → at_flag (faults_in works.new) v ≡ (faults_at v ended.now || at_flag (faults_in works.old) v) }
-    ensures wants { (v : ℕ) → v < length works.old → at_flag (memories_in works.new) v ≡ (wants_at v ended.now || at_flag (memories_in works.old) v) }
+    ensures faults { IsNoted faults_at faults_in ended.now works.old works.new }
+    ensures wants { IsNoted wants_at memories_in ended.now works.old works.new }
 {
     let v = match ended.revision {
         Some(v) => v,
@@ -39,27 +39,32 @@ fn note(works: &mut [Work], ended: &Ended)
     mark(&mut works[v], &ended.served);
 }
 
-/// Serves so many rounds, each by the revision that its head names. Whether one ended in a fault or in want of memory is in
+/// Serves the rounds of slot i, each by the revision that its head names. Whether one ended in a fault or in want of memory is in
 /// the works then.
 pub fn serve_wide_rounds<R: Wait, C: Caller, L: PodLink, K: Clock, G: Gate>(
     rt: &R,
-    alloc: Global,
     cells: &[RevisionCell],
-    specs: &[Spec],
+    setting: &WideSetting<K, G>,
     slot: &mut WideSlot<C, L>,
-    first: u64,
-    rounds: u64,
-    clock: &K,
-    gate: &G,
+    i: u64,
 )
-    requires ready { IsWideReady cells.now (length specs.now) (length slot.old.links.items) slot.old.works.items }
-    requires few { first + rounds < 2 ^ 64 }
-    ensures { IsWideDone (K.reading clock.now) cells.now specs.now first rounds (length slot.old.links.items) (length slot.new.links.items) slot.old.works.items slot.new.works.items
-        (wide_sides (C.Sink.kept slot.old.caller) (C.Sink.held slot.old.caller) (C.Faulty.faults slot.old.caller) (map (λ l. L.told l) slot.old.links.items) (map (λ l. L.Faulty.faults l) slot.old.links.items))
-        (wide_sides (C.Sink.kept slot.new.caller) (C.Sink.held slot.new.caller) (C.Faulty.faults slot.new.caller) (map (λ l. L.told l) slot.new.links.items) (map (λ l. L.Faulty.faults l) slot.new.links.items)) }
+    requires ready { IsReadySlot cells.now (length setting.now.specs.now) slot.old }
+    requires few { i < 64 }
+    requires rounds { setting.now.rounds ≤ 10000 }
+    ensures { HasServedWide ⟦<WideSlot<C, L> as Sided>⟧.at K.reading cells.now setting.now i slot.old slot.new }
 {
-    for j in 0..rounds {
-        let ended = serve_wide(rt, alloc, cells, specs, slot, first + j, clock, gate);
+    let first = i * setting.rounds;
+    for j in 0..setting.rounds {
+        let ended = serve_wide(
+            rt,
+            setting.alloc,
+            cells,
+            setting.specs,
+            slot,
+            first + j,
+            setting.clock,
+            setting.gate,
+        );
         note(&mut slot.works, &ended);
     }
     // Nobody is met any more, so the last client would wait for the end of its answer until all slots are done.

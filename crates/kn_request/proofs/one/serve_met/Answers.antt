@@ -2,7 +2,10 @@ use Rattle.std.proofs.Common.{[], inl, inr, refl, subst, sym, ◌∙◌}
 use Rattle.std.specs.Prelude.{Ok, Err, Option}
 use Rattle.kn_head.specs.declared.answer.Answer.{Answer}
 use Rattle.kn_request.specs.Outside.{Said, said}
-use Rattle.kn_request.specs.One.{IsUnread, Writes}
+use Rattle.kn_head.specs.declared.answer.Answer.TheVariants as answer
+use Rattle.kn_head.specs.Answers.{answered}
+use Rattle.kn_request.specs.declared.slot.Served.TheVariants as served
+use Rattle.kn_request.specs.One.{IsUnread, Refuses, Writes}
 use Rattle.kn_request.proofs.Talking.{said_stays, silent}
 use Rattle.kn_request.proofs.one.serve_met.Goals as goal
 
@@ -36,10 +39,10 @@ returns-in-Ok-clause-serves g c =
     record {
       found = Ok c.in-Ok.head;
       reads = c.in-Ok.ensures.reads;
-      meant = x.meant;
-      text = x.text;
-      way = inr (c.in-false.ensures, record { pass = refl; unused = refl }, x.refusal);
-      writes = subst (λ (s : Option Said). Writes s (said (kept new) (held new)) c.refuse.result x.meant x.text) same x.writes;
+      meant = served.Refused answer.NoSuchRevision;
+      text = answered answer.NoSuchRevision;
+      way = inr (c.in-false.ensures, record { pass = refl; unused = refl }, (refl, refl));
+      writes = subst (λ (s : Option Said). Refuses s (said (kept new) (held new)) answer.NoSuchRevision c.refuse.result) same x;
     }
 
 pub returns-in-Some-clause-serves : goal.returns-in-Some-clause-serves
@@ -50,14 +53,15 @@ returns-in-Some-clause-serves g c =
     let mid = c.read_head.new.source in
     let new = c.refuse-in-Some.new.caller in
     let x = c.refuse-in-Some.ensures.refuses in
+    let a = c.in-Some.answer in
     let same = said_stays (kept old) (kept mid) (held old) (held mid) (sym (g.met.C.Caller.together mid) ∙ (c.read_head.ensures.apart_stays ∙ g.met.C.Caller.together old)) in
     record {
       found = Err c.in-Err.error;
       reads = c.in-Err.ensures.reads;
-      meant = x.meant;
-      text = x.text;
-      way = (record { pass = refl; unused = refl }, subst (λ (a : Option Answer). IsUnread c.in-Err.error a x.meant x.text) (sym c.in-Some.is ∙ c.answer.ensures) x.refusal);
-      writes = subst (λ (s : Option Said). Writes s (said (kept new) (held new)) c.refuse-in-Some.result x.meant x.text) same x.writes;
+      meant = served.Refused a;
+      text = answered a;
+      way = (record { pass = refl; unused = refl }, subst (λ (o : Option Answer). IsUnread c.in-Err.error o (served.Refused a) (answered a)) (sym c.in-Some.is ∙ c.answer.ensures) (refl, refl));
+      writes = subst (λ (s : Option Said). Refuses s (said (kept new) (held new)) a c.refuse-in-Some.result) same x;
     }
 
 pub returns-clause-serves : goal.returns-clause-serves

@@ -1,55 +1,37 @@
-use Rattle.std.proofs.Common.{[], sym, ap, subst, ◌∙◌, ◌++◌}
-use Rattle.std.proofs.lemmas.List.{append-nil}
-use Rattle.kn_trace.specs.Trace.{proxied}
-use Rattle.kn_core.specs.State.{RevisionState, StandsFor}
-use Rattle.kn_cell.specs.History.{trace_after}
+use Rattle.std.proofs.Common.{◌≡◌, ℕ, List, ap, subst, ◌∙◌}
+use Rattle.kn_head.specs.Forwarding.{forwarded}
+use Rattle.kn_io.specs.Links.{Tells, called}
 use Rattle.kn_sizes.specs.Course.{runs_by}
 use Rattle.kn_request.specs.Requests.{Finishes}
-use Rattle.kn_request.proofs.Lists.{none, starts_trans}
-use Rattle.kn_request.proofs.Later.{SparesIt, alone_before, looks_trans, opening_is, own_is, runs_later, stands_is}
+use Rattle.kn_request.proofs.Later.{book_is, opening_is}
 use Rattle.kn_request.proofs.run.run_at.Goals as goal
 
-pub returns-clause-looks : goal.returns-clause-looks
-returns-clause-looks g c = looks_trans c.args.pass.now c.proxied-proxied.new.pass c.finish.new.pass c.proxied-proxied.ensures.looks c.finish.ensures.looks
-
 pub returns-clause-call : goal.returns-clause-call
-returns-clause-call g c head forms =
+returns-clause-call g c =
     let p = c.args.pass.now in
-    let a = c.proxied-proxied.new.pass in
     let q = c.finish.new.pass in
-    let l = c.proxied-proxied.ensures.looks in
-    let m = c.finish.ensures.looks in
-    let to_a = opening_is a q m in
-    let to_p = to_a ∙ opening_is p a l in
+    let run = c.args.run in
+    let l = c.finish.ensures.looks in
+    let to_p = opening_is p q l in
+    let told = g.L.PodLink.told in
+    let text : c.bytes.result.now ≡ forwarded c.args.head.now run.proxied = c.bytes.ensures ∙ c.fill-text.ensures in
+    let calls = λ (bytes : List ℕ). Tells (told c.args.link.now) (told c.call-reply.new.self) (λ link. called link run.address bytes c.call-reply.result) in
     record {
-      pod = c.args.pod;
-      way = c.proxied-proxied.result;
+      pod = run.pod;
+      way = run.proxied;
       before = p.seen;
-      early = starts_trans p.seen a.seen q.seen l.longer m.longer;
-      ran = rw to_p (λ t s. c.requires.runs t s);
-      front = a.seen;
-      later = l.longer;
-      seen = m.longer;
-      form = rw to_a (λ t s. c.proxied-proxied.ensures.proxied t s);
-      calls = c.call_pod-reply.ensures.calls head forms;
+      early = l.longer;
+      ran = rw to_p (λ t s. (c.requires.runs t s).0);
+      form = rw to_p (λ t s. (c.requires.runs t s).2);
+      at = run.address;
+      address = rw to_p (rw (book_is p q l) (λ t s. (c.requires.runs t s).1));
+      calls = subst calls text c.call-reply.ensures.recorded;
     }
 
 pub returns-clause-finish : goal.returns-clause-finish
 returns-clause-finish g c =
-    let reading = g.K.Clock.reading c.args.clock.now in
     let p = c.args.pass.now in
-    let a = c.proxied-proxied.new.pass in
-    let q = c.finish.new.pass in
-    let l = c.proxied-proxied.ensures.looks in
-    let m = c.finish.ensures.looks in
-    let r = c.args.r in
-    let same = c.proxied-proxied.ensures.mine in
     let f = c.finish.ensures.finish in
-    let it : Finishes reading r c.is_ok-ok.result p q = (
-      f.0,
-      f.1,
-      f.2 ∙ ap (λ x. x ++ f.0) same,
-      λ alone.
-          f.3 (runs_later c.server_laws.ensures.request r p a [] l c.requires.own (same ∙ sym (append-nil p.mine)) (none (SparesIt r)) (λ t s. ap runs_by (c.requires.runs t s)) (alone_before r a q m alone)) alone,
-    ) in
-    subst (λ b. Finishes reading r b p q) c.is_ok-ok.ensures.value it
+    let it : Finishes (g.K.Clock.reading c.args.clock.now) c.args.r c.is_ok-ok.result p c.finish.new.pass =
+    (f.0, f.1, f.2, λ alone. f.3 (λ t s. ap runs_by (c.requires.runs t s).0) alone) in
+    subst (λ b. Finishes (g.K.Clock.reading c.args.clock.now) c.args.r b p c.finish.new.pass) c.is_ok-ok.ensures.value it

@@ -1,28 +1,11 @@
-use Rattle.std.proofs.Common.{inl}
-use Rattle.kn_request.proofs.Later.{looks_trans, known_later, cancels_later, left_over}
+use Rattle.std.proofs.Common.{subst}
+use Rattle.kn_cell.specs.declared.course.Course.{Course}
+use Rattle.kn_request.specs.Sight.{HasCourse}
+use Rattle.kn_request.proofs.Later.{is_over}
 use Rattle.kn_request.proofs.wait.leave_queue.Goals as goal
 
-pub look_once-requires-clause-known : goal.look_once-requires-clause-known
-look_once-requires-clause-known g c =
-    known_later c.server_laws.ensures.request c.args.r c.wait_while.new.pass c.cancel.new.pass c.cancel.ensures.looks
-    (known_later c.server_laws.ensures.request c.args.r c.args.pass.now c.wait_while.new.pass c.wait_while.ensures.looks c.requires.known)
+pub returns-in-Runs-clause-runs : goal.returns-in-Runs-clause-runs
+returns-in-Runs-clause-runs g c = subst (λ (x : Course). HasCourse c.args.pass.now c.args.r x) c.in-Runs.is c.requires.course
 
-pub returns-in-Runs-clause-left : goal.returns-in-Runs-clause-left
-returns-in-Runs-clause-left g c = left_over c.server_laws.ensures.request (g.K.Clock.reading c.args.clock.now) c.args.due c.args.r c.args.pass.now c.wait_while.new.pass c.wait_while.ensures.looks c.requires.own (inl c.wait_while.ensures.mine)
-
-pub returns-in-Ended-clause-left : goal.returns-in-Ended-clause-left
-returns-in-Ended-clause-left g c = left_over c.server_laws.ensures.request (g.K.Clock.reading c.args.clock.now) c.args.due c.args.r c.args.pass.now c.wait_while.new.pass c.wait_while.ensures.looks c.requires.own (inl c.wait_while.ensures.mine)
-
-pub returns-in-Late-clause-looks : goal.returns-in-Late-clause-looks
-returns-in-Late-clause-looks g c =
-    looks_trans c.args.pass.now c.cancel.new.pass c.look_once.new.pass (looks_trans c.args.pass.now c.wait_while.new.pass c.cancel.new.pass c.wait_while.ensures.looks c.cancel.ensures.looks) c.look_once.ensures.looks
-
-pub returns-in-Late-clause-cancels : goal.returns-in-Late-clause-cancels
-returns-in-Late-clause-cancels g c =
-    cancels_later (g.K.Clock.reading c.args.clock.now) c.args.due c.args.r c.args.pass.now c.wait_while.new.pass c.cancel.new.pass c.look_once.new.pass c.wait_while.ensures.mine c.cancel.ensures.cancels c.look_once.ensures.looks c.look_once.ensures.mine
-
-pub returns-in-Late-clause-left : goal.returns-in-Late-clause-left
-returns-in-Late-clause-left g c =
-    let looks = looks_trans c.args.pass.now c.cancel.new.pass c.look_once.new.pass (looks_trans c.args.pass.now c.wait_while.new.pass c.cancel.new.pass c.wait_while.ensures.looks c.cancel.ensures.looks) c.look_once.ensures.looks in
-    let cancels = cancels_later (g.K.Clock.reading c.args.clock.now) c.args.due c.args.r c.args.pass.now c.wait_while.new.pass c.cancel.new.pass c.look_once.new.pass c.wait_while.ensures.mine c.cancel.ensures.cancels c.look_once.ensures.looks c.look_once.ensures.mine in
-    left_over c.server_laws.ensures.request (g.K.Clock.reading c.args.clock.now) c.args.due c.args.r c.args.pass.now c.look_once.new.pass looks c.requires.own cancels
+pub returns-in-Over-clause-ended : goal.returns-in-Over-clause-ended
+returns-in-Over-clause-ended g c = is_over c.args.r c.args.pass.now c.requires.known (subst (λ (x : Course). HasCourse c.args.pass.now c.args.r x) c.in-Over.is c.requires.course)

@@ -6,7 +6,10 @@ use Rattle.kn_io.specs.Links.{Link}
 use Rattle.kn_head.specs.declared.answer.Answer.{Answer}
 use Rattle.kn_request.specs.declared.slot.Work.{Work}
 use Rattle.kn_request.specs.Outside.{Said, said}
-use Rattle.kn_request.specs.One.{IsEvent, IsUnread, Writes}
+use Rattle.kn_head.specs.declared.answer.Answer.TheVariants as answer
+use Rattle.kn_head.specs.Answers.{answered}
+use Rattle.kn_request.specs.declared.slot.Served.TheVariants as served
+use Rattle.kn_request.specs.One.{IsEvent, IsUnread, Refuses, Writes}
 use Rattle.kn_request.specs.Wide.{ServesAt, WideCauses, passes_in}
 use Rattle.kn_request.proofs.Talking.{said_stays, silent}
 use Rattle.kn_request.proofs.WideFacts.{causes_at, causes_from, each_stays, flags_stay, served_at, work_has}
@@ -114,10 +117,10 @@ returns-in-Ok-clause-serves g c =
     record {
       found = Ok c.in-Ok.head;
       reads = c.in-Ok.ensures.reads;
-      meant = x.meant;
-      text = x.text;
-      way = (c.in-None.ensures.none, record { passes = refl; wires = refl }, x.refusal);
-      writes = subst (λ (s : Option Said). Writes s (said (kept new) (held new)) c.refuse.result x.meant x.text) same x.writes;
+      meant = served.Refused answer.NoSuchRevision;
+      text = answered answer.NoSuchRevision;
+      way = (c.in-None.ensures.none, record { passes = refl; wires = refl }, (refl, refl));
+      writes = subst (λ (s : Option Said). Refuses s (said (kept new) (held new)) answer.NoSuchRevision c.refuse.result) same x;
     }
 
 pub returns-in-Some-answer-clause-serves : goal.returns-in-Some-answer-clause-serves
@@ -128,14 +131,15 @@ returns-in-Some-answer-clause-serves g c =
     let mid = c.read_head.new.source in
     let new = c.refuse-in-Some-answer.new.caller in
     let x = c.refuse-in-Some-answer.ensures.refuses in
+    let a = c.in-Some-answer.answer in
     let same = said_stays (kept old) (kept mid) (held old) (held mid) (sym (g.met.C.Caller.together mid) ∙ (c.read_head.ensures.apart_stays ∙ g.met.C.Caller.together old)) in
     record {
       found = Err c.in-Err.error;
       reads = c.in-Err.ensures.reads;
-      meant = x.meant;
-      text = x.text;
-      way = (record { passes = refl; wires = refl }, subst (λ (a : Option Answer). IsUnread c.in-Err.error a x.meant x.text) (sym c.in-Some-answer.is ∙ c.answer.ensures) x.refusal);
-      writes = subst (λ (s : Option Said). Writes s (said (kept new) (held new)) c.refuse-in-Some-answer.result x.meant x.text) same x.writes;
+      meant = served.Refused a;
+      text = answered a;
+      way = (record { passes = refl; wires = refl }, subst (λ (o : Option Answer). IsUnread c.in-Err.error o (served.Refused a) (answered a)) (sym c.in-Some-answer.is ∙ c.answer.ensures) (refl, refl));
+      writes = subst (λ (s : Option Said). Refuses s (said (kept new) (held new)) a c.refuse-in-Some-answer.result) same x;
     }
 
 pub returns-clause-serves : goal.returns-clause-serves

@@ -39,7 +39,7 @@ returns-clause-course g c =
       slots = c.open.new.slots.items;
       keeper = c.in-Some.keeper;
       opened = (rw c.in-Some.is at c.in-Ok-open.ensures.opened, rw c.in-Some.is at c.in-Ok-open.ensures.given);
-      course = course_more _ _ _ _ _ _ _ _ _ _ _ _ (rw c.deref_mut.ensures.value at c.serve.ensures.course) (λ x t. (c.serve.new.keeper, refl, t.0, t.1)) (λ same. (same.0, ap (λ (l : g.row.L.Denot). Some l) same.1, same.2));
+      course = course_more _ _ _ _ _ _ _ _ _ _ _ _ (rw c.deref_mut.ensures.value at c.serve.ensures.course) (λ x t. (c.serve.new.keeper, refl, t)) (λ same. (same.0, ap (λ (l : g.row.L.Denot). Some l) same.1, same.2));
     }))
 
 pub returns-clause-works : goal.returns-clause-works

@@ -22,16 +22,13 @@ pub returns-in_default-open_revisions-clause-course : goal.returns-in_default-op
 returns-in_default-open_revisions-clause-course g c =
     inl (record { error = error.Memory; said = nothing_said (length c.args.plan.now.pods) (g.S.Source.left c.args.setups.now); status = refl; same = (refl, refl, refl) })
 
-pub serve_wide_session-requires-clause-live : goal.serve_wide_session-requires-clause-live
-serve_wide_session-requires-clause-live g c κs within = λ v b t low stands.
+pub serve_wide_session-requires-clause-revisions : goal.serve_wide_session-requires-clause-revisions
+serve_wide_session-requires-clause-revisions g c κs within = λ v b low.
+    let many = c.in-Ok-open_revisions.ensures.many in
     let specs = c.deref.ensures.value ∙ c.in-Ok-specs_of.ensures in
-    (opened_dead c.start_of-start.result c.in-Ok.read c.items-2.result.now c.items-3.result.now c.deref.result.now c.in-Ok-open_revisions.revisions.items c.items-2.ensures c.items-3.ensures specs c.in-Ok-open_revisions.ensures.opened v b low).1.live t stands
-
-pub serve_wide_session-requires-clause-events : goal.serve_wide_session-requires-clause-events
-serve_wide_session-requires-clause-events g c κs within = λ v b low.
-    let specs = c.deref.ensures.value ∙ c.in-Ok-specs_of.ensures in
-    let none = (opened_dead c.start_of-start.result c.in-Ok.read c.items-2.result.now c.items-3.result.now c.deref.result.now c.in-Ok-open_revisions.revisions.items c.items-2.ensures c.items-3.ensures specs c.in-Ok-open_revisions.ensures.opened v b low).1.events in
-    omega (arith, none)
+    let dead = opened_dead c.start_of-start.result c.in-Ok.read c.items-3.result.now c.in-Ok-open_revisions.revisions.items c.items-3.ensures c.in-Ok-open_revisions.ensures.opened v b (omega (arith, low, many)) in
+    let none = dead.1.events in
+    record { live = dead.1.live; events = omega (arith, none) }
 
 pub returns-in-Err-serve_wide_session-clause-course : goal.returns-in-Err-serve_wide_session-clause-course
 returns-in-Err-serve_wide_session-clause-course g c =
@@ -52,9 +49,9 @@ returns-in-Ok-print_journals-clause-course g c =
     let of = c.deref.ensures.value ∙ c.in-Ok-specs_of.ensures in
     let same = of ∙ ap (map (λ (s : Setup). s.spec)) c.items-2.ensures in
     let many : length c.deref.result.now ≡ length ss = ap length same ∙ length-map ss (λ (s : Setup). s.spec) in
-    let ran = ran_of reading (length c.args.slots.now) start ss c.items-2.result.now c.items-3.result.now c.deref.result.now bs hs c.args.slots.now ts
+    let ran = ran_of reading (length c.args.slots.now) start ss c.items-2.result.now c.items-3.result.now c.deref.result.now bs c.in-Ok-serve_wide_session.histories c.args.slots.now ts
     c.start_of-start.ensures.start c.start_of-start.ensures.most c.in-Ok.ensures.kept some c.items-2.ensures c.items-3.ensures of c.in-Ok-open_revisions.ensures.many c.in-Ok-open_revisions.ensures.opened
-    did.count did.histories did.fine refl (rw count c.requires.slots) did.kept in
+    did.histories did.fine refl (rw count c.requires.slots) did.kept.slots_kept in
     let small = subst (All (All (λ (p : Past). HasSmall p.event.act))) c.deref-2.ensures.value c.in-Ok-print_journals.ensures.small in
     let printed = subst (λ (zs : List (List Past)). Appends (g.O.Sink.held c.args.out.now) (g.O.Sink.held c.print_journals.new.out) (journals_text (printed_journals ss start zs))) c.deref-2.ensures.value
     (subst (λ (zs : List Setup). Appends (g.O.Sink.held c.args.out.now) (g.O.Sink.held c.print_journals.new.out) (journals_text (printed_journals zs start c.deref-2.result.now))) c.items-4.ensures c.in-Ok-print_journals.ensures.ok) in
@@ -67,7 +64,7 @@ returns-in-Ok-print_journals-clause-course g c =
       slots_did = slots_served reading (length c.args.slots.now) c.args.plan.now.room c.args.plan.now.rounds start c.deref.result.now ss bs hs
           (λ (a : g.row.C.Denot) (l : List g.row.L.Denot). wide_sides (g.C.Sink.kept a) (g.C.Sink.held a) (g.C.Faulty.faults a) (map (λ x. g.L.PodLink.told x) l) (map (λ x. g.L.Faulty.faults x) l))
           c.args.slots.now ts c.clear_all.new.slots ran same did.slots c.clear_all.ensures;
-      ticker_did = ticked reading (length c.args.slots.now) c.args.plan.now.room start ss bs hs ts _ _ _ _ ran (λ v b low. did.tickers v b (omega (arith, low, many)));
+      ticker_did = ticked reading (length c.args.slots.now) c.args.plan.now.room start ss bs hs ts _ _ _ _ ran (λ v b low. did.keepers v b (omega (arith, low, many)));
       ends = inl (record {
         printed = rw (sessions-journals start (faults_of ts) (wants_of ts) 0 ss bs hs ran.many) printed;
         reads = each_reads c.journals_are_read.ensures.read reading (length c.args.slots.now) start ss bs hs ts ran small;
@@ -77,7 +74,7 @@ returns-in-Ok-print_journals-clause-course g c =
 
 pub returns-in-Ok-print_journals-clause-slots : goal.returns-in-Ok-print_journals-clause-slots
 returns-in-Ok-print_journals-clause-slots g c =
-    ready_again (length c.args.plan.now.pods) c.args.slots.now c.serve_wide_session.new.slots c.clear_all.new.slots c.requires.slots c.in-Ok-serve_wide_session.ensures.kept c.clear_all.ensures
+    ready_again (length c.args.plan.now.pods) c.args.slots.now c.serve_wide_session.new.slots c.clear_all.new.slots c.requires.slots c.in-Ok-serve_wide_session.ensures.kept.slots_kept c.clear_all.ensures
 
 pub returns-clause-course : goal.returns-clause-course
 returns-clause-course g c =
@@ -93,9 +90,9 @@ returns-clause-course g c =
     let of = c.deref.ensures.value ∙ c.in-Ok-specs_of.ensures in
     let same = of ∙ ap (map (λ (s : Setup). s.spec)) c.items-2.ensures in
     let many : length c.deref.result.now ≡ length ss = ap length same ∙ length-map ss (λ (s : Setup). s.spec) in
-    let ran = ran_of reading (length c.args.slots.now) start ss c.items-2.result.now c.items-3.result.now c.deref.result.now bs hs c.args.slots.now ts
+    let ran = ran_of reading (length c.args.slots.now) start ss c.items-2.result.now c.items-3.result.now c.deref.result.now bs c.in-Ok-serve_wide_session.histories c.args.slots.now ts
     c.start_of-start.ensures.start c.start_of-start.ensures.most c.in-Ok.ensures.kept some c.items-2.ensures c.items-3.ensures of c.in-Ok-open_revisions.ensures.many c.in-Ok-open_revisions.ensures.opened
-    did.count did.histories did.fine refl (rw count c.requires.slots) did.kept in
+    did.histories did.fine refl (rw count c.requires.slots) did.kept.slots_kept in
     let printed = subst (λ (zs : List (List Past)). AppendsPrefix (g.O.Sink.held c.args.out.now) (g.O.Sink.held c.print_journals.new.out) (journals_text (printed_journals ss start zs))) c.deref-2.ensures.value
     (subst (λ (zs : List Setup). AppendsPrefix (g.O.Sink.held c.args.out.now) (g.O.Sink.held c.print_journals.new.out) (journals_text (printed_journals zs start c.deref-2.result.now))) c.items-4.ensures c.in-Err-print_journals.ensures.err) in
     inr (record {
@@ -107,10 +104,10 @@ returns-clause-course g c =
       slots_did = slots_served reading (length c.args.slots.now) c.args.plan.now.room c.args.plan.now.rounds start c.deref.result.now ss bs hs
           (λ (a : g.row.C.Denot) (l : List g.row.L.Denot). wide_sides (g.C.Sink.kept a) (g.C.Sink.held a) (g.C.Faulty.faults a) (map (λ x. g.L.PodLink.told x) l) (map (λ x. g.L.Faulty.faults x) l))
           c.args.slots.now ts c.clear_all.new.slots ran same did.slots c.clear_all.ensures;
-      ticker_did = ticked reading (length c.args.slots.now) c.args.plan.now.room start ss bs hs ts _ _ _ _ ran (λ v b low. did.tickers v b (omega (arith, low, many)));
+      ticker_did = ticked reading (length c.args.slots.now) c.args.plan.now.room start ss bs hs ts _ _ _ _ ran (λ v b low. did.keepers v b (omega (arith, low, many)));
       ends = inr (refl, subst (λ (js : List Journal). AppendsPrefix (g.O.Sink.held c.args.out.now) (g.O.Sink.held c.print_journals.new.out) (journals_text js)) (sym (sessions-journals start (faults_of ts) (wants_of ts) 0 ss bs hs ran.many)) printed);
     })
 
 pub returns-clause-slots : goal.returns-clause-slots
 returns-clause-slots g c =
-    ready_again (length c.args.plan.now.pods) c.args.slots.now c.serve_wide_session.new.slots c.clear_all.new.slots c.requires.slots c.in-Ok-serve_wide_session.ensures.kept c.clear_all.ensures
+    ready_again (length c.args.plan.now.pods) c.args.slots.now c.serve_wide_session.new.slots c.clear_all.new.slots c.requires.slots c.in-Ok-serve_wide_session.ensures.kept.slots_kept c.clear_all.ensures

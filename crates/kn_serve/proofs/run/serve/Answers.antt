@@ -44,7 +44,7 @@ returns-in-Ok-print_journal-clause-course g c =
     let many : length ts ≡ length c.args.slots.now = c.in-Ok-serve_session.ensures.slots.0 in
     let x : Session = record { setup = c.in-Ok.read; start = c.start_of-start.result; opened = c.in-Ok-open_revision.revision; history = h; faults = map (λ (s : Slot g.row.C.Denot g.row.L.Denot). s.work.fault) ts; wants = map (λ (s : Slot g.row.C.Denot g.row.L.Denot). s.work.memory) ts } in
     let is = is_session reading (length c.args.slots.now) x c.start_of-start.ensures.start c.in-Ok-open_revision.ensures.stands c.in-Ok-open_revision.ensures.spec c.in-Ok-open_revision.ensures.clock
-    c.in-Ok-serve_session.ensures.legal c.in-Ok-serve_session.ensures.bounds c.in-Ok-serve_session.ensures.rows c.in-Ok-serve_session.ensures.alone c.in-Ok-serve_session.ensures.lawful c.in-Ok-serve_session.ensures.settled
+    c.in-Ok-serve_session.ensures.history
     (length-map ts (λ (s : Slot g.row.C.Denot g.row.L.Denot). s.work.fault) ∙ many) (length-map ts (λ (s : Slot g.row.C.Denot g.row.L.Denot). s.work.memory) ∙ many)
     (λ ok. c.in-Ok-serve_session.ensures.fine (all_fine ts ok)) in
     let small = subst (All (λ (p : Past). HasSmall p.event.act)) c.items.ensures c.in-Ok-print_journal.ensures.small in
@@ -56,7 +56,7 @@ returns-in-Ok-print_journal-clause-course g c =
       slots_did = cleared (λ i a b f w. SlotServed reading c.in-Ok.read.spec c.in-Ok-open_revision.revision c.args.plan.now.room c.args.plan.now.rounds h i a b f w)
           (λ (a : g.row.C.Denot) (l : g.row.L.Denot). sides (g.C.Sink.kept a) (g.C.Sink.held a) (g.C.Faulty.faults a) (g.L.PodLink.told l) (g.L.Faulty.faults l))
           c.args.slots.now ts c.clear.new.slots c.in-Ok-serve_session.ensures.slots c.clear.ensures;
-      ticker_did = (c.in-Ok-serve_session.ensures.ticker, c.in-Ok-serve_session.ensures.probes);
+      ticker_did = (c.in-Ok-serve_session.ensures.keeper.served, c.in-Ok-serve_session.ensures.keeper.probed);
       ends = inl (record {
         printed = subst (λ (r : List Past). Appends (g.O.Sink.held c.args.out.now) (g.O.Sink.held c.print_journal.new.out) (journal_text (printed_journal c.in-Ok.read c.start_of-start.result r))) c.items.ensures c.in-Ok-print_journal.ensures.ok;
         reads = reads_back c.journals_are_read.ensures.read reading (length c.args.slots.now) x is c.start_of-start.ensures.most small c.in-Ok.ensures.kept;
@@ -84,7 +84,7 @@ returns-clause-course g c =
     let many : length ts ≡ length c.args.slots.now = c.in-Ok-serve_session.ensures.slots.0 in
     let x : Session = record { setup = c.in-Ok.read; start = c.start_of-start.result; opened = c.in-Ok-open_revision.revision; history = h; faults = map (λ (s : Slot g.row.C.Denot g.row.L.Denot). s.work.fault) ts; wants = map (λ (s : Slot g.row.C.Denot g.row.L.Denot). s.work.memory) ts } in
     let is = is_session reading (length c.args.slots.now) x c.start_of-start.ensures.start c.in-Ok-open_revision.ensures.stands c.in-Ok-open_revision.ensures.spec c.in-Ok-open_revision.ensures.clock
-    c.in-Ok-serve_session.ensures.legal c.in-Ok-serve_session.ensures.bounds c.in-Ok-serve_session.ensures.rows c.in-Ok-serve_session.ensures.alone c.in-Ok-serve_session.ensures.lawful c.in-Ok-serve_session.ensures.settled
+    c.in-Ok-serve_session.ensures.history
     (length-map ts (λ (s : Slot g.row.C.Denot g.row.L.Denot). s.work.fault) ∙ many) (length-map ts (λ (s : Slot g.row.C.Denot g.row.L.Denot). s.work.memory) ∙ many)
     (λ ok. c.in-Ok-serve_session.ensures.fine (all_fine ts ok)) in
     inr (record {
@@ -95,6 +95,6 @@ returns-clause-course g c =
       slots_did = cleared (λ i a b f w. SlotServed reading c.in-Ok.read.spec c.in-Ok-open_revision.revision c.args.plan.now.room c.args.plan.now.rounds h i a b f w)
           (λ (a : g.row.C.Denot) (l : g.row.L.Denot). sides (g.C.Sink.kept a) (g.C.Sink.held a) (g.C.Faulty.faults a) (g.L.PodLink.told l) (g.L.Faulty.faults l))
           c.args.slots.now ts c.clear.new.slots c.in-Ok-serve_session.ensures.slots c.clear.ensures;
-      ticker_did = (c.in-Ok-serve_session.ensures.ticker, c.in-Ok-serve_session.ensures.probes);
+      ticker_did = (c.in-Ok-serve_session.ensures.keeper.served, c.in-Ok-serve_session.ensures.keeper.probed);
       ends = inr (refl, subst (λ (r : List Past). AppendsPrefix (g.O.Sink.held c.args.out.now) (g.O.Sink.held c.print_journal.new.out) (journal_text (printed_journal c.in-Ok.read c.start_of-start.result r))) c.items.ensures c.in-Err-print_journal.ensures.err);
     })

@@ -4,7 +4,7 @@ use Rattle.atomic_table.specs.Seated.{TableId}
 use Rattle.kn_cell.specs.declared.past.Past.{Past}
 use Rattle.kn_cell.specs.Shown.{PassView, joined_shown}
 use Rattle.kn_session.specs.Wide.{at_history}
-use Rattle.kn_session.specs.WidePasses.{IsClosed, MayCloseBy}
+use Rattle.kn_session.specs.WidePasses.{IsShut, MayCloseBy}
 use Rattle.kn_session.proofs.PlaceFacts.{front_of_last, last_of, one_less, pushed_at}
 use Rattle.kn_session.proofs.wide_close.close_cells.Goals as goal
 
@@ -56,7 +56,7 @@ loop-cell-preserved c =
     subst (λ k. slice_index_or c.args.firsts.items k p ≡ first) m1 (last_of c.args.firsts.items l.firsts.items c.take_last.new.self.items first (length l.cells.items) i.firsts i.firsts_len c.take_last.ensures.items p) in
     let e3 : (p : PassView) → slice_index_or c.args.ticks.items v p ≡ tick = λ p.
     subst (λ k. slice_index_or c.args.ticks.items k p ≡ tick) m2 (last_of c.args.ticks.items l.ticks.items c.take_last-in-Some.new.self.items tick (length l.cells.items) i.ticks i.ticks_len c.take_last-in-Some.ensures.items p) in
-    let Closed : PassView → ℕ → List Past → Type 0 = λ p k h. IsClosed (joined_shown (slice_index_or c.args.firsts.items (n - 1 - k) p) (slice_index_or c.args.ticks.items (n - 1 - k) p)) h in
+    let Closed : PassView → ℕ → List Past → Type 0 = λ p k h. IsShut (joined_shown (slice_index_or c.args.firsts.items (n - 1 - k) p) (slice_index_or c.args.ticks.items (n - 1 - k) p)) h in
     let at : n - 1 - length l.histories.items ≡ v = omega arith in
     let here : (p : PassView) → Closed p (length l.histories.items) c.close_cell.result = λ p.
     rw (at, e2 p, e3 p) c.close_cell.ensures in
@@ -89,6 +89,6 @@ returns-clause-closed c v p low =
     let at : h.len - 1 - v ≡ k = omega arith in
     let back : n - 1 - k ≡ v = omega arith in
     let is = c.reverse.ensures.by_index v [] low' ∙ ap (λ j. at_history h.items j) at in
-    let it : IsClosed (joined_shown (slice_index_or c.args.firsts.items v p) (slice_index_or c.args.ticks.items v p)) (at_history h.items k) =
-    subst (λ j. IsClosed (joined_shown (slice_index_or c.args.firsts.items j p) (slice_index_or c.args.ticks.items j p)) (at_history h.items k)) back (i.closed k p (omega arith)) in
-    subst (IsClosed (joined_shown (slice_index_or c.args.firsts.items v p) (slice_index_or c.args.ticks.items v p))) (sym is) it
+    let it : IsShut (joined_shown (slice_index_or c.args.firsts.items v p) (slice_index_or c.args.ticks.items v p)) (at_history h.items k) =
+    subst (λ j. IsShut (joined_shown (slice_index_or c.args.firsts.items j p) (slice_index_or c.args.ticks.items j p)) (at_history h.items k)) back (i.closed k p (omega arith)) in
+    subst (IsShut (joined_shown (slice_index_or c.args.firsts.items v p) (slice_index_or c.args.ticks.items v p))) (sym is) it

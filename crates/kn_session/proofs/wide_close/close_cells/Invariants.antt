@@ -2,7 +2,7 @@ use Rattle.std.proofs.Common.{◌≡◌, ◌<◌, ◌≤◌, ◌+◌, ◌-◌, �
 use Rattle.std.specs.Prelude.{slice_index_or, vec_capacity}
 use Rattle.kn_cell.specs.Shown.{PassView, joined_shown}
 use Rattle.kn_session.specs.Wide.{at_history}
-use Rattle.kn_session.specs.WidePasses.{IsClosed}
+use Rattle.kn_session.specs.WidePasses.{IsShut}
 use Rattle.kn_session.proofs.wide_close.close_cells.Given as goal
 
 abbrev pub invariant-loop-cell : goal.invariant-loop-cell
@@ -15,7 +15,7 @@ invariant-loop-cell l =
       ticks_len : length l.ticks.items ≡ length l.cells.items;
       count : length l.histories.items + length l.cells.items ≡ n;
       closed : (k : ℕ) (p : PassView) → k < length l.histories.items
-          → IsClosed (joined_shown (slice_index_or l.fn.firsts.items (n - 1 - k) p) (slice_index_or l.fn.ticks.items (n - 1 - k) p)) (at_history l.histories.items k);
+          → IsShut (joined_shown (slice_index_or l.fn.firsts.items (n - 1 - k) p) (slice_index_or l.fn.ticks.items (n - 1 - k) p)) (at_history l.histories.items k);
       room : n ≤ vec_capacity l.histories;
     }
 

@@ -1,12 +1,13 @@
-use Rattle.std.proofs.Common.{◌≡◌, ◌<◌, ◌-◌, ◌^◌, ap, sym, subst, ◌∙◌, arith, length, refl, inl, inr}
+use Rattle.std.proofs.Common.{◌≡◌, ◌<◌, ◌-◌, ap, sym, subst, ◌∙◌, arith, length, refl, inl, inr}
 use Rattle.std.proofs.lemmas.Bool.{cases_eq}
 use Rattle.std.specs.Prelude.{slice_index_or}
-use Rattle.kn_core.specs.State.{RevisionState, StandsFor}
+use Rattle.kn_core.specs.State.{RevisionState}
+use Rattle.kn_session.specs.Session.{MayBegin}
 use Rattle.kn_session.proofs.PlaceFacts.{front_of_last, last_of, one_less, pushed_last, pushed_left}
 use Rattle.kn_session.proofs.wide_open.open_cells.Goals as goal
 
-pub open_cell-requires-clause-live : goal.open_cell-requires-clause-live
-open_cell-requires-clause-live c t stands =
+pub open_cell-requires-clause-revision : goal.open_cell-requires-clause-revision
+open_cell-requires-clause-revision c =
     let l = c.loop-revision in
     let i = l.invariant in
     let b = c.in-Some.revision in
@@ -20,24 +21,7 @@ open_cell-requires-clause-live c t stands =
     let low : k < bs.len = omega arith in
     let turned = sym (ap (λ l. slice_index_or l k b) c.reverse.ensures.items) ∙ (c.reverse.ensures.by_index k b low ∙ ap (λ j. slice_index_or bs.items j b) at) in
     let is : slice_index_or bs.items v b ≡ b = sym turned ∙ last_of _ l.revisions.items c.pop.new.self.items b (length l.revisions.items) i.left refl c.in-Some.ensures.items b in
-    c.requires.live v b t (omega arith) (subst (λ (x : RevisionState). StandsFor x t) (sym is) stands)
-
-pub open_cell-requires-clause-events : goal.open_cell-requires-clause-events
-open_cell-requires-clause-events c =
-    let l = c.loop-revision in
-    let i = l.invariant in
-    let b = c.in-Some.revision in
-    let bs = c.args.revisions in
-    let n1 = one_less l.revisions.items c.pop.new.self.items b c.in-Some.ensures.items in
-    let n2 = i.cells in
-    let n3 = bs.ok.0 in
-    let v = length l.opened.cells.items in
-    let k = length c.pop.new.self.items in
-    let at : bs.len - 1 - k ≡ v = omega arith in
-    let low : k < bs.len = omega arith in
-    let turned = sym (ap (λ l. slice_index_or l k b) c.reverse.ensures.items) ∙ (c.reverse.ensures.by_index k b low ∙ ap (λ j. slice_index_or bs.items j b) at) in
-    let is : slice_index_or bs.items v b ≡ b = sym turned ∙ last_of _ l.revisions.items c.pop.new.self.items b (length l.revisions.items) i.left refl c.in-Some.ensures.items b in
-    subst (λ (x : RevisionState). x.events < 2 ^ 53) is (c.requires.events v b (omega arith))
+    subst MayBegin is (c.requires.revisions v b (omega arith))
 
 pub loop-revision-preserved : goal.loop-revision-preserved
 loop-revision-preserved c =

@@ -10,8 +10,8 @@ use Rattle.kn_session.proofs.PlaceFacts.{mapped_all}
 use Rattle.kn_session.proofs.SessionFacts.{some_of}
 use Rattle.kn_session.proofs.wide_run.run_all.Goals as goal
 
-pub serve_all_beside-ticks-requires-clause-slots : goal.serve_all_beside-ticks-requires-clause-slots
-serve_all_beside-ticks-requires-clause-slots g c κs within i d low =
+pub serve_all_beside-requires-clause-slots : goal.serve_all_beside-requires-clause-slots
+serve_all_beside-requires-clause-slots g c κs within i d low =
     let hand = c.hand_all.ensures.slots in
     let len = hand.0 in
     let low' : i < length c.args.slots.now = omega arith in
@@ -20,8 +20,8 @@ serve_all_beside-ticks-requires-clause-slots g c κs within i d low =
     let r = c.requires.slots i d low' in
     let n1 = x.0.0 in
     let n2 = c.requires.may.0 in
-    let some = c.requires.few.2 in
-    let n3 = c.requires.few.3 in
+    let some = c.requires.some.0 in
+    let n3 = c.requires.some.1 in
     let firsts = c.args.firsts.now in
     record {
       some = some;
@@ -41,7 +41,7 @@ serve_all_beside-ticks-requires-clause-slots g c κs within i d low =
 
 pub take_all-requires-clause-found : goal.take_all-requires-clause-found
 take_all-requires-clause-found g c i d low v c' p inside is =
-    let done = c.serve_all_beside-ticks.ensures.slots in
+    let done = c.serve_all_beside.ensures.slots in
     let len = done.0 in
     let x = (done.1 i d (omega arith)).passes v c' inside in
     let same : p ≡ x.0 = (let a = x.1 in let b = is in cc) in
@@ -54,10 +54,10 @@ returns-clause-ran g c =
     let at : WideSlot g.row.C.Denot g.row.L.Denot → WideSides =
     λ s. wide_sides (g.C.Sink.kept s.caller) (g.C.Sink.held s.caller) (g.C.Faulty.faults s.caller) (map (λ l. told l) s.links.items) (map (λ l. faults l) s.links.items) in
     let hand = c.hand_all.ensures.slots in
-    let done = c.serve_all_beside-ticks.ensures.slots in
+    let done = c.serve_all_beside.ensures.slots in
     let len = hand.0 in
     let len' = done.0 in
-    let mids = c.serve_all_beside-ticks.new.slots in
+    let mids = c.serve_all_beside.new.slots in
     record {
       mids = mids;
       ran = (
@@ -70,7 +70,7 @@ returns-clause-ran g c =
             let same : at h ≡ at s = (let a = x.1.0 in let b = x.1.1 in cc) in
             let links : length h.links.items ≡ length s.links.items = (let b = x.1.1 in cc) in
             let Done : ℕ → WideSides → Type 0 = λ n a.
-            IsWideDone (g.K.Clock.reading c.args.clock.now) c.args.cells.now c.args.specs.now (i * c.args.rounds) c.args.rounds n (length m.links.items) h.works.items m.works.items a (at m) in
+            IsWideDone (g.K.Clock.reading c.args.setting.now.clock.now) c.args.cells.now c.args.setting.now.specs.now (i * c.args.setting.now.rounds) c.args.setting.now.rounds n (length m.links.items) h.works.items m.works.items a (at m) in
             record {
               given = h.works.items;
               given_is = x.0;

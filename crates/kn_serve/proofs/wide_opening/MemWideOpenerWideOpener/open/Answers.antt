@@ -1,5 +1,5 @@
 use Rattle.std.proofs.Common.{◌≡◌, All, length, rules}
-use Rattle.kn_serve.specs.WideOpening.{HasOfEach}
+use Rattle.kn_session.specs.Wide.{HasOfEach}
 use Rattle.kn_serve.proofs.WideFacts.{offered}
 use Rattle.kn_serve.proofs.wide_opening.MemWideOpenerWideOpener.open.Goals as goal
 
