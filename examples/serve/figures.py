@@ -16,7 +16,7 @@ import sys
 import tempfile
 import time
 
-from session import FIELDS, Pod, Session, drain, fixed, outcomes, program, want
+from session import Pod, Session, drain, field_words, fixed, outcomes, program, want
 
 CLIENTS = int(os.environ.get("CLIENTS", 4800))
 NAMES = ("cart", "till", "desk", "shelf")
@@ -25,10 +25,8 @@ SLOTS = 16  # of a session in the table of several revisions
 
 def ab(port, count, at_once, revision="fixed"):
     """Requests a second, and the latencies in ms of which 50 and 99 per cent are not above, as ab counts."""
-    fields = {**FIELDS, "Knative-Serving-Revision": revision}
-    heads = [word for name, value in fields.items() for word in ("-H", f"{name}: {value}")]
     with tempfile.NamedTemporaryFile("r", suffix=".csv") as table:
-        words = ["ab", "-q", "-n", str(count), "-c", str(at_once), "-e", table.name, *heads]
+        words = ["ab", "-q", "-n", str(count), "-c", str(at_once), "-e", table.name, *field_words(revision)]
         ran = subprocess.run([*words, f"http://127.0.0.1:{port}/"], capture_output=True, text=True)
         rows = dict(line.split(",") for line in table.read().splitlines()[1:])
     want("Complete requests" in ran.stdout, f"ab: {ran.stderr} {ran.stdout}")

@@ -1,5 +1,5 @@
 #!/usr/bin/env -S python3 -B
-"""kactd where no thread can be made: it serves its slots one after another in the thread that it has, and ends.
+"""kactd where no thread can be made: it says so, serves its slots one after another in the thread that it has, and ends.
 
 Its ticker's turns come after the last slot then, so no pod gets ready while a client waits: each request expires."""
 
@@ -12,6 +12,7 @@ import tempfile
 from session import Session, answers, ask, fixed, free_port, outcomes, program, want
 
 NOBODY = 65534
+TOLD = "kactd: no thread can be made, so everything is done in one\n"
 
 
 def no_threads():
@@ -30,6 +31,8 @@ def main(folder):
     with Session(fixed(1, timeout=1), [free_port()], slots=2, rounds=2, server=server, before=no_threads) as session:
         found = collections.Counter(ask(session.port) for _ in range(4))
         status, journal, report = session.end()
+        told = (session.folder / "stderr").read_text()
+    want(told == TOLD, f"told {told!r}")
     want(status == 0, f"exit status {status}")
     outcome = outcomes(journal, report)
     want(outcome == {"expire": 4}, f"outcomes {dict(outcome)}")

@@ -12,7 +12,7 @@ import sys
 import threading
 import time
 
-from session import FIELDS, Pod, Session, answers, ask, drain, fixed, free_port, hey, load, outcomes, want
+from session import FIELDS, Pod, Session, answers, ask, drain, field_words, fixed, free_port, hey, load, outcomes, run, want
 
 HELLO = (200, "hello")
 
@@ -69,10 +69,7 @@ def settle(session, found, status=0, gone=0):
 def one_request():
     """curl, without and with a body."""
     with Pod() as pod, Session(fixed(1), [pod.port], slots=1, rounds=2) as session:
-        words = ["curl", "-s", "-m", "10"]
-        for name, value in FIELDS.items():
-            words += ["-H", f"{name}: {value}"]
-        words.append(f"http://127.0.0.1:{session.port}/")
+        words = ["curl", "-s", "-m", "10", *field_words(), f"http://127.0.0.1:{session.port}/"]
         for more in ([], ["-d", "some text"]):
             want(subprocess.run(words + more, capture_output=True).stdout == b"hello\n", "curl was not answered")
         settle(session, collections.Counter({HELLO: 2}))
@@ -259,6 +256,34 @@ def open_pod():
         settle(session, found)
 
 
+class Swallower:
+    """An address that swallows packets: a listener with a full backlog, where a connection comes to no answer."""
+
+    def __init__(self):
+        self.door = socket.create_server(("127.0.0.1", 0), backlog=0)
+        self.port, self.kept = self.door.getsockname()[1], []
+        for _ in range(4):
+            client = socket.socket()
+            client.setblocking(False)
+            client.connect_ex(("127.0.0.1", self.port))
+            self.kept.append(client)
+
+
+def swallowing_pods():
+    """Ten pods, of which nine swallow packets: the ticks go on, and the tenth serves."""
+    swallowers = [Swallower() for _ in range(9)]
+    with Pod() as pod, Session(fixed(10), [*(s.port for s in swallowers), pod.port], slots=1, rounds=2) as session:
+        found = collections.Counter([ask(session.port)])
+        time.sleep(12)
+        found[ask(session.port)] += 1
+        want(found == {HELLO: 2}, f"answered {dict(found)}")
+        status, journal, report = session.end()
+    ticks = [int(line.split()[0]) for line in journal if line.split()[1:] == ["tick"]]
+    gaps = [b - a for a, b in zip(ticks, ticks[1:])]
+    want(status == 0 and outcomes(journal, report) == {"finish ok": 2}, f"exit status {status}: {report[-1]}")
+    want(len(gaps) >= 4 and max(gaps) <= 2200, f"ms between ticks: {gaps}")
+
+
 def other_revision():
     """Requests of another revision, and without one, are refused, and no event is made of them."""
     with Pod() as pod, Session(fixed(1), [pod.port], slots=4, rounds=25) as session:
@@ -289,23 +314,12 @@ def scaled():
 
 SCENARIOS = [
     one_request, load_of_16, full_breaker, killed_pod, killed_clients, gone_in_body, gone_before_answer, slow_clients, refused,
-    no_room, no_pod, late_pod, open_pod, other_revision, scaled,
+    no_room, no_pod, late_pod, open_pod, swallowing_pods, other_revision, scaled,
 ]
 
 
 def main(names):
-    failed = False
-    for scenario in SCENARIOS:
-        if names and scenario.__name__ not in names:
-            continue
-        start = time.monotonic()
-        try:
-            scenario()
-            said = "ok"
-        except Exception as error:
-            failed, said = True, f"FAILED: {error!r}"
-        print(f"{scenario.__name__}: {said} ({time.monotonic() - start:.1f} s)", flush=True)
-    return failed
+    return run({scenario.__name__: scenario for scenario in SCENARIOS}, names)
 
 
 if __name__ == "__main__":

@@ -201,11 +201,15 @@ def drain(session):
     return answered
 
 
-def hey(port, count, at_once=16, revision="fixed"):
-    """The words that bring so many clients, each with a connection of its own."""
-    words = ["hey", "-n", count, "-c", at_once, "-disable-keepalive", "-t", "60"]
-    for name, value in {**FIELDS, "Knative-Serving-Revision": revision}.items():
-        words += ["-H", f"{name}: {value}"]
+def field_words(revision="fixed"):
+    """The words by which curl, hey, wrk and ab send the fields that name the revision."""
+    fields = {**FIELDS, "Knative-Serving-Revision": revision}
+    return [word for name, value in fields.items() for word in ("-H", f"{name}: {value}")]
+
+
+def hey(port, count, at_once=16, revision="fixed", more=("-disable-keepalive",)):
+    """The words that bring so many clients, each with a connection of its own unless `more` says otherwise."""
+    words = ["hey", "-n", count, "-c", at_once, *more, "-t", "60", *field_words(revision)]
     return [*map(str, words), f"http://127.0.0.1:{port}/"]
 
 
@@ -216,3 +220,19 @@ def load(*words, **more):
     errors = ran.stdout.partition("Error distribution:")[2]
     counted["errors"] = sum(int(n) for n in re.findall(r"\[(\d+)\]\t", errors))
     return collections.Counter(counted)
+
+
+def run(cases, names):
+    """Runs the cases, by their names, or those of them that are named. Whether one failed."""
+    failed = False
+    for name, case in cases.items():
+        if names and name not in names:
+            continue
+        start = time.monotonic()
+        try:
+            case()
+            said = "ok"
+        except Exception as error:
+            failed, said = True, f"FAILED: {error!r}"
+        print(f"{name}: {said} ({time.monotonic() - start:.1f} s)", flush=True)
+    return failed
