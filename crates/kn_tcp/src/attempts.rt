@@ -16,6 +16,7 @@ pub(crate) struct Attempts {
     begun: [Option<Attempt>; KEPT],
 }
 
+// By hand, so that a caller's proof sees one call, and not what becomes of each room.
 impl Drop for Attempts {
     fn drop(self) {
         let Attempts { begun: _ } = self;

@@ -1,10 +1,13 @@
 //! Clients that come to a listening socket.
 ghost use Rattle.std.specs.Prelude.{◌≡◌, None};
 
+mod handed;
+
 use crate::closing::finish;
 use crate::course::{CONTINUE, Course};
 use crate::line::Line;
 use crate::plain::put_plain;
+use handed::Origin;
 use kn_io::{Caller, Failed, Faulty, PIECE, Sink, Source, fault, read_piece};
 use std::io;
 use std::io::{ErrorKind, Write};
@@ -24,12 +27,12 @@ const TRIES: u32 = 10;
 /// where the first write after its request is the whole answer.
 #[derive(Drop)]
 pub struct TcpCaller {
-    listener: TcpListener,
+    origin: Origin,
     wait: Duration,
     line: Line,
     course: Course,
-    // Whether something of an answer was written.
-    answers: bool,
+    // Whether something was written to the client.
+    has_written: bool,
     given: u128,
 }
 
@@ -48,12 +51,19 @@ impl TcpCaller {
         ensures faults { ⟦<TcpCaller as Faulty>⟧.faults result ≡ 0 }
         ensures given { ⟦<TcpCaller as Source>⟧.given result ≡ 0 }
     {
+        TcpCaller::of(Origin::Socket(listener), wait)
+    }
+
+    fn of(origin: Origin, wait: Duration) -> TcpCaller
+        ensures faults { ⟦<TcpCaller as Faulty>⟧.faults result ≡ 0 }
+        ensures given { ⟦<TcpCaller as Source>⟧.given result ≡ 0 }
+    {
         TcpCaller {
-            listener,
+            origin,
             wait,
             line: Line::new(),
             course: Course::new(),
-            answers: false,
+            has_written: false,
             given: 0,
         }
     }
@@ -75,8 +85,8 @@ fn accept(listener: &TcpListener) -> io::Result<TcpStream> {
 }
 
 /// The next connection, whose reads and writes don't wait for ever.
-fn accept_in_time(listener: &TcpListener, wait: Duration) -> io::Result<TcpStream> {
-    let stream = accept(listener)?;
+fn accept_in_time(origin: &mut Origin, wait: Duration) -> io::Result<TcpStream> {
+    let stream = origin.next()?;
     stream.set_read_timeout(Some(wait))?;
     stream.set_write_timeout(Some(wait))?;
     Ok(stream)
@@ -125,8 +135,8 @@ impl Sink for TcpCaller {
     ghost kept = { λ _. None };
 
     fn write(&mut self, bytes: &[u8]) -> Result<usize, Failed> {
-        let is_first = !self.answers;
-        self.answers = true;
+        let is_first = !self.has_written;
+        self.has_written = true;
         if is_first && self.course.is_old() {
             put_plain(&mut self.line, bytes)?;
             self.line.send_gathered()?;
@@ -148,11 +158,11 @@ impl Caller for TcpCaller {
     fn meet(&mut self) -> Result<(), Failed> {
         // The client before sees the end of its answer, also while nobody else comes.
         self.part();
-        match accept_in_time(&self.listener, self.wait) {
+        match accept_in_time(&mut self.origin, self.wait) {
             Ok(stream) => {
                 self.line.begin(stream);
                 self.course = Course::new();
-                self.answers = false;
+                self.has_written = false;
                 Ok(())
             }
             Err(_) => Err(fault(&mut self.line.faults)),

@@ -1,5 +1,5 @@
 //! What a client of HTTP/1.0, which knows no chunks, is sent of an answer.
-ghost use Rattle.std.specs.Prelude.{◌≡◌, ◌≤◌, ◌<◌, ◌++◌, ℕ, List, true, false, length, map, take, drop, All, IsNone, IfSome, MatchBool, OnErr};
+ghost use Rattle.std.specs.Prelude.{◌≡◌, ◌≤◌, ◌<◌, ◌++◌, ℕ, List, length, map, take, drop, All, IsNone, IfSome, MatchBool};
 ghost use Rattle.std.specs.List.{flat_map, list_any};
 ghost use Rattle.httparse.specs.Ascii.{crlf_bytes};
 ghost use Rattle.httparse.specs.Grammar.{ResponseHead};
@@ -7,7 +7,8 @@ ghost use Rattle.httparse.specs.Spans.{IsHeaderWithin, header_bytes};
 ghost use Rattle.kn_http.specs.Names.{is_among};
 ghost use Rattle.kn_io.specs.Causes.{HasCause};
 ghost use Rattle.kn_tcp.specs.Closing.{status_line, three_digits};
-ghost use Rattle.kn_tcp.specs.Plain.{AreChunksOf, HeadInChunks, IsInChunks, IsPlainOf, Puts, are_chunks_alone, end_names, is_other_coding, other_lines, plain_head};
+ghost use Rattle.kn_tcp.specs.Plain.{AreChunksOf, HeadInChunks, IsInChunks, IsPlainOf, Puts, are_chunks_alone, end_names};
+ghost use Rattle.kn_tcp.specs.Plain.{is_other_coding, other_lines, plain_head};
 
 use crate::answer::last_digit;
 use crate::chunks::{BOUNDS, Followed, follow};
@@ -104,7 +105,8 @@ fn put_parts<O: Sink>(
     spans: &[HeaderSpan],
 ) -> Result<(), Failed>
     requires { HeadInChunks answer.now spans.now start head.now }
-    ensures puts { (h : HeadInChunks answer.now spans.now start head.now) → Puts (O.held out.old) (O.held out.new) result (take start answer.now ++ plain_head h.found.head ++ h.value) }
+    ensures puts { (h : HeadInChunks answer.now spans.now start head.now) → Puts (O.held out.old) (O.held out.new) result
+        (take start answer.now ++ plain_head h.found.head ++ h.value) }
     ensures kept_stays { O.kept out.new ≡ O.kept out.old }
     ensures cause { HasCause (O.Faulty.faults out.old) (O.Faulty.faults out.new) result }
 {
@@ -147,7 +149,8 @@ fn put_start<O: Sink>(
 ) -> Result<(), Failed>
     requires version { version ≤ 1 }
     requires code { code < 1000 }
-    ensures puts { Puts (O.held out.old) (O.held out.new) result (interim.now ++ status_line version (three_digits code) reason.now) }
+    ensures puts { Puts (O.held out.old) (O.held out.new) result
+        (interim.now ++ status_line version (three_digits code) reason.now) }
     ensures kept_stays { O.kept out.new ≡ O.kept out.old }
     ensures cause { HasCause (O.Faulty.faults out.old) (O.Faulty.faults out.new) result }
 {
@@ -165,7 +168,8 @@ fn put_start<O: Sink>(
 /// Writes the fields that don't say how the body ends, and the end of the head.
 fn put_fields<O: Sink>(out: &mut O, text: &[u8], fields: &[HeaderSpan]) -> Result<(), Failed>
     requires { All (IsHeaderWithin (length text.now)) fields.now }
-    ensures puts { Puts (O.held out.old) (O.held out.new) result (other_lines (map (header_bytes text.now) fields.now) ++ crlf_bytes) }
+    ensures puts { Puts (O.held out.old) (O.held out.new) result
+        (other_lines (map (header_bytes text.now) fields.now) ++ crlf_bytes) }
     ensures kept_stays { O.kept out.new ≡ O.kept out.old }
     ensures cause { HasCause (O.Faulty.faults out.old) (O.Faulty.faults out.new) result }
 {

@@ -16,6 +16,8 @@ still_of p q seen mine missed gone e = record {
   free = ap (λ (v : PassView). v.free) e;
   back = ap (λ (v : PassView). v.back) e;
   passes = ap (λ (v : PassView). v.passes) e;
+  scribe = ap (λ (v : PassView). v.scribe) e;
+  room = ap (λ (v : PassView). v.room) e;
 }
 
 -- whatever the attempt answered
@@ -25,4 +27,4 @@ tries_still p q act time (Err Busy) t = still_of p q p.seen p.mine (p.missed + 1
 tries_still p q act time (Err (Full full)) t = still_of p q q.seen q.mine q.missed q.gone t.0.same
 
 pub still_trans : (p q r : PassView) → IsStill p q → IsStill q r → IsStill p r
-still_trans p q r s t = record { of = t.of ∙ s.of; free = t.free ∙ s.free; back = t.back ∙ s.back; passes = t.passes ∙ s.passes }
+still_trans p q r s t = record { of = t.of ∙ s.of; free = t.free ∙ s.free; back = t.back ∙ s.back; passes = t.passes ∙ s.passes; scribe = t.scribe ∙ s.scribe; room = t.room ∙ s.room }

@@ -16,24 +16,17 @@ pub record IsLeaf (cell : TableId) (p : PassView) : Type 0 where
   pub free : p.free ≡ 0
   pub back : p.back ≡ 0
 
--- it is of the same cell, and has the same numbers
+-- it is of the same cell, has the same numbers, and may do the same
 pub record IsStill (old new : PassView) : Type 0 where
   pub of : new.cell ≡ old.cell
   pub free : new.free ≡ old.free
   pub back : new.back ≡ old.back
   pub passes : new.passes ≡ old.passes
-
--- the scribe, one of two passes of a cell with room for so many rows, with a number to give away
-pub record IsScribe (cell : TableId) (rows : ℕ) (p : PassView) : Type 0 where
-  pub of : p.cell ≡ cell
-  pub scribe : p.scribe ≡ true
-  pub room : p.room ≡ rows
-  pub free : p.free ≡ 1
-  pub back : p.back ≡ 0
-  pub passes : p.passes ≡ 2
-
--- the scribe has the same numbers
-pub record IsStillScribe (old new : PassView) : Type 0 where
-  pub still : IsStill old new
   pub scribe : new.scribe ≡ old.scribe
   pub room : new.room ≡ old.room
+
+-- the scribe, the first of so many passes of a cell with room for so many rows
+pub record IsScribe (cell : TableId) (rows n : ℕ) (p : PassView) : Type 0 where
+  pub first : IsFirst cell n p
+  pub scribe : p.scribe ≡ true
+  pub room : p.room ≡ rows

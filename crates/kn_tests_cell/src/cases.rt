@@ -1,9 +1,12 @@
 //! The tests, and what is printed of each.
+ghost use Rattle.std.specs.Prelude.{◌≤◌};
+
 use crate::addressed::right_calls;
 use crate::lasting::{COUNT, MORE, ROOM, Rows, last};
 use crate::outcome::{Outcome, Plan, carry_out};
 use crate::replay::replay;
 use crate::shared::Left;
+use crate::taken::{Ledger, REQUESTS, ROWS, taken_from};
 use crate::threads::Work;
 use crate::turns::{NAP_MS, Script};
 use kn_case::case;
@@ -333,6 +336,39 @@ fn show_lasting<R: Print + AllocGlobal + Threads + Wait + Sync>(rt: &R) -> io::R
     }
 }
 
+/// One row at least is left in the end, and no more than there is room for.
+fn taken<R: Print + AllocGlobal>(rt: &R, ledger: &Ledger, threads: u64) -> io::Result<()>
+    requires { 1 ≤ threads }
+{
+    let each = ledger.has_each(2 * (REQUESTS / threads));
+    let is_left = 1 <= ledger.left && ledger.left <= ROOM;
+    let cases = [
+        ("rows", ledger.count, ROWS),
+        ("right rows", ledger.right, ROWS),
+        ("rows of each", u64::from(each), 1),
+        ("rows at once", u64::from(ledger.most <= ROOM), 1),
+        ("rows left", u64::from(is_left), 1),
+        ("live requests", ledger.live, 0),
+    ];
+    for (what, got, want) in &cases {
+        let name = format!(in rt.alloc(); "a scribe beside {threads}, {what}")?;
+        case(rt, name.as_str(), got, want)?;
+    }
+    Ok(())
+}
+
+fn show_taken<R: Print + AllocGlobal + Threads + Wait + Sync>(
+    rt: &R,
+    threads: usize,
+) -> io::Result<()>
+    requires { (1 ≤ threads) × (threads ≤ 100) }
+{
+    match taken_from(rt, rt.alloc(), threads) {
+        Ok(ledger) => taken(rt, &ledger, threads as u64),
+        Err(Memory) => lacks(),
+    }
+}
+
 fn show_addressed<R: Print + AllocGlobal + Wait>(rt: &R) -> io::Result<()> {
     match right_calls(rt, rt.alloc()) {
         Ok(right) => case(rt, "two addresses, no wrong answer", &(right as u64), &11),
@@ -345,5 +381,8 @@ pub fn show<R: Print + AllocGlobal + Clock + Threads + Wait + Sync>(rt: &R) -> i
         show_test(rt, *test)?;
     }
     show_lasting(rt)?;
+    show_taken(rt, 1)?;
+    show_taken(rt, 4)?;
+    show_taken(rt, 32)?;
     show_addressed(rt)
 }

@@ -1,10 +1,10 @@
 //! A lasting cell: while one thread brings events, another takes their rows out.
 ghost use Rattle.std.specs.Prelude.{◌≡◌, ◌+◌, ◌≤◌, [], true, vec_capacity, IfOk};
-ghost use Rattle.kn_tests_cell.specs.Numbers.{IsScribe, IsStill, IsStillScribe};
+ghost use Rattle.kn_tests_cell.specs.Numbers.{IsScribe, IsStill};
 
 use crate::shared::{on, one_pod};
 use kn_cell::{Full, Pass, Past, RevisionCell};
-use kn_event::{Act, Memory};
+use kn_event::{Act, Memory, Told};
 use std::alloc::Global;
 use std::sync::Wait;
 use std::thread::{Threads, join_mut};
@@ -18,11 +18,20 @@ pub const COUNT: u64 = 10_000;
 /// Rows that come after these.
 pub const MORE: u64 = 3;
 
+/// Where the rows go.
+pub trait Register {
+    /// These rows come next.
+    fn note(&mut self, rows: &[Past]);
+
+    /// Whether no more are to be taken out.
+    fn is_enough(&self) -> bool;
+}
+
 /// What is known of the rows. The time of each event is its place in the history.
 #[derive(Clone, Copy)]
 pub struct Rows {
     pub count: u64,
-    /// How many were taken out at once, at most.
+    /// How many came at once, at most.
     pub most: u64,
     /// Whether each came at its place.
     pub in_order: bool,
@@ -32,70 +41,82 @@ pub struct Rows {
     pub left: u64,
 }
 
-/// These rows come next.
-fn note(all: &mut Rows, rows: &[Past]) {
-    for row in rows {
-        all.in_order = all.in_order && row.event.time == all.count;
-        all.count = all.count.saturating_add(1);
+impl Register for Rows {
+    fn note(&mut self, rows: &[Past]) {
+        self.most = self.most.max(rows.len() as u64);
+        for row in rows {
+            self.in_order = self.in_order && row.event.time == self.count;
+            self.count = self.count.saturating_add(1);
+        }
+    }
+
+    fn is_enough(&self) -> bool {
+        self.count >= COUNT
     }
 }
 
-fn take_rows<R: Wait>(
+fn take_rows<R: Wait, G: Register>(
     rt: &R,
     cell: &RevisionCell,
     scribe: &mut Pass,
     rows: &mut Vec<Past>,
-    all: &mut Rows,
+    register: &mut G,
 )
     requires cell { scribe.old.cell ≡ cell.now }
     requires scribe { scribe.old.scribe ≡ true }
     requires empty { rows.old.items ≡ [] }
     requires room { scribe.old.room ≤ vec_capacity rows.old }
-    ensures scribe { IsStillScribe scribe.old scribe.new }
+    ensures scribe { IsStill scribe.old scribe.new }
     ensures empty { rows.new.items ≡ [] }
     ensures room { scribe.old.room ≤ vec_capacity rows.new }
 {
     cell.take(rt, scribe, rows);
-    all.most = all.most.max(rows.len() as u64);
-    note(all, rows);
+    register.note(rows);
     rows.clear();
 }
 
-/// Takes rows out until there were so many, but no longer than some 20 seconds.
-fn take_all<R: Wait>(
+/// Takes rows out until that is enough, but so many times at most, some milliseconds one after the other.
+pub fn take_all<R: Wait, G: Register>(
     rt: &R,
     cell: &RevisionCell,
     scribe: &mut Pass,
     rows: &mut Vec<Past>,
-    all: &mut Rows,
+    register: &mut G,
+    times: u64,
 )
     requires cell { scribe.old.cell ≡ cell.now }
     requires scribe { scribe.old.scribe ≡ true }
     requires empty { rows.old.items ≡ [] }
     requires room { scribe.old.room ≤ vec_capacity rows.old }
-    ensures { IsStillScribe scribe.old scribe.new }
+    ensures { IsStill scribe.old scribe.new }
 {
-    for _ in 0..20_000 {
-        take_rows(rt, cell, scribe, rows, all);
-        if all.count >= COUNT {
+    for _ in 0..times {
+        take_rows(rt, cell, scribe, rows, register);
+        if register.is_enough() {
             return;
         }
         cell.rest(rt, scribe);
     }
 }
 
-/// Brings an event once there is room for it, but tries no longer than some 20 seconds.
-fn bring<R: Wait>(rt: &R, cell: &RevisionCell, pass: &mut Pass, time: u64) -> bool
+/// Brings an event once there is room for it, but tries no longer than some 5 seconds. What it is told.
+pub fn bring<R: Wait>(
+    rt: &R,
+    cell: &RevisionCell,
+    pass: &mut Pass,
+    act: Act,
+    time: u64,
+) -> Option<Told>
     requires { pass.old.cell ≡ cell.now }
     ensures { IsStill pass.old pass.new }
 {
-    for _ in 0..20_000 {
-        if let Some(Ok(_)) = on(rt, cell, pass, Act::Pass, time) {
-            return true;
+    for _ in 0..5000 {
+        if let Some(Ok(told)) = on(rt, cell, pass, act, time) {
+            return Some(told);
         }
         cell.rest(rt, pass);
     }
-    false
+    None
 }
 
 /// Brings an event at each of these times.
@@ -104,7 +125,7 @@ fn bring_all<R: Wait>(rt: &R, cell: &RevisionCell, pass: &mut Pass, from: u64, e
     ensures { IsStill pass.old pass.new }
 {
     for time in from..end {
-        if !bring(rt, cell, pass, time) {
+        if bring(rt, cell, pass, Act::Pass, time).is_none() {
             return;
         }
     }
@@ -136,7 +157,7 @@ fn both<R: Threads + Wait + Sync>(
     requires scribe { scribe.old.scribe ≡ true }
     requires empty { rows.old.items ≡ [] }
     requires room { scribe.old.room ≤ vec_capacity rows.old }
-    ensures scribe { IsStillScribe scribe.old scribe.new }
+    ensures scribe { IsStill scribe.old scribe.new }
     ensures other { IsStill other.old other.new }
 {
     let mut brings = ||
@@ -145,8 +166,8 @@ fn both<R: Threads + Wait + Sync>(
     { bring_all(rt, cell, other, ROOM, COUNT) };
     let mut takes = ||
         requires { (scribe.now.cell ≡ cell.now) × (scribe.now.scribe ≡ true) × (rows.now.items ≡ []) × (scribe.now.room ≤ vec_capacity rows.now) }
-        ensures { IsStillScribe scribe.entry.now scribe.exit.now }
-    { take_all(rt, cell, scribe, rows, all) };
+        ensures { IsStill scribe.entry.now scribe.exit.now }
+    { take_all(rt, cell, scribe, rows, all, 2 * COUNT) };
     join_mut(rt, &mut brings, &mut takes);
 }
 
@@ -158,7 +179,7 @@ fn fill<R: Threads + Wait + Sync>(
     rows: &mut Vec<Past>,
     all: &mut Rows,
 )
-    requires scribe { IsScribe cell.now 100 scribe.old }
+    requires scribe { IsScribe cell.now 100 2 scribe.old }
     requires empty { rows.old.items ≡ [] }
     requires room { 100 ≤ vec_capacity rows.old }
     ensures cell { scribe.new.cell ≡ cell.now }
@@ -172,17 +193,25 @@ fn fill<R: Threads + Wait + Sync>(
     cell.join(scribe, other);
 }
 
-/// A lasting cell of two passes.
-fn open_lasting(alloc: Global) -> Result<(RevisionCell, Pass), Memory>
-    ensures { IfOk result (λ r. IsScribe r.0 100 r.1) }
+/// A lasting cell over a revision of one pod, with so many seats and a breaker of this depth and maximum.
+pub fn open_lasting(
+    alloc: Global,
+    seats: u64,
+    breaker: u64,
+    passes: u64,
+) -> Result<(RevisionCell, Pass), Memory>
+    requires seats { seats ≤ 1000 }
+    requires breaker { (1 ≤ breaker) × (breaker ≤ 1000) }
+    requires passes { (1 ≤ passes) × (passes ≤ 1000) }
+    ensures { IfOk result (λ r. IsScribe r.0 100 passes r.1) }
 {
-    match one_pod(alloc, 1, 1) {
+    match one_pod(alloc, seats, breaker) {
         Ok(revision) if revision.live() == 0 => RevisionCell::lasting(
             alloc,
             revision,
             &[],
             ROOM,
-            2,
+            passes,
             0,
         ),
         _ => Err(Memory),
@@ -195,7 +224,7 @@ fn use_up<R: Threads + Wait + Sync>(
     mut scribe: Pass,
     rows: &mut Vec<Past>,
 ) -> Rows
-    requires scribe { IsScribe cell 100 scribe }
+    requires scribe { IsScribe cell 100 2 scribe }
     requires empty { rows.old.items ≡ [] }
     requires room { 100 ≤ vec_capacity rows.old }
 {
@@ -210,7 +239,7 @@ fn use_up<R: Threads + Wait + Sync>(
     let (revision, history) = cell.close(scribe);
     drop(revision);
     all.left = history.items().len() as u64;
-    note(&mut all, history.items());
+    all.note(history.items());
     all
 }
 
@@ -219,7 +248,7 @@ pub fn last<R: Threads + Wait + Sync>(rt: &R, alloc: Global) -> Result<Rows, Mem
     let Ok(mut rows) = Vec::with_capacity(alloc, ROOM as usize) else {
         return Err(Memory);
     };
-    match open_lasting(alloc) {
+    match open_lasting(alloc, 1, 1, 2) {
         Ok((cell, scribe)) => Ok(use_up(rt, cell, scribe, &mut rows)),
         Err(Memory) => Err(Memory),
     }

@@ -12,6 +12,7 @@ mod meeting;
 mod outcome;
 mod replay;
 mod shared;
+mod taken;
 mod threads;
 mod turns;
 

@@ -37,12 +37,13 @@ pub struct Outcome {
 }
 
 /// So many passes of the cell.
-fn cut(cell: &RevisionCell, first: &mut Pass, passes: &mut Vec<Pass>, n: usize)
+pub fn cut(cell: &RevisionCell, first: &mut Pass, passes: &mut Vec<Pass>, n: usize)
     requires cell { first.old.cell ≡ cell.now }
     requires free { n ≤ first.old.free }
     requires empty { passes.old.items ≡ [] }
     requires room { n ≤ vec_capacity passes.old }
     ensures same { (first.new.cell ≡ first.old.cell) × (first.new.back ≡ first.old.back) × (first.new.passes ≡ first.old.passes) }
+    ensures scribe { (first.new.scribe ≡ first.old.scribe) × (first.new.room ≡ first.old.room) }
     ensures free { first.new.free + n ≡ first.old.free }
     ensures len { vec_len passes.new ≡ n }
     ensures each { All (IsLeaf cell.now) passes.new.items }
@@ -53,7 +54,7 @@ fn cut(cell: &RevisionCell, first: &mut Pass, passes: &mut Vec<Pass>, n: usize)
 }
 
 /// They are taken in again.
-fn take_in(cell: &RevisionCell, first: &mut Pass, passes: &mut Vec<Pass>)
+pub fn take_in(cell: &RevisionCell, first: &mut Pass, passes: &mut Vec<Pass>)
     requires cell { first.old.cell ≡ cell.now }
     requires each { All (IsLeaf cell.now) passes.old.items }
     ensures same { (first.new.cell ≡ first.old.cell) × (first.new.free ≡ first.old.free) × (first.new.passes ≡ first.old.passes) }

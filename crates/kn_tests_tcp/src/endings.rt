@@ -28,12 +28,14 @@ fn take(caller: &mut TcpCaller, stream: &mut TcpStream, room: usize) -> io::Resu
     Ok(taken)
 }
 
-/// Answers and parts. Says whether that took half a second.
-fn end(rt: &HostRuntime, caller: &mut TcpCaller) -> io::Result<bool> {
+/// Answers and parts. Says whether that took as long as it must: half a second to six with a look, and less without.
+fn ends_in_time(rt: &HostRuntime, caller: &mut TcpCaller, looks: bool) -> io::Result<bool> {
     let start = Instant::now(rt)?;
     let _ = caller.write(b"bye");
     caller.part();
-    Ok(start.elapsed(rt)? >= Duration::from_millis(500))
+    let took = start.elapsed(rt)?;
+    let looked = took >= Duration::from_millis(500);
+    Ok(looked == looks && took < Duration::from_secs(6))
 }
 
 /// Whether the client reads the whole answer, and its end.
@@ -48,10 +50,10 @@ fn show(rt: &HostRuntime, port: u16, caller: &mut TcpCaller, visit: Visit<'_>) -
     let mut stream = client(rt, port)?;
     stream.write_all(visit.request)?;
     let taken = take(caller, &mut stream, visit.room)?;
-    let looked = end(rt, caller)?;
+    let in_time = ends_in_time(rt, caller, visit.looks)?;
     // A connection that is closed without a look may be reset.
     let answered = !visit.looks || has_answer(&mut stream)?;
-    tell(rt, visit.name, taken && answered && looked == visit.looks)
+    tell(rt, visit.name, taken && answered && in_time)
 }
 
 /// The clients that come to one caller, one after the other.

@@ -8,6 +8,8 @@ invariant-loop-passes l = record {
   of : l.first.cell ≡ l.cell;
   back : l.first.back ≡ l.fn.first.back;
   all : l.first.passes ≡ l.fn.first.passes;
+  scribe : l.first.scribe ≡ l.fn.first.scribe;
+  room : l.first.room ≡ l.fn.first.room;
   free : l.first.free + vec_len l.passes ≡ l.fn.first.free;
   few : vec_len l.passes ≤ l.n;
   wide : l.n ≤ vec_capacity l.passes;
