@@ -12,7 +12,7 @@ use Rattle.kn_io.specs.Prefix.{AppendsPrefix}
 use Rattle.kn_cell.specs.declared.past.Past.{Past}
 use Rattle.kn_journal.specs.declared.journal.Setup.{Setup}
 use Rattle.kn_journal.specs.Journal.{first_line, journal_text}
-use Rattle.kn_print.specs.Printed.{HasSmall, timed_part, first_part, lines_of, printed}
+use Rattle.kn_print.specs.Printed.{HasSmall, preface, lines_to_end, lines_of, printed}
 
 first_of_more : (n : ℕ) (x y rest : List ℕ) → n ≤ length y → take (length x + n) (x ++ (y ++ rest)) ≡ x ++ take n y
 first_of_more n x y rest h = take-append-add x (y ++ rest) n ∙ ap (λ (z : List ℕ). x ++ z) (take-append-le n y rest h)
@@ -47,7 +47,7 @@ on_err (Err e) f h = f h
 
 -- ---- rows
 
-rows-append : (xs ys : List Past) → lines_of (xs ++ ys) ≡ lines_of xs ++ lines_of ys
+pub rows-append : (xs ys : List Past) → lines_of (xs ++ ys) ≡ lines_of xs ++ lines_of ys
 rows-append [] ys = refl
 rows-append (p ∷ xs) ys = ap (λ (z : List ℕ). event_text p.event ++ 10 ∷ z) (rows-append xs ys) ∙ sym (append_assoc (event_text p.event) (10 ∷ lines_of xs) (lines_of ys))
 
@@ -78,14 +78,10 @@ small_more ps i p within is before here k d low = elim (eqb_tells k i) [
 -- ---- the whole
 
 regroup : (first text start events end : List ℕ)
-    → ((first ++ 10 ∷ []) ++ text) ++ (((start ++ 10 ∷ []) ++ events) ++ end) ≡ first ++ 10 ∷ (text ++ (start ++ 10 ∷ (events ++ end)))
+    → first ++ 10 ∷ (text ++ (start ++ 10 ∷ (events ++ end))) ≡ ((first ++ 10 ∷ []) ++ (text ++ (start ++ 10 ∷ []))) ++ (events ++ end)
 regroup first text start events end = simp append_assoc
 
--- the opening, the course and the end
-pub whole-text : (setup : Setup) (start : ℕ) (h : List Past) → first_part setup ++ (timed_part start h ++ codes "end\n") ≡ printed setup start h
-unfolding journal_text
+-- the opening, and the rows and the end
+pub whole-text : (setup : Setup) (start : ℕ) (h : List Past) → printed setup start h ≡ preface setup start ++ lines_to_end h
+unfolding journal_text preface
 whole-text setup start h = regroup (first_line 1) setup.text (codes "start " ++ decimal start) (lines_of h) (codes "end\n")
-
--- .. both parts in front of the end
-pub before_end : (setup : Setup) (start : ℕ) (h : List Past) → (first_part setup ++ timed_part start h) ++ codes "end\n" ≡ printed setup start h
-before_end setup start h = append_assoc (first_part setup) (timed_part start h) (codes "end\n") ∙ whole-text setup start h

@@ -1,5 +1,5 @@
 -- The journal that a session prints.
-use Rattle.std.specs.Prelude.{ℕ, ◌<◌, ◌^◌, ◌++◌, List, [], ◌∷◌, Option, codes, map}
+use Rattle.std.specs.Prelude.{◌≡◌, ℕ, ◌<◌, ◌^◌, ◌++◌, List, [], ◌∷◌, Option, codes, map}
 use Rattle.std.specs.Fmt.{decimal}
 use Rattle.std.specs.List.{flat_map}
 use Rattle.std.specs.Simd.Lanes.{zip2}
@@ -27,18 +27,25 @@ printed_journals setups start hs = zip2 (λ setup h. printed_journal setup start
 abbrev pub journals_text : List Journal → List ℕ
 journals_text js = flat_map journal_text js
 
--- the parts of a journal's text: line 1 and the setup; the start and the rows, of which each has a line; and all of it, with its end
+-- the parts of a journal's text: line 1, the setup and the start; of rows a line each; and these and `end`
+unfoldable pub preface : Setup → ℕ → List ℕ
+preface setup start = (first_line 1 ++ 10 ∷ []) ++ (setup.text ++ ((codes "start " ++ decimal start) ++ 10 ∷ []))
+
 abbrev pub lines_of : List Past → List ℕ
 lines_of h = events_text (events_of h)
 
-abbrev pub first_part : Setup → List ℕ
-first_part setup = (first_line 1 ++ 10 ∷ []) ++ setup.text
+abbrev pub lines_to_end : List Past → List ℕ
+lines_to_end h = lines_of h ++ codes "end\n"
 
-abbrev pub timed_part : ℕ → List Past → List ℕ
-timed_part start h = ((codes "start " ++ decimal start) ++ 10 ∷ []) ++ lines_of h
-
+-- .. and all of it
 abbrev pub printed : Setup → ℕ → List Past → List ℕ
 printed setup start h = journal_text (printed_journal setup start h)
+
+-- A printed journal is its preface, the lines of its rows and `end`. The lines of rows and of others behind them are those
+-- of both
+pub record PrintedLaws : Type 0 where
+  pub whole : (setup : Setup) (start : ℕ) (h : List Past) → printed setup start h ≡ preface setup start ++ lines_to_end h
+  pub more : (xs ys : List Past) → lines_of (xs ++ ys) ≡ lines_of xs ++ lines_of ys
 
 -- some first bytes of a text that waited and of one behind it were written
 abbrev pub AddsPrefix : Option (List ℕ) → Option (List ℕ) → List ℕ → List ℕ → Type 0

@@ -1,6 +1,6 @@
 -- Where a session ends well, no slot has a round that ended in a fault or in want of memory.
 use Rattle.std.proofs.Common.{◌≡◌, ◌<◌, ℕ, Bool, List, length, map, refl, sym, ◌∙◌, cond, arith, true, false}
-use Rattle.std.specs.Prelude.{Option, None, Some, nat_lt, slice_index_or}
+use Rattle.std.specs.Prelude.{All, Option, None, Some, nat_lt, slice_index_or}
 use Rattle.std.specs.List.{list_any, position, position_or_len}
 use Rattle.std.proofs.lemmas.Bool.{ltb-false}
 use Rattle.std.proofs.lemmas.List.Sums.{fails_before_first}
@@ -37,3 +37,10 @@ all_fine {C} {L} ts ok i d low =
     let memory : Slot C L → Bool = λ t. t.work.memory in
     let parts = ok_by (position (λ b. b) (map fault ts)) (list_any (λ b. b) (map memory ts)) ok in
     (no_place fault ts i d (sym (position-map (λ b. b) fault ts) ∙ parts.0) low, no_one_if memory ts i d (memory (slice_index_or ts i d)) (sym (list_any-map (λ b. b) memory ts) ∙ parts.1) low refl)
+
+-- the same of the marks alone
+pub all_false : (faults wants : List Bool) → status_by (position (λ b. b) faults) (list_any (λ b. b) wants) ≡ status.Ok
+    → All (λ b. b ≡ false) faults × All (λ b. b ≡ false) wants
+all_false faults wants ok =
+    let parts = ok_by (position (λ b. b) faults) (list_any (λ b. b) wants) ok in
+    ((λ i d low. no_place (λ b. b) faults i d parts.0 low), (λ i d low. no_one_if (λ b. b) wants i d (slice_index_or wants i d) parts.1 low refl))

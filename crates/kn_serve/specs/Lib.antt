@@ -1,5 +1,6 @@
 pub mod Course
 pub mod Ending
+pub mod Laws
 pub mod Many
 pub mod ManyCourse
 pub mod Opening

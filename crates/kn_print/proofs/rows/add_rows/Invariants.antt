@@ -4,7 +4,7 @@ use Rattle.std.specs.Prelude.{slice_index_or}
 use Rattle.kn_cell.specs.declared.past.Past.{Past}
 use Rattle.kn_report.specs.Waiting.{Adds}
 use Rattle.kn_print.specs.Printed.{HasSmall, lines_of}
-use Rattle.kn_print.proofs.print.add_rows.Given as goal
+use Rattle.kn_print.proofs.rows.add_rows.Given as goal
 
 abbrev pub invariant-loop-row : goal.invariant-loop-row
 invariant-loop-row g l = record {

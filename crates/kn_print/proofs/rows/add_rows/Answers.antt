@@ -4,7 +4,7 @@ use Rattle.std.proofs.lemmas.Grind.{common_steps}
 use Rattle.kn_print.specs.Printed.{lines_of}
 use Rattle.kn_print.proofs.Pieces.{rows-around, rows-more, small_more}
 use Rattle.kn_print.proofs.Waits.{adds_nothing, adds_some, adds_trans}
-use Rattle.kn_print.proofs.print.add_rows.Goals as goal
+use Rattle.kn_print.proofs.rows.add_rows.Goals as goal
 
 pub loop-row-init : goal.loop-row-init
 loop-row-init g c = record { held = adds_nothing _ _; small = search rules; later = search rules }

@@ -1,0 +1,115 @@
+//! The door through which clients come from a front.
+
+use crate::caller::FrontCaller;
+use crate::queue::Queue;
+use kn_door::Door;
+use kn_io::Caller;
+use mio::Waker;
+use std::net::TcpStream;
+use std::sync::atomic::{AtomicBool, AtomicU64, Ordering};
+use std::sync::{Condvar, Mutex, Wait};
+use std::time::Clock;
+
+/// A front's door. Connections whose requests have begun come through it in turn, each to one caller. All threads share it.
+#[derive(Drop)]
+pub struct TcpDoor {
+    queue: Mutex<Queue>,
+    /// A connection came, or no more are to come.
+    came: Condvar,
+    /// Ends the front's sleep.
+    waker: Waker,
+    closed: AtomicBool,
+    silent: AtomicU64,
+}
+
+impl TcpDoor {
+    /// An open door, behind which nobody waits.
+    pub(crate) fn new(queue: Queue, waker: Waker) -> TcpDoor {
+        TcpDoor {
+            queue: Mutex::new(queue),
+            came: Condvar::new(),
+            waker,
+            closed: AtomicBool::new(false),
+            silent: AtomicU64::new(0),
+        }
+    }
+
+    /// How many connections wait in front: those that are silent, and those that no caller has taken yet.
+    pub fn waiting<R: Wait>(&self, rt: &R) -> u64 {
+        let begun = self.queue.lock(rt).len();
+        self.silent
+            .load(Ordering::SeqCst)
+            .saturating_add(begun as u64)
+    }
+
+    /// Waits until a connection's request has begun, and takes it. None where no more are to come.
+    fn take<R: Wait>(&self, rt: &R) -> Option<TcpStream> {
+        let queue = self.queue.lock(rt);
+        let mut queue = self
+            .came
+            .wait_while(rt, queue, |queue| queue.is_waited_for());
+        let stream = queue.pop();
+        let wakes = queue.take_want();
+        drop(queue);
+        if wakes {
+            self.wake_front();
+        }
+        stream
+    }
+
+    fn wake_front(&self) {
+        // It fails only where the front wakes anyway.
+        let _ = self.waker.wake();
+    }
+
+    /// No further connection is let in. Those whose requests have begun come through all the same.
+    pub fn shut(&self) {
+        self.closed.store(true, Ordering::SeqCst);
+        self.wake_front();
+    }
+
+    /// Lets a connection through whose request has begun.
+    pub(crate) fn put<R: Wait>(&self, rt: &R, stream: TcpStream) {
+        let put = self.queue.lock(rt).push(stream);
+        if put {
+            self.came.notify_one();
+        }
+    }
+
+    /// Whether one more may wait besides so many silent ones, where so many may in all. Where none may, the front is woken as soon
+    /// as a caller takes one.
+    pub(crate) fn has_room<R: Wait>(&self, rt: &R, silent: usize, most: usize) -> bool {
+        self.silent.store(silent as u64, Ordering::SeqCst);
+        self.queue.lock(rt).has_room(silent, most)
+    }
+
+    /// Whether no further connection is to be let in.
+    pub(crate) fn is_closed(&self) -> bool {
+        self.closed.load(Ordering::SeqCst)
+    }
+
+    /// No more are to come.
+    pub(crate) fn end<R: Wait>(&self, rt: &R) {
+        self.silent.store(0, Ordering::SeqCst);
+        self.queue.lock(rt).end();
+        self.came.notify_all();
+    }
+}
+
+impl<K: Clock> Door<FrontCaller<K>> for TcpDoor {
+    fn next<R: Wait>(&self, rt: &R, caller: &mut FrontCaller<K>) -> bool {
+        // The client before sees the end of its answer, also while nobody else comes.
+        caller.part();
+        match self.take(rt) {
+            Some(stream) => {
+                caller.hand(stream);
+                true
+            }
+            None => false,
+        }
+    }
+
+    fn close(&self) {
+        self.shut();
+    }
+}

@@ -1,0 +1,91 @@
+//! The front of a server that goes on.
+
+use crate::caller::FrontCaller;
+use crate::door::TcpDoor;
+use crate::limits::{Limits, MOST_WAITING};
+use crate::queue::Queue;
+use crate::station::{Station, WAKER};
+use mio::net::TcpListener;
+use mio::{Poll, Waker};
+use std::alloc::Global;
+use std::io;
+use std::io::ErrorKind;
+use std::net::{Net, SocketAddr, ToSocketAddrs};
+use std::sync::{Mutex, Wait};
+use std::time::Clock;
+
+/// A socket that is listened on, where connections wait until their requests begin, and the door through which they come then.
+#[derive(Drop)]
+pub struct Front {
+    address: SocketAddr,
+    limits: Limits,
+    door: TcpDoor,
+    /// None once it runs.
+    station: Mutex<Option<Station>>,
+}
+
+/// A socket that listens on the first of the text's addresses that can be had.
+fn listen<N: Net>(net: &N, address: &str) -> io::Result<TcpListener> {
+    let mut last = io::Error::from(ErrorKind::InvalidInput);
+    for address in address.to_socket_addrs(net)? {
+        match TcpListener::bind(net, address) {
+            Ok(listener) => return Ok(listener),
+            Err(error) => last = error,
+        }
+    }
+    Err(last)
+}
+
+impl Front {
+    /// Listens on an address, `HOST:PORT`, where port 0 is any free one, with the longest backlog that the system allows. All
+    /// memory that it takes is taken here.
+    pub fn open<N: Net>(
+        net: &N,
+        alloc: Global,
+        address: &str,
+        limits: Limits,
+    ) -> io::Result<Front> {
+        let limits = Limits {
+            waiting: limits.waiting.max(1).min(MOST_WAITING),
+            ..limits
+        };
+        let listener = listen(net, address)?;
+        let poll = Poll::new(net)?;
+        let waker = Waker::new(poll.registry(), WAKER)?;
+        let queue = Queue::new(alloc, limits.waiting)?;
+        Ok(Front {
+            address: listener.local_addr()?,
+            limits,
+            door: TcpDoor::new(queue, waker),
+            station: Mutex::new(Some(Station::new(alloc, poll, listener, limits)?)),
+        })
+    }
+
+    /// Where it listens.
+    pub fn address(&self) -> SocketAddr {
+        self.address
+    }
+
+    /// The door to it.
+    pub fn door(&self) -> &TcpDoor {
+        &self.door
+    }
+
+    /// A caller that meets clients through the door.
+    pub fn caller<K: Clock>(&self, clock: K) -> FrontCaller<K> {
+        FrontCaller::new(clock, self.limits.read)
+    }
+
+    /// Takes connections in, up to as many as may wait, and lets each through the door once its request has begun; one that is
+    /// silent for too long is closed. It sleeps while nothing happens. Once the door is closed it lets those through whose
+    /// requests have begun by then, closes the others and the socket, and ends. It is for one thread to call; a further call does
+    /// nothing.
+    pub fn run<R: Wait + Clock>(&self, rt: &R) -> io::Result<()> {
+        let Some(station) = self.station.lock(rt).take() else {
+            return Ok(());
+        };
+        let ran = station.run(rt, &self.door);
+        self.door.end(rt);
+        ran
+    }
+}

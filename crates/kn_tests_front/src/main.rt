@@ -1,0 +1,39 @@
+//! Fronts over loopback: silent clients, slow ones, many at once, and the end. Below each is printed whether it is as it must be.
+#![tactic(auto)]
+
+mod clients;
+mod closing;
+mod crowds;
+mod patience;
+mod server;
+mod stops;
+
+use std::io;
+use std::sync::Wait;
+use std::thread::Threads;
+use std::time::Clock;
+
+/// What threads need.
+pub trait Runs: Threads + Wait + Clock + Sync {}
+
+impl<T: Threads + Wait + Clock + Sync> Runs for T {}
+
+/// Prints whether a case is as it must be.
+fn tell(rt: &HostRuntime, name: &str, holds: bool) -> io::Result<()> {
+    let word = if holds { "ok" } else { "not so" };
+    println!(rt; "{name}: {word}")
+}
+
+fn tell_all(rt: &HostRuntime, cases: &[(&str, bool)]) -> io::Result<()> {
+    for (name, holds) in cases {
+        tell(rt, name, *holds)?;
+    }
+    Ok(())
+}
+
+fn main(rt: HostRuntime) -> io::Result<()> {
+    stops::all(&rt)?;
+    crowds::all(&rt, &rt)?;
+    patience::all(&rt, &rt)?;
+    closing::all(&rt, &rt)
+}

@@ -1,0 +1,120 @@
+//! Clients that take their time.
+
+use crate::clients::{
+    ANSWER, LATE, REQUEST, about, all_read, client, clients, is_served, passed, reads,
+};
+use crate::server::{front, meanwhile};
+use crate::{Runs, tell_all};
+use std::io::Write;
+use std::net::{SocketAddr, TcpStream};
+use std::time::{Clock, Duration, Instant};
+use std::{io, thread};
+
+/// Whether a client that says nothing is closed after about a second.
+fn is_closed(rt: &HostRuntime, address: SocketAddr) -> io::Result<bool> {
+    let since = Instant::now(rt)?;
+    let mut silent = client(rt, address)?;
+    Ok(reads(rt.alloc(), &mut silent, b"") && about(rt, since, 1_000))
+}
+
+/// A client is silent, and one is silent after it and one meanwhile.
+fn silent<T: Runs>(rt: &HostRuntime, threads: &T) -> io::Result<()> {
+    let front = front(rt, 1, 60, 4096)?;
+    let address = front.address();
+    let (done, closed) = meanwhile(threads, rt.alloc(), &front, 1, || {
+        is_closed(rt, address).unwrap_or(false) && is_closed(rt, address).unwrap_or(false)
+    })?;
+    let cases = [
+        ("two are silent for a second each", closed),
+        ("neither came to the slot", done.served == 0),
+        ("nor failed", done.faults == 0),
+    ];
+    tell_all(rt, &cases)
+}
+
+/// Sends a byte each 50 milliseconds, for three seconds or until the client is closed.
+fn drip(rt: &HostRuntime, client: &mut TcpStream) {
+    for byte in REQUEST.iter().cycle().take(60) {
+        if *byte != b'\n' && client.write_all(&[*byte]).is_err() {
+            return;
+        }
+        thread::sleep(rt, Duration::from_millis(50));
+    }
+}
+
+/// Whether a client that drips is told after about a second that it is late.
+fn is_late<T: Runs>(rt: &HostRuntime, threads: &T, address: SocketAddr) -> io::Result<bool> {
+    let since = Instant::now(rt)?;
+    let mut slow = client(rt, address)?;
+    let mut hand = slow.try_clone()?;
+    let alloc = rt.alloc();
+    let (_, told) = thread::join(
+        threads,
+        || drip(rt, &mut hand),
+        || reads(alloc, &mut slow, LATE) && about(rt, since, 1_000),
+    );
+    Ok(told)
+}
+
+/// A client drips, one stops in the midst, and one is in time.
+fn slow<T: Runs>(rt: &HostRuntime, threads: &T) -> io::Result<()> {
+    let front = front(rt, 60, 1, 4096)?;
+    let address = front.address();
+    let (done, told) = meanwhile(threads, rt.alloc(), &front, 1, || {
+        is_late(rt, threads, address).unwrap_or(false)
+            && stops(rt, address).unwrap_or(false)
+            && is_in_time(rt, address).unwrap_or(false)
+    })?;
+    let cases = [
+        ("one drips, one stops, one is in time", told),
+        ("that one was served", done.served == 1),
+        ("each of the others failed", done.faults >= 2),
+    ];
+    tell_all(rt, &cases)
+}
+
+/// Whether a client that stops in the midst is told after about a second that it is late.
+fn stops(rt: &HostRuntime, address: SocketAddr) -> io::Result<bool> {
+    let since = Instant::now(rt)?;
+    let mut client = client(rt, address)?;
+    client.write_all(b"GET / HT")?;
+    Ok(reads(rt.alloc(), &mut client, LATE) && about(rt, since, 1_000))
+}
+
+/// Whether a client is served that sends its request in two parts, half a second apart.
+fn is_in_time(rt: &HostRuntime, address: SocketAddr) -> io::Result<bool> {
+    let mut client = client(rt, address)?;
+    client.write_all(&REQUEST[..10])?;
+    thread::sleep(rt, Duration::from_millis(500));
+    client.write_all(&REQUEST[10..])?;
+    Ok(reads(rt.alloc(), &mut client, ANSWER))
+}
+
+/// Whether a client is served once three silent ones have gone after about a second.
+fn comes_to_full(rt: &HostRuntime, address: SocketAddr) -> io::Result<bool> {
+    let since = Instant::now(rt)?;
+    let mut silent = clients(rt, address, 3)?;
+    let mut fourth = client(rt, address)?;
+    let served = is_served(rt.alloc(), &mut fourth) && about(rt, since, 1_000);
+    Ok(served && all_read(rt.alloc(), &mut silent, b""))
+}
+
+/// Where three may wait, a fourth comes in when one has gone.
+fn full<T: Runs>(rt: &HostRuntime, threads: &T) -> io::Result<()> {
+    let front = front(rt, 1, 60, 3)?;
+    let address = front.address();
+    let (done, served) = meanwhile(threads, rt.alloc(), &front, 1, || {
+        comes_to_full(rt, address).unwrap_or(false)
+    })?;
+    let cases = [
+        ("the fourth of three comes in later", served),
+        ("it was served", done.served == 1),
+    ];
+    tell_all(rt, &cases)
+}
+
+pub fn all<T: Runs>(rt: &HostRuntime, threads: &T) -> io::Result<()> {
+    silent(rt, threads)?;
+    slow(rt, threads)?;
+    full(rt, threads)
+}
