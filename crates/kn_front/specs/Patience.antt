@@ -1,10 +1,10 @@
--- Who has been silent for how long.
+-- Who has been silent for how long, and how much time is left.
 use Rattle.std.specs.Prelude.{◌≡◌, ◌-◌, ◌<◌, ◌≤◌, ℕ, Bool, true, false, nat_le, Option, None, Some}
 use Rattle.std.specs.Duration.{as_nanos}
 use Rattle.std.specs.Time.{instant_nanos}
 use Rattle.std.specs.declared.time.Duration.{Duration}
 use Rattle.std.specs.declared.time.Instant.{Instant}
-use Rattle.slab.specs.Slab.{Slab, get}
+use Rattle.slab.specs.Slab.{Slab, Updates, get}
 use Rattle.kn_front.specs.declared.silent.Silent.{Silent}
 
 -- how many nanoseconds it has been silent at this time
@@ -26,6 +26,10 @@ abbrev pub EndsWithin : Option Duration → ℕ → Type 0
 EndsWithin None n = ⊥
 EndsWithin (Some wait) n = as_nanos wait ≤ n
 
+-- this one has been given a place that nobody had, and the others keep theirs
+abbrev pub IsAdded : Silent → Slab Silent → Slab Silent → Type 0
+IsAdded one old new = (place : ℕ) × (get old place ≡ None) × Updates old new place (Some one)
+
 -- each has a place below so many
 abbrev pub AreWithin : ℕ → Slab Silent → Type 0
 AreWithin places ones = (place : ℕ) (one : Silent) → get ones place ≡ Some one → place < places
@@ -42,3 +46,13 @@ NobodyIsDue idle now ones = (place : ℕ) → is_due idle now (get ones place) �
 abbrev pub EndsInTime : Option Duration → ℕ → Instant → Slab Silent → Type 0
 EndsInTime wait idle now ones =
     (place : ℕ) (one : Silent) → get ones place ≡ Some one → EndsWithin wait (idle - silent_for now one)
+
+-- how many nanoseconds are left before a time, where there is one
+abbrev pub nanos_before : Option Instant → Instant → ℕ
+nanos_before None now = 0
+nanos_before (Some until) now = instant_nanos until - instant_nanos now
+
+-- how many nanoseconds it has, where there are any
+abbrev pub nanos_of : Option Duration → ℕ
+nanos_of None = 0
+nanos_of (Some time) = as_nanos time

@@ -1,5 +1,7 @@
 //! Clients that come through a door.
-ghost use Rattle.std.specs.Prelude.{◌≡◌, None};
+ghost use Rattle.std.specs.Prelude.{◌≡◌, ◌<◌, IfSome, None};
+ghost use Rattle.std.specs.Duration.{as_nanos};
+ghost use Rattle.kn_front.specs.Patience.{nanos_before, nanos_of};
 
 use kn_io::{Caller, Failed, Faulty, Sink, Source};
 use kn_tcp::TcpCaller;
@@ -54,9 +56,17 @@ impl<K: Clock> FrontCaller<K> {
     /// How much of the request's time is left. None where it is over.
     fn left(&self) -> Option<Duration> {
         let now = Instant::now(&self.clock).ok()?;
-        let left = self.until?.checked_duration_since(now)?;
-        if left.is_zero() { None } else { Some(left) }
+        time_left(self.until, now)
     }
+}
+
+/// How much time is left before another. None where there is none left.
+fn time_left(until: Option<Instant>, now: Instant) -> Option<Duration>
+    ensures time { nanos_of result ≡ nanos_before until now }
+    ensures some { IfSome result (λ left. 0 < as_nanos left) }
+{
+    let left = until?.saturating_duration_since(now);
+    if left.is_zero() { None } else { Some(left) }
 }
 
 impl<K> Faulty for FrontCaller<K> {

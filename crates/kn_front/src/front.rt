@@ -12,13 +12,13 @@ use std::io;
 use std::io::ErrorKind;
 use std::net::{Net, SocketAddr, ToSocketAddrs};
 use std::sync::{Mutex, Wait};
-use std::time::Clock;
+use std::time::{Clock, Duration};
 
 /// A socket that is listened on, where connections wait until their requests begin, and the door through which they come then.
 #[derive(Drop)]
 pub struct Front {
     address: SocketAddr,
-    limits: Limits,
+    read: Duration,
     door: TcpDoor,
     /// None once it runs.
     station: Mutex<Option<Station>>,
@@ -55,7 +55,7 @@ impl Front {
         let queue = Queue::new(alloc, limits.waiting)?;
         Ok(Front {
             address: listener.local_addr()?,
-            limits,
+            read: limits.read,
             door: TcpDoor::new(queue, waker),
             station: Mutex::new(Some(Station::new(alloc, poll, listener, limits)?)),
         })
@@ -73,7 +73,7 @@ impl Front {
 
     /// A caller that meets clients through the door.
     pub fn caller<K: Clock>(&self, clock: K) -> FrontCaller<K> {
-        FrontCaller::new(clock, self.limits.read)
+        FrontCaller::new(clock, self.read)
     }
 
     /// Takes connections in, up to as many as may wait, and lets each through the door once its request has begun; one that is

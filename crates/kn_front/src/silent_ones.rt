@@ -1,8 +1,8 @@
 //! The connections of which nothing has come yet.
-ghost use Rattle.std.specs.Prelude.{◌≡◌, IfOk, IfSome, IsNone, MatchBool, None, Some, true, false, ℕ};
+ghost use Rattle.std.specs.Prelude.{◌≡◌, IfOk, IfSome, IsNone, None, Some, true, false, ℕ};
 ghost use Rattle.std.specs.Duration.{as_nanos};
 ghost use Rattle.slab.specs.Slab.{SameValues, Updates, get};
-ghost use Rattle.kn_front.specs.Patience.{AreWithin, CameSince, EndsInTime, NobodyIsDue, is_by, is_due};
+ghost use Rattle.kn_front.specs.Patience.{AreWithin, CameSince, EndsInTime, IsAdded, NobodyIsDue, is_by, is_due};
 
 use crate::silent::{Found, Silent, look};
 use mio::net::TcpStream;
@@ -66,7 +66,8 @@ impl SilentOnes {
 
     /// One more, which is silent at this time, and whether it is kept: one that has no place or can't be watched is closed.
     pub(crate) fn add(&mut self, mut stream: TcpStream, now: Instant) -> bool
-        ensures added { MatchBool result ((place : ℕ) × Updates self.old.ones self.new.ones place (Some (record { stream = stream; since = now }))) (SameValues self.old.ones self.new.ones) }
+        ensures added { result ≡ true → IsAdded (record { stream = stream; since = now }) self.old.ones self.new.ones }
+        ensures closed { result ≡ false → SameValues self.old.ones self.new.ones }
         ensures places { self.new.places ≡ self.old.places }
     {
         let place = self.ones.vacant_key();

@@ -96,14 +96,12 @@ pub fn serve<T: Runs>(threads: &T, alloc: Global, front: &Front, count: usize) -
         })?;
     }
     let door = front.door();
-    if count > 0 {
-        thread::for_each_mut(
-            threads,
-            &mut slots,
-            count,
-            &|_, slot| { serve_slot(threads, door, slot) },
-        );
-    }
+    thread::for_each_mut(
+        threads,
+        &mut slots,
+        count.max(1),
+        &|_, slot| { serve_slot(threads, door, slot) },
+    );
     Ok(sum(&slots))
 }
 
