@@ -7,8 +7,8 @@ use Rattle.kn_http.specs.declared.chunks.Chunk.{Chunk}
 use Rattle.kn_http.specs.declared.chunks.Chunk.TheVariants as at_front
 use Rattle.kn_http.specs.declared.parts.Bounds.{Bounds}
 use Rattle.kn_http.specs.Chunks.{IsSizeLine, IsTrailer, IsChunk, IsChunked, last, chunk}
-use Rattle.kn_http.specs.Parts.{SizeRefused, LineEndCut, LacksLineEnd}
-use Rattle.kn_http.specs.Next.{HasNoChunk, ChunkIs, BodyIs}
+use Rattle.kn_http.specs.Parts.{SizeCut, SizeRefused, LineEndCut, LacksLineEnd}
+use Rattle.kn_http.specs.Next.{HasNoChunk, IsCut, in_size, in_data, in_end, ChunkIs, BodyIs}
 use Rattle.kn_http.proofs.Ones.{size_unique, chunk_unique, not_both, no_size}
 
 -- ---- what a chunk says of the body
@@ -30,7 +30,7 @@ body_is bounds bytes (at_front.Data start end) is = λ more rest. (
   λ value body. after_chunk bounds (bytes ++ more) (slice_range bytes start end) (drop (end + 2) bytes ++ more) value rest (is.2 more) body,
   λ later body. chunk (slice_range bytes start end) (drop (end + 2) bytes ++ more) (is.2 more) body,
 )
-body_is bounds bytes at_front.Cut none = λ value rest body. no_body bounds bytes value rest none body
+body_is bounds bytes at_front.Cut cut = λ value rest body. no_body bounds bytes value rest cut.0 body
 body_is bounds bytes at_front.Never none = λ more value rest body. no_body bounds (bytes ++ more) value rest (none more) body
 
 -- ---- no chunk
@@ -39,6 +39,12 @@ pub refused : (bounds : Bounds) (b : List ℕ) → SizeRefused bounds b → HasN
 refused bounds b never = (
   λ piece rest c. no_size bounds b (piece ++ (13 ∷ 10 ∷ rest)) (length piece) never c.0,
   λ rest l. no_size bounds b l.0 0 never l.1,
+)
+
+pub size_cut : (bounds : Bounds) (b : List ℕ) → SizeCut bounds b → HasNoChunk bounds b × IsCut bounds b
+size_cut bounds b cut = (
+  (λ piece rest c. cut.1.0 c.0.0 (piece ++ (13 ∷ 10 ∷ rest)) c.0.1, λ rest l. cut.1.0 l.1.0 l.0 l.1.1),
+  in_size cut,
 )
 
 pub no_last : (bounds : Bounds) (b t : List ℕ) → IsSizeLine bounds b 0 t → ((r : List ℕ) → ¬ (IsTrailer bounds t r)) → HasNoChunk bounds b
@@ -87,15 +93,22 @@ last_at bounds bytes behind start end within same line ended = (
 
 module _ (bounds : Bounds) (bytes : List ℕ) (start n : ℕ) (within : start ≤ length bytes)
     (line : (more : List ℕ) → IsSizeLine bounds (bytes ++ more) n (drop start bytes ++ more)) (some : 0 < n) where
-  pub too_few : length (drop start bytes) < n → HasNoChunk bounds bytes
+  pub too_few : length (drop start bytes) < n → HasNoChunk bounds bytes × IsCut bounds bytes
   too_few short =
-      no_inner bounds bytes (drop start bytes) n (here bounds bytes (drop start bytes) n line) some
-      (λ piece rest len same. omega (arith, ap length same, length-append piece (13 ∷ 10 ∷ rest), len, short))
+      let at_ = here bounds bytes (drop start bytes) n line in (
+        no_inner bounds bytes (drop start bytes) n at_ some
+            (λ piece rest len same. omega (arith, ap length same, length-append piece (13 ∷ 10 ∷ rest), len, short)),
+        in_data n (drop start bytes) at_ short,
+      )
 
-  pub end_cut : (behind : List ℕ) → behind ≡ drop n (drop start bytes) → LineEndCut behind → HasNoChunk bounds bytes
-  end_cut behind at_ cut =
-      no_inner bounds bytes (drop start bytes) n (here bounds bytes (drop start bytes) n line) some
-      (λ piece rest len same. either rest (at_ ∙ (ap (drop n) same ∙ drop_at piece (13 ∷ 10 ∷ rest) n len)) cut)
+  pub end_cut : (behind : List ℕ) → behind ≡ drop n (drop start bytes) → n ≤ length (drop start bytes) → LineEndCut behind
+      → HasNoChunk bounds bytes × IsCut bounds bytes
+  end_cut behind is long cut =
+      let at_ = here bounds bytes (drop start bytes) n line in (
+        no_inner bounds bytes (drop start bytes) n at_ some
+            (λ piece rest len same. either rest (is ∙ (ap (drop n) same ∙ drop_at piece (13 ∷ 10 ∷ rest) n len)) cut),
+        in_end n (drop start bytes) at_ long (subst LineEndCut is cut),
+      )
     where
       either : (rest : List ℕ) → behind ≡ 13 ∷ 10 ∷ rest → LineEndCut behind → ⊥
       either rest is (inl none) = cc

@@ -3,12 +3,20 @@ use Rattle.std.specs.Prelude.{◌≡◌, ℕ, ◌+◌, ◌≤◌, ◌<◌, List,
 use Rattle.kn_http.specs.declared.chunks.Chunk.{Chunk}
 use Rattle.kn_http.specs.declared.chunks.Chunk.TheVariants as chunk
 use Rattle.kn_http.specs.declared.parts.Bounds.{Bounds}
-use Rattle.kn_http.specs.Chunks.{IsChunk, IsLastChunk, IsChunked}
+use Rattle.kn_http.specs.Chunks.{IsSizeLine, IsChunk, IsLastChunk, IsChunked}
+use Rattle.kn_http.specs.Parts.{SizeCut, TrailerCut, LineEndCut}
 
 -- no chunk stands at the front
 abbrev pub HasNoChunk : Bounds → List ℕ → Type 0
 HasNoChunk bounds bytes =
     ((piece rest : List ℕ) → ¬ (IsChunk bounds bytes piece rest)) × ((rest : List ℕ) → ¬ (IsLastChunk bounds bytes rest))
+
+-- a part of the chunk at the front is cut: its size line, the trailer, the data, or CR LF behind them
+pub data IsCut (bounds : Bounds) (bytes : List ℕ) : Type 0 where
+  in_size : SizeCut bounds bytes → IsCut bounds bytes
+  in_trailer : (rest : List ℕ) → IsSizeLine bounds bytes 0 rest → TrailerCut bounds rest → IsCut bounds bytes
+  in_data : (n : ℕ) (rest : List ℕ) → IsSizeLine bounds bytes n rest → length rest < n → IsCut bounds bytes
+  in_end : (n : ℕ) (rest : List ℕ) → IsSizeLine bounds bytes n rest → n ≤ length rest → LineEndCut (drop n rest) → IsCut bounds bytes
 
 -- what is said of the chunk at the front, whatever follows: it is the last one and ends here; it has these data, and CR LF
 -- behind them; it isn't here to its end; or there never is one
@@ -18,7 +26,7 @@ ChunkIs bounds bytes (chunk.Last end) =
 ChunkIs bounds bytes (chunk.Data start end) =
     (start < end) × (end + 2 ≤ length bytes)
     × ((more : List ℕ) → IsChunk bounds (bytes ++ more) (slice_range bytes start end) (drop (end + 2) bytes ++ more))
-ChunkIs bounds bytes chunk.Cut = HasNoChunk bounds bytes
+ChunkIs bounds bytes chunk.Cut = HasNoChunk bounds bytes × IsCut bounds bytes
 ChunkIs bounds bytes chunk.Never = (more : List ℕ) → HasNoChunk bounds (bytes ++ more)
 
 -- whatever follows, a body in chunks begins with the bytes where one begins with the next ones, and stands for the piece and

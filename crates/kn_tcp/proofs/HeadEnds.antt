@@ -1,5 +1,5 @@
 -- Where the heads of a reply end.
-use Rattle.std.proofs.Common.{◌≡◌, ◌<◌, ◌≤◌, ◌+◌, ℕ, Bool, List, [], ◌++◌, length, take, drop, map, true, false, sym, subst, ap, ◌∙◌, arith, rules, append-nil, length-append}
+use Rattle.std.proofs.Common.{◌≡◌, ◌<◌, ◌≤◌, ◌+◌, ℕ, Bool, List, [], ◌++◌, length, take, drop, map, true, false, sym, subst, ap, ◌∙◌, arith, append-nil, length-append}
 use Rattle.std.proofs.lemmas.List.{drop-append-le, drop-drop, length-map, length-take-le}
 use Rattle.httparse.specs.Grammar.{Field, ResponseHead, ReadsResponse, HasNoResponse, status_code}
 use Rattle.httparse.specs.Spans.{IsResponseAt, IsResponseWithin, ResponseOverflows, header_bytes, name_and_value}
@@ -27,10 +27,7 @@ few_fields buf spans count fields same fits room =
     )
 
 apart : {b : Bool} → b ≡ true → b ≡ false → ⊥
-apart {b} x y = absurd (differ (sym x ∙ y))
-  where
-    differ : true ≡ false → ⊥
-    differ e = search rules
+apart {b} x y = cc
 
 -- the head at the front is the answer's
 pub last_head : (k : ℕ) (text : List ℕ) (h : ResponseHead) (behind more : List ℕ) (head : ResponseHead) (rest : List ℕ)

@@ -103,10 +103,7 @@ field_met n field false at e = refl
 
 pub both : (a b : Bool) → a && b ≡ true → (a ≡ true) × (b ≡ true)
 both true b e = (refl, e)
-both false b e = (e, absurd (differ e))
-  where
-    differ : false ≡ true → ⊥
-    differ h = search rules
+both false b e = cc
 
 pub all_met : (n : ℕ) (fields : List (List ℕ × List ℕ)) → list_all (agrees n) fields ≡ true → list_all (allows n) fields ≡ true
 all_met n [] e = refl
@@ -116,10 +113,7 @@ all_met n (field ∷ fields) e =
 
 not_any : (a b : Bool) → a || b ≡ false → (a ≡ false) × (b ≡ false)
 not_any false b e = (refl, e)
-not_any true b e = (e, absurd (differ e))
-  where
-    differ : true ≡ false → ⊥
-    differ h = search rules
+not_any true b e = cc
 
 pub none_said : (n : ℕ) (fields : List (List ℕ × List ℕ)) → list_any is_length fields ≡ false → list_all (allows n) fields ≡ true
 none_said n [] e = refl
@@ -132,17 +126,10 @@ pub whole_body : (a b c d : Bool) (fields : List (List ℕ × List ℕ)) (bytes 
 whole_body true b c d fields bytes said r = inl refl
 whole_body false true c d fields bytes said r = inr (reply_bounds, r.0, [], r.1)
 whole_body false false true d fields bytes said r = inr tt
-whole_body false false false true fields bytes said r = inr (truth (all_met (length bytes) fields same))
-  where
-    same : list_all (agrees (length bytes)) fields ≡ true
-    same = subst (λ b. list_all (agrees (length b)) fields ≡ true) (sym (r.1 ∙ append-nil r.0)) r.3
-
-    truth : {x : Bool} → x ≡ true → IsTrue x
-    truth e = search rules
-whole_body false false false false fields bytes said r = inr (truth (none_said (length bytes) fields (sym said)))
-  where
-    truth : {x : Bool} → x ≡ true → IsTrue x
-    truth e = search rules
+whole_body false false false true fields bytes said r =
+    inr (all_met (length bytes) fields
+    (subst (λ b. list_all (agrees (length b)) fields ≡ true) (sym (r.1 ∙ append-nil r.0)) r.3))
+whole_body false false false false fields bytes said r = inr (none_said (length bytes) fields (sym said))
 
 pub whole_reply : (request reply : List ℕ) → ReadsReply request reply [] → IsWholeReply request reply
 whole_reply request reply r =

@@ -16,7 +16,8 @@ returns-in-Whole c =
 pub returns-in-Cut : goal.returns-in-Cut
 returns-in-Cut c =
     end_cut c.args.bounds c.args.bytes.now c.args.start c.args.size c.requires.within c.requires.line c.requires.some
-    c.split_at-2.result.1.now (c.split_at-2.ensures.back ∙ ap (drop c.args.size) c.split_at.ensures.back) c.in-Cut.ensures
+    c.split_at-2.result.1.now (c.split_at-2.ensures.back ∙ ap (drop c.args.size) c.split_at.ensures.back)
+    (omega (arith, c.if-size-behind.false, ap length c.split_at.ensures.back)) c.in-Cut.ensures
 
 pub returns-in-Never : goal.returns-in-Never
 returns-in-Never c more =

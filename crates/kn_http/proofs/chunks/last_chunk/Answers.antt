@@ -1,6 +1,6 @@
 use Rattle.std.proofs.Common.{◌++◌, drop, subst}
-use Rattle.httparse.specs.Grammar.{HasNoSection}
-use Rattle.kn_http.specs.Parts.{TrailerRefused}
+use Rattle.kn_http.specs.Parts.{TrailerCut, TrailerRefused}
+use Rattle.kn_http.specs.Next.{in_trailer}
 use Rattle.kn_http.proofs.Ones.{no_trailer}
 use Rattle.kn_http.proofs.Following.{here, last_at, no_last}
 use Rattle.kn_http.proofs.chunks.last_chunk.Goals as goal
@@ -14,8 +14,9 @@ pub returns-in-Cut : goal.returns-in-Cut
 returns-in-Cut c =
     let bytes = c.args.bytes.now in
     let behind = drop c.args.start bytes in
-    no_last c.args.bounds bytes behind (here c.args.bounds bytes behind 0 c.requires.line)
-    (λ rest x. subst HasNoSection c.split_at.ensures.back c.in-Cut.ensures.1.0 x.0 x.1 rest x.2)
+    let line = here c.args.bounds bytes behind 0 c.requires.line in
+    let cut = subst (TrailerCut c.args.bounds) c.split_at.ensures.back c.in-Cut.ensures in
+    (no_last c.args.bounds bytes behind line (λ rest x. cut.1.0 x.0 x.1 rest x.2), in_trailer behind line cut)
 
 pub returns-in-Never : goal.returns-in-Never
 returns-in-Never c more =

@@ -1,7 +1,7 @@
 use Rattle.std.proofs.Common.{◌++◌, drop, subst}
 use Rattle.kn_http.specs.declared.chunks.Chunk.TheVariants as at_front
 use Rattle.kn_http.specs.Chunks.{IsSizeLine}
-use Rattle.kn_http.proofs.Following.{body_is, refused}
+use Rattle.kn_http.proofs.Following.{body_is, refused, size_cut}
 use Rattle.kn_http.proofs.chunks.next_chunk.Goals as goal
 
 pub last_chunk-requires-clause-line : goal.last_chunk-requires-clause-line
@@ -21,3 +21,6 @@ returns-in-Never-clause-chunk c more = refused c.args.bounds _ (c.in-Never.ensur
 pub returns-in-Never-clause-body : goal.returns-in-Never-clause-body
 returns-in-Never-clause-body c =
     body_is c.args.bounds c.args.bytes.now at_front.Never (λ more. refused c.args.bounds (c.args.bytes.now ++ more) (c.in-Never.ensures more))
+
+pub returns-in-Cut-clause-chunk : goal.returns-in-Cut-clause-chunk
+returns-in-Cut-clause-chunk c = size_cut c.args.bounds c.args.bytes.now c.in-Cut.ensures
