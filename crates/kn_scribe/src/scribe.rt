@@ -7,6 +7,7 @@ use kn_cell::{Pass, Past, RevisionCell};
 use kn_door::{Door, Stop};
 use kn_event::Memory;
 use kn_io::{Caller, Clock, Failed, Sink};
+use kn_lasting::Attendant;
 use kn_print::printed_laws;
 use kn_request::Left;
 use std::alloc::Global;
@@ -81,18 +82,18 @@ impl<'a, C: Caller, O: Sink, K: Clock, D: Door<C>, S: Stop> Scribe<'a, C, O, K, 
             }
         }
     }
+}
+
+impl<'a, C: Caller, O: Sink, K: Clock, D: Door<C>, S: Stop> Attendant
+    for Scribe<'a, C, O, K, D, S> {
+    ghost may = { λ s p. (s.rows.items ≡ []) × (p.room ≤ vec_capacity s.rows) };
+
+    ghost attends = { λ s t p q. (t.out.ghost_name ≡ s.out.ghost_name)
+        × Prints p q (O.held s.out.now) (O.held t.out.now) (O.Faulty.faults s.out.now) (O.Faulty.faults t.out.now) t.done };
 
     /// Prints the rows of the cell as they come, until no slot is at work or writing fails. The door is closed once the server
     /// is to stop.
-    pub fn attend<R: Wait>(&mut self, rt: &R, cell: &RevisionCell, pass: &mut Pass, left: &Left)
-        requires cell { pass.old.cell ≡ cell.now }
-        requires scribe { pass.old.scribe ≡ true }
-        requires empty { self.old.rows.items ≡ [] }
-        requires room { pass.old.room ≤ vec_capacity self.old.rows }
-        ensures prints { Prints pass.old pass.new (O.held self.old.out.now) (O.held self.new.out.now)
-            (O.Faulty.faults self.old.out.now) (O.Faulty.faults self.new.out.now) self.new.done }
-        ensures out { self.new.out.ghost_name ≡ self.old.out.ghost_name }
-    {
+    fn attend<R: Wait>(&mut self, rt: &R, cell: &RevisionCell, pass: &mut Pass, left: &Left) {
         printed_laws();
         let mut further = self.round(rt, cell, pass, left);
         for _ in rt.forever() {
