@@ -262,7 +262,8 @@ pub fn taken_from<R: Threads + Wait + Sync>(
     let Ok(mut others) = Vec::with_capacity(alloc, threads) else {
         return Err(Memory);
     };
-    match open_lasting(alloc, 0, 10, threads as u64 + 1) {
+    // One request of each thread at once: all of them run.
+    match open_lasting(alloc, 0, 100, threads as u64 + 1) {
         Ok((cell, scribe)) => {
             use_up(
                 rt,
