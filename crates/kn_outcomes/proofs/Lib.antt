@@ -1,0 +1,4 @@
+mod Lists
+mod Living
+mod Rounds
+mod Over
