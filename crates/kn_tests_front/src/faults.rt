@@ -9,7 +9,7 @@ use std::io::ErrorKind;
 /// How many of so many faults are told one by one in this second.
 fn told(limiter: &mut Limiter, second: u64, faults: u32) -> u32 {
     limiter.begin(second);
-    let mut told = 0;
+    let mut told = 0u32;
     for _ in 0..faults {
         if limiter.tells() {
             told = told.saturating_add(1);
