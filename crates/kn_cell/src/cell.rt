@@ -16,7 +16,7 @@ use crate::course::{Course, arrival_at, arrived, course_at};
 use crate::desk::Desk;
 use crate::past::{Full, History, Past, TryError};
 use crate::rule::{Cut, Glue, Order};
-use crate::steps::{AWAITED, Place, confirm, give, hand_back, heard, take, wait_bell};
+use crate::steps::{AWAITED, Place, confirm, give, hand_back, heard, ring_left, take, wait_bell};
 use crate::turn::{
     attempt, enter, proxied_at, rows_at, stand_at, starting_at, take_turn, to_probe_at,
 };
@@ -170,12 +170,12 @@ impl RevisionCell {
         let place = &mut pass.place;
         take_turn(rt, board, place);
         match enter(board, place, number, passes, Act::Arrive(tag), time) {
-            Ok(told) => {
-                // Those called have been rung, so there is room for one more that waits.
+            Ok((told, left)) => {
                 let course = arrival_at(board, place, number, pass.asked, told);
                 pass.asked = arrived(told).or(pass.asked);
                 pass.heard = heard(board, number);
                 give(board, place);
+                ring_left(board, place, passes, left);
                 Ok((told, course))
             }
             Err(full) => {
