@@ -2,13 +2,18 @@
 #![tactic(auto)]
 
 mod asked;
-
-
-
+mod lines;
+mod metric;
+mod metrics;
+mod numbers;
+mod page;
 mod read;
+mod reply;
+mod server;
 mod sheet;
+mod visit;
 
-pub use asked::{Asked, Wanted, asked_of};
-pub use read::read_asked;
-
-
+pub use metrics::{Outer, write_metrics};
+pub use page::Page;
+pub use sheet::Sheet;
+pub use server::Server;
