@@ -54,9 +54,12 @@ front_is bytes more text rest same fits =
 -- so many bytes came as a head has at most, and they have none
 pub full_asks : (bytes more : List ℕ) → length bytes ≡ most_bytes → HasNoRequest bytes → Asks (bytes ++ more) no_head
 full_asks bytes more full none =
-    inr (λ h start.
-        let short = start.short in
-        none h (drop (length (print_request h)) bytes) (start.reads.0, front_is bytes more (print_request h) start.rest start.reads.1 (omega (arith, short, full))), refl)
+    inr (
+      λ h start.
+          let short = start.short in
+          none h (drop (length (print_request h)) bytes) (start.reads.0, front_is bytes more (print_request h) start.rest start.reads.1 (omega (arith, short, full))),
+      refl,
+    )
 
 -- ---- known bytes
 

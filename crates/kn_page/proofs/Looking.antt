@@ -1,5 +1,6 @@
 -- What a page does to its pass.
 use Rattle.std.proofs.Common.{◌≡◌, ◌⊎◌, inl, inr, ◌≤◌, ◌+◌, ℕ, Bool, List, [], ◌∷◌, ◌++◌, append_assoc, refl, sym, ap, ◌∙◌, subst, arith}
+use Rattle.std.specs.Prelude.{Option}
 use Rattle.kn_cell.specs.declared.past.Past.{Past}
 use Rattle.kn_cell.specs.History.{IsLegal, rows_by}
 use Rattle.kn_cell.specs.Lists.{StartsWith}
@@ -8,7 +9,7 @@ use Rattle.kn_page.specs.declared.asked.Wanted.{Wanted}
 use Rattle.kn_page.specs.declared.asked.Wanted.TheVariants as wanted
 use Rattle.kn_page.specs.declared.visit.Visit.{Visit}
 use Rattle.kn_page.specs.declared.visit.Visit.TheVariants as visit
-use Rattle.kn_page.specs.Visits.{Answers, AreVisits, OneVisit, Side, Visits}
+use Rattle.kn_page.specs.Visits.{Answers, AreVisits, OneVisit, Side, Visits, side}
 
 starts_trans : (a b c : List Past) → StartsWith b a → StartsWith c b → StartsWith c a
 starts_trans a b c s t = (s.0 ++ t.0, t.1 ∙ (ap (λ l. l ++ t.0) s.1 ∙ append_assoc a s.0 t.0))
@@ -80,3 +81,7 @@ no_visits stops waits p a = record { all = []; are = (refl, refl) }
 
 pub visits_more : (stops : Bool → Type 0) (waits : ℕ → Type 0) (v : Visit) (p m q : PassView) (a x b : Side) → Visits stops waits p m a x → OneVisit stops waits v m q x b → Visits stops waits p q a b
 visits_more stops waits v p m q a x b vs one = record { all = vs.all ++ v ∷ []; are = are_more stops waits vs.all v p m q a x b vs.are one }
+
+-- what is told of a caller stays
+pub same_side : (k k' : Option (List (List ℕ))) (h h' : Option (List ℕ)) (f f' : ℕ) → k' ≡ k → h' ≡ h → f' ≡ f → side k' h' f' ≡ side k h f
+same_side k k' h h' f f' e d b = ap (λ x. side x h' f') e ∙ ap (λ x. side k x f') d ∙ ap (side k h) b

@@ -90,7 +90,6 @@ input_read (Some t) (Some l) left' texts input P told heard e reads = subst (λ 
 pub tells_on : (a b : Option Said) (P Q : Said → Said → Type 0) → ((x y : Said) → P x y → Q x y) → Tells a b P → Tells a b Q
 tells_on a b P Q f h x e = let r = h x e in (r.0, r.1, f x r.0 r.2)
 
-
 module _ (law_texts : (kept : List (List ℕ)) (held input : List ℕ) → IsPaired (Some kept) → texts_of (kept ++ held ∷ input ∷ []) [] ≡ texts_of kept held ++ [] ∷ [])
     (law_streams : (kept : List (List ℕ)) (held input : List ℕ) → IsPaired (Some kept) → streams_of (kept ++ held ∷ input ∷ []) ≡ streams_of kept ++ input ∷ []) where
   -- one text and one stream more

@@ -15,5 +15,5 @@ mod visit;
 
 pub use metrics::{Outer, write_metrics};
 pub use page::Page;
-pub use sheet::Sheet;
 pub use server::Server;
+pub use sheet::Sheet;

@@ -47,14 +47,18 @@ impl Metric {
         match self {
             Metric::Rows => b"Rows of the report since the server began, by kind.",
             Metric::Recorded => b"Rows of the journal recorded since the server began.",
-            Metric::Unprinted => b"Recorded rows of the journal that are not handed to the printer yet.",
+            Metric::Unprinted =>
+                b"Recorded rows of the journal that are not handed to the printer yet.",
             Metric::Pods => b"Live pods, by state.",
-            Metric::Wanted => b"Pods wanted by the last decision, or by the setup before the first.",
+            Metric::Wanted =>
+                b"Pods wanted by the last decision, or by the setup before the first.",
             Metric::Requests => b"Live requests, by state.",
             Metric::Waiting => b"Connections that wait for a slot.",
             Metric::AtWork => b"Slots at work.",
-            Metric::Stable => b"Requests over the stable window at the last decision, on average, rounded down.",
-            Metric::Panic => b"Requests over the panic window at the last decision, on average, rounded down.",
+            Metric::Stable =>
+                b"Requests over the stable window at the last decision, on average, rounded down.",
+            Metric::Panic =>
+                b"Requests over the panic window at the last decision, on average, rounded down.",
             Metric::Want => b"Pods wanted by the last decision.",
         }
     }

@@ -1,6 +1,5 @@
 //! The page.
-ghost use Rattle.std.specs.Prelude.{◌≡◌, ◌⊎◌, ℕ};
-ghost use Rattle.kn_cell.specs.Shown.{LooksBy};
+ghost use Rattle.std.specs.Prelude.{◌≡◌, ⊤};
 ghost use Rattle.kn_page.specs.Visits.{Visits, side};
 
 use crate::server::Server;
@@ -10,6 +9,7 @@ use kn_cell::{Pass, RevisionCell};
 use kn_door::Door;
 use kn_io::Caller;
 use kn_request::Left;
+use kn_session::Attendant;
 use std::sync::Wait;
 
 /// Answers those who come through a door of its own: whether the server lives, whether it takes requests, and its metrics.
@@ -37,16 +37,18 @@ impl<'a, C: Caller, D: Door<C>, E: Server> Page<'a, C, D, E> {
             },
         }
     }
+}
 
-    /// Answers who comes, one after the other, until the door is closed and nobody is left behind it.
-    pub fn attend<R: Wait>(&mut self, rt: &R, cell: &RevisionCell, pass: &mut Pass, left: &Left)
-        requires cell { pass.old.cell ≡ cell.now }
-        ensures later { (given : ℕ) × ((pass.new ≡ pass.old) ⊎ LooksBy given pass.old pass.new) }
-        ensures mine { pass.new.mine ≡ pass.old.mine }
-        ensures attends { Visits (E.stops self.old.server.now) (E.waits self.old.server.now) pass.old pass.new
-            (side (C.Sink.kept self.old.caller) (C.Sink.held self.old.caller) (C.Faulty.faults self.old.caller))
-            (side (C.Sink.kept self.new.caller) (C.Sink.held self.new.caller) (C.Faulty.faults self.new.caller)) }
-    {
+impl<'a, C: Caller, D: Door<C>, E: Server> Attendant for Page<'a, C, D, E> {
+    ghost may = { λ _ _. ⊤ };
+
+    // Some connections came, one after the other, and each was answered from what the pass had then seen.
+    ghost attends = { λ s t p q. Visits (E.stops s.server.now) (E.waits s.server.now) p q
+        (side (C.Sink.kept s.caller) (C.Sink.held s.caller) (C.Faulty.faults s.caller))
+        (side (C.Sink.kept t.caller) (C.Sink.held t.caller) (C.Faulty.faults t.caller)) };
+
+    /// Answers who comes, until the door is closed and nobody is left behind it.
+    fn attend<R: Wait>(&mut self, rt: &R, cell: &RevisionCell, pass: &mut Pass, left: &Left) {
         for _ in rt.forever() {
             if !self.door.next(rt, &mut self.caller) {
                 return;

@@ -2,7 +2,7 @@
 use Rattle.std.proofs.Common.{◌≡◌}
 use Rattle.kn_page.specs.Visits.{Visits, side}
 use Rattle.kn_page.proofs.Looking.{OnlyLooks}
-use Rattle.kn_page.proofs.page.Page.attend.Given as goal
+use Rattle.kn_page.proofs.page.PageAttendant.attend.Given as goal
 
 abbrev pub invariant-loop : goal.invariant-loop
 invariant-loop g l = record {
