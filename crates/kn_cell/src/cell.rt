@@ -19,7 +19,7 @@ use crate::past::{Full, History, Past, TryError};
 use crate::rule::{Cut, Glue, Order};
 use crate::steps::{AWAITED, Place, confirm, give, hand_back, heard, ring_left, take, wait_bell};
 use crate::turn::{
-    attempt, enter, proxied_at, rows_at, stand_at, starting_at, take_turn, to_probe_at,
+    attempt, enter, figures_at, proxied_at, rows_at, stand_at, starting_at, take_turn, to_probe_at,
 };
 use crate::view::{Key, View};
 use atomic_table::Table;
@@ -244,8 +244,12 @@ impl RevisionCell {
         ensures mine { pass.new.mine ≡ pass.old.mine }
         ensures figures { AreFiguresOf pass.new result }
     {
-        for _ in rt.forever() {}
-        unreachable!()
+        let board = &self.table.shared;
+        let place = &mut pass.place;
+        take_turn(rt, board, place);
+        let figures = figures_at(board, place);
+        give(board, place);
+        figures
     }
 
     /// Waits for a millisecond, or returns at once. Nothing changes.

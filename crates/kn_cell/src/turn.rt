@@ -8,11 +8,13 @@ ghost use Rattle.kn_cell.specs.Desk.{Applies, Refuses, emptied};
 ghost use Rattle.kn_cell.specs.Views.{opening};
 ghost use Rattle.kn_cell.specs.History.{trace_after, MayCome};
 ghost use Rattle.kn_cell.specs.Rule.{without_turn};
+ghost use Rattle.kn_cell.specs.Counted.{AreFiguresAt};
 ghost use Rattle.kn_cell.specs.Turns.{HasTurn, WaitsForTurn, Enters, RecordsRow, Overflows, trace_of};
 
 use crate::past::{Full, Past};
 use crate::steps::{AWAITED, Board, Place, TAKEN, give, record, ring_left, take};
 use kn_event::{Act, Stand, Told};
+use kn_figures::Figures;
 use std::sync::Wait;
 
 // How often a pass looks again before it parks, since most turns are short.
@@ -216,6 +218,16 @@ pub fn call_address_at(board: &Board, place: &mut Place, pod: u64) -> u64
     ensures value { (c : Trace) → StandsFor (opening place.old.me.0.key) c → result ≡ call_address place.old.me.0.key.addresses (trace_of place.old.me.0 c) pod }
 {
     place.slot_mut(board, 0).call_address(pod)
+}
+
+/// What is counted after all that is seen.
+pub fn figures_at(board: &Board, place: &mut Place) -> Figures
+    requires same { place.old.table_id ≡ board.now.table_id }
+    requires turn { HasTurn place.old.me }
+    ensures same { (place.new.table_id ≡ place.old.table_id) × (place.new.id ≡ place.old.id) × (place.new.me ≡ place.old.me) }
+    ensures value { AreFiguresAt place.old.me.0 result }
+{
+    place.slot_mut(board, 0).figures()
 }
 
 /// The next pod to probe, with its address, after all that is seen.

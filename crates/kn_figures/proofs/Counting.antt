@@ -1,6 +1,6 @@
 -- One row more in a tally.
 use Rattle.std.proofs.Common.{◌≡◌, ◌≢◌, ℕ, ◌+◌, ◌-◌, ◌<◌, ◌^◌, min, Bool, true, false, List, [], ◌∷◌, ◌++◌, length, refl, sym, ap, ◌∙◌, arith, length-append, suc, zero, replicate}
-use Rattle.std.specs.Prelude.{◌==◌, Option, None, Some, unwrap_or, slice_index, slice_set}
+use Rattle.std.specs.Prelude.{Option, None, Some, unwrap_or, slice_index, slice_set}
 use Rattle.std.specs.List.{filter}
 use Rattle.std.proofs.lemmas.Bool.{eqb-true, eq-eqb}
 use Rattle.std.proofs.lemmas.List.{append-nil}

@@ -3,6 +3,7 @@
 
 mod figures;
 mod kind;
+pub mod laws;
 mod tally;
 
 pub use figures::Figures;

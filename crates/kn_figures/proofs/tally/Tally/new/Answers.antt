@@ -1,4 +1,3 @@
-use Rattle.std.proofs.Common.{refl}
 use Rattle.kn_figures.proofs.Counting.{none_yet}
 use Rattle.kn_figures.proofs.tally.Tally.new.Goals as goal
 

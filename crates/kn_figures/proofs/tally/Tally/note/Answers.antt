@@ -1,4 +1,4 @@
-use Rattle.std.proofs.Common.{◌<◌, ◌≡◌, ap, sym, ◌∙◌, length, rules}
+use Rattle.std.proofs.Common.{◌<◌, ap, sym, ◌∙◌, length, rules}
 use Rattle.kn_figures.specs.Kinds.{place_of}
 use Rattle.kn_figures.proofs.Counting.{decided, raised, undecided}
 use Rattle.kn_figures.proofs.tally.Tally.note.Goals as goal
