@@ -13,7 +13,7 @@ use Rattle.httparse.specs.declared.spans.RequestSpans.{RequestSpans}
 use Rattle.httparse.specs.Grammar.{Field, HasNoRequest, RequestHead, print_request}
 use Rattle.httparse.specs.Spans.{AreFieldsAt, IsRequestAt, RequestOverflows, header_bytes, name_and_value}
 use Rattle.kn_page.specs.declared.asked.Asked.{Asked}
-use Rattle.kn_page.specs.Asking.{Asks, BeginsWith, asked_of, most_bytes, most_fields, no_head}
+use Rattle.kn_page.specs.Asking.{Asks, BeginsWithin, asked_of, most_head_bytes, most_head_fields, no_head}
 use borrow.Rule.Slice.PartMut.{put_mid, post_of}
 
 -- what is said of a head that ended
@@ -31,9 +31,9 @@ few_fields bytes headers count fields are =
 
 -- a head that the parser found is one whatever follows
 pub found_asks : (bytes : List ℕ) (headers : List HeaderSpan) (r : RequestSpans) (h : RequestHead) (more : List ℕ) (asked : Asked) → IsRequestAt bytes headers r h
-    → r.len ≤ length bytes → length bytes ≤ most_bytes → length headers ≤ most_fields → asked ≡ asked_of h.method h.target → Asks (bytes ++ more) asked
+    → r.len ≤ length bytes → length bytes ≤ most_head_bytes → length headers ≤ most_head_fields → asked ≡ asked_of h.method h.target → Asks (bytes ++ more) asked
 found_asks bytes headers r h more asked at within short few is =
-    let start : BeginsWith (bytes ++ more) h = record {
+    let start : BeginsWithin (bytes ++ more) h = record {
       rest = drop r.len bytes ++ more;
       reads = (at.reads.0, ap (λ l. l ++ more) at.reads.1 ∙ append_assoc (print_request h) (drop r.len bytes) more);
       short = omega (arith, at.len, within, short);
@@ -42,7 +42,7 @@ found_asks bytes headers r h more asked at within short few is =
     inl (h, start, is)
 
 -- where each head at the front has too many fields there is none within the bounds
-pub overflow_asks : (bytes more : List ℕ) → RequestOverflows most_fields bytes → Asks (bytes ++ more) no_head
+pub overflow_asks : (bytes more : List ℕ) → RequestOverflows most_head_fields bytes → Asks (bytes ++ more) no_head
 overflow_asks bytes more over = inr (λ h start. let many = over more h start.rest start.reads in let few = start.few in omega (arith, many, few), refl)
 
 -- a head that ends within the bytes that came is one of them alone
@@ -52,7 +52,7 @@ front_is bytes more text rest same fits =
     sym (take-append-drop (length text) bytes) ∙ ap (λ l. l ++ drop (length text) bytes) front
 
 -- so many bytes came as a head has at most, and they have none
-pub full_asks : (bytes more : List ℕ) → length bytes ≡ most_bytes → HasNoRequest bytes → Asks (bytes ++ more) no_head
+pub full_asks : (bytes more : List ℕ) → length bytes ≡ most_head_bytes → HasNoRequest bytes → Asks (bytes ++ more) no_head
 full_asks bytes more full none =
     inr (
       λ h start.

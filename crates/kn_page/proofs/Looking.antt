@@ -9,7 +9,7 @@ use Rattle.kn_page.specs.declared.asked.Wanted.{Wanted}
 use Rattle.kn_page.specs.declared.asked.Wanted.TheVariants as wanted
 use Rattle.kn_page.specs.declared.visit.Visit.{Visit}
 use Rattle.kn_page.specs.declared.visit.Visit.TheVariants as visit
-use Rattle.kn_page.specs.Visits.{Answers, AreVisits, OneVisit, Side, Visits, side}
+use Rattle.kn_page.specs.Visits.{AnswersTo, AreVisits, OneVisit, Side, Visits, side}
 
 starts_trans : (a b c : List Past) → StartsWith b a → StartsWith c b → StartsWith c a
 starts_trans a b c s t = (s.0 ++ t.0, t.1 ∙ (ap (λ l. l ++ t.0) s.1 ∙ append_assoc a s.0 t.0))
@@ -55,19 +55,19 @@ only_begin p = same_only p p refl
 pub only_trans : (p m q : PassView) → OnlyLooks p m → OnlyLooks m q → OnlyLooks p q
 only_trans p m q l k = record { looks = then_looks p m q l.looks k.looks; mine = k.mine ∙ l.mine; cell = k.cell ∙ l.cell }
 
-answers_only : (stops : Bool → Type 0) (waits : ℕ → Type 0) (w : Wanted) (body : Bool) (p q : PassView) (text : List ℕ) → Answers stops waits w body p q text → OnlyLooks p q
-answers_only stops waits wanted.Health body p q text h = same_only p q h.0
-answers_only stops waits wanted.Ready body p q text h = same_only p q h.0
-answers_only stops waits wanted.Metrics body p q text h = record { looks = inr h.looks; mine = h.mine; cell = ap (λ (v : PassView). v.cell) h.looks.same }
-answers_only stops waits wanted.Nothing body p q text h = same_only p q h.0
-answers_only stops waits wanted.Other body p q text h = same_only p q h.0
-answers_only stops waits wanted.NoHead body p q text h = same_only p q h.0
+answers_to_only : (stops : Bool → Type 0) (waits : ℕ → Type 0) (w : Wanted) (body : Bool) (p q : PassView) (text : List ℕ) → AnswersTo stops waits w body p q text → OnlyLooks p q
+answers_to_only stops waits wanted.Health body p q text h = same_only p q h.0
+answers_to_only stops waits wanted.Ready body p q text h = same_only p q h.0
+answers_to_only stops waits wanted.Metrics body p q text h = record { looks = inr h.looks; mine = h.mine; cell = ap (λ (v : PassView). v.cell) h.looks.same }
+answers_to_only stops waits wanted.Nothing body p q text h = same_only p q h.0
+answers_to_only stops waits wanted.Other body p q text h = same_only p q h.0
+answers_to_only stops waits wanted.NoHead body p q text h = same_only p q h.0
 
 pub visit_only : (stops : Bool → Type 0) (waits : ℕ → Type 0) (v : Visit) (p q : PassView) (a b : Side) → OneVisit stops waits v p q a b → OnlyLooks p q
 visit_only stops waits visit.Missed p q a b one = same_only p q one.visit.0
 visit_only stops waits visit.Unread p q a b one = same_only p q one.visit.0
-visit_only stops waits (visit.Cut asked) p q a b one = answers_only stops waits asked.wanted asked.body p q one.visit.0 one.visit.1
-visit_only stops waits (visit.Told asked) p q a b one = answers_only stops waits asked.wanted asked.body p q one.visit.0 one.visit.1
+visit_only stops waits (visit.Cut asked) p q a b one = answers_to_only stops waits asked.wanted asked.body p q one.visit.0 one.visit.1
+visit_only stops waits (visit.Told asked) p q a b one = answers_to_only stops waits asked.wanted asked.body p q one.visit.0 one.visit.1
 
 -- ---- one visit after another
 

@@ -6,54 +6,54 @@ use Rattle.kn_page.specs.declared.reply.Reply.{Reply}
 use Rattle.kn_page.specs.declared.reply.Reply.TheVariants as reply
 
 -- the code and the phrase of the first line
-abbrev pub status_of : Reply → List ℕ
-status_of reply.Healthy = codes "200 OK"
-status_of reply.Ready = codes "200 OK"
-status_of reply.Stopping = codes "503 Service Unavailable"
-status_of reply.Metrics = codes "200 OK"
-status_of reply.NotFound = codes "404 Not Found"
-status_of reply.NotAllowed = codes "405 Method Not Allowed"
-status_of reply.BadRequest = codes "400 Bad Request"
+abbrev pub reply_status : Reply → List ℕ
+reply_status reply.Healthy = codes "200 OK"
+reply_status reply.Ready = codes "200 OK"
+reply_status reply.Stopping = codes "503 Service Unavailable"
+reply_status reply.Metrics = codes "200 OK"
+reply_status reply.NotFound = codes "404 Not Found"
+reply_status reply.NotAllowed = codes "405 Method Not Allowed"
+reply_status reply.BadRequest = codes "400 Bad Request"
 
-abbrev pub type_of : Reply → List ℕ
-type_of reply.Metrics = codes "text/plain; version=0.0.4; charset=utf-8"
-type_of _ = codes "text/plain; charset=utf-8"
+abbrev pub reply_type : Reply → List ℕ
+reply_type reply.Metrics = codes "text/plain; version=0.0.4; charset=utf-8"
+reply_type _ = codes "text/plain; charset=utf-8"
 
 -- the text; metrics have another each time
-abbrev pub text_of : Reply → List ℕ
-text_of reply.Healthy = codes "ok\n"
-text_of reply.Ready = codes "ready\n"
-text_of reply.Stopping = codes "stopping\n"
-text_of reply.Metrics = []
-text_of reply.NotFound = codes "not found\n"
-text_of reply.NotAllowed = codes "method not allowed\n"
-text_of reply.BadRequest = codes "bad request\n"
+abbrev pub reply_text : Reply → List ℕ
+reply_text reply.Healthy = codes "ok\n"
+reply_text reply.Ready = codes "ready\n"
+reply_text reply.Stopping = codes "stopping\n"
+reply_text reply.Metrics = []
+reply_text reply.NotFound = codes "not found\n"
+reply_text reply.NotAllowed = codes "method not allowed\n"
+reply_text reply.BadRequest = codes "bad request\n"
 
 -- a server that stops isn't ready
 abbrev pub ready_reply : Bool → Reply
 ready_reply true = reply.Stopping
 ready_reply false = reply.Ready
 
-unfoldable pub status_text : Reply → List ℕ
-status_text r = codes "HTTP/1.1 " ++ status_of r ++ crlf
+unfoldable pub status_line : Reply → List ℕ
+status_line r = codes "HTTP/1.1 " ++ reply_status r ++ crlf
 
-unfoldable pub field_text : List ℕ → List ℕ → List ℕ
-field_text name value = name ++ codes ": " ++ value ++ crlf
+unfoldable pub field_line : List ℕ → List ℕ → List ℕ
+field_line name value = name ++ codes ": " ++ value ++ crlf
 
 -- which methods may be used, where another was
-abbrev pub allow_text : Reply → List ℕ
-allow_text reply.NotAllowed = field_text (codes "Allow") (codes "GET, HEAD")
-allow_text _ = []
+abbrev pub allow_line : Reply → List ℕ
+allow_line reply.NotAllowed = field_line (codes "Allow") (codes "GET, HEAD")
+allow_line _ = []
 
 -- the first line, the fields and the empty line behind them, of an answer whose body has so many bytes
 unfoldable pub answer_head : Reply → ℕ → List ℕ
 answer_head r n =
-    status_text r ++ field_text (codes "Content-Type") (type_of r) ++ field_text (codes "Content-Length") (decimal n)
-    ++ allow_text r ++ field_text (codes "Connection") (codes "close") ++ crlf
+    status_line r ++ field_line (codes "Content-Type") (reply_type r) ++ field_line (codes "Content-Length") (decimal n)
+    ++ allow_line r ++ field_line (codes "Connection") (codes "close") ++ crlf
 
 -- the whole answer, with the body where that is wanted
 unfoldable pub answer_text : Reply → Bool → List ℕ → List ℕ
 answer_text r wants body = answer_head r (length body) ++ (if wants then body else [])
 
 abbrev pub plain_text : Reply → Bool → List ℕ
-plain_text r wants = answer_text r wants (text_of r)
+plain_text r wants = answer_text r wants (reply_text r)

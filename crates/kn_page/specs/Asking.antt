@@ -33,18 +33,18 @@ asked_of method target =
     record { wanted = wanted_by (head || bytes_eq method (codes "GET")) (page_at (path_of target)); body = not head }
 
 -- the most bytes of a head, and its most fields
-abbrev pub most_bytes : ℕ
-most_bytes = 8192
+abbrev pub most_head_bytes : ℕ
+most_head_bytes = 8192
 
-abbrev pub most_fields : ℕ
-most_fields = 100
+abbrev pub most_head_fields : ℕ
+most_head_fields = 100
 
 -- the bytes begin with a head within these bounds
-pub record BeginsWith (bytes : List ℕ) (head : RequestHead) : Type 0 where
+pub record BeginsWithin (bytes : List ℕ) (head : RequestHead) : Type 0 where
   pub rest : List ℕ
   pub reads : ReadsRequest bytes head rest
-  pub short : length (print_request head) ≤ most_bytes
-  pub few : length head.fields ≤ most_fields
+  pub short : length (print_request head) ≤ most_head_bytes
+  pub few : length head.fields ≤ most_head_fields
 
 -- what is asked for where there is no head within the bounds
 abbrev pub no_head : Asked
@@ -53,5 +53,5 @@ no_head = record { wanted = wanted.NoHead; body = true }
 -- what the bytes ask for: what their head does, or nothing where they begin with none
 abbrev pub Asks : List ℕ → Asked → Type 0
 Asks bytes asked =
-    ((head : RequestHead) × BeginsWith bytes head × (asked ≡ asked_of head.method head.target))
-    ⊎ (((head : RequestHead) → ¬ (BeginsWith bytes head)) × (asked ≡ no_head))
+    ((head : RequestHead) × BeginsWithin bytes head × (asked ≡ asked_of head.method head.target))
+    ⊎ (((head : RequestHead) → ¬ (BeginsWithin bytes head)) × (asked ≡ no_head))

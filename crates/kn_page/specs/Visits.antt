@@ -8,6 +8,7 @@ use Rattle.kn_figures.specs.Tallies.{IsTallyOf, last_decision}
 use Rattle.kn_io.specs.Callers.{streams_of, texts_of}
 use Rattle.kn_io.specs.Causes.{Rose}
 use Rattle.kn_request.specs.Outside.{Said, Tells, said}
+use Rattle.kn_session.specs.Changes.{Change, became, was}
 use Rattle.kn_trace.specs.Trace.{Trace}
 use Rattle.kn_page.specs.declared.asked.Asked.{Asked}
 use Rattle.kn_page.specs.declared.asked.Wanted.{Wanted}
@@ -36,13 +37,17 @@ pub record ShowsMetrics (waits : ℕ → Type 0) (body : Bool) (p q : PassView) 
   pub text_is : text ≡ answer_text reply.Metrics body (metrics_text figures decision outer)
 
 -- the text that answers what is wanted, of a server that may have said that it stops, and that so many connections wait
-abbrev pub Answers : (Bool → Type 0) → (ℕ → Type 0) → Wanted → Bool → PassView → PassView → List ℕ → Type 0
-Answers stops waits wanted.Health body p q text = (q ≡ p) × (text ≡ plain_text reply.Healthy body)
-Answers stops waits wanted.Ready body p q text = (q ≡ p) × ((stopping : Bool) × stops stopping × (text ≡ plain_text (ready_reply stopping) body))
-Answers stops waits wanted.Metrics body p q text = ShowsMetrics waits body p q text
-Answers stops waits wanted.Nothing body p q text = (q ≡ p) × (text ≡ plain_text reply.NotFound body)
-Answers stops waits wanted.Other body p q text = (q ≡ p) × (text ≡ plain_text reply.NotAllowed body)
-Answers stops waits wanted.NoHead body p q text = (q ≡ p) × (text ≡ plain_text reply.BadRequest body)
+abbrev pub AnswersTo : (Bool → Type 0) → (ℕ → Type 0) → Wanted → Bool → PassView → PassView → List ℕ → Type 0
+AnswersTo stops waits wanted.Health body p q text = (q ≡ p) × (text ≡ plain_text reply.Healthy body)
+AnswersTo stops waits wanted.Ready body p q text = (q ≡ p) × ((stopping : Bool) × stops stopping × (text ≡ plain_text (ready_reply stopping) body))
+AnswersTo stops waits wanted.Metrics body p q text = ShowsMetrics waits body p q text
+AnswersTo stops waits wanted.Nothing body p q text = (q ≡ p) × (text ≡ plain_text reply.NotFound body)
+AnswersTo stops waits wanted.Other body p q text = (q ≡ p) × (text ≡ plain_text reply.NotAllowed body)
+AnswersTo stops waits wanted.NoHead body p q text = (q ≡ p) × (text ≡ plain_text reply.BadRequest body)
+
+-- .. what was asked for
+abbrev pub Answers : (Bool → Type 0) → (ℕ → Type 0) → Asked → PassView → PassView → List ℕ → Type 0
+Answers stops waits asked p q text = AnswersTo stops waits asked.wanted asked.body p q text
 
 -- ---- one connection
 
@@ -54,7 +59,7 @@ pub record Comes (a b : Said) : Type 0 where
   pub streams : streams_of b.kept ≡ streams_of a.kept ++ input ∷ []
 
 -- its input asks for this, and this was written to it
-pub record Hears (asked : Asked) (a b : Said) (text : List ℕ) : Type 0 where
+pub record IsTold (asked : Asked) (a b : Said) (text : List ℕ) : Type 0 where
   pub comes : Comes a b
   pub asks : Asks comes.input asked
   pub text_is : b.text ≡ text
@@ -64,14 +69,14 @@ abbrev pub IsVisit : (Bool → Type 0) → (ℕ → Type 0) → Visit → PassVi
 IsVisit stops waits visit.Missed p q a b = (q ≡ p) × (b ≡ a)
 IsVisit stops waits visit.Unread p q a b = (q ≡ p) × Tells a b (λ x y. Comes x y × (y.text ≡ []))
 IsVisit stops waits (visit.Cut asked) p q a b =
-    (text : List ℕ) × Answers stops waits asked.wanted asked.body p q text × Tells a b (λ x y. (n : ℕ) × Hears asked x y (take n text))
+    (text : List ℕ) × Answers stops waits asked p q text × Tells a b (λ x y. (n : ℕ) × IsTold asked x y (take n text))
 IsVisit stops waits (visit.Told asked) p q a b =
-    (text : List ℕ) × Answers stops waits asked.wanted asked.body p q text × Tells a b (λ x y. Hears asked x y text)
+    (text : List ℕ) × Answers stops waits asked p q text × Tells a b (λ x y. IsTold asked x y text)
 
 -- all but a whole answer is a fault of the caller
-abbrev pub is_fault : Visit → Bool
-is_fault (visit.Told asked) = false
-is_fault _ = true
+abbrev pub breaks_off : Visit → Bool
+breaks_off (visit.Told asked) = false
+breaks_off _ = true
 
 -- what is told of a caller, and how many faults it counted
 pub record Side : Type 0 where
@@ -82,10 +87,18 @@ pub record Side : Type 0 where
 abbrev pub side : Option (List (List ℕ)) → Option (List ℕ) → ℕ → Side
 side kept held faults = record { said = said kept held; faults = faults }
 
+abbrev pub side_of : {C : Type 0} → (C → Option (List (List ℕ))) → (C → Option (List ℕ)) → (C → ℕ) → C → Side
+side_of kept held faults c = side (kept c) (held c) (faults c)
+
 pub record OneVisit (stops : Bool → Type 0) (waits : ℕ → Type 0) (v : Visit) (p q : PassView) (a b : Side) : Type 0 where
   pub visit : IsVisit stops waits v p q a.said b.said
   pub never_falls : a.faults ≤ b.faults
-  pub cause : is_fault v ≡ true → Rose a.faults b.faults
+  pub cause : breaks_off v ≡ true → Rose a.faults b.faults
+
+-- .. with this pass and this caller, of which these are told
+abbrev pub HasVisited : {C : Type 0} → (Bool → Type 0) → (ℕ → Type 0) → (C → Option (List (List ℕ))) → (C → Option (List ℕ)) → (C → ℕ) → Change PassView → Change C → Visit → Type 0
+HasVisited stops waits kept held faults pass caller v =
+    OneVisit stops waits v (was pass) (became pass) (side_of kept held faults (was caller)) (side_of kept held faults (became caller))
 
 -- ---- all of them
 

@@ -1,8 +1,8 @@
 //! Lines of metrics.
 ghost use Rattle.std.specs.Prelude.{◌≡◌, ◌+◌, ◌≤◌, ◌<◌, ◌++◌, length};
 ghost use Rattle.std.specs.Fmt.{decimal};
-ghost use Rattle.kn_page.specs.Exposition.{average_text, comment_text, family_text, label_text, labelled_text, last_text, milli_of, milli_text, sample_text, single_text, three_digits};
-ghost use Rattle.kn_page.specs.Metric.{name_of};
+ghost use Rattle.kn_page.specs.Exposition.{average_lines, comment_line, family_lines, label_text, labelled_line, last_text, thousandths_of, thousandths_text, sample_line, single_lines, three_digits};
+ghost use Rattle.kn_page.specs.Metric.{metric_name};
 
 use crate::metric::Metric;
 use crate::numbers::thousandths;
@@ -33,10 +33,10 @@ fn put_number(sheet: &mut Sheet, n: u64)
     sheet.put(b"\n");
 }
 
-#[tactic(auto, using(std::proofs::Common::append_assoc), unfolding(crate::specs::Exposition::comment_text))]
+#[tactic(auto, using(std::proofs::Common::append_assoc), unfolding(crate::specs::Exposition::comment_line))]
 fn put_comment(sheet: &mut Sheet, word: &[u8], name: &[u8], text: &[u8])
     requires { length sheet.old + length word.now + length name.now + length text.now ≤ 8000 }
-    ensures value { sheet.new ≡ sheet.old ++ comment_text word.now name.now text.now }
+    ensures value { sheet.new ≡ sheet.old ++ comment_line word.now name.now text.now }
     ensures short { length sheet.new ≤ length sheet.old + length word.now + length name.now + length text.now + 2 }
 {
     sheet.put(word);
@@ -45,10 +45,10 @@ fn put_comment(sheet: &mut Sheet, word: &[u8], name: &[u8], text: &[u8])
 }
 
 /// The two lines with which a family begins.
-#[tactic(auto, using(std::proofs::Common::append_assoc), unfolding(crate::specs::Exposition::family_text))]
+#[tactic(auto, using(std::proofs::Common::append_assoc), unfolding(crate::specs::Exposition::family_lines))]
 pub fn put_family(sheet: &mut Sheet, metric: Metric)
     requires { length sheet.old ≤ 7800 }
-    ensures value { sheet.new ≡ sheet.old ++ family_text metric }
+    ensures value { sheet.new ≡ sheet.old ++ family_lines metric }
     ensures short { length sheet.new ≤ length sheet.old + 189 }
 {
     put_comment(sheet, b"# HELP ", metric.name(), metric.help());
@@ -70,10 +70,10 @@ fn put_label(sheet: &mut Sheet, key: &[u8], value: &[u8])
 }
 
 /// A sample without a label.
-#[tactic(auto, using(std::proofs::Common::append_assoc), unfolding(crate::specs::Exposition::sample_text))]
+#[tactic(auto, using(std::proofs::Common::append_assoc), unfolding(crate::specs::Exposition::sample_line))]
 fn put_sample(sheet: &mut Sheet, metric: Metric, n: u64)
     requires { length sheet.old ≤ 7800 }
-    ensures value { sheet.new ≡ sheet.old ++ sample_text metric n }
+    ensures value { sheet.new ≡ sheet.old ++ sample_line metric n }
     ensures short { length sheet.new ≤ length sheet.old + 74 }
 {
     sheet.put(metric.name());
@@ -81,10 +81,10 @@ fn put_sample(sheet: &mut Sheet, metric: Metric, n: u64)
 }
 
 /// A sample with a label.
-#[tactic(auto, using(std::proofs::Common::append_assoc), unfolding(crate::specs::Exposition::labelled_text))]
+#[tactic(auto, using(std::proofs::Common::append_assoc), unfolding(crate::specs::Exposition::labelled_line))]
 pub fn put_labelled(sheet: &mut Sheet, metric: Metric, key: &[u8], value: &[u8], n: u64)
     requires { length sheet.old + length key.now + length value.now ≤ 7800 }
-    ensures value { sheet.new ≡ sheet.old ++ labelled_text metric key.now value.now n }
+    ensures value { sheet.new ≡ sheet.old ++ labelled_line metric key.now value.now n }
     ensures short { length sheet.new ≤ length sheet.old + length key.now + length value.now + 79 }
 {
     sheet.put(metric.name());
@@ -93,10 +93,10 @@ pub fn put_labelled(sheet: &mut Sheet, metric: Metric, key: &[u8], value: &[u8],
 }
 
 /// A family of one sample.
-#[tactic(auto, using(std::proofs::Common::append_assoc), unfolding(crate::specs::Exposition::single_text))]
+#[tactic(auto, using(std::proofs::Common::append_assoc), unfolding(crate::specs::Exposition::single_lines))]
 pub fn put_single(sheet: &mut Sheet, metric: Metric, n: u64)
     requires { length sheet.old ≤ 7500 }
-    ensures value { sheet.new ≡ sheet.old ++ single_text metric n }
+    ensures value { sheet.new ≡ sheet.old ++ single_lines metric n }
     ensures short { length sheet.new ≤ length sheet.old + 263 }
 {
     put_family(sheet, metric);
@@ -118,7 +118,7 @@ fn three_digits(n: u64) -> [u8; 3]
 /// A fraction as a decimal, rounded down to three digits behind the point.
 fn put_milli(sheet: &mut Sheet, value: &Frac)
     requires { length sheet.old ≤ 8000 }
-    ensures value { sheet.new ≡ sheet.old ++ milli_text (milli_of value.now) }
+    ensures value { sheet.new ≡ sheet.old ++ thousandths_text (thousandths_of value.now) }
     ensures short { length sheet.new ≤ length sheet.old + 44 }
 {
     sheet.put_number(value.num / value.den);
@@ -131,7 +131,7 @@ fn put_milli(sheet: &mut Sheet, value: &Frac)
 #[tactic(auto, using(std::proofs::Common::append_assoc), unfolding(crate::specs::Exposition::last_text))]
 fn put_milli_line(sheet: &mut Sheet, metric: Metric, value: &Frac)
     requires { length sheet.old ≤ 7800 }
-    ensures value { sheet.new ≡ sheet.old ++ (name_of metric ++ last_text (milli_text (milli_of value.now))) }
+    ensures value { sheet.new ≡ sheet.old ++ (metric_name metric ++ last_text (thousandths_text (thousandths_of value.now))) }
     ensures short { length sheet.new ≤ length sheet.old + 78 }
 {
     sheet.put(metric.name());
@@ -141,10 +141,10 @@ fn put_milli_line(sheet: &mut Sheet, metric: Metric, value: &Frac)
 }
 
 /// A family of one average.
-#[tactic(auto, using(std::proofs::Common::append_assoc), unfolding(crate::specs::Exposition::average_text))]
+#[tactic(auto, using(std::proofs::Common::append_assoc), unfolding(crate::specs::Exposition::average_lines))]
 pub fn put_average(sheet: &mut Sheet, metric: Metric, value: &Frac)
     requires { length sheet.old ≤ 7500 }
-    ensures value { sheet.new ≡ sheet.old ++ average_text metric value.now }
+    ensures value { sheet.new ≡ sheet.old ++ average_lines metric value.now }
     ensures short { length sheet.new ≤ length sheet.old + 267 }
 {
     put_family(sheet, metric);

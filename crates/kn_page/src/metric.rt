@@ -1,6 +1,6 @@
 //! The families of metrics.
 ghost use Rattle.std.specs.Prelude.{◌≡◌, ◌≤◌, length};
-ghost use Rattle.kn_page.specs.Metric.{help_of, name_of, type_of};
+ghost use Rattle.kn_page.specs.Metric.{metric_help, metric_name, metric_type};
 
 /// A family of metrics: its name, what it says, and whether it is a counter or a gauge.
 #[derive(Clone, Copy, Debug, PartialEq, Eq)]
@@ -21,7 +21,7 @@ pub enum Metric {
 impl Metric {
     /// Its name, of at most 32 bytes.
     pub fn name(self) -> &'static [u8]
-        ensures value { result.now ≡ name_of self }
+        ensures value { result.now ≡ metric_name self }
         ensures short { length result.now ≤ 32 }
     {
         match self {
@@ -41,7 +41,7 @@ impl Metric {
 
     /// What it says, in at most 100 bytes.
     pub fn help(self) -> &'static [u8]
-        ensures value { result.now ≡ help_of self }
+        ensures value { result.now ≡ metric_help self }
         ensures short { length result.now ≤ 100 }
     {
         match self {
@@ -65,7 +65,7 @@ impl Metric {
 
     /// Its type, in at most 7 bytes.
     pub fn kind(self) -> &'static [u8]
-        ensures value { result.now ≡ type_of self }
+        ensures value { result.now ≡ metric_type self }
         ensures short { length result.now ≤ 7 }
     {
         match self {

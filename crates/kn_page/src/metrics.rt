@@ -1,7 +1,6 @@
 //! The text of all metrics.
 ghost use Rattle.std.specs.Prelude.{◌≡◌, ◌+◌, ◌≤◌, ◌++◌, length, codes};
-ghost use Rattle.kn_page.specs.Exposition.{decision_text, journal_text, kind_text, labelled_text, metrics_text, optional_text, outer_text, pods_text, requests_text, rows_text, state_text};
-ghost use Rattle.kn_page.specs.declared.metric.Metric.TheVariants as metric;
+ghost use Rattle.kn_page.specs.Exposition.{decision_lines, journal_lines, kind_line, last_lines, live_pod_lines, metrics_text, optional_lines, outer_lines, pod_lines, request_lines, row_lines, state_line};
 
 use crate::lines::{put_average, put_family, put_labelled, put_single};
 use crate::metric::Metric;
@@ -21,7 +20,7 @@ pub struct Outer {
 /// The rows of one kind.
 fn put_kind(sheet: &mut Sheet, figures: &Figures, kind: Kind)
     requires { length sheet.old ≤ 7500 }
-    ensures value { sheet.new ≡ sheet.old ++ kind_text figures.now kind }
+    ensures value { sheet.new ≡ sheet.old ++ kind_line figures.now kind }
     ensures short { length sheet.new ≤ length sheet.old + 99 }
 {
     let count = figures.tally.count(kind);
@@ -29,10 +28,10 @@ fn put_kind(sheet: &mut Sheet, figures: &Figures, kind: Kind)
 }
 
 /// The rows, a sample for each kind.
-#[tactic(auto, using(std::proofs::Common::append_assoc), unfolding(crate::specs::Exposition::rows_text))]
+#[tactic(auto, using(std::proofs::Common::append_assoc), unfolding(crate::specs::Exposition::row_lines))]
 fn put_rows(sheet: &mut Sheet, figures: &Figures)
     requires { length sheet.old ≡ 0 }
-    ensures value { sheet.new ≡ sheet.old ++ rows_text figures.now }
+    ensures value { sheet.new ≡ sheet.old ++ row_lines figures.now }
     ensures short { length sheet.new ≤ 2565 }
 {
     put_family(sheet, Metric::Rows);
@@ -42,10 +41,10 @@ fn put_rows(sheet: &mut Sheet, figures: &Figures)
 }
 
 /// The journal's rows.
-#[tactic(auto, using(std::proofs::Common::append_assoc), unfolding(crate::specs::Exposition::journal_text))]
+#[tactic(auto, using(std::proofs::Common::append_assoc), unfolding(crate::specs::Exposition::journal_lines))]
 fn put_journal(sheet: &mut Sheet, figures: &Figures)
     requires { length sheet.old ≤ 2565 }
-    ensures value { sheet.new ≡ sheet.old ++ journal_text figures.now }
+    ensures value { sheet.new ≡ sheet.old ++ journal_lines figures.now }
     ensures short { length sheet.new ≤ length sheet.old + 526 }
 {
     put_single(sheet, Metric::Recorded, figures.recorded);
@@ -55,17 +54,17 @@ fn put_journal(sheet: &mut Sheet, figures: &Figures)
 /// What is in a state, of which a family has several.
 fn put_state(sheet: &mut Sheet, metric: Metric, state: &[u8], n: u64)
     requires { length sheet.old + length state.now ≤ 7500 }
-    ensures value { sheet.new ≡ sheet.old ++ state_text metric state.now n }
+    ensures value { sheet.new ≡ sheet.old ++ state_line metric state.now n }
     ensures short { length sheet.new ≤ length sheet.old + length state.now + 84 }
 {
     put_labelled(sheet, metric, b"state", state, n);
 }
 
-/// The pods by their states.
-#[tactic(auto, using(std::proofs::Common::append_assoc), unfolding(crate::specs::Exposition::pods_text))]
-fn put_pods(sheet: &mut Sheet, figures: &Figures)
+/// The live pods by their states.
+#[tactic(auto, using(std::proofs::Common::append_assoc), unfolding(crate::specs::Exposition::live_pod_lines))]
+fn put_live_pods(sheet: &mut Sheet, figures: &Figures)
     requires { length sheet.old ≤ 4000 }
-    ensures value { sheet.new ≡ sheet.old ++ pods_text figures.now }
+    ensures value { sheet.new ≡ sheet.old ++ live_pod_lines figures.now }
     ensures short { length sheet.new ≤ length sheet.old + 462 }
 {
     put_family(sheet, Metric::Pods);
@@ -78,7 +77,7 @@ fn put_pods(sheet: &mut Sheet, figures: &Figures)
 #[tactic(auto, using(crate::proofs::Pieces::nothing))]
 fn put_optional(sheet: &mut Sheet, metric: Metric, n: Option<u64>)
     requires { length sheet.old ≤ 4500 }
-    ensures value { sheet.new ≡ sheet.old ++ optional_text metric n }
+    ensures value { sheet.new ≡ sheet.old ++ optional_lines metric n }
     ensures short { length sheet.new ≤ length sheet.old + 263 }
 {
     match n {
@@ -88,10 +87,10 @@ fn put_optional(sheet: &mut Sheet, metric: Metric, n: Option<u64>)
 }
 
 /// The requests by their states.
-#[tactic(auto, using(std::proofs::Common::append_assoc), unfolding(crate::specs::Exposition::requests_text))]
+#[tactic(auto, using(std::proofs::Common::append_assoc), unfolding(crate::specs::Exposition::request_lines))]
 fn put_requests(sheet: &mut Sheet, figures: &Figures)
     requires { length sheet.old ≤ 4500 }
-    ensures value { sheet.new ≡ sheet.old ++ requests_text figures.now }
+    ensures value { sheet.new ≡ sheet.old ++ request_lines figures.now }
     ensures short { length sheet.new ≤ length sheet.old + 459 }
 {
     put_family(sheet, Metric::Requests);
@@ -101,10 +100,10 @@ fn put_requests(sheet: &mut Sheet, figures: &Figures)
 }
 
 /// What is beside the revision.
-#[tactic(auto, using(std::proofs::Common::append_assoc), unfolding(crate::specs::Exposition::outer_text))]
+#[tactic(auto, using(std::proofs::Common::append_assoc), unfolding(crate::specs::Exposition::outer_lines))]
 fn put_outer(sheet: &mut Sheet, outer: &Outer)
     requires { length sheet.old ≤ 5000 }
-    ensures value { sheet.new ≡ sheet.old ++ outer_text outer.now }
+    ensures value { sheet.new ≡ sheet.old ++ outer_lines outer.now }
     ensures short { length sheet.new ≤ length sheet.old + 526 }
 {
     put_single(sheet, Metric::Waiting, outer.waiting);
@@ -112,10 +111,10 @@ fn put_outer(sheet: &mut Sheet, outer: &Outer)
 }
 
 /// The last decision, where there was one.
-#[tactic(auto, using(std::proofs::Common::append_assoc, crate::proofs::Pieces::nothing), unfolding(crate::specs::Exposition::decision_text))]
+#[tactic(auto, using(std::proofs::Common::append_assoc, crate::proofs::Pieces::nothing), unfolding(crate::specs::Exposition::decision_lines))]
 fn put_decision(sheet: &mut Sheet, decision: &Option<Decision>)
     requires { length sheet.old ≤ 5500 }
-    ensures value { sheet.new ≡ sheet.old ++ decision_text decision.now }
+    ensures value { sheet.new ≡ sheet.old ++ decision_lines decision.now }
     ensures short { length sheet.new ≤ length sheet.old + 797 }
 {
     match decision {
@@ -128,22 +127,22 @@ fn put_decision(sheet: &mut Sheet, decision: &Option<Decision>)
     }
 }
 
-/// The pods, and those that are wanted.
-#[tactic(auto, using(std::proofs::Common::append_assoc))]
-fn put_all_pods(sheet: &mut Sheet, figures: &Figures)
+/// The pods, and how many are wanted.
+#[tactic(auto, using(std::proofs::Common::append_assoc), unfolding(crate::specs::Exposition::pod_lines))]
+fn put_pods(sheet: &mut Sheet, figures: &Figures)
     requires { length sheet.old ≤ 4000 }
-    ensures value { sheet.new ≡ sheet.old ++ (pods_text figures.now ++ optional_text metric.Wanted figures.now.wanted) }
+    ensures value { sheet.new ≡ sheet.old ++ pod_lines figures.now }
     ensures short { length sheet.new ≤ length sheet.old + 725 }
 {
-    put_pods(sheet, figures);
+    put_live_pods(sheet, figures);
     put_optional(sheet, Metric::Wanted, figures.wanted);
 }
 
 /// What follows the pods.
-#[tactic(auto, using(std::proofs::Common::append_assoc))]
-fn put_others(sheet: &mut Sheet, figures: &Figures, decision: &Option<Decision>, outer: &Outer)
+#[tactic(auto, using(std::proofs::Common::append_assoc), unfolding(crate::specs::Exposition::last_lines))]
+fn put_last(sheet: &mut Sheet, figures: &Figures, decision: &Option<Decision>, outer: &Outer)
     requires { length sheet.old ≤ 4500 }
-    ensures value { sheet.new ≡ sheet.old ++ (requests_text figures.now ++ outer_text outer.now ++ decision_text decision.now) }
+    ensures value { sheet.new ≡ sheet.old ++ last_lines figures.now decision.now outer.now }
     ensures short { length sheet.new ≤ length sheet.old + 1782 }
 {
     put_requests(sheet, figures);
@@ -165,6 +164,6 @@ pub fn write_metrics(
     sheet.clear();
     put_rows(sheet, figures);
     put_journal(sheet, figures);
-    put_all_pods(sheet, figures);
-    put_others(sheet, figures, decision, outer);
+    put_pods(sheet, figures);
+    put_last(sheet, figures, decision, outer);
 }

@@ -1,6 +1,6 @@
 //! The page.
 ghost use Rattle.std.specs.Prelude.{◌≡◌, ⊤};
-ghost use Rattle.kn_page.specs.Visits.{Visits, side};
+ghost use Rattle.kn_page.specs.Visits.{Visits, side_of};
 
 use crate::server::Server;
 use crate::sheet::Sheet;
@@ -44,8 +44,7 @@ impl<'a, C: Caller, D: Door<C>, E: Server> Attendant for Page<'a, C, D, E> {
 
     // Some connections came, one after the other, and each was answered from what the pass had then seen.
     ghost attends = { λ s t p q. Visits (E.stops s.server.now) (E.waits s.server.now) p q
-        (side (C.Sink.kept s.caller) (C.Sink.held s.caller) (C.Faulty.faults s.caller))
-        (side (C.Sink.kept t.caller) (C.Sink.held t.caller) (C.Faulty.faults t.caller)) };
+        (side_of C.Sink.kept C.Sink.held C.Faulty.faults s.caller) (side_of C.Sink.kept C.Sink.held C.Faulty.faults t.caller) };
 
     /// Answers who comes, until the door is closed and nobody is left behind it.
     fn attend<R: Wait>(&mut self, rt: &R, cell: &RevisionCell, pass: &mut Pass, left: &Left) {

@@ -1,7 +1,7 @@
 //! What requests are answered.
 ghost use Rattle.std.specs.Prelude.{◌≡◌, ◌+◌, ◌≤◌, ◌++◌, length, codes, if◌then◌else◌, []};
 ghost use Rattle.std.specs.Fmt.{decimal};
-ghost use Rattle.kn_page.specs.Answers.{allow_text, answer_head, answer_text, field_text, plain_text, ready_reply, status_of, status_text, text_of, type_of};
+ghost use Rattle.kn_page.specs.Answers.{allow_line, answer_head, answer_text, field_line, plain_text, ready_reply, reply_status, status_line, reply_text, reply_type};
 
 use crate::sheet::Sheet;
 
@@ -20,7 +20,7 @@ pub enum Reply {
 impl Reply {
     /// The code and the phrase of the first line, at most 32 bytes.
     fn status(self) -> &'static [u8]
-        ensures value { result.now ≡ status_of self }
+        ensures value { result.now ≡ reply_status self }
         ensures short { length result.now ≤ 32 }
     {
         match self {
@@ -36,7 +36,7 @@ impl Reply {
 
     /// What the text is, in at most 48 bytes.
     fn content_type(self) -> &'static [u8]
-        ensures value { result.now ≡ type_of self }
+        ensures value { result.now ≡ reply_type self }
         ensures short { length result.now ≤ 48 }
     {
         match self {
@@ -47,7 +47,7 @@ impl Reply {
 
     /// The text, at most 32 bytes. Metrics have another each time.
     fn text(self) -> &'static [u8]
-        ensures value { result.now ≡ text_of self }
+        ensures value { result.now ≡ reply_text self }
         ensures short { length result.now ≤ 32 }
     {
         match self {
@@ -73,10 +73,10 @@ pub fn ready_reply(stopping: bool) -> Reply
     }
 }
 
-#[tactic(auto, using(std::proofs::Common::append_assoc), unfolding(crate::specs::Answers::status_text))]
+#[tactic(auto, using(std::proofs::Common::append_assoc), unfolding(crate::specs::Answers::status_line))]
 fn put_status(sheet: &mut Sheet, reply: Reply)
     requires { length sheet.old ≤ 100 }
-    ensures value { sheet.new ≡ sheet.old ++ status_text reply }
+    ensures value { sheet.new ≡ sheet.old ++ status_line reply }
     ensures short { length sheet.new ≤ length sheet.old + 43 }
 {
     sheet.put(b"HTTP/1.1 ");
@@ -84,10 +84,10 @@ fn put_status(sheet: &mut Sheet, reply: Reply)
     sheet.put(b"\r\n");
 }
 
-#[tactic(auto, using(std::proofs::Common::append_assoc), unfolding(crate::specs::Answers::field_text))]
+#[tactic(auto, using(std::proofs::Common::append_assoc), unfolding(crate::specs::Answers::field_line))]
 fn put_field(sheet: &mut Sheet, name: &[u8], value: &[u8])
     requires { length sheet.old + length name.now + length value.now ≤ 1000 }
-    ensures value { sheet.new ≡ sheet.old ++ field_text name.now value.now }
+    ensures value { sheet.new ≡ sheet.old ++ field_line name.now value.now }
     ensures short { length sheet.new ≤ length sheet.old + length name.now + length value.now + 4 }
 {
     sheet.put(name);
@@ -96,10 +96,10 @@ fn put_field(sheet: &mut Sheet, name: &[u8], value: &[u8])
     sheet.put(b"\r\n");
 }
 
-#[tactic(auto, using(std::proofs::Common::append_assoc), unfolding(crate::specs::Answers::field_text))]
+#[tactic(auto, using(std::proofs::Common::append_assoc), unfolding(crate::specs::Answers::field_line))]
 fn put_length(sheet: &mut Sheet, n: usize)
     requires { length sheet.old ≤ 1000 }
-    ensures value { sheet.new ≡ sheet.old ++ field_text (codes "Content-Length") (decimal n) }
+    ensures value { sheet.new ≡ sheet.old ++ field_line (codes "Content-Length") (decimal n) }
     ensures short { length sheet.new ≤ length sheet.old + 58 }
 {
     sheet.put(b"Content-Length");
@@ -112,7 +112,7 @@ fn put_length(sheet: &mut Sheet, n: usize)
 #[tactic(auto, using(crate::proofs::Pieces::nothing))]
 fn put_allow(sheet: &mut Sheet, reply: Reply)
     requires { length sheet.old ≤ 900 }
-    ensures value { sheet.new ≡ sheet.old ++ allow_text reply }
+    ensures value { sheet.new ≡ sheet.old ++ allow_line reply }
     ensures short { length sheet.new ≤ length sheet.old + 18 }
 {
     if reply == Reply::NotAllowed {

@@ -1,7 +1,7 @@
 //! One connection: it is met, its head is read, and it is answered.
 ghost use Rattle.std.specs.Prelude.{◌≡◌, ◌⊎◌, ◌≤◌, ℕ, Ok, Err, MatchResult};
 ghost use Rattle.kn_cell.specs.Shown.{Looks};
-ghost use Rattle.kn_page.specs.Visits.{Answers, OneVisit, ShowsMetrics, side};
+ghost use Rattle.kn_page.specs.Visits.{Answers, HasVisited, ShowsMetrics};
 
 use crate::asked::{Asked, Wanted};
 use crate::metrics::{Outer, write_metrics};
@@ -73,7 +73,7 @@ fn answer<R: Wait, E: Server>(
     sheets: &mut Sheets,
 )
     requires cell { pass.old.cell ≡ cell.now }
-    ensures { Answers (E.stops server.now) (E.waits server.now) asked.wanted asked.body pass.old pass.new sheets.new.answer }
+    ensures { Answers (E.stops server.now) (E.waits server.now) asked pass.old pass.new sheets.new.answer }
 {
     let wants = asked.body;
     match asked.wanted {
@@ -100,9 +100,7 @@ pub fn receive<R: Wait, C: Caller, E: Server>(
     sheets: &mut Sheets,
 ) -> Visit
     requires cell { pass.old.cell ≡ cell.now }
-    ensures one { OneVisit (E.stops server.now) (E.waits server.now) result pass.old pass.new
-        (side (C.Sink.kept caller.old) (C.Sink.held caller.old) (C.Faulty.faults caller.old))
-        (side (C.Sink.kept caller.new) (C.Sink.held caller.new) (C.Faulty.faults caller.new)) }
+    ensures { HasVisited (E.stops server.now) (E.waits server.now) C.Sink.kept C.Sink.held C.Faulty.faults pass caller result }
 {
     caller_laws();
     match caller.meet() {

@@ -2,6 +2,7 @@
 
 use crate::visits::{Clients, Saying, served, told};
 use std::io;
+use std::sync::Wait;
 
 const FIRST: &[u8] = b"GET /healthz HTTP/1.1\r\nHost: h\r\n\r\n";
 const SECOND: &[u8] = b"GET /ready HTTP/1.1\r\nHost: h\r\n\r\n";
@@ -14,7 +15,7 @@ fn last(answer: &[u8]) -> &str {
 
 /// Two clients, who are read in pieces of 20 bytes; the call with this number fails. So there is one call to meet, two to read, one to write, and
 /// the same again.
-fn show_at(rt: &HostRuntime, number: u64) -> io::Result<()> {
+fn show_at<R: Wait>(rt: &HostRuntime, waits: &R, number: u64) -> io::Result<()> {
     let fail = [number];
     let texts = [FIRST, SECOND];
     let clients = Clients {
@@ -26,7 +27,7 @@ fn show_at(rt: &HostRuntime, number: u64) -> io::Result<()> {
         stopping: false,
         waiting: 0,
     };
-    match served(rt, rt.alloc(), &clients, &saying, 3) {
+    match served(waits, rt.alloc(), &clients, &saying, 3) {
         Ok(caller) => {
             let first = last(told(&caller, 0));
             let second = last(told(&caller, 1));
@@ -36,9 +37,9 @@ fn show_at(rt: &HostRuntime, number: u64) -> io::Result<()> {
     }
 }
 
-pub fn show(rt: &HostRuntime) -> io::Result<()> {
+pub fn show<R: Wait>(rt: &HostRuntime, waits: &R) -> io::Result<()> {
     for number in 0..9 {
-        show_at(rt, number)?;
+        show_at(rt, waits, number)?;
     }
     Ok(())
 }

@@ -71,6 +71,7 @@ fn is_family(name: &str, kind: &str) -> bool {
 }
 
 /// What the line is: the text of a family, its type, or a sample.
+#[derive(Clone, Copy)]
 pub enum Line<'a> {
     Help(&'a str),
     Type(&'a str),

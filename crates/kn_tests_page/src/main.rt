@@ -13,6 +13,6 @@ use std::io;
 
 fn main(rt: HostRuntime) -> io::Result<()> {
     text::show(&rt)?;
-    requests::show(&rt)?;
-    faults::show(&rt)
+    requests::show(&rt, &rt)?;
+    faults::show(&rt, &rt)
 }

@@ -3,6 +3,7 @@
 use crate::visits::{Clients, Saying, served, told};
 use kn_case::{shown, spelled};
 use std::io;
+use std::sync::Wait;
 
 /// The samples that aren't 0, each in a line.
 fn samples<R: Print>(rt: &R, answer: &[u8]) -> io::Result<()> {
@@ -21,7 +22,7 @@ fn whole(rt: &HostRuntime, answer: &[u8]) -> io::Result<()> {
     println!(rt; "  {text}")
 }
 
-fn try_by(rt: &HostRuntime, way: &str, request: &[u8]) -> io::Result<()> {
+fn try_by<R: Wait>(rt: &HostRuntime, waits: &R, way: &str, request: &[u8]) -> io::Result<()> {
     let texts = [request];
     let clients = Clients {
         texts: &texts,
@@ -32,7 +33,7 @@ fn try_by(rt: &HostRuntime, way: &str, request: &[u8]) -> io::Result<()> {
         stopping: way == "stopping",
         waiting: 3,
     };
-    match served(rt, rt.alloc(), &clients, &saying, 1) {
+    match served(waits, rt.alloc(), &clients, &saying, 1) {
         Ok(caller) if way == "samples" => samples(rt, told(&caller, 0)),
         Ok(caller) => whole(rt, told(&caller, 0)),
         Err(_) => rt.println("  out of memory"),
@@ -53,18 +54,18 @@ fn request_of(rt: &HostRuntime, text: &str) -> io::Result<Vec<u8>> {
     Ok(bytes)
 }
 
-fn show_line(rt: &HostRuntime, line: &str) -> io::Result<()> {
+fn show_line<R: Wait>(rt: &HostRuntime, waits: &R, line: &str) -> io::Result<()> {
     rt.println(line)?;
     let (way, text) = line.split_once('|').unwrap_or((line, ""));
     let request = request_of(rt, text)?;
-    let done = try_by(rt, way, &request);
+    let done = try_by(rt, waits, way, &request);
     drop(request);
     done
 }
 
-pub fn show(rt: &HostRuntime) -> io::Result<()> {
+pub fn show<R: Wait>(rt: &HostRuntime, waits: &R) -> io::Result<()> {
     for line in rt.lines(rt.alloc()) {
-        show_line(rt, line?.as_str())?;
+        show_line(rt, waits, line?.as_str())?;
     }
     Ok(())
 }

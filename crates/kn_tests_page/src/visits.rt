@@ -19,6 +19,7 @@ const SLOTS: Slots = Slots {
 };
 
 /// A server that says one thing.
+#[derive(Clone, Copy)]
 pub struct Saying {
     pub stopping: bool,
     pub waiting: u64,
@@ -39,6 +40,7 @@ impl Server for Saying {
 }
 
 /// Clients that send these texts, who are read in pieces of this size. The calls of their caller with these numbers fail.
+#[derive(Clone, Copy)]
 pub struct Clients<'a> {
     pub texts: &'a [&'a [u8]],
     pub piece: u64,

@@ -20,11 +20,9 @@ returns-in-Err-read_asked g c =
     let talk = talks c.caller_laws.ensures.texts c.caller_laws.ensures.streams (kept old) (kept mid) (kept new) (kept new) (held old) (held mid) (held new) (held new) (left old) (left mid) (λ _. ⊤) []
     (g.met.C.Caller.paired old) (g.met.C.Caller.heard old) c.in-Ok.ensures.met same refl (Appends-nil (held new)) (any_input (left mid)) in
     record {
-      one = record {
-        visit = (refl, tells_on _ _ _ _ (λ x y r. (r.0, r.2)) talk);
-        never_falls = omega (arith, c.meet.ensures.cause.never_falls, c.read_asked.ensures.never_falls);
-        cause = λ _. later_rose _ _ _ c.meet.ensures.cause.never_falls c.in-Err-read_asked.ensures.fault;
-      };
+      visit = (refl, tells_on _ _ _ _ (λ x y r. (r.0, r.2)) talk);
+      never_falls = omega (arith, c.meet.ensures.cause.never_falls, c.read_asked.ensures.never_falls);
+      cause = λ _. later_rose _ _ _ c.meet.ensures.cause.never_falls c.in-Err-read_asked.ensures.fault;
     }
 
 pub returns-in-Ok-put_all : goal.returns-in-Ok-put_all
@@ -43,11 +41,9 @@ returns-in-Ok-put_all g c =
     let talk = talks c.caller_laws.ensures.texts c.caller_laws.ensures.streams (kept old) (kept mid) (kept read) (kept new) (held old) (held mid) (held read) (held new) (left old) (left mid) (λ bytes. Asks bytes asked) text
     (g.met.C.Caller.paired old) (g.met.C.Caller.heard old) c.in-Ok.ensures.met same c.put_all.ensures.kept_stays written c.in-Ok-read_asked.ensures.asked in
     record {
-      one = record {
-        visit = (text, c.answer.ensures, tells_on _ _ _ _ (λ x y r. record { comes = r.0; asks = r.1; text_is = r.2 }) talk);
-        never_falls = omega (arith, c.meet.ensures.cause.never_falls, c.read_asked.ensures.never_falls, c.put_all.ensures.cause.never_falls);
-        cause = λ e. absurd (cc);
-      };
+      visit = (text, c.answer.ensures, tells_on _ _ _ _ (λ x y r. record { comes = r.0; asks = r.1; text_is = r.2 }) talk);
+      never_falls = omega (arith, c.meet.ensures.cause.never_falls, c.read_asked.ensures.never_falls, c.put_all.ensures.cause.never_falls);
+      cause = λ e. absurd (cc);
     }
 
 pub returns-in-Err-put_all : goal.returns-in-Err-put_all
@@ -68,9 +64,7 @@ returns-in-Err-put_all g c =
     (g.met.C.Caller.paired old) (g.met.C.Caller.heard old) c.in-Ok.ensures.met same c.put_all.ensures.kept_stays written c.in-Ok-read_asked.ensures.asked in
     let first : g.C.Faulty.faults old ≤ g.C.Faulty.faults read = omega (arith, c.meet.ensures.cause.never_falls, c.read_asked.ensures.never_falls) in
     record {
-      one = record {
-        visit = (text, c.answer.ensures, tells_on _ _ _ _ (λ x y r. (cut.0, record { comes = r.0; asks = r.1; text_is = r.2 })) talk);
-        never_falls = omega (arith, c.meet.ensures.cause.never_falls, c.read_asked.ensures.never_falls, c.put_all.ensures.cause.never_falls);
-        cause = λ _. later_rose _ _ _ first c.in-Err-put_all.ensures.cause.failed;
-      };
+      visit = (text, c.answer.ensures, tells_on _ _ _ _ (λ x y r. (cut.0, record { comes = r.0; asks = r.1; text_is = r.2 })) talk);
+      never_falls = omega (arith, c.meet.ensures.cause.never_falls, c.read_asked.ensures.never_falls, c.put_all.ensures.cause.never_falls);
+      cause = λ _. later_rose _ _ _ first c.in-Err-put_all.ensures.cause.failed;
     }

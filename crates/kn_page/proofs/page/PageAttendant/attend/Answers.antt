@@ -23,7 +23,7 @@ loop-preserved g c =
     let before : side (kept let_in) (held let_in) (faults let_in) ≡ side (kept old) (held old) (faults old) = same_side _ _ _ _ _ _ x.ensures.kept x.ensures.held x.ensures.faults in
     let behind : side (kept done) (held done) (faults done) ≡ side (kept told) (held told) (faults told) = same_side _ _ _ _ _ _ z.ensures.kept z.ensures.held z.ensures.faults in
     let here : OneVisit stops waits y.result c.loop.pass y.new.pass (side (kept let_in) (held let_in) (faults let_in)) (side (kept told) (held told) (faults told)) =
-    subst (λ (e : g.row.E.Denot). OneVisit (g.E.Server.stops e) (g.E.Server.waits e) y.result c.loop.pass y.new.pass (side (kept let_in) (held let_in) (faults let_in)) (side (kept told) (held told) (faults told))) i.server y.ensures.one in
+    subst (λ (e : g.row.E.Denot). OneVisit (g.E.Server.stops e) (g.E.Server.waits e) y.result c.loop.pass y.new.pass (side (kept let_in) (held let_in) (faults let_in)) (side (kept told) (held told) (faults told))) i.server y.ensures in
     let one : OneVisit stops waits y.result c.loop.pass y.new.pass (side (kept old) (held old) (faults old)) (side (kept done) (held done) (faults done)) =
     subst (λ (s : Side). OneVisit stops waits y.result c.loop.pass y.new.pass s (side (kept done) (held done) (faults done))) before
     (subst (λ (s : Side). OneVisit stops waits y.result c.loop.pass y.new.pass (side (kept let_in) (held let_in) (faults let_in)) s) (sym behind) here) in
