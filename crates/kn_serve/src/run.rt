@@ -127,7 +127,7 @@ pub fn serve<
 }
 
 /// Serves a session: the setup is read, the revision opened, every round of every slot served with the ticker beside them, and
-/// the history printed as a journal that `kact replay` reads, line by line and taking no memory.
+/// the history printed as a journal that `kact replay` reads, in pieces of up to 16 KiB and taking no memory.
 ///
 /// The status is that of the setup's fault, or `Memory` at opening, and then nothing else was touched; or `WriteFault`; or
 /// `SlotFault` of the least slot with a round that ended in a fault; or `Memory`, where a round ended so; or `Ok`. What it
