@@ -84,6 +84,16 @@ closing_rows {A} cell f xs p ticks now h lone last number mine others closes k x
 pub closed_whole : (p : PassView) (now : RevisionState) (h : List Past) → p.lasting ≡ false → IsClosed p now h → ClosesWhole p now h
 closed_whole p now h plain x = subst (λ (front : List Past). ClosesWhole p now (front ++ h)) (x.plain plain) record { closes = x.closes; lawful = x.lawful; settled = x.settled }
 
+-- .. as a history of the pass's revision
+pub whole_as : (p : PassView) (now : RevisionState) (h : List Past) → ClosesWhole p now h → IsClosedAs p.opening now h
+whole_as p now h x = record {
+  legal = x.closes.legal;
+  bounds = x.closes.bounds;
+  after = record { spec = x.closes.spec; start = x.closes.start; clock = x.closes.clock; events = x.closes.events; stands = x.closes.stands };
+  lawful = x.lawful;
+  settled = x.settled;
+}
+
 pub closing_opening : {A : Type 0} (f : A → Option PassView) (xs : List A) (p ticks : PassView) → (closing f xs p ticks).opening ≡ p.opening
 closing_opening {A} f xs p ticks = ap (λ (k : Kind). k.opening) (joined_same p (found_by f xs)).kind
 
@@ -98,13 +108,7 @@ closes_all {C} {L} cell xs p ticks now rest lone last number mine others x =
     let same = joined_same p qs in
     let P : Joined → Type 0 = λ o. StartsWith h o.seen × (o.mine ≡ rows_by o.number h) in
     let theirs = (joined_members P p qs (joined_last P (joined_all p qs) ticks x.closes.others).0).0 in
-    let as : IsClosedAs (closing f xs p ticks).opening now h = record {
-      legal = x.closes.legal;
-      bounds = x.closes.bounds;
-      after = record { spec = x.closes.spec; start = x.closes.start; clock = x.closes.clock; events = x.closes.events; stands = x.closes.stands };
-      lawful = x.lawful;
-      settled = x.settled;
-    } in
+    let as : IsClosedAs (closing f xs p ticks).opening now h = whole_as (closing f xs p ticks) now h (record { closes = x.closes; lawful = x.lawful; settled = x.settled }) in
     record {
       front = x.front;
       plain = λ e. x.plain (ap (λ (k : Kind). k.lasting) same.kind ∙ e);

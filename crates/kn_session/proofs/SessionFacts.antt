@@ -74,6 +74,9 @@ slot_lasted laws k terms Paced spec tag n h i p q s0 s1 s2 s3 f2 f3 m2 m3 alone 
 pub has_none : (h : List Past) (slots n k : ℕ) (x : Past) → get_elem? h k ≡ some x → rows_by n h ≡ [] → x.pass ≡ n → (x.pass ≡ 1) ⊎ IsSlots slots x
 has_none h slots n k x at e is = absurd (in_rows (λ y. ⊥) n h k x at is (subst (Each (λ (y : Past). ⊥)) (sym e) (none (λ (y : Past). ⊥))))
 
+pub new_as : (k k' : Kind) (n n' : ℕ) (p : PassView) → k ≡ k' → n ≡ n' → IsNewOf k n p → IsNewOf k' n' p
+new_as k k' n n' p e f x = subst (λ v. IsNewOf v n' p) e (subst (λ m. IsNewOf k m p) f x)
+
 -- a list that has a place has a member
 pub some_of : {A : Type 0} (xs : List A) (i : ℕ) → i < length xs → A
 some_of {A} [] i low = absurd (omega (arith, low))

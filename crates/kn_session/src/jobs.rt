@@ -1,17 +1,15 @@
-//! The slots beside each other in threads, and the ticker beside them.
+//! The slots beside each other in threads.
 ghost use Rattle.std.specs.Prelude.{◌≡◌, ◌≤◌, ◌<◌, ◌^◌, ℕ, length};
 ghost use Rattle.kn_session.specs.Lists.{EachDone, EachIs};
 ghost use Rattle.kn_session.specs.Passes.{HasPass};
-ghost use Rattle.kn_session.specs.Rounds.{HasServed, HaveServed};
-ghost use Rattle.kn_session.specs.Session.{HasTicked};
+ghost use Rattle.kn_session.specs.Rounds.{HasServed};
 
 use crate::pace::Pace;
 use crate::rounds::serve_rounds;
 use crate::shared::Shared;
 use crate::sided::Sided;
-use kn_cell::Pass;
 use kn_io::{Caller, Clock, Gate, PodLink};
-use kn_request::{Slot, ticker};
+use kn_request::Slot;
 use std::sync::Wait;
 use std::thread;
 use std::thread::{Threads, join_mut};
@@ -74,38 +72,4 @@ pub fn beside<X: Sync, J: Job<X> + Send, F: FnMut() + Send, R: Threads + Wait + 
         ensures { EachDone (J.done shared.entry.now) jobs.entry.now jobs.exit.now }
     { work_all(rt, shared, jobs) };
     join_mut(rt, other, &mut work);
-}
-
-/// The slots, with the ticker beside them.
-pub fn serve_beside<
-    C: Caller + Send,
-    L: PodLink + Send,
-    K: Clock + Sync,
-    G: Gate + Sync,
-    P: Pace<C> + Sync,
-    R: Threads + Wait + Sync,
->(rt: &R, shared: &Shared<K, G, P>, slots: &mut [Slot<C, L>], keeper: &mut L, pass: &mut Pass)
-    requires few { length slots.old ≤ 1024 }
-    requires passes { EachIs (λ s. HasPass shared.now.cell.now s.work.pass) slots.old }
-    requires apart { shared.now.common.now.apart ≤ 10 ^ 12 }
-    requires pass { pass.old.cell ≡ shared.now.cell.now }
-    ensures slots { HaveServed ⟦<Slot<C, L> as Sided>⟧.at K.reading P.Watch.leaves P.most P.ends shared.now.common.now slots }
-    ensures ticker { HasTicked L.told L.Faulty.faults (K.reading shared.now.common.now.clock.now) shared.now.common.now.start pass keeper }
-{
-    let mut ticks = ||
-        requires { pass.now.cell ≡ shared.now.cell.now }
-        ensures { HasTicked L.told L.Faulty.faults (K.reading shared.entry.now.common.now.clock.now) shared.entry.now.common.now.start pass keeper }
-    {
-        let common = shared.common;
-        ticker(
-            rt,
-            shared.cell,
-            pass,
-            keeper,
-            common.clock,
-            shared.left,
-            common.start,
-        );
-    };
-    beside(rt, shared, slots, &mut ticks);
 }

@@ -10,7 +10,7 @@ ghost use Rattle.kn_session.specs.Passes.{HasLone, IsEmptied, IsFirst, IsLone, I
 ghost use Rattle.kn_session.specs.Rounds.{IsPaced};
 
 use crate::attendant::Attendant;
-use crate::attending::serve_attended;
+use crate::attending::serve_beside;
 use crate::laws::session_laws;
 use crate::pace::Pace;
 use crate::passes::{hand_out, take_back};
@@ -89,7 +89,7 @@ pub fn serve_over<
         common,
         left: &left,
     };
-    serve_attended(
+    serve_beside(
         rt,
         &shared,
         slots,
