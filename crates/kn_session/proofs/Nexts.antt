@@ -17,6 +17,8 @@ pub record IsNext (p q : PassView) : Type 0 where
   pub others : q.others ≡ p.others
   pub cell : q.cell ≡ p.cell
   pub kind : kind_of q ≡ kind_of p
+  pub passes : q.passes ≡ p.passes
+  pub scribe : q.scribe ≡ p.scribe
   pub longer : StartsWith q.seen p.seen
   pub whole : p.lasting ≡ false → p.gone ≡ 0 → q.gone ≡ 0
   pub most : p.gone ≤ length p.seen → q.gone ≤ length q.seen
@@ -25,7 +27,7 @@ pub next_by : (given : ℕ) (p q : PassView) → (q ≡ p) ⊎ LooksBy given p q
 next_by given p q so = elim so [ inl e ↦ subst (IsNext p) (sym e) (itself p) | inr l ↦ looked l ]
   where
     itself : (v : PassView) → IsNext v v
-    itself v = record { free = refl; back = refl; number = refl; others = refl; cell = refl; kind = refl; longer = ([], sym (append-nil v.seen)); whole = λ e f. f; most = λ e. e }
+    itself v = record { free = refl; back = refl; number = refl; others = refl; cell = refl; kind = refl; passes = refl; scribe = refl; longer = ([], sym (append-nil v.seen)); whole = λ e f. f; most = λ e. e }
 
     looked : LooksBy given p q → IsNext p q
     looked l = record {
@@ -35,6 +37,8 @@ next_by given p q so = elim so [ inl e ↦ subst (IsNext p) (sym e) (itself p) |
       others = ap (λ (v : PassView). v.others) l.same;
       cell = ap (λ (v : PassView). v.cell) l.same;
       kind = ap kind_of l.same;
+      passes = ap (λ (v : PassView). v.passes) l.same;
+      scribe = ap (λ (v : PassView). v.scribe) l.same;
       longer = l.longer;
       whole = λ e f. l.plain e;
       most = λ e. l.most;
@@ -51,6 +55,8 @@ next_trans p q s a b = record {
   others = b.others ∙ a.others;
   cell = b.cell ∙ a.cell;
   kind = b.kind ∙ a.kind;
+  passes = b.passes ∙ a.passes;
+  scribe = b.scribe ∙ a.scribe;
   longer = starts_trans p.seen q.seen s.seen a.longer b.longer;
   whole = λ e f. b.whole (ap (λ (k : Kind). k.lasting) a.kind ∙ e) (a.whole e f);
   most = λ e. b.most (a.most e);

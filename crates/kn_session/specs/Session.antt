@@ -14,7 +14,7 @@ use Rattle.kn_io.specs.Links.{Link, Tells}
 use Rattle.kn_io.specs.declared.records.Probe.{Probe}
 use Rattle.kn_request.specs.declared.slot.Slot.{Slot}
 use Rattle.kn_request.specs.Pods.{IsStarting}
-use Rattle.kn_request.specs.Terms.{unwatched}
+use Rattle.kn_request.specs.Terms.{watched}
 use Rattle.kn_request.specs.Ticking.{TicksApart, Turns, is_probed, probed_all}
 use Rattle.kn_session.specs.declared.setting.Setting.{Setting}
 use Rattle.kn_session.specs.Changes.{Change, became, was}
@@ -47,13 +47,13 @@ pub record WasShort (b : RevisionState) (room : ℕ) (h : List Past) : Type 0 wh
 abbrev pub IsFine : Past → Type 0
 IsFine x = (r : ℕ) → x.event.act ≢ act.Finish r false
 
--- all rounds of slot i were served, by a new pass of its own, the j-th with the tag i * rounds + j. The rows that the pass
+-- all rounds of slot i were served, and nobody was watched, by a new pass of its own, the j-th with the tag i * rounds + j. The rows that the pass
 -- made are those of the history with its number, and what it knew after each round holds of the whole history
 pub record SlotServed (reading : ℕ → Type 0) (spec : Spec) (b : RevisionState) (room rounds : ℕ) (h : List Past) (i : ℕ) (from to : Sides) (fault memory : Bool) : Type 0 where
   pub first : PassView
   pub last : PassView
   pub fresh : IsNew b room (2 + i) first
-  pub all : AllRounds (Lasts h) (λ a b. unwatched reading) spec (i * rounds) rounds first last from to fault memory
+  pub all : AllRounds (Lasts h) (watched reading ⊥) spec (i * rounds) rounds first last from to fault memory
   pub part : IsPart h (2 + i) last
   -- where none ended in a fault, each round wrote one text more
   pub texts : fault ≡ false → HasTexts rounds from.said to.said

@@ -54,11 +54,8 @@ fn serve_passes<R: Wait, C: Caller, L: PodLink, K: Clock, G: Gate, P: Pace<C>>(
 {
     let mut fault = false;
     let mut memory = false;
-    // A pace allows less than 10^12, so it ends the loop.
-    for j in 0..=1_000_000_000_000 {
-        if !common.pace.goes_on(rt, &mut slot.caller, j) {
-            break;
-        }
+    let mut round = 0;
+    while common.pace.goes_on(rt, &mut slot.caller, round) {
         let served = serve_guest(
             rt,
             common.alloc,
@@ -66,7 +63,7 @@ fn serve_passes<R: Wait, C: Caller, L: PodLink, K: Clock, G: Gate, P: Pace<C>>(
             pass,
             common.spec,
             slot,
-            first + j,
+            first + round,
             common.clock,
             common.gate,
             common.pace,
@@ -74,6 +71,7 @@ fn serve_passes<R: Wait, C: Caller, L: PodLink, K: Clock, G: Gate, P: Pace<C>>(
         common.pace.note(rt, &served);
         fault = either(is_fault(&served), fault);
         memory = either(is_memory(&served), memory);
+        round += 1;
     }
     // Nobody is met any more, so the last client would wait for the end of its answer until all slots are done.
     slot.caller.part();
