@@ -1,5 +1,5 @@
 -- What is said on some terms, on terms that allow as much.
-use Rattle.std.proofs.Common.{◌≡◌, ◌≤◌, ◌×◌, inl, inr, ℕ, List, arith}
+use Rattle.std.proofs.Common.{◌≡◌, ◌≤◌, inl, inr, ℕ, List, ap, ◌∙◌, arith}
 use Rattle.std.specs.Prelude.{Option, Result, Ok, Err}
 use Rattle.kn_event.specs.declared.revision.Spec.{Spec}
 use Rattle.kn_cell.specs.declared.past.Past.{Past}
@@ -12,11 +12,15 @@ use Rattle.kn_head.specs.declared.head.HeadError.{HeadError}
 use Rattle.kn_request.specs.declared.meant.Meant.{Meant}
 use Rattle.kn_request.specs.declared.meant.Meant.TheVariants as meant
 use Rattle.kn_request.specs.declared.slot.Served.{Served}
-use Rattle.kn_request.specs.Outside.{Said}
+use Rattle.kn_request.specs.Outside.{Said, said}
 use Rattle.kn_request.specs.Terms.{MayCancel, Terms}
 use Rattle.kn_request.specs.Requests.{AreCancels, WasLost, WasRun}
 use Rattle.kn_request.specs.Served.{HasArrived, IsCourse, IsServed}
-use Rattle.kn_request.specs.One.{HasMetBy, IsEvent, IsWay, ServesGuest, ServesMetBy, ServesRead}
+use Rattle.kn_request.specs.One.{IsEvent, IsWay, ServesGuest, ServesRead}
+
+-- what stays told
+pub said_still : (k k' : Option (List (List ℕ))) (h h' : Option (List ℕ)) (s : Option Said) → k' ≡ k → h' ≡ h → said k h ≡ s → said k' h' ≡ s
+said_still k k' h h' s e f is = ap (λ x. said x h') e ∙ (ap (said k) f ∙ is)
 
 -- a count that rose between two moments rose between one before and one after them
 pub rose_in : (a b c d : ℕ) → a ≤ b → c ≤ d → Rose b c → Rose a d
