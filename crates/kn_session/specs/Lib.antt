@@ -1,4 +1,6 @@
+pub mod Attending
 pub mod Changes
+pub mod Lasting
 pub mod Laws
 pub mod Lists
 pub mod Own
