@@ -59,9 +59,11 @@ def manifest():
         want(container[probe]["httpGet"] == {"path": path, "port": "status"}, f"{probe} {container[probe]}")
     noted = template["metadata"]["annotations"]
     want(noted["prometheus.io/port"] == str(ports["status"]) and noted["prometheus.io/path"] == "/metrics", f"annotations {noted}")
-    (mount,), (volume,) = container["volumeMounts"], template["spec"]["volumes"]
-    want(mount["name"] == volume["name"] and volume["configMap"]["name"] == config["metadata"]["name"], "volumes")
-    want({"name": "SETUP", "value": f"{mount['mountPath']}/{next(iter(config['data']))}"} in container["env"], f"environment {container['env']}")
+    mounts = {one["name"]: one["mountPath"] for one in container["volumeMounts"]}
+    volumes = {one["name"]: one for one in template["spec"]["volumes"]}
+    want(mounts.keys() == volumes.keys() and volumes["setup"]["configMap"]["name"] == config["metadata"]["name"], "volumes")
+    wanted = {"SETUP": f"{mounts['setup']}/{next(iter(config['data']))}", "JOURNALS": mounts["journals"]}
+    want({one["name"]: one["value"] for one in container["env"]} == wanted, f"environment {container['env']}")
     setup = config["data"]["setup"]
     grace(template["spec"], container, setup)
     good_words([f"--{name}={value}" for name, value in words.items()], setup)
