@@ -3,8 +3,9 @@
 
     ./loop.py [--seconds S] [--clients N] [--keep FOLDER]
 
-A revision without pods meets N clients at once for S seconds (60, 40), whose requests take 100 ms each, and then silence. Each client is to be
-answered 200, the pods to come and to go to zero, and the journal to replay to what the follower was told. KEEP has the journal then."""
+A revision without pods meets N clients at once (40) for S seconds (60), a quarter of them all the time and the others in the middle half of it. Their
+requests take 100 ms each. Then there is silence, and in the end one more request, whose pod has a greater number than there are addresses in use. Each
+client is to be answered 200, the pods to come and to go to zero, and the journal to replay to what the follower was told. FOLDER keeps the journal."""
 
 import argparse
 import collections
@@ -19,9 +20,9 @@ import time
 
 sys.path.insert(1, str(pathlib.Path(__file__).resolve().parents[1] / "stay"))
 
-from load import Load, counted, told  # noqa: E402
-from server import Stay, replay, whole_account  # noqa: E402
-from session import free_port, listens, program, run, wait_until, want  # noqa: E402
+from load import Load, bring, counted, told  # noqa: E402
+from server import Stay, whole_account  # noqa: E402
+from session import free_port, head, listens, program, run, wait_until, want  # noqa: E402
 
 FOLLOW = pathlib.Path(__file__).resolve().parent / "follow.py"
 ADDRESSES = 20
@@ -81,23 +82,35 @@ class Pipeline:
             made.wait(20)
 
 
+def waves(pipeline, seconds, clients):
+    """Few clients, then all, then few: what they met."""
+    loads = [Load(pipeline.server.port, clients // 4, seconds, path="/100")]
+    time.sleep(seconds / 4)
+    few = pipeline.live()
+    loads.append(Load(pipeline.server.port, clients - clients // 4, seconds / 2, path="/100"))
+    time.sleep(seconds / 2)
+    most = pipeline.live()
+    met = sorted((one for load in loads for one in load.met()), key=lambda one: one.ended)
+    want(0 < few < most, f"{few} pods for a quarter of the clients, {most} for all")
+    print(f"  {told(met)}")
+    print(f"  {few} pods for a quarter of the clients, {most} for all; the first answer after {met[0].ended - met[0].begun:.1f} s")
+    return met
+
+
 def loop(folder, seconds, clients):
     with Pipeline(folder) as pipeline:
-        load = Load(pipeline.server.port, clients, seconds, path="/100")
-        time.sleep(seconds / 2)
-        most = pipeline.live()
-        met = load.met()
-        print(f"  {told(met)}")
+        met = waves(pipeline, seconds, clients)
+        wait_until(lambda: pipeline.live() == 0, 90, "there are still pods")
+        print(f"  no pod {time.time() - met[-1].ended:.0f} s after the last answer")
+        met.append(bring(pipeline.server.port, head(method="GET")))
         want(set(counted(met)) == {(200, "hello")}, f"answered {counted(met)}")
         wait_until(lambda: pipeline.live() == 0, 90, "there are still pods")
-        silent = time.time() - met[-1].ended
         pipeline.end()
         left = [port for port in pipeline.ports if listens(port)]
     account, rows = whole_account(pipeline.journal)
     want(account == {"finish ok": len(met)}, f"{len(met)} were answered, and the journal has {dict(account)}")
     want(pipeline.report.read_text().splitlines() == rows, "the follower was told other rows than the journal's")
     judge(rows, pipeline.log.read_text().splitlines(), left)
-    print(f"  {most} pods half-way, none {silent:.0f} s after the last answer; the first answer after {met[0].ended - met[0].begun:.1f} s")
 
 
 def judge(rows, log, left):

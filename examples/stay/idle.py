@@ -1,14 +1,14 @@
 #!/usr/bin/env -S python3 -B
 """Silent and slow clients beside a load: `./idle.py [--seconds S] [--turns N] [--most PERCENT]`.
 
-N times in turns (5) the same load goes on for S seconds (5) with nobody beside it, and beside 300 connections of which nothing comes and 50 that send
-a byte a second. Within so many ms 99 of 100 requests are answered: the middle one of the turns may change by less than 20 per cent."""
+N times in turns (10) the same load goes on for S seconds (3) with nobody beside it, and beside 300 connections of which nothing comes and 50 that
+send a byte a second. Within so many ms 99 of 100 requests of all turns are answered: that may change by less than 20 per cent. (On a machine that
+does something else, more and shorter turns tell more.)"""
 
 import argparse
 import contextlib
 import functools
 import socket
-import statistics
 import sys
 import threading
 import time
@@ -68,11 +68,11 @@ def turn(server, seconds, beside):
 def idle(seconds, turns, most):
     with Pod() as a, Pod() as b, Stay(fixed(2), [a.port, b.port], slots=128) as server:
         met = {False: [], True: []}
-        for _ in range(turns):
-            for beside in met:
-                met[beside].append(turn(server, seconds, beside))
-        settle(server, counted(one for side in met.values() for part in side for one in part))
-    alone, beside = (statistics.median(latency(part, 99) for part in met[side]) for side in met)
+        for number in range(turns):
+            for beside in (False, True) if number % 2 == 0 else (True, False):
+                met[beside] += turn(server, seconds, beside)
+        settle(server, counted(met[False] + met[True]))
+    alone, beside = latency(met[False], 99), latency(met[True], 99)
     change = (beside / alone - 1) * 100
     print(f"  99 of 100 within {alone:.1f} ms alone, and {beside:.1f} ms beside {SILENT} silent and {DRIPPING} slow ones: {change:+.0f} %")
     want(change < most, f"the change is {change:+.0f} %")
@@ -80,8 +80,8 @@ def idle(seconds, turns, most):
 
 def main():
     words = argparse.ArgumentParser(description=__doc__, formatter_class=argparse.RawDescriptionHelpFormatter)
-    words.add_argument("--seconds", type=int, default=5)
-    words.add_argument("--turns", type=int, default=5)
+    words.add_argument("--seconds", type=int, default=3)
+    words.add_argument("--turns", type=int, default=10)
     words.add_argument("--most", type=float, default=20)
     given = words.parse_args()
     return run({"idle": functools.partial(idle, given.seconds, given.turns, given.most)}, [])

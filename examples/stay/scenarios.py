@@ -18,6 +18,7 @@ import time
 import urllib.error
 import urllib.request
 
+import edges
 import prometheus
 from load import Load, bring, counted, told
 from server import Pod, Stay, all_known, cut_account, replay, settle, whole_account
@@ -326,6 +327,10 @@ def cases(short, seconds):
         "stalled_reader": functools.partial(stalled_reader, 10, 0.02),
         "stalled_reader_full": functools.partial(stalled_reader, 5, 0.002, room=1000, full=True),
         "gone_while_held": gone_while_held,
+        "refused": edges.refused,
+        "silent_and_slow": edges.silent_and_slow,
+        "broken_pod": functools.partial(edges.broken_pod, 400),
+        "many_waiting": functools.partial(edges.many_waiting, 1000),
         "held": functools.partial(held, 1000, 10),
         "status_page": functools.partial(status_page, 16, 3),
     }
