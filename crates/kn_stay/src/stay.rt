@@ -1,83 +1,105 @@
 //! A server that goes on.
 ghost use Rattle.std.specs.Prelude.{◌≡◌, ◌≤◌, length};
 ghost use Rattle.kn_io.specs.Causes.{Rose};
+ghost use Rattle.kn_cell.specs.Shown.{PassView};
+ghost use Rattle.kn_core.specs.State.{RevisionState};
+ghost use Rattle.kn_session.specs.Lasting.{IsNewLasting};
 ghost use Rattle.kn_serve.specs.Setup.{HasBrokenOff};
 ghost use Rattle.kn_stay.specs.Staying.{StaysBy};
 
-use crate::front::read_front;
+use crate::pods::named_pods;
 use crate::serving::serve_printed;
-use kn_door::{Door, Stop};
+use crate::setting::StaySetting;
+use crate::stayed::Stayed;
+use kn_door::{Close, Stop};
 use kn_event::Memory;
 use kn_io::{Caller, Clock, Gate, PodLink, Sink, Source};
 use kn_journal::Status;
 use kn_replay::status_of;
 use kn_request::Slot;
 use kn_scribe::Scribe;
-use kn_serve::{Outside, open_revision, run_laws, start_of};
-use kn_session::Setting;
-use std::alloc::Global;
+use kn_serve::{Outside, open_logged, read_front, run_laws, start_of};
+use kn_session::{Attendant, Lasting, Pace};
 use std::sync::Wait;
 use std::thread::Threads;
 
-/// Serves until it is told to stop: the setup is read up to its last line, the revision opened, and what stands before the
-/// events is printed; then the slots are served for as long as the door hands connections out, with the ticker beside them, and
-/// with the scribe, who prints each row's line as it comes, and closes the door once `stop` is over or nothing can be written;
-/// then the rows that are left, and `end`. `room` is how many rows that aren't printed yet and live requests there may be
-/// together, at most 1,000,000; there are at most 1,024 slots.
+/// Serves until it is told to stop: the setup is read up to its last line, the revision opened, and what stands before the events
+/// printed. Then each slot is served for as long as its pace goes on. Beside the slots are the ticker; the scribe, who prints each
+/// row's line as it comes and closes the doors; and the page's attendant. At last the rows that are left are printed, and `end`.
+/// There are at most 1,024 slots.
 ///
-/// The status is that of the setup's fault, or `Memory` at opening, and then nothing else was touched; or `Memory` behind the
-/// journal's opening, where nobody was served; or `WriteFault`; or `Ok`, whatever became of single rounds.
+/// Where the setup is refused, or names more pods than there are addresses, or there is no memory to open it, nothing else was
+/// touched. Behind the journal's opening it ends with `Memory` where nobody could be served, with `WriteFault`, or with `Ok`,
+/// whatever became of single rounds.
 pub fn stay_run<
     S: Source,
     C: Caller + Send,
     L: PodLink + Send,
-    D: Door<C> + Sync,
-    T: Stop + Send,
     K: Clock + Sync,
     G: Gate + Sync,
+    P: Pace<C> + Sync,
+    D: Close + Sync,
+    E: Close + Sync,
+    T: Stop + Send,
     O: Sink + Send,
+    W: Attendant + Send,
     R: Threads + Wait + Sync,
 >(
     rt: &R,
-    alloc: Global,
-    room: u64,
+    setting: &StaySetting<K, G, P, D, E>,
     setup: &mut S,
     slots: &mut [Slot<C, L>],
     keeper: &mut L,
-    door: &D,
     stop: &mut T,
-    clock: &K,
-    gate: &G,
     out: &mut O,
-) -> Status
+    page: &mut W,
+) -> Stayed
     requires slots { length slots.old ≤ 1024 }
-    requires room { room ≤ 1000000 }
-    ensures course { StaysBy ⟦<() as Outside<S, C, L, K, O>>⟧.seen room clock setup slots keeper out result }
-    ensures read_fault { result ≡ Status.ReadFault → HasBrokenOff S.Faulty.faults S.given setup }
-    ensures write_fault { result ≡ Status.WriteFault → Rose (O.Faulty.faults out.old) (O.Faulty.faults out.new) }
+    requires room { setting.now.room ≤ 1000000 }
+    requires page { (b : RevisionState) (p : PassView) → IsNewLasting b setting.now.room setting.now.addresses (2 + length slots.old) p → W.may page.old p }
+    ensures course { StaysBy ⟦<() as Outside<S, C, L, K, O>>⟧.seen P.ends W.attends setting setup slots keeper out page result }
+    ensures read_fault { result ≡ Stayed.Ended Status.ReadFault → HasBrokenOff S.Faulty.faults S.given setup }
+    ensures write_fault { result ≡ Stayed.Ended Status.WriteFault → Rose (O.Faulty.faults out.old) (O.Faulty.faults out.new) }
 {
-    run_laws(clock);
-    let read = match read_front(alloc, setup) {
+    run_laws(setting.clock);
+    let read = match read_front(setting.alloc, setup) {
         Ok(read) => read,
-        Err(error) => return status_of(error),
+        Err(error) => return Stayed::Ended(status_of(error)),
     };
-    let start = start_of(clock);
-    let revision = match open_revision(alloc, &read.spec, start) {
-        Ok(revision) => revision,
-        Err(Memory) => return Status::Memory,
+    let pods = named_pods(&read.spec);
+    if setting.addresses != 0 && setting.addresses < pods {
+        return Stayed::TooManyPods(pods);
+    }
+    let start = start_of(setting.clock);
+    let (revision, log) = match open_logged(setting.alloc, &read.spec, start) {
+        Ok(opened) => opened,
+        Err(Memory) => return Stayed::Ended(Status::Memory),
     };
-    let mut scribe = match Scribe::new(alloc, room, out, clock, door, stop) {
+    let (alloc, room, clock) = (setting.alloc, setting.room, setting.clock);
+    let mut scribe = match Scribe::new(alloc, room, out, clock, stop, setting.doors) {
         Ok(scribe) => scribe,
-        Err(Memory) => return Status::Memory,
+        Err(Memory) => return Stayed::Ended(Status::Memory),
     };
-    let setting = Setting {
+    let lasting = Lasting {
         alloc,
         spec: &read.spec,
         clock,
-        gate,
+        gate: setting.gate,
         room,
-        rounds: 0,
         start,
+        entries: log.entries(),
+        addresses: setting.addresses,
     };
-    serve_printed(rt, &setting, &read, revision, slots, keeper, door, &mut scribe)
+    let pace = setting.pace;
+    Stayed::Ended(serve_printed(
+        rt,
+        &lasting,
+        pace,
+        &read,
+        revision,
+        slots,
+        keeper,
+        &mut scribe,
+        page,
+    ))
 }
