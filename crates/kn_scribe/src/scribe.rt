@@ -21,7 +21,7 @@ pub struct Scribe<'a, O, K, T, D, E> {
     pub out: &'a mut O,
     clock: &'a K,
     stop: &'a mut T,
-    doors: Doors<'a, D, E>,
+    doors: &'a Doors<'a, D, E>,
     /// Empty between two rounds, with memory for the cell's room.
     pub rows: Vec<Past>,
     /// How printing went so far.
@@ -36,7 +36,7 @@ impl<'a, O: Sink, K: Clock, T: Stop, D: Close, E: Close> Scribe<'a, O, K, T, D, 
         out: &'a mut O,
         clock: &'a K,
         stop: &'a mut T,
-        doors: Doors<'a, D, E>,
+        doors: &'a Doors<'a, D, E>,
     ) -> Result<Scribe<'a, O, K, T, D, E>, Memory>
         ensures out { IfOk result (λ s. (s.out.ghost_name ≡ out.entry.ghost_name) × (s.out.now ≡ out.old)) }
         ensures rows { IfOk result (λ s. (s.rows.items ≡ []) × (room ≤ vec_capacity s.rows)) }

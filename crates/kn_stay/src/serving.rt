@@ -3,9 +3,11 @@ ghost use Rattle.std.specs.Prelude.{◌≡◌, ◌≢◌, ◌≤◌, ◌^◌, Ok
 ghost use Rattle.kn_io.specs.Causes.{Rose};
 ghost use Rattle.kn_cell.specs.Shown.{PassView};
 ghost use Rattle.kn_journal.specs.Journal.{IsSetup};
-ghost use Rattle.kn_session.specs.Lasting.{IsNewLasting};
-ghost use Rattle.kn_stay.specs.Staying.{Goes, IsOpenedFor};
+ghost use Rattle.kn_session.specs.Passes.{IsNewLasting};
+ghost use Rattle.kn_stay.specs.Opened.{IsOpenedFor};
+ghost use Rattle.kn_stay.specs.Staying.{Goes};
 
+use crate::outside::StayOutside;
 use kn_core::Revision;
 use kn_door::{Close, Stop};
 use kn_event::Memory;
@@ -15,7 +17,7 @@ use kn_print::{print_opening, print_rest, printed_laws};
 use kn_request::Slot;
 use kn_scribe::Scribe;
 use kn_serve::run_laws;
-use kn_session::{Attendant, Lasting, Pace, Sided, serve_lasting};
+use kn_session::{Attendant, Lasting, Pace, serve_lasting};
 use std::sync::Wait;
 use std::thread::Threads;
 
@@ -51,8 +53,8 @@ pub fn serve_printed<
     requires rows { (scribe.old.rows.items ≡ []) × (lasting.now.room ≤ vec_capacity scribe.old.rows) }
     requires done { scribe.old.done ≡ Ok tt }
     requires page { (p : PassView) → IsNewLasting revision lasting.now.room lasting.now.addresses (2 + length slots.old) p → W.may page.old p }
-    ensures goes { Goes ⟦<Slot<C, L> as Sided>⟧.at (K.reading lasting.now.clock.now) L.told L.Faulty.faults O.held (P.ends pace.now) W.attends (λ s. s ≡ setup.now)
-        lasting.now.room lasting.now.addresses slots keeper page scribe.old.out.now scribe.new.out.now result }
+    ensures goes { Goes ⟦<() as StayOutside<C, L, K, O, P, W>>⟧.seen lasting.now.clock.now pace.now lasting.now.room lasting.now.addresses (λ s. s ≡ setup.now)
+        (record { slots = slots; keeper = keeper; page = page }) scribe.old.out.now scribe.new.out.now result }
     ensures out { scribe.new.out.ghost_name ≡ scribe.old.out.ghost_name }
     ensures write_fault { result ≡ Status.WriteFault → Rose (O.Faulty.faults scribe.old.out.now) (O.Faulty.faults scribe.new.out.now) }
 {

@@ -3,10 +3,11 @@ ghost use Rattle.std.specs.Prelude.{◌≡◌, ◌≤◌, length};
 ghost use Rattle.kn_io.specs.Causes.{Rose};
 ghost use Rattle.kn_cell.specs.Shown.{PassView};
 ghost use Rattle.kn_core.specs.State.{RevisionState};
-ghost use Rattle.kn_session.specs.Lasting.{IsNewLasting};
+ghost use Rattle.kn_session.specs.Passes.{IsNewLasting};
 ghost use Rattle.kn_serve.specs.Setup.{HasBrokenOff};
 ghost use Rattle.kn_stay.specs.Staying.{StaysBy};
 
+use crate::outside::StayOutside;
 use crate::pods::named_pods;
 use crate::serving::serve_printed;
 use crate::setting::StaySetting;
@@ -18,7 +19,7 @@ use kn_journal::Status;
 use kn_replay::status_of;
 use kn_request::Slot;
 use kn_scribe::Scribe;
-use kn_serve::{Outside, open_logged, read_front, run_laws, start_of};
+use kn_serve::{open_logged, read_front, run_laws, start_of};
 use kn_session::{Attendant, Lasting, Pace};
 use std::sync::Wait;
 use std::thread::Threads;
@@ -57,7 +58,7 @@ pub fn stay_run<
     requires slots { length slots.old ≤ 1024 }
     requires room { setting.now.room ≤ 1000000 }
     requires page { (b : RevisionState) (p : PassView) → IsNewLasting b setting.now.room setting.now.addresses (2 + length slots.old) p → W.may page.old p }
-    ensures course { StaysBy ⟦<() as Outside<S, C, L, K, O>>⟧.seen P.ends W.attends setting setup slots keeper out page result }
+    ensures course { StaysBy ⟦<() as StayOutside<C, L, K, O, P, W>>⟧.seen setting (S.left setup.old) slots keeper out page result }
     ensures read_fault { result ≡ Stayed.Ended Status.ReadFault → HasBrokenOff S.Faulty.faults S.given setup }
     ensures write_fault { result ≡ Stayed.Ended Status.WriteFault → Rose (O.Faulty.faults out.old) (O.Faulty.faults out.new) }
 {

@@ -1,5 +1,5 @@
 -- One round more.
-use Rattle.std.proofs.Common.{arith, inr, length, ◌∙◌}
+use Rattle.std.proofs.Common.{arith, ◌∙◌}
 use Rattle.kn_scribe.proofs.Rounds.{prints_trans, room_is}
 use Rattle.kn_scribe.proofs.scribe.Scribe.print_all.Goals as goal
 
@@ -17,6 +17,3 @@ loop-preserved g c =
       empty = y.ensures.empty;
       room = omega (arith, room_is c.args.pass.now c.loop.pass x.prints, y.ensures.room);
     }
-
-pub returns-then-not-further-clause-later : goal.returns-then-not-further-clause-later
-returns-then-not-further-clause-later g c = let x = c.loop.invariant.prints in (length x.given, inr x.later)
