@@ -18,7 +18,7 @@ const PIECE: usize = 4096;
 #[derive(Clone, Copy, Debug, PartialEq, Eq, Default)]
 pub struct Answers {
     pub ok: u64,
-    /// 504: its time was over.
+    /// 503: its time was over, or the queue was full.
     pub late: u64,
     /// 507: there was no room.
     pub full: u64,
@@ -62,7 +62,7 @@ impl Crowd {
     fn count(&mut self, bytes: &[u8]) {
         let count = if bytes.starts_with(b"HTTP/1.1 200 ") {
             &mut self.answers.ok
-        } else if bytes.starts_with(b"HTTP/1.1 504 ") {
+        } else if bytes.starts_with(b"HTTP/1.1 503 ") {
             &mut self.answers.late
         } else if bytes.starts_with(b"HTTP/1.1 507 ") {
             &mut self.answers.full

@@ -1,7 +1,7 @@
 //! Many clients over four slots: more rows than there is room for at once, and an output that takes little at a time.
 use crate::crowd::{Answers, REQUEST};
 use crate::journals::{Counts, replayed};
-use crate::outside::{Nods, SlowSink};
+use crate::outside::{Steps, SlowSink};
 use crate::stage::{Limits, SETUP, Stage, WELL, sink, stay};
 use kn_case::case;
 use kn_door::{MemDoor, StopAfter};
@@ -50,7 +50,7 @@ fn serve<O: Sink + Send, R: Threads + Wait + Sync + Print + AllocGlobal>(
         room: 1000,
         addresses: 1,
     };
-    let clock = Nods::new(0);
+    let clock = Steps::new(0);
     let outcome = stay(rt, rt.alloc(), stage, &door, &mut stop, &clock, out, limits);
     case(rt, "  how it ends", &outcome, &Some(WELL))
 }

@@ -3,58 +3,79 @@ ghost use Rattle.std.specs.Prelude.{Some, ⊤, [], ◌<◌};
 
 use crate::crowd::Crowd;
 use kn_cell::{Pass, RevisionCell};
-use kn_door::{Close, Door, Guest, MemDoor, Watch};
+use kn_door::{Close, Door, Guest, MemDoor, Stop, Watch};
 use kn_io::{Clock, Failed, Faulty, MemSink, Sink};
 use kn_request::Left;
 use kn_session::Attendant;
 use std::sync::Wait;
 use std::sync::atomic::{AtomicBool, AtomicU64, Ordering};
 
-/// A clock that each nap sets on by so many milliseconds.
+/// A clock that each reading sets on by so many milliseconds, while it goes.
 #[derive(Drop)]
-pub struct Nods {
+pub struct Steps {
     time: AtomicU64,
     step: u64,
+    goes: AtomicBool,
 }
 
-impl Nods {
-    pub fn new(step: u64) -> Nods {
-        Nods {
+impl Steps {
+    pub fn new(step: u64) -> Steps {
+        Steps {
             time: AtomicU64::new(0),
             step,
+            goes: AtomicBool::new(true),
         }
     }
-}
 
-impl Clock for Nods {
-    ghost reading = { λ _ _. ⊤ };
-
-    fn now_ms(&self) -> u64 {
+    /// The time, which is not set on.
+    fn time(&self) -> u64 {
         self.time.load(Ordering::SeqCst)
     }
 
-    fn nap(&self) {
-        self.time.fetch_add(self.step, Ordering::SeqCst);
+    fn set_going(&self, goes: bool) {
+        self.goes.store(goes, Ordering::SeqCst);
     }
 }
 
-/// A door through which a client comes at each of these times.
+impl Clock for Steps {
+    ghost reading = { λ _ _. ⊤ };
+
+    fn now_ms(&self) -> u64 {
+        if self.goes.load(Ordering::SeqCst) {
+            self.time.fetch_add(self.step, Ordering::SeqCst)
+        } else {
+            self.time()
+        }
+    }
+
+    fn nap(&self) {}
+}
+
+/// A door through which a client comes at each of these times. The clock goes while somebody waits at it, and goes on or not while clients
+/// are served.
 #[derive(Drop)]
 pub struct TimedDoor<'a> {
-    clock: &'a Nods,
+    clock: &'a Steps,
+    goes_on: bool,
     times: &'static [u64],
     taken: AtomicU64,
     closed: AtomicBool,
 }
 
 impl<'a> TimedDoor<'a> {
-    pub fn new(clock: &'a Nods, times: &'static [u64]) -> TimedDoor<'a> {
+    pub fn new(clock: &'a Steps, goes_on: bool, times: &'static [u64]) -> TimedDoor<'a> {
         TimedDoor {
             clock,
+            goes_on,
             times,
             taken: AtomicU64::new(0),
             closed: AtomicBool::new(false),
         }
+    }
+
+    /// How many times somebody asked for a client.
+    pub fn taken(&self) -> u64 {
+        self.taken.load(Ordering::SeqCst)
     }
 
     /// When the next client comes.
@@ -87,11 +108,13 @@ impl Door<Guest<Crowd>> for TimedDoor<'_> {
         let Some(time) = self.next_time() else {
             return false;
         };
+        self.clock.set_going(true);
         for _ in rt.forever() {
             if self.closed.load(Ordering::SeqCst) {
                 return false;
             }
-            if self.clock.now_ms() >= time {
+            if self.clock.time() >= time {
+                self.clock.set_going(self.goes_on);
                 return true;
             }
         }
@@ -104,6 +127,19 @@ impl Door<Guest<Crowd>> for TimedDoor<'_> {
 
     fn waiting<R: Wait>(&self, _rt: &R) -> u64 {
         0
+    }
+}
+
+/// Is over once somebody waited for so many clients.
+#[derive(Drop)]
+pub struct OnceTaken<'a, 'b> {
+    pub door: &'a TimedDoor<'b>,
+    pub many: u64,
+}
+
+impl Stop for OnceTaken<'_, '_> {
+    fn is_over(&mut self) -> bool {
+        self.door.taken() >= self.many
     }
 }
 

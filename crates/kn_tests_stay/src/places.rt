@@ -1,6 +1,6 @@
 //! Pods get the least free address: after a scale to zero the third pod is called where the first one was.
 use crate::journals::{has, replayed};
-use crate::outside::{Nods, TimedDoor};
+use crate::outside::{Steps, TimedDoor};
 use crate::stage::{Limits, Stage, WELL, sink, stay};
 use kn_case::case;
 use kn_door::StopAfter;
@@ -31,8 +31,8 @@ fn serve<R: Threads + Wait + Sync + Print + AllocGlobal>(
     stage: &mut Stage,
     out: &mut MemSink,
 ) -> io::Result<()> {
-    let clock = Nods::new(10);
-    let door = TimedDoor::new(&clock, &TIMES);
+    let clock = Steps::new(10);
+    let door = TimedDoor::new(&clock, false, &TIMES);
     let mut stop = StopAfter::new(u64::MAX);
     let limits = Limits {
         room: 100_000,
@@ -43,7 +43,7 @@ fn serve<R: Threads + Wait + Sync + Print + AllocGlobal>(
 }
 
 /// The rows that must come of it.
-const ROWS: [&str; 4] = [" remove 0\n", " remove 1\n", " create 2 limit=1\n", " assign 1 2\n"];
+const ROWS: [&str; 4] = [" remove 0\n", " remove 1\n", " create 2 1\n", " assign 1 2\n"];
 
 fn show_rows<R: Print + AllocGlobal>(rt: &R, journal: &[u8]) -> io::Result<()> {
     let replay = replayed(rt.alloc(), journal)?;

@@ -1,6 +1,6 @@
 //! Setups that are refused, and setups with more pods than there are addresses: nobody is met, and nothing is printed.
 use crate::crowd::REQUEST;
-use crate::outside::Nods;
+use crate::outside::Steps;
 use crate::stage::{Limits, Outcome, Stage, WELL, sink, stay};
 use kn_case::case;
 use kn_door::{MemDoor, StopAfter};
@@ -22,7 +22,7 @@ fn serve<R: Threads + Wait + Sync + AllocGlobal>(
         room: 1000,
         addresses,
     };
-    let clock = Nods::new(0);
+    let clock = Steps::new(0);
     stay(rt, rt.alloc(), stage, &door, &mut stop, &clock, out, limits)
 }
 
