@@ -2,7 +2,7 @@
 use Rattle.std.proofs.Common.{◌≡◌, ◌≤◌, [], true}
 use Rattle.std.specs.Prelude.{Ok, vec_capacity}
 use Rattle.kn_scribe.specs.Printing.{Prints}
-use Rattle.kn_scribe.proofs.scribe.Scribe.attend.Given as goal
+use Rattle.kn_scribe.proofs.scribe.Scribe.print_all.Given as goal
 
 abbrev pub invariant-loop : goal.invariant-loop
 invariant-loop g l = record {

@@ -2,7 +2,7 @@
 use Rattle.std.proofs.Common.{length, ap, ◌∙◌}
 use Rattle.kn_trace.specs.Events.{opening}
 use Rattle.kn_serve.proofs.SessionFacts.{live-opening}
-use Rattle.kn_serve.proofs.run.open_revision.Goals as goal
+use Rattle.kn_serve.proofs.run.open_logged.Goals as goal
 
 pub prove-unreachable-requires : goal.prove-unreachable-requires
 prove-unreachable-requires c =

@@ -1,7 +1,7 @@
 -- One round more.
 use Rattle.std.proofs.Common.{arith, ◌∙◌}
 use Rattle.kn_scribe.proofs.Rounds.{prints_trans, room_is}
-use Rattle.kn_scribe.proofs.scribe.Scribe.attend.Goals as goal
+use Rattle.kn_scribe.proofs.scribe.Scribe.print_all.Goals as goal
 
 pub loop-preserved : goal.loop-preserved
 loop-preserved g c =
