@@ -29,7 +29,7 @@ fn shut_meanwhile<T: Runs>(
     let asked = ask_all(asking);
     let all = others.saturating_add(asking.len() as u64);
     let waited = wait_for(threads, front, all);
-    front.door().shut();
+    front.door().close();
     asked && waited
 }
 

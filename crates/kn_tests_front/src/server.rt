@@ -133,7 +133,7 @@ pub fn meanwhile<T: Runs, F: FnOnce() -> bool + Send>(
             requires { F.pre clients }
         {
             let came = clients();
-            front.door().shut();
+            front.door().close();
             came
         },
     );
