@@ -135,9 +135,11 @@ impl<O: Sink, K: Clock> FaultLog<O, K> {
         }
     }
 
-    /// Tells in a count of all that weren't told.
-    pub fn end<R: Wait>(&self, rt: &R) {
-        self.told.lock(rt).put_untold();
+    /// Tells in a count of all that weren't told, and gives the output back.
+    pub fn end(self) -> O {
+        let mut told = self.told.into_inner();
+        told.put_untold();
+        told.out
     }
 
     fn catch_up(&self, told: &mut Told<O>) {

@@ -28,4 +28,5 @@ pub use open_error::OpenError;
 pub use opening::{MemOpener, Opener};
 pub use outside::{Opens, OpensAll, Outside};
 pub use run::{open_revision, serve_run, start_of};
+pub use telling::tell;
 pub use wide_opening::{MemWideOpener, WideOpener};
