@@ -41,8 +41,8 @@ impl<
     'a,
     N: Net<Listener = TcpListener, Stream = TcpStream> + Clock + Threads + Wait + Sync,
     I: Read + AsRawFd + Drop + Send,
-    O: Write + Send,
-    E: Sink + Send,
+    O: Write + Send + Drop,
+    E: Sink + Send + Drop,
 > Server<'a, N, I, O, E> {
     /// Serves until standard input ends. The clients' door is closed then, and the page's.
     fn stay<D: Close + Sync, W: Attendant + Send>(mut self, page_door: &D, page: &mut W) -> Stayed {

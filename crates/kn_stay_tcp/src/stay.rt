@@ -52,8 +52,8 @@ fn say_where<N: Clock + Wait, E: Sink>(
 fn serve<
     N: Net<Listener = TcpListener, Stream = TcpStream> + Clock + Threads + Wait + Sync,
     I: Read + AsRawFd + Drop + Send,
-    O: Write + Send,
-    E: Sink + Send,
+    O: Write + Send + Drop,
+    E: Sink + Send + Drop,
 >(
     rt: &N,
     alloc: Global,
