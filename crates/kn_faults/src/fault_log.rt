@@ -92,7 +92,7 @@ pub struct FaultLog<O, K> {
     begun: Option<Instant>,
 }
 
-impl<O: Sink, K: Clock> FaultLog<O, K> {
+impl<O: Sink + Drop, K: Clock + Drop> FaultLog<O, K> {
     /// A log that has told nothing.
     pub fn new(out: O, clock: K) -> FaultLog<O, K> {
         let begun = Instant::now(&clock).ok();

@@ -20,7 +20,7 @@ impl<'a, O, K> FaultNotes<'a, O, K> {
     }
 }
 
-impl<'a, O: Sink, K: Clock> Notes for FaultNotes<'a, O, K> {
+impl<'a, O: Sink + Drop, K: Clock + Drop> Notes for FaultNotes<'a, O, K> {
     fn note<R: Wait>(&self, rt: &R, served: &Served) {
         match *served {
             Served::LinkFault => self.log.tell(rt, Party::Pod),

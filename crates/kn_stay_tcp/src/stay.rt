@@ -36,7 +36,7 @@ pub struct Streams<I, O, E> {
 }
 
 /// Says where a front listens.
-fn say_where<N: Clock + Wait, E: Sink>(
+fn say_where<N: Clock + Wait, E: Sink + Drop>(
     rt: &N,
     alloc: Global,
     log: &FaultLog<E, &N>,
