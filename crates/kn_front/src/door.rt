@@ -1,4 +1,5 @@
 //! The door through which clients come from a front.
+ghost use Rattle.std.specs.Prelude.{⊤};
 
 use crate::caller::FrontCaller;
 use crate::queue::Queue;

@@ -3,6 +3,7 @@
 use crate::clients::{ANSWER, all_read, ask_all, client, clients, is_served};
 use crate::server::{Done, front, serve};
 use crate::{Runs, tell_all};
+use kn_door::Close;
 use kn_front::Front;
 use std::net::TcpStream;
 use std::time::Duration;
