@@ -76,7 +76,7 @@ impl<K: Clock> FrontCaller<K> {
 }
 
 /// How much time is left before another. None where there is none left.
-fn time_left(until: Option<Instant>, now: Instant) -> Option<Duration>
+pub(crate) fn time_left(until: Option<Instant>, now: Instant) -> Option<Duration>
     ensures time { nanos_of result ≡ nanos_before until now }
     ensures some { IfSome result (λ left. 0 < as_nanos left) }
 {

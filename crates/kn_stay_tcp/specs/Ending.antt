@@ -16,4 +16,4 @@ abbrev pub text_of : Ended → List ℕ
 text_of (ended.So s) = status_text s
 text_of (ended.NoThreads n) = codes "kactd: not all of " ++ (decimal n ++ codes " threads can be made\n")
 text_of (ended.TooManyPods pods addresses) =
-    codes "kactd: the setup names " ++ (decimal pods ++ (codes " pods, and --pods " ++ (decimal addresses ++ codes " addresses\n")))
+    codes "kactd: the setup names " ++ (decimal pods ++ (codes " pods, but --pods has " ++ (decimal addresses ++ codes " addresses\n")))

@@ -58,7 +58,7 @@ fn put_pods(pods: u64, addresses: u64, line: &mut Line)
     line.clear();
     line.put(b"kactd: the setup names ");
     line.put_integer(pods);
-    line.put(b" pods, and --pods ");
+    line.put(b" pods, but --pods has ");
     line.put_integer(addresses);
     line.put(b" addresses\n");
 }
