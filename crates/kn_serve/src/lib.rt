@@ -29,4 +29,5 @@ pub use opening::{MemOpener, Opener};
 pub use outside::{Opens, OpensAll, Outside};
 pub use run::{open_logged, open_revision, serve_run, start_of};
 pub use setups::read_front;
+pub use telling::tell;
 pub use wide_opening::{MemWideOpener, WideOpener};
