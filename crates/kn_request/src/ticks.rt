@@ -32,7 +32,12 @@ impl Left {
 
     /// Whether none is.
     pub fn is_zero(&self) -> bool {
-        self.slots.load(Ordering::SeqCst) == 0
+        self.count() == 0
+    }
+
+    /// How many are at work. It promises nothing.
+    pub fn count(&self) -> u64 {
+        self.slots.load(Ordering::SeqCst)
     }
 }
 
