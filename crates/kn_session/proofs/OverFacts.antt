@@ -1,5 +1,5 @@
 -- A session over a cell: its passes from the opening on, and what it comes to.
-use Rattle.std.proofs.Common.{◌≡◌, ◌<◌, ◌+◌, ◌-◌, ◌*◌, ◌≤◌, Bool, ℕ, List, [], ◌++◌, true, false, refl, sym, ap, ◌∙◌, subst, length, arith}
+use Rattle.std.proofs.Common.{◌≡◌, ◌<◌, ◌+◌, ◌-◌, ◌*◌, ◌≤◌, Bool, ℕ, List, [], ◌++◌, true, refl, sym, ap, ◌∙◌, subst, length, arith}
 use Rattle.std.specs.Prelude.{Option, Some, slice_index_or, ⊤}
 use Rattle.atomic_table.specs.Seated.{TableId}
 use Rattle.kn_event.specs.declared.revision.Spec.{Spec}
@@ -25,7 +25,7 @@ use Rattle.kn_session.proofs.ListFacts.{none}
 use Rattle.kn_session.proofs.Nexts.{IsNext, rounds_next}
 use Rattle.kn_session.proofs.OwnFacts.{rounds_own}
 use Rattle.kn_session.proofs.SeenFacts.{Seen, seen_alone, seen_fine}
-use Rattle.kn_session.proofs.SessionFacts.{new_as, slot_lasted, some_of}
+use Rattle.kn_session.proofs.SessionFacts.{new_as, slot_lasted}
 
 -- ---- the first pass
 

@@ -1,4 +1,4 @@
-use Rattle.std.proofs.Common.{◌≡◌, ◌+◌, ap, arith, subst, length}
+use Rattle.std.proofs.Common.{◌+◌, ap, arith, subst, length}
 use Rattle.kn_session.specs.Passes.{IsFirst, IsNewOf, Kind, kind_of, lasting_kind}
 use Rattle.kn_session.proofs.OverFacts.{first_as, lasted_as}
 use Rattle.kn_session.proofs.lasting.serve_lasting.Goals as goal

@@ -1,5 +1,5 @@
-use Rattle.std.proofs.Common.{◌≡◌, ◌<◌, ◌≤◌, ◌+◌, ◌-◌, ◌*◌, ◌++◌, ap, arith, inr, refl, sym, subst, ◌∙◌, length, true}
-use Rattle.std.specs.Prelude.{slice_index_or, ⊤}
+use Rattle.std.proofs.Common.{◌≡◌, ◌+◌, ◌-◌, ◌*◌, ◌++◌, ap, arith, inr, subst, ◌∙◌, length}
+use Rattle.std.specs.Prelude.{slice_index_or}
 use Rattle.kn_cell.specs.Lists.{StartsWith}
 use Rattle.kn_cell.specs.Shown.{PassView}
 use Rattle.kn_request.specs.declared.slot.Slot.{Slot}

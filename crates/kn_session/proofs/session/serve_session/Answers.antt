@@ -1,10 +1,9 @@
-use Rattle.std.proofs.Common.{◌≡◌, ◌+◌, ◌++◌, ap, arith, refl, subst, List, length}
+use Rattle.std.proofs.Common.{◌+◌, ◌++◌, ap, arith, refl, subst, List, length}
 use Rattle.std.specs.Prelude.{slice_index_or}
 use Rattle.kn_cell.specs.declared.past.Past.{Past}
 use Rattle.kn_cell.specs.Lists.{Each}
-use Rattle.kn_cell.specs.Shown.{PassView}
 use Rattle.kn_request.specs.declared.slot.Slot.{Slot}
-use Rattle.kn_session.specs.Passes.{IsFirst, IsNewOf, kind_of, plain_kind}
+use Rattle.kn_session.specs.Passes.{kind_of, plain_kind}
 use Rattle.kn_session.specs.Rounds.{Sides, sides}
 use Rattle.kn_session.specs.Session.{IsAfter, IsFine, IsOneHistory, IsTicked, SlotServed}
 use Rattle.kn_session.proofs.OverFacts.{first_as, lasted_as, slot_as}
