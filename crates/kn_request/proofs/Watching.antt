@@ -18,9 +18,9 @@ use Rattle.kn_request.specs.Requests.{AreCancels, WasLost, WasRun}
 use Rattle.kn_request.specs.Served.{HasArrived, IsCourse, IsServed}
 use Rattle.kn_request.specs.One.{IsEvent, IsWay, ServesGuest, ServesRead}
 
--- what stays told
-pub said_still : (k k' : Option (List (List ℕ))) (h h' : Option (List ℕ)) (s : Option Said) → k' ≡ k → h' ≡ h → said k h ≡ s → said k' h' ≡ s
-said_still k k' h h' s e f is = ap (λ x. said x h') e ∙ (ap (said k) f ∙ is)
+-- who tells the same says the same
+pub said_same : (k k' : Option (List (List ℕ))) (h h' : Option (List ℕ)) → k' ≡ k → h' ≡ h → said k' h' ≡ said k h
+said_same k k' h h' e f = ap (λ x. said x h') e ∙ ap (said k) f
 
 -- a count that rose between two moments rose between one before and one after them
 pub rose_in : (a b c d : ℕ) → a ≤ b → c ≤ d → Rose b c → Rose a d

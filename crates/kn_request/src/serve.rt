@@ -3,7 +3,6 @@ ghost use Rattle.std.specs.Prelude.{◌≡◌, ◌≢◌, ◌⊎◌, ◌≤◌, 
 ghost use Rattle.kn_sizes.specs.Told.{arrival_told};
 ghost use Rattle.kn_cell.specs.Shown.{Looks};
 ghost use Rattle.kn_head.specs.Forwarding.{forwarded};
-ghost use Rattle.kn_request.specs.Outside.{said};
 ghost use Rattle.kn_request.specs.Terms.{watched};
 ghost use Rattle.kn_request.specs.Sight.{HasCourse, IsKnown, IsOwn};
 ghost use Rattle.kn_request.specs.Served.{IsCourse, IsServed, IsTakenIn, IsTurnedAway, MeantCause};
@@ -45,7 +44,8 @@ fn serve_request<R: Wait, C: Caller, W: Watch<C>, L: PodLink, K: Clock>(
     ensures course { IsCourse (watched (K.reading clock.now) W.leaves (C.Faulty.faults caller.old) (C.Faulty.faults caller.new))
         due head.now r pass.old pass.new (L.told link.old) (L.told link.new) result }
     ensures cause { MeantCause (L.Faulty.faults link.old) (L.Faulty.faults link.new) result }
-    ensures said { said (C.Sink.kept caller.new) (C.Sink.held caller.new) ≡ said (C.Sink.kept caller.old) (C.Sink.held caller.old) }
+    ensures kept { C.Sink.kept caller.new ≡ C.Sink.kept caller.old }
+    ensures held { C.Sink.held caller.new ≡ C.Sink.held caller.old }
     ensures never_falls { C.Faulty.faults caller.old ≤ C.Faulty.faults caller.new }
 {
     match leave_queue(rt, cell, pass, r, course, due, caller, watch, clock) {
@@ -98,7 +98,8 @@ pub fn serve_event<R: Wait, C: Caller, W: Watch<C>, L: PodLink, K: Clock, G: Gat
     ensures served { IsServed (watched (K.reading clock.now) W.leaves (C.Faulty.faults caller.old) (C.Faulty.faults caller.new))
         timeout tag head.now pass.old pass.new (L.told link.old) (L.told link.new) result }
     ensures cause { MeantCause (L.Faulty.faults link.old) (L.Faulty.faults link.new) result }
-    ensures said { said (C.Sink.kept caller.new) (C.Sink.held caller.new) ≡ said (C.Sink.kept caller.old) (C.Sink.held caller.old) }
+    ensures kept { C.Sink.kept caller.new ≡ C.Sink.kept caller.old }
+    ensures held { C.Sink.held caller.new ≡ C.Sink.held caller.old }
     ensures never_falls { C.Faulty.faults caller.old ≤ C.Faulty.faults caller.new }
 {
     server_laws();

@@ -3,7 +3,6 @@ ghost use Rattle.std.specs.Prelude.{◌≡◌, ◌⊎◌, ◌≤◌, IfSome, IfN
 ghost use Rattle.kn_event.specs.declared.event.Stand.TheVariants as stand;
 ghost use Rattle.kn_cell.specs.Shown.{Looks};
 ghost use Rattle.kn_request.specs.Sight.{HasCourse, RunsAt, StandsAt, IsKnown, IsLeft, IsAlone, IsOwn};
-ghost use Rattle.kn_request.specs.Outside.{said};
 ghost use Rattle.kn_request.specs.Terms.{unwatched, watched};
 ghost use Rattle.kn_request.specs.Requests.{Cancels};
 ghost use Rattle.kn_request.specs.Served.{IsFound, IsWaitingNoMore};
@@ -41,7 +40,8 @@ fn wait_while<R: Wait, C: Caller, W: Watch<C>, K: Clock>(
     ensures looks { (pass.new ≡ pass.old) ⊎ Looks pass.old pass.new }
     ensures mine { pass.new.mine ≡ pass.old.mine }
     ensures found { IsFound (watched (K.reading clock.now) W.leaves (C.Faulty.faults caller.old) (C.Faulty.faults caller.new)) due pass.new r result }
-    ensures said { said (C.Sink.kept caller.new) (C.Sink.held caller.new) ≡ said (C.Sink.kept caller.old) (C.Sink.held caller.old) }
+    ensures kept { C.Sink.kept caller.new ≡ C.Sink.kept caller.old }
+    ensures held { C.Sink.held caller.new ≡ C.Sink.held caller.old }
     ensures never_falls { C.Faulty.faults caller.old ≤ C.Faulty.faults caller.new }
 {
     server_laws();
@@ -80,7 +80,8 @@ fn wait_out<R: Wait, C: Caller, W: Watch<C>, K: Clock>(
     ensures runs { IfSome result (λ x. RunsAt pass.new r x) }
     ensures ended { IfNone result (StandsAt pass.new r stand.Ended) }
     ensures left { IsLeft pass.old r → IsAlone pass.new r → IsLeft pass.new r }
-    ensures said { said (C.Sink.kept caller.new) (C.Sink.held caller.new) ≡ said (C.Sink.kept caller.old) (C.Sink.held caller.old) }
+    ensures kept { C.Sink.kept caller.new ≡ C.Sink.kept caller.old }
+    ensures held { C.Sink.held caller.new ≡ C.Sink.held caller.old }
     ensures never_falls { C.Faulty.faults caller.old ≤ C.Faulty.faults caller.new }
 {
     server_laws();
@@ -115,7 +116,8 @@ pub fn leave_queue<R: Wait, C: Caller, W: Watch<C>, K: Clock>(
     ensures runs { IfSome result (λ x. RunsAt pass.new r x) }
     ensures ended { IfNone result (StandsAt pass.new r stand.Ended) }
     ensures left { IsLeft pass.old r → IsAlone pass.new r → IsLeft pass.new r }
-    ensures said { said (C.Sink.kept caller.new) (C.Sink.held caller.new) ≡ said (C.Sink.kept caller.old) (C.Sink.held caller.old) }
+    ensures kept { C.Sink.kept caller.new ≡ C.Sink.kept caller.old }
+    ensures held { C.Sink.held caller.new ≡ C.Sink.held caller.old }
     ensures never_falls { C.Faulty.faults caller.old ≤ C.Faulty.faults caller.new }
 {
     match course {

@@ -18,8 +18,9 @@ const REPLY: &[u8] = b"HTTP/1.1 200 OK\r\nContent-Length: 0\r\n\r\n";
 
 /// The one text.
 fn one_text(alloc: Global, bytes: &[u8]) -> Result<Vec<Text>, AllocError> {
-    let text = Text::new(Vec::from_slice(alloc, bytes)?);
-    Vec::from_array(alloc, [text])
+    let mut texts = Vec::with_capacity(alloc, 1)?;
+    texts.push_reserved(Text::new(Vec::from_slice(alloc, bytes)?));
+    Ok(texts)
 }
 
 fn had<T>(answer: Result<T, AllocError>) -> Result<T, Memory> {
@@ -60,7 +61,9 @@ pub fn spec(alloc: Global) -> Result<Spec, Memory> {
 }
 
 /// A new revision, whose pod starts.
-fn revision(alloc: Global) -> Result<Revision, Memory> {
+fn revision(alloc: Global) -> Result<Revision, Memory>
+    ensures { IfOk result (λ r. r.events ≡ 0) }
+{
     let spec = spec(alloc)?;
     match EntryLog::new(alloc) {
         Ok(mut log) => {

@@ -112,7 +112,10 @@ fn serve_alone<R: Wait>(
     ensures { IsLater pass.old pass.new }
 {
     let Trial {
-        slot, spec, clock, ..
+        slot,
+        spec,
+        clock,
+        ..
     } = trial;
     serve_one(rt, alloc, cell, pass, spec, slot, TAG, clock, &OpenGate)
 }
@@ -162,12 +165,17 @@ fn status(trial: &Trial) -> &[u8] {
 
 fn tell<R: Print>(rt: &R, served: Served, trial: &Trial) -> io::Result<()> {
     let Trial {
-        slot, door, rows, ..
+        slot,
+        door,
+        rows,
+        ..
     } = trial;
     let calls = slot.link.calls().unwrap_or(&[]).len();
     let (asked, left) = (door.asked(), slot.caller.departures);
     let status = str::from_utf8(status(trial)).unwrap_or("?");
-    println!(rt; "  {served:?}, rows{rows}, calls {calls}, asked {asked}, left {left}, status {status}")
+    println!(rt;
+        "  {served:?}, rows{rows}, calls {calls}, asked {asked}, left {left}, status {status}"
+    )
 }
 
 fn run<R: Wait>(

@@ -5,7 +5,7 @@ use Rattle.kn_request.specs.Outside.{Said, said}
 use Rattle.kn_request.specs.Terms.{watched}
 use Rattle.kn_request.specs.Served.{IsServed}
 use Rattle.kn_request.specs.One.{Writes, served_by, text_of}
-use Rattle.kn_request.proofs.Watching.{event_more, left_in}
+use Rattle.kn_request.proofs.Watching.{event_more, left_in, said_same}
 use Rattle.kn_request.proofs.one.serve_read.Goals as goal
 
 pub returns-clause-serves : goal.returns-clause-serves
@@ -19,6 +19,7 @@ returns-clause-serves g c =
     let x = c.serve_event-meant in
     let mid = x.new.caller in
     let new = c.answer.new.caller in
+    let same = said_same (kept old) (kept mid) (held old) (held mid) x.ensures.kept x.ensures.held in
     let late = c.answer.ensures.cause.0 in
     let more = left_in leaves (faults old) (faults old) (faults mid) (faults new) (omega arith) late in
     let reading = g.K.Clock.reading c.args.clock.now in
@@ -28,5 +29,5 @@ returns-clause-serves g c =
       text = text_of x.result;
       event = event_more reading (leaves × Rose (faults old) (faults mid)) (leaves × Rose (faults old) (faults new)) more c.args.spec.now.timeout_ms c.args.tag c.args.head.now
           c.args.pass.now x.new.pass (told c.args.link.now) (told x.new.link) (served_by x.result) (text_of x.result) (inr (x.result, served, refl, refl));
-      writes = subst (λ (s : Option Said). Writes s (said (kept new) (held new)) c.answer.result (served_by x.result) (text_of x.result)) x.ensures.said c.answer.ensures.writes;
+      writes = subst (λ (s : Option Said). Writes s (said (kept new) (held new)) c.answer.result (served_by x.result) (text_of x.result)) same c.answer.ensures.writes;
     }

@@ -1,8 +1,6 @@
 use Rattle.std.proofs.Common.{◌≡◌, ◌⊎◌, sym, inr, ap, subst, ◌∙◌, arith}
 use Rattle.kn_cell.specs.Shown.{PassView, Looks}
-use Rattle.kn_request.specs.Outside.{said}
 use Rattle.kn_request.proofs.Later.{cell_is, is_over, known_after, looks_after}
-use Rattle.kn_request.proofs.Watching.{said_still}
 use Rattle.kn_request.proofs.wait.wait_while.Goals as goal
 
 -- the pass as it waited is the pass as it was
@@ -29,7 +27,7 @@ loop-preserved g c =
       cell = cell_is c.wait.new.pass c.course.new.pass c.course.ensures.looks ∙ (ap (λ (p : PassView). p.cell) c.wait.ensures ∙ c.loop.invariant.cell);
       mine = c.course.ensures.mine ∙ (ap (λ (p : PassView). p.mine) c.wait.ensures ∙ c.loop.invariant.mine);
       seen = inr looks;
-      said = said_still (g.C.Sink.kept c.loop.caller) (g.C.Sink.kept c.has_left.new.caller) (g.C.Sink.held c.loop.caller) (g.C.Sink.held c.has_left.new.caller) (said (g.C.Sink.kept c.args.caller.now) (g.C.Sink.held c.args.caller.now))
-          c.has_left.ensures.kept c.has_left.ensures.held c.loop.invariant.said;
+      kept = c.has_left.ensures.kept ∙ c.loop.invariant.kept;
+      held = c.has_left.ensures.held ∙ c.loop.invariant.held;
       faults = let i = c.loop.invariant.faults in let m = c.has_left.ensures.never_falls in omega (arith, i, m);
     }
