@@ -25,6 +25,7 @@ new_of p q blank is = record {
   roomy = ap (λ (v : PassView). v.room) is;
   plain = ap (λ (v : PassView). v.lasting) is ∙ blank.plain;
   whole = ap (λ (v : PassView). v.gone) is ∙ blank.whole;
+  bookless = ap (λ (v : PassView). v.book) is ∙ blank.bookless;
 }
 
 pub one_given : {C L : Type 0} (cell : TableId) (old p : PassView) (i : ℕ) (s t : Slot C L) → p ≡ record old { free = old.free - i } → i < old.free → old.free ≤ old.passes

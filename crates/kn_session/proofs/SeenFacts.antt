@@ -121,7 +121,7 @@ seen_ticked f xs reading b room start w w' k k' h laws x =
     let part = ticker_part f xs reading b room start w w' k k' h x in
     record {
       served = record { first = x.old; last = x.new; fresh = x.spot.fresh; turns = x.spot.ticks.turns; apart = x.spot.ticks.apart; part = part };
-      probed = keeper_probed laws b reading start h (length xs) x.old x.new w w' x.spot.ticks.turns x.spot.fresh.mine x.spot.fresh.seen x.spot.fresh.opening part (seen_rows f xs reading b room start w w' k k' h x);
+      probed = keeper_probed laws b reading start h (length xs) x.old x.new w w' x.spot.ticks.turns x.spot.fresh.mine x.spot.fresh.seen x.spot.fresh.opening x.spot.fresh.bookless part (seen_rows f xs reading b room start w w' k k' h x);
       never_falls = x.spot.ticks.never_falls;
     }
 

@@ -85,6 +85,7 @@ new_as b b' room room' n n' p e f g x = record {
   roomy = x.roomy ∙ f;
   plain = x.plain;
   whole = x.whole;
+  bookless = x.bookless;
 }
 
 -- a list that has a place has a member

@@ -123,7 +123,7 @@ open_may bs room n cells firsts ticks o =
           let is = (o.each v (some_of bs v lowb) c p lowb).first_is in
           let free = ap (λ (q : PassView). q.free) is in
           let passes = ap (λ (q : PassView). q.passes) is in
-          record { of = ap (λ (q : PassView). q.cell) is; free = omega arith; low = omega arith; blank = record { unseen = ap (λ (q : PassView). q.seen) is; plain = ap (λ (q : PassView). q.lasting) is; whole = ap (λ (q : PassView). q.gone) is } },
+          record { of = ap (λ (q : PassView). q.cell) is; free = omega arith; low = omega arith; blank = record { unseen = ap (λ (q : PassView). q.seen) is; plain = ap (λ (q : PassView). q.lasting) is; whole = ap (λ (q : PassView). q.gone) is; bookless = ap (λ (q : PassView). q.book) is } },
     )
 
 pub open_ticks : (bs : List RevisionState) (room n : ℕ) (cells : List TableId) (firsts ticks : List PassView) → AreOpen bs room n cells firsts ticks → ArePassesOf cells ticks
@@ -183,6 +183,7 @@ way_spot at reading specs bs room rounds start slots slots' ws ws' ks ks' x v b0
         roomy = ap (λ (q : PassView). q.room) o.ticks_is;
         plain = ap (λ (q : PassView). q.lasting) o.ticks_is;
         whole = ap (λ (q : PassView). q.gone) o.ticks_is;
+        bookless = ap (λ (q : PassView). q.book) o.ticks_is;
       };
       ticks = t;
       lone = λ i d low.

@@ -6,13 +6,15 @@ use Rattle.kn_cell.specs.Shown.{PassView, joined_shown}
 use Rattle.kn_request.specs.declared.slot.Slot.{Slot}
 use Rattle.kn_request.specs.declared.slot.Work.{Work}
 
--- a pass of a cell whose history is kept whole, which has seen none of it
+-- a pass of a cell whose history is kept whole, and where a pod's number is its address, which has seen none of it
 pub record IsBlank (p : PassView) : Type 0 where
   pub unseen : p.seen ≡ []
   pub plain : p.lasting ≡ false
   pub whole : p.gone ≡ 0
+  pub bookless : p.book ≡ 0
 
--- a new pass with this number, of a cell over this revision with this room, whose history is kept whole, which has seen and done nothing
+-- a new pass with this number, of a cell over this revision with this room, whose history is kept whole and where a pod's number is its
+-- address, which has seen and done nothing
 pub record IsNew (b : RevisionState) (room number : ℕ) (p : PassView) : Type 0 where
   pub named : p.number ≡ number
   pub free : p.free ≡ 0
@@ -24,6 +26,7 @@ pub record IsNew (b : RevisionState) (room number : ℕ) (p : PassView) : Type 0
   pub roomy : p.room ≡ room
   pub plain : p.lasting ≡ false
   pub whole : p.gone ≡ 0
+  pub bookless : p.book ≡ 0
 
 -- nothing is noted in the work
 abbrev pub IsUnmarked : Work → Type 0

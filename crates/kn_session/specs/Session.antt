@@ -14,9 +14,10 @@ use Rattle.kn_io.specs.Links.{Link, Tells}
 use Rattle.kn_io.specs.declared.records.Probe.{Probe}
 use Rattle.kn_request.specs.declared.slot.Slot.{Slot}
 use Rattle.kn_request.specs.Pods.{IsStarting}
-use Rattle.kn_request.specs.Ticking.{TicksApart, Turns, is_probed, probed_all}
+use Rattle.kn_request.specs.Ticking.{TicksApart, Turns, probed_all}
 use Rattle.kn_session.specs.declared.setting.Setting.{Setting}
 use Rattle.kn_session.specs.Changes.{Change, became, was}
+use Rattle.kn_session.specs.Keeper.{is_probed}
 use Rattle.kn_session.specs.Lists.{EachDone, HasOne}
 use Rattle.kn_session.specs.Own.{IsAloneIn, IsArrivalOf, Lasts}
 use Rattle.kn_session.specs.Passes.{IsNew}

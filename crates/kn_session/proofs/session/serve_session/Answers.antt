@@ -166,6 +166,7 @@ returns-clause-keeper g c =
     let mine = ap (λ (v : PassView). v.mine) is in
     let seen = ap (λ (v : PassView). v.seen) is ∙ ap (λ (v : PassView). v.seen) e in
     let opening = ap (λ (v : PassView). v.opening) is ∙ ap (λ (v : PassView). v.opening) e in
+    let bookless = ap (λ (v : PassView). v.book) is ∙ ap (λ (v : PassView). v.book) e in
     let t = c.serve_beside.ensures.ticker in
     let part = c.close_session.ensures.ticker in
     record {
@@ -183,13 +184,14 @@ returns-clause-keeper g c =
           roomy = ap (λ (v : PassView). v.room) is ∙ ap (λ (v : PassView). v.room) e;
           plain = ap (λ (v : PassView). v.lasting) is ∙ ap (λ (v : PassView). v.lasting) e;
           whole = ap (λ (v : PassView). v.gone) is ∙ ap (λ (v : PassView). v.gone) e;
+          bookless = bookless;
         };
         turns = t.turns;
         apart = t.apart;
         part = part;
       };
       probed = keeper_probed c.session_laws.ensures c.args.revision (g.K.Clock.reading c.args.setting.now.clock.now) c.args.setting.now.start c.close_session.result.1 (length c.args.slots.now) p q
-          (g.L.PodLink.told c.args.keeper.now) (g.L.PodLink.told c.serve_beside.new.keeper) t.turns mine seen opening part (returns-clause-history g c).rows;
+          (g.L.PodLink.told c.args.keeper.now) (g.L.PodLink.told c.serve_beside.new.keeper) t.turns mine seen opening bookless part (returns-clause-history g c).rows;
       never_falls = t.never_falls;
     }
 
