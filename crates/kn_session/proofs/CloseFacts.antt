@@ -1,5 +1,5 @@
 -- What the history of a closed cell is to the first pass, to those that it took in, and to the ticker's.
-use Rattle.std.proofs.Common.{◌≡◌, ◌⊎◌, ◌<◌, ◌+◌, inl, inr, ℕ, false, List, [], ◌++◌, sym, ap, ◌∙◌, subst, length, arith}
+use Rattle.std.proofs.Common.{◌≡◌, ◌⊎◌, ◌<◌, ◌+◌, inl, inr, ℕ, false, List, [], ◌++◌, refl, sym, ap, ◌∙◌, subst, length, arith}
 use Rattle.std.specs.Prelude.{Option, Some, slice_index_or}
 use Rattle.atomic_table.specs.Seated.{TableId}
 use Rattle.kn_core.specs.State.{RevisionState}
@@ -57,7 +57,7 @@ closing_ticker {A} f xs p ticks now h named closes =
     record { named = named; front = z.0; whole = z.1 ∙ ap (λ n. rows_by n h) named }
 
 -- a pass that was taken in recorded nothing
-pub DidNothing : Joined → Type 0
+abbrev pub DidNothing : Joined → Type 0
 DidNothing o = o.mine ≡ []
 
 pub closing_rows : {A : Type 0} (cell : TableId) (f : A → Option PassView) (xs : List A) (p ticks : PassView) (now : RevisionState) (h : List Past) → AreLone cell f xs → IsLone cell 1 ticks
@@ -100,7 +100,6 @@ closing_opening {A} f xs p ticks = ap (λ (k : Kind). k.opening) (joined_same p 
 -- the whole of it, where rows may have been taken out
 pub closes_all : {C L : Type 0} (cell : TableId) (xs : List (Slot C L)) (p ticks : PassView) (now : RevisionState) (rest : List Past) → AreLone cell (λ (s : Slot C L). s.work.pass) xs → IsLone cell 1 ticks
     → p.number ≡ 0 → p.mine ≡ [] → Each (λ o. o.mine ≡ []) p.others → IsClosed (closing (λ (s : Slot C L). s.work.pass) xs p ticks) now rest → ClosesAll p ticks xs now rest
-unfolding DidNothing
 closes_all {C} {L} cell xs p ticks now rest lone last number mine others x =
     let f : Slot C L → Option PassView = λ s. s.work.pass in
     let qs = found_by f xs in
@@ -108,12 +107,12 @@ closes_all {C} {L} cell xs p ticks now rest lone last number mine others x =
     let same = joined_same p qs in
     let P : Joined → Type 0 = λ o. StartsWith h o.seen × (o.mine ≡ rows_by o.number h) in
     let theirs = (joined_members P p qs (joined_last P (joined_all p qs) ticks x.closes.others).0).0 in
-    let as : IsClosedAs (closing f xs p ticks).opening now h = whole_as (closing f xs p ticks) now h (record { closes = x.closes; lawful = x.lawful; settled = x.settled }) in
+    let closed : IsClosedAs (closing f xs p ticks).opening now h = whole_as (closing f xs p ticks) now h (record { closes = x.closes; lawful = x.lawful; settled = x.settled }) in
     record {
       front = x.front;
       plain = λ e. x.plain (ap (λ (k : Kind). k.lasting) same.kind ∙ e);
       exact = λ e. (let s = scribe_joined p.gone (joined_all p qs) ticks (scribe_all p.gone p qs (record { scribe = e; exact = refl })) in x.exact s.scribe ∙ s.exact);
-      closed = subst (λ (b : RevisionState). IsClosedAs b now h) (closing_opening f xs p ticks) as;
+      closed = subst (λ (b : RevisionState). IsClosedAs b now h) (closing_opening f xs p ticks) closed;
       kept = closing_kept cell f xs p ticks now h lone x.closes;
       ticker = closing_ticker f xs p ticks now h last.named x.closes;
       rows = closing_rows cell f xs p ticks now h lone last number mine others x.closes;

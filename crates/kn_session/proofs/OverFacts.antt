@@ -1,5 +1,5 @@
 -- A session over a cell: its passes from the opening on, and what it comes to.
-use Rattle.std.proofs.Common.{◌≡◌, ◌<◌, ◌+◌, ◌-◌, ◌*◌, ◌≤◌, Bool, ℕ, List, [], ◌++◌, true, false, refl, sym, ap, ◌∙◌, subst, length, arith}
+use Rattle.std.proofs.Common.{◌≡◌, ◌<◌, ◌+◌, ◌-◌, ◌*◌, ◌≤◌, Bool, ℕ, List, [], ◌++◌, true, refl, sym, ap, ◌∙◌, subst, length, arith}
 use Rattle.std.specs.Prelude.{Option, Some, slice_index_or, ⊤}
 use Rattle.atomic_table.specs.Seated.{TableId}
 use Rattle.kn_event.specs.declared.revision.Spec.{Spec}
@@ -25,21 +25,21 @@ use Rattle.kn_session.proofs.ListFacts.{none}
 use Rattle.kn_session.proofs.Nexts.{IsNext, rounds_next}
 use Rattle.kn_session.proofs.OwnFacts.{rounds_own}
 use Rattle.kn_session.proofs.SeenFacts.{Seen, seen_alone, seen_fine}
-use Rattle.kn_session.proofs.SessionFacts.{new_as, slot_lasted, some_of}
+use Rattle.kn_session.proofs.SessionFacts.{new_as, slot_lasted}
 
 -- ---- the first pass
 
 -- the first pass of a new cell, when it can still give so many away
-pub record IsOpened (cell : TableId) (k : Kind) (passes free : ℕ) (p : PassView) : Type 0 where
+pub record IsOpened (cell : TableId) (k : Kind) (many left : ℕ) (p : PassView) : Type 0 where
   pub of : p.cell ≡ cell
   pub named : p.number ≡ 0
-  pub free : p.free ≡ free
+  pub free : p.free ≡ left
   pub back : p.back ≡ 0
   pub seen : p.seen ≡ []
   pub mine : p.mine ≡ []
   pub others : p.others ≡ []
   pub kind : kind_of p ≡ k
-  pub passes : p.passes ≡ passes
+  pub passes : p.passes ≡ many
   pub whole : p.gone ≡ 0
   pub scribe : p.scribe ≡ k.lasting
 
@@ -165,7 +165,6 @@ pub record CanClose (cell : TableId) (k : Kind) (n : ℕ) (before p : PassView) 
 
 pub can_close : (cell : TableId) (k : Kind) (n : ℕ) (f1 f3 f4 f5 ticks pages pages' : PassView) → Gives cell k n f1 f3 ticks pages → IsNext f3 f4 → f4.mine ≡ f3.mine → IsNext pages pages' → pages'.mine ≡ pages.mine
     → f5 ≡ joined_shown f4 pages' → CanClose cell k n f4 f5
-unfolding DidNothing
 can_close cell k n f1 f3 f4 f5 ticks pages pages' g next mine next' mine' is =
     let none : Each DidNothing f4.others = subst (Each DidNothing) (sym (next.others ∙ g.first.others)) (none DidNothing) in
     let others : Each DidNothing (joined_shown f4 pages').others = joined_step DidNothing f4 pages' none (next'.others ∙ g.page.others) (mine' ∙ g.page.mine) in
@@ -230,7 +229,7 @@ pub given_lone : {C L : Type 0} (at : Slot C L → Sides) (terms : ℕ → ℕ �
     → HasLone cell number e.work.pass
 given_lone {C} {L} at terms Paced spec tag number k cell m e p is of new served =
     let y = served p is in
-    let x = rounds_next (λ _. ⊤) terms spec tag y.5.endings p y.0 (at m) (at e) y.5.rounds in
+    let x = rounds_next (λ _. ⊤) terms spec tag y.3.2.endings p y.0 (at m) (at e) y.3.2.rounds in
     (y.0, y.1, record { of = y.2 ∙ of; named = x.number ∙ new.named; free = x.free ∙ new.free; back = x.back ∙ new.back; others = x.others ∙ new.others })
 
 module _ {C L : Type 0} (at : Slot C L → Sides) (terms : ℕ → ℕ → Terms) (Paced : ℕ → Type 0) (reading : ℕ → Type 0) (spec : Spec) (apart start : ℕ) (k : Kind) (w w' : Option Link) (n n' : ℕ) (slots slots' : List (Slot C L)) (now : RevisionState) (rest : List Past)
@@ -243,7 +242,7 @@ module _ {C L : Type 0} (at : Slot C L → Sides) (terms : ℕ → ℕ → Terms
       let len = x.given.0 in
       let g = x.given.1 i d low in
       let y = x.served.1 i d (omega (arith, low, len)) g.0.0 g.0.1 in
-      record { old = g.0.0; new = y.0; count = y.3; fresh = g.0.3; of = g.0.2; is = y.1; paced = y.4; all = y.5; kept = g.1 }
+      record { old = g.0.0; new = y.0; count = y.3.0; fresh = g.0.3; of = g.0.2; is = y.1; paced = y.3.1; all = y.3.2; kept = g.1 }
 
   inside : (i : ℕ) → i < length x.ends → i < length slots
   inside i low = let a = x.given.0 in let b = x.served.0 in omega arith

@@ -13,7 +13,6 @@ use Rattle.kn_cell.specs.Shown.{PassView}
 use Rattle.kn_io.specs.Links.{Link}
 use Rattle.kn_io.specs.declared.links.LinkError.{LinkError}
 use Rattle.kn_io.specs.declared.links.LinkError.TheVariants as link
-use Rattle.kn_io.specs.declared.records.Probe.{Probe}
 use Rattle.kn_head.specs.declared.head.Head.{Head}
 use Rattle.kn_head.specs.declared.head.HeadError.{HeadError}
 use Rattle.kn_request.specs.declared.meant.Meant.{Meant}
@@ -25,7 +24,7 @@ use Rattle.kn_request.specs.Requests.{AreCancels, AreFinishes, WasRun}
 use Rattle.kn_request.specs.Served.{HasArrived, IsServed, IsCourse}
 use Rattle.kn_request.specs.One.{ServesGuest, IsWay, IsIdle}
 use Rattle.kn_request.specs.Terms.{Terms}
-use Rattle.kn_request.specs.Ticking.{AreReady, ReadyOf, TakesTurn, TurnsFrom, Turns}
+use Rattle.kn_request.specs.Ticking.{AreReady, ReadyOf, TakesTurn, TurnsFrom, Turns, Visit}
 use Rattle.kn_session.specs.Lists.{HasOne}
 use Rattle.kn_session.specs.Own.{IsEndOf, IsArrivalOf, NamesOwn}
 use Rattle.kn_session.specs.Rounds.{IsRounds, Sides}
@@ -191,9 +190,9 @@ of_ready (Some true) pod full Q rows k r = elim r [
   | inr x ↦ k rows x.1
 ]
 
-readies : (full : Bool) (ps : List Probe) (rows : List Past) → AreReady full ps rows → Each Ticking rows
+readies : (full : Bool) (vs : List Visit) (rows : List Past) → AreReady full vs rows → Each Ticking rows
 readies full [] rows r = subst (Each Ticking) (sym r) (none Ticking)
-readies full (p ∷ ps) rows r = of_ready p.answer p.pod full (AreReady full ps) rows (λ xs m. readies full ps xs m) r
+readies full (v ∷ vs) rows r = of_ready v.answer v.pod full (AreReady full vs) rows (λ xs m. readies full vs xs m) r
 
 tick_of : (now last : ℕ) (p q : PassView) (w w' : Option Link) (t : Turn) → (m : TakesTurn now last p q w w' t) → Each Ticking m.tick
 tick_of now last p q w w' t m = elim (cases_lt now (last + 2000)) [
@@ -219,7 +218,7 @@ turns_ticking reading last (now ∷ nows) p q w w' end t =
     record {
       rows = rows ++ rest.rows;
       mine = rest.mine ∙ (ap (λ l. l ++ rest.rows) m.mine ∙ append_assoc p.mine rows rest.rows);
-      ticking = each_both Ticking rows rest.rows (each_both Ticking m.tick m.rows (tick_of now last p t.1 w t.2 t.0 m) (readies t.0.full m.probes m.rows m.ready)) rest.ticking;
+      ticking = each_both Ticking rows rest.rows (each_both Ticking m.tick m.rows (tick_of now last p t.1 w t.2 t.0 m) (readies t.0.full m.visits m.rows m.ready)) rest.ticking;
     }
 
 pub ticker_ticking : (reading : ℕ → Type 0) (start : ℕ) (p q : PassView) (w w' : Option Link) → Turns reading start p q w w' → p.mine ≡ [] → Each Ticking q.mine

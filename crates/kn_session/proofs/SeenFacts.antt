@@ -8,13 +8,14 @@ use Rattle.kn_cell.specs.History.{rows_by}
 use Rattle.kn_cell.specs.Shown.{PassView}
 use Rattle.kn_io.specs.Links.{Link}
 use Rattle.kn_request.specs.Wide.{TicksOf}
+use Rattle.kn_session.specs.Keeper.{ProbedBy}
 use Rattle.kn_session.specs.Laws.{SessionLaws}
 use Rattle.kn_session.specs.Lists.{HasOne}
 use Rattle.kn_session.specs.Own.{IsAloneIn, IsArrivalOf}
-use Rattle.kn_session.specs.Passes.{IsNewOf, Kind}
-use Rattle.kn_session.specs.Session.{IsClosedAs, IsFine, IsOneHistory, IsPart, IsRowOf, IsSlots, IsTickedIn}
+use Rattle.kn_session.specs.Passes.{IsNewOf, Kind, plain_kind}
+use Rattle.kn_session.specs.Session.{IsClosedAs, IsFine, IsOneHistory, IsPart, IsRowOf, IsSlots, IsTicked, IsTickedIn}
 use Rattle.kn_session.proofs.AloneFacts.{alone_of}
-use Rattle.kn_session.proofs.KeeperFacts.{keeper_probed}
+use Rattle.kn_session.proofs.KeeperFacts.{keeper_visited, plain_probed}
 use Rattle.kn_session.proofs.ListFacts.{in_rows}
 use Rattle.kn_session.proofs.OwnFacts.{Asking, GrowsOwn, Ticking, fresh_asking, fresh_own, ticker_ticking, ticking_fine, ticking_own}
 use Rattle.kn_session.proofs.SessionFacts.{own_rows, some_of}
@@ -75,7 +76,8 @@ module _ {A : Type 0} (f : A → Option PassView) (xs : List A) (reading : ℕ �
   pub seen_ticked : SessionLaws → IsTickedIn reading start k h w w' n n'
   seen_ticked laws = record {
     served = record { first = x.old; last = x.new; fresh = x.fresh; turns = x.ticks.turns; apart = x.ticks.apart; part = x.ticker };
-    probed = keeper_probed laws k.opening reading start h (length xs) x.old x.new w w' x.ticks.turns x.fresh.mine x.fresh.seen (ap (λ (v : Kind). v.opening) x.fresh.kind) x.ticker seen_rows;
+    probed = subst (λ b. ProbedBy b k.opening h w w') (ap (λ (v : Kind). v.book) x.fresh.kind)
+        (keeper_visited laws k.opening reading start h (length xs) x.old x.new w w' x.ticks.turns x.fresh.mine x.fresh.seen (ap (λ (v : Kind). v.opening) x.fresh.kind) x.ticker seen_rows);
     never_falls = x.ticks.never_falls;
   }
 
@@ -88,3 +90,9 @@ module _ {A : Type 0} (f : A → Option PassView) (xs : List A) (reading : ℕ �
         let y = fine s.0.0 d s.0.1 in
         in_rows IsFine (2 + s.0.0) h j r at s.0.2 (subst (Each IsFine) (x.kept s.0.0 d s.0.1 y.0 y.1).whole y.2)
   ]
+
+-- .. where the history is kept whole and a pod's number is its address
+pub ticked_as : SessionLaws → (reading : ℕ → Type 0) (start : ℕ) (b : RevisionState) (room : ℕ) (h : List Past) (w w' : Option Link) (n n' : ℕ) → IsTickedIn reading start (plain_kind b room) h w w' n n' → IsTicked reading start b room h w w' n n'
+ticked_as laws reading start b room h w w' n n' x =
+    let known : StandsForSome b = subst (λ (v : Kind). StandsForSome v.opening) x.served.fresh.kind x.served.turns.1.later.some in
+    record { served = x.served; probed = plain_probed laws b h w w' known x.probed; never_falls = x.never_falls }

@@ -69,14 +69,14 @@ spot_seen : {A : Type 0} (f : A → Option PassView) (xs : List A) (reading : �
 spot_seen f xs reading k start w w' n n' cell first old new h y shut =
     let closes = shut.whole.closes in
     let opening : (closing f xs first new).opening ≡ k.opening = closing_opening f xs first new ∙ ap (λ (v : Kind). v.opening) y.kind in
-    let as : IsClosedAs (closing f xs first new).opening shut.revision h = whole_as (closing f xs first new) shut.revision h shut.whole in
+    let closed : IsClosedAs (closing f xs first new).opening shut.revision h = whole_as (closing f xs first new) shut.revision h shut.whole in
     record {
       old = old;
       new = new;
       fresh = y.fresh;
       ticks = y.ticks;
       revision = shut.revision;
-      closed = subst (λ (b : RevisionState). IsClosedAs b shut.revision h) opening as;
+      closed = subst (λ (b : RevisionState). IsClosedAs b shut.revision h) opening closed;
       ticker = closing_ticker f xs first new shut.revision h y.last.named closes;
       kept = closing_kept cell f xs first new shut.revision h y.lone closes;
       rows = closing_rows cell f xs first new shut.revision h y.lone y.last y.number y.mine (subst (Each DidNothing) (sym y.others) (none DidNothing)) closes;

@@ -6,6 +6,7 @@ pub mod Lists
 pub mod Own
 pub mod Rounds
 pub mod Passes
+pub mod Keeper
 pub mod Session
 pub mod Wide
 pub mod WidePasses

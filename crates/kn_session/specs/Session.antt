@@ -15,9 +15,10 @@ use Rattle.kn_io.specs.declared.records.Probe.{Probe}
 use Rattle.kn_request.specs.declared.slot.Slot.{Slot}
 use Rattle.kn_request.specs.Pods.{IsStarting}
 use Rattle.kn_request.specs.Terms.{watched}
-use Rattle.kn_request.specs.Ticking.{TicksApart, Turns, is_probed, probed_all}
+use Rattle.kn_request.specs.Ticking.{TicksApart, Turns, probed_all}
 use Rattle.kn_session.specs.declared.setting.Setting.{Setting}
 use Rattle.kn_session.specs.Changes.{Change, became, was}
+use Rattle.kn_session.specs.Keeper.{ProbedBy, is_probed}
 use Rattle.kn_session.specs.Lists.{EachDone, HasOne}
 use Rattle.kn_session.specs.Own.{IsAloneIn, IsArrivalOf, Lasts}
 use Rattle.kn_session.specs.Passes.{IsNew, IsNewOf, Kind, plain_kind}
@@ -112,13 +113,16 @@ pub record IsOneHistory (slots : ℕ) (b : RevisionState) (h : List Past) : Type
   pub rows : Each (IsRowOf slots) h
 
 -- the ticker made its turns of the revision, and its keeper gained probes alone, and no count of faults fell
-pub record IsTickedIn (reading : ℕ → Type 0) (start : ℕ) (k : Kind) (h : List Past) (wire wire' : Option Link) (breaks breaks' : ℕ) : Type 0 where
-  pub served : TickerServedIn reading start k h wire wire'
-  pub probed : Probed k.opening h wire wire'
+pub record IsTicked (reading : ℕ → Type 0) (start : ℕ) (b : RevisionState) (room : ℕ) (h : List Past) (wire wire' : Option Link) (breaks breaks' : ℕ) : Type 0 where
+  pub served : TickerServed reading start b room h wire wire'
+  pub probed : Probed b h wire wire'
   pub never_falls : breaks ≤ breaks'
 
-abbrev pub IsTicked : (ℕ → Type 0) → ℕ → RevisionState → ℕ → List Past → Option Link → Option Link → ℕ → ℕ → Type 0
-IsTicked reading start b room h wire wire' breaks breaks' = IsTickedIn reading start (plain_kind b room) h wire wire' breaks breaks'
+-- .. over a cell of this kind, each pod at its address
+pub record IsTickedIn (reading : ℕ → Type 0) (start : ℕ) (k : Kind) (h : List Past) (wire wire' : Option Link) (breaks breaks' : ℕ) : Type 0 where
+  pub served : TickerServedIn reading start k h wire wire'
+  pub probed : ProbedBy k.book k.opening h wire wire'
+  pub never_falls : breaks ≤ breaks'
 
 -- ---- a whole session
 

@@ -26,7 +26,8 @@ pub trait Job<X> {
         ensures { done shared.now i self.old self.new };
 }
 
-impl<'a, C: Caller, L: PodLink, K: Clock, G: Gate, P: Pace<C>> Job<Shared<'a, K, G, P>> for Slot<C, L> {
+impl<'a, C: Caller, L: PodLink, K: Clock, G: Gate, P: Pace<C>> Job<Shared<'a, K, G, P>>
+    for Slot<C, L> {
     ghost ready = { λ x s. HasPass x.cell.now s.work.pass × (x.common.now.apart ≤ 10 ^ 12) };
 
     ghost done = { λ x i s t. HasServed ⟦<Slot<C, L> as Sided>⟧.at K.reading P.Watch.leaves P.most P.ends x.common.now i s t };

@@ -1,5 +1,5 @@
-use Rattle.std.proofs.Common.{◌≡◌, ◌<◌, ◌≤◌, ◌+◌, ◌-◌, ◌*◌, ap, arith, inr, refl, sym, subst, ◌∙◌, length, true}
-use Rattle.std.specs.Prelude.{slice_index_or, ⊤}
+use Rattle.std.proofs.Common.{◌≡◌, ◌+◌, ◌-◌, ◌*◌, ◌++◌, ap, arith, inr, subst, ◌∙◌, length}
+use Rattle.std.specs.Prelude.{slice_index_or}
 use Rattle.kn_cell.specs.Lists.{StartsWith}
 use Rattle.kn_cell.specs.Shown.{PassView}
 use Rattle.kn_request.specs.declared.slot.Slot.{Slot}
@@ -65,19 +65,19 @@ serve_beside-requires-clause-passes g c ls within i d low =
     (x.0.0, x.0.1, x.0.2)
 
 pub serve_beside-requires-clause-ticks : goal.serve_beside-requires-clause-ticks
-serve_beside-requires-clause-ticks g c =
+serve_beside-requires-clause-ticks g c ls within =
     let gives = gives_of c.args.cell (kind_of c.args.first) (length c.args.slots.now) c.args.first c.split-ticks.new.pass c.hand_out.new.pass c.split-pages.new.pass c.split-ticks.result c.split-pages.result
     c.requires.first c.split-ticks.ensures.same c.split-ticks.ensures.new c.hand_out.ensures.pass c.split-pages.ensures.same c.split-pages.ensures.new in
     gives.ticks_of
 
 pub serve_beside-requires-clause-first : goal.serve_beside-requires-clause-first
-serve_beside-requires-clause-first g c =
+serve_beside-requires-clause-first g c ls within =
     let gives = gives_of c.args.cell (kind_of c.args.first) (length c.args.slots.now) c.args.first c.split-ticks.new.pass c.hand_out.new.pass c.split-pages.new.pass c.split-ticks.result c.split-pages.result
     c.requires.first c.split-ticks.ensures.same c.split-ticks.ensures.new c.hand_out.ensures.pass c.split-pages.ensures.same c.split-pages.ensures.new in
     (gives.last_of, c.requires.scribe c.split-pages.new.pass gives.first)
 
 pub serve_beside-requires-clause-pages : goal.serve_beside-requires-clause-pages
-serve_beside-requires-clause-pages g c =
+serve_beside-requires-clause-pages g c ls within =
     let gives = gives_of c.args.cell (kind_of c.args.first) (length c.args.slots.now) c.args.first c.split-ticks.new.pass c.hand_out.new.pass c.split-pages.new.pass c.split-ticks.result c.split-pages.result
     c.requires.first c.split-ticks.ensures.same c.split-ticks.ensures.new c.hand_out.ensures.pass c.split-pages.ensures.same c.split-pages.ensures.new in
     (gives.pages_of, c.requires.page c.split-pages.result gives.page)
