@@ -1,3 +1,3 @@
 pub mod Marks
-pub mod Serving
+pub mod Sessions
 pub mod Texts

@@ -130,8 +130,8 @@ Goes w clock pace room addresses Said h out out' result =
 
 -- how a server by this setting comes and goes, whose input has this left
 abbrev pub StaysBy : {C L K G O P W D E : Type 0} → SeenStaying C L K O P W → Lent (StaySetting K G P D E) → Option (List ℕ) → Change (List (Slot C L)) → Change L → Change O → Change W → Stayed → Type 0
-StaysBy w setting left slots keeper out page result =
-    let h = record { slots = slots; keeper = keeper; page = page } in
+StaysBy {C} {L} {K} {G} {O} {P} {W} w setting left slots keeper out page result =
+    let h : Handed C L W = record { slots = slots; keeper = keeper; page = page } in
     let addresses = (lent setting).addresses in
     IsDeclined left (AreUntouched h × (became out ≡ was out)) result
     ⊎ HasNoPlace left addresses (AreUntouched h × (became out ≡ was out)) result

@@ -1,5 +1,5 @@
 //! A server that goes on.
-ghost use Rattle.std.specs.Prelude.{◌≡◌, ◌≤◌, length};
+ghost use Rattle.std.specs.Prelude.{◌≡◌, ◌+◌, ◌≤◌, length};
 ghost use Rattle.kn_io.specs.Causes.{Rose};
 ghost use Rattle.kn_cell.specs.Shown.{PassView};
 ghost use Rattle.kn_core.specs.State.{RevisionState};

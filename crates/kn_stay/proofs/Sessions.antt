@@ -68,19 +68,20 @@ front_is k p q a b f g done front rest x first taken seen =
     same_front x.given front (front ++ rest) (subst (StartsWith (front ++ rest)) all seen) (rest, refl) many
 
 -- what was served over a revision that was opened for it is a session, however it ended
-pub stays_of : {C L K G O P W : Type 0} (w : SeenStaying C L K O P W) (pace : P) (setup : Setup) (l : Lasting K G) (b now : RevisionState) (rest : List Past) (Scribe : PassView → PassView → Type 0)
+pub stays_of : {C L K G O P W : Type 0} {w : SeenStaying C L K O P W} (pace : P) (setup : Setup) (l : Lasting K G) (b now : RevisionState) (rest : List Past) (Scribe : PassView → PassView → Type 0)
     {hd : Handed C L W} {held held' : Option (List ℕ)} {result : Status}
     → RunLaws (w.reading l.clock.now) → IsOpenedFor (w.reading l.clock.now) setup l b
     → (x : Lasted (lasting_kind b l.room l.addresses) (length (was hd.slots)) now rest
       (AreLasted w.at (watched (w.reading l.clock.now) w.leaves) (IsPaced (w.most pace) (w.ends pace)) l.spec.now (10 ^ 12) hd.slots)
       (KeeperLasted w.told w.faults (w.reading l.clock.now) l.start hd.keeper) (EachIs (λ (t : Slot C L). IsUnmarked t.work) (became hd.slots)) Scribe (w.attends (was hd.page) (became hd.page)))
-    → EndsBy held held' (session_of setup l.start b (x.front ++ rest) (became hd.slots)) result
+    → (IsSession (w.reading l.clock.now) (length (was hd.slots)) (session_of setup l.start b (x.front ++ rest) (became hd.slots)) → EndsBy held held' (session_of setup l.start b (x.front ++ rest) (became hd.slots)) result)
     → Stays w l.clock.now pace l.room l.addresses (λ s. s ≡ setup) hd held held' result
-stays_of w pace setup l b now rest Scribe {hd} laws opened x ends =
+stays_of {w = w} pace setup l b now rest Scribe {hd = hd} laws opened x ends =
     let h = x.front ++ rest in
+    let is = is_session (w.reading l.clock.now) laws (length (was hd.slots)) setup l.start b h (became hd.slots) opened.begins opened.stands opened.spec opened.clock x.one x.served.0 x.fine in
     record {
       session = session_of setup l.start b h (became hd.slots);
-      is = is_session (w.reading l.clock.now) laws (length (was hd.slots)) setup l.start b h (became hd.slots) opened.begins opened.stands opened.spec opened.clock x.one x.served.0 x.fine;
+      is = is;
       said = refl;
       slots = record {
         faults = refl;
@@ -89,5 +90,5 @@ stays_of w pace setup l b now rest Scribe {hd} laws opened x ends =
       };
       keeper = x.keeper;
       page = x.page;
-      ends = ends;
+      ends = ends is;
     }
