@@ -81,8 +81,8 @@ impl TcpDoor {
         self.queue.lock(rt).has_room(silent, most)
     }
 
-    /// Whether no further connection is to be let in.
-    pub(crate) fn is_closed(&self) -> bool {
+    /// Whether no further connection is let in.
+    pub fn is_closed(&self) -> bool {
         self.closed.load(Ordering::SeqCst)
     }
 

@@ -57,16 +57,19 @@ pub fn open_clients<N: Net<Listener = TcpListener, Stream = TcpStream>>(
     open(net, alloc, &plan.listen, limits)
 }
 
-/// The front of a status page.
+/// The front of the plan's status page, where it has one.
 pub fn open_page<N: Net<Listener = TcpListener, Stream = TcpStream>>(
     net: &N,
     alloc: Global,
-    address: &Text,
-) -> Result<Front, Status> {
+    plan: &StayPlan,
+) -> Result<Option<Front>, Status> {
+    let Some(address) = &plan.status else {
+        return Ok(None);
+    };
     let limits = Limits {
         idle: Duration::from_secs(PAGE_SECONDS),
         read: Duration::from_secs(PAGE_SECONDS),
         waiting: PAGE_WAITING,
     };
-    open(net, alloc, address, limits)
+    Ok(Some(open(net, alloc, address, limits)?))
 }

@@ -5,6 +5,7 @@ mod ending;
 mod fronts;
 mod notes;
 mod server;
+mod shown;
 mod slots;
 mod stay;
 mod threads;

@@ -3,12 +3,14 @@ ghost use Rattle.std.specs.Prelude.{◌≡◌, ◌≤◌, length};
 
 use crate::ending::Ended;
 use crate::notes::FaultNotes;
+use crate::shown::Shown;
 use crate::slots::StaySlot;
 use kn_door::{Close, MemDoor};
 use kn_faults::FaultLog;
 use kn_front::{Front, InputStop};
 use kn_io::{MachineClock, OpenGate, ReaderSource, Sink, WriterSink};
 use kn_journal::Status;
+use kn_page::Page;
 use kn_plan::StayPlan;
 use kn_session::{Attendant, ByDoor, NoAttendant};
 use kn_stay::{Doors, StaySetting, Stayed, stay_run};
@@ -76,7 +78,7 @@ impl<
     }
 
     /// Lets clients in, and serves them until standard input ends.
-    pub fn run<D: Close + Sync, W: Attendant + Send>(self, page_door: &D, page: &mut W) -> Ended {
+    fn run<D: Close + Sync, W: Attendant + Send>(self, page_door: &D, page: &mut W) -> Ended {
         let (rt, front) = (self.rt, self.front);
         let addresses = self.plan.pods.items().len() as u64;
         let (ran, stayed) = thread::join(rt, || front.run(rt), || self.stay(page_door, page));
@@ -90,5 +92,22 @@ impl<
     /// The same without a status page.
     pub fn run_alone(self) -> Ended {
         self.run(&MemDoor::new(0), &mut NoAttendant)
+    }
+
+    /// The same with a status page, whose clients come to this front.
+    pub fn run_with_page(self, page: &Front) -> Ended {
+        let (rt, log) = (self.rt, self.log);
+        let shown = Shown::new(self.front.door());
+        let mut attendant = Page::new(page.caller(rt), page.door(), &shown);
+        let (_, ended) = thread::join(
+            rt,
+            || {
+                if page.run(rt).is_err() {
+                    log.say(rt, b"kactd: status page failed\n");
+                }
+            },
+            || self.run(page.door(), &mut attendant),
+        );
+        ended
     }
 }

@@ -71,6 +71,10 @@ fn serve<
         Ok(front) => front,
         Err(status) => return Ended::So(status),
     };
+    let page = match open_page(rt, alloc, plan) {
+        Ok(page) => page,
+        Err(status) => return Ended::So(status),
+    };
     let (slots, keeper) = match (slots(alloc, rt, &front, plan), keeper(alloc, rt, plan)) {
         (Ok(slots), Ok(keeper)) => (slots, keeper),
         _ => return Ended::So(Status::Memory),
@@ -79,6 +83,9 @@ fn serve<
         return Ended::So(Status::ReadFault);
     };
     say_where(rt, alloc, log, "listening", &front);
+    if let Some(page) = &page {
+        say_where(rt, alloc, log, "status", page);
+    }
     let server = Server {
         rt,
         alloc,
@@ -91,7 +98,10 @@ fn serve<
         slots,
         keeper,
     };
-    server.run_alone()
+    match &page {
+        Some(page) => server.run_with_page(page),
+        None => server.run_alone(),
+    }
 }
 
 /// Says why the words give no plan, or what they ask to be told.
