@@ -321,6 +321,7 @@ def cases(short, seconds):
         "killed": functools.partial(kills, 10),
         "stopped": functools.partial(stopped, 64, 3),
         "stopped_with_held": stopped_with_held,
+        "stopped_with_silent": functools.partial(edges.stopped_with_silent, 50),
         "full_disk": functools.partial(full_disk, 50000),
         "no_disk": no_disk,
         "gone_reader": gone_reader,
