@@ -13,6 +13,8 @@ import tempfile
 import time
 
 from load import bring
+
+import session
 from session import answers, endings, free_port, head, listens, outcomes, program, wait_until, want
 
 HERE = pathlib.Path(__file__).resolve().parent
@@ -42,6 +44,11 @@ class Pod:
 
     def __exit__(self, *_):
         self.kill()
+
+
+def fast_pod():
+    """A pod of nginx where that is there, which answers more of them a second, and else one of ours."""
+    return session.Pod() if shutil.which("nginx") else Pod()
 
 
 class Stay:
