@@ -11,7 +11,7 @@ import sys
 import time
 
 from load import Load, counted
-from server import Pod, Stay
+from server import Stay, fast_pod
 from session import fixed, program, run, want
 
 
@@ -39,7 +39,7 @@ def report(journal):
 
 def day(requests, clients, room):
     count = requests // 10 // clients
-    with Pod() as a, Pod() as b, Stay(fixed(2), [a.port, b.port], room=room) as server:
+    with fast_pod() as a, fast_pod() as b, Stay(fixed(2), [a.port, b.port], room=room) as server:
         print(f"  {server.memory():,} KiB before the first", flush=True)
         memory = [tenth(server, clients, count) for _ in range(10)]
         server.stop()

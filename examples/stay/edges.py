@@ -9,7 +9,7 @@ import time
 
 from load import Load, counted
 from server import Pod, Stay, settle
-from session import fixed, head, listens, program, want, whole
+from session import fixed, free_port, head, listens, program, want, whole
 
 GET = head(method="GET")
 PODS = ("--pods", "127.0.0.1:1")
@@ -109,3 +109,19 @@ def many_waiting(count):
         want(came == {(200, "hello"): count}, f"answered {came}")
         settle(server, came)
         want(not listens(server.port), "somebody listens still")
+
+
+def stopped_with_silent(count):
+    """Silent connections don't hold a stop up: they are closed without a byte, and the server ends soon. It can be started at the same address then."""
+    port = free_port()
+    for _ in range(2):
+        with Pod() as pod, Stay(fixed(1), [pod.port], listen=f"127.0.0.1:{port}") as server:
+            clients = [socket.create_connection(("127.0.0.1", port), timeout=10) for _ in range(count)]
+            met = Load(port, 4, count=5).met()
+            at = server.stop()
+            came = {client.recv(4096) for client in clients}
+            settle(server, counted(met))
+            want(came == {b""}, f"silent ones were answered {came}")
+            want(time.time() - at < 5, f"the server ended after {time.time() - at:.1f} s")
+            for client in clients:
+                client.close()

@@ -14,7 +14,7 @@ import threading
 import time
 
 from load import Load, counted, latency, told
-from server import Pod, Stay, settle
+from server import Stay, fast_pod, settle
 from session import fixed, head, run, want
 
 SILENT, DRIPPING = 300, 50
@@ -66,7 +66,7 @@ def turn(server, seconds, beside):
 
 
 def idle(seconds, turns, most):
-    with Pod() as a, Pod() as b, Stay(fixed(2), [a.port, b.port], slots=128) as server:
+    with fast_pod() as a, fast_pod() as b, Stay(fixed(2), [a.port, b.port], slots=128) as server:
         met = {False: [], True: []}
         for number in range(turns):
             for beside in (False, True) if number % 2 == 0 else (True, False):

@@ -21,7 +21,7 @@ import urllib.request
 import edges
 import prometheus
 from load import Load, bring, counted, told
-from server import Pod, Stay, all_known, cut_account, replay, settle, whole_account
+from server import Pod, Stay, all_known, cut_account, fast_pod, settle, whole_account
 from session import field_words, fixed, free_port, head, run, wait_until, want
 
 HELLO = (200, "hello")
@@ -45,7 +45,7 @@ def fifty():
 
 def under_load(at_once, slots, seconds):
     """Python's clients for some seconds: each is answered, and finished in the journal."""
-    with Pod() as a, Pod() as b, Stay(fixed(2), [a.port, b.port], slots=slots) as server:
+    with fast_pod() as a, fast_pod() as b, Stay(fixed(2), [a.port, b.port], slots=slots) as server:
         met = Load(server.port, at_once, seconds).met()
         say(told(met))
         want(set(counted(met)) == {HELLO}, f"answered {counted(met)}")
@@ -56,7 +56,7 @@ def by_hey(at_once, slots, seconds):
     """hey for some seconds, if it is there."""
     if not shutil.which("hey"):
         return say("left out: no hey")
-    with Pod() as a, Pod() as b, Stay(fixed(2), [a.port, b.port], slots=slots) as server:
+    with fast_pod() as a, fast_pod() as b, Stay(fixed(2), [a.port, b.port], slots=slots) as server:
         words = ["hey", "-z", f"{seconds}s", "-c", str(at_once), "-t", "60", *field_words(), f"http://127.0.0.1:{server.port}/"]
         ran = subprocess.run(words, capture_output=True, text=True).stdout
         answered = {int(code): int(n) for code, n in re.findall(r"\[(\d{3})\]\t(\d+) responses", ran)}
@@ -70,7 +70,7 @@ def by_wrk(at_once, slots, seconds):
     """wrk for some seconds, if it is there."""
     if not shutil.which("wrk"):
         return say("left out: no wrk")
-    with Pod() as a, Pod() as b, Stay(fixed(2), [a.port, b.port], slots=slots) as server:
+    with fast_pod() as a, fast_pod() as b, Stay(fixed(2), [a.port, b.port], slots=slots) as server:
         words = ["wrk", "-t", "2", "-c", str(at_once), "-d", f"{seconds}s", "--latency", *field_words(), f"http://127.0.0.1:{server.port}/"]
         ran = subprocess.run(words, capture_output=True, text=True).stdout
         done = int(re.search(r"(\d+) requests in", ran)[1])
@@ -321,6 +321,7 @@ def cases(short, seconds):
         "killed": functools.partial(kills, 10),
         "stopped": functools.partial(stopped, 64, 3),
         "stopped_with_held": stopped_with_held,
+        "stopped_with_silent": functools.partial(edges.stopped_with_silent, 50),
         "full_disk": functools.partial(full_disk, 50000),
         "no_disk": no_disk,
         "gone_reader": gone_reader,

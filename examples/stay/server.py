@@ -1,6 +1,7 @@
 """A server that goes on (`kactd stay`), its pods, and the account of its journal."""
 
 import collections
+import contextlib
 import os
 import pathlib
 import re
@@ -12,6 +13,8 @@ import tempfile
 import time
 
 from load import bring
+
+import session
 from session import answers, endings, free_port, head, listens, outcomes, program, wait_until, want
 
 HERE = pathlib.Path(__file__).resolve().parent
@@ -43,28 +46,42 @@ class Pod:
         self.kill()
 
 
+def fast_pod():
+    """A pod of nginx where that is there, which answers more of them a second, and else one of ours."""
+    return session.Pod() if shutil.which("nginx") else Pod()
+
+
 class Stay:
     """`kactd stay`, from its start until its standard input is closed. Its journal goes to a file, or where `out` says."""
 
     def __init__(self, setup, ports, out=None, before=None, page=False, **words):
+        server = program("kactd")
         self.folder = pathlib.Path(tempfile.mkdtemp(prefix="kactd-stay-"))
         self.errors = open(self.folder / "stderr", "w")
         words = {"listen": "127.0.0.1:0", "pods": ",".join(f"127.0.0.1:{port}" for port in ports), **words}
         words |= {"status": "127.0.0.1:0"} if page else {}
         self.process = subprocess.Popen(
-            [program("kactd"), "stay", *(str(word) for name, value in words.items() for word in (f"--{name}", value))],
+            [server, "stay", *(str(word) for name, value in words.items() for word in (f"--{name}", value))],
             stdin=subprocess.PIPE,
             stdout=open(self.folder / "journal", "w") if out is None else out,
             stderr=self.errors,
             preexec_fn=before,
         )
-        self.process.stdin.write(setup.encode())
-        self.process.stdin.flush()
-        wait_until(lambda: self.says("listening") or self.has_ended(), 20, "kactd says no address")
-        self.port = self.says("listening")
-        if page and self.port:
-            wait_until(lambda: self.says("status") or self.has_ended(), 20, "kactd says no address of its status page")
-            self.page = self.says("status")
+        try:
+            # (one that has ended by then reads nothing)
+            with contextlib.suppress(BrokenPipeError):
+                self.process.stdin.write(setup.encode())
+                self.process.stdin.flush()
+            self.port = self.await_address("listening")
+            self.page = self.await_address("status") if page and self.port else None
+        except BaseException:
+            self.__exit__(*sys.exc_info())
+            raise
+
+    def await_address(self, word):
+        """The port that it says soon, or none where it ends."""
+        wait_until(lambda: self.says(word) or self.has_ended(), 20, f"kactd does not say {word} on which address")
+        return self.says(word)
 
     def told(self):
         """What it told on standard error."""
@@ -114,7 +131,8 @@ class Stay:
     def __exit__(self, kind, *_):
         if not self.has_ended():
             self.kill()
-        self.process.stdin.close()
+        with contextlib.suppress(BrokenPipeError):
+            self.process.stdin.close()
         self.errors.close()
         if kind is None:
             shutil.rmtree(self.folder, ignore_errors=True)
