@@ -82,9 +82,11 @@ fn serve_many<T: Threads + Wait + Sync>(rt: &HostRuntime, threads: &T, words: &[
 }
 
 /// Serves one revision until standard input ends. The exit status.
-fn stay<
-    T: Net<Listener = TcpListener, Stream = TcpStream> + Clock + Threads + Wait + Sync,
->(rt: &HostRuntime, threads: &T, words: &[String]) -> u8 {
+fn stay<T: Net<Listener = TcpListener, Stream = TcpStream> + Clock + Threads + Wait + Sync>(
+    rt: &HostRuntime,
+    threads: &T,
+    words: &[String],
+) -> u8 {
     let streams = Streams {
         setup: rt.stdin(),
         stop: rt.stdin(),

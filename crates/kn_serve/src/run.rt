@@ -58,11 +58,7 @@ pub fn open_revision(alloc: Global, spec: &Spec, start: u64) -> Result<Revision,
 }
 
 /// The same, and the entries that the revision opened with.
-pub fn open_logged(
-    alloc: Global,
-    spec: &Spec,
-    start: u64,
-) -> Result<(Revision, EntryLog), Memory>
+pub fn open_logged(alloc: Global, spec: &Spec, start: u64) -> Result<(Revision, EntryLog), Memory>
     requires { start ≤ 2 ^ 42 }
     ensures stands { IfOk result (λ r. StandsFor r.0 (opening spec.now start)) }
     ensures spec { IfOk result (λ r. r.0.spec ≡ spec.now) }

@@ -72,8 +72,8 @@ pub stays_of : {C L K G O P W : Type 0} {w : SeenStaying C L K O P W} (pace : P)
     {hd : Handed C L W} {held held' : Option (List ℕ)} {result : Status}
     → RunLaws (w.reading l.clock.now) → IsOpenedFor (w.reading l.clock.now) setup l b
     → (x : Lasted (lasting_kind b l.room l.addresses) (length (was hd.slots)) now rest
-      (AreLasted w.at (watched (w.reading l.clock.now) w.leaves) (IsPaced (w.most pace) (w.ends pace)) l.spec.now (10 ^ 12) hd.slots)
-      (KeeperLasted w.told w.faults (w.reading l.clock.now) l.start hd.keeper) (EachIs (λ (t : Slot C L). IsUnmarked t.work) (became hd.slots)) Scribe (w.attends (was hd.page) (became hd.page)))
+    (AreLasted w.at (watched (w.reading l.clock.now) w.leaves) (IsPaced (w.most pace) (w.ends pace)) l.spec.now (10 ^ 12) hd.slots)
+    (KeeperLasted w.told w.faults (w.reading l.clock.now) l.start hd.keeper) (EachIs (λ (t : Slot C L). IsUnmarked t.work) (became hd.slots)) Scribe (w.attends (was hd.page) (became hd.page)))
     → (IsSession (w.reading l.clock.now) (length (was hd.slots)) (session_of setup l.start b (x.front ++ rest) (became hd.slots)) → EndsBy held held' (session_of setup l.start b (x.front ++ rest) (became hd.slots)) result)
     → Stays w l.clock.now pace l.room l.addresses (λ s. s ≡ setup) hd held held' result
 stays_of {w = w} pace setup l b now rest Scribe {hd = hd} laws opened x ends =

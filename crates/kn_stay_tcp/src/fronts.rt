@@ -5,11 +5,10 @@ use kn_front::{Front, Limits, room_for};
 use kn_journal::Status;
 use kn_plan::StayPlan;
 use std::alloc::Global;
-use std::io;
 use std::io::ErrorKind;
 use std::net::{Net, TcpListener, TcpStream};
-use std::str;
 use std::time::Duration;
+use std::{io, str};
 
 /// How many descriptors are needed beside those of the slots and of the clients that wait.
 const DESCRIPTORS: u64 = 128;

@@ -74,10 +74,13 @@ returns-in-Ok-print_rest-clause-goes g c =
     let printed = all_printed c.printed_laws.ensures a b d e c.args.setup.now c.args.lasting.now.start l.front rest c.in-Ok.ensures.ok
     (subst (λ (z : List Past). Appends b d (lines_of z)) given whole) (subst (λ (z : List Past). Appends d e (lines_to_end z)) c.items.ensures c.in-Ok-print_rest.ensures.ok) in
     inr (stays_of c.args.pace.now c.args.setup.now c.args.lasting.now c.args.revision _ rest _ c.run_laws.ensures c.requires.opened l
-    (λ is. inl (refl, record {
-      printed = printed;
-      reads = c.run_laws.ensures.reads (length c.args.slots.now) (session_of c.args.setup.now c.args.lasting.now.start c.args.revision (l.front ++ rest) c.serve_lasting.new.slots) is c.requires.opened.early small c.requires.setup;
-    })))
+    (λ is. inl (
+      refl,
+      record {
+        printed = printed;
+        reads = c.run_laws.ensures.reads (length c.args.slots.now) (session_of c.args.setup.now c.args.lasting.now.start c.args.revision (l.front ++ rest) c.serve_lasting.new.slots) is c.requires.opened.early small c.requires.setup;
+      },
+    )))
 
 pub returns-clause-goes : goal.returns-clause-goes
 returns-clause-goes g c =
