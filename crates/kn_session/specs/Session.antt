@@ -17,6 +17,7 @@ use Rattle.kn_request.specs.Pods.{IsStarting}
 use Rattle.kn_request.specs.Terms.{watched}
 use Rattle.kn_request.specs.Ticking.{TicksApart, Turns, probed_all}
 use Rattle.kn_session.specs.declared.setting.Setting.{Setting}
+use Rattle.kn_session.specs.declared.shared.Common.{Common}
 use Rattle.kn_session.specs.Changes.{Change, became, was}
 use Rattle.kn_session.specs.Keeper.{ProbedBy, is_probed}
 use Rattle.kn_session.specs.Lists.{EachDone, HasOne}
@@ -146,9 +147,9 @@ pub record IsClosedAs (b now : RevisionState) (h : List Past) : Type 0 where
   pub settled : (c : Trace) → StandsFor b c → IsSettled b.spec (trace_after b.spec c h)
 
 -- the ticker's pass made its turns with the keeper
-pub record HasTicked {L : Type 0} (told : L → Option Link) (faults : L → ℕ) (reading : ℕ → Type 0) (start : ℕ) (pass : Change PassView) (keeper : Change L) : Type 0 where
-  pub turns : Turns reading start (was pass) (became pass) (told (was keeper)) (told (became keeper))
-  pub apart : TicksApart reading start (was pass) (became pass)
+pub record HasTicked {L K G P : Type 0} (told : L → Option Link) (faults : L → ℕ) (reading : K → ℕ → Type 0) (common : Common K G P) (pass : Change PassView) (keeper : Change L) : Type 0 where
+  pub turns : Turns (reading common.clock.now) common.start (was pass) (became pass) (told (was keeper)) (told (became keeper))
+  pub apart : TicksApart (reading common.clock.now) common.start (was pass) (became pass)
   pub never_falls : faults (was keeper) ≤ faults (became keeper)
 
 -- each slot served its rounds. What is told of a slot is given by `at`, and the clock's readings by `reading`

@@ -17,7 +17,7 @@ use kn_request::{Left, Slot, ticker};
 use std::sync::Wait;
 use std::thread::{Threads, join_mut};
 
-/// The scribe and the page beside each other. Where no thread can be made the scribe comes first, since it ends the page.
+/// The scribe and the page beside each other. Where no thread can be made the scribe comes first, which ends the page.
 fn attend_both<S: Attendant + Send, W: Attendant + Send, R: Threads + Wait + Sync>(
     rt: &R,
     cell: &RevisionCell,
@@ -65,7 +65,7 @@ fn attend_all<
     requires ticks { ticks.old.cell ≡ shared.now.cell.now }
     requires first { (first.old.cell ≡ shared.now.cell.now) × S.may scribe.old first.old }
     requires pages { (pages.old.cell ≡ shared.now.cell.now) × W.may page.old pages.old }
-    ensures ticker { HasTicked L.told L.Faulty.faults (K.reading shared.now.common.now.clock.now) shared.now.common.now.start ticks keeper }
+    ensures ticker { HasTicked L.told L.Faulty.faults K.reading shared.now.common.now ticks keeper }
     ensures scribe { HasAttended S.attends scribe first }
     ensures page { HasAttended W.attends page pages }
 {
@@ -77,7 +77,7 @@ fn attend_all<
     { attend_both(rt, shared.cell, shared.left, scribe, first, page, pages) };
     let mut tick = ||
         requires { ticks.now.cell ≡ shared.now.cell.now }
-        ensures { HasTicked L.told L.Faulty.faults (K.reading shared.entry.now.common.now.clock.now) shared.entry.now.common.now.start ticks keeper }
+        ensures { HasTicked L.told L.Faulty.faults K.reading shared.entry.now.common.now ticks keeper }
     {
         let common = shared.common;
         ticker(
@@ -120,8 +120,9 @@ pub fn serve_beside<
     requires ticks { ticks.old.cell ≡ shared.now.cell.now }
     requires first { (first.old.cell ≡ shared.now.cell.now) × S.may scribe.old first.old }
     requires pages { (pages.old.cell ≡ shared.now.cell.now) × W.may page.old pages.old }
-    ensures slots { HaveServed ⟦<Slot<C, L> as Sided>⟧.at K.reading P.Watch.leaves P.most P.ends shared.now.common.now slots }
-    ensures ticker { HasTicked L.told L.Faulty.faults (K.reading shared.now.common.now.clock.now) shared.now.common.now.start ticks keeper }
+    ensures slots { HaveServed ⟦<Slot<C, L> as Sided>⟧.at K.reading P.Watch.leaves P.most P.ends
+        shared.now.common.now slots }
+    ensures ticker { HasTicked L.told L.Faulty.faults K.reading shared.now.common.now ticks keeper }
     ensures scribe { HasAttended S.attends scribe first }
     ensures page { HasAttended W.attends page pages }
 {
@@ -129,7 +130,7 @@ pub fn serve_beside<
         requires ticks { ticks.now.cell ≡ shared.now.cell.now }
         requires first { (first.now.cell ≡ shared.now.cell.now) × S.may scribe.now first.now }
         requires pages { (pages.now.cell ≡ shared.now.cell.now) × W.may page.now pages.now }
-        ensures ticker { HasTicked L.told L.Faulty.faults (K.reading shared.entry.now.common.now.clock.now) shared.entry.now.common.now.start ticks keeper }
+        ensures ticker { HasTicked L.told L.Faulty.faults K.reading shared.entry.now.common.now ticks keeper }
         ensures scribe { HasAttended S.attends scribe first }
         ensures page { HasAttended W.attends page pages }
     { attend_all(rt, shared, keeper, ticks, scribe, first, page, pages) };

@@ -40,12 +40,12 @@ pub struct Lasting<'a, K, G> {
     pub addresses: u64,
 }
 
-/// Serves each slot over a revision with no live request for as long as the slot's pace goes on, with the ticker, the scribe,
-/// who may take rows out, and the page beside the slots, each in a thread of its own where one can be made. Else the slots
-/// come first. The tag of round j of slot i is i * 10^12 + j.
+/// Serves each slot over a revision with no live request for as long as its pace goes on. Beside the slots are the
+/// ticker, the scribe, who may take rows out, and the page, each in a thread of its own where one can be made. Else the
+/// slots come first. The tag of round j of slot i is i * 10^12 + j.
 ///
-/// Answers the revision as it is then, and the rows that the scribe didn't take out; or `Memory`, and then nothing was done
-/// at all. Whether a round of a slot ended in a fault, or in want of memory, is in its work.
+/// Answers the revision as it is then, and the rows that the scribe didn't take out; or `Memory`, and then nothing was
+/// done at all. Whether a round of a slot ended in a fault, or in want of memory, is in its work.
 pub fn serve_lasting<
     C: Caller + Send,
     L: PodLink + Send,
@@ -69,15 +69,19 @@ pub fn serve_lasting<
     requires room { setting.now.room ≤ 1000000 }
     requires revision { MayBegin revision }
     requires opened { setting.now.addresses ≢ 0 → IsOpenedBy revision setting.now.entries.now }
-    requires scribe { (p : PassView) → IsScribes revision setting.now.room setting.now.addresses p → S.may scribe.old p }
-    requires page { (p : PassView) → IsNewLasting revision setting.now.room setting.now.addresses (2 + length slots.old) p → W.may page.old p }
-    ensures lasts { IfOk result (λ r. Lasted (lasting_kind revision setting.now.room setting.now.addresses) (length slots.old) r.0 r.1
+    requires scribe { (p : PassView) → IsScribes revision setting.now.room setting.now.addresses p
+        → S.may scribe.old p }
+    requires page { (p : PassView) → IsNewLasting revision setting.now.room setting.now.addresses (2 + length slots.old) p
+        → W.may page.old p }
+    ensures lasts { IfOk result (λ r. Lasted
+        (lasting_kind revision setting.now.room setting.now.addresses) (length slots.old) r.0 r.1
         (AreLasted ⟦<Slot<C, L> as Sided>⟧.at (watched (K.reading setting.now.clock.now) P.Watch.leaves)
         (IsPaced (P.most pace.now) (P.ends pace.now)) setting.now.spec.now (10 ^ 12) slots)
         (KeeperLasted L.told L.Faulty.faults (K.reading setting.now.clock.now) setting.now.start keeper)
         (EachIs (λ t. IsUnmarked t.work) slots.new) (S.attends scribe.old scribe.new) (W.attends page.old page.new)) }
     ensures empty { IfOk result (λ r. EachIs (λ t. t.work.pass ≡ None) slots.new) }
-    ensures nothing { OnErr result ((slots.new ≡ slots.old) × (keeper.new ≡ keeper.old) × (scribe.new ≡ scribe.old) × (page.new ≡ page.old)) }
+    ensures nothing { OnErr result ((slots.new ≡ slots.old) × (keeper.new ≡ keeper.old)
+        × (scribe.new ≡ scribe.old) × (page.new ≡ page.old)) }
 {
     let (cell, first) = RevisionCell::lasting(
         setting.alloc,

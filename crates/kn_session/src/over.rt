@@ -23,7 +23,7 @@ use kn_request::{Left, Slot};
 use std::sync::Wait;
 use std::thread::Threads;
 
-/// Takes all passes back in, and closes the cell. The first pass and those that it took in before have recorded nothing.
+/// Takes all passes back in, and closes the cell. The first pass and those that it took in before recorded nothing.
 fn close_session<C, L>(
     cell: RevisionCell,
     first: Pass,
@@ -44,8 +44,9 @@ fn close_session<C, L>(
     cell.close(pass)
 }
 
-/// Serves the slots over a cell that was just opened for three passes more than there are slots: the scribe's, which is the
-/// first, the ticker's, the slots' and the page's. Answers the revision as it is then, and the rows that are left.
+/// Serves the slots over a cell that was just opened for three passes more than there are slots: the scribe's, which
+/// is the first, the ticker's, the slots' and the page's. Answers the revision as it is then, and the rows that are
+/// left.
 pub fn serve_over<
     C: Caller + Send,
     L: PodLink + Send,

@@ -36,8 +36,8 @@ pub fn either(a: bool, b: bool) -> bool
     a || b
 }
 
-/// Serves a slot with the pass for as long as its pace goes on, and says whether a round ended in a fault, and whether one in
-/// want of memory.
+/// Serves a slot with the pass for as long as its pace goes on, and says whether a round ended in a fault, and
+/// whether one in want of memory.
 fn serve_passes<R: Wait, C: Caller, L: PodLink, K: Clock, G: Gate, P: Pace<C>>(
     rt: &R,
     cell: &RevisionCell,
@@ -48,7 +48,8 @@ fn serve_passes<R: Wait, C: Caller, L: PodLink, K: Clock, G: Gate, P: Pace<C>>(
 ) -> (bool, bool)
     requires cell { pass.old.cell ≡ cell.now }
     requires few { first + 10 ^ 12 < 2 ^ 64 }
-    ensures rounds { HasMade ⟦<Slot<C, L> as Sided>⟧.at K.reading P.Watch.leaves P.most P.ends common.now first pass slot result.0 result.1 }
+    ensures rounds { HasMade ⟦<Slot<C, L> as Sided>⟧.at K.reading P.Watch.leaves P.most P.ends
+        common.now first pass slot result.0 result.1 }
     ensures cell { pass.new.cell ≡ pass.old.cell }
     ensures work { slot.new.work ≡ slot.old.work }
 {
@@ -89,7 +90,8 @@ pub fn serve_rounds<R: Wait, C: Caller, L: PodLink, K: Clock, G: Gate, P: Pace<C
     requires pass { HasPass cell.now slot.old.work.pass }
     requires few { i < 1024 }
     requires apart { common.now.apart ≤ 10 ^ 12 }
-    ensures { HasServed ⟦<Slot<C, L> as Sided>⟧.at K.reading P.Watch.leaves P.most P.ends common.now i slot.old slot.new }
+    ensures { HasServed ⟦<Slot<C, L> as Sided>⟧.at K.reading P.Watch.leaves P.most P.ends common.now i
+        slot.old slot.new }
 {
     match slot.work.pass.take() {
         None => {}
