@@ -1,5 +1,6 @@
 //! A server with its parts.
-ghost use Rattle.std.specs.Prelude.{◌≡◌, ◌≤◌, length};
+ghost use Rattle.std.specs.Prelude.{◌≤◌, length};
+ghost use Rattle.kn_cell.specs.Shown.{PassView};
 
 use crate::ending::Ended;
 use crate::notes::FaultNotes;
@@ -47,7 +48,11 @@ impl<
     E: Sink + Send + Drop,
 > Server<'a, N, I, O, E> {
     /// Serves until standard input ends. The clients' door is closed then, and the page's.
-    fn stay<D: Close + Sync, W: Attendant + Send>(mut self, page_door: &D, page: &mut W) -> Stayed {
+    fn stay<D: Close + Sync, W: Attendant + Send>(mut self, page_door: &D, page: &mut W) -> Stayed
+        requires slots { length self.slots.items ≤ 1024 }
+        requires room { self.plan.now.room ≤ 1000000 }
+        requires page { (p : PassView) → W.may page.old p }
+    {
         let notes = FaultNotes::new(self.log);
         let door = self.front.door();
         let setting = StaySetting {
@@ -78,10 +83,22 @@ impl<
     }
 
     /// Lets clients in, and serves them until standard input ends.
-    fn run<D: Close + Sync, W: Attendant + Send>(self, page_door: &D, page: &mut W) -> Ended {
+    fn run<D: Close + Sync, W: Attendant + Send>(self, page_door: &D, page: &mut W) -> Ended
+        requires slots { length self.slots.items ≤ 1024 }
+        requires room { self.plan.now.room ≤ 1000000 }
+        requires page { (p : PassView) → W.may page.old p }
+    {
         let (rt, front) = (self.rt, self.front);
         let addresses = self.plan.pods.items().len() as u64;
-        let (ran, stayed) = thread::join(rt, || front.run(rt), || self.stay(page_door, page));
+        let (ran, stayed) = thread::join(
+            rt,
+            || front.run(rt),
+            || -> Stayed
+                requires slots { length self.slots.items ≤ 1024 }
+                requires room { self.plan.now.room ≤ 1000000 }
+                requires page { (p : PassView) → W.may page.now p }
+            { self.stay(page_door, page) },
+        );
         match Ended::of(stayed, addresses) {
             // It served those who were there, and then nobody could come in any more.
             Ended::So(Status::Ok) if ran.is_err() => Ended::So(Status::ListenFault),
@@ -90,12 +107,18 @@ impl<
     }
 
     /// The same without a status page.
-    pub fn run_alone(self) -> Ended {
+    pub fn run_alone(self) -> Ended
+        requires slots { length self.slots.items ≤ 1024 }
+        requires room { self.plan.now.room ≤ 1000000 }
+    {
         self.run(&MemDoor::new(0), &mut NoAttendant)
     }
 
     /// The same with a status page, whose clients come to this front.
-    pub fn run_with_page(self, page: &Front) -> Ended {
+    pub fn run_with_page(self, page: &Front) -> Ended
+        requires slots { length self.slots.items ≤ 1024 }
+        requires room { self.plan.now.room ≤ 1000000 }
+    {
         let (rt, log) = (self.rt, self.log);
         let shown = Shown::new(self.front.door());
         let mut attendant = Page::new(page.caller(rt), page.door(), &shown);
@@ -106,7 +129,10 @@ impl<
                     log.say(rt, b"kactd: status page failed\n");
                 }
             },
-            || self.run(page.door(), &mut attendant),
+            || -> Ended
+                requires slots { length self.slots.items ≤ 1024 }
+                requires room { self.plan.now.room ≤ 1000000 }
+            { self.run(page.door(), &mut attendant) },
         );
         ended
     }

@@ -1,4 +1,6 @@
 //! The top call of `kactd stay`.
+ghost use Rattle.std.specs.Prelude.{◌≤◌, map, string_bytes};
+ghost use Rattle.kn_stay_tcp.specs.Exits.{Exits};
 
 use crate::ending::{Ended, tell_ended};
 use crate::fronts::{open_clients, open_page};
@@ -62,7 +64,10 @@ fn serve<
     setup: I,
     stop: I,
     out: O,
-) -> Ended {
+) -> Ended
+    requires slots { plan.now.slots ≤ 1024 }
+    requires room { plan.now.room ≤ 1000000 }
+{
     let threads = plan.slots.saturating_add(THREADS);
     if !can_make_threads(rt, threads) {
         return Ended::NoThreads(threads);
@@ -112,13 +117,18 @@ fn say<O: Sink>(alloc: Global, error: &StayError, out: &mut O) {
     }
 }
 
-/// `kactd stay`: reads the words behind `stay`, and serves as they ask until standard input ends. The exit status.
+/// `kactd stay`: reads the words behind `stay`, and serves as they ask until standard input ends. The exit status is that of what is
+/// said in place of serving (0 for `--help` and `--version`, 2 for other words, 7 for want of memory), or else 0 where the journal
+/// was printed whole; 2 where the setup names more pods than there are addresses; 3 and 4 for a refused setup; 5 and 6 for reads
+/// and writes that failed; 7 for want of memory or threads; 9 where an address can't be listened on.
 pub fn kactd_stay<
     N: Net<Listener = TcpListener, Stream = TcpStream> + Clock + Threads + Wait + Sync,
     I: Read + AsRawFd + Drop + Send,
     O: Write + Send + Drop,
     E: Write + Send + Drop,
->(rt: &N, alloc: Global, words: &[String], streams: Streams<I, O, E>) -> u8 {
+>(rt: &N, alloc: Global, words: &[String], streams: Streams<I, O, E>) -> u8
+    ensures { Exits (map string_bytes words.entry.now) result }
+{
     let Streams {
         setup,
         stop,
