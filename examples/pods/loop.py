@@ -23,6 +23,7 @@ sys.path.insert(1, str(pathlib.Path(__file__).resolve().parents[1] / "stay"))
 from load import Load, bring, counted, told  # noqa: E402
 from server import Stay, whole_account  # noqa: E402
 from session import free_port, head, listens, program, run, wait_until, want  # noqa: E402
+from status import metrics  # noqa: E402
 
 FOLLOW = pathlib.Path(__file__).resolve().parent / "follow.py"
 ADDRESSES = 20
@@ -49,7 +50,7 @@ class Pipeline:
         self.journal, self.report, self.log = (folder / name for name in ("journal", "report", "log"))
         names = ",".join(f"127.0.0.1:{port}" for port in self.ports)
         ours, theirs = os.pipe()
-        self.server = Stay(SETUP, self.ports, out=theirs)
+        self.server = Stay(SETUP, self.ports, out=theirs, page=True)
         os.close(theirs)
         self.processes, given = [], ours
         for words in (["tee", self.journal], [program("kact"), "replay"], ["tee", self.report], [FOLLOW, names]):
@@ -105,12 +106,25 @@ def loop(folder, seconds, clients):
         met.append(bring(pipeline.server.port, head(method="GET")))
         want(set(counted(met)) == {(200, "hello")}, f"answered {counted(met)}")
         wait_until(lambda: pipeline.live() == 0, 90, "there are still pods")
+        shown = metrics(pipeline.server)
         pipeline.end()
         left = [port for port in pipeline.ports if listens(port)]
     account, rows = whole_account(pipeline.journal)
     want(account == {"finish ok": len(met)}, f"{len(met)} were answered, and the journal has {dict(account)}")
     want(pipeline.report.read_text().splitlines() == rows, "the follower was told other rows than the journal's")
     judge(rows, pipeline.log.read_text().splitlines(), left)
+    agree(shown, rows)
+
+
+def agree(shown, rows):
+    """The page that was read in the end shows no pod and no request, and has counted those of the report."""
+    for name in ("kactd_pods", "kactd_requests", "kactd_pods_wanted"):
+        want(set(shown[name].values.values()) == {0}, f"{name}: {shown[name].values}")
+    found = collections.Counter(row.split()[1] for row in rows[:-1])
+    counts = {dict(labels)["kind"]: number for labels, number in shown["kactd_rows_total"].values.items()}
+    for kind in ("admit", "assign", "finish", "create", "ready", "drain", "remove"):
+        want(counts[kind] == found[kind], f"{counts[kind]} rows {kind} were counted, of {found[kind]}")
+    want(shown["kactd_decision_want"].values == {(): 0}, f"decided {shown['kactd_decision_want']}")
 
 
 def judge(rows, log, left):

@@ -15,14 +15,13 @@ import subprocess
 import sys
 import threading
 import time
-import urllib.error
-import urllib.request
 
 import edges
 import prometheus
 from load import Load, bring, counted, told
-from server import Pod, Stay, all_known, cut_account, fast_pod, settle, whole_account
+from server import Pod, Stay, all_known, cut_account, fast_pod, replay, settle, whole_account
 from session import field_words, fixed, free_port, head, run, wait_until, want
+from status import gauges, metrics, page
 
 HELLO = (200, "hello")
 FULL = (507, "history full")
@@ -258,28 +257,6 @@ def held(count, seconds):
         want(spent < 2, f"{spent:.1f} % of a processor")
 
 
-def page(server, path, method="GET"):
-    """What the status page answers: its status, text and fields."""
-    request = urllib.request.Request(f"http://127.0.0.1:{server.page}{path}", method=method)
-    try:
-        with urllib.request.urlopen(request, timeout=10) as answer:
-            return answer.status, answer.read().decode(), answer.headers
-    except urllib.error.HTTPError as error:
-        return error.code, error.read().decode(), error.headers
-
-
-def metrics(server):
-    status, text, fields = page(server, "/metrics")
-    want(status == 200 and fields["Content-Type"] == "text/plain; version=0.0.4; charset=utf-8", f"{status} {fields}")
-    want(int(fields["Content-Length"]) == len(text), "another length than is said")
-    return prometheus.read(text)
-
-
-def gauges(server):
-    """The live requests, by where they are."""
-    return {dict(labels)["state"]: number for labels, number in metrics(server)["kactd_requests"].values.items()}
-
-
 def status_page(at_once, seconds):
     """The status page under load: its paths, its format, counters that never fall, and in the end those of the journal's report."""
     with Pod() as pod, Stay(fixed(1), [pod.port], page=True) as server:
@@ -297,13 +274,21 @@ def status_page(at_once, seconds):
         want(set(gauges(server).values()) == {0.0}, f"live requests: {gauges(server)}")
         shown = metrics(server)
         rows = settle(server, counted(met))
+        agree(shown, rows[opening(server.journal) : -1])
     want(seen[-1] != seen[0], "no counter rose")
-    agree(shown, rows[:-1])
     say(f"{len(seen)} pages under load, {len(met)} requests")
 
 
+def opening(journal):
+    """How many rows a revision opens with: those of a journal without events."""
+    lines = journal.read_text().splitlines()
+    bare = journal.with_name("bare")
+    bare.write_text("\n".join([*lines[: [line.split(" ")[0] for line in lines].index("start") + 1], "end", ""]))
+    return len(replay(bare)[1]) - 1
+
+
 def agree(shown, rows):
-    """What a page counted, when no request was live, is what the report has, kind by kind. (A fixed revision's ticks make no row.)"""
+    """What a page counted, when no request was live, is what the report has behind the opening, kind by kind. (A fixed revision's ticks make no row.)"""
     found = collections.Counter(row.split()[1] for row in rows)
     counts = {dict(labels)["kind"]: int(number) for labels, number in shown["kactd_rows_total"].values.items()}
     want({kind: n for kind, n in counts.items() if n} == dict(found), f"the page has {counts}, the report {dict(found)}")
