@@ -56,15 +56,7 @@ fn serve<
     I: Read + AsRawFd + Drop + Send,
     O: Write + Send + Drop,
     E: Sink + Send + Drop,
->(
-    rt: &N,
-    alloc: Global,
-    plan: &StayPlan,
-    log: &FaultLog<E, &N>,
-    setup: I,
-    stop: I,
-    out: O,
-) -> Ended
+>(rt: &N, alloc: Global, plan: &StayPlan, log: &FaultLog<E, &N>, setup: I, stop: I, out: O) -> Ended
     requires slots { plan.now.slots ≤ 1024 }
     requires room { plan.now.room ≤ 1000000 }
 {
