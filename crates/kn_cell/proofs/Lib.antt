@@ -2,6 +2,7 @@ pub mod Rooms
 pub mod Needs
 pub mod ListFacts
 pub mod HistoryFacts
+pub mod Counting
 pub mod PassMoves
 pub mod TakenMoves
 pub mod TurnMoves

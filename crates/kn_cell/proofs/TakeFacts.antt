@@ -36,6 +36,7 @@ emptied_back u x goes gone writes lasting =
         few = omega arith;
         addresses = goes.addresses;
         book = goes.book;
+        tally = goes.tally;
       };
       gone = omega arith;
       same = λ h. let not : true ≡ false = sym writes ∙ h in cc;

@@ -7,17 +7,22 @@ use Rattle.kn_event.specs.declared.event.Act.{Act}
 use Rattle.kn_event.specs.declared.event.Told.{Told}
 use Rattle.kn_book.specs.State.{StandsFor as IsBookOf}
 use Rattle.kn_core.specs.State.{StandsFor}
+use Rattle.kn_figures.specs.declared.figures.Figures.{Figures}
+use Rattle.kn_figures.specs.Figures.{IsFiguresOf}
+use Rattle.kn_figures.specs.Tallies.{IsTallyOf}
 use Rattle.kn_trace.specs.Events.{react, told_of, need_of}
 use Rattle.kn_trace.specs.Trace.{Trace}
 use Rattle.kn_cell.specs.declared.past.Past.{Past}
 use Rattle.kn_cell.specs.declared.past.Full.{Full}
 use Rattle.kn_cell.specs.declared.view.View.{View}
-use Rattle.kn_cell.specs.History.{trace_after, clock_after, live_of, room_for, IsInBounds, IsLegal, past}
+use Rattle.kn_cell.specs.Counted.{AreFiguresAt}
+use Rattle.kn_cell.specs.History.{made_by, trace_after, clock_after, live_of, room_for, IsInBounds, IsLegal, past}
 use Rattle.kn_cell.specs.State.{DeskState}
 use Rattle.kn_cell.specs.Desk.{Applies, Refuses, event_at, time_at, left_at}
 use Rattle.kn_cell.specs.Views.{opening, IsBounded}
 use Rattle.kn_cell.specs.Rule.{GoesWith, GetsTurn, last_row, recorded}
 use Rattle.kn_cell.specs.Turns.{HasTurn, WaitsForTurn, Overflows, row_of, room_of, trace_of}
+use Rattle.kn_cell.proofs.Counting.{made_by-one}
 use Rattle.kn_cell.proofs.TakenMoves.{taken_within, last_row-one}
 use Rattle.kn_cell.proofs.TurnMoves.{first_or}
 use Rattle.kn_cell.proofs.HistoryFacts.{trace_after-one, clock_after-one, legal-one}
@@ -103,6 +108,11 @@ applied v x act time told y bounded goes gone legal a =
             (subst (λ k. IsBookOf y.book (trace_after b.spec c h ++ react b.spec (trace_after b.spec c h) (event_at k time act))) goes.clock
             (subst (λ q. IsBookOf y.book (trace_after b.spec c h ++ react q (trace_after b.spec c h) (event_at x.revision.clock time act))) goes.spec
             (a.book (trace_after b.spec c h) (goes.stands c s) (goes.book c s))));
+        tally = λ c s.
+            subst (IsTallyOf y.tally) (sym (made_by-one b.spec c h p))
+            (subst (λ k. IsTallyOf y.tally (made_by b.spec c h ++ react b.spec (trace_after b.spec c h) (event_at k time act))) goes.clock
+            (subst (λ q. IsTallyOf y.tally (made_by b.spec c h ++ react q (trace_after b.spec c h) (event_at x.revision.clock time act))) goes.spec
+            (a.tally (trace_after b.spec c h) (made_by b.spec c h) (goes.stands c s) (goes.tally c s))));
       };
       gone = gone ∙ sym a.taken;
       bounds = subst (λ k. IsInBounds (event_at k time act)) goes.clock a.bounds;
@@ -143,3 +153,13 @@ pub applied_if : (l : List (ℕ × DeskState)) (z x y : DeskState) (number : ℕ
     → IfOk r (λ told. Applies z number act time told y) → IfOk r (λ told. (k : DeskState) × ((0, y) ∷ rest l ≡ (0, k) ∷ []) × Applies x number act time told k)
 applied_if l z x y number act time (Ok told) lent slot a = applied_at l z x y number act time told lent slot a
 applied_if l z x y number act time (Err full) lent slot a = a
+
+-- what is counted of the value in the slot is counted of all that is seen
+pub figures_seen : (v : View) (x : DeskState) (f : Figures) → GoesWith v.key v.seen x → v.gone ≡ x.taken
+    → ((c counted : Trace) → StandsFor x.revision c → IsTallyOf x.tally counted → IsFiguresOf x.revision.spec c counted (x.taken + length x.history) x.taken f) → AreFiguresAt v f
+figures_seen v x f goes gone of c s =
+    let counted = made_by (opening v.key).spec c v.seen in
+    subst (λ q. IsFiguresOf q (trace_of v c) counted (length v.seen) v.gone f) goes.spec
+    (subst (λ n. IsFiguresOf x.revision.spec (trace_of v c) counted n v.gone f) (taken_within v.key v.seen x goes)
+    (subst (λ n. IsFiguresOf x.revision.spec (trace_of v c) counted (x.taken + length x.history) n f) (sym gone)
+    (of (trace_of v c) counted (goes.stands c s) (goes.tally c s))))

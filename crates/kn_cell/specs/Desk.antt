@@ -7,6 +7,7 @@ use Rattle.kn_trace.specs.Events.{react, told_of, need_of}
 use Rattle.kn_trace.specs.Trace.{Trace}
 use Rattle.kn_book.specs.State.{StandsFor as IsBookOf}
 use Rattle.kn_core.specs.State.{StandsFor}
+use Rattle.kn_figures.specs.Tallies.{IsTallyOf}
 use Rattle.kn_cell.specs.declared.past.Full.{Full}
 use Rattle.kn_cell.specs.History.{past, live_of, IsInBounds}
 use Rattle.kn_cell.specs.State.{DeskState, live_in}
@@ -45,6 +46,8 @@ pub record Applies (old : DeskState) (pass : ℕ) (act : Act) (time : ℕ) (told
   pub addresses : new.book.addresses ≡ old.book.addresses
   pub book : (c : Trace) → StandsFor old.revision c → IsBookOf old.book c
       → IsBookOf new.book (c ++ react old.revision.spec c (event_at old.revision.clock time act))
+  pub tally : (c counted : Trace) → StandsFor old.revision c → IsTallyOf old.tally counted
+      → IsTallyOf new.tally (counted ++ react old.revision.spec c (event_at old.revision.clock time act))
 
 -- the room is too small for the act
 pub record Refuses (old : DeskState) (act : Act) (full : Full) : Type 0 where

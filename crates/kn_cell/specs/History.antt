@@ -1,5 +1,5 @@
 -- Histories: which are legal, and which trace one makes.
-use Rattle.std.specs.Prelude.{ℕ, ◌≡◌, ◌≤◌, ◌==◌, ◌-◌, ◌^◌, Bool, cond, min, List, [], ◌∷◌, ◌++◌, length, ⊤}
+use Rattle.std.specs.Prelude.{ℕ, ◌≡◌, ◌≤◌, ◌==◌, ◌-◌, ◌^◌, Bool, cond, min, List, [], ◌∷◌, ◌++◌, drop, length, ⊤}
 use Rattle.std.specs.List.{filter}
 use Rattle.kn_event.specs.declared.event.Act.{Act}
 use Rattle.kn_event.specs.declared.event.Act.TheVariants as act
@@ -18,6 +18,10 @@ past n e told = record { pass = n; event = e; told = told }
 abbrev pub trace_after : Spec → Trace → List Past → Trace
 trace_after s c [] = c
 trace_after s c (p ∷ ps) = trace_after s (c ++ react s c p.event) ps
+
+-- the entries that the rows made, behind those of c
+abbrev pub made_by : Spec → Trace → List Past → Trace
+made_by s c h = drop (length c) (trace_after s c h)
 
 -- the time of the last row, or `now` where there is none
 abbrev pub clock_after : ℕ → List Past → ℕ

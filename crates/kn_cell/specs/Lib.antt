@@ -9,3 +9,4 @@ pub mod Turns
 pub mod Splitting
 pub mod Shown
 pub mod Course
+pub mod Counted

@@ -5,16 +5,18 @@ use lib.ListN.{get_elem?}
 use Rattle.atomic_table.specs.Table.{State, Me, Step}
 use Rattle.kn_book.specs.State.{StandsFor as IsBookOf}
 use Rattle.kn_core.specs.State.{StandsFor}
+use Rattle.kn_figures.specs.Tallies.{IsTallyOf}
 use Rattle.kn_trace.specs.Trace.{Trace}
 use Rattle.kn_cell.specs.declared.past.Past.{Past}
 use Rattle.kn_cell.specs.declared.view.Key.{Key}
 use Rattle.kn_cell.specs.declared.view.View.{View}
 use Rattle.kn_cell.specs.Lists.{StartsWith, Each}
-use Rattle.kn_cell.specs.History.{trace_after, clock_after, IsInBounds, IsLegal, rows_by}
+use Rattle.kn_cell.specs.History.{made_by, trace_after, clock_after, IsInBounds, IsLegal, rows_by}
 use Rattle.kn_cell.specs.State.{DeskState, live_in}
 use Rattle.kn_cell.specs.Views.{opening, Passes, Takings, IsBounded}
 
--- the value in the slot goes with the log: its rows are those that were not taken out, and its book is that of the trace after the log
+-- the value in the slot goes with the log: its rows are those that were not taken out, its book is that of the trace after the log, and its
+-- tally that of the entries that the log made
 pub record GoesWith (key : Key) (log : List Past) (x : DeskState) : Type 0 where
   pub front : List Past
   pub whole : log ≡ front ++ x.history
@@ -30,6 +32,7 @@ pub record GoesWith (key : Key) (log : List Past) (x : DeskState) : Type 0 where
   pub few : x.taken + length x.history + live_in x.revision ≤ 2 ^ 53
   pub addresses : x.book.addresses ≡ key.addresses
   pub book : (c : Trace) → StandsFor (opening key) c → IsBookOf x.book (trace_after (opening key).spec c log)
+  pub tally : (c : Trace) → StandsFor (opening key) c → IsTallyOf x.tally (made_by (opening key).spec c log)
 
 -- nobody has the turn, and the slot is at home
 pub record IsResting (key : Key) (log : List Past) (taken : ℕ) (homes : List (Option DeskState)) (views : List View) : Type 0 where

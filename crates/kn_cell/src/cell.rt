@@ -6,6 +6,7 @@ ghost use Rattle.kn_trace.specs.Trace.{Trace, next_starting, proxied, stand_of};
 ghost use Rattle.kn_book.specs.Book.{next_to_probe};
 ghost use Rattle.kn_core.specs.State.{StandsFor};
 ghost use Rattle.kn_cell.specs.declared.past.Past.{Past};
+ghost use Rattle.kn_cell.specs.Counted.{AreFiguresOf};
 ghost use Rattle.kn_cell.specs.Course.{IsCourseOf};
 ghost use Rattle.kn_cell.specs.History.{MayCome, rows_by, trace_after};
 ghost use Rattle.kn_cell.specs.Shown.{Looks, LooksBy, Adds, Misfits, Tries, new_shown, joined_shown, IsClosed};
@@ -16,14 +17,15 @@ use crate::course::{Course, arrival_at, arrived, course_at};
 use crate::desk::Desk;
 use crate::past::{Full, History, Past, TryError};
 use crate::rule::{Cut, Glue, Order};
-use crate::steps::{AWAITED, Place, confirm, give, hand_back, heard, take, wait_bell};
+use crate::steps::{AWAITED, Place, confirm, give, hand_back, heard, ring_left, take, wait_bell};
 use crate::turn::{
-    attempt, enter, proxied_at, rows_at, stand_at, starting_at, take_turn, to_probe_at,
+    attempt, enter, figures_at, proxied_at, rows_at, stand_at, starting_at, take_turn, to_probe_at,
 };
 use crate::view::{Key, View};
 use atomic_table::Table;
 use kn_core::Revision;
 use kn_event::{Act, Stand, Told};
+use kn_figures::Figures;
 use kn_laws::laws::history_laws;
 use std::alloc::Global;
 use std::marker::Model;
@@ -170,12 +172,12 @@ impl RevisionCell {
         let place = &mut pass.place;
         take_turn(rt, board, place);
         match enter(board, place, number, passes, Act::Arrive(tag), time) {
-            Ok(told) => {
-                // Those called have been rung, so there is room for one more that waits.
+            Ok((told, left)) => {
                 let course = arrival_at(board, place, number, pass.asked, told);
                 pass.asked = arrived(told).or(pass.asked);
                 pass.heard = heard(board, number);
                 give(board, place);
+                ring_left(board, place, passes, left);
                 Ok((told, course))
             }
             Err(full) => {
@@ -232,6 +234,22 @@ impl RevisionCell {
         let next = to_probe_at(board, place, from);
         give(board, place);
         next
+    }
+
+    /// What is counted after all that is then seen: the requests and pods of the whole trace, the rows by their kinds without
+    /// those that the revision opened with, and how many events were recorded and not taken out.
+    pub fn figures<R: Wait>(&self, rt: &R, pass: &mut Pass) -> Figures
+        requires { pass.old.cell ≡ self.now }
+        ensures looks { Looks pass.old pass.new }
+        ensures mine { pass.new.mine ≡ pass.old.mine }
+        ensures figures { AreFiguresOf pass.new result }
+    {
+        let board = &self.table.shared;
+        let place = &mut pass.place;
+        take_turn(rt, board, place);
+        let figures = figures_at(board, place);
+        give(board, place);
+        figures
     }
 
     /// Waits for a millisecond, or returns at once. Nothing changes.

@@ -1,10 +1,12 @@
 //! What lies in the slot: the revision with its history. What an event does is said here, and needs no thread.
-ghost use Rattle.std.specs.Prelude.{◌≡◌, ◌<◌, ◌≤◌, ◌^◌, IfOk, IfErr, IfSome, [], vec_capacity};
+ghost use Rattle.std.specs.Prelude.{◌≡◌, ◌<◌, ◌≤◌, ◌+◌, ◌^◌, IfOk, IfErr, IfSome, [], length, vec_capacity};
 ghost use Rattle.kn_trace.specs.Events.{need_of};
 ghost use Rattle.kn_trace.specs.Trace.{Trace, next_starting, proxied, stand_of};
 ghost use Rattle.kn_book.specs.Book.{call_address, next_to_probe};
 ghost use Rattle.kn_book.specs.State.{StandsFor as IsBookOf};
 ghost use Rattle.kn_core.specs.State.{StandsFor};
+ghost use Rattle.kn_figures.specs.Figures.{IsFiguresOf};
+ghost use Rattle.kn_figures.specs.Tallies.{IsTallyOf};
 ghost use Rattle.kn_cell.specs.History.{MayCome};
 ghost use Rattle.kn_cell.specs.Desk.{Applies, Refuses, emptied};
 ghost use Rattle.kn_cell.specs.Books.{HasBook};
@@ -15,6 +17,7 @@ use kn_book::Book;
 use kn_book::laws::{book_laws, room_laws};
 use kn_core::Revision;
 use kn_event::{Act, EntryLog, Event, Memory, Stand, Told};
+use kn_figures::{Figures, Tally};
 use kn_laws::laws::history_laws;
 use kn_sizes::server::request_laws;
 use kn_waiters::Waiters;
@@ -35,6 +38,8 @@ pub struct Desk {
     waiters: Waiters,
     /// Which address each live pod has.
     book: Book,
+    /// The rows that were made since it was new.
+    tally: Tally,
 }
 
 impl Drop for Desk {
@@ -47,6 +52,7 @@ impl Drop for Desk {
             log: _,
             waiters: _,
             book: _,
+            tally: _,
         } = self;
     }
 }
@@ -58,7 +64,7 @@ impl Model for Desk {
 
     ghost Value = { DeskState };
 
-    ghost view = { λ d. record { room = d.room; revision = d.revision; taken = d.taken; history = d.history.items; book = d.book } };
+    ghost view = { λ d. record { room = d.room; revision = d.revision; taken = d.taken; history = d.history.items; book = d.book; tally = d.tally } };
 
     ghost invariant = { λ d. (length d.history.items + live_in d.revision ≤ d.room) × (d.room ≤ vec_capacity d.history) × (d.taken + length d.history.items + live_in d.revision ≤ 2 ^ 53) × HasBook d.book d.revision };
 }
@@ -75,7 +81,8 @@ impl Desk {
         requires live { live_in revision ≤ room }
         requires room { room ≤ 1000000 }
         requires book { HasBook book revision }
-        ensures { IfOk result (λ d. d ≡ record { room = room; revision = revision; taken = 0; history = []; book = book }) }
+        ensures new { IfOk result (λ d. d ≡ record { room = room; revision = revision; taken = 0; history = []; book = book; tally = d.tally }) }
+        ensures tally { IfOk result (λ d. IsTallyOf d.tally []) }
     {
         let Ok(history) = Vec::with_capacity(alloc, room as usize) else {
             return Err(Memory);
@@ -90,6 +97,7 @@ impl Desk {
             log,
             waiters,
             book,
+            tally: Tally::new(),
         })
     }
 
@@ -119,6 +127,7 @@ impl Desk {
         let told = self.revision.step(&event, &mut self.log);
         self.history.push_reserved(Past { pass, event, told });
         self.book.apply(self.log.entries());
+        self.tally.apply(self.log.entries());
         self.waiters.call_all(self.log.entries());
         Ok(told)
     }
@@ -148,6 +157,7 @@ impl Desk {
             log: _,
             waiters: _,
             book: _,
+            tally: _,
         } = self;
         (revision, History::new(history))
     }
@@ -165,6 +175,14 @@ impl Desk {
             self.waiters.put(r, pass);
         }
         stand
+    }
+
+    /// What is counted of it.
+    pub fn figures(&self) -> Figures
+        ensures { (c counted : Trace) → StandsFor self.now.revision c → IsTallyOf self.now.tally counted → IsFiguresOf self.now.revision.spec c counted (self.now.taken + length self.now.history) self.now.taken result }
+    {
+        let left = self.history.len() as u64;
+        Figures::of(&self.revision, &self.tally, self.taken, left)
     }
 
     /// The next pass whose bell is to be rung.

@@ -4,6 +4,7 @@
 mod cell;
 mod course;
 mod desk;
+pub mod laws;
 mod past;
 mod rule;
 mod steps;

@@ -1,5 +1,5 @@
 //! The steps on the table, each with what it asks.
-ghost use Rattle.std.specs.Prelude.{◌≡◌, ◌≢◌, ◌<◌, ◌≤◌, ◌+◌, ◌++◌, ◌∷◌, [], ◌^◌, length, true, false};
+ghost use Rattle.std.specs.Prelude.{◌≡◌, ◌≢◌, ◌<◌, ◌≤◌, ◌+◌, ◌++◌, ◌∷◌, [], ◌^◌, length, true, false, IfSome};
 ghost use Rattle.kn_cell.specs.State.{DeskState};
 ghost use Rattle.kn_cell.specs.Rule.{GetsTurn, Misses, GoesBack, HasRow, last_row, recorded, gives_back, without_turn, IsSound};
 ghost use Rattle.kn_cell.specs.Turns.{HasTurn};
@@ -83,6 +83,19 @@ pub fn ring(board: &Board, place: &mut Place, pass: u64)
     let bell = pass as usize + 2;
     board.fetch_add::<Ring>(place, bell, 1);
     board.wake_one(bell);
+}
+
+/// Rings the bell of the pass that was left to be rung, if there is one.
+pub fn ring_left(board: &Board, place: &mut Place, passes: u64, left: Option<u64>)
+    requires same { place.old.table_id ≡ board.now.table_id }
+    requires sized { board.now.table_id.words ≡ passes + 2 }
+    requires few { passes ≤ 1100 }
+    requires left { IfSome left (λ p. p < passes) }
+    ensures same { (place.new.table_id ≡ place.old.table_id) × (place.new.id ≡ place.old.id) × (place.new.me ≡ place.old.me) }
+{
+    if let Some(pass) = left {
+        ring(board, place, pass);
+    }
 }
 
 /// What the pass's bell reads: it parks until the bell reads otherwise.

@@ -8,11 +8,13 @@ ghost use Rattle.kn_cell.specs.Desk.{Applies, Refuses, emptied};
 ghost use Rattle.kn_cell.specs.Views.{opening};
 ghost use Rattle.kn_cell.specs.History.{trace_after, MayCome};
 ghost use Rattle.kn_cell.specs.Rule.{without_turn};
+ghost use Rattle.kn_cell.specs.Counted.{AreFiguresAt};
 ghost use Rattle.kn_cell.specs.Turns.{HasTurn, WaitsForTurn, Enters, RecordsRow, Overflows, trace_of};
 
 use crate::past::{Full, Past};
-use crate::steps::{AWAITED, Board, Place, TAKEN, give, record, ring, take};
+use crate::steps::{AWAITED, Board, Place, TAKEN, give, record, ring_left, take};
 use kn_event::{Act, Stand, Told};
+use kn_figures::Figures;
 use std::sync::Wait;
 
 // How often a pass looks again before it parks, since most turns are short.
@@ -92,25 +94,29 @@ fn called_at(board: &Board, place: &mut Place) -> Option<u64>
     place.slot_mut(board, 0).next_called()
 }
 
-/// Rings the bells of the passes that were called.
-fn ring_called(board: &Board, place: &mut Place, passes: u64)
+/// Rings the bells of the passes that were called, but for one, which it answers. That one is rung once the turn is given back:
+/// who is woken wants the turn, and the system may let it run at once in the ringer's place.
+fn ring_called(board: &Board, place: &mut Place, passes: u64) -> Option<u64>
     requires same { place.old.table_id ≡ board.now.table_id }
     requires sized { board.now.table_id.words ≡ passes + 2 }
     requires few { passes ≤ 1100 }
     requires slot { (x : DeskState) × (place.old.me.1 ≡ (0, x) ∷ []) }
     ensures same { (place.new.table_id ≡ place.old.table_id) × (place.new.id ≡ place.old.id) × (place.new.me ≡ place.old.me) }
+    ensures left { IfSome result (λ p. p < passes) }
 {
+    let mut left = None;
     for _ in 0..passes {
         let Some(pass) = called_at(board, place) else {
-            return;
+            break;
         };
-        if pass < passes {
-            ring(board, place, pass);
-        }
+        ring_left(board, place, passes, left);
+        left = Some(pass).filter(|p| *p < passes);
     }
+    left
 }
 
-/// Takes the event in, records it, and rings the bells of those whose request it moved. The turn is kept.
+/// Takes the event in, records it, and rings the bells of those whose request it moved, but for one, which is to be rung once
+/// the turn is given back. The turn is kept.
 pub fn enter(
     board: &Board,
     place: &mut Place,
@@ -118,7 +124,7 @@ pub fn enter(
     passes: u64,
     act: Act,
     time: u64,
-) -> Result<Told, Full>
+) -> Result<(Told, Option<u64>), Full>
     requires same { place.old.table_id ≡ board.now.table_id }
     requires sized { board.now.table_id.words ≡ passes + 2 }
     requires few { passes ≤ 1100 }
@@ -126,20 +132,21 @@ pub fn enter(
     requires number { place.old.me.0.number ≡ number }
     requires act { MayCome act }
     ensures same { (place.new.table_id ≡ place.old.table_id) × (place.new.id ≡ place.old.id) }
-    ensures ok { IfOk result (λ told. Enters place.old.me.0 act time told place.new.me) }
+    ensures ok { IfOk result (λ x. Enters place.old.me.0 act time x.0 place.new.me) }
+    ensures left { IfOk result (λ x. IfSome x.1 (λ p. p < passes)) }
     ensures err { IfErr result (λ full. (place.new.me ≡ place.old.me) × Overflows place.old.me.0 act full) }
 {
     match apply_at(board, place, number, act, time) {
         Ok(told) => {
             record(board, place);
-            ring_called(board, place, passes);
-            Ok(told)
+            let left = ring_called(board, place, passes);
+            Ok((told, left))
         }
         Err(full) => Err(full),
     }
 }
 
-/// Takes the event in, records it, rings the bells of those whose request it moved, and gives the turn back.
+/// Takes the event in, records it, gives the turn back, and rings the bells of those whose request it moved.
 pub fn attempt(
     board: &Board,
     place: &mut Place,
@@ -159,8 +166,9 @@ pub fn attempt(
     ensures err { IfErr result (λ full. (place.new.me ≡ (without_turn place.old.me.0, [])) × Overflows place.old.me.0 act full) }
 {
     match enter(board, place, number, passes, act, time) {
-        Ok(told) => {
+        Ok((told, left)) => {
             give(board, place);
+            ring_left(board, place, passes, left);
             Ok(told)
         }
         Err(full) => {
@@ -210,6 +218,16 @@ pub fn call_address_at(board: &Board, place: &mut Place, pod: u64) -> u64
     ensures value { (c : Trace) → StandsFor (opening place.old.me.0.key) c → result ≡ call_address place.old.me.0.key.addresses (trace_of place.old.me.0 c) pod }
 {
     place.slot_mut(board, 0).call_address(pod)
+}
+
+/// What is counted after all that is seen.
+pub fn figures_at(board: &Board, place: &mut Place) -> Figures
+    requires same { place.old.table_id ≡ board.now.table_id }
+    requires turn { HasTurn place.old.me }
+    ensures same { (place.new.table_id ≡ place.old.table_id) × (place.new.id ≡ place.old.id) × (place.new.me ≡ place.old.me) }
+    ensures value { AreFiguresAt place.old.me.0 result }
+{
+    place.slot_mut(board, 0).figures()
 }
 
 /// The next pod to probe, with its address, after all that is seen.

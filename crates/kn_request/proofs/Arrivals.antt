@@ -24,6 +24,7 @@ use Rattle.kn_request.specs.declared.meant.Meant.{Meant}
 use Rattle.kn_request.specs.declared.meant.Meant.TheVariants as meant
 use Rattle.kn_request.specs.Laws.{RequestLaws, is_left}
 use Rattle.kn_request.specs.Sight.{IsKnown, IsLeft, sight}
+use Rattle.kn_request.specs.Terms.{Terms}
 use Rattle.kn_request.specs.Served.{HasArrived, IsCourse, IsRefusedBy, IsServed}
 use Rattle.kn_request.proofs.LawFacts.{ended_by, outcome_by}
 use Rattle.kn_request.proofs.Later.{added_last, made_after, recorded_of, stands_is}
@@ -128,13 +129,13 @@ pub told_known : RequestLaws → (tag time r : ℕ) (told : Told) (s : Stand) (p
 told_known laws tag time r told s p q l x named is live c st = live_known (stand_of (sight q c) r) (is_live_told laws tag time r told s p q l x named is live c st)
 
 -- the whole of it
-refused_served : RequestLaws → (reading : ℕ → Type 0) (timeout tag time r : ℕ) (head : Head) (x : Told) (o : Outcome) (m : Meant) (p q : PassView) (wire : Option Link) (l : Looks p q) (y : Adds p (act.Arrive tag) time x q) (now : reading time)
-    → arrival_told x ≡ Some r → stand_told x ≡ Some stand.Ended → outcome_told x ≡ Some o → IsRefusedBy o m → HasArrived reading timeout tag head p q wire wire m
-refused_served laws reading timeout tag time r head x o m p q wire l y now named stands outcome is = record {
+refused_served : RequestLaws → (terms : Terms) (timeout tag time r : ℕ) (head : Head) (x : Told) (o : Outcome) (m : Meant) (p q : PassView) (wire : Option Link) (l : Looks p q) (y : Adds p (act.Arrive tag) time x q) (now : terms.reading time)
+    → arrival_told x ≡ Some r → stand_told x ≡ Some stand.Ended → outcome_told x ≡ Some o → IsRefusedBy o m → HasArrived terms timeout tag head p q wire wire m
+refused_served laws terms timeout tag time r head x o m p q wire l y now named stands outcome is = record {
   mid = q;
   before = l;
   since = inl refl;
-  arrive = recorded_of reading p q (act.Arrive tag) time x l y now;
+  arrive = recorded_of terms.reading p q (act.Arrive tag) time x l y now;
   mine = y.mine;
   number = r;
   named = ap (λ (z : Past). arrival_told z.told) y.row_is ∙ named;
@@ -149,37 +150,37 @@ refused_served laws reading timeout tag time r head x o m p q wire l y now named
 }
 
 -- the outcome is one by which arrivals are refused
-pub away_served : RequestLaws → (reading : ℕ → Type 0) (timeout tag time r : ℕ) (head : Head) (x : Told) (o : Outcome) (m : Meant) (p q : PassView) (wire : Option Link) (l : Looks p q) (y : Adds p (act.Arrive tag) time x q) (now : reading time)
-    → arrival_told x ≡ Some r → stand_told x ≡ Some stand.Ended → outcome_told x ≡ Some o → IsRefusedBy o m → IsServed reading timeout tag head p q wire wire m
-away_served laws reading timeout tag time r head x Refused m p q wire l y now named stands outcome is =
-    subst (λ (v : Meant). IsServed reading timeout tag head p q wire wire v) (sym is) (refused_served laws reading timeout tag time r head x Refused meant.QueueFull p q wire l y now named stands outcome refl)
-away_served laws reading timeout tag time r head x Overload m p q wire l y now named stands outcome is =
-    subst (λ (v : Meant). IsServed reading timeout tag head p q wire wire v) (sym is) (refused_served laws reading timeout tag time r head x Overload meant.Overload p q wire l y now named stands outcome refl)
-away_served laws reading timeout tag time r head x Expired m p q wire l y now named stands outcome is = absurd is
-away_served laws reading timeout tag time r head x Cancelled m p q wire l y now named stands outcome is = absurd is
-away_served laws reading timeout tag time r head x (Finished ok) m p q wire l y now named stands outcome is = absurd is
-away_served laws reading timeout tag time r head x Lost m p q wire l y now named stands outcome is = absurd is
+pub away_served : RequestLaws → (terms : Terms) (timeout tag time r : ℕ) (head : Head) (x : Told) (o : Outcome) (m : Meant) (p q : PassView) (wire : Option Link) (l : Looks p q) (y : Adds p (act.Arrive tag) time x q) (now : terms.reading time)
+    → arrival_told x ≡ Some r → stand_told x ≡ Some stand.Ended → outcome_told x ≡ Some o → IsRefusedBy o m → IsServed terms timeout tag head p q wire wire m
+away_served laws terms timeout tag time r head x Refused m p q wire l y now named stands outcome is =
+    subst (λ (v : Meant). IsServed terms timeout tag head p q wire wire v) (sym is) (refused_served laws terms timeout tag time r head x Refused meant.QueueFull p q wire l y now named stands outcome refl)
+away_served laws terms timeout tag time r head x Overload m p q wire l y now named stands outcome is =
+    subst (λ (v : Meant). IsServed terms timeout tag head p q wire wire v) (sym is) (refused_served laws terms timeout tag time r head x Overload meant.Overload p q wire l y now named stands outcome refl)
+away_served laws terms timeout tag time r head x Expired m p q wire l y now named stands outcome is = absurd is
+away_served laws terms timeout tag time r head x Cancelled m p q wire l y now named stands outcome is = absurd is
+away_served laws terms timeout tag time r head x (Finished ok) m p q wire l y now named stands outcome is = absurd is
+away_served laws terms timeout tag time r head x Lost m p q wire l y now named stands outcome is = absurd is
 
-taken_served : (reading : ℕ → Type 0) (timeout tag time due r : ℕ) (x : Told) (head : Head) (p q s : PassView) (wire wire' : Option Link) (m : Meant) (l : Looks p q) (y : Adds p (act.Arrive tag) time x q) (now : reading time)
-    → (s ≡ q) ⊎ Looks q s → arrival_told x ≡ Some r → due ≡ min time (2 ^ 42) + timeout → IsLeft q r → IsCourse reading due head r q s wire wire' m → HasArrived reading timeout tag head p s wire wire' m
-taken_served reading timeout tag time due r x head p q s wire wire' m l y now since named is left course = record {
+taken_served : (terms : Terms) (timeout tag time due r : ℕ) (x : Told) (head : Head) (p q s : PassView) (wire wire' : Option Link) (m : Meant) (l : Looks p q) (y : Adds p (act.Arrive tag) time x q) (now : terms.reading time)
+    → (s ≡ q) ⊎ Looks q s → arrival_told x ≡ Some r → due ≡ min time (2 ^ 42) + timeout → IsLeft q r → IsCourse terms due head r q s wire wire' m → HasArrived terms timeout tag head p s wire wire' m
+taken_served terms timeout tag time due r x head p q s wire wire' m l y now since named is left course = record {
   mid = q;
   before = l;
   since = since;
-  arrive = recorded_of reading p q (act.Arrive tag) time x l y now;
+  arrive = recorded_of terms.reading p q (act.Arrive tag) time x l y now;
   mine = y.mine;
   number = r;
   named = ap (λ (z : Past). arrival_told z.told) y.row_is ∙ named;
-  way = inr record { taken = left; course = subst (λ d. IsCourse reading d head r q s wire wire' m) is course };
+  way = inr record { taken = left; course = subst (λ d. IsCourse terms d head r q s wire wire' m) is course };
 }
 
 -- a request that was taken in is never answered as Full
-pub served_of : (reading : ℕ → Type 0) (timeout tag time due r : ℕ) (x : Told) (head : Head) (p q s : PassView) (wire wire' : Option Link) (m : Meant) (l : Looks p q) (y : Adds p (act.Arrive tag) time x q) (now : reading time)
-    → (s ≡ q) ⊎ Looks q s → arrival_told x ≡ Some r → due ≡ min time (2 ^ 42) + timeout → IsLeft q r → IsCourse reading due head r q s wire wire' m → IsServed reading timeout tag head p s wire wire' m
-served_of reading timeout tag time due r x head p q s wire wire' (meant.Full f) l y now since named is left course = absurd course
-served_of reading timeout tag time due r x head p q s wire wire' (meant.Reply t) l y now since named is left course = taken_served reading timeout tag time due r x head p q s wire wire' (meant.Reply t) l y now since named is left course
-served_of reading timeout tag time due r x head p q s wire wire' meant.QueueFull l y now since named is left course = absurd course
-served_of reading timeout tag time due r x head p q s wire wire' meant.Overload l y now since named is left course = absurd course
-served_of reading timeout tag time due r x head p q s wire wire' meant.Expired l y now since named is left course = taken_served reading timeout tag time due r x head p q s wire wire' meant.Expired l y now since named is left course
-served_of reading timeout tag time due r x head p q s wire wire' meant.LinkFault l y now since named is left course = taken_served reading timeout tag time due r x head p q s wire wire' meant.LinkFault l y now since named is left course
-served_of reading timeout tag time due r x head p q s wire wire' meant.Memory l y now since named is left course = taken_served reading timeout tag time due r x head p q s wire wire' meant.Memory l y now since named is left course
+pub served_of : (terms : Terms) (timeout tag time due r : ℕ) (x : Told) (head : Head) (p q s : PassView) (wire wire' : Option Link) (m : Meant) (l : Looks p q) (y : Adds p (act.Arrive tag) time x q) (now : terms.reading time)
+    → (s ≡ q) ⊎ Looks q s → arrival_told x ≡ Some r → due ≡ min time (2 ^ 42) + timeout → IsLeft q r → IsCourse terms due head r q s wire wire' m → IsServed terms timeout tag head p s wire wire' m
+served_of terms timeout tag time due r x head p q s wire wire' (meant.Full f) l y now since named is left course = absurd course
+served_of terms timeout tag time due r x head p q s wire wire' (meant.Reply t) l y now since named is left course = taken_served terms timeout tag time due r x head p q s wire wire' (meant.Reply t) l y now since named is left course
+served_of terms timeout tag time due r x head p q s wire wire' meant.QueueFull l y now since named is left course = absurd course
+served_of terms timeout tag time due r x head p q s wire wire' meant.Overload l y now since named is left course = absurd course
+served_of terms timeout tag time due r x head p q s wire wire' meant.Expired l y now since named is left course = taken_served terms timeout tag time due r x head p q s wire wire' meant.Expired l y now since named is left course
+served_of terms timeout tag time due r x head p q s wire wire' meant.LinkFault l y now since named is left course = taken_served terms timeout tag time due r x head p q s wire wire' meant.LinkFault l y now since named is left course
+served_of terms timeout tag time due r x head p q s wire wire' meant.Memory l y now since named is left course = taken_served terms timeout tag time due r x head p q s wire wire' meant.Memory l y now since named is left course

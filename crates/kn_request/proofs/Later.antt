@@ -25,6 +25,7 @@ use Rattle.kn_cell.specs.Shown.{PassView, Looks, Adds, Misfits, IsLater}
 use Rattle.kn_request.specs.Laws.{Made, RequestLaws, Spares, is_left}
 use Rattle.kn_request.specs.Sight.{HasCourse, IsAlone, IsKnown, IsLeft, IsOwn, IsRunning, StandsAt, sight}
 use Rattle.kn_request.specs.Requests.{Cancels, Recorded}
+use Rattle.kn_request.specs.Terms.{MayCancel, Terms, unwatched}
 use Rattle.kn_request.specs.Served.{IsWaitingNoMore}
 use Rattle.kn_request.proofs.Lists.{at_left, by_whom, each_right, each_tail, none, one, starts_trans, trace_after-append}
 
@@ -195,10 +196,19 @@ known_after laws r p q so known = elim so [ inl e ↦ subst (λ (v : PassView). 
 pub cell_after : (p q : PassView) → (q ≡ p) ⊎ Looks p q → q.cell ≡ p.cell
 cell_after p q so = elim so [ inl e ↦ ap (λ (v : PassView). v.cell) e | inr l ↦ cell_is p q l ]
 
-pub cancels_later : (reading : ℕ → Type 0) (due r : ℕ) (p p' q q' : PassView) → p'.mine ≡ p.mine → Cancels reading due r p' q → Looks q q' → q'.mine ≡ q.mine → Cancels reading due r p q'
-cancels_later reading due r p p' q q' first c l last = elim c [
+-- a cancel at a reading at which there may be one
+pub cancels_at : (terms : Terms) (due r now : ℕ) (p q : PassView) → MayCancel terms due now → terms.reading now → Cancels (unwatched (λ t. t ≡ now)) now r p q → Cancels terms due r p q
+cancels_at terms due r now p q may is c = elim c [
+  | inl e ↦ inl e
+  | inr x ↦
+      let y = x.0 in
+      inr (record { row = y.row; front = y.front; at = y.at; is_reading = subst terms.reading (sym y.is_reading) is; row_is = y.row_is; place = y.place }, subst (MayCancel terms due) (sym y.is_reading) may, x.2)
+]
+
+pub cancels_later : (terms : Terms) (due r : ℕ) (p p' q q' : PassView) → p'.mine ≡ p.mine → Cancels terms due r p' q → Looks q q' → q'.mine ≡ q.mine → Cancels terms due r p q'
+cancels_later terms due r p p' q q' first c l last = elim c [
   | inl e ↦ inl (last ∙ (e ∙ first))
-  | inr x ↦ inr (recorded_later reading q q' (act.Cancel r) l x.0, x.1, last ∙ (x.2 ∙ ap (λ m. m ++ x.0.row ∷ []) first))
+  | inr x ↦ inr (recorded_later terms.reading q q' (act.Cancel r) l x.0, x.1, last ∙ (x.2 ∙ ap (λ m. m ++ x.0.row ∷ []) first))
 ]
 
 cancel_spares : (r : ℕ) (a : Act) → a ≡ act.Cancel r → Spares r a
@@ -210,8 +220,8 @@ cancel_spares r a e = record { runs = λ ok f. cancel_no_finish (sym e ∙ f); p
     cancel_no_loss : {p : ℕ} → act.Cancel r ≡ act.Lost p → ⊥
     cancel_no_loss f = absurd (cc)
 
-pub left_over : RequestLaws → (reading : ℕ → Type 0) (due r : ℕ) (p q : PassView) → Looks p q → IsOwn p → Cancels reading due r p q → IsLeft p r → IsAlone q r → IsLeft q r
-left_over laws reading due r p q l own c old alone = elim c [
+pub left_over : RequestLaws → (terms : Terms) (due r : ℕ) (p q : PassView) → Looks p q → IsOwn p → Cancels terms due r p q → IsLeft p r → IsAlone q r → IsLeft q r
+left_over laws terms due r p q l own c old alone = elim c [
   | inl e ↦ left_later laws r p q [] l own (e ∙ sym (append-nil p.mine)) (none (SparesIt r)) old alone
   | inr x ↦ left_later laws r p q (x.0.row ∷ []) l own x.2 (one (SparesIt r) x.0.row (cancel_spares r x.0.row.event.act (ap (λ (y : Past). y.event.act) x.0.row_is))) old alone
 ]

@@ -3,6 +3,7 @@ pub mod PodFacts
 pub mod Lists
 pub mod Later
 pub mod Finishing
+pub mod Watching
 pub mod Courses
 pub mod Arrivals
 pub mod Talking

@@ -9,9 +9,8 @@ use Rattle.kn_cell.specs.declared.past.Past.{Past}
 use Rattle.kn_cell.specs.Lists.{Each}
 use Rattle.kn_cell.specs.Shown.{PassView, Looks}
 use Rattle.kn_io.specs.Links.{Link}
-use Rattle.kn_io.specs.declared.records.Probe.{Probe}
 use Rattle.kn_request.specs.declared.ticks.Turn.{Turn}
-use Rattle.kn_request.specs.Ticking.{AreApart, AreReady, AreRecordedAt, IsAt, IsTickerRow, ReadyOf, TakesTurn, TicksApart, TurnsFrom, TurnsTo, is_tick, ticks_of}
+use Rattle.kn_request.specs.Ticking.{AreApart, AreReady, AreRecordedAt, IsAt, IsTickerRow, ReadyOf, TakesTurn, TicksApart, TurnsFrom, TurnsTo, Visit, is_tick, ticks_of}
 use Rattle.kn_request.proofs.Lists.{each_tail, none, one}
 use Rattle.kn_request.proofs.Later.{looks_trans}
 use Rattle.kn_request.proofs.TickFacts.{at_later, each_both}
@@ -30,9 +29,9 @@ of_ready (Some true) pod full Q rows each r = elim r [
 of_ready (Some false) pod full Q rows each r = each rows r
 of_ready None pod full Q rows each r = each rows r
 
-all_ready : (full : Bool) (ps : List Probe) (rows : List Past) → AreReady full ps rows → Each IsReadyRow rows
+all_ready : (full : Bool) (vs : List Visit) (rows : List Past) → AreReady full vs rows → Each IsReadyRow rows
 all_ready full [] rows e = subst (Each IsReadyRow) (sym e) (none IsReadyRow)
-all_ready full (p ∷ ps) rows r = of_ready p.answer p.pod full (AreReady full ps) rows (λ xs q. all_ready full ps xs q) r
+all_ready full (v ∷ vs) rows r = of_ready v.answer v.pod full (AreReady full vs) rows (λ xs q. all_ready full vs xs q) r
 
 no_ticks : (xs : List Past) → Each IsReadyRow xs → ticks_of xs ≡ []
 unfolding IsReadyRow
@@ -96,7 +95,7 @@ later_at now m q xs so all = elim so [ inl e ↦ subst (λ (v : PassView). Each 
 turn_before : (reading : ℕ → Type 0) (now last : ℕ) (p m q : PassView) (w w' : Option Link) (turn : Turn) → TakesTurn now last p m w w' turn → reading now → (q ≡ m) ⊎ Looks m q → TicksApart reading turn.last m q
     → TicksApart reading last p q
 turn_before reading now last p m q w w' turn t read so after =
-    let ready = all_ready turn.full t.probes t.rows t.ready in
+    let ready = all_ready turn.full t.visits t.rows t.ready in
     elim (cases_lt now (last + 2000)) [
       | inl early ↦
           let e = t.early early in

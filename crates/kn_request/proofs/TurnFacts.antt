@@ -11,7 +11,7 @@ use Rattle.kn_request.specs.Pods.{PodLaws}
 use Rattle.kn_request.specs.Ticking.{IsAt, ProbesAll, TakesTurn, Ticks, TicksOnce, TurnsFrom, TurnsTo}
 use Rattle.kn_request.proofs.Lists.{none, one}
 use Rattle.kn_request.proofs.Later.{looks_after, looks_trans}
-use Rattle.kn_request.proofs.TickFacts.{all_probed, at_later, each_both, either_true, full_after, full_first, left_true, ready_mono, right_true, starting_before}
+use Rattle.kn_request.proofs.TickFacts.{all_visited, at_later, each_both, either_true, full_after, full_first, left_true, ready_mono, right_true, starting_before}
 
 pub tick_done : (now last : ℕ) (full : Bool) (p q : PassView) → last + 2000 ≤ now → Looks p q → TicksOnce now act.Tick full p q → Ticks now last p q (record { last = now; full = full })
 tick_done now last false p q due l t = record {
@@ -51,17 +51,17 @@ turn_of laws pods now last l f f' p q s w w' t m a =
       later = looks_after p q s t.later m;
       tick = t.tick;
       rows = d.rows;
-      probes = d.probes;
+      visits = d.visits;
       mine = d.mine ∙ (ap (λ x. x ++ d.rows) t.mine ∙ append_assoc p.mine t.tick d.rows);
       due = λ e. let x = t.due e in (x.0, elim x.1 [ inl y ↦ inl y | inr y ↦ inr (left_true f f' y.0, y.1) ]);
       early = t.early;
       at = each_both (IsAt now s) t.tick d.rows (at_later now q s t.tick m t.at) d.at;
       told = d.told;
       ascend = d.ascend;
-      only = λ k x at. starting_before p q s x.pod t.later (d.only k x at);
-      ready = ready_mono f' (f || f') d.probes d.rows (right_true f f') d.ready;
+      only = λ k v at. starting_before p q s v.pod v.address t.later (d.only k v at);
+      ready = ready_mono f' (f || f') d.visits d.rows (right_true f f') d.ready;
       over = λ e. elim (either_true f f' e) [ inl x ↦ full_after p q s m (t.over x) | inr x ↦ full_first p q s t.later (d.over x) ];
-      starting = λ c st j both not. all_probed laws pods a.to j p q s d.probes t.later m.longer c st (λ u v low x y. d.starting u v j low (x, y)) a.end both.0 both.1 not;
+      starting = λ c st j n both not. all_visited laws pods a.to j n p q s d.visits t.later m.longer c st (λ u v low x. d.starting u v j n low x) a.end both not;
     }
 
 turns_snoc : (reading : ℕ → Type 0) (last end now : ℕ) (nows : List ℕ) (turn : Turn) (p q s : PassView) (w w' w'' : Option Link) → TurnsFrom reading last nows p q w w' end → reading now → TakesTurn now end q s w' w'' turn

@@ -12,6 +12,7 @@ use Rattle.kn_head.specs.declared.head.Head.{Head}
 use Rattle.kn_request.specs.declared.slot.Served.{Served}
 use Rattle.kn_request.specs.declared.slot.Work.{Work}
 use Rattle.kn_request.specs.One.{HasCauses, IsEvent}
+use Rattle.kn_request.specs.Terms.{unwatched}
 use Rattle.kn_request.specs.Wide.{EachPass, IsNamed, ServesAt, WideCauses, at_count, at_pass, at_wire, passes_in}
 use Rattle.kn_request.proofs.Later.{cell_after}
 
@@ -55,7 +56,7 @@ each_stays cells works v c w' p q each long lw of so is u d low =
 
 -- what was served at the revision that is named
 pub served_at : (reading : ℕ → Type 0) (specs : List Spec) (tag : ℕ) (works : List Work) (w' : Work) (ws : List (Option Link)) (wire wire' : Option Link) (v : ℕ) (head : Head) (s : Served) (text : List ℕ) (p q : PassView)
-    → (named : IsNamed specs v head) → v < length ws → at_pass (passes_in works) v ≡ Some p → w'.pass ≡ Some q → (q ≡ p) ⊎ Looks p q → at_wire ws v ≡ wire → IsEvent reading named.spec.timeout_ms tag head p q wire wire' s text
+    → (named : IsNamed specs v head) → v < length ws → at_pass (passes_in works) v ≡ Some p → w'.pass ≡ Some q → (q ≡ p) ⊎ Looks p q → at_wire ws v ≡ wire → IsEvent (unwatched reading) named.spec.timeout_ms tag head p q wire wire' s text
     → ServesAt reading specs tag (passes_in works) (passes_in (slice_set works v w')) ws (slice_set ws v wire') v head s text
 served_at reading specs tag works w' ws wire wire' v head s text p q named low was is so link event =
     let same : at_wire (slice_set ws v wire') v ≡ wire' = get_or-set_same ws v wire' None low in
@@ -67,8 +68,8 @@ served_at reading specs tag works w' ws wire wire' v head s text p q named low w
       now = passes_set works v w' q is;
       later = so;
       wires = ap (slice_set ws v) (sym same);
-      event = subst (λ (x : Option Link). IsEvent reading named.spec.timeout_ms tag head p q x (at_wire (slice_set ws v wire') v) s text) (sym link)
-          (subst (λ (y : Option Link). IsEvent reading named.spec.timeout_ms tag head p q wire y s text) (sym same) event);
+      event = subst (λ (x : Option Link). IsEvent (unwatched reading) named.spec.timeout_ms tag head p q x (at_wire (slice_set ws v wire') v) s text) (sym link)
+          (subst (λ (y : Option Link). IsEvent (unwatched reading) named.spec.timeout_ms tag head p q wire y s text) (sym same) event);
     }
 
 -- the causes of what was served there

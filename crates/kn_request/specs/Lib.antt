@@ -3,6 +3,7 @@ pub mod Pods
 pub mod Sight
 pub mod Outside
 pub mod Answers
+pub mod Terms
 pub mod Requests
 pub mod Served
 pub mod One

@@ -18,6 +18,7 @@ use Rattle.kn_request.specs.declared.slot.Served.TheVariants as served
 use Rattle.kn_request.specs.Answers.{IsFor}
 use Rattle.kn_request.specs.Outside.{Grows, GrowsFront, Said, Talks, Tells}
 use Rattle.kn_request.specs.Served.{IsServed}
+use Rattle.kn_request.specs.Terms.{Terms, unwatched}
 
 -- the text that is meant, and the answer where it is written
 abbrev pub text_of : Meant → List ℕ
@@ -67,15 +68,15 @@ pub record IsIdle (old new : PassView) (wire wire' : Option Link) : Type 0 where
   pub unused : wire' ≡ wire
 
 -- what a good head came to: want of memory before any event, or an arrival and what followed
-abbrev pub IsEvent : (ℕ → Type 0) → ℕ → ℕ → Head → PassView → PassView → Option Link → Option Link → Served → List ℕ → Type 0
-IsEvent reading timeout tag head old new wire wire' s text =
+abbrev pub IsEvent : Terms → ℕ → ℕ → Head → PassView → PassView → Option Link → Option Link → Served → List ℕ → Type 0
+IsEvent terms timeout tag head old new wire wire' s text =
     (IsIdle old new wire wire' × (s ≡ served.Memory) × (text ≡ []))
-    ⊎ ((m : Meant) × IsServed reading timeout tag head old new wire wire' m × (s ≡ served_by m) × (text ≡ text_of m))
+    ⊎ ((m : Meant) × IsServed terms timeout tag head old new wire wire' m × (s ≡ served_by m) × (text ≡ text_of m))
 
-pub record ServesRead (reading : ℕ → Type 0) (timeout tag : ℕ) (head : Head) (old new : PassView) (wire wire' : Option Link) (said said' : Option Said) (result : Served) : Type 0 where
+pub record ServesRead (terms : Terms) (timeout tag : ℕ) (head : Head) (old new : PassView) (wire wire' : Option Link) (said said' : Option Said) (result : Served) : Type 0 where
   pub meant : Served
   pub text : List ℕ
-  pub event : IsEvent reading timeout tag head old new wire wire' meant text
+  pub event : IsEvent terms timeout tag head old new wire wire' meant text
   pub writes : Writes said said' result meant text
 
 -- what an unreadable head is answered: nothing after a fault of the caller or for want of memory
@@ -85,11 +86,11 @@ IsUnread error.ReadFault None s text = (s ≡ served.CallerFault) × (text ≡ [
 IsUnread _ None s text = (s ≡ served.Memory) × (text ≡ [])
 
 -- what a connection came to, by its head
-abbrev pub IsWay : (ℕ → Type 0) → Spec → ℕ → PassView → PassView → Option Link → Option Link → Result Head HeadError → Served → List ℕ → Type 0
-IsWay reading spec tag old new wire wire' (Ok h) s text =
-    (IsFor spec h × IsEvent reading spec.timeout_ms tag h old new wire wire' s text)
+abbrev pub IsWay : Terms → Spec → ℕ → PassView → PassView → Option Link → Option Link → Result Head HeadError → Served → List ℕ → Type 0
+IsWay terms spec tag old new wire wire' (Ok h) s text =
+    (IsFor spec h × IsEvent terms spec.timeout_ms tag h old new wire wire' s text)
     ⊎ ((IsFor spec h → ⊥) × IsIdle old new wire wire' × IsRefusal answer.NoSuchRevision s text)
-IsWay reading spec tag old new wire wire' (Err e) s text = IsIdle old new wire wire' × IsUnread e (answer_for e) s text
+IsWay terms spec tag old new wire wire' (Err e) s text = IsIdle old new wire wire' × IsUnread e (answer_for e) s text
 
 -- what became of the connection that was met last, with these bytes to read, by what is said of each way
 pub record ServesMetBy (Way : Result Head HeadError → Served → List ℕ → Type 0) (left : Option (List ℕ)) (said said' : Option Said) (result : Served) : Type 0 where
@@ -100,8 +101,8 @@ pub record ServesMetBy (Way : Result Head HeadError → Served → List ℕ → 
   pub way : Way found meant text
   pub writes : Writes said said' result meant text
 
-abbrev pub ServesMet : (ℕ → Type 0) → Spec → ℕ → PassView → PassView → Option Link → Option Link → Option (List ℕ) → Option Said → Option Said → Served → Type 0
-ServesMet reading spec tag old new wire wire' left said said' result = ServesMetBy (IsWay reading spec tag old new wire wire') left said said' result
+abbrev pub ServesMet : Terms → Spec → ℕ → PassView → PassView → Option Link → Option Link → Option (List ℕ) → Option Said → Option Said → Served → Type 0
+ServesMet terms spec tag old new wire wire' left said said' result = ServesMetBy (IsWay terms spec tag old new wire wire') left said said' result
 
 -- the text is what was meant, or a first part of it where the caller failed
 abbrev pub IsText : Served → Served → List ℕ → List ℕ → Type 0
@@ -115,13 +116,17 @@ pub record HasMetBy (Way : Result Head HeadError → Served → List ℕ → Typ
   pub answers : (result ≡ meant) ⊎ (result ≡ served.CallerFault)
   pub talks : Tells said said' (λ a b. Talks found a b × IsText result meant text b.text)
 
-abbrev pub HasMet : (ℕ → Type 0) → Spec → ℕ → PassView → PassView → Option Link → Option Link → Option Said → Option Said → Served → Type 0
-HasMet reading spec tag old new wire wire' said said' result = HasMetBy (IsWay reading spec tag old new wire wire') said said' result
+abbrev pub HasMet : Terms → Spec → ℕ → PassView → PassView → Option Link → Option Link → Option Said → Option Said → Served → Type 0
+HasMet terms spec tag old new wire wire' said said' result = HasMetBy (IsWay terms spec tag old new wire wire') said said' result
 
 -- nobody was met, or somebody was
 abbrev pub ServesOneBy : Type 0 → (Result Head HeadError → Served → List ℕ → Type 0) → Option Said → Option Said → Served → Type 0
 ServesOneBy Idle Way said said' result = (Idle × (said' ≡ said) × (result ≡ served.CallerFault)) ⊎ HasMetBy Way said said' result
 
+abbrev pub ServesGuest : Terms → Spec → ℕ → PassView → PassView → Option Link → Option Link → Option Said → Option Said → Served → Type 0
+ServesGuest terms spec tag old new wire wire' said said' result =
+    ServesOneBy (IsIdle old new wire wire') (IsWay terms spec tag old new wire wire') said said' result
+
+-- the same, where nobody watches the client
 abbrev pub ServesOne : (ℕ → Type 0) → Spec → ℕ → PassView → PassView → Option Link → Option Link → Option Said → Option Said → Served → Type 0
-ServesOne reading spec tag old new wire wire' said said' result =
-    ServesOneBy (IsIdle old new wire wire') (IsWay reading spec tag old new wire wire') said said' result
+ServesOne reading spec tag old new wire wire' said said' result = ServesGuest (unwatched reading) spec tag old new wire wire' said said' result

@@ -1,5 +1,5 @@
 -- What a pass records of one request, and what its pod is called with.
-use Rattle.std.specs.Prelude.{◌≡◌, ◌⊎◌, ◌≤◌, ℕ, Bool, true, List, [], ◌∷◌, ◌++◌, Option, Some, Result, is_ok}
+use Rattle.std.specs.Prelude.{◌≡◌, ◌⊎◌, ℕ, Bool, true, List, [], ◌∷◌, ◌++◌, Option, Some, Result, is_ok}
 use Rattle.kn_event.specs.declared.event.Act.{Act}
 use Rattle.kn_event.specs.declared.event.Act.TheVariants as act
 use Rattle.kn_event.specs.declared.event.Stand.TheVariants as stand
@@ -18,6 +18,7 @@ use Rattle.kn_head.specs.declared.head.Head.{Head}
 use Rattle.kn_head.specs.Forwarding.{forwarded}
 use Rattle.kn_request.specs.Laws.{is_lapsed}
 use Rattle.kn_request.specs.Sight.{EndsBy, IsAlone, IsLeft, StandsAt, sight}
+use Rattle.kn_request.specs.Terms.{MayCancel, Terms}
 
 -- a row of the pass: its time is the larger of a reading and the clock just before it, at most 2^42
 pub record Recorded (reading : ℕ → Type 0) (p : PassView) (a : Act) : Type 0 where
@@ -28,9 +29,9 @@ pub record Recorded (reading : ℕ → Type 0) (p : PassView) (a : Act) : Type 0
   pub row_is : row ≡ past p.number (event_at (clock_after p.opening.clock front) at a) row.told
   pub place : StartsWith p.seen (front ++ row ∷ [])
 
--- at most one cancel of the request, at or after the time that it was due
-abbrev pub AreCancels : (ℕ → Type 0) → ℕ → ℕ → PassView → List Past → Type 0
-AreCancels reading due r p xs = (xs ≡ []) ⊎ ((x : Recorded reading p (act.Cancel r)) × (due ≤ x.at) × (xs ≡ x.row ∷ []))
+-- at most one cancel of the request, at or after the time that it was due, or where its client has left
+abbrev pub AreCancels : Terms → ℕ → ℕ → PassView → List Past → Type 0
+AreCancels terms due r p xs = (xs ≡ []) ⊎ ((x : Recorded terms.reading p (act.Cancel r)) × MayCancel terms due x.at × (xs ≡ x.row ∷ []))
 
 abbrev pub AreFinishes : (ℕ → Type 0) → ℕ → Bool → PassView → List Past → Type 0
 AreFinishes reading r ok p xs = (xs ≡ []) ⊎ ((x : Recorded reading p (act.Finish r ok)) × (xs ≡ x.row ∷ []))
@@ -62,25 +63,25 @@ pub record CallsPod (head : Head) (wire wire' : Option Link) (p : PassView) (r :
   pub calls : Tells wire wire' (λ link. called link at (forwarded head way) reply)
 
 -- the request ran, and was finished
-pub record WasRun (reading : ℕ → Type 0) (due : ℕ) (head : Head) (r : ℕ) (old new : PassView) (wire wire' : Option Link) (reply : Result (List ℕ) LinkError) : Type 0 where
+pub record WasRun (terms : Terms) (due : ℕ) (head : Head) (r : ℕ) (old new : PassView) (wire wire' : Option Link) (reply : Result (List ℕ) LinkError) : Type 0 where
   pub call : CallsPod head wire wire' new r reply
   pub cancel : List Past
-  pub cancel_is : AreCancels reading due r new cancel
+  pub cancel_is : AreCancels terms due r new cancel
   pub finish : List Past
-  pub finish_is : AreFinishes reading r (is_ok reply) new finish
+  pub finish_is : AreFinishes terms.reading r (is_ok reply) new finish
   pub mine : new.mine ≡ old.mine ++ (cancel ++ finish)
-  pub ended : IsAlone new r → (c : Trace) → StandsFor new.opening c → IsFinished reading r (is_ok reply) new finish c
+  pub ended : IsAlone new r → (c : Trace) → StandsFor new.opening c → IsFinished terms.reading r (is_ok reply) new finish c
 
 -- the request waited, and was never found running
-pub record WasLost (reading : ℕ → Type 0) (due r : ℕ) (old new : PassView) : Type 0 where
+pub record WasLost (terms : Terms) (due r : ℕ) (old new : PassView) : Type 0 where
   pub cancel : List Past
-  pub cancel_is : AreCancels reading due r new cancel
+  pub cancel_is : AreCancels terms due r new cancel
   pub mine : new.mine ≡ old.mine ++ cancel
   pub ended : StandsAt new r stand.Ended
   pub lapsed : IsLeft old r → IsAlone new r → EndsBy new r (λ o. is_lapsed o ≡ true)
 
 -- ---- how a request leaves its queue
 
--- `mine` grew by nothing, or by a cancel of the request, at or after the time that it was due
-abbrev pub Cancels : (ℕ → Type 0) → ℕ → ℕ → PassView → PassView → Type 0
-Cancels reading due r old new = (new.mine ≡ old.mine) ⊎ ((x : Recorded reading new (act.Cancel r)) × (due ≤ x.at) × (new.mine ≡ old.mine ++ x.row ∷ []))
+-- `mine` grew by nothing, or by a cancel of the request, at or after the time that it was due, or where its client has left
+abbrev pub Cancels : Terms → ℕ → ℕ → PassView → PassView → Type 0
+Cancels terms due r old new = (new.mine ≡ old.mine) ⊎ ((x : Recorded terms.reading new (act.Cancel r)) × MayCancel terms due x.at × (new.mine ≡ old.mine ++ x.row ∷ []))

@@ -19,15 +19,16 @@ use Rattle.kn_request.specs.declared.meant.Meant.TheVariants as meant
 use Rattle.kn_request.specs.declared.wait.Waited.{Waited}
 use Rattle.kn_request.specs.declared.wait.Waited.TheVariants as waited
 use Rattle.kn_request.specs.Sight.{EndsBy, IsLeft, RunsAt, StandsAt, sight}
+use Rattle.kn_request.specs.Terms.{MayCancel, Terms}
 use Rattle.kn_request.specs.Requests.{Recorded, WasLost, WasRun}
 
 -- ---- waiting
 
 -- what was found
-abbrev pub IsFound : (ℕ → Type 0) → ℕ → PassView → ℕ → Waited → Type 0
-IsFound reading due p r (waited.Runs x) = RunsAt p r x
-IsFound reading due p r waited.Ended = StandsAt p r stand.Ended
-IsFound reading due p r (waited.Late now) = (due ≤ now) × reading now
+abbrev pub IsFound : Terms → ℕ → PassView → ℕ → Waited → Type 0
+IsFound terms due p r (waited.Runs x) = RunsAt p r x
+IsFound terms due p r waited.Ended = StandsAt p r stand.Ended
+IsFound terms due p r (waited.GivenUp now) = MayCancel terms due now × terms.reading now
 
 abbrev pub IsWaitingNoMore : PassView → ℕ → Type 0
 IsWaitingNoMore p r = (c : Trace) → StandsFor p.opening c → waits_by (stand_of (sight p c) r) ≡ false
@@ -35,14 +36,14 @@ IsWaitingNoMore p r = (c : Trace) → StandsFor p.opening c → waits_by (stand_
 -- ---- the whole of it
 
 -- what became of a request after its arrival, by what is meant to be answered
-abbrev pub IsCourse : (ℕ → Type 0) → ℕ → Head → ℕ → PassView → PassView → Option Link → Option Link → Meant → Type 0
-IsCourse reading due head r old new wire wire' (meant.Reply text) = WasRun reading due head r old new wire wire' (Ok text)
-IsCourse reading due head r old new wire wire' meant.LinkFault = WasRun reading due head r old new wire wire' (Err link.Failed)
-IsCourse reading due head r old new wire wire' meant.Memory = WasRun reading due head r old new wire wire' (Err link.Memory)
-IsCourse reading due head r old new wire wire' meant.Expired = (wire' ≡ wire) × WasLost reading due r old new
-IsCourse reading due head r old new wire wire' meant.QueueFull = ⊥
-IsCourse reading due head r old new wire wire' meant.Overload = ⊥
-IsCourse reading due head r old new wire wire' (meant.Full f) = ⊥
+abbrev pub IsCourse : Terms → ℕ → Head → ℕ → PassView → PassView → Option Link → Option Link → Meant → Type 0
+IsCourse terms due head r old new wire wire' (meant.Reply text) = WasRun terms due head r old new wire wire' (Ok text)
+IsCourse terms due head r old new wire wire' meant.LinkFault = WasRun terms due head r old new wire wire' (Err link.Failed)
+IsCourse terms due head r old new wire wire' meant.Memory = WasRun terms due head r old new wire wire' (Err link.Memory)
+IsCourse terms due head r old new wire wire' meant.Expired = (wire' ≡ wire) × WasLost terms due r old new
+IsCourse terms due head r old new wire wire' meant.QueueFull = ⊥
+IsCourse terms due head r old new wire wire' meant.Overload = ⊥
+IsCourse terms due head r old new wire wire' (meant.Full f) = ⊥
 
 -- a fault of the link has its cause
 abbrev pub MeantCause : ℕ → ℕ → Meant → Type 0
@@ -75,22 +76,22 @@ pub record IsRefused (r : ℕ) (new mid : PassView) (wire wire' : Option Link) (
   pub by : EndsBy new r (λ o. o ≡ Some outcome)
 
 -- the request was taken in, and went its way
-pub record IsTaken (reading : ℕ → Type 0) (due : ℕ) (head : Head) (r : ℕ) (mid new : PassView) (wire wire' : Option Link) (m : Meant) : Type 0 where
+pub record IsTaken (terms : Terms) (due : ℕ) (head : Head) (r : ℕ) (mid new : PassView) (wire wire' : Option Link) (m : Meant) : Type 0 where
   pub taken : IsLeft mid r
-  pub course : IsCourse reading due head r mid new wire wire' m
+  pub course : IsCourse terms due head r mid new wire wire' m
 
 -- the arrival was recorded, and then it was refused, or went its way. `mid` is the pass just after the arrival
-pub record HasArrived (reading : ℕ → Type 0) (timeout tag : ℕ) (head : Head) (old new : PassView) (wire wire' : Option Link) (m : Meant) : Type 0 where
+pub record HasArrived (terms : Terms) (timeout tag : ℕ) (head : Head) (old new : PassView) (wire wire' : Option Link) (m : Meant) : Type 0 where
   pub mid : PassView
   pub before : Looks old mid
   pub since : (new ≡ mid) ⊎ Looks mid new
-  pub arrive : Recorded reading mid (act.Arrive tag)
+  pub arrive : Recorded terms.reading mid (act.Arrive tag)
   pub mine : mid.mine ≡ old.mine ++ arrive.row ∷ []
   pub number : ℕ
   pub named : arrival_told arrive.row.told ≡ Some number
-  pub way : IsRefused number new mid wire wire' m ⊎ IsTaken reading (min arrive.at (2 ^ 42) + timeout) head number mid new wire wire' m
+  pub way : IsRefused number new mid wire wire' m ⊎ IsTaken terms (min arrive.at (2 ^ 42) + timeout) head number mid new wire wire' m
 
 -- what one request came to: there was no room for its arrival, or it arrived
-abbrev pub IsServed : (ℕ → Type 0) → ℕ → ℕ → Head → PassView → PassView → Option Link → Option Link → Meant → Type 0
-IsServed reading timeout tag head old new wire wire' (meant.Full f) = Misfits old (act.Arrive tag) f new × (wire' ≡ wire)
-IsServed reading timeout tag head old new wire wire' m = HasArrived reading timeout tag head old new wire wire' m
+abbrev pub IsServed : Terms → ℕ → ℕ → Head → PassView → PassView → Option Link → Option Link → Meant → Type 0
+IsServed terms timeout tag head old new wire wire' (meant.Full f) = Misfits old (act.Arrive tag) f new × (wire' ≡ wire)
+IsServed terms timeout tag head old new wire wire' m = HasArrived terms timeout tag head old new wire wire' m

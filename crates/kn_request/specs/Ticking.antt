@@ -1,9 +1,10 @@
 -- The turns of the ticker.
 use Rattle.std.specs.List.{filter}
-use Rattle.std.specs.Prelude.{◌≡◌, ◌⊎◌, ◌≤◌, ◌<◌, ◌+◌, ◌^◌, ℕ, Bool, true, false, List, [], ◌∷◌, ◌++◌, length, Option, None, Some, ⊤}
+use Rattle.std.specs.Prelude.{◌≡◌, ◌⊎◌, ◌≤◌, ◌<◌, ◌+◌, ◌^◌, ℕ, Bool, true, false, List, [], ◌∷◌, ◌++◌, map, length, Option, None, Some, ⊤}
 use Rattle.kn_event.specs.declared.event.Act.{Act}
 use Rattle.kn_event.specs.declared.event.Act.TheVariants as act
-use Rattle.kn_trace.specs.Trace.{Trace, next_starting}
+use Rattle.kn_trace.specs.Trace.{Trace}
+use Rattle.kn_book.specs.Book.{next_to_probe}
 use Rattle.kn_core.specs.State.{StandsFor}
 use Rattle.kn_cell.specs.declared.past.Past.{Past}
 use Rattle.kn_cell.specs.Lists.{Each, StartsWith}
@@ -14,7 +15,7 @@ use Rattle.kn_io.specs.declared.records.Probe.{Probe}
 use Rattle.kn_request.specs.declared.ticks.Turn.{Turn}
 use Rattle.kn_request.specs.declared.ticks.Probed.{Probed}
 use Rattle.kn_request.specs.declared.ticks.Probed.TheVariants as found
-use Rattle.kn_request.specs.Pods.{IsStarting}
+use Rattle.kn_request.specs.Pods.{IsStarting, IsStartingAt}
 use Rattle.kn_request.specs.Requests.{Recorded}
 
 -- a row of the pass at this time, or at the clock before it
@@ -35,22 +36,37 @@ pub record WasFull (old new : PassView) : Type 0 where
   pub none_left : (c : Trace) → StandsFor old.opening c
       → left_in (record old { gone = gone }) front (live_of (trace_after old.opening.spec c front)) < 1
 
--- the pod was starting, after something that was seen in the call
-pub record WasStarting (old new : PassView) (pod : ℕ) : Type 0 where
+-- ---- visits
+
+-- a pod that was probed, the address at which it was, and what it answered
+pub record Visit : Type 0 where
+  pub pod : ℕ
+  pub address : ℕ
+  pub answer : Option Bool
+
+-- what a link is told of it: the address in place of the pod
+abbrev pub probe_of : Visit → Probe
+probe_of v = record { pod = v.address; answer = v.answer }
+
+abbrev pub probes_of : List Visit → List Probe
+probes_of visits = map probe_of visits
+
+-- the pod was starting, and this was its address, after something that was seen in the call
+pub record WasStarting (old new : PassView) (pod address : ℕ) : Type 0 where
   pub front : List Past
   pub early : StartsWith new.seen front
   pub late : StartsWith front old.seen
-  pub starts : (c : Trace) → StandsFor old.opening c → IsStarting (trace_after old.opening.spec c front) pod
+  pub starts : (c : Trace) → StandsFor old.opening c → IsStartingAt old.book (trace_after old.opening.spec c front) pod address
 
--- the probed pods ascend, from this number on
-abbrev pub AreAscending : ℕ → List Probe → Type 0
+-- the visited pods ascend, from this number on
+abbrev pub AreAscending : ℕ → List Visit → Type 0
 AreAscending from [] = ⊤
-AreAscending from (p ∷ ps) = (from ≤ p.pod) × AreAscending (p.pod + 1) ps
+AreAscending from (v ∷ vs) = (from ≤ v.pod) × AreAscending (v.pod + 1) vs
 
 -- all are below
-abbrev pub AreBelow : ℕ → List Probe → Type 0
+abbrev pub AreBelow : ℕ → List Visit → Type 0
 AreBelow to [] = ⊤
-AreBelow to (p ∷ ps) = (p.pod < to) × AreBelow to ps
+AreBelow to (v ∷ vs) = (v.pod < to) × AreBelow to vs
 
 -- the rows are Ready of those that answered true, in order: all of them unless full
 abbrev pub ReadyOf : Option Bool → ℕ → Bool → (List Past → Type 0) → List Past → Type 0
@@ -58,69 +74,72 @@ ReadyOf (Some true) pod full P rows = ((x : Past) × (xs : List Past) × (rows �
 ReadyOf (Some false) pod full P rows = P rows
 ReadyOf None pod full P rows = P rows
 
-abbrev pub AreReady : Bool → List Probe → List Past → Type 0
+abbrev pub AreReady : Bool → List Visit → List Past → Type 0
 AreReady full [] rows = rows ≡ []
-AreReady full (p ∷ ps) rows = ReadyOf p.answer p.pod full (AreReady full ps) rows
+AreReady full (v ∷ vs) rows = ReadyOf v.answer v.pod full (AreReady full vs) rows
 
-abbrev pub is_probed : ℕ → List Probe → Type 0
-is_probed j [] = ⊥
-is_probed j (p ∷ ps) = (p.pod ≡ j) ⊎ is_probed j ps
+-- pod j was visited at address a
+abbrev pub is_visited : ℕ → ℕ → List Visit → Type 0
+is_visited j a [] = ⊥
+is_visited j a (v ∷ vs) = ((v.pod ≡ j) × (v.address ≡ a)) ⊎ is_visited j a vs
 
 -- a link that tells has these probes more
 abbrev pub probed_all : List Probe → Link → Link
 probed_all ps link = record link { probes = link.probes ++ ps }
 
--- a pod that starts after both of these histories
-abbrev pub StartsAtBoth : PassView → Trace → ℕ → List Past → List Past → Type 0
-StartsAtBoth p c j h k = IsStarting (trace_after p.opening.spec c h) j × IsStarting (trace_after p.opening.spec c k) j
+-- a pod that starts after both of these histories, and has this address after the first
+abbrev pub StartsAtBoth : PassView → Trace → ℕ → ℕ → List Past → List Past → Type 0
+StartsAtBoth p c j a h k = IsStartingAt p.book (trace_after p.opening.spec c h) j a × IsStarting (trace_after p.opening.spec c k) j
 
--- the probes of a turn so far, up to a pod
+-- the visits of a turn so far, up to a pod
 pub record Probing (now to : ℕ) (full : Bool) (old new : PassView) (wire wire' : Option Link) : Type 0 where
   pub later : (new ≡ old) ⊎ Looks old new
-  pub probes : List Probe
+  pub visits : List Visit
   pub rows : List Past
   pub mine : new.mine ≡ old.mine ++ rows
   pub at : Each (IsAt now new) rows
-  pub told : Tells wire wire' (probed_all probes)
-  pub ascend : AreAscending 0 probes
-  pub below : AreBelow to probes
-  pub only : Each (λ x. WasStarting old new x.pod) probes
-  pub ready : AreReady full probes rows
+  pub told : Tells wire wire' (probed_all (probes_of visits))
+  pub ascend : AreAscending 0 visits
+  pub below : AreBelow to visits
+  pub only : Each (λ v. WasStarting old new v.pod v.address) visits
+  pub ready : AreReady full visits rows
   pub over : full ≡ true → WasFull old new
-  pub starting : (c : Trace) → StandsFor old.opening c → (j : ℕ) → j < to → StartsAtBoth old c j old.seen new.seen → (is_probed j probes → ⊥) → ⊥
+  pub starting : (c : Trace) → StandsFor old.opening c → (j a : ℕ) → j < to → StartsAtBoth old c j a old.seen new.seen → (is_visited j a visits → ⊥) → ⊥
 
 -- one act was recorded, or there was no room for it
 abbrev pub TicksOnce : ℕ → Act → Bool → PassView → PassView → Type 0
 TicksOnce now what false old new = (x : Past) × (new.mine ≡ old.mine ++ x ∷ []) × (x.event.act ≡ what) × IsAt now new x
 TicksOnce now what true old new = (new.mine ≡ old.mine) × WasFull old new
 
--- the next Starting pod was probed, and its Ready recorded where it answered true
+-- the next Starting pod that has an address was probed there, and its Ready recorded where it answered true
 pub record ProbesOne (now from pod : ℕ) (full : Bool) (old new : PassView) (wire wire' : Option Link) : Type 0 where
   pub mid : List Past
   pub early : StartsWith new.seen mid
   pub late : StartsWith mid old.seen
-  pub found : (c : Trace) → StandsFor old.opening c → next_starting (trace_after old.opening.spec c mid) from ≡ Some pod
+  pub address : ℕ
+  pub found : (c : Trace) → StandsFor old.opening c → next_to_probe old.book (trace_after old.opening.spec c mid) from ≡ Some (pod, address)
   pub low : from ≤ pod
   pub answer : Option Bool
-  pub told : Tells wire wire' (probed_all (record { pod = pod; answer = answer } ∷ []))
+  pub told : Tells wire wire' (probed_all (record { pod = address; answer = answer } ∷ []))
   pub rows : List Past
   pub mine : new.mine ≡ old.mine ++ rows
   pub at : Each (IsAt now new) rows
   pub ready : ReadyOf answer pod full (λ xs. xs ≡ []) rows
   pub over : full ≡ true → WasFull old new
 
-abbrev pub HasNoStarting : PassView → PassView → ℕ → Type 0
-HasNoStarting old new from = (c : Trace) → StandsFor old.opening c → next_starting (trace_after old.opening.spec c new.seen) from ≡ None
+-- no pod from this number on is to be probed after all that is seen
+abbrev pub HasNoneToProbe : PassView → PassView → ℕ → Type 0
+HasNoneToProbe old new from = (c : Trace) → StandsFor old.opening c → next_to_probe old.book (trace_after old.opening.spec c new.seen) from ≡ None
 
 abbrev pub ProbesNext : ℕ → ℕ → PassView → PassView → Option Link → Option Link → Probed → Type 0
-ProbesNext now from old new wire wire' found.Done = (new.mine ≡ old.mine) × (wire' ≡ wire) × HasNoStarting old new from
+ProbesNext now from old new wire wire' found.Done = (new.mine ≡ old.mine) × (wire' ≡ wire) × HasNoneToProbe old new from
 ProbesNext now from old new wire wire' (found.One pod full) = (pod < 2 ^ 63) × ProbesOne now from pod full old new wire wire'
 
--- each Starting pod was probed
+-- each Starting pod that has an address was probed
 pub record ProbesAll (now : ℕ) (full : Bool) (old new : PassView) (wire wire' : Option Link) : Type 0 where
   pub to : ℕ
   pub done : Probing now to full old new wire wire'
-  pub end : HasNoStarting old new to
+  pub end : HasNoneToProbe old new to
 
 -- a Tick was recorded where one is due, unless there was no room
 pub record Ticks (now last : ℕ) (old new : PassView) (turn : Turn) : Type 0 where
@@ -132,24 +151,26 @@ pub record Ticks (now last : ℕ) (old new : PassView) (turn : Turn) : Type 0 wh
   pub early : now < last + 2000 → (turn.last ≡ last) × (tick ≡ [])
   pub over : turn.full ≡ true → WasFull old new
 
--- a whole turn: a Tick where one is due, then the probes of the Starting pods, and of no other. The rows are the Tick's and the Readies'
+-- a whole turn: a Tick where one is due, then the probes of the Starting pods at their addresses, and no other. The rows are the Tick's
+-- and the Readies'
 pub record TakesTurn (now last : ℕ) (old new : PassView) (wire wire' : Option Link) (turn : Turn) : Type 0 where
   pub later : Looks old new
   pub tick : List Past
   pub rows : List Past
-  pub probes : List Probe
+  pub visits : List Visit
   pub mine : new.mine ≡ old.mine ++ (tick ++ rows)
   pub due : last + 2000 ≤ now → (turn.last ≡ now) × (((x : Past) × (tick ≡ x ∷ []) × (x.event.act ≡ act.Tick)) ⊎ ((turn.full ≡ true) × (tick ≡ [])))
   pub early : now < last + 2000 → (turn.last ≡ last) × (tick ≡ [])
   pub at : Each (IsAt now new) (tick ++ rows)
-  pub told : Tells wire wire' (probed_all probes)
-  pub ascend : AreAscending 0 probes
-  -- no pod was probed but one that was starting
-  pub only : Each (λ x. WasStarting old new x.pod) probes
-  pub ready : AreReady turn.full probes rows
+  pub told : Tells wire wire' (probed_all (probes_of visits))
+  pub ascend : AreAscending 0 visits
+  -- no pod was probed but one that was starting, and each at the address that it had then
+  pub only : Each (λ v. WasStarting old new v.pod v.address) visits
+  -- the Readies are of the pods, and not of the addresses
+  pub ready : AreReady turn.full visits rows
   pub over : turn.full ≡ true → WasFull old new
-  -- each pod that starts at the entry and at the return was probed
-  pub starting : (c : Trace) → StandsFor old.opening c → (j : ℕ) → StartsAtBoth old c j old.seen new.seen → (is_probed j probes → ⊥) → ⊥
+  -- each pod that starts at the entry and at the return, and has an address at the entry, was probed there
+  pub starting : (c : Trace) → StandsFor old.opening c → (j a : ℕ) → StartsAtBoth old c j a old.seen new.seen → (is_visited j a visits → ⊥) → ⊥
 
 -- one turn after another, each at a reading
 abbrev pub TurnsFrom : (ℕ → Type 0) → ℕ → List ℕ → PassView → PassView → Option Link → Option Link → ℕ → Type 0

@@ -16,6 +16,7 @@ use Rattle.kn_request.specs.declared.ticks.Turn.{Turn}
 use Rattle.kn_request.specs.Answers.{IsFor}
 use Rattle.kn_request.specs.One.{IsEvent, IsRefusal, IsUnread, ServesOneBy}
 use Rattle.kn_request.specs.Outside.{Said}
+use Rattle.kn_request.specs.Terms.{unwatched}
 use Rattle.kn_request.specs.Ticking.{TakesTurn, TicksApart, Turns}
 
 -- ---- what a slot has of each revision, by the revision's place: its pass, what is told of its link, and the link's faults
@@ -66,7 +67,7 @@ pub record ServesAt (reading : ℕ → Type 0) (specs : List Spec) (tag : ℕ) (
   pub now : ps' ≡ slice_set ps v (Some new)
   pub later : (new ≡ old) ⊎ Looks old new
   pub wires : ws' ≡ slice_set ws v (at_wire ws' v)
-  pub event : IsEvent reading named.spec.timeout_ms tag head old new (at_wire ws v) (at_wire ws' v) s text
+  pub event : IsEvent (unwatched reading) named.spec.timeout_ms tag head old new (at_wire ws v) (at_wire ws' v) s text
 
 -- no pass and no link was touched
 pub record TouchesNone (ps ps' : List (Option PassView)) (ws ws' : List (Option Link)) : Type 0 where

@@ -14,7 +14,7 @@ mod wide_ticks;
 
 pub use kn_head::Answer;
 pub use laws::server_laws;
-pub use one::{serve_one, serve_read};
+pub use one::{serve_guest, serve_one, serve_read};
 pub use slot::{Ended, Served, Slot, WideSlot, Work};
 pub use ticks::{Left, Turn, tick_turn, ticker};
 pub use wide::serve_wide;

@@ -4,12 +4,14 @@ ghost use Rattle.kn_cell.specs.Shown.{Looks};
 ghost use Rattle.kn_head.specs.Answers.{answer_for};
 ghost use Rattle.kn_request.specs.Answers.{IsFor};
 ghost use Rattle.kn_request.specs.Outside.{said};
-ghost use Rattle.kn_request.specs.One.{text_of, served_by, Writes, Refuses, IsUnread, ServesRead, ServesMet, ServesOne, CallerCause, HasCauses};
+ghost use Rattle.kn_request.specs.Terms.{watched};
+ghost use Rattle.kn_request.specs.One.{text_of, served_by, Writes, Refuses, IsUnread, ServesRead, ServesMet, ServesGuest, ServesOne, CallerCause, HasCauses};
 
 use crate::meant::Meant;
 use crate::serve::serve_event;
 use crate::slot::{Served, Slot};
 use kn_cell::{Pass, RevisionCell};
+use kn_door::{NoWatch, Watch};
 use kn_event::Spec;
 use kn_head::{Answer, Forward, Head, HeadError, read_head};
 use kn_io::{Caller, Clock, Gate, PodLink, caller_laws, put_all};
@@ -66,14 +68,15 @@ fn timeout(spec: &Spec) -> u64
     spec.timeout_ms
 }
 
-/// Serves a request whose head was read.
-pub fn serve_read<R: Wait, C: Caller, L: PodLink, K: Clock, G: Gate>(
+/// Serves a request whose head was read. While it waits its client is watched.
+pub fn serve_read<R: Wait, C: Caller, W: Watch<C>, L: PodLink, K: Clock, G: Gate>(
     rt: &R,
     alloc: Global,
     cell: &RevisionCell,
     pass: &mut Pass,
     spec: &Spec,
     caller: &mut C,
+    watch: &W,
     link: &mut L,
     head: &Head,
     tag: u64,
@@ -82,7 +85,8 @@ pub fn serve_read<R: Wait, C: Caller, L: PodLink, K: Clock, G: Gate>(
 ) -> Served
     requires cell { pass.old.cell ≡ cell.now }
     ensures looks { (pass.new ≡ pass.old) ⊎ Looks pass.old pass.new }
-    ensures serves { ServesRead (K.reading clock.now) spec.now.timeout_ms tag head.now pass.old pass.new (L.told link.old) (L.told link.new) (said (C.Sink.kept caller.old) (C.Sink.held caller.old)) (said (C.Sink.kept caller.new) (C.Sink.held caller.new)) result }
+    ensures serves { ServesRead (watched (K.reading clock.now) W.leaves (C.Faulty.faults caller.old) (C.Faulty.faults caller.new))
+        spec.now.timeout_ms tag head.now pass.old pass.new (L.told link.old) (L.told link.new) (said (C.Sink.kept caller.old) (C.Sink.held caller.old)) (said (C.Sink.kept caller.new) (C.Sink.held caller.new)) result }
     ensures causes { HasCauses (C.Faulty.faults caller.old) (C.Faulty.faults caller.new) (L.Faulty.faults link.old) (L.Faulty.faults link.new) result }
 {
     let Ok(room) = Forward::reserve(alloc, head) else {
@@ -94,6 +98,8 @@ pub fn serve_read<R: Wait, C: Caller, L: PodLink, K: Clock, G: Gate>(
         cell,
         pass,
         timeout(spec),
+        caller,
+        watch,
         link,
         head,
         room,
@@ -118,13 +124,14 @@ pub fn fault_of(error: HeadError) -> Served
 }
 
 /// Reads a request of the connection that was met, and serves it.
-fn serve_met<R: Wait, C: Caller, L: PodLink, K: Clock, G: Gate>(
+fn serve_met<R: Wait, C: Caller, W: Watch<C>, L: PodLink, K: Clock, G: Gate>(
     rt: &R,
     alloc: Global,
     cell: &RevisionCell,
     pass: &mut Pass,
     spec: &Spec,
     caller: &mut C,
+    watch: &W,
     link: &mut L,
     tag: u64,
     clock: &K,
@@ -132,13 +139,14 @@ fn serve_met<R: Wait, C: Caller, L: PodLink, K: Clock, G: Gate>(
 ) -> Served
     requires cell { pass.old.cell ≡ cell.now }
     ensures looks { (pass.new ≡ pass.old) ⊎ Looks pass.old pass.new }
-    ensures serves { ServesMet (K.reading clock.now) spec.now tag pass.old pass.new (L.told link.old) (L.told link.new) (C.Source.left caller.old) (said (C.Sink.kept caller.old) (C.Sink.held caller.old)) (said (C.Sink.kept caller.new) (C.Sink.held caller.new)) result }
+    ensures serves { ServesMet (watched (K.reading clock.now) W.leaves (C.Faulty.faults caller.old) (C.Faulty.faults caller.new))
+        spec.now tag pass.old pass.new (L.told link.old) (L.told link.new) (C.Source.left caller.old) (said (C.Sink.kept caller.old) (C.Sink.held caller.old)) (said (C.Sink.kept caller.new) (C.Sink.held caller.new)) result }
     ensures causes { HasCauses (C.Faulty.faults caller.old) (C.Faulty.faults caller.new) (L.Faulty.faults link.old) (L.Faulty.faults link.new) result }
 {
     match read_head(alloc, caller) {
         Ok(head) => match is_for(spec, &head) {
             true => serve_read(
-                rt, alloc, cell, pass, spec, caller, link, &head, tag, clock, gate,
+                rt, alloc, cell, pass, spec, caller, watch, link, &head, tag, clock, gate,
             ),
             false => refuse(caller, Answer::NoSuchRevision),
         },
@@ -149,7 +157,48 @@ fn serve_met<R: Wait, C: Caller, L: PodLink, K: Clock, G: Gate>(
     }
 }
 
-/// Meets a caller and serves its request.
+/// Meets a caller and serves its request. While that waits its client is watched: where it was said to have left, the request is
+/// cancelled at once and no pod is called. What is answered goes nowhere.
+pub fn serve_guest<R: Wait, C: Caller, L: PodLink, K: Clock, G: Gate, W: Watch<C>>(
+    rt: &R,
+    alloc: Global,
+    cell: &RevisionCell,
+    pass: &mut Pass,
+    spec: &Spec,
+    slot: &mut Slot<C, L>,
+    tag: u64,
+    clock: &K,
+    gate: &G,
+    watch: &W,
+) -> Served
+    requires cell { pass.old.cell ≡ cell.now }
+    ensures looks { (pass.new ≡ pass.old) ⊎ Looks pass.old pass.new }
+    ensures serves { ServesGuest (watched (K.reading clock.now) W.leaves (C.Faulty.faults slot.old.caller) (C.Faulty.faults slot.new.caller))
+        spec.now tag pass.old pass.new (L.told slot.old.link) (L.told slot.new.link) (said (C.Sink.kept slot.old.caller) (C.Sink.held slot.old.caller))
+        (said (C.Sink.kept slot.new.caller) (C.Sink.held slot.new.caller)) result }
+    ensures causes { HasCauses (C.Faulty.faults slot.old.caller) (C.Faulty.faults slot.new.caller) (L.Faulty.faults slot.old.link) (L.Faulty.faults slot.new.link) result }
+    ensures work { slot.new.work ≡ slot.old.work }
+{
+    caller_laws();
+    match slot.caller.meet() {
+        Err(_) => Served::CallerFault,
+        Ok(()) => serve_met(
+            rt,
+            alloc,
+            cell,
+            pass,
+            spec,
+            &mut slot.caller,
+            watch,
+            &mut slot.link,
+            tag,
+            clock,
+            gate,
+        ),
+    }
+}
+
+/// Meets a caller and serves its request. Nobody watches its client.
 pub fn serve_one<R: Wait, C: Caller, L: PodLink, K: Clock, G: Gate>(
     rt: &R,
     alloc: Global,
@@ -167,20 +216,7 @@ pub fn serve_one<R: Wait, C: Caller, L: PodLink, K: Clock, G: Gate>(
     ensures causes { HasCauses (C.Faulty.faults slot.old.caller) (C.Faulty.faults slot.new.caller) (L.Faulty.faults slot.old.link) (L.Faulty.faults slot.new.link) result }
     ensures work { slot.new.work ≡ slot.old.work }
 {
-    caller_laws();
-    match slot.caller.meet() {
-        Err(_) => Served::CallerFault,
-        Ok(()) => serve_met(
-            rt,
-            alloc,
-            cell,
-            pass,
-            spec,
-            &mut slot.caller,
-            &mut slot.link,
-            tag,
-            clock,
-            gate,
-        ),
-    }
+    serve_guest(
+        rt, alloc, cell, pass, spec, slot, tag, clock, gate, &NoWatch,
+    )
 }

@@ -3,6 +3,7 @@ ghost use Rattle.std.specs.Prelude.{◌≡◌, ◌≢◌, ◌⊎◌, ◌≤◌, 
 ghost use Rattle.kn_sizes.specs.Told.{arrival_told};
 ghost use Rattle.kn_cell.specs.Shown.{Looks};
 ghost use Rattle.kn_head.specs.Forwarding.{forwarded};
+ghost use Rattle.kn_request.specs.Terms.{watched};
 ghost use Rattle.kn_request.specs.Sight.{HasCourse, IsKnown, IsOwn};
 ghost use Rattle.kn_request.specs.Served.{IsCourse, IsServed, IsTakenIn, IsTurnedAway, MeantCause};
 
@@ -11,14 +12,15 @@ use crate::meant::Meant;
 use crate::run::run_at;
 use crate::wait::leave_queue;
 use kn_cell::{Course, Pass, RevisionCell};
+use kn_door::Watch;
 use kn_event::Told;
 use kn_head::{Forward, Head};
-use kn_io::{Clock, Gate, LinkError, PodLink};
+use kn_io::{Caller, Clock, Gate, LinkError, PodLink};
 use std::alloc::Global;
 use std::sync::Wait;
 
 /// A request that was taken in waits, runs and is finished, or waits in vain.
-fn serve_request<R: Wait, L: PodLink, K: Clock>(
+fn serve_request<R: Wait, C: Caller, W: Watch<C>, L: PodLink, K: Clock>(
     rt: &R,
     alloc: Global,
     cell: &RevisionCell,
@@ -26,6 +28,8 @@ fn serve_request<R: Wait, L: PodLink, K: Clock>(
     r: u64,
     course: Course,
     due: u64,
+    caller: &mut C,
+    watch: &W,
     link: &mut L,
     head: &Head,
     room: Forward,
@@ -37,11 +41,14 @@ fn serve_request<R: Wait, L: PodLink, K: Clock>(
     requires course { HasCourse pass.old r course }
     requires room { (proxied : Bool) → length (forwarded head.now proxied) ≤ room }
     ensures looks { (pass.new ≡ pass.old) ⊎ Looks pass.old pass.new }
-    ensures course { IsCourse (K.reading clock.now) due head.now r pass.old pass.new (L.told link.old) (L.told link.new)
-        result }
+    ensures course { IsCourse (watched (K.reading clock.now) W.leaves (C.Faulty.faults caller.old) (C.Faulty.faults caller.new))
+        due head.now r pass.old pass.new (L.told link.old) (L.told link.new) result }
     ensures cause { MeantCause (L.Faulty.faults link.old) (L.Faulty.faults link.new) result }
+    ensures kept { C.Sink.kept caller.new ≡ C.Sink.kept caller.old }
+    ensures held { C.Sink.held caller.new ≡ C.Sink.held caller.old }
+    ensures never_falls { C.Faulty.faults caller.old ≤ C.Faulty.faults caller.new }
 {
-    match leave_queue(rt, cell, pass, r, course, due, clock) {
+    match leave_queue(rt, cell, pass, r, course, due, caller, watch, clock) {
         None => Meant::Expired,
         Some(run) => match run_at(rt, alloc, cell, pass, r, run, link, head, room, clock) {
             Ok(text) => Meant::Reply(text),
@@ -69,12 +76,14 @@ fn taken_in(told: Told) -> Result<u64, Meant>
 }
 
 /// Records the arrival of a request, and serves it. There is room for it as it may be sent on.
-pub fn serve_event<R: Wait, L: PodLink, K: Clock, G: Gate>(
+pub fn serve_event<R: Wait, C: Caller, W: Watch<C>, L: PodLink, K: Clock, G: Gate>(
     rt: &R,
     alloc: Global,
     cell: &RevisionCell,
     pass: &mut Pass,
     timeout: u64,
+    caller: &mut C,
+    watch: &W,
     link: &mut L,
     head: &Head,
     room: Forward,
@@ -86,9 +95,12 @@ pub fn serve_event<R: Wait, L: PodLink, K: Clock, G: Gate>(
     requires timeout { timeout ≤ 2 ^ 42 }
     requires room { (proxied : Bool) → length (forwarded head.now proxied) ≤ room }
     ensures looks { Looks pass.old pass.new }
-    ensures served { IsServed (K.reading clock.now) timeout tag head.now pass.old pass.new
-        (L.told link.old) (L.told link.new) result }
+    ensures served { IsServed (watched (K.reading clock.now) W.leaves (C.Faulty.faults caller.old) (C.Faulty.faults caller.new))
+        timeout tag head.now pass.old pass.new (L.told link.old) (L.told link.new) result }
     ensures cause { MeantCause (L.Faulty.faults link.old) (L.Faulty.faults link.new) result }
+    ensures kept { C.Sink.kept caller.new ≡ C.Sink.kept caller.old }
+    ensures held { C.Sink.held caller.new ≡ C.Sink.held caller.old }
+    ensures never_falls { C.Faulty.faults caller.old ≤ C.Faulty.faults caller.new }
 {
     server_laws();
     let at = clock.now_ms();
@@ -100,7 +112,7 @@ pub fn serve_event<R: Wait, L: PodLink, K: Clock, G: Gate>(
         Ok(arrival) => match taken_in(arrival.0) {
             Err(meant) => meant,
             Ok(r) => serve_request(
-                rt, alloc, cell, pass, r, arrival.1, due, link, head, room, clock,
+                rt, alloc, cell, pass, r, arrival.1, due, caller, watch, link, head, room, clock,
             ),
         },
     }

@@ -59,14 +59,14 @@ fn act_once<R: Wait>(rt: &R, cell: &RevisionCell, pass: &mut Pass, what: Act, no
     }
 }
 
-/// What was found of the next Starting pod: none, or its number, and whether there was no room for its Ready.
+/// What was found of the next Starting pod that has an address: none, or its number, and whether there was no room for its Ready.
 #[derive(Clone, Copy, Debug, PartialEq, Eq, Drop)]
 pub enum Probed {
     Done,
     One(u64, bool),
 }
 
-/// Probes the least Starting pod that is not below this number.
+/// Probes the least Starting pod that is not below this number and has an address, at its address.
 fn probe_next<R: Wait, L: PodLink>(
     rt: &R,
     cell: &RevisionCell,
@@ -80,10 +80,10 @@ fn probe_next<R: Wait, L: PodLink>(
     ensures next { ProbesNext now from pass.old pass.new (L.told keeper.old) (L.told keeper.new) result }
     ensures never_falls { L.Faulty.faults keeper.old ≤ L.Faulty.faults keeper.new }
 {
-    match cell.next_starting(rt, pass, from) {
+    match cell.next_to_probe(rt, pass, from) {
         None => Probed::Done,
-        Some(pod) => {
-            let answer = keeper.probe(pod);
+        Some((pod, address)) => {
+            let answer = keeper.probe(address);
             match answer {
                 Err(_) => Probed::One(pod, false),
                 Ok(ready) => match ready {
@@ -104,7 +104,7 @@ fn either(a: bool, b: bool) -> bool
     a || b
 }
 
-/// Probes all Starting pods, in order, and says whether there was no room for a Ready.
+/// Probes all Starting pods that have an address, in order, and says whether there was no room for a Ready.
 fn probe_all<R: Wait, L: PodLink>(
     rt: &R,
     cell: &RevisionCell,
@@ -156,7 +156,8 @@ fn tick_once<R: Wait>(rt: &R, cell: &RevisionCell, pass: &mut Pass, now: u64, la
     }
 }
 
-/// One turn: a Tick where one is due, then the probes of the Starting pods.
+/// One turn: a Tick where one is due, then the probes of the Starting pods, each at its address. A pod that waits for an
+/// address isn't probed. Where the cell has no book of addresses, a pod's number is its address.
 pub fn tick_turn<R: Wait, L: PodLink>(
     rt: &R,
     cell: &RevisionCell,

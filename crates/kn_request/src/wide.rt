@@ -2,12 +2,14 @@
 ghost use Rattle.std.specs.Prelude.{◌≡◌, ◌⊎◌, Some, IfSome, IfNone, length, map};
 ghost use Rattle.kn_cell.specs.Shown.{Looks, PassView};
 ghost use Rattle.kn_request.specs.Outside.{said};
+ghost use Rattle.kn_request.specs.Terms.{unwatched};
 ghost use Rattle.kn_request.specs.One.{HasCauses, ServesMetBy, ServesRead};
 ghost use Rattle.kn_request.specs.Wide.{EachPass, IsForNone, IsNamed, IsWideWay, ServesWide, WideCauses, faults_in, memories_in, passes_in};
 
 use crate::one::{fault_of, is_for, refuse, serve_read};
 use crate::slot::{Ended, Served, WideSlot, Work};
 use kn_cell::RevisionCell;
+use kn_door::NoWatch;
 use kn_event::Spec;
 use kn_head::{Answer, Head, read_head};
 use kn_io::{Caller, Clock, Gate, PodLink, caller_laws};
@@ -44,7 +46,7 @@ fn serve_with<R: Wait, C: Caller, L: PodLink, K: Clock, G: Gate>(
 ) -> Served
     requires pass { (p : PassView) × (work.old.pass ≡ Some p) × (p.cell ≡ cell.now) }
     ensures pass { (p : PassView) → work.old.pass ≡ Some p → (q : PassView) × (work.new.pass ≡ Some q) × ((q ≡ p) ⊎ Looks p q)
-        × ServesRead (K.reading clock.now) spec.now.timeout_ms tag head.now p q (L.told link.old) (L.told link.new) (said (C.Sink.kept caller.old) (C.Sink.held caller.old)) (said (C.Sink.kept caller.new) (C.Sink.held caller.new)) result }
+        × ServesRead (unwatched (K.reading clock.now)) spec.now.timeout_ms tag head.now p q (L.told link.old) (L.told link.new) (said (C.Sink.kept caller.old) (C.Sink.held caller.old)) (said (C.Sink.kept caller.new) (C.Sink.held caller.new)) result }
     ensures causes { HasCauses (C.Faulty.faults caller.old) (C.Faulty.faults caller.new) (L.Faulty.faults link.old) (L.Faulty.faults link.new) result }
     ensures flags { (work.new.fault ≡ work.old.fault) × (work.new.memory ≡ work.old.memory) }
 {
@@ -54,7 +56,7 @@ fn serve_with<R: Wait, C: Caller, L: PodLink, K: Clock, G: Gate>(
         Some(pass) => {
             let mut pass = pass;
             let served = serve_read(
-                rt, alloc, cell, &mut pass, spec, caller, link, head, tag, clock, gate,
+                rt, alloc, cell, &mut pass, spec, caller, &NoWatch, link, head, tag, clock, gate,
             );
             work.pass = Some(pass);
             served

@@ -2,6 +2,7 @@
 ghost use Rattle.std.specs.Prelude.{◌≤◌};
 
 use crate::addressed::right_calls;
+use crate::beside::show_figures;
 use crate::lasting::{COUNT, MORE, ROOM, Rows, last};
 use crate::outcome::{Outcome, Plan, carry_out};
 use crate::replay::replay;
@@ -384,5 +385,6 @@ pub fn show<R: Print + AllocGlobal + Clock + Threads + Wait + Sync>(rt: &R) -> i
     show_taken(rt, 1)?;
     show_taken(rt, 4)?;
     show_taken(rt, 32)?;
-    show_addressed(rt)
+    show_addressed(rt)?;
+    show_figures(rt)
 }

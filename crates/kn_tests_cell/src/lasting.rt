@@ -41,6 +41,19 @@ pub struct Rows {
     pub left: u64,
 }
 
+impl Rows {
+    /// No row yet.
+    pub fn new() -> Rows {
+        Rows {
+            count: 0,
+            most: 0,
+            in_order: true,
+            full: false,
+            left: 0,
+        }
+    }
+}
+
 impl Register for Rows {
     fn note(&mut self, rows: &[Past]) {
         self.most = self.most.max(rows.len() as u64);
@@ -55,7 +68,8 @@ impl Register for Rows {
     }
 }
 
-fn take_rows<R: Wait, G: Register>(
+/// Takes the rows out that are there.
+pub fn take_rows<R: Wait, G: Register>(
     rt: &R,
     cell: &RevisionCell,
     scribe: &mut Pass,
@@ -228,13 +242,7 @@ fn use_up<R: Threads + Wait + Sync>(
     requires empty { rows.old.items ≡ [] }
     requires room { 100 ≤ vec_capacity rows.old }
 {
-    let mut all = Rows {
-        count: 0,
-        most: 0,
-        in_order: true,
-        full: false,
-        left: 0,
-    };
+    let mut all = Rows::new();
     fill(rt, &cell, &mut scribe, rows, &mut all);
     let (revision, history) = cell.close(scribe);
     drop(revision);

@@ -6,7 +6,9 @@
 
 mod addressed;
 mod bells;
+mod beside;
 mod cases;
+mod figures;
 mod lasting;
 mod meeting;
 mod outcome;

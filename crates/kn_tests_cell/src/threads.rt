@@ -43,7 +43,7 @@ fn act_of(word: u64) -> Act {
 }
 
 /// So many requests arrive, and each is finished where it runs.
-fn serve<R: Wait>(rt: &R, cell: &RevisionCell, pass: &mut Pass, count: u64)
+pub fn serve<R: Wait>(rt: &R, cell: &RevisionCell, pass: &mut Pass, count: u64)
     requires { pass.old.cell ≡ cell.now }
     ensures { IsStill pass.old pass.new }
 {

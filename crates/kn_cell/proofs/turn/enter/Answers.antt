@@ -32,8 +32,8 @@ record-requires-clause-added c =
       legal = subst (λ (u : View). IsLegal (opening u.key) (u.seen ++ row ∷ [])) same on.legal;
     }
 
-pub ring_called-requires-clause-slot : goal.ring_called-requires-clause-slot
-ring_called-requires-clause-slot c =
+pub ring_called-left-requires-clause-slot : goal.ring_called-left-requires-clause-slot
+ring_called-left-requires-clause-slot c =
     let t = c.requires.turn in
     let y = c.in-Ok.ensures.ok t.value t.slot in
     (y.0, ap (λ (m : Me DeskState View). m.1) (c.record.ensures.seen y.0 y.1) ∙ y.1)
@@ -47,7 +47,7 @@ returns-in-Ok-clause-ok c =
     let a = subst (λ n. Applies t.value n c.args.act c.args.time told y.0) (sym c.requires.number) y.2 in
     let on = applied m.0 t.value c.args.act c.args.time told y.0 t.bounded t.goes t.gone t.legal a in
     let counted = recorded_is m.0 c.args.act c.args.time told y.0 c.apply_at.new.place.me c.record.new.place.me on c.apply_at.ensures.same.2 y.1 (c.record.ensures.seen y.0 y.1) in
-    entered c.args.act c.args.time told y.0 m c.ring_called.new.place.me t on (c.ring_called.ensures.same.2 ∙ counted)
+    entered c.args.act c.args.time told y.0 m c.ring_called-left.new.place.me t on (c.ring_called-left.ensures.same.2 ∙ counted)
 
 pub apply_at-requires-clause-slot : goal.apply_at-requires-clause-slot
 apply_at-requires-clause-slot c =

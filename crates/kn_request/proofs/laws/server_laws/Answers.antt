@@ -1,5 +1,5 @@
 use Rattle.kn_request.proofs.LawFacts.{made_of, keeps_of, known_of, waits_of, cancelled_of, goes_on_of, runs_of, ends_of, cancel_of, finish_of, told_of_all}
-use Rattle.kn_request.proofs.PodFacts.{next_of, least_of, none_of, created_of, stay_of, gone_of}
+use Rattle.kn_request.proofs.PodFacts.{next_of, least_of, none_of, created_of, stay_of, gone_of, kept_of}
 use Rattle.kn_request.proofs.laws.server_laws.Goals as goal
 
 pub returns-clause-request : goal.returns-clause-request
@@ -25,10 +25,12 @@ pub returns-clause-pods : goal.returns-clause-pods
 returns-clause-pods c = record {
   tick_need = c.need_laws.ensures.tick;
   ready_need = c.need_laws.ensures.ready;
-  next = next_of c.starting_laws.ensures.next;
-  least = least_of c.starting_laws.ensures.next;
-  none = none_of c.starting_laws.ensures.next;
+  next = next_of c.starting_laws.ensures.next c.book_laws.ensures.probe;
+  least = least_of c.starting_laws.ensures.next c.book_laws.ensures.probe;
+  none = none_of c.starting_laws.ensures.next c.book_laws.ensures.probe c.fact_laws.ensures.members.starting_live c.book_laws.ensures.turns;
   known = created_of c.starting_laws.ensures.created;
   stay = stay_of c.starting_laws.ensures.stay;
   gone = gone_of c.starting_laws.ensures.gone;
+  keeps = kept_of c.step_laws.ensures.made c.fact_laws.ensures.members.starting_live c.book_laws.ensures.kept;
+  plain = λ t j starts. (starts, (c.book_laws.ensures.number t j).0);
 }

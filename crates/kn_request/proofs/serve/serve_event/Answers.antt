@@ -1,4 +1,5 @@
 use Rattle.std.proofs.Common.{refl, ◌+◌, ap}
+use Rattle.kn_request.specs.Terms.{watched}
 use Rattle.kn_request.proofs.Later.{looks_from}
 use Rattle.kn_request.proofs.Arrivals.{away_served, served_of, told_left, told_known, told_some}
 use Rattle.kn_request.proofs.serve.serve_event.Goals as goal
@@ -20,7 +21,7 @@ returns-in-Err-clause-served g c = (c.in-Err.ensures.full, refl)
 pub returns-in-Err-taken_in-clause-served : goal.returns-in-Err-taken_in-clause-served
 returns-in-Err-taken_in-clause-served g c =
     let t = c.in-Err-taken_in.ensures in
-    away_served c.server_laws.ensures.request (g.K.Clock.reading c.args.clock.now) c.args.timeout c.args.tag c.now_ms-at.result t.0 c.args.head.now c.in-Ok.arrival.0 t.1 c.in-Err-taken_in.meant c.args.pass.now c.arrive-arrived.new.pass
+    away_served c.server_laws.ensures.request (watched (g.K.Clock.reading c.args.clock.now) g.W.Watch.leaves (g.C.Faulty.faults c.args.caller.now) (g.C.Faulty.faults c.args.caller.now)) c.args.timeout c.args.tag c.now_ms-at.result t.0 c.args.head.now c.in-Ok.arrival.0 t.1 c.in-Err-taken_in.meant c.args.pass.now c.arrive-arrived.new.pass
     (g.L.PodLink.told c.args.link.now) c.arrive-arrived.ensures.looks c.in-Ok.ensures.ok c.now_ms-at.ensures t.2 t.3 t.4 t.5
 
 pub returns-in-Ok-taken_in-clause-looks : goal.returns-in-Ok-taken_in-clause-looks
@@ -37,5 +38,5 @@ returns-in-Ok-taken_in-clause-served g c =
     let t = c.in-Ok-taken_in.ensures in
     let r = c.in-Ok-taken_in.r in
     let left = told_left c.server_laws.ensures.request c.args.tag time r told t.0 p q l x t.1 t.2 t.3 in
-    served_of (g.K.Clock.reading c.args.clock.now) c.args.timeout c.args.tag time (c.min.result + c.args.timeout) r told c.args.head.now p q c.serve_request.new.pass (g.L.PodLink.told c.args.link.now) (g.L.PodLink.told c.serve_request.new.link)
+    served_of (watched (g.K.Clock.reading c.args.clock.now) g.W.Watch.leaves (g.C.Faulty.faults c.args.caller.now) (g.C.Faulty.faults c.serve_request.new.caller)) c.args.timeout c.args.tag time (c.min.result + c.args.timeout) r told c.args.head.now p q c.serve_request.new.pass (g.L.PodLink.told c.args.link.now) (g.L.PodLink.told c.serve_request.new.link)
     c.serve_request.result l x c.now_ms-at.ensures c.serve_request.ensures.looks t.1 (ap (λ n. n + c.args.timeout) c.min.ensures) left c.serve_request.ensures.course

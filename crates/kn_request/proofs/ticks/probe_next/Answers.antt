@@ -12,37 +12,37 @@ use Rattle.kn_request.proofs.ticks.probe_next.Goals as goal
 pub returns-in-Err-clause-next : goal.returns-in-Err-clause-next
 returns-in-Err-clause-next g c =
     let p = c.args.pass.now in
-    let a = c.next_starting.new.pass in (
+    let a = c.next_to_probe.new.pass in (
       c.in-Some.ensures.most,
-      one_probe c.args.now c.args.from c.in-Some.pod None p a a (g.L.PodLink.told c.args.keeper.now) (g.L.PodLink.told c.probe-answer.new.self) false [] c.next_starting.ensures.looks c.next_starting.ensures.mine (inl refl)
-          c.in-Some.ensures.starting c.in-Some.ensures.from c.in-Err.ensures.recorded (sym (append-nil a.mine)) (none (IsAt c.args.now a)) refl (λ e. cc),
+      one_probe c.args.now c.args.from c.in-Some.pod c.in-Some.address None p a a (g.L.PodLink.told c.args.keeper.now) (g.L.PodLink.told c.probe-answer.new.self) false [] c.next_to_probe.ensures.looks c.next_to_probe.ensures.mine (inl refl)
+          c.in-Some.ensures.probe c.in-Some.ensures.from c.in-Err.ensures.recorded (sym (append-nil a.mine)) (none (IsAt c.args.now a)) refl (λ e. cc),
     )
 
 pub returns-in-false-clause-next : goal.returns-in-false-clause-next
 returns-in-false-clause-next g c =
     let p = c.args.pass.now in
-    let a = c.next_starting.new.pass in
+    let a = c.next_to_probe.new.pass in
     let wire = g.L.PodLink.told c.args.keeper.now in
     let wire' = g.L.PodLink.told c.probe-answer.new.self in
-    let told = subst (λ (b : Bool). Tells wire wire' (λ (link : Link). probed {E = Failed} link c.in-Some.pod (Ok b))) c.in-false.is c.in-Ok.ensures.recorded in (
+    let told = subst (λ (b : Bool). Tells wire wire' (λ (link : Link). probed {E = Failed} link c.in-Some.address (Ok b))) c.in-false.is c.in-Ok.ensures.recorded in (
       c.in-Some.ensures.most,
-      one_probe c.args.now c.args.from c.in-Some.pod (Some false) p a a wire wire' false [] c.next_starting.ensures.looks c.next_starting.ensures.mine (inl refl)
-          c.in-Some.ensures.starting c.in-Some.ensures.from told (sym (append-nil a.mine)) (none (IsAt c.args.now a)) refl (λ e. cc),
+      one_probe c.args.now c.args.from c.in-Some.pod c.in-Some.address (Some false) p a a wire wire' false [] c.next_to_probe.ensures.looks c.next_to_probe.ensures.mine (inl refl)
+          c.in-Some.ensures.probe c.in-Some.ensures.from told (sym (append-nil a.mine)) (none (IsAt c.args.now a)) refl (λ e. cc),
     )
 
 pub returns-in-true-clause-next : goal.returns-in-true-clause-next
 returns-in-true-clause-next g c =
     let p = c.args.pass.now in
-    let a = c.next_starting.new.pass in
+    let a = c.next_to_probe.new.pass in
     let q = c.act_once-full.new.pass in
     let wire = g.L.PodLink.told c.args.keeper.now in
     let wire' = g.L.PodLink.told c.probe-answer.new.self in
-    let told = subst (λ (b : Bool). Tells wire wire' (λ (link : Link). probed {E = Failed} link c.in-Some.pod (Ok b))) c.in-true.is c.in-Ok.ensures.recorded in
+    let told = subst (λ (b : Bool). Tells wire wire' (λ (link : Link). probed {E = Failed} link c.in-Some.address (Ok b))) c.in-true.is c.in-Ok.ensures.recorded in
     let r = ready_rows c.args.now c.in-Some.pod c.act_once-full.result a q c.act_once-full.ensures.once in (
       c.in-Some.ensures.most,
-      one_probe c.args.now c.args.from c.in-Some.pod (Some true) p a q wire wire' c.act_once-full.result r.rows c.next_starting.ensures.looks c.next_starting.ensures.mine (inr c.act_once-full.ensures.looks)
-          c.in-Some.ensures.starting c.in-Some.ensures.from told r.mine r.at r.ready r.over,
+      one_probe c.args.now c.args.from c.in-Some.pod c.in-Some.address (Some true) p a q wire wire' c.act_once-full.result r.rows c.next_to_probe.ensures.looks c.next_to_probe.ensures.mine (inr c.act_once-full.ensures.looks)
+          c.in-Some.ensures.probe c.in-Some.ensures.from told r.mine r.at r.ready r.over,
     )
 
 pub returns-in-None-clause-next : goal.returns-in-None-clause-next
-returns-in-None-clause-next g c = (c.next_starting.ensures.mine, refl, none_found c.args.from c.args.pass.now c.next_starting.new.pass c.next_starting.ensures.looks c.in-None.ensures.starting)
+returns-in-None-clause-next g c = (c.next_to_probe.ensures.mine, refl, none_found c.args.from c.args.pass.now c.next_to_probe.new.pass c.next_to_probe.ensures.looks c.in-None.ensures.probe)

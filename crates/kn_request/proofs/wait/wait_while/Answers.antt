@@ -1,4 +1,4 @@
-use Rattle.std.proofs.Common.{◌≡◌, ◌⊎◌, sym, inr, ap, subst, ◌∙◌}
+use Rattle.std.proofs.Common.{◌≡◌, ◌⊎◌, sym, inr, ap, subst, ◌∙◌, arith}
 use Rattle.kn_cell.specs.Shown.{PassView, Looks}
 use Rattle.kn_request.proofs.Later.{cell_is, is_over, known_after, looks_after}
 use Rattle.kn_request.proofs.wait.wait_while.Goals as goal
@@ -27,4 +27,7 @@ loop-preserved g c =
       cell = cell_is c.wait.new.pass c.course.new.pass c.course.ensures.looks ∙ (ap (λ (p : PassView). p.cell) c.wait.ensures ∙ c.loop.invariant.cell);
       mine = c.course.ensures.mine ∙ (ap (λ (p : PassView). p.mine) c.wait.ensures ∙ c.loop.invariant.mine);
       seen = inr looks;
+      kept = c.has_left.ensures.kept ∙ c.loop.invariant.kept;
+      held = c.has_left.ensures.held ∙ c.loop.invariant.held;
+      faults = let i = c.loop.invariant.faults in let m = c.has_left.ensures.never_falls in omega (arith, i, m);
     }

@@ -10,6 +10,7 @@ use Rattle.kn_head.specs.declared.answer.Answer.TheVariants as answer
 use Rattle.kn_head.specs.Answers.{answered}
 use Rattle.kn_request.specs.declared.slot.Served.TheVariants as served
 use Rattle.kn_request.specs.One.{IsEvent, IsUnread, Refuses, Writes}
+use Rattle.kn_request.specs.Terms.{unwatched}
 use Rattle.kn_request.specs.Wide.{ServesAt, WideCauses, passes_in}
 use Rattle.kn_request.proofs.Talking.{said_stays, silent}
 use Rattle.kn_request.proofs.WideFacts.{causes_at, causes_from, each_stays, flags_stay, served_at, work_has}
@@ -50,7 +51,7 @@ returns-in-Some-clause-serves g c =
     let wire = told (slice_index_or c.args.links.now v c.index-links-v.result) in
     let wire' = told s.new.link in
     let reading = g.K.Clock.reading c.args.clock.now in
-    let event = subst (λ (d : Spec). IsEvent reading d.timeout_ms c.args.tag c.in-Ok.head p.0 q wire wire' r.meant r.text) spec r.event in
+    let event = subst (λ (d : Spec). IsEvent (unwatched reading) d.timeout_ms c.args.tag c.in-Ok.head p.0 q wire wire' r.meant r.text) spec r.event in
     let it = served_at reading c.args.specs.now c.args.tag c.args.works.now s.new.work ws wire wire' v c.in-Ok.head r.meant r.text p.0 q named (omega (arith, inside, links, long)) p.1 x.1 x.2 was event in
     let same = said_stays (kept old) (kept mid) (held old) (held mid) (sym (g.met.C.Caller.together mid) ∙ (c.read_head.ensures.apart_stays ∙ g.met.C.Caller.together old)) in
     let new = s.new.caller in

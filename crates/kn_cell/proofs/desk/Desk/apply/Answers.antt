@@ -5,6 +5,7 @@ use Rattle.kn_trace.specs.Events.{react}
 use Rattle.kn_trace.specs.Trace.{Trace}
 use Rattle.kn_book.specs.State.{StandsFor as IsBookOf}
 use Rattle.kn_core.specs.State.{StandsFor}
+use Rattle.kn_figures.specs.Tallies.{IsTallyOf}
 use Rattle.kn_cell.specs.Desk.{event_at}
 use Rattle.kn_cell.specs.State.{live_in}
 use Rattle.kn_cell.proofs.Bookkeeping.{has_next, has_room}
@@ -69,4 +70,7 @@ returns-clause-ok c =
       book = rw (← c.self.view_is) (λ t s h.
           subst (λ e. IsBookOf c.apply.new.self (t ++ react c.self.inside.revision.spec t e)) is
           (subst (λ es. IsBookOf c.apply.new.self (t ++ es)) (c.entries.ensures ∙ c.step-told.ensures.logged t s) (c.apply.ensures.stands t h)));
+      tally = rw (← c.self.view_is) (λ t counted s h.
+          subst (λ e. IsTallyOf c.apply-2.new.self (counted ++ react c.self.inside.revision.spec t e)) is
+          (subst (λ es. IsTallyOf c.apply-2.new.self (counted ++ es)) (c.entries-2.ensures ∙ c.step-told.ensures.logged t s) (c.apply-2.ensures counted h)));
     }

@@ -1,0 +1,4 @@
+pub mod Kinds
+pub mod Tallies
+pub mod Figures
+pub mod Laws
