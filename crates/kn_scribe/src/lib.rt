@@ -6,4 +6,4 @@ mod round;
 mod scribe;
 
 pub use doors::Doors;
-pub use scribe::Scribe;
+pub use scribe::{Scribe, rows_for};

@@ -14,6 +14,17 @@ use kn_session::Attendant;
 use std::alloc::Global;
 use std::sync::Wait;
 
+/// No rows, and memory for as many as a cell has room for.
+pub fn rows_for(alloc: Global, room: u64) -> Result<Vec<Past>, Memory>
+    ensures none { IfOk result (λ rows. rows.items ≡ []) }
+    ensures room { IfOk result (λ rows. room ≤ vec_capacity rows) }
+{
+    match Vec::with_capacity(alloc, room as usize) {
+        Ok(rows) => Ok(rows),
+        Err(_) => Err(Memory),
+    }
+}
+
 /// Prints the rows of a lasting cell as they come, and closes the doors: that of the clients once the server is to stop or nothing
 /// can be written, and that of the page last of all.
 #[derive(Drop)]
@@ -29,28 +40,25 @@ pub struct Scribe<'a, O, K, T, D, E> {
 }
 
 impl<'a, O: Sink, K: Clock, T: Stop, D: Close, E: Close> Scribe<'a, O, K, T, D, E> {
-    /// A scribe of a cell with this room, in rows, that has printed nothing.
+    /// A scribe that has printed nothing. It takes rows out into these, which are none so far.
     pub fn new(
-        alloc: Global,
-        room: u64,
+        rows: Vec<Past>,
         out: &'a mut O,
         clock: &'a K,
         stop: &'a mut T,
         doors: &'a Doors<'a, D, E>,
-    ) -> Result<Scribe<'a, O, K, T, D, E>, Memory>
-        ensures out { IfOk result (λ s. (s.out.ghost_name ≡ out.entry.ghost_name) × (s.out.now ≡ out.old)) }
-        ensures rows { IfOk result (λ s. (s.rows.items ≡ []) × (room ≤ vec_capacity s.rows)) }
+    ) -> Scribe<'a, O, K, T, D, E>
+        ensures out { (result.out.ghost_name ≡ out.entry.ghost_name) × (result.out.now ≡ out.old) }
+        ensures rows { result.rows ≡ rows }
+        ensures done { result.done ≡ Ok tt }
     {
-        match Vec::with_capacity(alloc, room as usize) {
-            Ok(rows) => Ok(Scribe {
-                out,
-                clock,
-                stop,
-                doors,
-                rows,
-                done: Ok(()),
-            }),
-            Err(_) => Err(Memory),
+        Scribe {
+            out,
+            clock,
+            stop,
+            doors,
+            rows,
+            done: Ok(()),
         }
     }
 

@@ -1,5 +1,5 @@
 -- A session, from what was served and what the scribe took out.
-use Rattle.std.proofs.Common.{◌≡◌, ◌≤◌, ◌+◌, ◌^◌, ℕ, List, [], ◌∷◌, ◌++◌, length, map, refl, sym, ap, ◌∙◌, subst, arith}
+use Rattle.std.proofs.Common.{◌≡◌, ◌≤◌, ◌+◌, ◌*◌, ◌^◌, ℕ, List, [], ◌∷◌, ◌++◌, length, map, refl, sym, ap, ◌∙◌, subst, arith, inl, inr}
 use Rattle.std.specs.Prelude.{Option, Result}
 use Rattle.std.proofs.lemmas.List.{length-map}
 use Rattle.kn_event.specs.declared.revision.Spec.{Spec}
@@ -14,17 +14,16 @@ use Rattle.kn_journal.specs.declared.status.Status.{Status}
 use Rattle.kn_request.specs.declared.slot.Slot.{Slot}
 use Rattle.kn_request.specs.Terms.{watched}
 use Rattle.kn_session.specs.declared.lasting.Lasting.{Lasting}
-use Rattle.kn_session.specs.Changes.{became, was}
-use Rattle.kn_session.specs.Lasting.{AreLasted, KeeperLasted, Lasted}
-use Rattle.kn_session.specs.Lists.{EachIs}
+use Rattle.kn_session.specs.Lasting.{Lasted, SlotLasted}
+use Rattle.kn_session.specs.Lists.{EachDone, EachIs}
 use Rattle.kn_session.specs.Passes.{IsFirst, IsUnmarked, Kind, lasting_kind}
 use Rattle.kn_session.specs.Rounds.{IsPaced}
-use Rattle.kn_session.specs.Session.{IsFine, IsOneHistory}
+use Rattle.kn_session.specs.Session.{IsFine, IsOneHistory, IsTickedIn}
 use Rattle.kn_scribe.specs.Printing.{Prints}
 use Rattle.kn_serve.specs.Laws.{RunLaws}
 use Rattle.kn_serve.specs.Running.{IsSession, IsStart, Session}
 use Rattle.kn_stay.specs.Opened.{IsOpenedFor}
-use Rattle.kn_stay.specs.Staying.{EndsBy, Handed, SeenStaying, Stays}
+use Rattle.kn_stay.specs.Staying.{EndsBy, Goes, Handed, SeenStaying, Stays}
 use Rattle.kn_stay.proofs.Marks.{all_unmarked}
 use Rattle.kn_stay.proofs.Texts.{same_front}
 
@@ -69,26 +68,35 @@ front_is k p q a b f g done front rest x first taken seen =
 
 -- what was served over a revision that was opened for it is a session, however it ended
 pub stays_of : {C L K G O P W : Type 0} {w : SeenStaying C L K O P W} (pace : P) (setup : Setup) (l : Lasting K G) (b now : RevisionState) (rest : List Past) (Scribe : PassView → PassView → Type 0)
-    {hd : Handed C L W} {held held' : Option (List ℕ)} {result : Status}
+    {h : Handed C L W} {held held' : Option (List ℕ)} {result : Status}
     → RunLaws (w.reading l.clock.now) → IsOpenedFor (w.reading l.clock.now) setup l b
-    → (x : Lasted (lasting_kind b l.room l.addresses) (length (was hd.slots)) now rest
-    (AreLasted w.at (watched (w.reading l.clock.now) w.leaves) (IsPaced (w.most pace) (w.ends pace)) l.spec.now (10 ^ 12) hd.slots)
-    (KeeperLasted w.told w.faults (w.reading l.clock.now) l.start hd.keeper) (EachIs (λ (t : Slot C L). IsUnmarked t.work) (became hd.slots)) Scribe (w.attends (was hd.page) (became hd.page)))
-    → (IsSession (w.reading l.clock.now) (length (was hd.slots)) (session_of setup l.start b (x.front ++ rest) (became hd.slots)) → EndsBy held held' (session_of setup l.start b (x.front ++ rest) (became hd.slots)) result)
-    → Stays w l.clock.now pace l.room l.addresses (λ s. s ≡ setup) hd held held' result
-stays_of {w = w} pace setup l b now rest Scribe {hd = hd} laws opened x ends =
-    let h = x.front ++ rest in
-    let is = is_session (w.reading l.clock.now) laws (length (was hd.slots)) setup l.start b h (became hd.slots) opened.begins opened.stands opened.spec opened.clock x.one x.served.0 x.fine in
+    → (x : Lasted (lasting_kind b l.room l.addresses) (length h.slots) now rest
+      (λ k z. EachDone (λ i s t. SlotLasted k (watched (w.reading l.clock.now) w.leaves) (IsPaced (w.most pace) (w.ends pace)) l.spec.now (i * 10 ^ 12) z i (w.at s) (w.at t) t.work.fault t.work.memory) h.slots h.slots')
+      (λ k z. IsTickedIn (w.reading l.clock.now) l.start k z (w.told h.keeper) (w.told h.keeper') (w.faults h.keeper) (w.faults h.keeper'))
+      (EachIs (λ (t : Slot C L). IsUnmarked t.work) h.slots') Scribe (w.attends h.page h.page'))
+    → (IsSession (w.reading l.clock.now) (length h.slots) (session_of setup l.start b (x.front ++ rest) h.slots') → EndsBy held held' (session_of setup l.start b (x.front ++ rest) h.slots') result)
+    → Stays w l.clock.now pace l.room l.addresses (λ s. s ≡ setup) h held held' result
+stays_of {w = w} pace setup l b now rest Scribe {h = h} laws opened x ends =
+    let all = x.front ++ rest in
+    let is = is_session (w.reading l.clock.now) laws (length h.slots) setup l.start b all h.slots' opened.begins opened.stands opened.spec opened.clock x.one x.served.0 x.fine in
     record {
-      session = session_of setup l.start b h (became hd.slots);
+      session = session_of setup l.start b all h.slots';
       is = is;
       said = refl;
       slots = record {
         faults = refl;
         wants = refl;
-        each = subst (λ (s : Spec). AreLasted w.at (watched (w.reading l.clock.now) w.leaves) (IsPaced (w.most pace) (w.ends pace)) s (10 ^ 12) hd.slots (lasting_kind b l.room l.addresses) h) opened.same x.served;
+        each = subst (λ (z : Spec). EachDone (λ i s t. SlotLasted (lasting_kind b l.room l.addresses) (watched (w.reading l.clock.now) w.leaves) (IsPaced (w.most pace) (w.ends pace)) z (i * 10 ^ 12) all i (w.at s) (w.at t) t.work.fault t.work.memory) h.slots h.slots') opened.same x.served;
       };
       keeper = x.keeper;
       page = x.page;
       ends = ends is;
     }
+
+-- what is said of the setup is so of the one that it is
+pub goes_as : {C L K O P W : Type 0} (w : SeenStaying C L K O P W) (clock : K) (pace : P) (room addresses : ℕ) (Said : Setup → Type 0) (setup : Setup) (h : Handed C L W) (out out' : O) (result : Status)
+    → Said setup → Goes w clock pace room addresses (λ s. s ≡ setup) h out out' result → Goes w clock pace room addresses Said h out out' result
+goes_as w clock pace room addresses Said setup h out out' result given (inl x) =
+    inl (record { setup = x.setup; start = x.start; said = subst Said (sym x.said) given; begins = x.begins; same = x.same; ends = x.ends })
+goes_as w clock pace room addresses Said setup h out out' result given (inr x) =
+    inr (record { session = x.session; is = x.is; said = subst Said (sym x.said) given; slots = x.slots; keeper = x.keeper; page = x.page; ends = x.ends })

@@ -1,5 +1,5 @@
 -- How a server that goes on comes and goes.
-use Rattle.std.specs.Prelude.{◌≡◌, ◌⊎◌, ◌+◌, ◌^◌, ℕ, ◌≤◌, List, length, map, take, Option, Ok, Err}
+use Rattle.std.specs.Prelude.{◌≡◌, ◌⊎◌, ◌+◌, ◌*◌, ◌^◌, ℕ, ◌≤◌, List, length, map, take, Option, Ok, Err}
 use Rattle.std.specs.Io.KnownBytes.{Appends}
 use Rattle.kn_cell.specs.Shown.{PassView}
 use Rattle.kn_io.specs.Links.{Link}
@@ -14,9 +14,11 @@ use Rattle.kn_replay.specs.Replaying.{status_of}
 use Rattle.kn_request.specs.declared.slot.Slot.{Slot}
 use Rattle.kn_request.specs.Terms.{watched}
 use Rattle.kn_session.specs.Changes.{Change, Lent, became, lent, was}
-use Rattle.kn_session.specs.Lasting.{AreLasted, Attended, KeeperLasted}
+use Rattle.kn_session.specs.Lasting.{Attended, SlotLasted}
+use Rattle.kn_session.specs.Lists.{EachDone}
 use Rattle.kn_session.specs.Passes.{IsNewOf, Kind, lasting_kind}
 use Rattle.kn_session.specs.Rounds.{IsPaced, Sides}
+use Rattle.kn_session.specs.Session.{IsTickedIn}
 use Rattle.kn_serve.specs.Front.{SaysFront}
 use Rattle.kn_serve.specs.Running.{IsSession, IsStart, Session, journal_of}
 use Rattle.kn_stay.specs.declared.setting.StaySetting.{StaySetting}
@@ -43,17 +45,20 @@ pub record SeenStaying (C L K O P W : Type 0) : Type 1 where
   pub leaves : Type 0
   pub attends : W → W → PassView → PassView → Type 0
 
--- what was handed in to be changed, but for the setup and the output
+-- what was handed in to be changed, but for the setup and the output: as it was, and as it became
 pub record Handed (C L W : Type 0) : Type 0 where
-  pub slots : Change (List (Slot C L))
-  pub keeper : Change L
-  pub page : Change W
+  pub slots : List (Slot C L)
+  pub slots' : List (Slot C L)
+  pub keeper : L
+  pub keeper' : L
+  pub page : W
+  pub page' : W
 
 -- it wasn't changed
 pub record AreUntouched {C L W : Type 0} (h : Handed C L W) : Type 0 where
-  pub slots : became h.slots ≡ was h.slots
-  pub keeper : became h.keeper ≡ was h.keeper
-  pub page : became h.page ≡ was h.page
+  pub slots : h.slots' ≡ h.slots
+  pub keeper : h.keeper' ≡ h.keeper
+  pub page : h.page' ≡ h.page
 
 -- ---- nobody was served
 
@@ -104,22 +109,24 @@ pub record PrintsSome (held held' : Option (List ℕ)) (x : Session) : Type 0 wh
 abbrev pub EndsBy : Option (List ℕ) → Option (List ℕ) → Session → Status → Type 0
 EndsBy held held' x result = ((result ≡ status.Ok) × PrintsAll held held' x) ⊎ ((result ≡ status.WriteFault) × PrintsSome held held' x)
 
--- what became of the slots, whose works have the marks, over a cell of this kind
-pub record SlotsStayed {C L K O P W : Type 0} (w : SeenStaying C L K O P W) (clock : K) (pace : P) (slots : Change (List (Slot C L))) (k : Kind) (x : Session) : Type 0 where
-  pub faults : x.faults ≡ map (λ t. t.work.fault) (became slots)
-  pub wants : x.wants ≡ map (λ t. t.work.memory) (became slots)
-  pub each : AreLasted w.at (watched (w.reading clock) w.leaves) (IsPaced (w.most pace) (w.ends pace)) x.setup.spec (10 ^ 12) slots k x.history
+-- what became of the slots, whose works have the marks, over a cell of this kind. The tags of two slots are 10^12 apart
+pub record SlotsStayed {C L K O P W : Type 0} (w : SeenStaying C L K O P W) (clock : K) (pace : P) (ss ts : List (Slot C L)) (k : Kind) (x : Session) : Type 0 where
+  pub faults : x.faults ≡ map (λ t. t.work.fault) ts
+  pub wants : x.wants ≡ map (λ t. t.work.memory) ts
+  pub each : EachDone (λ i s t. SlotLasted k (watched (w.reading clock) w.leaves) (IsPaced (w.most pace) (w.ends pace)) x.setup.spec (i * 10 ^ 12) x.history i
+    (w.at s) (w.at t) t.work.fault t.work.memory) ss ts
 
 -- A session over a setup of which this is said, with room for so many rows and live requests together, and with so many addresses. What
 -- the page saw at last is a beginning of the one history
 pub record Stays {C L K O P W : Type 0} (w : SeenStaying C L K O P W) (clock : K) (pace : P) (room addresses : ℕ) (Said : Setup → Type 0) (h : Handed C L W)
     (held held' : Option (List ℕ)) (result : Status) : Type 0 where
   pub session : Session
-  pub is : IsSession (w.reading clock) (length (was h.slots)) session
+  pub is : IsSession (w.reading clock) (length h.slots) session
   pub said : Said session.setup
-  pub slots : SlotsStayed w clock pace h.slots (lasting_kind session.opened room addresses) session
-  pub keeper : KeeperLasted w.told w.faults (w.reading clock) session.start h.keeper (lasting_kind session.opened room addresses) session.history
-  pub page : Attended (IsNewOf (lasting_kind session.opened room addresses) (2 + length (was h.slots))) (w.attends (was h.page) (became h.page)) session.history
+  pub slots : SlotsStayed w clock pace h.slots h.slots' (lasting_kind session.opened room addresses) session
+  pub keeper : IsTickedIn (w.reading clock) session.start (lasting_kind session.opened room addresses) session.history
+    (w.told h.keeper) (w.told h.keeper') (w.faults h.keeper) (w.faults h.keeper')
+  pub page : Attended (IsNewOf (lasting_kind session.opened room addresses) (2 + length h.slots)) (w.attends h.page h.page') session.history
   pub ends : EndsBy held held' session result
 
 -- nobody was served, or everybody who came
@@ -131,7 +138,7 @@ Goes w clock pace room addresses Said h out out' result =
 -- how a server by this setting comes and goes, whose input has this left
 abbrev pub StaysBy : {C L K G O P W D E : Type 0} → SeenStaying C L K O P W → Lent (StaySetting K G P D E) → Option (List ℕ) → Change (List (Slot C L)) → Change L → Change O → Change W → Stayed → Type 0
 StaysBy {C} {L} {K} {G} {O} {P} {W} w setting left slots keeper out page result =
-    let h : Handed C L W = record { slots = slots; keeper = keeper; page = page } in
+    let h : Handed C L W = record { slots = was slots; slots' = became slots; keeper = was keeper; keeper' = became keeper; page = was page; page' = became page } in
     let addresses = (lent setting).addresses in
     IsDeclined left (AreUntouched h × (became out ≡ was out)) result
     ⊎ HasNoPlace left addresses (AreUntouched h × (became out ≡ was out)) result

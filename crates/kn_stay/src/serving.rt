@@ -54,7 +54,8 @@ pub fn serve_printed<
     requires done { scribe.old.done ≡ Ok tt }
     requires page { (p : PassView) → IsNewLasting revision lasting.now.room lasting.now.addresses (2 + length slots.old) p → W.may page.old p }
     ensures goes { Goes ⟦<() as StayOutside<C, L, K, O, P, W>>⟧.seen lasting.now.clock.now pace.now lasting.now.room lasting.now.addresses (λ s. s ≡ setup.now)
-        (record { slots = slots; keeper = keeper; page = page }) scribe.old.out.now scribe.new.out.now result }
+        (record { slots = slots.old; slots' = slots.new; keeper = keeper.old; keeper' = keeper.new; page = page.old; page' = page.new })
+        scribe.old.out.now scribe.new.out.now result }
     ensures out { scribe.new.out.ghost_name ≡ scribe.old.out.ghost_name }
     ensures write_fault { result ≡ Status.WriteFault → Rose (O.Faulty.faults scribe.old.out.now) (O.Faulty.faults scribe.new.out.now) }
 {

@@ -18,7 +18,7 @@ use kn_io::{Caller, Clock, Gate, PodLink, Sink, Source};
 use kn_journal::Status;
 use kn_replay::status_of;
 use kn_request::Slot;
-use kn_scribe::Scribe;
+use kn_scribe::{Scribe, rows_for};
 use kn_serve::{open_logged, read_front, run_laws, start_of};
 use kn_session::{Attendant, Lasting, Pace};
 use std::sync::Wait;
@@ -76,31 +76,22 @@ pub fn stay_run<
         Ok(opened) => opened,
         Err(Memory) => return Stayed::Ended(Status::Memory),
     };
-    let (alloc, room, clock) = (setting.alloc, setting.room, setting.clock);
-    let mut scribe = match Scribe::new(alloc, room, out, clock, stop, setting.doors) {
-        Ok(scribe) => scribe,
+    let rows = match rows_for(setting.alloc, setting.room) {
+        Ok(rows) => rows,
         Err(Memory) => return Stayed::Ended(Status::Memory),
     };
+    let mut scribe = Scribe::new(rows, out, setting.clock, stop, setting.doors);
     let lasting = Lasting {
-        alloc,
+        alloc: setting.alloc,
         spec: &read.spec,
-        clock,
+        clock: setting.clock,
         gate: setting.gate,
-        room,
+        room: setting.room,
         start,
         entries: log.entries(),
         addresses: setting.addresses,
     };
-    let pace = setting.pace;
-    Stayed::Ended(serve_printed(
-        rt,
-        &lasting,
-        pace,
-        &read,
-        revision,
-        slots,
-        keeper,
-        &mut scribe,
-        page,
-    ))
+    let (pace, scribe) = (setting.pace, &mut scribe);
+    let status = serve_printed(rt, &lasting, pace, &read, revision, slots, keeper, scribe, page);
+    Stayed::Ended(status)
 }
