@@ -71,9 +71,9 @@ pub stays_of : {C L K G O P W : Type 0} {w : SeenStaying C L K O P W} (pace : P)
     {h : Handed C L W} {held held' : Option (List ℕ)} {result : Status}
     → RunLaws (w.reading l.clock.now) → IsOpenedFor (w.reading l.clock.now) setup l b
     → (x : Lasted (lasting_kind b l.room l.addresses) (length h.slots) now rest
-      (λ k z. EachDone (λ i s t. SlotLasted k (watched (w.reading l.clock.now) w.leaves) (IsPaced (w.most pace) (w.ends pace)) l.spec.now (i * 10 ^ 12) z i (w.at s) (w.at t) t.work.fault t.work.memory) h.slots h.slots')
-      (λ k z. IsTickedIn (w.reading l.clock.now) l.start k z (w.told h.keeper) (w.told h.keeper') (w.faults h.keeper) (w.faults h.keeper'))
-      (EachIs (λ (t : Slot C L). IsUnmarked t.work) h.slots') Scribe (w.attends h.page h.page'))
+    (λ k z. EachDone (λ i s t. SlotLasted k (watched (w.reading l.clock.now) w.leaves) (IsPaced (w.most pace) (w.ends pace)) l.spec.now (i * 10 ^ 12) z i (w.at s) (w.at t) t.work.fault t.work.memory) h.slots h.slots')
+    (λ k z. IsTickedIn (w.reading l.clock.now) l.start k z (w.told h.keeper) (w.told h.keeper') (w.faults h.keeper) (w.faults h.keeper'))
+    (EachIs (λ (t : Slot C L). IsUnmarked t.work) h.slots') Scribe (w.attends h.page h.page'))
     → (IsSession (w.reading l.clock.now) (length h.slots) (session_of setup l.start b (x.front ++ rest) h.slots') → EndsBy held held' (session_of setup l.start b (x.front ++ rest) h.slots') result)
     → Stays w l.clock.now pace l.room l.addresses (λ s. s ≡ setup) h held held' result
 stays_of {w = w} pace setup l b now rest Scribe {h = h} laws opened x ends =

@@ -114,7 +114,7 @@ pub record SlotsStayed {C L K O P W : Type 0} (w : SeenStaying C L K O P W) (clo
   pub faults : x.faults ≡ map (λ t. t.work.fault) ts
   pub wants : x.wants ≡ map (λ t. t.work.memory) ts
   pub each : EachDone (λ i s t. SlotLasted k (watched (w.reading clock) w.leaves) (IsPaced (w.most pace) (w.ends pace)) x.setup.spec (i * 10 ^ 12) x.history i
-    (w.at s) (w.at t) t.work.fault t.work.memory) ss ts
+      (w.at s) (w.at t) t.work.fault t.work.memory) ss ts
 
 -- A session over a setup of which this is said, with room for so many rows and live requests together, and with so many addresses. What
 -- the page saw at last is a beginning of the one history
@@ -125,7 +125,7 @@ pub record Stays {C L K O P W : Type 0} (w : SeenStaying C L K O P W) (clock : K
   pub said : Said session.setup
   pub slots : SlotsStayed w clock pace h.slots h.slots' (lasting_kind session.opened room addresses) session
   pub keeper : IsTickedIn (w.reading clock) session.start (lasting_kind session.opened room addresses) session.history
-    (w.told h.keeper) (w.told h.keeper') (w.faults h.keeper) (w.faults h.keeper')
+      (w.told h.keeper) (w.told h.keeper') (w.faults h.keeper) (w.faults h.keeper')
   pub page : Attended (IsNewOf (lasting_kind session.opened room addresses) (2 + length h.slots)) (w.attends h.page h.page') session.history
   pub ends : EndsBy held held' session result
 

@@ -92,6 +92,8 @@ pub fn stay_run<
         addresses: setting.addresses,
     };
     let (pace, scribe) = (setting.pace, &mut scribe);
-    let status = serve_printed(rt, &lasting, pace, &read, revision, slots, keeper, scribe, page);
+    let status = serve_printed(
+        rt, &lasting, pace, &read, revision, slots, keeper, scribe, page,
+    );
     Stayed::Ended(status)
 }
