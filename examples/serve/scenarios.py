@@ -5,30 +5,15 @@ import collections
 import concurrent.futures
 import http.server
 import json
-import re
 import socket
 import subprocess
 import sys
 import threading
 import time
 
-from session import FIELDS, Pod, Session, answers, ask, drain, field_words, fixed, free_port, hey, load, outcomes, run, want
+from session import Pod, Session, answers, ask, drain, field_words, fixed, free_port, head, hey, load, outcomes, run, want, whole
 
 HELLO = (200, "hello")
-
-
-def head(more="", method="POST"):
-    """The bytes of a request's head to the fixed revision."""
-    fields = "".join(f"{name}: {value}\r\n" for name, value in FIELDS.items())
-    return f"{method} / HTTP/1.1\r\nHost: pod\r\n{fields}{more}\r\n".encode()
-
-
-def whole(came):
-    """The status and text of the answer, once it has come whole as far as its length says."""
-    line, _, rest = came.decode(errors="replace").partition("\r\n")
-    fields, _, text = rest.partition("\r\n\r\n")
-    length = re.search(r"(?i)^content-length: (\d+)", fields, re.M)
-    return (int(line.split()[1]), text.strip()) if length and len(text) >= int(length[1]) else None
 
 
 def speak(port, pieces, pause=0.0):

@@ -94,6 +94,20 @@ def fixed(pods, limit=0, depth=10000, most=1000, timeout=30):
     return f"kact journal 1\nfixed limit={limit} depth={depth} max={most} pods={pods} timeout={timeout} seed=7\n"
 
 
+def head(more="", method="POST", path="/"):
+    """The bytes of a request's head to the fixed revision."""
+    fields = "".join(f"{name}: {value}\r\n" for name, value in FIELDS.items())
+    return f"{method} {path} HTTP/1.1\r\nHost: pod\r\n{fields}{more}\r\n".encode()
+
+
+def whole(came):
+    """The status and text of the answer, once it has come whole as far as its length says."""
+    line, _, rest = came.decode(errors="replace").partition("\r\n")
+    fields, _, text = rest.partition("\r\n\r\n")
+    length = re.search(r"(?i)^content-length: (\d+)", fields, re.M)
+    return (int(line.split()[1]), text.strip()) if length and len(text) >= int(length[1]) else None
+
+
 class Session:
     """kactd, from its start to its end. `before` is called in its process before it starts. With `many`, each port is of a revision's pods."""
 
@@ -149,17 +163,23 @@ class Session:
             print(f"  (journal and standard error: {self.folder})")
 
 
+def endings(rows):
+    """Of each request that ended, in the report's rows: when and how, once for each time that it did."""
+    ended = collections.defaultdict(list)
+    for row in rows:
+        words = row.split()
+        if words[1] in OUTCOMES:
+            ended[int(words[2])].append((int(words[0]), " ".join([words[1], *words[3:]]) if words[1] == "finish" else words[1]))
+    return ended
+
+
 def outcomes(journal, report):
     """How many requests ended how, after a check that each that was recorded ended exactly once."""
     arrivals = sum(line.split()[1:2] == ["arrive"] for line in journal)
-    ended = collections.defaultdict(list)
-    for row in report[:-1]:
-        words = row.split()
-        if words[1] in OUTCOMES:
-            ended[int(words[2])].append(" ".join([words[1], *words[3:]]) if words[1] == "finish" else words[1])
+    ended = endings(report[:-1])
     want(sorted(ended) == list(range(arrivals)), f"of {arrivals} requests {len(ended)} have an outcome")
     want(all(len(one) == 1 for one in ended.values()), "a request has two outcomes")
-    found = collections.Counter(one[0] for one in ended.values())
+    found = collections.Counter(one[0][1] for one in ended.values())
     last = dict(word.split("=") for word in report[-1].split()[1:])
     names = {"finished": "finish ok", "failed": "finish fail", "expired": "expire", "cancelled": "cancel"}
     for name in ("finished", "failed", "expired", "cancelled", "queue-full", "overload"):

@@ -1,13 +1,17 @@
-//! `kactd`: serves clients through the pods of one revision, or with `many` of several, and prints the journals of what it did.
+//! `kactd`: serves clients through the pods of one revision, or with `many` of several, and prints the journals of what it did. With
+//! `stay` it goes on until standard input ends, and prints its journal meanwhile.
 #![tactic(auto)]
 
 use kn_io::{MachineClock, OpenGate, ReaderSource, WriterSink};
 use kn_journal::Status;
 use kn_opener::{TcpOpener, TcpWideOpener};
 use kn_serve::{kactd_many_run, kactd_run};
+use kn_stay_tcp::{Streams, kactd_stay};
+use std::net::{Net, TcpListener, TcpStream};
 use std::process::ExitCode;
 use std::sync::Wait;
 use std::thread::Threads;
+use std::time::Clock;
 use std::{env, thread};
 
 /// The words after the program's name. Where they can't be had there are none, which is no command.
@@ -77,15 +81,38 @@ fn serve_many<T: Threads + Wait + Sync>(rt: &HostRuntime, threads: &T, words: &[
     )
 }
 
-fn main(rt: HostRuntime) -> ExitCode {
-    let words = words(&rt);
-    if !can_make_thread(&rt) {
+/// Serves one revision until standard input ends. The exit status.
+fn stay<T: Net<Listener = TcpListener, Stream = TcpStream> + Clock + Threads + Wait + Sync>(
+    rt: &HostRuntime,
+    threads: &T,
+    words: &[String],
+) -> u8 {
+    let streams = Streams {
+        setup: rt.stdin(),
+        stop: rt.stdin(),
+        out: rt.stdout(),
+        err: rt.stderr(),
+    };
+    kactd_stay(threads, rt.alloc(), words, streams)
+}
+
+/// Serves for so many rounds, one revision or several.
+fn serve<T: Threads + Wait + Sync>(rt: &HostRuntime, threads: &T, words: &[String]) -> Status {
+    if !can_make_thread(threads) {
         // Nobody is told where standard error takes nothing.
         let _ = eprintln!(rt; "kactd: no thread can be made, so everything is done in one");
     }
-    let status = match words.split_first() {
-        Some((first, rest)) if first.as_str() == "many" => serve_many(&rt, &rt, rest),
-        _ => serve_one(&rt, &rt, &words),
+    match words.split_first() {
+        Some((first, rest)) if first.as_str() == "many" => serve_many(rt, threads, rest),
+        _ => serve_one(rt, threads, words),
+    }
+}
+
+fn main(rt: HostRuntime) -> ExitCode {
+    let words = words(&rt);
+    let code = match words.split_first() {
+        Some((first, rest)) if first.as_str() == "stay" => stay(&rt, &rt, rest),
+        _ => serve(&rt, &rt, &words).code(),
     };
-    ExitCode::from(status.code())
+    ExitCode::from(code)
 }

@@ -1,6 +1,6 @@
 -- What the views know of the rows that were taken out, after one of them has moved.
 use Rattle.std.proofs.Common.{◌≡◌, ◌≢◌, inl, inr, ℕ, ◌+◌, ◌≤◌, List, [], ◌∷◌, ◌++◌, Bool, true, false, length, refl, sym, ap, ◌∙◌, subst, arith, eq-eqb, ne_eqb, length-append}
-use Rattle.std.specs.Prelude.{slice_set, cond, max, ◌==◌, ◌||◌}
+use Rattle.std.specs.Prelude.{slice_set, cond, ◌==◌, ◌||◌}
 use Rattle.std.proofs.lemmas.Bool.{or_cases}
 use mathlib.Core.Option.{some}
 use lib.ListN.{get_elem?}
@@ -11,7 +11,7 @@ use Rattle.kn_cell.specs.declared.view.View.{View}
 use Rattle.kn_cell.specs.State.{DeskState}
 use Rattle.kn_cell.specs.Views.{Takings}
 use Rattle.kn_cell.specs.Rule.{GoesWith, GoesBack, last_row, without_turn, gives_back}
-use Rattle.kn_cell.specs.Splitting.{less_one, newcomer, with_other, spent_view}
+use Rattle.kn_cell.specs.Splitting.{gone_of, less_one, newcomer, with_other, spent_view}
 use Rattle.kn_cell.proofs.ListFacts.{at_one_more}
 
 -- ---- one view moves. Where more rows were taken out, it is the scribe's
@@ -83,15 +83,27 @@ heir-of : (id other scribe : ℕ) → scribe ≡ other → heir id other scribe 
 unfolding heir
 heir-of id other scribe e = ap (λ b. cond b id scribe) (eq-eqb scribe other e)
 
+gone_of-known : (b : Bool) (gone other : ℕ) → b ≡ true → gone_of b gone other ≡ gone
+gone_of-known b gone other e = ap (λ s. gone_of s gone other) e
+
+gone_of-low : (b : Bool) (gone other taken : ℕ) → gone ≤ taken → other ≤ taken → gone_of b gone other ≤ taken
+gone_of-low true gone other taken low low' = low
+gone_of-low false gone other taken low low' = omega arith
+
+gone_of-all : (b : Bool) (gone other taken : ℕ) → gone ≤ taken → other ≡ taken → (b ≡ true → gone ≡ taken) → gone_of b gone other ≡ taken
+gone_of-all true gone other taken low e known = known refl
+gone_of-all false gone other taken low e known = omega arith
+
 heirs : (key : Key) (taken : ℕ) (views : List View) (id other : ℕ) (v w : View) (t : Takings key taken views)
     → get_elem? views id ≡ some v → get_elem? views other ≡ some w → v.spent ≡ false → w.spent ≡ false → other ≢ id
-    → (v.scribe || w.scribe) ≡ true → (id ≡ heir id other t.scribe) × (max v.gone w.gone ≡ taken) × (key.lasting ≡ true)
+    → (v.scribe || w.scribe) ≡ true → (id ≡ heir id other t.scribe) × (gone_of v.scribe v.gone w.gone ≡ taken) × (key.lasting ≡ true)
 heirs key taken views id other v w t me it fresh fresh' apart is =
-    let a = t.gone id v me fresh in
-    let b = t.gone other w it fresh' in
     elim (or_cases v.scribe w.scribe is) [
-      | inl h ↦ let q = t.takes id v me fresh h in let e = q.1 in (q.0 ∙ sym (heir-else id other t.scribe (λ o. apart (sym o ∙ sym q.0))), omega arith, q.2)
-      | inr h ↦ let q = t.takes other w it fresh' h in let e = q.1 in (sym (heir-of id other t.scribe (sym q.0)), omega arith, q.2)
+      | inl h ↦ let q = t.takes id v me fresh h in (q.0 ∙ sym (heir-else id other t.scribe (λ o. apart (sym o ∙ sym q.0))), gone_of-known v.scribe v.gone w.gone h ∙ q.1, q.2)
+      | inr h ↦
+          let q = t.takes other w it fresh' h in
+          let gone = gone_of-all v.scribe v.gone w.gone taken (t.gone id v me fresh) q.1 (λ e. (t.takes id v me fresh e).1) in
+          (sym (heir-of id other t.scribe (sym q.0)), gone, q.2)
     ]
 
 pub takings_join : (key : Key) (taken : ℕ) (views : List View) (id other : ℕ) (v w : View) → Takings key taken views
@@ -100,9 +112,7 @@ pub takings_join : (key : Key) (taken : ℕ) (views : List View) (id other : ℕ
 takings_join key taken views id other v w t me it fresh fresh' apart =
     let both = with_other v w in
     let one = slice_set views id both in
-    let a = t.gone id v me fresh in
-    let b = t.gone other w it fresh' in
-    let low : both.gone ≤ taken = omega arith in
+    let low : both.gone ≤ taken = gone_of-low v.scribe v.gone w.gone taken (t.gone id v me fresh) (t.gone other w it fresh') in
     record {
       scribe = heir id other t.scribe;
       plain = t.plain;

@@ -1,5 +1,5 @@
 -- What contracts see of a pass, and what the calls of a cell do to it.
-use Rattle.std.specs.Prelude.{ℕ, ◌≡◌, ◌⊎◌, ◌≤◌, ◌<◌, ◌+◌, ◌-◌, ◌||◌, max, Bool, List, [], ◌∷◌, ◌++◌, true, false, length, Result, Ok, Err}
+use Rattle.std.specs.Prelude.{ℕ, ◌≡◌, ◌⊎◌, ◌≤◌, ◌<◌, ◌+◌, ◌-◌, ◌||◌, Bool, List, [], ◌∷◌, ◌++◌, true, false, length, Result, Ok, Err}
 use mathlib.Core.Option.{some}
 use lib.ListN.{get_elem?}
 use Rattle.atomic_table.specs.Seated.{TableId}
@@ -21,6 +21,7 @@ use Rattle.kn_cell.specs.Lists.{StartsWith, Each}
 use Rattle.kn_cell.specs.History.{trace_after, clock_after, live_of, room_for, IsInBounds, IsLegal, rows_by, past}
 use Rattle.kn_cell.specs.State.{DeskState}
 use Rattle.kn_cell.specs.Desk.{event_at}
+use Rattle.kn_cell.specs.Splitting.{gone_of}
 
 pub record PassView : Type 0 where
   pub cell : TableId
@@ -172,7 +173,7 @@ joined_shown p q = record p {
   back = p.back + 1 + q.free + q.back;
   others = p.others ++ q.others ++ record { number = q.number; seen = q.seen; mine = q.mine } ∷ [];
   scribe = p.scribe || q.scribe;
-  gone = max p.gone q.gone;
+  gone = gone_of p.scribe p.gone q.gone;
 }
 
 -- the number is the pass's own, or of a pass that was joined to it

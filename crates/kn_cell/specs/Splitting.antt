@@ -1,5 +1,5 @@
 -- How a pass is cut in two, and how two are made one.
-use Rattle.std.specs.Prelude.{◌+◌, ◌-◌, ◌||◌, max, [], ◌∷◌, ◌++◌, None, true, false}
+use Rattle.std.specs.Prelude.{ℕ, Bool, cond, ◌+◌, ◌-◌, ◌||◌, max, [], ◌∷◌, ◌++◌, None, true, false}
 use Rattle.kn_event.specs.FixedSpec.{fixed_spec}
 use Rattle.kn_event.specs.declared.revision.Slots.{Slots}
 use Rattle.kn_record.specs.Admission.{admission}
@@ -31,8 +31,12 @@ newcomer v = record {
 abbrev pub as_joined : View → Joined
 as_joined w = record { number = w.number; seen = w.seen; mine = w.mine }
 
+-- how many rows were taken out, by what two passes know of it: who takes them knows it
+abbrev pub gone_of : Bool → ℕ → ℕ → ℕ
+gone_of scribe gone other = cond scribe gone (max gone other)
+
 abbrev pub with_other : View → View → View
-with_other v w = record v { scribe = v.scribe || w.scribe; back = v.back + 1 + w.free + w.back; gone = max v.gone w.gone; others = v.others ++ w.others ++ as_joined w ∷ [] }
+with_other v w = record v { scribe = v.scribe || w.scribe; back = v.back + 1 + w.free + w.back; gone = gone_of v.scribe v.gone w.gone; others = v.others ++ w.others ++ as_joined w ∷ [] }
 
 abbrev no_slots : Slots
 no_slots = record { depth = 0; max = 0; seed = 0 }

@@ -1,5 +1,6 @@
 //! Clients that come through a door.
-ghost use Rattle.std.specs.Prelude.{◌≡◌, ◌<◌, IfSome, None};
+ghost use Rattle.std.specs.Prelude.{◌≡◌, ◌≤◌, ◌<◌, IfSome, None, true};
+ghost use Rattle.kn_io.specs.Causes.{Rose};
 ghost use Rattle.std.specs.Duration.{as_nanos};
 ghost use Rattle.kn_front.specs.Patience.{nanos_before, nanos_of};
 
@@ -24,6 +25,8 @@ pub struct FrontCaller<K> {
     read: Duration,
     // When the request has to be there. None before the first connection, or where the clock can't be read.
     until: Option<Instant>,
+    // Whether it was said that the client that was met last has left.
+    left: bool,
 }
 
 impl<K: Clock> FrontCaller<K> {
@@ -37,6 +40,7 @@ impl<K: Clock> FrontCaller<K> {
             clock,
             read,
             until: None,
+            left: false,
         }
     }
 
@@ -46,6 +50,17 @@ impl<K: Clock> FrontCaller<K> {
         ensures given { ⟦<FrontCaller<K> as Source>⟧.given self.new ≡ ⟦<FrontCaller<K> as Source>⟧.given self.old }
     {
         self.inner.hand(stream);
+    }
+
+    /// Whether the client that was met last has left, which is said once, as a fault of the client's.
+    pub(crate) fn has_left(&mut self) -> bool
+        ensures rose { result ≡ true → Rose (⟦<FrontCaller<K> as Faulty>⟧.faults self.old) (⟦<FrontCaller<K> as Faulty>⟧.faults self.new) }
+        ensures never_falls { ⟦<FrontCaller<K> as Faulty>⟧.faults self.old ≤ ⟦<FrontCaller<K> as Faulty>⟧.faults self.new }
+        ensures given { ⟦<FrontCaller<K> as Source>⟧.given self.new ≡ ⟦<FrontCaller<K> as Source>⟧.given self.old }
+    {
+        let leaves = !self.left && self.inner.has_ended();
+        self.left = self.left || leaves;
+        leaves
     }
 
     /// The time so long from now.
@@ -61,7 +76,7 @@ impl<K: Clock> FrontCaller<K> {
 }
 
 /// How much time is left before another. None where there is none left.
-fn time_left(until: Option<Instant>, now: Instant) -> Option<Duration>
+pub(crate) fn time_left(until: Option<Instant>, now: Instant) -> Option<Duration>
     ensures time { nanos_of result ≡ nanos_before until now }
     ensures some { IfSome result (λ left. 0 < as_nanos left) }
 {
@@ -122,6 +137,7 @@ impl<K: Clock> Caller for FrontCaller<K> {
     fn meet(&mut self) -> Result<(), Failed> {
         self.inner.meet()?;
         self.until = self.after(self.read);
+        self.left = false;
         Ok(())
     }
 

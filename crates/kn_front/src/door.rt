@@ -1,14 +1,18 @@
 //! The door through which clients come from a front.
+ghost use Rattle.std.specs.Prelude.{⊤};
 
 use crate::caller::FrontCaller;
 use crate::queue::Queue;
-use kn_door::Door;
+use kn_door::{Close, Door, Watch};
 use kn_io::Caller;
 use mio::Waker;
 use std::net::TcpStream;
 use std::sync::atomic::{AtomicBool, AtomicU64, Ordering};
 use std::sync::{Condvar, Mutex, Wait};
 use std::time::Clock;
+
+/// How many milliseconds a request sleeps at most before it is asked again whether its client has left.
+const WATCH_MS: u64 = 2_000;
 
 /// A front's door. Connections whose requests have begun come through it in turn, each to one caller. All threads share it.
 #[derive(Drop)]
@@ -62,12 +66,6 @@ impl TcpDoor {
         let _ = self.waker.wake();
     }
 
-    /// No further connection is let in. Those whose requests have begun come through all the same.
-    pub fn shut(&self) {
-        self.closed.store(true, Ordering::SeqCst);
-        self.wake_front();
-    }
-
     /// Lets a connection through whose request has begun.
     pub(crate) fn put<R: Wait>(&self, rt: &R, stream: TcpStream) {
         let put = self.queue.lock(rt).push(stream);
@@ -83,8 +81,8 @@ impl TcpDoor {
         self.queue.lock(rt).has_room(silent, most)
     }
 
-    /// Whether no further connection is to be let in.
-    pub(crate) fn is_closed(&self) -> bool {
+    /// Whether no further connection is let in.
+    pub fn is_closed(&self) -> bool {
         self.closed.load(Ordering::SeqCst)
     }
 
@@ -93,6 +91,28 @@ impl TcpDoor {
         self.silent.store(0, Ordering::SeqCst);
         self.queue.lock(rt).end();
         self.came.notify_all();
+    }
+}
+
+impl Close for TcpDoor {
+    /// No further connection is let in. Those whose requests have begun come through all the same.
+    fn close(&self) {
+        self.closed.store(true, Ordering::SeqCst);
+        self.wake_front();
+    }
+}
+
+impl<K: Clock> Watch<FrontCaller<K>> for TcpDoor {
+    ghost leaves = { ⊤ };
+
+    /// Whether the client that was met last has closed its connection, or its sending side, which looks the same. It says so once of
+    /// each client.
+    fn has_left(&self, caller: &mut FrontCaller<K>) -> bool {
+        caller.has_left()
+    }
+
+    fn often_ms(&self) -> u64 {
+        WATCH_MS
     }
 }
 
@@ -109,7 +129,11 @@ impl<K: Clock> Door<FrontCaller<K>> for TcpDoor {
         }
     }
 
-    fn close(&self) {
-        self.shut();
+    fn is_closed(&self) -> bool {
+        TcpDoor::is_closed(self)
+    }
+
+    fn waiting<R: Wait>(&self, rt: &R) -> u64 {
+        TcpDoor::waiting(self, rt)
     }
 }

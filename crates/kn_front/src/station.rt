@@ -4,6 +4,7 @@ ghost use Rattle.std.specs.Duration.{as_nanos};
 ghost use Rattle.slab.specs.Slab.{get};
 ghost use Rattle.kn_front.specs.Patience.{NobodyIsDue};
 
+use crate::caller::time_left;
 use crate::door::TcpDoor;
 use crate::limits::Limits;
 use crate::silent::{Found, look};
@@ -31,6 +32,9 @@ const TAKEN: usize = 256;
 /// How many milliseconds pass before a socket is tried again that failed, as where descriptors have run out.
 const RETRY: u64 = 100;
 
+/// How many milliseconds those have to begin who are silent when the door is closed.
+const GRACE: u64 = 250;
+
 /// How the socket stands.
 #[derive(Clone, Copy, Debug, PartialEq, Eq)]
 enum Intake {
@@ -49,7 +53,8 @@ enum Intake {
 pub(crate) struct Station {
     poll: Poll,
     events: Events,
-    listener: TcpListener,
+    /// None once the door is closed.
+    listener: Option<TcpListener>,
     silent: SilentOnes,
     intake: Intake,
     limits: Limits,
@@ -69,7 +74,7 @@ impl Station {
         Ok(Station {
             poll,
             events: Events::with_capacity(alloc, EVENTS)?,
-            listener,
+            listener: Some(listener),
             silent: SilentOnes::new(alloc, registry, limits.waiting)?,
             intake: Intake::GoesOn,
             limits,
@@ -129,7 +134,11 @@ impl Station {
             self.intake = Intake::Full;
             return;
         }
-        match self.listener.accept() {
+        let Some(listener) = &self.listener else {
+            self.intake = Intake::Waits;
+            return;
+        };
+        match listener.accept() {
             Ok((stream, _)) => self.begin(rt, door, stream, now),
             Err(error) => self.intake = intake_after(&error),
         }
@@ -173,20 +182,46 @@ impl Station {
         self.silent.find_oldest();
     }
 
-    /// Lets those through whose requests have begun by now, and closes all others and the socket.
-    fn finish<R: Wait + Clock>(mut self, rt: &R, door: &TcpDoor) -> io::Result<()> {
+    /// Takes in who has come by now, and closes the socket.
+    fn take_last<R: Wait>(&mut self, rt: &R, door: &TcpDoor, now: Instant) {
         self.intake = Intake::GoesOn;
-        let now = Instant::now(rt)?;
         for _ in 0..self.limits.waiting {
             self.take_one(rt, door, now);
             if self.intake != Intake::GoesOn {
                 break;
             }
         }
+        self.listener = None;
+    }
+
+    /// Lets those through the door whose requests begin by this time.
+    fn wait_until<R: Wait + Clock>(
+        &mut self,
+        rt: &R,
+        door: &TcpDoor,
+        end: Option<Instant>,
+    ) -> io::Result<()> {
+        for _ in rt.forever() {
+            let left = time_left(end, Instant::now(rt)?);
+            if self.silent.is_empty() || left.is_none() {
+                return Ok(());
+            }
+            self.poll.poll(&mut self.events, left)?;
+            self.see_events(rt, door);
+        }
+        unreachable!()
+    }
+
+    /// Lets those through who have come by now and begin shortly, and closes the socket and all others.
+    fn finish<R: Wait + Clock>(mut self, rt: &R, door: &TcpDoor) -> io::Result<()> {
+        let now = Instant::now(rt)?;
+        self.take_last(rt, door, now);
+        let end = now.checked_add(Duration::from_millis(GRACE));
+        let waited = self.wait_until(rt, door, end);
         for place in 0..self.silent.places() {
             see(rt, door, &mut self.silent, place, false);
         }
-        Ok(())
+        waited
     }
 }
 

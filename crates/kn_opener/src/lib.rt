@@ -5,5 +5,6 @@ mod sockets;
 mod tcp_opener;
 mod tcp_wide_opener;
 
+pub use sockets::link;
 pub use tcp_opener::TcpOpener;
 pub use tcp_wide_opener::TcpWideOpener;

@@ -1,9 +1,10 @@
 -- One round after another.
 use Rattle.std.proofs.Common.{◌≡◌, ◌≤◌, ◌+◌, ℕ, List, ◌++◌, length, length-append, take, append_assoc, refl, sym, ap, ◌∙◌, subst, arith}
-use Rattle.std.specs.Prelude.{Option, Result, Ok, Err, OnErr, OnOk}
+use Rattle.std.specs.Prelude.{All, Option, Result, Ok, Err, OnErr, OnOk}
 use Rattle.std.specs.Io.KnownBytes.{Appends}
 use Rattle.std.proofs.KnownBytes.{Appends-trans}
 use Rattle.std.proofs.lemmas.List.{take_at}
+use Rattle.std.proofs.lemmas.List.Elements.{All-append}
 use Rattle.std.proofs.Math.Seq.{take-append-add}
 use Rattle.kn_cell.specs.declared.past.Past.{Past}
 use Rattle.kn_cell.specs.History.{IsLegal, rows_by}
@@ -12,7 +13,7 @@ use Rattle.kn_cell.specs.Shown.{PassView, LooksBy}
 use Rattle.kn_io.specs.declared.traits.Failed.{Failed}
 use Rattle.kn_io.specs.Causes.{HasCause, Rose}
 use Rattle.kn_io.specs.Prefix.{AppendsPrefix}
-use Rattle.kn_print.specs.Printed.{PrintedLaws, lines_of}
+use Rattle.kn_print.specs.Printed.{HasSmall, PrintedLaws, lines_of}
 use Rattle.kn_scribe.specs.Printing.{Prints}
 
 starts_trans : (a b c : List Past) → StartsWith b a → StartsWith c b → StartsWith c a
@@ -69,6 +70,7 @@ prints_trans laws p q r a b c f g h first done well x y =
     let whole : y.front ≡ q.seen = same_front y.front q.seen y.given y.later.longer.0 r.seen y.seen y.later.longer.1 reached in
     let text : lines_of (x.given ++ y.given) ≡ lines_of x.given ++ lines_of y.given = laws.more x.given y.given in
     let written : Appends a b (lines_of x.given) = subst (λ (d : Result (Unit {0}) Failed). OnOk d (Appends a b (lines_of x.given))) well x.whole in
+    let few : All (λ (r : Past). HasSmall r.event.act) x.given = subst (λ (d : Result (Unit {0}) Failed). OnOk d (All (λ (r : Past). HasSmall r.event.act) x.given)) well x.small in
     record {
       front = x.front;
       given = x.given ++ y.given;
@@ -79,6 +81,7 @@ prints_trans laws p q r a b c f g h first done well x y =
       mine = y.mine ∙ x.mine;
       whole = on_ok done (λ (k : Appends b c (lines_of y.given)). subst (Appends a c) (sym text) (Appends-trans a b c (lines_of x.given) (lines_of y.given) written k)) y.whole;
       some = on_err done (λ (k : AppendsPrefix b c (lines_of y.given)). subst (AppendsPrefix a c) (sym text) (some_more a b c (lines_of x.given) (lines_of y.given) written k)) y.some;
+      small = on_ok done (λ (k : All (λ (r : Past). HasSmall r.event.act) y.given). All-append (λ (r : Past). HasSmall r.event.act) x.given y.given few k) y.small;
       cause = later_cause f g h done x.cause.never_falls y.cause;
     }
 

@@ -2,60 +2,68 @@
 ghost use Rattle.std.specs.Prelude.{◌≡◌, ◌≤◌, [], Ok, true, vec_capacity, IfOk};
 ghost use Rattle.kn_scribe.specs.Printing.{Prints};
 
+use crate::doors::Doors;
 use crate::round::print_taken;
 use kn_cell::{Pass, Past, RevisionCell};
-use kn_door::{Door, Stop};
+use kn_door::{Close, Stop};
 use kn_event::Memory;
-use kn_io::{Caller, Clock, Failed, Sink};
+use kn_io::{Clock, Failed, Sink};
 use kn_print::printed_laws;
 use kn_request::Left;
+use kn_session::Attendant;
 use std::alloc::Global;
-use std::marker::PhantomData;
 use std::sync::Wait;
 
-/// Prints the rows of a lasting cell as they come, and closes the door once the server is to stop, or nothing can be written.
+/// No rows, and memory for as many as a cell has room for.
+pub fn rows_for(alloc: Global, room: u64) -> Result<Vec<Past>, Memory>
+    ensures none { IfOk result (λ rows. rows.items ≡ []) }
+    ensures room { IfOk result (λ rows. room ≤ vec_capacity rows) }
+{
+    match Vec::with_capacity(alloc, room as usize) {
+        Ok(rows) => Ok(rows),
+        Err(_) => Err(Memory),
+    }
+}
+
+/// Prints the rows of a lasting cell as they come, and closes the doors: that of the clients once the server is to stop or nothing
+/// can be written, and that of the page last of all.
 #[derive(Drop)]
-pub struct Scribe<'a, C, O, K, D, S> {
+pub struct Scribe<'a, O, K, T, D, E> {
     pub out: &'a mut O,
     clock: &'a K,
-    door: &'a D,
-    stop: &'a mut S,
-    callers: PhantomData<C>,
+    stop: &'a mut T,
+    doors: &'a Doors<'a, D, E>,
     /// Empty between two rounds, with memory for the cell's room.
     pub rows: Vec<Past>,
     /// How printing went so far.
     pub done: Result<(), Failed>,
 }
 
-impl<'a, C: Caller, O: Sink, K: Clock, D: Door<C>, S: Stop> Scribe<'a, C, O, K, D, S> {
-    /// A scribe of a cell with this room, in rows, that has printed nothing.
+impl<'a, O: Sink, K: Clock, T: Stop, D: Close, E: Close> Scribe<'a, O, K, T, D, E> {
+    /// A scribe that has printed nothing. It takes rows out into these, which are none so far.
     pub fn new(
-        alloc: Global,
-        room: u64,
+        rows: Vec<Past>,
         out: &'a mut O,
         clock: &'a K,
-        door: &'a D,
-        stop: &'a mut S,
-    ) -> Result<Scribe<'a, C, O, K, D, S>, Memory>
-        ensures out { IfOk result (λ s. (s.out.ghost_name ≡ out.entry.ghost_name) × (s.out.now ≡ out.old)) }
-        ensures rows { IfOk result (λ s. (s.rows.items ≡ []) × (room ≤ vec_capacity s.rows)) }
+        stop: &'a mut T,
+        doors: &'a Doors<'a, D, E>,
+    ) -> Scribe<'a, O, K, T, D, E>
+        ensures out { (result.out.ghost_name ≡ out.entry.ghost_name) × (result.out.now ≡ out.old) }
+        ensures rows { result.rows ≡ rows }
+        ensures done { result.done ≡ Ok tt }
     {
-        match Vec::with_capacity(alloc, room as usize) {
-            Ok(rows) => Ok(Scribe {
-                out,
-                clock,
-                door,
-                stop,
-                callers: PhantomData,
-                rows,
-                done: Ok(()),
-            }),
-            Err(_) => Err(Memory),
+        Scribe {
+            out,
+            clock,
+            stop,
+            doors,
+            rows,
+            done: Ok(()),
         }
     }
 
-    /// A round: the door is closed where the server is to stop; what is there is taken out and printed. Says whether a further
-    /// round is due: none is once no slot was at work before this one, nor after a write fault, which closes the door too.
+    /// A round: the clients' door is closed where the server is to stop; what is there is taken out and printed. Says whether a
+    /// further round is due: none is once no slot was at work before this one, nor after a write fault, which closes that door too.
     fn round<R: Wait>(&mut self, rt: &R, cell: &RevisionCell, pass: &mut Pass, left: &Left) -> bool
         requires cell { pass.old.cell ≡ cell.now }
         requires scribe { pass.old.scribe ≡ true }
@@ -69,22 +77,21 @@ impl<'a, C: Caller, O: Sink, K: Clock, D: Door<C>, S: Stop> Scribe<'a, C, O, K, 
         ensures room { pass.old.room ≤ vec_capacity self.new.rows }
     {
         if self.stop.is_over() {
-            self.door.close();
+            self.doors.clients.close();
         }
         let last = left.is_zero();
         self.done = print_taken(rt, cell, pass, &mut self.rows, self.out);
         match self.done {
             Ok(()) => !last,
             Err(Failed) => {
-                self.door.close();
+                self.doors.clients.close();
                 false
             }
         }
     }
 
-    /// Prints the rows of the cell as they come, until no slot is at work or writing fails. The door is closed once the server
-    /// is to stop.
-    pub fn attend<R: Wait>(&mut self, rt: &R, cell: &RevisionCell, pass: &mut Pass, left: &Left)
+    /// Round after round, until no slot is at work or writing fails.
+    fn print_all<R: Wait>(&mut self, rt: &R, cell: &RevisionCell, pass: &mut Pass, left: &Left)
         requires cell { pass.old.cell ≡ cell.now }
         requires scribe { pass.old.scribe ≡ true }
         requires empty { self.old.rows.items ≡ [] }
@@ -103,5 +110,31 @@ impl<'a, C: Caller, O: Sink, K: Clock, D: Door<C>, S: Stop> Scribe<'a, C, O, K, 
             further = self.round(rt, cell, pass, left);
         }
         unreachable!()
+    }
+
+    /// Waits until no slot is at work.
+    fn wait_out<R: Wait>(&self, rt: &R, left: &Left) {
+        for _ in rt.forever() {
+            if left.is_zero() {
+                return;
+            }
+            self.clock.nap();
+        }
+        unreachable!()
+    }
+}
+
+impl<'a, O: Sink, K: Clock, T: Stop, D: Close, E: Close> Attendant for Scribe<'a, O, K, T, D, E> {
+    ghost may = { λ s p. (p.scribe ≡ true) × (s.rows.items ≡ []) × (p.room ≤ vec_capacity s.rows) };
+
+    ghost attends = { λ s t p q. (t.out.ghost_name ≡ s.out.ghost_name)
+        × Prints p q (O.held s.out.now) (O.held t.out.now) (O.Faulty.faults s.out.now) (O.Faulty.faults t.out.now) t.done };
+
+    /// Prints the rows of the cell as they come, until no slot is at work. After a write fault it takes no more of them out, and
+    /// waits until then. The page's door is closed last of all, so that the page is there as long as a client is served.
+    fn attend<R: Wait>(&mut self, rt: &R, cell: &RevisionCell, pass: &mut Pass, left: &Left) {
+        self.print_all(rt, cell, pass, left);
+        self.wait_out(rt, left);
+        self.doors.page.close();
     }
 }

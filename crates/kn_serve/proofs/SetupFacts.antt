@@ -14,8 +14,9 @@ use Rattle.kn_journal.specs.Journal.{first_part, nothing_part, opening_part}
 use Rattle.kn_journal.specs.Lines.{begins_with_lf, fits, lines, lines_at_lf, onto_first, without_crs}
 use Rattle.kn_journal.specs.Parts.{Part, part, then_part}
 use Rattle.kn_journal.specs.Bundle.{listed_part, opening_by, setups_behind, setups_end, setups_part}
-use Rattle.kn_journal.specs.Telling.{Gives, ReaderState, Refused, Refuses, Tells}
+use Rattle.kn_journal.specs.Telling.{Gives, ReaderState, Refused, Refuses, Tells, TellsOpening}
 use Rattle.kn_replay.specs.Replaying.{status_of}
+use Rattle.kn_serve.specs.Front.{SaysFront}
 use Rattle.kn_serve.specs.Setups.{SaysSetups}
 use Rattle.kn_serve.specs.Setup.{IsReadOut, SaysSetup, nothing_behind, setup_alone}
 
@@ -74,6 +75,27 @@ setup_said (Some xs) (Some ys) (Some zs) version setup n m h k =
       read = ap (λ (r : Result (Part Opening) Cause). then_part r nothing_behind) h
           ∙ ap (λ (r : Result (Part ⊤) Cause). then_part r (λ _ m left. Ok (part o m left))) k;
     }
+
+-- ---- a setup, whatever stands behind it
+
+pub front_memory : (left : Option (List ℕ)) → SaysFront left (Err error.Memory)
+front_memory None = tt
+front_memory (Some xs) = tt
+
+front_said : (version n : ℕ) (left new : Option (List ℕ)) (r : Result Setup JournalError) → TellsOpening (opening_part JournalLine 0) version n left new r → SaysFront left r
+front_said version n None new r h = tt
+front_said version n (Some xs) None (Ok setup) h = absurd h
+front_said version n (Some xs) (Some ys) (Ok setup) h = record { version = version; number = n; left = lines ys; read = h }
+front_said version n (Some xs) new (Err e) h = h
+
+-- a reader that is new reads from line 1, with nothing ahead
+pub front_from_start : (r : ReaderState) (version n : ℕ) (left new : Option (List ℕ)) (result : Result Setup JournalError) → r.input.ahead ≡ [] → r.begun ≡ false → r.number ≡ 0
+    → TellsOpening (opening_by r.begun r.version r.number) version n (prepend_known r.input.ahead left) new result → SaysFront left result
+front_from_start r version n left new result ahead begun number h =
+    front_said version n left new result
+    (subst (λ (x : Option (List ℕ)). TellsOpening (opening_part JournalLine 0) version n x new result) (nothing_ahead r.input.ahead left ahead)
+    (subst (λ (m : ℕ). TellsOpening (opening_part JournalLine m) version n (prepend_known r.input.ahead left) new result) number
+    (subst (λ (b : Bool). TellsOpening (opening_by b r.version r.number) version n (prepend_known r.input.ahead left) new result) begun h)))
 
 -- ---- bytes without a line are none
 

@@ -1,5 +1,5 @@
 -- What makes a session of what its calls say, and what is so of it then.
-use Rattle.std.specs.Prelude.{◌≡◌, ◌≤◌, ◌^◌, ℕ, Bool, false, All, List, length}
+use Rattle.std.specs.Prelude.{◌≡◌, ◌≤◌, ◌^◌, ℕ, Bool, false, All, List, length, Option, Err}
 use Rattle.kn_trace.specs.Events.{opening}
 use Rattle.kn_core.specs.State.{StandsFor}
 use Rattle.kn_cell.specs.Lists.{Each}
@@ -10,6 +10,7 @@ use Rattle.kn_journal.specs.Journal.{IsSetup, good, journal_text, verdict}
 use Rattle.kn_print.specs.Printed.{HasSmall}
 use Rattle.kn_replay.specs.Replaying.{status_of}
 use Rattle.kn_session.specs.Session.{IsFine, IsOneHistory}
+use Rattle.kn_serve.specs.Front.{SaysFront}
 use Rattle.kn_serve.specs.Running.{IsSession, IsStart, Session, journal_of}
 
 -- a revision was opened from the setup at the start, and this is the one history of it, with as many marks as there are slots
@@ -31,3 +32,5 @@ pub record RunLaws (reading : ℕ → Type 0) : Type 0 where
   -- which errors of a setup make a status
   pub read_fault : (e : JournalError) → status_of e ≡ status.ReadFault → e ≡ error.ReadFault
   pub no_write_fault : (e : JournalError) → status_of e ≡ status.WriteFault → ⊥
+  -- want of memory says nothing of a setup
+  pub memory : (left : Option (List ℕ)) → SaysFront left (Err error.Memory)

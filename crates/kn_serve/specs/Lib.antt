@@ -1,5 +1,6 @@
 pub mod Course
 pub mod Ending
+pub mod Front
 pub mod Laws
 pub mod Many
 pub mod ManyCourse

@@ -27,5 +27,7 @@ pub use many::serve_many;
 pub use open_error::OpenError;
 pub use opening::{MemOpener, Opener};
 pub use outside::{Opens, OpensAll, Outside};
-pub use run::{open_revision, serve_run, start_of};
+pub use run::{open_logged, open_revision, serve_run, start_of};
+pub use setups::read_front;
+pub use telling::tell;
 pub use wide_opening::{MemWideOpener, WideOpener};

@@ -4,6 +4,7 @@ ghost use Rattle.kn_io.specs.Causes.{Rose};
 ghost use Rattle.kn_trace.specs.Events.{opening};
 ghost use Rattle.kn_trace.specs.Trace.{Trace};
 ghost use Rattle.kn_core.specs.State.{StandsFor};
+ghost use Rattle.kn_cell.specs.Books.{IsOpenedBy};
 ghost use Rattle.kn_cell.specs.History.{live_of};
 ghost use Rattle.kn_session.specs.Lists.{EachIs};
 ghost use Rattle.kn_serve.specs.Course.{CourseBy};
@@ -50,6 +51,22 @@ pub fn open_revision(alloc: Global, spec: &Spec, start: u64) -> Result<Revision,
     ensures events { IfOk result (λ r. r.events ≡ 0) }
     ensures live { IfOk result (λ r. (c : Trace) → StandsFor r c → live_of c ≡ 0) }
 {
+    match open_logged(alloc, spec, start) {
+        Ok((revision, _)) => Ok(revision),
+        Err(Memory) => Err(Memory),
+    }
+}
+
+/// The same, and the entries that the revision opened with.
+pub fn open_logged(alloc: Global, spec: &Spec, start: u64) -> Result<(Revision, EntryLog), Memory>
+    requires { start ≤ 2 ^ 42 }
+    ensures stands { IfOk result (λ r. StandsFor r.0 (opening spec.now start)) }
+    ensures spec { IfOk result (λ r. r.0.spec ≡ spec.now) }
+    ensures clock { IfOk result (λ r. r.0.clock ≡ start) }
+    ensures events { IfOk result (λ r. r.0.events ≡ 0) }
+    ensures live { IfOk result (λ r. (c : Trace) → StandsFor r.0 c → live_of c ≡ 0) }
+    ensures opened { IfOk result (λ r. IsOpenedBy r.0 r.1) }
+{
     let mut log = match EntryLog::new(alloc) {
         Ok(log) => log,
         Err(Memory) => return Err(Memory),
@@ -64,7 +81,7 @@ pub fn open_revision(alloc: Global, spec: &Spec, start: u64) -> Result<Revision,
     };
     let live = revision.live();
     prove!(live == 0);
-    Ok(revision)
+    Ok((revision, log))
 }
 
 /// Serves a session, and prints its journal.
@@ -127,7 +144,7 @@ pub fn serve<
 }
 
 /// Serves a session: the setup is read, the revision opened, every round of every slot served with the ticker beside them, and
-/// the history printed as a journal that `kact replay` reads, line by line and taking no memory.
+/// the history printed as a journal that `kact replay` reads, in pieces of up to 16 KiB and taking no memory.
 ///
 /// The status is that of the setup's fault, or `Memory` at opening, and then nothing else was touched; or `WriteFault`; or
 /// `SlotFault` of the least slot with a round that ended in a fault; or `Memory`, where a round ended so; or `Ok`. What it

@@ -2,6 +2,7 @@
 ghost use Rattle.std.specs.Prelude.{◌≡◌, ◌≤◌, Err, IfOk, OnOk, length};
 ghost use Rattle.kn_journal.specs.Bundle.{AreSetups};
 ghost use Rattle.kn_journal.specs.Journal.{IsSetup};
+ghost use Rattle.kn_serve.specs.Front.{SaysFront};
 ghost use Rattle.kn_serve.specs.Setup.{HasBrokenOff, IsReadOut, SaysSetup};
 ghost use Rattle.kn_serve.specs.Setups.{SaysSetups};
 
@@ -30,6 +31,20 @@ pub fn read_setup<S: Source>(alloc: Global, source: &mut S) -> Result<Setup, Jou
         Ok(()) => Ok(setup),
         Err(error) => Err(error),
     }
+}
+
+/// Reads a journal's lines before its start, and no line behind the setup's last one. What was read of the source behind that line is dropped.
+pub fn read_front<S: Source>(alloc: Global, source: &mut S) -> Result<Setup, JournalError>
+    ensures says { SaysFront (S.left source.old) result }
+    ensures kept { IfOk result IsSetup }
+    ensures fault { result ≡ Err JournalError.ReadFault → HasBrokenOff S.Faulty.faults S.given source }
+    ensures never_falls { S.Faulty.faults source.old ≤ S.Faulty.faults source.new }
+{
+    let mut reader = match JournalReader::new(alloc) {
+        Ok(reader) => reader,
+        Err(Memory) => return Err(JournalError::Memory),
+    };
+    reader.setup(alloc, source)
 }
 
 /// Reads so many setups of different revisions: `kact setups 1`, the setups, and then the end of the input.

@@ -1,6 +1,6 @@
 -- Passes are handed out, and taken back.
 use Rattle.std.proofs.Common.{◌≡◌, ◌≢◌, inl, inr, ℕ, suc, zero, drop, ◌<◌, ◌≤◌, ◌+◌, ◌-◌, List, [], ◌∷◌, ◌++◌, refl, sym, ap, ◌∙◌, subst, length, arith}
-use Rattle.std.specs.Prelude.{slice_index_or, slice_set, Option, None, Some}
+use Rattle.std.specs.Prelude.{slice_index_or, slice_set, Option, None, Some, true, ◌||◌}
 use Rattle.std.proofs.Math.Seq.{drop-cons}
 use Rattle.std.proofs.lemmas.List.{get_or-set_same, get_or-set_other}
 use Rattle.std.proofs.lemmas.Bool.Decides.{eqb_tells}
@@ -9,11 +9,12 @@ use Rattle.kn_cell.specs.declared.view.Joined.{Joined}
 use Rattle.kn_cell.specs.Lists.{Each}
 use Rattle.kn_cell.specs.Shown.{PassView, joined_shown, new_shown}
 use Rattle.kn_request.specs.declared.slot.Slot.{Slot}
-use Rattle.kn_session.specs.Passes.{IsBlank, IsGiven, IsNew, joined_all, where_some, found_by, front_of}
+use Rattle.kn_cell.specs.Splitting.{gone_of}
+use Rattle.kn_session.specs.Passes.{IsBlank, IsGiven, IsGivenOf, IsNewOf, joined_all, kind_of, where_some, found_by, front_of}
 use Rattle.kn_session.proofs.ListFacts.{at_left, at_later, each_both, none, one}
 
 -- what a blank pass gives away is new
-pub new_of : (p q : PassView) → IsBlank p → q ≡ new_shown p → IsNew p.opening p.room (p.passes - p.free) q
+pub new_of : (p q : PassView) → IsBlank p → q ≡ new_shown p → IsNewOf (kind_of p) (p.passes - p.free) q
 new_of p q blank is = record {
   named = ap (λ (v : PassView). v.number) is;
   free = ap (λ (v : PassView). v.free) is;
@@ -21,18 +22,17 @@ new_of p q blank is = record {
   seen = ap (λ (v : PassView). v.seen) is ∙ blank.unseen;
   mine = ap (λ (v : PassView). v.mine) is;
   others = ap (λ (v : PassView). v.others) is;
-  opening = ap (λ (v : PassView). v.opening) is;
-  roomy = ap (λ (v : PassView). v.room) is;
-  plain = ap (λ (v : PassView). v.lasting) is ∙ blank.plain;
+  kind = ap kind_of is;
   whole = ap (λ (v : PassView). v.gone) is ∙ blank.whole;
+  reader = ap (λ (v : PassView). v.scribe) is;
 }
 
 pub one_given : {C L : Type 0} (cell : TableId) (old p : PassView) (i : ℕ) (s t : Slot C L) → p ≡ record old { free = old.free - i } → i < old.free → old.free ≤ old.passes
-    → IsGiven cell p.opening p.room (p.passes - p.free) s t → IsGiven cell old.opening old.room (old.passes - old.free + i) s t
+    → IsGiven cell (IsNewOf (kind_of p) (p.passes - p.free)) s t → IsGivenOf cell old i s t
 one_given {C} {L} cell old p i s t is low low' g =
-    let g' : IsGiven cell old.opening old.room (old.passes - (old.free - i)) s t = subst (λ (v : PassView). IsGiven cell v.opening v.room (v.passes - v.free) s t) is g in
+    let g' : IsGiven cell (IsNewOf (kind_of old) (old.passes - (old.free - i))) s t = subst (λ (v : PassView). IsGiven cell (IsNewOf (kind_of v) (v.passes - v.free)) s t) is g in
     let n : old.passes - (old.free - i) ≡ old.passes - old.free + i = omega arith in
-    subst (λ k. IsGiven cell old.opening old.room k s t) n g'
+    subst (λ k. IsGiven cell (IsNewOf (kind_of old) k) s t) n g'
 
 -- a list in which all up to one place has been done, and then that place
 pub done_more : {A : Type 0} (P : ℕ → A → A → Type 0) (xs ys : List A) (i : ℕ) (y : A) → i < length ys
@@ -141,13 +141,28 @@ pub record IsSame (p q : PassView) : Type 0 where
   pub cell : q.cell ≡ p.cell
   pub free : q.free ≡ p.free
   pub passes : q.passes ≡ p.passes
-  pub opening : q.opening ≡ p.opening
   pub number : q.number ≡ p.number
+  pub seen : q.seen ≡ p.seen
   pub mine : q.mine ≡ p.mine
-  pub lasting : q.lasting ≡ p.lasting
+  pub kind : kind_of q ≡ kind_of p
 
 pub joined_same : (p : PassView) (qs : List PassView) → IsSame p (joined_all p qs)
-joined_same p [] = record { cell = refl; free = refl; passes = refl; opening = refl; number = refl; mine = refl; lasting = refl }
+joined_same p [] = record { cell = refl; free = refl; passes = refl; number = refl; seen = refl; mine = refl; kind = refl }
 joined_same p (q ∷ qs) =
     let x = joined_same (joined_shown p q) qs in
-    record { cell = x.cell; free = x.free; passes = x.passes; opening = x.opening; number = x.number; mine = x.mine; lasting = x.lasting }
+    record { cell = x.cell; free = x.free; passes = x.passes; number = x.number; seen = x.seen; mine = x.mine; kind = x.kind }
+
+-- a pass that takes rows out is the one that knows how many were, whichever passes it takes in
+pub record IsScribe (gone : ℕ) (p : PassView) : Type 0 where
+  pub scribe : p.scribe ≡ true
+  pub exact : p.gone ≡ gone
+
+pub scribe_joined : (gone : ℕ) (p q : PassView) → IsScribe gone p → IsScribe gone (joined_shown p q)
+scribe_joined gone p q x = record {
+  scribe = ap (λ b. b || q.scribe) x.scribe;
+  exact = ap (λ b. gone_of b p.gone q.gone) x.scribe ∙ x.exact;
+}
+
+pub scribe_all : (gone : ℕ) (p : PassView) (qs : List PassView) → IsScribe gone p → IsScribe gone (joined_all p qs)
+scribe_all gone p [] x = x
+scribe_all gone p (q ∷ qs) x = scribe_all gone (joined_shown p q) qs (scribe_joined gone p q x)

@@ -15,5 +15,6 @@ mod ShareFacts
 mod ShareEndings
 mod WideRounds
 mod SeenFacts
+mod OverFacts
 mod WideCourse
 mod WideEnds

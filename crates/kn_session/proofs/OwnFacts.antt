@@ -13,7 +13,6 @@ use Rattle.kn_cell.specs.Shown.{PassView}
 use Rattle.kn_io.specs.Links.{Link}
 use Rattle.kn_io.specs.declared.links.LinkError.{LinkError}
 use Rattle.kn_io.specs.declared.links.LinkError.TheVariants as link
-use Rattle.kn_io.specs.declared.records.Probe.{Probe}
 use Rattle.kn_head.specs.declared.head.Head.{Head}
 use Rattle.kn_head.specs.declared.head.HeadError.{HeadError}
 use Rattle.kn_request.specs.declared.meant.Meant.{Meant}
@@ -23,8 +22,9 @@ use Rattle.kn_request.specs.declared.ticks.Turn.{Turn}
 use Rattle.kn_request.specs.Outside.{Said}
 use Rattle.kn_request.specs.Requests.{AreCancels, AreFinishes, WasRun}
 use Rattle.kn_request.specs.Served.{HasArrived, IsServed, IsCourse}
-use Rattle.kn_request.specs.One.{ServesOne, IsWay, IsIdle}
-use Rattle.kn_request.specs.Ticking.{AreReady, ReadyOf, TakesTurn, TurnsFrom, Turns}
+use Rattle.kn_request.specs.One.{ServesGuest, IsWay, IsIdle}
+use Rattle.kn_request.specs.Terms.{Terms}
+use Rattle.kn_request.specs.Ticking.{AreReady, ReadyOf, TakesTurn, TurnsFrom, Turns, Visit}
 use Rattle.kn_session.specs.Lists.{HasOne}
 use Rattle.kn_session.specs.Own.{IsEndOf, IsArrivalOf, NamesOwn}
 use Rattle.kn_session.specs.Rounds.{IsRounds, Sides}
@@ -94,9 +94,9 @@ own_of n tag a xs is named all (suc k) x at r e =
     let same : n ≡ r = names_one n r x (all k x at) e in
     inl (tag, is, named ∙ ap (λ i. Some i) same)
 
-cancels_name : (reading : ℕ → Type 0) (due n : ℕ) (p : PassView) (xs : List Past) → AreCancels reading due n p xs → Each (Names n) xs
+cancels_name : (terms : Terms) (due n : ℕ) (p : PassView) (xs : List Past) → AreCancels terms due n p xs → Each (Names n) xs
 unfolding Names
-cancels_name reading due n p xs c = elim c [
+cancels_name terms due n p xs c = elim c [
   | inl e ↦ subst (Each (Names n)) (sym e) (none (Names n))
   | inr x ↦ subst (Each (Names n)) (sym x.2) (one (Names n) x.0.row (inl (ap (λ (y : Past). y.event.act) x.0.row_is)))
 ]
@@ -113,24 +113,24 @@ record Naming (n : ℕ) (p q : PassView) : Type 0 where
   mine : q.mine ≡ p.mine ++ rows
   names : Each (Names n) rows
 
-run_names : (reading : ℕ → Type 0) (due : ℕ) (head : Head) (n : ℕ) (p q : PassView) (w w' : Option Link) (reply : Result (List ℕ) LinkError) → WasRun reading due head n p q w w' reply → Naming n p q
-run_names reading due head n p q w w' reply c = record {
+run_names : (terms : Terms) (due : ℕ) (head : Head) (n : ℕ) (p q : PassView) (w w' : Option Link) (reply : Result (List ℕ) LinkError) → WasRun terms due head n p q w w' reply → Naming n p q
+run_names terms due head n p q w w' reply c = record {
   rows = c.cancel ++ c.finish;
   mine = c.mine;
-  names = each_both (Names n) c.cancel c.finish (cancels_name reading due n q c.cancel c.cancel_is) (finishes_name reading n (is_ok reply) q c.finish c.finish_is);
+  names = each_both (Names n) c.cancel c.finish (cancels_name terms due n q c.cancel c.cancel_is) (finishes_name terms.reading n (is_ok reply) q c.finish c.finish_is);
 }
 
-course_names : (reading : ℕ → Type 0) (due : ℕ) (head : Head) (n : ℕ) (p q : PassView) (w w' : Option Link) (m : Meant) → IsCourse reading due head n p q w w' m → Naming n p q
-course_names reading due head n p q w w' (meant.Reply t) c = run_names reading due head n p q w w' (Ok t) c
-course_names reading due head n p q w w' meant.LinkFault c = run_names reading due head n p q w w' (Err link.Failed) c
-course_names reading due head n p q w w' meant.Memory c = run_names reading due head n p q w w' (Err link.Memory) c
-course_names reading due head n p q w w' meant.Expired c = record { rows = c.1.cancel; mine = c.1.mine; names = cancels_name reading due n q c.1.cancel c.1.cancel_is }
-course_names reading due head n p q w w' meant.QueueFull c = absurd c
-course_names reading due head n p q w w' meant.Overload c = absurd c
-course_names reading due head n p q w w' (meant.Full f) c = absurd c
+course_names : (terms : Terms) (due : ℕ) (head : Head) (n : ℕ) (p q : PassView) (w w' : Option Link) (m : Meant) → IsCourse terms due head n p q w w' m → Naming n p q
+course_names terms due head n p q w w' (meant.Reply t) c = run_names terms due head n p q w w' (Ok t) c
+course_names terms due head n p q w w' meant.LinkFault c = run_names terms due head n p q w w' (Err link.Failed) c
+course_names terms due head n p q w w' meant.Memory c = run_names terms due head n p q w w' (Err link.Memory) c
+course_names terms due head n p q w w' meant.Expired c = record { rows = c.1.cancel; mine = c.1.mine; names = cancels_name terms due n q c.1.cancel c.1.cancel_is }
+course_names terms due head n p q w w' meant.QueueFull c = absurd c
+course_names terms due head n p q w w' meant.Overload c = absurd c
+course_names terms due head n p q w w' (meant.Full f) c = absurd c
 
-arrived_own : (reading : ℕ → Type 0) (timeout tag : ℕ) (head : Head) (p q : PassView) (w w' : Option Link) (m : Meant) → HasArrived reading timeout tag head p q w w' m → GrowsOwn p q
-arrived_own reading timeout tag head p q w w' m h =
+arrived_own : (terms : Terms) (timeout tag : ℕ) (head : Head) (p q : PassView) (w w' : Option Link) (m : Meant) → HasArrived terms timeout tag head p q w w' m → GrowsOwn p q
+arrived_own terms timeout tag head p q w w' m h =
     let a = h.arrive in
     let is : a.row.event.act ≡ act.Arrive tag = ap (λ (y : Past). y.event.act) a.row_is in
     elim h.way [
@@ -141,7 +141,7 @@ arrived_own reading timeout tag head p q w w' m h =
         asking = one Asking a.row (inl (tag, is));
       }
       | inr x ↦
-          let c = course_names reading (min a.at (2 ^ 42) + timeout) head h.number h.mid q w w' m x.course in
+          let c = course_names terms (min a.at (2 ^ 42) + timeout) head h.number h.mid q w w' m x.course in
           record {
             rows = a.row ∷ c.rows;
             mine = c.mine ∙ (ap (λ l. l ++ c.rows) h.mine ∙ append_assoc p.mine (a.row ∷ []) c.rows);
@@ -150,32 +150,32 @@ arrived_own reading timeout tag head p q w w' m h =
           }
     ]
 
-served_own : (reading : ℕ → Type 0) (timeout tag : ℕ) (head : Head) (p q : PassView) (w w' : Option Link) (m : Meant) → IsServed reading timeout tag head p q w w' m → GrowsOwn p q
-served_own reading timeout tag head p q w w' (meant.Full f) s = grows_none p q s.0.mine
-served_own reading timeout tag head p q w w' (meant.Reply t) s = arrived_own reading timeout tag head p q w w' (meant.Reply t) s
-served_own reading timeout tag head p q w w' meant.LinkFault s = arrived_own reading timeout tag head p q w w' meant.LinkFault s
-served_own reading timeout tag head p q w w' meant.Memory s = arrived_own reading timeout tag head p q w w' meant.Memory s
-served_own reading timeout tag head p q w w' meant.Expired s = arrived_own reading timeout tag head p q w w' meant.Expired s
-served_own reading timeout tag head p q w w' meant.QueueFull s = arrived_own reading timeout tag head p q w w' meant.QueueFull s
-served_own reading timeout tag head p q w w' meant.Overload s = arrived_own reading timeout tag head p q w w' meant.Overload s
+served_own : (terms : Terms) (timeout tag : ℕ) (head : Head) (p q : PassView) (w w' : Option Link) (m : Meant) → IsServed terms timeout tag head p q w w' m → GrowsOwn p q
+served_own terms timeout tag head p q w w' (meant.Full f) s = grows_none p q s.0.mine
+served_own terms timeout tag head p q w w' (meant.Reply t) s = arrived_own terms timeout tag head p q w w' (meant.Reply t) s
+served_own terms timeout tag head p q w w' meant.LinkFault s = arrived_own terms timeout tag head p q w w' meant.LinkFault s
+served_own terms timeout tag head p q w w' meant.Memory s = arrived_own terms timeout tag head p q w w' meant.Memory s
+served_own terms timeout tag head p q w w' meant.Expired s = arrived_own terms timeout tag head p q w w' meant.Expired s
+served_own terms timeout tag head p q w w' meant.QueueFull s = arrived_own terms timeout tag head p q w w' meant.QueueFull s
+served_own terms timeout tag head p q w w' meant.Overload s = arrived_own terms timeout tag head p q w w' meant.Overload s
 
 idle_own : (p q : PassView) (w w' : Option Link) → IsIdle p q w w' → GrowsOwn p q
 idle_own p q w w' i = grows_none p q (ap (λ (v : PassView). v.mine) i.pass)
 
-way_own : (reading : ℕ → Type 0) (spec : Spec) (tag : ℕ) (p q : PassView) (w w' : Option Link) (h : Result Head HeadError) (s : Served) (text : List ℕ) → IsWay reading spec tag p q w w' h s text → GrowsOwn p q
-way_own reading spec tag p q w w' (Ok h) s text way = elim way [
-  | inl x ↦ elim x.1 [ inl y ↦ idle_own p q w w' y.0 | inr y ↦ served_own reading spec.timeout_ms tag h p q w w' y.0 y.1 ]
+way_own : (terms : Terms) (spec : Spec) (tag : ℕ) (p q : PassView) (w w' : Option Link) (h : Result Head HeadError) (s : Served) (text : List ℕ) → IsWay terms spec tag p q w w' h s text → GrowsOwn p q
+way_own terms spec tag p q w w' (Ok h) s text way = elim way [
+  | inl x ↦ elim x.1 [ inl y ↦ idle_own p q w w' y.0 | inr y ↦ served_own terms spec.timeout_ms tag h p q w w' y.0 y.1 ]
   | inr x ↦ idle_own p q w w' x.1
 ]
-way_own reading spec tag p q w w' (Err e) s text way = idle_own p q w w' way.0
+way_own terms spec tag p q w w' (Err e) s text way = idle_own p q w w' way.0
 
-one_own : (reading : ℕ → Type 0) (spec : Spec) (tag : ℕ) (p q : PassView) (w w' : Option Link) (a a' : Option Said) (s : Served) → ServesOne reading spec tag p q w w' a a' s → GrowsOwn p q
-one_own reading spec tag p q w w' a a' s o = elim o [ inl x ↦ idle_own p q w w' x.0 | inr x ↦ way_own reading spec tag p q w w' x.found x.meant x.text x.way ]
+one_own : (terms : Terms) (spec : Spec) (tag : ℕ) (p q : PassView) (w w' : Option Link) (a a' : Option Said) (s : Served) → ServesGuest terms spec tag p q w w' a a' s → GrowsOwn p q
+one_own terms spec tag p q w w' a a' s o = elim o [ inl x ↦ idle_own p q w w' x.0 | inr x ↦ way_own terms spec tag p q w w' x.found x.meant x.text x.way ]
 
-pub rounds_own : (Then : PassView → Type 0) (reading : ℕ → Type 0) (spec : Spec) (tag : ℕ) (ss : List Served) (p q : PassView) (a b : Sides) → IsRounds Then reading spec tag ss p q a b → GrowsOwn p q
-rounds_own Then reading spec tag [] p q a b r = grows_none p q (ap (λ (v : PassView). v.mine) r.0)
-rounds_own Then reading spec tag (s ∷ ss) p q a b r =
-    grows_trans p r.0 q (one_own reading spec tag p r.0 a.wire r.1.wire a.said r.1.said s r.2.served) (rounds_own Then reading spec (tag + 1) ss r.0 q r.1 b r.3)
+pub rounds_own : (Then : PassView → Type 0) (terms : ℕ → ℕ → Terms) (spec : Spec) (tag : ℕ) (ss : List Served) (p q : PassView) (a b : Sides) → IsRounds Then terms spec tag ss p q a b → GrowsOwn p q
+rounds_own Then terms spec tag [] p q a b r = grows_none p q (ap (λ (v : PassView). v.mine) r.0)
+rounds_own Then terms spec tag (s ∷ ss) p q a b r =
+    grows_trans p r.0 q (one_own (terms a.faults r.1.faults) spec tag p r.0 a.wire r.1.wire a.said r.1.said s r.2.served) (rounds_own Then terms spec (tag + 1) ss r.0 q r.1 b r.3)
 
 -- ---- the ticker's rows are Tick and Ready, which end nothing
 
@@ -190,9 +190,9 @@ of_ready (Some true) pod full Q rows k r = elim r [
   | inr x ↦ k rows x.1
 ]
 
-readies : (full : Bool) (ps : List Probe) (rows : List Past) → AreReady full ps rows → Each Ticking rows
+readies : (full : Bool) (vs : List Visit) (rows : List Past) → AreReady full vs rows → Each Ticking rows
 readies full [] rows r = subst (Each Ticking) (sym r) (none Ticking)
-readies full (p ∷ ps) rows r = of_ready p.answer p.pod full (AreReady full ps) rows (λ xs m. readies full ps xs m) r
+readies full (v ∷ vs) rows r = of_ready v.answer v.pod full (AreReady full vs) rows (λ xs m. readies full vs xs m) r
 
 tick_of : (now last : ℕ) (p q : PassView) (w w' : Option Link) (t : Turn) → (m : TakesTurn now last p q w w' t) → Each Ticking m.tick
 tick_of now last p q w w' t m = elim (cases_lt now (last + 2000)) [
@@ -218,7 +218,7 @@ turns_ticking reading last (now ∷ nows) p q w w' end t =
     record {
       rows = rows ++ rest.rows;
       mine = rest.mine ∙ (ap (λ l. l ++ rest.rows) m.mine ∙ append_assoc p.mine rows rest.rows);
-      ticking = each_both Ticking rows rest.rows (each_both Ticking m.tick m.rows (tick_of now last p t.1 w t.2 t.0 m) (readies t.0.full m.probes m.rows m.ready)) rest.ticking;
+      ticking = each_both Ticking rows rest.rows (each_both Ticking m.tick m.rows (tick_of now last p t.1 w t.2 t.0 m) (readies t.0.full m.visits m.rows m.ready)) rest.ticking;
     }
 
 pub ticker_ticking : (reading : ℕ → Type 0) (start : ℕ) (p q : PassView) (w w' : Option Link) → Turns reading start p q w w' → p.mine ≡ [] → Each Ticking q.mine

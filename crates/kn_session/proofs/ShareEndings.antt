@@ -15,6 +15,7 @@ use Rattle.kn_head.specs.declared.head.HeadError.{HeadError}
 use Rattle.kn_request.specs.declared.slot.Ended.{Ended}
 use Rattle.kn_request.specs.declared.slot.Served.{Served}
 use Rattle.kn_request.specs.Outside.{Said}
+use Rattle.kn_request.specs.Terms.{unwatched}
 use Rattle.kn_request.specs.Wide.{IsWideWay, ServesWide, TouchesNone, at_count, at_pass}
 use Rattle.kn_session.specs.Laws.{SessionLaws}
 use Rattle.kn_session.specs.Lists.{HasOne}
@@ -40,8 +41,8 @@ wide_last laws hs reading specs d tag (e ∷ es) ps qs a b ends r =
     let x = rounds_at (λ _. ⊤) reading specs (tag + 1) es ms qs r.1 b r.3 v d m is in
     let q = x.0 in
     let ss = map (ending_at v) es in
-    let next = rounds_next (λ _. ⊤) reading (slice_index_or specs v d) (tag + 1) ss m q (side_at v r.1) (side_at v b) x.2 in
-    let own = rounds_own (λ _. ⊤) reading (slice_index_or specs v d) (tag + 1) ss m q (side_at v r.1) (side_at v b) x.2 in
+    let next = rounds_next (λ _. ⊤) (λ a b. unwatched reading) (slice_index_or specs v d) (tag + 1) ss m q (side_at v r.1) (side_at v b) x.2 in
+    let own = rounds_own (λ _. ⊤) (λ a b. unwatched reading) (slice_index_or specs v d) (tag + 1) ss m q (side_at v r.1) (side_at v b) x.2 in
     let end = ends v q x.1 in
     lasts_of laws (at_history hs v) m q next own end.0 end.1
     in

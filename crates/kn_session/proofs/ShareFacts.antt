@@ -18,6 +18,7 @@ use Rattle.kn_request.specs.declared.slot.Served.{Served}
 use Rattle.kn_request.specs.declared.slot.Served.TheVariants as served
 use Rattle.kn_request.specs.Answers.{IsFor}
 use Rattle.kn_request.specs.One.{IsEvent}
+use Rattle.kn_request.specs.Terms.{unwatched}
 use Rattle.kn_request.specs.Wide.{BreaksAt, IsWideWay, ServesAt, at_count, at_pass, at_wire}
 use Rattle.kn_session.specs.Lists.{HasOne}
 use Rattle.kn_session.specs.Rounds.{IsFullOf, IsRounds, OneRound, Sides, any_fault, any_memory, is_fault, is_memory}
@@ -57,7 +58,7 @@ record IsHere (reading : ℕ → Type 0) (spec : Spec) (tag v : ℕ) (p : PassVi
   is : at_pass qs v ≡ Some new
   later : (new ≡ p) ⊎ Looks p new
   names : IsFor spec head
-  event : IsEvent reading spec.timeout_ms tag head p new w w' meant text
+  event : IsEvent (unwatched reading) spec.timeout_ms tag head p new w w' meant text
 
 -- it did not
 record IsElsewhere (v : ℕ) (p : PassView) (qs : List (Option PassView)) (ws ws' : List (Option Link)) (of : Option ℕ) : Type 0 where
@@ -73,8 +74,8 @@ here_of : (reading : ℕ → Type 0) (specs : List Spec) (tag : ℕ) (ps qs : Li
 here_of reading specs tag ps qs ws ws' v h meant text d p is x =
     let same : x.old ≡ p = (let a = x.was in cc) in
     let spec : x.named.spec ≡ slice_index_or specs v d = sym (x.named.spec_is d) in
-    let event : IsEvent reading x.named.spec.timeout_ms tag h p x.new (at_wire ws v) (at_wire ws' v) meant text =
-    subst (λ (o : PassView). IsEvent reading x.named.spec.timeout_ms tag h o x.new (at_wire ws v) (at_wire ws' v) meant text) same x.event in
+    let event : IsEvent (unwatched reading) x.named.spec.timeout_ms tag h p x.new (at_wire ws v) (at_wire ws' v) meant text =
+    subst (λ (o : PassView). IsEvent (unwatched reading) x.named.spec.timeout_ms tag h o x.new (at_wire ws v) (at_wire ws' v) meant text) same x.event in
     record {
       named = refl;
       head = h;
@@ -83,7 +84,7 @@ here_of reading specs tag ps qs ws ws' v h meant text d p is x =
       is = ap (λ l. at_pass l v) x.now ∙ get_or-set_same ps v (Some x.new) None (has_place ps v p is);
       later = subst (λ (o : PassView). (x.new ≡ o) ⊎ Looks o x.new) same x.later;
       names = subst (λ (s : Spec). IsFor s h) spec x.named.names;
-      event = subst (λ (s : Spec). IsEvent reading s.timeout_ms tag h p x.new (at_wire ws v) (at_wire ws' v) meant text) spec event;
+      event = subst (λ (s : Spec). IsEvent (unwatched reading) s.timeout_ms tag h p x.new (at_wire ws v) (at_wire ws' v) meant text) spec event;
     }
 
 other_of : (reading : ℕ → Type 0) (specs : List Spec) (tag : ℕ) (ps qs : List (Option PassView)) (ws ws' : List (Option Link)) (u v : ℕ) (h : Head) (meant : Served) (text : List ℕ) (p : PassView)
@@ -128,7 +129,7 @@ breaks_stay v (Some u) bs bs' e = elim (cases_eq v u) [
 -- ---- as a round of the revision alone
 
 idle_round : (reading : ℕ → Type 0) (spec : Spec) (tag v : ℕ) (p : PassView) (a b : WideSides) → at_wire b.wires v ≡ at_wire a.wires v → a.faults ≤ b.faults → at_count a.breaks v ≤ at_count b.breaks v
-    → OneRound (λ _. ⊤) reading spec tag p p (side_at v a) (side_at v b) elsewhere
+    → OneRound (λ _. ⊤) (λ a b. unwatched reading) spec tag p p (side_at v a) (side_at v b) elsewhere
 idle_round reading spec tag v p a b w f k = record {
   later = inl refl;
   then = tt;
@@ -156,11 +157,11 @@ here_is v of s is = ap (λ o. ending_by v o s) is ∙ ap (λ b. cond b s elsewhe
 
 pub one_at : (Then : List (Option PassView) → Type 0) (reading : ℕ → Type 0) (specs : List Spec) (tag : ℕ) (ps qs : List (Option PassView)) (a b : WideSides) (e : Ended) → OneWide Then reading specs tag ps qs a b e
     → (v : ℕ) (d : Spec) (p : PassView) → at_pass ps v ≡ Some p
-    → (q : PassView) × (at_pass qs v ≡ Some q) × OneRound (λ _. ⊤) reading (slice_index_or specs v d) tag p q (side_at v a) (side_at v b) (ending_at v e)
+    → (q : PassView) × (at_pass qs v ≡ Some q) × OneRound (λ _. ⊤) (λ a b. unwatched reading) (slice_index_or specs v d) tag p q (side_at v a) (side_at v b) (ending_at v e)
 one_at Then reading specs tag ps qs a b e one v d p is =
     let spec = slice_index_or specs v d in
     let links = breaks_stay v e.revision a.breaks b.breaks one.causes.links in
-    let OneAt : Served → PassView → Type 0 = λ s q. OneRound (λ _. ⊤) reading spec tag p q (side_at v a) (side_at v b) s in
+    let OneAt : Served → PassView → Type 0 = λ s q. OneRound (λ _. ⊤) (λ a b. unwatched reading) spec tag p q (side_at v a) (side_at v b) s in
     let idle : IsElsewhere v p qs a.wires b.wires e.revision → (q : PassView) × (at_pass qs v ≡ Some q) × OneAt (ending_at v e) q = λ x.
     (p, x.still, subst (λ s. OneAt s p) (sym (elsewhere_is v e.revision e.served x.named)) (idle_round reading spec tag v p a b x.unused one.causes.caller_never_falls links)) in
     elim one.served [
@@ -190,7 +191,7 @@ one_at Then reading specs tag ps qs a b e one v d p is =
 
 pub rounds_at : (Then : List (Option PassView) → Type 0) (reading : ℕ → Type 0) (specs : List Spec) (tag : ℕ) (es : List Ended) (ps qs : List (Option PassView)) (a b : WideSides) → AreWide Then reading specs tag es ps qs a b
     → (v : ℕ) (d : Spec) (p : PassView) → at_pass ps v ≡ Some p
-    → (q : PassView) × (at_pass qs v ≡ Some q) × IsRounds (λ _. ⊤) reading (slice_index_or specs v d) tag (map (ending_at v) es) p q (side_at v a) (side_at v b)
+    → (q : PassView) × (at_pass qs v ≡ Some q) × IsRounds (λ _. ⊤) (λ a b. unwatched reading) (slice_index_or specs v d) tag (map (ending_at v) es) p q (side_at v a) (side_at v b)
 rounds_at Then reading specs tag [] ps qs a b r v d p is = (p, ap (λ l. at_pass l v) r.0 ∙ is, (refl, ap (side_at v) r.1))
 rounds_at Then reading specs tag (e ∷ es) ps qs a b r v d p is =
     let one = one_at Then reading specs tag ps r.0 a r.1 e r.2 v d p is in

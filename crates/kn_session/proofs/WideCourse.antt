@@ -1,28 +1,32 @@
 -- A whole session over several revisions, and what one of them sees of it.
-use Rattle.std.proofs.Common.{◌≡◌, ◌<◌, ◌+◌, ◌-◌, ◌*◌, inr, ℕ, List, ◌++◌, sym, ap, ◌∙◌, subst, length, map, take, drop, arith}
+use Rattle.std.proofs.Common.{◌≡◌, ◌<◌, ◌+◌, ◌-◌, ◌*◌, inr, ℕ, List, [], ◌++◌, sym, ap, ◌∙◌, subst, length, map, take, drop, arith}
 use Rattle.std.specs.Prelude.{Option, None, Some, slice_index_or, ⊤}
 use Rattle.std.proofs.lemmas.List.{get_or-map}
 use Rattle.atomic_table.specs.Seated.{TableId}
 use Rattle.kn_event.specs.declared.revision.Spec.{Spec}
 use Rattle.kn_core.specs.State.{RevisionState}
 use Rattle.kn_cell.specs.declared.past.Past.{Past}
+use Rattle.kn_cell.specs.Lists.{Each}
 use Rattle.kn_cell.specs.Shown.{PassView, first_shown, joined_shown}
 use Rattle.kn_io.specs.Links.{Link}
 use Rattle.kn_request.specs.declared.slot.Ended.{Ended}
 use Rattle.kn_request.specs.declared.slot.WideSlot.{WideSlot}
 use Rattle.kn_request.specs.declared.slot.Work.{Work}
-use Rattle.kn_request.specs.Wide.{ArePassesOf, at_count, at_pass, at_wire, passes_in}
+use Rattle.kn_request.specs.Terms.{unwatched}
+use Rattle.kn_request.specs.Wide.{ArePassesOf, TicksOf, at_count, at_pass, at_wire, passes_in}
 use Rattle.kn_session.specs.Laws.{SessionLaws}
-use Rattle.kn_session.specs.Passes.{IsNew, found_by}
+use Rattle.kn_session.specs.Passes.{IsLone, IsNewOf, Kind, found_by, kind_of, plain_kind}
 use Rattle.kn_session.specs.Rounds.{IsRounds}
+use Rattle.kn_session.specs.Session.{IsClosedAs}
 use Rattle.kn_session.specs.Wide.{WideSides, at_history}
 use Rattle.kn_session.specs.WidePasses.{AreShut, AreOpen, EachMayGive, HasRun, HasSame, HaveTicked, IsShut, IsOpen, MayCloseAll, SlotRan, gave, pass_at}
 use Rattle.kn_session.proofs.Nexts.{next_of, rounds_next}
 use Rattle.kn_session.proofs.OwnFacts.{rounds_own}
-use Rattle.kn_session.proofs.CloseFacts.{closing_full}
+use Rattle.kn_session.proofs.CloseFacts.{AreLone, DidNothing, closing, closing_full, closing_kept, closing_opening, closing_rows, closing_ticker, whole_as}
 use Rattle.kn_session.proofs.HandFacts.{joined_same}
 use Rattle.kn_session.proofs.PlaceFacts.{lent}
-use Rattle.kn_session.proofs.SeenFacts.{Seen, Spot}
+use Rattle.kn_session.proofs.ListFacts.{none}
+use Rattle.kn_session.proofs.SeenFacts.{Asks, Seen}
 use Rattle.kn_session.proofs.SessionFacts.{new_as, some_of}
 use Rattle.kn_session.proofs.ShareFacts.{ending_at, rounds_at, side_at}
 
@@ -46,6 +50,39 @@ pub record Course {C L : Type 0} (at : WideSlot C L → WideSides) (reading : �
   pub way : Way at reading specs bs room rounds start slots slots' ws ws' ks ks'
   pub closed : AreShut (length way.cells) way.firsts' way.ticks' hs
 
+-- the first pass of a cell before it took the others in, the ticker's before and after, and the slots', of which f finds the one
+pub record Spot {A : Type 0} (f : A → Option PassView) (xs : List A) (reading : ℕ → Type 0) (k : Kind) (start : ℕ) (w w' : Option Link) (n n' : ℕ) (cell : TableId) (first old new : PassView) : Type 0 where
+  pub number : first.number ≡ 0
+  pub mine : first.mine ≡ []
+  pub others : first.others ≡ []
+  pub kind : kind_of first ≡ k
+  pub full : 1 + first.free + first.back + 1 + length xs ≡ first.passes
+  pub fresh : IsNewOf k 1 old
+  pub ticks : TicksOf reading start old new w w' n n'
+  pub lone : AreLone cell f xs
+  pub last : IsLone cell 1 new
+  pub asks : (i : ℕ) (d : A) → i < length xs → Asks (f (slice_index_or xs i d))
+
+-- .. and then it was closed
+spot_seen : {A : Type 0} (f : A → Option PassView) (xs : List A) (reading : ℕ → Type 0) (k : Kind) (start : ℕ) (w w' : Option Link) (n n' : ℕ) (cell : TableId) (first old new : PassView) (h : List Past)
+    → Spot f xs reading k start w w' n n' cell first old new → IsShut (closing f xs first new) h → Seen f xs reading k start w w' n n' h
+spot_seen f xs reading k start w w' n n' cell first old new h y shut =
+    let closes = shut.whole.closes in
+    let opening : (closing f xs first new).opening ≡ k.opening = closing_opening f xs first new ∙ ap (λ (v : Kind). v.opening) y.kind in
+    let closed : IsClosedAs (closing f xs first new).opening shut.revision h = whole_as (closing f xs first new) shut.revision h shut.whole in
+    record {
+      old = old;
+      new = new;
+      fresh = y.fresh;
+      ticks = y.ticks;
+      revision = shut.revision;
+      closed = subst (λ (b : RevisionState). IsClosedAs b shut.revision h) opening closed;
+      ticker = closing_ticker f xs first new shut.revision h y.last.named closes;
+      kept = closing_kept cell f xs first new shut.revision h y.lone closes;
+      rows = closing_rows cell f xs first new shut.revision h y.lone y.last y.number y.mine (subst (Each DidNothing) (sym y.others) (none DidNothing)) closes;
+      asks = y.asks;
+    }
+
 -- ---- one slot's share in one revision
 
 -- the new pass that the slot got of the cell, what it was in the end, and the rounds between, as the revision sees them
@@ -54,15 +91,15 @@ pub record SharedAt (reading : ℕ → Type 0) (spec : Spec) (b : RevisionState)
   pub new : PassView
   pub was : given ≡ Some old
   pub is : last ≡ Some new
-  pub fresh : IsNew b room number old
+  pub fresh : IsNewOf (plain_kind b room) number old
   pub of : old.cell ≡ cell
-  pub rounds : IsRounds (λ _. ⊤) reading spec tag (map (ending_at v) es) old new (side_at v a) (side_at v a')
+  pub rounds : IsRounds (λ _. ⊤) (λ a b. unwatched reading) spec tag (map (ending_at v) es) old new (side_at v a) (side_at v a')
 
 shared : (reading : ℕ → Type 0) (cells : List TableId) (specs : List Spec) (firsts : List PassView) (rounds i links links' : ℕ) (works : List Work) (from to : WideSides) (r : SlotRan reading cells specs firsts rounds i links links' works from to)
-    → (v : ℕ) (d : Spec) (p : PassView) (b : RevisionState) (room : ℕ) (cell : TableId) → v < length firsts → (slice_index_or firsts v p).cell ≡ cell → (slice_index_or firsts v p).opening ≡ b → (slice_index_or firsts v p).room ≡ room
+    → (v : ℕ) (d : Spec) (p : PassView) (b : RevisionState) (room : ℕ) (cell : TableId) → v < length firsts → (slice_index_or firsts v p).cell ≡ cell → kind_of (slice_index_or firsts v p) ≡ plain_kind b room
     → (slice_index_or firsts v p).passes - (slice_index_or firsts v p).free ≡ 2
     → SharedAt reading (slice_index_or specs v d) b room cell (i * rounds) (2 + i) v r.done.all.endings (at_pass (passes_in r.given) v) (at_pass (passes_in works) v) from to
-shared reading cells specs firsts rounds i links links' works from to r v d p b room cell low of opening roomy two =
+shared reading cells specs firsts rounds i links links' works from to r v d p b room cell low of kind two =
     let P = slice_index_or firsts v p in
     let len = r.given_is.0 in
     let low' : v < length r.given = omega arith in
@@ -76,7 +113,7 @@ shared reading cells specs firsts rounds i links links' works from to r v d p b 
       new = x.0;
       was = was;
       is = x.1;
-      fresh = new_as P.opening b P.room room (P.passes - P.free + i) (2 + i) g.0 opening roomy n g.3;
+      fresh = new_as (kind_of P) (plain_kind b room) (P.passes - P.free + i) (2 + i) g.0 kind n g.3;
       of = g.2 ∙ of;
       rounds = x.2;
     }
@@ -84,15 +121,13 @@ shared reading cells specs firsts rounds i links links' works from to r v d p b 
 -- a first pass as it was opened
 record Opens (b : RevisionState) (room n : ℕ) (cell : TableId) (first : PassView) : Type 0 where
   of : first.cell ≡ cell
-  opening : first.opening ≡ b
-  roomy : first.room ≡ room
+  kind : kind_of first ≡ plain_kind b room
   two : first.passes - first.free ≡ 2
 
 opens_of : (b : RevisionState) (room n : ℕ) (cell : TableId) (first ticks : PassView) → IsOpen b room (n + 2) cell first ticks → Opens b room n cell first
 opens_of b room n cell first ticks o = record {
   of = ap (λ (v : PassView). v.cell) o.first_is;
-  opening = ap (λ (v : PassView). v.opening) o.first_is;
-  roomy = ap (λ (v : PassView). v.room) o.first_is;
+  kind = ap kind_of o.first_is;
   two = let e = ap (λ (v : PassView). v.passes) o.first_is in let f = ap (λ (v : PassView). v.free) o.first_is in omega arith;
 }
 
@@ -110,7 +145,7 @@ way_share at reading specs bs room rounds start slots slots' ws ws' ks ks' x v s
     let o = opens_of (slice_index_or bs v b) room (length slots) (slice_index_or x.cells v c) (slice_index_or x.firsts v p) (slice_index_or x.ticks v p) (x.opened.each v b c p lowb) in
     let m = slice_index_or x.run.mids i d in
     let s = slice_index_or slots i d in
-    shared reading x.cells specs x.firsts rounds i (length s.links.items) (length m.links.items) m.works.items (at s) (at m) (x.run.ran.1 i d low) v sd p (slice_index_or bs v b) room (slice_index_or x.cells v c) lowf o.of o.opening o.roomy o.two
+    shared reading x.cells specs x.firsts rounds i (length s.links.items) (length m.links.items) m.works.items (at s) (at m) (x.run.ran.1 i d low) v sd p (slice_index_or bs v b) room (slice_index_or x.cells v c) lowf o.of o.kind o.two
 
 -- what was opened can be handed out, and ticks
 pub open_may : (bs : List RevisionState) (room n : ℕ) (cells : List TableId) (firsts ticks : List PassView) → AreOpen bs room (n + 2) cells firsts ticks → EachMayGive n cells firsts
@@ -123,7 +158,7 @@ open_may bs room n cells firsts ticks o =
           let is = (o.each v (some_of bs v lowb) c p lowb).first_is in
           let free = ap (λ (q : PassView). q.free) is in
           let passes = ap (λ (q : PassView). q.passes) is in
-          record { of = ap (λ (q : PassView). q.cell) is; free = omega arith; low = omega arith; blank = record { unseen = ap (λ (q : PassView). q.seen) is; plain = ap (λ (q : PassView). q.lasting) is; whole = ap (λ (q : PassView). q.gone) is } },
+          record { of = ap (λ (q : PassView). q.cell) is; free = omega arith; low = omega arith; blank = record { unseen = ap (λ (q : PassView). q.seen) is; whole = ap (λ (q : PassView). q.gone) is } },
     )
 
 pub open_ticks : (bs : List RevisionState) (room n : ℕ) (cells : List TableId) (firsts ticks : List PassView) → AreOpen bs room n cells firsts ticks → ArePassesOf cells ticks
@@ -140,7 +175,7 @@ open_ticks bs room n cells firsts ticks o =
 
 pub way_spot : {C L : Type 0} (at : WideSlot C L → WideSides) (reading : ℕ → Type 0) (specs : List Spec) (bs : List RevisionState) (room rounds start : ℕ) (slots slots' : List (WideSlot C L)) (ws ws' : List (Option Link)) (ks ks' : List ℕ)
     → (x : Way at reading specs bs room rounds start slots slots' ws ws' ks ks') → (v : ℕ) (b : RevisionState) (c : TableId) (p : PassView) → v < length specs
-    → Spot (pass_at v) x.run.mids reading (slice_index_or bs v b) room start (at_wire ws v) (at_wire ws' v) (at_count ks v) (at_count ks' v) (slice_index_or x.cells v c) (slice_index_or x.run.gone v p) (slice_index_or x.ticks v p) (slice_index_or x.ticks' v p)
+    → Spot (pass_at v) x.run.mids reading (plain_kind (slice_index_or bs v b) room) start (at_wire ws v) (at_wire ws' v) (at_count ks v) (at_count ks' v) (slice_index_or x.cells v c) (slice_index_or x.run.gone v p) (slice_index_or x.ticks v p) (slice_index_or x.ticks' v p)
 way_spot at reading specs bs room rounds start slots slots' ws ws' ks ks' x v b0 c p inside =
     let count = x.count in
     let n1 = x.opened.first_count in
@@ -169,9 +204,8 @@ way_spot at reading specs bs room rounds start slots slots' ws ws' ks ks' x v b0
       number = ap (λ (q : PassView). q.number) is;
       mine = ap (λ (q : PassView). q.mine) is;
       others = ap (λ (q : PassView). q.others) is;
-      opening = ap (λ (q : PassView). q.opening) is;
+      kind = ap kind_of is;
       full = omega arith;
-      plain = ap (λ (q : PassView). q.lasting) is;
       fresh = record {
         named = named;
         free = ap (λ (q : PassView). q.free) o.ticks_is;
@@ -179,15 +213,14 @@ way_spot at reading specs bs room rounds start slots slots' ws ws' ks ks' x v b0
         seen = ap (λ (q : PassView). q.seen) o.ticks_is;
         mine = ap (λ (q : PassView). q.mine) o.ticks_is;
         others = ap (λ (q : PassView). q.others) o.ticks_is;
-        opening = ap (λ (q : PassView). q.opening) o.ticks_is;
-        roomy = ap (λ (q : PassView). q.room) o.ticks_is;
-        plain = ap (λ (q : PassView). q.lasting) o.ticks_is;
+        kind = ap kind_of o.ticks_is;
         whole = ap (λ (q : PassView). q.gone) o.ticks_is;
+        reader = ap (λ (q : PassView). q.scribe) o.ticks_is;
       };
       ticks = t;
       lone = λ i d low.
           let s = way_share at reading specs bs room rounds start slots slots' ws ws' ks ks' x v sd b0 c inside i d (omega arith) in
-          let k = rounds_next (λ _. ⊤) reading (slice_index_or specs v sd) (i * rounds) _ s.old s.new _ _ s.rounds in
+          let k = rounds_next (λ _. ⊤) (λ a b. unwatched reading) (slice_index_or specs v sd) (i * rounds) _ s.old s.new _ _ s.rounds in
           (s.new, s.is, record { of = k.cell ∙ s.of; named = k.number ∙ s.fresh.named; free = k.free ∙ s.fresh.free; back = k.back ∙ s.fresh.back; others = k.others ∙ s.fresh.others });
       last = record {
         of = next.cell ∙ ap (λ (q : PassView). q.cell) o.ticks_is;
@@ -198,7 +231,7 @@ way_spot at reading specs bs room rounds start slots slots' ws ws' ks ks' x v b0
       };
       asks = λ i d low.
           let s = way_share at reading specs bs room rounds start slots slots' ws ws' ks ks' x v sd b0 c inside i d (omega arith) in
-          record { old = s.old; new = s.new; is = s.is; none = s.fresh.mine; own = rounds_own (λ _. ⊤) reading (slice_index_or specs v sd) (i * rounds) _ s.old s.new _ _ s.rounds };
+          record { old = s.old; new = s.new; is = s.is; none = s.fresh.mine; own = rounds_own (λ _. ⊤) (λ a b. unwatched reading) (slice_index_or specs v sd) (i * rounds) _ s.old s.new _ _ s.rounds };
     }
 
 -- the first passes and the ticker's can close the cells
@@ -224,13 +257,13 @@ way_closes at reading specs bs room rounds start slots slots' ws ws' ks ks' x of
           let took = x.run.took.1 v p (omega arith) in
           record {
             ticks_of = y.last.of;
-            closes = record { of = of.1 v c p low; plain = ap (λ (q : PassView). q.lasting) took ∙ ((joined_same G (found_by (pass_at v) x.run.mids)).lasting ∙ y.plain); all = subst (λ (q : PassView). 1 + (joined_shown q T').free + (joined_shown q T').back ≡ (joined_shown q T').passes) (sym took) full };
+            closes = record { of = of.1 v c p low; plain = ap (λ (q : PassView). q.lasting) took ∙ ap (λ (k : Kind). k.lasting) ((joined_same G (found_by (pass_at v) x.run.mids)).kind ∙ y.kind); all = subst (λ (q : PassView). 1 + (joined_shown q T').free + (joined_shown q T').back ≡ (joined_shown q T').passes) (sym took) full };
           };
     }
 
 pub course_seen : {C L : Type 0} (at : WideSlot C L → WideSides) (reading : ℕ → Type 0) (specs : List Spec) (bs : List RevisionState) (room rounds start : ℕ) (slots slots' : List (WideSlot C L)) (ws ws' : List (Option Link)) (ks ks' : List ℕ) (hs : List (List Past))
     → (x : Course at reading specs bs room rounds start slots slots' ws ws' ks ks' hs)
-    → (v : ℕ) (b : RevisionState) → v < length specs → Seen (pass_at v) x.way.run.mids reading (slice_index_or bs v b) room start (at_wire ws v) (at_wire ws' v) (at_count ks v) (at_count ks' v) (at_history hs v)
+    → (v : ℕ) (b : RevisionState) → v < length specs → Seen (pass_at v) x.way.run.mids reading (plain_kind (slice_index_or bs v b) room) start (at_wire ws v) (at_wire ws' v) (at_count ks v) (at_count ks' v) (at_history hs v)
 course_seen at reading specs bs room rounds start slots slots' ws ws' ks ks' hs x v b inside =
     let count = x.way.count in
     let n1 = x.way.opened.first_count in
@@ -241,14 +274,9 @@ course_seen at reading specs bs room rounds start slots slots' ws ws' ks ks' hs 
     let p = some_of x.way.firsts v lowf in
     let c = some_of x.way.cells v lowc in
     let T' = slice_index_or x.way.ticks' v p in
-    record {
-      cell = slice_index_or x.way.cells v c;
-      first = slice_index_or x.way.run.gone v p;
-      old = slice_index_or x.way.ticks v p;
-      new = T';
-      spot = way_spot at reading specs bs room rounds start slots slots' ws ws' ks ks' x.way v b c p inside;
-      closed = subst (λ (q : PassView). IsShut (joined_shown q T') (at_history hs v)) (x.way.run.took.1 v p (omega arith)) (x.closed v p lowc);
-    }
+    let spot = way_spot at reading specs bs room rounds start slots slots' ws ws' ks ks' x.way v b c p inside in
+    let shut = subst (λ (q : PassView). IsShut (joined_shown q T') (at_history hs v)) (x.way.run.took.1 v p (omega arith)) (x.closed v p lowc) in
+    spot_seen (pass_at v) x.way.run.mids reading (plain_kind (slice_index_or bs v b) room) start _ _ _ _ (slice_index_or x.way.cells v c) (slice_index_or x.way.run.gone v p) (slice_index_or x.way.ticks v p) T' (at_history hs v) spot shut
 
 -- ---- what was lent of the lists of cells and of first passes is what they hold
 

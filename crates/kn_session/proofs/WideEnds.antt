@@ -10,16 +10,18 @@ use Rattle.kn_cell.specs.Lists.{Each}
 use Rattle.kn_io.specs.Links.{Link}
 use Rattle.kn_request.specs.declared.slot.WideSlot.{WideSlot}
 use Rattle.kn_request.specs.declared.slot.Work.{Work}
+use Rattle.kn_request.specs.Terms.{unwatched}
 use Rattle.kn_request.specs.Wide.{at_pass, faults_in, memories_in, passes_in}
 use Rattle.kn_session.specs.Lists.{HasOne}
 use Rattle.kn_session.specs.Own.{IsAloneIn, IsArrivalOf}
+use Rattle.kn_session.specs.Passes.{plain_kind}
 use Rattle.kn_session.specs.Rounds.{HasTexts}
 use Rattle.kn_session.specs.Session.{IsFine}
 use Rattle.kn_session.specs.Wide.{WideSides, WideSlotServed, at_flag, at_history, faults_at, wants_at}
 use Rattle.kn_session.specs.WidePasses.{EachTakenOut, pass_at}
-use Rattle.kn_session.proofs.EndingFacts.{rounds_fine, rounds_full}
+use Rattle.kn_session.proofs.EndingFacts.{of_new, rounds_fine, rounds_full, short_whole}
 use Rattle.kn_session.proofs.PlaceFacts.{mapped_all, mapped_like}
-use Rattle.kn_session.proofs.SeenFacts.{seen_alone, seen_fine, seen_part}
+use Rattle.kn_session.proofs.SeenFacts.{seen_alone, seen_fine}
 use Rattle.kn_session.proofs.SessionFacts.{rounds_last, some_of}
 use Rattle.kn_session.proofs.ShareEndings.{EachEnds, cause_at, wide_last, wide_texts}
 use Rattle.kn_session.proofs.ShareFacts.{ending_at, fault_free, full_at, has_place, side_at, want_free}
@@ -48,8 +50,8 @@ course_ends at reading specs bs room rounds start slots slots' ws ws' ks ks' hs 
     let b = some_of bs v lowb in
     let seen = course_seen at reading specs bs room rounds start slots slots' ws ws' ks ks' hs x v b inside in
     let n6 = x.way.run.ran.0 in
-    let part = seen_part (pass_at v) x.way.run.mids reading (slice_index_or bs v b) room start _ _ _ _ (at_history hs v) seen i d (omega arith) q is in
-    let alone = seen_alone (pass_at v) x.way.run.mids reading (slice_index_or bs v b) room start _ _ _ _ (at_history hs v) x.laws seen in
+    let part = seen.kept i d (omega arith) q is in
+    let alone = seen_alone (pass_at v) x.way.run.mids reading (plain_kind (slice_index_or bs v b) room) start _ _ _ _ (at_history hs v) seen x.laws in
     (part.front, (λ a has. subst (λ k. IsAloneIn (at_history hs v) k a) (sym part.named) (alone (2 + i) a (subst (HasOne (IsArrivalOf a)) part.whole has))))
 
 -- ---- a slot
@@ -84,9 +86,9 @@ course_slot at reading specs bs room rounds start slots slots' ws ws' ks ks' hs 
           let ss = map (ending_at v) es in
           let y = way_share at reading specs bs room rounds start slots slots' ws ws' ks ks' x.way v sd b c inside i d low in
           let seen = course_seen at reading specs bs room rounds start slots slots' ws ws' ks ks' hs x v b inside in
-          let part = seen_part (pass_at v) x.way.run.mids reading (slice_index_or bs v b) room start _ _ _ _ h seen i d (omega arith) y.new y.is in
+          let part = seen.kept i d (omega arith) y.new y.is in
           let end = ends v y.new y.is in
-          let later = rounds_last laws h reading spec (i * rounds) ss y.old y.new (side_at v (at s)) (side_at v (at m)) end.0 end.1 y.rounds in
+          let later = rounds_last laws h (λ a b. unwatched reading) spec (i * rounds) ss y.old y.new (side_at v (at s)) (side_at v (at m)) end.0 end.1 y.rounds in
           record {
             old = y.old;
             new = y.new;
@@ -94,7 +96,8 @@ course_slot at reading specs bs room rounds start slots slots' ws ws' ks ks' hs 
             is = y.is;
             fresh = y.fresh;
             part = part;
-            full = λ has. rounds_full laws h (slice_index_or bs v b) room reading spec (i * rounds) ss y.old y.new (side_at v (at s)) (side_at v (at m)) y.fresh.opening y.fresh.roomy y.fresh.plain y.fresh.whole later (full_at v es has);
+            full = λ has. short_whole (slice_index_or bs v b) room h (rounds_full laws h (plain_kind (slice_index_or bs v b) room) (λ a b. unwatched reading) spec (i * rounds) ss y.old y.new (side_at v (at s)) (side_at v (at m))
+                (of_new (plain_kind (slice_index_or bs v b) room) (2 + i) y.old y.fresh) later (full_at v es has));
             cause = λ f. cause_at (λ _. ⊤) reading specs v (i * rounds) es given last (at s) (at m) (sym (all.faulty v inside) ∙ f) all.rounds;
           };
       texts = λ none.
@@ -135,7 +138,7 @@ course_fine at reading specs bs room rounds start slots slots' ws ws' ks ks' hs 
     let n6 = x.way.run.ran.0 in
     let n7 = x.way.run.out.0 in
     let seen = course_seen at reading specs bs room rounds start slots slots' ws ws' ks ks' hs x v b inside in
-    seen_fine (pass_at v) x.way.run.mids reading (slice_index_or bs v b) room start _ _ _ _ (at_history hs v) seen (λ i d low.
+    seen_fine (pass_at v) x.way.run.mids reading (plain_kind (slice_index_or bs v b) room) start _ _ _ _ (at_history hs v) seen (λ i d low.
     let low' : i < length slots = omega arith in
     let y = way_share at reading specs bs room rounds start slots slots' ws ws' ks ks' x.way v sd b c inside i d low' in
     let r = x.way.run.ran.1 i d low' in
@@ -148,5 +151,5 @@ course_fine at reading specs bs room rounds start slots slots' ws ws' ks ks' hs 
     let wants = mapped_like (λ (w : Work). w.memory) m.works.items t.works.items out.0.0 (λ k e j. (out.0.1 k e j).memory) in
     let none : list_any (faults_at v) all.endings ≡ false = sym (all.faulty v inside) ∙ (ap (λ l. at_flag l v) (sym faults) ∙ flag.0) in
     let none' : list_any (wants_at v) all.endings ≡ false = sym (all.wanting v inside) ∙ (ap (λ l. at_flag l v) (sym wants) ∙ flag.1) in
-    let grown = rounds_fine (λ _. ⊤) reading (slice_index_or specs v sd) (i * rounds) (map (ending_at v) all.endings) y.old y.new _ _ (fault_free v all.endings none) (want_free v all.endings none') y.rounds in
+    let grown = rounds_fine (λ _. ⊤) (λ a b. unwatched reading) (slice_index_or specs v sd) (i * rounds) (map (ending_at v) all.endings) y.old y.new _ _ (fault_free v all.endings none) (want_free v all.endings none') y.rounds in
     (y.new, y.is, subst (Each IsFine) (sym (grown.mine ∙ ap (λ l. l ++ grown.rows) y.fresh.mine)) grown.fine))

@@ -1,9 +1,12 @@
+pub mod Attending
 pub mod Changes
+pub mod Lasting
 pub mod Laws
 pub mod Lists
 pub mod Own
 pub mod Rounds
 pub mod Passes
+pub mod Keeper
 pub mod Session
 pub mod Wide
 pub mod WidePasses

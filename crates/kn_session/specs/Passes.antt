@@ -1,29 +1,66 @@
 -- The passes that the slots hold.
-use Rattle.std.specs.Prelude.{ℕ, ◌≡◌, ◌+◌, ◌-◌, List, [], ◌∷◌, Option, None, Some, false}
+use Rattle.std.specs.Prelude.{ℕ, ◌≡◌, ◌+◌, ◌-◌, List, [], ◌∷◌, Option, None, Some, Bool, true, false}
 use Rattle.atomic_table.specs.Seated.{TableId}
 use Rattle.kn_core.specs.State.{RevisionState}
 use Rattle.kn_cell.specs.Shown.{PassView, joined_shown}
 use Rattle.kn_request.specs.declared.slot.Slot.{Slot}
 use Rattle.kn_request.specs.declared.slot.Work.{Work}
 
--- a pass of a cell whose history is kept whole, which has seen none of it
+-- a pass of a cell of which nothing was seen and nothing taken out
 pub record IsBlank (p : PassView) : Type 0 where
   pub unseen : p.seen ≡ []
-  pub plain : p.lasting ≡ false
   pub whole : p.gone ≡ 0
 
--- a new pass with this number, of a cell over this revision with this room, whose history is kept whole, which has seen and done nothing
-pub record IsNew (b : RevisionState) (room number : ℕ) (p : PassView) : Type 0 where
+-- what kind of cell it is: over which revision, with which room, whether rows may be taken out, and how many addresses its book has
+pub record Kind : Type 0 where
+  pub opening : RevisionState
+  pub room : ℕ
+  pub lasting : Bool
+  pub book : ℕ
+
+abbrev pub kind_of : PassView → Kind
+kind_of p = record { opening = p.opening; room = p.room; lasting = p.lasting; book = p.book }
+
+-- a cell whose history is kept whole, and in which a pod's number is its address
+abbrev pub plain_kind : RevisionState → ℕ → Kind
+plain_kind b room = record { opening = b; room = room; lasting = false; book = 0 }
+
+-- a cell of which rows may be taken out, and in which pods have so many addresses, or 0: then a pod's number is its address
+abbrev pub lasting_kind : RevisionState → ℕ → ℕ → Kind
+lasting_kind b room addresses = record { opening = b; room = room; lasting = true; book = addresses }
+
+-- a new pass with this number, of such a cell, which has seen and done nothing, and doesn't take rows out
+pub record IsNewOf (k : Kind) (number : ℕ) (p : PassView) : Type 0 where
   pub named : p.number ≡ number
   pub free : p.free ≡ 0
   pub back : p.back ≡ 0
   pub seen : p.seen ≡ []
   pub mine : p.mine ≡ []
   pub others : p.others ≡ []
-  pub opening : p.opening ≡ b
-  pub roomy : p.room ≡ room
-  pub plain : p.lasting ≡ false
+  pub kind : kind_of p ≡ k
   pub whole : p.gone ≡ 0
+  pub reader : p.scribe ≡ false
+
+abbrev pub IsNew : RevisionState → ℕ → ℕ → PassView → Type 0
+IsNew b room number p = IsNewOf (plain_kind b room) number p
+
+abbrev pub IsNewLasting : RevisionState → ℕ → ℕ → ℕ → PassView → Type 0
+IsNewLasting b room addresses number p = IsNewOf (lasting_kind b room addresses) number p
+
+-- the first pass of a new cell once all others were given away. It takes the rows out, where rows may be taken out
+pub record IsFirst (k : Kind) (p : PassView) : Type 0 where
+  pub named : p.number ≡ 0
+  pub free : p.free ≡ 0
+  pub back : p.back ≡ 0
+  pub seen : p.seen ≡ []
+  pub mine : p.mine ≡ []
+  pub others : p.others ≡ []
+  pub kind : kind_of p ≡ k
+  pub whole : p.gone ≡ 0
+  pub scribe : p.scribe ≡ k.lasting
+
+abbrev pub IsScribes : RevisionState → ℕ → ℕ → PassView → Type 0
+IsScribes b room addresses p = IsFirst (lasting_kind b room addresses) p
 
 -- nothing is noted in the work
 abbrev pub IsUnmarked : Work → Type 0
@@ -44,8 +81,8 @@ pub record IsLone (cell : TableId) (number : ℕ) (q : PassView) : Type 0 where
 abbrev pub HasLone : TableId → ℕ → Option PassView → Type 0
 HasLone cell number found = (q : PassView) × (found ≡ Some q) × IsLone cell number q
 
-abbrev pub IsHanded : TableId → RevisionState → ℕ → ℕ → Option PassView → Type 0
-IsHanded cell b room number found = (p : PassView) × (found ≡ Some p) × (p.cell ≡ cell) × IsNew b room number p
+abbrev pub IsHanded : TableId → (PassView → Type 0) → Option PassView → Type 0
+IsHanded cell New found = (p : PassView) × (found ≡ Some p) × (p.cell ≡ cell) × New p
 
 -- all but the pass is as it was
 pub record IsKept {C L : Type 0} (s t : Slot C L) : Type 0 where
@@ -55,12 +92,12 @@ pub record IsKept {C L : Type 0} (s t : Slot C L) : Type 0 where
   pub memory : t.work.memory ≡ s.work.memory
 
 -- a slot got a new pass
-abbrev pub IsGiven : {C L : Type 0} → TableId → RevisionState → ℕ → ℕ → Slot C L → Slot C L → Type 0
-IsGiven {C} {L} cell b room number s t = IsHanded cell b room number t.work.pass × IsKept s t
+abbrev pub IsGiven : {C L : Type 0} → TableId → (PassView → Type 0) → Slot C L → Slot C L → Type 0
+IsGiven {C} {L} cell New s t = IsHanded cell New t.work.pass × IsKept s t
 
 -- .. by this pass, after so many that it gave away before
 abbrev pub IsGivenOf : {C L : Type 0} → TableId → PassView → ℕ → Slot C L → Slot C L → Type 0
-IsGivenOf {C} {L} cell p i s t = IsGiven cell p.opening p.room (p.passes - p.free + i) s t
+IsGivenOf {C} {L} cell p i s t = IsGiven cell (IsNewOf (kind_of p) (p.passes - p.free + i)) s t
 
 -- a slot gave its pass away
 abbrev pub IsEmptied : {C L : Type 0} → Slot C L → Slot C L → Type 0

@@ -1,5 +1,5 @@
 -- The rounds of one slot.
-use Rattle.std.specs.Prelude.{ℕ, ◌≡◌, ◌⊎◌, ◌+◌, ◌*◌, List, [], ◌∷◌, ◌++◌, length, Option, Some, ⊤, Bool, true, false, ◌||◌}
+use Rattle.std.specs.Prelude.{ℕ, ◌≡◌, ◌⊎◌, ◌≤◌, ◌+◌, ◌*◌, List, [], ◌∷◌, ◌++◌, length, Option, Some, ⊤, Bool, true, false, ◌||◌}
 use Rattle.kn_event.specs.declared.revision.Spec.{Spec}
 use Rattle.kn_cell.specs.declared.past.Full.{Full}
 use Rattle.kn_cell.specs.Shown.{PassView, Looks}
@@ -10,8 +10,9 @@ use Rattle.kn_request.specs.declared.slot.Served.{Served}
 use Rattle.kn_request.specs.declared.slot.Served.TheVariants as served
 use Rattle.kn_request.specs.Outside.{Said, said}
 use Rattle.kn_request.specs.declared.slot.Slot.{Slot}
-use Rattle.kn_request.specs.One.{HasCauses, ServesOne}
-use Rattle.kn_session.specs.declared.setting.Setting.{Setting}
+use Rattle.kn_request.specs.One.{HasCauses, ServesGuest}
+use Rattle.kn_request.specs.Terms.{Terms, watched}
+use Rattle.kn_session.specs.declared.shared.Common.{Common}
 use Rattle.kn_session.specs.Changes.{Change, became, was}
 use Rattle.kn_session.specs.Lists.{EachDone}
 
@@ -56,37 +57,44 @@ abbrev pub HasFaulted : Sides → Sides → Type 0
 HasFaulted a b = Rose a.faults b.faults ⊎ Rose a.breaks b.breaks
 
 -- one round: one request was served, and what the pass knows then is as it should be
-pub record OneRound (Then : PassView → Type 0) (reading : ℕ → Type 0) (spec : Spec) (tag : ℕ) (p q : PassView) (a b : Sides) (s : Served) : Type 0 where
+pub record OneRound (Then : PassView → Type 0) (terms : ℕ → ℕ → Terms) (spec : Spec) (tag : ℕ) (p q : PassView) (a b : Sides) (s : Served) : Type 0 where
   pub later : (q ≡ p) ⊎ Looks p q
   pub then : Then q
-  pub served : ServesOne reading spec tag p q a.wire b.wire a.said b.said s
+  pub served : ServesGuest (terms a.faults b.faults) spec tag p q a.wire b.wire a.said b.said s
   pub causes : HasCauses a.faults b.faults a.breaks b.breaks s
 
 -- rounds with these endings, from this tag on, one after the other
-abbrev pub IsRounds : (PassView → Type 0) → (ℕ → Type 0) → Spec → ℕ → List Served → PassView → PassView → Sides → Sides → Type 0
-IsRounds Then reading spec tag [] p q a b = (q ≡ p) × (b ≡ a)
-IsRounds Then reading spec tag (s ∷ ss) p q a b =
-    (m : PassView) × (x : Sides) × OneRound Then reading spec tag p m a x s × IsRounds Then reading spec (tag + 1) ss m q x b
+abbrev pub IsRounds : (PassView → Type 0) → (ℕ → ℕ → Terms) → Spec → ℕ → List Served → PassView → PassView → Sides → Sides → Type 0
+IsRounds Then terms spec tag [] p q a b = (q ≡ p) × (b ≡ a)
+IsRounds Then terms spec tag (s ∷ ss) p q a b =
+    (m : PassView) × (x : Sides) × OneRound Then terms spec tag p m a x s × IsRounds Then terms spec (tag + 1) ss m q x b
 
 -- so many rounds; whether one ended in a fault, or in want of memory
-pub record AllRounds (Then : PassView → Type 0) (reading : ℕ → Type 0) (spec : Spec) (tag count : ℕ) (p q : PassView) (a b : Sides) (fault memory : Bool) : Type 0 where
+pub record AllRounds (Then : PassView → Type 0) (terms : ℕ → ℕ → Terms) (spec : Spec) (tag count : ℕ) (p q : PassView) (a b : Sides) (fault memory : Bool) : Type 0 where
   pub endings : List Served
   pub all : length endings ≡ count
-  pub rounds : IsRounds Then reading spec tag endings p q a b
+  pub rounds : IsRounds Then terms spec tag endings p q a b
   pub faulty : fault ≡ any_fault endings
   pub wanting : memory ≡ any_memory endings
 
--- .. all rounds of a slot, from this tag on, with this pass. What is told of a slot is given by `at`, and the clock's readings by `reading`
-abbrev pub HasMade : {C L K G : Type 0} → (Slot C L → Sides) → (K → ℕ → Type 0) → Setting K G → ℕ → Change PassView → Change (Slot C L) → Bool → Bool → Type 0
-HasMade at reading setting tag pass slot fault memory =
-    AllRounds (λ _. ⊤) (reading setting.clock.now) setting.spec.now tag setting.rounds (was pass) (became pass) (at (was slot)) (at (became slot)) fault memory
+-- a pace that allows so many requests at most ended after this many
+abbrev pub IsPaced : ℕ → (ℕ → Type 0) → ℕ → Type 0
+IsPaced most Ends n = (n ≤ most) × Ends n
+
+-- as many rounds of a slot as its pace says, from this tag on, with this pass. What is told of a slot is given by `at`, the
+-- clock's readings by `reading`, and by the rest what the pace says
+abbrev pub HasMade : {C L K G P : Type 0} → (Slot C L → Sides) → (K → ℕ → Type 0) → Type 0 → (P → ℕ) → (P → ℕ → Type 0) → Common K G P → ℕ → Change PassView → Change (Slot C L) → Bool → Bool → Type 0
+HasMade at reading leaves most ends common tag pass slot fault memory =
+    (n : ℕ) × IsPaced (most common.pace.now) (ends common.pace.now) n
+    × AllRounds (λ _. ⊤) (watched (reading common.clock.now) leaves) common.spec.now tag n (was pass) (became pass) (at (was slot)) (at (became slot)) fault memory
 
 -- .. of slot i, with the pass in its work, which notes whether one ended in a fault, or in want of memory
-abbrev pub HasServed : {C L K G : Type 0} → (Slot C L → Sides) → (K → ℕ → Type 0) → Setting K G → ℕ → Slot C L → Slot C L → Type 0
-HasServed at reading setting i s t =
+abbrev pub HasServed : {C L K G P : Type 0} → (Slot C L → Sides) → (K → ℕ → Type 0) → Type 0 → (P → ℕ) → (P → ℕ → Type 0) → Common K G P → ℕ → Slot C L → Slot C L → Type 0
+HasServed at reading leaves most ends common i s t =
     (p : PassView) → s.work.pass ≡ Some p → (q : PassView) × (t.work.pass ≡ Some q) × (q.cell ≡ p.cell)
-    × AllRounds (λ _. ⊤) (reading setting.clock.now) setting.spec.now (i * setting.rounds) setting.rounds p q (at s) (at t) t.work.fault t.work.memory
+    × ((n : ℕ) × IsPaced (most common.pace.now) (ends common.pace.now) n
+    × AllRounds (λ _. ⊤) (watched (reading common.clock.now) leaves) common.spec.now (i * common.apart) n p q (at s) (at t) t.work.fault t.work.memory)
 
 -- .. of each slot
-abbrev pub HaveServed : {C L K G : Type 0} → (Slot C L → Sides) → (K → ℕ → Type 0) → Setting K G → Change (List (Slot C L)) → Type 0
-HaveServed at reading setting slots = EachDone (HasServed at reading setting) (was slots) (became slots)
+abbrev pub HaveServed : {C L K G P : Type 0} → (Slot C L → Sides) → (K → ℕ → Type 0) → Type 0 → (P → ℕ) → (P → ℕ → Type 0) → Common K G P → Change (List (Slot C L)) → Type 0
+HaveServed at reading leaves most ends common slots = EachDone (HasServed at reading leaves most ends common) (was slots) (became slots)

@@ -14,12 +14,15 @@ use Rattle.kn_io.specs.Links.{Link, Tells}
 use Rattle.kn_io.specs.declared.records.Probe.{Probe}
 use Rattle.kn_request.specs.declared.slot.Slot.{Slot}
 use Rattle.kn_request.specs.Pods.{IsStarting}
-use Rattle.kn_request.specs.Ticking.{TicksApart, Turns, is_probed, probed_all}
+use Rattle.kn_request.specs.Terms.{watched}
+use Rattle.kn_request.specs.Ticking.{TicksApart, Turns, probed_all}
 use Rattle.kn_session.specs.declared.setting.Setting.{Setting}
+use Rattle.kn_session.specs.declared.shared.Common.{Common}
 use Rattle.kn_session.specs.Changes.{Change, became, was}
+use Rattle.kn_session.specs.Keeper.{ProbedBy, is_probed}
 use Rattle.kn_session.specs.Lists.{EachDone, HasOne}
 use Rattle.kn_session.specs.Own.{IsAloneIn, IsArrivalOf, Lasts}
-use Rattle.kn_session.specs.Passes.{IsNew}
+use Rattle.kn_session.specs.Passes.{IsNew, IsNewOf, Kind, plain_kind}
 use Rattle.kn_session.specs.Rounds.{AllRounds, HasFaulted, HasTexts, IsFullOf, Sides}
 
 -- the pass has this number, what it saw is a beginning of the history, and what it did is what the history has of it
@@ -46,13 +49,13 @@ pub record WasShort (b : RevisionState) (room : ℕ) (h : List Past) : Type 0 wh
 abbrev pub IsFine : Past → Type 0
 IsFine x = (r : ℕ) → x.event.act ≢ act.Finish r false
 
--- all rounds of slot i were served, by a new pass of its own, the j-th with the tag i * rounds + j. The rows that the pass
+-- all rounds of slot i were served, and nobody was watched, by a new pass of its own, the j-th with the tag i * rounds + j. The rows that the pass
 -- made are those of the history with its number, and what it knew after each round holds of the whole history
 pub record SlotServed (reading : ℕ → Type 0) (spec : Spec) (b : RevisionState) (room rounds : ℕ) (h : List Past) (i : ℕ) (from to : Sides) (fault memory : Bool) : Type 0 where
   pub first : PassView
   pub last : PassView
   pub fresh : IsNew b room (2 + i) first
-  pub all : AllRounds (Lasts h) reading spec (i * rounds) rounds first last from to fault memory
+  pub all : AllRounds (Lasts h) (watched reading ⊥) spec (i * rounds) rounds first last from to fault memory
   pub part : IsPart h (2 + i) last
   -- where none ended in a fault, each round wrote one text more
   pub texts : fault ≡ false → HasTexts rounds from.said to.said
@@ -60,14 +63,18 @@ pub record SlotServed (reading : ℕ → Type 0) (spec : Spec) (b : RevisionStat
   -- where one ended in a fault, the slot's own count rose
   pub cause : fault ≡ true → HasFaulted from to
 
--- the ticker made its turns, by a new pass of its own. The readings of its Ticks are 2,000 apart, and as far above the start
-pub record TickerServed (reading : ℕ → Type 0) (start : ℕ) (b : RevisionState) (room : ℕ) (h : List Past) (wire wire' : Option Link) : Type 0 where
+-- the ticker made its turns, by a new pass of its own of a cell of this kind. The readings of its Ticks are 2,000 apart, and as
+-- far above the start
+pub record TickerServedIn (reading : ℕ → Type 0) (start : ℕ) (k : Kind) (h : List Past) (wire wire' : Option Link) : Type 0 where
   pub first : PassView
   pub last : PassView
-  pub fresh : IsNew b room 1 first
+  pub fresh : IsNewOf k 1 first
   pub turns : Turns reading start first last wire wire'
   pub apart : TicksApart reading start first last
   pub part : IsPart h 1 last
+
+abbrev pub TickerServed : (ℕ → Type 0) → ℕ → RevisionState → ℕ → List Past → Option Link → Option Link → Type 0
+TickerServed reading start b room h wire wire' = TickerServedIn reading start (plain_kind b room) h wire wire'
 
 -- what a ticker does
 abbrev pub IsTicking : Act → Type 0
@@ -112,6 +119,12 @@ pub record IsTicked (reading : ℕ → Type 0) (start : ℕ) (b : RevisionState)
   pub probed : Probed b h wire wire'
   pub never_falls : breaks ≤ breaks'
 
+-- .. over a cell of this kind, each pod at its address
+pub record IsTickedIn (reading : ℕ → Type 0) (start : ℕ) (k : Kind) (h : List Past) (wire wire' : Option Link) (breaks breaks' : ℕ) : Type 0 where
+  pub served : TickerServedIn reading start k h wire wire'
+  pub probed : ProbedBy k.book k.opening h wire wire'
+  pub never_falls : breaks ≤ breaks'
+
 -- ---- a whole session
 
 -- a revision with no live request, and with room for events
@@ -134,9 +147,9 @@ pub record IsClosedAs (b now : RevisionState) (h : List Past) : Type 0 where
   pub settled : (c : Trace) → StandsFor b c → IsSettled b.spec (trace_after b.spec c h)
 
 -- the ticker's pass made its turns with the keeper
-pub record HasTicked {L K G : Type 0} (told : L → Option Link) (faults : L → ℕ) (reading : K → ℕ → Type 0) (setting : Setting K G) (pass : Change PassView) (keeper : Change L) : Type 0 where
-  pub turns : Turns (reading setting.clock.now) setting.start (was pass) (became pass) (told (was keeper)) (told (became keeper))
-  pub apart : TicksApart (reading setting.clock.now) setting.start (was pass) (became pass)
+pub record HasTicked {L K G P : Type 0} (told : L → Option Link) (faults : L → ℕ) (reading : K → ℕ → Type 0) (common : Common K G P) (pass : Change PassView) (keeper : Change L) : Type 0 where
+  pub turns : Turns (reading common.clock.now) common.start (was pass) (became pass) (told (was keeper)) (told (became keeper))
+  pub apart : TicksApart (reading common.clock.now) common.start (was pass) (became pass)
   pub never_falls : faults (was keeper) ≤ faults (became keeper)
 
 -- each slot served its rounds. What is told of a slot is given by `at`, and the clock's readings by `reading`

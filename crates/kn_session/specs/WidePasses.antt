@@ -15,7 +15,7 @@ use Rattle.kn_session.specs.declared.wide_jobs.WideShared.{WideShared}
 use Rattle.kn_session.specs.declared.wide_setting.WideSetting.{WideSetting}
 use Rattle.kn_session.specs.Changes.{Change, became, was}
 use Rattle.kn_session.specs.Lists.{EachDone}
-use Rattle.kn_session.specs.Passes.{IsBlank, IsHanded, IsUnmarked, found_by, joined_all, where_some}
+use Rattle.kn_session.specs.Passes.{IsBlank, IsHanded, IsNewOf, IsUnmarked, found_by, joined_all, kind_of, where_some}
 use Rattle.kn_session.specs.Session.{ClosesWhole}
 use Rattle.kn_session.specs.Wide.{AllWide, WideSides, at_flag, at_history}
 
@@ -66,7 +66,7 @@ EachGave n ps qs = (length qs ≡ length ps) × ((v : ℕ) (d : PassView) → v 
 
 -- the work has a new pass with this number, which this one gave away, and nothing is noted in it
 abbrev pub IsGivenBy : PassView → ℕ → Work → Type 0
-IsGivenBy p number w = IsHanded p.cell p.opening p.room number w.pass × IsUnmarked w
+IsGivenBy p number w = IsHanded p.cell (IsNewOf (kind_of p) number) w.pass × IsUnmarked w
 
 -- each work has one, after so many that were given away before
 abbrev pub EachGiven : List PassView → ℕ → List Work → Type 0

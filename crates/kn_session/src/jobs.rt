@@ -1,27 +1,18 @@
-//! The slots beside each other in threads, and the ticker beside them.
-ghost use Rattle.std.specs.Prelude.{◌≡◌, ◌≤◌, ◌<◌, ℕ, length};
+//! The slots beside each other in threads.
+ghost use Rattle.std.specs.Prelude.{◌≡◌, ◌≤◌, ◌<◌, ◌^◌, ℕ, length};
 ghost use Rattle.kn_session.specs.Lists.{EachDone, EachIs};
 ghost use Rattle.kn_session.specs.Passes.{HasPass};
-ghost use Rattle.kn_session.specs.Rounds.{HasServed, HaveServed};
-ghost use Rattle.kn_session.specs.Session.{HasTicked};
+ghost use Rattle.kn_session.specs.Rounds.{HasServed};
 
+use crate::pace::Pace;
 use crate::rounds::serve_rounds;
-use crate::setting::Setting;
+use crate::shared::Shared;
 use crate::sided::Sided;
-use kn_cell::{Pass, RevisionCell};
 use kn_io::{Caller, Clock, Gate, PodLink};
-use kn_request::{Left, Slot, ticker};
+use kn_request::Slot;
 use std::sync::Wait;
 use std::thread;
 use std::thread::{Threads, join_mut};
-
-/// What all slots and the ticker share.
-#[derive(Drop)]
-pub struct Shared<'a, K, G> {
-    pub cell: &'a RevisionCell,
-    pub setting: &'a Setting<'a, K, G>,
-    pub left: &'a Left,
-}
 
 /// What a thread does with its own part of the work, beside what all share.
 pub trait Job<X> {
@@ -30,25 +21,27 @@ pub trait Job<X> {
     ghost done: { X → ℕ → Self → Self → Type 0 };
 
     fn work<R: Wait>(&mut self, rt: &R, shared: &X, i: u64)
-        requires few { i < 64 }
+        requires few { i < 1024 }
         requires ready { ready shared.now self.old }
         ensures { done shared.now i self.old self.new };
 }
 
-impl<'a, C: Caller, L: PodLink, K: Clock, G: Gate> Job<Shared<'a, K, G>> for Slot<C, L> {
-    ghost ready = { λ x s. HasPass x.cell.now s.work.pass × (x.setting.now.rounds ≤ 10000) };
+impl<'a, C: Caller, L: PodLink, K: Clock, G: Gate, P: Pace<C>> Job<Shared<'a, K, G, P>>
+    for Slot<C, L> {
+    ghost ready = { λ x s. HasPass x.cell.now s.work.pass × (x.common.now.apart ≤ 10 ^ 12) };
 
-    ghost done = { λ x i s t. HasServed ⟦<Slot<C, L> as Sided>⟧.at K.reading x.setting.now i s t };
+    ghost done = { λ x i s t. HasServed ⟦<Slot<C, L> as Sided>⟧.at K.reading P.Watch.leaves P.most P.ends
+        x.common.now i s t };
 
-    fn work<R: Wait>(&mut self, rt: &R, shared: &Shared<'a, K, G>, i: u64) {
-        serve_rounds(rt, shared.cell, shared.setting, self, i);
+    fn work<R: Wait>(&mut self, rt: &R, shared: &Shared<'a, K, G, P>, i: u64) {
+        serve_rounds(rt, shared.cell, shared.common, self, i);
         shared.left.done();
     }
 }
 
 /// Each job in a thread of its own, where one can be made.
 fn work_all<X: Sync, J: Job<X> + Send, R: Threads + Wait + Sync>(rt: &R, shared: &X, jobs: &mut [J])
-    requires few { length jobs.old ≤ 64 }
+    requires few { length jobs.old ≤ 1024 }
     requires ready { EachIs (J.ready shared.now) jobs.old }
     ensures { EachDone (J.done shared.now) jobs.old jobs.new }
 {
@@ -70,48 +63,15 @@ pub fn beside<X: Sync, J: Job<X> + Send, F: FnMut() + Send, R: Threads + Wait + 
     jobs: &mut [J],
     other: &mut F,
 )
-    requires few { length jobs.old ≤ 64 }
+    requires few { length jobs.old ≤ 1024 }
     requires ready { EachIs (J.ready shared.now) jobs.old }
     requires other { F.pre other.old }
     ensures jobs { EachDone (J.done shared.now) jobs.old jobs.new }
     ensures other { F.step other.old tt other.new }
 {
     let mut work = ||
-        requires { (length jobs.now ≤ 64) × EachIs (J.ready shared.now) jobs.now }
+        requires { (length jobs.now ≤ 1024) × EachIs (J.ready shared.now) jobs.now }
         ensures { EachDone (J.done shared.entry.now) jobs.entry.now jobs.exit.now }
     { work_all(rt, shared, jobs) };
     join_mut(rt, other, &mut work);
-}
-
-/// The slots, with the ticker beside them.
-pub fn serve_beside<
-    C: Caller + Send,
-    L: PodLink + Send,
-    K: Clock + Sync,
-    G: Gate + Sync,
-    R: Threads + Wait + Sync,
->(rt: &R, shared: &Shared<K, G>, slots: &mut [Slot<C, L>], keeper: &mut L, pass: &mut Pass)
-    requires few { length slots.old ≤ 64 }
-    requires passes { EachIs (λ s. HasPass shared.now.cell.now s.work.pass) slots.old }
-    requires rounds { shared.now.setting.now.rounds ≤ 10000 }
-    requires pass { pass.old.cell ≡ shared.now.cell.now }
-    ensures slots { HaveServed ⟦<Slot<C, L> as Sided>⟧.at K.reading shared.now.setting.now slots }
-    ensures ticker { HasTicked L.told L.Faulty.faults K.reading shared.now.setting.now pass keeper }
-{
-    let mut ticks = ||
-        requires { pass.now.cell ≡ shared.now.cell.now }
-        ensures { HasTicked L.told L.Faulty.faults K.reading shared.entry.now.setting.now pass keeper }
-    {
-        let setting = shared.setting;
-        ticker(
-            rt,
-            shared.cell,
-            pass,
-            keeper,
-            setting.clock,
-            shared.left,
-            setting.start,
-        );
-    };
-    beside(rt, shared, slots, &mut ticks);
 }

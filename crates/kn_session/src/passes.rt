@@ -2,7 +2,7 @@
 ghost use Rattle.std.specs.Prelude.{◌≡◌, ◌≤◌, ◌<◌, ◌-◌, length, Some};
 ghost use Rattle.kn_cell.specs.Shown.{PassView};
 ghost use Rattle.kn_session.specs.Lists.{EachDone, EachIs};
-ghost use Rattle.kn_session.specs.Passes.{HasPass, IsBlank, IsEmptied, IsGiven, IsGivenOf, found_in, joined_all, where_some};
+ghost use Rattle.kn_session.specs.Passes.{HasPass, IsBlank, IsEmptied, IsGiven, IsGivenOf, IsNewOf, found_in, joined_all, kind_of, where_some};
 ghost use Rattle.kn_session.specs.WidePasses.{IsTakenOut};
 
 use kn_cell::{Pass, RevisionCell};
@@ -27,7 +27,7 @@ fn hand_pass<C, L>(cell: &RevisionCell, pass: &mut Pass, slot: &mut Slot<C, L>)
     requires free { 0 < pass.old.free }
     requires blank { IsBlank pass.old }
     ensures pass { pass.new ≡ record pass.old { free = pass.old.free - 1 } }
-    ensures given { IsGiven cell.now pass.old.opening pass.old.room (pass.old.passes - pass.old.free) slot.old slot.new }
+    ensures given { IsGiven cell.now (IsNewOf (kind_of pass.old) (pass.old.passes - pass.old.free)) slot.old slot.new }
 {
     slot.work.pass = Some(cell.split(pass));
 }

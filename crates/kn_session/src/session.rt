@@ -1,47 +1,24 @@
 //! A whole session over one revision.
-ghost use Rattle.std.specs.Prelude.{◌≡◌, ◌≤◌, ◌<◌, ◌+◌, ◌⊎◌, [], length, false, None, Some, IfOk, OnErr};
+ghost use Rattle.std.specs.Prelude.{◌≡◌, ◌≤◌, length, None, IfOk, OnErr};
 ghost use Rattle.kn_cell.specs.Lists.{Each};
-ghost use Rattle.kn_cell.specs.Shown.{PassView};
-ghost use Rattle.kn_session.specs.Lists.{EachAt, EachDone, EachIs};
-ghost use Rattle.kn_session.specs.Passes.{HasLone, IsEmptied, IsLone, IsUnmarked};
-ghost use Rattle.kn_session.specs.Session.{AreServed, IsAfter, IsClosedAs, IsFine, IsOneHistory, IsPart, IsSlots, KeeperServed, MayBegin};
+ghost use Rattle.kn_session.specs.Lists.{EachIs};
+ghost use Rattle.kn_session.specs.Passes.{IsUnmarked};
+ghost use Rattle.kn_session.specs.Session.{AreServed, IsAfter, IsFine, IsOneHistory, KeeperServed, MayBegin};
 
-use crate::jobs::{Shared, serve_beside};
+use crate::attendant::NoAttendant;
 use crate::laws::session_laws;
-use crate::passes::{hand_out, take_back};
+use crate::over::serve_over;
+use crate::pace::Rounds;
 use crate::setting::Setting;
+use crate::shared::Common;
 use crate::sided::Sided;
-use kn_cell::{History, Pass, RevisionCell};
+use kn_cell::{History, RevisionCell};
 use kn_core::Revision;
 use kn_event::Memory;
 use kn_io::{Caller, Clock, Gate, PodLink};
-use kn_request::{Left, Slot};
+use kn_request::Slot;
 use std::sync::Wait;
 use std::thread::Threads;
-
-/// Takes all passes back in, and closes the cell.
-fn close_session<C, L>(
-    cell: RevisionCell,
-    first: Pass,
-    slots: &mut [Slot<C, L>],
-    ticks: Pass,
-) -> (Revision, History)
-    requires cell { first.cell ≡ cell }
-    requires first { (first.number ≡ 0) × (first.mine ≡ []) × (first.others ≡ []) × (first.lasting ≡ false) }
-    requires passes { EachAt (λ i s. HasLone cell (2 + i) s.work.pass) slots.old }
-    requires ticks { IsLone cell 1 ticks }
-    requires all { 1 + first.free + first.back + 1 + length slots.old ≡ first.passes }
-    ensures closed { IsClosedAs first.opening result.0 result.1 }
-    ensures slots { EachDone (λ i s t. IsEmptied s t) slots.old slots.new }
-    ensures kept { EachAt (λ i s. (q : PassView) → s.work.pass ≡ Some q → IsPart result.1 (2 + i) q) slots.old }
-    ensures ticker { IsPart result.1 1 ticks }
-    ensures rows { Each (λ x. (x.pass ≡ 1) ⊎ IsSlots (length slots.old) x) result.1 }
-{
-    let mut pass = first;
-    take_back(&cell, &mut pass, slots);
-    cell.join(&mut pass, ticks);
-    cell.close(pass)
-}
 
 /// Serves the rounds of each slot over a revision with no live request, with the ticker beside the slots, each in a thread of
 /// its own where one can be made, and else in the caller's. The tag of round j of slot i is i * rounds + j.
@@ -73,17 +50,28 @@ pub fn serve_session<
     ensures nothing { OnErr result ((slots.new ≡ slots.old) × (keeper.new ≡ keeper.old)) }
 {
     session_laws();
-    let count = slots.len() as u64;
-    let (cell, first) = RevisionCell::new(setting.alloc, revision, setting.room, count + 2)?;
-    let mut first = first;
-    let mut ticks = cell.split(&mut first);
-    hand_out(&cell, &mut first, slots);
-    let left = Left::new(count);
-    let shared = Shared {
-        cell: &cell,
-        setting,
-        left: &left,
+    let passes = slots.len() as u64 + 3;
+    let (cell, first) = RevisionCell::new(setting.alloc, revision, setting.room, passes)?;
+    let pace = Rounds {
+        count: setting.rounds as u32,
     };
-    serve_beside(rt, &shared, slots, keeper, &mut ticks);
-    Ok(close_session(cell, first, slots, ticks))
+    let common = Common {
+        alloc: setting.alloc,
+        spec: setting.spec,
+        clock: setting.clock,
+        gate: setting.gate,
+        start: setting.start,
+        pace: &pace,
+        apart: setting.rounds,
+    };
+    Ok(serve_over(
+        rt,
+        &common,
+        cell,
+        first,
+        slots,
+        keeper,
+        &mut NoAttendant,
+        &mut NoAttendant,
+    ))
 }

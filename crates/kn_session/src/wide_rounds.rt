@@ -49,7 +49,7 @@ pub fn serve_wide_rounds<R: Wait, C: Caller, L: PodLink, K: Clock, G: Gate>(
     i: u64,
 )
     requires ready { IsReadySlot cells.now (length setting.now.specs.now) slot.old }
-    requires few { i < 64 }
+    requires few { i < 1024 }
     requires rounds { setting.now.rounds ≤ 10000 }
     ensures { HasServedWide ⟦<WideSlot<C, L> as Sided>⟧.at K.reading cells.now setting.now i slot.old slot.new }
 {

@@ -97,8 +97,18 @@ fn seen_beside<R: Threads + Wait + Sync>(rt: &R, alloc: Global) -> Result<Seen, 
 fn show_all<R: Print>(rt: &R, steps: u64, wakes: bool, seen: &Seen) -> io::Result<()> {
     case(rt, "figures, right steps", &steps, &10)?;
     case(rt, "figures, of one that wakes", &u64::from(wakes), &1)?;
-    case(rt, "figures beside events, each look", &u64::from(seen.right), &1)?;
-    case(rt, "figures beside events, finished", &seen.finished, &COUNT)
+    case(
+        rt,
+        "figures beside events, each look",
+        &u64::from(seen.right),
+        &1,
+    )?;
+    case(
+        rt,
+        "figures beside events, finished",
+        &seen.finished,
+        &COUNT,
+    )
 }
 
 pub fn show_figures<R: Print + AllocGlobal + Threads + Wait + Sync>(rt: &R) -> io::Result<()> {

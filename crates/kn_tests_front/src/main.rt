@@ -1,9 +1,11 @@
-//! Fronts over loopback: silent clients, slow ones, many at once, and the end. Below each is printed whether it is as it must be.
+//! Fronts over loopback: silent clients, slow ones, many at once, those that leave, and the end; and how faults are told. Below each is printed whether it is as it must be.
 #![tactic(auto)]
 
 mod clients;
 mod closing;
 mod crowds;
+mod faults;
+mod leaving;
 mod patience;
 mod server;
 mod stops;
@@ -35,5 +37,7 @@ fn main(rt: HostRuntime) -> io::Result<()> {
     stops::all(&rt)?;
     crowds::all(&rt, &rt)?;
     patience::all(&rt, &rt)?;
+    leaving::all(&rt, &rt)?;
+    faults::all(&rt, &rt)?;
     closing::all(&rt, &rt)
 }

@@ -2,7 +2,7 @@
 
 use crate::Runs;
 use crate::clients::ANSWER;
-use kn_door::Door;
+use kn_door::{Close, Door};
 use kn_front::{Front, FrontCaller, Limits, TcpDoor};
 use kn_io::{Caller, Failed, Faulty, Source, put_all};
 use std::alloc::Global;
@@ -38,7 +38,7 @@ pub fn front(rt: &HostRuntime, idle: u64, read: u64, waiting: usize) -> io::Resu
 }
 
 /// Reads up to the end of a head.
-fn read_head<C: Source>(caller: &mut C) -> Result<(), Failed> {
+pub fn read_head<C: Source>(caller: &mut C) -> Result<(), Failed> {
     let mut last = [0; 4];
     for _ in 0..10_000 {
         let mut byte = [0; 1];
@@ -133,7 +133,7 @@ pub fn meanwhile<T: Runs, F: FnOnce() -> bool + Send>(
             requires { F.pre clients }
         {
             let came = clients();
-            front.door().shut();
+            front.door().close();
             came
         },
     );

@@ -59,6 +59,7 @@ fn letter(act: Act) -> char {
         Act::Finish(0, true) => 'F',
         Act::Finish(0, false) => 'f',
         Act::Ready(0) => 'R',
+        Act::Ready(1) => 'r',
         Act::Tick => 'T',
         _ => '?',
     }

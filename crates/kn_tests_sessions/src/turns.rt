@@ -1,5 +1,5 @@
 //! Turns of the ticker, one after another.
-ghost use Rattle.std.specs.Prelude.{◌≡◌, ◌+◌};
+ghost use Rattle.std.specs.Prelude.{◌≡◌, ◌+◌, IfOk};
 ghost use Rattle.kn_cell.specs.Shown.{IsLater};
 
 use crate::hooks::{Hook, HookedLink};
@@ -7,7 +7,8 @@ use crate::requests::close;
 use crate::setting::open;
 use kn_case::case;
 use kn_cell::{Pass, RevisionCell};
-use kn_event::Memory;
+use kn_core::Revision;
+use kn_event::{EntryLog, Memory, Slots, Spec};
 use kn_io::{Clock, ListClock, MemLink};
 use kn_request::{Left, Turn, tick_turn, ticker};
 use std::alloc::{AllocError, Global};
@@ -226,7 +227,71 @@ fn four<R: Wait + Print + AllocGlobal>(rt: &R) -> io::Result<()> {
     done
 }
 
+/// A lasting cell of three pods that start at two addresses, with one pass.
+fn open_addressed(alloc: Global) -> Result<(RevisionCell, Pass), Memory>
+    ensures { IfOk result (λ r. (r.1.cell ≡ r.0) × (1 + r.1.free + r.1.back ≡ r.1.passes)) }
+{
+    let slots = Slots {
+        depth: 10,
+        max: 1,
+        seed: 0,
+    };
+    let spec = Spec::fixed(alloc, 1, 3, 300, slots)?;
+    let mut log = EntryLog::new(alloc)?;
+    let revision = Revision::new(alloc, spec, 0, &mut log)?;
+    if revision.live() > 0 {
+        return Err(Memory);
+    }
+    RevisionCell::lasting(alloc, revision, log.entries(), 100, 1, 2)
+}
+
+fn three_in<R: Wait>(
+    rt: &R,
+    cell: RevisionCell,
+    mut pass: Pass,
+    ticking: &mut Ticking<'_>,
+) -> Result<(), AllocError>
+    requires cell { pass.cell ≡ cell }
+    requires all { 1 + pass.free + pass.back ≡ pass.passes }
+{
+    take_turn(rt, &cell, &mut pass, ticking, 2000, 0);
+    take_turn(rt, &cell, &mut pass, ticking, 2001, 2000);
+    close(cell, pass, &mut ticking.letters)
+}
+
+fn take_three<R: Wait>(rt: &R, alloc: Global, ticking: &mut Ticking<'_>) -> Result<(), AllocError> {
+    match open_addressed(alloc) {
+        Ok((cell, pass)) => three_in(rt, cell, pass, ticking),
+        Err(Memory) => Err(AllocError),
+    }
+}
+
+fn show_visits<R: Print>(rt: &R, ticking: &Ticking<'_>) -> io::Result<()> {
+    println!(rt; "rows of three pods at two addresses {}", ticking.letters)?;
+    let probes = ticking.keeper.link.probes().unwrap_or(&[]).len();
+    case(rt, "probes of the two that have one", &probes, &2)
+}
+
+fn show_three<R: Wait + Print + AllocGlobal>(rt: &R, ticking: &mut Ticking<'_>) -> io::Result<()> {
+    take_three(rt, rt.alloc(), ticking)?;
+    show_visits(rt, ticking)
+}
+
+/// Two turns over pods of which the last waits for an address: it isn't probed.
+fn three<R: Wait + Print + AllocGlobal>(rt: &R) -> io::Result<()> {
+    let bell = Bell {
+        left: Left::new(0),
+        probes: AtomicU64::new(0),
+        before: u64::MAX,
+    };
+    let mut ticking = ticking_of(rt.alloc(), &bell, &[], &[])?;
+    let done = show_three(rt, &mut ticking);
+    drop(ticking);
+    done
+}
+
 pub fn show<R: Wait + Print + AllocGlobal>(rt: &R) -> io::Result<()> {
     two(rt)?;
-    four(rt)
+    four(rt)?;
+    three(rt)
 }

@@ -1,5 +1,5 @@
 //! Callers that are handed each of their connections.
-ghost use Rattle.std.specs.Prelude.{◌≡◌, ◌≤◌};
+ghost use Rattle.std.specs.Prelude.{◌≡◌, ◌≤◌, true, false};
 ghost use Rattle.kn_io.specs.Causes.{HasCause, Rose};
 
 use super::{CLIENT_WAIT, TcpCaller, accept};
@@ -34,6 +34,18 @@ impl Origin {
     }
 }
 
+/// Whether a connection's next read would give its end at once. An error is a broken one.
+fn is_at_its_end(stream: &TcpStream) -> io::Result<bool> {
+    stream.set_nonblocking(true)?;
+    let peeked = stream.peek(&mut [0; 1]);
+    stream.set_nonblocking(false)?;
+    match peeked {
+        Ok(n) => Ok(n == 0),
+        Err(error) if error.kind() == ErrorKind::WouldBlock => Ok(false),
+        Err(error) => Err(error),
+    }
+}
+
 impl TcpCaller {
     /// A caller without a socket, which meets what it is handed, without faults so far. To meet nobody is a fault. Each write of
     /// a connection waits for a minute at most, and so does each read until `wait_at_most` says another time.
@@ -62,6 +74,24 @@ impl TcpCaller {
             Some(stream) if stream.set_read_timeout(Some(wait)).is_ok() => Ok(()),
             Some(_) | None => Err(fault(&mut self.line.faults)),
         }
+    }
+
+    /// Whether the client that was met last has closed its side of the connection, or the connection is broken, and nothing that it
+    /// sent is left to be read. It doesn't wait. Where it has, that is a fault of the client's, at each call.
+    pub fn has_ended(&mut self) -> bool
+        ensures rose { result ≡ true → Rose (⟦<TcpCaller as Faulty>⟧.faults self.old) (⟦<TcpCaller as Faulty>⟧.faults self.new) }
+        ensures same { result ≡ false → ⟦<TcpCaller as Faulty>⟧.faults self.new ≡ ⟦<TcpCaller as Faulty>⟧.faults self.old }
+        ensures never_falls { ⟦<TcpCaller as Faulty>⟧.faults self.old ≤ ⟦<TcpCaller as Faulty>⟧.faults self.new }
+        ensures given { ⟦<TcpCaller as Source>⟧.given self.new ≡ ⟦<TcpCaller as Source>⟧.given self.old }
+    {
+        let ended = match &self.line.stream {
+            Some(stream) => is_at_its_end(stream).unwrap_or(true),
+            None => false,
+        };
+        if ended {
+            fault(&mut self.line.faults);
+        }
+        ended
     }
 
     /// Sends the client these bytes in place of an answer, as far as it takes them. It is a fault of the client's.

@@ -1,7 +1,7 @@
 -- The lemmas of a session, for others.
 use Rattle.kn_serve.proofs.FineFacts.{all_false}
 use Rattle.kn_serve.proofs.RunFacts.{is_session, reads_back}
-use Rattle.kn_serve.proofs.SetupFacts.{fault_of, no_write_fault}
+use Rattle.kn_serve.proofs.SetupFacts.{fault_of, front_memory, no_write_fault}
 use Rattle.kn_serve.proofs.laws.run_laws.Goals as goal
 
 pub returns : goal.returns
@@ -14,4 +14,5 @@ returns g c =
       reads = reads_back c.journals_are_read.ensures.read reading;
       read_fault = fault_of;
       no_write_fault = no_write_fault;
+      memory = front_memory;
     }

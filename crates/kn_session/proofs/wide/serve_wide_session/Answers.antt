@@ -4,7 +4,7 @@ use Rattle.kn_session.specs.Session.{IsOneHistory}
 use Rattle.kn_session.specs.Wide.{at_history}
 use Rattle.kn_session.specs.WidePasses.{MayCloseAll}
 use Rattle.kn_session.proofs.PlaceFacts.{lent}
-use Rattle.kn_session.proofs.SeenFacts.{one_history, seen_ticked}
+use Rattle.kn_session.proofs.SeenFacts.{one_history, seen_ticked, ticked_as}
 use Rattle.kn_session.proofs.WideCourse.{come_back, course_of, course_seen, open_may, open_ticks, way_closes, way_of}
 use Rattle.kn_session.proofs.WideEnds.{course_fine, course_slots, taken_empty}
 use Rattle.kn_session.proofs.wide.serve_wide_session.Goals as goal
@@ -47,7 +47,7 @@ returns-clause-histories g c =
       each = λ v b low.
           let h = at_history c.close_cells.result.items v in
           let seen = course_seen _ _ _ _ _ _ _ _ _ _ _ _ _ _ course v b (omega arith) in
-          subst (λ k. IsOneHistory k (slice_index_or c.args.revisions.items v b) h) way.run.ran.0 (one_history _ way.run.mids _ _ _ _ _ _ _ _ h course.laws seen);
+          subst (λ k. IsOneHistory k (slice_index_or c.args.revisions.items v b) h) way.run.ran.0 (one_history _ way.run.mids _ _ _ _ _ _ _ h seen course.laws);
     }
 
 pub returns-clause-slots : goal.returns-clause-slots
@@ -100,7 +100,7 @@ returns-clause-keepers g c v b inside =
     let back = come_back c.deref.result.now c.deref_mut.result.now o.firsts.items c.deref_mut-2.result.now x.new.firsts o.firsts.len way.opened c.deref_mut.ensures.len x.ensures.firsts in
     let back' = lent o.ticks.len x.new.ticks o.ticks.items (x.ensures.ticks.passes ∙ c.deref_mut-2.ensures.len) in
     let course = course_of c.close_cells.result.items o.cells.items _ _ c.session_laws.ensures way c.deref.ensures.value back back' c.close_cells.ensures.closed in
-    seen_ticked _ way.run.mids _ _ _ _ _ _ _ _ (at_history c.close_cells.result.items v) course.laws (course_seen _ _ _ _ _ _ _ _ _ _ _ _ _ _ course v b inside)
+    ticked_as course.laws _ _ _ _ _ _ _ _ _ (seen_ticked _ way.run.mids _ _ _ _ _ _ _ (at_history c.close_cells.result.items v) (course_seen _ _ _ _ _ _ _ _ _ _ _ _ _ _ course v b inside) course.laws)
 
 pub returns-clause-fine : goal.returns-clause-fine
 returns-clause-fine g c v inside flags =

@@ -24,7 +24,7 @@ hand_works-requires-clause-may g c =
           let F = slice_index_or c.args.firsts.now v d in
           let free = m.free in
           let small = m.low in
-          let it : MayGive 1 (slice_index_or c.args.cells.now v c') (gave l.i F) = record { of = m.of; free = omega arith; low = omega arith; blank = record { unseen = m.blank.unseen; plain = m.blank.plain; whole = m.blank.whole } } in
+          let it : MayGive 1 (slice_index_or c.args.cells.now v c') (gave l.i F) = record { of = m.of; free = omega arith; low = omega arith; blank = record { unseen = m.blank.unseen; whole = m.blank.whole } } in
           subst (MayGive 1 (slice_index_or c.args.cells.now v c')) (sym (i.firsts.1 v d (omega arith))) it,
     )
 

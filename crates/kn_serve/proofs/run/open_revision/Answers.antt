@@ -1,9 +1,0 @@
--- Nothing lives at an opening.
-use Rattle.std.proofs.Common.{length, ap, ◌∙◌}
-use Rattle.kn_trace.specs.Events.{opening}
-use Rattle.kn_serve.proofs.SessionFacts.{live-opening}
-use Rattle.kn_serve.proofs.run.open_revision.Goals as goal
-
-pub prove-unreachable-requires : goal.prove-unreachable-requires
-prove-unreachable-requires c =
-    c.if-prove.true (c.live-live.ensures.live (opening c.in-Ok-copy.spec c.args.start) c.in-Ok-new.ensures.stands ∙ ap length (live-opening c.in-Ok-copy.spec c.args.start))

@@ -1,4 +1,0 @@
-use Rattle.kn_session.proofs.jobs.serve_beside.Goals as goal
-
-pub beside-requires-clause-ready : goal.beside-requires-clause-ready
-beside-requires-clause-ready g c κs within i d low = (c.requires.passes i d low, c.requires.rounds)

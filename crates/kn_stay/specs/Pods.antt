@@ -1,0 +1,20 @@
+-- Whether a setup asks for more pods than there are addresses.
+use Rattle.std.specs.Prelude.{ℕ, ◌≢◌, ◌<◌, max}
+use Rattle.kn_event.specs.declared.revision.Kind.{Kind}
+use Rattle.kn_event.specs.declared.revision.Kind.TheVariants as kind
+use Rattle.kn_event.specs.declared.revision.Spec.{Spec}
+use Rattle.kn_trace.specs.Scale.{opening_scale}
+
+-- how many pods the revision opens with
+abbrev pub pods_at_first : Kind → Spec → ℕ
+pods_at_first (kind.Fixed pods) s = pods
+pods_at_first kind.Kpa s = opening_scale s
+
+-- the most pods that it names: those that it opens with, or its max-scale where that is more. A max-scale of 0 is none
+abbrev pub named_pods : Spec → ℕ
+named_pods s = max (pods_at_first s.kind s) s.max
+
+-- they are more than the addresses. Where there are 0 of these, a pod's number is its address
+pub record HasTooMany (addresses : ℕ) (s : Spec) : Type 0 where
+  pub some : addresses ≢ 0
+  pub more : addresses < named_pods s
