@@ -34,7 +34,7 @@ pub struct Scribe<'a, O, K, T, D, E> {
     stop: &'a mut T,
     doors: &'a Doors<'a, D, E>,
     /// Empty between two rounds, with memory for the cell's room.
-    pub rows: Vec<Past>,
+    pub rows: &'a mut Vec<Past>,
     /// How printing went so far.
     pub done: Result<(), Failed>,
 }
@@ -42,14 +42,14 @@ pub struct Scribe<'a, O, K, T, D, E> {
 impl<'a, O: Sink, K: Clock, T: Stop, D: Close, E: Close> Scribe<'a, O, K, T, D, E> {
     /// A scribe that has printed nothing. It takes rows out into these, which are none so far.
     pub fn new(
-        rows: Vec<Past>,
+        rows: &'a mut Vec<Past>,
         out: &'a mut O,
         clock: &'a K,
         stop: &'a mut T,
         doors: &'a Doors<'a, D, E>,
     ) -> Scribe<'a, O, K, T, D, E>
         ensures out { (result.out.ghost_name ≡ out.entry.ghost_name) × (result.out.now ≡ out.old) }
-        ensures rows { result.rows ≡ rows }
+        ensures rows { result.rows.now ≡ rows.old }
         ensures done { result.done ≡ Ok tt }
     {
         Scribe {
@@ -67,20 +67,20 @@ impl<'a, O: Sink, K: Clock, T: Stop, D: Close, E: Close> Scribe<'a, O, K, T, D, 
     fn round<R: Wait>(&mut self, rt: &R, cell: &RevisionCell, pass: &mut Pass, left: &Left) -> bool
         requires cell { pass.old.cell ≡ cell.now }
         requires scribe { pass.old.scribe ≡ true }
-        requires empty { self.old.rows.items ≡ [] }
-        requires room { pass.old.room ≤ vec_capacity self.old.rows }
+        requires empty { self.old.rows.now.items ≡ [] }
+        requires room { pass.old.room ≤ vec_capacity self.old.rows.now }
         ensures prints { Prints pass.old pass.new (O.held self.old.out.now) (O.held self.new.out.now)
             (O.Faulty.faults self.old.out.now) (O.Faulty.faults self.new.out.now) self.new.done }
         ensures out { self.new.out.ghost_name ≡ self.old.out.ghost_name }
         ensures further { result ≡ true → self.new.done ≡ Ok tt }
-        ensures empty { self.new.rows.items ≡ [] }
-        ensures room { pass.old.room ≤ vec_capacity self.new.rows }
+        ensures empty { self.new.rows.now.items ≡ [] }
+        ensures room { pass.old.room ≤ vec_capacity self.new.rows.now }
     {
         if self.stop.is_over() {
             self.doors.clients.close();
         }
         let last = left.is_zero();
-        self.done = print_taken(rt, cell, pass, &mut self.rows, self.out);
+        self.done = print_taken(rt, cell, pass, self.rows, self.out);
         match self.done {
             Ok(()) => !last,
             Err(Failed) => {
@@ -94,8 +94,8 @@ impl<'a, O: Sink, K: Clock, T: Stop, D: Close, E: Close> Scribe<'a, O, K, T, D, 
     fn print_all<R: Wait>(&mut self, rt: &R, cell: &RevisionCell, pass: &mut Pass, left: &Left)
         requires cell { pass.old.cell ≡ cell.now }
         requires scribe { pass.old.scribe ≡ true }
-        requires empty { self.old.rows.items ≡ [] }
-        requires room { pass.old.room ≤ vec_capacity self.old.rows }
+        requires empty { self.old.rows.now.items ≡ [] }
+        requires room { pass.old.room ≤ vec_capacity self.old.rows.now }
         ensures prints { Prints pass.old pass.new (O.held self.old.out.now) (O.held self.new.out.now)
             (O.Faulty.faults self.old.out.now) (O.Faulty.faults self.new.out.now) self.new.done }
         ensures out { self.new.out.ghost_name ≡ self.old.out.ghost_name }
@@ -125,7 +125,7 @@ impl<'a, O: Sink, K: Clock, T: Stop, D: Close, E: Close> Scribe<'a, O, K, T, D, 
 }
 
 impl<'a, O: Sink, K: Clock, T: Stop, D: Close, E: Close> Attendant for Scribe<'a, O, K, T, D, E> {
-    ghost may = { λ s p. (p.scribe ≡ true) × (s.rows.items ≡ []) × (p.room ≤ vec_capacity s.rows) };
+    ghost may = { λ s p. (p.scribe ≡ true) × (s.rows.now.items ≡ []) × (p.room ≤ vec_capacity s.rows.now) };
 
     ghost attends = { λ s t p q. (t.out.ghost_name ≡ s.out.ghost_name)
         × Prints p q (O.held s.out.now) (O.held t.out.now) (O.Faulty.faults s.out.now) (O.Faulty.faults t.out.now) t.done };

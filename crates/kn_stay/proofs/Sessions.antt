@@ -1,5 +1,5 @@
 -- A session, from what was served and what the scribe took out.
-use Rattle.std.proofs.Common.{◌≡◌, ◌≤◌, ◌+◌, ◌*◌, ◌^◌, ℕ, List, [], ◌∷◌, ◌++◌, length, map, refl, sym, ap, ◌∙◌, subst, arith, inl, inr}
+use Rattle.std.proofs.Common.{◌≡◌, ◌⊎◌, ◌≤◌, ◌+◌, ◌*◌, ◌^◌, ℕ, List, [], ◌∷◌, ◌++◌, length, map, refl, sym, ap, ◌∙◌, subst, arith, inl, inr}
 use Rattle.std.specs.Prelude.{Option, Result}
 use Rattle.std.proofs.lemmas.List.{length-map}
 use Rattle.kn_event.specs.declared.revision.Spec.{Spec}
@@ -11,6 +11,7 @@ use Rattle.kn_cell.specs.Lists.{Each, StartsWith}
 use Rattle.kn_cell.specs.Shown.{PassView}
 use Rattle.kn_journal.specs.declared.journal.Setup.{Setup}
 use Rattle.kn_journal.specs.declared.status.Status.{Status}
+use Rattle.kn_journal.specs.declared.status.Status.TheVariants as status
 use Rattle.kn_request.specs.declared.slot.Slot.{Slot}
 use Rattle.kn_request.specs.Terms.{watched}
 use Rattle.kn_session.specs.declared.lasting.Lasting.{Lasting}
@@ -93,10 +94,31 @@ stays_of {w = w} pace setup l b now rest Scribe {h = h} laws opened x ends =
       ends = ends is;
     }
 
--- what is said of the setup is so of the one that it is
-pub goes_as : {C L K O P W : Type 0} (w : SeenStaying C L K O P W) (clock : K) (pace : P) (room addresses : ℕ) (Said : Setup → Type 0) (setup : Setup) (h : Handed C L W) (out out' : O) (result : Status)
+goes_said : {C L K O P W : Type 0} (w : SeenStaying C L K O P W) (clock : K) (pace : P) (room addresses : ℕ) (Said : Setup → Type 0) (setup : Setup) (h : Handed C L W) (out out' : O) (result : Status)
     → Said setup → Goes w clock pace room addresses (λ s. s ≡ setup) h out out' result → Goes w clock pace room addresses Said h out out' result
-goes_as w clock pace room addresses Said setup h out out' result given (inl x) =
+goes_said w clock pace room addresses Said setup h out out' result given (inl x) =
     inl (record { setup = x.setup; start = x.start; said = subst Said (sym x.said) given; begins = x.begins; same = x.same; ends = x.ends })
-goes_as w clock pace room addresses Said setup h out out' result given (inr x) =
+goes_said w clock pace room addresses Said setup h out out' result given (inr x) =
     inr (record { session = x.session; is = x.is; said = subst Said (sym x.said) given; slots = x.slots; keeper = x.keeper; page = x.page; ends = x.ends })
+
+-- what is said of the setup is so of the one that it is, and the output is what the scribe held
+pub goes_as : {C L K O P W : Type 0} (w : SeenStaying C L K O P W) (clock : K) (pace : P) (room addresses : ℕ) (Said : Setup → Type 0) (setup : Setup) (h : Handed C L W)
+    (first last out out' : O) (result : Status) → first ≡ out → last ≡ out' → Said setup
+    → Goes w clock pace room addresses (λ s. s ≡ setup) h first last result → Goes w clock pace room addresses Said h out out' result
+goes_as {O = O} w clock pace room addresses Said setup h first last out out' result e f given goes =
+    subst (λ (z : O). Goes w clock pace room addresses Said h z out' result) e
+    (subst (λ (z : O). Goes w clock pace room addresses Said h first z result) f (goes_said w clock pace room addresses Said setup h first last result given goes))
+
+-- the input of a server that came to its revision is at fault for nothing
+pub no_read_fault : {C L K O P W : Type 0} (w : SeenStaying C L K O P W) (clock : K) (pace : P) (room addresses : ℕ) (Said : Setup → Type 0) (h : Handed C L W) (out out' : O) (result : Status)
+    → Goes w clock pace room addresses Said h out out' result → result ≡ status.ReadFault → ⊥
+no_read_fault w clock pace room addresses Said h out out' result (inl x) is = by_ends x.ends
+  where
+    by_ends : {A B : Type 0} → ((result ≡ status.WriteFault) × A) ⊎ ((result ≡ status.Memory) × B) → ⊥
+    by_ends (inl e) = (let same = e.0 in cc)
+    by_ends (inr e) = (let same = e.0 in cc)
+no_read_fault w clock pace room addresses Said h out out' result (inr x) is = by_ends x.ends
+  where
+    by_ends : {A B : Type 0} → ((result ≡ status.Ok) × A) ⊎ ((result ≡ status.WriteFault) × B) → ⊥
+    by_ends (inl e) = (let same = e.0 in cc)
+    by_ends (inr e) = (let same = e.0 in cc)

@@ -50,7 +50,7 @@ pub fn serve_printed<
     requires room { lasting.now.room ≤ 1000000 }
     requires opened { IsOpenedFor (K.reading lasting.now.clock.now) setup.now lasting.now revision }
     requires setup { IsSetup setup.now }
-    requires rows { (scribe.old.rows.items ≡ []) × (lasting.now.room ≤ vec_capacity scribe.old.rows) }
+    requires rows { (scribe.old.rows.now.items ≡ []) × (lasting.now.room ≤ vec_capacity scribe.old.rows.now) }
     requires done { scribe.old.done ≡ Ok tt }
     requires page { (p : PassView) → IsNewLasting revision lasting.now.room lasting.now.addresses (2 + length slots.old) p → W.may page.old p }
     ensures goes { Goes ⟦<() as StayOutside<C, L, K, O, P, W>>⟧.seen lasting.now.clock.now pace.now lasting.now.room lasting.now.addresses (λ s. s ≡ setup.now)

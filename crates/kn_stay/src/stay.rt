@@ -76,11 +76,11 @@ pub fn stay_run<
         Ok(opened) => opened,
         Err(Memory) => return Stayed::Ended(Status::Memory),
     };
-    let rows = match rows_for(setting.alloc, setting.room) {
+    let mut rows = match rows_for(setting.alloc, setting.room) {
         Ok(rows) => rows,
         Err(Memory) => return Stayed::Ended(Status::Memory),
     };
-    let mut scribe = Scribe::new(rows, out, setting.clock, stop, setting.doors);
+    let mut scribe = Scribe::new(&mut rows, out, setting.clock, stop, setting.doors);
     let lasting = Lasting {
         alloc: setting.alloc,
         spec: &read.spec,

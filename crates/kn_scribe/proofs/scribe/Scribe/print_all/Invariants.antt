@@ -9,6 +9,6 @@ invariant-loop g l = record {
   prints : Prints l.fn.pass l.pass (g.O.Sink.held l.fn.self.out.now) (g.O.Sink.held l.self.out.now) (g.O.Faulty.faults l.fn.self.out.now) (g.O.Faulty.faults l.self.out.now) l.self.done;
   out : l.self.out.ghost_name ≡ l.fn.self.out.ghost_name;
   further : l.further ≡ true → l.self.done ≡ Ok tt;
-  empty : l.self.rows.items ≡ [];
-  room : l.fn.pass.room ≤ vec_capacity l.self.rows;
+  empty : l.self.rows.now.items ≡ [];
+  room : l.fn.pass.room ≤ vec_capacity l.self.rows.now;
 }
