@@ -1,5 +1,5 @@
 -- The marks of slots.
-use Rattle.std.proofs.Common.{◌≡◌, Bool, List, length, map, sym, ◌∙◌, arith, false}
+use Rattle.std.proofs.Common.{◌≡◌, Bool, List, map, sym, ◌∙◌, arith, false}
 use Rattle.std.specs.Prelude.{All}
 use Rattle.std.proofs.lemmas.List.{get_or-map, length-map}
 use Rattle.kn_request.specs.declared.slot.Slot.{Slot}

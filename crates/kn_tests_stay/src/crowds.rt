@@ -1,7 +1,7 @@
 //! Many clients over four slots: more rows than there is room for at once, and an output that takes little at a time.
 use crate::crowd::{Answers, REQUEST};
 use crate::journals::{Counts, replayed};
-use crate::outside::{Steps, SlowSink};
+use crate::outside::{SlowSink, Steps};
 use crate::stage::{Limits, SETUP, Stage, WELL, sink, stay};
 use kn_case::case;
 use kn_door::{MemDoor, StopAfter};
@@ -90,13 +90,28 @@ fn show_rounds<R: Threads + Wait + Sync + Print + AllocGlobal>(
     case(rt, "  clients met", &stage.met(), &MORE)?;
     let told = answers.ok.saturating_add(answers.full);
     case(rt, "  served, or told that there is no room", &told, &MORE)?;
-    case(rt, "  more are served than there is room for", &(answers.ok > 1000), &true)?;
+    case(
+        rt,
+        "  more are served than there is room for",
+        &(answers.ok > 1000),
+        &true,
+    )?;
     let replay = replayed(rt.alloc(), out.held())?;
     case(rt, "  the replay ends well", &replay.status, &Status::Ok)?;
     let counts = Counts::of(&replay.report);
     drop(replay);
-    case(rt, "  what it counts as finished", &counts.finished, &answers.ok)?;
-    case(rt, "  what it counts as admitted", &counts.admitted, &answers.ok)
+    case(
+        rt,
+        "  what it counts as finished",
+        &counts.finished,
+        &answers.ok,
+    )?;
+    case(
+        rt,
+        "  what it counts as admitted",
+        &counts.admitted,
+        &answers.ok,
+    )
 }
 
 fn rounds<R: Threads + Wait + Sync + Print + AllocGlobal>(rt: &R) -> io::Result<()> {

@@ -1,7 +1,7 @@
 //! The server is told to stop while requests are held: nobody comes any more, those who wait get an answer, and all is printed.
 use crate::crowd::{Pods, REQUEST};
 use crate::journals::{Counts, has, replayed};
-use crate::outside::{Steps, OnceTaken, TimedDoor};
+use crate::outside::{OnceTaken, Steps, TimedDoor};
 use crate::stage::{Limits, SETUP, Stage, WELL, sink, stay};
 use kn_case::case;
 use kn_io::MemSink;
@@ -43,7 +43,12 @@ fn show_held<R: Threads + Wait + Sync + Print + AllocGlobal>(
     let answers = stage.answers();
     case(rt, "  clients met", &stage.met(), &4)?;
     case(rt, "  answers that the time was over", &answers.late, &4)?;
-    case(rt, "  the journal ends", &out.held().ends_with(b"\nend\n"), &true)?;
+    case(
+        rt,
+        "  the journal ends",
+        &out.held().ends_with(b"\nend\n"),
+        &true,
+    )?;
     let replay = replayed(rt.alloc(), out.held())?;
     case(rt, "  the replay ends well", &replay.status, &Status::Ok)?;
     let counts = Counts::of(&replay.report);

@@ -35,7 +35,11 @@ fn words(alloc: Global) -> Result<Vec<String>, AllocError> {
     }
 }
 
-fn report_of(alloc: Global, input: &mut MemSource, out: &mut MemSink) -> Result<Replayed, AllocError> {
+fn report_of(
+    alloc: Global,
+    input: &mut MemSource,
+    out: &mut MemSink,
+) -> Result<Replayed, AllocError> {
     let mut err = sink(alloc, 1000, None)?;
     let words = words(alloc)?;
     let status = kn_replay::run(alloc, &words, input, out, &mut err);

@@ -43,7 +43,12 @@ fn serve<R: Threads + Wait + Sync + Print + AllocGlobal>(
 }
 
 /// The rows that must come of it.
-const ROWS: [&str; 4] = [" remove 0\n", " remove 1\n", " create 2 1\n", " assign 1 2\n"];
+const ROWS: [&str; 4] = [
+    " remove 0\n",
+    " remove 1\n",
+    " create 2 1\n",
+    " assign 1 2\n",
+];
 
 fn show_rows<R: Print + AllocGlobal>(rt: &R, journal: &[u8]) -> io::Result<()> {
     let replay = replayed(rt.alloc(), journal)?;
@@ -53,7 +58,12 @@ fn show_rows<R: Print + AllocGlobal>(rt: &R, journal: &[u8]) -> io::Result<()> {
         rows = rows.saturating_add(u64::from(has(&replay.report, row.as_bytes())));
     }
     drop(replay);
-    case(rt, "  both pods went, and the second request is at the third", &rows, &4)
+    case(
+        rt,
+        "  both pods went, and the second request is at the third",
+        &rows,
+        &4,
+    )
 }
 
 fn show_places<R: Threads + Wait + Sync + Print + AllocGlobal>(
@@ -69,8 +79,18 @@ fn show_places<R: Threads + Wait + Sync + Print + AllocGlobal>(
         let [first, second, third, _] = slot.link.calls;
         let calls = first.saturating_add(second);
         case(rt, "  calls at the two addresses", &calls, &2)?;
-        case(rt, "  the third pod is called where the first one was", &(first >= 1), &true)?;
-        case(rt, "  calls elsewhere", &third.saturating_add(slot.link.elsewhere), &0)?;
+        case(
+            rt,
+            "  the third pod is called where the first one was",
+            &(first >= 1),
+            &true,
+        )?;
+        case(
+            rt,
+            "  calls elsewhere",
+            &third.saturating_add(slot.link.elsewhere),
+            &0,
+        )?;
     }
     Ok(())
 }

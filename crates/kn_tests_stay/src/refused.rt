@@ -35,7 +35,9 @@ fn show_outcome<R: Threads + Wait + Sync + Print + AllocGlobal>(
 ) -> io::Result<()> {
     match serve(rt, stage, out, addresses) {
         Some(WELL) => println!(rt; "{name}: served")?,
-        Some(Outcome { ended, page_last }) => println!(rt; "{name}: {ended:?}, page {page_last:?}")?,
+        Some(Outcome { ended, page_last }) => println!(rt;
+            "{name}: {ended:?}, page {page_last:?}"
+        )?,
         None => println!(rt; "{name}: not run")?,
     }
     let touched = stage.met() > 0 || !out.held().is_empty();
@@ -79,8 +81,18 @@ revision\n\
 pub fn show<R: Threads + Wait + Sync + Print + AllocGlobal>(rt: &R) -> io::Result<()> {
     try_setup(rt, "no setup", b"", 0)?;
     try_setup(rt, "another first line", b"kact journal 3\n", 0)?;
-    try_setup(rt, "half a setup", b"kact journal 1\nkpa depth=100 max=10 seed=0\nconfig\n", 0)?;
-    try_setup(rt, "a pod too many", b"kact journal 1\nfixed limit=1 depth=100 max=3 pods=501 timeout=300 seed=0\n", 0)?;
+    try_setup(
+        rt,
+        "half a setup",
+        b"kact journal 1\nkpa depth=100 max=10 seed=0\nconfig\n",
+        0,
+    )?;
+    try_setup(
+        rt,
+        "a pod too many",
+        b"kact journal 1\nfixed limit=1 depth=100 max=3 pods=501 timeout=300 seed=0\n",
+        0,
+    )?;
     try_setup(rt, "three pods, two addresses", THREE, 2)?;
     try_setup(rt, "three pods, three addresses", THREE, 3)?;
     try_setup(rt, "three pods, no addresses", THREE, 0)?;

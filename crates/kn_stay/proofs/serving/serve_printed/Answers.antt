@@ -1,6 +1,6 @@
 -- The parts that were printed are the journal, or some of it.
 use Rattle.std.proofs.Common.{◌≡◌, ◌++◌, ℕ, List, length, refl, ap, inl, inr, subst, sym}
-use Rattle.std.specs.Prelude.{All, Ok, Err, OnErr, OnOk, Option, Result}
+use Rattle.std.specs.Prelude.{All, OnErr, OnOk, Option, Result}
 use Rattle.std.specs.Io.KnownBytes.{Appends}
 use Rattle.std.proofs.lemmas.List.Elements.{All-append}
 use Rattle.kn_cell.specs.declared.past.Past.{Past}

@@ -1,5 +1,5 @@
 -- What came of the setup, and what was served over it.
-use Rattle.std.proofs.Common.{◌≡◌, ◌<◌, ℕ, refl, ap, inl, inr, subst, sym, ◌∙◌, arith}
+use Rattle.std.proofs.Common.{ℕ, refl, ap, inl, inr, subst, sym, ◌∙◌, arith}
 use Rattle.std.specs.Prelude.{Err}
 use Rattle.kn_cell.specs.Books.{IsOpenedBy}
 use Rattle.kn_io.specs.Causes.{Rose}
