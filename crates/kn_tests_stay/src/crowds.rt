@@ -2,9 +2,9 @@
 use crate::crowd::{Answers, REQUEST};
 use crate::journals::{Counts, replayed};
 use crate::outside::{SlowSink, Steps};
+use crate::paced::{Looks, PacedDoor};
 use crate::stage::{Limits, SETUP, Stage, WELL, sink, stay};
 use kn_case::case;
-use kn_door::{MemDoor, StopAfter};
 use kn_io::{MemSink, Sink};
 use kn_journal::Status;
 use std::io;
@@ -14,26 +14,31 @@ use std::thread::Threads;
 /// How many clients come.
 const MANY: u64 = 300;
 
-/// What 300 clients are answered whom a pod serves.
-const ALL_SERVED: Answers = Answers {
-    ok: MANY,
-    late: 0,
-    full: 0,
-    other: 0,
-};
+/// How many clients come where rows are printed over and over in the room of 1,000.
+const MORE: u64 = 3000;
 
-fn show_served<R: Print + AllocGlobal>(rt: &R, stage: &Stage, journal: &[u8]) -> io::Result<()> {
-    case(rt, "  clients met", &stage.met(), &MANY)?;
-    case(rt, "  answers", &stage.answers(), &ALL_SERVED)?;
+/// Each of so many clients is served, and the journal says so.
+fn show_served<R: Print + AllocGlobal>(
+    rt: &R,
+    many: u64,
+    stage: &Stage,
+    journal: &[u8],
+) -> io::Result<()> {
+    let answers = Answers {
+        ok: many,
+        ..Answers::default()
+    };
+    case(rt, "  clients met", &stage.met(), &many)?;
+    case(rt, "  answers", &stage.answers(), &answers)?;
     let replay = replayed(rt.alloc(), journal)?;
     case(rt, "  the replay ends well", &replay.status, &Status::Ok)?;
     let counts = Counts::of(&replay.report);
     drop(replay);
     let want = Counts {
-        admitted: MANY,
-        finished: MANY,
+        admitted: many,
+        finished: many,
         failed: 0,
-        expired: 0,
+        unserved: 0,
     };
     case(rt, "  what it counts", &counts, &want)
 }
@@ -44,8 +49,8 @@ fn serve<O: Sink + Send, R: Threads + Wait + Sync + Print + AllocGlobal>(
     out: &mut O,
     many: u64,
 ) -> io::Result<()> {
-    let door = MemDoor::new(many);
-    let mut stop = StopAfter::new(u64::MAX);
+    let door = PacedDoor::new(many);
+    let mut stop = Looks { door: &door };
     let limits = Limits {
         room: 1000,
         addresses: 1,
@@ -62,10 +67,10 @@ fn show_slow<R: Threads + Wait + Sync + Print + AllocGlobal>(
 ) -> io::Result<()> {
     println!(rt; "300 clients, and an output that takes 7 bytes at a time")?;
     serve(rt, stage, out, MANY)?;
-    show_served(rt, stage, out.sink.held())
+    show_served(rt, MANY, stage, out.sink.held())
 }
 
-/// 300 clients, and an output that stalls.
+/// An output that stalls.
 fn slow<R: Threads + Wait + Sync + Print + AllocGlobal>(rt: &R) -> io::Result<()> {
     let mut stage = Stage::new(rt.alloc(), 4, REQUEST, SETUP)?;
     let mut out = SlowSink::new(sink(rt.alloc(), 100_000, None)?, 7);
@@ -75,10 +80,6 @@ fn slow<R: Threads + Wait + Sync + Print + AllocGlobal>(rt: &R) -> io::Result<()
     done
 }
 
-/// How many clients come where rows are printed over and over in the room of 1,000.
-const MORE: u64 = 3000;
-
-/// Each is served, or told that there is no room.
 fn show_rounds<R: Threads + Wait + Sync + Print + AllocGlobal>(
     rt: &R,
     stage: &mut Stage,
@@ -86,34 +87,10 @@ fn show_rounds<R: Threads + Wait + Sync + Print + AllocGlobal>(
 ) -> io::Result<()> {
     println!(rt; "3,000 clients, and room for 1,000 rows")?;
     serve(rt, stage, out, MORE)?;
-    let answers = stage.answers();
-    case(rt, "  clients met", &stage.met(), &MORE)?;
-    let told = answers.ok.saturating_add(answers.full);
-    case(rt, "  served, or told that there is no room", &told, &MORE)?;
-    case(
-        rt,
-        "  more are served than there is room for",
-        &(answers.ok > 1000),
-        &true,
-    )?;
-    let replay = replayed(rt.alloc(), out.held())?;
-    case(rt, "  the replay ends well", &replay.status, &Status::Ok)?;
-    let counts = Counts::of(&replay.report);
-    drop(replay);
-    case(
-        rt,
-        "  what it counts as finished",
-        &counts.finished,
-        &answers.ok,
-    )?;
-    case(
-        rt,
-        "  what it counts as admitted",
-        &counts.admitted,
-        &answers.ok,
-    )
+    show_served(rt, MORE, stage, out.held())
 }
 
+/// More rows than there is room for at once.
 fn rounds<R: Threads + Wait + Sync + Print + AllocGlobal>(rt: &R) -> io::Result<()> {
     let mut stage = Stage::new(rt.alloc(), 4, REQUEST, SETUP)?;
     let mut out = sink(rt.alloc(), 1_000_000, None)?;

@@ -1,7 +1,7 @@
 //! The server is told to stop while requests are held: nobody comes any more, those who wait get an answer, and all is printed.
 use crate::crowd::{Pods, REQUEST};
 use crate::journals::{Counts, has, replayed};
-use crate::outside::{OnceTaken, Steps, TimedDoor};
+use crate::outside::{OnceEntered, Steps, TimedDoor};
 use crate::stage::{Limits, SETUP, Stage, WELL, sink, stay};
 use kn_case::case;
 use kn_io::MemSink;
@@ -19,8 +19,8 @@ fn serve<R: Threads + Wait + Sync + Print + AllocGlobal>(
     out: &mut MemSink,
 ) -> io::Result<()> {
     let clock = Steps::new(100);
-    let door = TimedDoor::new(&clock, true, &TIMES);
-    let mut stop = OnceTaken {
+    let door = TimedDoor::new(&clock, &TIMES);
+    let mut stop = OnceEntered {
         door: &door,
         many: 4,
     };
@@ -59,7 +59,7 @@ fn show_held<R: Threads + Wait + Sync + Print + AllocGlobal>(
         admitted: 4,
         finished: 0,
         failed: 0,
-        expired: 4,
+        unserved: 4,
     };
     case(rt, "  what it counts", &counts, &want)
 }

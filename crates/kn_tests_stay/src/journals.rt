@@ -104,16 +104,19 @@ pub struct Counts {
     pub admitted: u64,
     pub finished: u64,
     pub failed: u64,
-    pub expired: u64,
+    /// Expired or cancelled.
+    pub unserved: u64,
 }
 
 impl Counts {
     pub fn of(report: &[u8]) -> Counts {
+        let expired = number_behind(report, b" expired=");
+        let cancelled = number_behind(report, b" cancelled=");
         Counts {
             admitted: number_behind(report, b" admitted="),
             finished: number_behind(report, b" finished="),
             failed: number_behind(report, b" failed="),
-            expired: number_behind(report, b" expired="),
+            unserved: expired.saturating_add(cancelled),
         }
     }
 }

@@ -8,6 +8,7 @@ mod crowds;
 mod held;
 mod journals;
 mod outside;
+mod paced;
 mod places;
 mod refused;
 mod stage;

@@ -10,7 +10,7 @@ use kn_session::Attendant;
 use std::sync::Wait;
 use std::sync::atomic::{AtomicBool, AtomicU64, Ordering};
 
-/// A clock that each reading sets on by so many milliseconds, while it goes.
+/// A clock that each reading sets on by so many milliseconds, while it goes. It stands still at first.
 #[derive(Drop)]
 pub struct Steps {
     time: AtomicU64,
@@ -23,7 +23,7 @@ impl Steps {
         Steps {
             time: AtomicU64::new(0),
             step,
-            goes: AtomicBool::new(true),
+            goes: AtomicBool::new(false),
         }
     }
 
@@ -51,31 +51,30 @@ impl Clock for Steps {
     fn nap(&self) {}
 }
 
-/// A door through which a client comes at each of these times. The clock goes while somebody waits at it, and goes on or not while clients
-/// are served.
+/// A door through which a client comes at each of these times. The clock goes while somebody waits at it, and once it is closed.
 #[derive(Drop)]
 pub struct TimedDoor<'a> {
     clock: &'a Steps,
-    goes_on: bool,
     times: &'static [u64],
     taken: AtomicU64,
+    entered: AtomicU64,
     closed: AtomicBool,
 }
 
 impl<'a> TimedDoor<'a> {
-    pub fn new(clock: &'a Steps, goes_on: bool, times: &'static [u64]) -> TimedDoor<'a> {
+    pub fn new(clock: &'a Steps, times: &'static [u64]) -> TimedDoor<'a> {
         TimedDoor {
             clock,
-            goes_on,
             times,
             taken: AtomicU64::new(0),
+            entered: AtomicU64::new(0),
             closed: AtomicBool::new(false),
         }
     }
 
-    /// How many times somebody asked for a client.
-    pub fn taken(&self) -> u64 {
-        self.taken.load(Ordering::SeqCst)
+    /// How many clients came in.
+    pub fn entered(&self) -> u64 {
+        self.entered.load(Ordering::SeqCst)
     }
 
     /// When the next client comes.
@@ -88,6 +87,7 @@ impl<'a> TimedDoor<'a> {
 impl Close for TimedDoor<'_> {
     fn close(&self) {
         self.closed.store(true, Ordering::SeqCst);
+        self.clock.set_going(true);
     }
 }
 
@@ -114,7 +114,8 @@ impl Door<Guest<Crowd>> for TimedDoor<'_> {
                 return false;
             }
             if self.clock.time() >= time {
-                self.clock.set_going(self.goes_on);
+                self.clock.set_going(false);
+                self.entered.fetch_add(1, Ordering::SeqCst);
                 return true;
             }
         }
@@ -130,16 +131,16 @@ impl Door<Guest<Crowd>> for TimedDoor<'_> {
     }
 }
 
-/// Is over once somebody waited for so many clients.
+/// Is over once so many clients came in.
 #[derive(Drop)]
-pub struct OnceTaken<'a, 'b> {
+pub struct OnceEntered<'a, 'b> {
     pub door: &'a TimedDoor<'b>,
     pub many: u64,
 }
 
-impl Stop for OnceTaken<'_, '_> {
+impl Stop for OnceEntered<'_, '_> {
     fn is_over(&mut self) -> bool {
-        self.door.taken() >= self.many
+        self.door.entered() >= self.many
     }
 }
 

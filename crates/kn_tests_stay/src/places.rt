@@ -32,7 +32,7 @@ fn serve<R: Threads + Wait + Sync + Print + AllocGlobal>(
     out: &mut MemSink,
 ) -> io::Result<()> {
     let clock = Steps::new(10);
-    let door = TimedDoor::new(&clock, false, &TIMES);
+    let door = TimedDoor::new(&clock, &TIMES);
     let mut stop = StopAfter::new(u64::MAX);
     let limits = Limits {
         room: 100_000,
