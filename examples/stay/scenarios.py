@@ -231,13 +231,13 @@ def gone_while_held():
             time.sleep(0.5)
             client.close()
             left.append(time.time() * 1000)
-        time.sleep(2.5)
+        time.sleep(1)
         met = load.met() + [bring(server.port, GET)]
         want(counted(met) == {HELLO: 2}, f"answered {counted(met)}")
         want(pod.count() == 2, "a pod was called for a client that had left")
         rows = settle(server, counted(met), gone=2)
     after = [int(row.split()[0]) - at for row, at in zip((row for row in rows if row.split()[1] == "cancel"), left)]
-    want(len(after) == 2 and all(-20 <= ms < 2500 for ms in after), f"cancelled {after} ms after they left")
+    want(len(after) == 2 and all(-20 <= ms < 500 for ms in after), f"cancelled {after} ms after they left")
     say(f"cancelled {', '.join(f'{ms:.0f}' for ms in after)} ms after they left")
 
 

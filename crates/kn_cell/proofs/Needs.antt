@@ -1,5 +1,5 @@
 -- How much room an act needs, by where its request stands.
-use Rattle.std.proofs.Common.{◌≡◌, ◌⊎◌, inl, inr, ℕ, Bool, true, false, refl, sym, ap, ◌∙◌}
+use Rattle.std.proofs.Common.{◌≡◌, ◌≤◌, ◌⊎◌, inl, inr, ℕ, Bool, true, false, refl, sym, ap, ◌∙◌, arith}
 use Rattle.std.specs.Prelude.{if◌then◌else◌}
 use denote.Struct.Props.{props}
 use Rattle.std.proofs.Math.Logic.{∥∥₁_elim}
@@ -9,7 +9,7 @@ use Rattle.kn_event.specs.declared.event.Stand.{Stand}
 use Rattle.kn_event.specs.declared.event.Stand.TheVariants as stand
 use Rattle.kn_event.specs.declared.revision.Spec.{Spec}
 use Rattle.kn_trace.specs.Events.{need_of}
-use Rattle.kn_trace.specs.Trace.{Trace, stand_of}
+use Rattle.kn_trace.specs.Trace.{Trace, contains, is_running, stand_of, waiting}
 use Rattle.kn_record.specs.Made.{IsMade}
 use Rattle.kn_laws.specs.History.{IsMadeBy}
 use Rattle.kn_sizes.specs.Course.{IsToldByStand, runs_by, waits_by}
@@ -50,6 +50,21 @@ other_need c (act.Ready p) arrives finishes cancels = refl
 other_need c (act.Limit p n) arrives finishes cancels = refl
 other_need c (act.Lost p) arrives finishes cancels = refl
 other_need c act.Tick arrives finishes cancels = refl
+
+none_if_small : (b : Bool) → none_if b ≤ 2
+none_if_small true = omega arith
+none_if_small false = omega arith
+
+pub need_small : (c : Trace) (a : Act) → need_of c a ≤ 2
+unfolding need_of
+need_small c (act.Arrive tag) = omega arith
+need_small c (act.Finish r ok) = none_if_small (is_running c r)
+need_small c (act.Cancel r) = none_if_small (contains r (waiting c))
+need_small c act.Pass = omega arith
+need_small c (act.Ready p) = omega arith
+need_small c (act.Limit p n) = omega arith
+need_small c (act.Lost p) = omega arith
+need_small c act.Tick = omega arith
 
 module _ (made : (s : Spec) (start clock count : ℕ) (c : Trace) → IsMadeBy s start clock count c → ∥ IsMade s c ∥₁)
     (told : (s : Spec) (c : Trace) (r : ℕ) → IsMade s c → IsToldByStand c r)

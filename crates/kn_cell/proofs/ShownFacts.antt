@@ -75,11 +75,6 @@ pub adds_recorded : (t : TableId) (v : View) (act : Act) (time : ℕ) (told : To
 adds_recorded t v act time told m w got r =
     adds_more t v got.log got.taken got.missed act time told w got.learns (subst (λ (x : View). RecordsRow x act time told w) got.view_is r)
 
-pub adds_if : (t : TableId) (v : View) (act : Act) (time : ℕ) (r : Result Told Full) (m w : Me DeskState View) → WaitsForTurn v m
-    → IfOk r (λ told. RecordsRow m.0 act time told w) → IfOk r (λ told. Adds (shown t v) act time told (shown t w.0))
-adds_if t v act time (Ok told) m w got ok = adds_recorded t v act time told m w got ok
-adds_if t v act time (Err full) m w got ok = ok
-
 misfits_still : (t : TableId) (v : View) (log : List Past) (taken k : ℕ) (act : Act) (full : Full) → Overflows (waited v log taken k) act full
     → Misfits (shown t v) act full (shown t (without_turn (waited v log taken k)))
 misfits_still t v log taken k act full o = record { mine = refl; room = o.room; used = o.used; live = o.live; short = o.short }
@@ -90,12 +85,6 @@ misfits_idle t v act full m w got is o =
     subst (λ (x : View). Misfits (shown t v) act full (shown t x)) (sym (ap (λ (x : Me DeskState View). x.0) is))
     (subst (λ (x : View). Misfits (shown t v) act full (shown t (without_turn x))) (sym got.view_is)
     (misfits_still t v got.log got.taken got.missed act full (subst (λ (x : View). Overflows x act full) got.view_is o)))
-
--- whatever the attempt answered
-pub looks_either : (t : TableId) (v : View) (act : Act) (time : ℕ) (r : Result Told Full) (m w : Me DeskState View) → WaitsForTurn v m
-    → IfOk r (λ told. RecordsRow m.0 act time told w) → IfErr r (λ full. (w ≡ (without_turn m.0, [])) × Overflows m.0 act full) → Looks (shown t v) (shown t w.0)
-looks_either t v act time (Ok told) m w got ok err = looks_recorded t v act time told m w got ok
-looks_either t v act time (Err full) m w got ok err = looks_idle t v m w got err.0
 
 pub missed_of : (t : TableId) (v : View) (act : Act) (time : ℕ) (r : Result Told Full) (m w : Me DeskState View)
     → IfOk r (λ told. RecordsRow m.0 act time told w) → IfErr r (λ full. (w ≡ (without_turn m.0, [])) × Overflows m.0 act full) → w.0.missed ≡ m.0.missed

@@ -20,7 +20,7 @@ use Rattle.kn_cell.specs.History.{made_by, trace_after, clock_after, live_of, ro
 use Rattle.kn_cell.specs.State.{DeskState}
 use Rattle.kn_cell.specs.Desk.{Applies, Refuses, event_at, time_at, left_at}
 use Rattle.kn_cell.specs.Views.{opening, IsBounded}
-use Rattle.kn_cell.specs.Rule.{GoesWith, GetsTurn, last_row, recorded}
+use Rattle.kn_cell.specs.Rule.{GoesWith, GetsTurn, Misses, last_row, missed_one, recorded}
 use Rattle.kn_cell.specs.Turns.{HasTurn, WaitsForTurn, Overflows, row_of, room_of, trace_of}
 use Rattle.kn_cell.proofs.Counting.{made_by-one}
 use Rattle.kn_cell.proofs.TakenMoves.{taken_within, last_row-one}
@@ -44,6 +44,21 @@ gets_at v k c m later alone fresh g = record {
 pub waits_of : (v u : View) (c : List (ℕ × DeskState)) (m : Me DeskState View) → v.missed ≤ u.missed → (1 + v.free + v.back ≡ v.key.passes → u.missed ≡ v.missed) → v.spent ≡ false → u ≡ record v { missed = u.missed }
     → GetsTurn (u, c) m → WaitsForTurn v m
 waits_of v u c m later alone fresh is g = gets_at v u.missed c m later alone fresh (subst (λ (x : View). GetsTurn (x, c) m) is g)
+
+-- what waits after a miss has waited since before it
+pub waits_after : (v u m : Me DeskState View) → Misses v u → WaitsForTurn u.0 m → WaitsForTurn v.0 m
+waits_after v u m miss late =
+    let w : WaitsForTurn (missed_one v.0) m = subst (λ (x : View). WaitsForTurn x m) (ap (λ (x : Me DeskState View). x.0) miss.after) late in
+    record {
+      log = w.log;
+      taken = w.taken;
+      missed = w.missed;
+      later = let from = w.later in omega arith;
+      alone = λ e. let others = miss.others in absurd (omega arith);
+      learns = record { bounded = w.learns.bounded; legal = w.learns.legal; bounds = w.learns.bounds; longer = w.learns.longer; others = w.learns.others; own = w.learns.own; gone = w.learns.gone; most = w.learns.most; plain = w.learns.plain; scribe = w.learns.scribe };
+      view_is = w.view_is;
+      has = w.has;
+    }
 
 -- the room that the desk finds is the room that the view knows of
 left_for : (lasting : Bool) (room gone total taken rows live : ℕ) → room ≤ 1000000 → gone ≡ taken → taken + rows ≡ total → (lasting ≡ false → taken ≡ 0)
@@ -149,10 +164,10 @@ applied_at l z x y number act time told lent slot a =
     let same : z ≡ x = ap (first_or z) (sym lent ∙ slot) in
     (y, ap (λ k. (0, y) ∷ rest k) slot, subst (λ k. Applies k number act time told y) same a)
 
-pub applied_if : (l : List (ℕ × DeskState)) (z x y : DeskState) (number : ℕ) (act : Act) (time : ℕ) (r : Result Told Full) → l ≡ (0, z) ∷ rest l → l ≡ (0, x) ∷ []
-    → IfOk r (λ told. Applies z number act time told y) → IfOk r (λ told. (k : DeskState) × ((0, y) ∷ rest l ≡ (0, k) ∷ []) × Applies x number act time told k)
-applied_if l z x y number act time (Ok told) lent slot a = applied_at l z x y number act time told lent slot a
-applied_if l z x y number act time (Err full) lent slot a = a
+pub applied_if : (l : List (ℕ × DeskState)) (z x y : DeskState) (number : ℕ) (act : Act) (time : ℕ) (told : Told) (r : Result (Unit {0}) Full) → l ≡ (0, z) ∷ rest l
+    → l ≡ (0, x) ∷ [] → IfOk r (λ _. Applies z number act time told y) → IfOk r (λ _. (k : DeskState) × ((0, y) ∷ rest l ≡ (0, k) ∷ []) × Applies x number act time told k)
+applied_if l z x y number act time told (Ok done) lent slot a = applied_at l z x y number act time told lent slot a
+applied_if l z x y number act time told (Err full) lent slot a = a
 
 -- what is counted of the value in the slot is counted of all that is seen
 pub figures_seen : (v : View) (x : DeskState) (f : Figures) → GoesWith v.key v.seen x → v.gone ≡ x.taken

@@ -81,6 +81,7 @@ impl Model for Pass {
 
 impl RevisionCell {
     /// Records the event, behind all that others recorded, or says that the room is too small.
+    #[inline(always)]
     pub fn on<R: Wait>(&self, rt: &R, pass: &mut Pass, act: Act, time: u64) -> Result<Told, Full>
         requires cell { pass.old.cell ≡ self.now }
         requires act { MayCome act }
@@ -93,7 +94,11 @@ impl RevisionCell {
         let passes = pass.passes;
         let place = &mut pass.place;
         take_turn(rt, board, place);
-        attempt(board, place, number, passes, act, time)
+        let mut told = Told::Passed;
+        match attempt(board, place, number, passes, act, time, &mut told) {
+            Ok(()) => Ok(told),
+            Err(full) => Err(full),
+        }
     }
 
     /// The same, where no other pass has the turn just now.
@@ -110,8 +115,9 @@ impl RevisionCell {
         if take(board, place, AWAITED) != 0 {
             return Err(TryError::Busy);
         }
-        match attempt(board, place, number, passes, act, time) {
-            Ok(told) => Ok(told),
+        let mut told = Told::Passed;
+        match attempt(board, place, number, passes, act, time, &mut told) {
+            Ok(()) => Ok(told),
             Err(full) => Err(TryError::Full(full)),
         }
     }
@@ -171,8 +177,10 @@ impl RevisionCell {
         let passes = pass.passes;
         let place = &mut pass.place;
         take_turn(rt, board, place);
-        match enter(board, place, number, passes, Act::Arrive(tag), time) {
-            Ok((told, left)) => {
+        let act = Act::Arrive(tag);
+        let mut told = Told::Passed;
+        match enter(board, place, number, passes, act, time, &mut told) {
+            Ok(left) => {
                 let course = arrival_at(board, place, number, pass.asked, told);
                 pass.asked = arrived(told).or(pass.asked);
                 pass.heard = heard(board, number);

@@ -1,5 +1,5 @@
 //! What lies in the slot: the revision with its history. What an event does is said here, and needs no thread.
-ghost use Rattle.std.specs.Prelude.{◌≡◌, ◌<◌, ◌≤◌, ◌+◌, ◌^◌, IfOk, IfErr, IfSome, [], length, vec_capacity};
+ghost use Rattle.std.specs.Prelude.{◌≡◌, ◌<◌, ◌≤◌, ◌+◌, ◌^◌, true, false, IfOk, IfErr, IfSome, [], length, vec_capacity};
 ghost use Rattle.kn_trace.specs.Events.{need_of};
 ghost use Rattle.kn_trace.specs.Trace.{Trace, next_starting, proxied, stand_of};
 ghost use Rattle.kn_book.specs.Book.{call_address, next_to_probe};
@@ -101,20 +101,20 @@ impl Desk {
         })
     }
 
-    /// Takes the event in, or says that the room is too small.
-    pub fn apply(&mut self, pass: u64, act: Act, time: u64) -> Result<Told, Full>
+    /// Takes the event in, or says that the room is too small. What it is told goes to `answer`: each further move of it would
+    /// copy a whole decision.
+    pub fn apply(&mut self, pass: u64, act: Act, time: u64, answer: &mut Told) -> Result<(), Full>
         requires events { self.old.revision.events < 2 ^ 54 }
         requires act { MayCome act }
-        ensures ok { IfOk result (λ told. Applies self.old pass act time told self.new) }
+        ensures ok { IfOk result (λ _. Applies self.old pass act time answer.new self.new) }
         ensures err { IfErr result (λ full. (self.new ≡ self.old) × Refuses self.old act full) }
     {
         history_laws();
         room_laws();
         let live = self.revision.live();
         let used = self.history.len() as u64;
-        let need = need(&self.revision, &act);
         let left = self.room.min(MOST_ROWS - self.taken) - used - live;
-        if left < need {
+        if lacks(&self.revision, &act, left) {
             return Err(Full {
                 room: self.room,
                 used,
@@ -129,7 +129,8 @@ impl Desk {
         self.book.apply(self.log.entries());
         self.tally.apply(self.log.entries());
         self.waiters.call_all(self.log.entries());
-        Ok(told)
+        *answer = told;
+        Ok(())
     }
 
     /// Takes all rows out, and keeps the memory of the empty list that it is given.
@@ -232,6 +233,19 @@ impl Desk {
 /// Whether a request waits where it stands.
 fn waits(stand: Stand) -> bool {
     matches!(stand, Stand::Held | Stand::Queued(_))
+}
+
+/// Whether an act needs more room than is left.
+#[inline(always)]
+fn lacks(revision: &Revision, act: &Act, left: u64) -> bool
+    ensures yes { result ≡ true → (c : Trace) → StandsFor revision.now c → left < need_of c act.now }
+    ensures no { result ≡ false → (c : Trace) → StandsFor revision.now c → need_of c act.now ≤ left }
+{
+    // No act needs more, and a request is looked up only where it matters.
+    if left >= 2 {
+        return false;
+    }
+    left < need(revision, act)
 }
 
 /// How much room an act needs: an arrival its row and, later, its end; the end of a live request none.

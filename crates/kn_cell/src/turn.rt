@@ -17,10 +17,18 @@ use kn_event::{Act, Stand, Told};
 use kn_figures::Figures;
 use std::sync::Wait;
 
-// How often a pass looks again before it parks, since most turns are short.
-const LOOKS: u64 = 100;
+// How often a pass that wants the turn looks whether it is free before it parks.
+const LOOKS: u64 = 50;
+
+// The longest pause between two looks. A look takes the word out of the cache of who has the turn, so each pause is twice the one
+// before: most turns are short, and who gives the turn back often takes it again at once.
+const LONGEST: u64 = 64;
+
+// How often a pass may see the turn free and find it taken before it parks.
+const TRIES: u64 = 100;
 
 /// Waits until it has the turn.
+#[inline(always)]
 pub fn take_turn<R: Wait>(rt: &R, board: &Board, place: &mut Place)
     requires same { place.old.table_id ≡ board.now.table_id }
     requires sized { 2 ≤ board.now.table_id.words }
@@ -28,21 +36,34 @@ pub fn take_turn<R: Wait>(rt: &R, board: &Board, place: &mut Place)
     ensures same { (place.new.table_id ≡ place.old.table_id) × (place.new.id ≡ place.old.id) }
     ensures turn { WaitsForTurn place.old.me.0 place.new.me }
 {
-    let mut found = take(board, place, TAKEN);
+    let found = take(board, place, TAKEN);
     if found == 0 {
         return;
     }
-    for _ in 0..LOOKS {
+    await_turn(rt, board, place, found);
+}
+
+/// Waits until it has the turn, where its last swap found this in the turn word.
+#[inline(never)]
+fn await_turn<R: Wait>(rt: &R, board: &Board, place: &mut Place, before: u64)
+    requires same { place.old.table_id ≡ board.now.table_id }
+    requires sized { 2 ≤ board.now.table_id.words }
+    requires free { (place.old.me.0.turn ≡ false) × (place.old.me.0.spent ≡ false) × (place.old.me.1 ≡ []) }
+    ensures same { (place.new.table_id ≡ place.old.table_id) × (place.new.id ≡ place.old.id) }
+    ensures turn { WaitsForTurn place.old.me.0 place.new.me }
+{
+    let mut found = before;
+    for _ in 0..TRIES {
         if found != TAKEN {
             // The swap overwrote the mark of one that is parked: those below put it back, or take the turn with it.
             break;
         }
-        std::hint::spin_loop();
-        if board.peek(1) == 0 {
-            found = take(board, place, TAKEN);
-            if found == 0 {
-                return;
-            }
+        if !sees_free(board) {
+            break;
+        }
+        found = take(board, place, TAKEN);
+        if found == 0 {
+            return;
         }
     }
     for _ in rt.forever() {
@@ -50,26 +71,50 @@ pub fn take_turn<R: Wait>(rt: &R, board: &Board, place: &mut Place)
             return;
         }
         board.park(rt, 1, AWAITED as u32);
+        // While it looks nobody need wake it, and its next swap leaves the mark of those that are parked.
+        let _ = sees_free(board);
     }
     unreachable!()
 }
 
-/// Takes the event in at the value in the slot.
+/// Looks until the turn is free, but not for long. Whether it was.
+fn sees_free(board: &Board) -> bool
+    requires sized { 2 ≤ board.now.table_id.words }
+{
+    let mut pauses = 1;
+    for _ in 0..LOOKS {
+        if board.peek(1) == 0 {
+            return true;
+        }
+        pause(pauses);
+        pauses = pauses.saturating_mul(2).min(LONGEST);
+    }
+    false
+}
+
+fn pause(times: u64) {
+    for _ in 0..times {
+        std::hint::spin_loop();
+    }
+}
+
+/// Takes the event in at the value in the slot. What it is told goes to `answer`.
 fn apply_at(
     board: &Board,
     place: &mut Place,
     number: u64,
     act: Act,
     time: u64,
-) -> Result<Told, Full>
+    answer: &mut Told,
+) -> Result<(), Full>
     requires same { place.old.table_id ≡ board.now.table_id }
     requires slot { (x : DeskState) × (place.old.me.1 ≡ (0, x) ∷ []) × (x.revision.events < 2 ^ 54) }
     requires act { MayCome act }
     ensures same { (place.new.table_id ≡ place.old.table_id) × (place.new.id ≡ place.old.id) × (place.new.me.0 ≡ place.old.me.0) }
-    ensures ok { (x : DeskState) → place.old.me.1 ≡ (0, x) ∷ [] → IfOk result (λ told. (y : DeskState) × (place.new.me.1 ≡ (0, y) ∷ []) × Applies x number act time told y) }
+    ensures ok { (x : DeskState) → place.old.me.1 ≡ (0, x) ∷ [] → IfOk result (λ _. (y : DeskState) × (place.new.me.1 ≡ (0, y) ∷ []) × Applies x number act time answer.new y) }
     ensures err { (x : DeskState) → place.old.me.1 ≡ (0, x) ∷ [] → IfErr result (λ full. (place.new.me.1 ≡ place.old.me.1) × Refuses x act full) }
 {
-    place.slot_mut(board, 0).apply(number, act, time)
+    place.slot_mut(board, 0).apply(number, act, time, answer)
 }
 
 /// Takes all rows out of the value in the slot.
@@ -116,7 +161,7 @@ fn ring_called(board: &Board, place: &mut Place, passes: u64) -> Option<u64>
 }
 
 /// Takes the event in, records it, and rings the bells of those whose request it moved, but for one, which is to be rung once
-/// the turn is given back. The turn is kept.
+/// the turn is given back. The turn is kept. What the event is told goes to `answer`.
 pub fn enter(
     board: &Board,
     place: &mut Place,
@@ -124,7 +169,8 @@ pub fn enter(
     passes: u64,
     act: Act,
     time: u64,
-) -> Result<(Told, Option<u64>), Full>
+    answer: &mut Told,
+) -> Result<Option<u64>, Full>
     requires same { place.old.table_id ≡ board.now.table_id }
     requires sized { board.now.table_id.words ≡ passes + 2 }
     requires few { passes ≤ 1100 }
@@ -132,21 +178,23 @@ pub fn enter(
     requires number { place.old.me.0.number ≡ number }
     requires act { MayCome act }
     ensures same { (place.new.table_id ≡ place.old.table_id) × (place.new.id ≡ place.old.id) }
-    ensures ok { IfOk result (λ x. Enters place.old.me.0 act time x.0 place.new.me) }
-    ensures left { IfOk result (λ x. IfSome x.1 (λ p. p < passes)) }
+    ensures ok { IfOk result (λ _. Enters place.old.me.0 act time answer.new place.new.me) }
+    ensures left { IfOk result (λ left. IfSome left (λ p. p < passes)) }
     ensures err { IfErr result (λ full. (place.new.me ≡ place.old.me) × Overflows place.old.me.0 act full) }
 {
-    match apply_at(board, place, number, act, time) {
-        Ok(told) => {
+    match apply_at(board, place, number, act, time, answer) {
+        Ok(()) => {
             record(board, place);
             let left = ring_called(board, place, passes);
-            Ok((told, left))
+            Ok(left)
         }
         Err(full) => Err(full),
     }
 }
 
-/// Takes the event in, records it, gives the turn back, and rings the bells of those whose request it moved.
+/// Takes the event in, records it, gives the turn back, and rings the bells of those whose request it moved. What the event
+/// is told goes to `answer`.
+#[inline(never)]
 pub fn attempt(
     board: &Board,
     place: &mut Place,
@@ -154,7 +202,8 @@ pub fn attempt(
     passes: u64,
     act: Act,
     time: u64,
-) -> Result<Told, Full>
+    answer: &mut Told,
+) -> Result<(), Full>
     requires same { place.old.table_id ≡ board.now.table_id }
     requires sized { board.now.table_id.words ≡ passes + 2 }
     requires few { passes ≤ 1100 }
@@ -162,14 +211,14 @@ pub fn attempt(
     requires number { place.old.me.0.number ≡ number }
     requires act { MayCome act }
     ensures same { (place.new.table_id ≡ place.old.table_id) × (place.new.id ≡ place.old.id) }
-    ensures ok { IfOk result (λ told. RecordsRow place.old.me.0 act time told place.new.me) }
+    ensures ok { IfOk result (λ _. RecordsRow place.old.me.0 act time answer.new place.new.me) }
     ensures err { IfErr result (λ full. (place.new.me ≡ (without_turn place.old.me.0, [])) × Overflows place.old.me.0 act full) }
 {
-    match enter(board, place, number, passes, act, time) {
-        Ok((told, left)) => {
+    match enter(board, place, number, passes, act, time, answer) {
+        Ok(left) => {
             give(board, place);
             ring_left(board, place, passes, left);
-            Ok(told)
+            Ok(())
         }
         Err(full) => {
             give(board, place);

@@ -27,6 +27,10 @@ pub struct FrontCaller<K> {
     until: Option<Instant>,
     // Whether it was said that the client that was met last has left.
     left: bool,
+    // Whether its door counts it among those that have a connection.
+    pub(crate) busy: bool,
+    // Whether its door counts it among those whose client is looked after while it waits.
+    pub(crate) watched: bool,
 }
 
 impl<K: Clock> FrontCaller<K> {
@@ -41,6 +45,8 @@ impl<K: Clock> FrontCaller<K> {
             read,
             until: None,
             left: false,
+            busy: false,
+            watched: false,
         }
     }
 
@@ -61,6 +67,14 @@ impl<K: Clock> FrontCaller<K> {
         let leaves = !self.left && self.inner.has_ended();
         self.left = self.left || leaves;
         leaves
+    }
+
+    /// The milliseconds of its clock, or 0 where it can't be read.
+    pub(crate) fn now_ms(&self) -> u64 {
+        match self.clock.monotonic() {
+            Ok(time) => u64::try_from(time.as_millis()).unwrap_or(u64::MAX),
+            Err(_) => 0,
+        }
     }
 
     /// The time so long from now.

@@ -1,7 +1,8 @@
 //! The door through which clients come from a front.
-ghost use Rattle.std.specs.Prelude.{⊤};
+ghost use Rattle.std.specs.Prelude.{◌+◌, ◌≤◌, ◌*◌, ⊤};
 
 use crate::caller::FrontCaller;
+use crate::gauge::Gauge;
 use crate::queue::Queue;
 use kn_door::{Close, Door, Watch};
 use kn_io::Caller;
@@ -11,8 +12,15 @@ use std::sync::atomic::{AtomicBool, AtomicU64, Ordering};
 use std::sync::{Condvar, Mutex, Wait};
 use std::time::Clock;
 
-/// How many milliseconds a request sleeps at most before it is asked again whether its client has left.
-const WATCH_MS: u64 = 2_000;
+/// Those who wait look for their clients at common moments, so many milliseconds apart: threads that wake together cost half of what
+/// they do one by one.
+const BEAT_MS: u64 = 20;
+
+/// How many of them look at each such moment, as long as there are enough moments.
+const LOOKS_A_BEAT: u64 = 10;
+
+/// How many of these moments pass at most until one looks again.
+const MOST_BEATS: u64 = 100;
 
 /// A front's door. Connections whose requests have begun come through it in turn, each to one caller. All threads share it.
 #[derive(Drop)]
@@ -24,6 +32,22 @@ pub struct TcpDoor {
     waker: Waker,
     closed: AtomicBool,
     silent: AtomicU64,
+    /// Those who have a connection.
+    busy: Gauge,
+    /// Those whose request had to wait.
+    watched: Gauge,
+    /// How many milliseconds of a beat had passed when one looked last.
+    passed: AtomicU64,
+}
+
+/// How many milliseconds a request sleeps between two looks for its client, where so many wait, and so many have passed of a beat.
+fn pause_ms(waiting: u64, passed: u64) -> u64
+    ensures some { 1 ≤ result }
+    ensures longest { result ≤ 2000 }
+    ensures seldom { waiting ≤ 1000 → 2 * waiting ≤ result + 20 }
+{
+    let beats = waiting.div_ceil(LOOKS_A_BEAT).clamp(1, MOST_BEATS);
+    beats * BEAT_MS - passed % BEAT_MS
 }
 
 impl TcpDoor {
@@ -35,6 +59,9 @@ impl TcpDoor {
             waker,
             closed: AtomicBool::new(false),
             silent: AtomicU64::new(0),
+            busy: Gauge::new(),
+            watched: Gauge::new(),
+            passed: AtomicU64::new(0),
         }
     }
 
@@ -44,6 +71,11 @@ impl TcpDoor {
         self.silent
             .load(Ordering::SeqCst)
             .saturating_add(begun as u64)
+    }
+
+    /// How many callers have a connection: each from when the door hands it one until it asks for the next.
+    pub fn busy(&self) -> u64 {
+        self.busy.count()
     }
 
     /// Waits until a connection's request has begun, and takes it. None where no more are to come.
@@ -112,11 +144,17 @@ impl<K: Clock> Watch<FrontCaller<K>> for TcpDoor {
     /// Whether the client that was met last has closed its connection, or its sending side, which looks the same. It says so once of
     /// each client.
     fn has_left(&self, caller: &mut FrontCaller<K>) -> bool {
+        if caller.busy {
+            self.watched.enter(&mut caller.watched);
+        }
+        self.passed
+            .store(caller.now_ms() % BEAT_MS, Ordering::SeqCst);
         caller.has_left()
     }
 
+    /// The more requests wait, the longer: all of them together ask some 500 times a second at most.
     fn often_ms(&self) -> u64 {
-        WATCH_MS
+        pause_ms(self.watched.count(), self.passed.load(Ordering::SeqCst))
     }
 }
 
@@ -124,9 +162,12 @@ impl<K: Clock> Door<FrontCaller<K>> for TcpDoor {
     fn next<R: Wait>(&self, rt: &R, caller: &mut FrontCaller<K>) -> bool {
         // The client before sees the end of its answer, also while nobody else comes.
         caller.part();
+        self.watched.leave(&mut caller.watched);
+        self.busy.leave(&mut caller.busy);
         match self.take(rt) {
             Some(stream) => {
                 caller.hand(stream);
+                self.busy.enter(&mut caller.busy);
                 true
             }
             None => false,

@@ -4,6 +4,7 @@
 mod caller;
 mod door;
 mod front;
+mod gauge;
 mod input_stop;
 mod limits;
 mod queue;

@@ -13,7 +13,7 @@ use kn_figures::{Figures, Kind};
 pub struct Outer {
     /// Connections that wait for a slot.
     pub waiting: u64,
-    /// Slots at work.
+    /// Slots that have a connection.
     pub at_work: u64,
 }
 

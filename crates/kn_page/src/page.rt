@@ -47,7 +47,7 @@ impl<'a, C: Caller, D: Door<C>, E: Server> Attendant for Page<'a, C, D, E> {
         (side_of C.Sink.kept C.Sink.held C.Faulty.faults s.caller) (side_of C.Sink.kept C.Sink.held C.Faulty.faults t.caller) };
 
     /// Answers who comes, until the door is closed and nobody is left behind it.
-    fn attend<R: Wait>(&mut self, rt: &R, cell: &RevisionCell, pass: &mut Pass, left: &Left) {
+    fn attend<R: Wait>(&mut self, rt: &R, cell: &RevisionCell, pass: &mut Pass, _left: &Left) {
         for _ in rt.forever() {
             if !self.door.next(rt, &mut self.caller) {
                 return;
@@ -56,7 +56,6 @@ impl<'a, C: Caller, D: Door<C>, E: Server> Attendant for Page<'a, C, D, E> {
                 rt,
                 cell,
                 pass,
-                left,
                 &mut self.caller,
                 self.server,
                 &mut self.sheets,

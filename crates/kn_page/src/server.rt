@@ -18,4 +18,7 @@ pub trait Server {
     /// How many connections wait for a slot.
     fn waiting<R: Wait>(&self, rt: &R) -> u64
         ensures { waits self.now result };
+
+    /// How many slots have a connection. It promises nothing.
+    fn at_work(&self) -> u64;
 }

@@ -11,7 +11,6 @@ use crate::server::Server;
 use crate::sheet::Sheet;
 use kn_cell::{Pass, RevisionCell};
 use kn_io::{Caller, caller_laws, put_all};
-use kn_request::Left;
 use std::sync::Wait;
 
 /// What became of a connection.
@@ -39,7 +38,6 @@ fn show_metrics<R: Wait, E: Server>(
     rt: &R,
     cell: &RevisionCell,
     pass: &mut Pass,
-    left: &Left,
     server: &E,
     wants: bool,
     sheets: &mut Sheets,
@@ -51,7 +49,7 @@ fn show_metrics<R: Wait, E: Server>(
     let decision = figures.tally.last_decision();
     let outer = Outer {
         waiting: server.waiting(rt),
-        at_work: left.count(),
+        at_work: server.at_work(),
     };
     write_metrics(&mut sheets.body, &figures, &decision, &outer);
     write_answer(
@@ -67,7 +65,6 @@ fn answer<R: Wait, E: Server>(
     rt: &R,
     cell: &RevisionCell,
     pass: &mut Pass,
-    left: &Left,
     server: &E,
     asked: Asked,
     sheets: &mut Sheets,
@@ -82,7 +79,7 @@ fn answer<R: Wait, E: Server>(
             let stopping = server.is_stopping();
             write_plain(&mut sheets.answer, ready_reply(stopping), wants)
         }
-        Wanted::Metrics => show_metrics(rt, cell, pass, left, server, wants, sheets),
+        Wanted::Metrics => show_metrics(rt, cell, pass, server, wants, sheets),
         Wanted::Nothing => write_plain(&mut sheets.answer, Reply::NotFound, wants),
         Wanted::Other => write_plain(&mut sheets.answer, Reply::NotAllowed, wants),
         Wanted::NoHead => write_plain(&mut sheets.answer, Reply::BadRequest, wants),
@@ -94,7 +91,6 @@ pub fn receive<R: Wait, C: Caller, E: Server>(
     rt: &R,
     cell: &RevisionCell,
     pass: &mut Pass,
-    left: &Left,
     caller: &mut C,
     server: &E,
     sheets: &mut Sheets,
@@ -108,7 +104,7 @@ pub fn receive<R: Wait, C: Caller, E: Server>(
         Ok(()) => match read_asked(caller) {
             Err(_) => Visit::Unread,
             Ok(asked) => {
-                answer(rt, cell, pass, left, server, asked, sheets);
+                answer(rt, cell, pass, server, asked, sheets);
                 match put_all(caller, sheets.answer.bytes()) {
                     Ok(()) => Visit::Told(asked),
                     Err(_) => Visit::Cut(asked),

@@ -30,4 +30,8 @@ impl<'a> Server for Shown<'a> {
     fn waiting<R: Wait>(&self, rt: &R) -> u64 {
         self.door.waiting(rt)
     }
+
+    fn at_work(&self) -> u64 {
+        self.door.busy()
+    }
 }

@@ -1,11 +1,11 @@
 //! Clients that leave while they wait for their answers.
 
 use crate::clients::{REQUEST, client, reads};
-use crate::server::{front, read_head};
+use crate::server::{front, meet};
 use crate::{Runs, tell_all};
-use kn_door::{Close, Door, Watch};
+use kn_door::{Close, Watch};
 use kn_front::{Front, FrontCaller};
-use kn_io::{Caller, Faulty};
+use kn_io::Faulty;
 use std::io::Write;
 use std::net::{Shutdown, SocketAddr, TcpStream};
 use std::time::{Clock, Duration};
@@ -33,11 +33,6 @@ struct Found {
     again: bool,
     /// How many faults that makes.
     faults: u64,
-}
-
-/// The client's request is read.
-fn meet<T: Runs, K: Clock>(threads: &T, front: &Front, caller: &mut FrontCaller<K>) -> bool {
-    front.door().next(threads, caller) && caller.meet().is_ok() && read_head(caller).is_ok()
 }
 
 /// Whether a client is found to have left, within so many tenths of a second.

@@ -1,8 +1,9 @@
-//! Fronts over loopback: silent clients, slow ones, many at once, those that leave, and the end; and how faults are told. Below each is printed whether it is as it must be.
+//! Fronts over loopback: silent clients, slow ones, many at once, those that leave, how many there are, and the end; and how faults are told. Below each is printed whether it is as it must be.
 #![tactic(auto)]
 
 mod clients;
 mod closing;
+mod counts;
 mod crowds;
 mod faults;
 mod leaving;
@@ -38,6 +39,7 @@ fn main(rt: HostRuntime) -> io::Result<()> {
     crowds::all(&rt, &rt)?;
     patience::all(&rt, &rt)?;
     leaving::all(&rt, &rt)?;
+    counts::all(&rt, &rt)?;
     faults::all(&rt, &rt)?;
     closing::all(&rt, &rt)
 }

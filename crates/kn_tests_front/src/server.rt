@@ -38,7 +38,7 @@ pub fn front(rt: &HostRuntime, idle: u64, read: u64, waiting: usize) -> io::Resu
 }
 
 /// Reads up to the end of a head.
-pub fn read_head<C: Source>(caller: &mut C) -> Result<(), Failed> {
+fn read_head<C: Source>(caller: &mut C) -> Result<(), Failed> {
     let mut last = [0; 4];
     for _ in 0..10_000 {
         let mut byte = [0; 1];
@@ -51,6 +51,11 @@ pub fn read_head<C: Source>(caller: &mut C) -> Result<(), Failed> {
         }
     }
     Err(Failed)
+}
+
+/// Whether a client comes through the door to the caller, and its request is read.
+pub fn meet<T: Runs, K: Clock>(threads: &T, front: &Front, caller: &mut FrontCaller<K>) -> bool {
+    front.door().next(threads, caller) && caller.meet().is_ok() && read_head(caller).is_ok()
 }
 
 /// Meets the next client, and answers it.

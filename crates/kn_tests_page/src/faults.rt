@@ -27,6 +27,7 @@ fn show_at<R: Wait>(rt: &HostRuntime, waits: &R, number: u64) -> io::Result<()> 
     let saying = Saying {
         stopping: false,
         waiting: 0,
+        at_work: 5,
     };
     match served(waits, rt.alloc(), &clients, &saying, 3) {
         Ok(caller) => {

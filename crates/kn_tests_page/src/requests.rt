@@ -32,6 +32,7 @@ fn try_by<R: Wait>(rt: &HostRuntime, waits: &R, way: &str, request: &[u8]) -> io
     let saying = Saying {
         stopping: way == "stopping",
         waiting: 3,
+        at_work: 5,
     };
     match served(waits, rt.alloc(), &clients, &saying, 1) {
         Ok(caller) if way == "samples" => samples(rt, told(&caller, 0)),

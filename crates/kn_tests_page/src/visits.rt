@@ -18,11 +18,12 @@ const SLOTS: Slots = Slots {
     seed: 0,
 };
 
-/// A server that says one thing.
+/// A server that says the same each time.
 #[derive(Clone, Copy)]
 pub struct Saying {
     pub stopping: bool,
     pub waiting: u64,
+    pub at_work: u64,
 }
 
 impl Server for Saying {
@@ -36,6 +37,10 @@ impl Server for Saying {
 
     fn waiting<R: Wait>(&self, _rt: &R) -> u64 {
         self.waiting
+    }
+
+    fn at_work(&self) -> u64 {
+        self.at_work
     }
 }
 

@@ -222,6 +222,16 @@ calls_none a = record {
       (subst (λ l. IsPermutation l a.called) (sym (append-nil a.called)) (IsPermutation-refl a.called));
 }
 
+-- where nobody waits, nobody is called
+pub calls_nobody : (es : List Entry) (a : WaitersState) → a.waiting ≡ [] → Calls (rouses es) a a
+calls_nobody es a none = record {
+  room = refl;
+  waiting = subst (λ ws. ws ≡ filter (λ (w : Waiter). not (rouses es w.request)) ws) (sym none) refl;
+  called =
+      subst (λ ws. IsPermutation (a.called ++ passes_of (filter (λ (w : Waiter). rouses es w.request) ws)) a.called) (sym none)
+      (subst (λ l. IsPermutation l a.called) (sym (append-nil a.called)) (IsPermutation-refl a.called));
+}
+
 rouses-push : (es : List Entry) (e : Entry) (q : ℕ) (o : Option ℕ) → woken_by e.row ≡ o → rouses (es ++ e ∷ []) q ≡ (rouses es q || contains q (cons_option o []))
 rouses-push es e q o is =
     ap (contains q) (filter_map-append (λ (x : Entry). woken_by x.row) es (e ∷ []))

@@ -127,8 +127,20 @@ impl Waiters {
         }
     }
 
-    /// Calls all whose wait one of these entries ends.
+    /// Calls all whose wait one of these entries ends. Mostly nobody waits, and then the entries aren't walked.
+    #[inline(always)]
     pub fn call_all(&mut self, entries: &[Entry])
+        ensures { Calls (rouses entries.now) self.old self.new }
+    {
+        if self.waiting.is_empty() {
+            return;
+        }
+        self.call_each(entries);
+    }
+
+    /// The same, where somebody may wait.
+    #[inline(never)]
+    fn call_each(&mut self, entries: &[Entry])
         ensures { Calls (rouses entries.now) self.old self.new }
     {
         for entry in entries {

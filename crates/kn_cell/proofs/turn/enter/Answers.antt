@@ -14,7 +14,7 @@ use Rattle.kn_cell.proofs.turn.enter.Goals as goal
 pub record-requires-clause-added : goal.record-requires-clause-added
 record-requires-clause-added c =
     let v = c.args.place.now.me.0 in
-    let told = c.in-Ok.told in
+    let told = c.apply_at.new.answer in
     let t = c.requires.turn in
     let y = c.in-Ok.ensures.ok t.value t.slot in
     let a = subst (λ n. Applies t.value n c.args.act c.args.time told y.0) (sym c.requires.number) y.2 in
@@ -41,7 +41,7 @@ ring_called-left-requires-clause-slot c =
 pub returns-in-Ok-clause-ok : goal.returns-in-Ok-clause-ok
 returns-in-Ok-clause-ok c =
     let m = c.args.place.now.me in
-    let told = c.in-Ok.told in
+    let told = c.apply_at.new.answer in
     let t = c.requires.turn in
     let y = c.in-Ok.ensures.ok t.value t.slot in
     let a = subst (λ n. Applies t.value n c.args.act c.args.time told y.0) (sym c.requires.number) y.2 in

@@ -1,5 +1,5 @@
 use Rattle.std.proofs.Common.{◌≤◌, refl, arith}
-use Rattle.kn_cell.proofs.TurnFacts.{waits_of}
+use Rattle.kn_cell.proofs.TurnFacts.{waits_of, waits_after}
 use Rattle.kn_cell.proofs.turn.take_turn.Goals as goal
 
 pub returns-then-found-eq0-clause-turn : goal.returns-then-found-eq0-clause-turn
@@ -8,14 +8,6 @@ returns-then-found-eq0-clause-turn g c =
     let same : m.0.missed ≤ m.0.missed = omega arith in
     waits_of m.0 m.0 m.1 c.take-found.new.place.me same (λ _. refl) c.requires.free.1 refl (c.take-found.ensures.turn c.if-found-eq0.true)
 
-pub returns-then-found-eq0-2-clause-turn : goal.returns-then-found-eq0-2-clause-turn
-returns-then-found-eq0-2-clause-turn g c =
-    let i = c.loop.invariant in
-    let turn = c.take-found-then-peek-eq0.ensures.turn c.if-found-eq0-2.true in
-    waits_of c.args.place.now.me.0 c.loop.place.me.0 c.loop.place.me.1 c.take-found-then-peek-eq0.new.place.me i.later i.alone c.requires.free.1 i.view turn
-
-pub returns-then-take-eq0-clause-turn : goal.returns-then-take-eq0-clause-turn
-returns-then-take-eq0-clause-turn g c =
-    let i = c.loop-2.invariant in
-    let turn = c.take.ensures.turn c.if-take-eq0.true in
-    waits_of c.args.place.now.me.0 c.loop-2.place.me.0 c.loop-2.place.me.1 c.take.new.place.me i.later i.alone c.requires.free.1 i.view turn
+pub returns-clause-turn : goal.returns-clause-turn
+returns-clause-turn g c =
+    waits_after c.args.place.now.me c.take-found.new.place.me c.await_turn.new.place.me (c.take-found.ensures.held c.if-found-eq0.false) c.await_turn.ensures.turn

@@ -16,8 +16,8 @@ returns-in-Ok-clause-looks g c =
     let w = c.ring_left.new.place.me in
     let what = act.Arrive c.args.tag in
     let is : w ≡ (without_turn e.0, []) = c.ring_left.ensures.same.2 ∙ c.give.ensures.free ∙ ap (λ (x : Me DeskState View). (without_turn x.0, [])) c.arrival_at-course.ensures.same.2 in
-    let row = given_back m.0 what c.args.time c.in-Ok.told e w c.in-Ok.ensures.ok is in
-    let looks = looks_recorded place.table_id place.me.0 what c.args.time c.in-Ok.told m w c.take_turn.ensures.turn row in
+    let row = given_back m.0 what c.args.time c.enter.new.answer e w c.in-Ok.ensures.ok is in
+    let looks = looks_recorded place.table_id place.me.0 what c.args.time c.enter.new.answer m w c.take_turn.ensures.turn row in
     rw (← c.pass.view_is, c.ring_left.ensures.same.0, c.give.ensures.same.0, c.arrival_at-course.ensures.same.0, c.enter.ensures.same.0, c.take_turn.ensures.same.0) looks
 
 pub returns-in-Err-clause-looks : goal.returns-in-Err-clause-looks

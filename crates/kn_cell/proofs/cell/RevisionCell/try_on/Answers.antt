@@ -23,8 +23,8 @@ returns c =
       | in-Ok b ↦
           let row = b.in-Ok.ensures.ok in
           rw (← c.pass.view_is, c.attempt.ensures.same.0, c.take.ensures.same.0, b.result-is) (
-            looks_recorded t v c.args.act c.args.time b.in-Ok.told m w got row,
-            adds_recorded t v c.args.act c.args.time b.in-Ok.told m w got row,
+            looks_recorded t v c.args.act c.args.time c.attempt.new.answer m w got row,
+            adds_recorded t v c.args.act c.args.time c.attempt.new.answer m w got row,
             ap (λ (x : Me DeskState View). x.0.missed) row.after_is ∙ kept,
           )
       | in-Err b ↦

@@ -1,4 +1,4 @@
-use Rattle.std.proofs.Common.{◌≡◌, ◌≤◌, ◌+◌, ◌++◌, ◌^◌, ap, arith, rules, subst, ◌∙◌}
+use Rattle.std.proofs.Common.{◌≡◌, ◌++◌, ◌^◌, ap, arith, rules, subst, ◌∙◌}
 use Rattle.std.specs.Prelude.{max, min}
 use Rattle.kn_event.specs.declared.event.Event.{Event}
 use Rattle.kn_trace.specs.Events.{react}
@@ -14,8 +14,7 @@ use Rattle.kn_cell.proofs.desk.Desk.apply.Goals as goal
 
 pub push_reserved-requires : goal.push_reserved-requires
 push_reserved-requires c =
-    let h : live_in c.step-told.new.self + 1 ≤ live_in c.self.inside.revision + c.need-need.result
-    = room_left c.self.inside.revision c.args.act (live_in c.step-told.new.self) c.need-need.result c.live-live.ensures.some c.need-need.ensures.value c.step-told.ensures.grows in
+    let h = room_left c.self.inside.revision c.args.act (live_in c.step-told.new.self) _ c.live-live.ensures.some (c.lacks.ensures.no c.if-lacks.false) c.step-told.ensures.grows in
     omega arith
 
 -- the event that was taken, and its entries
@@ -32,8 +31,7 @@ apply-requires c = record {
 
 pub invariant_of-self : goal.invariant_of-self
 invariant_of-self c =
-    let h : live_in c.step-told.new.self + 1 ≤ live_in c.self.inside.revision + c.need-need.result
-    = room_left c.self.inside.revision c.args.act (live_in c.step-told.new.self) c.need-need.result c.live-live.ensures.some c.need-need.ensures.value c.step-told.ensures.grows in
+    let h = room_left c.self.inside.revision c.args.act (live_in c.step-told.new.self) _ c.live-live.ensures.some (c.lacks.ensures.no c.if-lacks.false) c.step-told.ensures.grows in
     let len = c.push_reserved.ensures.len in (
       omega (arith, len),
       omega arith,
@@ -44,8 +42,7 @@ invariant_of-self c =
 
 pub returns-clause-ok : goal.returns-clause-ok
 returns-clause-ok c =
-    let h : live_in c.step-told.new.self + 1 ≤ live_in c.self.inside.revision + c.need-need.result
-    = room_left c.self.inside.revision c.args.act (live_in c.step-told.new.self) c.need-need.result c.live-live.ensures.some c.need-need.ensures.value c.step-told.ensures.grows in
+    let h = room_left c.self.inside.revision c.args.act (live_in c.step-told.new.self) _ c.live-live.ensures.some (c.lacks.ensures.no c.if-lacks.false) c.step-told.ensures.grows in
     let len = c.push_reserved.ensures.len in
     let clock = c.self.inside.revision.clock in
     let now : Event = record { time = c.min-time.result; act = c.args.act } in
@@ -65,7 +62,7 @@ returns-clause-ok c =
       events = search rules;
       answer = search rules;
       stands = search rules;
-      need = rw (← c.self.view_is) (λ t s. let n = c.need-need.ensures.value t s in let l = c.live-live.ensures.live t s in omega arith);
+      need = rw (← c.self.view_is) (λ t s. let n = c.lacks.ensures.no c.if-lacks.false t s in let l = c.live-live.ensures.live t s in omega arith);
       addresses = rw (← c.self.view_is) c.apply.ensures.addresses;
       book = rw (← c.self.view_is) (λ t s h.
           subst (λ e. IsBookOf c.apply.new.self (t ++ react c.self.inside.revision.spec t e)) is
