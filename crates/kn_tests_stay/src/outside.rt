@@ -55,9 +55,14 @@ impl Outside {
         0 < entered && entered < self.scene.clients
     }
 
-    /// Whether the server closed the door, or must have since it was told to stop twice.
+    /// Whether the server was told to stop twice, and so must have closed the door.
+    fn is_late(&self) -> bool {
+        self.told.load(Ordering::SeqCst) > 1
+    }
+
+    /// Whether the server closed the door, or must have.
     fn is_over(&self) -> bool {
-        self.closed.load(Ordering::SeqCst) || self.told.load(Ordering::SeqCst) > 1
+        self.closed.load(Ordering::SeqCst) || self.is_late()
     }
 
     /// Whether pods answer probes.
@@ -80,10 +85,10 @@ impl Outside {
         }
     }
 
-    /// Whether this client may come in. Nobody comes behind the last one, if the door is closed in time.
-    fn lets_in(&self, number: u64) -> bool {
+    /// Whether this client may come in. Nobody comes behind the last one, unless it is too late for the door to be open still.
+    fn lets_in(&self, number: u64, late: bool) -> bool {
         if number >= self.scene.clients {
-            return self.is_over();
+            return late;
         }
         let due = number.saturating_mul(self.scene.apart);
         number < self.allowed.load(Ordering::SeqCst) && due <= self.time.load(Ordering::SeqCst)
@@ -153,12 +158,14 @@ impl Door<Guest<Crowd>> for Outside {
     fn next<R: Wait>(&self, rt: &R, _caller: &mut Guest<Crowd>) -> bool {
         let number = self.asked.fetch_add(1, Ordering::SeqCst);
         for _ in rt.forever() {
+            // Before the door is looked at: a server closes it before it asks again whether it is to stop.
+            let late = self.is_late();
             if self.closed.load(Ordering::SeqCst)
                 || number >= self.scene.clients.saturating_add(MORE)
             {
                 return false;
             }
-            if self.lets_in(number) {
+            if self.lets_in(number, late) {
                 self.entered.fetch_add(1, Ordering::SeqCst);
                 return true;
             }
