@@ -67,6 +67,10 @@ impl<C: Caller> Watch<Guest<C>> for MemDoor {
 }
 
 impl<C: Caller> Door<Guest<C>> for MemDoor {
+    ghost lets_in = { λ _. ⊤ };
+
+    ghost shut = { λ _. ⊤ };
+
     fn next<R: Wait>(&self, _rt: &R, _caller: &mut Guest<C>) -> bool {
         !self.closed.load(Ordering::SeqCst) && self.taken.fetch_add(1, Ordering::SeqCst) < self.most
     }

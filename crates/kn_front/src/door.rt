@@ -159,6 +159,10 @@ impl<K: Clock> Watch<FrontCaller<K>> for TcpDoor {
 }
 
 impl<K: Clock> Door<FrontCaller<K>> for TcpDoor {
+    ghost lets_in = { λ _. ⊤ };
+
+    ghost shut = { λ _. ⊤ };
+
     fn next<R: Wait>(&self, rt: &R, caller: &mut FrontCaller<K>) -> bool {
         // The client before sees the end of its answer, also while nobody else comes.
         caller.part();

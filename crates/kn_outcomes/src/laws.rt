@@ -13,7 +13,7 @@ use kn_sizes::server::request_laws;
 /// number of rounds, both by this clock.
 pub fn outcome_laws<C: Caller, L, K: Clock, P: Pace<C>>(_clock: &K, _pace: &P)
     ensures lasting { EachHasItsOutcome C L (watched (K.reading _clock.now) P.Watch.leaves)
-        (IsPaced (P.most _pace.now) (P.ends _pace.now)) }
+        (IsPaced (P.begins _pace.now) (P.ends _pace.now)) }
     ensures rounds { EachHasItsOutcomeInRounds C L (K.reading _clock.now) }
 {
     fact_laws();

@@ -1,6 +1,7 @@
 -- A session over a cell: its passes from the opening on, and what it comes to.
-use Rattle.std.proofs.Common.{◌≡◌, ◌<◌, ◌+◌, ◌-◌, ◌*◌, ◌≤◌, Bool, ℕ, List, [], ◌++◌, true, refl, sym, ap, ◌∙◌, subst, length, arith}
+use Rattle.std.proofs.Common.{◌≡◌, inl, inr, ◌<◌, ◌+◌, ◌-◌, ◌*◌, ◌≤◌, Bool, ℕ, List, [], ◌++◌, true, refl, sym, ap, ◌∙◌, subst, length, arith}
 use Rattle.std.specs.Prelude.{Option, Some, slice_index_or, ⊤}
+use Rattle.std.proofs.lemmas.Bool.{cases_lt}
 use Rattle.atomic_table.specs.Seated.{TableId}
 use Rattle.kn_event.specs.declared.revision.Spec.{Spec}
 use Rattle.kn_core.specs.State.{RevisionState}
@@ -301,9 +302,13 @@ first_as cell k n m p is e = subst (λ i. p ≡ first_of cell (kind_of p) i) e (
 
 -- a slot that goes so many rounds, over a cell whose history is kept whole
 pub slot_as : (reading : ℕ → Type 0) (spec : Spec) (b : RevisionState) (room rounds : ℕ) (h : List Past) (i : ℕ) (from to : Sides) (fault memory : Bool)
-    → SlotLasted (plain_kind b room) (watched reading ⊥) (IsPaced rounds (λ n. rounds ≤ n)) spec (i * rounds) h i from to fault memory → SlotServed reading spec b room rounds h i from to fault memory
+    → SlotLasted (plain_kind b room) (watched reading ⊥) (IsPaced (λ n. n < rounds) (λ n. rounds ≤ n)) spec (i * rounds) h i from to fault memory → SlotServed reading spec b room rounds h i from to fault memory
 slot_as reading spec b room rounds h i from to fault memory x =
-    let n : x.count ≡ rounds = (let a = x.paced.0 in let b = x.paced.1 in omega arith) in
+    let most : x.count ≤ rounds = elim (cases_lt rounds x.count) [
+      | inl low ↦ (let over = x.paced.0 rounds low in omega (arith, over))
+      | inr least ↦ least
+    ] in
+    let n : x.count ≡ rounds = (let b = x.paced.1 in omega (arith, most, b)) in
     record {
       first = x.first;
       last = x.last;

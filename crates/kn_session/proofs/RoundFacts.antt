@@ -1,11 +1,19 @@
 -- One round more, and what all rounds keep.
-use Rattle.std.proofs.Common.{◌≡◌, ◌⊎◌, inl, inr, ℕ, ◌+◌, List, [], ◌∷◌, ◌++◌, Bool, true, false, refl, sym, ap, ◌∙◌, subst, length, arith, length-append}
+use Rattle.std.proofs.Common.{◌≡◌, ◌⊎◌, inl, inr, ℕ, ◌+◌, ◌<◌, List, [], ◌∷◌, ◌++◌, Bool, true, false, refl, sym, ap, ◌∙◌, subst, length, arith, length-append}
 use Rattle.std.specs.Prelude.{◌||◌}
+use Rattle.std.proofs.lemmas.Bool.{cases_lt}
 use Rattle.kn_event.specs.declared.revision.Spec.{Spec}
 use Rattle.kn_cell.specs.Shown.{PassView, Looks}
 use Rattle.kn_request.specs.declared.slot.Served.{Served}
 use Rattle.kn_request.specs.Terms.{Terms}
 use Rattle.kn_session.specs.Rounds.{IsRounds, OneRound, AllRounds, Sides, is_fault, is_memory, any_fault, any_memory}
+
+-- what holds of each number below n, and of n
+pub all_below_one_more : (Holds : ℕ → Type 0) (n : ℕ) → ((j : ℕ) → j < n → Holds j) → Holds n → (j : ℕ) → j < n + 1 → Holds j
+all_below_one_more Holds n below here j less = elim (cases_lt j n) [
+  | inl lower ↦ below j lower
+  | inr least ↦ (let same : n ≡ j = omega (arith, less, least) in subst Holds same here)
+]
 
 pub cell_later : (p q : PassView) → (q ≡ p) ⊎ Looks p q → q.cell ≡ p.cell
 cell_later p q so = elim so [ inl e ↦ ap (λ (v : PassView). v.cell) e | inr l ↦ ap (λ (v : PassView). v.cell) l.same ]

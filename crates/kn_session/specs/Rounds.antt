@@ -1,5 +1,5 @@
 -- The rounds of one slot.
-use Rattle.std.specs.Prelude.{ℕ, ◌≡◌, ◌⊎◌, ◌≤◌, ◌+◌, ◌*◌, List, [], ◌∷◌, ◌++◌, length, Option, Some, ⊤, Bool, true, false, ◌||◌}
+use Rattle.std.specs.Prelude.{ℕ, ◌≡◌, ◌⊎◌, ◌<◌, ◌+◌, ◌*◌, List, [], ◌∷◌, ◌++◌, length, Option, Some, ⊤, Bool, true, false, ◌||◌}
 use Rattle.kn_event.specs.declared.revision.Spec.{Spec}
 use Rattle.kn_cell.specs.declared.past.Full.{Full}
 use Rattle.kn_cell.specs.Shown.{PassView, Looks}
@@ -77,24 +77,24 @@ pub record AllRounds (Then : PassView → Type 0) (terms : ℕ → ℕ → Terms
   pub faulty : fault ≡ any_fault endings
   pub wanting : memory ≡ any_memory endings
 
--- a pace that allows so many requests at most ended after this many
-abbrev pub IsPaced : ℕ → (ℕ → Type 0) → ℕ → Type 0
-IsPaced most Ends n = (n ≤ most) × Ends n
+-- a pace went on behind each lower number of requests, and ended behind this one
+abbrev pub IsPaced : (ℕ → Type 0) → (ℕ → Type 0) → ℕ → Type 0
+IsPaced Begins Ends n = ((j : ℕ) → j < n → Begins j) × Ends n
 
 -- as many rounds of a slot as its pace says, from this tag on, with this pass. What is told of a slot is given by `at`, the
 -- clock's readings by `reading`, and by the rest what the pace says
-abbrev pub HasMade : {C L K G P : Type 0} → (Slot C L → Sides) → (K → ℕ → Type 0) → Type 0 → (P → ℕ) → (P → ℕ → Type 0) → Common K G P → ℕ → Change PassView → Change (Slot C L) → Bool → Bool → Type 0
-HasMade at reading leaves most ends common tag pass slot fault memory =
-    (n : ℕ) × IsPaced (most common.pace.now) (ends common.pace.now) n
+abbrev pub HasMade : {C L K G P : Type 0} → (Slot C L → Sides) → (K → ℕ → Type 0) → Type 0 → (P → ℕ → Type 0) → (P → ℕ → Type 0) → Common K G P → ℕ → Change PassView → Change (Slot C L) → Bool → Bool → Type 0
+HasMade at reading leaves begins ends common tag pass slot fault memory =
+    (n : ℕ) × IsPaced (begins common.pace.now) (ends common.pace.now) n
     × AllRounds (λ _. ⊤) (watched (reading common.clock.now) leaves) common.spec.now tag n (was pass) (became pass) (at (was slot)) (at (became slot)) fault memory
 
 -- .. of slot i, with the pass in its work, which notes whether one ended in a fault, or in want of memory
-abbrev pub HasServed : {C L K G P : Type 0} → (Slot C L → Sides) → (K → ℕ → Type 0) → Type 0 → (P → ℕ) → (P → ℕ → Type 0) → Common K G P → ℕ → Slot C L → Slot C L → Type 0
-HasServed at reading leaves most ends common i s t =
+abbrev pub HasServed : {C L K G P : Type 0} → (Slot C L → Sides) → (K → ℕ → Type 0) → Type 0 → (P → ℕ → Type 0) → (P → ℕ → Type 0) → Common K G P → ℕ → Slot C L → Slot C L → Type 0
+HasServed at reading leaves begins ends common i s t =
     (p : PassView) → s.work.pass ≡ Some p → (q : PassView) × (t.work.pass ≡ Some q) × (q.cell ≡ p.cell)
-    × ((n : ℕ) × IsPaced (most common.pace.now) (ends common.pace.now) n
+    × ((n : ℕ) × IsPaced (begins common.pace.now) (ends common.pace.now) n
     × AllRounds (λ _. ⊤) (watched (reading common.clock.now) leaves) common.spec.now (i * common.apart) n p q (at s) (at t) t.work.fault t.work.memory)
 
 -- .. of each slot
-abbrev pub HaveServed : {C L K G P : Type 0} → (Slot C L → Sides) → (K → ℕ → Type 0) → Type 0 → (P → ℕ) → (P → ℕ → Type 0) → Common K G P → Change (List (Slot C L)) → Type 0
-HaveServed at reading leaves most ends common slots = EachDone (HasServed at reading leaves most ends common) (was slots) (became slots)
+abbrev pub HaveServed : {C L K G P : Type 0} → (Slot C L → Sides) → (K → ℕ → Type 0) → Type 0 → (P → ℕ → Type 0) → (P → ℕ → Type 0) → Common K G P → Change (List (Slot C L)) → Type 0
+HaveServed at reading leaves begins ends common slots = EachDone (HasServed at reading leaves begins ends common) (was slots) (became slots)

@@ -120,7 +120,7 @@ pub fn serve_beside<
     requires ticks { ticks.old.cell ≡ shared.now.cell.now }
     requires first { (first.old.cell ≡ shared.now.cell.now) × S.may scribe.old first.old }
     requires pages { (pages.old.cell ≡ shared.now.cell.now) × W.may page.old pages.old }
-    ensures slots { HaveServed ⟦<Slot<C, L> as Sided>⟧.at K.reading P.Watch.leaves P.most P.ends
+    ensures slots { HaveServed ⟦<Slot<C, L> as Sided>⟧.at K.reading P.Watch.leaves P.begins P.ends
         shared.now.common.now slots }
     ensures ticker { HasTicked L.told L.Faulty.faults K.reading shared.now.common.now ticks keeper }
     ensures scribe { HasAttended S.attends scribe first }

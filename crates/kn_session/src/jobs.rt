@@ -30,7 +30,7 @@ impl<'a, C: Caller, L: PodLink, K: Clock, G: Gate, P: Pace<C>> Job<Shared<'a, K,
     for Slot<C, L> {
     ghost ready = { λ x s. HasPass x.cell.now s.work.pass × (x.common.now.apart ≤ 10 ^ 12) };
 
-    ghost done = { λ x i s t. HasServed ⟦<Slot<C, L> as Sided>⟧.at K.reading P.Watch.leaves P.most P.ends
+    ghost done = { λ x i s t. HasServed ⟦<Slot<C, L> as Sided>⟧.at K.reading P.Watch.leaves P.begins P.ends
         x.common.now i s t };
 
     fn work<R: Wait>(&mut self, rt: &R, shared: &Shared<'a, K, G, P>, i: u64) {

@@ -76,7 +76,7 @@ pub fn serve_lasting<
     ensures lasts { IfOk result (λ r. Lasted
         (lasting_kind revision setting.now.room setting.now.addresses) (length slots.old) r.0 r.1
         (AreLasted ⟦<Slot<C, L> as Sided>⟧.at (watched (K.reading setting.now.clock.now) P.Watch.leaves)
-        (IsPaced (P.most pace.now) (P.ends pace.now)) setting.now.spec.now (10 ^ 12) slots)
+        (IsPaced (P.begins pace.now) (P.ends pace.now)) setting.now.spec.now (10 ^ 12) slots)
         (KeeperLasted L.told L.Faulty.faults (K.reading setting.now.clock.now) setting.now.start keeper)
         (EachIs (λ t. IsUnmarked t.work) slots.new) (S.attends scribe.old scribe.new) (W.attends page.old page.new)) }
     ensures empty { IfOk result (λ r. EachIs (λ t. t.work.pass ≡ None) slots.new) }

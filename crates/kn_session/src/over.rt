@@ -73,7 +73,7 @@ pub fn serve_over<
     requires page { (p : PassView) → IsNewOf (kind_of first) (2 + length slots.old) p → W.may page.old p }
     ensures lasts { Lasted (kind_of first) (length slots.old) result.0 result.1
         (AreLasted ⟦<Slot<C, L> as Sided>⟧.at (watched (K.reading common.now.clock.now) P.Watch.leaves)
-        (IsPaced (P.most common.now.pace.now) (P.ends common.now.pace.now)) common.now.spec.now common.now.apart slots)
+        (IsPaced (P.begins common.now.pace.now) (P.ends common.now.pace.now)) common.now.spec.now common.now.apart slots)
         (KeeperLasted L.told L.Faulty.faults (K.reading common.now.clock.now) common.now.start keeper)
         (EachIs (λ t. IsUnmarked t.work) slots.new) (S.attends scribe.old scribe.new) (W.attends page.old page.new) }
     ensures empty { EachIs (λ t. t.work.pass ≡ None) slots.new }

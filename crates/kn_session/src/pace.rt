@@ -1,5 +1,5 @@
 //! How long a slot goes on.
-ghost use Rattle.std.specs.Prelude.{◌≡◌, ◌≤◌, ◌<◌, ◌^◌, ℕ, true, false, ⊤};
+ghost use Rattle.std.specs.Prelude.{◌≡◌, ◌≤◌, ◌<◌, ◌^◌, ◌⊎◌, ℕ, true, false};
 
 use crate::notes::Notes;
 use kn_door::{Door, Watch};
@@ -9,10 +9,10 @@ use std::sync::Wait;
 
 /// How long a slot goes on, and who looks after its clients meanwhile.
 pub trait Pace<C: Caller>: Watch<C> {
-    /// A slot serves so many requests at most.
-    ghost most: { Self → ℕ };
+    /// What holds where a slot goes on behind so many requests.
+    ghost begins: { Self → ℕ → Type 0 };
 
-    /// A slot may end after so many requests.
+    /// What holds where a slot ends behind so many requests.
     ghost ends: { Self → ℕ → Type 0 };
 
     /// Whether one more request is to be served, behind so many: it may wait until somebody is there. Nothing that the
@@ -23,7 +23,7 @@ pub trait Pace<C: Caller>: Watch<C> {
         ensures left { C.Source.left caller.new ≡ C.Source.left caller.old }
         ensures given { C.Source.given caller.new ≡ C.Source.given caller.old }
         ensures faults { C.Faulty.faults caller.new ≡ C.Faulty.faults caller.old }
-        ensures most { result ≡ true → served < most self.now }
+        ensures begins { result ≡ true → begins self.now served }
         ensures few { result ≡ true → served < 10 ^ 12 }
         ensures ends { result ≡ false → ends self.now served };
 
@@ -50,7 +50,7 @@ impl<C: Caller> Watch<C> for Rounds {
 }
 
 impl<C: Caller> Pace<C> for Rounds {
-    ghost most = { λ r. r.count };
+    ghost begins = { λ r n. n < r.count };
 
     ghost ends = { λ r n. r.count ≤ n };
 
@@ -88,9 +88,9 @@ impl<'a, C: Caller, D: Door<C>, N: Notes> Watch<C> for ByDoor<'a, D, N> {
 }
 
 impl<'a, C: Caller, D: Door<C>, N: Notes> Pace<C> for ByDoor<'a, D, N> {
-    ghost most = { λ _. 10 ^ 12 };
+    ghost begins = { λ p n. (n < 10 ^ 12) × D.lets_in p.door.now };
 
-    ghost ends = { λ _ _. ⊤ };
+    ghost ends = { λ p n. (10 ^ 12 ≤ n) ⊎ D.shut p.door.now };
 
     fn goes_on<R: Wait>(&self, rt: &R, caller: &mut C, served: u64) -> bool {
         served < 1_000_000_000_000 && self.door.next(rt, caller)

@@ -48,7 +48,7 @@ fn serve_passes<R: Wait, C: Caller, L: PodLink, K: Clock, G: Gate, P: Pace<C>>(
 ) -> (bool, bool)
     requires cell { pass.old.cell ≡ cell.now }
     requires few { first + 10 ^ 12 < 2 ^ 64 }
-    ensures rounds { HasMade ⟦<Slot<C, L> as Sided>⟧.at K.reading P.Watch.leaves P.most P.ends
+    ensures rounds { HasMade ⟦<Slot<C, L> as Sided>⟧.at K.reading P.Watch.leaves P.begins P.ends
         common.now first pass slot result.0 result.1 }
     ensures cell { pass.new.cell ≡ pass.old.cell }
     ensures work { slot.new.work ≡ slot.old.work }
@@ -90,7 +90,7 @@ pub fn serve_rounds<R: Wait, C: Caller, L: PodLink, K: Clock, G: Gate, P: Pace<C
     requires pass { HasPass cell.now slot.old.work.pass }
     requires few { i < 1024 }
     requires apart { common.now.apart ≤ 10 ^ 12 }
-    ensures { HasServed ⟦<Slot<C, L> as Sided>⟧.at K.reading P.Watch.leaves P.most P.ends common.now i
+    ensures { HasServed ⟦<Slot<C, L> as Sided>⟧.at K.reading P.Watch.leaves P.begins P.ends common.now i
         slot.old slot.new }
 {
     match slot.work.pass.take() {

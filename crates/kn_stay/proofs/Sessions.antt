@@ -71,9 +71,9 @@ front_is k p q a b f g done front rest x first taken seen =
 -- what was served over a revision that was opened for it is a session, however it ended
 pub stays_of : {C L K G O P W : Type 0} {w : SeenStaying C L K O P W} (pace : P) (setup : Setup) (l : Lasting K G) (b now : RevisionState) (rest : List Past) (Scribe : PassView → PassView → Type 0)
     {h : Handed C L W} {held held' : Option (List ℕ)} {result : Status}
-    → RunLaws (w.reading l.clock.now) → EachHasItsOutcome C L (watched (w.reading l.clock.now) w.leaves) (IsPaced (w.most pace) (w.ends pace)) → IsOpenedFor (w.reading l.clock.now) setup l b
+    → RunLaws (w.reading l.clock.now) → EachHasItsOutcome C L (watched (w.reading l.clock.now) w.leaves) (IsPaced (w.begins pace) (w.ends pace)) → IsOpenedFor (w.reading l.clock.now) setup l b
     → (x : Lasted (lasting_kind b l.room l.addresses) (length h.slots) now rest
-    (λ k z. EachDone (λ i s t. SlotLasted k (watched (w.reading l.clock.now) w.leaves) (IsPaced (w.most pace) (w.ends pace)) l.spec.now (i * 10 ^ 12) z i (w.at s) (w.at t) t.work.fault t.work.memory) h.slots h.slots')
+    (λ k z. EachDone (λ i s t. SlotLasted k (watched (w.reading l.clock.now) w.leaves) (IsPaced (w.begins pace) (w.ends pace)) l.spec.now (i * 10 ^ 12) z i (w.at s) (w.at t) t.work.fault t.work.memory) h.slots h.slots')
     (λ k z. IsTickedIn (w.reading l.clock.now) l.start k z (w.told h.keeper) (w.told h.keeper') (w.faults h.keeper) (w.faults h.keeper'))
     (EachIs (λ (t : Slot C L). IsUnmarked t.work) h.slots') Scribe (w.attends h.page h.page'))
     → (IsSession (w.reading l.clock.now) (length h.slots) (session_of setup l.start b (x.front ++ rest) h.slots') → EndsBy held held' (session_of setup l.start b (x.front ++ rest) h.slots') result)
@@ -89,7 +89,7 @@ stays_of {w = w} pace setup l b now rest Scribe {h = h} laws outcomes opened x e
       slots = record {
         faults = refl;
         wants = refl;
-        each = subst (λ (z : Spec). EachDone (λ i s t. SlotLasted (lasting_kind b l.room l.addresses) (watched (w.reading l.clock.now) w.leaves) (IsPaced (w.most pace) (w.ends pace)) z (i * 10 ^ 12) all i (w.at s) (w.at t) t.work.fault t.work.memory) h.slots h.slots') opened.same x.served;
+        each = subst (λ (z : Spec). EachDone (λ i s t. SlotLasted (lasting_kind b l.room l.addresses) (watched (w.reading l.clock.now) w.leaves) (IsPaced (w.begins pace) (w.ends pace)) z (i * 10 ^ 12) all i (w.at s) (w.at t) t.work.fault t.work.memory) h.slots h.slots') opened.same x.served;
       };
       keeper = x.keeper;
       page = x.page;

@@ -33,15 +33,15 @@ status_of_stayed (stayed.Ended s) = s
 status_of_stayed (stayed.TooManyPods pods) = status.Usage
 
 -- what is seen of the outside: what is told of a slot and of a keeper, which counts these faults, the clock's readings, what the output
--- holds; of a pace, how many rounds it has at most, after how many it may end, and whether it may say that a client has left; and what the
--- page's attendant does
+-- holds; of a pace, what holds where it goes on behind so many rounds, and where it ends, and whether it may say that a client has left; and
+-- what the page's attendant does
 pub record SeenStaying (C L K O P W : Type 0) : Type 1 where
   pub at : Slot C L → Sides
   pub told : L → Option Link
   pub faults : L → ℕ
   pub reading : K → ℕ → Type 0
   pub held : O → Option (List ℕ)
-  pub most : P → ℕ
+  pub begins : P → ℕ → Type 0
   pub ends : P → ℕ → Type 0
   pub leaves : Type 0
   pub attends : W → W → PassView → PassView → Type 0
@@ -114,7 +114,7 @@ EndsBy held held' x result = ((result ≡ status.Ok) × PrintsAll held held' x) 
 pub record SlotsStayed {C L K O P W : Type 0} (w : SeenStaying C L K O P W) (clock : K) (pace : P) (ss ts : List (Slot C L)) (k : Kind) (x : Session) : Type 0 where
   pub faults : x.faults ≡ map (λ t. t.work.fault) ts
   pub wants : x.wants ≡ map (λ t. t.work.memory) ts
-  pub each : EachDone (λ i s t. SlotLasted k (watched (w.reading clock) w.leaves) (IsPaced (w.most pace) (w.ends pace)) x.setup.spec (i * 10 ^ 12) x.history i
+  pub each : EachDone (λ i s t. SlotLasted k (watched (w.reading clock) w.leaves) (IsPaced (w.begins pace) (w.ends pace)) x.setup.spec (i * 10 ^ 12) x.history i
       (w.at s) (w.at t) t.work.fault t.work.memory) ss ts
 
 -- A session over a setup of which this is said, with room for so many rows and live requests together, and with so many addresses. What

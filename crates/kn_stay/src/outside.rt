@@ -24,7 +24,7 @@ impl<C: Caller, L: PodLink, K: Clock, O: Sink, P: Pace<C>, W: Attendant> StayOut
       faults = L.Faulty.faults;
       reading = K.reading;
       held = O.held;
-      most = P.most;
+      begins = P.begins;
       ends = P.ends;
       leaves = P.Watch.leaves;
       attends = W.attends;

@@ -155,6 +155,10 @@ impl Watch<Guest<Crowd>> for Outside {
 }
 
 impl Door<Guest<Crowd>> for Outside {
+    ghost lets_in = { λ _. ⊤ };
+
+    ghost shut = { λ _. ⊤ };
+
     fn next<R: Wait>(&self, rt: &R, _caller: &mut Guest<Crowd>) -> bool {
         let number = self.asked.fetch_add(1, Ordering::SeqCst);
         for _ in rt.forever() {

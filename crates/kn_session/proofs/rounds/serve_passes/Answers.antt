@@ -3,7 +3,7 @@ use Rattle.std.specs.Prelude.{◌||◌, ⊤}
 use Rattle.kn_request.specs.declared.slot.Slot.{Slot}
 use Rattle.kn_request.specs.Terms.{watched}
 use Rattle.kn_session.specs.Rounds.{AllRounds, OneRound, Sides, is_fault, is_memory, sides}
-use Rattle.kn_session.proofs.RoundFacts.{cell_later, one_more}
+use Rattle.kn_session.proofs.RoundFacts.{all_below_one_more, cell_later, one_more}
 use Rattle.kn_session.proofs.rounds.serve_passes.Goals as goal
 
 pub loop-pass-preserved : goal.loop-pass-preserved
@@ -23,13 +23,13 @@ loop-pass-preserved g c =
     let m : c.either-memory.result ≡ (is_memory x.result || l.memory) = c.either-memory.ensures ∙ ap (λ b. b || l.memory) c.is_memory.ensures in
     let one = one_more (λ _. ⊤) terms common.spec.now c.args.first l.round x.result p l.pass x.new.pass (at c.args.slot.now) (at l.slot) (at x.new.slot) l.fault l.memory
     i.rounds (subst (λ a. OneRound (λ _. ⊤) terms common.spec.now (c.args.first + l.round) l.pass x.new.pass a (at x.new.slot) x.result) same round) in
-    let most = went.ensures.most c.loop-pass-test.true in
+    let begins = went.ensures.begins c.loop-pass-test.true in
     let few = went.ensures.few c.loop-pass-test.true in
     record {
       rounds = rw (f, m) one;
       cell = cell_later l.pass x.new.pass x.ensures.looks ∙ i.cell;
       work = x.ensures.work ∙ i.work;
-      most = omega arith;
+      begun = all_below_one_more (g.P.Pace.begins common.pace.now) l.round i.begun begins;
       few = omega arith;
     }
 
@@ -50,4 +50,4 @@ returns-clause-rounds g c =
     let b' = c.part.ensures.held in
     let e' = c.part.ensures.faults in
     cc) in
-    (l.round, (i.most, went.ensures.ends c.loop-pass-test.false), subst (λ s. AllRounds (λ _. ⊤) terms common.spec.now c.args.first l.round c.args.pass.now l.pass (at c.args.slot.now) s l.fault l.memory) same i.rounds)
+    (l.round, (i.begun, went.ensures.ends c.loop-pass-test.false), subst (λ s. AllRounds (λ _. ⊤) terms common.spec.now c.args.first l.round c.args.pass.now l.pass (at c.args.slot.now) s l.fault l.memory) same i.rounds)

@@ -1,4 +1,4 @@
-use Rattle.std.proofs.Common.{◌≡◌, ◌≤◌, ◌-◌, ◌^◌}
+use Rattle.std.proofs.Common.{ℕ, ◌≡◌, ◌≤◌, ◌<◌, ◌-◌, ◌^◌}
 use Rattle.std.specs.Prelude.{⊤}
 use Rattle.kn_request.specs.Terms.{watched}
 use Rattle.kn_session.specs.Rounds.{AllRounds, sides}
@@ -11,7 +11,7 @@ invariant-loop-pass g l = record {
       (sides (g.C.Sink.kept l.slot.caller) (g.C.Sink.held l.slot.caller) (g.C.Faulty.faults l.slot.caller) (g.L.PodLink.told l.slot.link) (g.L.Faulty.faults l.slot.link)) l.fault l.memory;
   cell : l.pass.cell ≡ l.fn.pass.cell;
   work : l.slot.work ≡ l.fn.slot.work;
-  most : l.round ≤ g.P.Pace.most l.common.pace.now;
+  begun : (j : ℕ) → j < l.round → g.P.Pace.begins l.common.pace.now j;
   few : l.round ≤ 10 ^ 12;
 }
 

@@ -12,6 +12,6 @@ returns-in-Some g c p is =
     let at : Slot g.row.C.Denot g.row.L.Denot → Sides = λ s. sides (g.C.Sink.kept s.caller) (g.C.Sink.held s.caller) (g.C.Faulty.faults s.caller) (g.L.PodLink.told s.link) (g.L.Faulty.faults s.link) in
     let common = c.args.common.now in
     let same : c.in-Some.pass ≡ p = (let a = c.in-Some.ensures.value in let b = c.in-Some.is in let e = is in cc) in
-    let Made : PassView → Type 0 = λ v. (n : ℕ) × IsPaced (g.P.Pace.most common.pace.now) (g.P.Pace.ends common.pace.now) n
+    let Made : PassView → Type 0 = λ v. (n : ℕ) × IsPaced (g.P.Pace.begins common.pace.now) (g.P.Pace.ends common.pace.now) n
     × AllRounds (λ _. ⊤) (watched (g.K.Clock.reading common.clock.now) g.P.Watch.leaves) common.spec.now (c.args.i * common.apart) n v x.new.pass (at c.args.slot.now) (at x.new.slot) x.result.0 x.result.1 in
     (x.new.pass, refl, x.ensures.cell ∙ ap (λ (v : PassView). v.cell) same, subst Made same x.ensures.rounds)
