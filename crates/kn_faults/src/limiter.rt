@@ -1,6 +1,6 @@
 //! Which faults are told one by one.
-ghost use Rattle.std.specs.Prelude.{◌≡◌, ◌≤◌, ◌<◌, ◌+◌, ◌∷◌, [], List, ℕ, nat_lt, max};
-ghost use Rattle.kn_faults.specs.Telling.{Stands, is_lone, most_a_second};
+ghost use Rattle.std.specs.Prelude.{◌≡◌, ◌<◌, ◌+◌, ◌∷◌, [], List, ℕ, nat_lt, max};
+ghost use Rattle.kn_faults.specs.Telling.{Stands, is_lone};
 
 /// How many faults of one second are told one by one at most.
 pub const MOST_A_SECOND: u64 = 10;

@@ -1,5 +1,5 @@
 //! Where the next journal of a bundle begins: its first line, and then its setup.
-ghost use Rattle.std.specs.Prelude.{◌≡◌, ◌≢◌, ◌≤◌, ◌<◌, ◌+◌, Contains, Err, IfErr, IfOk, IfSome, Ok, OnOk, Some, true};
+ghost use Rattle.std.specs.Prelude.{◌≡◌, ◌≢◌, ◌≤◌, ◌<◌, ◌+◌, Contains, Err, IfErr, IfOk, Ok, OnOk, Some, true};
 ghost use Rattle.kn_journal.specs.Bundle.{first_of_in, first_of_part, opening_by};
 ghost use Rattle.kn_journal.specs.Drawing.{Draws, error_in};
 ghost use Rattle.kn_journal.specs.Journal.{IsSetup};

@@ -1,7 +1,7 @@
 //! Setups of different revisions, one after the other.
-ghost use Rattle.std.specs.Prelude.{◌≡◌, IfErr, IfOk, length};
+ghost use Rattle.std.specs.Prelude.{◌≡◌, IfOk, length};
 ghost use Rattle.std.specs.List.{list_any};
-ghost use Rattle.kn_journal.specs.Bundle.{AreSetups, Reaches, is_same, listed_part, new_in, new_part, setups_part};
+ghost use Rattle.kn_journal.specs.Bundle.{AreSetups, Reaches, is_same, listed_part, new_part, setups_part};
 ghost use Rattle.kn_journal.specs.Drawing.{Draws, error_in};
 ghost use Rattle.kn_journal.specs.Journal.{IsSetup};
 ghost use Rattle.kn_journal.specs.Reading.{unread};

@@ -1,5 +1,5 @@
 //! The text of all metrics.
-ghost use Rattle.std.specs.Prelude.{◌≡◌, ◌+◌, ◌≤◌, ◌++◌, length, codes};
+ghost use Rattle.std.specs.Prelude.{◌≡◌, ◌+◌, ◌≤◌, ◌++◌, length};
 ghost use Rattle.kn_page.specs.Exposition.{decision_lines, journal_lines, kind_line, last_lines, live_pod_lines, metrics_text, optional_lines, outer_lines, pod_lines, request_lines, row_lines, state_line};
 
 use crate::lines::{put_average, put_family, put_labelled, put_single};

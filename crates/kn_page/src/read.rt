@@ -1,5 +1,5 @@
 //! The head of a request, read from a stream.
-ghost use Rattle.std.specs.Prelude.{◌≡◌, ◌+◌, ◌≤◌, ◌++◌, ℕ, List, IfSome, IfNone, IfOk, OnErr, MatchOption, length, take};
+ghost use Rattle.std.specs.Prelude.{◌≡◌, ◌+◌, ◌≤◌, ◌++◌, ℕ, List, IfSome, IfOk, OnErr, MatchOption, length};
 ghost use Rattle.httparse.specs.Grammar.{HasNoRequest};
 ghost use Rattle.kn_io.specs.Causes.{Rose};
 ghost use Rattle.kn_head.specs.Told.{LosesFront};

@@ -1,6 +1,5 @@
 //! One connection: it is met, its head is read, and it is answered.
-ghost use Rattle.std.specs.Prelude.{◌≡◌, ◌⊎◌, ◌≤◌, ℕ, Ok, Err, MatchResult};
-ghost use Rattle.kn_cell.specs.Shown.{Looks};
+ghost use Rattle.std.specs.Prelude.{◌≡◌, Ok, Err};
 ghost use Rattle.kn_page.specs.Visits.{Answers, HasVisited, ShowsMetrics};
 
 use crate::asked::{Asked, Wanted};

@@ -1,5 +1,5 @@
 //! What the words of `kactd many` ask for.
-ghost use Rattle.std.specs.Prelude.{◌≡◌, ◌≤◌, ◌*◌, ℕ, List, length, map, option_map, string_bytes, All, IfOk, Err};
+ghost use Rattle.std.specs.Prelude.{◌≡◌, ◌≤◌, ℕ, List, length, map, option_map, string_bytes, All, IfOk, Err};
 ghost use Rattle.std.specs.List.{slice_split};
 ghost use Rattle.kn_plan.specs.declared.wide_plan.WidePlan.{WidePlan as WideValue};
 ghost use Rattle.kn_plan.specs.Plan.{AreGivenLists, AsksForMany, IsAddress, is_comma};

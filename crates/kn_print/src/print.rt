@@ -1,5 +1,5 @@
 //! The printed journal of a session: gathered line by line, written in pieces of up to 16 KiB, and taking no memory.
-ghost use Rattle.std.specs.Prelude.{◌≡◌, ◌≤◌, ◌++◌, All, OnOk, OnErr};
+ghost use Rattle.std.specs.Prelude.{All, OnOk, OnErr};
 ghost use Rattle.std.specs.Io.KnownBytes.{Appends};
 ghost use Rattle.kn_io.specs.Causes.{HasCause};
 ghost use Rattle.kn_io.specs.Prefix.{AppendsPrefix};

@@ -1,5 +1,5 @@
 //! The slots beside each other in threads.
-ghost use Rattle.std.specs.Prelude.{◌≡◌, ◌≤◌, ◌<◌, ◌^◌, ℕ, length};
+ghost use Rattle.std.specs.Prelude.{◌≤◌, ◌<◌, ◌^◌, ℕ, length};
 ghost use Rattle.kn_session.specs.Lists.{EachDone, EachIs};
 ghost use Rattle.kn_session.specs.Passes.{HasPass};
 ghost use Rattle.kn_session.specs.Rounds.{HasServed};

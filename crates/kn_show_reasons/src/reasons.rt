@@ -1,5 +1,5 @@
 //! The teller of reasons.
-ghost use Rattle.std.specs.Prelude.{◌≡◌, ◌++◌, List, OnErr, OnOk};
+ghost use Rattle.std.specs.Prelude.{◌++◌, List, OnErr, OnOk};
 ghost use Rattle.kn_event.specs.declared.event.Event.{Event as EventValue};
 ghost use Rattle.kn_io.specs.Causes.{HasCause};
 ghost use Rattle.kn_io.specs.Prefix.{AppendsPrefix};

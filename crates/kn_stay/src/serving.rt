@@ -1,5 +1,5 @@
 //! The slots are served while the scribe prints.
-ghost use Rattle.std.specs.Prelude.{◌≡◌, ◌+◌, ◌≤◌, ◌^◌, Ok, length, vec_capacity, []};
+ghost use Rattle.std.specs.Prelude.{◌≡◌, ◌+◌, ◌≤◌, Ok, length, vec_capacity, []};
 ghost use Rattle.kn_io.specs.Causes.{Rose};
 ghost use Rattle.kn_cell.specs.Shown.{PassView};
 ghost use Rattle.kn_journal.specs.Journal.{IsSetup};

@@ -1,5 +1,5 @@
 //! How a server ended, and what is told of it.
-ghost use Rattle.std.specs.Prelude.{◌≡◌, ◌≤◌, length};
+ghost use Rattle.std.specs.Prelude.{◌≡◌};
 ghost use Rattle.kn_stay_tcp.specs.Ending.{status_of_ended, text_of};
 
 use kn_event::Line;
