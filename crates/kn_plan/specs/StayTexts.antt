@@ -12,7 +12,7 @@ unfoldable pub help_text : Text
 help_text = codes "kactd stay: serves until standard input ends, and prints its journal meanwhile\n\n  --listen HOST:PORT     where clients come\n  --pods HOST:PORT[,..]  the addresses of pods, 1 to 500\n  --slots N              requests served at once, held ones too: 1 to 1024; 64\n  --room N               rows not yet printed and live requests together:\n                         1000 to 1000000; 100000\n  --idle S               seconds that a connection may be silent before its\n                         request begins: 1 to 3600; 60\n  --read S               seconds in which a request's head and body must come:\n                         1 to 3600; 30\n  --status HOST:PORT     where the status page is; without it there is none\n  --version              this program's version and its toolchain's\n\nThe last figure is what holds without the option. The setup comes on standard\ninput, as in a journal. Exit statuses: 0, or 2 for other words, 3 and 4 for a\nrefused setup, 5 and 6 for reads and writes that failed, 7 for want of memory,\n9 where it can't listen.\n"
 
 unfoldable pub version_text : Text
-version_text = codes "kactd 0.1.0\nrattle-kit-13f logic dac8208d650f15bf\n"
+version_text = codes "kactd 0.1.0\nrattle-kit logic dac8208d650f15bf\n"
 
 abbrev pub fault_text : StayOption → Fault → Text
 fault_text o fault.Missing = codes " is missing\n"

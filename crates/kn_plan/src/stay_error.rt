@@ -61,7 +61,7 @@ refused setup, 5 and 6 for reads and writes that failed, 7 for want of memory,
 fn version() -> &'static str
     ensures { result.now ≡ version_text }
 {
-    "kactd 0.1.0\nrattle-kit-13f logic dac8208d650f15bf\n"
+    "kactd 0.1.0\nrattle-kit logic dac8208d650f15bf\n"
 }
 
 fn fault_text(option: StayOption, fault: Fault) -> &'static str
