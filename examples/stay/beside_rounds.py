@@ -1,7 +1,7 @@
 #!/usr/bin/env -S python3 -B
 """`kactd stay` beside `kactd` with rounds: `./beside_rounds.py [--turns N] [--requests N]`.
 
-In turns (3), ab brings the same requests (9,600) to both, as many clients at once as slots, before four pods without limits. The medians are
+In turns (3), ab brings the same requests (4,800) to both, as many clients at once as slots, before four pods without limits. The medians are
 told: requests a second, and what a request costs of processor time. Wants ab, and nginx for the pods."""
 
 import argparse
@@ -44,7 +44,7 @@ def of_stay(ports, slots, requests):
 def main():
     words = argparse.ArgumentParser(description=__doc__)
     words.add_argument("--turns", type=int, default=3)
-    words.add_argument("--requests", type=int, default=9600)
+    words.add_argument("--requests", type=int, default=4800)
     given = words.parse_args()
     print("| Slots and clients | Server | requests/s | µs of processor time a request |\n|---|---|---|---|")
     for slots in (1, 16, 64):
