@@ -35,9 +35,9 @@ class Shell:
         self.await_prompt()
 
     def await_prompt(self):
-        """What comes up to the next prompt."""
+        """What comes up to the next prompt, and what a job in the background has said behind it by then."""
         end, came = time.monotonic() + LONGEST, b""
-        while not came.endswith(PROMPT.encode()):
+        while PROMPT.encode() not in came:
             if not select.select([self.terminal], [], [], end - time.monotonic())[0]:
                 sys.exit(f"no prompt within {LONGEST} s: {came[-2000:].decode(errors='replace')}")
             came += os.read(self.terminal, 65536)
