@@ -42,9 +42,10 @@ impl<'a, C: Caller, D: Door<C>, E: Server> Page<'a, C, D, E> {
 impl<'a, C: Caller, D: Door<C>, E: Server> Attendant for Page<'a, C, D, E> {
     ghost may = { λ _ _. ⊤ };
 
-    // Some connections came, one after the other, and each was answered from what the pass had then seen.
+    // Some connections came, one after the other, and each was answered from what the pass had then seen. The door was shut at last.
     ghost attends = { λ s t p q. Visits (E.stops s.server.now) (E.waits s.server.now) p q
-        (side_of C.Sink.kept C.Sink.held C.Faulty.faults s.caller) (side_of C.Sink.kept C.Sink.held C.Faulty.faults t.caller) };
+        (side_of C.Sink.kept C.Sink.held C.Faulty.faults s.caller) (side_of C.Sink.kept C.Sink.held C.Faulty.faults t.caller)
+        × D.shut s.door.now };
 
     /// Answers who comes, until the door is closed and nobody is left behind it.
     fn attend<R: Wait>(&mut self, rt: &R, cell: &RevisionCell, pass: &mut Pass, _left: &Left) {

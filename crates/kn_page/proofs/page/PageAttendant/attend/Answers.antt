@@ -31,4 +31,5 @@ loop-preserved g c =
       visits = visits_more stops waits y.result c.args.pass.now c.loop.pass y.new.pass (side (kept from) (held from) (faults from)) (side (kept old) (held old) (faults old)) (side (kept done) (held done) (faults done)) i.visits one;
       looks = only_trans c.args.pass.now c.loop.pass y.new.pass i.looks (visit_only stops waits y.result c.loop.pass y.new.pass (side (kept old) (held old) (faults old)) (side (kept done) (held done) (faults done)) one);
       server = i.server;
+      door = i.door;
     }

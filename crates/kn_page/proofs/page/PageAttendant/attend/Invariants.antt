@@ -11,4 +11,5 @@ invariant-loop g l = record {
       (side (g.C.Sink.kept l.self.caller) (g.C.Sink.held l.self.caller) (g.C.Faulty.faults l.self.caller));
   looks : OnlyLooks l.fn.pass l.pass;
   server : l.self.server.now ≡ l.fn.self.server.now;
+  door : l.self.door.now ≡ l.fn.self.door.now;
 }
