@@ -9,7 +9,8 @@ import time
 
 from load import Load, counted
 from server import Pod, Stay, settle
-from session import fixed, free_port, head, listens, program, want, whole
+from session import fixed, free_port, head, listens, program, wait_until, want, whole
+from status import metrics, page
 
 GET = head(method="GET")
 PODS = ("--pods", "127.0.0.1:1")
@@ -109,6 +110,25 @@ def many_waiting(count):
         want(came == {(200, "hello"): count}, f"answered {came}")
         settle(server, came)
         want(not listens(server.port), "somebody listens still")
+
+
+def front_shown():
+    """The page shows how many wait in front and how many slots are at work, and that the server is not ready while it stops."""
+    with Pod() as pod, Stay(fixed(1), [pod.port], slots=1, page=True) as server:
+
+        def shown():
+            gauges = metrics(server)
+            return [gauges[name].values[()] for name in ("kactd_connections_waiting", "kactd_slots_at_work")]
+
+        want(shown() == [0, 0] and page(server, "/ready")[0] == 200, f"before anybody comes: {shown()}")
+        load = Load(server.port, 3, count=1, path="/700")
+        wait_until(lambda: shown() == [2, 1], 5, f"three clients and one slot: {shown()}")
+        server.stop()
+        wait_until(lambda: page(server, "/ready")[0] == 503, 2, "ready while it stops")
+        want(page(server, "/healthz")[0] == 200, "not healthy while it stops")
+        met = load.met()
+        want(counted(met) == {(200, "hello"): 3}, f"answered {counted(met)}")
+        settle(server, counted(met))
 
 
 def stopped_with_silent(count):

@@ -296,7 +296,7 @@ def agree(shown, rows):
 
 def cases(short, seconds):
     if short:
-        names = {"fifty": fifty, "stopped": functools.partial(stopped, 8, 1), "gone_while_held": gone_while_held}
+        names = {"fifty": fifty, "stopped": functools.partial(stopped, 8, 1), "gone_while_held": gone_while_held, "front_shown": edges.front_shown}
         return names | {"status_page": functools.partial(status_page, 4, 1)}
     found = {"fifty": fifty}
     for at_once in (16, 256):
@@ -318,13 +318,14 @@ def cases(short, seconds):
         "broken_pod": functools.partial(edges.broken_pod, 400),
         "many_waiting": functools.partial(edges.many_waiting, 1000),
         "held": functools.partial(held, 1000, 10),
+        "front_shown": edges.front_shown,
         "status_page": functools.partial(status_page, 16, 3),
     }
 
 
 def main():
     words = argparse.ArgumentParser(description=__doc__)
-    words.add_argument("--short", action="store_true", help="four of them at small size, for the gate")
+    words.add_argument("--short", action="store_true", help="five of them at small size, for the gate")
     words.add_argument("--seconds", type=int, default=5, help="how long the loads go on")
     words.add_argument("names", nargs="*")
     given = words.parse_args()
