@@ -1,15 +1,14 @@
 -- Where no limit is still to change, an event of one activator leaves it so, and its line has its rows alone.
-use Rattle.std.proofs.Common.{◌≡◌, ◌++◌, ◌∷◌, ℕ, zero, suc, ◌+◌, List, [], true, append-nil, refl, ap, ◌∙◌, sym, subst}
-use Rattle.std.specs.Prelude.{None, Option, ◌==◌, if◌then◌else◌}
+use Rattle.std.proofs.Common.{◌≡◌, ◌++◌, ◌∷◌, ℕ, zero, suc, ◌+◌, List, [], append-nil, refl, ap, ◌∙◌, sym, subst}
+use Rattle.std.specs.Prelude.{None, Option, if◌then◌else◌}
 use Rattle.std.proofs.lemmas.Bool.{eq-eqb}
 use Rattle.kn_event.specs.declared.event.Event.{Event}
-use Rattle.kn_io.specs.Prefix.{AppendsPrefix}
 use Rattle.kn_report.specs.Waiting.{Adds}
 use Rattle.kn_slices.specs.Traces.{GroupState, IsCalm, made_at}
 use Rattle.kn_activators.specs.declared.event.GroupEvent.TheVariants as group
 use Rattle.kn_activators.specs.declared.setup.GroupSetup.{GroupSetup}
-use Rattle.kn_activators.specs.Sharing.{Outcome, Sharing, and_then, by_line, by_one, changes, changes_most, due_in, force_change, force_line, force_lines, stepped, unsaid, while_due}
-use Rattle.kn_activators.specs.Standing.{Came, Fails, Makes, ReplayState, Stands}
+use Rattle.kn_activators.specs.Sharing.{Outcome, Sharing, and_then, by_line, by_one, changes, changes_most, due_in, force_line, force_lines, stepped, unsaid, while_due}
+use Rattle.kn_activators.specs.Standing.{Fails, Makes, ReplayState, Stands}
 use Rattle.kn_activators.proofs.Waits.{waits_more}
 
 none_changes : (s : GroupSetup) (time n : ℕ) (x : Sharing) → due_in x ≡ None → changes s time n x ≡ unsaid x

@@ -1,5 +1,4 @@
 -- What stays as it was after an event that is told a refusal.
-use Rattle.std.proofs.Common.{◌≡◌, true}
 use Rattle.kn_event.specs.declared.event.Event.{Event}
 use Rattle.kn_event.specs.declared.revision.Spec.{Spec}
 use Rattle.kn_trace.specs.Trace.{Trace}
@@ -7,7 +6,7 @@ use Rattle.kn_trace.specs.Laws.{IsSettled}
 use Rattle.kn_record.specs.Made.{IsMade}
 use Rattle.kn_laws.specs.Beside.{LeavesTheRest}
 use Rattle.kn_laws.specs.Refusals.{RefusesByAnswer}
-use Rattle.kn_core.specs.Refused.{LeavesAll, LeavesByAnswer}
+use Rattle.kn_core.specs.Refused.{LeavesByAnswer}
 
 pub leaves_by : (s : Spec) (c : Trace) (e : Event) → RefusesByAnswer s c e → LeavesTheRest s c e → LeavesByAnswer s c e
 leaves_by s c e answers beside told =

@@ -1,5 +1,5 @@
 -- Each entry that a revision logs has the time of what it logs.
-use Rattle.std.proofs.Common.{◌≡◌, ℕ, List, [], ◌∷◌, map, refl}
+use Rattle.std.proofs.Common.{ℕ, List, [], ◌∷◌, map, refl}
 use native.Mathlib.Nat.{ℕ_set}
 use Rattle.std.specs.Coded.{×_prop, Unit-prop}
 use Rattle.kn_event.specs.declared.entry.Row.TheVariants as row

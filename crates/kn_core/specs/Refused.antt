@@ -1,5 +1,5 @@
 -- An event that is told a refusal: what stays as it was.
-use Rattle.std.specs.Prelude.{◌≡◌, true, ◌++◌, ◌∷◌, [], Some}
+use Rattle.std.specs.Prelude.{◌≡◌, true, ◌++◌}
 use Rattle.kn_event.specs.declared.entry.Row.{Row}
 use Rattle.kn_event.specs.declared.event.Event.{Event}
 use Rattle.kn_event.specs.declared.revision.Spec.{Spec}

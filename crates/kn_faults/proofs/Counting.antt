@@ -1,11 +1,10 @@
 -- One more second, and one more fault.
-use Rattle.std.proofs.Common.{◌≡◌, ℕ, ◌+◌, ◌<◌, ◌≤◌, ◌==◌, ◌^◌, min, nat_lt, true, false, List, [], ◌∷◌, length, refl, ap, arith}
-use Rattle.std.specs.List.{All, filter}
+use Rattle.std.proofs.Common.{◌≡◌, ℕ, ◌+◌, ◌<◌, ◌≤◌, ◌^◌, true, false, List, [], ◌∷◌, refl, ap, arith}
+use Rattle.std.specs.List.{All}
 use Rattle.std.proofs.lemmas.Bool.Decides.{nat_tests}
-use Rattle.std.proofs.lemmas.Grind.{common_steps}
 use Rattle.std.proofs.lemmas.List.Elements.{All-cons, All-nil, All-head, All-tail, All-weaker}
 use Rattle.kn_faults.specs.declared.limiter.Limiter.{Limiter}
-use Rattle.kn_faults.specs.Telling.{Stands, faults_in, is_lone, lone, most_a_second, number}
+use Rattle.kn_faults.specs.Telling.{Stands, faults_in, is_lone, lone, number}
 
 pub none_so_far : (l : Limiter) → l.lone ≡ 0 → l.untold ≡ 0 → Stands l [] 0
 unfolding lone

@@ -1,5 +1,5 @@
 -- What makes a session of what its calls say, and what is so of it then.
-use Rattle.std.specs.Prelude.{◌≡◌, ◌≤◌, ◌^◌, ℕ, Bool, false, All, List, length, Option, Err}
+use Rattle.std.specs.Prelude.{◌≡◌, ◌≤◌, ◌^◌, ℕ, false, All, List, length, Option, Err}
 use Rattle.kn_trace.specs.Events.{opening}
 use Rattle.kn_core.specs.State.{StandsFor}
 use Rattle.kn_cell.specs.Lists.{Each}

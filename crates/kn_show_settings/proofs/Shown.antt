@@ -1,5 +1,5 @@
 -- What is shown of an input.
-use Rattle.std.proofs.Common.{◌≡◌, ℕ, List, refl, sym, ap}
+use Rattle.std.proofs.Common.{ℕ, List, refl, sym, ap}
 use Rattle.std.specs.Prelude.{Option, None, Some, Result, Ok, Err}
 use Rattle.std.specs.Io.KnownBytes.{Appends}
 use Rattle.std.proofs.KnownBytes.{Appends-nil}

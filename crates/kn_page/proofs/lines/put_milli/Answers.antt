@@ -1,5 +1,4 @@
 use Rattle.std.proofs.Common.{◌∙◌, ap, ◌++◌, ◌∷◌, []}
-use Rattle.kn_page.specs.Exposition.{three_digits}
 use Rattle.kn_page.proofs.Thousandths.{milli_pieces}
 use Rattle.kn_page.proofs.lines.put_milli.Goals as goal
 

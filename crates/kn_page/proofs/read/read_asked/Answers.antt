@@ -1,4 +1,4 @@
-use Rattle.std.proofs.Common.{arith, take, ◌≤◌, length, length-drop, length-take, length-take-le, ◌∙◌}
+use Rattle.std.proofs.Common.{arith, take, length-drop, length-take, length-take-le, ◌∙◌}
 use Rattle.kn_page.specs.Asking.{no_head}
 use Rattle.kn_page.proofs.Heads.{full_asks, known_asks, more_consumed}
 use Rattle.kn_page.proofs.read.read_asked.Goals as goal

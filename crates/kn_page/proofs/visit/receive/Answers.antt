@@ -1,9 +1,8 @@
 -- What each way of a connection comes to.
-use Rattle.std.proofs.Common.{◌≡◌, ◌≤◌, ℕ, List, [], refl, sym, subst, take, ◌∙◌, arith}
+use Rattle.std.proofs.Common.{◌≤◌, [], refl, sym, subst, take, ◌∙◌, arith}
 use Rattle.std.specs.Prelude.{⊤}
 use Rattle.std.specs.Io.KnownBytes.{Appends}
 use Rattle.std.proofs.KnownBytes.{Appends-nil}
-use Rattle.kn_io.specs.Causes.{Rose}
 use Rattle.kn_page.specs.Asking.{Asks}
 use Rattle.kn_page.proofs.Talks.{any_input, later_rose, talks, tells_on}
 use Rattle.kn_page.proofs.visit.receive.Goals as goal

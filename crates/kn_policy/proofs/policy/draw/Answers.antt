@@ -1,4 +1,3 @@
-use Rattle.std.proofs.Common.{◌≡◌, sym}
 use Rattle.kn_policy.proofs.Words.{words_drawn}
 use Rattle.kn_policy.proofs.policy.draw.Goals as goal
 

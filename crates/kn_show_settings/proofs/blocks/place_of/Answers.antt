@@ -1,4 +1,4 @@
-use Rattle.std.proofs.Common.{◌≡◌, ◌+◌, ◌-◌, drop, length, take, sym, subst, ◌∙◌, List, ℕ, arith}
+use Rattle.std.proofs.Common.{◌≡◌, ◌-◌, drop, length, take, sym, subst, ◌∙◌, List, ℕ, arith}
 use Rattle.std.specs.Prelude.{false, nat_eq}
 use Rattle.std.specs.List.{starts_with}
 use Rattle.std.proofs.lemmas.Grind.{common_steps}

@@ -1,4 +1,4 @@
-use Rattle.std.proofs.Common.{◌≡◌, sym, ◌∙◌, rules}
+use Rattle.std.proofs.Common.{◌≡◌, ◌∙◌, rules}
 use Rattle.kn_show_settings.specs.Ignored.{is_unset}
 use Rattle.serde_json.proofs.Views.{Entry}
 use Rattle.kn_show_settings.proofs.Names.{done, step}

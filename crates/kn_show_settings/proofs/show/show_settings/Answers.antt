@@ -1,4 +1,4 @@
-use Rattle.std.proofs.Common.{◌≡◌, ◌+◌, Bool, ℕ, List, length, refl, sym, ap, ◌∙◌, subst, arith}
+use Rattle.std.proofs.Common.{◌+◌, Bool, ℕ, List, length, sym, ap, ◌∙◌, subst, arith}
 use Rattle.std.specs.Prelude.{Option, Err, Some}
 use Rattle.std.specs.Io.KnownBytes.{Appends}
 use Rattle.kn_io.specs.Prefix.{AppendsPrefix}
@@ -10,11 +10,10 @@ use Rattle.kn_journal.specs.Bundle.{opening_by}
 use Rattle.kn_journal.specs.Journal.{opening_part}
 use Rattle.kn_journal.specs.Reading.{unread}
 use Rattle.kn_journal.specs.Telling.{Gives, IsLineFault, LeavesRest, Refuses}
-use Rattle.kn_follow.specs.Endings.{IsBehind, IsRefusal, status_of}
+use Rattle.kn_follow.specs.Endings.{IsBehind, IsRefusal}
 use Rattle.kn_follow.proofs.Behind.{setup_behind}
 use Rattle.kn_follow.proofs.Journals.{nothing_ahead}
 use Rattle.kn_follow.proofs.Statuses.{either, fault_of, no_write_fault}
-use Rattle.kn_show_settings.specs.Showing.{ShowsInput, TakesOpening}
 use Rattle.kn_show_settings.proofs.Shown.{front_shown, memory_shown, opening_left, refusal_shown, text_shown}
 use Rattle.kn_show_settings.proofs.show.show_settings.Goals as goal
 

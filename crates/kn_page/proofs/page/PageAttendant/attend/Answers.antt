@@ -1,5 +1,5 @@
 -- One connection more.
-use Rattle.std.proofs.Common.{◌≡◌, ap, ◌∙◌, sym, subst, ℕ, Bool}
+use Rattle.std.proofs.Common.{◌≡◌, sym, subst, ℕ, Bool}
 use Rattle.kn_page.specs.Visits.{OneVisit, Side, side}
 use Rattle.kn_page.proofs.Looking.{only_trans, same_side, visit_only, visits_more}
 use Rattle.kn_page.proofs.page.PageAttendant.attend.Goals as goal

@@ -1,4 +1,4 @@
-use Rattle.std.proofs.Common.{refl, rules}
+use Rattle.std.proofs.Common.{rules}
 use Rattle.kn_trace.specs.Choice.{generator_at}
 use Rattle.kn_policy.specs.Policy.{policy_at}
 use Rattle.kn_policy.proofs.Words.{none_drawn}

@@ -1,8 +1,6 @@
-use Rattle.std.proofs.Common.{◌≡◌, ◌∙◌, ◌<◌, ap, sym, arith, rules}
+use Rattle.std.proofs.Common.{◌≡◌, ◌∙◌, ap, sym, rules}
 use Rattle.std.specs.List.{count_by}
-use Rattle.kn_trace.specs.declared.candidate.Cand.{Cand}
 use Rattle.kn_trace.specs.Choice.{has_seat, chosen_pod}
-use Rattle.kn_policy.specs.Marks.{IsPlaceOf}
 use Rattle.kn_policy.specs.Policy.{State}
 use Rattle.kn_policy.proofs.Found.{none_chosen}
 use Rattle.kn_policy.proofs.Marking.{none_counted, none_free, place_at}
