@@ -1,9 +1,7 @@
 -- How many pods start: only an arrival or a tick creates any, and one that is ready starts no more.
-use Rattle.std.proofs.Common.{◌≡◌, ℕ, ◌+◌, ◌≤◌, Bool, true, false, not, cond, ◌&&◌, List, [], ◌∷◌, ◌++◌, length, refl, sym, ap, ◌∙◌, arith}
+use Rattle.std.proofs.Common.{◌≡◌, ℕ, ◌+◌, ◌≤◌, Bool, true, false, not, ◌&&◌, [], ◌∷◌, ◌++◌, length, refl, sym, ap, ◌∙◌, arith}
 use Rattle.std.specs.Prelude.{Option, None, Some}
-use Rattle.std.specs.List.{filter}
 use Rattle.std.proofs.lemmas.Bool.{eq-eqb}
-use Rattle.kn_event.specs.Revision.{AreInRange}
 use Rattle.kn_event.specs.declared.entry.Phase.TheVariants as phase
 use Rattle.kn_event.specs.declared.entry.Row.{Row}
 use Rattle.kn_event.specs.declared.entry.Row.TheVariants as row
@@ -19,7 +17,6 @@ use Rattle.kn_trace.specs.Trace.{Trace, contains, each_row, entry, is_empty, is_
 use Rattle.kn_trace.specs.Events.{act_row, act_rows, activation, before_settling, departures, entries_of, react, scaler_rows}
 use Rattle.kn_trace.specs.Settling.{held_assignments, promotions, removals, settling}
 use Rattle.kn_record.specs.Facts.{Facts}
-use Rattle.kn_record.specs.Made.{IsMade}
 use Rattle.kn_laws.specs.ByAct.{IsArrival}
 use Rattle.kn_laws.specs.Facts.{PartFacts}
 use Rattle.kn_laws.specs.Kinds.{Each, is_act_row, is_assign_row, is_departure_row, is_remove_row, is_run_row}

@@ -1,5 +1,5 @@
 -- A schedule ends: there are only so many events.
-use Rattle.std.proofs.Common.{◌≡◌, ℕ, ◌≤◌, List, [], ◌∷◌, ◌++◌, length, refl, sym, subst, arith, append-nil, append_assoc}
+use Rattle.std.proofs.Common.{ℕ, ◌≤◌, List, [], ◌∷◌, ◌++◌, length, refl, sym, subst, arith, append-nil, append_assoc}
 use Rattle.kn_event.specs.declared.event.Event.{Event}
 use Rattle.kn_agenda.specs.declared.item.Item.{Item}
 use Rattle.kn_agenda.specs.Workload.{IsWorkload, Workload}

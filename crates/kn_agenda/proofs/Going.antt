@@ -1,30 +1,27 @@
 -- What an event leaves to be due: nothing that is due after it was due before it.
-use Rattle.std.proofs.Common.{◌≡◌, ℕ, zero, suc, ◌+◌, ◌*◌, ◌<◌, ◌≤◌, Bool, true, false, not, ◌&&◌, ◌||◌, ◌⊎◌, inl, inr, List, [], ◌∷◌, ◌++◌, length, nat_lt, refl, sym, ap, ◌∙◌, subst, arith, append-nil, append_assoc, length-append}
-use Rattle.std.specs.Prelude.{Option, None, Some, ◌==◌, slice_get}
-use Rattle.std.specs.List.{filter, filter_map}
-use Rattle.std.proofs.lemmas.Bool.{eqb-true, or_cases}
+use Rattle.std.proofs.Common.{◌≡◌, ℕ, ◌+◌, Bool, true, false, ◌⊎◌, inl, inr, List, [], ◌∷◌, ◌++◌, refl, sym, ap, ◌∙◌, subst, arith, append-nil, append_assoc}
+use Rattle.std.specs.Prelude.{Option, None, Some, slice_get}
+use Rattle.std.specs.List.{filter_map}
+use Rattle.std.proofs.lemmas.Bool.{eqb-true}
 use Rattle.std.proofs.lemmas.List.Elements.{filter_map-append}
 use Rattle.kn_event.specs.declared.entry.Entry.{Entry}
 use Rattle.kn_event.specs.declared.entry.Row.{Row}
 use Rattle.kn_event.specs.declared.entry.Row.TheVariants as row
 use Rattle.kn_event.specs.declared.event.Act.{Act}
-use Rattle.kn_event.specs.declared.event.Act.TheVariants as act
 use Rattle.kn_event.specs.declared.event.Event.{Event}
 use Rattle.kn_event.specs.declared.revision.Spec.{Spec}
 use Rattle.kn_trace.specs.Rows.{arrived_by, taken_by}
-use Rattle.kn_trace.specs.Trace.{Trace, arrivals, contains, each_row, first_of}
+use Rattle.kn_trace.specs.Trace.{Trace, arrivals, each_row, first_of}
 use Rattle.kn_trace.specs.Events.{react}
 use Rattle.kn_record.specs.Facts.{Facts}
 use Rattle.kn_record.specs.Made.{Holds, IsMade, IsProper}
 use Rattle.kn_record.specs.Rows.{says}
 use Rattle.kn_laws.specs.ByAct.{AreByAct, IsArrival, IsByAct}
-use Rattle.kn_laws.specs.Facts.{PartFacts}
 use Rattle.kn_laws.specs.Kinds.{EachAt}
 use Rattle.kn_agenda.specs.declared.job.Job.{Job}
 use Rattle.kn_agenda.specs.Runs.{ComeByJobs, IsByNextJob}
 use Rattle.kn_agenda.specs.Due.{first_time, taken_at, time_where}
-use Rattle.kn_agenda.proofs.Keeping.{time-more}
-use Rattle.kn_agenda.proofs.Hearing.{arrivals_less, holds_first, holds_rest}
+use Rattle.kn_agenda.proofs.Hearing.{arrivals_less, holds_rest}
 
 -- ---- who arrives
 

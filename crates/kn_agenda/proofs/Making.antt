@@ -1,9 +1,8 @@
 -- A schedule that makes one event more.
-use Rattle.std.proofs.Common.{◌≡◌, ℕ, zero, suc, ◌+◌, ◌*◌, ◌<◌, ◌≤◌, ◌^◌, Bool, true, false, ◌⊎◌, inl, inr, List, [], ◌∷◌, ◌++◌, length, refl, sym, ap, ◌∙◌, subst, arith}
-use Rattle.std.specs.Prelude.{Option, None, Some, slice_index_or}
+use Rattle.std.proofs.Common.{◌≡◌, ℕ, zero, suc, ◌+◌, ◌<◌, ◌≤◌, false, List, [], ◌∷◌, ◌++◌, length, refl, sym, ◌∙◌, subst, arith}
+use Rattle.std.specs.Prelude.{slice_index_or}
 use Rattle.kn_event.specs.declared.entry.Entry.{Entry}
 use Rattle.kn_event.specs.declared.event.Event.{Event}
-use Rattle.kn_event.specs.declared.revision.Spec.{Spec}
 use Rattle.kn_trace.specs.Trace.{Trace, arrivals, contains, waiting}
 use Rattle.kn_core.specs.State.{StandsFor}
 use Rattle.kn_laws.specs.Kinds.{EachAt}
@@ -13,7 +12,7 @@ use Rattle.kn_agenda.specs.declared.item.Kind.TheVariants.{Arrives, Finishes, Pa
 use Rattle.kn_agenda.specs.declared.job.Job.{Job}
 use Rattle.kn_agenda.specs.Workload.{AreJobs, Workload}
 use Rattle.kn_agenda.specs.Runs.{ComeByJobs, NobodyWaitsBelow, so_far}
-use Rattle.kn_agenda.specs.Due.{IsDueAt, IsNext, event_of, ticks_of}
+use Rattle.kn_agenda.specs.Due.{IsNext, event_of, ticks_of}
 use Rattle.kn_agenda.specs.Kinds.{ticks_behind}
 use Rattle.kn_agenda.specs.Agenda.{AgendaState}
 use Rattle.kn_agenda.specs.Keeps.{Keeps, KeepsBy}

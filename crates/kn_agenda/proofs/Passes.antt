@@ -1,16 +1,14 @@
 -- Who waits expires in the order of arrival, which is that of the jobs.
-use Rattle.std.proofs.Common.{◌≡◌, ℕ, zero, suc, ◌+◌, ◌<◌, ◌≤◌, Bool, true, false, ◌&&◌, ◌||◌, ◌⊎◌, inl, inr, List, [], ◌∷◌, length, nat_lt, refl, sym, ap, ◌∙◌, subst, arith}
-use Rattle.std.specs.Prelude.{Option, None, Some, ◌==◌, slice_get, slice_index_or}
+use Rattle.std.proofs.Common.{◌≡◌, ℕ, zero, suc, ◌+◌, ◌<◌, ◌≤◌, Bool, true, false, ◌||◌, List, [], ◌∷◌, length, nat_lt, refl, sym, ap, ◌∙◌, arith}
+use Rattle.std.specs.Prelude.{Option, None, Some, ◌==◌, slice_get}
 use Rattle.std.specs.List.{filter_map}
 use Rattle.std.proofs.lemmas.Bool.Decides.{nat_tests}
-use Rattle.kn_event.specs.declared.entry.Entry.{Entry}
 use Rattle.kn_event.specs.declared.entry.Row.{Row}
 use Rattle.kn_trace.specs.Rows.{taken_by}
 use Rattle.kn_trace.specs.Trace.{Trace, arrivals, contains, each_row, first_of, waiting}
 use Rattle.kn_record.specs.Facts.{Facts}
 use Rattle.kn_record.specs.Made.{IsNumbered}
 use Rattle.kn_record.specs.Rows.{says}
-use Rattle.kn_agenda.specs.declared.item.Item.{Item}
 use Rattle.kn_agenda.specs.declared.item.Kind.TheVariants.{Passes}
 use Rattle.kn_agenda.specs.declared.job.Job.{Job}
 use Rattle.kn_agenda.specs.Workload.{AreJobs, Workload}

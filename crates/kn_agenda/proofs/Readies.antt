@@ -1,10 +1,8 @@
 -- Pods that start become ready in the order of their numbers, which is that of their creation.
-use Rattle.std.proofs.Common.{◌≡◌, ℕ, zero, suc, ◌+◌, ◌<◌, ◌≤◌, Bool, true, false, cond, ◌||◌, ◌⊎◌, inl, inr, List, [], ◌∷◌, length, map, nat_lt, get_or, refl, sym, ap, ◌∙◌, subst, arith}
+use Rattle.std.proofs.Common.{◌≡◌, ℕ, suc, ◌+◌, ◌<◌, ◌≤◌, Bool, true, false, cond, ◌⊎◌, inl, inr, List, [], ◌∷◌, length, map, nat_lt, get_or, refl, sym, ap, ◌∙◌, subst, arith}
 use Rattle.std.specs.Prelude.{Option, None, Some, ◌==◌, slice_get, IfSome}
-use Rattle.std.specs.List.{All, filter, filter_map}
+use Rattle.std.specs.List.{filter, filter_map}
 use Rattle.std.proofs.lemmas.Bool.{eqb-true, eq-eqb, or_cases}
-use Rattle.std.proofs.lemmas.Bool.Decides.{nat_tests}
-use Rattle.kn_event.specs.declared.entry.Entry.{Entry}
 use Rattle.kn_event.specs.declared.entry.Row.{Row}
 use Rattle.kn_event.specs.declared.revision.Spec.{Spec}
 use Rattle.kn_trace.specs.Rows.{created_by}
@@ -16,7 +14,6 @@ use Rattle.kn_record.specs.Rows.{says}
 use Rattle.kn_agenda.specs.declared.agenda.Start.{Start}
 use Rattle.kn_agenda.specs.declared.item.Item.{Item}
 use Rattle.kn_agenda.specs.declared.item.Kind.TheVariants.{Readies}
-use Rattle.kn_agenda.specs.declared.job.Job.{Job}
 use Rattle.kn_agenda.specs.Workload.{Workload}
 use Rattle.kn_agenda.specs.Due.{IsAfter, created_at, first_time, is_before, time_where}
 use Rattle.kn_agenda.specs.Kinds.{IsFirstOf}

@@ -1,12 +1,12 @@
 -- What is still to do by itself becomes less at each event that is no arrival and no tick.
-use Rattle.std.proofs.Common.{◌≡◌, ℕ, ◌+◌, ◌≤◌, Bool, true, ◌++◌, length, refl, sym, ap, ◌∙◌, subst, arith}
+use Rattle.std.proofs.Common.{◌≡◌, ℕ, ◌+◌, ◌≤◌, Bool, true, ◌++◌, length, refl, sym, ap, ◌∙◌, arith}
 use Rattle.std.specs.Prelude.{slice_get}
 use Rattle.kn_event.specs.declared.event.Act.{Act}
 use Rattle.kn_event.specs.declared.event.Act.TheVariants as act
 use Rattle.kn_event.specs.declared.event.Event.{Event}
 use Rattle.kn_trace.specs.Events.{need_of, react}
 use Rattle.kn_trace.specs.Scale.{drain_order}
-use Rattle.kn_trace.specs.Trace.{Trace, contains, is_running, live, starting_pods}
+use Rattle.kn_trace.specs.Trace.{Trace, is_running, live, starting_pods}
 use Rattle.kn_record.specs.Facts.{Facts}
 use Rattle.kn_record.specs.Made.{IsMade}
 use Rattle.kn_laws.specs.Facts.{PartFacts}

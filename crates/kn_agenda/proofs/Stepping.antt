@@ -1,13 +1,11 @@
 -- The next event of a workload keeps what its events keep so far.
 use Rattle.std.proofs.Common.{◌≡◌, ℕ, zero, suc, ◌+◌, ◌*◌, ◌<◌, ◌≤◌, Bool, true, false, cond, ◌⊎◌, inl, inr, List, [], ◌∷◌, ◌++◌, length, nat_lt, refl, sym, ap, ◌∙◌, subst, arith, append-nil, length-append}
-use Rattle.std.specs.Prelude.{Option, None, Some, slice_get}
+use Rattle.std.specs.Prelude.{Some, slice_get}
 use Rattle.std.specs.List.{filter}
-use Rattle.kn_event.specs.declared.event.Act.{Act}
 use Rattle.kn_event.specs.declared.event.Act.TheVariants as act
 use Rattle.kn_event.specs.declared.event.Event.{Event}
-use Rattle.kn_event.specs.declared.revision.Spec.{Spec}
 use Rattle.kn_trace.specs.Trace.{Trace, arrivals, live, starting_pods}
-use Rattle.kn_trace.specs.Events.{added, react, trace_of}
+use Rattle.kn_trace.specs.Events.{added, react}
 use Rattle.kn_laws.specs.ByAct.{IsArrival}
 use Rattle.kn_laws.specs.History.{GoesOn}
 use Rattle.kn_agenda.specs.declared.item.Item.{Item}
@@ -15,7 +13,7 @@ use Rattle.kn_agenda.specs.declared.item.Kind.{Kind}
 use Rattle.kn_agenda.specs.declared.item.Kind.TheVariants.{Arrives, Finishes, Passes, Readies, Ticks}
 use Rattle.kn_agenda.specs.declared.job.Job.{Job}
 use Rattle.kn_agenda.specs.Workload.{IsWorkload, Workload}
-use Rattle.kn_agenda.specs.Due.{AreNext, ComesNext, IsDue, IsDueAt, IsNext, event_of, is_before, is_tick, rank, tag_of, ticks_of}
+use Rattle.kn_agenda.specs.Due.{AreNext, ComesNext, IsDueAt, IsNext, event_of, is_before, is_tick, rank, tag_of, ticks_of}
 use Rattle.kn_agenda.specs.Runs.{ComeByJobs, IsByNextJob, Runs, Shrinks, cost_of, so_far}
 use Rattle.kn_agenda.proofs.Least.{later_from}
 use Rattle.kn_agenda.proofs.Passes.{jobs_rise}

@@ -1,5 +1,5 @@
 -- What comes first of each kind, and of several kinds.
-use Rattle.std.specs.Prelude.{◌≡◌, ℕ, ◌+◌, ◌<◌, Bool, false, nat_lt, Option, None, Some, if◌then◌else◌}
+use Rattle.std.specs.Prelude.{◌≡◌, ℕ, ◌+◌, ◌<◌, false, nat_lt, Option, None, Some, if◌then◌else◌}
 use Rattle.kn_trace.specs.Trace.{Trace}
 use Rattle.kn_agenda.specs.declared.item.Item.{Item}
 use Rattle.kn_agenda.specs.declared.item.Kind.{Kind}

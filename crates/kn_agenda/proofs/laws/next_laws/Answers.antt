@@ -1,11 +1,8 @@
-use Rattle.std.proofs.Common.{◌≡◌, ◌≤◌, ◌<◌, ℕ, ◌∷◌, [], nat_lt, arith}
-use Rattle.kn_event.specs.declared.event.Event.{Event}
-use Rattle.kn_laws.specs.ByAct.{IsArrival}
-use Rattle.kn_agenda.specs.declared.item.Item.{Item}
+use Rattle.std.proofs.Common.{◌∷◌, [], nat_lt, arith}
 use Rattle.kn_agenda.specs.Due.{event_of, is_before, rank, ticks_of}
 use Rattle.kn_agenda.specs.Runs.{so_far}
 use Rattle.kn_agenda.proofs.Least.{later_from}
-use Rattle.kn_agenda.proofs.Stepping.{IsLawful, runs_more}
+use Rattle.kn_agenda.proofs.Stepping.{runs_more}
 use Rattle.kn_agenda.proofs.laws.next_laws.Goals as goal
 
 pub returns : goal.returns

@@ -2,7 +2,6 @@ use Rattle.std.proofs.Common.{◌≡◌, ◌≤◌, ◌<◌, ◌+◌, ℕ, List,
 use Rattle.std.specs.Prelude.{Some, slice_get}
 use Rattle.kn_trace.specs.Trace.{arrivals}
 use Rattle.kn_agenda.specs.declared.job.Job.{Job}
-use Rattle.kn_agenda.specs.declared.item.Item.{Item}
 use Rattle.kn_agenda.specs.declared.item.Kind.TheVariants.{Passes}
 use Rattle.kn_agenda.specs.Kinds.{IsFirstOf}
 use Rattle.kn_agenda.proofs.Passes.{both_below, jobs_end, jobs_until, pass_first, pass_none}

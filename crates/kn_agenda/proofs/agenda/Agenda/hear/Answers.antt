@@ -1,6 +1,4 @@
-use Rattle.std.proofs.Common.{◌≡◌, ◌⊎◌, ◌≤◌, ℕ, Some, [], ◌∷◌, refl, arith}
-use Rattle.kn_event.specs.declared.entry.Row.{Row}
-use Rattle.kn_event.specs.declared.entry.Row.TheVariants as row
+use Rattle.std.proofs.Common.{[], ◌∷◌, arith}
 use Rattle.kn_agenda.proofs.Hearing.{arrivals_less}
 use Rattle.kn_agenda.proofs.Keeping.{begun_is, hears-begin, hears-create, hears-leave, hears-other, leaving}
 use Rattle.kn_agenda.proofs.agenda.Agenda.hear.Goals as goal

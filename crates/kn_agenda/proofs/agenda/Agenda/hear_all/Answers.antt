@@ -1,4 +1,4 @@
-use Rattle.std.proofs.Common.{◌≤◌, ◌++◌, take, length, subst, sym, arith, add-one, append-nil}
+use Rattle.std.proofs.Common.{◌≤◌, ◌++◌, take, length, subst, sym, arith}
 use Rattle.kn_trace.specs.Trace.{Trace, arrivals}
 use Rattle.kn_agenda.specs.Keeps.{Keeps}
 use Rattle.kn_agenda.proofs.Hearing.{hears}

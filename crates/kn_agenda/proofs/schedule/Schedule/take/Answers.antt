@@ -1,4 +1,4 @@
-use Rattle.std.proofs.Common.{◌≡◌, ℕ, ◌+◌, ◌<◌, ◌≤◌, ◌^◌, ◌∙◌, List, [], ◌∷◌, ◌++◌, length, length-append, false, refl, sym, ap, subst, arith}
+use Rattle.std.proofs.Common.{◌≡◌, ℕ, ◌+◌, ◌<◌, ◌≤◌, ◌∙◌, List, [], ◌∷◌, ◌++◌, length, length-append, false, sym, ap, subst, arith}
 use Rattle.std.proofs.Math.Bridge.{le_prop}
 use Rattle.std.proofs.Math.Logic.{∥∥₁_elim, ∥∥₁_map}
 use Rattle.std.specs.Prelude.{slice_index_or}
@@ -10,11 +10,11 @@ use Rattle.kn_trace.specs.Events.{react}
 use Rattle.kn_core.specs.State.{StandsFor}
 use Rattle.kn_record.specs.Made.{Holds, IsProper}
 use Rattle.kn_agenda.specs.declared.job.Job.{Job}
-use Rattle.kn_agenda.specs.Due.{IsNext, event_of, ticks_of}
+use Rattle.kn_agenda.specs.Due.{event_of, ticks_of}
 use Rattle.kn_agenda.specs.Kinds.{ticks_behind}
 use Rattle.kn_agenda.specs.Keeps.{Keeps}
 use Rattle.kn_agenda.specs.Runs.{Runs, so_far}
-use Rattle.kn_agenda.specs.Schedule.{Made, ScheduleState}
+use Rattle.kn_agenda.specs.Schedule.{ScheduleState}
 use Rattle.kn_agenda.proofs.Ending.{few_events}
 use Rattle.kn_agenda.proofs.Making.{comes_at, entries_time, services, ticks_on}
 use Rattle.kn_agenda.proofs.Stepping.{so_far_more}
