@@ -121,8 +121,8 @@ fn again<R: Threads + Wait + Sync + Print + AllocGlobal>(rt: &R) -> io::Result<(
     case(rt, "an address comes back", &seen, &want)
 }
 
-pub fn show<R: Threads + Wait + Sync + Print + AllocGlobal>(rt: &R) -> io::Result<()> {
-    try_scene(rt, "nobody comes", EMPTY, quiet())?;
+/// Crowds at an output that is slow and stalls, and at one that takes all, where there are more rows than room for them at once.
+fn crowds<R: Threads + Wait + Sync + Print + AllocGlobal>(rt: &R) -> io::Result<()> {
     let slow = Scene {
         piece: 7,
         stalls: true,
@@ -143,8 +143,12 @@ pub fn show<R: Threads + Wait + Sync + Print + AllocGlobal>(rt: &R) -> io::Resul
         "3,000 clients, and room for 1,000 rows",
         more,
         served(3000),
-    )?;
-    let held = [
+    )
+}
+
+/// Four clients are held when the server is told to stop.
+fn held<R: Threads + Wait + Sync + Print + AllocGlobal>(rt: &R) -> io::Result<()> {
+    let endings = [
         (
             "held at the stop, and pods come",
             Ending::PodsCome,
@@ -161,17 +165,20 @@ pub fn show<R: Threads + Wait + Sync + Print + AllocGlobal>(rt: &R) -> io::Resul
             in_vain(4),
         ),
     ];
-    for (name, ending, want) in &held {
-        try_scene(
-            rt,
-            name,
-            Scene {
-                ending: *ending,
-                ..HELD
-            },
-            *want,
-        )?;
+    for (name, ending, want) in &endings {
+        let scene = Scene {
+            ending: *ending,
+            ..HELD
+        };
+        try_scene(rt, name, scene, *want)?;
     }
+    Ok(())
+}
+
+pub fn show<R: Threads + Wait + Sync + Print + AllocGlobal>(rt: &R) -> io::Result<()> {
+    try_scene(rt, "nobody comes", EMPTY, quiet())?;
+    crowds(rt)?;
+    held(rt)?;
     full(rt)?;
     again(rt)
 }
