@@ -124,12 +124,15 @@ impl Desk {
         let time = time.max(self.revision.now()).min(1 << 42);
         let event = Event { time, act };
         self.log.clear();
-        let told = self.revision.step(&event, &mut self.log);
-        self.history.push_reserved(Past { pass, event, told });
+        self.revision.step_into(&event, &mut self.log, answer);
+        self.history.push_reserved(Past {
+            pass,
+            event,
+            told: *answer,
+        });
         self.book.apply(self.log.entries());
         self.tally.apply(self.log.entries());
         self.waiters.call_all(self.log.entries());
-        *answer = told;
         Ok(())
     }
 

@@ -26,7 +26,7 @@ use Rattle.kn_pods.specs.Pods.{PodsState, StandsFor as ArePodsOf, after_row}
 use Rattle.kn_throttle.specs.State as throttle
 use Rattle.kn_scaler.specs.Rows.{ruled_by, ruling_rows, tick_rulings}
 use Rattle.kn_scaler.specs.declared.scaler.Ruled.{Ruled}
-use Rattle.kn_core.specs.Steps.{is_admitted, is_own_of}
+use Rattle.kn_core.specs.Steps.{is_admitted, is_own_of, says_act}
 use Rattle.kn_core.specs.Ruled.{mode_said, phase_said, said_rows}
 use Rattle.kn_core.specs.State.{ArePartsOf, IsFixed, IsScalerOf, PartsState}
 use Rattle.kn_core.proofs.Scaled.{holds_front}
@@ -236,6 +236,10 @@ own_adds k s t c a own x is fits =
     ap (λ o. scaler_rows k s t c a o) is ∙ own_rows k s t c a x (subst (λ o. is_own_of a o ≡ true) is fits) ∙ ap (λ o. scaler_rows k s t c (act.Arrive 0) o) (sym is)
 
 -- the row of an act is so
+pub own_says : (a : Act) (own : Option Row) → IsActRow a own → says_act own ≡ true
+own_says a None h = refl
+own_says a (Some x) h = h.0
+
 pub own_fits : (a : Act) (own : Option Row) → IsActRow a own → is_own_of a own ≡ true
 own_fits act.Tick None h = refl
 own_fits _ None h = refl

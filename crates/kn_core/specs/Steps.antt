@@ -10,6 +10,7 @@ use Rattle.kn_trace.specs.Events.{activation}
 use Rattle.kn_trace.specs.Laws.{IsSettled}
 use Rattle.kn_trace.specs.Rows.{ended_by}
 use Rattle.kn_trace.specs.Trace.{Trace, contains}
+use Rattle.kn_laws.specs.Kinds.{is_act_row}
 use Rattle.kn_record.specs.Made.{Holds, IsProper}
 use Rattle.kn_record.specs.Admission.{Admission, is_at, placed_in}
 use Rattle.kn_record.specs.Order.{AreTimed}
@@ -79,6 +80,18 @@ is_own_of act.Tick (Some x) = false
 is_own_of (act.Arrive tag) own = true
 is_own_of a (Some (row.Admit r tag)) = false
 is_own_of a own = true
+
+-- the row, if there is one, is that of an act
+abbrev pub says_act : Option Row → Bool
+says_act None = true
+says_act (Some x) = is_act_row x
+
+-- the row, if there is one, is what a tick answers
+abbrev pub says_ruling : Option Row → Bool
+says_ruling None = true
+says_ruling (Some (row.Decided d)) = true
+says_ruling (Some row.NoData) = true
+says_ruling _ = false
 
 -- the parts stand for some trace that is settled, as before each event
 abbrev pub ArePartsOfSettled : PartsState → Type 0

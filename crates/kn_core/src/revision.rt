@@ -7,6 +7,7 @@ ghost use Rattle.kn_core.specs.Refused.{LeavesByAnswer};
 ghost use Rattle.kn_trace.specs.Trace.{Trace, arrivals, live, next_starting, proxied, stand_of};
 ghost use Rattle.kn_laws.specs.Kinds.{EachAt};
 ghost use Rattle.kn_core.specs.State.{IsAmongLive, StandsFor, StandsForSome};
+ghost use Rattle.kn_core.specs.Stepping.{Steps};
 ghost use Rattle.kn_core.specs.Steps.{IsWithinRange};
 
 mod gauges;
@@ -115,6 +116,21 @@ impl Revision {
         ensures clock { self.new.clock ≡ e.now.time }
         ensures events { self.new.events ≡ self.old.events + 1 }
     {
+        let mut told = Told::Passed;
+        self.step_into(e, log, &mut told);
+        told
+    }
+
+    /// Takes one event as `step` does. What it is told goes to `told`: each further move of it would copy a whole decision.
+    #[inline(always)]
+    pub fn step_into(&mut self, e: &Event, log: &mut EntryLog, told: &mut Told)
+        requires empty { log.old ≡ [] }
+        requires order { self.old.clock ≤ e.now.time }
+        requires times { e.now.time ≤ 2 ^ 42 }
+        requires count { self.old.events < 2 ^ 54 }
+        requires limit { IsWithinRange e.now.act }
+        ensures { Steps self.old e.now log.new told.new self.new }
+    {
         history_laws();
         step_laws();
         part_laws();
@@ -126,7 +142,7 @@ impl Revision {
         let limit = self.limit();
         self.clock = e.time;
         self.events += 1;
-        self.parts.react(e, limit, log)
+        self.parts.react(e, limit, log, told);
     }
 
     /// Takes one event as `step` does, and answers nothing.

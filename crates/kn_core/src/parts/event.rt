@@ -1,6 +1,7 @@
 //! One event, part by part, and what it is told. What comes at each event is inlined into one function, in which a row needs
 //! no memory but its place in the log: rows are large.
 ghost use Rattle.std.specs.Prelude.{◌≡◌, ℕ, ◌+◌, ◌<◌, ◌≤◌, ◌^◌, [], ◌∷◌, ◌++◌, length, IsSome, Some, true};
+ghost use Rattle.std.specs.Option.{option_or};
 ghost use Rattle.kn_event.specs.Revision.{AreInRange};
 ghost use Rattle.kn_event.specs.declared.entry.Phase.TheVariants as phase;
 ghost use Rattle.kn_event.specs.declared.entry.Row.TheVariants as row;
@@ -16,7 +17,7 @@ ghost use Rattle.kn_record.specs.Order.{AreTimed};
 ghost use Rattle.kn_scaler.specs.Rows.{ready_rows};
 ghost use Rattle.kn_core.specs.Scaling.{IsNextIn, IsNextInSome};
 ghost use Rattle.kn_core.specs.State.{ArePartsOf, ArePartsOfSome, IsMeasuredAt, IsMeasuredBy, IsScalerOf};
-ghost use Rattle.kn_core.specs.Steps.{AddsNobody, ArePartsOfSettled, HasFewPods, IsAlone, IsReadyFor, IsWithinRange, ending_of, woken};
+ghost use Rattle.kn_core.specs.Steps.{AddsNobody, ArePartsOfSettled, HasFewPods, IsAlone, IsReadyFor, IsWithinRange, ending_of, says_act, says_ruling, woken};
 
 use super::Parts;
 use crate::scaling;
@@ -144,30 +145,36 @@ impl Parts {
         }
     }
 
-    /// What an event is told by its act's own row, after all of its rows.
+    /// What an event is told by its act's own row, or else by that of a tick, after all of its rows. It is written in place: each
+    /// move of it would copy a whole decision.
     #[inline(always)]
-    fn told(&self, row: Option<Row>) -> Told
-        ensures { (s : SpecValue) (c : Trace) → ArePartsOf s self.now c → result ≡ told_row c row }
+    fn tell(&self, own: Option<Row>, decided: Option<Row>, told: &mut Told)
+        requires act { says_act own ≡ true }
+        requires ruling { says_ruling decided ≡ true }
+        ensures { (s : SpecValue) (c : Trace) → ArePartsOf s self.now c → told.new ≡ told_row c (option_or own decided) }
     {
-        match row {
-            Some(Row::Admit(r, _)) => told_stand(r, self.throttle.stand(r)),
-            Some(Row::Direct(r, _)) => told_stand(r, self.throttle.stand(r)),
-            Some(Row::QueueFull(r, _)) => Told::QueueFull(r),
-            Some(Row::Overload(r)) => Told::Overload(r),
-            Some(Row::Finish(r, _)) | Some(Row::Cancel(r)) => Told::Done(r),
-            Some(Row::NotRunning(r)) => Told::NotRunning(r),
-            Some(Row::NotWaiting(r)) => Told::NotWaiting(r),
-            Some(Row::NotStarting(p)) => Told::NotStarting(p),
-            Some(Row::NoPod(p)) => Told::NoPod(p),
-            Some(Row::Decided(decision)) => Told::Decided(decision),
-            Some(Row::NoData) => Told::NoData,
-            _ => Told::Passed,
+        match own {
+            Some(Row::Admit(r, _)) => *told = told_stand(r, self.throttle.stand(r)),
+            Some(Row::Direct(r, _)) => *told = told_stand(r, self.throttle.stand(r)),
+            Some(Row::QueueFull(r, _)) => *told = Told::QueueFull(r),
+            Some(Row::Overload(r)) => *told = Told::Overload(r),
+            Some(Row::Finish(r, _)) | Some(Row::Cancel(r)) => *told = Told::Done(r),
+            Some(Row::NotRunning(r)) => *told = Told::NotRunning(r),
+            Some(Row::NotWaiting(r)) => *told = Told::NotWaiting(r),
+            Some(Row::NotStarting(p)) => *told = Told::NotStarting(p),
+            Some(Row::NoPod(p)) => *told = Told::NoPod(p),
+            Some(_) => *told = Told::Passed,
+            None => match decided {
+                Some(Row::Decided(decision)) => *told = Told::Decided(decision),
+                Some(Row::NoData) => *told = Told::NoData,
+                _ => *told = Told::Passed,
+            },
         }
     }
 
-    /// One event: the log becomes its rows, and the answer is what it is told.
+    /// One event: the log becomes its rows, and what it is told goes to `told`.
     #[inline(always)]
-    pub(crate) fn react(&mut self, e: &Event, limit: u64, log: &mut EntryLog) -> Told
+    pub(crate) fn react(&mut self, e: &Event, limit: u64, log: &mut EntryLog, told: &mut Told)
         requires empty { log.old ≡ [] }
         requires some { ArePartsOfSettled self.old }
         requires ranges { AreInRange self.old.throttle.spec }
@@ -181,7 +188,7 @@ impl Parts {
         requires created { self.old.pods.created + 500 ≤ 2 ^ 63 }
         ensures logged { (s : SpecValue) (c : Trace) → ArePartsOf s self.old c → IsSettled s c → log.new ≡ react s c e.now }
         ensures stands { (s : SpecValue) (c : Trace) → ArePartsOf s self.old c → IsSettled s c → ArePartsOf s self.new (c ++ react s c e.now) }
-        ensures told { (s : SpecValue) (c : Trace) → ArePartsOf s self.old c → IsSettled s c → result ≡ told_of s c e.now }
+        ensures told { (s : SpecValue) (c : Trace) → ArePartsOf s self.old c → IsSettled s c → told.new ≡ told_of s c e.now }
         ensures spec { self.new.throttle.spec ≡ self.old.throttle.spec }
         ensures timed { AreTimed e.now.time self.new.throttle.admission }
         ensures created { self.new.pods.created ≤ self.old.pods.created + 500 }
@@ -200,7 +207,7 @@ impl Parts {
         let own = self.take(e, log);
         let decided = self.decide(e.act, own, limit, e.time, log);
         self.settle(e.time, log);
-        self.told(own.or(decided))
+        self.tell(own, decided, told);
     }
 }
 

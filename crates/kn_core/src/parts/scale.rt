@@ -10,7 +10,7 @@ ghost use Rattle.kn_trace.specs.Trace.{Trace, first_of};
 ghost use Rattle.kn_record.specs.Made.{Holds, IsProper};
 ghost use Rattle.kn_core.specs.Ruled.{said_rows};
 ghost use Rattle.kn_core.specs.State.{ArePartsOf, IsMeasuredAt};
-ghost use Rattle.kn_core.specs.Steps.{AddsNobody, IsReadyFor, is_admitted, is_own_of};
+ghost use Rattle.kn_core.specs.Steps.{AddsNobody, IsReadyFor, is_admitted, is_own_of, says_ruling};
 
 use super::Parts;
 use crate::scaling;
@@ -47,6 +47,7 @@ impl Parts {
         ensures created { self.new.pods.created ≤ self.old.pods.created + 500 }
         ensures measured { IsMeasuredAt time self.new.scaler }
         ensures most { length log.new ≤ length log.old + 503 }
+        ensures ruling { says_ruling result ≡ true }
         ensures row { own ≡ None → (s : SpecValue) (c : Trace) → ArePartsOf s self.old c → result ≡ row_of (first_of (scaler_rows s.kind s time c act own)) }
     {
         match own {
@@ -74,6 +75,7 @@ impl Parts {
         ensures created { self.new.pods.created ≤ self.old.pods.created + 500 }
         ensures measured { IsMeasuredAt time self.new.scaler }
         ensures most { length log.new ≤ length log.old + 503 }
+        ensures ruling { says_ruling result ≡ true }
         ensures row { (s : SpecValue) (c : Trace) → ArePartsOf s self.old c → result ≡ row_of (first_of (scaler_rows s.kind s time c act None)) }
     {
         match act {
@@ -119,6 +121,7 @@ impl Parts {
         ensures created { self.new.pods.created ≤ self.old.pods.created + 500 }
         ensures measured { IsMeasuredAt time self.new.scaler }
         ensures most { length log.new ≤ length log.old + 503 }
+        ensures ruling { says_ruling result ≡ true }
         ensures row { (s : SpecValue) (c : Trace) → ArePartsOf s self.old c → result ≡ row_of (first_of (scaler_rows s.kind s time c act.Tick None)) }
     {
         row_laws();

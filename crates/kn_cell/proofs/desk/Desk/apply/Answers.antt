@@ -14,7 +14,7 @@ use Rattle.kn_cell.proofs.desk.Desk.apply.Goals as goal
 
 pub push_reserved-requires : goal.push_reserved-requires
 push_reserved-requires c =
-    let h = room_left c.self.inside.revision c.args.act (live_in c.step-told.new.self) _ c.live-live.ensures.some (c.lacks.ensures.no c.if-lacks.false) c.step-told.ensures.grows in
+    let h = room_left c.self.inside.revision c.args.act (live_in c.step_into.new.self) _ c.live-live.ensures.some (c.lacks.ensures.no c.if-lacks.false) c.step_into.ensures.grows in
     omega arith
 
 -- the event that was taken, and its entries
@@ -22,7 +22,7 @@ abbrev event_of : (c : goal.After-entries) → Event
 event_of c = record { time = c.min-time.result; act = c.args.act }
 
 logged : (c : goal.After-entries) (d : Trace) → StandsFor c.self.inside.revision d → c.entries.result.now ≡ react c.self.inside.revision.spec d (event_of c)
-logged c d s = c.entries.ensures ∙ c.step-told.ensures.logged d s
+logged c d s = c.entries.ensures ∙ c.step_into.ensures.logged d s
 
 pub apply-requires : goal.apply-requires
 apply-requires c = record {
@@ -31,18 +31,18 @@ apply-requires c = record {
 
 pub invariant_of-self : goal.invariant_of-self
 invariant_of-self c =
-    let h = room_left c.self.inside.revision c.args.act (live_in c.step-told.new.self) _ c.live-live.ensures.some (c.lacks.ensures.no c.if-lacks.false) c.step-told.ensures.grows in
+    let h = room_left c.self.inside.revision c.args.act (live_in c.step_into.new.self) _ c.live-live.ensures.some (c.lacks.ensures.no c.if-lacks.false) c.step_into.ensures.grows in
     let len = c.push_reserved.ensures.len in (
       omega (arith, len),
       omega arith,
       omega (arith, len),
-      has_next c.self.inside.book c.apply.new.self c.self.inside.revision c.step-told.new.self (record { time = c.min-time.result; act = c.args.act }) c.entries.result.now
-          c.self.invariant.3 c.apply.ensures.addresses c.step-told.ensures.spec (λ d s. c.entries.ensures ∙ c.step-told.ensures.logged d s) c.step-told.ensures.stands c.apply.ensures.stands,
+      has_next c.self.inside.book c.apply.new.self c.self.inside.revision c.step_into.new.self (record { time = c.min-time.result; act = c.args.act }) c.entries.result.now
+          c.self.invariant.3 c.apply.ensures.addresses c.step_into.ensures.spec (λ d s. c.entries.ensures ∙ c.step_into.ensures.logged d s) c.step_into.ensures.stands c.apply.ensures.stands,
     )
 
 pub returns-clause-ok : goal.returns-clause-ok
 returns-clause-ok c =
-    let h = room_left c.self.inside.revision c.args.act (live_in c.step-told.new.self) _ c.live-live.ensures.some (c.lacks.ensures.no c.if-lacks.false) c.step-told.ensures.grows in
+    let h = room_left c.self.inside.revision c.args.act (live_in c.step_into.new.self) _ c.live-live.ensures.some (c.lacks.ensures.no c.if-lacks.false) c.step_into.ensures.grows in
     let len = c.push_reserved.ensures.len in
     let clock = c.self.inside.revision.clock in
     let now : Event = record { time = c.min-time.result; act = c.args.act } in
@@ -66,8 +66,8 @@ returns-clause-ok c =
       addresses = rw (← c.self.view_is) c.apply.ensures.addresses;
       book = rw (← c.self.view_is) (λ t s h.
           subst (λ e. IsBookOf c.apply.new.self (t ++ react c.self.inside.revision.spec t e)) is
-          (subst (λ es. IsBookOf c.apply.new.self (t ++ es)) (c.entries.ensures ∙ c.step-told.ensures.logged t s) (c.apply.ensures.stands t h)));
+          (subst (λ es. IsBookOf c.apply.new.self (t ++ es)) (c.entries.ensures ∙ c.step_into.ensures.logged t s) (c.apply.ensures.stands t h)));
       tally = rw (← c.self.view_is) (λ t counted s h.
           subst (λ e. IsTallyOf c.apply-2.new.self (counted ++ react c.self.inside.revision.spec t e)) is
-          (subst (λ es. IsTallyOf c.apply-2.new.self (counted ++ es)) (c.entries-2.ensures ∙ c.step-told.ensures.logged t s) (c.apply-2.ensures counted h)));
+          (subst (λ es. IsTallyOf c.apply-2.new.self (counted ++ es)) (c.entries-2.ensures ∙ c.step_into.ensures.logged t s) (c.apply-2.ensures counted h)));
     }

@@ -16,7 +16,7 @@ use Rattle.kn_core.specs.State.{ArePartsOf}
 use Rattle.kn_core.proofs.After.{ready_more}
 use Rattle.kn_core.proofs.Events.{log_before, ruled_after, told_same, woken_after}
 use Rattle.kn_core.proofs.Live.{bool_prop}
-use Rattle.kn_core.proofs.Ruling.{own_fits}
+use Rattle.kn_core.proofs.Ruling.{own_fits, own_says}
 use Rattle.kn_core.proofs.Reacting.{few_settled, own_ready, pods_same, settled_mid, some_of_settled, went}
 use Rattle.kn_core.proofs.parts.Parts.react.Goals as goal
 
@@ -90,6 +90,17 @@ decide-decided-requires-clause-own c =
     let gone = gone_after s d e in
     let h = c.advance.ensures.stands s d some.1 in
     own_fits e.act c.take-own.result (subst (IsActRow e.act) (c.take-own.ensures.row s gone (c.depart.ensures.stands s d h)) (c.part_laws.ensures.rows.act-facts s gone e.act)))
+
+pub tell-requires-clause-act : goal.tell-requires-clause-act
+tell-requires-clause-act c =
+    ∥∥₁_elim c.requires.some (bool_prop _ _)
+    (λ some.
+    let s = c.args.self.now.throttle.spec in
+    let d = some.0 in
+    let e = c.args.e.now in
+    let gone = gone_after s d e in
+    let h = c.advance.ensures.stands s d some.1 in
+    own_says e.act c.take-own.result (subst (IsActRow e.act) (c.take-own.ensures.row s gone (c.depart.ensures.stands s d h)) (c.part_laws.ensures.rows.act-facts s gone e.act)))
 
 pub decide-decided-requires-clause-draining : goal.decide-decided-requires-clause-draining
 decide-decided-requires-clause-draining c =
@@ -188,7 +199,7 @@ returns-clause-told c = λ s d parts settled.
     (c.walk_laws.ensures.parts s d e h.made) (c.depart.ensures.stands s d h) (c.take-own.ensures.row s (gone_after s d e)) (c.take-own.ensures.stands s (gone_after s d e)) in
     let k = c.decide-decided.ensures.stands s (woken_after s d e c.take-own.result) w.stands w.rows.ruled in
     let all = subst (ArePartsOf s c.settle.new.self) w.rows.trace (c.settle.ensures.stands s (ruled_after s d e c.take-own.result) k w.rows.settles) in
-    rw c.or.ensures at (c.told.ensures s (d ++ react s d e) all)
+    c.tell.ensures s (d ++ react s d e) all
     ∙ sym (told_same s d e c.take-own.result w.rows c.decide-decided.result (λ none. c.decide-decided.ensures.row none s (woken_after s d e c.take-own.result) w.stands))
 
 pub returns-clause-spec : goal.returns-clause-spec

@@ -1,4 +1,4 @@
-use Rattle.std.proofs.Common.{◌∙◌, ◌++◌, sym, ap, arith}
+use Rattle.std.proofs.Common.{◌∙◌, ◌++◌, sym, ap, arith, rules}
 use Rattle.std.proofs.Math.Bridge.{le_prop}
 use Rattle.std.proofs.Math.Logic.{∥∥₁_elim, ∥∥₁_map}
 use Rattle.kn_event.specs.declared.revision.Spec.{Spec}
@@ -7,7 +7,7 @@ use Rattle.kn_core.proofs.Live.{few_live, live_same, timed_later}
 use Rattle.kn_core.proofs.Runs.{at_least, few_arrivals, measured_later, parts_of_settled, parts_of_some}
 use Rattle.kn_core.proofs.Refused.{leaves_all}
 use Rattle.kn_core.proofs.Times.{each_prop}
-use Rattle.kn_core.proofs.revision.Revision.step.Goals as goal
+use Rattle.kn_core.proofs.revision.Revision.step_into.Goals as goal
 
 pub react-requires-clause-some : goal.react-requires-clause-some
 react-requires-clause-some c = parts_of_settled c.history_laws.ensures.settled _ c.self.invariant.spec c.self.invariant.some
@@ -38,27 +38,6 @@ react-requires-clause-arrivals c =
 pub react-requires-clause-timed : goal.react-requires-clause-timed
 react-requires-clause-timed c = timed_later _ _ _ (rw (← c.self.view_is) at c.requires.order) c.self.invariant.timed
 
-pub returns-clause-stands : goal.returns-clause-stands
-returns-clause-stands c = rw (← c.self.view_is) (λ d h. record {
-  events = c.history_laws.ensures.step _ _ _ _ d c.args.e.now h.events (rw (← c.self.view_is) at c.requires.order);
-  parts = c.react.ensures.stands _ d h.parts (c.history_laws.ensures.settled _ _ _ _ d h.events);
-})
-
-pub returns-clause-logged : goal.returns-clause-logged
-returns-clause-logged c = rw (← c.self.view_is) (λ d h. c.react.ensures.logged _ d h.parts (c.history_laws.ensures.settled _ _ _ _ d h.events))
-
-pub returns-clause-told : goal.returns-clause-told
-returns-clause-told c = rw (← c.self.view_is) (λ d h. c.react.ensures.told _ d h.parts (c.history_laws.ensures.settled _ _ _ _ d h.events))
-
-pub returns-clause-lawful : goal.returns-clause-lawful
-returns-clause-lawful c = λ d h. c.history_laws.ensures.lawful _ _ _ _ d h.events
-
-pub returns-clause-settled : goal.returns-clause-settled
-returns-clause-settled c = λ d h. c.history_laws.ensures.settled _ _ _ _ d h.events
-
-pub returns-clause-inert : goal.returns-clause-inert
-returns-clause-inert c = λ d e h. c.history_laws.ensures.inert _ _ _ _ d e h.events
-
 pub invariant_of-self : goal.invariant_of-self
 invariant_of-self c = record {
   clock = c.requires.times;
@@ -77,26 +56,35 @@ invariant_of-self c = record {
   ));
 }
 
-pub returns-clause-grows : goal.returns-clause-grows
-returns-clause-grows c = rw (← c.self.view_is) (λ d h.
-    let s = c.self.inside.spec in
-    let e = c.args.e.now in
-    let more = c.growth_laws.ensures.live s d e h.parts.made in
-    let was = live_same c.append_laws.ensures.views _ s d h.parts in
-    let now = live_same c.append_laws.ensures.views _ s (d ++ react s d e) (c.react.ensures.stands s d h.parts (c.history_laws.ensures.settled _ _ _ _ d h.events)) in
-    omega (arith, more, was, now))
-
-pub returns-clause-few : goal.returns-clause-few
-returns-clause-few c = ∥∥₁_elim c.self.invariant.some le_prop (λ h.
-    let s = c.self.inside.spec in
-    let e = c.args.e.now in
-    rw (c.react.ensures.logged s h.0 h.1.parts (c.history_laws.ensures.settled _ _ _ _ h.0 h.1.events)) (c.entry_laws.ensures.entries s h.0 e c.self.invariant.ranges h.1.parts.made (c.history_laws.ensures.settled _ _ _ _ h.0 h.1.events)))
-
-pub returns-clause-beside : goal.returns-clause-beside
-returns-clause-beside c = λ d e h. leaves_all c.step_laws.ensures.answers c.step_laws.ensures.beside _ d e h.parts.made (c.history_laws.ensures.settled _ _ _ _ d h.events)
-
-pub returns-clause-at : goal.returns-clause-at
-returns-clause-at c = ∥∥₁_elim c.self.invariant.some (each_prop _ _) (λ h.
-    let s = c.self.inside.spec in
-    let e = c.args.e.now in
-    rw (c.react.ensures.logged s h.0 h.1.parts (c.history_laws.ensures.settled _ _ _ _ h.0 h.1.events)) (c.part_laws.ensures.rows.react-at s h.0 e))
+pub returns : goal.returns
+returns c = record {
+  logged = rw (← c.self.view_is) (λ d h. c.react.ensures.logged _ d h.parts (c.history_laws.ensures.settled _ _ _ _ d h.events));
+  told = rw (← c.self.view_is) (λ d h. c.react.ensures.told _ d h.parts (c.history_laws.ensures.settled _ _ _ _ d h.events));
+  stands = rw (← c.self.view_is) (λ d h. record {
+    events = c.history_laws.ensures.step _ _ _ _ d c.args.e.now h.events (rw (← c.self.view_is) at c.requires.order);
+    parts = c.react.ensures.stands _ d h.parts (c.history_laws.ensures.settled _ _ _ _ d h.events);
+  });
+  at = ∥∥₁_elim c.self.invariant.some (each_prop _ _) (λ h.
+      let s = c.self.inside.spec in
+      let e = c.args.e.now in
+      rw (c.react.ensures.logged s h.0 h.1.parts (c.history_laws.ensures.settled _ _ _ _ h.0 h.1.events)) (c.part_laws.ensures.rows.react-at s h.0 e));
+  few = ∥∥₁_elim c.self.invariant.some le_prop (λ h.
+      let s = c.self.inside.spec in
+      let e = c.args.e.now in
+      rw (c.react.ensures.logged s h.0 h.1.parts (c.history_laws.ensures.settled _ _ _ _ h.0 h.1.events)) (c.entry_laws.ensures.entries s h.0 e c.self.invariant.ranges h.1.parts.made (c.history_laws.ensures.settled _ _ _ _ h.0 h.1.events)));
+  grows = rw (← c.self.view_is) (λ d h.
+      let s = c.self.inside.spec in
+      let e = c.args.e.now in
+      let more = c.growth_laws.ensures.live s d e h.parts.made in
+      let was = live_same c.append_laws.ensures.views _ s d h.parts in
+      let now = live_same c.append_laws.ensures.views _ s (d ++ react s d e) (c.react.ensures.stands s d h.parts (c.history_laws.ensures.settled _ _ _ _ d h.events)) in
+      omega (arith, more, was, now));
+  lawful = λ d h. c.history_laws.ensures.lawful _ _ _ _ d h.events;
+  settled = λ d h. c.history_laws.ensures.settled _ _ _ _ d h.events;
+  inert = λ d e h. c.history_laws.ensures.inert _ _ _ _ d e h.events;
+  beside = λ d e h. leaves_all c.step_laws.ensures.answers c.step_laws.ensures.beside _ d e h.parts.made (c.history_laws.ensures.settled _ _ _ _ d h.events);
+  spec = search rules;
+  start = search rules;
+  clock = search rules;
+  events = search rules;
+}
