@@ -1,5 +1,5 @@
 //! What lies in the slot: the revision with its history. What an event does is said here, and needs no thread.
-ghost use Rattle.std.specs.Prelude.{◌≡◌, ◌<◌, ◌≤◌, ◌+◌, ◌^◌, true, false, IfOk, IfErr, IfSome, [], length, vec_capacity};
+ghost use Rattle.std.specs.Prelude.{◌≡◌, ◌<◌, ◌≤◌, ◌+◌, ◌++◌, ◌∷◌, ◌^◌, true, false, IfOk, IfErr, IfSome, [], length, vec_capacity, vec_len};
 ghost use Rattle.kn_trace.specs.Events.{need_of};
 ghost use Rattle.kn_trace.specs.Trace.{Trace, next_starting, proxied, stand_of};
 ghost use Rattle.kn_book.specs.Book.{call_address, next_to_probe};
@@ -7,7 +7,7 @@ ghost use Rattle.kn_book.specs.State.{StandsFor as IsBookOf};
 ghost use Rattle.kn_core.specs.State.{StandsFor};
 ghost use Rattle.kn_figures.specs.Figures.{IsFiguresOf};
 ghost use Rattle.kn_figures.specs.Tallies.{IsTallyOf};
-ghost use Rattle.kn_cell.specs.History.{MayCome};
+ghost use Rattle.kn_cell.specs.History.{MayCome, past};
 ghost use Rattle.kn_cell.specs.Desk.{Applies, Refuses, emptied};
 ghost use Rattle.kn_cell.specs.Books.{HasBook};
 ghost use Rattle.kn_cell.specs.State.{live_in};
@@ -125,11 +125,7 @@ impl Desk {
         let event = Event { time, act };
         self.log.clear();
         self.revision.step_into(&event, &mut self.log, answer);
-        self.history.push_reserved(Past {
-            pass,
-            event,
-            told: *answer,
-        });
+        keep(&mut self.history, pass, event, answer);
         self.book.apply(self.log.entries());
         self.tally.apply(self.log.entries());
         self.waiters.call_all(self.log.entries());
@@ -231,6 +227,34 @@ impl Desk {
         let address = self.book.address(pod)?;
         Some((pod, address))
     }
+}
+
+/// Puts a row behind the others. The most common answers are written where they stay: as a whole each would be moved twice, with
+/// the room that only a decision takes.
+#[inline(always)]
+fn keep(rows: &mut Vec<Past>, pass: u64, event: Event, told: &Told)
+    requires { vec_len rows.old < vec_capacity rows.old }
+    ensures items { rows.new.items ≡ rows.old.items ++ past pass event told.now ∷ [] }
+    ensures len { vec_len rows.new ≡ vec_len rows.old + 1 }
+    ensures capacity { vec_capacity rows.new ≡ vec_capacity rows.old }
+{
+    match *told {
+        Told::Run(r, p) => put(rows, pass, event, Told::Run(r, p)),
+        Told::AtPod(r, p) => put(rows, pass, event, Told::AtPod(r, p)),
+        Told::Held(r) => put(rows, pass, event, Told::Held(r)),
+        Told::Done(r) => put(rows, pass, event, Told::Done(r)),
+        told => put(rows, pass, event, told),
+    }
+}
+
+#[inline(always)]
+fn put(rows: &mut Vec<Past>, pass: u64, event: Event, told: Told)
+    requires { vec_len rows.old < vec_capacity rows.old }
+    ensures items { rows.new.items ≡ rows.old.items ++ past pass event told ∷ [] }
+    ensures len { vec_len rows.new ≡ vec_len rows.old + 1 }
+    ensures capacity { vec_capacity rows.new ≡ vec_capacity rows.old }
+{
+    rows.push_reserved(Past { pass, event, told });
 }
 
 /// Whether a request waits where it stands.

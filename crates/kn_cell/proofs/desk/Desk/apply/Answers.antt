@@ -12,8 +12,8 @@ use Rattle.kn_cell.proofs.Bookkeeping.{has_next, has_room}
 use Rattle.kn_cell.proofs.Rooms.{room_left}
 use Rattle.kn_cell.proofs.desk.Desk.apply.Goals as goal
 
-pub push_reserved-requires : goal.push_reserved-requires
-push_reserved-requires c =
+pub keep-requires : goal.keep-requires
+keep-requires c =
     let h = room_left c.self.inside.revision c.args.act (live_in c.step_into.new.self) _ c.live-live.ensures.some (c.lacks.ensures.no c.if-lacks.false) c.step_into.ensures.grows in
     omega arith
 
@@ -32,7 +32,7 @@ apply-requires c = record {
 pub invariant_of-self : goal.invariant_of-self
 invariant_of-self c =
     let h = room_left c.self.inside.revision c.args.act (live_in c.step_into.new.self) _ c.live-live.ensures.some (c.lacks.ensures.no c.if-lacks.false) c.step_into.ensures.grows in
-    let len = c.push_reserved.ensures.len in (
+    let len = c.keep.ensures.len in (
       omega (arith, len),
       omega arith,
       omega (arith, len),
@@ -43,7 +43,7 @@ invariant_of-self c =
 pub returns-clause-ok : goal.returns-clause-ok
 returns-clause-ok c =
     let h = room_left c.self.inside.revision c.args.act (live_in c.step_into.new.self) _ c.live-live.ensures.some (c.lacks.ensures.no c.if-lacks.false) c.step_into.ensures.grows in
-    let len = c.push_reserved.ensures.len in
+    let len = c.keep.ensures.len in
     let clock = c.self.inside.revision.clock in
     let now : Event = record { time = c.min-time.result; act = c.args.act } in
     let is : now ≡ event_at clock c.args.time c.args.act = ap (λ t. record { time = t; act = c.args.act })
