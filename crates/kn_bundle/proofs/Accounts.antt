@@ -7,9 +7,9 @@ use Rattle.kn_journal.specs.declared.journal.Journal.{Journal}
 use Rattle.kn_journal.specs.declared.status.Status.{Status}
 use Rattle.kn_journal.specs.declared.status.Status.TheVariants as status
 use Rattle.kn_journal.specs.Lines.{lines}
-use Rattle.kn_follow.specs.Account.{Account}
+use Rattle.kn_follow.specs.Account.{Account, SaysSame}
 use Rattle.kn_bundle.specs.Bundle.{Bundle, bundle, bundle_of_lines}
-use Rattle.kn_bundle.specs.Following.{BreaksBeyond, BreaksIn, FollowsBundle, LacksMemory, SaysSame, WritesUnless, end_in, text_at, text_in, text_of_opened}
+use Rattle.kn_bundle.specs.Following.{BreaksBeyond, BreaksIn, FollowsBundle, LacksMemory, WritesUnless, end_in, text_at, text_in, text_of_opened}
 
 same_opened : (a b : Account) (opened : Option Journal) → SaysSame a b → text_of_opened a opened ≡ text_of_opened b opened
 same_opened a b None h = refl

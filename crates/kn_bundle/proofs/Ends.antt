@@ -1,5 +1,5 @@
 -- How following the events of a journal in a bundle ends.
-use Rattle.std.proofs.Common.{◌≡◌, ℕ, Bool, List, [], ◌∷◌, ◌++◌, append_assoc, append-nil, refl, sym, ap, ◌∙◌, subst, inl, inr}
+use Rattle.std.proofs.Common.{◌≡◌, ℕ, Bool, List, [], ◌∷◌, ◌++◌, append_assoc, refl, sym, ap, ◌∙◌, subst, inl, inr}
 use Rattle.std.specs.Prelude.{Option, None, Some, Err}
 use Rattle.std.specs.Io.KnownBytes.{Appends}
 use Rattle.kn_event.specs.declared.event.Event.{Event}
@@ -19,9 +19,7 @@ use Rattle.kn_report.specs.Waiting.{Adds}
 use Rattle.kn_teller.specs.Manner.{Manner, told}
 use Rattle.kn_teller.specs.Run.{Run}
 use Rattle.kn_follow.specs.Following.{ran}
-use Rattle.kn_follow.proofs.Follows.{told-more}
-use Rattle.kn_follow.proofs.Pieces.{prefix_more}
-use Rattle.kn_follow.proofs.Waits.{adds_some}
+use Rattle.kn_follow.specs.Laws.{TellingLaws, WaitingLaws}
 use Rattle.kn_bundle.specs.Bundle.{Course, course}
 use Rattle.kn_bundle.specs.Stages.{BreaksCourse, FollowsCourse, StopsCourse, close_by, course_text}
 use Rattle.kn_bundle.proofs.Alongs.{IsAlong, along_over, along_taken}
@@ -31,40 +29,31 @@ use Rattle.kn_bundle.proofs.Courses.{GoesOn, reads_all, reads_end, reads_none, r
 abbrev pub IsGrowing : (List Event → List ℕ) → Type 0
 IsGrowing body = (es more : List Event) → (rest : List ℕ) × (body (es ++ more) ≡ body es ++ rest)
 
-told_further : (w : Manner) (run : Run) (es more : List Event) → (rest : List ℕ) × (told w run (es ++ more) ≡ told w run es ++ rest)
-told_further w run es [] = ([], ap (λ (x : List Event). told w run x) (append-nil es) ∙ sym (append-nil (told w run es)))
-told_further w run es (e ∷ more) =
-    let next = told_further w run (es ++ e ∷ []) more in
-    let one = w.tells (ran run es) e in (
-      one ++ next.0,
-      ap (λ (x : List Event). told w run x) (sym (append_assoc es (e ∷ []) more)) ∙ next.1
-          ∙ ap (λ (z : List ℕ). z ++ next.0) (told-more w run es e) ∙ append_assoc (told w run es) one next.0,
-    )
-
-pub told-grows : (w : Manner) (run : Run) (waiting : List ℕ) → IsGrowing (λ es. waiting ++ told w run es)
-told-grows w run waiting es more =
-    let front = told_further w run es more in
-    (front.0, ap (λ (z : List ℕ). waiting ++ z) front.1 ∙ sym (append_assoc waiting (told w run es) front.0))
+pub told-grows : (tells : TellingLaws) (w : Manner) (run : Run) (waiting : List ℕ) → IsGrowing (λ es. waiting ++ told w run es)
+told-grows tells w run waiting es more =
+    let rest = told w (ran run es) more in
+    (rest, ap (λ (z : List ℕ). waiting ++ z) (tells.more w run es more) ∙ sym (append_assoc waiting (told w run es) rest))
 
 -- what is told of one more event was not all written
-pub some_told : (w : Manner) (run : Run) (es : List Event) (e : Event) (a b d : Option (List ℕ)) (p q : List ℕ) → Adds a b p q (told w run es) → AppendsPrefix b d (q ++ w.tells (ran run es) e) → AppendsPrefix a d (p ++ told w run (es ++ e ∷ []))
-some_told w run es e a b d p q h k =
-    let x = told w run es in
-    let y = w.tells (ran run es) e in
-    subst (λ (z : List ℕ). AppendsPrefix a d (p ++ z)) (ap (λ (z : List ℕ). x ++ z) (append-nil y) ∙ sym (told-more w run es e)) (adds_some a b d p q x y [] h k)
+pub some_told : (waits : WaitingLaws) (tells : TellingLaws) (w : Manner) (run : Run) (es : List Event) (e : Event) (a b d : Option (List ℕ)) (p q : List ℕ) → Adds a b p q (told w run es) → AppendsPrefix b d (q ++ w.tells (ran run es) e)
+    → AppendsPrefix a d (p ++ told w run (es ++ e ∷ []))
+some_told waits tells w run es e a b d p q h k =
+    let one = w.tells (ran run es) e in
+    let all = told w run (es ++ e ∷ []) in
+    waits.some a b d p (q ++ one) all (waits.more h (waits.waits b q (q ++ one) one refl) (sym (tells.next w run es e))) k
 
 -- some of what is written of these events was written
-pub goes_cut : (body close : List Event → List ℕ) (version last number n : ℕ) (known left old new : Option (List ℕ)) (es : List Event) (time m : ℕ) (rest : Option (List ℕ))
+pub goes_cut : (waits : WaitingLaws) (body close : List Event → List ℕ) (version last number n : ℕ) (known left old new : Option (List ℕ)) (es : List Event) (time m : ℕ) (rest : Option (List ℕ))
     → GoesOn version last number known es time m rest → IsGrowing body → AppendsPrefix old new (body es) → FollowsCourse body close version last number n known left old new status.WriteFault
-goes_cut body close version last number n None left old new es time m rest h grows some = tt
-goes_cut body close version last number n (Some xs) left old new es time m None h grows some = absurd h
-goes_cut body close version last number n (Some xs) left old new es time m (Some ys) h grows some =
+goes_cut waits body close version last number n None left old new es time m rest h grows some = tt
+goes_cut waits body close version last number n (Some xs) left old new es time m None h grows some = absurd h
+goes_cut waits body close version last number n (Some xs) left old new es time m (Some ys) h grows some =
     let c = course version time m (lines ys) in
     let more = grows es c.events in
     let end = close_by (close (es ++ c.events)) c.ends in
     let text : body es ++ (more.0 ++ end) ≡ course_text body close (with_events es c) = sym (append_assoc (body es) more.0 end) ∙ ap (λ (z : List ℕ). z ++ end) (sym more.1) in
     subst (λ (x : Course). AppendsPrefix old new (course_text body close x)) (sym (reads_all version last number (lines xs) es time m (lines ys) h))
-    (subst (AppendsPrefix old new) text (prefix_more old new (body es) (more.0 ++ end) some))
+    (subst (AppendsPrefix old new) text (waits.front old new (body es) (more.0 ++ end) some))
 
 -- `end` was read
 pub goes_end : (body close : List Event → List ℕ) (version last number n : ℕ) (known left old new : Option (List ℕ)) (es : List Event) (time m : ℕ) (rest : Option (List ℕ)) (result : Status)
@@ -87,13 +76,13 @@ goes_end body close version last number n (Some xs) (Some zs) old new es time m 
         (subst (λ (x : Course). AppendsPrefix old new (course_text body close x)) (sym all) some)
 
 -- reading stopped
-pub goes_stop : (laws : TextLaws) (body close : List Event → List ℕ) (first cut : Bool) (version last number n : ℕ) (known left old new : Option (List ℕ)) (es : List Event) (time m : ℕ) (rest : Option (List ℕ)) (e : JournalError) (result : Status)
+pub goes_stop : (laws : TextLaws) (waits : WaitingLaws) (body close : List Event → List ℕ) (first cut : Bool) (version last number n : ℕ) (known left old new : Option (List ℕ)) (es : List Event) (time m : ℕ) (rest : Option (List ℕ)) (e : JournalError) (result : Status)
     → GoesOn version last number known es time m rest → IsGrowing body → IsOver first known → IsAlong first cut known rest
     → (IsOver cut rest → Refuses (next_of_part version time m) e rest) → (e ≡ error.ReadFault → TakesPart rest left) → (e ≡ error.Memory → ⊥) → Stops (body es) old new (status_of e) result
     → FollowsCourse body close version last number n known left old new result
-goes_stop laws body close first cut version last number n None left old new es time m rest e result h grows over along refuses amid none stops = tt
-goes_stop laws body close first cut version last number n (Some xs) left old new es time m None e result h grows over along refuses amid none stops = absurd h
-goes_stop laws body close first cut version last number n (Some xs) left old new es time m (Some ys) e result h grows over along refuses amid none stops = by_stop stops
+goes_stop laws waits body close first cut version last number n None left old new es time m rest e result h grows over along refuses amid none stops = tt
+goes_stop laws waits body close first cut version last number n (Some xs) left old new es time m None e result h grows over along refuses amid none stops = absurd h
+goes_stop laws waits body close first cut version last number n (Some xs) left old new es time m (Some ys) e result h grows over along refuses amid none stops = by_stop stops
   where
     refused : (x : JournalError) (cause : Cause) → error_of cause ≡ x → next_of_part version time m (lines ys) ≡ Err cause → Appends old new (body es) → StopsCourse body version last number (lines xs) old new (status_of x)
     refused x cause is g held =
@@ -133,4 +122,4 @@ goes_stop laws body close first cut version last number n (Some xs) left old new
         (by_error e (refuses (along_over first cut xs ys over along)) amid none held)
     by_stop (inr (is, some)) =
         subst (λ (x : Status). FollowsCourse body close version last number n (Some xs) left old new x) (sym is)
-        (goes_cut body close version last number n (Some xs) left old new es time m (Some ys) h grows some)
+        (goes_cut waits body close version last number n (Some xs) left old new es time m (Some ys) h grows some)

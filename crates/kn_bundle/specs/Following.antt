@@ -75,8 +75,3 @@ abbrev pub FollowsBundle : Account → ℕ → Option (List ℕ) → Option (Lis
 FollowsBundle a k None left given old new result = ⊤
 FollowsBundle a k (Some xs) left given old new result =
     WritesUnless (text_in a k (bundle xs)) (end_in k (bundle xs)) (BreaksBeyond a k xs left given) (LacksMemory a k (lines xs)) old new result
-
--- they write the same of each journal
-pub record SaysSame (a b : Account) : Type 0 where
-  pub body : (j : Journal) → a.body j ≡ b.body j
-  pub close : (j : Journal) → a.close j ≡ b.close j

@@ -8,6 +8,7 @@ ghost use Rattle.kn_bundle.specs.Following.{FollowsBundle, end_by};
 
 use crate::journal::read_journal;
 use kn_event::Memory;
+use kn_follow::laws::{call_laws, ending_laws, waiting_laws};
 use kn_follow::status_of;
 use kn_io::{Sink, Source};
 use kn_journal::{JournalError, JournalReader, Status, text_laws};
@@ -58,6 +59,9 @@ pub fn follow_bundle<T: Teller + Drop, F: Form<T>, S: Source, O: Sink>(
         Err(Memory) => return Status::Memory,
     };
     text_laws();
+    waiting_laws();
+    call_laws();
+    ending_laws();
     // Each journal takes a byte at least, so before so many 2^56 bytes were taken.
     for count in 0..1u64 << 57 {
         match reader.part(source) {

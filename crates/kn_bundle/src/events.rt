@@ -11,6 +11,7 @@ ghost use Rattle.kn_bundle.specs.Calls.{IsNextOf, IsReadyFor, IsWithin};
 ghost use Rattle.kn_bundle.specs.Stages.{FollowsCourse};
 
 use kn_event::Event;
+use kn_follow::laws::{call_laws, ending_laws, telling_laws, waiting_laws};
 use kn_follow::{Follower, status_of};
 use kn_io::{Failed, Sink, Source};
 use kn_journal::{JournalError, JournalReader, Status, text_laws};
@@ -55,6 +56,9 @@ pub fn skip_events<S: Source>(reader: &mut JournalReader, source: &mut S) -> Sta
     ensures grows { reader.old.input.taken ≤ reader.new.input.taken }
 {
     text_laws();
+    waiting_laws();
+    call_laws();
+    ending_laws();
     // Each event takes six bytes at least, so after so many 2^56 bytes were taken.
     for _count in 0..1u64 << 54 {
         match next_event(reader, source) {
@@ -98,6 +102,10 @@ pub fn follow_events<T: Teller, S: Source, O: Sink>(
     ensures cause { IsCaused (O.Faulty.faults out.old) (O.Faulty.faults out.new) result }
 {
     text_laws();
+    waiting_laws();
+    telling_laws();
+    call_laws();
+    ending_laws();
     // Each event takes six bytes at least, so after so many 2^56 bytes were taken.
     for count in 0..1u64 << 54 {
         match follower.write_unless(reader.holds_line(), out) {

@@ -1,8 +1,8 @@
 //! What is said of a bundle in the words of one account is said in those of another.
 ghost use Rattle.std.specs.Prelude.{ℕ, List, Option};
 ghost use Rattle.kn_journal.specs.declared.status.Status.{Status};
-ghost use Rattle.kn_follow.specs.Account.{Account};
-ghost use Rattle.kn_bundle.specs.Following.{FollowsBundle, SaysSame};
+ghost use Rattle.kn_follow.specs.Account.{Account, SaysSame};
+ghost use Rattle.kn_bundle.specs.Following.{FollowsBundle};
 
 /// Two accounts that write the same of each journal write the same of a bundle.
 pub fn accounts_are_same()

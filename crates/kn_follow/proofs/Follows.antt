@@ -26,33 +26,31 @@ pub told-nil : (w : Manner) (run : Run) → told w run [] ≡ []
 unfolding told
 told-nil w run = refl
 
-pub told-more : (w : Manner) (run : Run) (es : List Event) (e : Event) → told w run (es ++ e ∷ []) ≡ told w run es ++ w.tells (ran run es) e
+-- what is told of some events, and then of others
+pub told-append : (w : Manner) (run : Run) (es others : List Event) → told w run (es ++ others) ≡ told w run es ++ told w (ran run es) others
 unfolding told
-told-more w run [] e =
-    let same : w.tells run e ≡ w.tells (ran run []) e = ap (λ (es : List Event). w.tells (record { spec = run.spec; start = run.start; events = es }) e) (sym (append-nil run.events)) in
-    append-nil (w.tells run e) ∙ same
-told-more w run (d ∷ es) e =
+told-append w run [] others = ap (λ (es : List Event). told w (record { spec = run.spec; start = run.start; events = es }) others) (sym (append-nil run.events))
+told-append w run (d ∷ es) others =
     let same : ran (later run d) es ≡ ran run (d ∷ es) = ap (λ (x : List Event). record { spec = run.spec; start = run.start; events = x }) (append_assoc run.events (d ∷ []) es) in
-    ap (λ (z : List ℕ). w.tells run d ++ z) (told-more w (later run d) es e)
-    ∙ sym (append_assoc (w.tells run d) (told w (later run d) es) (w.tells (ran (later run d) es) e))
-    ∙ ap (λ (u : Run). (w.tells run d ++ told w (later run d) es) ++ w.tells u e) same
+    ap (λ (z : List ℕ). w.tells run d ++ z) (told-append w (later run d) es others)
+    ∙ sym (append_assoc (w.tells run d) (told w (later run d) es) (told w (ran (later run d) es) others))
+    ∙ ap (λ (u : Run). (w.tells run d ++ told w (later run d) es) ++ told w u others) same
 
--- what is told of some events stands at the front of what is told of more
-told_front : (w : Manner) (run : Run) (es more : List Event) → (rest : List ℕ) × (told w run (es ++ more) ≡ told w run es ++ rest)
+told-one : (w : Manner) (run : Run) (e : Event) → told w run (e ∷ []) ≡ w.tells run e
 unfolding told
-told_front w run [] more = (told w run more, refl)
-told_front w run (e ∷ es) more =
-    let front = told_front w (later run e) es more in
-    (front.0, ap (λ (z : List ℕ). w.tells run e ++ z) front.1 ∙ sym (append_assoc (w.tells run e) (told w (later run e) es) front.0))
+told-one w run e = append-nil (w.tells run e)
+
+pub told-more : (w : Manner) (run : Run) (es : List Event) (e : Event) → told w run (es ++ e ∷ []) ≡ told w run es ++ w.tells (ran run es) e
+told-more w run es e = told-append w run es (e ∷ []) ∙ ap (λ (z : List ℕ). told w run es ++ z) (told-one w (ran run es) e)
 
 -- what is written of these events, and then of the others
 rest-split : (version : ℕ) (w : Manner) (run : Run) (es : List Event) (r : Read)
     → (more : List ℕ) × (rest_of_text version w run (with_events es r) ≡ told w run es ++ more)
 unfolding rest_of_text
 rest-split version w run es r =
-    let front = told_front w run es r.events in
+    let rest = told w (ran run es) r.events in
     let end = ending version w (ran run (es ++ r.events)) r.refused in
-    (front.0 ++ end, ap (λ (z : List ℕ). z ++ end) front.1 ∙ append_assoc (told w run es) front.0 end)
+    (rest ++ end, ap (λ (z : List ℕ). z ++ end) (told-append w run es r.events) ∙ append_assoc (told w run es) rest end)
 
 -- ---- what was read so far
 

@@ -1,5 +1,5 @@
 -- Text that waits, and what is written of it.
-use Rattle.std.proofs.Common.{◌≡◌, ℕ, List, [], ◌++◌, append_assoc, append-nil, sym, ap, ◌∙◌, subst}
+use Rattle.std.proofs.Common.{◌≡◌, ℕ, List, [], ◌++◌, append_assoc, append-nil, refl, sym, ap, ◌∙◌, subst}
 use Rattle.std.specs.Prelude.{Option}
 use Rattle.std.specs.Io.KnownBytes.{Appends}
 use Rattle.std.proofs.KnownBytes.{Appends-nil, Appends-trans}
@@ -7,15 +7,24 @@ use Rattle.kn_io.specs.Prefix.{AppendsPrefix}
 use Rattle.kn_report.specs.Waiting.{Adds}
 use Rattle.kn_follow.proofs.Pieces.{prefix_after}
 
-pub adds_nothing : (a : Option (List ℕ)) (p : List ℕ) → Adds a a p p []
-adds_nothing a p = record { written = []; held = Appends-nil a; all = append-nil p }
+-- a text came behind what waits, and nothing was written
+pub adds_waits : (a : Option (List ℕ)) (p q x : List ℕ) → p ++ x ≡ q → Adds a a p q x
+adds_waits a p q x is = record { written = []; held = Appends-nil a; all = is }
 
-pub adds_trans : (a b d : Option (List ℕ)) (p q r x y : List ℕ) → Adds a b p q x → Adds b d q r y → Adds a d p r (x ++ y)
-adds_trans a b d p q r x y h k = record {
+pub adds_nothing : (a : Option (List ℕ)) (p : List ℕ) → Adds a a p p []
+adds_nothing a p = adds_waits a p p [] (append-nil p)
+
+pub adds_more : {a b d : Option (List ℕ)} {p q r x y text : List ℕ} → Adds a b p q x → Adds b d q r y → x ++ y ≡ text → Adds a d p r text
+adds_more {a} {b} {d} {p} {q} {r} {x} {y} h k is = record {
   written = h.written ++ k.written;
   held = Appends-trans a b d h.written k.written h.held k.held;
-  all = sym (append_assoc p x y) ∙ ap (λ (z : List ℕ). z ++ y) h.all ∙ append_assoc h.written q y ∙ ap (λ (z : List ℕ). h.written ++ z) k.all ∙ sym (append_assoc h.written k.written r);
+  all =
+      ap (λ (z : List ℕ). p ++ z) (sym is)
+      ∙ sym (append_assoc p x y) ∙ ap (λ (z : List ℕ). z ++ y) h.all ∙ append_assoc h.written q y ∙ ap (λ (z : List ℕ). h.written ++ z) k.all ∙ sym (append_assoc h.written k.written r);
 }
+
+pub adds_trans : (a b d : Option (List ℕ)) (p q r x y : List ℕ) → Adds a b p q x → Adds b d q r y → Adds a d p r (x ++ y)
+adds_trans a b d p q r x y h k = adds_more h k refl
 
 -- what was written and what waits, with what comes behind it
 adds_then : (a b : Option (List ℕ)) (p q x y : List ℕ) (h : Adds a b p q x) → h.written ++ (q ++ y) ≡ (p ++ x) ++ y
@@ -41,4 +50,4 @@ adds_stop a b d p q x h k =
 
 -- and then what waits was written, or goes on waiting
 pub adds_on : (a b d : Option (List ℕ)) (p q r x : List ℕ) → Adds a b p q x → Adds b d q r [] → Adds a d p r x
-adds_on a b d p q r x h k = subst (Adds a d p r) (append-nil x) (adds_trans a b d p q r x [] h k)
+adds_on a b d p q r x h k = adds_more h k (append-nil x)

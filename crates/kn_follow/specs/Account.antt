@@ -1,5 +1,5 @@
 -- What is written of a journal.
-use Rattle.std.specs.Prelude.{ℕ, ◌++◌, List, [], None, Some}
+use Rattle.std.specs.Prelude.{◌≡◌, ℕ, ◌++◌, List, [], None, Some}
 use Rattle.kn_journal.specs.declared.journal.Journal.{Journal}
 use Rattle.kn_journal.specs.Journal.{Verdict, bad, good}
 use Rattle.kn_teller.specs.Manner.{Manner, told}
@@ -9,6 +9,11 @@ use Rattle.kn_teller.specs.Run.{Run, begun}
 pub record Account : Type 0 where
   pub body : Journal → List ℕ
   pub close : Journal → List ℕ
+
+-- they write the same of each journal
+pub record SaysSame (a b : Account) : Type 0 where
+  pub body : (j : Journal) → a.body j ≡ b.body j
+  pub close : (j : Journal) → a.close j ≡ b.close j
 
 -- the run of a journal, before its first event and after its last one
 abbrev pub begun_of : Journal → Run

@@ -3,3 +3,4 @@ pub mod Account
 pub mod Following
 pub mod Calls
 pub mod Cutting
+pub mod Laws

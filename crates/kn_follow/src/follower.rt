@@ -59,14 +59,8 @@ impl Follower {
         ensures waiting { IfOk result (λ f. f.waiting ≡ []) }
     {
         trace_laws();
-        let mut log = match EntryLog::new(alloc) {
-            Ok(log) => log,
-            Err(Memory) => return Err(Memory),
-        };
-        let revision = match Revision::new(alloc, spec, start, &mut log) {
-            Ok(revision) => revision,
-            Err(Memory) => return Err(Memory),
-        };
+        let mut log = EntryLog::new(alloc)?;
+        let revision = Revision::new(alloc, spec, start, &mut log)?;
         Ok(Follower {
             revision,
             log,

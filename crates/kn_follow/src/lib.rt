@@ -4,6 +4,7 @@
 mod ending;
 mod follower;
 mod journal;
+pub mod laws;
 
 pub use ending::status_of;
 pub use follower::Follower;

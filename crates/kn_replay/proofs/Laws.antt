@@ -13,11 +13,10 @@ use Rattle.kn_journal.specs.declared.journal.Opening.{Opening}
 use Rattle.kn_journal.specs.declared.journal.Setup.{Setup}
 use Rattle.kn_journal.specs.Causes.{Cause, line_too_long, time_back, time_too_large}
 use Rattle.kn_journal.specs.Lines.{fits, lines}
-use Rattle.kn_journal.specs.Parts.{Part}
+use Rattle.kn_journal.specs.Parts.{Part, part, then_part}
 use Rattle.kn_journal.specs.declared.journal.Journal.{Journal}
 use Rattle.kn_journal.specs.Journal.{Read, Verdict, bad, end_part, event_in, from_read, good, in_time, journal_of, next_part, nothing_part, opening_part, or_bad, read_events, start_part, then_events, time_most, verdict, verdict_of_lines, verdict_on}
 use Rattle.kn_replay.specs.Report.{OnJournal, OnJournalOf}
-use Rattle.kn_follow.proofs.Lines.{end_after}
 
 on_verdict : (v : Verdict) (P : Journal → Type 0) → ((j : Journal) → P j) → OnJournal v P
 on_verdict (good j) P h = h j
@@ -37,7 +36,7 @@ AreSpelled = (version : ℕ) (line : List ℕ) (e : Event) → event_of version 
 no_loss : (a : Act) → IsInVersion 1 a → (p : ℕ) → a ≡ act.Lost p → ⊥
 no_loss a h p is = let two : 1 ≡ 2 = subst (IsInVersion 1) is h in absurd (omega (arith, two))
 
-no_more : (r : Result (Part ⊤) Cause) (next : Event → ℕ → Read) → AreNoLosses (then_events (end_after r) next).events
+no_more : (r : Result (Part ⊤) Cause) (next : Event → ℕ → Read) → AreNoLosses (then_events (then_part r (λ _ n left. Ok (part None n left))) next).events
 no_more (Ok p) next = tt
 no_more (Err cause) next = tt
 

@@ -12,8 +12,7 @@ use Rattle.kn_journal.specs.declared.status.Status.{Status}
 use Rattle.kn_journal.specs.declared.status.Status.TheVariants as status
 use Rattle.kn_teller.specs.Manner.{told}
 use Rattle.kn_teller.specs.Run.{Run, begun, later, trace}
-use Rattle.kn_follow.specs.Account.{account_of}
-use Rattle.kn_follow.proofs.Accounts.{IsSame}
+use Rattle.kn_follow.specs.Account.{SaysSame, account_of}
 use Rattle.kn_replay.specs.Replaying.{IsReplayed}
 use Rattle.kn_replay.specs.Report.{journal_last_line, journal_rows, report, row_by_row}
 
@@ -86,7 +85,7 @@ unfolding journal_last_line
 told_close j = refl
 
 -- so a report is told row by row
-pub report_told : IsSame (account_of row_by_row) report
+pub report_told : SaysSame (account_of row_by_row) report
 report_told = record { body = told_body; close = told_close }
 
 -- ---- how it ends

@@ -6,6 +6,7 @@ ghost use Rattle.kn_replay.specs.Replaying.{EndsThere, IsRefusal, IsReplayed, Le
 
 use crate::rows::Report;
 use kn_follow::follow_journal;
+use kn_follow::laws::account_laws;
 use kn_io::{Sink, Source};
 use kn_journal::Status;
 use std::alloc::Global;
@@ -23,5 +24,6 @@ pub fn replay_journal<S: Source, O: Sink>(alloc: Global, source: &mut S, out: &m
     ensures never_falls { S.Faulty.faults source.old ≤ S.Faulty.faults source.new }
     ensures out_never_falls { O.Faulty.faults out.old ≤ O.Faulty.faults out.new }
 {
+    account_laws();
     follow_journal(alloc, &Report, source, out)
 }

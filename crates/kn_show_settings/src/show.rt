@@ -7,6 +7,7 @@ ghost use Rattle.kn_show_settings.specs.Showing.{IsShown, IsUnshown, LeavesOpeni
 
 use crate::settings::settings_text;
 use kn_event::Memory;
+use kn_follow::laws::{call_laws, ending_laws};
 use kn_follow::status_of;
 use kn_io::{Failed, Sink, Source, put_all};
 use kn_journal::{JournalReader, Status};
@@ -31,6 +32,8 @@ pub fn show_settings<S: Source, O: Sink>(alloc: Global, source: &mut S, out: &mu
         Ok(reader) => reader,
         Err(Memory) => return Status::Memory,
     };
+    call_laws();
+    ending_laws();
     let setup = match reader.setup(alloc, source) {
         Ok(setup) => setup,
         Err(error) => {

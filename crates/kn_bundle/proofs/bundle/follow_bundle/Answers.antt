@@ -1,4 +1,4 @@
-use Rattle.std.proofs.Common.{◌≡◌, ◌∙◌, ◌-◌, ℕ, Bool, false, true, List, length, refl, sym, ap, subst, arith}
+use Rattle.std.proofs.Common.{◌≡◌, ◌∙◌, ◌-◌, ℕ, Bool, false, true, List, length, refl, sym, ap, subst, arith, inl, inr}
 use Rattle.std.specs.Prelude.{Option, Ok, Err}
 use Rattle.kn_journal.specs.declared.error.JournalError.{JournalError}
 use Rattle.kn_journal.specs.declared.status.Status.{Status}
@@ -6,9 +6,6 @@ use Rattle.kn_journal.specs.declared.status.Status.TheVariants as status
 use Rattle.kn_journal.specs.Reading.{unread}
 use Rattle.kn_follow.specs.Account.{account_of}
 use Rattle.kn_follow.specs.Calls.{Draws}
-use Rattle.kn_follow.proofs.Journals.{beyond_is, nothing_ahead}
-use Rattle.kn_follow.proofs.Nexts.{draws_on}
-use Rattle.kn_follow.proofs.Statuses.{either, fault_of, never_ok, no_write_fault, rose_on}
 use Rattle.kn_bundle.specs.Following.{FollowsBundle}
 use Rattle.kn_bundle.proofs.Alongs.{IsAlong, along_begin, along_more, along_text}
 use Rattle.kn_bundle.proofs.Wholes.{SoFar, ends_first, ends_good, ends_there, ends_unbegun, ends_within, so_far_begin, so_far_more}
@@ -24,7 +21,7 @@ loop-count-init g c =
     let known = g.S.Source.left c.args.source.now in
     let out = g.O.Sink.held c.args.out.now in
     let r = c.in-Ok.reader in
-    let start = nothing_ahead r.input.ahead known c.in-Ok.ensures.ahead in
+    let start = c.call_laws.ensures.laws.fresh r.input known c.in-Ok.ensures.ahead in
     record {
       on =
           subst (λ (x : Option (List ℕ)). SoFar a c.args.k 0 known r.number x out out) (sym start)
@@ -76,7 +73,7 @@ loop-count-preserved g c =
       good = (c.read_journal.ensures.within ended).good;
       few = (c.read_journal.ensures.within ended).few;
       taken = omega (arith, kept.taken, c.part.ensures.bytes is, c.read_journal.ensures.grows);
-      draws = draws_on kept.draws (draws_on drew c.read_journal.ensures.draws);
+      draws = c.call_laws.ensures.laws.draws kept.draws (c.call_laws.ensures.laws.draws drew c.read_journal.ensures.draws);
       write = omega (arith, kept.write, c.read_journal.ensures.cause.never_falls);
     }
 
@@ -95,7 +92,7 @@ pub returns-in-Ok-false-clause-ended : goal.returns-in-Ok-false-clause-ended
 returns-in-Ok-false-clause-ended g c is =
     let a = account_of (g.F.Form.writes c.args.form.now) in
     let kept = c.loop-count.invariant in
-    ends_there a c.args.k c.loop-count.count c.loop-count.reader.cut (g.S.Source.left c.args.source.now) (unread c.loop-count.reader.input (g.S.Source.left c.loop-count.source)) (g.S.Source.left c.part.new.source) c.part.new.self.input.ahead c.loop-count.reader.number c.part.new.self.number (g.O.Sink.held c.args.out.now) (g.O.Sink.held c.loop-count.out)
+    ends_there c.ending_laws.ensures.laws a c.args.k c.loop-count.count c.loop-count.reader.cut (g.S.Source.left c.args.source.now) (unread c.loop-count.reader.input (g.S.Source.left c.loop-count.source)) (g.S.Source.left c.part.new.source) c.part.new.self.input.ahead c.loop-count.reader.number c.part.new.self.number (g.O.Sink.held c.args.out.now) (g.O.Sink.held c.loop-count.out)
     kept.on kept.along (λ over. rw c.in-Ok-false.field-0-test at c.in-Ok-false.ensures.tells kept.good over)
 
 pub returns-in-Ok-false-clause-read_fault : goal.returns-in-Ok-false-clause-read_fault
@@ -121,22 +118,24 @@ returns-in-Err-part-clause-bundle g c =
     kept.on kept.along (λ over. c.in-Err-part.ensures.tells kept.good over)
     (λ is. c.part.ensures.amid kept.good (c.in-Err-part.is ∙ ap (λ (x : JournalError). Err x) is))
     (λ is. c.part.ensures.memory kept.good (c.in-Err-part.is ∙ ap (λ (x : JournalError). Err x) is))
-    (λ is. beyond_is c.part.new.self.input given
+    (λ is. c.call_laws.ensures.laws.beyond c.part.new.self.input given
     (omega (arith, kept.draws.balance, c.part.ensures.balance, c.in-Ok.ensures.taken, ap length c.in-Ok.ensures.ahead))
     (c.part.ensures.spent kept.good (c.in-Err-part.is ∙ ap (λ (x : JournalError). Err x) is))))
 
 pub returns-in-Err-part-clause-ended : goal.returns-in-Err-part-clause-ended
-returns-in-Err-part-clause-ended g c is = absurd (never_ok c.in-Err-part.error (sym c.status_of.ensures.value ∙ is))
+returns-in-Err-part-clause-ended g c is = absurd (c.ending_laws.ensures.laws.never_ok c.in-Err-part.error (sym c.status_of.ensures.value ∙ is))
 
 pub returns-in-Err-part-clause-read_fault : goal.returns-in-Err-part-clause-read_fault
 returns-in-Err-part-clause-read_fault g c is =
     let kept = c.loop-count.invariant in
-    let fault = c.in-Err-part.is ∙ ap (λ (x : JournalError). Err x) (fault_of c.in-Err-part.error (sym c.status_of.ensures.value ∙ is)) in
-    either (c.part.ensures.fault kept.good fault) (rose_on _ _ _ kept.draws.never_falls)
-    (λ all. omega (arith, all, kept.draws.balance, c.part.ensures.balance, c.in-Ok.ensures.taken, ap length c.in-Ok.ensures.ahead))
+    let fault = c.in-Err-part.is ∙ ap (λ (x : JournalError). Err x) (c.ending_laws.ensures.laws.read_fault c.in-Err-part.error (sym c.status_of.ensures.value ∙ is)) in
+    elim (c.part.ensures.fault kept.good fault) [
+      | inl rose ↦ inl (c.call_laws.ensures.laws.rose _ _ _ kept.draws.never_falls rose)
+      | inr all ↦ inr (omega (arith, all, kept.draws.balance, c.part.ensures.balance, c.in-Ok.ensures.taken, ap length c.in-Ok.ensures.ahead))
+    ]
 
 pub returns-in-Err-part-clause-write_fault : goal.returns-in-Err-part-clause-write_fault
-returns-in-Err-part-clause-write_fault g c is = absurd (no_write_fault c.in-Err-part.error (sym c.status_of.ensures.value ∙ is))
+returns-in-Err-part-clause-write_fault g c is = absurd (c.ending_laws.ensures.laws.never_write_fault c.in-Err-part.error (sym c.status_of.ensures.value ∙ is))
 
 pub returns-in-Err-part-clause-never_falls : goal.returns-in-Err-part-clause-never_falls
 returns-in-Err-part-clause-never_falls g c = omega (arith, c.loop-count.invariant.draws.never_falls, c.part.ensures.never_falls)
@@ -157,18 +156,20 @@ returns-in_default g c =
     along_text false one.cut known mid (along_more c.text_laws.ensures.laws false c.loop-count.reader.cut one.cut known rest mid kept.along (c.part.ensures.text is)) in
     record {
       bundle =
-          ends_within c.text_laws.ensures.laws a c.args.k c.loop-count.count c.loop-count.reader.cut one.cut known rest mid last two.input.ahead c.loop-count.reader.number one.version one.number two.number given (g.O.Sink.held c.args.out.now) (g.O.Sink.held c.loop-count.out) (g.O.Sink.held c.read_journal.new.out) c.read_journal.result
+          ends_within c.text_laws.ensures.laws c.waiting_laws.ensures.laws a c.args.k c.loop-count.count c.loop-count.reader.cut one.cut known rest mid last two.input.ahead c.loop-count.reader.number one.version one.number two.number given (g.O.Sink.held c.args.out.now) (g.O.Sink.held c.loop-count.out) (g.O.Sink.held c.read_journal.new.out) c.read_journal.result
           kept.on kept.along (λ over. rw c.in-Ok-true.field-0-test at c.in-Ok-true.ensures.tells kept.good over) first
           c.read_journal.ensures.follows c.read_journal.ensures.replayed c.in_default.not-Ok c.read_journal.ensures.unwritten
-          (λ fault. beyond_is two.input given
+          (λ fault. c.call_laws.ensures.laws.beyond two.input given
           (omega (arith, kept.draws.balance, c.part.ensures.balance, c.read_journal.ensures.draws.balance, c.in-Ok.ensures.taken, ap length c.in-Ok.ensures.ahead))
           (c.read_journal.ensures.broken fault).spent);
       replayed = c.read_journal.ensures.replayed;
       ended = λ ok. absurd (c.in_default.not-Ok ok);
       read_fault = λ fault.
-          either (c.read_journal.ensures.broken fault).fault (rose_on _ _ _ (omega (arith, kept.draws.never_falls, c.part.ensures.never_falls)))
-          (λ all. omega (arith, all, kept.draws.balance, c.part.ensures.balance, c.read_journal.ensures.draws.balance, c.in-Ok.ensures.taken, ap length c.in-Ok.ensures.ahead));
-      write_fault = λ fault. rose_on _ _ _ kept.write (c.read_journal.ensures.cause.failed fault);
+          elim ((c.read_journal.ensures.broken fault).fault) [
+            | inl rose ↦ inl (c.call_laws.ensures.laws.rose _ (g.S.Faulty.faults c.part.new.source) _ (omega (arith, kept.draws.never_falls, c.part.ensures.never_falls)) rose)
+            | inr all ↦ inr (omega (arith, all, kept.draws.balance, c.part.ensures.balance, c.read_journal.ensures.draws.balance, c.in-Ok.ensures.taken, ap length c.in-Ok.ensures.ahead))
+          ];
+      write_fault = λ fault. c.call_laws.ensures.laws.rose _ _ _ kept.write (c.read_journal.ensures.cause.failed fault);
       never_falls = omega (arith, kept.draws.never_falls, c.part.ensures.never_falls, c.read_journal.ensures.draws.never_falls);
       out_never_falls = omega (arith, kept.write, c.read_journal.ensures.cause.never_falls);
     }

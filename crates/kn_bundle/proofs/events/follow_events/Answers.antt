@@ -1,6 +1,7 @@
-use Rattle.std.proofs.Common.{◌≡◌, ◌+◌, ◌++◌, ℕ, List, [], ◌∷◌, append_assoc, length-append, refl, sym, ap, ◌∙◌, subst, arith, le_trans}
+use Rattle.std.proofs.Common.{◌≡◌, ◌+◌, ◌++◌, ℕ, List, [], ◌∷◌, append_assoc, append-nil, length-append, refl, sym, ap, ◌∙◌, subst, arith, le_trans}
 use Rattle.std.proofs.lemmas.Grind.{common_steps}
 use Rattle.kn_core.specs.State.{RevisionState, StandsFor}
+use Rattle.kn_journal.specs.declared.error.JournalError.TheVariants as error
 use Rattle.kn_journal.specs.declared.status.Status.TheVariants as status
 use Rattle.kn_journal.specs.Reading.{unread}
 use Rattle.kn_report.specs.Waiting.{Adds}
@@ -8,11 +9,6 @@ use Rattle.kn_teller.specs.Run.{begun, trace}
 use Rattle.kn_teller.specs.Manner.{told}
 use Rattle.kn_follow.specs.Endings.{Stops, status_of}
 use Rattle.kn_follow.specs.Following.{ran}
-use Rattle.kn_follow.proofs.Nexts.{broken_on, caused_on, draws_on}
-use Rattle.kn_follow.proofs.Runs.{now_later}
-use Rattle.kn_follow.proofs.Waits.{adds_nothing, adds_on, adds_stop, adds_trans}
-use Rattle.kn_follow.proofs.Follows.{told-more, told-nil}
-use Rattle.kn_follow.proofs.Statuses.{IsWriteFault, fault_of, followed_of, no_write_fault, rose_on, stop_followed, stop_reads, stops_after, stops_behind}
 use Rattle.kn_bundle.proofs.Alongs.{along_begin, along_more, along_text}
 use Rattle.kn_bundle.proofs.Courses.{goes_begin, goes_more}
 use Rattle.kn_bundle.proofs.Ends.{goes_cut, goes_end, goes_stop, some_told, told-grows}
@@ -27,7 +23,8 @@ loop-count-init g c = record {
         c.requires.stands,
         (c.requires.knows, refl {a = c.args.follower.now.revision.clock}),
         refl,
-        subst (Adds (g.O.Sink.held c.args.out.now) (g.O.Sink.held c.args.out.now) c.args.follower.now.waiting c.args.follower.now.waiting) (sym (told-nil w b)) (adds_nothing (g.O.Sink.held c.args.out.now) c.args.follower.now.waiting),
+        c.waiting_laws.ensures.laws.waits (g.O.Sink.held c.args.out.now) c.args.follower.now.waiting c.args.follower.now.waiting (told w b [])
+            (ap (λ (z : List ℕ). c.args.follower.now.waiting ++ z) (c.telling_laws.ensures.laws.none w b) ∙ append-nil c.args.follower.now.waiting),
         goes_begin c.args.reader.now.version c.args.reader.now.last c.args.reader.now.number (unread c.args.reader.now.input (g.S.Source.left c.args.source.now)),
       );
   along = along_begin c.args.reader.now.cut (unread c.args.reader.now.input (g.S.Source.left c.args.source.now));
@@ -75,15 +72,15 @@ loop-count-preserved g c =
     let spec = ap (λ (x : RevisionState). x.spec) c.write_unless.ensures.revision ∙ kept.spec in
     let clock = on.2.1 ∙ sym (ap (λ (x : RevisionState). x.clock) c.write_unless.ensures.revision) in
     let step = c.step.ensures.step (ran b on.0) stood spec clock in
-    let adds = adds_on (g.O.Sink.held c.args.out.now) (g.O.Sink.held c.loop-count.out) (g.O.Sink.held c.write_unless.new.out) c.args.follower.now.waiting c.loop-count.follower.waiting c.write_unless.new.self.waiting (told w b on.0) on.4 c.in-Ok.ensures.ok in
+    let adds = c.waiting_laws.ensures.laws.more on.4 c.in-Ok.ensures.ok (append-nil (told w b on.0)) in
     let wrote = rw (c.step.ensures.waiting, kept.manner) at c.in-Ok-tell.ensures.ok (ran b on.0) on.2.0 step in
     record {
       on = (
         on.0 ++ e ∷ [],
         rw c.in-Ok-tell.ensures.revision step.stands,
-        (c.in-Ok-tell.ensures.knows (ran b on.0) on.2.0 step, now_later (ran b on.0) e ∙ sym (ap (λ (x : RevisionState). x.clock) c.in-Ok-tell.ensures.revision ∙ c.step.ensures.clock)),
+        (c.in-Ok-tell.ensures.knows (ran b on.0) on.2.0 step, c.telling_laws.ensures.laws.clock (ran b on.0) e ∙ sym (ap (λ (x : RevisionState). x.clock) c.in-Ok-tell.ensures.revision ∙ c.step.ensures.clock)),
         length-append on.0 (e ∷ []) ∙ ap (λ (n : ℕ). n + 1) on.3,
-        rw (told-more w b on.0 e) (adds_trans _ _ _ _ _ _ _ _ adds wrote),
+        c.waiting_laws.ensures.laws.more adds wrote (sym (c.telling_laws.ensures.laws.next w b on.0 e)),
         rw read.last (goes_more c.args.reader.now.version c.args.reader.now.last c.args.reader.now.number known on.0 c.loop-count.reader.last c.loop-count.reader.number rest e c.next_event.new.reader.number left on.5 (rw kept.version at read.gives)),
       );
       along =
@@ -98,7 +95,7 @@ loop-count-preserved g c =
       clock = grind (arith, common_steps, read.times);
       events = grind (arith, common_steps);
       taken = omega (arith, kept.taken, read.bytes);
-      draws = draws_on kept.draws c.next_event.ensures.draws;
+      draws = c.call_laws.ensures.laws.draws kept.draws c.next_event.ensures.draws;
       write = omega (arith, kept.write, c.write_unless.ensures.cause.never_falls, c.tell.ensures.cause.never_falls);
     }
 
@@ -108,9 +105,9 @@ returns-in-Err-clause-follows g c over =
     let b = begun c.args.follower.now.revision.spec c.args.follower.now.revision.clock in
     let on = c.loop-count.invariant.on in
     let rest = unread c.loop-count.reader.input (g.S.Source.left c.loop-count.source) in
-    goes_cut (λ es. c.args.follower.now.waiting ++ told w b es) (λ es. w.ends c.args.reader.now.version (ran b es)) c.args.reader.now.version c.args.reader.now.last c.args.reader.now.number c.loop-count.reader.number (unread c.args.reader.now.input (g.S.Source.left c.args.source.now)) rest (g.O.Sink.held c.args.out.now) (g.O.Sink.held c.write_unless.new.out) on.0 c.loop-count.reader.last c.loop-count.reader.number rest
-    on.5 (told-grows w b c.args.follower.now.waiting)
-    (adds_stop (g.O.Sink.held c.args.out.now) (g.O.Sink.held c.loop-count.out) (g.O.Sink.held c.write_unless.new.out) c.args.follower.now.waiting c.loop-count.follower.waiting (told w b on.0) on.4 c.in-Err.ensures.err)
+    goes_cut c.waiting_laws.ensures.laws (λ es. c.args.follower.now.waiting ++ told w b es) (λ es. w.ends c.args.reader.now.version (ran b es)) c.args.reader.now.version c.args.reader.now.last c.args.reader.now.number c.loop-count.reader.number (unread c.args.reader.now.input (g.S.Source.left c.args.source.now)) rest (g.O.Sink.held c.args.out.now) (g.O.Sink.held c.write_unless.new.out) on.0 c.loop-count.reader.last c.loop-count.reader.number rest
+    on.5 (told-grows c.telling_laws.ensures.laws w b c.args.follower.now.waiting)
+    (c.waiting_laws.ensures.laws.some (g.O.Sink.held c.args.out.now) (g.O.Sink.held c.loop-count.out) (g.O.Sink.held c.write_unless.new.out) c.args.follower.now.waiting c.loop-count.follower.waiting (told w b on.0) on.4 c.in-Err.ensures.err)
 
 pub returns-in-Ok-None-clause-follows : goal.returns-in-Ok-None-clause-follows
 returns-in-Ok-None-clause-follows g c over =
@@ -120,13 +117,18 @@ returns-in-Ok-None-clause-follows g c over =
     let on = kept.on in
     let p = c.args.follower.now.waiting in
     let held = g.O.Sink.held c.args.out.now in
-    let adds = adds_on held (g.O.Sink.held c.loop-count.out) (g.O.Sink.held c.write_unless.new.out) p c.loop-count.follower.waiting c.write_unless.new.self.waiting (told w b on.0) on.4 c.in-Ok.ensures.ok in
+    let adds = c.waiting_laws.ensures.laws.more on.4 c.in-Ok.ensures.ok (append-nil (told w b on.0)) in
     let version : c.version.result ≡ c.args.reader.now.version = c.version.ensures ∙ c.next_event.ensures.version ∙ kept.version in
     let ended = rw (version, kept.manner) at c.end.ensures.stops (ran b on.0) on.2.0 (sym on.3) in
-    let all = stops_after held (g.O.Sink.held c.write_unless.new.out) (g.O.Sink.held c.end.new.out) p c.write_unless.new.self.waiting (told w b on.0) (w.ends c.args.reader.now.version (ran b on.0)) status.Ok c.end.result adds ended in
+    let mid = g.O.Sink.held c.write_unless.new.out in
+    let x = told w b on.0 in
+    let y = w.ends c.args.reader.now.version (ran b on.0) in
+    let q = c.write_unless.new.self.waiting in
+    let both : Adds held mid p (q ++ y) (x ++ y) = c.waiting_laws.ensures.laws.more adds (c.waiting_laws.ensures.laws.waits mid q (q ++ y) y refl) refl in
+    let all = c.waiting_laws.ensures.laws.stops held mid (g.O.Sink.held c.end.new.out) p (q ++ y) (x ++ y) status.Ok c.end.result both ended in
     goes_end (λ es. p ++ told w b es) (λ es. w.ends c.args.reader.now.version (ran b es)) c.args.reader.now.version c.args.reader.now.last c.args.reader.now.number c.next_event.new.reader.number (unread c.args.reader.now.input (g.S.Source.left c.args.source.now)) (unread c.next_event.new.reader.input (g.S.Source.left c.next_event.new.source)) held (g.O.Sink.held c.end.new.out) on.0 c.loop-count.reader.last c.loop-count.reader.number (unread c.loop-count.reader.input (g.S.Source.left c.loop-count.source)) c.end.result
     on.5 (rw kept.version at (rw c.in-Ok-None.field-0-is at c.in-Ok-None.ensures.next).gives)
-    (subst (λ (z : List ℕ). Stops z held (g.O.Sink.held c.end.new.out) status.Ok c.end.result) (sym (append_assoc p (told w b on.0) (w.ends c.args.reader.now.version (ran b on.0)))) all)
+    (subst (λ (z : List ℕ). Stops z held (g.O.Sink.held c.end.new.out) status.Ok c.end.result) (sym (append_assoc p x y)) all)
 
 pub returns-in-Ok-None-clause-text : goal.returns-in-Ok-None-clause-text
 returns-in-Ok-None-clause-text g c is =
@@ -142,15 +144,15 @@ returns-in-Err-next_event-clause-follows g c over =
     let p = c.args.follower.now.waiting in
     let held = g.O.Sink.held c.args.out.now in
     let stop = rw kept.version at c.in-Err-next_event.ensures.next in
-    let adds = adds_on held (g.O.Sink.held c.loop-count.out) (g.O.Sink.held c.write_unless.new.out) p c.loop-count.follower.waiting c.write_unless.new.self.waiting (told w b on.0) on.4 c.in-Ok.ensures.ok in
-    goes_stop c.text_laws.ensures.laws (λ es. p ++ told w b es) (λ es. w.ends c.args.reader.now.version (ran b es)) c.args.reader.now.cut c.loop-count.reader.cut c.args.reader.now.version c.args.reader.now.last c.args.reader.now.number c.next_event.new.reader.number (unread c.args.reader.now.input (g.S.Source.left c.args.source.now)) (unread c.next_event.new.reader.input (g.S.Source.left c.next_event.new.source)) held (g.O.Sink.held c.stop.new.out) on.0 c.loop-count.reader.last c.loop-count.reader.number (unread c.loop-count.reader.input (g.S.Source.left c.loop-count.source)) c.in-Err-next_event.error c.stop.result
-    on.5 (told-grows w b p) over kept.along stop.refuses (λ is. (stop.breaks is).amid) stop.memory
-    (stops_behind held (g.O.Sink.held c.write_unless.new.out) (g.O.Sink.held c.stop.new.out) p c.write_unless.new.self.waiting (told w b on.0) (status_of c.in-Err-next_event.error) c.stop.result adds (rw c.status_of.ensures.value at c.stop.ensures.stops))
+    let adds = c.waiting_laws.ensures.laws.more on.4 c.in-Ok.ensures.ok (append-nil (told w b on.0)) in
+    goes_stop c.text_laws.ensures.laws c.waiting_laws.ensures.laws (λ es. p ++ told w b es) (λ es. w.ends c.args.reader.now.version (ran b es)) c.args.reader.now.cut c.loop-count.reader.cut c.args.reader.now.version c.args.reader.now.last c.args.reader.now.number c.next_event.new.reader.number (unread c.args.reader.now.input (g.S.Source.left c.args.source.now)) (unread c.next_event.new.reader.input (g.S.Source.left c.next_event.new.source)) held (g.O.Sink.held c.stop.new.out) on.0 c.loop-count.reader.last c.loop-count.reader.number (unread c.loop-count.reader.input (g.S.Source.left c.loop-count.source)) c.in-Err-next_event.error c.stop.result
+    on.5 (told-grows c.telling_laws.ensures.laws w b p) over kept.along stop.refuses (λ is. (stop.breaks is).amid) stop.memory
+    (c.waiting_laws.ensures.laws.stops held (g.O.Sink.held c.write_unless.new.out) (g.O.Sink.held c.stop.new.out) p c.write_unless.new.self.waiting (told w b on.0) (status_of c.in-Err-next_event.error) c.stop.result adds (rw c.status_of.ensures.value at c.stop.ensures.stops))
 
 pub returns-in-Err-next_event-clause-followed : goal.returns-in-Err-next_event-clause-followed
 returns-in-Err-next_event-clause-followed g c =
-    stop_followed _ _ _ (status_of c.in-Err-next_event.error) c.stop.result (rw c.status_of.ensures.value at c.stop.ensures.stops)
-    (followed_of c.in-Err-next_event.error c.in-Err-next_event.ensures.next.memory)
+    c.ending_laws.ensures.laws.stop_followed _ _ _ (status_of c.in-Err-next_event.error) c.stop.result (rw c.status_of.ensures.value at c.stop.ensures.stops)
+    (c.ending_laws.ensures.laws.followed c.in-Err-next_event.error c.in-Err-next_event.ensures.next.memory)
 
 pub returns-in-Err-tell-clause-follows : goal.returns-in-Err-tell-clause-follows
 returns-in-Err-tell-clause-follows g c over =
@@ -164,15 +166,15 @@ returns-in-Err-tell-clause-follows g c over =
     let left = unread c.next_event.new.reader.input (g.S.Source.left c.next_event.new.source) in
     let e = c.in-Ok-Some.e in
     let read = rw c.in-Ok-Some.field-0-is at c.in-Ok-Some.ensures.next in
-    let adds = adds_on held (g.O.Sink.held c.loop-count.out) (g.O.Sink.held c.write_unless.new.out) p c.loop-count.follower.waiting c.write_unless.new.self.waiting (told w b on.0) on.4 c.in-Ok.ensures.ok in
+    let adds = c.waiting_laws.ensures.laws.more on.4 c.in-Ok.ensures.ok (append-nil (told w b on.0)) in
     let stood = subst (λ (x : RevisionState). StandsFor x (trace (ran b on.0))) (sym c.write_unless.ensures.revision) on.1 in
     let spec = ap (λ (x : RevisionState). x.spec) c.write_unless.ensures.revision ∙ kept.spec in
     let clock = on.2.1 ∙ sym (ap (λ (x : RevisionState). x.clock) c.write_unless.ensures.revision) in
     let step = c.step.ensures.step (ran b on.0) stood spec clock in
     let more = goes_more c.args.reader.now.version c.args.reader.now.last c.args.reader.now.number known on.0 c.loop-count.reader.last c.loop-count.reader.number (unread c.loop-count.reader.input (g.S.Source.left c.loop-count.source)) e c.next_event.new.reader.number left on.5 (rw kept.version at read.gives) in
-    goes_cut (λ es. p ++ told w b es) (λ es. w.ends c.args.reader.now.version (ran b es)) c.args.reader.now.version c.args.reader.now.last c.args.reader.now.number c.next_event.new.reader.number known left held (g.O.Sink.held c.tell.new.out) (on.0 ++ e ∷ []) e.time c.next_event.new.reader.number left
-    more (told-grows w b p)
-    (some_told w b on.0 e held (g.O.Sink.held c.write_unless.new.out) (g.O.Sink.held c.tell.new.out) p c.write_unless.new.self.waiting adds (rw (c.step.ensures.waiting, kept.manner) at c.in-Err-tell.ensures.err (ran b on.0) on.2.0 step))
+    goes_cut c.waiting_laws.ensures.laws (λ es. p ++ told w b es) (λ es. w.ends c.args.reader.now.version (ran b es)) c.args.reader.now.version c.args.reader.now.last c.args.reader.now.number c.next_event.new.reader.number known left held (g.O.Sink.held c.tell.new.out) (on.0 ++ e ∷ []) e.time c.next_event.new.reader.number left
+    more (told-grows c.telling_laws.ensures.laws w b p)
+    (some_told c.waiting_laws.ensures.laws c.telling_laws.ensures.laws w b on.0 e held (g.O.Sink.held c.write_unless.new.out) (g.O.Sink.held c.tell.new.out) p c.write_unless.new.self.waiting adds (rw (c.step.ensures.waiting, kept.manner) at c.in-Err-tell.ensures.err (ran b on.0) on.2.0 step))
 
 -- So many events have more bytes than may be taken.
 pub returns-clause-follows : goal.returns-clause-follows
@@ -183,7 +185,7 @@ returns-clause-follows g c over = absurd (omega (arith, c.loop-count.invariant.t
 pub returns-in-Err-clause-cause : goal.returns-in-Err-clause-cause
 returns-in-Err-clause-cause g c = record {
   never_falls = le_trans c.loop-count.invariant.write c.write_unless.ensures.cause.never_falls;
-  failed = λ is. rose_on _ _ _ c.loop-count.invariant.write c.in-Err.ensures.cause.failed;
+  failed = λ is. c.call_laws.ensures.laws.rose _ _ _ c.loop-count.invariant.write c.in-Err.ensures.cause.failed;
 }
 
 pub returns-in-Err-clause-draws : goal.returns-in-Err-clause-draws
@@ -193,33 +195,33 @@ pub returns-in-Err-clause-grows : goal.returns-in-Err-clause-grows
 returns-in-Err-clause-grows g c = omega (arith, c.loop-count.invariant.taken)
 
 pub returns-in-Ok-None-clause-draws : goal.returns-in-Ok-None-clause-draws
-returns-in-Ok-None-clause-draws g c = draws_on c.loop-count.invariant.draws c.next_event.ensures.draws
+returns-in-Ok-None-clause-draws g c = c.call_laws.ensures.laws.draws c.loop-count.invariant.draws c.next_event.ensures.draws
 
 pub returns-in-Ok-None-clause-grows : goal.returns-in-Ok-None-clause-grows
 returns-in-Ok-None-clause-grows g c = omega (arith, c.loop-count.invariant.taken, c.next_event.ensures.grows)
 
 pub returns-in-Ok-None-clause-cause : goal.returns-in-Ok-None-clause-cause
-returns-in-Ok-None-clause-cause g c = caused_on (le_trans c.loop-count.invariant.write c.write_unless.ensures.cause.never_falls) c.end.ensures.cause
+returns-in-Ok-None-clause-cause g c = c.call_laws.ensures.laws.caused (le_trans c.loop-count.invariant.write c.write_unless.ensures.cause.never_falls) c.end.ensures.cause
 
 pub returns-in-Err-next_event-clause-broken : goal.returns-in-Err-next_event-clause-broken
 returns-in-Err-next_event-clause-broken g c fault =
-    let is = fault_of c.in-Err-next_event.error (stop_reads _ _ _ (status_of c.in-Err-next_event.error) c.stop.result (rw c.status_of.ensures.value at c.stop.ensures.stops) fault) in
+    let is = c.ending_laws.ensures.laws.read_fault c.in-Err-next_event.error (c.ending_laws.ensures.laws.stop_read_fault _ _ _ (status_of c.in-Err-next_event.error) c.stop.result (rw c.status_of.ensures.value at c.stop.ensures.stops) fault) in
     let breaks = c.in-Err-next_event.ensures.next.breaks is in
-    broken_on c.loop-count.invariant.draws.never_falls breaks.spent breaks.fault
+    c.call_laws.ensures.laws.broken c.loop-count.invariant.draws.never_falls breaks.spent breaks.fault
 
 pub returns-in-Err-next_event-clause-draws : goal.returns-in-Err-next_event-clause-draws
-returns-in-Err-next_event-clause-draws g c = draws_on c.loop-count.invariant.draws c.next_event.ensures.draws
+returns-in-Err-next_event-clause-draws g c = c.call_laws.ensures.laws.draws c.loop-count.invariant.draws c.next_event.ensures.draws
 
 pub returns-in-Err-next_event-clause-grows : goal.returns-in-Err-next_event-clause-grows
 returns-in-Err-next_event-clause-grows g c = omega (arith, c.loop-count.invariant.taken, c.next_event.ensures.grows)
 
 pub returns-in-Err-next_event-clause-cause : goal.returns-in-Err-next_event-clause-cause
 returns-in-Err-next_event-clause-cause g c =
-    caused_on (le_trans c.loop-count.invariant.write c.write_unless.ensures.cause.never_falls)
-    (c.stop.ensures.cause (λ is. no_write_fault c.in-Err-next_event.error (sym c.status_of.ensures.value ∙ is)))
+    c.call_laws.ensures.laws.caused (le_trans c.loop-count.invariant.write c.write_unless.ensures.cause.never_falls)
+    (c.stop.ensures.cause (λ is. c.ending_laws.ensures.laws.never_write_fault c.in-Err-next_event.error (sym c.status_of.ensures.value ∙ is)))
 
 pub returns-in-Err-tell-clause-draws : goal.returns-in-Err-tell-clause-draws
-returns-in-Err-tell-clause-draws g c = draws_on c.loop-count.invariant.draws c.next_event.ensures.draws
+returns-in-Err-tell-clause-draws g c = c.call_laws.ensures.laws.draws c.loop-count.invariant.draws c.next_event.ensures.draws
 
 pub returns-in-Err-tell-clause-grows : goal.returns-in-Err-tell-clause-grows
 returns-in-Err-tell-clause-grows g c = omega (arith, c.loop-count.invariant.taken, c.next_event.ensures.grows)
@@ -227,7 +229,7 @@ returns-in-Err-tell-clause-grows g c = omega (arith, c.loop-count.invariant.take
 pub returns-in-Err-tell-clause-cause : goal.returns-in-Err-tell-clause-cause
 returns-in-Err-tell-clause-cause g c =
     let before = le_trans c.loop-count.invariant.write c.write_unless.ensures.cause.never_falls in
-    record { never_falls = le_trans before c.tell.ensures.cause.never_falls; failed = λ is. rose_on _ _ _ before c.in-Err-tell.ensures.cause.failed }
+    record { never_falls = le_trans before c.tell.ensures.cause.never_falls; failed = λ is. c.call_laws.ensures.laws.rose _ _ _ before c.in-Err-tell.ensures.cause.failed }
 
 pub returns-clause-broken : goal.returns-clause-broken
 returns-clause-broken g c fault = absurd (omega (arith, c.loop-count.invariant.taken, c.loop-count.invariant.within.few, c.loop-count-test.false))
@@ -239,4 +241,4 @@ pub returns-clause-grows : goal.returns-clause-grows
 returns-clause-grows g c = omega (arith, c.loop-count.invariant.taken)
 
 pub returns-clause-cause : goal.returns-clause-cause
-returns-clause-cause g c = caused_on c.loop-count.invariant.write (c.stop-2.ensures.cause (λ is. subst IsWriteFault (sym is) tt))
+returns-clause-cause g c = c.call_laws.ensures.laws.caused c.loop-count.invariant.write (c.stop-2.ensures.cause (c.ending_laws.ensures.laws.never_write_fault error.ReadFault))

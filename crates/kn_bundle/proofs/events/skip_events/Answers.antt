@@ -2,8 +2,6 @@ use Rattle.std.proofs.Common.{◌++◌, ◌∷◌, ◌∙◌, [], refl, sym, ari
 use Rattle.std.proofs.KnownBytes.{Appends-nil}
 use Rattle.kn_journal.specs.declared.status.Status.TheVariants as status
 use Rattle.kn_journal.specs.Reading.{unread}
-use Rattle.kn_follow.proofs.Nexts.{broken_on, draws_on}
-use Rattle.kn_follow.proofs.Statuses.{fault_of, followed_of, no_write_fault}
 use Rattle.kn_bundle.proofs.Alongs.{along_begin, along_more, along_text}
 use Rattle.kn_bundle.proofs.Courses.{goes_begin, goes_more}
 use Rattle.kn_bundle.proofs.Ends.{goes_end, goes_stop}
@@ -41,7 +39,7 @@ loop-count-preserved g c =
       within = read.within;
       version = c.next_event.ensures.version ∙ kept.version;
       taken = omega (arith, kept.taken, read.bytes);
-      draws = draws_on kept.draws c.next_event.ensures.draws;
+      draws = c.call_laws.ensures.laws.draws kept.draws c.next_event.ensures.draws;
     }
 
 pub returns-in-Ok-None-clause-skips : goal.returns-in-Ok-None-clause-skips
@@ -60,7 +58,7 @@ returns-in-Ok-None-clause-text g c is =
     (unread c.next_event.new.reader.input (g.S.Source.left c.next_event.new.source)) c.loop-count.invariant.along (rw c.in-Ok-None.field-0-is at c.in-Ok-None.ensures.next).text
 
 pub returns-in-Ok-None-clause-draws : goal.returns-in-Ok-None-clause-draws
-returns-in-Ok-None-clause-draws g c = draws_on c.loop-count.invariant.draws c.next_event.ensures.draws
+returns-in-Ok-None-clause-draws g c = c.call_laws.ensures.laws.draws c.loop-count.invariant.draws c.next_event.ensures.draws
 
 pub returns-in-Ok-None-clause-grows : goal.returns-in-Ok-None-clause-grows
 returns-in-Ok-None-clause-grows g c = omega (arith, c.loop-count.invariant.taken, c.next_event.ensures.grows)
@@ -72,22 +70,22 @@ returns-in-Err-clause-skips g c out over =
     let known = unread c.args.reader.now.input (g.S.Source.left c.args.source.now) in
     let rest = unread c.loop-count.reader.input (g.S.Source.left c.loop-count.source) in
     let left = unread c.next_event.new.reader.input (g.S.Source.left c.next_event.new.source) in
-    goes_stop c.text_laws.ensures.laws (λ es. []) (λ es. []) c.args.reader.now.cut c.loop-count.reader.cut c.args.reader.now.version c.args.reader.now.last c.args.reader.now.number c.next_event.new.reader.number known left out out kept.on.0 c.loop-count.reader.last c.loop-count.reader.number rest c.in-Err.error c.status_of.result
+    goes_stop c.text_laws.ensures.laws c.waiting_laws.ensures.laws (λ es. []) (λ es. []) c.args.reader.now.cut c.loop-count.reader.cut c.args.reader.now.version c.args.reader.now.last c.args.reader.now.number c.next_event.new.reader.number known left out out kept.on.0 c.loop-count.reader.last c.loop-count.reader.number rest c.in-Err.error c.status_of.result
     kept.on.1 (λ es more. ([], refl)) over kept.along stop.refuses (λ is. (stop.breaks is).amid) stop.memory (inl (c.status_of.ensures.value, Appends-nil out))
 
 pub returns-in-Err-clause-followed : goal.returns-in-Err-clause-followed
-returns-in-Err-clause-followed g c = rw c.status_of.ensures.value (followed_of c.in-Err.error c.in-Err.ensures.next.memory)
+returns-in-Err-clause-followed g c = rw c.status_of.ensures.value (c.ending_laws.ensures.laws.followed c.in-Err.error c.in-Err.ensures.next.memory)
 
 pub returns-in-Err-clause-writes_nothing : goal.returns-in-Err-clause-writes_nothing
-returns-in-Err-clause-writes_nothing g c is = no_write_fault c.in-Err.error (sym c.status_of.ensures.value ∙ is)
+returns-in-Err-clause-writes_nothing g c is = c.ending_laws.ensures.laws.never_write_fault c.in-Err.error (sym c.status_of.ensures.value ∙ is)
 
 pub returns-in-Err-clause-broken : goal.returns-in-Err-clause-broken
 returns-in-Err-clause-broken g c is =
-    let breaks = c.in-Err.ensures.next.breaks (fault_of c.in-Err.error (sym c.status_of.ensures.value ∙ is)) in
-    broken_on c.loop-count.invariant.draws.never_falls breaks.spent breaks.fault
+    let breaks = c.in-Err.ensures.next.breaks (c.ending_laws.ensures.laws.read_fault c.in-Err.error (sym c.status_of.ensures.value ∙ is)) in
+    c.call_laws.ensures.laws.broken c.loop-count.invariant.draws.never_falls breaks.spent breaks.fault
 
 pub returns-in-Err-clause-draws : goal.returns-in-Err-clause-draws
-returns-in-Err-clause-draws g c = draws_on c.loop-count.invariant.draws c.next_event.ensures.draws
+returns-in-Err-clause-draws g c = c.call_laws.ensures.laws.draws c.loop-count.invariant.draws c.next_event.ensures.draws
 
 pub returns-in-Err-clause-grows : goal.returns-in-Err-clause-grows
 returns-in-Err-clause-grows g c = omega (arith, c.loop-count.invariant.taken, c.next_event.ensures.grows)

@@ -1,4 +1,4 @@
-use Rattle.std.proofs.Common.{◌++◌, ℕ, List, sym, subst, ap, ◌∙◌, arith}
+use Rattle.std.proofs.Common.{◌≡◌, ◌++◌, ℕ, List, refl, sym, subst, ap, ◌∙◌, arith}
 use Rattle.kn_core.specs.State.{RevisionState, StandsFor}
 use Rattle.kn_event.specs.declared.event.Event.{Event}
 use Rattle.kn_journal.specs.declared.status.Status.{Status}
@@ -7,7 +7,6 @@ use Rattle.kn_teller.specs.Manner.{Manner, told}
 use Rattle.kn_teller.specs.Run.{Run, begun, trace}
 use Rattle.kn_follow.specs.Account.{account_of}
 use Rattle.kn_follow.specs.Following.{ran}
-use Rattle.kn_follow.proofs.Runs.{same_start}
 use Rattle.kn_bundle.specs.Stages.{FollowsCourse, FollowsStage}
 use Rattle.kn_bundle.proofs.Journals.{manner_told, stage_cut, stage_fails, stage_follows, stage_memory}
 use Rattle.kn_bundle.proofs.journal.follow_one.Goals as goal
@@ -36,7 +35,7 @@ returns-in-Err-tell_start-clause-follows g c =
     let mid = c.open_journal.new.reader in
     let rest = unread mid.input (g.S.Source.left c.open_journal.new.source) in
     let some = rw (c.in-Ok-new.ensures.waiting, c.in-Ok-make.ensures.manner) at c.in-Err-tell_start.ensures.err b c.in-Ok-make.ensures.awaits c.in-Ok-new.ensures.opened in
-    stage_cut w c.args.reader.now.version c.args.reader.now.number (unread c.args.reader.now.input (g.S.Source.left c.args.source.now)) rest rest mid.version c.in-Ok.parts.0 c.in-Ok.parts.1 mid.number mid.number (g.O.Sink.held c.args.out.now) (g.O.Sink.held c.tell_start.new.out) c.in-Ok.ensures.opens some
+    stage_cut c.waiting_laws.ensures.laws w c.args.reader.now.version c.args.reader.now.number (unread c.args.reader.now.input (g.S.Source.left c.args.source.now)) rest rest mid.version c.in-Ok.parts.0 c.in-Ok.parts.1 mid.number mid.number (g.O.Sink.held c.args.out.now) (g.O.Sink.held c.tell_start.new.out) c.in-Ok.ensures.opens some
 
 pub follow_events-requires-clause-ready : goal.follow_events-requires-clause-ready
 follow_events-requires-clause-ready g c =
@@ -55,7 +54,7 @@ pub follow_events-requires-clause-stands : goal.follow_events-requires-clause-st
 follow_events-requires-clause-stands g c =
     let b = begun c.in-Ok.parts.0.spec c.in-Ok.parts.1 in
     let opened = c.in-Ok-new.ensures.opened in
-    let same = same_start c.tell_start.new.self.revision c.in-Ok-new.follower.revision c.in-Ok.parts.0.spec c.in-Ok.parts.1 c.tell_start.ensures.revision opened.spec opened.clock in
+    let same : begun c.tell_start.new.self.revision.spec c.tell_start.new.self.revision.clock ≡ b = rw (c.tell_start.ensures.revision, opened.spec, opened.clock) (refl {a = b}) in
     let stands = subst (λ (x : RevisionState). StandsFor x (trace b)) (sym c.tell_start.ensures.revision) opened.stands in
     subst (λ (r : Run). StandsFor c.tell_start.new.self.revision (trace r)) (sym same) stands
 
@@ -63,7 +62,7 @@ pub follow_events-requires-clause-knows : goal.follow_events-requires-clause-kno
 follow_events-requires-clause-knows g c =
     let b = begun c.in-Ok.parts.0.spec c.in-Ok.parts.1 in
     let opened = c.in-Ok-new.ensures.opened in
-    let same = same_start c.tell_start.new.self.revision c.in-Ok-new.follower.revision c.in-Ok.parts.0.spec c.in-Ok.parts.1 c.tell_start.ensures.revision opened.spec opened.clock in
+    let same : begun c.tell_start.new.self.revision.spec c.tell_start.new.self.revision.clock ≡ b = rw (c.tell_start.ensures.revision, opened.spec, opened.clock) (refl {a = b}) in
     subst (λ (r : Run). g.T.Teller.knows c.tell_start.new.teller r) (sym same) (c.in-Ok-tell_start.ensures.knows b c.in-Ok-make.ensures.awaits opened)
 
 pub returns-clause-follows : goal.returns-clause-follows
@@ -82,13 +81,13 @@ returns-clause-follows g c =
     let before = g.O.Sink.held c.tell_start.new.out in
     let after = g.O.Sink.held c.follow_events.new.out in
     let result = c.follow_events.result in
-    let same = same_start c.tell_start.new.self.revision c.in-Ok-new.follower.revision setup.spec start c.tell_start.ensures.revision opened.spec opened.clock in
+    let same : begun c.tell_start.new.self.revision.spec c.tell_start.new.self.revision.clock ≡ b = rw (c.tell_start.ensures.revision, opened.spec, opened.clock) (refl {a = b}) in
     let manner = c.tell_start.ensures.manner ∙ c.in-Ok-make.ensures.manner in
     let one = subst (λ (r : Run). IsOver mid.cut rest → FollowsCourse (λ (es : List Event). waiting ++ told (g.T.Teller.manner c.tell_start.new.teller) r es) (λ (es : List Event). (g.T.Teller.manner c.tell_start.new.teller).ends mid.version (ran r es)) mid.version mid.last mid.number m rest left before after result) same c.follow_events.ensures.follows in
     let two = subst (λ (v : Manner). IsOver mid.cut rest → FollowsCourse (λ (es : List Event). waiting ++ told v b es) (λ (es : List Event). v.ends mid.version (ran b es)) mid.version mid.last mid.number m rest left before after result) manner one in
     let course = subst (λ (t : ℕ). IsOver mid.cut rest → FollowsCourse (λ (es : List Event). waiting ++ told w b es) (λ (es : List Event). w.ends mid.version (ran b es)) mid.version t mid.number m rest left before after result) c.in-Ok.ensures.start two in
     let adds = rw (c.in-Ok-new.ensures.waiting, c.in-Ok-make.ensures.manner) at c.in-Ok-tell_start.ensures.ok b c.in-Ok-make.ensures.awaits opened in
-    stage_follows c.text_laws.ensures.laws (account_of w) c.args.reader.now.version c.args.reader.now.number known rest left mid.cut mid.version setup start mid.number m adds.written (λ es. waiting ++ told w b es) (λ es. w.ends mid.version (ran b es)) (g.O.Sink.held c.args.out.now) before after result
+    stage_follows c.text_laws.ensures.laws c.waiting_laws.ensures.laws (account_of w) c.args.reader.now.version c.args.reader.now.number known rest left mid.cut mid.version setup start mid.number m adds.written (λ es. waiting ++ told w b es) (λ es. w.ends mid.version (ran b es)) (g.O.Sink.held c.args.out.now) before after result
     c.openings_are_whole.ensures.setup c.openings_are_whole.ensures.start c.in-Ok.ensures.opens c.in-Ok.ensures.text (manner_told w mid.version setup start adds.written waiting adds.all) adds.held course c.follow_events.ensures.followed
 
 pub returns-clause-text : goal.returns-clause-text

@@ -9,4 +9,4 @@ pub returns-clause-report : goal.returns-clause-report
 returns-clause-report g c =
     c.accounts_are_same.ensures.same (account_of row_by_row) report c.args.k (g.S.Source.left c.args.source.now) (g.S.Source.left c.follow_bundle.new.source)
     (g.S.Source.given c.follow_bundle.new.source - g.S.Source.given c.args.source.now) (g.O.Sink.held c.args.out.now) (g.O.Sink.held c.follow_bundle.new.out) c.follow_bundle.result
-    (record { body = report_told.body; close = report_told.close }) c.follow_bundle.ensures.bundle
+    report_told c.follow_bundle.ensures.bundle
