@@ -32,12 +32,7 @@ pub fn open_journal<S: Source>(
 {
     openings_are_whole();
     text_laws();
-    let setup = match reader.setup(alloc, source) {
-        Ok(setup) => setup,
-        Err(error) => return Err(error),
-    };
-    match reader.start(source) {
-        Ok(start) => Ok((setup, start)),
-        Err(error) => Err(error),
-    }
+    let setup = reader.setup(alloc, source)?;
+    let start = reader.start(source)?;
+    Ok((setup, start))
 }

@@ -43,14 +43,9 @@ fn open<S: Source>(
 {
     openings_are_whole();
     text_laws();
-    let setup = match reader.setup(alloc, source) {
-        Ok(setup) => setup,
-        Err(error) => return Err(error),
-    };
-    match reader.start(source) {
-        Ok(start) => Ok((setup, start)),
-        Err(error) => Err(error),
-    }
+    let setup = reader.setup(alloc, source)?;
+    let start = reader.start(source)?;
+    Ok((setup, start))
 }
 
 /// Reads a journal, and writes of its run what the form says: of its start, of each event, and at the end where all lines
