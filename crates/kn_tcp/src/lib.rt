@@ -2,22 +2,21 @@
 //! is dead holds nobody for ever.
 #![tactic(auto)]
 
-mod answer;
 mod attempt;
 mod attempts;
 mod caller;
-mod chunks;
 mod closing;
 mod course;
-mod heads;
-mod laws;
 mod line;
 mod link;
 mod names;
-mod plain;
-mod reply;
+/// What `caller` names of it.
+mod plain {
+    pub(crate) use kn_reply::put_plain;
+}
 
 pub use caller::TcpCaller;
-pub use laws::{answers_are_replies, plain_forms_are_determined, replies_are_determined};
+pub use kn_reply::{
+    answers_are_replies, plain_forms_are_determined, put_plain, replies_are_determined,
+};
 pub use link::TcpLink;
-pub use plain::put_plain;
