@@ -2,24 +2,19 @@
 //! is dead holds nobody for ever.
 #![tactic(auto)]
 
-mod answer;
 mod attempt;
 mod attempts;
 mod caller;
-mod chunks;
 mod closing;
 mod course;
-mod heads;
-mod laws;
 mod line;
 mod link;
 mod looks;
 mod names;
-mod plain;
-mod reply;
 
 pub use caller::TcpCaller;
-pub use laws::{answers_are_replies, plain_forms_are_determined, replies_are_determined};
+pub use kn_reply::{
+    answers_are_replies, plain_forms_are_determined, put_plain, replies_are_determined,
+};
 pub use link::TcpLink;
 pub use looks::{Found, look};
-pub use plain::put_plain;

@@ -1,18 +1,16 @@
 //! Links to pods.
-ghost use Rattle.std.specs.Prelude.{◌≡◌, ◌≤◌, ◌%◌, length, None, Err, [], IfOk, IfSome, option_map, slice_get};
+ghost use Rattle.std.specs.Prelude.{◌≡◌, ◌≤◌, ◌%◌, length, None, Err, IfOk, option_map, slice_get};
 ghost use Rattle.kn_io.specs.Causes.{Rose};
-ghost use Rattle.kn_tcp.specs.Replies.{IsWholeReply};
-ghost use Rattle.kn_tcp.specs.Ends.{IsReplyOf, ReadsReply};
-ghost use Rattle.kn_tcp.specs.Closing.{IsHandedOn};
+ghost use Rattle.kn_reply.specs.Replies.{IsWholeReply};
+ghost use Rattle.kn_reply.specs.Closing.{IsHandedOn};
 
-use crate::answer::closed;
 use crate::attempts::Attempts;
 use crate::names::{Name, Names};
-use crate::reply::{Judged, MOST_REPLY, Stage, judge};
 use kn_event::{Items, Text};
-use kn_io::{Failed, Faulty, LinkError, PIECE, PodLink, fault};
+use kn_io::{Failed, Faulty, LinkError, PodLink, fault};
+use kn_reply::read_answer;
 use std::alloc::Global;
-use std::io::{ErrorKind, Read, Write};
+use std::io::{ErrorKind, Write};
 use std::net::{Net, OpenStream, SocketAddr, ToSocketAddrs};
 use std::time::{Clock, Duration, Instant};
 use std::{io, str};
@@ -106,40 +104,6 @@ fn send<S: OpenStream + Write>(stream: &mut S, request: &[u8]) -> io::Result<()>
     }
 }
 
-/// What comes, to the end of the reply. What is behind it is dropped.
-fn receive<R: Read>(alloc: Global, request: &[u8], stream: &mut R) -> Result<Text, LinkError>
-    ensures short { IfOk result (λ reply. length reply ≤ 1114112) }
-    ensures exact { IfOk result (λ reply. ReadsReply request.now reply []) }
-    ensures sent { IfOk result (λ reply. IfSome (R.remaining stream.old) (λ sent. IsReplyOf request.now sent reply)) }
-{
-    let mut reply = Vec::new(alloc);
-    let mut piece = [0; PIECE];
-    let mut stage = None;
-    for _ in 0..1u64 << 56 {
-        let Ok(n) = stream.read(&mut piece) else {
-            return Err(LinkError::Failed);
-        };
-        if n == 0 {
-            return match stage {
-                Some(Stage::Open) => Ok(Text::new(reply)),
-                _ => Err(LinkError::Failed),
-            };
-        }
-        if reply.extend_from_slice(&piece[..n]).is_err() {
-            return Err(LinkError::Memory);
-        }
-        match judge(request, &reply, stage) {
-            Judged::Ended(end) if end <= MOST_REPLY => {
-                reply.truncate(end);
-                return Ok(Text::new(reply));
-            }
-            Judged::More(next) if reply.len() <= MOST_REPLY => stage = next,
-            _ => return Err(LinkError::Failed),
-        }
-    }
-    Err(LinkError::Failed)
-}
-
 /// Sends a pod the request, and answers what the client is handed of its reply, which came whole.
 fn exchange<N: Net + Clock>(
     net: &N,
@@ -158,8 +122,7 @@ fn exchange<N: Net + Clock>(
     if send(&mut stream, request).is_err() {
         return Err(LinkError::Failed);
     }
-    let reply = receive(alloc, request, &mut stream)?;
-    closed(alloc, reply.bytes())
+    read_answer(alloc, request, &mut stream)
 }
 
 impl<N: Net> Faulty for TcpLink<N> {

@@ -1,9 +1,0 @@
-use Rattle.std.proofs.Common.{sym, ◌∙◌}
-use Rattle.kn_tcp.specs.Replies.{is_coding}
-use Rattle.kn_tcp.proofs.Wholes.{any_at}
-use Rattle.kn_tcp.proofs.reply.is_coded.Goals as goal
-
-pub returns-then-is_word : goal.returns-then-is_word
-returns-then-is_word c =
-    sym (any_at is_coding c.args.text.now c.args.fields.now c.loop-field.field-index c.loop-field-test.true
-    (rw c.of.ensures at (sym c.is_word.ensures ∙ c.if-is_word.true)))
