@@ -5,8 +5,6 @@ ghost use Rattle.kn_journal.specs.LineCalls.{DrawsBy, TellsPart};
 ghost use Rattle.kn_journal.specs.Bundle.{AreSetups, Reaches, is_same, listed_part, new_part, setups_part};
 ghost use Rattle.kn_journal.specs.Journal.{IsSetup};
 
-
-
 use crate::error::{JournalError, SetupError};
 use crate::first::FirstLine;
 use crate::journal::{Setup, Setups};
