@@ -2,13 +2,12 @@
 use Rattle.std.proofs.Common.{◌≡◌, ◌+◌, ◌≤◌, ℕ, Bool, true, List, refl, ap, sym, subst}
 use Rattle.std.specs.Prelude.{◌⊎◌, Option, None, Some, Result, Ok, Err, OnOk}
 use Rattle.kn_event.specs.declared.event.Event.{Event}
-use Rattle.kn_event.specs.EventLine.{IsInJournalRange}
 use Rattle.kn_io.specs.Causes.{Rose}
 use Rattle.kn_journal.specs.declared.error.JournalError.{JournalError}
 use Rattle.kn_journal.specs.declared.error.JournalError.TheVariants as error
 use Rattle.kn_journal.specs.Bundle.{next_by, next_of_part}
 use Rattle.kn_journal.specs.Causes.{Cause, error_of, no_end}
-use Rattle.kn_journal.specs.Journal.{time_most}
+use Rattle.kn_journal.specs.LineCalls.{IsNextEvent}
 use Rattle.kn_journal.specs.Lines.{lines}
 use Rattle.kn_journal.specs.Reading.{IsOver, IsSpent, TakesText, most_taken}
 use Rattle.kn_journal.specs.Telling.{AmidNext, OnEvent, ReaderState, Refuses, Tells}
@@ -19,10 +18,8 @@ use Rattle.kn_bundle.specs.Calls.{IsNextOf, StopsByOf}
 pub record SaysNext (before after : ReaderState) (old new : Option (List ℕ)) (faults faults_now : ℕ) (r : Result (Option Event) JournalError) : Type 0 where
   pub tells : Tells (next_by true before.version before.last before.number) after.number old new r
   pub text : OnOk r (TakesText after.cut old new)
-  pub order : OnEvent r (λ e. before.last ≤ e.time)
-  pub times : OnEvent r (λ e. e.time ≤ time_most)
+  pub event : OnEvent r (IsNextEvent before.version before.last)
   pub last : OnEvent r (λ e. after.last ≡ e.time)
-  pub range : OnEvent r (λ e. IsInJournalRange e.act)
   pub bytes : OnEvent r (λ e. before.input.taken + 6 ≤ after.input.taken)
   pub good : OnOk r (after.failed ≡ None)
   pub few : after.input.taken ≤ most_taken
@@ -37,10 +34,10 @@ pub next_is : (before after : ReaderState) (old new : Option (List ℕ)) (faults
 next_is before after old new faults faults_now (Ok (Some e)) says = record {
   gives = says.tells;
   text = says.text;
-  order = says.order;
-  times = says.times;
+  order = says.event.order;
+  times = says.event.times;
   last = says.last;
-  range = says.range;
+  range = says.event.range;
   bytes = says.bytes;
   within = record { good = says.good; few = says.few; bundle = says.bundle };
 }

@@ -2,12 +2,12 @@
 use Rattle.std.proofs.Common.{◌≡◌, ◌+◌, ◌≤◌, ℕ, false, List, ap, arith, inl, inr}
 use Rattle.std.specs.Prelude.{◌⊎◌, Option, None, Some, Result, Ok, Err, IfErr, OnOk}
 use Rattle.kn_event.specs.declared.event.Event.{Event}
-use Rattle.kn_event.specs.EventLine.{IsInJournalRange}
 use Rattle.kn_io.specs.Causes.{Rose}
 use Rattle.kn_journal.specs.declared.error.JournalError.{JournalError}
 use Rattle.kn_journal.specs.declared.error.JournalError.TheVariants as error
-use Rattle.kn_journal.specs.Journal.{next_part, time_most}
+use Rattle.kn_journal.specs.Journal.{next_part}
 use Rattle.kn_journal.specs.declared.status.Status.{Status}
+use Rattle.kn_journal.specs.LineCalls.{IsNextEvent}
 use Rattle.kn_journal.specs.Reading.{Ahead, IsOver, IsSpent, TakesPart, TakesText, most_taken}
 use Rattle.kn_journal.specs.Telling.{IsLineFault, LeavesRest, OnEvent, ReaderState, Refuses, TakesEnd, Tells}
 use Rattle.kn_follow.specs.Calls.{Draws, IsBroken, IsCaused, IsNext, StopsBy}
@@ -16,10 +16,8 @@ use Rattle.kn_follow.proofs.Statuses.{rose_on}
 -- the clauses of the reader that speak of an event
 pub record OfEvent (before after : ReaderState) (old new : Option (List ℕ)) (r : Result (Option Event) JournalError) : Type 0 where
   pub text : OnEvent r (λ e. TakesText after.cut old new)
-  pub order : OnEvent r (λ e. before.last ≤ e.time)
-  pub times : OnEvent r (λ e. e.time ≤ time_most)
+  pub event : OnEvent r (IsNextEvent before.version before.last)
   pub last : OnEvent r (λ e. after.last ≡ e.time)
-  pub range : OnEvent r (λ e. IsInJournalRange e.act)
   pub bytes : OnEvent r (λ e. before.input.taken + 6 ≤ after.input.taken)
   pub good : OnOk r (after.failed ≡ None)
   pub alone : after.bundle ≡ false
@@ -40,10 +38,10 @@ pub next_is : (before after : ReaderState) (old new : Option (List ℕ)) (faults
 next_is before after old new faults faults_now (Ok (Some e)) tells event stop = record {
   gives = tells;
   text = event.text;
-  order = event.order;
-  times = event.times;
+  order = event.event.order;
+  times = event.event.times;
   last = event.last;
-  range = event.range;
+  range = event.event.range;
   bytes = event.bytes;
   sound = record { good = event.good; alone = event.alone; few = event.few };
 }

@@ -10,3 +10,5 @@ pub mod Status
 pub mod Reading
 pub mod Texts
 pub mod Telling
+pub mod LineCalls
+pub mod Calls

@@ -1,10 +1,10 @@
 //! Where the next journal of a bundle begins: its first line, and then its setup.
-ghost use Rattle.std.specs.Prelude.{◌≡◌, ◌≢◌, ◌≤◌, ◌<◌, ◌+◌, Contains, Err, IfErr, IfOk, Ok, OnOk, Some, true};
+ghost use Rattle.std.specs.Prelude.{◌≡◌, ◌≢◌, ◌≤◌, ◌<◌, Contains, Err, IfOk, Ok, OnOk, Some, true};
+ghost use Rattle.kn_journal.specs.LineCalls.{DrawsBy, DrawsIn, RestOfFirst, TakesLines, TellsPart};
 ghost use Rattle.kn_journal.specs.Bundle.{first_of_in, first_of_part, opening_by};
-ghost use Rattle.kn_journal.specs.Drawing.{Draws, error_in};
 ghost use Rattle.kn_journal.specs.Journal.{IsSetup};
-ghost use Rattle.kn_journal.specs.Reading.{TakesPart, TakesText, most_taken, unread};
-ghost use Rattle.kn_journal.specs.Telling.{IsLineFault, Judges, LeavesRest, OnFirst, StopsAmid, Tells, none_at_end};
+ghost use Rattle.kn_journal.specs.Reading.{TakesPart, most_taken};
+ghost use Rattle.kn_journal.specs.Telling.{Judges, OnFirst, none_at_end};
 
 use crate::error::JournalError;
 use crate::first::FirstLine;
@@ -45,14 +45,14 @@ pub fn read_first_of<S: Source>(
     lines: &mut Lines,
     source: &mut S,
 ) -> Result<Option<u64>, JournalError>
-    ensures tells { Tells (first_of_part lines.old.number) lines.new.number (unread lines.old.input (S.left source.old)) (unread lines.new.input (S.left source.new)) result }
-    ensures rest { IfErr result (λ e. IsLineFault e → LeavesRest (first_of_part lines.old.number) lines.old.number (Some (lines.old.number + 1)) e (unread lines.old.input (S.left source.old)) (unread lines.new.input (S.left source.new))) }
-    ensures text { OnFirst result (λ version. TakesText lines.new.cut (unread lines.old.input (S.left source.old)) (unread lines.new.input (S.left source.new))) }
+    ensures tells { TellsPart first_of_part lines.old lines.new S.Source.own source.old source.new result }
+    ensures rest { RestOfFirst first_of_part lines.old lines.new S.Source.own source.old source.new result }
+    ensures text { OnFirst result (λ version. TakesLines lines.old lines.new S.Source.own source.old source.new) }
     ensures least { OnFirst result (λ version. 1 ≤ version) }
     ensures most { OnFirst result (λ version. version ≤ 2) }
     ensures bytes { OnFirst result (λ version. lines.old.input.taken < lines.new.input.taken) }
     ensures memory { result ≢ Err JournalError.Memory }
-    ensures source { Draws TakesPart (error_in result) lines.old.input lines.new.input S.Source.own S.Faulty source.old source.new }
+    ensures source { DrawsBy TakesPart lines.old lines.new S.Source.own S.Faulty source.old source.new result }
     ensures ready { Contains lines.old.input.ahead 10 → source.new ≡ source.old }
     ensures few { lines.new.input.taken ≤ most_taken }
 {
@@ -73,10 +73,10 @@ pub fn read_opening_by<S: Source>(
     requires least { 1 ≤ version }
     requires most { version ≤ 2 }
     ensures kept { IfOk result (λ opening. IsSetup opening.setup) }
-    ensures tells { Tells (opening_by begun version lines.old.number) lines.new.number (unread lines.old.input (S.left source.old)) (unread lines.new.input (S.left source.new)) result }
-    ensures text { OnOk result (TakesText lines.new.cut (unread lines.old.input (S.left source.old)) (unread lines.new.input (S.left source.new))) }
-    ensures rest { IfErr result (λ e. IsLineFault e → LeavesRest (opening_by begun version lines.old.number) lines.old.number (Some (lines.old.number + 1)) e (unread lines.old.input (S.left source.old)) (unread lines.new.input (S.left source.new))) }
-    ensures source { Draws (StopsAmid (opening_by begun version lines.old.number)) (error_in result) lines.old.input lines.new.input S.Source.own S.Faulty source.old source.new }
+    ensures tells { TellsPart (opening_by begun version) lines.old lines.new S.Source.own source.old source.new result }
+    ensures text { OnOk result (TakesLines lines.old lines.new S.Source.own source.old source.new) }
+    ensures rest { RestOfFirst (opening_by begun version) lines.old lines.new S.Source.own source.old source.new result }
+    ensures source { DrawsIn (opening_by begun version) lines.old lines.new S.Source.own S.Faulty source.old source.new result }
     ensures least { IfOk result (λ opening. 1 ≤ opening.version) }
     ensures most { IfOk result (λ opening. opening.version ≤ 2) }
     ensures same { begun ≡ true → IfOk result (λ opening. opening.version ≡ version) }

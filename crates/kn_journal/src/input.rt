@@ -83,12 +83,12 @@ impl Input {
     /// The next byte, or nothing at the end. It reads from the source only where nothing is ahead,
     /// and after 2^56 bytes it takes no more.
     pub fn next<S: Source>(&mut self, source: &mut S) -> Result<Option<u8>, Failed>
-        ensures byte { IfOk result (λ byte. TakesByte (unread self.old (S.left source.old)) (unread self.new (S.left source.new)) byte) }
+        ensures byte { IfOk result (TakesByte (unread self.old (S.left source.old)) (unread self.new (S.left source.new))) }
         ensures taken { IfOk result (λ byte. self.new.taken ≡ taken_with self.old.taken byte) }
 
         // While there are bytes ahead, the source is left alone.
         ensures ready { 0 < length self.old.ahead → source.new ≡ source.old }
-        ensures front { 0 < length self.old.ahead → IfOk result (λ byte. TakesByte (Some self.old.ahead) (Some self.new.ahead) byte) }
+        ensures front { 0 < length self.old.ahead → IfOk result (TakesByte (Some self.old.ahead) (Some self.new.ahead)) }
 
         // At a fault nothing was taken.
         ensures failed { OnErr result (self.new ≡ self.old) }

@@ -1,8 +1,9 @@
 //! The lines of an input, one at a time.
-ghost use Rattle.std.specs.Prelude.{◌≡◌, ◌≢◌, ◌↔◌, ◌+◌, ◌≤◌, ◌<◌, ℕ, List, [], ◌∷◌, ◌++◌, Option, true, false, Contains, length, take, drop, replicate, IsSome, IsTrue, IfOk, IfSome, MatchOption, OnOk, vec_capacity, vec_len};
+ghost use Rattle.std.specs.Prelude.{◌≡◌, ◌≢◌, ◌↔◌, ◌+◌, ◌≤◌, ◌<◌, [], ◌∷◌, ◌++◌, Option, true, false, Contains, length, take, replicate, IsSome, IsTrue, IfOk, IfSome, MatchOption, OnOk, vec_capacity, vec_len};
+ghost use Rattle.kn_journal.specs.LineCalls.{CountsGone, HasLfAt, HasLineOf, IsContent, ReadsLine, ReadsText, TakesAhead, TextAhead};
 ghost use Rattle.kn_journal.specs.Drawing.{Draws, line_error};
-ghost use Rattle.kn_journal.specs.Lines.{line_most, lines};
-ghost use Rattle.kn_journal.specs.Reading.{Counts, HasLongLine, TakesLine, TakesPart, TakesText, most_taken, unread};
+ghost use Rattle.kn_journal.specs.Lines.{line_most};
+ghost use Rattle.kn_journal.specs.Reading.{HasLongLine, TakesPart, most_taken, unread};
 
 use crate::input::{Input, MOST_TAKEN};
 use kn_io::{Failed, Source};
@@ -72,10 +73,9 @@ fn read_by_bytes<S: Source>(
     cut: &mut bool,
 ) -> Result<bool, NoLine>
     requires { line_most ≤ vec_capacity line.old }
-    ensures taken { IfOk result (λ more. TakesLine (unread input.old (S.left source.old)) (unread input.new (S.left source.new)) more line.new.items) }
-    ensures text { result ≡ Ok true → TakesText cut.new (unread input.old (S.left source.old)) (unread input.new (S.left source.new)) }
-    ensures fits { OnOk result (length line.new.items ≤ line_most) }
-    ensures no_lf { OnOk result (¬ Contains line.new.items 10) }
+    ensures taken { IfOk result (ReadsLine line.new.items input.old input.new S.Source.own source.old source.new) }
+    ensures text { result ≡ Ok true → ReadsText cut.new input.old input.new S.Source.own source.old source.new }
+    ensures content { OnOk result (IsContent line.new.items) }
     ensures long { result ≡ Err NoLine.TooLong → HasLongLine (unread input.old (S.left source.old)) }
 
     // At a fault no LF was taken.
@@ -85,7 +85,7 @@ fn read_by_bytes<S: Source>(
     ensures ready { Contains input.old.ahead 10 → source.new ≡ source.old }
 
     // Each byte that is gone was counted, however the call ends.
-    ensures exact { Counts (unread input.old (S.left source.old)) (unread input.new (S.left source.new)) input.old.taken input.new.taken }
+    ensures exact { CountsGone input.old input.new S.Source.own source.old source.new }
     ensures count { OnOk result (input.old.taken + length line.new.items ≤ input.new.taken) }
     ensures strict { result ≡ Ok true → input.old.taken < input.new.taken }
     ensures few { input.new.taken ≤ most_taken }
@@ -119,8 +119,8 @@ fn read_by_bytes<S: Source>(
 
 /// How long the next line is, where its LF is ahead and no CR stands before that. Nothing is taken.
 fn line_ahead(input: &Input) -> Option<usize>
-    ensures line { IfSome result (λ len. (later : List ℕ) → lines (input.now.ahead ++ later) ≡ take len input.now.ahead ∷ lines (drop (len + 1) input.now.ahead ++ later)) }
-    ensures lf { IfSome result (λ len. input.now.ahead ≡ take len input.now.ahead ++ 10 ∷ drop (len + 1) input.now.ahead) }
+    ensures line { IfSome result (λ len. HasLineOf input.now.ahead len) }
+    ensures lf { IfSome result (λ len. HasLfAt input.now.ahead len) }
     ensures inside { IfSome result (λ len. len < length input.now.ahead) }
     ensures fits { IfSome result (λ len. len ≤ line_most) }
     ensures no_lf { IfSome result (λ len. ¬ Contains (take len input.now.ahead) 10) }
@@ -140,8 +140,8 @@ fn line_ahead(input: &Input) -> Option<usize>
 /// Takes the next line where its LF is ahead and no CR stands before that. Else nothing is taken.
 fn take_ahead(input: &mut Input, line: &mut Vec<u8>) -> bool
     requires { line_most ≤ vec_capacity line.old }
-    ensures line { IsTrue result → ((later : List ℕ) → lines (input.old.ahead ++ later) ≡ line.new.items ∷ lines (input.new.ahead ++ later)) }
-    ensures text { IsTrue result → (left : Option (List ℕ)) → TakesText false (unread input.old left) (unread input.new left) }
+    ensures line { IsTrue result → TakesAhead input.old input.new line.new.items }
+    ensures text { IsTrue result → TextAhead false input.old input.new }
     ensures fits { IsTrue result → length line.new.items ≤ line_most }
     ensures no_lf { IsTrue result → ¬ Contains line.new.items 10 }
     ensures exact { IsTrue result → input.old.taken + length input.old.ahead ≡ input.new.taken + length input.new.ahead }
@@ -173,10 +173,9 @@ pub fn read_line<S: Source>(
     cut: &mut bool,
 ) -> Result<bool, NoLine>
     requires { line_most ≤ vec_capacity line.old }
-    ensures taken { IfOk result (λ more. TakesLine (unread input.old (S.left source.old)) (unread input.new (S.left source.new)) more line.new.items) }
-    ensures text { result ≡ Ok true → TakesText cut.new (unread input.old (S.left source.old)) (unread input.new (S.left source.new)) }
-    ensures fits { OnOk result (length line.new.items ≤ line_most) }
-    ensures no_lf { OnOk result (¬ Contains line.new.items 10) }
+    ensures taken { IfOk result (ReadsLine line.new.items input.old input.new S.Source.own source.old source.new) }
+    ensures text { result ≡ Ok true → ReadsText cut.new input.old input.new S.Source.own source.old source.new }
+    ensures content { OnOk result (IsContent line.new.items) }
     ensures long { result ≡ Err NoLine.TooLong → HasLongLine (unread input.old (S.left source.old)) }
 
     // At a fault no LF was taken.
@@ -186,7 +185,7 @@ pub fn read_line<S: Source>(
     ensures ready { Contains input.old.ahead 10 → source.new ≡ source.old }
 
     // Each byte that is gone was counted, however the call ends.
-    ensures exact { Counts (unread input.old (S.left source.old)) (unread input.new (S.left source.new)) input.old.taken input.new.taken }
+    ensures exact { CountsGone input.old input.new S.Source.own source.old source.new }
     ensures count { OnOk result (input.old.taken + length line.new.items ≤ input.new.taken) }
     ensures strict { result ≡ Ok true → input.old.taken < input.new.taken }
     ensures few { input.new.taken ≤ most_taken }

@@ -1,11 +1,9 @@
 //! Setups of different revisions, one after the other.
 ghost use Rattle.std.specs.Prelude.{◌≡◌, IfOk, length};
 ghost use Rattle.std.specs.List.{list_any};
+ghost use Rattle.kn_journal.specs.LineCalls.{DrawsBy, TellsPart};
 ghost use Rattle.kn_journal.specs.Bundle.{AreSetups, Reaches, is_same, listed_part, new_part, setups_part};
-ghost use Rattle.kn_journal.specs.Drawing.{Draws, error_in};
 ghost use Rattle.kn_journal.specs.Journal.{IsSetup};
-ghost use Rattle.kn_journal.specs.Reading.{unread};
-ghost use Rattle.kn_journal.specs.Telling.{Tells};
 
 use crate::error::{JournalError, SetupError};
 use crate::first::FirstLine;
@@ -39,8 +37,8 @@ fn read_new<S: Source>(
     before: &[Setup],
 ) -> Result<Setup, JournalError>
     ensures kept { IfOk result IsSetup }
-    ensures tells { Tells (new_part before.now lines.old.number) lines.new.number (unread lines.old.input (S.left source.old)) (unread lines.new.input (S.left source.new)) result }
-    ensures source { Draws Reaches (error_in result) lines.old.input lines.new.input S.Source.own S.Faulty source.old source.new }
+    ensures tells { TellsPart (new_part before.now) lines.old lines.new S.Source.own source.old source.new result }
+    ensures source { DrawsBy Reaches lines.old lines.new S.Source.own S.Faulty source.old source.new result }
 {
     let setup = match read_setup(alloc, lines, source) {
         Ok(setup) => setup,
@@ -61,8 +59,8 @@ fn read_all<S: Source>(
 ) -> Result<Setups, JournalError>
     ensures kept { IfOk result AreSetups }
     ensures count { IfOk result (λ setups. length setups ≡ n) }
-    ensures tells { Tells (setups_part lines.old.number n) lines.new.number (unread lines.old.input (S.left source.old)) (unread lines.new.input (S.left source.new)) result }
-    ensures source { Draws Reaches (error_in result) lines.old.input lines.new.input S.Source.own S.Faulty source.old source.new }
+    ensures tells { TellsPart (λ k. setups_part k n) lines.old lines.new S.Source.own source.old source.new result }
+    ensures source { DrawsBy Reaches lines.old lines.new S.Source.own S.Faulty source.old source.new result }
 {
     let mut setups = Vec::new(alloc);
     for _ in 0..n {
@@ -89,8 +87,8 @@ pub fn read_setups<S: Source>(
 ) -> Result<Setups, JournalError>
     ensures kept { IfOk result AreSetups }
     ensures count { IfOk result (λ setups. length setups ≡ n) }
-    ensures tells { Tells (listed_part lines.old.number n) lines.new.number (unread lines.old.input (S.left source.old)) (unread lines.new.input (S.left source.new)) result }
-    ensures source { Draws Reaches (error_in result) lines.old.input lines.new.input S.Source.own S.Faulty source.old source.new }
+    ensures tells { TellsPart (λ k. listed_part k n) lines.old lines.new S.Source.own source.old source.new result }
+    ensures source { DrawsBy Reaches lines.old lines.new S.Source.own S.Faulty source.old source.new result }
 {
     match lines.first(source, FirstLine::Setups) {
         Ok(_) => {}

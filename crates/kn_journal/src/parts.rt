@@ -1,11 +1,11 @@
 //! The parts of a journal, each read from the lines that come next.
-ghost use Rattle.std.specs.Prelude.{◌≡◌, ◌≢◌, ◌+◌, ◌≤◌, ◌<◌, ◌↔◌, ℕ, Bool, [], ◌∷◌, ◌++◌, List, true, Err, Ok, None, Option, Some, Contains, IfOk, IfErr, IfSome, IsTrue, OnOk, drop, false, length, slice_range, take};
+ghost use Rattle.std.specs.Prelude.{◌≡◌, ◌≢◌, ◌+◌, ◌≤◌, ◌<◌, ◌↔◌, ℕ, [], true, Err, Ok, None, Option, Some, Contains, IfOk, IfErr, IfSome, IsTrue, OnOk, drop, false, length, slice_range, take};
 ghost use Rattle.std.specs.List.{list_all};
-ghost use Rattle.kn_event.specs.EventLine.{event_of, is_printable, IsInJournalRange, IsInVersion, Spells};
-ghost use Rattle.kn_journal.specs.Lines.{fits, line_most, lines};
-ghost use Rattle.kn_journal.specs.Reading.{TakesLine, TakesPart, TakesText, most_taken, unread};
-ghost use Rattle.kn_journal.specs.Drawing.{Draws, error_in};
-ghost use Rattle.kn_journal.specs.Telling.{AmidNext, Gives, IsCauseOf, IsEventFault, IsLineFault, Judges, Lacks, LeavesRest, OnEvent, Tells};
+ghost use Rattle.kn_event.specs.EventLine.{event_of, is_printable, Spells};
+ghost use Rattle.kn_journal.specs.LineCalls.{DrawsBy, FindsNothing, HasLfAt, HasLfFrom, HasLineOf, IsFromAhead, IsNextEvent, RestOfFirst, RestOf, SparesSource, TakesAhead, TakesLines, TakesNext, TellsEvent, TellsPart, TextAhead};
+ghost use Rattle.kn_journal.specs.Lines.{line_most};
+ghost use Rattle.kn_journal.specs.Reading.{TakesPart, most_taken, unread};
+ghost use Rattle.kn_journal.specs.Telling.{AmidNext, IsCauseOf, IsEventFault, IsLineFault, Judges, Lacks, OnEvent};
 ghost use Rattle.kn_journal.specs.Bundle.{next_by};
 ghost use Rattle.kn_journal.specs.Journal.{first_part, in_time, nothing_part, start_line_in, start_of, start_part, time_most, version_most};
 
@@ -57,10 +57,7 @@ fn judge_event(line: &[u8], number: u64, version: u64, last: u64) -> Result<Even
     requires most { version ≤ 2 }
     ensures ok { IfOk result (λ e. in_time number last (event_of version line.now) ≡ Ok e) }
     ensures err { IfErr result (λ e. IsCauseOf e (in_time number last (event_of version line.now))) }
-    ensures order { IfOk result (λ e. last ≤ e.time) }
-    ensures times { IfOk result (λ e. e.time ≤ time_most) }
-    ensures range { IfOk result (λ e. IsInJournalRange e.act) }
-    ensures version { IfOk result (λ e. IsInVersion version e.act) }
+    ensures event { IfOk result (IsNextEvent version last) }
     ensures bytes { IfOk result (λ e. 6 ≤ length line.now) }
 {
     spellings_are_read();
@@ -158,18 +155,12 @@ impl Lines {
 
     /// Reads the next line. The source is read only where no whole line is ahead.
     pub fn next_line<S: Source>(&mut self, source: &mut S) -> Result<(), JournalError>
-        ensures line { OnOk result (TakesLine (unread self.old.input (S.left source.old)) (unread self.new.input (S.left source.new)) true self.new.line) }
-        ensures text { OnOk result (TakesText self.new.cut (unread self.old.input (S.left source.old)) (unread self.new.input (S.left source.new))) }
-        ensures number { OnOk result (self.new.number ≡ self.old.number + 1) }
-        ensures fits { OnOk result (fits self.new.line ≡ true) }
-        ensures no_lf { OnOk result (¬ Contains self.new.line 10) }
-        ensures count { OnOk result (self.old.input.taken + length self.new.line ≤ self.new.input.taken) }
-        ensures strict { OnOk result (self.old.input.taken < self.new.input.taken) }
+        ensures taken { OnOk result (TakesNext self.old self.new S.Source.own source.old source.new) }
         ensures none { IfErr result (λ e. Lacks self.old.number e (unread self.old.input (S.left source.old))) }
         ensures memory { result ≢ Err JournalError.Memory }
-        ensures over { result ≡ Err JournalError.NoEnd → Gives (nothing_part self.old.number) tt self.new.number (unread self.old.input (S.left source.old)) (unread self.new.input (S.left source.new)) }
+        ensures over { result ≡ Err JournalError.NoEnd → FindsNothing self.old self.new S.Source.own source.old source.new }
         ensures short { IfErr result (λ e. ¬ IsLineFault e) }
-        ensures source { Draws TakesPart (error_in result) self.old.input self.new.input S.Source.own S.Faulty source.old source.new }
+        ensures source { DrawsBy TakesPart self.old self.new S.Source.own S.Faulty source.old source.new result }
         ensures ready { Contains self.old.input.ahead 10 → source.new ≡ source.old }
         ensures few { self.new.input.taken ≤ most_taken }
     {
@@ -190,12 +181,12 @@ impl Lines {
         source: &mut S,
         first: FirstLine,
     ) -> Result<u64, JournalError>
-        ensures tells { Tells (first_part first self.old.number) self.new.number (unread self.old.input (S.left source.old)) (unread self.new.input (S.left source.new)) result }
-        ensures rest { IfErr result (λ e. IsLineFault e → LeavesRest (first_part first self.old.number) self.old.number (Some (self.old.number + 1)) e (unread self.old.input (S.left source.old)) (unread self.new.input (S.left source.new))) }
-        ensures text { OnOk result (TakesText self.new.cut (unread self.old.input (S.left source.old)) (unread self.new.input (S.left source.new))) }
+        ensures tells { TellsPart (first_part first) self.old self.new S.Source.own source.old source.new result }
+        ensures rest { RestOfFirst (first_part first) self.old self.new S.Source.own source.old source.new result }
+        ensures text { OnOk result (TakesLines self.old self.new S.Source.own source.old source.new) }
         ensures least { IfOk result (λ version. 1 ≤ version) }
         ensures most { IfOk result (λ version. version ≤ version_most first) }
-        ensures source { Draws TakesPart (error_in result) self.old.input self.new.input S.Source.own S.Faulty source.old source.new }
+        ensures source { DrawsBy TakesPart self.old self.new S.Source.own S.Faulty source.old source.new result }
         ensures few { self.new.input.taken ≤ most_taken }
     {
         match self.next_line(source) {
@@ -206,12 +197,12 @@ impl Lines {
 
     /// Reads the start, in milliseconds.
     pub fn start<S: Source>(&mut self, source: &mut S) -> Result<u64, JournalError>
-        ensures tells { Tells (start_part self.old.number) self.new.number (unread self.old.input (S.left source.old)) (unread self.new.input (S.left source.new)) result }
-        ensures rest { IfErr result (λ e. IsLineFault e → LeavesRest (start_part self.old.number) self.old.number None e (unread self.old.input (S.left source.old)) (unread self.new.input (S.left source.new))) }
-        ensures text { OnOk result (TakesText self.new.cut (unread self.old.input (S.left source.old)) (unread self.new.input (S.left source.new))) }
+        ensures tells { TellsPart start_part self.old self.new S.Source.own source.old source.new result }
+        ensures rest { RestOf start_part self.old self.new S.Source.own source.old source.new result }
+        ensures text { OnOk result (TakesLines self.old self.new S.Source.own source.old source.new) }
         ensures most { IfOk result (λ start. start ≤ time_most) }
         ensures memory { result ≢ Err JournalError.Memory }
-        ensures source { Draws TakesPart (error_in result) self.old.input self.new.input S.Source.own S.Faulty source.old source.new }
+        ensures source { DrawsBy TakesPart self.old self.new S.Source.own S.Faulty source.old source.new result }
         ensures ready { Contains self.old.input.ahead 10 → source.new ≡ source.old }
         ensures few { self.new.input.taken ≤ most_taken }
     {
@@ -223,11 +214,11 @@ impl Lines {
 
     /// Reads the end of the input, where no further line may stand.
     pub fn end<S: Source>(&mut self, source: &mut S) -> Result<(), JournalError>
-        ensures tells { Tells (nothing_part self.old.number) self.new.number (unread self.old.input (S.left source.old)) (unread self.new.input (S.left source.new)) result }
-        ensures rest { IfErr result (λ e. IsLineFault e → LeavesRest (nothing_part self.old.number) self.old.number None e (unread self.old.input (S.left source.old)) (unread self.new.input (S.left source.new))) }
+        ensures tells { TellsPart nothing_part self.old self.new S.Source.own source.old source.new result }
+        ensures rest { RestOf nothing_part self.old self.new S.Source.own source.old source.new result }
         ensures behind { IfErr result (λ e. ¬ IsEventFault e) }
         ensures memory { result ≢ Err JournalError.Memory }
-        ensures source { Draws TakesPart (error_in result) self.old.input self.new.input S.Source.own S.Faulty source.old source.new }
+        ensures source { DrawsBy TakesPart self.old self.new S.Source.own S.Faulty source.old source.new result }
         ensures few { self.new.input.taken ≤ most_taken }
     {
         match read_line(&mut self.input, source, &mut self.line, &mut self.cut) {
@@ -243,17 +234,14 @@ impl Lines {
     /// None says nothing.
     #[inline(always)]
     fn event_ahead(&mut self, version: u64, last: u64) -> Option<(Event, usize)>
-        ensures line { IfSome result (λ p. (later : List ℕ) → lines (self.old.input.ahead ++ later) ≡ take p.1 self.old.input.ahead ∷ lines (drop (p.1 + 1) self.old.input.ahead ++ later)) }
-        ensures lf { IfSome result (λ p. self.old.input.ahead ≡ take p.1 self.old.input.ahead ++ 10 ∷ drop (p.1 + 1) self.old.input.ahead) }
+        ensures line { IfSome result (λ p. HasLineOf self.old.input.ahead p.1) }
+        ensures lf { IfSome result (λ p. HasLfAt self.old.input.ahead p.1) }
         ensures event { IfSome result (λ p. in_time (self.old.number + 1) last (event_of version (take p.1 self.old.input.ahead)) ≡ Ok p.0) }
         ensures inside { IfSome result (λ p. p.1 < length self.old.input.ahead) }
         ensures fits { IfSome result (λ p. p.1 ≤ line_most) }
         ensures few { IfSome result (λ p. self.old.input.taken + p.1 < most_taken) }
         ensures bytes { IfSome result (λ p. 6 ≤ p.1) }
-        ensures order { IfSome result (λ p. last ≤ p.0.time) }
-        ensures times { IfSome result (λ p. p.0.time ≤ time_most) }
-        ensures range { IfSome result (λ p. IsInJournalRange p.0.act) }
-        ensures version { IfSome result (λ p. IsInVersion version p.0.act) }
+        ensures next { IfSome result (λ p. IsNextEvent version last p.0) }
         ensures same { self.new ≡ self.old }
     {
         spellings_are_read();
@@ -279,7 +267,7 @@ impl Lines {
         ensures inside { IfSome result (λ p. p.1 < length self.old.input.ahead) }
         ensures least { IfSome result (λ p. from + 6 ≤ p.1) }
         ensures most { IfSome result (λ p. p.1 ≤ from + 100) }
-        ensures lf { IfSome result (λ p. drop from self.old.input.ahead ≡ slice_range self.old.input.ahead from p.1 ++ 10 ∷ drop (p.1 + 1) self.old.input.ahead) }
+        ensures lf { IfSome result (λ p. HasLfFrom self.old.input.ahead from p.1) }
         ensures spells { IfSome result (λ p. (version : ℕ) → Spells version (slice_range self.old.input.ahead from p.1) p.0) }
         ensures few { IfSome result (λ p. self.old.input.taken + p.1 < most_taken) }
         ensures same { self.new ≡ self.old }
@@ -297,9 +285,9 @@ impl Lines {
     pub fn take_line(&mut self, len: usize)
         requires inside { len < length self.old.input.ahead }
         requires few { self.old.input.taken + len < most_taken }
-        requires lf { self.old.input.ahead ≡ take len self.old.input.ahead ++ 10 ∷ drop (len + 1) self.old.input.ahead }
+        requires lf { HasLfAt self.old.input.ahead len }
         requires printable { list_all is_printable (take len self.old.input.ahead) ≡ true }
-        ensures lines { (later : List ℕ) → lines (self.old.input.ahead ++ later) ≡ take len self.old.input.ahead ∷ lines (self.new.input.ahead ++ later) }
+        ensures lines { TakesAhead self.old.input self.new.input (take len self.old.input.ahead) }
         ensures ahead { self.new.input.ahead ≡ drop (len + 1) self.old.input.ahead }
         ensures taken { self.new.input.taken ≡ self.old.input.taken + len + 1 }
         ensures number { self.new.number ≡ self.old.number + 1 }
@@ -315,15 +303,12 @@ impl Lines {
     /// takes nothing.
     #[inline(always)]
     pub fn next_ahead(&mut self, version: u64, last: u64) -> Option<Event>
-        ensures tells { IfSome result (λ e. (bundle : Bool) (left : Option (List ℕ)) → Tells (next_by bundle version last self.old.number) self.new.number (unread self.old.input left) (unread self.new.input left) (Ok (Some e))) }
-        ensures text { IfSome result (λ e. (left : Option (List ℕ)) → TakesText self.new.cut (unread self.old.input left) (unread self.new.input left)) }
-        ensures order { IfSome result (λ e. last ≤ e.time) }
-        ensures times { IfSome result (λ e. e.time ≤ time_most) }
-        ensures range { IfSome result (λ e. IsInJournalRange e.act) }
-        ensures version { IfSome result (λ e. IsInVersion version e.act) }
+        ensures tells { IfSome result (TellsEvent version last self.old self.new) }
+        ensures text { IfSome result (λ e. TextAhead self.new.cut self.old.input self.new.input) }
+        ensures event { IfSome result (IsNextEvent version last) }
         ensures bytes { IfSome result (λ e. self.old.input.taken + 6 ≤ self.new.input.taken) }
         ensures few { IfSome result (λ e. self.new.input.taken ≤ most_taken) }
-        ensures balance { self.new.input.taken + length self.new.input.ahead ≡ self.old.input.taken + length self.old.input.ahead }
+        ensures balance { IsFromAhead self.old.input self.new.input }
         ensures same { result ≡ None → self.new ≡ self.old }
     {
         let (e, len) = self.event_ahead(version, last)?;
@@ -343,19 +328,15 @@ impl Lines {
     ) -> Result<Option<Event>, JournalError>
         requires least { 1 ≤ version }
         requires most { version ≤ 2 }
-        ensures tells { Tells (next_by bundle version last self.old.number) self.new.number (unread self.old.input (S.left source.old)) (unread self.new.input (S.left source.new)) result }
-        ensures rest { IfErr result (λ e. IsLineFault e → LeavesRest (next_by bundle version last self.old.number) self.old.number None e (unread self.old.input (S.left source.old)) (unread self.new.input (S.left source.new))) }
-        ensures text { OnEvent result (λ e. TakesText self.new.cut (unread self.old.input (S.left source.old)) (unread self.new.input (S.left source.new))) }
-        ensures order { OnEvent result (λ e. last ≤ e.time) }
-        ensures times { OnEvent result (λ e. e.time ≤ time_most) }
-        ensures range { OnEvent result (λ e. IsInJournalRange e.act) }
-        ensures version { OnEvent result (λ e. IsInVersion version e.act) }
+        ensures tells { TellsPart (next_by bundle version last) self.old self.new S.Source.own source.old source.new result }
+        ensures rest { RestOf (next_by bundle version last) self.old self.new S.Source.own source.old source.new result }
+        ensures text { OnEvent result (λ e. TakesLines self.old self.new S.Source.own source.old source.new) }
+        ensures event { OnEvent result (IsNextEvent version last) }
         ensures bytes { OnEvent result (λ e. self.old.input.taken + 6 ≤ self.new.input.taken) }
         ensures memory { result ≢ Err JournalError.Memory }
-        ensures closes { bundle ≡ true → OnOk result (TakesText self.new.cut (unread self.old.input (S.left source.old)) (unread self.new.input (S.left source.new))) }
-        ensures source { Draws (AmidNext bundle) (error_in result) self.old.input self.new.input S.Source.own S.Faulty source.old source.new }
-        ensures ready { OnEvent result (λ e. Contains self.old.input.ahead 10 → source.new ≡ source.old) }
-        ensures refused { IfErr result (λ e. IsEventFault e → Contains self.old.input.ahead 10 → source.new ≡ source.old) }
+        ensures closes { bundle ≡ true → OnOk result (TakesLines self.old self.new S.Source.own source.old source.new) }
+        ensures source { DrawsBy (AmidNext bundle) self.old self.new S.Source.own S.Faulty source.old source.new result }
+        ensures spares { SparesSource self.old.input source.old source.new result }
         ensures few { self.new.input.taken ≤ most_taken }
     {
         match self.next_ahead(version, last) {

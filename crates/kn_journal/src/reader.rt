@@ -1,11 +1,11 @@
 //! A journal that is read call by call.
-ghost use Rattle.std.specs.Prelude.{◌≡◌, ◌⊎◌, ◌≢◌, ◌+◌, ◌≤◌, ◌<◌, ◌↔◌, ℕ, List, [], Option, Err, Ok, None, Some, Contains, IfErr, IfOk, IfSome, IsSome, IsTrue, false, length, OnErr, OnOk, true};
-ghost use Rattle.kn_io.specs.Causes.{Rose};
-ghost use Rattle.kn_event.specs.EventLine.{IsInJournalRange, IsInVersion};
-ghost use Rattle.kn_journal.specs.Bundle.{AreSetups, first_of_part, listed_part, next_by, opening_by};
-ghost use Rattle.kn_journal.specs.Reading.{IsBalanced, IsOver, IsSpent, TakesPart, TakesText, most_taken, unread};
-ghost use Rattle.kn_journal.specs.Telling.{AmidNext, IsEventFault, IsLineFault, LeavesRest, OnEvent, StopsAmid, Tells, TellsFirst, TellsOpening};
+ghost use Rattle.std.specs.Prelude.{◌≡◌, ◌≢◌, ◌+◌, ◌≤◌, ◌↔◌, ℕ, List, [], Option, Err, None, Contains, IfOk, IfSome, IsTrue, false, length, OnOk, true};
+ghost use Rattle.kn_journal.specs.LineCalls.{IsFromAhead, IsNextEvent, SparesSource};
+ghost use Rattle.kn_journal.specs.Bundle.{AreSetups, Reaches};
+ghost use Rattle.kn_journal.specs.Calls.{AmidEvent, AmidOpening, BeginsJournal, DrawsOn, FailsForGood, KeepsJournal, OpensJournal, ReadsAhead, ReadsFirst, ReadsNext, ReadsOpening, ReadsPart, ReadsTo, TellsSetups};
 ghost use Rattle.kn_journal.specs.Journal.{IsSetup, nothing_part, start_part, time_most};
+ghost use Rattle.kn_journal.specs.Reading.{TakesPart, most_taken};
+ghost use Rattle.kn_journal.specs.Telling.{OnEvent};
 
 use crate::bundle::{read_first_of, read_opening_by};
 use crate::error::JournalError;
@@ -113,29 +113,14 @@ impl JournalReader {
     /// Takes the first line of a bundle's next journal, or says that the input ends there. From then on a journal ends at its
     /// `end`, and the next `setup` begins behind that first line. Where the input said its end, no source is read again.
     pub fn part<S: Source>(&mut self, source: &mut S) -> Result<bool, JournalError>
-        ensures tells { self.old.failed ≡ None → IsOver self.old.cut (unread self.old.input (S.left source.old)) → TellsFirst (first_of_part self.old.number) self.new.version self.new.number (unread self.old.input (S.left source.old)) (unread self.new.input (S.left source.new)) result }
-        ensures rest { self.old.failed ≡ None → IfErr result (λ e. IsLineFault e → LeavesRest (first_of_part self.old.number) self.old.number (Some (self.old.number + 1)) e (unread self.old.input (S.left source.old)) (unread self.new.input (S.left source.new))) }
-        ensures text { result ≡ Ok true → TakesText self.new.cut (unread self.old.input (S.left source.old)) (unread self.new.input (S.left source.new)) }
-        ensures bytes { result ≡ Ok true → self.old.input.taken < self.new.input.taken }
-        ensures version { result ≢ Ok true → self.new.version ≡ self.old.version }
-        ensures bundle { self.old.failed ≡ None → self.new.bundle ≡ true }
-        ensures begun { result ≡ Ok true → self.new.begun ≡ true }
-        ensures same { result ≢ Ok true → self.new.begun ≡ self.old.begun }
-        ensures amid { self.old.failed ≡ None → result ≡ Err JournalError.ReadFault → TakesPart (unread self.old.input (S.left source.old)) (unread self.new.input (S.left source.new)) }
-        ensures spent { self.old.failed ≡ None → result ≡ Err JournalError.ReadFault → IsSpent self.new.input }
+        ensures reads { ReadsFirst self.old self.new S.Source.own source.old source.new result }
+        ensures begins { BeginsJournal self.old self.new result }
+        ensures source { DrawsOn TakesPart self.old self.new S.Source.own S.Faulty source.old source.new result }
         ensures ready { Contains self.old.input.ahead 10 → source.new ≡ source.old }
         ensures over { self.old.cut ≡ true → source.new ≡ source.old }
         ensures memory { self.old.failed ≡ None → result ≢ Err JournalError.Memory }
-        ensures fault { self.old.failed ≡ None → result ≡ Err JournalError.ReadFault → Rose (S.Faulty.faults source.old) (S.Faulty.faults source.new) ⊎ (self.new.input.taken ≡ most_taken) }
-        ensures again { IfSome self.old.failed (λ e. result ≡ Err e) }
-        ensures still { IsSome self.old.failed → (self.new ≡ self.old) × (source.new ≡ source.old) }
-        ensures good { OnOk result (self.new.failed ≡ None) }
-        ensures keeps { IfErr result (λ e. self.new.failed ≡ Some e) }
-        ensures grows { self.old.input.taken ≤ self.new.input.taken }
         ensures few { self.old.failed ≡ None → self.old.input.taken ≤ most_taken → self.new.input.taken ≤ most_taken }
-        ensures balance { IsBalanced self.old.input self.new.input (S.given source.old) (S.given source.new) }
-        ensures never_falls { S.Faulty.faults source.old ≤ S.Faulty.faults source.new }
-        ensures apart { S.apart source.new ≡ S.apart source.old }
+        ensures fails { FailsForGood self.old self.new source.old source.new result }
     {
         if let Some(e) = self.failed {
             return Err(e);
@@ -160,27 +145,11 @@ impl JournalReader {
 
     /// Reads the version and the setup; behind a `part` the setup alone. The setup's text reads as that setup, also of a source that doesn't tell its bytes.
     pub fn setup<S: Source>(&mut self, alloc: Global, source: &mut S) -> Result<Setup, JournalError>
-        ensures tells { self.old.failed ≡ None → TellsOpening (opening_by self.old.begun self.old.version self.old.number) self.new.version self.new.number (unread self.old.input (S.left source.old)) (unread self.new.input (S.left source.new)) result }
-        ensures rest { self.old.failed ≡ None → IfErr result (λ e. IsLineFault e → LeavesRest (opening_by self.old.begun self.old.version self.old.number) self.old.number (Some (self.old.number + 1)) e (unread self.old.input (S.left source.old)) (unread self.new.input (S.left source.new))) }
-        ensures text { OnOk result (TakesText self.new.cut (unread self.old.input (S.left source.old)) (unread self.new.input (S.left source.new))) }
+        ensures reads { ReadsOpening self.old self.new S.Source.own source.old source.new result }
         ensures kept { IfOk result IsSetup }
-        ensures least { OnOk result (1 ≤ self.new.version) }
-        ensures most { OnOk result (self.new.version ≤ 2) }
-        ensures version { OnErr result (self.new.version ≡ self.old.version) }
-        ensures same { self.old.begun ≡ true → self.new.version ≡ self.old.version }
-        ensures bundle { self.new.bundle ≡ self.old.bundle }
-        ensures begun { OnOk result (self.new.begun ≡ false) }
-        ensures amid { self.old.failed ≡ None → result ≡ Err JournalError.ReadFault → StopsAmid (opening_by self.old.begun self.old.version self.old.number) (unread self.old.input (S.left source.old)) (unread self.new.input (S.left source.new)) }
-        ensures spent { self.old.failed ≡ None → result ≡ Err JournalError.ReadFault → IsSpent self.new.input }
-        ensures fault { self.old.failed ≡ None → result ≡ Err JournalError.ReadFault → Rose (S.Faulty.faults source.old) (S.Faulty.faults source.new) ⊎ (self.new.input.taken ≡ most_taken) }
-        ensures again { IfSome self.old.failed (λ e. result ≡ Err e) }
-        ensures still { IsSome self.old.failed → (self.new ≡ self.old) × (source.new ≡ source.old) }
-        ensures good { OnOk result (self.new.failed ≡ None) }
-        ensures keeps { IfErr result (λ e. self.new.failed ≡ Some e) }
-        ensures grows { self.old.input.taken ≤ self.new.input.taken }
-        ensures balance { IsBalanced self.old.input self.new.input (S.given source.old) (S.given source.new) }
-        ensures never_falls { S.Faulty.faults source.old ≤ S.Faulty.faults source.new }
-        ensures apart { S.apart source.new ≡ S.apart source.old }
+        ensures opens { OpensJournal self.old self.new result }
+        ensures source { DrawsOn (AmidOpening self.old) self.old self.new S.Source.own S.Faulty source.old source.new result }
+        ensures fails { FailsForGood self.old self.new source.old source.new result }
     {
         if let Some(e) = self.failed {
             return Err(e);
@@ -200,28 +169,16 @@ impl JournalReader {
 
     /// Reads the start, in milliseconds, after the setup.
     pub fn start<S: Source>(&mut self, source: &mut S) -> Result<u64, JournalError>
-        ensures tells { self.old.failed ≡ None → Tells (start_part self.old.number) self.new.number (unread self.old.input (S.left source.old)) (unread self.new.input (S.left source.new)) result }
-        ensures rest { self.old.failed ≡ None → IfErr result (λ e. IsLineFault e → LeavesRest (start_part self.old.number) self.old.number None e (unread self.old.input (S.left source.old)) (unread self.new.input (S.left source.new))) }
-        ensures text { OnOk result (TakesText self.new.cut (unread self.old.input (S.left source.old)) (unread self.new.input (S.left source.new))) }
+        ensures reads { ReadsPart start_part self.old self.new S.Source.own source.old source.new result }
+        ensures text { OnOk result (ReadsTo self.old self.new S.Source.own source.old source.new) }
         ensures start { IfOk result (λ start. self.new.last ≡ start) }
         ensures most { IfOk result (λ start. start ≤ time_most) }
-        ensures version { self.new.version ≡ self.old.version }
-        ensures bundle { self.new.bundle ≡ self.old.bundle }
-        ensures begun { self.new.begun ≡ self.old.begun }
-        ensures amid { self.old.failed ≡ None → result ≡ Err JournalError.ReadFault → TakesPart (unread self.old.input (S.left source.old)) (unread self.new.input (S.left source.new)) }
-        ensures spent { self.old.failed ≡ None → result ≡ Err JournalError.ReadFault → IsSpent self.new.input }
+        ensures journal { KeepsJournal self.old self.new }
+        ensures source { DrawsOn TakesPart self.old self.new S.Source.own S.Faulty source.old source.new result }
         ensures ready { Contains self.old.input.ahead 10 → source.new ≡ source.old }
         ensures memory { self.old.failed ≡ None → result ≢ Err JournalError.Memory }
-        ensures fault { self.old.failed ≡ None → result ≡ Err JournalError.ReadFault → Rose (S.Faulty.faults source.old) (S.Faulty.faults source.new) ⊎ (self.new.input.taken ≡ most_taken) }
-        ensures again { IfSome self.old.failed (λ e. result ≡ Err e) }
-        ensures still { IsSome self.old.failed → (self.new ≡ self.old) × (source.new ≡ source.old) }
-        ensures good { OnOk result (self.new.failed ≡ None) }
-        ensures keeps { IfErr result (λ e. self.new.failed ≡ Some e) }
-        ensures grows { self.old.input.taken ≤ self.new.input.taken }
         ensures few { self.old.failed ≡ None → self.new.input.taken ≤ most_taken }
-        ensures balance { IsBalanced self.old.input self.new.input (S.given source.old) (S.given source.new) }
-        ensures never_falls { S.Faulty.faults source.old ≤ S.Faulty.faults source.new }
-        ensures apart { S.apart source.new ≡ S.apart source.old }
+        ensures fails { FailsForGood self.old self.new source.old source.new result }
     {
         if let Some(e) = self.failed {
             return Err(e);
@@ -242,21 +199,15 @@ impl JournalReader {
     /// and takes nothing.
     #[inline(always)]
     pub fn next_ahead(&mut self) -> Option<Event>
-        ensures tells { IfSome result (λ e. (left : Option (List ℕ)) → Tells (next_by self.old.bundle self.old.version self.old.last self.old.number) self.new.number (unread self.old.input left) (unread self.new.input left) (Ok (Some e))) }
-        ensures text { IfSome result (λ e. (left : Option (List ℕ)) → TakesText self.new.cut (unread self.old.input left) (unread self.new.input left)) }
-        ensures order { IfSome result (λ e. self.old.last ≤ e.time) }
-        ensures times { IfSome result (λ e. e.time ≤ time_most) }
+        ensures reads { IfSome result (λ e. (left : Option (List ℕ)) → ReadsAhead self.old self.new left e) }
+        ensures event { IfSome result (IsNextEvent self.old.version self.old.last) }
         ensures last { IfSome result (λ e. self.new.last ≡ e.time) }
-        ensures range { IfSome result (λ e. IsInJournalRange e.act) }
-        ensures act { IfSome result (λ e. IsInVersion self.old.version e.act) }
         ensures bytes { IfSome result (λ e. self.old.input.taken + 6 ≤ self.new.input.taken) }
-        ensures version { self.new.version ≡ self.old.version }
-        ensures bundle { self.new.bundle ≡ self.old.bundle }
-        ensures begun { self.new.begun ≡ self.old.begun }
+        ensures journal { KeepsJournal self.old self.new }
         ensures few { IfSome result (λ e. self.new.input.taken ≤ most_taken) }
         ensures good { IfSome result (λ e. self.old.failed ≡ None) }
         ensures failed { self.new.failed ≡ self.old.failed }
-        ensures balance { self.new.input.taken + length self.new.input.ahead ≡ self.old.input.taken + length self.old.input.ahead }
+        ensures balance { IsFromAhead self.old.input self.new.input }
         ensures same { result ≡ None → self.new ≡ self.old }
     {
         if self.failed.is_some() {
@@ -270,34 +221,16 @@ impl JournalReader {
     /// Reads the next event, at the last time or later; `None` where `end` comes, and then the end of the input unless the
     /// journal is a bundle's.
     pub fn next<S: Source>(&mut self, source: &mut S) -> Result<Option<Event>, JournalError>
-        ensures tells { self.old.failed ≡ None → Tells (next_by self.old.bundle self.old.version self.old.last self.old.number) self.new.number (unread self.old.input (S.left source.old)) (unread self.new.input (S.left source.new)) result }
-        ensures rest { self.old.failed ≡ None → IfErr result (λ e. IsLineFault e → LeavesRest (next_by self.old.bundle self.old.version self.old.last self.old.number) self.old.number None e (unread self.old.input (S.left source.old)) (unread self.new.input (S.left source.new))) }
-        ensures closes { self.old.bundle ≡ true → OnOk result (TakesText self.new.cut (unread self.old.input (S.left source.old)) (unread self.new.input (S.left source.new))) }
-        ensures text { OnEvent result (λ e. TakesText self.new.cut (unread self.old.input (S.left source.old)) (unread self.new.input (S.left source.new))) }
-        ensures order { OnEvent result (λ e. self.old.last ≤ e.time) }
-        ensures times { OnEvent result (λ e. e.time ≤ time_most) }
+        ensures reads { ReadsNext self.old self.new S.Source.own source.old source.new result }
+        ensures event { OnEvent result (IsNextEvent self.old.version self.old.last) }
         ensures last { OnEvent result (λ e. self.new.last ≡ e.time) }
-        ensures range { OnEvent result (λ e. IsInJournalRange e.act) }
-        ensures act { OnEvent result (λ e. IsInVersion self.old.version e.act) }
         ensures bytes { OnEvent result (λ e. self.old.input.taken + 6 ≤ self.new.input.taken) }
-        ensures version { self.new.version ≡ self.old.version }
-        ensures bundle { self.new.bundle ≡ self.old.bundle }
-        ensures begun { self.new.begun ≡ self.old.begun }
-        ensures amid { self.old.failed ≡ None → result ≡ Err JournalError.ReadFault → AmidNext self.old.bundle (unread self.old.input (S.left source.old)) (unread self.new.input (S.left source.new)) }
-        ensures spent { self.old.failed ≡ None → result ≡ Err JournalError.ReadFault → IsSpent self.new.input }
-        ensures ready { OnEvent result (λ e. Contains self.old.input.ahead 10 → source.new ≡ source.old) }
-        ensures refused { IfErr result (λ e. IsEventFault e → Contains self.old.input.ahead 10 → source.new ≡ source.old) }
+        ensures journal { KeepsJournal self.old self.new }
+        ensures source { DrawsOn (AmidEvent self.old) self.old self.new S.Source.own S.Faulty source.old source.new result }
+        ensures spares { SparesSource self.old.input source.old source.new result }
         ensures memory { self.old.failed ≡ None → result ≢ Err JournalError.Memory }
-        ensures fault { self.old.failed ≡ None → result ≡ Err JournalError.ReadFault → Rose (S.Faulty.faults source.old) (S.Faulty.faults source.new) ⊎ (self.new.input.taken ≡ most_taken) }
-        ensures again { IfSome self.old.failed (λ e. result ≡ Err e) }
-        ensures still { IsSome self.old.failed → (self.new ≡ self.old) × (source.new ≡ source.old) }
-        ensures good { OnOk result (self.new.failed ≡ None) }
-        ensures keeps { IfErr result (λ e. self.new.failed ≡ Some e) }
-        ensures grows { self.old.input.taken ≤ self.new.input.taken }
         ensures few { self.old.failed ≡ None → self.new.input.taken ≤ most_taken }
-        ensures balance { IsBalanced self.old.input self.new.input (S.given source.old) (S.given source.new) }
-        ensures never_falls { S.Faulty.faults source.old ≤ S.Faulty.faults source.new }
-        ensures apart { S.apart source.new ≡ S.apart source.old }
+        ensures fails { FailsForGood self.old self.new source.old source.new result }
     {
         if let Some(e) = self.failed {
             return Err(e);
@@ -320,23 +253,11 @@ impl JournalReader {
 
     /// Reads the end of the input, in place of the start: after a setup that stands alone no line may follow.
     pub fn finish_setup<S: Source>(&mut self, source: &mut S) -> Result<(), JournalError>
-        ensures tells { self.old.failed ≡ None → Tells (nothing_part self.old.number) self.new.number (unread self.old.input (S.left source.old)) (unread self.new.input (S.left source.new)) result }
-        ensures rest { self.old.failed ≡ None → IfErr result (λ e. IsLineFault e → LeavesRest (nothing_part self.old.number) self.old.number None e (unread self.old.input (S.left source.old)) (unread self.new.input (S.left source.new))) }
-        ensures amid { self.old.failed ≡ None → result ≡ Err JournalError.ReadFault → TakesPart (unread self.old.input (S.left source.old)) (unread self.new.input (S.left source.new)) }
-        ensures spent { self.old.failed ≡ None → result ≡ Err JournalError.ReadFault → IsSpent self.new.input }
-        ensures version { self.new.version ≡ self.old.version }
-        ensures bundle { self.new.bundle ≡ self.old.bundle }
-        ensures begun { self.new.begun ≡ self.old.begun }
+        ensures reads { ReadsPart nothing_part self.old self.new S.Source.own source.old source.new result }
+        ensures journal { KeepsJournal self.old self.new }
+        ensures source { DrawsOn TakesPart self.old self.new S.Source.own S.Faulty source.old source.new result }
         ensures memory { self.old.failed ≡ None → result ≢ Err JournalError.Memory }
-        ensures fault { self.old.failed ≡ None → result ≡ Err JournalError.ReadFault → Rose (S.Faulty.faults source.old) (S.Faulty.faults source.new) ⊎ (self.new.input.taken ≡ most_taken) }
-        ensures again { IfSome self.old.failed (λ e. result ≡ Err e) }
-        ensures still { IsSome self.old.failed → (self.new ≡ self.old) × (source.new ≡ source.old) }
-        ensures good { OnOk result (self.new.failed ≡ None) }
-        ensures keeps { IfErr result (λ e. self.new.failed ≡ Some e) }
-        ensures grows { self.old.input.taken ≤ self.new.input.taken }
-        ensures balance { IsBalanced self.old.input self.new.input (S.given source.old) (S.given source.new) }
-        ensures never_falls { S.Faulty.faults source.old ≤ S.Faulty.faults source.new }
-        ensures apart { S.apart source.new ≡ S.apart source.old }
+        ensures fails { FailsForGood self.old self.new source.old source.new result }
     {
         if let Some(e) = self.failed {
             return Err(e);
@@ -357,22 +278,12 @@ impl JournalReader {
         source: &mut S,
         n: u64,
     ) -> Result<Setups, JournalError>
-        ensures tells { self.old.failed ≡ None → Tells (listed_part self.old.number n) self.new.number (unread self.old.input (S.left source.old)) (unread self.new.input (S.left source.new)) result }
+        ensures tells { self.old.failed ≡ None → TellsSetups n self.old self.new S.Source.own source.old source.new result }
         ensures kept { IfOk result AreSetups }
         ensures count { IfOk result (λ setups. length setups ≡ n) }
-        ensures version { self.new.version ≡ self.old.version }
-        ensures bundle { self.new.bundle ≡ self.old.bundle }
-        ensures begun { self.new.begun ≡ self.old.begun }
-        ensures spent { self.old.failed ≡ None → result ≡ Err JournalError.ReadFault → IsSpent self.new.input }
-        ensures fault { self.old.failed ≡ None → result ≡ Err JournalError.ReadFault → Rose (S.Faulty.faults source.old) (S.Faulty.faults source.new) ⊎ (self.new.input.taken ≡ most_taken) }
-        ensures again { IfSome self.old.failed (λ e. result ≡ Err e) }
-        ensures still { IsSome self.old.failed → (self.new ≡ self.old) × (source.new ≡ source.old) }
-        ensures good { OnOk result (self.new.failed ≡ None) }
-        ensures keeps { IfErr result (λ e. self.new.failed ≡ Some e) }
-        ensures grows { self.old.input.taken ≤ self.new.input.taken }
-        ensures balance { IsBalanced self.old.input self.new.input (S.given source.old) (S.given source.new) }
-        ensures never_falls { S.Faulty.faults source.old ≤ S.Faulty.faults source.new }
-        ensures apart { S.apart source.new ≡ S.apart source.old }
+        ensures journal { KeepsJournal self.old self.new }
+        ensures source { DrawsOn Reaches self.old self.new S.Source.own S.Faulty source.old source.new result }
+        ensures fails { FailsForGood self.old self.new source.old source.new result }
     {
         if let Some(e) = self.failed {
             return Err(e);

@@ -1,15 +1,15 @@
 //! A setup, read from the lines that come next: its first line, and for a revision that scales two blocks.
-ghost use Rattle.std.specs.Prelude.{◌≡◌, ℕ, ◌+◌, ◌≤◌, ◌++◌, ◌∷◌, List, [], Err, None, Ok, Option, Some, IfErr, IfOk, OnOk, codes};
+ghost use Rattle.std.specs.Prelude.{◌≡◌, ℕ, ◌+◌, ◌≤◌, ◌++◌, ◌∷◌, List, [], Err, Ok, Option, IfErr, IfOk, OnOk, codes};
 ghost use Rattle.kn_event.specs.Ranges.{AreSlots};
 ghost use Rattle.kn_config.specs.Config.{IsConfig};
 ghost use Rattle.kn_event.specs.FixedSpec.{fixed_spec};
+ghost use Rattle.kn_journal.specs.LineCalls.{DrawsIn, RestOfFirst, RestOf, TakesLines, TellsPart};
 ghost use Rattle.kn_journal.specs.Journal.{IsSetup, opening_part, version_most};
 ghost use Rattle.kn_journal.specs.Setup.{IsBlockText, ReadsBack, behind_line, block_part, blocks_part, blocks_text, revision_part, setup_of, setup_part, word_in, word_part};
 ghost use Rattle.kn_journal.specs.Lines.{ends_with_cr};
 ghost use Rattle.kn_journal.specs.SetupLine.{IsSetupLine};
 ghost use Rattle.kn_journal.specs.Reading.{TakesText, unread};
-ghost use Rattle.kn_journal.specs.Drawing.{Draws, error_in};
-ghost use Rattle.kn_journal.specs.Telling.{IsLineFault, Judges, LeavesRest, StopsAmid, Tells, config_error, revision_error};
+ghost use Rattle.kn_journal.specs.Telling.{Judges, config_error, revision_error};
 
 use crate::error::{JournalError, SetupError};
 use crate::first::FirstLine;
@@ -41,10 +41,10 @@ fn judge_word(line: &[u8], number: u64, word: &[u8]) -> Result<(), JournalError>
 
 /// Reads a line that is just this word.
 fn read_word<S: Source>(lines: &mut Lines, source: &mut S, word: &[u8]) -> Result<(), JournalError>
-    ensures tells { Tells (word_part word.now lines.old.number) lines.new.number (unread lines.old.input (S.left source.old)) (unread lines.new.input (S.left source.new)) result }
-    ensures text { OnOk result (TakesText lines.new.cut (unread lines.old.input (S.left source.old)) (unread lines.new.input (S.left source.new))) }
-    ensures rest { IfErr result (λ e. IsLineFault e → LeavesRest (word_part word.now lines.old.number) lines.old.number None e (unread lines.old.input (S.left source.old)) (unread lines.new.input (S.left source.new))) }
-    ensures source { Draws (StopsAmid (word_part word.now lines.old.number)) (error_in result) lines.old.input lines.new.input S.Source.own S.Faulty source.old source.new }
+    ensures tells { TellsPart (word_part word.now) lines.old lines.new S.Source.own source.old source.new result }
+    ensures text { OnOk result (TakesLines lines.old lines.new S.Source.own source.old source.new) }
+    ensures rest { RestOf (word_part word.now) lines.old lines.new S.Source.own source.old source.new result }
+    ensures source { DrawsIn (word_part word.now) lines.old lines.new S.Source.own S.Faulty source.old source.new result }
 {
     match lines.next_line(source) {
         Ok(()) => judge_word(lines.line(), lines.number(), word),
@@ -66,10 +66,10 @@ fn read_block<S: Source>(
     source: &mut S,
 ) -> Result<Text, JournalError>
     ensures kept { IfOk result IsBlockText }
-    ensures tells { Tells (block_part [] lines.old.number) lines.new.number (unread lines.old.input (S.left source.old)) (unread lines.new.input (S.left source.new)) result }
-    ensures text { OnOk result (TakesText lines.new.cut (unread lines.old.input (S.left source.old)) (unread lines.new.input (S.left source.new))) }
-    ensures rest { IfErr result (λ e. IsLineFault e → LeavesRest (block_part [] lines.old.number) lines.old.number None e (unread lines.old.input (S.left source.old)) (unread lines.new.input (S.left source.new))) }
-    ensures source { Draws (StopsAmid (block_part [] lines.old.number)) (error_in result) lines.old.input lines.new.input S.Source.own S.Faulty source.old source.new }
+    ensures tells { TellsPart (block_part []) lines.old lines.new S.Source.own source.old source.new result }
+    ensures text { OnOk result (TakesLines lines.old lines.new S.Source.own source.old source.new) }
+    ensures rest { RestOf (block_part []) lines.old lines.new S.Source.own source.old source.new result }
+    ensures source { DrawsIn (block_part []) lines.old lines.new S.Source.own S.Faulty source.old source.new result }
 {
     let mut text = Vec::new(alloc);
     for _ in 0..BLOCK_LINES {
@@ -179,10 +179,10 @@ fn read_revision<S: Source>(
     requires slots { AreSlots slots }
     requires config { IsConfig config.now }
     ensures kept { IfOk result (ReadsBack (revision_part line.items block.now slots config.now) (line.items ++ (codes "config\n" ++ (block.now ++ codes ".\n")))) }
-    ensures tells { Tells (revision_part line.items block.now slots config.now lines.old.number) lines.new.number (unread lines.old.input (S.left source.old)) (unread lines.new.input (S.left source.new)) result }
-    ensures text { OnOk result (TakesText lines.new.cut (unread lines.old.input (S.left source.old)) (unread lines.new.input (S.left source.new))) }
-    ensures rest { IfErr result (λ e. IsLineFault e → LeavesRest (revision_part line.items block.now slots config.now lines.old.number) lines.old.number None e (unread lines.old.input (S.left source.old)) (unread lines.new.input (S.left source.new))) }
-    ensures source { Draws (StopsAmid (revision_part line.items block.now slots config.now lines.old.number)) (error_in result) lines.old.input lines.new.input S.Source.own S.Faulty source.old source.new }
+    ensures tells { TellsPart (revision_part line.items block.now slots config.now) lines.old lines.new S.Source.own source.old source.new result }
+    ensures text { OnOk result (TakesLines lines.old lines.new S.Source.own source.old source.new) }
+    ensures rest { RestOf (revision_part line.items block.now slots config.now) lines.old lines.new S.Source.own source.old source.new result }
+    ensures source { DrawsIn (revision_part line.items block.now slots config.now) lines.old lines.new S.Source.own S.Faulty source.old source.new result }
 {
     match read_word(lines, source, b"revision") {
         Ok(()) => {}
@@ -212,10 +212,10 @@ fn read_blocks<S: Source>(
 ) -> Result<Setup, JournalError>
     requires { AreSlots slots }
     ensures kept { IfOk result (ReadsBack (blocks_part line.items slots) line.items) }
-    ensures tells { Tells (blocks_part line.items slots lines.old.number) lines.new.number (unread lines.old.input (S.left source.old)) (unread lines.new.input (S.left source.new)) result }
-    ensures text { OnOk result (TakesText lines.new.cut (unread lines.old.input (S.left source.old)) (unread lines.new.input (S.left source.new))) }
-    ensures rest { IfErr result (λ e. IsLineFault e → LeavesRest (blocks_part line.items slots lines.old.number) lines.old.number None e (unread lines.old.input (S.left source.old)) (unread lines.new.input (S.left source.new))) }
-    ensures source { Draws (StopsAmid (blocks_part line.items slots lines.old.number)) (error_in result) lines.old.input lines.new.input S.Source.own S.Faulty source.old source.new }
+    ensures tells { TellsPart (blocks_part line.items slots) lines.old lines.new S.Source.own source.old source.new result }
+    ensures text { OnOk result (TakesLines lines.old lines.new S.Source.own source.old source.new) }
+    ensures rest { RestOf (blocks_part line.items slots) lines.old lines.new S.Source.own source.old source.new result }
+    ensures source { DrawsIn (blocks_part line.items slots) lines.old lines.new S.Source.own S.Faulty source.old source.new result }
 {
     match read_word(lines, source, b"config") {
         Ok(()) => {}
@@ -271,10 +271,10 @@ fn read_behind<S: Source>(
 ) -> Result<Setup, JournalError>
     requires { IsSetupLine said }
     ensures kept { IfOk result (ReadsBack (behind_line text.items (Ok said)) text.items) }
-    ensures tells { Tells (behind_line text.items (Ok said) lines.old.number) lines.new.number (unread lines.old.input (S.left source.old)) (unread lines.new.input (S.left source.new)) result }
+    ensures tells { TellsPart (behind_line text.items (Ok said)) lines.old lines.new S.Source.own source.old source.new result }
     ensures text { OnOk result ((before : Option (List ℕ)) → TakesText lines.old.cut before (unread lines.old.input (S.left source.old)) → TakesText lines.new.cut before (unread lines.new.input (S.left source.new))) }
-    ensures rest { IfErr result (λ e. IsLineFault e → LeavesRest (behind_line text.items (Ok said) lines.old.number) lines.old.number None e (unread lines.old.input (S.left source.old)) (unread lines.new.input (S.left source.new))) }
-    ensures source { Draws (StopsAmid (behind_line text.items (Ok said) lines.old.number)) (error_in result) lines.old.input lines.new.input S.Source.own S.Faulty source.old source.new }
+    ensures rest { RestOf (behind_line text.items (Ok said)) lines.old lines.new S.Source.own source.old source.new result }
+    ensures source { DrawsIn (behind_line text.items (Ok said)) lines.old lines.new S.Source.own S.Faulty source.old source.new result }
 {
     match said {
         SetupLine::Fixed(limit, pods, timeout_s, slots) => {
@@ -306,10 +306,10 @@ pub fn read_setup<S: Source>(
     source: &mut S,
 ) -> Result<Setup, JournalError>
     ensures kept { IfOk result IsSetup }
-    ensures tells { Tells (setup_part lines.old.number) lines.new.number (unread lines.old.input (S.left source.old)) (unread lines.new.input (S.left source.new)) result }
-    ensures text { OnOk result (TakesText lines.new.cut (unread lines.old.input (S.left source.old)) (unread lines.new.input (S.left source.new))) }
-    ensures rest { IfErr result (λ e. IsLineFault e → LeavesRest (setup_part lines.old.number) lines.old.number None e (unread lines.old.input (S.left source.old)) (unread lines.new.input (S.left source.new))) }
-    ensures source { Draws (StopsAmid (setup_part lines.old.number)) (error_in result) lines.old.input lines.new.input S.Source.own S.Faulty source.old source.new }
+    ensures tells { TellsPart setup_part lines.old lines.new S.Source.own source.old source.new result }
+    ensures text { OnOk result (TakesLines lines.old lines.new S.Source.own source.old source.new) }
+    ensures rest { RestOf setup_part lines.old lines.new S.Source.own source.old source.new result }
+    ensures source { DrawsIn setup_part lines.old lines.new S.Source.own S.Faulty source.old source.new result }
 {
     match lines.next_line(source) {
         Ok(()) => {}
@@ -333,10 +333,10 @@ pub fn read_opening<S: Source>(
     first: FirstLine,
 ) -> Result<Opening, JournalError>
     ensures kept { IfOk result (λ opening. IsSetup opening.setup) }
-    ensures tells { Tells (opening_part first lines.old.number) lines.new.number (unread lines.old.input (S.left source.old)) (unread lines.new.input (S.left source.new)) result }
-    ensures text { OnOk result (TakesText lines.new.cut (unread lines.old.input (S.left source.old)) (unread lines.new.input (S.left source.new))) }
-    ensures rest { IfErr result (λ e. IsLineFault e → LeavesRest (opening_part first lines.old.number) lines.old.number (Some (lines.old.number + 1)) e (unread lines.old.input (S.left source.old)) (unread lines.new.input (S.left source.new))) }
-    ensures source { Draws (StopsAmid (opening_part first lines.old.number)) (error_in result) lines.old.input lines.new.input S.Source.own S.Faulty source.old source.new }
+    ensures tells { TellsPart (opening_part first) lines.old lines.new S.Source.own source.old source.new result }
+    ensures text { OnOk result (TakesLines lines.old lines.new S.Source.own source.old source.new) }
+    ensures rest { RestOfFirst (opening_part first) lines.old lines.new S.Source.own source.old source.new result }
+    ensures source { DrawsIn (opening_part first) lines.old lines.new S.Source.own S.Faulty source.old source.new result }
     ensures least { IfOk result (λ opening. 1 ≤ opening.version) }
     ensures most { IfOk result (λ opening. opening.version ≤ version_most first) }
 {

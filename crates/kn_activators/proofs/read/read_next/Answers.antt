@@ -22,7 +22,7 @@ returns-in-Ok-end-clause-tells g c =
     let ends : bytes_eq c.next_line.new.self.line (codes "end") ≡ true = grind (arith, common_steps) in
     events-ended c.in-Ok-end.field-0 c.args.setup.now c.args.last c.args.lines.now.number c.next_line.new.self.number c.end.new.self.number (unread c.args.lines.now.input (g.S.Source.left c.args.source.now))
     (unread c.next_line.new.self.input (g.S.Source.left c.next_line.new.source)) (unread c.end.new.self.input (g.S.Source.left c.end.new.source)) c.next_line.new.self.line
-    c.in-Ok.ensures.line c.in-Ok.ensures.fits c.in-Ok.ensures.number ends c.in-Ok-end.ensures.tells
+    c.in-Ok.ensures.taken.line c.in-Ok.ensures.taken.fits c.in-Ok.ensures.taken.number ends c.in-Ok-end.ensures.tells
 
 pub returns-in-Ok-end-clause-source : goal.returns-in-Ok-end-clause-source
 returns-in-Ok-end-clause-source g c = draws_well tt (draws_more c.in-Ok.ensures.source c.in-Ok-end.ensures.source)
@@ -32,7 +32,7 @@ returns-in-Err-end-clause-tells g c =
     let ends : bytes_eq c.next_line.new.self.line (codes "end") ≡ true = grind (arith, common_steps) in
     events-more c.args.setup.now c.args.last c.args.lines.now.number c.next_line.new.self.number (unread c.args.lines.now.input (g.S.Source.left c.args.source.now))
     (unread c.next_line.new.self.input (g.S.Source.left c.next_line.new.source)) c.next_line.new.self.line c.in-Err-end.e
-    c.in-Ok.ensures.line c.in-Ok.ensures.fits c.in-Ok.ensures.number ends c.in-Err-end.ensures.tells
+    c.in-Ok.ensures.taken.line c.in-Ok.ensures.taken.fits c.in-Ok.ensures.taken.number ends c.in-Err-end.ensures.tells
 
 pub returns-in-Err-end-clause-source : goal.returns-in-Err-end-clause-source
 returns-in-Err-end-clause-source g c =
@@ -41,15 +41,15 @@ returns-in-Err-end-clause-source g c =
     let mid = unread c.next_line.new.self.input (g.S.Source.left c.next_line.new.source) in
     let new = unread c.end.new.self.input (g.S.Source.left c.end.new.source) in
     let not_cut : c.next_line.new.self.cut ≡ false = sym c.is_cut.ensures ∙ c.if-is_cut.false in
-    let uncut : TakesText false old mid = subst (λ (b : Bool). TakesText b old mid) not_cut c.in-Ok.ensures.text in
-    draws_then (end_stops c.text_laws.ensures.laws old mid new c.next_line.new.self.line c.in-Ok.ensures.line uncut ends) c.in-Ok.ensures.source c.in-Err-end.ensures.source
+    let uncut : TakesText false old mid = subst (λ (b : Bool). TakesText b old mid) not_cut c.in-Ok.ensures.taken.text in
+    draws_then (end_stops c.text_laws.ensures.laws old mid new c.next_line.new.self.line c.in-Ok.ensures.taken.line uncut ends) c.in-Ok.ensures.source c.in-Err-end.ensures.source
 
 pub returns-in-Ok-judge_event-clause-tells : goal.returns-in-Ok-judge_event-clause-tells
 returns-in-Ok-judge_event-clause-tells g c =
     let other : bytes_eq c.next_line.new.self.line (codes "end") ≡ false = grind (arith, common_steps) in
     event-next c.args.setup.now c.args.last c.args.lines.now.number c.next_line.new.self.number (unread c.args.lines.now.input (g.S.Source.left c.args.source.now))
     (unread c.next_line.new.self.input (g.S.Source.left c.next_line.new.source)) c.next_line.new.self.line c.in-Ok-judge_event.e
-    c.in-Ok.ensures.line c.in-Ok.ensures.fits c.in-Ok.ensures.number other (rw (c.line-2.ensures, c.number.ensures) at c.in-Ok-judge_event.ensures.ok)
+    c.in-Ok.ensures.taken.line c.in-Ok.ensures.taken.fits c.in-Ok.ensures.taken.number other (rw (c.line-2.ensures, c.number.ensures) at c.in-Ok-judge_event.ensures.ok)
 
 pub returns-in-Ok-judge_event-clause-source : goal.returns-in-Ok-judge_event-clause-source
 returns-in-Ok-judge_event-clause-source g c = draws_well tt c.in-Ok.ensures.source
@@ -59,7 +59,7 @@ returns-in-Err-judge_event-clause-tells g c =
     let other : bytes_eq c.next_line.new.self.line (codes "end") ≡ false = grind (arith, common_steps) in
     event-refused c.args.setup.now c.args.last c.args.lines.now.number c.next_line.new.self.number (unread c.args.lines.now.input (g.S.Source.left c.args.source.now))
     (unread c.next_line.new.self.input (g.S.Source.left c.next_line.new.source)) c.next_line.new.self.line c.in-Err-judge_event.e
-    c.in-Ok.ensures.line c.in-Ok.ensures.fits c.in-Ok.ensures.number other (rw (c.line-2.ensures, c.number.ensures) at c.in-Err-judge_event.ensures.err)
+    c.in-Ok.ensures.taken.line c.in-Ok.ensures.taken.fits c.in-Ok.ensures.taken.number other (rw (c.line-2.ensures, c.number.ensures) at c.in-Err-judge_event.ensures.err)
 
 pub returns-in-Err-judge_event-clause-source : goal.returns-in-Err-judge_event-clause-source
 returns-in-Err-judge_event-clause-source g c =
@@ -71,9 +71,9 @@ returns-then-is_cut-clause-tells g c =
     let mid = unread c.next_line.new.self.input (g.S.Source.left c.next_line.new.source) in
     let ends : bytes_eq c.next_line.new.self.line (codes "end") ≡ true = grind (arith, common_steps) in
     let is_cut : c.next_line.new.self.cut ≡ true = sym c.is_cut.ensures ∙ c.if-is_cut.true in
-    let cut : TakesText true old mid = subst (λ (b : Bool). TakesText b old mid) is_cut c.in-Ok.ensures.text in
+    let cut : TakesText true old mid = subst (λ (b : Bool). TakesText b old mid) is_cut c.in-Ok.ensures.taken.text in
     end_cut c.text_laws.ensures.laws c.args.setup.now c.args.last c.args.lines.now.number c.next_line.new.self.number old mid c.next_line.new.self.line
-    c.in-Ok.ensures.line cut c.in-Ok.ensures.fits c.in-Ok.ensures.number ends
+    c.in-Ok.ensures.taken.line cut c.in-Ok.ensures.taken.fits c.in-Ok.ensures.taken.number ends
 
 pub returns-then-is_cut-clause-source : goal.returns-then-is_cut-clause-source
 returns-then-is_cut-clause-source g c = draws_well tt c.in-Ok.ensures.source

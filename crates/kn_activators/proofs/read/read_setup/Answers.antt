@@ -19,7 +19,7 @@ pub returns-in-Ok-next_line-clause-tells : goal.returns-in-Ok-next_line-clause-t
 returns-in-Ok-next_line-clause-tells g c =
     opening-tells c.in-Ok.many c.args.lines.now.number c.first.new.self.number c.next_line.new.self.number (unread c.args.lines.now.input (g.S.Source.left c.args.source.now)) (unread c.first.new.self.input (g.S.Source.left c.first.new.source))
     (unread c.next_line.new.self.input (g.S.Source.left c.next_line.new.source)) c.next_line.new.self.line c.judge_setup.result
-    c.in-Ok.ensures.tells c.in-Ok-next_line.ensures.line c.in-Ok-next_line.ensures.fits c.in-Ok-next_line.ensures.number (rw (c.line.ensures, c.number.ensures) at c.judge_setup.ensures.judges)
+    c.in-Ok.ensures.tells c.in-Ok-next_line.ensures.taken.line c.in-Ok-next_line.ensures.taken.fits c.in-Ok-next_line.ensures.taken.number (rw (c.line.ensures, c.number.ensures) at c.judge_setup.ensures.judges)
 
 pub returns-in-Ok-next_line-clause-source : goal.returns-in-Ok-next_line-clause-source
 returns-in-Ok-next_line-clause-source g c =
@@ -31,7 +31,7 @@ returns-in-Ok-next_line-clause-text g c =
     let old = unread c.args.lines.now.input (g.S.Source.left c.args.source.now) in
     let mid = unread c.first.new.self.input (g.S.Source.left c.first.new.source) in
     let new = unread c.next_line.new.self.input (g.S.Source.left c.next_line.new.source) in
-    on_ok c.judge_setup.result (λ (u : Unit {0}). c.text_laws.ensures.laws.more c.first.new.self.cut c.next_line.new.self.cut old mid new c.in-Ok.ensures.text c.in-Ok-next_line.ensures.text) (any_ok c.judge_setup.result)
+    on_ok c.judge_setup.result (λ (u : Unit {0}). c.text_laws.ensures.laws.more c.first.new.self.cut c.next_line.new.self.cut old mid new c.in-Ok.ensures.text c.in-Ok-next_line.ensures.taken.text) (any_ok c.judge_setup.result)
 
 pub returns-in-Err-next_line-clause-tells : goal.returns-in-Err-next_line-clause-tells
 returns-in-Err-next_line-clause-tells g c =

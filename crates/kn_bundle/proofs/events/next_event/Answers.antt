@@ -20,19 +20,17 @@ returns-clause-next g c =
     let good = c.requires.within.good in
     let said = c.next.ensures in
     let says : SaysNext before c.next.new.self old new (g.S.Faulty.faults c.args.source.now) (g.S.Faulty.faults c.next.new.source) c.next.result = record {
-      tells = subst (λ (b : Bool). Tells (next_by b before.version before.last before.number) c.next.new.self.number old new c.next.result) c.requires.within.bundle (said.tells good);
-      text = said.closes c.requires.within.bundle;
-      order = said.order;
-      times = said.times;
+      tells = subst (λ (b : Bool). Tells (next_by b before.version before.last before.number) c.next.new.self.number old new c.next.result) c.requires.within.bundle (said.reads.tells good);
+      text = said.reads.closes c.requires.within.bundle;
+      event = said.event;
       last = said.last;
-      range = said.range;
       bytes = said.bytes;
-      good = said.good;
+      good = said.fails.good;
       few = said.few good;
-      bundle = said.bundle ∙ c.requires.within.bundle;
+      bundle = said.journal.bundle ∙ c.requires.within.bundle;
       memory = said.memory good;
-      amid = λ is. subst (λ (b : Bool). AmidNext b old new) c.requires.within.bundle (said.amid good is);
-      spent = said.spent good;
-      fault = said.fault good;
+      amid = λ is. subst (λ (b : Bool). AmidNext b old new) c.requires.within.bundle (said.source.amid good is);
+      spent = said.source.spent good;
+      fault = said.source.fault good;
     } in
     next_is before c.next.new.self old new (g.S.Faulty.faults c.args.source.now) (g.S.Faulty.faults c.next.new.source) c.next.result says

@@ -65,8 +65,11 @@ returns-then-not-add_crs-clause-long g c _ =
     let none = rw c.in-Ok-None.field-0-is at c.in-Ok-None.ensures.byte in
     front_end-long whole left rest c.loop.line.items c.loop.crs c.loop.invariant.taken none (grind (arith, common_steps))
 
-pub returns-in-Ok-None-clause-no_lf : goal.returns-in-Ok-None-clause-no_lf
-returns-in-Ok-None-clause-no_lf g c = no_lf-crs_after c.loop.line.items c.add_crs.new.line.items c.loop.crs c.loop.invariant.no_lf (grind (arith, common_steps))
+pub returns-in-Ok-None-clause-content : goal.returns-in-Ok-None-clause-content
+returns-in-Ok-None-clause-content g c = record {
+  fits = grind (arith, common_steps);
+  no_lf = no_lf-crs_after c.loop.line.items c.add_crs.new.line.items c.loop.crs c.loop.invariant.no_lf (grind (arith, common_steps));
+}
 
 pub returns-in-Ok-None-clause-taken : goal.returns-in-Ok-None-clause-taken
 returns-in-Ok-None-clause-taken g c =

@@ -39,7 +39,7 @@ returns-then-eq-clause-tells g c =
     let point : bytes_eq c.next_line.new.self.line (codes ".") ≡ true = grind (arith, common_steps) in
     rw c.new.ensures (block-point c.args.lines.now.number c.loop.text.items c.loop.lines.number c.next_line.new.self.number (unread c.args.lines.now.input (g.S.Source.left c.args.source.now))
     (unread c.loop.lines.input (g.S.Source.left c.loop.source)) (unread c.next_line.new.self.input (g.S.Source.left c.next_line.new.source)) c.next_line.new.self.line
-    c.loop.invariant.block c.in-Ok.ensures.line c.in-Ok.ensures.fits c.in-Ok.ensures.number point)
+    c.loop.invariant.block c.in-Ok.ensures.taken.line c.in-Ok.ensures.taken.fits c.in-Ok.ensures.taken.number point)
 
 pub returns-then-len-line-ge-BLOCK_MOST-clause-tells : goal.returns-then-len-line-ge-BLOCK_MOST-clause-tells
 returns-then-len-line-ge-BLOCK_MOST-clause-tells g c =
@@ -47,7 +47,7 @@ returns-then-len-line-ge-BLOCK_MOST-clause-tells g c =
     let long : block_most ≤ length c.loop.text.items + length c.next_line.new.self.line = grind (arith, common_steps) in
     block-long c.args.lines.now.number c.loop.text.items c.loop.lines.number c.number.result (unread c.args.lines.now.input (g.S.Source.left c.args.source.now))
     (unread c.loop.lines.input (g.S.Source.left c.loop.source)) (unread c.next_line.new.self.input (g.S.Source.left c.next_line.new.source)) c.next_line.new.self.line
-    c.loop.invariant.block c.in-Ok.ensures.line c.in-Ok.ensures.fits (c.number.ensures ∙ c.in-Ok.ensures.number) other long
+    c.loop.invariant.block c.in-Ok.ensures.taken.line c.in-Ok.ensures.taken.fits (c.number.ensures ∙ c.in-Ok.ensures.taken.number) other long
 
 pub loop-preserved : goal.loop-preserved
 loop-preserved g c =
@@ -58,8 +58,8 @@ loop-preserved g c =
     record {
       block = block-more c.args.lines.now.number c.loop.text.items c.push.new.self.items c.loop.lines.number c.next_line.new.self.number c.next_line.new.self.cut (unread c.args.lines.now.input (g.S.Source.left c.args.source.now))
           (unread c.loop.lines.input (g.S.Source.left c.loop.source)) (unread c.next_line.new.self.input (g.S.Source.left c.next_line.new.source)) c.next_line.new.self.line
-          c.loop.invariant.block c.in-Ok.ensures.line c.in-Ok.ensures.text c.in-Ok.ensures.fits c.in-Ok.ensures.number other short added;
-      kept = keeps-more c.loop.text.items c.next_line.new.self.line c.push.new.self.items c.loop.invariant.kept c.in-Ok.ensures.no_lf cr c.in-Ok.ensures.fits other short added;
+          c.loop.invariant.block c.in-Ok.ensures.taken.line c.in-Ok.ensures.taken.text c.in-Ok.ensures.taken.fits c.in-Ok.ensures.taken.number other short added;
+      kept = keeps-more c.loop.text.items c.next_line.new.self.line c.push.new.self.items c.loop.invariant.kept c.in-Ok.ensures.taken.no_lf cr c.in-Ok.ensures.taken.fits other short added;
       turns = grind (arith, common_steps);
       short = grind (arith, common_steps);
       source = draws_both c.loop.invariant.source c.in-Ok.ensures.source;
@@ -68,7 +68,7 @@ loop-preserved g c =
 pub returns-then-eq-clause-text : goal.returns-then-eq-clause-text
 returns-then-eq-clause-text g c =
     block-text c.args.lines.now.number c.loop.text.items c.loop.lines.number c.next_line.new.self.cut (unread c.args.lines.now.input (g.S.Source.left c.args.source.now))
-    (unread c.loop.lines.input (g.S.Source.left c.loop.source)) (unread c.next_line.new.self.input (g.S.Source.left c.next_line.new.source)) c.loop.invariant.block c.in-Ok.ensures.text
+    (unread c.loop.lines.input (g.S.Source.left c.loop.source)) (unread c.next_line.new.self.input (g.S.Source.left c.next_line.new.source)) c.loop.invariant.block c.in-Ok.ensures.taken.text
 
 pub returns-then-eq-clause-kept : goal.returns-then-eq-clause-kept
 returns-then-eq-clause-kept g c = rw c.new.ensures (keeps-point c.loop.text.items c.loop.invariant.kept)
@@ -80,7 +80,7 @@ returns-then-ends_with_cr-clause-tells g c =
     let cr : ends_with_cr c.next_line.new.self.line ≡ true = grind (arith, common_steps) in
     block-cut c.args.lines.now.number c.loop.text.items c.loop.lines.number (unread c.args.lines.now.input (g.S.Source.left c.args.source.now))
     (unread c.loop.lines.input (g.S.Source.left c.loop.source)) (unread c.next_line.new.self.input (g.S.Source.left c.next_line.new.source)) c.next_line.new.self.line
-    c.loop.invariant.block c.in-Ok.ensures.line c.in-Ok.ensures.fits other short cr
+    c.loop.invariant.block c.in-Ok.ensures.taken.line c.in-Ok.ensures.taken.fits other short cr
 
 pub returns-then-len-line-ge-BLOCK_MOST-clause-rest : goal.returns-then-len-line-ge-BLOCK_MOST-clause-rest
 returns-then-len-line-ge-BLOCK_MOST-clause-rest g c is =
@@ -88,7 +88,7 @@ returns-then-len-line-ge-BLOCK_MOST-clause-rest g c is =
     let long : block_most ≤ length c.loop.text.items + length c.next_line.new.self.line = grind (arith, common_steps) in
     block-rest c.args.lines.now.number c.loop.text.items c.loop.lines.number c.number.result (unread c.args.lines.now.input (g.S.Source.left c.args.source.now))
     (unread c.loop.lines.input (g.S.Source.left c.loop.source)) (unread c.next_line.new.self.input (g.S.Source.left c.next_line.new.source)) c.next_line.new.self.line
-    c.loop.invariant.block c.in-Ok.ensures.line c.in-Ok.ensures.fits (c.number.ensures ∙ c.in-Ok.ensures.number) other long
+    c.loop.invariant.block c.in-Ok.ensures.taken.line c.in-Ok.ensures.taken.fits (c.number.ensures ∙ c.in-Ok.ensures.taken.number) other long
 
 pub returns-then-eq-clause-source : goal.returns-then-eq-clause-source
 returns-then-eq-clause-source g c = draws_well tt (draws_both c.loop.invariant.source c.in-Ok.ensures.source)

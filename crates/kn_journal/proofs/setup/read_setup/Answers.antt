@@ -22,13 +22,13 @@ pub returns-in-Err-read_setup_line-clause-tells : goal.returns-in-Err-read_setup
 returns-in-Err-read_setup_line-clause-tells g c =
     rw c.number.ensures (setup-bad c.args.lines.now.number c.next_line.new.self.number (unread c.args.lines.now.input (g.S.Source.left c.args.source.now))
     (unread c.next_line.new.self.input (g.S.Source.left c.next_line.new.source)) c.next_line.new.self.line c.in-Err-read_setup_line.why
-    c.in-Ok.ensures.line c.in-Ok.ensures.fits c.in-Ok.ensures.number (rw c.line.ensures at c.in-Err-read_setup_line.ensures.value))
+    c.in-Ok.ensures.taken.line c.in-Ok.ensures.taken.fits c.in-Ok.ensures.taken.number (rw c.line.ensures at c.in-Err-read_setup_line.ensures.value))
 
 pub returns-in-Ok-line_text-clause-tells : goal.returns-in-Ok-line_text-clause-tells
 returns-in-Ok-line_text-clause-tells g c =
     setup-tells c.args.lines.now.number c.next_line.new.self.number c.read_behind.new.lines.number (unread c.args.lines.now.input (g.S.Source.left c.args.source.now))
     (unread c.next_line.new.self.input (g.S.Source.left c.next_line.new.source)) (unread c.read_behind.new.lines.input (g.S.Source.left c.read_behind.new.source))
-    c.next_line.new.self.line c.in-Ok-line_text.text.items c.in-Ok-read_setup_line.said c.read_behind.result c.in-Ok.ensures.line c.in-Ok.ensures.fits c.in-Ok.ensures.number
+    c.next_line.new.self.line c.in-Ok-line_text.text.items c.in-Ok-read_setup_line.said c.read_behind.result c.in-Ok.ensures.taken.line c.in-Ok.ensures.taken.fits c.in-Ok.ensures.taken.number
     (rw c.line.ensures at c.in-Ok-read_setup_line.ensures.value) (rw c.line-2.ensures at c.in-Ok-line_text.ensures) c.read_behind.ensures.tells
 
 pub returns-in-Ok-line_text-clause-source : goal.returns-in-Ok-line_text-clause-source
@@ -36,25 +36,25 @@ returns-in-Ok-line_text-clause-source g c =
     draws_more c.in-Ok.ensures.source c.read_behind.ensures.source (λ h.
     setup-stops c.args.lines.now.number c.next_line.new.self.number c.next_line.new.self.cut (unread c.args.lines.now.input (g.S.Source.left c.args.source.now))
     (unread c.next_line.new.self.input (g.S.Source.left c.next_line.new.source)) (unread c.read_behind.new.lines.input (g.S.Source.left c.read_behind.new.source))
-    c.next_line.new.self.line c.in-Ok-line_text.text.items c.in-Ok-read_setup_line.said c.in-Ok.ensures.line c.in-Ok.ensures.text c.in-Ok.ensures.fits c.in-Ok.ensures.number
+    c.next_line.new.self.line c.in-Ok-line_text.text.items c.in-Ok-read_setup_line.said c.in-Ok.ensures.taken.line c.in-Ok.ensures.taken.text c.in-Ok.ensures.taken.fits c.in-Ok.ensures.taken.number
     (rw c.line.ensures at c.in-Ok-read_setup_line.ensures.value) (rw c.line-2.ensures at c.in-Ok-line_text.ensures) (c.read_behind.ensures.source.amid h))
 
 pub returns-in-Ok-line_text-clause-kept : goal.returns-in-Ok-line_text-clause-kept
 returns-in-Ok-line_text-clause-kept g c =
-    setup-kept_if c.next_line.new.self.line c.in-Ok-line_text.text.items c.in-Ok-read_setup_line.said c.read_behind.result c.in-Ok.ensures.fits
+    setup-kept_if c.next_line.new.self.line c.in-Ok-line_text.text.items c.in-Ok-read_setup_line.said c.read_behind.result c.in-Ok.ensures.taken.fits
     (rw c.line.ensures at c.in-Ok-read_setup_line.ensures.value) (rw c.line-2.ensures at c.in-Ok-line_text.ensures) c.read_behind.ensures.kept
 
 pub returns-in-Err-read_setup_line-clause-rest : goal.returns-in-Err-read_setup_line-clause-rest
 returns-in-Err-read_setup_line-clause-rest g c =
     rw c.number.ensures (λ is. setup-bad_rest c.args.lines.now.number c.next_line.new.self.number (unread c.args.lines.now.input (g.S.Source.left c.args.source.now))
     (unread c.next_line.new.self.input (g.S.Source.left c.next_line.new.source)) c.next_line.new.self.line c.in-Err-read_setup_line.why
-    c.in-Ok.ensures.line c.in-Ok.ensures.fits c.in-Ok.ensures.number (rw c.line.ensures at c.in-Err-read_setup_line.ensures.value))
+    c.in-Ok.ensures.taken.line c.in-Ok.ensures.taken.fits c.in-Ok.ensures.taken.number (rw c.line.ensures at c.in-Err-read_setup_line.ensures.value))
 
 pub returns-in-Ok-line_text-clause-rest : goal.returns-in-Ok-line_text-clause-rest
 returns-in-Ok-line_text-clause-rest g c =
     setup-rest c.args.lines.now.number c.next_line.new.self.number (unread c.args.lines.now.input (g.S.Source.left c.args.source.now))
     (unread c.next_line.new.self.input (g.S.Source.left c.next_line.new.source)) (unread c.read_behind.new.lines.input (g.S.Source.left c.read_behind.new.source))
-    c.next_line.new.self.line c.in-Ok-line_text.text.items c.in-Ok-read_setup_line.said c.read_behind.result c.in-Ok.ensures.line c.in-Ok.ensures.fits c.in-Ok.ensures.number
+    c.next_line.new.self.line c.in-Ok-line_text.text.items c.in-Ok-read_setup_line.said c.read_behind.result c.in-Ok.ensures.taken.line c.in-Ok.ensures.taken.fits c.in-Ok.ensures.taken.number
     (rw c.line.ensures at c.in-Ok-read_setup_line.ensures.value) (rw c.line-2.ensures at c.in-Ok-line_text.ensures) c.read_behind.ensures.rest
 
 pub returns-in-Err-read_setup_line-clause-source : goal.returns-in-Err-read_setup_line-clause-source
@@ -68,4 +68,4 @@ returns-in-Err-line_text-clause-tells g c = memory-refuses (setup_part c.args.li
 
 pub returns-in-Ok-line_text-clause-text : goal.returns-in-Ok-line_text-clause-text
 returns-in-Ok-line_text-clause-text g c =
-    on_ok c.read_behind.result (λ more. more (unread c.args.lines.now.input (g.S.Source.left c.args.source.now)) c.in-Ok.ensures.text) c.read_behind.ensures.text
+    on_ok c.read_behind.result (λ more. more (unread c.args.lines.now.input (g.S.Source.left c.args.source.now)) c.in-Ok.ensures.taken.text) c.read_behind.ensures.text

@@ -24,7 +24,7 @@ returns-in-Err-setup-clause-shows g c =
     let left = g.S.Source.left c.args.source.now in
     let start = c.call_laws.ensures.laws.fresh c.in-Ok.reader.input left c.in-Ok.ensures.ahead in
     let refuses = subst (λ (n : ℕ). Refuses (opening_part JournalLine n) c.in-Err-setup.error (unread c.in-Ok.reader.input left)) c.in-Ok.ensures.number
-    (subst (λ (b : Bool). Refuses (opening_by b c.in-Ok.reader.version c.in-Ok.reader.number) c.in-Err-setup.error (unread c.in-Ok.reader.input left)) c.in-Ok.ensures.begun (c.in-Err-setup.ensures.tells c.in-Ok.ensures.failed)) in
+    (subst (λ (b : Bool). Refuses (opening_by b c.in-Ok.reader.version c.in-Ok.reader.number) c.in-Err-setup.error (unread c.in-Ok.reader.input left)) c.in-Ok.ensures.begun (c.in-Err-setup.ensures.reads.tells c.in-Ok.ensures.failed)) in
     rw c.status_of.ensures.value (refusal_shown left c.in-Err-setup.error (g.O.Sink.held c.args.out.now) (subst (λ (x : Option (List ℕ)). Refuses (opening_part JournalLine 0) c.in-Err-setup.error x) start refuses))
 
 pub returns-in-Err-setup-clause-rest : goal.returns-in-Err-setup-clause-rest
@@ -34,7 +34,7 @@ returns-in-Err-setup-clause-rest g c refused =
     let e = c.in-Err-setup.error in
     let start = c.call_laws.ensures.laws.fresh c.in-Ok.reader.input left c.in-Ok.ensures.ahead in
     let rest = subst (λ (n : ℕ). IsLineFault e → LeavesRest (opening_part JournalLine n) n (Some (n + 1)) e (unread c.in-Ok.reader.input left) new) c.in-Ok.ensures.number
-    (subst (λ (b : Bool). IsLineFault e → LeavesRest (opening_by b c.in-Ok.reader.version c.in-Ok.reader.number) c.in-Ok.reader.number (Some (c.in-Ok.reader.number + 1)) e (unread c.in-Ok.reader.input left) new) c.in-Ok.ensures.begun (c.in-Err-setup.ensures.rest c.in-Ok.ensures.failed)) in
+    (subst (λ (b : Bool). IsLineFault e → LeavesRest (opening_by b c.in-Ok.reader.version c.in-Ok.reader.number) c.in-Ok.reader.number (Some (c.in-Ok.reader.number + 1)) e (unread c.in-Ok.reader.input left) new) c.in-Ok.ensures.begun (c.in-Err-setup.ensures.reads.rest c.in-Ok.ensures.failed)) in
     let behind = c.ending_laws.ensures.laws.behind_setup left new e (subst (λ (x : Option (List ℕ)). IsLineFault e → LeavesRest (opening_part JournalLine 0) 0 (Some 1) e x new) start rest) (subst IsRefusal c.status_of.ensures.value refused) in
     (c.setup.new.self.input.ahead, c.ahead_len-few.ensures.most, subst (λ (x : Status). IsBehind x left new) (sym c.status_of.ensures.value) behind)
 
@@ -42,9 +42,9 @@ pub returns-in-Err-setup-clause-read_fault : goal.returns-in-Err-setup-clause-re
 returns-in-Err-setup-clause-read_fault g c is =
     let fault = c.ending_laws.ensures.laws.read_fault c.in-Err-setup.error (sym c.status_of.ensures.value ∙ is) in
     let failed = c.in-Err-setup.is ∙ ap (λ (e : JournalError). Err e) fault in
-    elim (c.setup.ensures.fault c.in-Ok.ensures.failed failed) [
+    elim (c.setup.ensures.source.fault c.in-Ok.ensures.failed failed) [
       | inl rose ↦ inl rose
-      | inr all ↦ inr (omega (arith, all, c.setup.ensures.balance, c.in-Ok.ensures.taken, ap length c.in-Ok.ensures.ahead))
+      | inr all ↦ inr (omega (arith, all, c.setup.ensures.source.balance, c.in-Ok.ensures.taken, ap length c.in-Ok.ensures.ahead))
     ]
 
 pub returns-in-Err-setup-clause-write_fault : goal.returns-in-Err-setup-clause-write_fault
@@ -60,7 +60,7 @@ returns-in-Ok-put_all-clause-shows g c =
     let n = c.setup.new.self.number in
     let start = c.call_laws.ensures.laws.fresh c.in-Ok.reader.input left c.in-Ok.ensures.ahead in
     let gives = subst (λ (m : ℕ). Gives (opening_part JournalLine m) opening n (unread c.in-Ok.reader.input left) new) c.in-Ok.ensures.number
-    (subst (λ (b : Bool). Gives (opening_by b c.in-Ok.reader.version c.in-Ok.reader.number) opening n (unread c.in-Ok.reader.input left) new) c.in-Ok.ensures.begun (c.in-Ok-setup.ensures.tells c.in-Ok.ensures.failed)) in
+    (subst (λ (b : Bool). Gives (opening_by b c.in-Ok.reader.version c.in-Ok.reader.number) opening n (unread c.in-Ok.reader.input left) new) c.in-Ok.ensures.begun (c.in-Ok-setup.ensures.reads.tells c.in-Ok.ensures.failed)) in
     let old = g.O.Sink.held c.args.out.now in
     let now = g.O.Sink.held c.put_all.new.out in
     let text = subst (Appends old now) (c.as_slice.ensures.value ∙ c.in-Ok-settings_text.ensures) c.in-Ok-put_all.ensures.ok in
@@ -74,7 +74,7 @@ returns-clause-shows g c =
     let n = c.setup.new.self.number in
     let start = c.call_laws.ensures.laws.fresh c.in-Ok.reader.input left c.in-Ok.ensures.ahead in
     let gives = subst (λ (m : ℕ). Gives (opening_part JournalLine m) opening n (unread c.in-Ok.reader.input left) new) c.in-Ok.ensures.number
-    (subst (λ (b : Bool). Gives (opening_by b c.in-Ok.reader.version c.in-Ok.reader.number) opening n (unread c.in-Ok.reader.input left) new) c.in-Ok.ensures.begun (c.in-Ok-setup.ensures.tells c.in-Ok.ensures.failed)) in
+    (subst (λ (b : Bool). Gives (opening_by b c.in-Ok.reader.version c.in-Ok.reader.number) opening n (unread c.in-Ok.reader.input left) new) c.in-Ok.ensures.begun (c.in-Ok-setup.ensures.reads.tells c.in-Ok.ensures.failed)) in
     let old = g.O.Sink.held c.args.out.now in
     let now = g.O.Sink.held c.put_all.new.out in
     let text = subst (AppendsPrefix old now) (c.as_slice.ensures.value ∙ c.in-Ok-settings_text.ensures) c.in-Err-put_all.ensures.err in
@@ -88,7 +88,7 @@ returns-in-Ok-put_all-clause-left g c shown =
     let n = c.setup.new.self.number in
     let start = c.call_laws.ensures.laws.fresh c.in-Ok.reader.input left c.in-Ok.ensures.ahead in
     let gives = subst (λ (m : ℕ). Gives (opening_part JournalLine m) opening n (unread c.in-Ok.reader.input left) new) c.in-Ok.ensures.number
-    (subst (λ (b : Bool). Gives (opening_by b c.in-Ok.reader.version c.in-Ok.reader.number) opening n (unread c.in-Ok.reader.input left) new) c.in-Ok.ensures.begun (c.in-Ok-setup.ensures.tells c.in-Ok.ensures.failed)) in
+    (subst (λ (b : Bool). Gives (opening_by b c.in-Ok.reader.version c.in-Ok.reader.number) opening n (unread c.in-Ok.reader.input left) new) c.in-Ok.ensures.begun (c.in-Ok-setup.ensures.reads.tells c.in-Ok.ensures.failed)) in
     (c.setup.new.self.input.ahead, c.ahead_len-few-2.ensures.most, opening_left left new opening n (subst (λ (x : Option (List ℕ)). Gives (opening_part JournalLine 0) opening n x new) start gives))
 
 pub returns-clause-left : goal.returns-clause-left
@@ -99,5 +99,5 @@ returns-clause-left g c shown =
     let n = c.setup.new.self.number in
     let start = c.call_laws.ensures.laws.fresh c.in-Ok.reader.input left c.in-Ok.ensures.ahead in
     let gives = subst (λ (m : ℕ). Gives (opening_part JournalLine m) opening n (unread c.in-Ok.reader.input left) new) c.in-Ok.ensures.number
-    (subst (λ (b : Bool). Gives (opening_by b c.in-Ok.reader.version c.in-Ok.reader.number) opening n (unread c.in-Ok.reader.input left) new) c.in-Ok.ensures.begun (c.in-Ok-setup.ensures.tells c.in-Ok.ensures.failed)) in
+    (subst (λ (b : Bool). Gives (opening_by b c.in-Ok.reader.version c.in-Ok.reader.number) opening n (unread c.in-Ok.reader.input left) new) c.in-Ok.ensures.begun (c.in-Ok-setup.ensures.reads.tells c.in-Ok.ensures.failed)) in
     (c.setup.new.self.input.ahead, c.ahead_len-few-2.ensures.most, opening_left left new opening n (subst (λ (x : Option (List ℕ)). Gives (opening_part JournalLine 0) opening n x new) start gives))

@@ -9,7 +9,7 @@ pub returns-in-Ok-clause-tells : goal.returns-in-Ok-clause-tells
 returns-in-Ok-clause-tells g c =
     named-tells c.args.word.now c.args.least c.args.most c.args.lines.now.number c.next_line.new.self.number (unread c.args.lines.now.input (g.S.Source.left c.args.source.now))
     (unread c.next_line.new.self.input (g.S.Source.left c.next_line.new.source)) c.next_line.new.self.line c.judge_named.result
-    c.in-Ok.ensures.line c.in-Ok.ensures.fits c.in-Ok.ensures.number (rw (c.line.ensures, c.number.ensures) at c.judge_named.ensures.judges)
+    c.in-Ok.ensures.taken.line c.in-Ok.ensures.taken.fits c.in-Ok.ensures.taken.number (rw (c.line.ensures, c.number.ensures) at c.judge_named.ensures.judges)
 
 pub returns-in-Ok-clause-source : goal.returns-in-Ok-clause-source
 returns-in-Ok-clause-source g c =

@@ -20,14 +20,14 @@ returns-in-Some-clause-next g c =
     let left = g.S.Source.left c.args.source.now in
     let r = c.args.reader.now in
     record {
-      gives = subst (λ (b : Bool). Gives (next_by b r.version r.last r.number) (Some c.in-Some.e) c.next_ahead.new.self.number (unread r.input left) (unread c.next_ahead.new.self.input left)) c.requires.sound.alone (said.tells left);
-      text = said.text (g.S.Source.left c.args.source.now);
-      order = said.order;
-      times = said.times;
+      gives = subst (λ (b : Bool). Gives (next_by b r.version r.last r.number) (Some c.in-Some.e) c.next_ahead.new.self.number (unread r.input left) (unread c.next_ahead.new.self.input left)) c.requires.sound.alone (said.reads left).tells;
+      text = (said.reads left).text;
+      order = said.event.order;
+      times = said.event.times;
       last = said.last;
-      range = said.range;
+      range = said.event.range;
       bytes = said.bytes;
-      sound = record { good = said.failed ∙ c.requires.sound.good; alone = said.bundle ∙ c.requires.sound.alone; few = said.few };
+      sound = record { good = said.failed ∙ c.requires.sound.good; alone = said.journal.bundle ∙ c.requires.sound.alone; few = said.few };
     }
 
 pub returns-then-is_cut-clause-next : goal.returns-then-is_cut-clause-next
@@ -45,28 +45,26 @@ returns-clause-next g c =
     let faults_now = g.S.Faulty.faults c.next.new.source in
     let before = c.next_ahead.new.self in
     let good = c.in-None.ensures.failed ∙ c.requires.sound.good in
-    let alone : before.bundle ≡ false = c.in-None.ensures.bundle ∙ c.requires.sound.alone in
+    let alone : before.bundle ≡ false = c.in-None.ensures.journal.bundle ∙ c.requires.sound.alone in
     let old = unread before.input left in
     let said = c.next.ensures in
     let event : OfEvent before c.next.new.self (unread before.input left) new c.next.result = record {
-      text = said.text;
-      order = said.order;
-      times = said.times;
+      text = said.reads.text;
+      event = said.event;
       last = said.last;
-      range = said.range;
       bytes = said.bytes;
-      good = said.good;
-      alone = said.bundle ∙ alone;
+      good = said.fails.good;
+      alone = said.journal.bundle ∙ alone;
       few = said.few good;
     } in
     let stop : OfError before c.next.new.self (unread before.input left) new faults faults_now c.next.result = record {
-      rest = subst (λ (b : Bool). IfErr c.next.result (λ e. IsLineFault e → LeavesRest (next_by b before.version before.last before.number) before.number None e old new)) alone (said.rest good);
+      rest = subst (λ (b : Bool). IfErr c.next.result (λ e. IsLineFault e → LeavesRest (next_by b before.version before.last before.number) before.number None e old new)) alone (said.reads.rest good);
       memory = said.memory good;
       uncut = sym c.is_cut.ensures ∙ c.if-is_cut.false;
-      amid = subst (λ (b : Bool). c.next.result ≡ Err error.ReadFault → AmidNext b old new) alone (said.amid good);
-      spent = said.spent good;
-      fault = said.fault good;
+      amid = subst (λ (b : Bool). c.next.result ≡ Err error.ReadFault → AmidNext b old new) alone (said.source.amid good);
+      spent = said.source.spent good;
+      fault = said.source.fault good;
     } in
     subst (λ (r : ReaderState). IsNext r c.next.new.self (unread r.input left) new faults faults_now c.next.result) (c.in-None.ensures.same refl)
     (next_is before c.next.new.self (unread before.input left) new faults faults_now c.next.result
-    (subst (λ (b : Bool). Tells (next_by b before.version before.last before.number) c.next.new.self.number old new c.next.result) alone (said.tells good)) event stop)
+    (subst (λ (b : Bool). Tells (next_by b before.version before.last before.number) c.next.new.self.number old new c.next.result) alone (said.reads.tells good)) event stop)

@@ -12,7 +12,7 @@ returns-in-Ok-true-clause-tells g c =
     let input : c.self.inside.input ≡ c.args.self.now.input = ap (λ (r : LinesState). r.input) c.self.view_is in
     let number : c.self.inside.number + 1 ≡ c.args.self.now.number + 1 = ap (λ (r : LinesState). r.number + 1) c.self.view_is in
     end-more c.args.self.now.number (c.self.inside.number + 1) (unread c.args.self.now.input (g.S.Source.left c.args.source.now)) (unread c.read_line.new.input (g.S.Source.left c.read_line.new.source))
-    c.read_line.new.line.items number (rw (input, c.in-Ok-true.field-0-test) at c.in-Ok-true.ensures.taken) (short-fits c.read_line.new.line.items c.in-Ok-true.ensures.fits)
+    c.read_line.new.line.items number (rw (input, c.in-Ok-true.field-0-test) at c.in-Ok-true.ensures.taken) (short-fits c.read_line.new.line.items c.in-Ok-true.ensures.content.fits)
 
 pub returns-in-Err-TooLong-clause-tells : goal.returns-in-Err-TooLong-clause-tells
 returns-in-Err-TooLong-clause-tells g c =
@@ -48,4 +48,4 @@ returns-in-Ok-true-clause-rest g c is =
     let input : c.self.inside.input ≡ c.args.self.now.input = ap (λ (r : LinesState). r.input) c.self.view_is in
     let number : c.self.inside.number + 1 ≡ c.args.self.now.number + 1 = ap (λ (r : LinesState). r.number + 1) c.self.view_is in
     end-rest c.args.self.now.number (c.self.inside.number + 1) (unread c.args.self.now.input (g.S.Source.left c.args.source.now)) (unread c.read_line.new.input (g.S.Source.left c.read_line.new.source))
-    c.read_line.new.line.items number (rw (input, c.in-Ok-true.field-0-test) at c.in-Ok-true.ensures.taken) (short-fits c.read_line.new.line.items c.in-Ok-true.ensures.fits)
+    c.read_line.new.line.items number (rw (input, c.in-Ok-true.field-0-test) at c.in-Ok-true.ensures.taken) (short-fits c.read_line.new.line.items c.in-Ok-true.ensures.content.fits)

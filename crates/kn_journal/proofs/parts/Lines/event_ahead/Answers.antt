@@ -48,8 +48,10 @@ returns-clause-bytes c =
     let count : length (take len hay) ≡ len = length-ahead len hay c.in_ok-e.ensures.inside in
     omega (arith, least, count)
 
-pub returns-clause-range : goal.returns-clause-range
-returns-clause-range c = (c.in_ok-e.ensures.spells c.args.version).range
-
-pub returns-clause-version : goal.returns-clause-version
-returns-clause-version c = (c.in_ok-e.ensures.spells c.args.version).act
+pub returns-clause-next : goal.returns-clause-next
+returns-clause-next c = record {
+  order = grind (arith, common_steps);
+  times = grind (arith, common_steps);
+  range = (c.in_ok-e.ensures.spells c.args.version).range;
+  act = (c.in_ok-e.ensures.spells c.args.version).act;
+}

@@ -18,7 +18,7 @@ returns-clause-tells g c =
       | in-Ok w ↦
           let line : w.deref.result.now ≡ c.next_line.new.self.line = w.deref.ensures.value ∙ ap (λ (r : LinesState). r.line) c.self.view_is in
           let number : c.self.inside.number ≡ c.next_line.new.self.number = ap (λ (r : LinesState). r.number) c.self.view_is in
-          rw w.result-is (first-tells c.args.first c.args.self.now.number c.next_line.new.self.number old mid c.next_line.new.self.line w.judge_first.result w.in-Ok.ensures.line w.in-Ok.ensures.fits w.in-Ok.ensures.number
+          rw w.result-is (first-tells c.args.first c.args.self.now.number c.next_line.new.self.number old mid c.next_line.new.self.line w.judge_first.result w.in-Ok.ensures.taken.line w.in-Ok.ensures.taken.fits w.in-Ok.ensures.taken.number
           (rw (line, number) at w.judge_first.ensures.judges))
       | in-Err w ↦ rw w.result-is (first-refuses c.args.first c.args.self.now.number w.in-Err.e old w.in-Err.ensures.none)
     ]
@@ -31,7 +31,7 @@ returns-clause-rest g c =
       | in-Ok w ↦
           let line : w.deref.result.now ≡ c.next_line.new.self.line = w.deref.ensures.value ∙ ap (λ (r : LinesState). r.line) c.self.view_is in
           let number : c.self.inside.number ≡ c.next_line.new.self.number = ap (λ (r : LinesState). r.number) c.self.view_is in
-          rw w.result-is (version-rest c.args.first c.args.self.now.number c.next_line.new.self.number old mid c.next_line.new.self.line w.judge_first.result w.in-Ok.ensures.line w.in-Ok.ensures.fits w.in-Ok.ensures.number
+          rw w.result-is (version-rest c.args.first c.args.self.now.number c.next_line.new.self.number old mid c.next_line.new.self.line w.judge_first.result w.in-Ok.ensures.taken.line w.in-Ok.ensures.taken.fits w.in-Ok.ensures.taken.number
           (rw (line, number) at w.judge_first.ensures.judges))
       | in-Err w ↦ rw w.result-is (λ is. absurd (w.in-Err.ensures.short is))
     ]
@@ -47,6 +47,6 @@ returns-clause-source g c =
 pub returns-clause-text : goal.returns-clause-text
 returns-clause-text g c =
     elim c.match-next_line.branch [
-      | in-Ok w ↦ rw w.result-is (on_ok-any w.judge_first.result w.in-Ok.ensures.text)
+      | in-Ok w ↦ rw w.result-is (on_ok-any w.judge_first.result w.in-Ok.ensures.taken.text)
       | in-Err w ↦ rw w.result-is tt
     ]

@@ -28,7 +28,7 @@ returns-in-Ok-end-clause-tells g c =
     subst (λ (b : Bool). Gives (next_by b c.args.version c.args.last c.args.self.now.number) None c.end.new.self.number (unread c.args.self.now.input (g.S.Source.left c.args.source.now)) (unread c.end.new.self.input (g.S.Source.left c.end.new.source))) alone (
     next-ended c.in-Ok-end.field-0 c.args.version c.args.last c.args.self.now.number c.next_line.new.self.number c.end.new.self.number (unread c.args.self.now.input (g.S.Source.left c.args.source.now))
     (unread c.next_line.new.self.input (g.S.Source.left c.next_line.new.source)) (unread c.end.new.self.input (g.S.Source.left c.end.new.source)) c.next_line.new.self.line
-    (rw same at c.in-Ok.ensures.line) c.in-Ok.ensures.fits (rw same at c.in-Ok.ensures.number) ends c.in-Ok-end.ensures.tells)
+    (rw same at c.in-Ok.ensures.taken.line) c.in-Ok.ensures.taken.fits (rw same at c.in-Ok.ensures.taken.number) ends c.in-Ok-end.ensures.tells)
 
 pub returns-in-Err-end-clause-tells : goal.returns-in-Err-end-clause-tells
 returns-in-Err-end-clause-tells g c =
@@ -39,7 +39,7 @@ returns-in-Err-end-clause-tells g c =
     subst (λ (b : Bool). Refuses (next_by b c.args.version c.args.last c.args.self.now.number) c.in-Err-end.e (unread c.args.self.now.input (g.S.Source.left c.args.source.now))) alone (
     next-more c.args.version c.args.last c.args.self.now.number c.next_line.new.self.number (unread c.args.self.now.input (g.S.Source.left c.args.source.now))
     (unread c.next_line.new.self.input (g.S.Source.left c.next_line.new.source)) c.next_line.new.self.line c.in-Err-end.e
-    (rw same at c.in-Ok.ensures.line) c.in-Ok.ensures.fits (rw same at c.in-Ok.ensures.number) ends c.in-Err-end.ensures.tells)
+    (rw same at c.in-Ok.ensures.taken.line) c.in-Ok.ensures.taken.fits (rw same at c.in-Ok.ensures.taken.number) ends c.in-Err-end.ensures.tells)
 
 pub returns-clause-tells : goal.returns-clause-tells
 returns-clause-tells g c =
@@ -53,10 +53,10 @@ returns-clause-tells g c =
     elim c.match-judge_event.branch [
       | in-Ok-judge_event w ↦
           rw w.result-is (next-event c.args.bundle c.args.version c.args.last c.args.self.now.number c.next_line.new.self.number old mid c.next_line.new.self.line w.in-Ok-judge_event.e
-          (rw same at c.in-Ok.ensures.line) c.in-Ok.ensures.fits (rw same at c.in-Ok.ensures.number) other (rw (line, number) at w.in-Ok-judge_event.ensures.ok))
+          (rw same at c.in-Ok.ensures.taken.line) c.in-Ok.ensures.taken.fits (rw same at c.in-Ok.ensures.taken.number) other (rw (line, number) at w.in-Ok-judge_event.ensures.ok))
       | in-Err-judge_event w ↦
           rw w.result-is (next-refused c.args.bundle c.args.version c.args.last c.args.self.now.number c.next_line.new.self.number old mid c.next_line.new.self.line w.in-Err-judge_event.e
-          (rw same at c.in-Ok.ensures.line) c.in-Ok.ensures.fits (rw same at c.in-Ok.ensures.number) other (rw (line, number) at w.in-Err-judge_event.ensures.err))
+          (rw same at c.in-Ok.ensures.taken.line) c.in-Ok.ensures.taken.fits (rw same at c.in-Ok.ensures.taken.number) other (rw (line, number) at w.in-Err-judge_event.ensures.err))
     ]
 
 pub returns-in-Some-clause-tells : goal.returns-in-Some-clause-tells
@@ -71,7 +71,7 @@ returns-in-Err-end-clause-rest g c is =
     subst (λ (b : Bool). LeavesRest (next_by b c.args.version c.args.last c.args.self.now.number) c.args.self.now.number None c.in-Err-end.e (unread c.args.self.now.input (g.S.Source.left c.args.source.now)) (unread c.end.new.self.input (g.S.Source.left c.end.new.source))) alone (
     ended-rest c.args.version c.args.last c.args.self.now.number c.next_line.new.self.number (unread c.args.self.now.input (g.S.Source.left c.args.source.now))
     (unread c.next_line.new.self.input (g.S.Source.left c.next_line.new.source)) (unread c.end.new.self.input (g.S.Source.left c.end.new.source)) c.next_line.new.self.line c.in-Err-end.e
-    (rw same at c.in-Ok.ensures.line) c.in-Ok.ensures.fits (rw same at c.in-Ok.ensures.number) ends (c.in-Err-end.ensures.rest is))
+    (rw same at c.in-Ok.ensures.taken.line) c.in-Ok.ensures.taken.fits (rw same at c.in-Ok.ensures.taken.number) ends (c.in-Err-end.ensures.rest is))
 
 pub returns-clause-rest : goal.returns-clause-rest
 returns-clause-rest g c =
@@ -86,7 +86,7 @@ returns-clause-rest g c =
       | in-Ok-judge_event w ↦ rw w.result-is tt
       | in-Err-judge_event w ↦
           rw w.result-is (λ is. event-rest c.args.bundle c.args.version c.args.last c.args.self.now.number c.next_line.new.self.number old mid c.next_line.new.self.line w.in-Err-judge_event.e
-          (rw same at c.in-Ok.ensures.line) c.in-Ok.ensures.fits (rw same at c.in-Ok.ensures.number) other (rw (line, number) at w.in-Err-judge_event.ensures.err))
+          (rw same at c.in-Ok.ensures.taken.line) c.in-Ok.ensures.taken.fits (rw same at c.in-Ok.ensures.taken.number) other (rw (line, number) at w.in-Err-judge_event.ensures.err))
     ]
 
 pub returns-in-Err-end-clause-source : goal.returns-in-Err-end-clause-source
@@ -97,10 +97,10 @@ returns-in-Err-end-clause-source g c =
     let old = unread c.args.self.now.input (g.S.Source.left c.args.source.now) in
     let mid = unread c.next_line.new.self.input (g.S.Source.left c.next_line.new.source) in
     let not_cut : c.next_line.new.self.cut ≡ false = ap (λ (r : LinesState). r.cut) (sym c.self.view_is) ∙ c.if-self.false in
-    let uncut : TakesText false old mid = subst (λ (b : Bool). TakesText b old mid) not_cut (rw same at c.in-Ok.ensures.text) in
+    let uncut : TakesText false old mid = subst (λ (b : Bool). TakesText b old mid) not_cut (rw same at c.in-Ok.ensures.taken.text) in
     draws_more (rw same at c.in-Ok.ensures.source) c.in-Err-end.ensures.source
     (λ h. subst (λ (b : Bool). AmidNext b (unread c.args.self.now.input (g.S.Source.left c.args.source.now)) (unread c.end.new.self.input (g.S.Source.left c.end.new.source))) (sym c.if-bundle.false) (inr (end-stops (unread c.args.self.now.input (g.S.Source.left c.args.source.now)) (unread c.next_line.new.self.input (g.S.Source.left c.next_line.new.source))
-    (unread c.end.new.self.input (g.S.Source.left c.end.new.source)) c.next_line.new.self.line (rw same at c.in-Ok.ensures.line) uncut ends (c.in-Err-end.ensures.source.amid h))))
+    (unread c.end.new.self.input (g.S.Source.left c.end.new.source)) c.next_line.new.self.line (rw same at c.in-Ok.ensures.taken.line) uncut ends (c.in-Err-end.ensures.source.amid h))))
 
 pub returns-in-Some-clause-source : goal.returns-in-Some-clause-source
 returns-in-Some-clause-source g c =
@@ -134,11 +134,11 @@ returns-then-self-clause-tells g c =
     let line : c.as_slice.result.now ≡ c.next_line.new.self.line = c.as_slice.ensures.value ∙ ap (λ (r : LinesState). r.line) c.self.view_is in
     let ends : bytes_eq c.next_line.new.self.line (codes "end") ≡ true = grind (arith, common_steps, line) in
     let is_cut : c.next_line.new.self.cut ≡ true = ap (λ (r : LinesState). r.cut) (sym c.self.view_is) ∙ c.if-self.true in
-    let cut : TakesText true old mid = subst (λ (b : Bool). TakesText b old mid) is_cut (rw same at c.in-Ok.ensures.text) in
+    let cut : TakesText true old mid = subst (λ (b : Bool). TakesText b old mid) is_cut (rw same at c.in-Ok.ensures.taken.text) in
     let alone : false ≡ c.args.bundle = sym c.if-bundle.false in
     subst (λ (b : Bool). Gives (next_by b c.args.version c.args.last c.args.self.now.number) None c.next_line.new.self.number old mid) alone (
     next-cut c.args.version c.args.last c.args.self.now.number c.next_line.new.self.number old mid c.next_line.new.self.line
-    (rw same at c.in-Ok.ensures.line) cut c.in-Ok.ensures.fits (rw same at c.in-Ok.ensures.number) ends)
+    (rw same at c.in-Ok.ensures.taken.line) cut c.in-Ok.ensures.taken.fits (rw same at c.in-Ok.ensures.taken.number) ends)
 
 pub returns-then-self-clause-source : goal.returns-then-self-clause-source
 returns-then-self-clause-source g c =
@@ -152,35 +152,14 @@ pub returns-clause-text : goal.returns-clause-text
 returns-clause-text g c =
     let same : c.next_ahead.new.self ≡ c.args.self.now = c.in-None.ensures.same refl in
     elim c.match-judge_event.branch [
-      | in-Ok-judge_event w ↦ rw w.result-is (rw same at c.in-Ok.ensures.text)
+      | in-Ok-judge_event w ↦ rw w.result-is (rw same at c.in-Ok.ensures.taken.text)
       | in-Err-judge_event w ↦ rw w.result-is tt
     ]
 
-pub returns-clause-order : goal.returns-clause-order
-returns-clause-order g c =
+pub returns-clause-event : goal.returns-clause-event
+returns-clause-event g c =
     elim c.match-judge_event.branch [
-      | in-Ok-judge_event w ↦ rw w.result-is w.in-Ok-judge_event.ensures.order
-      | in-Err-judge_event w ↦ rw w.result-is tt
-    ]
-
-pub returns-clause-times : goal.returns-clause-times
-returns-clause-times g c =
-    elim c.match-judge_event.branch [
-      | in-Ok-judge_event w ↦ rw w.result-is w.in-Ok-judge_event.ensures.times
-      | in-Err-judge_event w ↦ rw w.result-is tt
-    ]
-
-pub returns-clause-range : goal.returns-clause-range
-returns-clause-range g c =
-    elim c.match-judge_event.branch [
-      | in-Ok-judge_event w ↦ rw w.result-is w.in-Ok-judge_event.ensures.range
-      | in-Err-judge_event w ↦ rw w.result-is tt
-    ]
-
-pub returns-clause-version : goal.returns-clause-version
-returns-clause-version g c =
-    elim c.match-judge_event.branch [
-      | in-Ok-judge_event w ↦ rw w.result-is w.in-Ok-judge_event.ensures.version
+      | in-Ok-judge_event w ↦ rw w.result-is w.in-Ok-judge_event.ensures.event
       | in-Err-judge_event w ↦ rw w.result-is tt
     ]
 
@@ -191,4 +170,4 @@ returns-then-bundle-clause-tells g c =
     let ends : bytes_eq c.next_line.new.self.line (codes "end") ≡ true = grind (arith, common_steps, line) in
     next-closed c.args.bundle c.args.version c.args.last c.args.self.now.number c.next_line.new.self.number (unread c.args.self.now.input (g.S.Source.left c.args.source.now))
     (unread c.next_line.new.self.input (g.S.Source.left c.next_line.new.source)) c.next_line.new.self.line c.if-bundle.true
-    (rw same at c.in-Ok.ensures.line) c.in-Ok.ensures.fits (rw same at c.in-Ok.ensures.number) ends
+    (rw same at c.in-Ok.ensures.taken.line) c.in-Ok.ensures.taken.fits (rw same at c.in-Ok.ensures.taken.number) ends

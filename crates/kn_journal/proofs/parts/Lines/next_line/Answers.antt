@@ -3,7 +3,7 @@ use Rattle.std.proofs.Common.{◌≡◌, ◌+◌, ap, sym}
 use Rattle.kn_journal.specs.Reading.{unread}
 use Rattle.kn_journal.specs.Telling.{LinesState}
 use Rattle.kn_journal.proofs.Drawings.{draws_well}
-use Rattle.kn_journal.proofs.Tellings.{end-none, lacks_end, lacks_fault, lacks_long}
+use Rattle.kn_journal.proofs.Tellings.{end-none, lacks_end, lacks_fault, lacks_long, short-fits}
 use Rattle.kn_journal.proofs.parts.Lines.next_line.Goals as goal
 
 pub returns-in-Ok-true-clause-source : goal.returns-in-Ok-true-clause-source
@@ -11,10 +11,18 @@ returns-in-Ok-true-clause-source g c =
     let input : c.self.inside.input ≡ c.args.self.now.input = ap (λ (r : LinesState). r.input) c.self.view_is in
     rw input at c.in-Ok-true.ensures.source
 
-pub returns-in-Ok-true-clause-text : goal.returns-in-Ok-true-clause-text
-returns-in-Ok-true-clause-text g c =
+pub returns-in-Ok-true-clause-taken : goal.returns-in-Ok-true-clause-taken
+returns-in-Ok-true-clause-taken g c =
     let input : c.self.inside.input ≡ c.args.self.now.input = ap (λ (r : LinesState). r.input) c.self.view_is in
-    rw input at (c.in-Ok-true.ensures.text (cc))
+    record {
+      line = rw (input, c.in-Ok-true.field-0-test) at c.in-Ok-true.ensures.taken;
+      text = rw input at (c.in-Ok-true.ensures.text (cc));
+      number = ap (λ (r : LinesState). r.number + 1) c.self.view_is;
+      fits = short-fits c.read_line.new.line.items c.in-Ok-true.ensures.content.fits;
+      no_lf = c.in-Ok-true.ensures.content.no_lf;
+      count = rw input at c.in-Ok-true.ensures.count;
+      strict = rw input at (c.in-Ok-true.ensures.strict (cc));
+    }
 
 pub returns-in-Ok-false-clause-source : goal.returns-in-Ok-false-clause-source
 returns-in-Ok-false-clause-source g c =
