@@ -169,10 +169,7 @@ fn open<S: Source>(lines: &mut Lines, source: &mut S) -> Result<(GroupSetup, u64
     ensures source { DrawsLines (error_in result) lines.old lines.new S.Source.own S.Faulty source.old source.new }
 {
     text_laws();
-    let setup = match read_setup(lines, source) {
-        Ok(setup) => setup,
-        Err(e) => return Err(e),
-    };
+    let setup = read_setup(lines, source)?;
     match lines.start(source) {
         Ok(start) => Ok((setup, start)),
         Err(e) => Err(e),

@@ -44,10 +44,7 @@ pub fn read_setup<S: Source>(lines: &mut Lines, source: &mut S) -> Result<GroupS
     ensures source { DrawsSetup (error_in result) lines.old lines.new S.Source.own S.Faulty source.old source.new }
 {
     text_laws();
-    let many = match lines.first(source, FirstLine::Slices) {
-        Ok(many) => many,
-        Err(e) => return Err(e),
-    };
+    let many = lines.first(source, FirstLine::Slices)?;
     match lines.next_line(source) {
         Ok(()) => judge_setup(lines.line(), lines.number(), many),
         Err(e) => Err(e),

@@ -93,22 +93,10 @@ impl<'a> Schedule<'a> {
         part_laws();
         history_laws();
         size_laws();
-        let spec = match workload.spec().copy(alloc) {
-            Ok(spec) => spec,
-            Err(Memory) => return Err(Memory),
-        };
-        let mut log = match EntryLog::new(alloc) {
-            Ok(log) => log,
-            Err(Memory) => return Err(Memory),
-        };
-        let revision = match Revision::new(alloc, spec, workload.start(), &mut log) {
-            Ok(revision) => revision,
-            Err(Memory) => return Err(Memory),
-        };
-        let mut agenda = match Agenda::new(alloc, workload.jobs().len()) {
-            Ok(agenda) => agenda,
-            Err(Memory) => return Err(Memory),
-        };
+        let spec = workload.spec().copy(alloc)?;
+        let mut log = EntryLog::new(alloc)?;
+        let revision = Revision::new(alloc, spec, workload.start(), &mut log)?;
+        let mut agenda = Agenda::new(alloc, workload.jobs().len())?;
         agenda.hear_all(log.entries(), workload.jobs());
         Ok(Schedule {
             workload,

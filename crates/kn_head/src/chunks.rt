@@ -148,10 +148,7 @@ fn take_chunk<S: Source>(
     ensures fault { result ≡ Err HeadError.ReadFault → Rose (S.Faulty.faults source.old) (S.Faulty.faults source.new) }
     ensures source { Draws (S.left source.old) (S.left source.new) (S.apart source.old) (S.apart source.new) (S.Faulty.faults source.old) (S.Faulty.faults source.new) }
 {
-    let size = match take_size(source, window) {
-        Ok(size) => size,
-        Err(e) => return Err(e),
-    };
+    let size = take_size(source, window)?;
     if size == 0 {
         return match take_trailer(source, window) {
             Ok(()) => Ok(false),

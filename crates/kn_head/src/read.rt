@@ -28,10 +28,7 @@ fn read_parts<S: Source>(
     ensures source { Draws (S.left source.old) (S.left source.new) (S.apart source.old) (S.apart source.new) (S.Faulty.faults source.old) (S.Faulty.faults source.new) }
 {
     let mut spans = [EMPTY_HEADER_SPAN; 100];
-    let found = match find_head(source, window, &mut spans) {
-        Ok(found) => found,
-        Err(e) => return Err(e),
-    };
+    let found = find_head(source, window, &mut spans)?;
     match copy_parts(alloc, window.bytes(), &spans, found) {
         Ok(parts) => {
             window.advance(found.len);
@@ -120,28 +117,16 @@ pub fn read_head<S: Source>(alloc: Global, source: &mut S) -> Result<Head, HeadE
     ensures never_falls { S.Faulty.faults source.old ≤ S.Faulty.faults source.new }
 {
     let mut window = Window::new();
-    let parts = match read_parts(alloc, source, &mut window) {
-        Ok(parts) => parts,
-        Err(e) => return Err(e),
-    };
+    let parts = read_parts(alloc, source, &mut window)?;
     let Parts {
         method,
         target,
         minor,
         headers,
     } = parts;
-    let (namespace, revision) = match read_owner(alloc, &headers) {
-        Ok(owner) => owner,
-        Err(e) => return Err(e),
-    };
-    let form = match body_form(&headers) {
-        Ok(form) => form,
-        Err(e) => return Err(e),
-    };
-    let body = match read_body(alloc, source, &mut window, form) {
-        Ok(body) => body,
-        Err(e) => return Err(e),
-    };
+    let (namespace, revision) = read_owner(alloc, &headers)?;
+    let form = body_form(&headers)?;
+    let body = read_body(alloc, source, &mut window, form)?;
     let chunked = is_chunked(form);
     Ok(Head {
         method,

@@ -60,14 +60,8 @@ fn spec_in(
     ensures scaled { IfOk result (λ spec. spec.kind ≡ Kind.Kpa) }
     ensures slots { IfOk result (λ spec. spec.slots ≡ slots) }
 {
-    let namespace = match name(revision, Field::Namespace) {
-        Ok(namespace) => namespace,
-        Err(fault) => return Err(fault),
-    };
-    let name = match name(revision, Field::Name) {
-        Ok(name) => name,
-        Err(fault) => return Err(fault),
-    };
+    let namespace = name(revision, Field::Namespace)?;
+    let name = name(revision, Field::Name)?;
     let amounts = match Amounts::read(config, revision) {
         Ok(amounts) => amounts,
         Err(fault) => return Err(SpecError::of_key(fault)),

@@ -197,10 +197,7 @@ fn read_course<S: Source>(
     ensures source { DrawsLines (error_in result) lines.old lines.new S.Source.own S.Faulty source.old source.new }
 {
     spec_ranges(&setup.spec);
-    let until = match next_named(lines, source, b"until", start, until_most(start)) {
-        Ok(until) => until,
-        Err(e) => return Err(e),
-    };
+    let until = next_named(lines, source, b"until", start, until_most(start))?;
     match read_jobs(alloc, lines, source, start, until) {
         Ok(jobs) => Ok(Workload {
             setup,
@@ -223,18 +220,9 @@ fn read_lines<S: Source>(
     ensures good { IfOk result IsWorkload }
     ensures source { DrawsLines (error_in result) lines.old lines.new S.Source.own S.Faulty source.old source.new }
 {
-    let opening = match read_opening(alloc, lines, source, FirstLine::Workload) {
-        Ok(opening) => opening,
-        Err(e) => return Err(e),
-    };
-    let start = match lines.start(source) {
-        Ok(start) => start,
-        Err(e) => return Err(e),
-    };
-    let boot = match next_named(lines, source, b"boot", 0, BOOT_MOST) {
-        Ok(boot) => boot,
-        Err(e) => return Err(e),
-    };
+    let opening = read_opening(alloc, lines, source, FirstLine::Workload)?;
+    let start = lines.start(source)?;
+    let boot = next_named(lines, source, b"boot", 0, BOOT_MOST)?;
     let Opening { version: _, setup } = opening;
     read_course(alloc, lines, source, setup, start, boot)
 }

@@ -37,7 +37,7 @@ impl Replay {
         ensures few { IfOk result (λ r. IsBelow 1 r.group) }
         ensures waiting { IfOk result (λ r. r.waiting ≡ []) }
     {
-        let group = match Group::new(
+        let group = Group::new(
             alloc,
             setup.activators,
             setup.limit,
@@ -45,14 +45,8 @@ impl Replay {
             setup.timeout_s,
             setup.slots,
             start,
-        ) {
-            Ok(group) => group,
-            Err(Memory) => return Err(Memory),
-        };
-        let log = match EntryLog::new(alloc) {
-            Ok(log) => log,
-            Err(Memory) => return Err(Memory),
-        };
+        )?;
+        let log = EntryLog::new(alloc)?;
         let before = match vec![in alloc; setup.limit; setup.pods as usize] {
             Ok(before) => before,
             Err(_) => return Err(Memory),
