@@ -13,7 +13,7 @@ use Rattle.kn_pods.specs.Pods.{PodsState, StandsFor as ArePodsOf, after_row}
 use Rattle.kn_throttle.specs.State as throttle
 use Rattle.kn_scaler.specs.Stands.{ScalerState}
 use Rattle.kn_core.specs.State.{ArePartsOf, ArePartsOfSome, IsMeasuredAt, IsScalerOf, PartsState}
-use Rattle.kn_core.specs.Steps.{IsReadyFor, LeavesParts}
+use Rattle.kn_core.specs.Changes.{AddsProper, IsReadyFor, LeavesParts}
 
 -- a row with which a request ends
 abbrev pub is_end_row : Row → Bool
@@ -59,11 +59,18 @@ module _ (s : Spec) (all left : Trace → List Entry) (c : Trace) (x : PartsStat
   }
 
   -- nothing is left
-  pub leaves_logged : left l.here ≡ [] → log ≡ old ++ all c
+  leaves_logged : left l.here ≡ [] → log ≡ old ++ all c
   leaves_logged none = sym (append-nil log) ∙ ap (λ (es : List Entry). log ++ es) (sym none) ∙ l.rows
 
-  pub leaves_stands : left l.here ≡ [] → ArePartsOf s x (c ++ all c)
+  leaves_stands : left l.here ≡ [] → ArePartsOf s x (c ++ all c)
   leaves_stands none = subst (ArePartsOf s x) (sym (append-nil l.here) ∙ ap (λ (es : List Entry). l.here ++ es) (sym none) ∙ l.whole) l.parts
+
+pub leaves_adds : (rows : Spec → Trace → List Entry) (old x : PartsState) (was log : List Entry) → ((s : Spec) (c : Trace) → ArePartsOf s old c → Holds (IsProper s) c (rows s c) → LeavesParts s (rows s) (rows s) c x was log)
+    → ((s : Spec) (h : Trace) → ArePartsOf s x h → rows s h ≡ []) → AddsProper rows old x was log
+leaves_adds rows old x was log on none = record {
+  logged = λ s c h proper. let l = on s c h proper in leaves_logged s (rows s) (rows s) c x was log l (none s l.here l.parts);
+  stands = λ s c h proper. let l = on s c h proper in leaves_stands s (rows s) (rows s) c x was log l (none s l.here l.parts);
+}
 
 -- the parts once the autoscaler has heard of a row that is still to come
 pub record Measured (t : ℕ) (y : Row) (here mid : PartsState) : Type 0 where

@@ -25,7 +25,7 @@ use Rattle.kn_record.specs.Views.{AreViews, stand_found, stand_in}
 use Rattle.kn_laws.specs.Kinds.{IsActRow, is_act_row}
 use Rattle.kn_pods.specs.Pods.{PodsState, after_row}
 use Rattle.kn_core.specs.State.{ArePartsOf, ArePartsOfSome, IsAmongLive, PartsState}
-use Rattle.kn_core.specs.Steps.{AddsRow, after_removal, after_removals}
+use Rattle.kn_core.specs.Changes.{AddsRow, after_removal, after_removals}
 
 removal_created : (x : Row) (pods : PodsState) → (after_removal x pods).created ≡ pods.created
 removal_created (row.Remove p) pods = refl

@@ -5,7 +5,7 @@ use Rattle.kn_trace.specs.Rows.{arrived_by}
 use Rattle.kn_record.specs.Admission.{Admission, live_after, pods_after, stepped}
 use Rattle.kn_record.specs.Order.{AreTimed}
 use Rattle.kn_throttle.specs.State.{State, with_row}
-use Rattle.kn_core.specs.Steps.{AddsNobody}
+use Rattle.kn_core.specs.Changes.{AddsNobody}
 
 pub nobody_yet : (t : ℕ) (x : State) → AddsNobody t x x
 nobody_yet t x = record { spec = refl; arrivals = refl; timed = λ h. h }

@@ -25,7 +25,7 @@ use Rattle.kn_laws.specs.Facts.{RowFacts}
 use Rattle.kn_laws.specs.Kinds.{Each, IsActRow, is_act_row, is_departure_row}
 use Rattle.kn_pods.specs.Pods.{PodsState, StandsFor, after_row}
 use Rattle.kn_scaler.specs.Rows.{is_quiet}
-use Rattle.kn_core.specs.Steps.{woken}
+use Rattle.kn_core.specs.Changes.{woken}
 use Rattle.kn_core.proofs.Active.{DrainFew, IsAwake, awake_rows, awake_settled, drains_none, each_weaker, few_rows, is_calm, none_activated, scaler_awake}
 use Rattle.kn_core.proofs.Scaled.{holds_behind, holds_front, made_behind}
 use Rattle.kn_core.proofs.Traces.{rows_made}

@@ -2,6 +2,7 @@ mod Traces
 mod Scalers
 mod Lists
 mod Ends
+mod Adding
 mod After
 mod Measured
 mod Losses

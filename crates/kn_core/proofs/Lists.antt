@@ -11,7 +11,7 @@ use Rattle.kn_record.specs.declared.admission.Request.{Request}
 use Rattle.kn_record.specs.Admission.{without}
 use Rattle.kn_pods.specs.Numbers as numbers
 use Rattle.kn_pods.specs.Pods.{PodsState}
-use Rattle.kn_core.specs.Steps.{after_removal, after_removals}
+use Rattle.kn_core.specs.Changes.{after_removal, after_removals}
 
 without_few : (r : ℕ) (live : List Request) → length (without r live) ≤ length live
 without_few r [] = omega arith

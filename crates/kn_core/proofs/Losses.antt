@@ -1,7 +1,6 @@
 -- Who is lost with a pod.
-use Rattle.std.proofs.Common.{◌≡◌, ℕ, true, false, List, [], ◌++◌, refl, sym, ap, subst, ◌∙◌, append-nil}
+use Rattle.std.proofs.Common.{◌≡◌, ℕ, true, false, [], refl, ap, subst, ◌∙◌}
 use Rattle.std.proofs.Math.Logic.{∥∥₁_map}
-use Rattle.kn_event.specs.declared.entry.Entry.{Entry}
 use Rattle.kn_event.specs.declared.event.Act.{Act}
 use Rattle.kn_event.specs.declared.event.Act.TheVariants as act
 use Rattle.kn_event.specs.declared.revision.Spec.{Spec}
@@ -11,7 +10,7 @@ use Rattle.kn_record.specs.Admission.{Admission}
 use Rattle.kn_record.specs.Made.{Holds, IsProper}
 use Rattle.kn_record.specs.Walks.{losing}
 use Rattle.kn_core.specs.State.{ArePartsOf, PartsState}
-use Rattle.kn_core.specs.Steps.{IsAlone, IsReadyFor}
+use Rattle.kn_core.specs.Changes.{IsAlone, IsReadyFor}
 
 -- an act that loses no pod
 abbrev pub LosesNone : Act → Type 0
@@ -30,13 +29,6 @@ nobody_alone a _ h = tt
 pub dead_losses : (t : ℕ) (c : Trace) (p : ℕ) → contains p (live_pods c) ≡ false → losses t c (act.Lost p) ≡ []
 unfolding losses
 dead_losses t c p h = rw h refl
-
--- nothing more
-pub parts_same : (s : Spec) (x : PartsState) (c es : Trace) → es ≡ [] → ArePartsOf s x c → ArePartsOf s x (c ++ es)
-parts_same s x c es e h = rw (e, append-nil c) h
-
-pub logged_same : (log es : List Entry) → es ≡ [] → log ≡ log ++ es
-logged_same log es e = rw e (sym (append-nil log))
 
 -- the rows of a live pod that is lost are proper
 pub ready_losing : ((c : Trace) (t p : ℕ) → contains p (live_pods c) ≡ true → losses t c (act.Lost p) ≡ losing t p c) → (t p : ℕ) (a : Act) (x : PartsState) → a ≡ act.Lost p

@@ -20,7 +20,7 @@ use Rattle.kn_places.specs.Ends.{IsToldOf}
 use Rattle.kn_scaler.specs.Stands.{ScalerState}
 use Rattle.kn_core.specs.Scaling.{IsHeardOf, IsNextIn, IsNextInSome}
 use Rattle.kn_core.specs.State.{ArePartsOf, IsScalerOfSome, PartsState, ArePartsOfSome}
-use Rattle.kn_core.specs.Steps.{EndsOnly, HasFewPods, IsReadyFor}
+use Rattle.kn_core.specs.Changes.{EndsOnly, HasFewPods, IsReadyFor}
 
 -- only an autoscaler that is there is told
 pub heard : (o : Option ScalerState) (y : Row) (at : Stand) (through : Bool) (c : Trace) → (IsSome o → IsToldOf c y at through) → IsHeardOf o c y at through

@@ -1,5 +1,5 @@
 -- The parts of a revision in the course of an event.
-use Rattle.std.proofs.Common.{◌≡◌, ℕ, ◌≤◌, [], ◌∷◌, ◌++◌, length, refl, sym, ap, ◌∙◌, subst, arith, Option}
+use Rattle.std.proofs.Common.{◌≡◌, ℕ, ◌≤◌, [], ◌∷◌, ◌++◌, length, refl, sym, ap, ◌∙◌, subst, append_assoc, arith, Option}
 use Rattle.std.proofs.lemmas.List.{length-map}
 use Rattle.std.proofs.Math.Bridge.{le_prop}
 use Rattle.std.proofs.Math.Logic.{∥∥₁_elim, ∥∥₁_map}
@@ -24,7 +24,7 @@ use Rattle.kn_laws.specs.Kinds.{Each}
 use Rattle.kn_pods.specs.Pods.{PodsState, StandsFor as ArePodsOf, after_row}
 use Rattle.kn_scaler.specs.Rows.{is_quiet}
 use Rattle.kn_core.specs.State.{ArePartsOf, ArePartsOfSome, PartsState}
-use Rattle.kn_core.specs.Steps.{ArePartsOfSettled, HasFewPods}
+use Rattle.kn_core.specs.Changes.{ArePartsOfSettled, HasFewPods, own_and_woken, woken}
 use Rattle.kn_core.proofs.Active.{DrainFew}
 use Rattle.kn_core.proofs.Events.{Whole, few_drain, own_proper, whole, woken_after}
 
@@ -66,10 +66,11 @@ module _ (makes : (s : Spec) (c : Trace) (t : ℕ) (x : Row) → IsMade s c → 
   module _ (push : (c : Trace) (x : Entry) → phase_of (c ++ x ∷ []) ≡ or_else (phase_by x.row) (phase_of c)) (quiet : (s : Spec) (t : ℕ) (c : Trace) (want : ℕ) → Each is_quiet (scale_rows s t c want)) where
     pub went : (s : Spec) (c : Trace) (e : Event) (own : Option Row) (gone took : PartsState) → IsMade s c → IsSettled s c → ArePartsProper s c e → ArePartsOf s gone (gone_after s c e)
         → (ArePartsOf s gone (gone_after s c e) → act_row s (gone_after s c e) e.act ≡ own)
-        → (ArePartsOf s gone (gone_after s c e) → Holds (IsProper s) (gone_after s c e) (entries_of e.time own) → ArePartsOf s took (woken_after s c e own))
+        → (ArePartsOf s gone (gone_after s c e) → Holds (IsProper s) (gone_after s c e) (entries_of e.time own) → ArePartsOf s took (gone_after s c e ++ own_and_woken e.time own (gone_after s c e)))
         → Went s c e own gone took
     went s c e own gone took made settled proper h said takes =
         let by_act = said h in
         let all = whole makes goes rows s c e own h.made proper by_act push quiet made settled in
-        let mid = takes h all.did in
+        let did = entries_of e.time own in
+        let mid = subst (ArePartsOf s took) (sym (append_assoc (gone_after s c e) did (woken own e.time (gone_after s c e ++ did)))) (takes h all.did) in
         record { left = h; by_act = by_act; rows = all; stands = mid; few = few_drain makes goes rows s c e own h.made proper by_act made mid.made }

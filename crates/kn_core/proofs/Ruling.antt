@@ -26,7 +26,7 @@ use Rattle.kn_pods.specs.Pods.{PodsState, StandsFor as ArePodsOf, after_row}
 use Rattle.kn_throttle.specs.State as throttle
 use Rattle.kn_scaler.specs.Rows.{ruled_by, ruling_rows, tick_rulings}
 use Rattle.kn_scaler.specs.declared.scaler.Ruled.{Ruled}
-use Rattle.kn_core.specs.Steps.{is_admitted, is_own_of, says_act}
+use Rattle.kn_core.specs.Changes.{is_admitted, is_own_of, says_act}
 use Rattle.kn_core.specs.Ruled.{mode_said, phase_said, said_rows}
 use Rattle.kn_core.specs.State.{ArePartsOf, IsFixed, IsScalerOf, PartsState}
 use Rattle.kn_core.proofs.Scaled.{holds_front}

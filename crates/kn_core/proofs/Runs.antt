@@ -11,7 +11,7 @@ use Rattle.kn_record.specs.Views.{AreViews}
 use Rattle.kn_laws.specs.History.{IsMadeBy}
 use Rattle.kn_scaler.specs.Stands.{ScalerState}
 use Rattle.kn_core.specs.State.{ArePartsOf, ArePartsOfSome, IsMeasuredAt, IsMeasuredBy, RevisionState, StandsFor, StandsForSome}
-use Rattle.kn_core.specs.Steps.{ArePartsOfSettled}
+use Rattle.kn_core.specs.Changes.{ArePartsOfSettled}
 
 pub parts_of_some : (x : RevisionState) → x.parts.throttle.spec ≡ x.spec → StandsForSome x → ArePartsOfSome x.parts
 parts_of_some x e some = ∥∥₁_map some (λ (h : (c : Trace) × StandsFor x c). (h.0, subst (λ (s : Spec). ArePartsOf s x.parts h.0) (sym e) h.1.parts))

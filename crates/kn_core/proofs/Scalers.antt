@@ -1,18 +1,25 @@
 -- The autoscaler's place, where there is one.
-use Rattle.std.proofs.Common.{◌≡◌, ℕ, ◌≤◌, Bool, true, false, List, [], ◌∷◌, ◌++◌, length, refl, sym, subst, Option, Some}
+use Rattle.std.proofs.Common.{◌≡◌, ℕ, ◌≤◌, Bool, true, false, List, [], ◌∷◌, ◌++◌, length, refl, sym, ap, ◌∙◌, subst, Option, None, Some, IfNone, IfSome}
+use Rattle.std.specs.Prelude.{◌==◌}
 use Rattle.std.proofs.Math.Logic.{∥∥₁_map}
 use Rattle.kn_event.specs.declared.entry.Row.{Row}
 use Rattle.kn_event.specs.declared.entry.Row.TheVariants as row
+use Rattle.kn_event.specs.declared.event.Act.TheVariants as act
 use Rattle.kn_event.specs.declared.event.Stand.{Stand}
+use Rattle.kn_event.specs.declared.revision.Kind.{Kind}
+use Rattle.kn_event.specs.declared.revision.Kind.TheVariants as kind
 use Rattle.kn_event.specs.declared.revision.Spec.{Spec}
+use Rattle.kn_trace.specs.Events.{scaler_rows, wake_where}
+use Rattle.kn_trace.specs.Scale.{wanted}
 use Rattle.kn_trace.specs.Trace.{Trace, entry, live_pods}
 use Rattle.kn_record.specs.Made.{IsMade}
 use Rattle.kn_scaler.specs.Rows.{ready_rows, says_scale, settles}
 use Rattle.kn_scaler.specs.Stands.{AreNextOfSome, AreNextRows, IsNextOfSome, ScalerState, StandsForSome, StandsFor as IsScalerOfTrace}
 use Rattle.kn_event.specs.declared.entry.Entry.{Entry}
+use Rattle.kn_scaler.specs.declared.scaler.Ruled.{Ruled}
 use Rattle.kn_laws.specs.Kinds.{Each}
 use Rattle.kn_places.specs.Pods.{HasRoomFor}
-use Rattle.kn_core.specs.Scaling.{AreNextIn, AreNextInSome, IsNextIn, IsNextInSome}
+use Rattle.kn_core.specs.Scaling.{AreNextIn, AreNextInSome, IsAtZero, IsNextIn, IsNextInSome, IsWokenBy, RulesWake, WakesNone}
 use Rattle.kn_core.specs.State.{IsScalerOf, IsScalerOfSome, IsUnscaled}
 use Rattle.kn_core.proofs.Traces.{is_unscaled_row, says_unscaled, unscaled_more}
 
@@ -50,3 +57,20 @@ next_rows y es s c k = record { stands = k.scaler.stands; made = k.made; proper 
 pub next_rows_some : (o : Option ScalerState) (y : ScalerState) (es : List Entry) → o ≡ Some y → AreNextInSome o es → AreNextOfSome y es
 next_rows_some o y es e some =
     ∥∥₁_map (subst (λ (z : Option ScalerState). AreNextInSome z es) e some) (λ (h : (s : Spec) × (c : Trace) × AreNextIn (Some y) es s c × (length (live_pods c) ≤ 20500)). (h.0, h.1, next_rows y es h.0 h.1 h.2, h.3))
+
+-- ---- where a request was admitted
+
+admitted_rows : (s : Spec) (t : ℕ) (c : Trace) (tag r g : ℕ) (b : Bool) → s.kind ≡ kind.Kpa → (wanted s c == 0) ≡ b → scaler_rows s.kind s t c (act.Arrive tag) (Some (row.Admit r g)) ≡ wake_where b s t c
+admitted_rows s t c tag r g b scales e = ap (λ (k : Kind). scaler_rows k s t c (act.Arrive tag) (Some (row.Admit r g))) scales ∙ ap (λ (x : Bool). wake_where x s t c) e
+
+pub woken_none : (t : ℕ) (y : ScalerState) (answer : Option Ruled) → IfNone answer (IsAtZero false y) → IfNone answer (WakesNone t (Some y))
+woken_none t y None h = λ s c tag r g k. admitted_rows s t c tag r g false k.kind (h s c k.stands)
+woken_none t y (Some x) h = tt
+
+pub woken_some : (t ready : ℕ) (old new : ScalerState) (answer : Option Ruled) → IfSome answer (λ (x : Ruled). IsWokenBy t ready old new x) → IfSome answer (λ (x : Ruled). RulesWake t ready (Some old) (Some new) x)
+woken_some t ready old new None h = tt
+woken_some t ready old new (Some x) h = record {
+  some = λ s c tag r g k. admitted_rows s t c tag r g true k.kind (h.some s c k.stands);
+  ruled = λ s c is k. h.ruled s c is k.stands;
+  stands = λ s c is k. record { kind = k.kind; stands = h.stands s c is k.stands };
+}

@@ -15,7 +15,7 @@ use Rattle.kn_pods.specs.Pods.{PodsState, StandsFor as ArePodsOf, after_row}
 use Rattle.kn_scaler.specs.Rows.{settles}
 use Rattle.kn_core.specs.Scaling.{AreNextIn, AreNextInSome}
 use Rattle.kn_core.specs.State.{ArePartsOf, IsMeasuredAt, IsScalerOf, PartsState}
-use Rattle.kn_core.specs.Steps.{HasFewPods, IsReadyFor, after_removal, after_removals}
+use Rattle.kn_core.specs.Changes.{HasFewPods, IsReadyFor, after_removal, after_removals}
 use Rattle.kn_core.proofs.Measured.{few_live_pods}
 use Rattle.kn_core.proofs.Traces.{removals_alone, rows_made, rows_pods}
 

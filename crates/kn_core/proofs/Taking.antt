@@ -25,7 +25,7 @@ use Rattle.kn_scaler.specs.Stands.{ScalerState}
 use Rattle.kn_throttle.specs.State as throttle
 use Rattle.kn_core.specs.Scaling.{IsNextIn, IsNextInSome}
 use Rattle.kn_core.specs.State.{ArePartsOf, ArePartsOfSome, IsScalerOf, PartsState}
-use Rattle.kn_core.specs.Steps.{AddsRow, HasFewPods, IsReadyFor, ending_of, woken}
+use Rattle.kn_core.specs.Changes.{AddsRow, HasFewPods, IsReadyFor, ending_of, woken}
 use Rattle.kn_core.proofs.Measured.{few_live_pods, has_room, heard}
 
 -- who ends with an act's own row is whom the act names

@@ -13,7 +13,7 @@ use Rattle.kn_laws.specs.Kinds.{Each}
 use Rattle.kn_pods.specs.Pods.{PodsState, StandsFor, after_row}
 use Rattle.kn_scaler.specs.Rows.{says_scale}
 use Rattle.kn_core.specs.State.{IsUnscaled}
-use Rattle.kn_core.specs.Steps.{after_removal, after_removals}
+use Rattle.kn_core.specs.Changes.{after_removal, after_removals}
 
 -- a row that says nothing of phase and mode
 abbrev pub is_unscaled_row : Row → Bool

@@ -12,7 +12,7 @@ use Rattle.kn_record.specs.Made.{IsMade, IsProper}
 use Rattle.kn_laws.specs.Kinds.{is_act_row}
 use Rattle.kn_pods.specs.Pods.{PodsState, StandsFor, after_row}
 use Rattle.kn_scaler.specs.Rows.{ready_rows, says_scale}
-use Rattle.kn_core.specs.Steps.{woken}
+use Rattle.kn_core.specs.Changes.{woken}
 use Rattle.kn_core.proofs.Traces.{phase_same}
 
 -- an act's own row is one of a Ready pod, or says nothing of the scale

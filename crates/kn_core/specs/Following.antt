@@ -5,7 +5,9 @@ use Rattle.kn_event.specs.declared.entry.Row.{Row}
 use Rattle.kn_event.specs.declared.entry.Row.TheVariants as row
 use Rattle.kn_trace.specs.Trace.{contains}
 use Rattle.kn_record.specs.Admission.{Admission, is_ready_now, is_starting_now, pods_in, stepped}
+use Rattle.kn_record.specs.Walks.{stepped_by}
 use Rattle.kn_throttle.specs.Kept.{pods_room}
+use Rattle.kn_throttle.specs.State.{State}
 
 -- a row with which a pod is created or drains, that comes next
 abbrev pub CanTake : Admission → Row → Type 0
@@ -17,3 +19,7 @@ CanTake a _ = ⊥
 abbrev pub CanFollow : Admission → List Entry → Type 0
 CanFollow a [] = ⊤
 CanFollow a (e ∷ es) = CanTake a e.row × CanFollow (stepped e.time e.row a) es
+
+-- a throttler after these rows
+abbrev pub after_scale : List Entry → State → State
+after_scale es x = record x { admission = stepped_by es x.admission }

@@ -1,5 +1,5 @@
 -- What a revision opens with: the rows before those of its pods, and how many pods.
-use Rattle.std.specs.Prelude.{◌≡◌, ℕ, List, [], ◌∷◌}
+use Rattle.std.specs.Prelude.{◌≡◌, ℕ, List, [], ◌∷◌, ◌++◌}
 use Rattle.kn_event.specs.Revision.{AreInRange}
 use Rattle.kn_event.specs.declared.entry.Entry.{Entry}
 use Rattle.kn_event.specs.declared.entry.Row.TheVariants as row
@@ -7,11 +7,12 @@ use Rattle.kn_event.specs.declared.revision.Kind.{Kind}
 use Rattle.kn_event.specs.declared.revision.Kind.TheVariants as kind
 use Rattle.kn_event.specs.declared.revision.Spec.{Spec}
 use Rattle.kn_trace.specs.Events.{opening_phase}
-use Rattle.kn_trace.specs.Scale.{opening_scale}
+use Rattle.kn_trace.specs.Scale.{opening_scale, scale_rows}
 use Rattle.kn_trace.specs.Trace.{Trace, entry}
 use Rattle.kn_record.specs.Admission.{Admission}
 use Rattle.kn_record.specs.Made.{IsMade, StandsFor as IsRecordOf}
 use Rattle.kn_pods.specs.Pods.{PodsState, StandsFor as ArePodsOf}
+use Rattle.kn_throttle.specs.State as throttle
 
 -- the phase of a revision that scales
 abbrev pub first_rows : Kind → Spec → ℕ → List Entry
@@ -32,3 +33,9 @@ pub record AreBeginning (s : Spec) (limit : ℕ) (a : Admission) (kept : PodsSta
 
 abbrev pub AreBeginningOfSome : ℕ → Admission → PodsState → Type 0
 AreBeginningOfSome limit a pods = ∥ ((s : Spec) × (c : Trace) × AreBeginning s limit a pods c) ∥₁
+
+-- so many pods were created: the log has their rows, and record and pods stand for the trace with them
+pub record Creates (limit count time : ℕ) (old new : throttle.State) (was now : PodsState) (before after : List Entry) : Type 0 where
+  pub logged : (s : Spec) (c : Trace) → AreBeginning s limit old.admission was c → after ≡ before ++ scale_rows s time c count
+  pub admission : (s : Spec) (c : Trace) → AreBeginning s limit old.admission was c → IsRecordOf new.admission (c ++ scale_rows s time c count)
+  pub pods : (s : Spec) (c : Trace) → AreBeginning s limit old.admission was c → ArePodsOf now (c ++ scale_rows s time c count)

@@ -1,5 +1,5 @@
 //! The parts of a revision, and what each part of an event changes of them.
-ghost use Rattle.std.specs.Prelude.{◌≡◌, ℕ, ◌+◌, ◌≤◌, ◌^◌, ◌++◌, ◌∷◌, [], false, true, length};
+ghost use Rattle.std.specs.Prelude.{◌≡◌, ℕ, ◌+◌, ◌≤◌, ◌^◌, ◌++◌, ◌∷◌, [], true, length};
 ghost use Rattle.kn_event.specs.Revision.{AreInRange};
 ghost use Rattle.kn_event.specs.declared.revision.Spec.{Spec as SpecValue};
 ghost use Rattle.kn_trace.specs.Events.{expiries, losses};
@@ -7,12 +7,11 @@ ghost use Rattle.kn_trace.specs.Scale.{scale_rows};
 ghost use Rattle.kn_trace.specs.Settling.{settling};
 ghost use Rattle.kn_trace.specs.Trace.{Trace, contains, entry};
 ghost use Rattle.kn_record.specs.Admission.{is_at, placed_in};
-ghost use Rattle.kn_record.specs.Made.{Holds, IsProper};
 ghost use Rattle.kn_record.specs.Views.{pod_numbers};
 ghost use Rattle.kn_record.specs.Walks.{losing};
-ghost use Rattle.kn_scaler.specs.Rows.{says_scale};
-ghost use Rattle.kn_core.specs.State.{ArePartsOf, ArePartsOfSome, IsMeasuredAt, IsMeasuredBy, IsScalerOf};
-ghost use Rattle.kn_core.specs.Steps.{AddsNobody, EndsOnly, HasFewPods, IsAlone, IsReadyFor};
+ghost use Rattle.kn_core.specs.Changes.{AddsNobody, AddsProper, AddsRows, CanEndRequests, CanScale, EndsOnly, HasFewPods, IsAlone, IsReadyFor, OnlyEnds, OnlyScales};
+ghost use Rattle.kn_core.specs.Scaling.{HearsRow};
+ghost use Rattle.kn_core.specs.State.{ArePartsOf, ArePartsOfSome, IsMeasuredAt, IsMeasuredBy};
 
 mod acts;
 mod event;
@@ -81,7 +80,7 @@ impl Parts {
         requires some { IsReadyFor (λ s c. entry 0 row ∷ []) self.old }
         requires ends { EndsOnly row r }
         requires few { HasFewPods self.old }
-        ensures scaler { (s : SpecValue) (c : Trace) (t : ℕ) → IsMeasuredAt t self.old.scaler → says_scale row ≡ false → ArePartsOf s self.old c → IsProper s c row → IsScalerOf s self.new.scaler (c ++ entry t row ∷ []) }
+        ensures scaler { HearsRow row self.old self.new.scaler }
         ensures throttle { self.new.throttle ≡ self.old.throttle }
         ensures pods { self.new.pods ≡ self.old.pods }
         ensures measured { (t : ℕ) → IsMeasuredAt t self.old.scaler → IsMeasuredAt t self.new.scaler }
@@ -96,16 +95,9 @@ impl Parts {
     #[inline(always)]
     fn expire(&mut self, time: u64, log: &mut EntryLog)
         requires some { IsReadyFor (λ s c. expiries s time c) self.old }
-        requires few { HasFewPods self.old }
-        requires measured { IsMeasuredAt time self.old.scaler }
-        requires room { length log.old + length self.old.throttle.admission.live ≤ 65536 }
-        ensures logged { (s : SpecValue) (c : Trace) → ArePartsOf s self.old c → Holds (IsProper s) c (expiries s time c) → log.new ≡ log.old ++ expiries s time c }
-        ensures stands { (s : SpecValue) (c : Trace) → ArePartsOf s self.old c → Holds (IsProper s) c (expiries s time c) → ArePartsOf s self.new (c ++ expiries s time c) }
-        ensures nobody { AddsNobody time self.old.throttle self.new.throttle }
-        ensures created { self.new.pods.created ≡ self.old.pods.created }
-        ensures pods { self.new.throttle.admission.pods ≡ self.old.throttle.admission.pods }
-        ensures measured { IsMeasuredAt time self.new.scaler }
-        ensures room { length log.new + length self.new.throttle.admission.live ≤ length log.old + length self.old.throttle.admission.live }
+        requires can { CanEndRequests time self.old log.old }
+        ensures adds { AddsProper (λ s c. expiries s time c) self.old self.new log.old log.new }
+        ensures ends { OnlyEnds time self.old self.new log.old log.new }
     {
         row_laws();
         time_laws();
@@ -122,17 +114,10 @@ impl Parts {
     #[inline(always)]
     fn lose(&mut self, act: Act, time: u64, log: &mut EntryLog)
         requires some { IsReadyFor (λ s c. losses time c act) self.old }
-        requires few { HasFewPods self.old }
-        requires measured { IsMeasuredAt time self.old.scaler }
-        requires room { length log.old + length self.old.throttle.admission.live ≤ 65536 }
-        ensures logged { (s : SpecValue) (c : Trace) → ArePartsOf s self.old c → Holds (IsProper s) c (losses time c act) → log.new ≡ log.old ++ losses time c act }
-        ensures stands { (s : SpecValue) (c : Trace) → ArePartsOf s self.old c → Holds (IsProper s) c (losses time c act) → ArePartsOf s self.new (c ++ losses time c act) }
-        ensures nobody { AddsNobody time self.old.throttle self.new.throttle }
-        ensures created { self.new.pods.created ≡ self.old.pods.created }
+        requires can { CanEndRequests time self.old log.old }
+        ensures adds { AddsProper (λ s c. losses time c act) self.old self.new log.old log.new }
+        ensures ends { OnlyEnds time self.old self.new log.old log.new }
         ensures alone { IsAlone self.new.throttle.admission act }
-        ensures pods { self.new.throttle.admission.pods ≡ self.old.throttle.admission.pods }
-        ensures measured { IsMeasuredAt time self.new.scaler }
-        ensures room { length log.new + length self.new.throttle.admission.live ≤ length log.old + length self.old.throttle.admission.live }
     {
         append_laws();
         walk_laws();
@@ -149,17 +134,10 @@ impl Parts {
     fn lose_all(&mut self, p: u64, time: u64, log: &mut EntryLog)
         requires some { IsReadyFor (λ s c. losing time p c) self.old }
         requires there { contains p (pod_numbers self.old.throttle.admission.pods) ≡ true }
-        requires few { HasFewPods self.old }
-        requires measured { IsMeasuredAt time self.old.scaler }
-        requires room { length log.old + length self.old.throttle.admission.live ≤ 65536 }
-        ensures logged { (s : SpecValue) (c : Trace) → ArePartsOf s self.old c → Holds (IsProper s) c (losing time p c) → log.new ≡ log.old ++ losing time p c }
-        ensures stands { (s : SpecValue) (c : Trace) → ArePartsOf s self.old c → Holds (IsProper s) c (losing time p c) → ArePartsOf s self.new (c ++ losing time p c) }
-        ensures nobody { AddsNobody time self.old.throttle self.new.throttle }
-        ensures created { self.new.pods.created ≡ self.old.pods.created }
+        requires can { CanEndRequests time self.old log.old }
+        ensures adds { AddsProper (λ s c. losing time p c) self.old self.new log.old log.new }
+        ensures ends { OnlyEnds time self.old self.new log.old log.new }
         ensures none { placed_in (is_at p) self.new.throttle.admission.live ≡ [] }
-        ensures pods { self.new.throttle.admission.pods ≡ self.old.throttle.admission.pods }
-        ensures measured { IsMeasuredAt time self.new.scaler }
-        ensures room { length log.new + length self.new.throttle.admission.live ≤ length log.old + length self.old.throttle.admission.live }
     {
         row_laws();
         time_laws();
@@ -175,18 +153,12 @@ impl Parts {
     /// As many pods as are wanted, of this limit.
     fn scale(&mut self, want: u64, limit: u64, time: u64, log: &mut EntryLog)
         requires some { ∥ ((c : Trace) × AreInRange self.old.throttle.spec × ArePartsOf self.old.throttle.spec self.old c) ∥₁ }
-        requires limit { limit ≡ self.old.throttle.spec.cc }
         requires want { want ≤ 500 }
-        requires draining { length self.old.pods.draining ≤ 20000 }
-        requires created { self.old.pods.created + 500 ≤ 2 ^ 63 }
-        requires measured { IsMeasuredAt time self.old.scaler }
+        requires can { CanScale limit time self.old }
         requires room { length log.old ≤ 65036 }
-        ensures logged { (s : SpecValue) (c : Trace) → ArePartsOf s self.old c → log.new ≡ log.old ++ scale_rows s time c want }
-        ensures stands { (s : SpecValue) (c : Trace) → ArePartsOf s self.old c → ArePartsOf s self.new (c ++ scale_rows s time c want) }
-        ensures nobody { AddsNobody time self.old.throttle self.new.throttle }
+        ensures adds { AddsRows (λ s c. scale_rows s time c want) self.old self.new log.old log.new }
+        ensures scales { OnlyScales time 500 self.old self.new log.old log.new }
         ensures scaler { self.new.scaler ≡ self.old.scaler }
-        ensures created { self.new.pods.created ≤ self.old.pods.created + 500 }
-        ensures most { length log.new ≤ length log.old + 500 }
     {
         row_laws();
         append_laws();
@@ -208,7 +180,7 @@ impl Parts {
         requires measured { IsMeasuredAt time self.old.scaler }
         requires room { length log.old ≤ 20600 }
         ensures logged { (s : SpecValue) (c : Trace) → ArePartsOf s self.old c → log.new ≡ log.old ++ settling s time c }
-        ensures stands { (s : SpecValue) (c : Trace) → ArePartsOf s self.old c → Holds (IsProper s) c (settling s time c) → ArePartsOf s self.new (c ++ settling s time c) }
+        ensures adds { AddsProper (λ s c. settling s time c) self.old self.new log.old log.new }
         ensures nobody { AddsNobody time self.old.throttle self.new.throttle }
         ensures created { self.new.pods.created ≡ self.old.pods.created }
         ensures measured { IsMeasuredAt time self.new.scaler }

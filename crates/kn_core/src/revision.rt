@@ -7,8 +7,7 @@ ghost use Rattle.kn_core.specs.Refused.{LeavesByAnswer};
 ghost use Rattle.kn_trace.specs.Trace.{Trace, arrivals, live, next_starting, proxied, stand_of};
 ghost use Rattle.kn_laws.specs.Kinds.{EachAt};
 ghost use Rattle.kn_core.specs.State.{IsAmongLive, StandsFor, StandsForSome};
-ghost use Rattle.kn_core.specs.Stepping.{Steps};
-ghost use Rattle.kn_core.specs.Steps.{IsWithinRange};
+ghost use Rattle.kn_core.specs.Steps.{IsWithinRange, Steps};
 
 mod gauges;
 

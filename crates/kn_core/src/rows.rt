@@ -1,10 +1,9 @@
 //! Rows of an event that come one after the other.
 ghost use Rattle.std.specs.Prelude.{◌≡◌, ℕ, ◌≤◌, drop, length};
 ghost use Rattle.kn_pods.specs.Numbers.{without};
-ghost use Rattle.kn_record.specs.Walks.{stepped_by};
 ghost use Rattle.kn_throttle.specs.State.{with_row};
-ghost use Rattle.kn_core.specs.Following.{CanFollow, CanTake};
-ghost use Rattle.kn_core.specs.Steps.{AddsNobody, after_removals};
+ghost use Rattle.kn_core.specs.Changes.{AddsNobody, after_removals};
+ghost use Rattle.kn_core.specs.Following.{CanFollow, CanTake, after_scale};
 
 use kn_event::{Entry, EntryLog, Row};
 use kn_pods::Pods;
@@ -45,7 +44,7 @@ fn remove(pods: &mut Pods, p: u64)
 pub(crate) fn follow_behind(throttle: &mut Throttle, log: &EntryLog, first: usize)
     requires first { first ≤ length log.now }
     requires can { ∥ CanFollow throttle.old.admission (drop first log.now) ∥₁ }
-    ensures all { throttle.new ≡ record throttle.old { admission = stepped_by (drop first log.now) throttle.old.admission } }
+    ensures all { throttle.new ≡ after_scale (drop first log.now) throttle.old }
     ensures nobody { (t : ℕ) → AddsNobody t throttle.old throttle.new }
 {
     follow(throttle, &log.entries()[first..]);
@@ -54,7 +53,7 @@ pub(crate) fn follow_behind(throttle: &mut Throttle, log: &EntryLog, first: usiz
 /// Creates and drains the pods that these entries do.
 fn follow(throttle: &mut Throttle, entries: &[Entry])
     requires { ∥ CanFollow throttle.old.admission entries.now ∥₁ }
-    ensures all { throttle.new ≡ record throttle.old { admission = stepped_by entries.now throttle.old.admission } }
+    ensures all { throttle.new ≡ after_scale entries.now throttle.old }
     ensures nobody { (t : ℕ) → AddsNobody t throttle.old throttle.new }
 {
     for e in entries {

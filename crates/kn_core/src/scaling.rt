@@ -1,18 +1,10 @@
 //! The autoscaler of a revision, where that scales.
-ghost use Rattle.std.specs.Prelude.{◌≡◌, ◌==◌, ℕ, ◌≤◌, ◌^◌, ◌++◌, ◌∷◌, [], drop, length, false, true, option_map, IfNone, IfOk, IfSome, Some};
-ghost use Rattle.kn_event.specs.declared.entry.Phase.TheVariants as phase;
-ghost use Rattle.kn_event.specs.declared.entry.Row.TheVariants as row;
-ghost use Rattle.kn_event.specs.declared.event.Act.TheVariants as act;
-ghost use Rattle.kn_event.specs.declared.revision.Kind.TheVariants as kind;
-ghost use Rattle.kn_trace.specs.Events.{opening, scaler_rows};
+ghost use Rattle.std.specs.Prelude.{◌≡◌, ℕ, ◌≤◌, ◌^◌, drop, length, false, IfNone, IfOk, IfSome};
 ghost use Rattle.kn_event.specs.declared.revision.Spec.{Spec as SpecValue};
-ghost use Rattle.kn_trace.specs.Load.{has_ready_pod};
-ghost use Rattle.kn_trace.specs.Scale.{count_ready, decision_at, is_same_phase, mode_of, phase_of, wake_decision_at, wake_rows, wanted};
-ghost use Rattle.kn_trace.specs.Trace.{Trace, entry};
-ghost use Rattle.kn_record.specs.Made.{IsMade};
-ghost use Rattle.kn_scaler.specs.Rows.{ready_rows, ruled_by, ruling_rows, says_scale, tick_rulings};
-ghost use Rattle.kn_scaler.specs.Stands.{StandsFor as IsScalerOfTrace};
-ghost use Rattle.kn_core.specs.Scaling.{AreNextIn, AreNextInSome, IsNextIn, IsNextInSome};
+ghost use Rattle.kn_trace.specs.Events.{opening};
+ghost use Rattle.kn_trace.specs.Scale.{mode_of};
+ghost use Rattle.kn_trace.specs.Trace.{Trace};
+ghost use Rattle.kn_core.specs.Scaling.{AreNextInSome, IsAtZero, IsNextInSome, IsWokenBy, KeepsScaler, RulesTick, RulesWake, TakesReady, TakesRow, TakesRows, WakesNone, is_waiting_for_pod};
 ghost use Rattle.kn_core.specs.State.{IsFixed, IsMeasuredAt, IsMeasuredBy, IsScalerOf, IsScalerOfSome};
 
 use kn_event::{Entry, EntryLog, Kind, Memory, Mode, Row, Spec, Stand};
@@ -38,7 +30,7 @@ pub(crate) fn advance(scaler: &mut Option<Scaler>, time: u64, ready: bool)
     requires some { IsScalerOfSome scaler.old }
     requires order { IsMeasuredBy time scaler.old }
     requires range { time ≤ 2 ^ 42 }
-    ensures stands { (s : SpecValue) (c : Trace) → IsMade s c → has_ready_pod c ≡ ready → IsScalerOf s scaler.old c → IsScalerOf s scaler.new c }
+    ensures stands { KeepsScaler ready scaler.old scaler.new }
     ensures measured { IsMeasuredAt time scaler.new }
 {
     match scaler {
@@ -52,7 +44,7 @@ pub(crate) fn advance(scaler: &mut Option<Scaler>, time: u64, ready: bool)
 #[inline(always)]
 pub(crate) fn row(scaler: &mut Option<Scaler>, added: Row, at: Stand, through: bool)
     requires { IsNextInSome scaler.old added at through }
-    ensures stands { (s : SpecValue) (c : Trace) (t : ℕ) → IsMeasuredAt t scaler.old → says_scale added ≡ false → IsNextIn scaler.old added at through s c → IsScalerOf s scaler.new (c ++ entry t added ∷ []) }
+    ensures stands { TakesRow added at through scaler.old scaler.new }
     ensures measured { (t : ℕ) → IsMeasuredAt t scaler.old → IsMeasuredAt t scaler.new }
 {
     match scaler {
@@ -65,7 +57,7 @@ pub(crate) fn row(scaler: &mut Option<Scaler>, added: Row, at: Stand, through: b
 pub(crate) fn rows_behind(scaler: &mut Option<Scaler>, log: &EntryLog, first: usize)
     requires next { AreNextInSome scaler.old (drop first log.now) }
     requires first { first ≤ length log.now }
-    ensures stands { (s : SpecValue) (c : Trace) → AreNextIn scaler.old (drop first log.now) s c → IsScalerOf s scaler.new (c ++ drop first log.now) }
+    ensures stands { TakesRows (drop first log.now) scaler.old scaler.new }
     ensures measured { (t : ℕ) → IsMeasuredAt t scaler.old → IsMeasuredAt t scaler.new }
 {
     rows(scaler, &log.entries()[first..]);
@@ -74,7 +66,7 @@ pub(crate) fn rows_behind(scaler: &mut Option<Scaler>, log: &EntryLog, first: us
 /// The rows of a settling.
 fn rows(scaler: &mut Option<Scaler>, added: &[Entry])
     requires { AreNextInSome scaler.old added.now }
-    ensures stands { (s : SpecValue) (c : Trace) → AreNextIn scaler.old added.now s c → IsScalerOf s scaler.new (c ++ added.now) }
+    ensures stands { TakesRows added.now scaler.old scaler.new }
     ensures measured { (t : ℕ) → IsMeasuredAt t scaler.old → IsMeasuredAt t scaler.new }
 {
     match scaler {
@@ -96,8 +88,8 @@ pub(crate) fn mode(scaler: &Option<Scaler>) -> Mode
 /// A pod is Ready, and so many are now. Answers whether the revision waited for its first one, and is active from now on.
 pub(crate) fn pod_ready(scaler: &mut Option<Scaler>, time: u64, ready: u64) -> bool
     requires { IsMeasuredAt time scaler.old }
-    ensures answer { (s : SpecValue) (c : Trace) → IsScalerOf s scaler.old c → result ≡ is_same_phase phase.Activating (phase_of c) }
-    ensures stands { (s : SpecValue) (c : Trace) (p : ℕ) → count_ready (c ++ entry time (row.Ready p) ∷ []) ≡ ready → IsScalerOf s scaler.old c → IsScalerOf s scaler.new (c ++ ready_rows time c p) }
+    ensures answer { (s : SpecValue) (c : Trace) → IsScalerOf s scaler.old c → result ≡ is_waiting_for_pod c }
+    ensures stands { TakesReady time ready scaler.old scaler.new }
     ensures measured { IsMeasuredAt time scaler.new }
 {
     match scaler {
@@ -112,9 +104,7 @@ pub(crate) fn tick(scaler: &mut Option<Scaler>, time: u64, ready: u64) -> Option
     requires ready { ready ≤ 500 }
     ensures none { IfNone result ((s : SpecValue) (c : Trace) → IsScalerOf s scaler.old c → IsFixed s.kind) }
     ensures unchanged { IfNone result (scaler.new ≡ scaler.old) }
-    ensures kind { IfSome result (λ r. (s : SpecValue) (c : Trace) → IsScalerOf s scaler.old c → s.kind ≡ kind.Kpa) }
-    ensures ruled { IfSome result (λ r. (s : SpecValue) (c : Trace) → count_ready c ≡ ready → IsScalerOf s scaler.old c → r ≡ option_map (ruled_by c) (decision_at s c time)) }
-    ensures stands { IfSome result (λ r. (s : SpecValue) (c : Trace) → count_ready c ≡ ready → IsScalerOf s scaler.old c → IsScalerOf s scaler.new (c ++ tick_rulings time c (decision_at s c time))) }
+    ensures some { IfSome result (λ r. RulesTick time ready scaler.old scaler.new r) }
     ensures measured { IsMeasuredAt time scaler.new }
 {
     match scaler {
@@ -128,11 +118,9 @@ pub(crate) fn tick(scaler: &mut Option<Scaler>, time: u64, ready: u64) -> Option
 pub(crate) fn wake(scaler: &mut Option<Scaler>, time: u64, ready: u64) -> Option<Ruled>
     requires now { IsMeasuredAt time scaler.old }
     requires ready { ready ≤ 500 }
-    ensures none { IfNone result ((s : SpecValue) (c : Trace) (tag r g : ℕ) → IsScalerOf s scaler.old c → scaler_rows s.kind s time c (act.Arrive tag) (Some (row.Admit r g)) ≡ []) }
+    ensures none { IfNone result (WakesNone time scaler.old) }
     ensures unchanged { IfNone result (scaler.new ≡ scaler.old) }
-    ensures some { IfSome result (λ x. (s : SpecValue) (c : Trace) (tag r g : ℕ) → IsScalerOf s scaler.old c → scaler_rows s.kind s time c (act.Arrive tag) (Some (row.Admit r g)) ≡ wake_rows s time c) }
-    ensures ruled { IfSome result (λ x. (s : SpecValue) (c : Trace) → count_ready c ≡ ready → IsScalerOf s scaler.old c → x ≡ ruled_by c (wake_decision_at s c time)) }
-    ensures stands { IfSome result (λ x. (s : SpecValue) (c : Trace) → count_ready c ≡ ready → IsScalerOf s scaler.old c → IsScalerOf s scaler.new (c ++ ruling_rows time c (wake_decision_at s c time))) }
+    ensures some { IfSome result (λ x. RulesWake time ready scaler.old scaler.new x) }
     ensures measured { IsMeasuredAt time scaler.new }
 {
     match scaler {
@@ -144,11 +132,9 @@ pub(crate) fn wake(scaler: &mut Option<Scaler>, time: u64, ready: u64) -> Option
 fn wake_scaler(scaler: &mut Scaler, time: u64, ready: u64) -> Option<Ruled>
     requires now { time ≡ scaler.old.stats.time }
     requires ready { ready ≤ 500 }
-    ensures none { IfNone result ((s : SpecValue) (c : Trace) → IsScalerOfTrace s scaler.old c → (wanted s c == 0) ≡ false) }
+    ensures none { IfNone result (IsAtZero false scaler.old) }
     ensures unchanged { IfNone result (scaler.new ≡ scaler.old) }
-    ensures some { IfSome result (λ x. (s : SpecValue) (c : Trace) → IsScalerOfTrace s scaler.old c → (wanted s c == 0) ≡ true) }
-    ensures ruled { IfSome result (λ x. (s : SpecValue) (c : Trace) → count_ready c ≡ ready → IsScalerOfTrace s scaler.old c → x ≡ ruled_by c (wake_decision_at s c time)) }
-    ensures stands { IfSome result (λ x. (s : SpecValue) (c : Trace) → count_ready c ≡ ready → IsScalerOfTrace s scaler.old c → IsScalerOfTrace s scaler.new (c ++ ruling_rows time c (wake_decision_at s c time))) }
+    ensures some { IfSome result (λ x. IsWokenBy time ready scaler.old scaler.new x) }
     ensures measured { scaler.new.stats.time ≡ time }
 {
     let want = scaler.want();

@@ -6,8 +6,9 @@ ghost use Rattle.kn_trace.specs.Events.{act_row, entries_of};
 ghost use Rattle.kn_trace.specs.Trace.{Trace, entry};
 ghost use Rattle.kn_record.specs.declared.admission.Request.{Request};
 ghost use Rattle.kn_throttle.specs.Rows.{arrival_row, cancel_row, finish_row};
+ghost use Rattle.kn_core.specs.Changes.{AddsRow, IsAlone};
 ghost use Rattle.kn_core.specs.State.{ArePartsOf, ArePartsOfSome};
-ghost use Rattle.kn_core.specs.Steps.{AddsRow, IsAlone, IsWithinRange};
+ghost use Rattle.kn_core.specs.Steps.{IsWithinRange};
 
 use super::Parts;
 use crate::scaling;

@@ -1,23 +1,16 @@
 //! One event, part by part, and what it is told. What comes at each event is inlined into one function, in which a row needs
 //! no memory but its place in the log: rows are large.
-ghost use Rattle.std.specs.Prelude.{◌≡◌, ℕ, ◌+◌, ◌<◌, ◌≤◌, ◌^◌, [], ◌∷◌, ◌++◌, length, IsSome, Some, true};
+ghost use Rattle.std.specs.Prelude.{◌≡◌, ◌+◌, ◌<◌, ◌≤◌, ◌^◌, [], length, Some, true};
 ghost use Rattle.std.specs.Option.{option_or};
-ghost use Rattle.kn_event.specs.Revision.{AreInRange};
-ghost use Rattle.kn_event.specs.declared.entry.Phase.TheVariants as phase;
-ghost use Rattle.kn_event.specs.declared.entry.Row.TheVariants as row;
 ghost use Rattle.kn_event.specs.declared.revision.Spec.{Spec as SpecValue};
 ghost use Rattle.kn_trace.specs.Events.{act_row, departures, entries_of, react, told_of, told_row, told_stand};
 ghost use Rattle.kn_trace.specs.Laws.{IsSettled};
-ghost use Rattle.kn_trace.specs.Scale.{is_same_phase, phase_of, where_true};
-ghost use Rattle.kn_trace.specs.Trace.{Trace, entry, proxied, stand_of};
-ghost use Rattle.kn_laws.specs.Kinds.{is_act_row};
-ghost use Rattle.kn_pods.specs.Pods.{StandsFor as ArePodsOf};
-ghost use Rattle.kn_record.specs.Made.{Holds, IsProper};
+ghost use Rattle.kn_trace.specs.Trace.{Trace};
 ghost use Rattle.kn_record.specs.Order.{AreTimed};
-ghost use Rattle.kn_scaler.specs.Rows.{ready_rows};
-ghost use Rattle.kn_core.specs.Scaling.{IsNextIn, IsNextInSome};
-ghost use Rattle.kn_core.specs.State.{ArePartsOf, ArePartsOfSome, IsMeasuredAt, IsMeasuredBy, IsScalerOf};
-ghost use Rattle.kn_core.specs.Steps.{AddsNobody, ArePartsOfSettled, HasFewPods, IsAlone, IsReadyFor, IsWithinRange, ending_of, says_act, says_ruling, woken};
+ghost use Rattle.kn_core.specs.Changes.{AddsOwn, AddsRows, AddsWhere, CanEndRequests, CanReact, HasFewPods, IsAlone, IsInOrderAt, IsReadyFor, OnlyEnds, ending_of, says_act, says_ruling};
+ghost use Rattle.kn_core.specs.Scaling.{HearsOwn, HearsReady, IsNextInSome, SaysBeforeEnd};
+ghost use Rattle.kn_core.specs.State.{ArePartsOf, ArePartsOfSome, IsMeasuredAt};
+ghost use Rattle.kn_core.specs.Steps.{IsWithinRange};
 
 use super::Parts;
 use crate::scaling;
@@ -34,17 +27,11 @@ impl Parts {
     #[inline(always)]
     fn depart(&mut self, e: &Event, log: &mut EntryLog)
         requires some { ArePartsOfSome self.old }
-        requires few { HasFewPods self.old }
-        requires measured { IsMeasuredAt e.now.time self.old.scaler }
-        requires room { length log.old + length self.old.throttle.admission.live ≤ 65536 }
-        ensures logged { (s : SpecValue) (c : Trace) → ArePartsOf s self.old c → log.new ≡ log.old ++ departures s c e.now }
-        ensures stands { (s : SpecValue) (c : Trace) → ArePartsOf s self.old c → ArePartsOf s self.new (c ++ departures s c e.now) }
-        ensures nobody { AddsNobody e.now.time self.old.throttle self.new.throttle }
-        ensures created { self.new.pods.created ≡ self.old.pods.created }
+        requires can { CanEndRequests e.now.time self.old log.old }
+        ensures adds { AddsRows (λ s c. departures s c e.now) self.old self.new log.old log.new }
+        ensures ends { OnlyEnds e.now.time self.old self.new log.old log.new }
         ensures alone { IsAlone self.new.throttle.admission e.now.act }
         ensures few { HasFewPods self.new }
-        ensures measured { IsMeasuredAt e.now.time self.new.scaler }
-        ensures room { length log.new + length self.new.throttle.admission.live ≤ length log.old + length self.old.throttle.admission.live }
     {
         walk_laws();
         self.expire(e.time, log);
@@ -57,21 +44,14 @@ impl Parts {
         requires room { length log.old + 2 ≤ 65536 }
         requires some { IsReadyFor (λ s c. entries_of e.now.time (act_row s c e.now.act)) self.old }
         requires arrivals { self.old.throttle.admission.arrivals < 2 ^ 54 }
-        requires timed { AreTimed e.now.time self.old.throttle.admission }
+        requires order { IsInOrderAt e.now.time self.old }
         requires range { IsWithinRange e.now.act }
         requires alone { IsAlone self.old.throttle.admission e.now.act }
-        requires few { HasFewPods self.old }
-        requires measured { IsMeasuredAt e.now.time self.old.scaler }
         ensures row { (s : SpecValue) (c : Trace) → ArePartsOf s self.old c → act_row s c e.now.act ≡ result }
-        ensures logged { (s : SpecValue) (c : Trace) → ArePartsOf s self.old c → Holds (IsProper s) c (entries_of e.now.time result)
-            → log.new ≡ log.old ++ (entries_of e.now.time result ++ woken result e.now.time (c ++ entries_of e.now.time result)) }
-        ensures stands { (s : SpecValue) (c : Trace) → ArePartsOf s self.old c → Holds (IsProper s) c (entries_of e.now.time result)
-            → ArePartsOf s self.new ((c ++ entries_of e.now.time result) ++ woken result e.now.time (c ++ entries_of e.now.time result)) }
+        ensures adds { AddsOwn e.now.time result self.old self.new log.old log.new }
+        ensures order { IsInOrderAt e.now.time self.new }
         ensures spec { self.new.throttle.spec ≡ self.old.throttle.spec }
-        ensures timed { AreTimed e.now.time self.new.throttle.admission }
         ensures created { self.new.pods.created ≡ self.old.pods.created }
-        ensures few { HasFewPods self.new }
-        ensures measured { IsMeasuredAt e.now.time self.new.scaler }
         ensures most { length log.new ≤ length log.old + 2 }
     {
         row_laws();
@@ -90,8 +70,7 @@ impl Parts {
     /// hear of it, it says nothing.
     #[inline(always)]
     fn before_end(&self, r: Option<u64>) -> (Stand, bool)
-        ensures stand { (s : SpecValue) (c : Trace) (q : ℕ) → IsSome self.now.scaler → ArePartsOf s self.now c → r ≡ Some q → result.0 ≡ stand_of c q }
-        ensures proxied { (s : SpecValue) (c : Trace) (q : ℕ) → IsSome self.now.scaler → ArePartsOf s self.now c → r ≡ Some q → result.1 ≡ proxied c q }
+        ensures { SaysBeforeEnd r self.now result.0 result.1 }
     {
         match r {
             None => (Stand::Unknown, false),
@@ -112,9 +91,7 @@ impl Parts {
         requires room { length log.old < 65536 }
         ensures throttle { self.new.throttle ≡ self.old.throttle }
         ensures pods { self.new.pods ≡ self.old.pods }
-        ensures logged { (s : SpecValue) (c : Trace) → IsNextIn self.old.scaler row stand proxied s c → log.new ≡ log.old ++ woken (Some row) time (c ++ entry time row ∷ []) }
-        ensures scaler { (s : SpecValue) (c : Trace) → is_act_row row ≡ true → ArePodsOf self.old.pods (c ++ entry time row ∷ []) → IsNextIn self.old.scaler row stand proxied s c
-            → IsScalerOf s self.new.scaler ((c ++ entry time row ∷ []) ++ woken (Some row) time (c ++ entry time row ∷ [])) }
+        ensures hears { HearsOwn time row stand proxied self.old self.new log.old log.new }
         ensures measured { IsMeasuredAt time self.new.scaler }
         ensures most { length log.new ≤ length log.old + 1 }
     {
@@ -131,8 +108,7 @@ impl Parts {
         requires room { length log.old < 65536 }
         ensures throttle { self.new.throttle ≡ self.old.throttle }
         ensures pods { self.new.pods ≡ self.old.pods }
-        ensures logged { (s : SpecValue) (c : Trace) → IsScalerOf s self.old.scaler c → log.new ≡ log.old ++ where_true (is_same_phase phase.Activating (phase_of c)) (entry time (row.Phase phase.Active) ∷ []) }
-        ensures scaler { (s : SpecValue) (c : Trace) (p : ℕ) → ArePodsOf self.old.pods (c ++ entry time (row.Ready p) ∷ []) → IsScalerOf s self.old.scaler c → IsScalerOf s self.new.scaler (c ++ ready_rows time c p) }
+        ensures hears { HearsReady time self.old self.new log.old log.new }
         ensures measured { IsMeasuredAt time self.new.scaler }
         ensures most { length log.new ≤ length log.old + 1 }
     {
@@ -176,18 +152,10 @@ impl Parts {
     #[inline(always)]
     pub(crate) fn react(&mut self, e: &Event, limit: u64, log: &mut EntryLog, told: &mut Told)
         requires empty { log.old ≡ [] }
-        requires some { ArePartsOfSettled self.old }
-        requires ranges { AreInRange self.old.throttle.spec }
-        requires limit { limit ≡ self.old.throttle.spec.cc }
-        requires order { IsMeasuredBy e.now.time self.old.scaler }
+        requires can { CanReact limit e.now.time self.old }
         requires times { e.now.time ≤ 2 ^ 42 }
-        requires few { length self.old.throttle.admission.live ≤ 20000 }
-        requires arrivals { self.old.throttle.admission.arrivals < 2 ^ 54 }
-        requires timed { AreTimed e.now.time self.old.throttle.admission }
         requires range { IsWithinRange e.now.act }
-        requires created { self.old.pods.created + 500 ≤ 2 ^ 63 }
-        ensures logged { (s : SpecValue) (c : Trace) → ArePartsOf s self.old c → IsSettled s c → log.new ≡ react s c e.now }
-        ensures stands { (s : SpecValue) (c : Trace) → ArePartsOf s self.old c → IsSettled s c → ArePartsOf s self.new (c ++ react s c e.now) }
+        ensures adds { AddsWhere IsSettled (λ s c. react s c e.now) self.old self.new [] log.new }
         ensures told { (s : SpecValue) (c : Trace) → ArePartsOf s self.old c → IsSettled s c → told.new ≡ told_of s c e.now }
         ensures spec { self.new.throttle.spec ≡ self.old.throttle.spec }
         ensures timed { AreTimed e.now.time self.new.throttle.admission }

@@ -1,16 +1,12 @@
 //! What a revision opens with.
 ghost use Rattle.std.specs.Prelude.{◌≡◌, ◌+◌, ◌<◌, ◌≤◌, ◌^◌, [], ◌++◌, length, IfOk, OnOk, OnErr};
 ghost use Rattle.kn_event.specs.Revision.{AreInRange};
-ghost use Rattle.kn_event.specs.declared.revision.Spec.{Spec as SpecValue};
 ghost use Rattle.kn_trace.specs.Events.{opening, opening_phase};
-ghost use Rattle.kn_trace.specs.Scale.{opening_scale, scale_rows};
-ghost use Rattle.kn_trace.specs.Trace.{Trace};
-ghost use Rattle.kn_record.specs.Made.{StandsFor as IsRecordOf};
+ghost use Rattle.kn_trace.specs.Scale.{opening_scale};
 ghost use Rattle.kn_record.specs.Order.{AreTimed};
-ghost use Rattle.kn_pods.specs.Pods.{StandsFor as ArePodsOf};
-ghost use Rattle.kn_core.specs.Opening.{AreBeginning, AreBeginningOfSome, first_count, first_rows};
+ghost use Rattle.kn_core.specs.Changes.{AddsNobody};
+ghost use Rattle.kn_core.specs.Opening.{AreBeginningOfSome, Creates, first_count, first_rows};
 ghost use Rattle.kn_core.specs.State.{ArePartsOf, IsMeasuredAt};
-ghost use Rattle.kn_core.specs.Steps.{AddsNobody};
 
 use super::Parts;
 use crate::rows::follow_behind;
@@ -116,9 +112,7 @@ fn create(
     requires draining { length pods.old.draining ≤ 20000 }
     requires created { pods.old.created + 500 ≤ 2 ^ 63 }
     requires room { length log.old ≤ 65036 }
-    ensures logged { (s : SpecValue) (c : Trace) → AreBeginning s limit throttle.old.admission pods.old c → log.new ≡ log.old ++ scale_rows s time c count }
-    ensures admission { (s : SpecValue) (c : Trace) → AreBeginning s limit throttle.old.admission pods.old c → IsRecordOf throttle.new.admission (c ++ scale_rows s time c count) }
-    ensures pods { (s : SpecValue) (c : Trace) → AreBeginning s limit throttle.old.admission pods.old c → ArePodsOf pods.new (c ++ scale_rows s time c count) }
+    ensures creates { Creates limit count time throttle.old throttle.new pods.old pods.new log.old log.new }
     ensures nobody { AddsNobody time throttle.old throttle.new }
     ensures created { pods.new.created ≤ pods.old.created + 500 }
 {

@@ -1,7 +1,7 @@
 use Rattle.std.proofs.Common.{◌≡◌, ℕ, drop}
 use Rattle.kn_record.specs.Walks.{stepped_by}
 use Rattle.kn_core.specs.Following.{CanFollow}
-use Rattle.kn_core.specs.Steps.{AddsNobody}
+use Rattle.kn_core.specs.Changes.{AddsNobody}
 use Rattle.kn_core.proofs.rows.follow.Given as goal
 
 -- the entries left do what all of them do

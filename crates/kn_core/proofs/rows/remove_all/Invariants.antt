@@ -1,5 +1,5 @@
 use Rattle.std.proofs.Common.{◌≡◌, drop}
-use Rattle.kn_core.specs.Steps.{after_removals}
+use Rattle.kn_core.specs.Changes.{after_removals}
 use Rattle.kn_core.proofs.rows.remove_all.Given as goal
 
 -- the entries left take away what all of them do

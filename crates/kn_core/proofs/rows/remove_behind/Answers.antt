@@ -1,7 +1,7 @@
 use Rattle.std.proofs.Common.{◌≡◌, ◌∙◌, ◌-◌, sym, ap, arith, List, drop, length, length-drop}
 use Rattle.std.proofs.lemmas.List.{take_all}
 use Rattle.kn_event.specs.declared.entry.Entry.{Entry}
-use Rattle.kn_core.specs.Steps.{after_removals}
+use Rattle.kn_core.specs.Changes.{after_removals}
 use Rattle.kn_core.proofs.Lists.{none_left, none_removed}
 use Rattle.kn_core.proofs.rows.remove_behind.Goals as goal
 

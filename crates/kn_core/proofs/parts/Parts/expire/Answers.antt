@@ -7,19 +7,16 @@ use Rattle.kn_record.specs.Views.{due_in, is_due}
 use Rattle.kn_pods.specs.Pods.{PodsState}
 use Rattle.kn_throttle.specs.State.{State, with_row}
 use Rattle.kn_core.specs.State.{PartsState}
-use Rattle.kn_core.proofs.Ends.{live_by, nobody_by, nobody_yet, pods_by}
+use Rattle.kn_core.proofs.Adding.{ends_none}
+use Rattle.kn_core.proofs.Ends.{live_by, nobody_by, pods_by}
 use Rattle.kn_core.proofs.Lists.{first_ends}
-use Rattle.kn_core.proofs.After.{Measured, ended_more, leaves_all, leaves_logged, leaves_stands, ready_row}
+use Rattle.kn_core.proofs.After.{Measured, ended_more, leaves_adds, leaves_all, ready_row}
 use Rattle.kn_core.proofs.parts.Parts.expire.Goals as goal
 
 pub loop-r-init : goal.loop-r-init
 loop-r-init c = record {
   on = λ s d h proper. leaves_all s (expiries s c.args.time) d _ _ h proper;
-  nobody = nobody_yet c.args.time c.args.self.now.throttle;
-  created = refl;
-  pods = refl;
-  measured = c.requires.measured;
-  room = omega arith;
+  ends = ends_none c.args.time c.args.self.now c.args.log.now c.requires.can.measured;
 }
 
 pub measure-requires-clause-ends : goal.measure-requires-clause-ends
@@ -30,11 +27,11 @@ measure-requires-clause-some c =
     let t = c.args.time in
     let here = c.loop-r.self in
     let first : first_of (due_in here.throttle.spec.timeout_ms t here.throttle.admission.live) ≡ Some c.in-Some.r = sym (ap (λ (x : PartsState). first_of (due_in x.throttle.spec.timeout_ms t x.throttle.admission.live)) c.self.view_is) ∙ sym c.in-Some.ensures.value in
-    ready_row (λ s. expiries s c.args.time) c.args.self.now here c.args.log.now c.loop-r.log t (row.Expire c.in-Some.r) c.loop-r.invariant.nobody.spec c.loop-r.invariant.on
+    ready_row (λ s. expiries s c.args.time) c.args.self.now here c.args.log.now c.loop-r.log t (row.Expire c.in-Some.r) c.loop-r.invariant.ends.nobody.spec c.loop-r.invariant.on
     (λ s h parts. (c.walk_laws.ensures.expire s here.throttle.admission h t c.in-Some.r parts.admission (subst (λ (z : Spec). first_of (due_in z.timeout_ms t here.throttle.admission.live) ≡ Some c.in-Some.r) parts.spec first)).0) c.requires.some
 
 pub measure-requires-clause-few : goal.measure-requires-clause-few
-measure-requires-clause-few c = rw c.loop-r.invariant.pods c.requires.few
+measure-requires-clause-few c = rw c.loop-r.invariant.ends.pods c.requires.can.few
 
 pub loop-r-preserved : goal.loop-r-preserved
 loop-r-preserved c =
@@ -46,8 +43,8 @@ loop-r-preserved c =
     let m = subst (Measured t x here) (sym c.self-in-Some.view_is) (record {
       throttle = c.measure.ensures.throttle;
       pods = c.measure.ensures.pods;
-      measured = c.measure.ensures.measured t k.measured;
-      scaler = λ s d h proper. c.measure.ensures.scaler s d t k.measured refl h proper;
+      measured = c.measure.ensures.measured t k.ends.measured;
+      scaler = λ s d h proper. c.measure.ensures.scaler s d t k.ends.measured refl h proper;
     }) in
     let is : c.expire_next.result ≡ Some c.in-Some.r = c.expire_next.ensures.value ∙ ap (λ (y : State). first_of (due_in y.spec.timeout_ms t y.admission.live)) m.throttle ∙ first in
     let threw = subst (λ (o : Option ℕ). IfSome o (λ (q : ℕ). c.expire_next.new.self ≡ with_row t (row.Expire q) c.self-in-Some.inside.throttle)) is c.expire_next.ensures.after ∙ ap (with_row t x) m.throttle in
@@ -58,11 +55,13 @@ loop-r-preserved c =
           let l = k.on s d h proper in
           rw c.put.ensures
           (ended_more c.row_laws.ensures.made c.row_laws.ensures.stands s (expiries s c.args.time) (expiries s c.args.time) d here _ _ c.args.log.now c.loop-r.log t x refl l (c.walk_laws.ensures.expire s here.throttle.admission l.here t c.in-Some.r l.parts.admission (subst (λ (z : Spec). first_of (due_in z.timeout_ms t here.throttle.admission.live) ≡ Some c.in-Some.r) l.parts.spec first)) m threw refl refl);
-      nobody = nobody_by c.time_laws.ensures.step t x c.args.self.now.throttle here.throttle _ refl k.nobody threw;
-      created = ap (λ (p : PodsState). p.created) m.pods ∙ k.created;
-      pods = pods_by t x here.throttle _ threw ∙ k.pods;
-      measured = m.measured;
-      room = let room = k.room in rw c.put.ensures (omega (arith, length-append c.loop-r.log (entry t x ∷ []), fewer, ended, room));
+      ends = record {
+        nobody = nobody_by c.time_laws.ensures.step t x c.args.self.now.throttle here.throttle _ refl k.ends.nobody threw;
+        created = ap (λ (p : PodsState). p.created) m.pods ∙ k.ends.created;
+        pods = pods_by t x here.throttle _ threw ∙ k.ends.pods;
+        measured = m.measured;
+        room = let room = k.ends.room in rw c.put.ensures (omega (arith, length-append c.loop-r.log (entry t x ∷ []), fewer, ended, room));
+      };
     }
 
 pub loop-r-smaller : goal.loop-r-smaller
@@ -78,18 +77,9 @@ loop-r-smaller c =
     let ended = ap length (live_by t x here.throttle _ threw) in
     omega (arith, fewer, ended)
 
-pub returns-clause-logged : goal.returns-clause-logged
-returns-clause-logged c = λ s d h proper.
-    let t = c.args.time in
+pub returns-clause-adds : goal.returns-clause-adds
+returns-clause-adds c =
     let here = c.loop-r.self in
-    let l = c.loop-r.invariant.on s d h proper in
-    let first : first_of (due_in here.throttle.spec.timeout_ms t here.throttle.admission.live) ≡ None = sym (ap (λ (x : PartsState). first_of (due_in x.throttle.spec.timeout_ms t x.throttle.admission.live)) c.self.view_is) ∙ sym c.in_default.ensures.value in
-    leaves_logged s (expiries s c.args.time) (expiries s c.args.time) d here c.args.log.now c.loop-r.log l (c.walk_laws.ensures.expired s here.throttle.admission l.here t l.parts.admission (subst (λ (z : Spec). first_of (due_in z.timeout_ms t here.throttle.admission.live) ≡ None) l.parts.spec first))
-
-pub returns-clause-stands : goal.returns-clause-stands
-returns-clause-stands c = λ s d h proper.
-    let t = c.args.time in
-    let here = c.loop-r.self in
-    let l = c.loop-r.invariant.on s d h proper in
-    let first : first_of (due_in here.throttle.spec.timeout_ms t here.throttle.admission.live) ≡ None = sym (ap (λ (x : PartsState). first_of (due_in x.throttle.spec.timeout_ms t x.throttle.admission.live)) c.self.view_is) ∙ sym c.in_default.ensures.value in
-    leaves_stands s (expiries s c.args.time) (expiries s c.args.time) d here c.args.log.now c.loop-r.log l (c.walk_laws.ensures.expired s here.throttle.admission l.here t l.parts.admission (subst (λ (z : Spec). first_of (due_in z.timeout_ms t here.throttle.admission.live) ≡ None) l.parts.spec first))
+    let first : first_of (due_in here.throttle.spec.timeout_ms c.args.time here.throttle.admission.live) ≡ None = sym (ap (λ (x : PartsState). first_of (due_in x.throttle.spec.timeout_ms c.args.time x.throttle.admission.live)) c.self.view_is) ∙ sym c.in_default.ensures.value in
+    leaves_adds (λ s. expiries s c.args.time) c.args.self.now here c.args.log.now c.loop-r.log c.loop-r.invariant.on
+    (λ s h parts. c.walk_laws.ensures.expired s here.throttle.admission h c.args.time parts.admission (subst (λ (z : Spec). first_of (due_in z.timeout_ms c.args.time here.throttle.admission.live) ≡ None) parts.spec first))

@@ -1,10 +1,10 @@
-use Rattle.std.proofs.Common.{◌≡◌, ◌+◌, ◌≤◌, length}
+use Rattle.std.proofs.Common.{length}
 use Rattle.kn_event.specs.declared.revision.Spec.{Spec}
 use Rattle.kn_trace.specs.Trace.{Trace}
 use Rattle.kn_record.specs.Made.{Holds, IsProper}
 use Rattle.kn_record.specs.Walks.{losing}
-use Rattle.kn_core.specs.State.{ArePartsOf, IsMeasuredAt}
-use Rattle.kn_core.specs.Steps.{AddsNobody, LeavesParts}
+use Rattle.kn_core.specs.State.{ArePartsOf}
+use Rattle.kn_core.specs.Changes.{LeavesParts, OnlyEnds}
 use Rattle.kn_core.proofs.parts.Parts.lose_all.Given as goal
 
 abbrev pub decreases-loop-r : goal.decreases-loop-r
@@ -14,9 +14,5 @@ decreases-loop-r l = length l.self.throttle.admission.live
 abbrev pub invariant-loop-r : goal.invariant-loop-r
 invariant-loop-r l = record {
   on : (s : Spec) (c : Trace) → ArePartsOf s l.fn.self c → Holds (IsProper s) c (losing l.time l.p c) → LeavesParts s (losing l.time l.p) (losing l.time l.p) c l.self l.fn.log l.log;
-  nobody : AddsNobody l.time l.fn.self.throttle l.self.throttle;
-  created : l.self.pods.created ≡ l.fn.self.pods.created;
-  pods : l.self.throttle.admission.pods ≡ l.fn.self.throttle.admission.pods;
-  measured : IsMeasuredAt l.time l.self.scaler;
-  room : length l.log + length l.self.throttle.admission.live ≤ length l.fn.log + length l.fn.self.throttle.admission.live;
+  ends : OnlyEnds l.time l.fn.self l.self l.fn.log l.log;
 }

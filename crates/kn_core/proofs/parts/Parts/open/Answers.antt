@@ -33,8 +33,8 @@ returns-clause-stands c =
     record {
       spec = c.create.ensures.nobody.spec ∙ ap (λ (y : State). y.spec) c.in_ok-throttle.ensures;
       made = c.step_laws.ensures.opening s c.args.start;
-      admission = subst (IsRecordOf c.create.new.throttle.admission) (sym rows) (c.create.ensures.admission s (first_rows s.kind s c.args.start) b);
-      pods = subst (ArePodsOf c.create.new.pods) (sym rows) (c.create.ensures.pods s (first_rows s.kind s c.args.start) b);
+      admission = subst (IsRecordOf c.create.new.throttle.admission) (sym rows) (c.create.ensures.creates.admission s (first_rows s.kind s c.args.start) b);
+      pods = subst (ArePodsOf c.create.new.pods) (sym rows) (c.create.ensures.creates.pods s (first_rows s.kind s c.args.start) b);
       scaler = c.in_ok-scaler.ensures.stands;
     }
 
@@ -49,6 +49,6 @@ returns-clause-logged c =
     let s = c.args.spec.now in
     let b = beginning c.append_laws.ensures.nothing c.append_laws.ensures.append c.row_laws.ensures.stands s c.args.start _ _ _ (rw (← c.spec.view_is) c.spec.invariant.ranges) (ap (λ (x : Spec). x.cc) (sym c.spec.view_is)) (ap (λ (y : State). y.admission) c.in_ok-throttle.ensures) c.in_ok-pods.ensures in
     let rows = opening_rows s c.args.start _ _ c.count_of-count.ensures.value c.in_ok-pods.ensures b.pods in
-    c.create.ensures.logged s (first_rows s.kind s c.args.start) b
+    c.create.ensures.creates.logged s (first_rows s.kind s c.args.start) b
     ∙ ap (λ (es : List Entry). es ++ scale_rows s c.args.start (first_rows s.kind s c.args.start) c.count_of-count.result) (c.begin.ensures ∙ ap (λ (es : List Entry). es ++ first_rows s.kind s c.args.start) c.requires.empty)
     ∙ sym rows

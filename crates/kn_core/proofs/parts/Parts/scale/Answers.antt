@@ -8,7 +8,7 @@ use Rattle.kn_record.specs.Admission.{is_draining_now, pods_in}
 use Rattle.kn_record.specs.Made.{StandsFor}
 use Rattle.kn_record.specs.Walks.{stepped_by}
 use Rattle.kn_throttle.specs.State as throttle
-use Rattle.kn_core.specs.Following.{CanFollow}
+use Rattle.kn_core.specs.Following.{CanFollow, after_scale}
 use Rattle.kn_core.proofs.Lists.{behind}
 use Rattle.kn_core.proofs.Scaled.{made_behind, scale_few, scale_follows, scaler_quiet, stepped_created}
 use Rattle.kn_core.proofs.parts.Parts.scale.Goals as goal
@@ -18,7 +18,7 @@ follow_behind-requires-clause-first c =
     rw c.entries-before.ensures
     (∥∥₁_elim (rw (← c.self.view_is) at c.requires.some) le_prop
     (λ h.
-    let logged = c.apply.ensures.logged c.self.inside.throttle.spec h.0 h.2.made h.2.pods (sym (rw (← c.self.view_is) at c.requires.limit)) in
+    let logged = c.apply.ensures.logged c.self.inside.throttle.spec h.0 h.2.made h.2.pods (sym (rw (← c.self.view_is) at c.requires.can.limit)) in
     rw logged (omega (arith, length-append c.args.log.now (scale_rows c.self.inside.throttle.spec c.args.time h.0 c.args.want)))))
 
 pub follow_behind-requires-clause-can : goal.follow_behind-requires-clause-can
@@ -29,59 +29,57 @@ follow_behind-requires-clause-can c =
     let s = c.self.inside.throttle.spec in
     let t = c.args.time in
     let a = c.self.inside.throttle.admission in
-    let cc = sym (rw (← c.self.view_is) at c.requires.limit) in
+    let cc = sym (rw (← c.self.view_is) at c.requires.can.limit) in
     let v = c.append_laws.ensures.views s a h.0 h.2.admission in
     let proper = made_behind s h.0 (scale_rows s t h.0 c.args.want) (c.apply.ensures.made s h.0 h.2.made h.2.pods cc) in
     let added = behind c.args.log.now (scale_rows s t h.0 c.args.want) c.apply.new.log (c.apply.ensures.logged s h.0 h.2.made h.2.pods cc) in
-    let numbers : a.created + 500 ≤ 2 ^ 63 = rw (sym v.created, sym h.2.pods.created) (rw (← c.self.view_is) at c.requires.created) in
-    let draining : length (pods_in is_draining_now a.pods) ≤ 20000 = rw (sym v.draining, sym h.2.pods.draining) (rw (← c.self.view_is) at c.requires.draining) in
+    let numbers : a.created + 500 ≤ 2 ^ 63 = rw (sym v.created, sym h.2.pods.created) (rw (← c.self.view_is) at c.requires.can.created) in
+    let draining : length (pods_in is_draining_now a.pods) ≤ 20000 = rw (sym v.draining, sym h.2.pods.draining) (rw (← c.self.view_is) at c.requires.can.draining) in
     subst (CanFollow a) (sym added)
     (scale_follows c.row_laws.ensures.made c.append_laws.ensures.append c.append_laws.ensures.views s h.1 (c.walk_laws.ensures.rows s) a h.0 t c.args.want c.requires.want numbers draining h.2.admission proper)))
 
-pub returns-clause-created : goal.returns-clause-created
-returns-clause-created c =
-    rw (← c.self.view_is)
-    (∥∥₁_elim (rw (← c.self.view_is) at c.requires.some) le_prop
-    (λ h.
-    let s = c.self.inside.throttle.spec in
-    let a = c.self.inside.throttle.admission in
-    let es : List Entry = scale_rows s c.args.time h.0 c.args.want in
-    let cc = sym (rw (← c.self.view_is) at c.requires.limit) in
-    let proper = made_behind s h.0 es (c.apply.ensures.made s h.0 h.2.made h.2.pods cc) in
-    let after = (c.apply.ensures.stands s h.0 h.2.made h.2.pods cc).created ∙ (c.append_laws.ensures.views s (stepped_by es a) (h.0 ++ es) (c.walk_laws.ensures.rows s a h.0 es h.2.admission proper)).created in
-    let before = h.2.pods.created ∙ (c.append_laws.ensures.views s a h.0 h.2.admission).created in
-    let few = scale_few s c.args.time h.0 c.args.want c.requires.want (c.size_laws.ensures.standing s h.0 h.1 h.2.made) in
-    omega (arith, after, before, few, stepped_created es a)))
+pub returns-clause-scales : goal.returns-clause-scales
+returns-clause-scales c = record {
+  nobody = rw (← c.self.view_is) (c.follow_behind.ensures.nobody c.args.time);
+  created =
+      rw (← c.self.view_is)
+      (∥∥₁_elim (rw (← c.self.view_is) at c.requires.some) le_prop
+      (λ h.
+      let s = c.self.inside.throttle.spec in
+      let a = c.self.inside.throttle.admission in
+      let es : List Entry = scale_rows s c.args.time h.0 c.args.want in
+      let cc = sym (rw (← c.self.view_is) at c.requires.can.limit) in
+      let proper = made_behind s h.0 es (c.apply.ensures.made s h.0 h.2.made h.2.pods cc) in
+      let after = (c.apply.ensures.stands s h.0 h.2.made h.2.pods cc).created ∙ (c.append_laws.ensures.views s (stepped_by es a) (h.0 ++ es) (c.walk_laws.ensures.rows s a h.0 es h.2.admission proper)).created in
+      let before = h.2.pods.created ∙ (c.append_laws.ensures.views s a h.0 h.2.admission).created in
+      let few = scale_few s c.args.time h.0 c.args.want c.requires.want (c.size_laws.ensures.standing s h.0 h.1 h.2.made) in
+      omega (arith, after, before, few, stepped_created es a)));
+  most =
+      ∥∥₁_elim (rw (← c.self.view_is) at c.requires.some) le_prop
+      (λ h.
+      let s = c.self.inside.throttle.spec in
+      let logged = c.apply.ensures.logged s h.0 h.2.made h.2.pods (sym (rw (← c.self.view_is) at c.requires.can.limit)) in
+      let few = scale_few s c.args.time h.0 c.args.want c.requires.want (c.size_laws.ensures.standing s h.0 h.1 h.2.made) in
+      rw logged (omega (arith, few, length-append c.args.log.now (scale_rows s c.args.time h.0 c.args.want))));
+}
 
-pub returns-clause-nobody : goal.returns-clause-nobody
-returns-clause-nobody c = rw (← c.self.view_is) (c.follow_behind.ensures.nobody c.args.time)
-
-pub returns-clause-most : goal.returns-clause-most
-returns-clause-most c =
-    ∥∥₁_elim (rw (← c.self.view_is) at c.requires.some) le_prop
-    (λ h.
-    let s = c.self.inside.throttle.spec in
-    let logged = c.apply.ensures.logged s h.0 h.2.made h.2.pods (sym (rw (← c.self.view_is) at c.requires.limit)) in
-    let few = scale_few s c.args.time h.0 c.args.want c.requires.want (c.size_laws.ensures.standing s h.0 h.1 h.2.made) in
-    rw logged (omega (arith, few, length-append c.args.log.now (scale_rows s c.args.time h.0 c.args.want))))
-
-pub returns-clause-logged : goal.returns-clause-logged
-returns-clause-logged c = rw (← c.self.view_is) (λ s d h. c.apply.ensures.logged s d h.made h.pods (ap (λ (z : Spec). z.cc) (sym h.spec) ∙ sym (rw (← c.self.view_is) at c.requires.limit)))
-
-pub returns-clause-stands : goal.returns-clause-stands
-returns-clause-stands c = rw (← c.self.view_is) (λ s d h.
-    let t = c.args.time in
-    let cc = ap (λ (z : Spec). z.cc) (sym h.spec) ∙ sym (rw (← c.self.view_is) at c.requires.limit) in
-    let made = c.apply.ensures.made s d h.made h.pods cc in
-    let proper = made_behind s d (scale_rows s t d c.args.want) made in
-    let logged = c.apply.ensures.logged s d h.made h.pods cc in
-    let gone = rw c.entries-before.ensures at c.follow_behind.ensures.all in
-    let added = behind c.args.log.now (scale_rows s t d c.args.want) c.apply.new.log logged in
-    let threw = gone ∙ ap (λ (es : List Entry). record c.self.inside.throttle { admission = stepped_by es c.self.inside.throttle.admission }) added in
-    record {
-      spec = ap (λ (y : throttle.State). y.spec) threw ∙ h.spec;
-      made = made;
-      admission = subst (λ (y : throttle.State). StandsFor y.admission (d ++ scale_rows s t d c.args.want)) (sym threw) (c.walk_laws.ensures.rows s c.self.inside.throttle.admission d (scale_rows s t d c.args.want) h.admission proper);
-      pods = c.apply.ensures.stands s d h.made h.pods cc;
-      scaler = scaler_quiet c.quiet_laws.ensures s c.self.inside.scaler t d (scale_rows s t d c.args.want) (rw (← c.self.view_is) at c.requires.measured) h.made proper (c.kind_laws.ensures.scale_at s t d c.args.want) (c.kind_laws.ensures.scale s t d c.args.want) h.scaler;
-    })
+pub returns-clause-adds : goal.returns-clause-adds
+returns-clause-adds c = rw (← c.self.view_is) (record {
+  logged = λ s d h is. c.apply.ensures.logged s d h.made h.pods (ap (λ (z : Spec). z.cc) (sym h.spec) ∙ sym (rw (← c.self.view_is) at c.requires.can.limit));
+  stands = λ s d h is.
+      let t = c.args.time in
+      let cc = ap (λ (z : Spec). z.cc) (sym h.spec) ∙ sym (rw (← c.self.view_is) at c.requires.can.limit) in
+      let made = c.apply.ensures.made s d h.made h.pods cc in
+      let proper = made_behind s d (scale_rows s t d c.args.want) made in
+      let logged = c.apply.ensures.logged s d h.made h.pods cc in
+      let gone = rw c.entries-before.ensures at c.follow_behind.ensures.all in
+      let added = behind c.args.log.now (scale_rows s t d c.args.want) c.apply.new.log logged in
+      let threw = gone ∙ ap (λ (es : List Entry). after_scale es c.self.inside.throttle) added in
+      record {
+        spec = ap (λ (y : throttle.State). y.spec) threw ∙ h.spec;
+        made = made;
+        admission = subst (λ (y : throttle.State). StandsFor y.admission (d ++ scale_rows s t d c.args.want)) (sym threw) (c.walk_laws.ensures.rows s c.self.inside.throttle.admission d (scale_rows s t d c.args.want) h.admission proper);
+        pods = c.apply.ensures.stands s d h.made h.pods cc;
+        scaler = scaler_quiet c.quiet_laws.ensures s c.self.inside.scaler t d (scale_rows s t d c.args.want) (rw (← c.self.view_is) at c.requires.can.measured) h.made proper (c.kind_laws.ensures.scale_at s t d c.args.want) (c.kind_laws.ensures.scale s t d c.args.want) h.scaler;
+      };
+})

@@ -8,7 +8,7 @@ use Rattle.kn_record.specs.Made.{StandsFor}
 use Rattle.kn_pods.specs.Pods.{PodsState}
 use Rattle.kn_core.specs.State.{ArePartsOf, IsScalerOf, PartsState}
 use Rattle.kn_core.specs.Scaling.{AreNextIn}
-use Rattle.kn_core.specs.Steps.{after_removals}
+use Rattle.kn_core.specs.Changes.{after_removals}
 use Rattle.kn_core.proofs.Created.{removals_created}
 use Rattle.kn_core.proofs.Lists.{behind}
 use Rattle.kn_core.proofs.Settled.{parts_settled, settled_next, settled_next_some}
@@ -42,19 +42,22 @@ rows_behind-requires-clause-next c =
 pub returns-clause-logged : goal.returns-clause-logged
 returns-clause-logged c = rw (← c.self.view_is) (λ s d h. subst (λ (z : Spec). c.settle.new.log ≡ c.args.log.now ++ settling z c.args.time d) h.spec (c.settle.ensures.logged d h.admission))
 
-pub returns-clause-stands : goal.returns-clause-stands
-returns-clause-stands c = rw (← c.self.view_is) (λ s d h proper.
-    let t = c.args.time in
-    let here = subst (λ (z : Spec). StandsFor c.settle.new.self.admission (d ++ settling z t d)) h.spec (c.settle.ensures.stands d h.admission) in
-    let logged = subst (λ (z : Spec). c.settle.new.log ≡ c.args.log.now ++ settling z t d) h.spec (c.settle.ensures.logged d h.admission) in
-    let gone = rw c.entries-before.ensures at c.remove_behind.ensures in
-    let added = behind c.args.log.now (settling s t d) c.settle.new.log logged in
-    let pods = gone ∙ ap (λ (es : List Entry). after_removals es c.self.inside.pods) added in
-    let heard = rw c.entries-before.ensures at (c.rows_behind.ensures.stands s d) in
-    let next = settled_next _ t (settling s t d) s d (rw (← c.self.view_is) at c.requires.measured) (c.kind_laws.ensures.settling s t d) (c.kind_laws.ensures.settling_at s t d) proper h in
-    let scaler = subst (λ (es : List Entry). IsScalerOf s c.rows_behind.new.scaler (d ++ es)) added (heard (subst (λ (es : List Entry). AreNextIn c.self.inside.scaler es s d) (sym added) next)) in
-    parts_settled c.row_laws.ensures.made c.row_laws.ensures.stands s d (settling s t d) _ _
-    (c.kind_laws.ensures.settling s t d) proper pods c.settle.ensures.spec here scaler h)
+pub returns-clause-adds : goal.returns-clause-adds
+returns-clause-adds c = rw (← c.self.view_is) (record {
+  logged = λ s d h proper. subst (λ (z : Spec). c.settle.new.log ≡ c.args.log.now ++ settling z c.args.time d) h.spec (c.settle.ensures.logged d h.admission);
+  stands = λ s d h proper.
+      let t = c.args.time in
+      let here = subst (λ (z : Spec). StandsFor c.settle.new.self.admission (d ++ settling z t d)) h.spec (c.settle.ensures.stands d h.admission) in
+      let logged = subst (λ (z : Spec). c.settle.new.log ≡ c.args.log.now ++ settling z t d) h.spec (c.settle.ensures.logged d h.admission) in
+      let gone = rw c.entries-before.ensures at c.remove_behind.ensures in
+      let added = behind c.args.log.now (settling s t d) c.settle.new.log logged in
+      let pods = gone ∙ ap (λ (es : List Entry). after_removals es c.self.inside.pods) added in
+      let heard = rw c.entries-before.ensures at (c.rows_behind.ensures.stands s d) in
+      let next = settled_next _ t (settling s t d) s d (rw (← c.self.view_is) at c.requires.measured) (c.kind_laws.ensures.settling s t d) (c.kind_laws.ensures.settling_at s t d) proper h in
+      let scaler = subst (λ (es : List Entry). IsScalerOf s c.rows_behind.new.scaler (d ++ es)) added (heard (subst (λ (es : List Entry). AreNextIn c.self.inside.scaler es s d) (sym added) next)) in
+      parts_settled c.row_laws.ensures.made c.row_laws.ensures.stands s d (settling s t d) _ _
+      (c.kind_laws.ensures.settling s t d) proper pods c.settle.ensures.spec here scaler h;
+})
 
 pub returns-clause-nobody : goal.returns-clause-nobody
 returns-clause-nobody c = rw (← c.self.view_is) (record { spec = c.settle.ensures.spec; arrivals = c.settle.ensures.nobody.arrivals; timed = c.settle.ensures.nobody.timed c.args.time })

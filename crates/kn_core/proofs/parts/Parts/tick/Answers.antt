@@ -35,9 +35,9 @@ rule-requires-clause-some c =
     let mid : PartsState = record { throttle = c.self.inside.throttle; pods = c.self.inside.pods; scaler = c.tick.new.scaler } in
     let ruled = c.in-Some-Some.ruled in
     let ready = sym (c.count_ready-ready.ensures.trace d h.pods) in
-    let e = sym c.in-Some-Some.field-0-is ∙ c.in-Some-Some.ensures.ruled s d ready h.scaler in
-    let dec = tick_decides c.row_laws-2.ensures.split s d t ruled (c.in-Some-Some.ensures.kind s d h.scaler) e in
-    let k = decides_mid c.row_laws.ensures.made c.row_laws.ensures.stands c.walk_laws.ensures.rows s d t ruled _ _ dec x mid proper refl refl (c.in-Some-Some.ensures.stands s d ready h.scaler) h in
+    let e = sym c.in-Some-Some.field-0-is ∙ c.in-Some-Some.ensures.some.ruled s d ready h.scaler in
+    let dec = tick_decides c.row_laws-2.ensures.split s d t ruled (c.in-Some-Some.ensures.some.kind s d h.scaler) e in
+    let k = decides_mid c.row_laws.ensures.made c.row_laws.ensures.stands c.walk_laws.ensures.rows s d t ruled _ _ dec x mid proper refl refl (c.in-Some-Some.ensures.some.stands s d ready h.scaler) h in
     (_, rw (← c.self.view_is) at c.requires.ranges, k))
 
 pub rule-requires-clause-want : goal.rule-requires-clause-want
@@ -53,33 +53,33 @@ rule-requires-clause-want c =
     let mid : PartsState = record { throttle = c.self.inside.throttle; pods = c.self.inside.pods; scaler = c.tick.new.scaler } in
     let ruled = c.in-Some-Some.ruled in
     let ready = sym (c.count_ready-ready.ensures.trace d h.pods) in
-    let e = sym c.in-Some-Some.field-0-is ∙ c.in-Some-Some.ensures.ruled s d ready h.scaler in
-    let dec = tick_decides c.row_laws-2.ensures.split s d t ruled (c.in-Some-Some.ensures.kind s d h.scaler) e in
+    let e = sym c.in-Some-Some.field-0-is ∙ c.in-Some-Some.ensures.some.ruled s d ready h.scaler in
+    let dec = tick_decides c.row_laws-2.ensures.split s d t ruled (c.in-Some-Some.ensures.some.kind s d h.scaler) e in
     decides_want c.row_laws.ensures.made c.row_laws.ensures.stands c.walk_laws.ensures.rows s d t ruled _ _ dec x mid (rw (← c.self.view_is) at c.requires.ranges) proper)
 
-pub returns-in-Some-Some-clause-logged : goal.returns-in-Some-Some-clause-logged
-returns-in-Some-Some-clause-logged c = rw (← c.self.view_is) (λ s d h proper.
-    let t = c.args.time in
-    let x : PartsState = record { throttle = c.self.inside.throttle; pods = c.self.inside.pods; scaler = c.self.inside.scaler } in
-    let mid : PartsState = record { throttle = c.self.inside.throttle; pods = c.self.inside.pods; scaler = c.tick.new.scaler } in
-    let ruled = c.in-Some-Some.ruled in
-    let ready = sym (c.count_ready-ready.ensures.trace d h.pods) in
-    let e = sym c.in-Some-Some.field-0-is ∙ c.in-Some-Some.ensures.ruled s d ready h.scaler in
-    let dec = tick_decides c.row_laws-2.ensures.split s d t ruled (c.in-Some-Some.ensures.kind s d h.scaler) e in
-    let k = decides_mid c.row_laws.ensures.made c.row_laws.ensures.stands c.walk_laws.ensures.rows s d t ruled _ _ dec x mid proper refl refl (c.in-Some-Some.ensures.stands s d ready h.scaler) h in
-    decides_logged c.row_laws.ensures.made c.row_laws.ensures.stands c.walk_laws.ensures.rows s d t ruled _ _ dec x mid c.args.log.now c.rule.new.log h k refl (c.rule.ensures.logged s _ k))
-
-pub returns-in-Some-Some-clause-stands : goal.returns-in-Some-Some-clause-stands
-returns-in-Some-Some-clause-stands c = rw (← c.self.view_is) (λ s d h proper.
-    let t = c.args.time in
-    let x : PartsState = record { throttle = c.self.inside.throttle; pods = c.self.inside.pods; scaler = c.self.inside.scaler } in
-    let mid : PartsState = record { throttle = c.self.inside.throttle; pods = c.self.inside.pods; scaler = c.tick.new.scaler } in
-    let ruled = c.in-Some-Some.ruled in
-    let ready = sym (c.count_ready-ready.ensures.trace d h.pods) in
-    let e = sym c.in-Some-Some.field-0-is ∙ c.in-Some-Some.ensures.ruled s d ready h.scaler in
-    let dec = tick_decides c.row_laws-2.ensures.split s d t ruled (c.in-Some-Some.ensures.kind s d h.scaler) e in
-    let k = decides_mid c.row_laws.ensures.made c.row_laws.ensures.stands c.walk_laws.ensures.rows s d t ruled _ _ dec x mid proper refl refl (c.in-Some-Some.ensures.stands s d ready h.scaler) h in
-    decides_stands c.row_laws.ensures.made c.row_laws.ensures.stands c.walk_laws.ensures.rows s d t ruled _ _ dec x mid c.rule.new.self h k refl (c.rule.ensures.stands s _ k))
+pub returns-in-Some-Some-clause-adds : goal.returns-in-Some-Some-clause-adds
+returns-in-Some-Some-clause-adds c = rw (← c.self.view_is) (record {
+  logged = λ s d h proper.
+      let t = c.args.time in
+      let x : PartsState = record { throttle = c.self.inside.throttle; pods = c.self.inside.pods; scaler = c.self.inside.scaler } in
+      let mid : PartsState = record { throttle = c.self.inside.throttle; pods = c.self.inside.pods; scaler = c.tick.new.scaler } in
+      let ruled = c.in-Some-Some.ruled in
+      let ready = sym (c.count_ready-ready.ensures.trace d h.pods) in
+      let e = sym c.in-Some-Some.field-0-is ∙ c.in-Some-Some.ensures.some.ruled s d ready h.scaler in
+      let dec = tick_decides c.row_laws-2.ensures.split s d t ruled (c.in-Some-Some.ensures.some.kind s d h.scaler) e in
+      let k = decides_mid c.row_laws.ensures.made c.row_laws.ensures.stands c.walk_laws.ensures.rows s d t ruled _ _ dec x mid proper refl refl (c.in-Some-Some.ensures.some.stands s d ready h.scaler) h in
+      decides_logged c.row_laws.ensures.made c.row_laws.ensures.stands c.walk_laws.ensures.rows s d t ruled _ _ dec x mid c.args.log.now c.rule.new.log h k refl (c.rule.ensures.adds.logged s _ k tt);
+  stands = λ s d h proper.
+      let t = c.args.time in
+      let x : PartsState = record { throttle = c.self.inside.throttle; pods = c.self.inside.pods; scaler = c.self.inside.scaler } in
+      let mid : PartsState = record { throttle = c.self.inside.throttle; pods = c.self.inside.pods; scaler = c.tick.new.scaler } in
+      let ruled = c.in-Some-Some.ruled in
+      let ready = sym (c.count_ready-ready.ensures.trace d h.pods) in
+      let e = sym c.in-Some-Some.field-0-is ∙ c.in-Some-Some.ensures.some.ruled s d ready h.scaler in
+      let dec = tick_decides c.row_laws-2.ensures.split s d t ruled (c.in-Some-Some.ensures.some.kind s d h.scaler) e in
+      let k = decides_mid c.row_laws.ensures.made c.row_laws.ensures.stands c.walk_laws.ensures.rows s d t ruled _ _ dec x mid proper refl refl (c.in-Some-Some.ensures.some.stands s d ready h.scaler) h in
+      decides_stands c.row_laws.ensures.made c.row_laws.ensures.stands c.walk_laws.ensures.rows s d t ruled _ _ dec x mid c.rule.new.self h k refl (c.rule.ensures.adds.stands s _ k tt);
+})
 
 pub returns-in-Some-Some-clause-row : goal.returns-in-Some-Some-clause-row
 returns-in-Some-Some-clause-row c = rw (← c.self.view_is) (λ s d h.
@@ -88,30 +88,38 @@ returns-in-Some-Some-clause-row c = rw (← c.self.view_is) (λ s d h.
     let mid : PartsState = record { throttle = c.self.inside.throttle; pods = c.self.inside.pods; scaler = c.tick.new.scaler } in
     let ruled = c.in-Some-Some.ruled in
     let ready = sym (c.count_ready-ready.ensures.trace d h.pods) in
-    let e = sym c.in-Some-Some.field-0-is ∙ c.in-Some-Some.ensures.ruled s d ready h.scaler in
-    let dec = tick_decides c.row_laws-2.ensures.split s d t ruled (c.in-Some-Some.ensures.kind s d h.scaler) e in
+    let e = sym c.in-Some-Some.field-0-is ∙ c.in-Some-Some.ensures.some.ruled s d ready h.scaler in
+    let dec = tick_decides c.row_laws-2.ensures.split s d t ruled (c.in-Some-Some.ensures.some.kind s d h.scaler) e in
     sym (decides_first c.row_laws.ensures.made c.row_laws.ensures.stands c.walk_laws.ensures.rows s d t ruled _ _ dec x mid))
 
-pub returns-in-Some-None-clause-logged : goal.returns-in-Some-None-clause-logged
-returns-in-Some-None-clause-logged c = rw (← c.self.view_is) (λ s d h proper.
-    let t = c.args.time in
-    let ready = sym (c.count_ready-ready.ensures.trace d h.pods) in
-    let nd = no_data s d t (c.in-Some-None.ensures.kind s d h.scaler) (sym c.in-Some-None.field-0-is ∙ c.in-Some-None.ensures.ruled s d ready h.scaler) in
-    rw nd.1 c.put.ensures)
-
-pub returns-in-Some-None-clause-stands : goal.returns-in-Some-None-clause-stands
-returns-in-Some-None-clause-stands c = rw (← c.self.view_is) (λ s d h proper.
-    let t = c.args.time in
-    let ready = sym (c.count_ready-ready.ensures.trace d h.pods) in
-    let nd = no_data s d t (c.in-Some-None.ensures.kind s d h.scaler) (sym c.in-Some-None.field-0-is ∙ c.in-Some-None.ensures.ruled s d ready h.scaler) in
-    let x : PartsState = record { throttle = c.self.inside.throttle; pods = c.self.inside.pods; scaler = c.self.inside.scaler } in
-    let mid : PartsState = record { throttle = c.self.inside.throttle; pods = c.self.inside.pods; scaler = c.tick.new.scaler } in
-    let scaler = subst (λ (o : Option Ruling). IsScalerOf s c.tick.new.scaler (d ++ tick_rulings t d o)) nd.0 (c.in-Some-None.ensures.stands s d ready h.scaler) in
-    rw nd.1 (parts_ruled c.row_laws.ensures.made c.row_laws.ensures.stands c.walk_laws.ensures.rows s d (entry t row.NoData ∷ []) x mid (refl, tt) (tt, tt) refl refl scaler h))
+pub returns-in-Some-None-clause-adds : goal.returns-in-Some-None-clause-adds
+returns-in-Some-None-clause-adds c = rw (← c.self.view_is) (record {
+  logged = λ s d h proper.
+      let t = c.args.time in
+      let ready = sym (c.count_ready-ready.ensures.trace d h.pods) in
+      let nd = no_data s d t (c.in-Some-None.ensures.some.kind s d h.scaler) (sym c.in-Some-None.field-0-is ∙ c.in-Some-None.ensures.some.ruled s d ready h.scaler) in
+      rw nd.1 c.put.ensures;
+  stands = λ s d h proper.
+      let t = c.args.time in
+      let ready = sym (c.count_ready-ready.ensures.trace d h.pods) in
+      let nd = no_data s d t (c.in-Some-None.ensures.some.kind s d h.scaler) (sym c.in-Some-None.field-0-is ∙ c.in-Some-None.ensures.some.ruled s d ready h.scaler) in
+      let x : PartsState = record { throttle = c.self.inside.throttle; pods = c.self.inside.pods; scaler = c.self.inside.scaler } in
+      let mid : PartsState = record { throttle = c.self.inside.throttle; pods = c.self.inside.pods; scaler = c.tick.new.scaler } in
+      let scaler = subst (λ (o : Option Ruling). IsScalerOf s c.tick.new.scaler (d ++ tick_rulings t d o)) nd.0 (c.in-Some-None.ensures.some.stands s d ready h.scaler) in
+      rw nd.1 (parts_ruled c.row_laws.ensures.made c.row_laws.ensures.stands c.walk_laws.ensures.rows s d (entry t row.NoData ∷ []) x mid (refl, tt) (tt, tt) refl refl scaler h);
+})
 
 pub returns-in-Some-None-clause-row : goal.returns-in-Some-None-clause-row
 returns-in-Some-None-clause-row c = rw (← c.self.view_is) (λ s d h.
     let t = c.args.time in
     let ready = sym (c.count_ready-ready.ensures.trace d h.pods) in
-    let nd = no_data s d t (c.in-Some-None.ensures.kind s d h.scaler) (sym c.in-Some-None.field-0-is ∙ c.in-Some-None.ensures.ruled s d ready h.scaler) in
+    let nd = no_data s d t (c.in-Some-None.ensures.some.kind s d h.scaler) (sym c.in-Some-None.field-0-is ∙ c.in-Some-None.ensures.some.ruled s d ready h.scaler) in
     rw nd.1 refl)
+
+pub rule-requires-clause-can : goal.rule-requires-clause-can
+rule-requires-clause-can c =
+    let can = rw (← c.self.view_is) at c.requires.can in
+    record { limit = can.limit; draining = can.draining; created = can.created; measured = c.tick.ensures.measured }
+
+pub returns-in-Some-Some-clause-scales : goal.returns-in-Some-Some-clause-scales
+returns-in-Some-Some-clause-scales c = rw (← c.self.view_is) (record { nobody = c.rule.ensures.scales.nobody; created = c.rule.ensures.scales.created; most = c.rule.ensures.scales.most })

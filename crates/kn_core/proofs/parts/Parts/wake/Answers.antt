@@ -32,8 +32,8 @@ rule-requires-clause-some c =
     let mid : PartsState = record { throttle = c.self.inside.throttle; pods = c.self.inside.pods; scaler = c.wake.new.scaler } in
     let ruled = c.in-Some.ruled in
     let ready = sym (c.count_ready-ready.ensures.trace d h.pods) in
-    let dec = wake_decides c.row_laws-2.ensures.split s d t 0 0 0 ruled (c.in-Some.ensures.some s d 0 0 0 h.scaler) (c.in-Some.ensures.ruled s d ready h.scaler) in
-    let k = decides_mid c.row_laws.ensures.made c.row_laws.ensures.stands c.walk_laws.ensures.rows s d t ruled _ _ dec x mid proper refl refl (c.in-Some.ensures.stands s d ready h.scaler) h in
+    let dec = wake_decides c.row_laws-2.ensures.split s d t 0 0 0 ruled (c.in-Some.ensures.some.some s d 0 0 0 h.scaler) (c.in-Some.ensures.some.ruled s d ready h.scaler) in
+    let k = decides_mid c.row_laws.ensures.made c.row_laws.ensures.stands c.walk_laws.ensures.rows s d t ruled _ _ dec x mid proper refl refl (c.in-Some.ensures.some.stands s d ready h.scaler) h in
     (_, rw (← c.self.view_is) at c.requires.ranges, k))
 
 pub rule-requires-clause-want : goal.rule-requires-clause-want
@@ -49,27 +49,35 @@ rule-requires-clause-want c =
     let mid : PartsState = record { throttle = c.self.inside.throttle; pods = c.self.inside.pods; scaler = c.wake.new.scaler } in
     let ruled = c.in-Some.ruled in
     let ready = sym (c.count_ready-ready.ensures.trace d h.pods) in
-    let dec = wake_decides c.row_laws-2.ensures.split s d t 0 0 0 ruled (c.in-Some.ensures.some s d 0 0 0 h.scaler) (c.in-Some.ensures.ruled s d ready h.scaler) in
+    let dec = wake_decides c.row_laws-2.ensures.split s d t 0 0 0 ruled (c.in-Some.ensures.some.some s d 0 0 0 h.scaler) (c.in-Some.ensures.some.ruled s d ready h.scaler) in
     decides_want c.row_laws.ensures.made c.row_laws.ensures.stands c.walk_laws.ensures.rows s d t ruled _ _ dec x mid (rw (← c.self.view_is) at c.requires.ranges) proper)
 
-pub returns-in-Some-clause-logged : goal.returns-in-Some-clause-logged
-returns-in-Some-clause-logged c = rw (← c.self.view_is) (λ s d h proper.
-    let t = c.args.time in
-    let x : PartsState = record { throttle = c.self.inside.throttle; pods = c.self.inside.pods; scaler = c.self.inside.scaler } in
-    let mid : PartsState = record { throttle = c.self.inside.throttle; pods = c.self.inside.pods; scaler = c.wake.new.scaler } in
-    let ruled = c.in-Some.ruled in
-    let ready = sym (c.count_ready-ready.ensures.trace d h.pods) in
-    let dec = wake_decides c.row_laws-2.ensures.split s d t 0 0 0 ruled (c.in-Some.ensures.some s d 0 0 0 h.scaler) (c.in-Some.ensures.ruled s d ready h.scaler) in
-    let k = decides_mid c.row_laws.ensures.made c.row_laws.ensures.stands c.walk_laws.ensures.rows s d t ruled _ _ dec x mid proper refl refl (c.in-Some.ensures.stands s d ready h.scaler) h in
-    decides_logged c.row_laws.ensures.made c.row_laws.ensures.stands c.walk_laws.ensures.rows s d t ruled _ _ dec x mid c.args.log.now c.rule.new.log h k refl (c.rule.ensures.logged s _ k))
+pub returns-in-Some-clause-adds : goal.returns-in-Some-clause-adds
+returns-in-Some-clause-adds c = rw (← c.self.view_is) (record {
+  logged = λ s d h proper.
+      let t = c.args.time in
+      let x : PartsState = record { throttle = c.self.inside.throttle; pods = c.self.inside.pods; scaler = c.self.inside.scaler } in
+      let mid : PartsState = record { throttle = c.self.inside.throttle; pods = c.self.inside.pods; scaler = c.wake.new.scaler } in
+      let ruled = c.in-Some.ruled in
+      let ready = sym (c.count_ready-ready.ensures.trace d h.pods) in
+      let dec = wake_decides c.row_laws-2.ensures.split s d t 0 0 0 ruled (c.in-Some.ensures.some.some s d 0 0 0 h.scaler) (c.in-Some.ensures.some.ruled s d ready h.scaler) in
+      let k = decides_mid c.row_laws.ensures.made c.row_laws.ensures.stands c.walk_laws.ensures.rows s d t ruled _ _ dec x mid proper refl refl (c.in-Some.ensures.some.stands s d ready h.scaler) h in
+      decides_logged c.row_laws.ensures.made c.row_laws.ensures.stands c.walk_laws.ensures.rows s d t ruled _ _ dec x mid c.args.log.now c.rule.new.log h k refl (c.rule.ensures.adds.logged s _ k tt);
+  stands = λ s d h proper.
+      let t = c.args.time in
+      let x : PartsState = record { throttle = c.self.inside.throttle; pods = c.self.inside.pods; scaler = c.self.inside.scaler } in
+      let mid : PartsState = record { throttle = c.self.inside.throttle; pods = c.self.inside.pods; scaler = c.wake.new.scaler } in
+      let ruled = c.in-Some.ruled in
+      let ready = sym (c.count_ready-ready.ensures.trace d h.pods) in
+      let dec = wake_decides c.row_laws-2.ensures.split s d t 0 0 0 ruled (c.in-Some.ensures.some.some s d 0 0 0 h.scaler) (c.in-Some.ensures.some.ruled s d ready h.scaler) in
+      let k = decides_mid c.row_laws.ensures.made c.row_laws.ensures.stands c.walk_laws.ensures.rows s d t ruled _ _ dec x mid proper refl refl (c.in-Some.ensures.some.stands s d ready h.scaler) h in
+      decides_stands c.row_laws.ensures.made c.row_laws.ensures.stands c.walk_laws.ensures.rows s d t ruled _ _ dec x mid c.rule.new.self h k refl (c.rule.ensures.adds.stands s _ k tt);
+})
 
-pub returns-in-Some-clause-stands : goal.returns-in-Some-clause-stands
-returns-in-Some-clause-stands c = rw (← c.self.view_is) (λ s d h proper.
-    let t = c.args.time in
-    let x : PartsState = record { throttle = c.self.inside.throttle; pods = c.self.inside.pods; scaler = c.self.inside.scaler } in
-    let mid : PartsState = record { throttle = c.self.inside.throttle; pods = c.self.inside.pods; scaler = c.wake.new.scaler } in
-    let ruled = c.in-Some.ruled in
-    let ready = sym (c.count_ready-ready.ensures.trace d h.pods) in
-    let dec = wake_decides c.row_laws-2.ensures.split s d t 0 0 0 ruled (c.in-Some.ensures.some s d 0 0 0 h.scaler) (c.in-Some.ensures.ruled s d ready h.scaler) in
-    let k = decides_mid c.row_laws.ensures.made c.row_laws.ensures.stands c.walk_laws.ensures.rows s d t ruled _ _ dec x mid proper refl refl (c.in-Some.ensures.stands s d ready h.scaler) h in
-    decides_stands c.row_laws.ensures.made c.row_laws.ensures.stands c.walk_laws.ensures.rows s d t ruled _ _ dec x mid c.rule.new.self h k refl (c.rule.ensures.stands s _ k))
+pub rule-requires-clause-can : goal.rule-requires-clause-can
+rule-requires-clause-can c =
+    let can = rw (← c.self.view_is) at c.requires.can in
+    record { limit = can.limit; draining = can.draining; created = can.created; measured = c.wake.ensures.measured }
+
+pub returns-in-Some-clause-scales : goal.returns-in-Some-clause-scales
+returns-in-Some-clause-scales c = rw (← c.self.view_is) (record { nobody = c.rule.ensures.scales.nobody; created = c.rule.ensures.scales.created; most = c.rule.ensures.scales.most })

@@ -7,7 +7,7 @@ use Rattle.kn_record.specs.Admission.{is_draining_now, pods_in}
 use Rattle.kn_record.specs.Made.{StandsFor}
 use Rattle.kn_record.specs.Walks.{stepped_by}
 use Rattle.kn_throttle.specs.State as throttle
-use Rattle.kn_core.specs.Following.{CanFollow}
+use Rattle.kn_core.specs.Following.{CanFollow, after_scale}
 use Rattle.kn_core.proofs.Lists.{behind}
 use Rattle.kn_core.proofs.Scaled.{made_behind, scale_few, scale_follows, stepped_created}
 use Rattle.kn_core.proofs.parts.opening.create.Goals as goal
@@ -52,17 +52,15 @@ returns-clause-created c =
 pub returns-clause-nobody : goal.returns-clause-nobody
 returns-clause-nobody c = c.follow_behind.ensures.nobody c.args.time
 
-pub returns-clause-logged : goal.returns-clause-logged
-returns-clause-logged c = λ s d h. c.apply.ensures.logged s d h.made h.pods h.cc
-
-pub returns-clause-pods : goal.returns-clause-pods
-returns-clause-pods c = λ s d h. c.apply.ensures.stands s d h.made h.pods h.cc
-
-pub returns-clause-admission : goal.returns-clause-admission
-returns-clause-admission c = λ s d h.
-    let es = scale_rows s c.args.time d c.args.count in
-    let proper = made_behind s d es (c.apply.ensures.made s d h.made h.pods h.cc) in
-    let gone = rw c.entries-before.ensures at c.follow_behind.ensures.all in
-    let added = behind c.args.log.now es c.apply.new.log (c.apply.ensures.logged s d h.made h.pods h.cc) in
-    let threw = gone ∙ ap (λ (l : List Entry). record c.args.throttle.now { admission = stepped_by l c.args.throttle.now.admission }) added in
-    subst (λ (y : throttle.State). StandsFor y.admission (d ++ es)) (sym threw) (c.walk_laws.ensures.rows s c.args.throttle.now.admission d es h.admission proper)
+pub returns-clause-creates : goal.returns-clause-creates
+returns-clause-creates c = record {
+  logged = λ s d h. c.apply.ensures.logged s d h.made h.pods h.cc;
+  admission = λ s d h.
+      let es = scale_rows s c.args.time d c.args.count in
+      let proper = made_behind s d es (c.apply.ensures.made s d h.made h.pods h.cc) in
+      let gone = rw c.entries-before.ensures at c.follow_behind.ensures.all in
+      let added = behind c.args.log.now es c.apply.new.log (c.apply.ensures.logged s d h.made h.pods h.cc) in
+      let threw = gone ∙ ap (λ (l : List Entry). after_scale l c.args.throttle.now) added in
+      subst (λ (y : throttle.State). StandsFor y.admission (d ++ es)) (sym threw) (c.walk_laws.ensures.rows s c.args.throttle.now.admission d es h.admission proper);
+  pods = λ s d h. c.apply.ensures.stands s d h.made h.pods h.cc;
+}

@@ -9,34 +9,22 @@ use Rattle.kn_core.proofs.Refused.{leaves_all}
 use Rattle.kn_core.proofs.Times.{each_prop}
 use Rattle.kn_core.proofs.revision.Revision.step_into.Goals as goal
 
-pub react-requires-clause-some : goal.react-requires-clause-some
-react-requires-clause-some c = parts_of_settled c.history_laws.ensures.settled _ c.self.invariant.spec c.self.invariant.some
-
-pub react-requires-clause-ranges : goal.react-requires-clause-ranges
-react-requires-clause-ranges c = rw c.self.invariant.spec c.self.invariant.ranges
-
-pub react-requires-clause-limit : goal.react-requires-clause-limit
-react-requires-clause-limit c = (rw (← c.self.view_is) at c.limit-limit.ensures) ∙ sym (ap (λ (s : Spec). s.cc) c.self.invariant.spec)
-
-pub react-requires-clause-order : goal.react-requires-clause-order
-react-requires-clause-order c = measured_later _ _ _ (rw (← c.self.view_is) at c.requires.order) c.self.invariant.measured
-
-pub react-requires-clause-created : goal.react-requires-clause-created
-react-requires-clause-created c =
-    let count = rw (← c.self.view_is) at c.requires.count in
-    let before = c.self.invariant.created in
-    omega (arith, count, before)
-
-pub react-requires-clause-few : goal.react-requires-clause-few
-react-requires-clause-few c = few_live c.append_laws.ensures.views _ c.size_laws.ensures.live (parts_of_some _ c.self.invariant.spec c.self.invariant.some)
-
-pub react-requires-clause-arrivals : goal.react-requires-clause-arrivals
-react-requires-clause-arrivals c =
-    let count = rw (← c.self.view_is) at c.requires.count in
-    omega (arith, count, few_arrivals c.append_laws.ensures.views c.count_laws.ensures.arrivals _ c.self.invariant.some)
-
-pub react-requires-clause-timed : goal.react-requires-clause-timed
-react-requires-clause-timed c = timed_later _ _ _ (rw (← c.self.view_is) at c.requires.order) c.self.invariant.timed
+pub react-requires-clause-can : goal.react-requires-clause-can
+react-requires-clause-can c = record {
+  some = parts_of_settled c.history_laws.ensures.settled _ c.self.invariant.spec c.self.invariant.some;
+  ranges = rw c.self.invariant.spec c.self.invariant.ranges;
+  limit = (rw (← c.self.view_is) at c.limit-limit.ensures) ∙ sym (ap (λ (s : Spec). s.cc) c.self.invariant.spec);
+  order = measured_later _ _ _ (rw (← c.self.view_is) at c.requires.order) c.self.invariant.measured;
+  few = few_live c.append_laws.ensures.views _ c.size_laws.ensures.live (parts_of_some _ c.self.invariant.spec c.self.invariant.some);
+  arrivals =
+      let count = rw (← c.self.view_is) at c.requires.count in
+      omega (arith, count, few_arrivals c.append_laws.ensures.views c.count_laws.ensures.arrivals _ c.self.invariant.some);
+  timed = timed_later _ _ _ (rw (← c.self.view_is) at c.requires.order) c.self.invariant.timed;
+  created =
+      let count = rw (← c.self.view_is) at c.requires.count in
+      let before = c.self.invariant.created in
+      omega (arith, count, before);
+}
 
 pub invariant_of-self : goal.invariant_of-self
 invariant_of-self c = record {
@@ -51,33 +39,33 @@ invariant_of-self c = record {
     h.0 ++ react c.self.inside.spec h.0 c.args.e.now,
     record {
       events = c.history_laws.ensures.step _ _ _ _ h.0 c.args.e.now h.1.events (rw (← c.self.view_is) at c.requires.order);
-      parts = c.react.ensures.stands _ h.0 h.1.parts (c.history_laws.ensures.settled _ _ _ _ h.0 h.1.events);
+      parts = c.react.ensures.adds.stands _ h.0 h.1.parts (c.history_laws.ensures.settled _ _ _ _ h.0 h.1.events);
     },
   ));
 }
 
 pub returns : goal.returns
 returns c = record {
-  logged = rw (← c.self.view_is) (λ d h. c.react.ensures.logged _ d h.parts (c.history_laws.ensures.settled _ _ _ _ d h.events));
+  logged = rw (← c.self.view_is) (λ d h. c.react.ensures.adds.logged _ d h.parts (c.history_laws.ensures.settled _ _ _ _ d h.events));
   told = rw (← c.self.view_is) (λ d h. c.react.ensures.told _ d h.parts (c.history_laws.ensures.settled _ _ _ _ d h.events));
   stands = rw (← c.self.view_is) (λ d h. record {
     events = c.history_laws.ensures.step _ _ _ _ d c.args.e.now h.events (rw (← c.self.view_is) at c.requires.order);
-    parts = c.react.ensures.stands _ d h.parts (c.history_laws.ensures.settled _ _ _ _ d h.events);
+    parts = c.react.ensures.adds.stands _ d h.parts (c.history_laws.ensures.settled _ _ _ _ d h.events);
   });
   at = ∥∥₁_elim c.self.invariant.some (each_prop _ _) (λ h.
       let s = c.self.inside.spec in
       let e = c.args.e.now in
-      rw (c.react.ensures.logged s h.0 h.1.parts (c.history_laws.ensures.settled _ _ _ _ h.0 h.1.events)) (c.part_laws.ensures.rows.react-at s h.0 e));
+      rw (c.react.ensures.adds.logged s h.0 h.1.parts (c.history_laws.ensures.settled _ _ _ _ h.0 h.1.events)) (c.part_laws.ensures.rows.react-at s h.0 e));
   few = ∥∥₁_elim c.self.invariant.some le_prop (λ h.
       let s = c.self.inside.spec in
       let e = c.args.e.now in
-      rw (c.react.ensures.logged s h.0 h.1.parts (c.history_laws.ensures.settled _ _ _ _ h.0 h.1.events)) (c.entry_laws.ensures.entries s h.0 e c.self.invariant.ranges h.1.parts.made (c.history_laws.ensures.settled _ _ _ _ h.0 h.1.events)));
+      rw (c.react.ensures.adds.logged s h.0 h.1.parts (c.history_laws.ensures.settled _ _ _ _ h.0 h.1.events)) (c.entry_laws.ensures.entries s h.0 e c.self.invariant.ranges h.1.parts.made (c.history_laws.ensures.settled _ _ _ _ h.0 h.1.events)));
   grows = rw (← c.self.view_is) (λ d h.
       let s = c.self.inside.spec in
       let e = c.args.e.now in
       let more = c.growth_laws.ensures.live s d e h.parts.made in
       let was = live_same c.append_laws.ensures.views _ s d h.parts in
-      let now = live_same c.append_laws.ensures.views _ s (d ++ react s d e) (c.react.ensures.stands s d h.parts (c.history_laws.ensures.settled _ _ _ _ d h.events)) in
+      let now = live_same c.append_laws.ensures.views _ s (d ++ react s d e) (c.react.ensures.adds.stands s d h.parts (c.history_laws.ensures.settled _ _ _ _ d h.events)) in
       omega (arith, more, was, now));
   lawful = λ d h. c.history_laws.ensures.lawful _ _ _ _ d h.events;
   settled = λ d h. c.history_laws.ensures.settled _ _ _ _ d h.events;
