@@ -1,3 +1,2 @@
+pub mod Begun
 pub mod Patience
-pub mod Queued
-pub mod Taking

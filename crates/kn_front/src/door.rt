@@ -3,13 +3,12 @@ ghost use Rattle.std.specs.Prelude.{◌+◌, ◌≤◌, ◌*◌, ⊤};
 
 use crate::caller::FrontCaller;
 use crate::gauge::Gauge;
-use crate::queue::{Come, Queue};
+use crate::queue::Queue;
 use kn_door::{Close, Door, Watch};
 use kn_io::Caller;
-use kn_tcp::{Found, look};
 use mio::Waker;
 use std::net::TcpStream;
-use std::sync::atomic::{AtomicBool, AtomicU64, AtomicUsize, Ordering};
+use std::sync::atomic::{AtomicBool, AtomicU64, Ordering};
 use std::sync::{Condvar, Mutex, Wait};
 use std::time::Clock;
 
@@ -23,12 +22,7 @@ const LOOKS_A_BEAT: u64 = 10;
 /// How many of these moments pass at most until one looks again.
 const MOST_BEATS: u64 = 100;
 
-/// How many milliseconds a caller waits for the first byte of a connection that came just now. A client that asks at once has sent it
-/// together with the last step of the handshake, however far it is.
-pub(crate) const TRIAL_MS: u16 = 10;
-
-/// A front's door. Connections whose requests have begun come through it in turn, each to one caller. Where a caller waits, it is given
-/// one that came just now, sees itself for a moment whether its request begins, and else gives it back. All threads share it.
+/// A front's door. Connections whose requests have begun come through it in turn, each to one caller. All threads share it.
 #[derive(Drop)]
 pub struct TcpDoor {
     queue: Mutex<Queue>,
@@ -38,8 +32,6 @@ pub struct TcpDoor {
     waker: Waker,
     closed: AtomicBool,
     silent: AtomicU64,
-    /// Those of which a caller sees whether they begin, until it is known, or the front has them back.
-    on_trial: AtomicUsize,
     /// Those who have a connection.
     busy: Gauge,
     /// Those whose request had to wait.
@@ -67,7 +59,6 @@ impl TcpDoor {
             waker,
             closed: AtomicBool::new(false),
             silent: AtomicU64::new(0),
-            on_trial: AtomicUsize::new(0),
             busy: Gauge::new(),
             watched: Gauge::new(),
             passed: AtomicU64::new(0),
@@ -80,7 +71,6 @@ impl TcpDoor {
         self.silent
             .load(Ordering::SeqCst)
             .saturating_add(begun as u64)
-            .saturating_add(self.on_trial() as u64)
     }
 
     /// How many callers have a connection: each from when the door hands it one until it asks for the next.
@@ -88,51 +78,19 @@ impl TcpDoor {
         self.busy.count()
     }
 
-    /// Waits until a connection is there for a caller, and takes it. None where no more are to come.
-    fn take_next<R: Wait>(&self, rt: &R) -> Option<Come> {
-        let mut queue = self.queue.lock(rt);
-        queue.wait();
+    /// Waits until a connection's request has begun, and takes it. None where no more are to come.
+    fn take<R: Wait>(&self, rt: &R) -> Option<TcpStream> {
+        let queue = self.queue.lock(rt);
         let mut queue = self
             .came
             .wait_while(rt, queue, |queue| queue.is_waited_for());
-        let come = queue.take();
+        let stream = queue.pop();
         let wakes = queue.take_want();
         drop(queue);
         if wakes {
             self.wake_front();
         }
-        come
-    }
-
-    /// Waits until a connection's request has begun, and takes it. None where no more are to come.
-    fn take<R: Wait>(&self, rt: &R) -> Option<TcpStream> {
-        for _ in rt.forever() {
-            match self.take_next(rt)? {
-                Come::Begun(stream) => return Some(stream),
-                Come::Fresh(stream) => match self.try_out(rt, stream) {
-                    Some(stream) => return Some(stream),
-                    None => {}
-                },
-            }
-        }
-        unreachable!()
-    }
-
-    /// The connection again, if its request begins in a moment. One that is silent goes back to the front.
-    fn try_out<R: Wait>(&self, rt: &R, stream: TcpStream) -> Option<TcpStream> {
-        let begun = match look(&stream, TRIAL_MS) {
-            Found::Begun => Some(stream),
-            Found::Ended => None,
-            Found::Silent => {
-                if self.queue.lock(rt).give_back(stream) {
-                    self.wake_front();
-                    return None;
-                }
-                None
-            }
-        };
-        self.on_trial.fetch_sub(1, Ordering::SeqCst);
-        begun
+        stream
     }
 
     fn wake_front(&self) {
@@ -148,40 +106,10 @@ impl TcpDoor {
         }
     }
 
-    /// Hands a connection that came just now to a caller that waits, which sees whether its request begins. Gives it back where none
-    /// waits.
-    pub(crate) fn offer<R: Wait>(&self, rt: &R, stream: TcpStream) -> Option<TcpStream> {
-        self.on_trial.fetch_add(1, Ordering::SeqCst);
-        let again = self.queue.lock(rt).offer(stream);
-        match again {
-            Some(stream) => {
-                self.on_trial.fetch_sub(1, Ordering::SeqCst);
-                Some(stream)
-            }
-            None => {
-                self.came.notify_one();
-                None
-            }
-        }
-    }
-
-    /// The next connection that a caller found silent.
-    pub(crate) fn take_back<R: Wait>(&self, rt: &R) -> Option<TcpStream> {
-        let stream = self.queue.lock(rt).take_back()?;
-        self.on_trial.fetch_sub(1, Ordering::SeqCst);
-        Some(stream)
-    }
-
-    /// Of how many callers see whether they begin.
-    pub(crate) fn on_trial(&self) -> usize {
-        self.on_trial.load(Ordering::SeqCst)
-    }
-
     /// Whether one more may wait besides so many silent ones, where so many may in all. Where none may, the front is woken as soon
     /// as a caller takes one.
     pub(crate) fn has_room<R: Wait>(&self, rt: &R, silent: usize, most: usize) -> bool {
-        let others = silent.saturating_add(self.on_trial());
-        self.queue.lock(rt).has_room(others, most)
+        self.queue.lock(rt).has_room(silent, most)
     }
 
     /// So many are silent by now.

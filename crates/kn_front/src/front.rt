@@ -5,11 +5,12 @@ use crate::door::TcpDoor;
 use crate::limits::{Limits, MOST_WAITING};
 use crate::queue::Queue;
 use crate::station::{Station, WAKER};
+use mio::net::TcpListener;
 use mio::{Poll, Waker};
 use std::alloc::Global;
 use std::io;
 use std::io::ErrorKind;
-use std::net::{Net, SocketAddr, TcpListener, ToSocketAddrs};
+use std::net::{Net, SocketAddr, ToSocketAddrs};
 use std::sync::{Mutex, Wait};
 use std::time::{Clock, Duration};
 
@@ -27,8 +28,8 @@ pub struct Front {
 fn listen<N: Net>(net: &N, address: &str) -> io::Result<TcpListener> {
     let mut last = io::Error::from(ErrorKind::InvalidInput);
     for address in address.to_socket_addrs(net)? {
-        match mio::net::TcpListener::bind(net, address) {
-            Ok(listener) => return Ok(TcpListener::from(listener)),
+        match TcpListener::bind(net, address) {
+            Ok(listener) => return Ok(listener),
             Err(error) => last = error,
         }
     }

@@ -4,14 +4,11 @@ ghost use Rattle.std.specs.Duration.{as_nanos};
 ghost use Rattle.slab.specs.Slab.{SameValues, Updates, get};
 ghost use Rattle.kn_front.specs.Patience.{AreWithin, CameSince, EndsInTime, IsAdded, NobodyIsDue, is_by, is_due};
 
-use crate::silent::Silent;
-use kn_tcp::{Found, look};
-use mio::unix::SourceFd;
+use crate::silent::{Found, Silent, look};
+use mio::net::TcpStream;
 use mio::{Interest, Registry, Token};
 use slab::Slab;
 use std::alloc::{AllocError, Global};
-use std::net::TcpStream;
-use std::os::fd::AsRawFd;
 use std::time::{Duration, Instant};
 
 /// The connections of which nothing has come yet, each at a place of its own. The registry's `Poll` is told of them by their places.
@@ -73,7 +70,7 @@ impl SilentOnes {
     }
 
     /// One more, which is silent at this time, and whether it is kept: one that has no place or can't be watched is closed.
-    pub(crate) fn add(&mut self, stream: TcpStream, now: Instant) -> bool
+    pub(crate) fn add(&mut self, mut stream: TcpStream, now: Instant) -> bool
         ensures added { result ≡ true → IsAdded (record { stream = stream; since = now }) self.old.ones self.new.ones }
         ensures closed { result ≡ false → SameValues self.old.ones self.new.ones }
         ensures places { self.new.places ≡ self.old.places }
@@ -84,11 +81,7 @@ impl SilentOnes {
         }
         if self
             .registry
-            .register(
-                &mut SourceFd(&stream.as_raw_fd()),
-                Token(place),
-                Interest::READABLE,
-            )
+            .register(&mut stream, Token(place), Interest::READABLE)
             .is_err()
         {
             return false;
@@ -102,7 +95,7 @@ impl SilentOnes {
         ensures { IsNone result → get self.now.ones place ≡ None }
     {
         let one = self.ones.get(place)?;
-        Some(look(&one.stream, 0))
+        Some(look(&one.stream))
     }
 
     /// Takes the one at this place out. None where there is none, or it can't be had.
@@ -111,8 +104,8 @@ impl SilentOnes {
         ensures out { Updates self.old.ones self.new.ones place None }
         ensures places { self.new.places ≡ self.old.places }
     {
-        let stream = self.ones.try_remove(place)?.stream;
-        match self.registry.deregister(&mut SourceFd(&stream.as_raw_fd())) {
+        let mut stream = self.ones.try_remove(place)?.stream;
+        match self.registry.deregister(&mut stream) {
             Ok(()) => Some(stream),
             Err(_) => None,
         }

@@ -5,19 +5,17 @@ ghost use Rattle.slab.specs.Slab.{get};
 ghost use Rattle.kn_front.specs.Patience.{NobodyIsDue};
 
 use crate::caller::time_left;
-use crate::door::{TRIAL_MS, TcpDoor};
-use crate::limits::{Limits, MOST_WAITING};
+use crate::door::TcpDoor;
+use crate::limits::Limits;
+use crate::silent::{Found, look};
 use crate::silent_ones::SilentOnes;
-use kn_tcp::{Found, look};
-use mio::unix::SourceFd;
+use mio::net::{TcpListener, TcpStream};
 use mio::{Events, Interest, Poll, Token};
 use std::alloc::Global;
-use std::io;
 use std::io::ErrorKind;
-use std::net::{TcpListener, TcpStream};
-use std::os::fd::AsRawFd;
 use std::sync::Wait;
 use std::time::{Clock, Duration, Instant};
+use std::{io, net};
 
 /// The socket's token. Each other one is a silent connection's place, or the waker's.
 const LISTENER: Token = Token(usize::MAX);
@@ -67,14 +65,11 @@ impl Station {
     pub(crate) fn new(
         alloc: Global,
         poll: Poll,
-        listener: TcpListener,
+        mut listener: TcpListener,
         limits: Limits,
     ) -> io::Result<Station> {
-        poll.registry().register(
-            &mut SourceFd(&listener.as_raw_fd()),
-            LISTENER,
-            Interest::READABLE,
-        )?;
+        poll.registry()
+            .register(&mut listener, LISTENER, Interest::READABLE)?;
         let registry = poll.registry().try_clone()?;
         Ok(Station {
             poll,
@@ -101,24 +96,22 @@ impl Station {
     fn turn<R: Wait + Clock>(&mut self, rt: &R, door: &TcpDoor) -> io::Result<()> {
         let now = Instant::now(rt)?;
         self.take_in(rt, door, now);
-        let wait = self.patience(now, door.on_trial() > 0);
+        let wait = self.patience(now);
         door.count_silent(self.silent.len());
         self.poll.poll(&mut self.events, wait)?;
         self.see_events(rt, door);
-        self.take_back(rt, door, now);
         self.close_due(rt, door, Instant::now(rt)?);
         Ok(())
     }
 
-    /// How long nothing has to be done unless something happens. None where that is for ever. Nobody says when a connection is no more
-    /// on trial, so that there may be room again.
-    fn patience(&self, now: Instant, tries: bool) -> Option<Duration> {
+    /// How long nothing has to be done unless something happens. None where that is for ever.
+    fn patience(&self, now: Instant) -> Option<Duration> {
         let due = self.silent.until_due(now, self.limits.idle);
+        let retry = Duration::from_millis(RETRY);
         match self.intake {
-            Intake::Full if tries => at_most(due, u64::from(TRIAL_MS)),
             Intake::Waits | Intake::Full => due,
             Intake::GoesOn => Some(Duration::ZERO),
-            Intake::Fails => at_most(due, RETRY),
+            Intake::Fails => Some(due.unwrap_or(retry).min(retry)),
         }
     }
 
@@ -152,33 +145,14 @@ impl Station {
         }
     }
 
-    /// Hands a connection that came to a caller that waits. Where none does, lets it through the door if it has begun, and keeps it
-    /// while it is silent.
+    /// Lets a connection that came through the door, or keeps it while it is silent.
     fn begin<R: Wait>(&mut self, rt: &R, door: &TcpDoor, stream: TcpStream, now: Instant) {
-        let Some(stream) = door.offer(rt, stream) else {
-            return;
-        };
-        match look(&stream, 0) {
-            Found::Begun => door.put(rt, stream),
+        match look(&stream) {
+            Found::Begun => door.put(rt, net::TcpStream::from(stream)),
             Found::Silent => {
                 self.silent.add(stream, now);
             }
             Found::Ended => {}
-        }
-    }
-
-    /// Keeps those that callers found silent.
-    fn take_back<R: Wait>(&mut self, rt: &R, door: &TcpDoor, now: Instant) {
-        if door.on_trial() == 0 {
-            return;
-        }
-        for _ in 0..MOST_WAITING {
-            match door.take_back(rt) {
-                Some(stream) => {
-                    self.silent.add(stream, now);
-                }
-                None => return,
-            }
         }
     }
 
@@ -229,20 +203,12 @@ impl Station {
         end: Option<Instant>,
     ) -> io::Result<()> {
         for _ in rt.forever() {
-            let now = Instant::now(rt)?;
-            self.take_back(rt, door, now);
-            let left = time_left(end, now);
-            let tries = door.on_trial() > 0;
-            if (self.silent.is_empty() && !tries) || left.is_none() {
+            let left = time_left(end, Instant::now(rt)?);
+            if self.silent.is_empty() || left.is_none() {
                 return Ok(());
             }
             door.count_silent(self.silent.len());
-            let wait = if tries {
-                at_most(left, u64::from(TRIAL_MS))
-            } else {
-                left
-            };
-            self.poll.poll(&mut self.events, wait)?;
+            self.poll.poll(&mut self.events, left)?;
             self.see_events(rt, door);
         }
         unreachable!()
@@ -259,12 +225,6 @@ impl Station {
         }
         waited
     }
-}
-
-/// This wait, or so many milliseconds where that is less.
-fn at_most(wait: Option<Duration>, most: u64) -> Option<Duration> {
-    let most = Duration::from_millis(most);
-    Some(wait.unwrap_or(most).min(most))
 }
 
 /// How a socket stands after this error.
@@ -288,7 +248,7 @@ fn see<R: Wait>(rt: &R, door: &TcpDoor, silent: &mut SilentOnes, place: usize, s
     match silent.look_at(place) {
         Some(Found::Begun) => {
             if let Some(stream) = silent.remove(place) {
-                door.put(rt, stream);
+                door.put(rt, net::TcpStream::from(stream));
             }
         }
         Some(Found::Silent) if stays => {}

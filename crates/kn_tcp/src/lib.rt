@@ -9,7 +9,6 @@ mod closing;
 mod course;
 mod line;
 mod link;
-mod looks;
 mod names;
 
 pub use caller::TcpCaller;
@@ -17,4 +16,3 @@ pub use kn_reply::{
     answers_are_replies, plain_forms_are_determined, put_plain, replies_are_determined,
 };
 pub use link::TcpLink;
-pub use looks::{Found, look};

@@ -87,25 +87,8 @@ fn bare<T: Runs>(rt: &HostRuntime, threads: &T) -> io::Result<()> {
     tell_all(rt, &cases)
 }
 
-/// Two slots, and room for three connections in front: 40 clients come one after another, and then 20 at once.
-fn few_places<T: Runs>(rt: &HostRuntime, threads: &T) -> io::Result<()> {
-    let front = front(rt, 60, 60, 3)?;
-    let address = front.address();
-    let (done, served) = meanwhile(threads, rt.alloc(), &front, 2, || {
-        all_in_turn(rt, address, 40).unwrap_or(false)
-            && all_at_once(rt, address, 20).unwrap_or(false)
-    })?;
-    let cases = [
-        ("40 in turn and 20 at once, where three may wait", served),
-        ("each of them was served", done.served == 60),
-        ("and nobody failed there", done.faults == 0),
-    ];
-    tell_all(rt, &cases)
-}
-
 pub fn all<T: Runs>(rt: &HostRuntime, threads: &T) -> io::Result<()> {
     one_of_many(rt, threads)?;
     four_slots(rt, threads)?;
-    bare(rt, threads)?;
-    few_places(rt, threads)
+    bare(rt, threads)
 }
