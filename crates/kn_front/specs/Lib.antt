@@ -1,2 +1,3 @@
-pub mod Begun
 pub mod Patience
+pub mod Queued
+pub mod Turns

@@ -6,6 +6,7 @@ ghost use Rattle.kn_front.specs.Patience.{nanos_before, nanos_of};
 
 use kn_io::{Caller, Failed, Faulty, Sink, Source};
 use kn_tcp::TcpCaller;
+use std::mem;
 use std::net::TcpStream;
 use std::time::{Clock, Duration, Instant};
 
@@ -25,6 +26,8 @@ pub struct FrontCaller<K> {
     read: Duration,
     // When the request has to be there. None before the first connection, or where the clock can't be read.
     until: Option<Instant>,
+    // Whether nothing was read of the request, whose first bytes are there.
+    unread: bool,
     // Whether it was said that the client that was met last has left.
     left: bool,
     // Whether its door counts it among those that have a connection.
@@ -44,13 +47,14 @@ impl<K: Clock> FrontCaller<K> {
             clock,
             read,
             until: None,
+            unread: false,
             left: false,
             busy: false,
             watched: false,
         }
     }
 
-    /// Hands it the connection that it meets next.
+    /// Hands it the connection that it meets next, whose request has begun.
     pub(crate) fn hand(&mut self, stream: TcpStream)
         ensures faults { ⟦<FrontCaller<K> as Faulty>⟧.faults self.new ≡ ⟦<FrontCaller<K> as Faulty>⟧.faults self.old }
         ensures given { ⟦<FrontCaller<K> as Source>⟧.given self.new ≡ ⟦<FrontCaller<K> as Source>⟧.given self.old }
@@ -67,6 +71,10 @@ impl<K: Clock> FrontCaller<K> {
         let leaves = !self.left && self.inner.has_ended();
         self.left = self.left || leaves;
         leaves
+    }
+
+    pub(crate) fn clock(&self) -> &K {
+        &self.clock
     }
 
     /// The milliseconds of its clock, or 0 where it can't be read.
@@ -117,8 +125,11 @@ impl<K: Clock> Source for FrontCaller<K> {
         let Some(left) = self.left() else {
             return Err(self.inner.dismiss(LATE));
         };
-        let wait = left.saturating_add(Duration::from_millis(SLACK));
-        self.inner.wait_at_most(wait)?;
+        // The first read finds something, so it needs no time.
+        if !mem::replace(&mut self.unread, false) {
+            let wait = left.saturating_add(Duration::from_millis(SLACK));
+            self.inner.wait_at_most(wait)?;
+        }
         match self.inner.read(buf) {
             Ok(n) => Ok(n),
             Err(Failed) => {
@@ -151,6 +162,7 @@ impl<K: Clock> Caller for FrontCaller<K> {
     fn meet(&mut self) -> Result<(), Failed> {
         self.inner.meet()?;
         self.until = self.after(self.read);
+        self.unread = true;
         self.left = false;
         Ok(())
     }

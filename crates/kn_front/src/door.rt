@@ -3,14 +3,17 @@ ghost use Rattle.std.specs.Prelude.{◌+◌, ◌≤◌, ◌*◌, ⊤};
 
 use crate::caller::FrontCaller;
 use crate::gauge::Gauge;
-use crate::queue::Queue;
+use crate::queue::{Queue, Turn};
+use crate::socket::{Intake, Socket};
 use kn_door::{Close, Door, Watch};
 use kn_io::Caller;
+use kn_tcp::{Found, look};
 use mio::Waker;
-use std::net::TcpStream;
-use std::sync::atomic::{AtomicBool, AtomicU64, Ordering};
+use std::net::{Net, TcpStream};
+use std::sync::atomic::{AtomicBool, AtomicU64, AtomicUsize, Ordering};
 use std::sync::{Condvar, Mutex, Wait};
-use std::time::Clock;
+use std::thread;
+use std::time::{Clock, Duration};
 
 /// Those who wait look for their clients at common moments, so many milliseconds apart: threads that wake together cost half of what
 /// they do one by one.
@@ -22,16 +25,28 @@ const LOOKS_A_BEAT: u64 = 10;
 /// How many of these moments pass at most until one looks again.
 const MOST_BEATS: u64 = 100;
 
-/// A front's door. Connections whose requests have begun come through it in turn, each to one caller. All threads share it.
+/// How many milliseconds a caller waits for the first byte of a connection that came just now. A client that asks at once has sent it
+/// together with the last step of the handshake, however far it is.
+const TRIAL_MS: u16 = 10;
+
+/// How many milliseconds pass before a socket is tried again that failed, as where descriptors have run out.
+pub(crate) const RETRY_MS: u64 = 100;
+
+/// A front's door. A caller that is free waits at the socket itself, serves the connection that comes if its request begins in a
+/// moment, and else gives it to the front. Those that begin later come through the door in turn, each to one caller. All threads
+/// share it.
 #[derive(Drop)]
 pub struct TcpDoor {
+    socket: Socket,
     queue: Mutex<Queue>,
-    /// A connection came, or no more are to come.
+    /// A connection came through the door while callers wait there, or no more are to come.
     came: Condvar,
     /// Ends the front's sleep.
     waker: Waker,
     closed: AtomicBool,
     silent: AtomicU64,
+    /// Those of which a caller sees whether they begin.
+    on_trial: AtomicUsize,
     /// Those who have a connection.
     busy: Gauge,
     /// Those whose request had to wait.
@@ -52,13 +67,15 @@ fn pause_ms(waiting: u64, passed: u64) -> u64
 
 impl TcpDoor {
     /// An open door, behind which nobody waits.
-    pub(crate) fn new(queue: Queue, waker: Waker) -> TcpDoor {
+    pub(crate) fn new(socket: Socket, queue: Queue, waker: Waker) -> TcpDoor {
         TcpDoor {
+            socket,
             queue: Mutex::new(queue),
             came: Condvar::new(),
             waker,
             closed: AtomicBool::new(false),
             silent: AtomicU64::new(0),
+            on_trial: AtomicUsize::new(0),
             busy: Gauge::new(),
             watched: Gauge::new(),
             passed: AtomicU64::new(0),
@@ -71,6 +88,7 @@ impl TcpDoor {
         self.silent
             .load(Ordering::SeqCst)
             .saturating_add(begun as u64)
+            .saturating_add(self.on_trial() as u64)
     }
 
     /// How many callers have a connection: each from when the door hands it one until it asks for the next.
@@ -79,18 +97,59 @@ impl TcpDoor {
     }
 
     /// Waits until a connection's request has begun, and takes it. None where no more are to come.
-    fn take<R: Wait>(&self, rt: &R) -> Option<TcpStream> {
-        let queue = self.queue.lock(rt);
-        let mut queue = self
-            .came
-            .wait_while(rt, queue, |queue| queue.is_waited_for());
-        let stream = queue.pop();
-        let wakes = queue.take_want();
-        drop(queue);
-        if wakes {
+    fn take<R: Wait, K: Clock>(&self, rt: &R, clock: &K) -> Option<TcpStream> {
+        for _ in rt.forever() {
+            let mut queue = self.queue.lock(rt);
+            match queue.turn() {
+                Turn::Take(stream) => return Some(stream),
+                Turn::End => return None,
+                Turn::Wait => {
+                    self.came
+                        .wait_while(rt, queue, |queue| queue.is_waited_for());
+                }
+                Turn::Come => {
+                    drop(queue);
+                    if let Some(stream) = self.meet(rt, clock) {
+                        return Some(stream);
+                    }
+                }
+            }
+        }
+        unreachable!()
+    }
+
+    /// Waits at the socket until a connection comes. None where its request doesn't begin in a moment, or none came.
+    fn meet<R: Wait, K: Clock>(&self, rt: &R, clock: &K) -> Option<TcpStream> {
+        let came = self.socket.accept();
+        let failed = matches!(came, Intake::Failed);
+        // It is counted on trial before it isn't at the socket any more.
+        self.on_trial.fetch_add(1, Ordering::SeqCst);
+        if self.queue.lock(rt).come_back() {
             self.wake_front();
         }
-        stream
+        let begun = match came {
+            Intake::Came(stream) => self.try_out(rt, stream),
+            Intake::Nobody | Intake::Failed => None,
+        };
+        self.on_trial.fetch_sub(1, Ordering::SeqCst);
+        if failed && !self.is_closed() {
+            thread::sleep(clock, Duration::from_millis(RETRY_MS));
+        }
+        begun
+    }
+
+    /// The connection again, if its request begins in a moment. One that is silent is the front's from now on.
+    fn try_out<R: Wait>(&self, rt: &R, stream: TcpStream) -> Option<TcpStream> {
+        match look(&stream, TRIAL_MS) {
+            Found::Begun => Some(stream),
+            Found::Ended => None,
+            Found::Silent => {
+                if self.queue.lock(rt).give_back(stream) {
+                    self.wake_front();
+                }
+                None
+            }
+        }
     }
 
     fn wake_front(&self) {
@@ -106,10 +165,42 @@ impl TcpDoor {
         }
     }
 
-    /// Whether one more may wait besides so many silent ones, where so many may in all. Where none may, the front is woken as soon
-    /// as a caller takes one.
-    pub(crate) fn has_room<R: Wait>(&self, rt: &R, silent: usize, most: usize) -> bool {
-        self.queue.lock(rt).has_room(silent, most)
+    /// The next connection that a caller found silent.
+    pub(crate) fn take_back<R: Wait>(&self, rt: &R) -> Option<TcpStream> {
+        self.queue.lock(rt).take_back()
+    }
+
+    /// Takes the next connection for the front, where no caller waits at the socket, and one more may wait besides so many silent
+    /// ones, where so many may in all. It doesn't wait.
+    pub(crate) fn take_in<R: Wait>(&self, rt: &R, silent: usize, most: usize) -> Intake {
+        let others = silent.saturating_add(self.on_trial());
+        // No caller goes to the socket meanwhile, so what is there stays.
+        let queue = self.queue.lock(rt);
+        if queue.waits() > 0 || !queue.has_room(others, most) || !self.socket.has_come() {
+            return Intake::Nobody;
+        }
+        self.socket.accept()
+    }
+
+    /// How many callers wait at the socket though a connection waits whose request has begun: as many are to be called.
+    pub(crate) fn to_call<R: Wait>(&self, rt: &R) -> usize {
+        let queue = self.queue.lock(rt);
+        queue.len().min(queue.waits())
+    }
+
+    /// How many callers wait at the socket.
+    pub(crate) fn at_socket<R: Wait>(&self, rt: &R) -> usize {
+        self.queue.lock(rt).waits()
+    }
+
+    /// Whether the front may sleep until it is woken. Else it looks again soon.
+    pub(crate) fn lets_sleep<R: Wait>(&self, rt: &R) -> bool {
+        self.queue.lock(rt).fall_asleep()
+    }
+
+    /// Of how many callers see whether they begin.
+    pub(crate) fn on_trial(&self) -> usize {
+        self.on_trial.load(Ordering::SeqCst)
     }
 
     /// So many are silent by now.
@@ -122,10 +213,27 @@ impl TcpDoor {
         self.closed.load(Ordering::SeqCst)
     }
 
+    /// Callers go to the socket no more.
+    pub(crate) fn shut<R: Wait>(&self, rt: &R) {
+        self.queue.lock(rt).shut();
+    }
+
+    /// Calls a caller away from the socket, who then sees what waits here.
+    pub(crate) fn call<N: Net>(&self, net: &N) {
+        self.socket.knock(net);
+    }
+
+    /// Nobody comes to the socket any more, and who waits there comes back.
+    pub(crate) fn close_socket(&self) {
+        self.socket.close();
+    }
+
     /// No more are to come.
     pub(crate) fn end<R: Wait>(&self, rt: &R) {
+        self.closed.store(true, Ordering::SeqCst);
         self.silent.store(0, Ordering::SeqCst);
         self.queue.lock(rt).end();
+        self.socket.close();
         self.came.notify_all();
     }
 }
@@ -168,7 +276,7 @@ impl<K: Clock> Door<FrontCaller<K>> for TcpDoor {
         caller.part();
         self.watched.leave(&mut caller.watched);
         self.busy.leave(&mut caller.busy);
-        match self.take(rt) {
+        match self.take(rt, caller.clock()) {
             Some(stream) => {
                 caller.hand(stream);
                 self.busy.enter(&mut caller.busy);

@@ -4,13 +4,12 @@ use crate::caller::FrontCaller;
 use crate::door::TcpDoor;
 use crate::limits::{Limits, MOST_WAITING};
 use crate::queue::Queue;
+use crate::socket::Socket;
 use crate::station::{Station, WAKER};
-use mio::net::TcpListener;
 use mio::{Poll, Waker};
 use std::alloc::Global;
 use std::io;
-use std::io::ErrorKind;
-use std::net::{Net, SocketAddr, ToSocketAddrs};
+use std::net::{Net, SocketAddr};
 use std::sync::{Mutex, Wait};
 use std::time::{Clock, Duration};
 
@@ -22,18 +21,6 @@ pub struct Front {
     door: TcpDoor,
     /// None once it runs.
     station: Mutex<Option<Station>>,
-}
-
-/// A socket that listens on the first of the text's addresses that can be had.
-fn listen<N: Net>(net: &N, address: &str) -> io::Result<TcpListener> {
-    let mut last = io::Error::from(ErrorKind::InvalidInput);
-    for address in address.to_socket_addrs(net)? {
-        match TcpListener::bind(net, address) {
-            Ok(listener) => return Ok(listener),
-            Err(error) => last = error,
-        }
-    }
-    Err(last)
 }
 
 impl Front {
@@ -49,15 +36,15 @@ impl Front {
             waiting: limits.waiting.max(1).min(MOST_WAITING),
             ..limits
         };
-        let listener = listen(net, address)?;
+        let socket = Socket::open(net, address)?;
         let poll = Poll::new(net)?;
         let waker = Waker::new(poll.registry(), WAKER)?;
         let queue = Queue::new(alloc, limits.waiting)?;
         Ok(Front {
-            address: listener.local_addr()?,
+            address: socket.address(),
             read: limits.read,
-            door: TcpDoor::new(queue, waker),
-            station: Mutex::new(Some(Station::new(alloc, poll, listener, limits)?)),
+            door: TcpDoor::new(socket, queue, waker),
+            station: Mutex::new(Some(Station::new(alloc, poll, limits)?)),
         })
     }
 
@@ -80,7 +67,7 @@ impl Front {
     /// silent for too long is closed. It sleeps while nothing happens. Once the door is closed it lets those through whose
     /// requests have begun by then, closes the others and the socket, and ends. It is for one thread to call; a further call does
     /// nothing.
-    pub fn run<R: Wait + Clock>(&self, rt: &R) -> io::Result<()> {
+    pub fn run<R: Wait + Clock + Net>(&self, rt: &R) -> io::Result<()> {
         let Some(station) = self.station.lock(rt).take() else {
             return Ok(());
         };

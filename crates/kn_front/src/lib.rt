@@ -10,6 +10,7 @@ mod limits;
 mod queue;
 mod silent;
 mod silent_ones;
+mod socket;
 mod station;
 
 pub use caller::FrontCaller;

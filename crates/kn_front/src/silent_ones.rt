@@ -4,11 +4,14 @@ ghost use Rattle.std.specs.Duration.{as_nanos};
 ghost use Rattle.slab.specs.Slab.{SameValues, Updates, get};
 ghost use Rattle.kn_front.specs.Patience.{AreWithin, CameSince, EndsInTime, IsAdded, NobodyIsDue, is_by, is_due};
 
-use crate::silent::{Found, Silent, look};
-use mio::net::TcpStream;
+use crate::silent::Silent;
+use kn_tcp::{Found, look};
+use mio::unix::SourceFd;
 use mio::{Interest, Registry, Token};
 use slab::Slab;
 use std::alloc::{AllocError, Global};
+use std::net::TcpStream;
+use std::os::fd::AsRawFd;
 use std::time::{Duration, Instant};
 
 /// The connections of which nothing has come yet, each at a place of its own. The registry's `Poll` is told of them by their places.
@@ -70,7 +73,7 @@ impl SilentOnes {
     }
 
     /// One more, which is silent at this time, and whether it is kept: one that has no place or can't be watched is closed.
-    pub(crate) fn add(&mut self, mut stream: TcpStream, now: Instant) -> bool
+    pub(crate) fn add(&mut self, stream: TcpStream, now: Instant) -> bool
         ensures added { result ≡ true → IsAdded (record { stream = stream; since = now }) self.old.ones self.new.ones }
         ensures closed { result ≡ false → SameValues self.old.ones self.new.ones }
         ensures places { self.new.places ≡ self.old.places }
@@ -81,7 +84,11 @@ impl SilentOnes {
         }
         if self
             .registry
-            .register(&mut stream, Token(place), Interest::READABLE)
+            .register(
+                &mut SourceFd(&stream.as_raw_fd()),
+                Token(place),
+                Interest::READABLE,
+            )
             .is_err()
         {
             return false;
@@ -95,7 +102,7 @@ impl SilentOnes {
         ensures { IsNone result → get self.now.ones place ≡ None }
     {
         let one = self.ones.get(place)?;
-        Some(look(&one.stream))
+        Some(look(&one.stream, 0))
     }
 
     /// Takes the one at this place out. None where there is none, or it can't be had.
@@ -104,8 +111,8 @@ impl SilentOnes {
         ensures out { Updates self.old.ones self.new.ones place None }
         ensures places { self.new.places ≡ self.old.places }
     {
-        let mut stream = self.ones.try_remove(place)?.stream;
-        match self.registry.deregister(&mut stream) {
+        let stream = self.ones.try_remove(place)?.stream;
+        match self.registry.deregister(&mut SourceFd(&stream.as_raw_fd())) {
             Ok(()) => Some(stream),
             Err(_) => None,
         }

@@ -5,23 +5,20 @@ ghost use Rattle.slab.specs.Slab.{get};
 ghost use Rattle.kn_front.specs.Patience.{NobodyIsDue};
 
 use crate::caller::time_left;
-use crate::door::TcpDoor;
-use crate::limits::Limits;
-use crate::silent::{Found, look};
+use crate::door::{RETRY_MS, TcpDoor};
+use crate::limits::{Limits, MOST_WAITING};
 use crate::silent_ones::SilentOnes;
-use mio::net::{TcpListener, TcpStream};
-use mio::{Events, Interest, Poll, Token};
+use crate::socket::Intake;
+use kn_tcp::{Found, look};
+use mio::{Events, Poll, Token};
 use std::alloc::Global;
-use std::io::ErrorKind;
+use std::io;
+use std::net::{Net, TcpStream};
 use std::sync::Wait;
 use std::time::{Clock, Duration, Instant};
-use std::{io, net};
 
-/// The socket's token. Each other one is a silent connection's place, or the waker's.
-const LISTENER: Token = Token(usize::MAX);
-
-/// The token of what ends the sleep.
-pub(crate) const WAKER: Token = Token(usize::MAX - 1);
+/// The token of what ends the sleep. Each other one is a silent connection's place.
+pub(crate) const WAKER: Token = Token(usize::MAX);
 
 /// How many events one sleep gives at most.
 const EVENTS: usize = 1024;
@@ -29,60 +26,38 @@ const EVENTS: usize = 1024;
 /// How many connections are taken in before it is looked again for what happened meanwhile.
 const TAKEN: usize = 256;
 
-/// How many milliseconds pass before a socket is tried again that failed, as where descriptors have run out.
-const RETRY: u64 = 100;
+/// How many milliseconds pass before it is looked again who has come, while no caller waits at the socket.
+const BEAT_MS: u64 = 20;
+
+/// How many milliseconds callers have to come back from the socket before they are called again.
+const CALL_MS: u64 = 1;
 
 /// How many milliseconds those have to begin who are silent when the door is closed.
-const GRACE: u64 = 250;
+const GRACE_MS: u64 = 250;
 
-/// How the socket stands.
-#[derive(Clone, Copy, Debug, PartialEq, Eq)]
-enum Intake {
-    /// None comes before the socket says so.
-    Waits,
-    /// There may be more.
-    GoesOn,
-    /// There may be more, and no room for them.
-    Full,
-    /// There may be more, and it failed.
-    Fails,
-}
-
-/// A socket, and the connections that came to it and are silent.
+/// The connections that came and are silent. It takes them in itself while no caller waits at the socket.
 #[derive(Drop)]
 pub(crate) struct Station {
     poll: Poll,
     events: Events,
-    /// None once the door is closed.
-    listener: Option<TcpListener>,
     silent: SilentOnes,
-    intake: Intake,
     limits: Limits,
 }
 
 impl Station {
-    /// A station over this socket.
-    pub(crate) fn new(
-        alloc: Global,
-        poll: Poll,
-        mut listener: TcpListener,
-        limits: Limits,
-    ) -> io::Result<Station> {
-        poll.registry()
-            .register(&mut listener, LISTENER, Interest::READABLE)?;
+    /// A station where nobody waits.
+    pub(crate) fn new(alloc: Global, poll: Poll, limits: Limits) -> io::Result<Station> {
         let registry = poll.registry().try_clone()?;
         Ok(Station {
             poll,
             events: Events::with_capacity(alloc, EVENTS)?,
-            listener: Some(listener),
             silent: SilentOnes::new(alloc, registry, limits.waiting)?,
-            intake: Intake::GoesOn,
             limits,
         })
     }
 
-    /// Lets connections in and through the door until it is closed.
-    pub(crate) fn run<R: Wait + Clock>(mut self, rt: &R, door: &TcpDoor) -> io::Result<()> {
+    /// Sees to connections until the door is closed.
+    pub(crate) fn run<R: Wait + Clock + Net>(mut self, rt: &R, door: &TcpDoor) -> io::Result<()> {
         for _ in rt.forever() {
             if door.is_closed() {
                 break;
@@ -93,62 +68,40 @@ impl Station {
     }
 
     /// Takes in who comes, sleeps until something happens, and sees to it.
-    fn turn<R: Wait + Clock>(&mut self, rt: &R, door: &TcpDoor) -> io::Result<()> {
+    fn turn<R: Wait + Clock + Net>(&mut self, rt: &R, door: &TcpDoor) -> io::Result<()> {
         let now = Instant::now(rt)?;
-        self.take_in(rt, door, now);
-        let wait = self.patience(now);
+        self.take_back(rt, door, now);
+        let soon = self.take_in(rt, door, now);
         door.count_silent(self.silent.len());
+        call(rt, door, door.to_call(rt));
+        let due = self.silent.until_due(now, self.limits.idle);
+        let wait = if door.lets_sleep(rt) {
+            due
+        } else {
+            sooner(due, soon)
+        };
         self.poll.poll(&mut self.events, wait)?;
         self.see_events(rt, door);
         self.close_due(rt, door, Instant::now(rt)?);
         Ok(())
     }
 
-    /// How long nothing has to be done unless something happens. None where that is for ever.
-    fn patience(&self, now: Instant) -> Option<Duration> {
-        let due = self.silent.until_due(now, self.limits.idle);
-        let retry = Duration::from_millis(RETRY);
-        match self.intake {
-            Intake::Waits | Intake::Full => due,
-            Intake::GoesOn => Some(Duration::ZERO),
-            Intake::Fails => Some(due.unwrap_or(retry).min(retry)),
-        }
-    }
-
-    /// Takes in who has come, as far as there is room.
-    fn take_in<R: Wait>(&mut self, rt: &R, door: &TcpDoor, now: Instant) {
-        if self.intake == Intake::Waits {
-            return;
-        }
-        self.intake = Intake::GoesOn;
+    /// Takes in who has come while no caller waits at the socket, as far as there is room. How long it need not look again.
+    fn take_in<R: Wait>(&mut self, rt: &R, door: &TcpDoor, now: Instant) -> Duration {
         for _ in 0..TAKEN {
-            if self.intake != Intake::GoesOn {
-                break;
+            match door.take_in(rt, self.silent.len(), self.limits.waiting) {
+                Intake::Came(stream) => self.begin(rt, door, stream, now),
+                Intake::Nobody => return Duration::from_millis(BEAT_MS),
+                Intake::Failed => return Duration::from_millis(RETRY_MS),
             }
-            self.take_one(rt, door, now);
         }
-    }
-
-    /// Takes in the next one.
-    fn take_one<R: Wait>(&mut self, rt: &R, door: &TcpDoor, now: Instant) {
-        if !door.has_room(rt, self.silent.len(), self.limits.waiting) {
-            self.intake = Intake::Full;
-            return;
-        }
-        let Some(listener) = &self.listener else {
-            self.intake = Intake::Waits;
-            return;
-        };
-        match listener.accept() {
-            Ok((stream, _)) => self.begin(rt, door, stream, now),
-            Err(error) => self.intake = intake_after(&error),
-        }
+        Duration::ZERO
     }
 
     /// Lets a connection that came through the door, or keeps it while it is silent.
     fn begin<R: Wait>(&mut self, rt: &R, door: &TcpDoor, stream: TcpStream, now: Instant) {
-        match look(&stream) {
-            Found::Begun => door.put(rt, net::TcpStream::from(stream)),
+        match look(&stream, 0) {
+            Found::Begun => door.put(rt, stream),
             Found::Silent => {
                 self.silent.add(stream, now);
             }
@@ -156,11 +109,22 @@ impl Station {
         }
     }
 
+    /// Keeps those that callers found silent.
+    fn take_back<R: Wait>(&mut self, rt: &R, door: &TcpDoor, now: Instant) {
+        for _ in 0..MOST_WAITING {
+            match door.take_back(rt) {
+                Some(stream) => {
+                    self.silent.add(stream, now);
+                }
+                None => return,
+            }
+        }
+    }
+
     /// Sees to what happened while it slept.
     fn see_events<R: Wait>(&mut self, rt: &R, door: &TcpDoor) {
         for event in &self.events {
             match event.token() {
-                LISTENER => self.intake = Intake::GoesOn,
                 WAKER => {}
                 Token(place) => see(rt, door, &mut self.silent, place, true),
             }
@@ -183,16 +147,34 @@ impl Station {
         self.silent.find_oldest();
     }
 
-    /// Takes in who has come by now, and closes the socket.
+    /// Calls all callers away from the socket, until this time at most.
+    fn call_all<R: Wait + Clock + Net>(
+        &mut self,
+        rt: &R,
+        door: &TcpDoor,
+        end: Option<Instant>,
+    ) -> io::Result<()> {
+        for _ in rt.forever() {
+            let there = door.at_socket(rt);
+            if there == 0 || time_left(end, Instant::now(rt)?).is_none() {
+                return Ok(());
+            }
+            call(rt, door, there);
+            let wait = Duration::from_millis(CALL_MS);
+            self.poll.poll(&mut self.events, Some(wait))?;
+            self.see_events(rt, door);
+        }
+        unreachable!()
+    }
+
+    /// Takes in who has come by now, as far as there is room.
     fn take_last<R: Wait>(&mut self, rt: &R, door: &TcpDoor, now: Instant) {
-        self.intake = Intake::GoesOn;
         for _ in 0..self.limits.waiting {
-            self.take_one(rt, door, now);
-            if self.intake != Intake::GoesOn {
-                break;
+            match door.take_in(rt, self.silent.len(), self.limits.waiting) {
+                Intake::Came(stream) => self.begin(rt, door, stream, now),
+                Intake::Nobody | Intake::Failed => return,
             }
         }
-        self.listener = None;
     }
 
     /// Lets those through the door whose requests begin by this time.
@@ -203,22 +185,33 @@ impl Station {
         end: Option<Instant>,
     ) -> io::Result<()> {
         for _ in rt.forever() {
-            let left = time_left(end, Instant::now(rt)?);
-            if self.silent.is_empty() || left.is_none() {
+            let now = Instant::now(rt)?;
+            let tries = door.on_trial() > 0;
+            self.take_back(rt, door, now);
+            let left = time_left(end, now);
+            if (self.silent.is_empty() && !tries) || left.is_none() {
                 return Ok(());
             }
             door.count_silent(self.silent.len());
-            self.poll.poll(&mut self.events, left)?;
+            let wait = if tries {
+                sooner(left, Duration::from_millis(BEAT_MS))
+            } else {
+                left
+            };
+            self.poll.poll(&mut self.events, wait)?;
             self.see_events(rt, door);
         }
         unreachable!()
     }
 
     /// Lets those through who have come by now and begin shortly, and closes the socket and all others.
-    fn finish<R: Wait + Clock>(mut self, rt: &R, door: &TcpDoor) -> io::Result<()> {
+    fn finish<R: Wait + Clock + Net>(mut self, rt: &R, door: &TcpDoor) -> io::Result<()> {
         let now = Instant::now(rt)?;
+        let end = now.checked_add(Duration::from_millis(GRACE_MS));
+        door.shut(rt);
+        self.call_all(rt, door, end)?;
         self.take_last(rt, door, now);
-        let end = now.checked_add(Duration::from_millis(GRACE));
+        door.close_socket();
         let waited = self.wait_until(rt, door, end);
         for place in 0..self.silent.places() {
             see(rt, door, &mut self.silent, place, false);
@@ -227,14 +220,16 @@ impl Station {
     }
 }
 
-/// How a socket stands after this error.
-fn intake_after(error: &io::Error) -> Intake {
-    match error.kind() {
-        ErrorKind::WouldBlock => Intake::Waits,
-        // A client has gone before it was taken in.
-        ErrorKind::ConnectionAborted => Intake::GoesOn,
-        _ => Intake::Fails,
+/// Calls so many callers away from the socket. Whom a call doesn't reach is called again soon.
+fn call<N: Net>(net: &N, door: &TcpDoor, count: usize) {
+    for _ in 0..count {
+        door.call(net);
     }
+}
+
+/// The shorter one of this wait, which may be for ever, and another.
+fn sooner(wait: Option<Duration>, other: Duration) -> Option<Duration> {
+    Some(wait.unwrap_or(other).min(other))
 }
 
 /// Lets the connection at this place through the door if its request has begun, and else closes it, where it has ended or isn't
@@ -248,7 +243,7 @@ fn see<R: Wait>(rt: &R, door: &TcpDoor, silent: &mut SilentOnes, place: usize, s
     match silent.look_at(place) {
         Some(Found::Begun) => {
             if let Some(stream) = silent.remove(place) {
-                door.put(rt, net::TcpStream::from(stream));
+                door.put(rt, stream);
             }
         }
         Some(Found::Silent) if stays => {}

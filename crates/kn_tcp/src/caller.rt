@@ -84,11 +84,10 @@ fn accept(listener: &TcpListener) -> io::Result<TcpStream> {
     Err(last)
 }
 
-/// The next connection, whose reads and writes don't wait for ever.
-fn accept_in_time(origin: &mut Origin, wait: Duration) -> io::Result<TcpStream> {
-    let stream = origin.next()?;
+/// The next connection, whose reads wait so long at most.
+fn accept_in_time(listener: &TcpListener, wait: Duration) -> io::Result<TcpStream> {
+    let stream = accept(listener)?;
     stream.set_read_timeout(Some(wait))?;
-    stream.set_write_timeout(Some(wait))?;
     Ok(stream)
 }
 
@@ -158,7 +157,7 @@ impl Caller for TcpCaller {
     fn meet(&mut self) -> Result<(), Failed> {
         // The client before sees the end of its answer, also while nobody else comes.
         self.part();
-        match accept_in_time(&mut self.origin, self.wait) {
+        match self.origin.next(self.wait) {
             Ok(stream) => {
                 self.line.begin(stream);
                 self.course = Course::new();

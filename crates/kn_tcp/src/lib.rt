@@ -9,6 +9,7 @@ mod closing;
 mod course;
 mod line;
 mod link;
+mod looks;
 mod names;
 
 pub use caller::TcpCaller;
@@ -16,3 +17,4 @@ pub use kn_reply::{
     answers_are_replies, plain_forms_are_determined, put_plain, replies_are_determined,
 };
 pub use link::TcpLink;
+pub use looks::{Found, look};

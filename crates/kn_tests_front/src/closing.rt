@@ -1,24 +1,12 @@
 //! The end of a front.
 
 use crate::clients::{ANSWER, all_read, ask_all, client, clients, is_served};
-use crate::server::{Done, front, serve};
+use crate::server::{front, meanwhile, serve, wait_for};
 use crate::{Runs, tell_all};
 use kn_door::Close;
 use kn_front::Front;
 use std::net::TcpStream;
-use std::time::Duration;
 use std::{io, thread};
-
-/// Waits until so many connections wait in front, for ten seconds at most.
-fn wait_for<T: Runs>(threads: &T, front: &Front, count: u64) -> bool {
-    for _ in 0..200 {
-        if front.door().waiting(threads) == count {
-            return true;
-        }
-        thread::sleep(threads, Duration::from_millis(50));
-    }
-    false
-}
 
 /// These clients ask, while ten are silent and so are these, who ask once the door is shut.
 fn shut_meanwhile<T: Runs>(
@@ -66,6 +54,28 @@ fn shut<T: Runs>(rt: &HostRuntime, threads: &T) -> io::Result<()> {
     tell_all(rt, &cases)
 }
 
+/// Four clients come to slots that wait, and are silent. Two of them ask once the door is shut.
+fn shut_beside_slots<T: Runs>(rt: &HostRuntime, threads: &T) -> io::Result<()> {
+    let front = front(rt, 60, 60, 4096)?;
+    let mut late = clients(rt, front.address(), 2)?;
+    let mut silent = clients(rt, front.address(), 2)?;
+    let alloc = rt.alloc();
+    let (done, came) = meanwhile(threads, alloc, &front, 4, || {
+        let waited = wait_for(threads, &front, 4);
+        front.door().close();
+        waited && ask_all(&mut late)
+    })?;
+    let cases = [
+        ("four wait beside slots", came),
+        ("two of them are served", done.served == 2),
+        ("and nobody fails", done.faults == 0),
+        ("as these see", all_read(alloc, &mut late, ANSWER)),
+        ("the others are closed", all_read(alloc, &mut silent, b"")),
+    ];
+    tell_all(rt, &cases)
+}
+
 pub fn all<T: Runs>(rt: &HostRuntime, threads: &T) -> io::Result<()> {
-    shut(rt, threads)
+    shut(rt, threads)?;
+    shut_beside_slots(rt, threads)
 }

@@ -1,8 +1,9 @@
 //! Many clients.
 
 use crate::clients::{ANSWER, about, all_read, ask_all, client, clients, is_served, passed};
-use crate::server::{front, meanwhile};
+use crate::server::{front, meanwhile, wait_for};
 use crate::{Runs, tell_all};
+use kn_front::Front;
 use std::io;
 use std::net::{SocketAddr, TcpStream};
 use std::time::Instant;
@@ -87,8 +88,41 @@ fn bare<T: Runs>(rt: &HostRuntime, threads: &T) -> io::Result<()> {
     tell_all(rt, &cases)
 }
 
+/// Whether so many clients that were silent are served, while the slots wait for others to come: each after the one before was, or all
+/// at once.
+fn begin_late<T: Runs>(
+    rt: &HostRuntime,
+    threads: &T,
+    front: &Front,
+    count: usize,
+) -> io::Result<bool> {
+    let mut one_by_one = clients(rt, front.address(), count)?;
+    let mut at_once = clients(rt, front.address(), count)?;
+    let mut served = wait_for(threads, front, 2 * count as u64);
+    for client in one_by_one.iter_mut() {
+        served = served && is_served(rt.alloc(), client);
+    }
+    Ok(served && ask_all(&mut at_once) && all_read(rt.alloc(), &mut at_once, ANSWER))
+}
+
+/// Four slots wait for who comes, and serve those who came before and begin only now, and then again.
+fn late<T: Runs>(rt: &HostRuntime, threads: &T) -> io::Result<()> {
+    let front = front(rt, 60, 60, 4096)?;
+    let (done, served) = meanwhile(threads, rt.alloc(), &front, 4, || {
+        begin_late(rt, threads, &front, 15).unwrap_or(false)
+            && begin_late(rt, threads, &front, 15).unwrap_or(false)
+    })?;
+    let cases = [
+        ("15 begin late one by one, and 15 at once, twice", served),
+        ("all of them were served", done.served == 60),
+        ("and nobody failed there", done.faults == 0),
+    ];
+    tell_all(rt, &cases)
+}
+
 pub fn all<T: Runs>(rt: &HostRuntime, threads: &T) -> io::Result<()> {
     one_of_many(rt, threads)?;
     four_slots(rt, threads)?;
-    bare(rt, threads)
+    bare(rt, threads)?;
+    late(rt, threads)
 }

@@ -12,14 +12,15 @@ mod server;
 mod stops;
 
 use std::io;
+use std::net::Net;
 use std::sync::Wait;
 use std::thread::Threads;
 use std::time::Clock;
 
 /// What threads need.
-pub trait Runs: Threads + Wait + Clock + Sync {}
+pub trait Runs: Threads + Wait + Clock + Net + Sync {}
 
-impl<T: Threads + Wait + Clock + Sync> Runs for T {}
+impl<T: Threads + Wait + Clock + Net + Sync> Runs for T {}
 
 /// Prints whether a case is as it must be.
 fn tell(rt: &HostRuntime, name: &str, holds: bool) -> io::Result<()> {

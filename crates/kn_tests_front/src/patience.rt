@@ -1,10 +1,9 @@
 //! Clients that take their time.
 
-use crate::clients::{
-    ANSWER, LATE, REQUEST, about, all_read, client, clients, is_served, passed, reads,
-};
-use crate::server::{front, meanwhile};
+use crate::clients::{ANSWER, LATE, REQUEST, about, client, clients, is_served, passed, reads};
+use crate::server::{front, meanwhile, wait_for};
 use crate::{Runs, tell_all};
+use kn_front::Front;
 use std::io::Write;
 use std::net::{SocketAddr, TcpStream};
 use std::time::{Clock, Duration, Instant};
@@ -90,25 +89,37 @@ fn is_in_time(rt: &HostRuntime, address: SocketAddr) -> io::Result<bool> {
     Ok(reads(rt.alloc(), &mut client, ANSWER))
 }
 
-/// Whether a client is served once three silent ones have gone after about a second.
-fn comes_to_full(rt: &HostRuntime, address: SocketAddr) -> io::Result<bool> {
-    let since = Instant::now(rt)?;
-    let mut silent = clients(rt, address, 3)?;
-    let mut fourth = client(rt, address)?;
-    let served = is_served(rt.alloc(), &mut fourth) && about(rt, since, 1_000);
-    Ok(served && all_read(rt.alloc(), &mut silent, b""))
+/// Whether a client that asks is served: at one of 50 tries, since one that takes its time before it asks is closed.
+fn is_served_soon(rt: &HostRuntime, address: SocketAddr) -> io::Result<bool> {
+    for _ in 0..50 {
+        if is_served(rt.alloc(), &mut client(rt, address)?) {
+            return Ok(true);
+        }
+    }
+    Ok(false)
 }
 
-/// Where three may wait, a fourth comes in when one has gone.
+/// Three clients are silent, and stay. One that asks is served all the same, one more that is silent is closed, and one of the three
+/// is served then.
+fn comes_to_full<T: Runs>(rt: &HostRuntime, threads: &T, front: &Front) -> io::Result<bool> {
+    let mut silent = clients(rt, front.address(), 3)?;
+    let full = wait_for(threads, front, 3);
+    let served = is_served_soon(rt, front.address())?;
+    let mut fifth = client(rt, front.address())?;
+    let since = Instant::now(rt)?;
+    let closed = reads(rt.alloc(), &mut fifth, b"") && about(rt, since, 0);
+    Ok(full && served && closed && is_served(rt.alloc(), &mut silent[1]))
+}
+
+/// Where three may wait.
 fn full<T: Runs>(rt: &HostRuntime, threads: &T) -> io::Result<()> {
-    let front = front(rt, 1, 60, 3)?;
-    let address = front.address();
-    let (done, served) = meanwhile(threads, rt.alloc(), &front, 1, || {
-        comes_to_full(rt, address).unwrap_or(false)
+    let front = front(rt, 60, 60, 3)?;
+    let (done, came) = meanwhile(threads, rt.alloc(), &front, 1, || {
+        comes_to_full(rt, threads, &front).unwrap_or(false)
     })?;
     let cases = [
-        ("the fourth of three comes in later", served),
-        ("it was served", done.served == 1),
+        ("three are silent, and a fourth is served", came),
+        ("and one of them", done.served == 2),
     ];
     tell_all(rt, &cases)
 }

@@ -110,6 +110,17 @@ pub fn serve<T: Runs>(threads: &T, alloc: Global, front: &Front, count: usize) -
     Ok(sum(&slots))
 }
 
+/// Waits until so many connections wait in front, for ten seconds at most.
+pub fn wait_for<T: Runs>(threads: &T, front: &Front, count: u64) -> bool {
+    for _ in 0..200 {
+        if front.door().waiting(threads) == count {
+            return true;
+        }
+        thread::sleep(threads, Duration::from_millis(50));
+    }
+    false
+}
+
 /// Runs the front and so many slots.
 pub fn run<T: Runs>(threads: &T, alloc: Global, front: &Front, slots: usize) -> io::Result<Done> {
     let (ran, done) = thread::join(

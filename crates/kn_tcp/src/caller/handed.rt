@@ -2,7 +2,8 @@
 ghost use Rattle.std.specs.Prelude.{◌≡◌, ◌≤◌, true, false};
 ghost use Rattle.kn_io.specs.Causes.{HasCause, Rose};
 
-use super::{CLIENT_WAIT, TcpCaller, accept};
+use super::{CLIENT_WAIT, TcpCaller, accept_in_time};
+use crate::looks::{Found, look};
 use kn_io::{Failed, Faulty, Source, fault};
 use std::io;
 use std::io::{ErrorKind, Write};
@@ -19,36 +20,24 @@ pub(super) enum Origin {
 }
 
 impl Origin {
-    /// The next connection.
-    pub(super) fn next(&mut self) -> io::Result<TcpStream> {
-        match self {
-            Origin::Socket(listener) => accept(listener),
+    /// The next connection. Its writes wait so long at most, and its reads too, unless it was handed over.
+    pub(super) fn next(&mut self, wait: Duration) -> io::Result<TcpStream> {
+        let stream = match self {
+            Origin::Socket(listener) => accept_in_time(listener, wait)?,
             Origin::Hand(handed) => match handed.take() {
-                Some(stream) => {
-                    stream.set_nonblocking(false)?;
-                    Ok(stream)
-                }
-                None => Err(io::Error::from(ErrorKind::NotConnected)),
+                Some(stream) => stream,
+                None => return Err(io::Error::from(ErrorKind::NotConnected)),
             },
-        }
-    }
-}
-
-/// Whether a connection's next read would give its end at once. An error is a broken one.
-fn is_at_its_end(stream: &TcpStream) -> io::Result<bool> {
-    stream.set_nonblocking(true)?;
-    let peeked = stream.peek(&mut [0; 1]);
-    stream.set_nonblocking(false)?;
-    match peeked {
-        Ok(n) => Ok(n == 0),
-        Err(error) if error.kind() == ErrorKind::WouldBlock => Ok(false),
-        Err(error) => Err(error),
+        };
+        stream.set_write_timeout(Some(wait))?;
+        Ok(stream)
     }
 }
 
 impl TcpCaller {
     /// A caller without a socket, which meets what it is handed, without faults so far. To meet nobody is a fault. Each write of
-    /// a connection waits for a minute at most, and so does each read until `wait_at_most` says another time.
+    /// a connection waits for a minute at most. A read waits until something comes, unless `wait_at_most` says how long: whoever
+    /// hands a connection over says it before a read that may find nothing.
     pub fn handed() -> TcpCaller
         ensures faults { ⟦<TcpCaller as Faulty>⟧.faults result ≡ 0 }
         ensures given { ⟦<TcpCaller as Source>⟧.given result ≡ 0 }
@@ -56,8 +45,8 @@ impl TcpCaller {
         TcpCaller::of(Origin::Hand(None), Duration::from_secs(CLIENT_WAIT))
     }
 
-    /// Hands it the connection that it meets next. One that was handed before and isn't met yet is closed, and a socket of its
-    /// own too.
+    /// Hands it the connection that it meets next, whose calls wait, as those of `std` do at first. One that was handed before and
+    /// isn't met yet is closed, and a socket of its own too.
     pub fn hand(&mut self, stream: TcpStream)
         ensures faults { ⟦<TcpCaller as Faulty>⟧.faults self.new ≡ ⟦<TcpCaller as Faulty>⟧.faults self.old }
         ensures given { ⟦<TcpCaller as Source>⟧.given self.new ≡ ⟦<TcpCaller as Source>⟧.given self.old }
@@ -85,7 +74,7 @@ impl TcpCaller {
         ensures given { ⟦<TcpCaller as Source>⟧.given self.new ≡ ⟦<TcpCaller as Source>⟧.given self.old }
     {
         let ended = match &self.line.stream {
-            Some(stream) => is_at_its_end(stream).unwrap_or(true),
+            Some(stream) => look(stream, 0) == Found::Ended,
             None => false,
         };
         if ended {
