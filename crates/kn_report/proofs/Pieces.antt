@@ -30,6 +30,10 @@ pub prefix_after : (a b c : Option (List ℕ)) (x y rest : List ℕ) → Appends
 prefix_after a b c x y rest h (n, few, k) =
     (length x + n, simp (length-append) (omega (arith, few)), rw (first_of_more n x y rest few) (Appends-trans a b c x (take n y) h k))
 
+-- some of a piece is some of it and of what follows
+pub prefix_more : (a b : Option (List ℕ)) (x rest : List ℕ) → AppendsPrefix a b x → AppendsPrefix a b (x ++ rest)
+prefix_more a b x rest (n, few, k) = (n, simp (length-append) (omega (arith, few)), rw (take-append-le n x rest few) k)
+
 -- ---- rows
 
 -- the texts of the entries up to one, and the text of that one
