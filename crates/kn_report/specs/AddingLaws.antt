@@ -34,9 +34,8 @@ pub record AddingLaws : Type 0 where
   -- and where nothing waits any more, and they are of the text
   pub cut : {a b : Option (List ℕ)} {p q : List ℕ} (d : Option (List ℕ)) (y : List ℕ)
       → Adds a b p q [] → q ≡ [] → AppendsPrefix b d y → AppendsPrefix a d (p ++ y)
-  -- where one text is written and some first bytes of a second one, some of both were, whatever were to follow
-  pub after : (a b d : Option (List ℕ)) (x y rest : List ℕ)
-      → Appends a b x → AppendsPrefix b d y → AppendsPrefix a d (x ++ (y ++ rest))
+  -- where one text is written and some first bytes of a second one, some of both were
+  pub after : (a b d : Option (List ℕ)) (x y : List ℕ) → Appends a b x → AppendsPrefix b d y → AppendsPrefix a d (x ++ y)
   -- some first bytes of a text are some first bytes of a longer one
   pub front : (a b : Option (List ℕ)) (x rest : List ℕ) → AppendsPrefix a b x → AppendsPrefix a b (x ++ rest)
   -- so behind what waits

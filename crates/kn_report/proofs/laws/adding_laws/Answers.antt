@@ -1,4 +1,4 @@
-use Rattle.kn_report.proofs.Pieces.{prefix_after, prefix_more}
+use Rattle.kn_report.proofs.Pieces.{prefix_last, prefix_more}
 use Rattle.kn_report.proofs.Waits.{adds_all, adds_cut, adds_done, adds_last, adds_more, adds_nothing, adds_on, adds_past, adds_some, adds_stop, adds_waits, waits_more}
 use Rattle.kn_report.proofs.laws.adding_laws.Goals as goal
 
@@ -16,7 +16,7 @@ returns c = record {
     last = adds_last;
     some = adds_some;
     cut = adds_cut;
-    after = prefix_after;
+    after = prefix_last;
     front = prefix_more;
     behind = waits_more;
   };
