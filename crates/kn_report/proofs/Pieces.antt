@@ -1,5 +1,5 @@
 -- What is written piece by piece.
-use Rattle.std.proofs.Common.{◌≡◌, ◌≤◌, ◌<◌, ◌+◌, ℕ, List, [], ◌∷◌, ◌++◌, length, length-append, take, drop, get_or, append_assoc, append-nil, sym, ap, ◌∙◌, arith}
+use Rattle.std.proofs.Common.{◌≡◌, ◌≤◌, ◌<◌, ◌+◌, ℕ, List, [], ◌∷◌, ◌++◌, length, length-append, take, drop, get_or, append_assoc, append-nil, sym, ap, ◌∙◌, subst, arith}
 use Rattle.std.specs.Prelude.{Option}
 use Rattle.std.specs.Io.KnownBytes.{Appends}
 use Rattle.std.specs.List.{flat_map}
@@ -29,6 +29,14 @@ first_of_more n x y rest h = take-append-add x (y ++ rest) n ∙ ap (λ (z : Lis
 pub prefix_after : (a b c : Option (List ℕ)) (x y rest : List ℕ) → Appends a b x → AppendsPrefix b c y → AppendsPrefix a c (x ++ (y ++ rest))
 prefix_after a b c x y rest h (n, few, k) =
     (length x + n, simp (length-append) (omega (arith, few)), rw (first_of_more n x y rest few) (Appends-trans a b c x (take n y) h k))
+
+-- .. where nothing follows
+pub prefix_last : (a b c : Option (List ℕ)) (x y : List ℕ) → Appends a b x → AppendsPrefix b c y → AppendsPrefix a c (x ++ y)
+prefix_last a b c x y h k = subst (λ (z : List ℕ). AppendsPrefix a c (x ++ z)) (append-nil y) (prefix_after a b c x y [] h k)
+
+-- some of a piece is some of it and of what follows
+pub prefix_more : (a b : Option (List ℕ)) (x rest : List ℕ) → AppendsPrefix a b x → AppendsPrefix a b (x ++ rest)
+prefix_more a b x rest (n, few, k) = (n, simp (length-append) (omega (arith, few)), rw (take-append-le n x rest few) k)
 
 -- ---- rows
 

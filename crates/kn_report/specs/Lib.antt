@@ -1,2 +1,3 @@
+pub mod AddingLaws
 pub mod Tally
 pub mod Waiting

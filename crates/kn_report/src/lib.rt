@@ -3,6 +3,7 @@
 
 mod decision;
 mod digits;
+pub mod laws;
 mod own;
 mod rows;
 mod stamp;

@@ -1,18 +1,18 @@
-use Rattle.std.proofs.Common.{◌+◌, drop, arith, append-nil, sym, ap, ◌∙◌}
+use Rattle.std.proofs.Common.{◌+◌, drop, arith, append-nil, refl, sym, ap, ◌∙◌}
 use Rattle.std.proofs.lemmas.Grind.{common_steps}
 use Rattle.kn_report.proofs.Pieces.{rows_more, rows_around}
 use Rattle.kn_report.proofs.Tallies.{totals_more}
-use Rattle.kn_report.proofs.Waits.{adds_nothing, adds_some, adds_trans}
+use Rattle.kn_report.proofs.Waits.{adds_more, adds_nothing, adds_some}
 use Rattle.kn_trace.specs.Report.{rows_text, totals}
 use Rattle.kn_report.proofs.waiting.add_rows.Goals as goal
 
 pub loop-e-init : goal.loop-e-init
 unfolding rows_text
-loop-e-init g c = record { held = adds_nothing _ _; later = grind arith; rows = omega arith; totals = λ t h. h ∙ ap totals (sym (append-nil t)) }
+loop-e-init g c = record { held = adds_nothing; later = grind arith; rows = omega arith; totals = λ t h. h ∙ ap totals (sym (append-nil t)) }
 
 pub loop-e-preserved : goal.loop-e-preserved
 loop-e-preserved g c =
-    let both = adds_trans _ _ _ _ _ _ _ _ c.loop-e.invariant.held c.in-Ok.ensures.ok in
+    let both = adds_more c.loop-e.invariant.held c.in-Ok.ensures.ok refl in
     record {
       held = grind (arith, common_steps, both, rows_more);
       later = grind (arith, common_steps);
@@ -22,5 +22,5 @@ loop-e-preserved g c =
 
 pub returns-in-Err-clause-err : goal.returns-in-Err-clause-err
 returns-in-Err-clause-err g c =
-    let some = adds_some _ _ _ _ _ _ _ (rows_text (drop (c.loop-e.e-index + 1) c.entries-e-items.result.now)) c.loop-e.invariant.held c.in-Err.ensures.err in
+    let some = adds_some _ _ (rows_text (drop (c.loop-e.e-index + 1) c.entries-e-items.result.now)) c.loop-e.invariant.held c.in-Err.ensures.err in
     grind (arith, common_steps, some, rows_around c.entries-e-items.result.now c.loop-e.e-index c.e-item.result)

@@ -3,10 +3,10 @@ use Rattle.kn_report.proofs.waiting.Waiting.add.Goals as goal
 
 pub returns-clause-ok : goal.returns-clause-ok
 returns-clause-ok g c =
-    on_ok c.put_all.result (adds_past (g.O.Sink.held c.args.out.now) (g.O.Sink.held c.flush.new.out) (g.O.Sink.held c.put_all.new.out) c.args.self.now c.flush.new.self c.args.text.now c.in-Ok.ensures.ok c.flush.ensures.empty)
+    on_ok c.put_all.result (adds_past c.in-Ok.ensures.ok c.flush.ensures.empty)
     c.put_all.ensures.ok
 
 pub returns-clause-err : goal.returns-clause-err
 returns-clause-err g c =
-    on_err c.put_all.result (adds_cut (g.O.Sink.held c.args.out.now) (g.O.Sink.held c.flush.new.out) (g.O.Sink.held c.put_all.new.out) c.args.self.now c.flush.new.self c.args.text.now c.in-Ok.ensures.ok c.flush.ensures.empty)
+    on_err c.put_all.result (adds_cut _ _ c.in-Ok.ensures.ok c.flush.ensures.empty)
     c.put_all.ensures.err
