@@ -21,9 +21,10 @@ use Rattle.kn_record.specs.Made.{IsMade}
 use Rattle.kn_record.specs.Made as made
 use Rattle.kn_record.specs.Views.{AreViews, pod_numbers}
 use Rattle.kn_throttle.specs.Gauges.{limit_in, limit_where}
-use Rattle.kn_core.specs.State.{RevisionState, StandsFor, StandsForSome}
+use Rattle.kn_core.specs.State.{RevisionState, StandsFor}
 use Rattle.kn_limits.specs.Limits.{StaysPods}
 use Rattle.kn_slices.specs.Activators.{Goes, HasPod, HasPods, IsActivator, limit_at, running_at}
+use Rattle.kn_slices.specs.Calls.{IsChangedBy}
 use Rattle.kn_slices.specs.Group.{Keeps, Sets}
 
 -- the laws that are used
@@ -56,13 +57,15 @@ limit_is c p [] each h = absurd (cc)
 limit_is c p (q ∷ all) each h = head_or c p q all (each 0 q (omega arith)) (λ h. limit_is c p all (λ k d low. each (suc k) d (omega (arith, low))) h) (q.number == p) refl h
 
 -- of a trace that it stands for
-goes_at : Laws → (pods : ℕ) (x y : RevisionState) (e : Event) (c : Trace) → x.spec.kind ≡ kind.Fixed pods → HasPods pods x → y.spec ≡ x.spec → ((p : ℕ) → e.act ≡ act.Lost p → ⊥)
-    → StandsFor x c → StandsFor y (c ++ react x.spec c e) → Goes pods e x y
-goes_at laws pods x y e c fixed has same other old new =
+goes_at : Laws → (pods : ℕ) (e : Event) (x y : RevisionState) (c : Trace) → IsChangedBy pods e x y → StandsFor x c → Goes pods e x y
+goes_at laws pods e x y c by old =
+    let new = by.stands c old in
+    let has = by.has in
+    let fixed = by.fixed in
     let d = c ++ react x.spec c e in
     let vx = laws.views x.spec x.parts.throttle.admission c old.parts.admission in
     let vy = laws.views y.spec y.parts.throttle.admission d new.parts.admission in
-    let stays = laws.pods x.spec c e pods fixed other (vx.draining ∙ has.none) in
+    let stays = laws.pods x.spec c e pods fixed by.lost (vx.draining ∙ has.none) in
     let has' : HasPods pods y = record { numbers = sym vy.pods ∙ (stays.live ∙ (vx.pods ∙ has.numbers)); none = sym vy.draining ∙ stays.none } in
     let lx : (q : ℕ) → q < pods → limit_at q x ≡ limit_of c q = λ q low. limit_is c q x.parts.throttle.admission.pods vx.limits (there pods q x has low) in
     let ly : (q : ℕ) → q < pods → limit_at q y ≡ limit_of d q = λ q low. limit_is d q y.parts.throttle.admission.pods vy.limits (there pods q y has' low) in
@@ -82,9 +85,8 @@ goes_prop : (pods : ℕ) (e : Event) (x y : RevisionState) → IsProp (Goes pods
 goes_prop pods e x y = hlevel props
 
 -- of whichever trace it stands for
-pub goes_of : Laws → (pods : ℕ) (x y : RevisionState) (e : Event) → StandsForSome x → x.spec.kind ≡ kind.Fixed pods → HasPods pods x → y.spec ≡ x.spec → ((p : ℕ) → e.act ≡ act.Lost p → ⊥)
-    → ((c : Trace) → StandsFor x c → StandsFor y (c ++ react x.spec c e)) → Goes pods e x y
-goes_of laws pods x y e some fixed has same other stands = ∥∥₁_elim some (goes_prop pods e x y) (λ z. goes_at laws pods x y e z.0 fixed has same other z.1 (stands z.0 z.1))
+pub goes_of : Laws → (pods : ℕ) (e : Event) (x y : RevisionState) → IsChangedBy pods e x y → Goes pods e x y
+goes_of laws pods e x y by = ∥∥₁_elim by.some (goes_prop pods e x y) (λ z. goes_at laws pods e x y z.0 by z.1)
 
 -- ---- what a group needs of it
 

@@ -9,17 +9,39 @@ use Rattle.kn_event.specs.declared.event.Act.{Act}
 use Rattle.kn_event.specs.declared.event.Act.TheVariants as act
 use Rattle.kn_event.specs.declared.event.Event.{Event}
 use Rattle.kn_core.specs.State.{RevisionState}
+use Rattle.kn_core.specs.Steps.{IsWithinRange}
 use Rattle.kn_slices.specs.declared.change.Change.{Change}
-use Rattle.kn_slices.specs.Slices.{due_change, force_after, hold, slice_of}
+use Rattle.kn_slices.specs.Slices.{due_change, hold, slice_of}
 use Rattle.kn_slices.specs.Activators.{EachIs, HasPod, IsActivator, IsGroupOf, IsPlain, StaysLow, limit_at, running_at}
+use Rattle.kn_slices.specs.Calls.{AreForcesAfter, IsGroupAct}
 use Rattle.kn_slices.proofs.Activators.{has_pod, keeps_of, sets_of}
 use Rattle.kn_slices.proofs.Due.{after_change, after_step, due_is, group_within}
 
 pub plain_limit : (a : Act) (q n : ℕ) → IsPlain a → a ≡ act.Limit q n → ⊥
 plain_limit a q n plain e = subst IsPlain e plain
 
-pub plain_lost : (a : Act) (p : ℕ) → IsPlain a → a ≡ act.Lost p → ⊥
+plain_lost : (a : Act) (p : ℕ) → IsPlain a → a ≡ act.Lost p → ⊥
 plain_lost a p plain e = subst IsPlain e plain
+
+plain_range : (a : Act) → IsPlain a → IsWithinRange a
+plain_range (act.Limit p n) plain = absurd plain
+plain_range a plain = cc
+
+-- neither a limit nor a loss
+pub plain_act : (a : Act) → IsPlain a → IsGroupAct a
+plain_act a plain = record {
+  range = plain_range a plain;
+  lost = λ p f. plain_lost a p plain f;
+  some = λ q n f. absurd (plain_limit a q n plain f);
+}
+
+-- a limit that is in range
+pub limit_act : (p n : ℕ) → 1 ≤ n → n ≤ 1000 → IsGroupAct (act.Limit p n)
+limit_act p n some most = record {
+  range = most;
+  lost = λ q f. absurd cc;
+  some = λ q m f. let same : n ≡ m = cc in subst (λ z. 1 ≤ z) same some;
+}
 
 at_default : (parts : List RevisionState) (i : ℕ) (d : RevisionState) → i < length parts → get_or parts i d ≡ get_or parts i (get_or parts i d)
 at_default parts i d low = get_or_default parts i d (get_or parts i d) low
@@ -88,10 +110,9 @@ each_set P parts i y low all is j d inside = elim (cases_eq j i) [
 -- the group after the call
 pub group_after_call : (parts : List RevisionState) (wanted force force' : List ℕ) (i : ℕ) (y d : RevisionState) → i < length parts → IsGroupOf parts wanted force → IsActivator (length wanted) y
     → ((q : ℕ) → q < length wanted → hold (limit_at q) (running_at q) (slice_set parts i y) ≤ get_or force q 0)
-    → length force' ≡ length force → ((p : ℕ) → p < length wanted → get_or force' p 0 ≡ force_after (hold (limit_at p) (running_at p) (slice_set parts i y)) (get_or wanted p 0) (get_or force p 0))
-    → IsGroupOf (slice_set parts i y) wanted force'
-group_after_call parts wanted force force' i y d low group is below same each = record {
-  group = group_within limit_at running_at parts wanted force force' i y group.group below same each;
+    → AreForcesAfter (slice_set parts i y) wanted force force' → IsGroupOf (slice_set parts i y) wanted force'
+group_after_call parts wanted force force' i y d low group is below after = record {
+  group = group_within limit_at running_at parts wanted force force' i y group.group below after.many after.each;
   activators = each_set (IsActivator (length wanted)) parts i y low group.activators is;
 }
 

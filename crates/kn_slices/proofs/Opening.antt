@@ -13,9 +13,10 @@ use Rattle.kn_record.specs.Views.{AreViews}
 use Rattle.kn_trace.specs.Events.{opening, opening_of}
 use Rattle.kn_trace.specs.Rows.{brought_to, created_by, drained_by, gone_by, limit_by}
 use Rattle.kn_trace.specs.Trace.{Trace, contains, draining, each_row, entry, is_draining, is_live_pod, is_running, last_of, limit_of, live_pods, running_at}
-use Rattle.kn_core.specs.State.{RevisionState, StandsFor}
+use Rattle.kn_core.specs.State.{RevisionState}
 use Rattle.kn_slices.specs.Activators as part
 use Rattle.kn_slices.specs.Activators.{HasPods, IsActivator, IsOpen}
+use Rattle.kn_slices.specs.Calls.{OpensWith}
 use Rattle.kn_slices.proofs.Activators.{first_has, limit_is, there}
 
 made_of : ℕ → ℕ → List ℕ → Trace
@@ -79,15 +80,16 @@ module _ (parts : PartFacts) (views : (s : Spec) (a : Admission) (c : Trace) →
       let rows = ap (λ (c : Trace). last_of (each_row (limit_by q) c)) (opens s start pods fixed) ∙ limits_each start s.cc q (range_with_len 0 pods) in
       ap (λ o. unwrap_or o 0) (rows ∙ ap (λ b. if b then Some s.cc else None) (first_has pods q low))
 
-  pub is_open : (s : Spec) (pods start : ℕ) (x : RevisionState) → s.kind ≡ kind.Fixed pods → 1 ≤ s.cc → x.spec ≡ s → StandsFor x (opening s start) → IsOpen s pods x
-  is_open s pods start x fixed some same stands =
+  pub is_open : (s : Spec) (pods start : ℕ) (x : RevisionState) → OpensWith s pods start x → IsOpen s pods x
+  is_open s pods start x is =
+      let fixed = is.fixed in
       let c = opening s start in
-      let v = views x.spec x.parts.throttle.admission c stands.parts.admission in
+      let v = views x.spec x.parts.throttle.admission c is.stands.parts.admission in
       let has : HasPods pods x = record { numbers = sym v.pods ∙ opening_pods s start pods fixed; none = sym v.draining ∙ opening_draining s start } in
       let limits : (q : ℕ) → q < pods → part.limit_at q x ≡ s.cc =
       λ q low. limit_is c q x.parts.throttle.admission.pods v.limits (there pods q x has low) ∙ opening_limit s start pods q fixed low in
       record {
-        part = record { fixed = ap (λ (z : Spec). z.kind) same ∙ fixed; has = has; limits = λ q low. subst (λ n. 1 ≤ n) (sym (limits q low)) some };
+        part = record { fixed = ap (λ (z : Spec). z.kind) is.spec ∙ fixed; has = has; limits = λ q low. subst (λ n. 1 ≤ n) (sym (limits q low)) is.least };
         limits = limits;
         runs = λ q. sym (v.count_running_at q) ∙ ap length (opening_running s start q);
       }

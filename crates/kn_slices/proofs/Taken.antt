@@ -1,8 +1,9 @@
 -- What one activator's event leaves of a group, in the words of its contracts.
-use Rattle.std.proofs.Common.{◌≡◌, ◌≤◌, ◌<◌, ℕ, ◌+◌, ◌-◌, ◌++◌, List, length, get_or, refl, ap, ◌∙◌, sym, subst, arith, inl, inr, []}
+use Rattle.std.proofs.Common.{◌≡◌, ◌≤◌, ◌<◌, ℕ, ◌+◌, ◌-◌, ◌++◌, List, length, get_or, refl, ap, ◌∙◌, sym, subst, arith, inl, inr, Some, []}
 use Rattle.std.specs.Prelude.{slice_set}
 use Rattle.std.proofs.lemmas.List.{length-set, get_or-set_other, get_or-set_same}
 use Rattle.std.proofs.lemmas.Bool.{cases_eq}
+use Rattle.kn_event.specs.declared.entry.Entry.{Entry}
 use Rattle.kn_event.specs.declared.event.Act.TheVariants as act
 use Rattle.kn_event.specs.declared.event.Event.{Event}
 use Rattle.kn_event.specs.declared.revision.Spec.{Spec}
@@ -10,14 +11,20 @@ use Rattle.kn_trace.specs.Events.{react}
 use Rattle.kn_trace.specs.Laws.{IsInert, IsLawful, IsSettled}
 use Rattle.kn_trace.specs.Trace.{Trace}
 use Rattle.kn_laws.specs.History.{IsMadeBy}
+use Rattle.kn_record.specs.Admission.{Admission}
+use Rattle.kn_record.specs.Made as made
+use Rattle.kn_record.specs.Views.{AreViews}
 use Rattle.kn_core.specs.State.{RevisionState, StandsFor}
-use Rattle.kn_slices.specs.Activators.{AreMarked, AreOpened, Takes, limit_at, running_at}
+use Rattle.kn_slices.specs.Activators.{AreMarked, AreOpened, IsGroupOf, Takes, limit_at, running_at}
+use Rattle.kn_slices.specs.Calls.{AddsToTrace, AreForcesAfter, HoldsRules, KeepsWanted, MakesDue, StepsGroup}
 use Rattle.kn_slices.specs.Group.{IsDue}
-use Rattle.kn_slices.specs.Slices.{slice_of, unset}
+use Rattle.kn_slices.specs.Slices.{force_after, slice_of, unset}
 use Rattle.kn_slices.specs.declared.change.Change.{Change}
-use Rattle.kn_slices.specs.Traces.{AreTraces, clocks_of, counts_of, made_at, specs_of, trace_at}
+use Rattle.kn_slices.specs.Traces.{AreTraces, GroupState, clocks_of, counts_of, due_of, limit_by, made_at, running_by, specs_of, trace_at}
 use Rattle.kn_slices.proofs.Activators.{limits_apart}
-use Rattle.kn_slices.proofs.Alike.{traces_set}
+use Rattle.kn_slices.proofs.Alike.{hold_traces, safe, traces_set}
+use Rattle.kn_slices.proofs.Due.{some_same}
+use Rattle.kn_slices.proofs.Forces.{forces_all}
 use Rattle.kn_slices.proofs.Steps.{map-set, map-set_same, marks_keep, marks_set, one_less, one_set, opened_keeps, unset_keeps}
 
 module _ (parts new : List RevisionState) (pods i : ℕ) (e : Event) (low : i < length parts) (t : Takes pods i e parts new) where
@@ -58,11 +65,40 @@ module _ (parts new : List RevisionState) (pods i : ℕ) (e : Event) (low : i < 
     plain_unset wanted many j d inside =
         ap (λ (xs : List RevisionState). unset limit_at (length xs) j wanted (get_or xs j d)) t.changed ∙ unset_keeps parts wanted i t.part low (λ p d inside. same_limits p d (omega (arith, inside, many))) j d inside
 
--- each activator's trace is lawful, whichever events made it
-pub lawful_all : ((s : Spec) (start clock count : ℕ) (c : Trace) → IsMadeBy s start clock count c → IsLawful s c) → ((s : Spec) (start clock count : ℕ) (c : Trace) → IsMadeBy s start clock count c → IsSettled s c)
-    → ((s : Spec) (start clock count : ℕ) (c : Trace) (e : Event) → IsMadeBy s start clock count c → IsInert s c e)
-    → (parts : List RevisionState) (cs : List Trace) (i : ℕ) (d : RevisionState) → AreTraces parts cs → i < length parts → IsLawful (get_or parts i d).spec (trace_at cs i) × IsSettled (get_or parts i d).spec (trace_at cs i) × ((e : Event) → IsInert (get_or parts i d).spec (trace_at cs i) e)
-lawful_all lawful settled inert parts cs i d traces low = let s = traces.each i d low in (lawful _ _ _ _ (trace_at cs i) s.events, settled _ _ _ _ (trace_at cs i) s.events, λ e. inert _ _ _ _ (trace_at cs i) e s.events)
+-- ---- a group, in the words of what its activators stand for
+
+-- the laws that are used
+pub record RuleLaws : Type 0 where
+  pub views : (s : Spec) (a : Admission) (c : Trace) → made.StandsFor a c → AreViews s a c
+  pub lawful : (s : Spec) (start clock count : ℕ) (c : Trace) → IsMadeBy s start clock count c → IsLawful s c
+  pub settled : (s : Spec) (start clock count : ℕ) (c : Trace) → IsMadeBy s start clock count c → IsSettled s c
+  pub inert : (s : Spec) (start clock count : ℕ) (c : Trace) (e : Event) → IsMadeBy s start clock count c → IsInert s c e
+
+pub holds_rules : RuleLaws → (g : GroupState) → IsGroupOf g.parts g.wanted g.force → HoldsRules g
+holds_rules laws g group = record {
+  safe = λ cs p traces inside. safe laws.views g.parts g.wanted g.force cs p group traces inside;
+  lawful = λ cs i d traces low.
+      let from = (traces.each i d low).events in
+      (laws.lawful _ _ _ _ (trace_at cs i) from, laws.settled _ _ _ _ (trace_at cs i) from, λ e. laws.inert _ _ _ _ (trace_at cs i) e from);
+}
+
+module _ (g h : GroupState) (i : ℕ) (e : Event) (low : i < length g.parts) (t : Takes (length g.wanted) i e g.parts h.parts) where
+  pub steps_group : (rows : List Entry) → AddsToTrace g.parts h.parts i e rows → StepsGroup g h i e rows
+  steps_group rows adds = record {
+    logged = λ cs d traces. adds.logged d (trace_at cs i) (traces.each i d low);
+    stands = λ cs d traces. taken_stands g.parts h.parts (length g.wanted) i e low t cs d traces (adds.stands d);
+    clocks = taken_clocks g.parts h.parts (length g.wanted) i e low t;
+    counts = taken_counts g.parts h.parts (length g.wanted) i e low t;
+  }
+
+  pub keeps_wanted : RuleLaws → h.limit ≡ g.limit → h.start ≡ g.start → h.wanted ≡ g.wanted → IsGroupOf g.parts g.wanted g.force → IsGroupOf h.parts g.wanted h.force
+      → AreForcesAfter h.parts g.wanted g.force h.force → KeepsWanted g h
+  keeps_wanted laws limit start wanted was is after = record {
+    same = record { limit = limit; start = start; specs = taken_specs g.parts h.parts (length g.wanted) i e low t };
+    wanted = wanted;
+    force = λ cs traces. forces_all limit_by running_by cs g.wanted g.force h.force was.group.many (after.many ∙ was.group.many) (λ p inside.
+        after.each p inside ∙ ap (λ n. force_after n (get_or g.wanted p 0) (get_or g.force p 0)) (hold_traces laws.views h.parts g.wanted h.force cs p is traces inside));
+  }
 
 -- the due change is made
 module _ (parts new : List RevisionState) (wanted : List ℕ) (x : Change) (time : ℕ) (due : (d : RevisionState) → IsDue limit_at running_at parts wanted x d)
@@ -100,3 +136,7 @@ module _ (parts new : List RevisionState) (wanted : List ℕ) (x : Change) (time
         let count : length new ≡ length parts = ap length t.changed ∙ length-set parts x.activator t.part in
         rw (at, count) refl
   ]
+
+-- whichever change that is
+pub makes_due : (g h : GroupState) (x : Change) (time : ℕ) (rows : List Entry) → due_of g ≡ Some x → StepsGroup g h x.activator (made_at time x) rows → MakesDue g h time rows
+makes_due g h x time rows due steps y is = subst (λ (z : Change). StepsGroup g h z.activator (made_at time z) rows) (some_same x y (sym due ∙ is)) steps

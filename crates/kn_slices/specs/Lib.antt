@@ -2,3 +2,4 @@ pub mod Slices
 pub mod Group
 pub mod Activators
 pub mod Traces
+pub mod Calls

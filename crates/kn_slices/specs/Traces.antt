@@ -11,7 +11,7 @@ use Rattle.kn_trace.specs.Trace as trace
 use Rattle.kn_core.specs.State.{RevisionState, StandsFor}
 use Rattle.kn_slices.specs.Activators.{AreSliced, limit_at, running_at}
 use Rattle.kn_slices.specs.declared.change.Change.{Change}
-use Rattle.kn_slices.specs.Slices.{due_change, hold, runs, unset}
+use Rattle.kn_slices.specs.Slices.{due_change, forces_from, hold, runs, unset}
 
 -- the limit at the opening, and the start; the activators, and of each pod the limit that is wanted and the one that is in force
 pub record GroupState : Type 0 where
@@ -65,6 +65,13 @@ limit_by p c = limit_of c p
 abbrev pub running_by : ℕ → Trace → ℕ
 running_by p c = length (trace.running_at c p)
 
+-- the due change, and the limits in force after a call
+abbrev pub due_among : List Trace → List ℕ → Option Change
+due_among cs wanted = due_change limit_by running_by (length cs) cs wanted
+
+abbrev pub forces_by : List Trace → List ℕ → List ℕ → List ℕ
+forces_by cs wanted force = forces_from limit_by running_by cs 0 wanted force
+
 -- what an event of activator i adds, and the traces with it
 abbrev pub rows_of : GroupState → List Trace → ℕ → RevisionState → Event → List Entry
 rows_of g cs i d e = react (part_at g i d).spec (trace_at cs i) e
@@ -91,7 +98,7 @@ AreLawful g = (cs : List Trace) (i : ℕ) (d : RevisionState) → AreTraces g.pa
 pub record IsCalm (g : GroupState) : Type 0 where
   pub slices : AreSliced g.parts g.wanted
   pub force : g.force ≡ g.wanted
-  pub none : (cs : List Trace) → AreTraces g.parts cs → due_change limit_by running_by (length cs) cs g.wanted ≡ None
+  pub none : (cs : List Trace) → AreTraces g.parts cs → due_among cs g.wanted ≡ None
 
 -- ---- how many changes are left
 

@@ -3,8 +3,8 @@ ghost use Rattle.std.specs.Prelude.{◌≡◌, ◌<◌, ◌≤◌, ℕ, List, If
 ghost use Rattle.kn_trace.specs.Trace.{Trace};
 ghost use Rattle.kn_core.specs.State.{RevisionState};
 ghost use Rattle.kn_slices.specs.Activators.{AreInForce, Ascends, running_at};
-ghost use Rattle.kn_slices.specs.Slices.{due_change, runs};
-ghost use Rattle.kn_slices.specs.Traces.{AreTraces, IsCalm, due_of, limit_by, part_at, running_by};
+ghost use Rattle.kn_slices.specs.Slices.{runs};
+ghost use Rattle.kn_slices.specs.Traces.{AreTraces, IsCalm, due_among, due_of, part_at, running_by};
 
 mod asking;
 mod opening;
@@ -138,7 +138,7 @@ impl Group {
     pub fn plan(&self) -> Option<Change>
         ensures due { result ≡ due_of self.now }
         ensures range { IfSome result (λ x. (x.activator < length self.now.parts) × (x.pod < length self.now.wanted)) }
-        ensures traces { (cs : List Trace) → AreTraces self.now.parts cs → result ≡ due_change limit_by running_by (length cs) cs self.now.wanted }
+        ensures traces { (cs : List Trace) → AreTraces self.now.parts cs → result ≡ due_among cs self.now.wanted }
     {
         append_laws();
         // Any part that is read brings what is kept of all.

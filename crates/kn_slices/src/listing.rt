@@ -1,7 +1,8 @@
 //! The pods that may be open, and what is done at those only.
 ghost use Rattle.std.specs.Prelude.{◌≡◌, ◌<◌, ◌≤◌, ℕ, length, slice_index_or, true, vec_capacity};
-ghost use Rattle.kn_slices.specs.Activators.{AreClosed, AreInForce, AreListed, AreMarked, AreOpen, EachIs, HasPod, IsOff, limit_at, running_at};
-ghost use Rattle.kn_slices.specs.Slices.{cut_of, first_from, force_after, hold, raise_of};
+ghost use Rattle.kn_slices.specs.Activators.{AreClosed, AreListed, AreMarked, AreOpen, EachIs, HasPod, IsOff, limit_at, running_at};
+ghost use Rattle.kn_slices.specs.Calls.{AreForcesAfter, HasOthersInForce};
+ghost use Rattle.kn_slices.specs.Slices.{cut_of, first_from, hold, raise_of};
 
 use crate::change::Change;
 use crate::parts::{cut_of, force_after, raise_of};
@@ -9,13 +10,11 @@ use kn_core::Revision;
 
 /// The limits in force after a call. Of the pods that aren't listed the wanted ones are, and stay so.
 pub(crate) fn refresh(parts: &[Revision], wanted: &[u64], force: &mut [u64], listed: &[u64])
-    requires listed { AreListed (length wanted.now) listed.now }
-    requires others { AreInForce wanted.now force.old listed.now }
+    requires others { HasOthersInForce wanted.now force.old listed.now }
     requires pods { (p : ℕ) → p < length wanted.now → EachIs (HasPod p) parts.now }
     requires many { length force.old ≡ length wanted.now }
     requires few { (p : ℕ) → p < length wanted.now → hold (limit_at p) (running_at p) parts.now ≤ 1000 }
-    ensures many { length force.new ≡ length force.old }
-    ensures each { (p : ℕ) → p < length wanted.now → slice_index_or force.new p 0 ≡ force_after (hold (limit_at p) (running_at p) parts.now) (slice_index_or wanted.now p 0) (slice_index_or force.old p 0) }
+    ensures { AreForcesAfter parts.now wanted.now force.old force.new }
 {
     if listed.is_empty() {
         return;

@@ -1,11 +1,9 @@
 //! How a group comes to another limit.
-ghost use Rattle.std.specs.Prelude.{◌≡◌, ◌<◌, ◌≤◌, ◌^◌, ◌+◌, ◌-◌, ℕ, List, [], length, max, slice_index_or, slice_set, None, Some};
-ghost use Rattle.kn_trace.specs.Trace.{Trace};
-ghost use Rattle.kn_core.specs.State.{RevisionState};
-ghost use Rattle.kn_slices.specs.Activators.{EachIs, limit_at, running_at};
-ghost use Rattle.kn_slices.specs.Slices.{cut_of, first_from, force_after, forces_from, hold, raise_of};
-ghost use Rattle.kn_slices.specs.declared.change.Change.{Change as ChangeValue};
-ghost use Rattle.kn_slices.specs.Traces.{AreLawful, AreSafe, AreTraces, IsSameGroup, clocks_of, counts_of, due_of, limit_by, load_of, made_at, part_at, rows_of, running_by, traces_after, unset_of};
+ghost use Rattle.std.specs.Prelude.{◌≡◌, ◌<◌, ◌≤◌, ◌-◌, [], length, slice_index_or, slice_set};
+ghost use Rattle.kn_slices.specs.Activators.{limit_at, running_at};
+ghost use Rattle.kn_slices.specs.Calls.{CanMakeDue, ForceAsked, HoldsRules, KeepsLoad, KeepsWanted, MakesDue, MayUnset};
+ghost use Rattle.kn_slices.specs.Slices.{cut_of, first_from, raise_of};
+ghost use Rattle.kn_slices.specs.Traces.{IsSameGroup};
 
 use super::Group;
 use super::taking::take;
@@ -52,11 +50,9 @@ impl Group {
         ensures parts { self.new.parts ≡ self.old.parts }
         ensures same { IsSameGroup self.old self.new }
         ensures wanted { self.new.wanted ≡ slice_set self.old.wanted p limit }
-        ensures force { (cs : List Trace) → AreTraces self.old.parts cs
-            → self.new.force ≡ slice_set self.old.force p (force_after (hold (limit_by p) (running_by p) cs) limit (max (slice_index_or self.old.force p 0) limit)) }
-        ensures unset { (j : ℕ) (d : RevisionState) → j < length self.old.parts → unset_of self.new j d ≤ unset_of self.old j d + 1 }
-        ensures safe { AreSafe self.new }
-        ensures lawful { AreLawful self.new }
+        ensures force { ForceAsked p limit self.old self.new }
+        ensures unset { MayUnset self.old self.new }
+        ensures rules { HoldsRules self.new }
     {
         append_laws();
         history_laws();
@@ -70,24 +66,12 @@ impl Group {
 
     /// Makes the due change, as an event of its activator: that pod's limit is set there.
     pub fn change(&mut self, time: u64, log: &mut EntryLog)
-        requires due { due_of self.old ≡ None → ⊥ }
+        requires can { CanMakeDue self.old time }
         requires empty { log.old ≡ [] }
-        requires order { EachIs (λ x. x.clock ≤ time) self.old.parts }
-        requires times { time ≤ 2 ^ 42 }
-        requires count { (x : ChangeValue) (d : RevisionState) → due_of self.old ≡ Some x → (part_at self.old x.activator d).events < 2 ^ 54 }
-        ensures logged { (x : ChangeValue) (cs : List Trace) (d : RevisionState) → due_of self.old ≡ Some x → AreTraces self.old.parts cs
-            → log.new ≡ rows_of self.old cs x.activator d (made_at time x) }
-        ensures stands { (x : ChangeValue) (cs : List Trace) (d : RevisionState) → due_of self.old ≡ Some x → AreTraces self.old.parts cs
-            → AreTraces self.new.parts (traces_after self.old cs x.activator d (made_at time x)) }
-        ensures same { IsSameGroup self.old self.new }
-        ensures wanted { self.new.wanted ≡ self.old.wanted }
-        ensures force { (cs : List Trace) → AreTraces self.new.parts cs
-            → self.new.force ≡ forces_from limit_by running_by cs 0 self.old.wanted self.old.force }
-        ensures clocks { (x : ChangeValue) → due_of self.old ≡ Some x → clocks_of self.new.parts ≡ slice_set (clocks_of self.old.parts) x.activator time }
-        ensures counts { (x : ChangeValue) (d : RevisionState) → due_of self.old ≡ Some x → counts_of self.new.parts ≡ slice_set (counts_of self.old.parts) x.activator ((part_at self.old x.activator d).events + 1) }
-        ensures load { (j : ℕ) (d : RevisionState) → j < length self.old.parts → load_of self.new j d ≡ load_of self.old j d }
-        ensures safe { AreSafe self.new }
-        ensures lawful { AreLawful self.new }
+        ensures makes { MakesDue self.old self.new time log.new }
+        ensures keeps { KeepsWanted self.old self.new }
+        ensures load { KeepsLoad self.old self.new }
+        ensures rules { HoldsRules self.new }
     {
         append_laws();
         history_laws();

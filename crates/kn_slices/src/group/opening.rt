@@ -1,11 +1,12 @@
 //! How a group opens.
-ghost use Rattle.std.specs.Prelude.{◌≡◌, ◌≤◌, ◌<◌, ◌^◌, ℕ, [], length, replicate, IfOk};
+ghost use Rattle.std.specs.Prelude.{◌≡◌, ◌≤◌, ◌<◌, ◌^◌, [], length, replicate, IfOk};
 ghost use Rattle.kn_event.specs.FixedSpec.{fixed_spec};
 ghost use Rattle.kn_event.specs.Ranges.{AreSlots};
 ghost use Rattle.kn_trace.specs.Events.{opening};
 ghost use Rattle.kn_core.specs.State.{RevisionState};
-ghost use Rattle.kn_slices.specs.Activators.{AreFresh, IsFresh, openings_of, slices_of};
-ghost use Rattle.kn_slices.specs.Traces.{AreLawful, AreSafe, AreTraces, load_of, part_at, specs_of, clocks_of};
+ghost use Rattle.kn_slices.specs.Activators.{AreFresh, IsFresh};
+ghost use Rattle.kn_slices.specs.Calls.{CanOpen, HoldsRules, IsAtOpening};
+ghost use Rattle.kn_slices.specs.Traces.{part_at};
 
 use super::Group;
 use crate::laws::opening_laws;
@@ -52,14 +53,7 @@ fn open_parts(
     slots: Slots,
     start: u64,
 ) -> Result<Vec<Revision>, Memory>
-    requires few { n ≤ 16 }
-    requires least { n ≤ limit }
-    requires most { limit ≤ 1000 }
-    requires pods { pods ≤ 500 }
-    requires waits_least { 1 ≤ timeout_s }
-    requires waits_most { timeout_s ≤ 3600 }
-    requires slots { AreSlots slots }
-    requires start { start ≤ 2 ^ 42 }
+    requires { CanOpen n limit pods timeout_s slots start }
     ensures { IfOk result (λ parts. AreFresh n limit pods timeout_s slots start parts.items) }
 {
     let mut log = EntryLog::new(alloc)?;
@@ -105,24 +99,9 @@ impl Group {
         start: u64,
     ) -> Result<Group, Memory>
         requires some { 1 ≤ n }
-        requires few { n ≤ 16 }
-        requires least { n ≤ limit }
-        requires most { limit ≤ 1000 }
-        requires pods { pods ≤ 500 }
-        requires waits_least { 1 ≤ timeout_s }
-        requires waits_most { timeout_s ≤ 3600 }
-        requires slots { AreSlots slots }
-        requires start { start ≤ 2 ^ 42 }
-        ensures traces { IfOk result (λ g. AreTraces g.parts (openings_of n limit pods timeout_s slots start)) }
-        ensures specs { IfOk result (λ g. specs_of g.parts ≡ slices_of n limit pods timeout_s slots) }
-        ensures limit { IfOk result (λ g. g.limit ≡ limit) }
-        ensures start { IfOk result (λ g. g.start ≡ start) }
-        ensures wanted { IfOk result (λ g. g.wanted ≡ replicate pods limit) }
-        ensures force { IfOk result (λ g. g.force ≡ replicate pods limit) }
-        ensures clocks { IfOk result (λ g. clocks_of g.parts ≡ replicate n start) }
-        ensures load { IfOk result (λ g. (j : ℕ) (d : RevisionState) → j < n → load_of g j d ≡ 0) }
-        ensures safe { IfOk result (λ g. AreSafe g) }
-        ensures lawful { IfOk result (λ g. AreLawful g) }
+        requires opens { CanOpen n limit pods timeout_s slots start }
+        ensures opening { IfOk result (λ g. IsAtOpening n limit pods timeout_s slots start g) }
+        ensures rules { IfOk result (λ g. HoldsRules g) }
     {
         append_laws();
         history_laws();

@@ -1,13 +1,11 @@
 //! What a group makes of one activator's event.
-ghost use Rattle.std.specs.Prelude.{◌≡◌, ◌<◌, ◌≤◌, ◌^◌, ◌+◌, ◌++◌, ℕ, List, [], length, slice_index_or, slice_set};
-ghost use Rattle.kn_event.specs.declared.event.Act.TheVariants as act;
-ghost use Rattle.kn_trace.specs.Events.{react, told_of};
+ghost use Rattle.std.specs.Prelude.{◌≡◌, [], length};
+ghost use Rattle.kn_trace.specs.Events.{told_of};
 ghost use Rattle.kn_trace.specs.Trace.{Trace};
-ghost use Rattle.kn_core.specs.State.{RevisionState, StandsFor};
-ghost use Rattle.kn_core.specs.Steps.{IsWithinRange};
-ghost use Rattle.kn_slices.specs.Activators.{AreInForce, AreListed, Goes, IsActivator, IsGroupOf, IsPlain, StaysLow, Takes, limit_at, running_at};
-ghost use Rattle.kn_slices.specs.Slices.{force_after, forces_from, hold};
-ghost use Rattle.kn_slices.specs.Traces.{AreLawful, AreSafe, AreTraces, IsCalm, IsSameGroup, clocks_of, counts_of, limit_by, part_at, rows_of, running_by, trace_at, traces_after, unset_of};
+ghost use Rattle.kn_core.specs.State.{StandsFor};
+ghost use Rattle.kn_slices.specs.Activators.{IsGroupOf, IsPlain, StaysLow, Takes};
+ghost use Rattle.kn_slices.specs.Calls.{AddsToTrace, AreForcesAfter, CanCome, CanStep, HasOthersInForce, HoldsRules, IsGroupAct, IsToldAt, IsToldBy, KeepsUnset, KeepsWanted, StepsGroup, StepsPart};
+ghost use Rattle.kn_slices.specs.Traces.{IsCalm};
 
 use super::Group;
 use crate::laws::activator_laws;
@@ -19,20 +17,10 @@ use kn_record::append::append_laws;
 
 /// An event of one activator, and what a group sees of it.
 fn step_part(part: &mut Revision, e: &Event, log: &mut EntryLog) -> Told
+    requires can { CanStep part.old e.now }
     requires empty { log.old ≡ [] }
-    requires order { part.old.clock ≤ e.now.time }
-    requires times { e.now.time ≤ 2 ^ 42 }
-    requires count { part.old.events < 2 ^ 54 }
-    requires range { IsWithinRange e.now.act }
-    requires lost { (p : ℕ) → e.now.act ≡ act.Lost p → ⊥ }
-    ensures logged { (c : Trace) → StandsFor part.old c → log.new ≡ react part.old.spec c e.now }
+    ensures steps { StepsPart part.old part.new e.now log.new }
     ensures told { (c : Trace) → StandsFor part.old c → result ≡ told_of part.old.spec c e.now }
-    ensures stands { (c : Trace) → StandsFor part.old c → StandsFor part.new (c ++ react part.old.spec c e.now) }
-    ensures goes { (pods : ℕ) → IsActivator pods part.old → Goes pods e.now part.old part.new }
-    ensures spec { part.new.spec ≡ part.old.spec }
-    ensures start { part.new.start ≡ part.old.start }
-    ensures clock { part.new.clock ≡ e.now.time }
-    ensures events { part.new.events ≡ part.old.events + 1 }
 {
     activator_laws();
     let _live = part.live();
@@ -42,19 +30,9 @@ fn step_part(part: &mut Revision, e: &Event, log: &mut EntryLog) -> Told
 /// The same, and nothing is told.
 #[inline(always)]
 fn take_part(part: &mut Revision, e: &Event, log: &mut EntryLog)
+    requires can { CanStep part.old e.now }
     requires empty { log.old ≡ [] }
-    requires order { part.old.clock ≤ e.now.time }
-    requires times { e.now.time ≤ 2 ^ 42 }
-    requires count { part.old.events < 2 ^ 54 }
-    requires range { IsWithinRange e.now.act }
-    requires lost { (p : ℕ) → e.now.act ≡ act.Lost p → ⊥ }
-    ensures logged { (c : Trace) → StandsFor part.old c → log.new ≡ react part.old.spec c e.now }
-    ensures stands { (c : Trace) → StandsFor part.old c → StandsFor part.new (c ++ react part.old.spec c e.now) }
-    ensures goes { (pods : ℕ) → IsActivator pods part.old → Goes pods e.now part.old part.new }
-    ensures spec { part.new.spec ≡ part.old.spec }
-    ensures start { part.new.start ≡ part.old.start }
-    ensures clock { part.new.clock ≡ e.now.time }
-    ensures events { part.new.events ≡ part.old.events + 1 }
+    ensures { StepsPart part.old part.new e.now log.new }
 {
     activator_laws();
     let _live = part.live();
@@ -73,25 +51,16 @@ fn step_in(
     listed: &[u64],
 ) -> Told
     requires group { IsGroupOf parts.old wanted.now force.old }
-    requires part { i < length parts.old }
+    requires can { CanCome parts.old i e.now }
     requires empty { log.old ≡ [] }
-    requires order { (d : RevisionState) → (slice_index_or parts.old i d).clock ≤ e.now.time }
-    requires times { e.now.time ≤ 2 ^ 42 }
-    requires count { (d : RevisionState) → (slice_index_or parts.old i d).events < 2 ^ 54 }
-    requires range { IsWithinRange e.now.act }
-    requires lost { (p : ℕ) → e.now.act ≡ act.Lost p → ⊥ }
-    requires some { (q n : ℕ) → e.now.act ≡ act.Limit q n → 1 ≤ n }
-    requires listed { AreListed (length wanted.now) listed.now }
-    requires others { AreInForce wanted.now force.old listed.now }
+    requires act { IsGroupAct e.now.act }
+    requires others { HasOthersInForce wanted.now force.old listed.now }
     requires low { StaysLow parts.old wanted.now force.old i e.now }
     ensures group { IsGroupOf parts.new wanted.now force.new }
-    ensures logged { (d : RevisionState) (c : Trace) → StandsFor (slice_index_or parts.old i d) c → log.new ≡ react (slice_index_or parts.old i d).spec c e.now }
-    ensures told { (d : RevisionState) (c : Trace) → StandsFor (slice_index_or parts.old i d) c → result ≡ told_of (slice_index_or parts.old i d).spec c e.now }
-    ensures stands { (d : RevisionState) (c : Trace) → StandsFor (slice_index_or parts.old i d) c → StandsFor (slice_index_or parts.new i d) (c ++ react (slice_index_or parts.old i d).spec c e.now) }
     ensures takes { Takes (length wanted.now) i e.now parts.old parts.new }
-    ensures many { length force.new ≡ length force.old }
-    ensures same { length parts.new ≡ length parts.old }
-    ensures force { (p : ℕ) → p < length wanted.now → slice_index_or force.new p 0 ≡ force_after (hold (limit_at p) (running_at p) parts.new) (slice_index_or wanted.now p 0) (slice_index_or force.old p 0) }
+    ensures adds { AddsToTrace parts.old parts.new i e.now log.new }
+    ensures force { AreForcesAfter parts.new wanted.now force.old force.new }
+    ensures told { IsToldAt parts.old i e.now result }
 {
     let at = i as usize;
     let told = step_part(&mut parts[at], e, log);
@@ -111,24 +80,15 @@ pub(super) fn take(
     listed: &[u64],
 )
     requires group { IsGroupOf parts.old wanted.now force.old }
-    requires part { i < length parts.old }
+    requires can { CanCome parts.old i e.now }
     requires empty { log.old ≡ [] }
-    requires order { (d : RevisionState) → (slice_index_or parts.old i d).clock ≤ e.now.time }
-    requires times { e.now.time ≤ 2 ^ 42 }
-    requires count { (d : RevisionState) → (slice_index_or parts.old i d).events < 2 ^ 54 }
-    requires range { IsWithinRange e.now.act }
-    requires lost { (p : ℕ) → e.now.act ≡ act.Lost p → ⊥ }
-    requires some { (q n : ℕ) → e.now.act ≡ act.Limit q n → 1 ≤ n }
-    requires listed { AreListed (length wanted.now) listed.now }
-    requires others { AreInForce wanted.now force.old listed.now }
+    requires act { IsGroupAct e.now.act }
+    requires others { HasOthersInForce wanted.now force.old listed.now }
     requires low { StaysLow parts.old wanted.now force.old i e.now }
     ensures group { IsGroupOf parts.new wanted.now force.new }
-    ensures logged { (d : RevisionState) (c : Trace) → StandsFor (slice_index_or parts.old i d) c → log.new ≡ react (slice_index_or parts.old i d).spec c e.now }
-    ensures stands { (d : RevisionState) (c : Trace) → StandsFor (slice_index_or parts.old i d) c → StandsFor (slice_index_or parts.new i d) (c ++ react (slice_index_or parts.old i d).spec c e.now) }
     ensures takes { Takes (length wanted.now) i e.now parts.old parts.new }
-    ensures many { length force.new ≡ length force.old }
-    ensures same { length parts.new ≡ length parts.old }
-    ensures force { (p : ℕ) → p < length wanted.now → slice_index_or force.new p 0 ≡ force_after (hold (limit_at p) (running_at p) parts.new) (slice_index_or wanted.now p 0) (slice_index_or force.old p 0) }
+    ensures adds { AddsToTrace parts.old parts.new i e.now log.new }
+    ensures force { AreForcesAfter parts.new wanted.now force.old force.new }
 {
     let at = i as usize;
     take_part(&mut parts[at], e, log);
@@ -139,25 +99,14 @@ impl Group {
     /// An event of one activator: the log becomes what it adds to that activator's trace, and the answer is what it is told. It is
     /// neither a limit, nor a tick, nor a loss.
     pub fn step(&mut self, i: u64, e: &Event, log: &mut EntryLog) -> Told
-        requires part { i < length self.old.parts }
+        requires can { CanCome self.old.parts i e.now }
         requires empty { log.old ≡ [] }
-        requires order { (d : RevisionState) → (part_at self.old i d).clock ≤ e.now.time }
-        requires times { e.now.time ≤ 2 ^ 42 }
-        requires count { (d : RevisionState) → (part_at self.old i d).events < 2 ^ 54 }
         requires act { IsPlain e.now.act }
-        ensures logged { (cs : List Trace) (d : RevisionState) → AreTraces self.old.parts cs → log.new ≡ rows_of self.old cs i d e.now }
-        ensures told { (cs : List Trace) (d : RevisionState) → AreTraces self.old.parts cs → result ≡ told_of (part_at self.old i d).spec (trace_at cs i) e.now }
-        ensures stands { (cs : List Trace) (d : RevisionState) → AreTraces self.old.parts cs
-            → AreTraces self.new.parts (traces_after self.old cs i d e.now) }
-        ensures same { IsSameGroup self.old self.new }
-        ensures wanted { self.new.wanted ≡ self.old.wanted }
-        ensures force { (cs : List Trace) → AreTraces self.new.parts cs
-            → self.new.force ≡ forces_from limit_by running_by cs 0 self.old.wanted self.old.force }
-        ensures clocks { clocks_of self.new.parts ≡ slice_set (clocks_of self.old.parts) i e.now.time }
-        ensures counts { (d : RevisionState) → counts_of self.new.parts ≡ slice_set (counts_of self.old.parts) i ((part_at self.old i d).events + 1) }
-        ensures unset { (j : ℕ) (d : RevisionState) → j < length self.old.parts → unset_of self.new j d ≡ unset_of self.old j d }
-        ensures safe { AreSafe self.new }
-        ensures lawful { AreLawful self.new }
+        ensures steps { StepsGroup self.old self.new i e.now log.new }
+        ensures told { IsToldBy self.old i e.now result }
+        ensures keeps { KeepsWanted self.old self.new }
+        ensures unset { KeepsUnset self.old self.new }
+        ensures rules { HoldsRules self.new }
     {
         append_laws();
         history_laws();
@@ -175,25 +124,14 @@ impl Group {
     /// Takes an event of one activator as `step` does, and answers nothing. Where no limit was still to change, none is.
     #[inline(always)]
     pub fn take(&mut self, i: u64, e: &Event, log: &mut EntryLog)
-        requires part { i < length self.old.parts }
+        requires can { CanCome self.old.parts i e.now }
         requires empty { log.old ≡ [] }
-        requires order { (d : RevisionState) → (part_at self.old i d).clock ≤ e.now.time }
-        requires times { e.now.time ≤ 2 ^ 42 }
-        requires count { (d : RevisionState) → (part_at self.old i d).events < 2 ^ 54 }
         requires act { IsPlain e.now.act }
-        ensures logged { (cs : List Trace) (d : RevisionState) → AreTraces self.old.parts cs → log.new ≡ rows_of self.old cs i d e.now }
-        ensures stands { (cs : List Trace) (d : RevisionState) → AreTraces self.old.parts cs
-            → AreTraces self.new.parts (traces_after self.old cs i d e.now) }
-        ensures same { IsSameGroup self.old self.new }
-        ensures wanted { self.new.wanted ≡ self.old.wanted }
-        ensures force { (cs : List Trace) → AreTraces self.new.parts cs
-            → self.new.force ≡ forces_from limit_by running_by cs 0 self.old.wanted self.old.force }
-        ensures clocks { clocks_of self.new.parts ≡ slice_set (clocks_of self.old.parts) i e.now.time }
-        ensures counts { (d : RevisionState) → counts_of self.new.parts ≡ slice_set (counts_of self.old.parts) i ((part_at self.old i d).events + 1) }
-        ensures unset { (j : ℕ) (d : RevisionState) → j < length self.old.parts → unset_of self.new j d ≡ unset_of self.old j d }
+        ensures steps { StepsGroup self.old self.new i e.now log.new }
+        ensures keeps { KeepsWanted self.old self.new }
+        ensures unset { KeepsUnset self.old self.new }
         ensures calm { IsCalm self.old → IsCalm self.new }
-        ensures safe { AreSafe self.new }
-        ensures lawful { AreLawful self.new }
+        ensures rules { HoldsRules self.new }
     {
         append_laws();
         history_laws();

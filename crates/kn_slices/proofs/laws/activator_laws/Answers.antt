@@ -1,5 +1,7 @@
-use Rattle.kn_slices.proofs.Activators.{goes_of}
+use Rattle.kn_slices.proofs.Activators.{Laws, goes_of}
 use Rattle.kn_slices.proofs.laws.activator_laws.Goals as goal
 
 pub returns : goal.returns
-returns c = goes_of (record { views = c.append_laws.ensures.views; runs = c.limit_laws.ensures.runs; limits = c.limit_laws.ensures.limits; set = c.limit_laws.ensures.set; pods = c.limit_laws.ensures.pods })
+returns c =
+    let laws : Laws = record { views = c.append_laws.ensures.views; runs = c.limit_laws.ensures.runs; limits = c.limit_laws.ensures.limits; set = c.limit_laws.ensures.set; pods = c.limit_laws.ensures.pods } in
+    goes_of laws

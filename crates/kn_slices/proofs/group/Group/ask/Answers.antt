@@ -4,10 +4,10 @@ use Rattle.std.proofs.lemmas.List.{get_or_default}
 use Rattle.kn_core.specs.State.{RevisionState}
 use Rattle.kn_slices.specs.Activators.{limit_at, running_at}
 use Rattle.kn_slices.specs.Slices.{force_after, hold}
-use Rattle.kn_slices.proofs.Alike.{hold_traces, safe}
+use Rattle.kn_slices.proofs.Alike.{hold_traces}
 use Rattle.kn_slices.proofs.Calls.{each_has}
 use Rattle.kn_slices.proofs.Steps.{group_asked, marks_asked, one_more}
-use Rattle.kn_slices.proofs.Taken.{lawful_all}
+use Rattle.kn_slices.proofs.Taken.{holds_rules}
 use Rattle.kn_slices.proofs.group.Group.ask.Goals as goal
 use Rattle.kn_slices.proofs.group.Group.ask.Goals.{After-list_open}
 
@@ -63,10 +63,7 @@ returns-clause-unset c = rw (← c.self.view_is) (λ j d inside.
     let parts = c.self.inside.parts.items in
     one_more (get_or parts j d) c.self.inside.wanted.items (length parts) j c.args.p c.args.limit low)
 
-pub returns-clause-safe : goal.returns-clause-safe
-returns-clause-safe c = λ cs q traces inside.
-    let kept = invariant_of-self c in
-    safe c.append_laws.ensures.views c.self.inside.parts.items (slice_set c.self.inside.wanted.items c.args.p c.args.limit) (slice_set c.self.inside.force.items c.args.p c.force_after.result) cs q kept.group traces inside
-
-pub returns-clause-lawful : goal.returns-clause-lawful
-returns-clause-lawful c = λ cs i d traces inside. lawful_all c.history_laws.ensures.lawful c.history_laws.ensures.settled c.history_laws.ensures.inert c.self.inside.parts.items cs i d traces inside
+pub returns-clause-rules : goal.returns-clause-rules
+returns-clause-rules c = holds_rules
+    (record { views = c.append_laws.ensures.views; lawful = c.history_laws.ensures.lawful; settled = c.history_laws.ensures.settled; inert = c.history_laws.ensures.inert })
+    _ (invariant_of-self c).group

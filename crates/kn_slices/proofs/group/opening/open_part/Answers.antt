@@ -14,7 +14,10 @@ returns c =
       clock = c.in_ok-part.ensures.clock;
       events = c.in_ok-part.ensures.events;
       stands = stands;
-      is_open =
-          c.opening_laws.ensures s c.args.pods c.args.start _ (fixed_kind c.args.limit c.args.pods c.args.timeout_s c.args.slots)
-          (subst (λ n. 1 ≤ n) (sym (fixed_cc c.args.limit c.args.pods c.args.timeout_s c.args.slots)) c.requires.least) same stands;
+      is_open = c.opening_laws.ensures s c.args.pods c.args.start _ (record {
+        fixed = fixed_kind c.args.limit c.args.pods c.args.timeout_s c.args.slots;
+        least = subst (λ n. 1 ≤ n) (sym (fixed_cc c.args.limit c.args.pods c.args.timeout_s c.args.slots)) c.requires.least;
+        spec = same;
+        stands = stands;
+      });
     }
