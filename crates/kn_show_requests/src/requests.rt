@@ -19,6 +19,7 @@ use kn_lives::laws::{lives_laws, row_laws};
 use kn_lives::{Lives, arrival_tag};
 use kn_record::facts::fact_laws;
 use kn_report::Waiting;
+use kn_report::laws::adding_laws;
 use kn_teller::{Form, Teller};
 use std::alloc::Global;
 use std::marker::Model;
@@ -113,6 +114,7 @@ fn add_rows<O: Sink>(
         → OnOk result (AreLives lives.new es (c ++ log.now)) }
     ensures cause { HasCause (O.Faulty.faults out.old) (O.Faulty.faults out.new) result }
 {
+    adding_laws();
     row_laws();
     for e in log.entries() {
         match add_line(told_by(lives, tag, e), line, waiting, out) {
@@ -148,6 +150,7 @@ fn add_live<O: Sink>(
         → OnErr result (AppendsPrefix (O.held out.old) (O.held out.new) (waiting.old ++ live_below es c below)) }
     ensures cause { HasCause (O.Faulty.faults out.old) (O.Faulty.faults out.new) result }
 {
+    adding_laws();
     let end = below.min(lives.greatest().saturating_add(1));
     let first = end.min(lives.least());
     for r in first..end {

@@ -6,6 +6,7 @@ use Rattle.std.proofs.Math.Nat.{div-eq_of_lt}
 use Rattle.std.proofs.lemmas.Bool.{cases_lt, lt-ltb}
 use Rattle.std.proofs.lemmas.Nat.{div-add-mod', le-div}
 use Rattle.kn_io.specs.Prefix.{AppendsPrefix}
+use Rattle.kn_report.specs.AddingLaws.{AddingLaws}
 use Rattle.kn_report.specs.Waiting.{Adds}
 use Rattle.kn_teller.specs.Run.{Run, now_of, trace}
 use Rattle.kn_show_series.specs.declared.current.OpenStep.{OpenStep}
@@ -16,7 +17,6 @@ use Rattle.kn_show_series.specs.Series.{open_step, over_lines}
 use Rattle.kn_show_series.specs.State.{IsPast, IsStepOf, Precedes}
 use Rattle.kn_show_series.specs.Steps.{counts_of, follows_filled, gauges_of, is_filled, step_of}
 use Rattle.kn_show_series.proofs.Over.{over_lines-more, over_lines-none, over_lines-one, told_line, told_text-is}
-use Rattle.kn_show_series.proofs.Pieces.{adds_last, adds_nothing, adds_some, adds_trans}
 use Rattle.kn_show_series.proofs.Past.{begins_later, is_filled-none}
 use Rattle.kn_show_series.proofs.Steps.{step_begins, step_of-behind}
 
@@ -119,37 +119,35 @@ two_lines step r t x y pos h low high e =
 
 -- ---- what was written
 
-pub added_none : (a : Option (List ℕ)) (p text : List ℕ) → text ≡ [] → Adds a a p p text
-added_none a p text e = subst (Adds a a p p) (sym e) (adds_nothing a p)
+pub added_none : AddingLaws → (a : Option (List ℕ)) (p text : List ℕ) → text ≡ [] → Adds a a p p text
+added_none laws a p text e = subst (Adds a a p p) (sym e) laws.nothing
 
 -- some first of it, and of a line behind it
-first_cut : (a d : Option (List ℕ)) (p x rest text : List ℕ) → text ≡ x ++ rest → AppendsPrefix a d (p ++ x) → AppendsPrefix a d (p ++ text)
-first_cut a d p x rest text e h =
-    subst (λ (z : List ℕ). AppendsPrefix a d (p ++ z)) (sym e) (adds_some a a d p p [] x rest (adds_nothing a p) h)
+first_cut : AddingLaws → (a d : Option (List ℕ)) (p x rest text : List ℕ) → text ≡ x ++ rest → AppendsPrefix a d (p ++ x) → AppendsPrefix a d (p ++ text)
+first_cut laws a d p x rest text e h = subst (λ (z : List ℕ). AppendsPrefix a d (p ++ z)) (sym e) (laws.behind a d p x rest h)
 
-pub cut_in_first : (step : ℕ) (r : Run) (t : ℕ) (x : OpenStep) (a d : Option (List ℕ)) (p : List ℕ) → 0 < step → Precedes step r t x → step ≤ t - x.from
+pub cut_in_first : AddingLaws → (step : ℕ) (r : Run) (t : ℕ) (x : OpenStep) (a d : Option (List ℕ)) (p : List ℕ) → 0 < step → Precedes step r t x → step ≤ t - x.from
     → AppendsPrefix a d (p ++ told_text x) → AppendsPrefix a d (p ++ over_lines step r t)
-cut_in_first step r t x a d p pos h low cut = by (cases_lt (t - x.from - step) step)
+cut_in_first laws step r t x a d p pos h low cut = by (cases_lt (t - x.from - step) step)
   where
     by : ((t - x.from - step < step) ⊎ (step ≤ t - x.from - step)) → AppendsPrefix a d (p ++ over_lines step r t)
-    by (inl high) = first_cut a d p (told_text x) [] (over_lines step r t) (one_line step r t x pos h low high ∙ sym (append-nil (told_text x))) cut
+    by (inl high) = first_cut laws a d p (told_text x) [] (over_lines step r t) (one_line step r t x pos h low high ∙ sym (append-nil (told_text x))) cut
     by (inr high) =
         let y = begun_at (x.from + step) x.filled x.gauges in
-        first_cut a d p (told_text x) (told_text y) (over_lines step r t) (two_lines step r t x y pos h low high refl) cut
+        first_cut laws a d p (told_text x) (told_text y) (over_lines step r t) (two_lines step r t x y pos h low high refl) cut
 
-pub cut_in_second : (step : ℕ) (r : Run) (t : ℕ) (x y : OpenStep) (a b d : Option (List ℕ)) (p q : List ℕ) → 0 < step → Precedes step r t x → step ≤ t - x.from → step ≤ t - x.from - step
+pub cut_in_second : AddingLaws → (step : ℕ) (r : Run) (t : ℕ) (x y : OpenStep) (a b d : Option (List ℕ)) (p q : List ℕ) → 0 < step → Precedes step r t x → step ≤ t - x.from → step ≤ t - x.from - step
     → y ≡ begun_at (x.from + step) x.filled x.gauges → Adds a b p q (told_text x) → AppendsPrefix b d (q ++ told_text y) → AppendsPrefix a d (p ++ over_lines step r t)
-cut_in_second step r t x y a b d p q pos h low high e first cut =
-    subst (λ (z : List ℕ). AppendsPrefix a d (p ++ z)) (sym (two_lines step r t x y pos h low high e)) (adds_last a b d p q (told_text x) (told_text y) first cut)
+cut_in_second laws step r t x y a b d p q pos h low high e first cut =
+    subst (λ (z : List ℕ). AppendsPrefix a d (p ++ z)) (sym (two_lines step r t x y pos h low high e)) (laws.last d (told_text y) first cut)
 
 pub added_one : (step : ℕ) (r : Run) (t : ℕ) (x : OpenStep) (a b : Option (List ℕ)) (p q : List ℕ) → 0 < step → Precedes step r t x → step ≤ t - x.from → t - x.from - step < step
     → Adds a b p q (told_text x) → Adds a b p q (over_lines step r t)
 added_one step r t x a b p q pos h low high first = subst (Adds a b p q) (sym (one_line step r t x pos h low high)) first
 
-pub added_two : (step : ℕ) (r : Run) (t : ℕ) (x y : OpenStep) (a b d : Option (List ℕ)) (p q s : List ℕ) → 0 < step → Precedes step r t x → step ≤ t - x.from → step ≤ t - x.from - step
+pub added_two : AddingLaws → (step : ℕ) (r : Run) (t : ℕ) (x y : OpenStep) (a b d : Option (List ℕ)) (p q s : List ℕ) → 0 < step → Precedes step r t x → step ≤ t - x.from → step ≤ t - x.from - step
     → y ≡ begun_at (x.from + step) x.filled x.gauges → Adds a b p q (told_text x) → Adds b d q s (told_text y) → Adds a d p s (over_lines step r t)
-added_two step r t x y a b d p q s pos h low high e first second =
-    subst (Adds a d p s) (sym (two_lines step r t x y pos h low high e)) (adds_trans a b d p q s (told_text x) (told_text y) first second)
+added_two laws step r t x y a b d p q s pos h low high e first second = laws.more first second (sym (two_lines step r t x y pos h low high e))
 
 -- ---- the step of the time
 

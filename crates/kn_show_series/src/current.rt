@@ -15,6 +15,7 @@ use crate::gauges::Gauges;
 use kn_event::{Line, Row};
 use kn_io::{Failed, Sink};
 use kn_report::Waiting;
+use kn_report::laws::adding_laws;
 
 /// What is known of a step so far.
 #[derive(Clone, Copy)]
@@ -142,6 +143,7 @@ impl OpenStep {
         ensures few { OnOk result (size_of self.new.counts ≤ size_of self.old.counts) }
         ensures cause { HasCause (O.Faulty.faults out.old) (O.Faulty.faults out.new) result }
     {
+        adding_laws();
         let over = time.saturating_sub(self.from);
         if over < step {
             return Ok(());

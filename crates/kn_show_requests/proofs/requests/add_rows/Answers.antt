@@ -4,7 +4,6 @@ use Rattle.std.proofs.lemmas.List.{take_all}
 use Rattle.kn_trace.specs.Trace.{Trace}
 use Rattle.kn_io.specs.Prefix.{AppendsPrefix}
 use Rattle.kn_report.specs.Waiting.{Adds}
-use Rattle.kn_show_requests.proofs.Waits.{adds_nothing, adds_some, adds_trans}
 use Rattle.kn_lives.specs.Lives.{AreLives, life_at}
 use Rattle.kn_show_requests.specs.Requests.{ComeNext, rows_text, told_by}
 use Rattle.kn_show_requests.specs.Texts.{line_where}
@@ -13,7 +12,7 @@ use Rattle.kn_show_requests.proofs.requests.add_rows.Goals as goal
 
 pub loop-e-init : goal.loop-e-init
 loop-e-init g c = record {
-  held = λ s es t next are. subst (Adds (g.O.Sink.held c.args.out.now) (g.O.Sink.held c.args.out.now) c.args.waiting.now c.args.waiting.now) (sym (rows_nothing es t)) (adds_nothing _ _);
+  held = λ s es t next are. subst (Adds (g.O.Sink.held c.args.out.now) (g.O.Sink.held c.args.out.now) c.args.waiting.now c.args.waiting.now) (sym (rows_nothing es t)) c.adding_laws.ensures.laws.nothing;
   lives = λ s es t next are. subst (λ d. AreLives c.args.lives.now es d) (sym (append-nil t)) are;
   later = omega arith;
 }
@@ -28,9 +27,8 @@ loop-e-preserved g c = record {
       let x = c.e-item.result in
       let comes = comes_here append es t items i x c.loop-e-test.true c.e-item.is s c.args.tag next in
       let text = ap line_where {y = told_by (λ _. c.args.tag) (life_at c.loop-e.lives) x.time x.row} c.told_by.ensures ∙ same_text s es (t ++ take i items) c.loop-e.lives c.args.tag x comes (c.row_laws.ensures.ended s es c.args.tag _ x.row comes) (c.row_laws.ensures.known es _ c.loop-e.lives here) in
-      let both = adds_trans _ _ _ _ _ _ _ _ (c.loop-e.invariant.held s es t next are) c.in-Ok.ensures.ok in
-      subst (Adds (g.O.Sink.held c.args.out.now) (g.O.Sink.held c.add_line.new.out) c.args.waiting.now c.add_line.new.waiting)
-      (ap (λ m. rows_text es t (take i items) ++ m) text ∙ sym (rows_more append es t items i x c.loop-e-test.true c.e-item.is)) both;
+      c.adding_laws.ensures.laws.more (c.loop-e.invariant.held s es t next are) c.in-Ok.ensures.ok
+      (ap (λ m. rows_text es t (take i items) ++ m) text ∙ sym (rows_more append es t items i x c.loop-e-test.true c.e-item.is));
   lives = λ s es t next are.
       let here = c.loop-e.invariant.lives s es t next are in
       let append = c.row_laws.ensures.append in
@@ -54,7 +52,7 @@ returns-in-Err-clause-err g c s es t next are =
     let comes = comes_here append es t items i x c.loop-e-test.true c.e-item.is s c.args.tag nexts in
     let text = ap line_where {y = told_by (λ _. c.args.tag) (life_at c.loop-e.lives) x.time x.row} c.told_by.ensures ∙ same_text s es (t ++ take i items) c.loop-e.lives c.args.tag x comes (c.row_laws.ensures.ended s es c.args.tag _ x.row comes) (c.row_laws.ensures.known es _ c.loop-e.lives here) in
     let rest = rows_text es ((t ++ take i items) ++ x ∷ []) (drop (i + 1) items) in
-    let some = adds_some _ _ _ _ _ _ _ rest (c.loop-e.invariant.held s es t nexts are) c.in-Err.ensures.err in
+    let some = c.adding_laws.ensures.laws.some _ _ rest (c.loop-e.invariant.held s es t nexts are) c.in-Err.ensures.err in
     subst (λ m. AppendsPrefix (g.O.Sink.held c.args.out.now) (g.O.Sink.held c.add_line.new.out) (c.args.waiting.now ++ m))
     (ap (λ m. rows_text es t (take i items) ++ (m ++ rest)) text ∙ sym (rows_around append es t items i x c.loop-e-test.true c.e-item.is) ∙ ap (rows_text es t) same) some
 
