@@ -1,5 +1,4 @@
 mod Pieces
-mod Waits
 mod Writing
 mod Wholes
 mod Tellings

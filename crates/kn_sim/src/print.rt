@@ -13,6 +13,7 @@ use kn_agenda::{Schedule, WorkloadView, schedule_laws};
 use kn_event::{Line, Memory, event_line};
 use kn_io::{Failed, Sink};
 use kn_report::Waiting;
+use kn_report::laws::adding_laws;
 use std::alloc::Global;
 
 /// Why a journal was not written whole.
@@ -48,6 +49,7 @@ fn write_opening<O: Sink>(
     ensures kept_stays { O.kept out.new ≡ O.kept out.old }
     ensures cause { HasCause (O.Faulty.faults out.old) (O.Faulty.faults out.new) result }
 {
+    adding_laws();
     set_line(line, b"kact journal ", 1);
     match waiting.add(line.bytes(), out) {
         Ok(()) => {}
@@ -76,6 +78,7 @@ fn write_events<O: Sink>(
     ensures cause { HasCause (O.Faulty.faults out.old) (O.Faulty.faults out.new) result }
 {
     schedule_laws();
+    adding_laws();
     while let Some(e) = schedule.next() {
         event_line(&e, line);
         match waiting.add(line.bytes(), out) {
@@ -98,6 +101,7 @@ fn write_all<O: Sink>(w: &Workload, schedule: &mut Schedule, out: &mut O) -> Res
     ensures cause { HasCause (O.Faulty.faults out.old) (O.Faulty.faults out.new) result }
 {
     schedule_laws();
+    adding_laws();
     let mut line = Line::new();
     let mut waiting = Waiting::new();
     match write_opening(w, &mut line, &mut waiting, out) {

@@ -6,7 +6,7 @@ use Rattle.kn_sim.proofs.print.write_events.Goals as goal
 
 pub loop-e-init : goal.loop-e-init
 loop-e-init g c = record {
-  goes = λ before made. go_start before c.args.schedule.now (g.O.Sink.held c.args.out.now) c.args.waiting.now made;
+  goes = λ before made. go_start c.adding_laws.ensures.laws before c.args.schedule.now (g.O.Sink.held c.args.out.now) c.args.waiting.now made;
   workload = refl;
   kept = refl;
   later = omega arith;
@@ -15,7 +15,7 @@ loop-e-init g c = record {
 pub loop-e-preserved : goal.loop-e-preserved
 loop-e-preserved g c = record {
   goes = λ before made.
-      go_more before c.args.schedule.now c.loop-e.schedule c.next.new.self (g.O.Sink.held c.args.out.now) (g.O.Sink.held c.loop-e.out) (g.O.Sink.held c.add.new.out) c.args.waiting.now c.loop-e.waiting c.add.new.self c.in-Some.e
+      go_more c.adding_laws.ensures.laws before c.args.schedule.now c.loop-e.schedule c.next.new.self (g.O.Sink.held c.args.out.now) (g.O.Sink.held c.loop-e.out) (g.O.Sink.held c.add.new.out) c.args.waiting.now c.loop-e.waiting c.add.new.self c.in-Some.e
       (c.loop-e.invariant.goes before made) c.in-Some.ensures.goes c.in-Some.ensures.order
       (let same = ap (λ (w : Workload). w.until) c.loop-e.invariant.workload in omega (arith, same, c.in-Some.ensures.until, c.requires))
       c.in-Some.ensures.range c.in-Some.ensures.version c.in-Some.ensures.clock (rw (c.bytes.ensures ∙ c.event_line.ensures) at c.in-Ok.ensures.ok);
@@ -29,7 +29,7 @@ loop-e-smaller g c = omega (arith, c.in-Some.ensures.counted, c.in-Some.ensures.
 
 pub returns-in-Err-clause-err : goal.returns-in-Err-clause-err
 returns-in-Err-clause-err g c = λ before made.
-    go_some before c.args.schedule.now c.loop-e.schedule c.next.new.self (g.O.Sink.held c.args.out.now) (g.O.Sink.held c.loop-e.out) (g.O.Sink.held c.add.new.out) c.args.waiting.now c.loop-e.waiting c.in-Some.e
+    go_some c.adding_laws.ensures.laws before c.args.schedule.now c.loop-e.schedule c.next.new.self (g.O.Sink.held c.args.out.now) (g.O.Sink.held c.loop-e.out) (g.O.Sink.held c.add.new.out) c.args.waiting.now c.loop-e.waiting c.in-Some.e
     (c.in-Some.ensures.workload ∙ c.loop-e.invariant.workload) (c.loop-e.invariant.goes before made) c.in-Some.ensures.goes
     (λ es all. c.schedule_laws.ensures.front c.args.schedule.now.workload es all) (rw (c.bytes.ensures ∙ c.event_line.ensures) at c.in-Err.ensures.err)
 
