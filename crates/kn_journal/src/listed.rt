@@ -40,10 +40,7 @@ fn read_new<S: Source>(
     ensures tells { TellsPart (new_part before.now) lines.old lines.new S.Source.own source.old source.new result }
     ensures source { DrawsBy Reaches lines.old lines.new S.Source.own S.Faulty source.old source.new result }
 {
-    let setup = match read_setup(alloc, lines, source) {
-        Ok(setup) => setup,
-        Err(e) => return Err(e),
-    };
+    let setup = read_setup(alloc, lines, source)?;
     if is_among(&setup, before) {
         return Err(JournalError::BadSetup(lines.number(), SetupError::Duplicate));
     }
@@ -64,10 +61,7 @@ fn read_all<S: Source>(
 {
     let mut setups = Vec::new(alloc);
     for _ in 0..n {
-        let setup = match read_new(alloc, lines, source, &setups) {
-            Ok(setup) => setup,
-            Err(e) => return Err(e),
-        };
+        let setup = read_new(alloc, lines, source, &setups)?;
         if setups.push(setup).is_err() {
             return Err(JournalError::Memory);
         }

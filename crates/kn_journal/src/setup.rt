@@ -188,10 +188,7 @@ fn read_revision<S: Source>(
         Ok(()) => {}
         Err(e) => return Err(e),
     }
-    let revision = match read_block(alloc, lines, source) {
-        Ok(revision) => revision,
-        Err(e) => return Err(e),
-    };
+    let revision = read_block(alloc, lines, source)?;
     let spec = match resolve(alloc, config, revision.bytes(), slots) {
         Ok(spec) => spec,
         Err(why) => return Err(revision_error(lines.number(), why)),
@@ -221,10 +218,7 @@ fn read_blocks<S: Source>(
         Ok(()) => {}
         Err(e) => return Err(e),
     }
-    let block = match read_block(alloc, lines, source) {
-        Ok(block) => block,
-        Err(e) => return Err(e),
-    };
+    let block = read_block(alloc, lines, source)?;
     let config = match Config::read(alloc, block.bytes()) {
         Ok(config) => config,
         Err(why) => return Err(config_error(lines.number(), why)),
@@ -340,10 +334,7 @@ pub fn read_opening<S: Source>(
     ensures least { IfOk result (λ opening. 1 ≤ opening.version) }
     ensures most { IfOk result (λ opening. opening.version ≤ version_most first) }
 {
-    let version = match lines.first(source, first) {
-        Ok(version) => version,
-        Err(e) => return Err(e),
-    };
+    let version = lines.first(source, first)?;
     match read_setup(alloc, lines, source) {
         Ok(setup) => Ok(Opening { version, setup }),
         Err(e) => Err(e),
