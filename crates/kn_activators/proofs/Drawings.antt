@@ -1,5 +1,5 @@
 -- Calls that read, one after the other, wherever they stop.
-use Rattle.std.proofs.Common.{◌≡◌, ◌∙◌, refl, ℕ, List, Option, None, Some, subst, arith}
+use Rattle.std.proofs.Common.{◌≡◌, ◌≤◌, ◌+◌, ◌∙◌, refl, ℕ, List, Option, None, Some, subst, arith}
 use Rattle.std.specs.Prelude.{Result, Ok, Err}
 use Rattle.std.proofs.lemmas.Grind.{common_steps}
 use Rattle.kn_io.specs.declared.traits.Source.{Ghosts}
@@ -8,6 +8,7 @@ use Rattle.kn_journal.specs.declared.error.JournalError.{JournalError}
 use Rattle.kn_journal.specs.declared.error.JournalError.TheVariants as error
 use Rattle.kn_journal.specs.Causes.{Cause, after_end, bad_first_line, bad_line, bad_setup, error_of, line_too_long, no_end, time_back, time_too_large, too_many}
 use Rattle.kn_journal.specs.Drawing.{Draws, error_in}
+use Rattle.kn_journal.specs.LineCalls.{IsFromAhead}
 use Rattle.kn_journal.specs.Parts.{Part}
 use Rattle.kn_journal.specs.Reading.{Ahead, unread}
 use Rattle.kn_journal.specs.Telling.{IsCauseOf, Judges}
@@ -94,6 +95,18 @@ draws_none x s = record {
   fault = λ h. no_fault {e = None} tt h;
   grows = omega arith;
   balance = omega arith;
+  never_falls = omega arith;
+  apart_stays = refl;
+}
+
+-- nothing was taken but what was ahead
+pub draws_ahead : {X : Type 0} {own : Ghosts X} {faulty : Counted X} {x y : Ahead} (s : X) → x.taken + 6 ≤ y.taken → IsFromAhead x y → Draws Anywhere None x y own faulty s s
+draws_ahead s more ahead = record {
+  amid = λ h. tt;
+  spent = λ h. no_fault {e = None} tt h;
+  fault = λ h. no_fault {e = None} tt h;
+  grows = omega (arith, more);
+  balance = omega (arith, ahead);
   never_falls = omega arith;
   apart_stays = refl;
 }

@@ -1,30 +1,37 @@
 -- Calls that make something of what a group stands for, one after the other.
-use Rattle.std.proofs.Common.{◌≡◌, ◌<◌, ℕ, ◌++◌, List, [], append_assoc, append-nil, refl, ap, ◌∙◌, sym, subst}
+use Rattle.std.proofs.Common.{◌≡◌, ◌<◌, ℕ, ◌++◌, List, [], append_assoc, append-nil, length, refl, ap, ◌∙◌, sym, subst}
 use Rattle.kn_slices.specs.declared.change.Change.{Change}
 use Rattle.std.specs.Prelude.{IfSome, None, Some, Option, OnOk, Result, Ok, Err}
 use Rattle.kn_event.specs.declared.entry.Entry.{Entry}
 use Rattle.kn_event.specs.declared.event.Event.{Event}
 use Rattle.kn_io.specs.Prefix.{AppendsPrefix}
 use Rattle.kn_slices.specs.Traces.{GroupState}
-use Rattle.kn_activators.specs.declared.setup.GroupSetup.{GroupSetup}
+use Rattle.kn_activators.specs.Calls.{StepsOnly}
 use Rattle.kn_activators.specs.Sharing.{Outcome, Sharing, and_then, by_one, force_lines, rows_at, said, stepped, unsaid, with_forces}
 use Rattle.kn_activators.specs.Standing.{Came, Fails, IsSameReplay, Makes, ReplayState, Stands}
 use Rattle.kn_report.specs.Waiting.{Adds, own_rows}
 use Rattle.kn_activators.proofs.Waits.{adds_last, adds_nothing, adds_some, adds_trans, waits_more}
 
 -- one activator's event, whose rows were then added
-module _ (s : GroupSetup) (i : ℕ) (e : Event) (before mid now : ReplayState) (old new : Option (List ℕ)) (waits : mid.waiting ≡ before.waiting)
-    (log : (x : Sharing) → Stands before.group x → mid.log ≡ rows_at s x i e) where
-  pub makes_one : ((x : Sharing) → Stands before.group x → Stands mid.group (stepped s x i e)) → now.group ≡ mid.group → Adds old new mid.waiting now.waiting (own_rows i mid.log)
-      → Makes (λ x. by_one s x i e) before now old new
-  makes_one stands same adds x standing = record {
-    stands = subst (λ (g : GroupState). Stands g (stepped s x i e)) (sym same) (stands x standing);
-    adds = subst (λ (w : List ℕ). Adds old new w now.waiting (own_rows i (rows_at s x i e))) waits (subst (λ (rows : List Entry). Adds old new mid.waiting now.waiting (own_rows i rows)) (log x standing) adds);
+module _ (i : ℕ) (e : Event) (before mid now : ReplayState) (old new : Option (List ℕ)) (steps : StepsOnly before mid i e) where
+  pub makes_one : now.group ≡ mid.group → Adds old new mid.waiting now.waiting (own_rows i mid.log) → Makes (λ x. by_one before.setup x i e) before now old new
+  makes_one same adds x standing = record {
+    stands = subst (λ (g : GroupState). Stands g (stepped before.setup x i e)) (sym same) (steps.stands x standing);
+    adds = subst (λ (w : List ℕ). Adds old new w now.waiting (own_rows i (rows_at before.setup x i e))) steps.waiting
+        (subst (λ (rows : List Entry). Adds old new mid.waiting now.waiting (own_rows i rows)) (steps.log x standing) adds);
   }
 
-  pub fails_one : AppendsPrefix old new (mid.waiting ++ own_rows i mid.log) → Fails (λ x. by_one s x i e) before old new
+  pub fails_one : AppendsPrefix old new (mid.waiting ++ own_rows i mid.log) → Fails (λ x. by_one before.setup x i e) before old new
   fails_one some x standing =
-      subst (λ (w : List ℕ). AppendsPrefix old new (w ++ own_rows i (rows_at s x i e))) waits (subst (λ (rows : List Entry). AppendsPrefix old new (mid.waiting ++ own_rows i rows)) (log x standing) some)
+      subst (λ (w : List ℕ). AppendsPrefix old new (w ++ own_rows i (rows_at before.setup x i e))) steps.waiting
+      (subst (λ (rows : List Entry). AppendsPrefix old new (mid.waiting ++ own_rows i rows)) (steps.log x standing) some)
+
+  pub same_one : now.setup ≡ mid.setup → now.before ≡ mid.before → now.group ≡ mid.group → IsSameReplay before now
+  same_one setup kept same = record {
+    setup = setup ∙ steps.same.setup;
+    before = kept ∙ steps.same.before;
+    parts = ap (λ (x : GroupState). length x.parts) same ∙ steps.same.parts;
+  }
 
 -- ---- one after the other
 

@@ -1,5 +1,5 @@
 -- What one activator's event makes of a group, and of what that stands for.
-use Rattle.std.proofs.Common.{◌≡◌, ◌≤◌, ◌<◌, ℕ, zero, suc, ◌+◌, ◌-◌, ◌++◌, List, [], ◌∷◌, drop, length, get_or, max, nat_lt, refl, ap, ◌∙◌, sym, subst, arith, inl, inr}
+use Rattle.std.proofs.Common.{◌≡◌, ◌≤◌, ◌<◌, ℕ, zero, suc, ◌+◌, ◌-◌, ◌^◌, ◌++◌, List, [], ◌∷◌, drop, length, get_or, max, nat_lt, refl, ap, ◌∙◌, sym, subst, arith, inl, inr}
 use Rattle.std.specs.Prelude.{replicate, slice_index_or, slice_set, Some, None, if◌then◌else◌}
 use Rattle.std.proofs.lemmas.Bool.{cases_eq}
 use Rattle.std.proofs.lemmas.List.{drop_all, get_or-map, get_or-replicate, length-replicate, get_or-set_other, get_or-set_same, length-map, length-set}
@@ -16,12 +16,14 @@ use Rattle.kn_trace.specs.Trace.{Trace}
 use Rattle.kn_core.specs.State.{RevisionState}
 use Rattle.kn_slices.specs.Slices.{force_after, forces_from, hold, slice_of}
 use Rattle.kn_slices.specs.Activators.{EachIs}
+use Rattle.kn_slices.specs.Calls.{CanCome, CanMakeDue, KeepsWanted, StepsGroup}
 use Rattle.kn_slices.specs.declared.change.Change.{Change}
-use Rattle.kn_slices.specs.Traces.{AreTraces, GroupState, clocks_of, counts_of, limit_by, load_of, made_at, part_at, rows_of, running_by, specs_of, trace_at, traces_after, unset_of}
+use Rattle.kn_slices.specs.Traces.{AreTraces, GroupState, clocks_of, counts_of, due_of, limit_by, load_of, made_at, part_at, rows_of, running_by, specs_of, trace_at, traces_after, unset_of}
 use Rattle.kn_activators.specs.declared.setup.GroupSetup.{GroupSetup}
 use Rattle.kn_report.specs.Waiting.{own_rows}
 use Rattle.kn_activators.specs.Sharing.{Sharing, and_then, asked, by_each, by_one, changes, due_in, numbers_of, opening_at, rows_at, spec_of, stepped, unsaid}
-use Rattle.kn_activators.specs.Standing.{AreBefore, Grows, IsBelow, IsOf, Stands, none, one, one_at}
+use Rattle.kn_activators.specs.Calls.{CanGoOn, StepsOnly}
+use Rattle.kn_activators.specs.Standing.{AreBefore, Grows, IsBelow, IsOf, ReplayState, Stands, none, one, one_at}
 
 -- any of them
 pub some_part : (parts : List RevisionState) (i : ℕ) → i < length parts → RevisionState
@@ -116,6 +118,38 @@ module _ (g h : GroupState) (i time : ℕ) (low : i < length g.parts) (same : le
     where
       at_one : (i j : ℕ) → j ≡ i → one_at i j ≡ 1
       at_one i j e = grind (arith, e)
+
+-- ---- what a call of the group needs, and what it makes
+
+pub can_come : (s : GroupSetup) (g : GroupState) (i : ℕ) (e : Event) → IsOf s g → i < s.activators → AreBefore e.time g → e.time ≤ 2 ^ 42 → ((d : RevisionState) → load_of g i d < 2 ^ 54)
+    → CanCome g.parts i e
+can_come s g i e is one before times few =
+    let low = low_of s g i is one in
+    record { part = low; order = λ d. before i d low; times = times; count = λ d. let load = few d in omega (arith, load) }
+
+some_same : (x y : Change) → Some x ≡ Some y → x ≡ y
+some_same x y e = cc
+
+pub can_make : (g : GroupState) (x : Change) (time : ℕ) → due_of g ≡ Some x → AreBefore time g → time ≤ 2 ^ 42 → ((d : RevisionState) → load_of g x.activator d < 2 ^ 54) → CanMakeDue g time
+can_make g x time due before times few = record {
+  due = λ none. let e = sym due ∙ none in absurd cc;
+  order = before;
+  times = times;
+  count = λ y d is. subst (λ (z : Change). (part_at g z.activator d).events < 2 ^ 54) (some_same x y (sym due ∙ is)) (let load = few d in omega (arith, load));
+}
+
+pub steps_only : (a b : ReplayState) (i : ℕ) (e : Event) → IsOf a.setup a.group → CanGoOn a i e.time → StepsGroup a.group b.group i e b.log → KeepsWanted a.group b.group
+    → b.setup ≡ a.setup → b.before ≡ a.before → b.waiting ≡ a.waiting → StepsOnly a b i e
+steps_only a b i e is can steps keeps setup before waiting =
+    let low = low_of a.setup a.group i is can.one in
+    let parts = same_parts a.group b.group keeps.same.specs in
+    record {
+      log = rows_are a.setup a.group b.group i e is can.one b.log steps.logged;
+      stands = stands_stepped a.setup a.group b.group i e is can.one steps.stands keeps.wanted keeps.force;
+      same = record { setup = setup; before = before; parts = parts };
+      waiting = waiting;
+      order = before_after a.group b.group i e.time low parts steps.clocks can.order;
+    }
 
 pub grows_none : (g h : GroupState) → ((j : ℕ) (d : RevisionState) → j < length g.parts → load_of h j d ≡ load_of g j d) → Grows none g h
 grows_none g h load j d inside = let same = load j d inside in omega (arith, same)

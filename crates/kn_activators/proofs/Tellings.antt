@@ -1,6 +1,6 @@
 -- A part that is read line by line, and one part after the other.
 use Rattle.std.proofs.Common.{◌≡◌, ◌+◌, ℕ, true, List, refl, sym, ap, subst}
-use Rattle.std.specs.Prelude.{Option, None, Some, Result, Ok, Err}
+use Rattle.std.specs.Prelude.{IfErr, IfOk, Option, None, Some, Result, Ok, Err}
 use Rattle.kn_journal.specs.declared.error.JournalError.{JournalError}
 use Rattle.kn_journal.specs.declared.error.JournalError.TheVariants as error
 use Rattle.kn_journal.specs.Causes.{Cause, error_of, line_too_long, no_end}
@@ -8,6 +8,18 @@ use Rattle.kn_journal.specs.Lines.{fits, lines}
 use Rattle.kn_journal.specs.Parts.{Part, part, then_part, with_line}
 use Rattle.kn_journal.specs.Reading.{TakesLine}
 use Rattle.kn_journal.specs.Telling.{Gives, Judges, Lacks, Refused, Refuses, Tells}
+
+-- ---- what a call tells
+
+pub tells_gives : {T : Type 0} (read : List (List ℕ) → Result (Part T) Cause) (n : ℕ) (old new : Option (List ℕ)) (r : Result T JournalError) → Tells read n old new r
+    → IfOk r (λ x. Gives read x n old new)
+tells_gives read n old new (Ok x) h = h
+tells_gives read n old new (Err e) h = tt
+
+pub tells_refuses : {T : Type 0} (P : Type 0) (read : List (List ℕ) → Result (Part T) Cause) (n : ℕ) (old new : Option (List ℕ)) (r : Result T JournalError) → Tells read n old new r
+    → IfErr r (λ e. P → Refuses read e old)
+tells_refuses P read n old new (Ok x) h = tt
+tells_refuses P read n old new (Err e) h = λ over. h
 
 -- ---- no line
 

@@ -4,3 +4,4 @@ pub mod Standing
 pub mod Verdict
 pub mod Breaking
 pub mod Replaying
+pub mod Calls

@@ -49,6 +49,10 @@ in_time n last (Ok a) =
     if nat_le (time_of a) time_most then (if nat_le last (time_of a) then Ok a else Err (time_back n last (time_of a))) else Err (time_too_large n)
 in_time n last (Err why) = Err (bad_line n why)
 
+-- so the line of this number is judged
+abbrev pub judged : GroupSetup → ℕ → ℕ → List ℕ → Result GroupEvent Cause
+judged s last number line = in_time number last (group_event_of s.activators s.pods line)
+
 -- after `end` in line n
 abbrev pub end_part : ℕ → List (List ℕ) → Result (Part (Option GroupEvent)) Cause
 end_part n lines = then_part (nothing_part n lines) (λ _ n left. Ok (part None n left))
@@ -59,7 +63,7 @@ event_in n left (Err cause) = Err cause
 
 abbrev pub next_in : GroupSetup → ℕ → ℕ → List ℕ → List (List ℕ) → Result (Part (Option GroupEvent)) Cause
 next_in s last number line left =
-    if bytes_eq line (codes "end") then end_part number left else event_in number left (in_time number last (group_event_of s.activators s.pods line))
+    if bytes_eq line (codes "end") then end_part number left else event_in number left (judged s last number line)
 
 -- the next event after line n and this time, or none where `end` ends the input
 unfoldable pub next_part : GroupSetup → ℕ → ℕ → List (List ℕ) → Result (Part (Option GroupEvent)) Cause

@@ -1,18 +1,17 @@
 //! An input of several activators, from its bytes to those of its report.
-ghost use Rattle.std.specs.Prelude.{◌≡◌, ◌≢◌, ◌⊎◌, ◌+◌, ◌-◌, ◌≤◌, ◌++◌, [], false, Err, IfErr, IfOk, OnErr, OnOk};
+ghost use Rattle.std.specs.Prelude.{◌≡◌, ◌⊎◌, ◌+◌, ◌-◌, ◌≤◌, ◌++◌, [], Err, IfErr, IfOk, OnErr, OnOk};
 ghost use Rattle.std.specs.Io.KnownBytes.{Appends};
 ghost use Rattle.kn_io.specs.Causes.{HasCause, Rose};
 ghost use Rattle.kn_io.specs.Prefix.{AppendsPrefix};
 ghost use Rattle.kn_journal.specs.Drawing.{error_in};
 ghost use Rattle.kn_journal.specs.Journal.{time_most};
-ghost use Rattle.kn_journal.specs.Reading.{TakesText, most_taken, unread};
-ghost use Rattle.kn_journal.specs.Telling.{Gives, Refuses};
-ghost use Rattle.kn_activators.specs.Breaking.{DrawsEvent, IsOver};
-ghost use Rattle.kn_activators.specs.Reading.{IsGroupEvent};
-ghost use Rattle.kn_activators.specs.Replaying.{Follows, Opens, ReplaysSlices, Stops, WritesNothing, read_error};
-ghost use Rattle.kn_activators.specs.Sharing.{Sharing, end_line, time_of};
-ghost use Rattle.kn_activators.specs.Standing.{AreBefore, IsBelow, IsGroupSetup, Stands};
-ghost use Rattle.kn_activators.specs.Verdict.{DrawsLines, OnEvent, next_part};
+ghost use Rattle.kn_journal.specs.LineCalls.{TakesLines};
+ghost use Rattle.kn_journal.specs.Reading.{most_taken};
+ghost use Rattle.kn_activators.specs.Calls.{FollowsLines, OpensLines, ReadsEvent};
+ghost use Rattle.kn_activators.specs.Replaying.{ReplaysSlices, Stops, WritesNothing, read_error};
+ghost use Rattle.kn_activators.specs.Sharing.{end_line};
+ghost use Rattle.kn_activators.specs.Standing.{AreBefore, IsBelow, IsGroupSetup};
+ghost use Rattle.kn_activators.specs.Verdict.{DrawsLines};
 ghost use Rattle.kn_report.specs.Waiting.{Adds};
 
 use crate::error::GroupError;
@@ -83,18 +82,8 @@ fn next<S: Source, O: Sink>(
     ensures failed { OnErr result (AppendsPrefix (O.held out.old) (O.held out.new) replay.old.waiting) }
     ensures group { replay.new.group ≡ replay.old.group }
     ensures setup { replay.new.setup ≡ replay.old.setup }
-    ensures gives { IfOk result (λ read. IfOk read (λ found. Gives (next_part setup.now last lines.old.number) found lines.new.number (unread lines.old.input (S.left source.old)) (unread lines.new.input (S.left source.new)))) }
-    ensures refuses { IfOk result (λ read. IfErr read (λ e. IsOver lines.old.cut (unread lines.old.input (S.left source.old)) → Refuses (next_part setup.now last lines.old.number) e (unread lines.old.input (S.left source.old)))) }
-    ensures uncut { IfOk result (λ read. read ≡ Err JournalError.ReadFault → lines.old.cut ≡ false) }
-    ensures order { IfOk result (λ read. OnEvent read (λ e. last ≤ time_of e)) }
-    ensures times { IfOk result (λ read. OnEvent read (λ e. time_of e ≤ time_most)) }
-    ensures range { IfOk result (λ read. OnEvent read (IsGroupEvent setup.now.activators setup.now.pods)) }
-    ensures bytes { IfOk result (λ read. OnEvent read (λ e. lines.old.input.taken + 6 ≤ lines.new.input.taken)) }
-    ensures text { IfOk result (λ read. OnEvent read (λ e. TakesText lines.new.cut (unread lines.old.input (S.left source.old)) (unread lines.new.input (S.left source.new)))) }
-    ensures memory { IfOk result (λ read. read ≢ Err JournalError.Memory) }
-    ensures few { OnOk result (lines.new.input.taken ≤ most_taken) }
+    ensures read { IfOk result (ReadsEvent setup.now last lines.old lines.new S.Source.own S.Faulty source.old source.new) }
     ensures still { OnErr result ((lines.new ≡ lines.old) × (source.new ≡ source.old)) }
-    ensures source { IfOk result (λ read. DrawsEvent (error_in read) lines.old lines.new S.Source.own S.Faulty source.old source.new) }
     ensures cause { HasCause (O.Faulty.faults out.old) (O.Faulty.faults out.new) result }
 {
     text_laws();
@@ -127,7 +116,7 @@ fn follow<S: Source, O: Sink>(
     requires times { start ≤ time_most }
     requires few { IsBelow 1 replay.old.group }
     requires taken { lines.old.input.taken ≤ most_taken }
-    ensures follows { (x : Sharing) → Stands replay.old.group x → IsOver lines.old.cut (unread lines.old.input (S.left source.old)) → Follows lines.old.cut setup.now x start lines.old.number (unread lines.old.input (S.left source.old)) (unread lines.new.input (S.left source.new)) replay.old.waiting (O.held out.old) (O.held out.new) result }
+    ensures follows { FollowsLines setup.now start replay.old lines.old lines.new (S.left source.old) (S.left source.new) (O.held out.old) (O.held out.new) result }
     ensures memory { WritesNothing result → ⊥ }
     ensures source { DrawsLines (read_error result) lines.old lines.new S.Source.own S.Faulty source.old source.new }
     ensures write_fault { result ≡ Err GroupError.Output → Rose (O.Faulty.faults out.old) (O.Faulty.faults out.new) }
@@ -161,8 +150,8 @@ fn follow<S: Source, O: Sink>(
 /// Reads what stands before the events: the setup, and the start.
 fn open<S: Source>(lines: &mut Lines, source: &mut S) -> Result<(GroupSetup, u64), JournalError>
     requires number { lines.old.number ≡ 0 }
-    ensures opens { Opens (unread lines.old.input (S.left source.old)) (unread lines.new.input (S.left source.new)) lines.new.number result }
-    ensures text { OnOk result (TakesText lines.new.cut (unread lines.old.input (S.left source.old)) (unread lines.new.input (S.left source.new))) }
+    ensures opens { OpensLines lines.old lines.new (S.left source.old) (S.left source.new) result }
+    ensures text { OnOk result (TakesLines lines.old lines.new S.Source.own source.old source.new) }
     ensures good { IfOk result (λ parts. IsGroupSetup parts.0) }
     ensures most { IfOk result (λ parts. parts.1 ≤ time_most) }
     ensures few { OnOk result (lines.new.input.taken ≤ most_taken) }

@@ -1,14 +1,14 @@
 //! What is read of an input of several activators, line by line.
-ghost use Rattle.std.specs.Prelude.{◌≡◌, ◌≢◌, ◌+◌, ◌≤◌, ℕ, List, length, Err, IfErr, IfOk, IfSome, None, Ok, OnOk, Option, Some};
+ghost use Rattle.std.specs.Prelude.{◌≡◌, ◌≢◌, ◌+◌, ◌≤◌, length, Err, IfErr, IfOk, IfSome, None, Ok, OnOk};
 ghost use Rattle.kn_journal.specs.Drawing.{error_in};
-ghost use Rattle.kn_journal.specs.Journal.{time_most};
-ghost use Rattle.kn_journal.specs.Reading.{TakesText, most_taken, unread};
-ghost use Rattle.kn_journal.specs.Telling.{IsCauseOf, Judges, Tells};
+ghost use Rattle.kn_journal.specs.LineCalls.{IsFromAhead, TakesLines, TextAhead};
+ghost use Rattle.kn_journal.specs.Reading.{most_taken};
+ghost use Rattle.kn_journal.specs.Telling.{IsCauseOf, Judges};
 ghost use Rattle.kn_activators.specs.Breaking.{DrawsEvent, DrawsSetup};
-ghost use Rattle.kn_activators.specs.Reading.{IsGroupEvent, group_event_of, is_own};
-ghost use Rattle.kn_activators.specs.Sharing.{time_of};
+ghost use Rattle.kn_activators.specs.Calls.{IsNextGroupEvent, TellsAhead};
+ghost use Rattle.kn_activators.specs.Reading.{is_own};
 ghost use Rattle.kn_activators.specs.Standing.{IsGroupSetup};
-ghost use Rattle.kn_activators.specs.Verdict.{OnEvent, Reads, in_time, next_part, opening_part, setup_line_in};
+ghost use Rattle.kn_activators.specs.Verdict.{OnEvent, Reads, judged, next_part, opening_part, setup_line_in};
 
 use crate::event::GroupEvent;
 use crate::line::group_event_of;
@@ -39,7 +39,7 @@ fn judge_setup(line: &[u8], number: u64, many: u64) -> Result<GroupSetup, Journa
 /// Reads `kact slices N` and a setup for N activators.
 pub fn read_setup<S: Source>(lines: &mut Lines, source: &mut S) -> Result<GroupSetup, JournalError>
     ensures tells { Reads opening_part lines.old lines.new (S.left source.old) (S.left source.new) result }
-    ensures text { OnOk result (TakesText lines.new.cut (unread lines.old.input (S.left source.old)) (unread lines.new.input (S.left source.new))) }
+    ensures text { OnOk result (TakesLines lines.old lines.new S.Source.own source.old source.new) }
     ensures good { IfOk result IsGroupSetup }
     ensures source { DrawsSetup (error_in result) lines.old lines.new S.Source.own S.Faulty source.old source.new }
 {
@@ -58,11 +58,9 @@ fn judge_event(
     setup: &GroupSetup,
     last: u64,
 ) -> Result<GroupEvent, JournalError>
-    ensures ok { IfOk result (λ e. in_time number last (group_event_of setup.now.activators setup.now.pods line.now) ≡ Ok e) }
-    ensures err { IfErr result (λ e. IsCauseOf e (in_time number last (group_event_of setup.now.activators setup.now.pods line.now))) }
-    ensures order { IfOk result (λ e. last ≤ time_of e) }
-    ensures times { IfOk result (λ e. time_of e ≤ time_most) }
-    ensures range { IfOk result (IsGroupEvent setup.now.activators setup.now.pods) }
+    ensures ok { IfOk result (λ e. judged setup.now last number line.now ≡ Ok e) }
+    ensures err { IfErr result (λ e. IsCauseOf e (judged setup.now last number line.now)) }
+    ensures next { IfOk result (IsNextGroupEvent setup.now last) }
     ensures bytes { IfOk result (λ e. 6 ≤ length line.now) }
 {
     match group_event_of(line, setup.activators, setup.pods) {
@@ -92,14 +90,12 @@ fn is_own(act: &Act) -> bool
 /// None says nothing, and takes nothing.
 #[inline(always)]
 pub fn next_ahead(lines: &mut Lines, setup: &GroupSetup, last: u64) -> Option<GroupEvent>
-    ensures tells { IfSome result (λ e. (left : Option (List ℕ)) → Tells (next_part setup.now last lines.old.number) lines.new.number (unread lines.old.input left) (unread lines.new.input left) (Ok (Some e))) }
-    ensures order { IfSome result (λ e. last ≤ time_of e) }
-    ensures times { IfSome result (λ e. time_of e ≤ time_most) }
-    ensures range { IfSome result (IsGroupEvent setup.now.activators setup.now.pods) }
+    ensures tells { IfSome result (TellsAhead setup.now last lines.old lines.new) }
+    ensures next { IfSome result (IsNextGroupEvent setup.now last) }
     ensures bytes { IfSome result (λ e. lines.old.input.taken + 6 ≤ lines.new.input.taken) }
     ensures few { IfSome result (λ e. lines.new.input.taken ≤ most_taken) }
-    ensures text { IfSome result (λ e. (left : Option (List ℕ)) → TakesText lines.new.cut (unread lines.old.input left) (unread lines.new.input left)) }
-    ensures balance { lines.new.input.taken + length lines.new.input.ahead ≡ lines.old.input.taken + length lines.old.input.ahead }
+    ensures text { IfSome result (λ e. TextAhead lines.new.cut lines.old.input lines.new.input) }
+    ensures balance { IsFromAhead lines.old.input lines.new.input }
     ensures same { result ≡ None → lines.new ≡ lines.old }
 {
     spellings_are_read();
@@ -127,10 +123,8 @@ pub fn read_next<S: Source>(
     last: u64,
 ) -> Result<Option<GroupEvent>, JournalError>
     ensures tells { Reads (next_part setup.now last) lines.old lines.new (S.left source.old) (S.left source.new) result }
-    ensures text { OnEvent result (λ e. TakesText lines.new.cut (unread lines.old.input (S.left source.old)) (unread lines.new.input (S.left source.new))) }
-    ensures order { OnEvent result (λ e. last ≤ time_of e) }
-    ensures times { OnEvent result (λ e. time_of e ≤ time_most) }
-    ensures range { OnEvent result (IsGroupEvent setup.now.activators setup.now.pods) }
+    ensures text { OnEvent result (λ e. TakesLines lines.old lines.new S.Source.own source.old source.new) }
+    ensures next { OnEvent result (IsNextGroupEvent setup.now last) }
     ensures bytes { OnEvent result (λ e. lines.old.input.taken + 6 ≤ lines.new.input.taken) }
     ensures memory { result ≢ Err JournalError.Memory }
     ensures few { lines.new.input.taken ≤ most_taken }

@@ -1,14 +1,13 @@
 //! Activators that are replayed, event after event.
-ghost use Rattle.std.specs.Prelude.{◌≡◌, ◌<◌, ◌≤◌, ◌+◌, ◌-◌, ◌^◌, ◌++◌, ℕ, [], length, IfSome, OnErr, OnOk, Some};
+ghost use Rattle.std.specs.Prelude.{◌≡◌, ◌<◌, ◌≤◌, ◌-◌, ◌^◌, ℕ, length, IfSome, OnErr, OnOk, Some};
 ghost use Rattle.kn_io.specs.Causes.{HasCause};
-ghost use Rattle.kn_io.specs.Prefix.{AppendsPrefix};
-ghost use Rattle.kn_core.specs.State.{RevisionState};
 ghost use Rattle.kn_slices.specs.Activators.{IsPlain};
-ghost use Rattle.kn_slices.specs.Traces.{IsCalm, due_of, load_of, made_at};
+ghost use Rattle.kn_slices.specs.Traces.{IsCalm, due_of, made_at};
+ghost use Rattle.kn_activators.specs.Calls.{AddsText, CanGoOn, CutsText, FailsBy, MakesBy, StepsOnly, made_outcome, due_outcome, each_outcome, forces_text, line_outcome, own_outcome, whole_outcome};
 ghost use Rattle.kn_activators.specs.Reading.{IsGroupEvent};
-ghost use Rattle.kn_activators.specs.Sharing.{Sharing, and_then, asked, by_each, by_event, by_line, by_one, changes, changes_most, due_in, force_lines, numbers_of, rows_at, stepped, time_of};
+ghost use Rattle.kn_activators.specs.Sharing.{Sharing, asked, by_event, by_line, changes_most, due_in, time_of};
 ghost use Rattle.kn_activators.specs.Standing.{AreBefore, Fails, Grows, IsBelow, IsSameReplay, Makes, Stands, none, one, one_at};
-ghost use Rattle.kn_report.specs.Waiting.{Adds, own_rows};
+ghost use Rattle.kn_report.specs.Waiting.{own_rows};
 
 mod opening;
 
@@ -47,8 +46,8 @@ impl Replay {
     /// Adds the rows of the log behind what waits, behind the number of their activator.
     #[inline(always)]
     fn put_rows<O: Sink>(&mut self, i: u64, out: &mut O) -> Result<(), Failed>
-        ensures ok { OnOk result (Adds (O.held out.old) (O.held out.new) self.old.waiting self.new.waiting (own_rows i self.old.log)) }
-        ensures err { OnErr result (AppendsPrefix (O.held out.old) (O.held out.new) (self.old.waiting ++ own_rows i self.old.log)) }
+        ensures ok { OnOk result (AddsText (own_rows i self.old.log) self.old self.new (O.held out.old) (O.held out.new)) }
+        ensures err { OnErr result (CutsText (own_rows i self.old.log) self.old (O.held out.old) (O.held out.new)) }
         ensures group { self.new.group ≡ self.old.group }
         ensures setup { self.new.setup ≡ self.old.setup }
         ensures before { self.new.before ≡ self.old.before }
@@ -60,18 +59,9 @@ impl Replay {
     /// The event of one activator, whose rows are still to be added.
     #[inline(always)]
     fn step_only(&mut self, i: u64, e: &Event)
-        requires one { i < self.old.setup.activators }
-        requires order { AreBefore e.now.time self.old.group }
-        requires times { e.now.time ≤ 2 ^ 42 }
-        requires few { (d : RevisionState) → load_of self.old.group i d < 2 ^ 54 }
+        requires can { CanGoOn self.old i e.now.time }
         requires act { IsPlain e.now.act }
-        ensures log { (x : Sharing) → Stands self.old.group x → self.new.log ≡ rows_at self.old.setup x i e.now }
-        ensures stands { (x : Sharing) → Stands self.old.group x → Stands self.new.group (stepped self.old.setup x i e.now) }
-        ensures setup { self.new.setup ≡ self.old.setup }
-        ensures before { self.new.before ≡ self.old.before }
-        ensures waiting { self.new.waiting ≡ self.old.waiting }
-        ensures parts { length self.new.group.parts ≡ length self.old.group.parts }
-        ensures order { AreBefore e.now.time self.new.group }
+        ensures steps { StepsOnly self.old self.new i e.now }
         ensures calm { IsCalm self.old.group → IsCalm self.new.group }
         ensures load { Grows (one_at i) self.old.group self.new.group }
     {
@@ -82,13 +72,10 @@ impl Replay {
     /// An event of one activator.
     #[inline(always)]
     fn step<O: Sink>(&mut self, i: u64, e: &Event, out: &mut O) -> Result<(), Failed>
-        requires one { i < self.old.setup.activators }
-        requires order { AreBefore e.now.time self.old.group }
-        requires times { e.now.time ≤ 2 ^ 42 }
-        requires few { (d : RevisionState) → load_of self.old.group i d < 2 ^ 54 }
+        requires can { CanGoOn self.old i e.now.time }
         requires act { IsPlain e.now.act }
-        ensures ok { OnOk result (Makes (λ x. by_one self.old.setup x i e.now) self.old self.new (O.held out.old) (O.held out.new)) }
-        ensures err { OnErr result (Fails (λ x. by_one self.old.setup x i e.now) self.old (O.held out.old) (O.held out.new)) }
+        ensures ok { OnOk result (MakesBy (own_outcome i e.now) self.old self.new (O.held out.old) (O.held out.new)) }
+        ensures err { OnErr result (FailsBy (own_outcome i e.now) self.old (O.held out.old) (O.held out.new)) }
         ensures same { IsSameReplay self.old self.new }
         ensures order { AreBefore e.now.time self.new.group }
         ensures calm { IsCalm self.old.group → IsCalm self.new.group }
@@ -102,17 +89,8 @@ impl Replay {
     /// The due change, whose rows are still to be added.
     fn change_only(&mut self, change: &Change, time: u64)
         requires due { due_of self.old.group ≡ Some change.now }
-        requires one { change.now.activator < self.old.setup.activators }
-        requires order { AreBefore time self.old.group }
-        requires times { time ≤ 2 ^ 42 }
-        requires few { (d : RevisionState) → load_of self.old.group change.now.activator d < 2 ^ 54 }
-        ensures log { (x : Sharing) → Stands self.old.group x → self.new.log ≡ rows_at self.old.setup x change.now.activator (made_at time change.now) }
-        ensures stands { (x : Sharing) → Stands self.old.group x → Stands self.new.group (stepped self.old.setup x change.now.activator (made_at time change.now)) }
-        ensures setup { self.new.setup ≡ self.old.setup }
-        ensures before { self.new.before ≡ self.old.before }
-        ensures waiting { self.new.waiting ≡ self.old.waiting }
-        ensures parts { length self.new.group.parts ≡ length self.old.group.parts }
-        ensures order { AreBefore time self.new.group }
+        requires can { CanGoOn self.old change.now.activator time }
+        ensures steps { StepsOnly self.old self.new change.now.activator (made_at time change.now) }
         ensures load { Grows none self.old.group self.new.group }
     {
         self.log.clear();
@@ -122,12 +100,9 @@ impl Replay {
     /// Makes the due change.
     fn make<O: Sink>(&mut self, change: &Change, time: u64, out: &mut O) -> Result<(), Failed>
         requires due { due_of self.old.group ≡ Some change.now }
-        requires one { change.now.activator < self.old.setup.activators }
-        requires order { AreBefore time self.old.group }
-        requires times { time ≤ 2 ^ 42 }
-        requires few { (d : RevisionState) → load_of self.old.group change.now.activator d < 2 ^ 54 }
-        ensures ok { OnOk result (Makes (λ x. by_one self.old.setup x change.now.activator (made_at time change.now)) self.old self.new (O.held out.old) (O.held out.new)) }
-        ensures err { OnErr result (Fails (λ x. by_one self.old.setup x change.now.activator (made_at time change.now)) self.old (O.held out.old) (O.held out.new)) }
+        requires can { CanGoOn self.old change.now.activator time }
+        ensures ok { OnOk result (MakesBy (made_outcome time change.now) self.old self.new (O.held out.old) (O.held out.new)) }
+        ensures err { OnErr result (FailsBy (made_outcome time change.now) self.old (O.held out.old) (O.held out.new)) }
         ensures same { IsSameReplay self.old self.new }
         ensures order { AreBefore time self.new.group }
         ensures load { Grows none self.old.group self.new.group }
@@ -167,8 +142,8 @@ impl Replay {
         requires times { e.now.time ≤ 2 ^ 42 }
         requires few { IsBelow (2 ^ 54) self.old.group }
         requires act { IsPlain e.now.act }
-        ensures ok { OnOk result (Makes (by_each self.old.setup e.now (numbers_of self.old.setup)) self.old self.new (O.held out.old) (O.held out.new)) }
-        ensures err { OnErr result (Fails (by_each self.old.setup e.now (numbers_of self.old.setup)) self.old (O.held out.old) (O.held out.new)) }
+        ensures ok { OnOk result (MakesBy (each_outcome e.now) self.old self.new (O.held out.old) (O.held out.new)) }
+        ensures err { OnErr result (FailsBy (each_outcome e.now) self.old (O.held out.old) (O.held out.new)) }
         ensures same { IsSameReplay self.old self.new }
         ensures order { AreBefore e.now.time self.new.group }
         ensures load { Grows one self.old.group self.new.group }
@@ -237,8 +212,8 @@ impl Replay {
         requires order { AreBefore time self.old.group }
         requires times { time ≤ 2 ^ 42 }
         requires few { IsBelow (2 ^ 54) self.old.group }
-        ensures ok { OnOk result (Makes (changes self.old.setup time (changes_most self.old.setup)) self.old self.new (O.held out.old) (O.held out.new)) }
-        ensures err { OnErr result (Fails (changes self.old.setup time (changes_most self.old.setup)) self.old (O.held out.old) (O.held out.new)) }
+        ensures ok { OnOk result (MakesBy (due_outcome time) self.old self.new (O.held out.old) (O.held out.new)) }
+        ensures err { OnErr result (FailsBy (due_outcome time) self.old (O.held out.old) (O.held out.new)) }
         ensures same { IsSameReplay self.old self.new }
         ensures order { AreBefore time self.new.group }
         ensures load { Grows none self.old.group self.new.group }
@@ -262,8 +237,8 @@ impl Replay {
         requires order { AreBefore (time_of e.now) self.old.group }
         requires times { time_of e.now ≤ 2 ^ 42 }
         requires few { IsBelow (2 ^ 54 - 1) self.old.group }
-        ensures ok { OnOk result (Makes (λ x. and_then (by_event self.old.setup e.now x) (changes self.old.setup (time_of e.now) (changes_most self.old.setup))) self.old self.new (O.held out.old) (O.held out.new)) }
-        ensures err { OnErr result (Fails (λ x. and_then (by_event self.old.setup e.now x) (changes self.old.setup (time_of e.now) (changes_most self.old.setup))) self.old (O.held out.old) (O.held out.new)) }
+        ensures ok { OnOk result (MakesBy (whole_outcome e.now) self.old self.new (O.held out.old) (O.held out.new)) }
+        ensures err { OnErr result (FailsBy (whole_outcome e.now) self.old (O.held out.old) (O.held out.new)) }
         ensures same { IsSameReplay self.old self.new }
         ensures order { AreBefore (time_of e.now) self.new.group }
         ensures load { Grows one self.old.group self.new.group }
@@ -288,8 +263,8 @@ impl Replay {
 
     /// Adds a line behind what waits for each pod whose limit in force isn't the one that was kept.
     fn put_forces<O: Sink>(&mut self, time: u64, out: &mut O) -> Result<(), Failed>
-        ensures ok { OnOk result (Adds (O.held out.old) (O.held out.new) self.old.waiting self.new.waiting (force_lines time 0 self.old.before self.old.group.force)) }
-        ensures err { OnErr result (AppendsPrefix (O.held out.old) (O.held out.new) (self.old.waiting ++ force_lines time 0 self.old.before self.old.group.force)) }
+        ensures ok { OnOk result (AddsText (forces_text time self.old) self.old self.new (O.held out.old) (O.held out.new)) }
+        ensures err { OnErr result (CutsText (forces_text time self.old) self.old (O.held out.old) (O.held out.new)) }
         ensures group { self.new.group ≡ self.old.group }
         ensures setup { self.new.setup ≡ self.old.setup }
         ensures cause { HasCause (O.Faulty.faults out.old) (O.Faulty.faults out.new) result }
@@ -336,8 +311,8 @@ impl Replay {
         requires times { e.now.time ≤ 2 ^ 42 }
         requires few { IsBelow (2 ^ 54 - 1) self.old.group }
         requires act { IsPlain e.now.act }
-        ensures ok { OnOk result (Makes (by_line self.old.setup (GroupEvent.One i e.now)) self.old self.new (O.held out.old) (O.held out.new)) }
-        ensures err { OnErr result (Fails (by_line self.old.setup (GroupEvent.One i e.now)) self.old (O.held out.old) (O.held out.new)) }
+        ensures ok { OnOk result (MakesBy (line_outcome i e.now) self.old self.new (O.held out.old) (O.held out.new)) }
+        ensures err { OnErr result (FailsBy (line_outcome i e.now) self.old (O.held out.old) (O.held out.new)) }
         ensures same { IsSameReplay self.old self.new }
         ensures order { AreBefore e.now.time self.new.group }
         ensures load { Grows one self.old.group self.new.group }

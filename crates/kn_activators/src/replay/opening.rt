@@ -1,9 +1,9 @@
 //! How a replay of several activators begins and ends.
-ghost use Rattle.std.specs.Prelude.{◌≡◌, ◌<◌, ◌≤◌, ◌^◌, ◌++◌, [], IfOk, OnErr, OnOk};
+ghost use Rattle.std.specs.Prelude.{◌≡◌, ◌<◌, ◌≤◌, ◌^◌, [], IfOk, OnErr, OnOk};
 ghost use Rattle.kn_io.specs.Causes.{HasCause};
 ghost use Rattle.kn_io.specs.Prefix.{AppendsPrefix};
-ghost use Rattle.kn_report.specs.Waiting.{Adds};
-ghost use Rattle.kn_activators.specs.Sharing.{end_line, opened, opening_at, openings_text};
+ghost use Rattle.kn_activators.specs.Calls.{AddsText, CutsText, opens_text};
+ghost use Rattle.kn_activators.specs.Sharing.{end_line, opened, opening_at};
 ghost use Rattle.kn_activators.specs.Standing.{AreBefore, IsBelow, IsGroupSetup, Stands};
 
 use super::Replay;
@@ -75,8 +75,8 @@ impl Replay {
 
     /// Adds the opening rows of each activator behind what waits.
     pub fn open<O: Sink>(&mut self, out: &mut O) -> Result<(), Failed>
-        ensures ok { OnOk result (Adds (O.held out.old) (O.held out.new) self.old.waiting self.new.waiting (openings_text self.old.setup self.old.group.start)) }
-        ensures err { OnErr result (AppendsPrefix (O.held out.old) (O.held out.new) (self.old.waiting ++ openings_text self.old.setup self.old.group.start)) }
+        ensures ok { OnOk result (AddsText (opens_text self.old) self.old self.new (O.held out.old) (O.held out.new)) }
+        ensures err { OnErr result (CutsText (opens_text self.old) self.old (O.held out.old) (O.held out.new)) }
         ensures group { self.new.group ≡ self.old.group }
         ensures setup { self.new.setup ≡ self.old.setup }
         ensures cause { HasCause (O.Faulty.faults out.old) (O.Faulty.faults out.new) result }
@@ -93,7 +93,7 @@ impl Replay {
 
     /// Writes what waits, or on `Failed` some first of it. Nothing waits then.
     pub fn flush<O: Sink>(&mut self, out: &mut O) -> Result<(), Failed>
-        ensures ok { OnOk result (Adds (O.held out.old) (O.held out.new) self.old.waiting self.new.waiting []) }
+        ensures ok { OnOk result (AddsText [] self.old self.new (O.held out.old) (O.held out.new)) }
         ensures err { OnErr result (AppendsPrefix (O.held out.old) (O.held out.new) self.old.waiting) }
         ensures empty { self.new.waiting ≡ [] }
         ensures group { self.new.group ≡ self.old.group }
@@ -105,8 +105,8 @@ impl Replay {
 
     /// Adds the last line behind what waits, over so many events.
     pub fn end<O: Sink>(&mut self, events: u64, out: &mut O) -> Result<(), Failed>
-        ensures ok { OnOk result (Adds (O.held out.old) (O.held out.new) self.old.waiting self.new.waiting (end_line events)) }
-        ensures err { OnErr result (AppendsPrefix (O.held out.old) (O.held out.new) (self.old.waiting ++ end_line events)) }
+        ensures ok { OnOk result (AddsText (end_line events) self.old self.new (O.held out.old) (O.held out.new)) }
+        ensures err { OnErr result (CutsText (end_line events) self.old (O.held out.old) (O.held out.new)) }
         ensures cause { HasCause (O.Faulty.faults out.old) (O.Faulty.faults out.new) result }
     {
         set_end(&mut self.line, events);

@@ -52,10 +52,10 @@ returns-in-Err-read-clause-follows g c = λ x stands over.
     let s = c.args.setup.now in
     let text = (by_lines s on.0 x).text in
     let adds = adds_on (g.O.Sink.held c.args.out.now) (g.O.Sink.held c.loop-count.out) (g.O.Sink.held c.next.new.out) c.args.replay.now.waiting c.loop-count.replay.waiting c.next.new.replay.waiting text on.2 c.in-Ok.ensures.adds in
-    let told = rw c.in-Err-read.is at c.in-Ok.ensures.refuses in
-    let source = rw c.in-Err-read.is at c.in-Ok.ensures.source in
-    let not_cut = c.in-Ok.ensures.uncut in
-    let no = c.in-Ok.ensures.memory in
+    let told = rw c.in-Err-read.is at c.in-Ok.ensures.read.refuses in
+    let source = rw c.in-Err-read.is at c.in-Ok.ensures.read.source in
+    let not_cut = c.in-Ok.ensures.read.uncut in
+    let no = c.in-Ok.ensures.read.memory in
     follows_stop c.args.lines.now.cut s x c.args.start c.args.lines.now.number c.text_laws.ensures.laws c.loop-count.lines.cut (unread c.args.lines.now.input (g.S.Source.left c.args.source.now))
     (unread c.next.new.lines.input (g.S.Source.left c.next.new.source)) on.0 c.loop-count.last c.loop-count.lines.number (unread c.loop-count.lines.input (g.S.Source.left c.loop-count.source))
     c.args.replay.now.waiting c.next.new.replay.waiting (g.O.Sink.held c.args.out.now) (g.O.Sink.held c.next.new.out) (g.O.Sink.held c.stop.new.out) c.in-Err-read.e c.stop.result on.4 on.5
@@ -64,7 +64,7 @@ returns-in-Err-read-clause-follows g c = λ x stands over.
 
 pub returns-in-Err-read-clause-memory : goal.returns-in-Err-read-clause-memory
 returns-in-Err-read-clause-memory g c =
-    let no = c.in-Ok.ensures.memory in
+    let no = c.in-Ok.ensures.read.memory in
     stops_told c.in-Err-read.e c.next.new.replay.waiting (g.O.Sink.held c.next.new.out) (g.O.Sink.held c.stop.new.out) c.stop.result c.stop.ensures.stops (λ is. no (c.in-Err-read.is ∙ ap (λ (e : JournalError). Err e) is))
 
 pub returns-in-None-clause-follows : goal.returns-in-None-clause-follows
@@ -73,26 +73,28 @@ returns-in-None-clause-follows g c = λ x stands over.
     let s = c.args.setup.now in
     let text = (by_lines s on.0 x).text in
     let adds = adds_on (g.O.Sink.held c.args.out.now) (g.O.Sink.held c.loop-count.out) (g.O.Sink.held c.next.new.out) c.args.replay.now.waiting c.loop-count.replay.waiting c.next.new.replay.waiting text on.2 c.in-Ok.ensures.adds in
-    let gives = rw (c.in-Ok-read.is, c.in-None.is) at c.in-Ok.ensures.gives in
+    let gives = rw (c.in-Ok-read.is, c.in-None.is) at c.in-Ok.ensures.read.gives in
     follows_finish c.args.lines.now.cut s x c.args.start c.args.lines.now.number (unread c.args.lines.now.input (g.S.Source.left c.args.source.now))
     (unread c.next.new.lines.input (g.S.Source.left c.next.new.source)) on.0 c.loop-count.last c.loop-count.lines.number c.next.new.lines.number (unread c.loop-count.lines.input (g.S.Source.left c.loop-count.source)) (unread c.next.new.lines.input (g.S.Source.left c.next.new.source))
     c.args.replay.now.waiting c.next.new.replay.waiting (g.O.Sink.held c.args.out.now) (g.O.Sink.held c.next.new.out) (g.O.Sink.held c.finish.new.out) c.loop-count.count c.finish.result on.4 gives adds on.3 c.finish.ensures.ok c.finish.ensures.err c.finish.ensures.some
 
 pub take-requires-clause-event : goal.take-requires-clause-event
 take-requires-clause-event g c =
-    let range = rw (c.in-Ok-read.is, c.in-Some.is) at c.in-Ok.ensures.range in
-    rw (c.next.ensures.setup, c.loop-count.invariant.setup) range
+    let next = rw (c.in-Ok-read.is, c.in-Some.is) at c.in-Ok.ensures.read.next in
+    rw (c.next.ensures.setup, c.loop-count.invariant.setup) next.range
 
 pub take-requires-clause-order : goal.take-requires-clause-order
 take-requires-clause-order g c =
-    let order = rw (c.in-Ok-read.is, c.in-Some.is) at c.in-Ok.ensures.order in
+    let next = rw (c.in-Ok-read.is, c.in-Some.is) at c.in-Ok.ensures.read.next in
+    let order = next.order in
     λ j d low.
     let before = (subst (AreBefore c.loop-count.last) (sym c.next.ensures.group) c.loop-count.invariant.order) j d low in
     omega (arith, order, before)
 
 pub take-requires-clause-times : goal.take-requires-clause-times
 take-requires-clause-times g c =
-    let times = rw (c.in-Ok-read.is, c.in-Some.is) at c.in-Ok.ensures.times in
+    let next = rw (c.in-Ok-read.is, c.in-Some.is) at c.in-Ok.ensures.read.next in
+    let times = next.times in
     omega (arith, times)
 
 pub take-requires-clause-few : goal.take-requires-clause-few
@@ -108,7 +110,7 @@ returns-in-Err-take-clause-follows g c = λ x stands over.
     let y = (by_lines s on.0 x).now in
     let text = (by_lines s on.0 x).text in
     let adds = adds_on (g.O.Sink.held c.args.out.now) (g.O.Sink.held c.loop-count.out) (g.O.Sink.held c.next.new.out) c.args.replay.now.waiting c.loop-count.replay.waiting c.next.new.replay.waiting text on.2 c.in-Ok.ensures.adds in
-    let gives = rw (c.in-Ok-read.is, c.in-Some.is) at c.in-Ok.ensures.gives in
+    let gives = rw (c.in-Ok-read.is, c.in-Some.is) at c.in-Ok.ensures.read.gives in
     let stood = subst (λ (z : GroupState). Stands z y) (sym c.next.ensures.group) on.1 in
     let same = c.next.ensures.setup ∙ c.loop-count.invariant.setup in
     let some = subst (λ (z : GroupSetup). AppendsPrefix (g.O.Sink.held c.next.new.out) (g.O.Sink.held c.take.new.out) (c.next.new.replay.waiting ++ (by_line z e y).text)) same (c.in-Err-take.ensures.err y stood) in
@@ -121,10 +123,11 @@ loop-count-preserved g c =
     let kept = c.loop-count.invariant in
     let s = c.args.setup.now in
     let e = c.in-Some.e in
-    let bytes = rw (c.in-Ok-read.is, c.in-Some.is) at c.in-Ok.ensures.bytes in
-    let times = rw (c.in-Ok-read.is, c.in-Some.is) at c.in-Ok.ensures.times in
-    let gives = rw (c.in-Ok-read.is, c.in-Some.is) at c.in-Ok.ensures.gives in
-    let text_taken = rw (c.in-Ok-read.is, c.in-Some.is) at c.in-Ok.ensures.text in
+    let bytes = rw (c.in-Ok-read.is, c.in-Some.is) at c.in-Ok.ensures.read.bytes in
+    let next = rw (c.in-Ok-read.is, c.in-Some.is) at c.in-Ok.ensures.read.next in
+    let times = next.times in
+    let gives = rw (c.in-Ok-read.is, c.in-Some.is) at c.in-Ok.ensures.read.gives in
+    let text_taken = rw (c.in-Ok-read.is, c.in-Some.is) at c.in-Ok.ensures.read.text in
     let same = c.next.ensures.setup ∙ kept.setup in
     record {
       on = λ x stands over.
@@ -151,8 +154,8 @@ loop-count-preserved g c =
       few = below_after c.next.new.replay.group c.take.new.self.group (c.loop-count.count + 1) one c.in-Ok-take.ensures.parts c.in-Ok-take.ensures.load (λ j. omega arith)
           (subst (IsBelow (c.loop-count.count + 1)) (sym c.next.ensures.group) kept.few);
       taken = omega (arith, kept.taken, bytes);
-      most = c.in-Ok.ensures.few;
-      source = draws_more kept.source (rw c.in-Ok-read.is at c.in-Ok.ensures.source);
+      most = c.in-Ok.ensures.read.few;
+      source = draws_more kept.source (rw c.in-Ok-read.is at c.in-Ok.ensures.read.source);
       later = omega (arith, kept.later, c.next.ensures.cause.never_falls, c.take.ensures.cause.never_falls);
     }
 
@@ -180,7 +183,7 @@ returns-in-Err-clause-write_fault g c is = rose_on _ _ _ c.loop-count.invariant.
 pub returns-in-Err-read-clause-source : goal.returns-in-Err-read-clause-source
 returns-in-Err-read-clause-source g c =
     draws_stopped c.in-Err-read.e c.next.new.replay.waiting (g.O.Sink.held c.next.new.out) (g.O.Sink.held c.stop.new.out) c.stop.result c.stop.ensures.stops
-    (draws_more c.loop-count.invariant.source (rw c.in-Err-read.is at c.in-Ok.ensures.source))
+    (draws_more c.loop-count.invariant.source (rw c.in-Err-read.is at c.in-Ok.ensures.read.source))
 
 pub returns-in-Err-read-clause-write_fault : goal.returns-in-Err-read-clause-write_fault
 returns-in-Err-read-clause-write_fault g c is = rose_on _ _ _ (le_trans c.loop-count.invariant.later c.next.ensures.cause.never_falls) (c.stop.ensures.fault (error_is c.stop.result is))
@@ -189,7 +192,7 @@ pub returns-in-Err-read-clause-never_falls : goal.returns-in-Err-read-clause-nev
 returns-in-Err-read-clause-never_falls g c = omega (arith, c.loop-count.invariant.later, c.next.ensures.cause.never_falls, c.stop.ensures.never_falls)
 
 pub returns-in-None-clause-source : goal.returns-in-None-clause-source
-returns-in-None-clause-source g c = draws_finished c.finish.result c.finish.ensures.err (draws_more c.loop-count.invariant.source (rw c.in-Ok-read.is at c.in-Ok.ensures.source))
+returns-in-None-clause-source g c = draws_finished c.finish.result c.finish.ensures.err (draws_more c.loop-count.invariant.source (rw c.in-Ok-read.is at c.in-Ok.ensures.read.source))
 
 pub returns-in-None-clause-write_fault : goal.returns-in-None-clause-write_fault
 returns-in-None-clause-write_fault g c is = rose_on _ _ _ (le_trans c.loop-count.invariant.later c.next.ensures.cause.never_falls) (failed_of c.finish.result c.finish.ensures.fault is)
@@ -198,7 +201,7 @@ pub returns-in-None-clause-never_falls : goal.returns-in-None-clause-never_falls
 returns-in-None-clause-never_falls g c = omega (arith, c.loop-count.invariant.later, c.next.ensures.cause.never_falls, c.finish.ensures.never_falls)
 
 pub returns-in-Err-take-clause-source : goal.returns-in-Err-take-clause-source
-returns-in-Err-take-clause-source g c = draws_more c.loop-count.invariant.source (rw c.in-Ok-read.is at c.in-Ok.ensures.source)
+returns-in-Err-take-clause-source g c = draws_more c.loop-count.invariant.source (rw c.in-Ok-read.is at c.in-Ok.ensures.read.source)
 
 pub returns-in-Err-take-clause-write_fault : goal.returns-in-Err-take-clause-write_fault
 returns-in-Err-take-clause-write_fault g c is = rose_on _ _ _ (le_trans c.loop-count.invariant.later c.next.ensures.cause.never_falls) c.in-Err-take.ensures.cause.failed

@@ -24,11 +24,16 @@ loop-k-init g c =
     all : (m : ℕ) → m ≡ m - 0
     all m = omega arith
 
-pub make-requires-clause-few : goal.make-requires-clause-few
-make-requires-clause-few g c = λ d.
+pub make-requires-clause-can : goal.make-requires-clause-can
+make-requires-clause-can g c =
     let kept = c.loop-k.invariant in
     let low = subst (λ (n : ℕ). c.in-Some.change.activator < n) (sym c.due.ensures.parts) c.in-Some.ensures.one in
-    below_still c.args.self.now.group c.loop-k.self.group _ kept.same.parts kept.load c.requires.few c.in-Some.change.activator d low
+    record {
+      one = c.in-Some.ensures.one;
+      order = kept.order;
+      times = c.requires.times;
+      few = λ d. below_still c.args.self.now.group c.loop-k.self.group _ kept.same.parts kept.load c.requires.few c.in-Some.change.activator d low;
+    }
 
 pub loop-k-preserved : goal.loop-k-preserved
 loop-k-preserved g c =

@@ -19,20 +19,19 @@ loop-i-init g c = record {
 low : (i n m : ℕ) → i < n → n ≡ m → i < m
 low i n m h e = omega (arith, h, e)
 
-pub step-requires-clause-one : goal.step-requires-clause-one
-step-requires-clause-one g c =
-    let same = ap (λ (s : GroupSetup). s.activators) c.loop-i.invariant.same.setup in
-    let all = c.activators-i-end.ensures.value in
-    let test = c.loop-i-test.true in
-    omega (arith, same, all, test)
-
-pub step-requires-clause-few : goal.step-requires-clause-few
-step-requires-clause-few g c = λ d.
+pub step-requires-clause-can : goal.step-requires-clause-can
+step-requires-clause-can g c =
     let kept = c.loop-i.invariant in
+    let same = ap (λ (s : GroupSetup). s.activators) kept.same.setup in
     let all = c.activators-i-end.ensures.value in
     let test = c.loop-i-test.true in
     let parts = c.activators-i-end.ensures.parts in
-    few_next c.loop-i.i _ c.args.self.now.group c.loop-i.self.group (omega (arith, all, test, parts)) kept.load c.requires.few d
+    record {
+      one = omega (arith, same, all, test);
+      order = kept.order;
+      times = c.requires.times;
+      few = few_next c.loop-i.i _ c.args.self.now.group c.loop-i.self.group (omega (arith, all, test, parts)) kept.load c.requires.few;
+    }
 
 pub loop-i-preserved : goal.loop-i-preserved
 loop-i-preserved g c =
