@@ -19,7 +19,8 @@ use Rattle.kn_report.specs.Waiting.{Adds}
 use Rattle.kn_teller.specs.Manner.{Manner, told}
 use Rattle.kn_teller.specs.Run.{Run}
 use Rattle.kn_follow.specs.Following.{ran}
-use Rattle.kn_follow.specs.Laws.{TellingLaws, WaitingLaws}
+use Rattle.kn_follow.specs.Laws.{TellingLaws}
+use Rattle.kn_report.specs.AddingLaws.{AddingLaws}
 use Rattle.kn_bundle.specs.Bundle.{Course, course}
 use Rattle.kn_bundle.specs.Stages.{BreaksCourse, FollowsCourse, StopsCourse, close_by, course_text}
 use Rattle.kn_bundle.proofs.Alongs.{IsAlong, along_over, along_taken}
@@ -35,25 +36,23 @@ told-grows tells w run waiting es more =
     (rest, ap (λ (z : List ℕ). waiting ++ z) (tells.more w run es more) ∙ sym (append_assoc waiting (told w run es) rest))
 
 -- what is told of one more event was not all written
-pub some_told : (waits : WaitingLaws) (tells : TellingLaws) (w : Manner) (run : Run) (es : List Event) (e : Event) (a b d : Option (List ℕ)) (p q : List ℕ) → Adds a b p q (told w run es) → AppendsPrefix b d (q ++ w.tells (ran run es) e)
+pub some_told : (adding : AddingLaws) (tells : TellingLaws) (w : Manner) (run : Run) (es : List Event) (e : Event) (a b d : Option (List ℕ)) (p q : List ℕ) → Adds a b p q (told w run es) → AppendsPrefix b d (q ++ w.tells (ran run es) e)
     → AppendsPrefix a d (p ++ told w run (es ++ e ∷ []))
-some_told waits tells w run es e a b d p q h k =
-    let one = w.tells (ran run es) e in
-    let all = told w run (es ++ e ∷ []) in
-    waits.some a b d p (q ++ one) all (waits.more h (waits.waits b q (q ++ one) one refl) (sym (tells.next w run es e))) k
+some_told adding tells w run es e a b d p q h k =
+    subst (λ (z : List ℕ). AppendsPrefix a d (p ++ z)) (sym (tells.next w run es e)) (adding.last d (w.tells (ran run es) e) h k)
 
 -- some of what is written of these events was written
-pub goes_cut : (waits : WaitingLaws) (body close : List Event → List ℕ) (version last number n : ℕ) (known left old new : Option (List ℕ)) (es : List Event) (time m : ℕ) (rest : Option (List ℕ))
+pub goes_cut : (adding : AddingLaws) (body close : List Event → List ℕ) (version last number n : ℕ) (known left old new : Option (List ℕ)) (es : List Event) (time m : ℕ) (rest : Option (List ℕ))
     → GoesOn version last number known es time m rest → IsGrowing body → AppendsPrefix old new (body es) → FollowsCourse body close version last number n known left old new status.WriteFault
-goes_cut waits body close version last number n None left old new es time m rest h grows some = tt
-goes_cut waits body close version last number n (Some xs) left old new es time m None h grows some = absurd h
-goes_cut waits body close version last number n (Some xs) left old new es time m (Some ys) h grows some =
+goes_cut adding body close version last number n None left old new es time m rest h grows some = tt
+goes_cut adding body close version last number n (Some xs) left old new es time m None h grows some = absurd h
+goes_cut adding body close version last number n (Some xs) left old new es time m (Some ys) h grows some =
     let c = course version time m (lines ys) in
     let more = grows es c.events in
     let end = close_by (close (es ++ c.events)) c.ends in
     let text : body es ++ (more.0 ++ end) ≡ course_text body close (with_events es c) = sym (append_assoc (body es) more.0 end) ∙ ap (λ (z : List ℕ). z ++ end) (sym more.1) in
     subst (λ (x : Course). AppendsPrefix old new (course_text body close x)) (sym (reads_all version last number (lines xs) es time m (lines ys) h))
-    (subst (AppendsPrefix old new) text (waits.front old new (body es) (more.0 ++ end) some))
+    (subst (AppendsPrefix old new) text (adding.front old new (body es) (more.0 ++ end) some))
 
 -- `end` was read
 pub goes_end : (body close : List Event → List ℕ) (version last number n : ℕ) (known left old new : Option (List ℕ)) (es : List Event) (time m : ℕ) (rest : Option (List ℕ)) (result : Status)
@@ -76,13 +75,13 @@ goes_end body close version last number n (Some xs) (Some zs) old new es time m 
         (subst (λ (x : Course). AppendsPrefix old new (course_text body close x)) (sym all) some)
 
 -- reading stopped
-pub goes_stop : (laws : TextLaws) (waits : WaitingLaws) (body close : List Event → List ℕ) (first cut : Bool) (version last number n : ℕ) (known left old new : Option (List ℕ)) (es : List Event) (time m : ℕ) (rest : Option (List ℕ)) (e : JournalError) (result : Status)
+pub goes_stop : (laws : TextLaws) (adding : AddingLaws) (body close : List Event → List ℕ) (first cut : Bool) (version last number n : ℕ) (known left old new : Option (List ℕ)) (es : List Event) (time m : ℕ) (rest : Option (List ℕ)) (e : JournalError) (result : Status)
     → GoesOn version last number known es time m rest → IsGrowing body → IsOver first known → IsAlong first cut known rest
     → (IsOver cut rest → Refuses (next_of_part version time m) e rest) → (e ≡ error.ReadFault → TakesPart rest left) → (e ≡ error.Memory → ⊥) → Stops (body es) old new (status_of e) result
     → FollowsCourse body close version last number n known left old new result
-goes_stop laws waits body close first cut version last number n None left old new es time m rest e result h grows over along refuses amid none stops = tt
-goes_stop laws waits body close first cut version last number n (Some xs) left old new es time m None e result h grows over along refuses amid none stops = absurd h
-goes_stop laws waits body close first cut version last number n (Some xs) left old new es time m (Some ys) e result h grows over along refuses amid none stops = by_stop stops
+goes_stop laws adding body close first cut version last number n None left old new es time m rest e result h grows over along refuses amid none stops = tt
+goes_stop laws adding body close first cut version last number n (Some xs) left old new es time m None e result h grows over along refuses amid none stops = absurd h
+goes_stop laws adding body close first cut version last number n (Some xs) left old new es time m (Some ys) e result h grows over along refuses amid none stops = by_stop stops
   where
     refused : (x : JournalError) (cause : Cause) → error_of cause ≡ x → next_of_part version time m (lines ys) ≡ Err cause → Appends old new (body es) → StopsCourse body version last number (lines xs) old new (status_of x)
     refused x cause is g held =
@@ -122,4 +121,4 @@ goes_stop laws waits body close first cut version last number n (Some xs) left o
         (by_error e (refuses (along_over first cut xs ys over along)) amid none held)
     by_stop (inr (is, some)) =
         subst (λ (x : Status). FollowsCourse body close version last number n (Some xs) left old new x) (sym is)
-        (goes_cut waits body close version last number n (Some xs) left old new es time m (Some ys) h grows some)
+        (goes_cut adding body close version last number n (Some xs) left old new es time m (Some ys) h grows some)

@@ -23,14 +23,13 @@ use Rattle.kn_teller.specs.Run.{begun}
 use Rattle.kn_follow.specs.Account.{Account, account_of}
 use Rattle.kn_follow.specs.Endings.{IsFollowed, status_of}
 use Rattle.kn_follow.specs.Following.{ran}
-use Rattle.kn_follow.specs.Laws.{WaitingLaws}
+use Rattle.kn_report.specs.AddingLaws.{AddingLaws}
 use Rattle.kn_bundle.specs.Bundle.{Course, Stage, course, from_course, journal_in, stage_on, stopped}
 use Rattle.kn_bundle.specs.Following.{text_of_opened}
 use Rattle.kn_bundle.specs.Stages.{BreaksAt, BreaksCourse, EndsCourse, FollowsCourse, FollowsStage, IsWholeJournal, OpenedBehind, OpensStage, StopsCourse, close_by, course_text, nothing, text_of_stage}
 use Rattle.kn_bundle.proofs.Alongs.{split-behind, whole-behind}
 use Rattle.kn_bundle.proofs.Openings.{behind_start}
 use Rattle.kn_bundle.proofs.Parts.{AreSetups, AreStarts, opening-whole}
-use Rattle.kn_bundle.proofs.Texts.{some_behind}
 
 -- what an account says of a journal's events, behind what was written of its start
 pub record IsTold (a : Account) (version : ℕ) (setup : Setup) (start : ℕ) (written : List ℕ) (body close : List Event → List ℕ) : Type 0 where
@@ -119,12 +118,12 @@ stage_stops a version n xs same setup start number m left lefts written body clo
   subst (Appends first new) (sym (told.bodies s.events)) (Appends-trans first old new written (body s.events) wrote s.held),
 )
 
-pub stage_follows : (laws : TextLaws) (waits : WaitingLaws) (a : Account) (version n : ℕ) (known rest left : Option (List ℕ)) (cut : Bool) (same : ℕ) (setup : Setup) (start number m : ℕ) (written : List ℕ) (body close : List Event → List ℕ) (first old new : Option (List ℕ)) (result : Status)
+pub stage_follows : (laws : TextLaws) (adding : AddingLaws) (a : Account) (version n : ℕ) (known rest left : Option (List ℕ)) (cut : Bool) (same : ℕ) (setup : Setup) (start number m : ℕ) (written : List ℕ) (body close : List Event → List ℕ) (first old new : Option (List ℕ)) (result : Status)
     → AreSetups → AreStarts → OpensStage version n known rest same number (Ok (setup, start)) → TakesText cut known rest → IsTold a same setup start written body close → Appends first old written
     → (IsOver cut rest → FollowsCourse body close same start number m rest left old new result) → IsFollowed result → FollowsStage a version n m known left first new result
-stage_follows laws waits a version n None rest left cut same setup start number m written body close first old new result are begin h text told wrote follows followed = tt
-stage_follows laws waits a version n (Some xs) None left cut same setup start number m written body close first old new result are begin h text told wrote follows followed = absurd h
-stage_follows laws waits a version n (Some xs) (Some ys) left cut same setup start number m written body close first old new result are begin h (text, split, off) told wrote follows followed =
+stage_follows laws adding a version n None rest left cut same setup start number m written body close first old new result are begin h text told wrote follows followed = tt
+stage_follows laws adding a version n (Some xs) None left cut same setup start number m written body close first old new result are begin h text told wrote follows followed = absurd h
+stage_follows laws adding a version n (Some xs) (Some ys) left cut same setup start number m written body close first old new result are begin h (text, split, off) told wrote follows followed =
     by_result result followed (follows (over cut off))
   where
     over : (c : Bool) → IsCutOff c text ys → IsOver c (Some ys)
@@ -161,7 +160,7 @@ stage_follows laws waits a version n (Some xs) (Some ys) left cut same setup sta
     by_result status.WriteFault f c =
         subst (λ (s : Stage). AppendsPrefix first new (text_of_stage a s)) (sym is)
         (subst (AppendsPrefix first new) (sym (text_is a same setup start written body close (course same start number (lines ys)) told))
-        (some_behind waits first old new written (course_text body close (course same start number (lines ys))) wrote c))
+        (adding.after first old new written (course_text body close (course same start number (lines ys))) wrote c))
     by_result (status.BadInput e) f c = stops (status.BadInput e) c
     by_result (status.BadSetup e) f c = stops (status.BadSetup e) c
     by_result status.Memory f c = absurd f
@@ -170,18 +169,18 @@ stage_follows laws waits a version n (Some xs) (Some ys) left cut same setup sta
     by_result status.ListenFault f c = absurd f
 
 -- what is written of the start was not all written
-pub stage_cut : (waits : WaitingLaws) (w : Manner) (version n : ℕ) (known rest left : Option (List ℕ)) (same : ℕ) (setup : Setup) (start number m : ℕ) (old new : Option (List ℕ))
+pub stage_cut : (adding : AddingLaws) (w : Manner) (version n : ℕ) (known rest left : Option (List ℕ)) (same : ℕ) (setup : Setup) (start number m : ℕ) (old new : Option (List ℕ))
     → OpensStage version n known rest same number (Ok (setup, start)) → AppendsPrefix old new (w.opens (begun setup.spec start)) → FollowsStage (account_of w) version n m known left old new status.WriteFault
-stage_cut waits w version n None rest left same setup start number m old new h some = tt
-stage_cut waits w version n (Some xs) None left same setup start number m old new h some = absurd h
-stage_cut waits w version n (Some xs) (Some ys) left same setup start number m old new h some =
+stage_cut adding w version n None rest left same setup start number m old new h some = tt
+stage_cut adding w version n (Some xs) None left same setup start number m old new h some = absurd h
+stage_cut adding w version n (Some xs) (Some ys) left same setup start number m old new h some =
     let b = begun setup.spec start in
     let c = course same start number (lines ys) in
     let says = manner_told w same setup start (w.opens b) [] (sym (append-nil (w.opens b))) in
     let close : List Event → List ℕ = λ es. w.ends same (ran b es) in
     subst (λ (s : Stage). AppendsPrefix old new (text_of_stage (account_of w) s)) (sym (opened_is version n (lines xs) same setup start number (lines ys) h))
     (subst (AppendsPrefix old new) (sym (text_is (account_of w) same setup start (w.opens b) (λ es. [] ++ told w b es) close c says))
-    (waits.front old new (w.opens b) (course_text (λ es. [] ++ told w b es) close c) some))
+    (adding.front old new (w.opens b) (course_text (λ es. [] ++ told w b es) close c) some))
 
 pub stage_memory : (a : Account) (version n m : ℕ) (known left out : Option (List ℕ)) → FollowsStage a version n m known left out out status.Memory
 stage_memory a version n m None left out = tt

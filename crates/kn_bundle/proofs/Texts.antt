@@ -1,11 +1,8 @@
 -- What is written of journal k, one journal more.
 use Rattle.std.proofs.Common.{◌≡◌, ℕ, zero, suc, Bool, true, false, List, [], ◌∷◌, ◌++◌, length, append-nil, refl, sym, ap, ◌∙◌, arith}
 use Rattle.std.specs.Prelude.{Option, None, Some}
-use Rattle.std.specs.Io.KnownBytes.{Appends}
-use Rattle.kn_io.specs.Prefix.{AppendsPrefix}
 use Rattle.kn_journal.specs.declared.journal.Journal.{Journal}
 use Rattle.kn_follow.specs.Account.{Account}
-use Rattle.kn_follow.specs.Laws.{WaitingLaws}
 use Rattle.kn_bundle.specs.Bundle.{Bundle, Stage, bundle_on, ended, stopped, with_journals}
 use Rattle.kn_bundle.specs.Following.{text_at, text_in, text_of_opened}
 use Rattle.kn_bundle.specs.Stages.{chosen, text_of_stage}
@@ -70,9 +67,3 @@ text_stage a k js (ended j n left) next is =
     ap (λ (z : List ℕ). z ++ (a.body j ++ a.close j)) (at_end a k js None is) ∙ sym (whole_at a k js j (next n left).whole (next n left).opened is)
 text_stage a k js (stopped opened cause) next is =
     ap (λ (z : List ℕ). z ++ text_of_opened a opened) (at_end a k js None is) ∙ sym (at_end a k js opened is) ∙ ap (λ (x : List Journal). text_at a k x opened) (sym (append-nil js))
-
--- ---- what was written of it
-
--- all of one text was written, and some first bytes of another
-pub some_behind : (waits : WaitingLaws) (a b d : Option (List ℕ)) (x y : List ℕ) → Appends a b x → AppendsPrefix b d y → AppendsPrefix a d (x ++ y)
-some_behind waits a b d x y h k = waits.some a b d [] y (x ++ y) (record { written = x; held = h; all = refl }) k

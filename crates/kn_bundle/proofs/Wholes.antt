@@ -19,13 +19,14 @@ use Rattle.kn_journal.specs.Texts.{TextLaws}
 use Rattle.kn_follow.specs.Account.{Account}
 use Rattle.kn_follow.specs.Endings.{EndsThere, IsReplayed, status_of}
 use Rattle.kn_follow.specs.Following.{IsGoodSoFar}
-use Rattle.kn_follow.specs.Laws.{EndingLaws, WaitingLaws}
+use Rattle.kn_follow.specs.Laws.{EndingLaws}
+use Rattle.kn_report.specs.AddingLaws.{AddingLaws}
 use Rattle.kn_bundle.specs.Bundle.{Bundle, bundle, bundle_of_lines, bundle_by, bundle_on, journal_in, no_journal, stopped, with_journals}
 use Rattle.kn_bundle.specs.Following.{BreaksIn, FollowsBundle, LacksMemory, end_by, end_in, text_at, text_in, text_of_opened}
 use Rattle.kn_bundle.specs.Stages.{BreaksAt, FollowsStage, chosen, text_of_stage}
 use Rattle.kn_bundle.proofs.Alongs.{IsAlong, along_over, along_taken, split-behind, whole-behind}
 use Rattle.kn_bundle.proofs.Bundles.{IsFirst, ReadsJournals, all_end, all_refused, all_stage, bundle_is, first-line, first-none, journals_begin, journals_more, own_end, own_stage}
-use Rattle.kn_bundle.proofs.Texts.{IsFor, some_behind, text_more, text_open, text_stage}
+use Rattle.kn_bundle.proofs.Texts.{IsFor, text_more, text_open, text_stage}
 
 -- ---- so far
 
@@ -187,14 +188,14 @@ ends_unbegun a k (Some xs) last given out =
     none (suc k) = refl
 
 -- a journal was not read to its end
-pub ends_within : (laws : TextLaws) (waits : WaitingLaws) (a : Account) (k count : ℕ) (before cut : Bool) (known rest mid last : Option (List ℕ)) (ahead : List ℕ) (n version m p given : ℕ) (old held new : Option (List ℕ)) (result : Status)
+pub ends_within : (laws : TextLaws) (adding : AddingLaws) (a : Account) (k count : ℕ) (before cut : Bool) (known rest mid last : Option (List ℕ)) (ahead : List ℕ) (n version m p given : ℕ) (old held new : Option (List ℕ)) (result : Status)
     → SoFar a k count known n rest old held → IsAlong false before known rest → (IsOver before rest → Gives (first_of_part n) (Some version) m rest mid) → IsAlong false cut known mid
     → FollowsStage (chosen (nat_eq count k) a) version m p mid (prepend_known ahead last) held new result → IsReplayed result → (result ≡ status.Ok → ⊥) → (nat_eq count k ≡ false → result ≡ status.WriteFault → ⊥)
     → (result ≡ status.ReadFault → length ahead ≡ given - most_taken) → FollowsBundle a k known last given old new result
-ends_within laws waits a k count before cut None rest mid last ahead n version m p given old held new result h was g along f replayed bad unwritten beyond = tt
-ends_within laws waits a k count before cut (Some xs) None mid last ahead n version m p given old held new result h was g along f replayed bad unwritten beyond = absurd h
-ends_within laws waits a k count before cut (Some xs) (Some ys) None last ahead n version m p given old held new result h was g along f replayed bad unwritten beyond = absurd (g (along_over false before xs ys tt was))
-ends_within laws waits a k count before cut (Some xs) (Some ys) (Some zs) last ahead n version m p given old held new result h was g along f replayed bad unwritten beyond =
+ends_within laws adding a k count before cut None rest mid last ahead n version m p given old held new result h was g along f replayed bad unwritten beyond = tt
+ends_within laws adding a k count before cut (Some xs) None mid last ahead n version m p given old held new result h was g along f replayed bad unwritten beyond = absurd h
+ends_within laws adding a k count before cut (Some xs) (Some ys) None last ahead n version m p given old held new result h was g along f replayed bad unwritten beyond = absurd (g (along_over false before xs ys tt was))
+ends_within laws adding a k count before cut (Some xs) (Some ys) (Some zs) last ahead n version m p given old held new result h was g along f replayed bad unwritten beyond =
     by_result result replayed bad unwritten beyond f
   where
     js : List Journal
@@ -261,7 +262,7 @@ ends_within laws waits a k count before cut (Some xs) (Some ys) (Some zs) last a
         let s = journal_in version m (lines zs) in
         let x = text_at a k js None in
         let y = text_of_stage a s in
-        subst (AppendsPrefix old new) (text_stage a k js s next (it.same refl) ∙ ap (text_in a k) (sym (bundle_is xs ∙ all))) (some_behind waits old held new x y h.held some)
+        subst (AppendsPrefix old new) (text_stage a k js s next (it.same refl) ∙ ap (text_in a k) (sym (bundle_is xs ∙ all))) (adding.after old held new x y h.held some)
     cut_off false it none some = absurd (none refl)
 
     by_result : (r : Status) → IsReplayed r → (r ≡ status.Ok → ⊥) → (nat_eq count k ≡ false → r ≡ status.WriteFault → ⊥) → (r ≡ status.ReadFault → length ahead ≡ given - most_taken)

@@ -8,10 +8,11 @@ ghost use Rattle.kn_bundle.specs.Following.{FollowsBundle, end_by};
 
 use crate::journal::read_journal;
 use kn_event::Memory;
-use kn_follow::laws::{call_laws, ending_laws, waiting_laws};
+use kn_follow::laws::{call_laws, ending_laws};
 use kn_follow::status_of;
 use kn_io::{Sink, Source};
 use kn_journal::{JournalError, JournalReader, Status, text_laws};
+use kn_report::laws::adding_laws;
 use kn_teller::{Form, Teller};
 use std::alloc::Global;
 
@@ -59,7 +60,7 @@ pub fn follow_bundle<T: Teller + Drop, F: Form<T>, S: Source, O: Sink>(
         Err(Memory) => return Status::Memory,
     };
     text_laws();
-    waiting_laws();
+    adding_laws();
     call_laws();
     ending_laws();
     // Each journal takes a byte at least, so before so many 2^56 bytes were taken.

@@ -11,10 +11,11 @@ ghost use Rattle.kn_bundle.specs.Calls.{IsNextOf, IsReadyFor, IsWithin};
 ghost use Rattle.kn_bundle.specs.Stages.{FollowsCourse};
 
 use kn_event::Event;
-use kn_follow::laws::{call_laws, ending_laws, telling_laws, waiting_laws};
+use kn_follow::laws::{call_laws, ending_laws, telling_laws};
 use kn_follow::{Follower, status_of};
 use kn_io::{Failed, Sink, Source};
 use kn_journal::{JournalError, JournalReader, Status, text_laws};
+use kn_report::laws::adding_laws;
 use kn_teller::Teller;
 
 /// Reads the next event, or none at `end`. A source that said its end isn't read again.
@@ -56,7 +57,7 @@ pub fn skip_events<S: Source>(reader: &mut JournalReader, source: &mut S) -> Sta
     ensures grows { reader.old.input.taken ≤ reader.new.input.taken }
 {
     text_laws();
-    waiting_laws();
+    adding_laws();
     call_laws();
     ending_laws();
     // Each event takes six bytes at least, so after so many 2^56 bytes were taken.
@@ -102,7 +103,7 @@ pub fn follow_events<T: Teller, S: Source, O: Sink>(
     ensures cause { IsCaused (O.Faulty.faults out.old) (O.Faulty.faults out.new) result }
 {
     text_laws();
-    waiting_laws();
+    adding_laws();
     telling_laws();
     call_laws();
     ending_laws();

@@ -10,10 +10,10 @@ ghost use Rattle.kn_bundle.specs.Stages.{FollowsStage, chosen, nothing};
 use crate::events::{follow_events, skip_events};
 use crate::opening::open_journal;
 use kn_event::Memory;
-use kn_follow::laws::waiting_laws;
 use kn_follow::{Follower, status_of};
 use kn_io::{Failed, Sink, Source};
 use kn_journal::{JournalReader, Setup, Status, openings_are_whole, text_laws};
+use kn_report::laws::adding_laws;
 use kn_teller::{Form, Teller};
 use std::alloc::Global;
 
@@ -35,7 +35,7 @@ fn skip_journal<S: Source>(alloc: Global, reader: &mut JournalReader, source: &m
 {
     openings_are_whole();
     text_laws();
-    waiting_laws();
+    adding_laws();
     let (setup, _start) = match open_journal(alloc, reader, source) {
         Ok(parts) => parts,
         Err(error) => return status_of(error),
@@ -70,7 +70,7 @@ fn follow_one<T: Teller + Drop, F: Form<T>, S: Source, O: Sink>(
 {
     openings_are_whole();
     text_laws();
-    waiting_laws();
+    adding_laws();
     let (setup, start) = match open_journal(alloc, reader, source) {
         Ok(parts) => parts,
         Err(error) => return status_of(error),

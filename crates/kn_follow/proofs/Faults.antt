@@ -24,13 +24,13 @@ use Rattle.kn_follow.specs.Following.{BreaksAmid, BreaksBefore, BreaksBeyond, Br
 use Rattle.kn_follow.specs.Account.{account_of, text_of}
 use Rattle.kn_teller.specs.Manner.{Manner, told}
 use Rattle.kn_teller.specs.Run.{Run, begun}
+use Rattle.kn_report.specs.AddingLaws.{AddingLaws}
 use Rattle.kn_report.specs.Waiting.{Adds}
 use Rattle.kn_follow.proofs.Behind.{AreOpenings, AreStarts, lines_read, lines_unopened, lines_unstarted}
 use Rattle.kn_follow.proofs.Lines.{end_line, no_line, with_events}
 use Rattle.kn_follow.proofs.Follows.{GoesOn, Reads, cut, goes_refused, none_more, reads_all}
 use Rattle.kn_follow.proofs.Journals.{opened_verdict, text_is, verdict_unopened, verdict_unstarted, writes_after}
 use Rattle.kn_follow.proofs.Statuses.{status_is}
-use Rattle.kn_follow.proofs.Waits.{adds_all, adds_stop}
 
 split-behind : (xs text ys more zs : List ℕ) → xs ≡ text ++ ys → ys ≡ more ++ zs → xs ≡ (text ++ more) ++ zs
 split-behind xs text ys more zs h k = h ∙ ap (λ (m : List ℕ). text ++ m) k ∙ sym (append_assoc text more zs)
@@ -86,20 +86,20 @@ over_of false text ys h = tt
 
 -- ---- the source failed
 
-fault_ends : (first : Bool) (version : ℕ) (w : Manner) (run : Run) (last number : ℕ) (xs : List ℕ) (left : Option (List ℕ)) (waiting now : List ℕ) (old mid new : Option (List ℕ)) (es : List Event) (r : Read) (refused : Option Cause) (result : Status)
+fault_ends : AddingLaws → (first : Bool) (version : ℕ) (w : Manner) (run : Run) (last number : ℕ) (xs : List ℕ) (left : Option (List ℕ)) (waiting now : List ℕ) (old mid new : Option (List ℕ)) (es : List Event) (r : Read) (refused : Option Cause) (result : Status)
     → read_events version last number (lines xs) ≡ with_events es r
     → BreaksIn first version last number xs left (record { events = es; refused = refused })
     → Adds old mid waiting now (told w run es) → Stops now mid new status.ReadFault result
     → Follows first version w run last number (Some xs) left waiting old new result
-fault_ends first version w run last number xs left waiting now old mid new es r refused result all breaks adds (inl (is, held)) =
+fault_ends adding first version w run last number xs left waiting now old mid new es r refused result all breaks adds (inl (is, held)) =
     let text = told w run es in
     let whole : Appends old new (waiting ++ text) =
-    subst (Appends old new) (append-nil (waiting ++ text)) (adds_all old mid new waiting now text [] adds (subst (Appends mid new) (sym (append-nil now)) held)) in
+    subst (Appends old new) (append-nil (waiting ++ text)) (adding.all new [] adds (subst (Appends mid new) (sym (append-nil now)) held)) in
     subst (λ (x : Status). Follows first version w run last number (Some xs) left waiting old new x) (sym is)
     (waiting ++ text, whole, (record { events = es; refused = refused }, breaks, refl))
-fault_ends first version w run last number xs left waiting now old mid new es r refused result all breaks adds (inr (is, some)) =
+fault_ends adding first version w run last number xs left waiting now old mid new es r refused result all breaks adds (inr (is, some)) =
     subst (λ (x : Status). Follows first version w run last number (Some xs) left waiting old new x) (sym is)
-    (cut version w run es r _ waiting [] old new all (adds_stop old mid new waiting now (told w run es) adds some))
+    (cut adding version w run es r _ waiting [] old new all (adding.stop new adds some))
 
 -- within a line
 breaks_within : (laws : TextLaws) (first : Bool) (version last number : ℕ) (xs : List ℕ) (es : List Event) (time m : ℕ) (ys text : List ℕ) (left : Option (List ℕ))
@@ -137,37 +137,37 @@ breaks_behind laws first version last number xs es time m ys text more mid left 
       rest = part;
     }
 
-fault_at : (laws : TextLaws) (first : Bool) (version : ℕ) (w : Manner) (run : Run) (last number : ℕ) (xs : List ℕ) (waiting now : List ℕ) (old mid new : Option (List ℕ)) (es : List Event) (time m : ℕ) (ys text : List ℕ) (left : Option (List ℕ)) (result : Status)
+fault_at : AddingLaws → (laws : TextLaws) (first : Bool) (version : ℕ) (w : Manner) (run : Run) (last number : ℕ) (xs : List ℕ) (waiting now : List ℕ) (old mid new : Option (List ℕ)) (es : List Event) (time m : ℕ) (ys text : List ℕ) (left : Option (List ℕ)) (result : Status)
     → Reads version last number (lines xs) es time m (lines ys) → xs ≡ text ++ ys → IsSoFar first false text ys → TakesPart (Some ys) left ⊎ TakesEnd (Some ys) left
     → Adds old mid waiting now (told w run es) → Stops now mid new status.ReadFault result
     → Follows first version w run last number (Some xs) left waiting old new result
-fault_at laws first version w run last number xs waiting now old mid new es time m ys text left result h split so (inl part) adds stops =
-    fault_ends first version w run last number xs left waiting now old mid new es (read_events version time m (lines ys)) (Some no_end) result
+fault_at adding laws first version w run last number xs waiting now old mid new es time m ys text left result h split so (inl part) adds stops =
+    fault_ends adding first version w run last number xs left waiting now old mid new es (read_events version time m (lines ys)) (Some no_end) result
     (reads_all version last number (lines xs) es time m (lines ys) h) (breaks_within laws first version last number xs es time m ys text left h split so part) adds stops
-fault_at laws first version w run last number xs waiting now old mid new es time m ys text None result h split so (inr ends) adds stops = absurd ends
-fault_at laws first version w run last number xs waiting now old mid new es time m ys text (Some zs) result h split so (inr (more, between, behind, ends, line, part)) adds stops =
-    fault_ends first version w run last number xs (Some zs) waiting now old mid new es (read_events version time m (lines ys)) None result
+fault_at adding laws first version w run last number xs waiting now old mid new es time m ys text None result h split so (inr ends) adds stops = absurd ends
+fault_at adding laws first version w run last number xs waiting now old mid new es time m ys text (Some zs) result h split so (inr (more, between, behind, ends, line, part)) adds stops =
+    fault_ends adding first version w run last number xs (Some zs) waiting now old mid new es (read_events version time m (lines ys)) None result
     (reads_all version last number (lines xs) es time m (lines ys) h) (breaks_behind laws first version last number xs es time m ys text more between (Some zs) h split so behind ends line part) adds stops
 
 -- an error of the reader
-pub goes_stop : (laws : TextLaws) (first over : Bool) (version : ℕ) (w : Manner) (run : Run) (last number : ℕ) (known : Option (List ℕ)) (waiting now : List ℕ) (old mid new : Option (List ℕ)) (es : List Event) (time m : ℕ) (rest left : Option (List ℕ)) (e : JournalError) (result : Status)
+pub goes_stop : AddingLaws → (laws : TextLaws) (first over : Bool) (version : ℕ) (w : Manner) (run : Run) (last number : ℕ) (known : Option (List ℕ)) (waiting now : List ℕ) (old mid new : Option (List ℕ)) (es : List Event) (time m : ℕ) (rest left : Option (List ℕ)) (e : JournalError) (result : Status)
     → GoesOn version last number known es time m rest → HasRead first over known rest → (IsOver over rest → Refuses (next_part version time m) e rest)
     → (e ≡ error.ReadFault → TakesPart rest left ⊎ TakesEnd rest left) → (e ≡ error.ReadFault → over ≡ false) → (e ≡ error.Memory → ⊥)
     → Adds old mid waiting now (told w run es) → Stops now mid new (status_of e) result
     → Follows first version w run last number known left waiting old new result
-goes_stop laws first over version w run last number None waiting now old mid new es time m rest left e result h read g amid uncut memory adds stops = tt
-goes_stop laws first over version w run last number (Some xs) waiting now old mid new es time m None left e result h read g amid uncut memory adds stops = absurd h
-goes_stop laws first over version w run last number (Some xs) waiting now old mid new es time m (Some ys) left e result h (text, split, so) g amid uncut memory adds stops =
+goes_stop adding laws first over version w run last number None waiting now old mid new es time m rest left e result h read g amid uncut memory adds stops = tt
+goes_stop adding laws first over version w run last number (Some xs) waiting now old mid new es time m None left e result h read g amid uncut memory adds stops = absurd h
+goes_stop adding laws first over version w run last number (Some xs) waiting now old mid new es time m (Some ys) left e result h (text, split, so) g amid uncut memory adds stops =
     by_error e (g (is_over first over text ys so)) amid uncut memory stops
   where
     refuses : (d : JournalError) → (cause : Cause) × (error_of cause ≡ d) × (next_part version time m (lines ys) ≡ Err cause) → Stops now mid new (status_of d) result
         → Follows first version w run last number (Some xs) left waiting old new result
-    refuses d (cause, is, refused) stopped = goes_refused first version w run last number xs waiting now old mid new es time m ys left cause d result h is refused adds stopped
+    refuses d (cause, is, refused) stopped = goes_refused adding first version w run last number xs waiting now old mid new es time m ys left cause d result h is refused adds stopped
 
     by_error : (d : JournalError) → Refuses (next_part version time m) d (Some ys) → (d ≡ error.ReadFault → TakesPart (Some ys) left ⊎ TakesEnd (Some ys) left) → (d ≡ error.ReadFault → over ≡ false)
         → (d ≡ error.Memory → ⊥) → Stops now mid new (status_of d) result → Follows first version w run last number (Some xs) left waiting old new result
     by_error error.ReadFault r at is_uncut none stopped =
-        fault_at laws first version w run last number xs waiting now old mid new es time m ys text left result h split (subst (λ (b : Bool). IsSoFar first b text ys) (is_uncut refl) so) (at refl) adds stopped
+        fault_at adding laws first version w run last number xs waiting now old mid new es time m ys text left result h split (subst (λ (b : Bool). IsSoFar first b text ys) (is_uncut refl) so) (at refl) adds stopped
     by_error error.Memory r at is_uncut none stopped = absurd (none refl)
     by_error (error.BadFirstLine due) r at is_uncut none stopped = refuses (error.BadFirstLine due) r stopped
     by_error (error.BadSetup line why) r at is_uncut none stopped = refuses (error.BadSetup line why) r stopped
@@ -180,14 +180,14 @@ goes_stop laws first over version w run last number (Some xs) waiting now old mi
     by_error (error.TooMany line) r at is_uncut none stopped = refuses (error.TooMany line) r stopped
 
 -- what waited couldn't be written
-pub goes_unwritten : (first : Bool) (version : ℕ) (w : Manner) (run : Run) (last number : ℕ) (known : Option (List ℕ)) (waiting now : List ℕ) (old mid new : Option (List ℕ)) (es : List Event) (time m : ℕ) (rest : Option (List ℕ))
+pub goes_unwritten : AddingLaws → (first : Bool) (version : ℕ) (w : Manner) (run : Run) (last number : ℕ) (known : Option (List ℕ)) (waiting now : List ℕ) (old mid new : Option (List ℕ)) (es : List Event) (time m : ℕ) (rest : Option (List ℕ))
     → GoesOn version last number known es time m rest → Adds old mid waiting now (told w run es) → AppendsPrefix mid new now
     → Follows first version w run last number known rest waiting old new status.WriteFault
-goes_unwritten first version w run last number None waiting now old mid new es time m rest h adds some = tt
-goes_unwritten first version w run last number (Some xs) waiting now old mid new es time m None h adds some = absurd h
-goes_unwritten first version w run last number (Some xs) waiting now old mid new es time m (Some ys) h adds some =
-    cut version w run es (read_events version time m (lines ys)) _ waiting [] old new (reads_all version last number (lines xs) es time m (lines ys) h)
-    (adds_stop old mid new waiting now (told w run es) adds some)
+goes_unwritten adding first version w run last number None waiting now old mid new es time m rest h adds some = tt
+goes_unwritten adding first version w run last number (Some xs) waiting now old mid new es time m None h adds some = absurd h
+goes_unwritten adding first version w run last number (Some xs) waiting now old mid new es time m (Some ys) h adds some =
+    cut adding version w run es (read_events version time m (lines ys)) _ waiting [] old new (reads_all version last number (lines xs) es time m (lines ys) h)
+    (adding.stop new adds some)
 
 -- ---- before the start
 
@@ -298,13 +298,13 @@ breaks_after laws w xs text ys over version setup start number ahead left given 
     ap (λ (z : List ℕ). written ++ z) is ∙ sym (append_assoc written waiting more) ∙ ap (λ (z : List ℕ). z ++ more) (sym opens) in
     (ahead, beyond, inl (j, amid, wrote))
 
-pub journal_follows : (laws : TextLaws) (w : Manner) (known rest left : Option (List ℕ)) (over : Bool) (ahead : List ℕ) (given version : ℕ) (setup : Setup) (start number : ℕ) (old mid new : Option (List ℕ)) (waiting : List ℕ) (result : Status) → AreOpenings → AreStarts
+pub journal_follows : AddingLaws → (laws : TextLaws) (w : Manner) (known rest left : Option (List ℕ)) (over : Bool) (ahead : List ℕ) (given version : ℕ) (setup : Setup) (start number : ℕ) (old mid new : Option (List ℕ)) (waiting : List ℕ) (result : Status) → AreOpenings → AreStarts
     → Opens known rest version number (Ok (setup, start)) → TakesText over known rest → Adds old mid [] waiting (w.opens (begun setup.spec start))
     → (IsOver over rest → Follows over version w (begun setup.spec start) start number rest (prepend_known ahead left) waiting mid new result) → IsFollowed result
     → (result ≡ status.ReadFault → length ahead ≡ given - most_taken) → FollowsInput (account_of w) known left given old new result
-journal_follows laws w None rest left over ahead given version setup start number old mid new waiting result are begin h text adds follows followed beyond = tt
-journal_follows laws w (Some xs) None left over ahead given version setup start number old mid new waiting result are begin h text adds follows followed beyond = absurd h
-journal_follows laws w (Some xs) (Some ys) left over ahead given version setup start number old mid new waiting result are begin h (text, split, cut) adds follows followed beyond =
+journal_follows adding laws w None rest left over ahead given version setup start number old mid new waiting result are begin h text adds follows followed beyond = tt
+journal_follows adding laws w (Some xs) None left over ahead given version setup start number old mid new waiting result are begin h text adds follows followed beyond = absurd h
+journal_follows adding laws w (Some xs) (Some ys) left over ahead given version setup start number old mid new waiting result are begin h (text, split, cut) adds follows followed beyond =
     let run = begun setup.spec start in
     let r = read_events version start number (lines ys) in
     let a = account_of w in
@@ -312,7 +312,7 @@ journal_follows laws w (Some xs) (Some ys) left over ahead given version setup s
     let whole : adds.written ++ (waiting ++ rest_of_text version w run r) ≡ text_of a (from_read version setup start r) =
     sym (append_assoc adds.written waiting (rest_of_text version w run r)) ∙ ap (λ (z : List ℕ). z ++ rest_of_text version w run r) (sym adds.all) ∙ sym (text_is w version setup start r) in
     let end : status_by r.refused ≡ status_by (refusal_of (from_read version setup start r)) = sym (status_is (journal_of version setup start r.events) r.refused) in
-    let all = writes_after adds.written _ _ _ (BreaksBeyond a xs left given) old mid new result adds.held
+    let all = writes_after adding adds.written _ _ _ (BreaksBeyond a xs left given) old mid new result adds.held
     (λ fault front breaks. breaks_after laws w xs text ys over version setup start number ahead left given adds.written waiting front are begin h split cut adds.all (beyond fault) breaks) followed (follows (over_of over text ys cut)) in
     subst P (sym (opened_verdict xs version setup start number (lines ys) h))
     (subst (λ (z : List ℕ). Writes z (status_by (refusal_of (from_read version setup start r))) (BreaksBeyond a xs left given) old new result) whole

@@ -14,10 +14,9 @@ use Rattle.kn_journal.specs.Journal.{Read, next_part, none_read, read_events}
 use Rattle.kn_journal.specs.Telling.{Gives}
 use Rattle.kn_follow.specs.Endings.{EndsThere, Stops, Writes, status_by, status_of}
 use Rattle.kn_follow.specs.Following.{BreaksFollowing, Follows, ending, rest_of_text, ran}
+use Rattle.kn_report.specs.AddingLaws.{AddingLaws}
 use Rattle.kn_report.specs.Waiting.{Adds}
 use Rattle.kn_follow.proofs.Lines.{IsEventLine, next_end, next_event, next_none, next_refused, no_byte, with_events, with_events-more}
-use Rattle.kn_follow.proofs.Pieces.{prefix_more}
-use Rattle.kn_follow.proofs.Waits.{adds_some}
 use Rattle.kn_follow.proofs.Statuses.{plain_end, stops_after, stops_nil, writes_stop}
 
 -- ---- what is told of events
@@ -103,67 +102,62 @@ none_more es refused = ap (λ (x : List Event). record { events = x; refused = r
 -- ---- how it stops
 
 -- the lines end, or one is refused
-follows_end : (over : Bool) (version : ℕ) (w : Manner) (run : Run) (last number : ℕ) (xs : List ℕ) (left : Option (List ℕ)) (waiting now : List ℕ) (old mid new : Option (List ℕ)) (es : List Event) (refused : Option Cause) (result : Status)
+follows_end : AddingLaws → (over : Bool) (version : ℕ) (w : Manner) (run : Run) (last number : ℕ) (xs : List ℕ) (left : Option (List ℕ)) (waiting now : List ℕ) (old mid new : Option (List ℕ)) (es : List Event) (refused : Option Cause) (result : Status)
     → read_events version last number (lines xs) ≡ record { events = es; refused = refused }
     → Adds old mid waiting now (told w run es)
     → Stops (now ++ ending version w (ran run es) refused) mid new (status_by refused) result
     → Follows over version w run last number (Some xs) left waiting old new result
 unfolding rest_of_text
-follows_end over version w run last number xs left waiting now old mid new es refused result h adds stops =
+follows_end adding over version w run last number xs left waiting now old mid new es refused result h adds stops =
     let P : Read → Type 0 = λ r. Writes (waiting ++ rest_of_text version w run r) (status_by r.refused) (BreaksFollowing over version w run last number xs left waiting) old new result in
     subst P (sym h)
-    (writes_stop _ (status_by refused) _ old new result (plain_end refused) (stops_after old mid new waiting now (told w run es) _ _ result adds stops))
+    (writes_stop _ (status_by refused) _ old new result (plain_end refused) (stops_after adding old mid new waiting now (told w run es) _ _ result adds stops))
 
 -- all lines were good
-pub goes_good : (over : Bool) (version : ℕ) (w : Manner) (run : Run) (last number : ℕ) (known : Option (List ℕ)) (waiting now : List ℕ) (old mid new : Option (List ℕ)) (es : List Event) (time m : ℕ) (rest : Option (List ℕ)) (n : ℕ) (left : Option (List ℕ)) (result : Status)
+pub goes_good : AddingLaws → (over : Bool) (version : ℕ) (w : Manner) (run : Run) (last number : ℕ) (known : Option (List ℕ)) (waiting now : List ℕ) (old mid new : Option (List ℕ)) (es : List Event) (time m : ℕ) (rest : Option (List ℕ)) (n : ℕ) (left : Option (List ℕ)) (result : Status)
     → GoesOn version last number known es time m rest → Gives (next_part version time m) None n rest left
     → Adds old mid waiting now (told w run es)
     → Stops (now ++ w.ends version (ran run es)) mid new status.Ok result
     → Follows over version w run last number known left waiting old new result
-goes_good over version w run last number None waiting now old mid new es time m rest n left result h g adds stops = tt
-goes_good over version w run last number (Some xs) waiting now old mid new es time m None n left result h g adds stops = absurd h
-goes_good over version w run last number (Some xs) waiting now old mid new es time m (Some ys) n None result h g adds stops = absurd g
-goes_good over version w run last number (Some xs) waiting now old mid new es time m (Some ys) n (Some zs) result h g adds stops =
-    follows_end over version w run last number xs (Some zs) waiting now old mid new es None result
+goes_good adding over version w run last number None waiting now old mid new es time m rest n left result h g adds stops = tt
+goes_good adding over version w run last number (Some xs) waiting now old mid new es time m None n left result h g adds stops = absurd h
+goes_good adding over version w run last number (Some xs) waiting now old mid new es time m (Some ys) n None result h g adds stops = absurd g
+goes_good adding over version w run last number (Some xs) waiting now old mid new es time m (Some ys) n (Some zs) result h g adds stops =
+    follows_end adding over version w run last number xs (Some zs) waiting now old mid new es None result
     (reads_all version last number (lines xs) es time m (lines ys) h ∙ ap (with_events es) (next_end version time m (lines ys) n (lines zs) g) ∙ none_more es None)
     adds stops
 
 -- a line is refused
-pub goes_refused : (over : Bool) (version : ℕ) (w : Manner) (run : Run) (last number : ℕ) (xs : List ℕ) (waiting now : List ℕ) (old mid new : Option (List ℕ)) (es : List Event) (time m : ℕ) (ys : List ℕ) (left : Option (List ℕ)) (cause : Cause) (e : JournalError) (result : Status)
+pub goes_refused : AddingLaws → (over : Bool) (version : ℕ) (w : Manner) (run : Run) (last number : ℕ) (xs : List ℕ) (waiting now : List ℕ) (old mid new : Option (List ℕ)) (es : List Event) (time m : ℕ) (ys : List ℕ) (left : Option (List ℕ)) (cause : Cause) (e : JournalError) (result : Status)
     → Reads version last number (lines xs) es time m (lines ys) → error_of cause ≡ e → next_part version time m (lines ys) ≡ Err cause
     → Adds old mid waiting now (told w run es) → Stops now mid new (status_of e) result
     → Follows over version w run last number (Some xs) left waiting old new result
-goes_refused over version w run last number xs waiting now old mid new es time m ys left cause e result h is g adds stops =
-    follows_end over version w run last number xs left waiting now old mid new es (Some cause) result
+goes_refused adding over version w run last number xs waiting now old mid new es time m ys left cause e result h is g adds stops =
+    follows_end adding over version w run last number xs left waiting now old mid new es (Some cause) result
     (reads_all version last number (lines xs) es time m (lines ys) h ∙ ap (with_events es) (next_refused version time m (lines ys) cause g) ∙ none_more es (Some cause))
     adds
     (stops_nil now mid new _ result (subst (λ (x : JournalError). Stops now mid new (status_of x) result) (sym is) stops))
 
 -- an event's rows were not all written, or what waited
-pub cut : (version : ℕ) (w : Manner) (run : Run) (es : List Event) (r : Read) (all : Read) (waiting some : List ℕ) (old new : Option (List ℕ))
+pub cut : AddingLaws → (version : ℕ) (w : Manner) (run : Run) (es : List Event) (r : Read) (all : Read) (waiting some : List ℕ) (old new : Option (List ℕ))
     → all ≡ with_events es r → AppendsPrefix old new (waiting ++ told w run es) → AppendsPrefix old new (waiting ++ rest_of_text version w run all)
-cut version w run es r all waiting some old new h k =
+cut adding version w run es r all waiting some old new h k =
     let split = rest-split version w run es r in
-    let text : (waiting ++ told w run es) ++ split.0 ≡ waiting ++ rest_of_text version w run all =
-    append_assoc waiting (told w run es) split.0 ∙ ap (λ (z : List ℕ). waiting ++ z) (sym split.1) ∙ ap (λ (x : Read). waiting ++ rest_of_text version w run x) (sym h) in
-    subst (AppendsPrefix old new) text (prefix_more old new (waiting ++ told w run es) split.0 k)
+    let text : told w run es ++ split.0 ≡ rest_of_text version w run all = sym split.1 ∙ ap (λ (x : Read). rest_of_text version w run x) (sym h) in
+    subst (λ (z : List ℕ). AppendsPrefix old new (waiting ++ z)) text (adding.behind old new waiting (told w run es) split.0 k)
 
-some_waits : (old mid new : Option (List ℕ)) (p q x y : List ℕ) → Adds old mid p q x → AppendsPrefix mid new (q ++ y) → AppendsPrefix old new (p ++ (x ++ y))
-some_waits old mid new p q x y h some =
-    subst (AppendsPrefix old new) (ap (λ (z : List ℕ). p ++ (x ++ z)) (append-nil y)) (adds_some old mid new p q x y [] h some)
-
-pub goes_cut : (over : Bool) (version : ℕ) (w : Manner) (run : Run) (last number : ℕ) (known : Option (List ℕ)) (waiting now : List ℕ) (old mid new : Option (List ℕ)) (es : List Event) (time m : ℕ) (rest : Option (List ℕ)) (e : Event) (n : ℕ) (left last_left : Option (List ℕ))
+pub goes_cut : AddingLaws → (over : Bool) (version : ℕ) (w : Manner) (run : Run) (last number : ℕ) (known : Option (List ℕ)) (waiting now : List ℕ) (old mid new : Option (List ℕ)) (es : List Event) (time m : ℕ) (rest : Option (List ℕ)) (e : Event) (n : ℕ) (left last_left : Option (List ℕ))
     → GoesOn version last number known es time m rest → Gives (next_part version time m) (Some e) n rest left
     → Adds old mid waiting now (told w run es) → AppendsPrefix mid new (now ++ w.tells (ran run es) e)
     → Follows over version w run last number known last_left waiting old new status.WriteFault
-goes_cut over version w run last number None waiting now old mid new es time m rest e n left last_left h g adds some = tt
-goes_cut over version w run last number (Some xs) waiting now old mid new es time m None e n left last_left h g adds some = absurd h
-goes_cut over version w run last number (Some xs) waiting now old mid new es time m (Some ys) e n None last_left h g adds some = absurd g
-goes_cut over version w run last number (Some xs) waiting now old mid new es time m (Some ys) e n (Some zs) last_left h g adds some =
+goes_cut adding over version w run last number None waiting now old mid new es time m rest e n left last_left h g adds some = tt
+goes_cut adding over version w run last number (Some xs) waiting now old mid new es time m None e n left last_left h g adds some = absurd h
+goes_cut adding over version w run last number (Some xs) waiting now old mid new es time m (Some ys) e n None last_left h g adds some = absurd g
+goes_cut adding over version w run last number (Some xs) waiting now old mid new es time m (Some ys) e n (Some zs) last_left h g adds some =
     let more = reads_more version last number (lines xs) es time m (lines ys) e n (lines zs) h (next_event version time m (lines ys) e n (lines zs) g) in
     let all = reads_all version last number (lines xs) (es ++ e ∷ []) e.time n (lines zs) more in
-    let rows = some_waits old mid new waiting now (told w run es) (w.tells (ran run es) e) adds some in
-    cut version w run (es ++ e ∷ []) (read_events version e.time n (lines zs)) _ waiting [] old new all
+    let rows = adding.last new (w.tells (ran run es) e) adds some in
+    cut adding version w run (es ++ e ∷ []) (read_events version e.time n (lines zs)) _ waiting [] old new all
     (subst (λ (z : List ℕ). AppendsPrefix old new (waiting ++ z)) (sym (told-more w run es e)) rows)
 
 pub no_lf : ¬ Contains {X = ℕ} [] 10

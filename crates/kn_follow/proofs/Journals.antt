@@ -18,10 +18,10 @@ use Rattle.kn_journal.specs.Lines.{lines}
 use Rattle.kn_journal.specs.Parts.{part}
 use Rattle.kn_journal.specs.Journal.{Read, Verdict, bad, from_read, journal_of, opening_part, read_events, start_part, verdict, verdict_of_lines, verdict_on}
 use Rattle.kn_journal.specs.Reading.{Ahead, IsSpent, most_taken}
+use Rattle.kn_report.specs.AddingLaws.{AddingLaws}
 use Rattle.kn_follow.specs.Endings.{EndsThere, IsFollowed, Writes, status_of}
 use Rattle.kn_follow.specs.Following.{FollowsInput, Opened, Opens, ending, rest_of_text, ran}
 use Rattle.kn_follow.specs.Account.{Account, account_of, text_of}
-use Rattle.kn_follow.proofs.Pieces.{prefix_after, prefix_more}
 
 pub verdict_unopened : (xs : List ℕ) (cause : Cause) → opening_part JournalLine 0 (lines xs) ≡ Err cause → verdict xs ≡ bad None cause
 unfolding verdict verdict_of_lines
@@ -50,31 +50,28 @@ text_is w version setup start r = by_refused r.refused
     by_refused None = append_assoc (w.opens run) (told w run r.events) (w.ends version (ran run r.events))
     by_refused (Some cause) = ap (λ (z : List ℕ). w.opens run ++ z) (sym (append-nil (told w run r.events)))
 
-after_prefix : (x y : List ℕ) (a b d : Option (List ℕ)) → Appends a b x → AppendsPrefix b d y → AppendsPrefix a d (x ++ y)
-after_prefix x y a b d h k = subst (λ (z : List ℕ). AppendsPrefix a d (x ++ z)) (append-nil y) (prefix_after a b d x y [] h k)
-
-pub writes_after : (written text : List ℕ) (end : Status) (P Q : List ℕ → Type 0) (old mid new : Option (List ℕ)) (result : Status) → Appends old mid written
+pub writes_after : AddingLaws → (written text : List ℕ) (end : Status) (P Q : List ℕ → Type 0) (old mid new : Option (List ℕ)) (result : Status) → Appends old mid written
     → (result ≡ status.ReadFault → (front : List ℕ) → P front → Q (written ++ front)) → IsFollowed result → Writes text end P mid new result → Writes (written ++ text) end Q old new result
-writes_after written text end P Q old mid new status.Ok h f k w = (w.0, Appends-trans old mid new written text h w.1)
-writes_after written text end P Q old mid new status.Usage h f k w = absurd k
-writes_after written text end P Q old mid new (status.BadInput e) h f k w = (w.0, Appends-trans old mid new written text h w.1)
-writes_after written text end P Q old mid new (status.BadSetup e) h f k w = (w.0, Appends-trans old mid new written text h w.1)
-writes_after written text end P Q old mid new status.ReadFault h f k (front, held, p) = (written ++ front, Appends-trans old mid new written front h held, f refl front p)
-writes_after written text end P Q old mid new status.WriteFault h f k w = after_prefix written text old mid new h w
-writes_after written text end P Q old mid new status.Memory h f k w = absurd k
-writes_after written text end P Q old mid new (status.SlotFault slot) h f k w = absurd k
-writes_after written text end P Q old mid new status.ListenFault h f k w = absurd k
+writes_after adding written text end P Q old mid new status.Ok h f k w = (w.0, Appends-trans old mid new written text h w.1)
+writes_after adding written text end P Q old mid new status.Usage h f k w = absurd k
+writes_after adding written text end P Q old mid new (status.BadInput e) h f k w = (w.0, Appends-trans old mid new written text h w.1)
+writes_after adding written text end P Q old mid new (status.BadSetup e) h f k w = (w.0, Appends-trans old mid new written text h w.1)
+writes_after adding written text end P Q old mid new status.ReadFault h f k (front, held, p) = (written ++ front, Appends-trans old mid new written front h held, f refl front p)
+writes_after adding written text end P Q old mid new status.WriteFault h f k w = adding.after old mid new written text h w
+writes_after adding written text end P Q old mid new status.Memory h f k w = absurd k
+writes_after adding written text end P Q old mid new (status.SlotFault slot) h f k w = absurd k
+writes_after adding written text end P Q old mid new status.ListenFault h f k w = absurd k
 
 -- what is written of the start was not all written
-pub journal_cut : (w : Manner) (known rest left : Option (List ℕ)) (given version : ℕ) (setup : Setup) (start number : ℕ) (old new : Option (List ℕ))
+pub journal_cut : AddingLaws → (w : Manner) (known rest left : Option (List ℕ)) (given version : ℕ) (setup : Setup) (start number : ℕ) (old new : Option (List ℕ))
     → Opens known rest version number (Ok (setup, start)) → AppendsPrefix old new (w.opens (begun setup.spec start))
     → FollowsInput (account_of w) known left given old new status.WriteFault
-journal_cut w None rest left given version setup start number old new h some = tt
-journal_cut w (Some xs) None left given version setup start number old new h some = absurd h
-journal_cut w (Some xs) (Some ys) left given version setup start number old new h some =
+journal_cut adding w None rest left given version setup start number old new h some = tt
+journal_cut adding w (Some xs) None left given version setup start number old new h some = absurd h
+journal_cut adding w (Some xs) (Some ys) left given version setup start number old new h some =
     let r = read_events version start number (lines ys) in
     subst (λ (v : Verdict). AppendsPrefix old new (text_of (account_of w) v)) (sym (opened_verdict xs version setup start number (lines ys) h))
-    (subst (AppendsPrefix old new) (sym (text_is w version setup start r)) (prefix_more old new _ (rest_of_text version w (begun setup.spec start) r) some))
+    (subst (AppendsPrefix old new) (sym (text_is w version setup start r)) (adding.front old new _ (rest_of_text version w (begun setup.spec start) r) some))
 
 pub journal_memory : (a : Account) (known left : Option (List ℕ)) (given : ℕ) (out : Option (List ℕ)) → FollowsInput a known left given out out status.Memory
 journal_memory a None left given out = tt

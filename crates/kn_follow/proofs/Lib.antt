@@ -1,7 +1,5 @@
 pub mod Runs
 pub mod Lines
-pub mod Pieces
-pub mod Waits
 pub mod Statuses
 pub mod Follows
 pub mod Journals

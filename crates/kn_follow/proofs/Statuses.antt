@@ -1,9 +1,8 @@
 -- How following a journal ends: statuses, and what is written with them.
-use Rattle.std.proofs.Common.{◌≡◌, ◌≤◌, ℕ, List, [], ◌++◌, append_assoc, append-nil, refl, sym, ap, ◌∙◌, subst, arith, inl, inr}
+use Rattle.std.proofs.Common.{◌≡◌, ◌≤◌, ℕ, List, [], ◌++◌, append_assoc, append-nil, refl, sym, ◌∙◌, subst, arith, inl, inr}
 use Rattle.std.specs.Prelude.{◌⊎◌, Option, None, Some}
 use Rattle.std.specs.Io.KnownBytes.{Appends}
 use Rattle.kn_io.specs.Causes.{Rose}
-use Rattle.kn_io.specs.Prefix.{AppendsPrefix}
 use Rattle.kn_journal.specs.declared.error.JournalError.{JournalError}
 use Rattle.kn_journal.specs.declared.error.JournalError.TheVariants as error
 use Rattle.kn_journal.specs.declared.journal.Journal.{Journal}
@@ -12,8 +11,8 @@ use Rattle.kn_journal.specs.declared.status.Status.TheVariants as status
 use Rattle.kn_journal.specs.Causes.{Cause, after_end, bad_first_line, bad_line, bad_setup, error_of, line_too_long, no_end, time_back, time_too_large, too_many}
 use Rattle.kn_journal.specs.Journal.{verdict_on}
 use Rattle.kn_follow.specs.Endings.{IsFollowed, IsRefusal, IsReplayed, Stops, Writes, refusal_of, status_by, status_of}
+use Rattle.kn_report.specs.AddingLaws.{AddingLaws}
 use Rattle.kn_report.specs.Waiting.{Adds}
-use Rattle.kn_follow.proofs.Waits.{adds_all, adds_some}
 
 abbrev pub IsPlain : Status → Type 0
 IsPlain status.Ok = Unit {0}
@@ -51,11 +50,9 @@ pub writes_stop : (text : List ℕ) (end : Status) (P : List ℕ → Type 0) (ol
 writes_stop text end P old new result plain (inl (is, all)) = subst (λ (x : Status). Writes text end P old new x) (sym is) (writes_end text end P old new plain all)
 writes_stop text end P old new result plain (inr (is, some)) = subst (λ (x : Status). Writes text end P old new x) (sym is) some
 
-pub stops_after : (old mid new : Option (List ℕ)) (p q x y : List ℕ) (end result : Status) → Adds old mid p q x → Stops (q ++ y) mid new end result → Stops (p ++ (x ++ y)) old new end result
-stops_after old mid new p q x y end result h (inl (is, all)) = inl (is, subst (Appends old new) (append_assoc p x y) (adds_all old mid new p q x y h all))
-stops_after old mid new p q x y end result h (inr (is, some)) =
-    let text : p ++ (x ++ (y ++ [])) ≡ p ++ (x ++ y) = ap (λ (z : List ℕ). p ++ (x ++ z)) (append-nil y) in
-    inr (is, subst (AppendsPrefix old new) text (adds_some old mid new p q x y [] h some))
+pub stops_after : AddingLaws → (old mid new : Option (List ℕ)) (p q x y : List ℕ) (end result : Status) → Adds old mid p q x → Stops (q ++ y) mid new end result → Stops (p ++ (x ++ y)) old new end result
+stops_after adding old mid new p q x y end result h (inl (is, all)) = inl (is, subst (Appends old new) (append_assoc p x y) (adding.all new y h all))
+stops_after adding old mid new p q x y end result h (inr (is, some)) = inr (is, adding.last new y h some)
 
 pub stops_nil : (waiting : List ℕ) (old new : Option (List ℕ)) (end result : Status) → Stops waiting old new end result → Stops (waiting ++ []) old new end result
 stops_nil waiting old new end result h = subst (λ (z : List ℕ). Stops z old new end result) (sym (append-nil waiting)) h
@@ -79,9 +76,9 @@ pub end_unrefused : (result : Status) → (result ≡ status.Ok) ⊎ (result ≡
 end_unrefused result (inl is) h = subst IsRefusal is h
 end_unrefused result (inr is) h = subst IsRefusal is h
 
-pub stops_behind : (old mid new : Option (List ℕ)) (p q x : List ℕ) (end result : Status) → Adds old mid p q x → Stops q mid new end result → Stops (p ++ x) old new end result
-stops_behind old mid new p q x end result h stops =
-    subst (λ (z : List ℕ). Stops (p ++ z) old new end result) (append-nil x) (stops_after old mid new p q x [] end result h (stops_nil q mid new end result stops))
+pub stops_behind : AddingLaws → (old mid new : Option (List ℕ)) (p q x : List ℕ) (end result : Status) → Adds old mid p q x → Stops q mid new end result → Stops (p ++ x) old new end result
+stops_behind adding old mid new p q x end result h stops =
+    subst (λ (z : List ℕ). Stops (p ++ z) old new end result) (append-nil x) (stops_after adding old mid new p q x [] end result h (stops_nil q mid new end result stops))
 
 pub followed_of : (e : JournalError) → (e ≡ error.Memory → ⊥) → IsFollowed (status_of e)
 followed_of error.Memory h = absurd (h refl)

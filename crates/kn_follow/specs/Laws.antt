@@ -2,7 +2,6 @@
 use Rattle.std.specs.Prelude.{◌≡◌, ◌⊎◌, ℕ, ◌+◌, ◌-◌, ◌≤◌, List, [], ◌∷◌, ◌++◌, length, Option, Some}
 use Rattle.kn_event.specs.declared.event.Event.{Event}
 use Rattle.kn_io.specs.Causes.{Rose}
-use Rattle.kn_io.specs.Prefix.{AppendsPrefix}
 use Rattle.kn_journal.specs.declared.error.JournalError.{JournalError}
 use Rattle.kn_journal.specs.declared.error.JournalError.TheVariants as error
 use Rattle.kn_journal.specs.declared.first.FirstLine.TheVariants.{Journal as JournalLine}
@@ -20,19 +19,6 @@ use Rattle.kn_follow.specs.Calls.{Draws, IsBroken, IsCaused}
 use Rattle.kn_follow.specs.Cutting.{LeavesCut}
 use Rattle.kn_follow.specs.Endings.{IsBehind, IsFollowed, IsRefusal, Stops, status_of}
 use Rattle.kn_follow.specs.Following.{FollowsInput, ran}
-
--- of text that waits to be written: p, then q, then r wait, x and then y came behind it, and a, b and d is what the sink holds
-pub record WaitingLaws : Type 0 where
-  -- a text may come behind what waits, and nothing be written
-  pub waits : (a : Option (List ℕ)) (p q x : List ℕ) → p ++ x ≡ q → Adds a a p q x
-  -- where one text came and then another, both did
-  pub more : {a b d : Option (List ℕ)} {p q r x y text : List ℕ} → Adds a b p q x → Adds b d q r y → x ++ y ≡ text → Adds a d p r text
-  -- where some first bytes of what waits now are written, they are of what waited before and what came, with those written since
-  pub some : (a b d : Option (List ℕ)) (p q x : List ℕ) → Adds a b p q x → AppendsPrefix b d q → AppendsPrefix a d (p ++ x)
-  -- so where following stops, and what waits now is written or some first bytes of it
-  pub stops : (a b d : Option (List ℕ)) (p q x : List ℕ) (end result : Status) → Adds a b p q x → Stops q b d end result → Stops (p ++ x) a d end result
-  -- some first bytes of a text are some first bytes of a longer one
-  pub front : (a b : Option (List ℕ)) (x rest : List ℕ) → AppendsPrefix a b x → AppendsPrefix a b (x ++ rest)
 
 -- of what a manner tells of events behind a run
 pub record TellingLaws : Type 0 where
@@ -74,6 +60,9 @@ pub record EndingLaws : Type 0 where
   pub stop_followed : (waiting : List ℕ) (old new : Option (List ℕ)) (end result : Status) → Stops waiting old new end result → IsFollowed end → IsFollowed result
   -- and in a read fault only if it would without
   pub stop_read_fault : (waiting : List ℕ) (old new : Option (List ℕ)) (end result : Status) → Stops waiting old new end result → result ≡ status.ReadFault → end ≡ status.ReadFault
+  -- where x came behind p, which waited, and it ends with q, which waits now, written first, it does so with p and x
+  pub stop_behind : (a b d : Option (List ℕ)) (p q x : List ℕ) (end result : Status)
+      → Adds a b p q x → Stops q b d end result → Stops (p ++ x) a d end result
   -- where a line of the setup is refused, the status names it, and what is left stands behind it
   pub behind_setup : (known new : Option (List ℕ)) (e : JournalError) → (IsLineFault e → LeavesRest (opening_part JournalLine 0) 0 (Some 1) e known new) → IsRefusal (status_of e)
       → IsBehind (status_of e) known new

@@ -19,6 +19,7 @@ use kn_io::{Failed, Sink, Source};
 use kn_journal::{JournalError, JournalReader, Status, text_laws};
 use kn_laws::laws::trace_laws;
 use kn_report::Waiting;
+use kn_report::laws::adding_laws;
 use kn_teller::Teller;
 use std::alloc::Global;
 use std::marker::Model;
@@ -186,6 +187,7 @@ impl Follower {
             (S.Faulty.faults source.old) (S.Faulty.faults source.new) }
         ensures cause { HasCause (O.Faulty.faults out.old) (O.Faulty.faults out.new) result }
     {
+        adding_laws();
         text_laws();
         let _few = self.waiting.len();
         match reader.next_ahead() {
@@ -231,6 +233,7 @@ impl Follower {
             Ok(()) => {}
             Err(Failed) => return Status::WriteFault,
         }
+        adding_laws();
         self.stop(Status::Ok, out)
     }
 
@@ -268,6 +271,7 @@ impl Follower {
             (S.Faulty.faults source.old) (S.Faulty.faults source.new) }
         ensures cause { IsCaused (O.Faulty.faults out.old) (O.Faulty.faults out.new) result }
     {
+        adding_laws();
         text_laws();
         // Each event takes six bytes at least, so after so many 2^56 bytes were taken.
         for count in 0..1u64 << 54 {

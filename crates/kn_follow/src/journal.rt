@@ -14,6 +14,7 @@ use crate::follower::Follower;
 use kn_event::Memory;
 use kn_io::{Failed, Sink, Source};
 use kn_journal::{JournalError, JournalReader, Setup, Status, openings_are_whole, text_laws};
+use kn_report::laws::adding_laws;
 use kn_teller::{Form, Teller};
 use std::alloc::Global;
 
@@ -77,6 +78,7 @@ pub fn follow_journal<T: Teller + Drop, F: Form<T>, S: Source, O: Sink>(
         Ok(reader) => reader,
         Err(Memory) => return Status::Memory,
     };
+    adding_laws();
     openings_are_whole();
     text_laws();
     let (setup, start) = match open(alloc, &mut reader, source) {

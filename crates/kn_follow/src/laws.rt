@@ -1,10 +1,7 @@
 //! The laws that following a journal stands on, for those who follow journals in ways of their own. Nothing is computed here.
-ghost use Rattle.kn_follow.specs.Laws.{AccountLaws, CallLaws, EndingLaws, TellingLaws, WaitingLaws};
+ghost use Rattle.kn_follow.specs.Laws.{AccountLaws, CallLaws, EndingLaws, TellingLaws};
 
-/// Text that waits: what comes behind it, what is written of both, and how a journal ends that way.
-pub fn waiting_laws()
-    ensures laws { WaitingLaws }
-{}
+use kn_report::laws::adding_laws;
 
 /// What a manner tells of events, one after the other and all at once.
 pub fn telling_laws()
@@ -16,10 +13,12 @@ pub fn call_laws()
     ensures laws { CallLaws }
 {}
 
-/// Which statuses a reader's errors make, and what is left of the input then.
+/// Which statuses a reader's errors make, what is left of the input then, and how what waits is written before.
 pub fn ending_laws()
     ensures laws { EndingLaws }
-{}
+{
+    adding_laws();
+}
 
 /// What is said of an account is so of any other that writes the same of each journal.
 pub fn account_laws()

@@ -156,7 +156,7 @@ returns-in_default g c =
     along_text false one.cut known mid (along_more c.text_laws.ensures.laws false c.loop-count.reader.cut one.cut known rest mid kept.along (c.part.ensures.reads.text is)) in
     record {
       bundle =
-          ends_within c.text_laws.ensures.laws c.waiting_laws.ensures.laws a c.args.k c.loop-count.count c.loop-count.reader.cut one.cut known rest mid last two.input.ahead c.loop-count.reader.number one.version one.number two.number given (g.O.Sink.held c.args.out.now) (g.O.Sink.held c.loop-count.out) (g.O.Sink.held c.read_journal.new.out) c.read_journal.result
+          ends_within c.text_laws.ensures.laws c.adding_laws.ensures.laws a c.args.k c.loop-count.count c.loop-count.reader.cut one.cut known rest mid last two.input.ahead c.loop-count.reader.number one.version one.number two.number given (g.O.Sink.held c.args.out.now) (g.O.Sink.held c.loop-count.out) (g.O.Sink.held c.read_journal.new.out) c.read_journal.result
           kept.on kept.along (λ over. rw c.in-Ok-true.field-0-test at c.in-Ok-true.ensures.reads.tells kept.good over) first
           c.read_journal.ensures.follows c.read_journal.ensures.replayed c.in_default.not-Ok c.read_journal.ensures.unwritten
           (λ fault. c.call_laws.ensures.laws.beyond two.input given

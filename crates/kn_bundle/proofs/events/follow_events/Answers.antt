@@ -23,7 +23,7 @@ loop-count-init g c = record {
         c.requires.stands,
         (c.requires.knows, refl {a = c.args.follower.now.revision.clock}),
         refl,
-        c.waiting_laws.ensures.laws.waits (g.O.Sink.held c.args.out.now) c.args.follower.now.waiting c.args.follower.now.waiting (told w b [])
+        c.adding_laws.ensures.laws.waits
             (ap (λ (z : List ℕ). c.args.follower.now.waiting ++ z) (c.telling_laws.ensures.laws.none w b) ∙ append-nil c.args.follower.now.waiting),
         goes_begin c.args.reader.now.version c.args.reader.now.last c.args.reader.now.number (unread c.args.reader.now.input (g.S.Source.left c.args.source.now)),
       );
@@ -72,7 +72,7 @@ loop-count-preserved g c =
     let spec = ap (λ (x : RevisionState). x.spec) c.write_unless.ensures.revision ∙ kept.spec in
     let clock = on.2.1 ∙ sym (ap (λ (x : RevisionState). x.clock) c.write_unless.ensures.revision) in
     let step = c.step.ensures.step (ran b on.0) stood spec clock in
-    let adds = c.waiting_laws.ensures.laws.more on.4 c.in-Ok.ensures.ok (append-nil (told w b on.0)) in
+    let adds = c.adding_laws.ensures.laws.on on.4 c.in-Ok.ensures.ok in
     let wrote = rw (c.step.ensures.waiting, kept.manner) at c.in-Ok-tell.ensures.ok (ran b on.0) on.2.0 step in
     record {
       on = (
@@ -80,7 +80,7 @@ loop-count-preserved g c =
         rw c.in-Ok-tell.ensures.revision step.stands,
         (c.in-Ok-tell.ensures.knows (ran b on.0) on.2.0 step, c.telling_laws.ensures.laws.clock (ran b on.0) e ∙ sym (ap (λ (x : RevisionState). x.clock) c.in-Ok-tell.ensures.revision ∙ c.step.ensures.clock)),
         length-append on.0 (e ∷ []) ∙ ap (λ (n : ℕ). n + 1) on.3,
-        c.waiting_laws.ensures.laws.more adds wrote (sym (c.telling_laws.ensures.laws.next w b on.0 e)),
+        c.adding_laws.ensures.laws.more adds wrote (sym (c.telling_laws.ensures.laws.next w b on.0 e)),
         rw read.last (goes_more c.args.reader.now.version c.args.reader.now.last c.args.reader.now.number known on.0 c.loop-count.reader.last c.loop-count.reader.number rest e c.next_event.new.reader.number left on.5 (rw kept.version at read.gives)),
       );
       along =
@@ -105,9 +105,9 @@ returns-in-Err-clause-follows g c over =
     let b = begun c.args.follower.now.revision.spec c.args.follower.now.revision.clock in
     let on = c.loop-count.invariant.on in
     let rest = unread c.loop-count.reader.input (g.S.Source.left c.loop-count.source) in
-    goes_cut c.waiting_laws.ensures.laws (λ es. c.args.follower.now.waiting ++ told w b es) (λ es. w.ends c.args.reader.now.version (ran b es)) c.args.reader.now.version c.args.reader.now.last c.args.reader.now.number c.loop-count.reader.number (unread c.args.reader.now.input (g.S.Source.left c.args.source.now)) rest (g.O.Sink.held c.args.out.now) (g.O.Sink.held c.write_unless.new.out) on.0 c.loop-count.reader.last c.loop-count.reader.number rest
+    goes_cut c.adding_laws.ensures.laws (λ es. c.args.follower.now.waiting ++ told w b es) (λ es. w.ends c.args.reader.now.version (ran b es)) c.args.reader.now.version c.args.reader.now.last c.args.reader.now.number c.loop-count.reader.number (unread c.args.reader.now.input (g.S.Source.left c.args.source.now)) rest (g.O.Sink.held c.args.out.now) (g.O.Sink.held c.write_unless.new.out) on.0 c.loop-count.reader.last c.loop-count.reader.number rest
     on.5 (told-grows c.telling_laws.ensures.laws w b c.args.follower.now.waiting)
-    (c.waiting_laws.ensures.laws.some (g.O.Sink.held c.args.out.now) (g.O.Sink.held c.loop-count.out) (g.O.Sink.held c.write_unless.new.out) c.args.follower.now.waiting c.loop-count.follower.waiting (told w b on.0) on.4 c.in-Err.ensures.err)
+    (c.adding_laws.ensures.laws.stop (g.O.Sink.held c.write_unless.new.out) on.4 c.in-Err.ensures.err)
 
 pub returns-in-Ok-None-clause-follows : goal.returns-in-Ok-None-clause-follows
 returns-in-Ok-None-clause-follows g c over =
@@ -117,15 +117,15 @@ returns-in-Ok-None-clause-follows g c over =
     let on = kept.on in
     let p = c.args.follower.now.waiting in
     let held = g.O.Sink.held c.args.out.now in
-    let adds = c.waiting_laws.ensures.laws.more on.4 c.in-Ok.ensures.ok (append-nil (told w b on.0)) in
+    let adds = c.adding_laws.ensures.laws.on on.4 c.in-Ok.ensures.ok in
     let version : c.version.result ≡ c.args.reader.now.version = c.version.ensures ∙ c.next_event.ensures.version ∙ kept.version in
     let ended = rw (version, kept.manner) at c.end.ensures.stops (ran b on.0) on.2.0 (sym on.3) in
     let mid = g.O.Sink.held c.write_unless.new.out in
     let x = told w b on.0 in
     let y = w.ends c.args.reader.now.version (ran b on.0) in
     let q = c.write_unless.new.self.waiting in
-    let both : Adds held mid p (q ++ y) (x ++ y) = c.waiting_laws.ensures.laws.more adds (c.waiting_laws.ensures.laws.waits mid q (q ++ y) y refl) refl in
-    let all = c.waiting_laws.ensures.laws.stops held mid (g.O.Sink.held c.end.new.out) p (q ++ y) (x ++ y) status.Ok c.end.result both ended in
+    let both : Adds held mid p (q ++ y) (x ++ y) = c.adding_laws.ensures.laws.more adds (c.adding_laws.ensures.laws.waits refl) refl in
+    let all = c.ending_laws.ensures.laws.stop_behind held mid (g.O.Sink.held c.end.new.out) p (q ++ y) (x ++ y) status.Ok c.end.result both ended in
     goes_end (λ es. p ++ told w b es) (λ es. w.ends c.args.reader.now.version (ran b es)) c.args.reader.now.version c.args.reader.now.last c.args.reader.now.number c.next_event.new.reader.number (unread c.args.reader.now.input (g.S.Source.left c.args.source.now)) (unread c.next_event.new.reader.input (g.S.Source.left c.next_event.new.source)) held (g.O.Sink.held c.end.new.out) on.0 c.loop-count.reader.last c.loop-count.reader.number (unread c.loop-count.reader.input (g.S.Source.left c.loop-count.source)) c.end.result
     on.5 (rw kept.version at (rw c.in-Ok-None.field-0-is at c.in-Ok-None.ensures.next).gives)
     (subst (λ (z : List ℕ). Stops z held (g.O.Sink.held c.end.new.out) status.Ok c.end.result) (sym (append_assoc p x y)) all)
@@ -144,10 +144,10 @@ returns-in-Err-next_event-clause-follows g c over =
     let p = c.args.follower.now.waiting in
     let held = g.O.Sink.held c.args.out.now in
     let stop = rw kept.version at c.in-Err-next_event.ensures.next in
-    let adds = c.waiting_laws.ensures.laws.more on.4 c.in-Ok.ensures.ok (append-nil (told w b on.0)) in
-    goes_stop c.text_laws.ensures.laws c.waiting_laws.ensures.laws (λ es. p ++ told w b es) (λ es. w.ends c.args.reader.now.version (ran b es)) c.args.reader.now.cut c.loop-count.reader.cut c.args.reader.now.version c.args.reader.now.last c.args.reader.now.number c.next_event.new.reader.number (unread c.args.reader.now.input (g.S.Source.left c.args.source.now)) (unread c.next_event.new.reader.input (g.S.Source.left c.next_event.new.source)) held (g.O.Sink.held c.stop.new.out) on.0 c.loop-count.reader.last c.loop-count.reader.number (unread c.loop-count.reader.input (g.S.Source.left c.loop-count.source)) c.in-Err-next_event.error c.stop.result
+    let adds = c.adding_laws.ensures.laws.on on.4 c.in-Ok.ensures.ok in
+    goes_stop c.text_laws.ensures.laws c.adding_laws.ensures.laws (λ es. p ++ told w b es) (λ es. w.ends c.args.reader.now.version (ran b es)) c.args.reader.now.cut c.loop-count.reader.cut c.args.reader.now.version c.args.reader.now.last c.args.reader.now.number c.next_event.new.reader.number (unread c.args.reader.now.input (g.S.Source.left c.args.source.now)) (unread c.next_event.new.reader.input (g.S.Source.left c.next_event.new.source)) held (g.O.Sink.held c.stop.new.out) on.0 c.loop-count.reader.last c.loop-count.reader.number (unread c.loop-count.reader.input (g.S.Source.left c.loop-count.source)) c.in-Err-next_event.error c.stop.result
     on.5 (told-grows c.telling_laws.ensures.laws w b p) over kept.along stop.refuses (λ is. (stop.breaks is).amid) stop.memory
-    (c.waiting_laws.ensures.laws.stops held (g.O.Sink.held c.write_unless.new.out) (g.O.Sink.held c.stop.new.out) p c.write_unless.new.self.waiting (told w b on.0) (status_of c.in-Err-next_event.error) c.stop.result adds (rw c.status_of.ensures.value at c.stop.ensures.stops))
+    (c.ending_laws.ensures.laws.stop_behind held (g.O.Sink.held c.write_unless.new.out) (g.O.Sink.held c.stop.new.out) p c.write_unless.new.self.waiting (told w b on.0) (status_of c.in-Err-next_event.error) c.stop.result adds (rw c.status_of.ensures.value at c.stop.ensures.stops))
 
 pub returns-in-Err-next_event-clause-followed : goal.returns-in-Err-next_event-clause-followed
 returns-in-Err-next_event-clause-followed g c =
@@ -166,15 +166,15 @@ returns-in-Err-tell-clause-follows g c over =
     let left = unread c.next_event.new.reader.input (g.S.Source.left c.next_event.new.source) in
     let e = c.in-Ok-Some.e in
     let read = rw c.in-Ok-Some.field-0-is at c.in-Ok-Some.ensures.next in
-    let adds = c.waiting_laws.ensures.laws.more on.4 c.in-Ok.ensures.ok (append-nil (told w b on.0)) in
+    let adds = c.adding_laws.ensures.laws.on on.4 c.in-Ok.ensures.ok in
     let stood = subst (λ (x : RevisionState). StandsFor x (trace (ran b on.0))) (sym c.write_unless.ensures.revision) on.1 in
     let spec = ap (λ (x : RevisionState). x.spec) c.write_unless.ensures.revision ∙ kept.spec in
     let clock = on.2.1 ∙ sym (ap (λ (x : RevisionState). x.clock) c.write_unless.ensures.revision) in
     let step = c.step.ensures.step (ran b on.0) stood spec clock in
     let more = goes_more c.args.reader.now.version c.args.reader.now.last c.args.reader.now.number known on.0 c.loop-count.reader.last c.loop-count.reader.number (unread c.loop-count.reader.input (g.S.Source.left c.loop-count.source)) e c.next_event.new.reader.number left on.5 (rw kept.version at read.gives) in
-    goes_cut c.waiting_laws.ensures.laws (λ es. p ++ told w b es) (λ es. w.ends c.args.reader.now.version (ran b es)) c.args.reader.now.version c.args.reader.now.last c.args.reader.now.number c.next_event.new.reader.number known left held (g.O.Sink.held c.tell.new.out) (on.0 ++ e ∷ []) e.time c.next_event.new.reader.number left
+    goes_cut c.adding_laws.ensures.laws (λ es. p ++ told w b es) (λ es. w.ends c.args.reader.now.version (ran b es)) c.args.reader.now.version c.args.reader.now.last c.args.reader.now.number c.next_event.new.reader.number known left held (g.O.Sink.held c.tell.new.out) (on.0 ++ e ∷ []) e.time c.next_event.new.reader.number left
     more (told-grows c.telling_laws.ensures.laws w b p)
-    (some_told c.waiting_laws.ensures.laws c.telling_laws.ensures.laws w b on.0 e held (g.O.Sink.held c.write_unless.new.out) (g.O.Sink.held c.tell.new.out) p c.write_unless.new.self.waiting adds (rw (c.step.ensures.waiting, kept.manner) at c.in-Err-tell.ensures.err (ran b on.0) on.2.0 step))
+    (some_told c.adding_laws.ensures.laws c.telling_laws.ensures.laws w b on.0 e held (g.O.Sink.held c.write_unless.new.out) (g.O.Sink.held c.tell.new.out) p c.write_unless.new.self.waiting adds (rw (c.step.ensures.waiting, kept.manner) at c.in-Err-tell.ensures.err (ran b on.0) on.2.0 step))
 
 -- So many events have more bytes than may be taken.
 pub returns-clause-follows : goal.returns-clause-follows

@@ -70,7 +70,7 @@ returns-in-Err-clause-skips g c out over =
     let known = unread c.args.reader.now.input (g.S.Source.left c.args.source.now) in
     let rest = unread c.loop-count.reader.input (g.S.Source.left c.loop-count.source) in
     let left = unread c.next_event.new.reader.input (g.S.Source.left c.next_event.new.source) in
-    goes_stop c.text_laws.ensures.laws c.waiting_laws.ensures.laws (λ es. []) (λ es. []) c.args.reader.now.cut c.loop-count.reader.cut c.args.reader.now.version c.args.reader.now.last c.args.reader.now.number c.next_event.new.reader.number known left out out kept.on.0 c.loop-count.reader.last c.loop-count.reader.number rest c.in-Err.error c.status_of.result
+    goes_stop c.text_laws.ensures.laws c.adding_laws.ensures.laws (λ es. []) (λ es. []) c.args.reader.now.cut c.loop-count.reader.cut c.args.reader.now.version c.args.reader.now.last c.args.reader.now.number c.next_event.new.reader.number known left out out kept.on.0 c.loop-count.reader.last c.loop-count.reader.number rest c.in-Err.error c.status_of.result
     kept.on.1 (λ es more. ([], refl)) over kept.along stop.refuses (λ is. (stop.breaks is).amid) stop.memory (inl (c.status_of.ensures.value, Appends-nil out))
 
 pub returns-in-Err-clause-followed : goal.returns-in-Err-clause-followed

@@ -35,7 +35,7 @@ returns-in-Err-tell_start-clause-follows g c =
     let mid = c.open_journal.new.reader in
     let rest = unread mid.input (g.S.Source.left c.open_journal.new.source) in
     let some = rw (c.in-Ok-new.ensures.waiting, c.in-Ok-make.ensures.manner) at c.in-Err-tell_start.ensures.err b c.in-Ok-make.ensures.awaits c.in-Ok-new.ensures.opened in
-    stage_cut c.waiting_laws.ensures.laws w c.args.reader.now.version c.args.reader.now.number (unread c.args.reader.now.input (g.S.Source.left c.args.source.now)) rest rest mid.version c.in-Ok.parts.0 c.in-Ok.parts.1 mid.number mid.number (g.O.Sink.held c.args.out.now) (g.O.Sink.held c.tell_start.new.out) c.in-Ok.ensures.opens some
+    stage_cut c.adding_laws.ensures.laws w c.args.reader.now.version c.args.reader.now.number (unread c.args.reader.now.input (g.S.Source.left c.args.source.now)) rest rest mid.version c.in-Ok.parts.0 c.in-Ok.parts.1 mid.number mid.number (g.O.Sink.held c.args.out.now) (g.O.Sink.held c.tell_start.new.out) c.in-Ok.ensures.opens some
 
 pub follow_events-requires-clause-ready : goal.follow_events-requires-clause-ready
 follow_events-requires-clause-ready g c =
@@ -87,7 +87,7 @@ returns-clause-follows g c =
     let two = subst (λ (v : Manner). IsOver mid.cut rest → FollowsCourse (λ (es : List Event). waiting ++ told v b es) (λ (es : List Event). v.ends mid.version (ran b es)) mid.version mid.last mid.number m rest left before after result) manner one in
     let course = subst (λ (t : ℕ). IsOver mid.cut rest → FollowsCourse (λ (es : List Event). waiting ++ told w b es) (λ (es : List Event). w.ends mid.version (ran b es)) mid.version t mid.number m rest left before after result) c.in-Ok.ensures.start two in
     let adds = rw (c.in-Ok-new.ensures.waiting, c.in-Ok-make.ensures.manner) at c.in-Ok-tell_start.ensures.ok b c.in-Ok-make.ensures.awaits opened in
-    stage_follows c.text_laws.ensures.laws c.waiting_laws.ensures.laws (account_of w) c.args.reader.now.version c.args.reader.now.number known rest left mid.cut mid.version setup start mid.number m adds.written (λ es. waiting ++ told w b es) (λ es. w.ends mid.version (ran b es)) (g.O.Sink.held c.args.out.now) before after result
+    stage_follows c.text_laws.ensures.laws c.adding_laws.ensures.laws (account_of w) c.args.reader.now.version c.args.reader.now.number known rest left mid.cut mid.version setup start mid.number m adds.written (λ es. waiting ++ told w b es) (λ es. w.ends mid.version (ran b es)) (g.O.Sink.held c.args.out.now) before after result
     c.openings_are_whole.ensures.setup c.openings_are_whole.ensures.start c.in-Ok.ensures.opens c.in-Ok.ensures.text (manner_told w mid.version setup start adds.written waiting adds.all) adds.held course c.follow_events.ensures.followed
 
 pub returns-clause-text : goal.returns-clause-text

@@ -21,7 +21,7 @@ returns-clause-skips g c out =
     let left = unread c.skip_events.new.reader.input (g.S.Source.left c.skip_events.new.source) in
     let start = c.in-Ok.parts.1 in
     let course = subst (λ (t : ℕ). IsOver mid.cut rest → FollowsCourse (λ es. []) (λ es. []) mid.version t mid.number c.skip_events.new.reader.number rest left out out c.skip_events.result) c.in-Ok.ensures.start (c.skip_events.ensures.skips out) in
-    stage_follows c.text_laws.ensures.laws c.waiting_laws.ensures.laws nothing c.args.reader.now.version c.args.reader.now.number known rest left mid.cut mid.version c.in-Ok.parts.0 start mid.number c.skip_events.new.reader.number [] (λ es. []) (λ es. []) out out out c.skip_events.result
+    stage_follows c.text_laws.ensures.laws c.adding_laws.ensures.laws nothing c.args.reader.now.version c.args.reader.now.number known rest left mid.cut mid.version c.in-Ok.parts.0 start mid.number c.skip_events.new.reader.number [] (λ es. []) (λ es. []) out out out c.skip_events.result
     c.openings_are_whole.ensures.setup c.openings_are_whole.ensures.start c.in-Ok.ensures.opens c.in-Ok.ensures.text (nothing_told mid.version c.in-Ok.parts.0 start) (Appends-nil out) course c.skip_events.ensures.followed
 
 pub returns-clause-text : goal.returns-clause-text

@@ -172,7 +172,7 @@ returns-in-Err-tell_start-clause-report g c =
     let w = g.F.Form.writes c.args.form.now in
     let b = begun c.in-Ok-open.parts.0.spec c.in-Ok-open.parts.1 in
     let some = rw (c.in-Ok-new.ensures.waiting, c.in-Ok-make.ensures.manner) at c.in-Err-tell_start.ensures.err b c.in-Ok-make.ensures.awaits c.in-Ok-new.ensures.opened in
-    journal_cut w (g.S.Source.left c.args.source.now) (unread c.open.new.reader.input (g.S.Source.left c.open.new.source)) (g.S.Source.left c.open.new.source) (g.S.Source.given c.open.new.source - g.S.Source.given c.args.source.now) c.open.new.reader.version c.in-Ok-open.parts.0 c.in-Ok-open.parts.1 c.open.new.reader.number (g.O.Sink.held c.args.out.now) (g.O.Sink.held c.tell_start.new.out) opens some
+    journal_cut c.adding_laws.ensures.laws w (g.S.Source.left c.args.source.now) (unread c.open.new.reader.input (g.S.Source.left c.open.new.source)) (g.S.Source.left c.open.new.source) (g.S.Source.given c.open.new.source - g.S.Source.given c.args.source.now) c.open.new.reader.version c.in-Ok-open.parts.0 c.in-Ok-open.parts.1 c.open.new.reader.number (g.O.Sink.held c.args.out.now) (g.O.Sink.held c.tell_start.new.out) opens some
 
 pub returns-in-Err-tell_start-clause-ended : goal.returns-in-Err-tell_start-clause-ended
 returns-in-Err-tell_start-clause-ended g c is = absurd (subst IsWriteFault is tt)
@@ -248,7 +248,7 @@ returns-clause-report g c =
     let two = subst (λ (m : Manner). IsOver c.open.new.reader.cut left → Follows c.open.new.reader.cut c.open.new.reader.version m b c.open.new.reader.last c.open.new.reader.number left rest c.tell_start.new.self.waiting (g.O.Sink.held c.tell_start.new.out) (g.O.Sink.held c.follow-status.new.out) c.follow-status.result) manner one in
     let follows = subst (λ (n : ℕ). IsOver c.open.new.reader.cut left → Follows c.open.new.reader.cut c.open.new.reader.version w b n c.open.new.reader.number left rest c.tell_start.new.self.waiting (g.O.Sink.held c.tell_start.new.out) (g.O.Sink.held c.follow-status.new.out) c.follow-status.result) c.in-Ok-open.ensures.start two in
     let adds = rw (c.in-Ok-new.ensures.waiting, c.in-Ok-make.ensures.manner) at c.in-Ok-tell_start.ensures.ok b c.in-Ok-make.ensures.awaits opened in
-    journal_follows c.text_laws.ensures.laws w (g.S.Source.left c.args.source.now) left (g.S.Source.left c.follow-status.new.source) c.open.new.reader.cut c.follow-status.new.reader.input.ahead (g.S.Source.given c.follow-status.new.source - g.S.Source.given c.args.source.now) c.open.new.reader.version c.in-Ok-open.parts.0 c.in-Ok-open.parts.1 c.open.new.reader.number (g.O.Sink.held c.args.out.now) (g.O.Sink.held c.tell_start.new.out) (g.O.Sink.held c.follow-status.new.out) c.tell_start.new.self.waiting c.follow-status.result c.openings_are_whole.ensures.opening c.openings_are_whole.ensures.start opens text adds follows c.follow-status.ensures.followed
+    journal_follows c.adding_laws.ensures.laws c.text_laws.ensures.laws w (g.S.Source.left c.args.source.now) left (g.S.Source.left c.follow-status.new.source) c.open.new.reader.cut c.follow-status.new.reader.input.ahead (g.S.Source.given c.follow-status.new.source - g.S.Source.given c.args.source.now) c.open.new.reader.version c.in-Ok-open.parts.0 c.in-Ok-open.parts.1 c.open.new.reader.number (g.O.Sink.held c.args.out.now) (g.O.Sink.held c.tell_start.new.out) (g.O.Sink.held c.follow-status.new.out) c.tell_start.new.self.waiting c.follow-status.result c.openings_are_whole.ensures.opening c.openings_are_whole.ensures.start opens text adds follows c.follow-status.ensures.followed
     (λ is. beyond_is c.follow-status.new.reader.input _ (omega (arith, c.open.ensures.draws.balance, c.follow-status.ensures.draws.balance, c.in-Ok.ensures.taken, ap length c.in-Ok.ensures.ahead)) (c.follow-status.ensures.broken is).spent)
 
 pub returns-clause-replayed : goal.returns-clause-replayed

@@ -9,4 +9,4 @@ pub returns-clause-stops : goal.returns-clause-stops
 returns-clause-stops g c r knows many =
     subst (λ (x : Running). Stops (x.waiting ++ (g.T.Teller.manner c.args.teller.now).ends c.args.version r) (g.O.Sink.held c.args.out.now) (g.O.Sink.held c.stop.new.out) status.Ok c.stop.result)
     c.self.view_is
-    (stops_behind (g.O.Sink.held c.args.out.now) (g.O.Sink.held c.end.new.out) (g.O.Sink.held c.stop.new.out) c.self.inside.waiting c.end.new.waiting _ status.Ok c.stop.result (c.in-Ok.ensures.ok r knows many) c.stop.ensures.stops)
+    (stops_behind c.adding_laws.ensures.laws (g.O.Sink.held c.args.out.now) (g.O.Sink.held c.end.new.out) (g.O.Sink.held c.stop.new.out) c.self.inside.waiting c.end.new.waiting _ status.Ok c.stop.result (c.in-Ok.ensures.ok r knows many) c.stop.ensures.stops)

@@ -6,14 +6,12 @@ use Rattle.kn_journal.specs.Reading.{unread}
 use Rattle.kn_follow.specs.Endings.{status_of}
 use Rattle.kn_report.specs.Waiting.{Adds}
 use Rattle.kn_teller.specs.Run.{begun, trace}
-use Rattle.kn_teller.specs.Manner.{told}
 use Rattle.kn_follow.specs.Following.{ran}
 use Rattle.kn_follow.proofs.Nexts.{broken_on, caused_on, draws_on}
 use Rattle.kn_follow.proofs.Runs.{now_later}
 use Rattle.kn_follow.proofs.Cuts.{cut_event, cut_full, cut_good, cut_stop, stop_cut}
 use Rattle.kn_follow.proofs.Faults.{goes_stop, goes_unwritten, read_begin, read_more}
 use Rattle.kn_follow.proofs.Behind.{goes_behind, stop_refused, stop_unrefused}
-use Rattle.kn_follow.proofs.Waits.{adds_nothing, adds_on, adds_trans}
 use Rattle.kn_follow.proofs.Follows.{ends_there, goes_begin, goes_cut, goes_good, goes_more, still_begin, still_more, told-more, told-nil}
 use Rattle.kn_follow.proofs.Statuses.{IsWriteFault, end_unrefused, fault_of, followed_of, no_write_fault, rose_on, stop_followed, stop_reads}
 use Rattle.kn_follow.proofs.follower.Follower.follow.Goals as goal
@@ -27,7 +25,7 @@ loop-count-init g c = record {
         c.requires.stands,
         (c.requires.knows, refl {a = c.args.self.now.revision.clock}),
         refl,
-        subst (Adds (g.O.Sink.held c.args.out.now) (g.O.Sink.held c.args.out.now) c.args.self.now.waiting c.args.self.now.waiting) (sym (told-nil w b)) (adds_nothing (g.O.Sink.held c.args.out.now) c.args.self.now.waiting),
+        subst (Adds (g.O.Sink.held c.args.out.now) (g.O.Sink.held c.args.out.now) c.args.self.now.waiting c.args.self.now.waiting) (sym (told-nil w b)) c.adding_laws.ensures.laws.nothing,
         goes_begin c.args.reader.now.version c.args.reader.now.last c.args.reader.now.number (unread c.args.reader.now.input (g.S.Source.left c.args.source.now)),
       );
   bytes = λ over. read_begin c.args.reader.now.cut (unread c.args.reader.now.input (g.S.Source.left c.args.source.now)) over;
@@ -51,7 +49,7 @@ returns-in-Err-clause-follows g c over =
     let b = begun c.args.self.now.revision.spec c.args.self.now.revision.clock in
     let on = c.loop-count.invariant.on in
     rw (c.in-Err.ensures.still.0, c.in-Err.ensures.still.1)
-    (goes_unwritten c.args.reader.now.cut c.args.reader.now.version w b c.args.reader.now.last c.args.reader.now.number (unread c.args.reader.now.input (g.S.Source.left c.args.source.now)) c.args.self.now.waiting c.loop-count.self.waiting (g.O.Sink.held c.args.out.now) (g.O.Sink.held c.loop-count.out) (g.O.Sink.held c.next.new.out) on.0 c.loop-count.reader.last c.loop-count.reader.number (unread c.loop-count.reader.input (g.S.Source.left c.loop-count.source))
+    (goes_unwritten c.adding_laws.ensures.laws c.args.reader.now.cut c.args.reader.now.version w b c.args.reader.now.last c.args.reader.now.number (unread c.args.reader.now.input (g.S.Source.left c.args.source.now)) c.args.self.now.waiting c.loop-count.self.waiting (g.O.Sink.held c.args.out.now) (g.O.Sink.held c.loop-count.out) (g.O.Sink.held c.next.new.out) on.0 c.loop-count.reader.last c.loop-count.reader.number (unread c.loop-count.reader.input (g.S.Source.left c.loop-count.source))
     on.5 on.4 c.in-Err.ensures.failed)
 
 pub returns-in-Err-clause-rest : goal.returns-in-Err-clause-rest
@@ -72,11 +70,11 @@ returns-in-None-clause-follows g c over =
     let b = begun c.args.self.now.revision.spec c.args.self.now.revision.clock in
     let kept = c.loop-count.invariant in
     let on = kept.on in
-    let adds = adds_on (g.O.Sink.held c.args.out.now) (g.O.Sink.held c.loop-count.out) (g.O.Sink.held c.next.new.out) c.args.self.now.waiting c.loop-count.self.waiting c.next.new.self.waiting (told w b on.0) on.4 c.in-Ok.ensures.adds in
+    let adds = c.adding_laws.ensures.laws.on on.4 c.in-Ok.ensures.adds in
     let version : c.version.result ≡ c.args.reader.now.version = c.version.ensures ∙ c.next.ensures.version ∙ kept.version in
     let gives = rw (c.in-Ok-read.is, c.in-None.is, kept.version) at c.in-Ok.ensures.next in
     let ended = rw (version, kept.manner) at c.end.ensures.stops (ran b on.0) on.2.0 (sym on.3) in
-    goes_good c.args.reader.now.cut c.args.reader.now.version w b c.args.reader.now.last c.args.reader.now.number (unread c.args.reader.now.input (g.S.Source.left c.args.source.now)) c.args.self.now.waiting c.next.new.self.waiting (g.O.Sink.held c.args.out.now) (g.O.Sink.held c.next.new.out) (g.O.Sink.held c.end.new.out) on.0 c.loop-count.reader.last c.loop-count.reader.number (unread c.loop-count.reader.input (g.S.Source.left c.loop-count.source)) c.next.new.reader.number (unread c.next.new.reader.input (g.S.Source.left c.next.new.source)) c.end.result
+    goes_good c.adding_laws.ensures.laws c.args.reader.now.cut c.args.reader.now.version w b c.args.reader.now.last c.args.reader.now.number (unread c.args.reader.now.input (g.S.Source.left c.args.source.now)) c.args.self.now.waiting c.next.new.self.waiting (g.O.Sink.held c.args.out.now) (g.O.Sink.held c.next.new.out) (g.O.Sink.held c.end.new.out) on.0 c.loop-count.reader.last c.loop-count.reader.number (unread c.loop-count.reader.input (g.S.Source.left c.loop-count.source)) c.next.new.reader.number (unread c.next.new.reader.input (g.S.Source.left c.next.new.source)) c.end.result
     on.5 gives adds ended
 
 pub returns-in-None-clause-rest : goal.returns-in-None-clause-rest
@@ -88,7 +86,7 @@ returns-in-None-clause-cut g c over fault =
     let b = begun c.args.self.now.revision.spec c.args.self.now.revision.clock in
     let kept = c.loop-count.invariant in
     let on = kept.on in
-    let adds = adds_on (g.O.Sink.held c.args.out.now) (g.O.Sink.held c.loop-count.out) (g.O.Sink.held c.next.new.out) c.args.self.now.waiting c.loop-count.self.waiting c.next.new.self.waiting (told w b on.0) on.4 c.in-Ok.ensures.adds in
+    let adds = c.adding_laws.ensures.laws.on on.4 c.in-Ok.ensures.adds in
     let gives = rw (c.in-Ok-read.is, c.in-None.is, kept.version) at c.in-Ok.ensures.next in
     let some = stop_cut _ _ _ status.Ok c.end.result (c.end.ensures.stops (ran b on.0) on.2.0 (sym on.3)) fault (λ is. subst IsWriteFault (sym is) tt) in
     cut_good c.args.reader.now.version w b c.args.reader.now.last c.args.reader.now.number (unread c.args.reader.now.input (g.S.Source.left c.args.source.now)) c.args.self.now.waiting c.next.new.self.waiting _ (g.O.Sink.held c.args.out.now) (g.O.Sink.held c.next.new.out) (g.O.Sink.held c.end.new.out) on.0 c.loop-count.reader.last c.loop-count.reader.number (unread c.loop-count.reader.input (g.S.Source.left c.loop-count.source)) c.next.new.reader.number (unread c.next.new.reader.input (g.S.Source.left c.next.new.source))
@@ -107,9 +105,9 @@ returns-in-Err-read-clause-follows g c over =
     let kept = c.loop-count.invariant in
     let stop = rw (c.in-Err-read.is, kept.version) at c.in-Ok.ensures.next in
     let on = kept.on in
-    let adds = adds_on (g.O.Sink.held c.args.out.now) (g.O.Sink.held c.loop-count.out) (g.O.Sink.held c.next.new.out) c.args.self.now.waiting c.loop-count.self.waiting c.next.new.self.waiting (told w b on.0) on.4 c.in-Ok.ensures.adds in
+    let adds = c.adding_laws.ensures.laws.on on.4 c.in-Ok.ensures.adds in
     let left = (unread c.next.new.reader.input (g.S.Source.left c.next.new.source)) in
-    goes_stop c.text_laws.ensures.laws c.args.reader.now.cut c.loop-count.reader.cut c.args.reader.now.version w b c.args.reader.now.last c.args.reader.now.number (unread c.args.reader.now.input (g.S.Source.left c.args.source.now)) c.args.self.now.waiting c.next.new.self.waiting (g.O.Sink.held c.args.out.now) (g.O.Sink.held c.next.new.out) (g.O.Sink.held c.stop.new.out) on.0 c.loop-count.reader.last c.loop-count.reader.number (unread c.loop-count.reader.input (g.S.Source.left c.loop-count.source)) left c.in-Err-read.error c.stop.result
+    goes_stop c.adding_laws.ensures.laws c.text_laws.ensures.laws c.args.reader.now.cut c.loop-count.reader.cut c.args.reader.now.version w b c.args.reader.now.last c.args.reader.now.number (unread c.args.reader.now.input (g.S.Source.left c.args.source.now)) c.args.self.now.waiting c.next.new.self.waiting (g.O.Sink.held c.args.out.now) (g.O.Sink.held c.next.new.out) (g.O.Sink.held c.stop.new.out) on.0 c.loop-count.reader.last c.loop-count.reader.number (unread c.loop-count.reader.input (g.S.Source.left c.loop-count.source)) left c.in-Err-read.error c.stop.result
     on.5 (kept.bytes over) stop.refuses
     (λ is. (stop.breaks is).amid) (λ is. (stop.breaks is).uncut) stop.memory
     adds (rw c.status_of.ensures.value at c.stop.ensures.stops)
@@ -130,7 +128,7 @@ returns-in-Err-read-clause-cut g c over fault =
     let kept = c.loop-count.invariant in
     let stop = rw (c.in-Err-read.is, kept.version) at c.in-Ok.ensures.next in
     let on = kept.on in
-    let adds = adds_on (g.O.Sink.held c.args.out.now) (g.O.Sink.held c.loop-count.out) (g.O.Sink.held c.next.new.out) c.args.self.now.waiting c.loop-count.self.waiting c.next.new.self.waiting (told w b on.0) on.4 c.in-Ok.ensures.adds in
+    let adds = c.adding_laws.ensures.laws.on on.4 c.in-Ok.ensures.adds in
     let some = stop_cut _ _ _ (status_of c.in-Err-read.error) c.stop.result (rw c.status_of.ensures.value at c.stop.ensures.stops) fault (no_write_fault c.in-Err-read.error) in
     cut_stop c.text_laws.ensures.laws c.args.reader.now.cut c.loop-count.reader.cut c.args.reader.now.version w b c.args.reader.now.last c.args.reader.now.number (unread c.args.reader.now.input (g.S.Source.left c.args.source.now)) c.args.self.now.waiting c.next.new.self.waiting _ (g.O.Sink.held c.args.out.now) (g.O.Sink.held c.next.new.out) (g.O.Sink.held c.stop.new.out) on.0 c.loop-count.reader.last c.loop-count.reader.number (unread c.loop-count.reader.input (g.S.Source.left c.loop-count.source)) (unread c.next.new.reader.input (g.S.Source.left c.next.new.source)) c.in-Err-read.error
     on.5 (kept.bytes over) stop.refuses
@@ -162,14 +160,14 @@ returns-in-Err-tell-clause-follows g c over =
     let b = begun c.args.self.now.revision.spec c.args.self.now.revision.clock in
     let kept = c.loop-count.invariant in
     let on = kept.on in
-    let adds = adds_on (g.O.Sink.held c.args.out.now) (g.O.Sink.held c.loop-count.out) (g.O.Sink.held c.next.new.out) c.args.self.now.waiting c.loop-count.self.waiting c.next.new.self.waiting (told w b on.0) on.4 c.in-Ok.ensures.adds in
+    let adds = c.adding_laws.ensures.laws.on on.4 c.in-Ok.ensures.adds in
     let left = (unread c.next.new.reader.input (g.S.Source.left c.next.new.source)) in
     let gives = (rw (c.in-Ok-read.is, c.in-Some.is, kept.version) at c.in-Ok.ensures.next).gives in
     let stood = subst (λ (x : RevisionState). StandsFor x (trace (ran b on.0))) (sym c.next.ensures.revision) on.1 in
     let spec = ap (λ (x : RevisionState). x.spec) c.next.ensures.revision ∙ kept.spec in
     let clock = on.2.1 ∙ sym (ap (λ (x : RevisionState). x.clock) c.next.ensures.revision) in
     let step = c.step.ensures.step (ran b on.0) stood spec clock in
-    goes_cut c.args.reader.now.cut c.args.reader.now.version w b c.args.reader.now.last c.args.reader.now.number (unread c.args.reader.now.input (g.S.Source.left c.args.source.now)) c.args.self.now.waiting c.next.new.self.waiting (g.O.Sink.held c.args.out.now) (g.O.Sink.held c.next.new.out) (g.O.Sink.held c.tell.new.out) on.0 c.loop-count.reader.last c.loop-count.reader.number (unread c.loop-count.reader.input (g.S.Source.left c.loop-count.source)) c.in-Some.e c.next.new.reader.number left left
+    goes_cut c.adding_laws.ensures.laws c.args.reader.now.cut c.args.reader.now.version w b c.args.reader.now.last c.args.reader.now.number (unread c.args.reader.now.input (g.S.Source.left c.args.source.now)) c.args.self.now.waiting c.next.new.self.waiting (g.O.Sink.held c.args.out.now) (g.O.Sink.held c.next.new.out) (g.O.Sink.held c.tell.new.out) on.0 c.loop-count.reader.last c.loop-count.reader.number (unread c.loop-count.reader.input (g.S.Source.left c.loop-count.source)) c.in-Some.e c.next.new.reader.number left left
     on.5 gives adds (rw (c.step.ensures.waiting, kept.manner) at c.in-Err-tell.ensures.err (ran b on.0) on.2.0 step)
 
 pub returns-in-Err-tell-clause-rest : goal.returns-in-Err-tell-clause-rest
@@ -181,7 +179,7 @@ returns-in-Err-tell-clause-cut g c over fault =
     let b = begun c.args.self.now.revision.spec c.args.self.now.revision.clock in
     let kept = c.loop-count.invariant in
     let on = kept.on in
-    let adds = adds_on (g.O.Sink.held c.args.out.now) (g.O.Sink.held c.loop-count.out) (g.O.Sink.held c.next.new.out) c.args.self.now.waiting c.loop-count.self.waiting c.next.new.self.waiting (told w b on.0) on.4 c.in-Ok.ensures.adds in
+    let adds = c.adding_laws.ensures.laws.on on.4 c.in-Ok.ensures.adds in
     let stood = subst (λ (x : RevisionState). StandsFor x (trace (ran b on.0))) (sym c.next.ensures.revision) on.1 in
     let spec = ap (λ (x : RevisionState). x.spec) c.next.ensures.revision ∙ kept.spec in
     let clock = on.2.1 ∙ sym (ap (λ (x : RevisionState). x.clock) c.next.ensures.revision) in
@@ -203,7 +201,7 @@ loop-count-preserved g c =
     let spec = ap (λ (x : RevisionState). x.spec) c.next.ensures.revision ∙ kept.spec in
     let clock = on.2.1 ∙ sym (ap (λ (x : RevisionState). x.clock) c.next.ensures.revision) in
     let step = c.step.ensures.step (ran b on.0) stood spec clock in
-    let adds = adds_on (g.O.Sink.held c.args.out.now) (g.O.Sink.held c.loop-count.out) (g.O.Sink.held c.next.new.out) c.args.self.now.waiting c.loop-count.self.waiting c.next.new.self.waiting (told w b on.0) on.4 c.in-Ok.ensures.adds in
+    let adds = c.adding_laws.ensures.laws.on on.4 c.in-Ok.ensures.adds in
     let wrote = rw (c.step.ensures.waiting, kept.manner) at c.in-Ok-tell.ensures.ok (ran b on.0) on.2.0 step in
     record {
       on = (
@@ -211,7 +209,7 @@ loop-count-preserved g c =
         rw c.in-Ok-tell.ensures.revision step.stands,
         (c.in-Ok-tell.ensures.knows (ran b on.0) on.2.0 step, now_later (ran b on.0) e ∙ sym (ap (λ (x : RevisionState). x.clock) c.in-Ok-tell.ensures.revision ∙ c.step.ensures.clock)),
         length-append on.0 (e ∷ []) ∙ ap (λ (n : ℕ). n + 1) on.3,
-        rw (told-more w b on.0 e) (adds_trans _ _ _ _ _ _ _ _ adds wrote),
+        c.adding_laws.ensures.laws.more adds wrote (sym (told-more w b on.0 e)),
         rw last (goes_more c.args.reader.now.version c.args.reader.now.last c.args.reader.now.number _ on.0 c.loop-count.reader.last c.loop-count.reader.number _ e c.next.new.reader.number _ on.5 (rw kept.version at read.gives)),
       );
       bytes = λ over.

@@ -8,11 +8,10 @@ use Rattle.kn_journal.specs.Telling.{AmidNext, Gives, IsLineFault, LeavesRest, R
 use Rattle.kn_follow.specs.Calls.{IsNext}
 use Rattle.kn_follow.proofs.Faults.{over_refuses}
 use Rattle.kn_follow.proofs.Nexts.{OfError, OfEvent, next_is, no_end_stops}
-use Rattle.kn_follow.proofs.Waits.{adds_nothing}
 use Rattle.kn_follow.proofs.follower.Follower.next.Goals as goal
 
 pub returns-in-Some-clause-adds : goal.returns-in-Some-clause-adds
-returns-in-Some-clause-adds g c = adds_nothing (g.O.Sink.held c.args.out.now) c.args.self.now.waiting
+returns-in-Some-clause-adds g c = c.adding_laws.ensures.laws.nothing
 
 pub returns-in-Some-clause-next : goal.returns-in-Some-clause-next
 returns-in-Some-clause-next g c =
