@@ -22,7 +22,7 @@ const SLACK: u64 = 20;
 #[derive(Drop)]
 pub struct FrontCaller<K> {
     inner: TcpCaller,
-    clock: K,
+    pub(crate) clock: K,
     read: Duration,
     // When the request has to be there. None before the first connection, or where the clock can't be read.
     until: Option<Instant>,
@@ -71,10 +71,6 @@ impl<K: Clock> FrontCaller<K> {
         let leaves = !self.left && self.inner.has_ended();
         self.left = self.left || leaves;
         leaves
-    }
-
-    pub(crate) fn clock(&self) -> &K {
-        &self.clock
     }
 
     /// The milliseconds of its clock, or 0 where it can't be read.

@@ -188,11 +188,6 @@ impl TcpDoor {
         queue.len().min(queue.waits())
     }
 
-    /// How many callers wait at the socket.
-    pub(crate) fn at_socket<R: Wait>(&self, rt: &R) -> usize {
-        self.queue.lock(rt).waits()
-    }
-
     /// Whether the front may sleep until it is woken. Else it looks again soon.
     pub(crate) fn lets_sleep<R: Wait>(&self, rt: &R) -> bool {
         self.queue.lock(rt).fall_asleep()
@@ -213,14 +208,18 @@ impl TcpDoor {
         self.closed.load(Ordering::SeqCst)
     }
 
-    /// Callers go to the socket no more.
-    pub(crate) fn shut<R: Wait>(&self, rt: &R) {
-        self.queue.lock(rt).shut();
+    /// Callers go to the socket no more. How many are still there.
+    pub(crate) fn shut<R: Wait>(&self, rt: &R) -> usize {
+        let mut queue = self.queue.lock(rt);
+        queue.shut();
+        queue.waits()
     }
 
-    /// Calls a caller away from the socket, who then sees what waits here.
-    pub(crate) fn call<N: Net>(&self, net: &N) {
-        self.socket.knock(net);
+    /// Calls so many callers away from the socket, who then see what waits here. Whom a call doesn't reach is to be called again.
+    pub(crate) fn call<N: Net>(&self, net: &N, count: usize) {
+        for _ in 0..count {
+            self.socket.knock(net);
+        }
     }
 
     /// Nobody comes to the socket any more, and who waits there comes back.
@@ -276,7 +275,7 @@ impl<K: Clock> Door<FrontCaller<K>> for TcpDoor {
         caller.part();
         self.watched.leave(&mut caller.watched);
         self.busy.leave(&mut caller.busy);
-        match self.take(rt, caller.clock()) {
+        match self.take(rt, &caller.clock) {
             Some(stream) => {
                 caller.hand(stream);
                 self.busy.enter(&mut caller.busy);

@@ -60,11 +60,6 @@ impl SilentOnes {
         self.ones.len()
     }
 
-    /// Whether there are none.
-    pub(crate) fn is_empty(&self) -> bool {
-        self.ones.is_empty()
-    }
-
     /// How many there may be.
     pub(crate) fn places(&self) -> usize
         ensures { result ≡ self.now.places }

@@ -73,7 +73,7 @@ impl Station {
         self.take_back(rt, door, now);
         let soon = self.take_in(rt, door, now);
         door.count_silent(self.silent.len());
-        call(rt, door, door.to_call(rt));
+        door.call(rt, door.to_call(rt));
         let due = self.silent.until_due(now, self.limits.idle);
         let wait = if door.lets_sleep(rt) {
             due
@@ -147,7 +147,7 @@ impl Station {
         self.silent.find_oldest();
     }
 
-    /// Calls all callers away from the socket, until this time at most.
+    /// Lets no caller go to the socket any more, and calls those away who are there, until this time at most.
     fn call_all<R: Wait + Clock + Net>(
         &mut self,
         rt: &R,
@@ -155,11 +155,11 @@ impl Station {
         end: Option<Instant>,
     ) -> io::Result<()> {
         for _ in rt.forever() {
-            let there = door.at_socket(rt);
+            let there = door.shut(rt);
             if there == 0 || time_left(end, Instant::now(rt)?).is_none() {
                 return Ok(());
             }
-            call(rt, door, there);
+            door.call(rt, there);
             let wait = Duration::from_millis(CALL_MS);
             self.poll.poll(&mut self.events, Some(wait))?;
             self.see_events(rt, door);
@@ -167,12 +167,11 @@ impl Station {
         unreachable!()
     }
 
-    /// Takes in who has come by now, as far as there is room.
-    fn take_last<R: Wait>(&mut self, rt: &R, door: &TcpDoor, now: Instant) {
-        for _ in 0..self.limits.waiting {
-            match door.take_in(rt, self.silent.len(), self.limits.waiting) {
-                Intake::Came(stream) => self.begin(rt, door, stream, now),
-                Intake::Nobody | Intake::Failed => return,
+    /// Takes in all who have come by now.
+    fn take_all_in<R: Wait>(&mut self, rt: &R, door: &TcpDoor, now: Instant) {
+        for _ in 0..MOST_WAITING / TAKEN {
+            if !self.take_in(rt, door, now).is_zero() {
+                break;
             }
         }
     }
@@ -189,15 +188,11 @@ impl Station {
             let tries = door.on_trial() > 0;
             self.take_back(rt, door, now);
             let left = time_left(end, now);
-            if (self.silent.is_empty() && !tries) || left.is_none() {
+            if (self.silent.len() == 0 && !tries) || left.is_none() {
                 return Ok(());
             }
             door.count_silent(self.silent.len());
-            let wait = if tries {
-                sooner(left, Duration::from_millis(BEAT_MS))
-            } else {
-                left
-            };
+            let wait = sooner(left, Duration::from_millis(BEAT_MS));
             self.poll.poll(&mut self.events, wait)?;
             self.see_events(rt, door);
         }
@@ -208,22 +203,14 @@ impl Station {
     fn finish<R: Wait + Clock + Net>(mut self, rt: &R, door: &TcpDoor) -> io::Result<()> {
         let now = Instant::now(rt)?;
         let end = now.checked_add(Duration::from_millis(GRACE_MS));
-        door.shut(rt);
         self.call_all(rt, door, end)?;
-        self.take_last(rt, door, now);
+        self.take_all_in(rt, door, now);
         door.close_socket();
         let waited = self.wait_until(rt, door, end);
         for place in 0..self.silent.places() {
             see(rt, door, &mut self.silent, place, false);
         }
         waited
-    }
-}
-
-/// Calls so many callers away from the socket. Whom a call doesn't reach is called again soon.
-fn call<N: Net>(net: &N, door: &TcpDoor, count: usize) {
-    for _ in 0..count {
-        door.call(net);
     }
 }
 
