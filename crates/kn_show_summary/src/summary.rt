@@ -14,6 +14,7 @@ use kn_io::{Failed, Sink};
 use kn_lives::arrival_tag;
 use kn_lives::laws::lives_laws;
 use kn_report::Waiting;
+use kn_report::laws::adding_laws;
 use kn_teller::{Form, Teller};
 use kn_waits::Waits;
 use std::alloc::Global;
@@ -102,6 +103,7 @@ impl Teller for Summary {
         waiting: &mut Waiting,
         out: &mut O,
     ) -> Result<(), Failed> {
+        adding_laws();
         self.put_requests(events, line);
         match waiting.add(line.bytes(), out) {
             Ok(()) => {}

@@ -9,14 +9,14 @@ use Rattle.kn_show_summary.proofs.summary.SummaryTeller.end.Goals as goal
 pub returns-in-Err-clause-err : goal.returns-in-Err-clause-err
 unfolding summary
 returns-in-Err-clause-err g c r k many =
-    first_fails (g.O.Sink.held c.args.out.now) (g.O.Sink.held c.add.new.out) c.args.waiting.now c.bytes.result.now _ _ _
+    first_fails c.adding_laws.ensures.laws (g.O.Sink.held c.args.out.now) (g.O.Sink.held c.add.new.out) c.args.waiting.now c.bytes.result.now _ _ _
     (c.bytes.ensures ∙ c.put_requests.ensures ∙ requests_is c.args.self.now r c.args.events k many)
     c.in-Err.ensures.err
 
 pub returns-in-Err-add-clause-err : goal.returns-in-Err-add-clause-err
 unfolding summary
 returns-in-Err-add-clause-err g c r k many =
-    second_fails (g.O.Sink.held c.args.out.now) (g.O.Sink.held c.add.new.out) (g.O.Sink.held c.add-2.new.out) c.args.waiting.now c.add.new.self c.bytes.result.now c.bytes-2.result.now _ _ _
+    second_fails c.adding_laws.ensures.laws (g.O.Sink.held c.args.out.now) (g.O.Sink.held c.add.new.out) (g.O.Sink.held c.add-2.new.out) c.args.waiting.now c.add.new.self c.bytes.result.now c.bytes-2.result.now _ _ _
     (c.bytes.ensures ∙ c.put_requests.ensures ∙ requests_is c.args.self.now r c.args.events k many)
     (c.bytes-2.ensures ∙ c.put_waits.ensures (waits (trace r)) k.rows.waits)
     c.in-Ok.ensures.ok
@@ -26,7 +26,7 @@ pub returns-clause-ok : goal.returns-clause-ok
 unfolding summary
 returns-clause-ok g c r k many =
     on_ok c.add-3.result
-    (all_added (g.O.Sink.held c.args.out.now) (g.O.Sink.held c.add.new.out) (g.O.Sink.held c.add-2.new.out) (g.O.Sink.held c.add-3.new.out)
+    (all_added c.adding_laws.ensures.laws (g.O.Sink.held c.args.out.now) (g.O.Sink.held c.add.new.out) (g.O.Sink.held c.add-2.new.out) (g.O.Sink.held c.add-3.new.out)
     c.args.waiting.now c.add.new.self c.add-2.new.self c.add-3.new.self c.bytes.result.now c.bytes-2.result.now c.bytes-3.result.now _ _ _
     (c.bytes.ensures ∙ c.put_requests.ensures ∙ requests_is c.args.self.now r c.args.events k many)
     (c.bytes-2.ensures ∙ c.put_waits.ensures (waits (trace r)) k.rows.waits)
@@ -38,7 +38,7 @@ pub returns-clause-err : goal.returns-clause-err
 unfolding summary
 returns-clause-err g c r k many =
     on_err c.add-3.result
-    (third_fails (g.O.Sink.held c.args.out.now) (g.O.Sink.held c.add.new.out) (g.O.Sink.held c.add-2.new.out) (g.O.Sink.held c.add-3.new.out)
+    (third_fails c.adding_laws.ensures.laws (g.O.Sink.held c.args.out.now) (g.O.Sink.held c.add.new.out) (g.O.Sink.held c.add-2.new.out) (g.O.Sink.held c.add-3.new.out)
     c.args.waiting.now c.add.new.self c.add-2.new.self c.bytes.result.now c.bytes-2.result.now c.bytes-3.result.now _ _ _
     (c.bytes.ensures ∙ c.put_requests.ensures ∙ requests_is c.args.self.now r c.args.events k many)
     (c.bytes-2.ensures ∙ c.put_waits.ensures (waits (trace r)) k.rows.waits)
