@@ -98,7 +98,7 @@ fn begin_late<T: Runs>(
 ) -> io::Result<bool> {
     let mut one_by_one = clients(rt, front.address(), count)?;
     let mut at_once = clients(rt, front.address(), count)?;
-    let mut served = wait_for(threads, front, 2 * count as u64);
+    let mut served = wait_for(threads, front, (count as u64).saturating_mul(2));
     for client in one_by_one.iter_mut() {
         served = served && is_served(rt.alloc(), client);
     }

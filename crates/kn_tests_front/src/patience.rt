@@ -108,7 +108,11 @@ fn comes_to_full<T: Runs>(rt: &HostRuntime, threads: &T, front: &Front) -> io::R
     let mut fifth = client(rt, front.address())?;
     let since = Instant::now(rt)?;
     let closed = reads(rt.alloc(), &mut fifth, b"") && about(rt, since, 0);
-    Ok(full && served && closed && is_served(rt.alloc(), &mut silent[1]))
+    let begins = match silent.last_mut() {
+        Some(last) => is_served(rt.alloc(), last),
+        None => false,
+    };
+    Ok(full && served && closed && begins)
 }
 
 /// Where three may wait.
