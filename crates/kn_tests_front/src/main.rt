@@ -12,15 +12,16 @@ mod server;
 mod stops;
 
 use std::io;
-use std::net::Net;
+use std::net::{Net, TcpListener, TcpStream};
 use std::sync::Wait;
 use std::thread::Threads;
 use std::time::Clock;
 
 /// What threads need.
-pub trait Runs: Threads + Wait + Clock + Net + Sync {}
+pub trait Runs: Net<Listener = TcpListener, Stream = TcpStream> + Threads + Wait + Clock + Sync {}
 
-impl<T: Threads + Wait + Clock + Net + Sync> Runs for T {}
+impl<T: Net<Listener = TcpListener, Stream = TcpStream> + Threads + Wait + Clock + Sync> Runs
+    for T {}
 
 /// Prints whether a case is as it must be.
 fn tell(rt: &HostRuntime, name: &str, holds: bool) -> io::Result<()> {
