@@ -36,12 +36,20 @@ fn tell_all(rt: &HostRuntime, cases: &[(&str, bool)]) -> io::Result<()> {
     Ok(())
 }
 
+/// All cases.
+fn test<T: Net<Listener = TcpListener, Stream = TcpStream> + Threads + Wait + Clock + Sync>(
+    rt: &HostRuntime,
+    threads: &T,
+) -> io::Result<()> {
+    stops::all(rt)?;
+    crowds::all(rt, threads)?;
+    patience::all(rt, threads)?;
+    leaving::all(rt, threads)?;
+    counts::all(rt, threads)?;
+    faults::all(rt, threads)?;
+    closing::all(rt, threads)
+}
+
 fn main(rt: HostRuntime) -> io::Result<()> {
-    stops::all(&rt)?;
-    crowds::all(&rt, &rt)?;
-    patience::all(&rt, &rt)?;
-    leaving::all(&rt, &rt)?;
-    counts::all(&rt, &rt)?;
-    faults::all(&rt, &rt)?;
-    closing::all(&rt, &rt)
+    test(&rt, &rt)
 }
