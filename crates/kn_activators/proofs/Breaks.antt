@@ -5,16 +5,16 @@ use Rattle.std.specs.Str.{bytes_eq}
 use Rattle.std.proofs.lemmas.Slice.Eq.{bytes_eq-Decides}
 use Rattle.kn_journal.specs.declared.error.JournalError.TheVariants as error
 use Rattle.kn_journal.specs.declared.first.FirstLine.TheVariants.{Slices as SlicesLine}
-use Rattle.kn_journal.specs.Causes.{Cause, no_end}
+use Rattle.kn_journal.specs.Causes.{Cause, IsGoodSoFar, no_end}
 use Rattle.kn_journal.specs.Journal.{first_part, start_part}
 use Rattle.kn_journal.specs.Lines.{fits, lines}
 use Rattle.kn_journal.specs.Parts.{Part, part, then_part}
-use Rattle.kn_journal.specs.Reading.{Ahead, AreWhole, EndsWithLf, IsCutOff, IsSpent, TakesLine, TakesPart, TakesText, most_taken}
+use Rattle.kn_journal.specs.Reading.{Ahead, AreWhole, EndsWithLf, IsCutOff, IsOver, IsSpent, TakesLine, TakesPart, TakesText, most_taken}
 use Rattle.kn_journal.specs.Telling.{Gives, Refuses, StopsAmid, TakesEnd}
 use Rattle.kn_journal.specs.Texts.{TextLaws}
 use Rattle.kn_activators.specs.declared.event.GroupEvent.{GroupEvent}
 use Rattle.kn_activators.specs.declared.setup.GroupSetup.{GroupSetup}
-use Rattle.kn_activators.specs.Breaking.{Breaks, BreaksBefore, BreaksIn, IsGoodSoFar, IsOver, StopsAtEvent, rows_of}
+use Rattle.kn_activators.specs.Breaking.{Breaks, BreaksBefore, BreaksIn, StopsAtEvent, rows_of}
 use Rattle.kn_activators.specs.Replaying.{Opened}
 use Rattle.kn_activators.specs.Sharing.{Sharing, by_lines, opened, openings_text, run_text, time_of}
 use Rattle.kn_activators.specs.Verdict.{Input, Read, input_of, input_of_lines, next_part, none_read, opening_part, read_events, refusal_of, setup_part}

@@ -8,11 +8,10 @@ use Rattle.kn_journal.specs.declared.error.JournalError.{JournalError}
 use Rattle.kn_journal.specs.declared.error.JournalError.TheVariants as error
 use Rattle.kn_journal.specs.Causes.{Cause, after_end, bad_first_line, bad_line, bad_setup, error_of, line_too_long, no_end, time_back, time_too_large, too_many}
 use Rattle.kn_journal.specs.Drawing.{Draws, error_in}
-use Rattle.kn_journal.specs.LineCalls.{IsFromAhead}
+use Rattle.kn_journal.specs.LineCalls.{Anywhere, IsFromAhead}
 use Rattle.kn_journal.specs.Parts.{Part}
 use Rattle.kn_journal.specs.Reading.{Ahead, unread}
 use Rattle.kn_journal.specs.Telling.{IsCauseOf, Judges}
-use Rattle.kn_activators.specs.Verdict.{Anywhere}
 
 -- no fault of the source
 abbrev pub IsNoFault : Option JournalError → Type 0

@@ -9,11 +9,12 @@ use Rattle.kn_journal.specs.Causes.{Cause}
 use Rattle.kn_journal.specs.Lines.{lines}
 use Rattle.kn_journal.specs.Telling.{Gives, Refused, Refuses}
 use Rattle.kn_journal.specs.Texts.{TextLaws}
+use Rattle.kn_journal.specs.Reading.{IsOver}
 use Rattle.kn_activators.specs.declared.error.GroupError.{GroupError}
 use Rattle.kn_activators.specs.declared.error.GroupError.TheVariants as error
 use Rattle.kn_activators.specs.declared.event.GroupEvent.{GroupEvent}
 use Rattle.kn_activators.specs.declared.setup.GroupSetup.{GroupSetup}
-use Rattle.kn_activators.specs.Breaking.{BreaksIn, IsOver, StopsAtEvent}
+use Rattle.kn_activators.specs.Breaking.{BreaksIn, StopsAtEvent}
 use Rattle.kn_activators.specs.Replaying.{Follows, IsRefused, Stops, WritesNothing, rest_text}
 use Rattle.kn_activators.specs.Sharing.{Outcome, Sharing, by_line, by_lines, end_line, time_of}
 use Rattle.kn_activators.specs.Verdict.{Read, ending, next_part, none_read, read_events}

@@ -8,10 +8,10 @@ use Rattle.kn_journal.specs.declared.error.JournalError.{JournalError}
 use Rattle.kn_journal.specs.declared.error.JournalError.TheVariants as journal
 use Rattle.kn_journal.specs.Drawing.{Draws}
 use Rattle.kn_journal.specs.Reading.{Ahead, most_taken}
+use Rattle.kn_journal.specs.LineCalls.{Anywhere}
 use Rattle.kn_activators.specs.declared.error.GroupError.{GroupError}
 use Rattle.kn_activators.specs.declared.error.GroupError.TheVariants as error
 use Rattle.kn_activators.specs.Replaying.{Stops, read_error}
-use Rattle.kn_activators.specs.Verdict.{Anywhere}
 use Rattle.kn_activators.proofs.Breaks.{beyond_is}
 use Rattle.kn_activators.proofs.Drawings.{draws_less}
 

@@ -11,11 +11,11 @@ use Rattle.kn_event.specs.FixedSpec.{fixed_spec}
 use Rattle.kn_event.specs.declared.entry.Entry.{Entry}
 use Rattle.kn_event.specs.declared.event.Event.{Event}
 use Rattle.kn_event.specs.declared.revision.Spec.{Spec}
+use Rattle.kn_event.specs.Lists.{EachIs}
 use Rattle.kn_trace.specs.Events.{react}
 use Rattle.kn_trace.specs.Trace.{Trace}
 use Rattle.kn_core.specs.State.{RevisionState}
 use Rattle.kn_slices.specs.Slices.{force_after, forces_from, hold, slice_of}
-use Rattle.kn_slices.specs.Activators.{EachIs}
 use Rattle.kn_slices.specs.Calls.{CanCome, CanMakeDue, KeepsWanted, StepsGroup}
 use Rattle.kn_slices.specs.declared.change.Change.{Change}
 use Rattle.kn_slices.specs.Traces.{AreTraces, GroupState, clocks_of, counts_of, due_of, limit_by, load_of, made_at, part_at, rows_of, running_by, specs_of, trace_at, traces_after, unset_of}

@@ -10,13 +10,13 @@ use Rattle.kn_journal.specs.Causes.{Cause}
 use Rattle.kn_journal.specs.Journal.{start_part}
 use Rattle.kn_journal.specs.Lines.{lines}
 use Rattle.kn_journal.specs.Parts.{Part, part}
-use Rattle.kn_journal.specs.Reading.{Ahead, TakesPart, TakesText, most_taken, unread}
+use Rattle.kn_journal.specs.Reading.{Ahead, IsOver, TakesPart, TakesText, most_taken, unread}
 use Rattle.kn_journal.specs.Telling.{Gives, Refused, Refuses, StopsAmid}
 use Rattle.kn_journal.specs.Texts.{TextLaws}
 use Rattle.kn_activators.specs.declared.error.GroupError.{GroupError}
 use Rattle.kn_activators.specs.declared.error.GroupError.TheVariants as error
 use Rattle.kn_activators.specs.declared.setup.GroupSetup.{GroupSetup}
-use Rattle.kn_activators.specs.Breaking.{BreaksBefore, BreaksBeyond, BreaksIn, IsOver}
+use Rattle.kn_activators.specs.Breaking.{BreaksBefore, BreaksBeyond, BreaksIn}
 use Rattle.kn_activators.specs.Replaying.{FailsToOpen, Follows, IsRefused, Opened, Opens, ReplaysSlices, Writes, WritesNothing, rest_text}
 use Rattle.kn_activators.specs.Sharing.{by_lines, opened, openings_text, run_text}
 use Rattle.kn_activators.specs.Verdict.{Read, ending, input_of, input_of_lines, opening_part, read_events, refusal_of, text_of}

@@ -4,7 +4,7 @@ use Rattle.std.specs.Io.KnownBytes.{prepend_known}
 use Rattle.kn_io.specs.declared.traits.Source.{Ghosts}
 use Rattle.kn_io.specs.declared.traits.Faulty.{Ghosts as Counted}
 use Rattle.kn_journal.specs.declared.error.JournalError.{JournalError}
-use Rattle.kn_journal.specs.Causes.{Cause, no_end}
+use Rattle.kn_journal.specs.Causes.{Cause, IsGoodSoFar, no_end}
 use Rattle.kn_journal.specs.Drawing.{Draws}
 use Rattle.kn_journal.specs.Lines.{lines}
 use Rattle.kn_journal.specs.Reading.{AreWhole, EndsWithLf, TakesPart, most_taken}
@@ -16,11 +16,6 @@ use Rattle.kn_activators.specs.Verdict.{Input, input_of, opening_part, read_even
 -- some first bytes of a text, maybe none or all
 abbrev pub IsFrontOf : List ℕ → List ℕ → Type 0
 IsFrontOf text front = (rest : List ℕ) × (text ≡ front ++ rest)
-
--- no line is refused, or only the missing end is
-abbrev pub IsGoodSoFar : Option Cause → Type 0
-IsGoodSoFar None = ⊤
-IsGoodSoFar (Some cause) = cause ≡ no_end
 
 -- the rows of the opening and of the events, without the last line; nothing where no start was read
 abbrev pub rows_of : Result Input Cause → List ℕ
@@ -65,12 +60,6 @@ pub record BreaksIn (cut : Bool) (s : GroupSetup) (x : Sharing) (last number : �
   pub rest : TakesPart (Some mid) left
 
 -- ---- where a call that reads stopped
-
--- where the input said its end, nothing of it is unread
-abbrev pub IsOver : Bool → Option (List ℕ) → Type 0
-IsOver cut None = ⊤
-IsOver true (Some xs) = xs ≡ []
-IsOver false (Some xs) = ⊤
 
 -- some first bytes of a line were taken, maybe none, or `end` before them
 abbrev pub StopsAtEvent : Option (List ℕ) → Option (List ℕ) → Type 0

@@ -12,19 +12,19 @@ use Rattle.kn_journal.specs.declared.error.JournalError.{JournalError}
 use Rattle.kn_journal.specs.declared.error.JournalError.TheVariants as journal
 use Rattle.kn_journal.specs.Drawing.{error_in}
 use Rattle.kn_journal.specs.Journal.{time_most}
-use Rattle.kn_journal.specs.LineCalls.{TakesLines}
-use Rattle.kn_journal.specs.Reading.{most_taken, unread}
+use Rattle.kn_journal.specs.LineCalls.{Reads, TakesLines}
+use Rattle.kn_journal.specs.Reading.{IsOver, most_taken, unread}
 use Rattle.kn_journal.specs.Telling.{Gives, LinesState, Refuses}
 use Rattle.kn_activators.specs.declared.error.GroupError.{GroupError}
 use Rattle.kn_activators.specs.declared.event.GroupEvent.{GroupEvent}
 use Rattle.kn_activators.specs.declared.event.GroupEvent.TheVariants as group
 use Rattle.kn_activators.specs.declared.setup.GroupSetup.{GroupSetup}
-use Rattle.kn_activators.specs.Breaking.{DrawsEvent, IsOver}
+use Rattle.kn_activators.specs.Breaking.{DrawsEvent}
 use Rattle.kn_activators.specs.Reading.{IsGroupEvent}
 use Rattle.kn_activators.specs.Replaying.{Follows, Opens}
 use Rattle.kn_activators.specs.Sharing.{Outcome, Sharing, and_then, by_each, by_event, by_line, by_one, changes, changes_most, force_lines, numbers_of, openings_text, rows_at, stepped, time_of}
 use Rattle.kn_activators.specs.Standing.{AreBefore, Fails, IsSameReplay, Makes, ReplayState, Stands}
-use Rattle.kn_activators.specs.Verdict.{OnEvent, Reads, next_part}
+use Rattle.kn_activators.specs.Verdict.{OnEvent, next_part}
 
 -- ---- one activator's event
 

@@ -2,9 +2,10 @@
 use Rattle.std.specs.Prelude.{◌≡◌, ℕ, ◌+◌, ◌<◌, ◌≤◌, ◌==◌, ◌++◌, List, length, Option, if◌then◌else◌}
 use Rattle.kn_event.specs.Ranges.{AreSlots}
 use Rattle.kn_event.specs.declared.entry.Entry.{Entry}
+use Rattle.kn_event.specs.Lists.{EachIs}
 use Rattle.kn_io.specs.Prefix.{AppendsPrefix}
 use Rattle.kn_core.specs.State.{RevisionState}
-use Rattle.kn_slices.specs.Activators.{EachIs, slices_of}
+use Rattle.kn_slices.specs.Activators.{slices_of}
 use Rattle.kn_slices.specs.Traces.{AreTraces, GroupState, load_of, specs_of}
 use Rattle.kn_activators.specs.declared.setup.GroupSetup.{GroupSetup}
 use Rattle.kn_activators.specs.Sharing.{Outcome, Sharing}

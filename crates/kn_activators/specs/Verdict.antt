@@ -16,6 +16,7 @@ use Rattle.kn_journal.specs.declared.error.JournalError.{JournalError}
 use Rattle.kn_journal.specs.Drawing.{Draws}
 use Rattle.kn_journal.specs.Reading.{unread}
 use Rattle.kn_journal.specs.Telling.{LinesState, Tells}
+use Rattle.kn_journal.specs.LineCalls.{Anywhere}
 use Rattle.kn_activators.specs.declared.event.GroupEvent.{GroupEvent}
 use Rattle.kn_activators.specs.declared.setup.GroupSetup.{GroupSetup}
 use Rattle.kn_activators.specs.Reading.{group_event_of}
@@ -127,18 +128,6 @@ refusal_of (Ok t) = t.read.refused
 refusal_of (Err cause) = Some cause
 
 -- ---- calls that read
-
--- wherever it stopped
-abbrev pub Anywhere : Option (List ℕ) → Option (List ℕ) → Type 0
-Anywhere old new = ⊤
-
--- a call that reads this part of the lines behind the one read last
-abbrev pub Reads : {T : Type 0} → (ℕ → List (List ℕ) → Result (Part T) Cause) → LinesState → LinesState → Option (List ℕ) → Option (List ℕ) → Result T JournalError → Type 0
-Reads read old new before now r = Tells (read old.number) new.number (unread old.input before) (unread new.input now) r
-
--- .. and what it does to its input and to its source
-abbrev pub DrawsLines : {X : Type 0} → Option JournalError → LinesState → LinesState → Ghosts X → Counted X → X → X → Type 0
-DrawsLines e old new own faulty before now = Draws Anywhere e old.input new.input own faulty before now
 
 -- what is said of an event that was read
 abbrev pub OnEvent : Result (Option GroupEvent) JournalError → (GroupEvent → Type 0) → Type 0

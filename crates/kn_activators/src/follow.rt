@@ -5,13 +5,12 @@ ghost use Rattle.kn_io.specs.Causes.{HasCause, Rose};
 ghost use Rattle.kn_io.specs.Prefix.{AppendsPrefix};
 ghost use Rattle.kn_journal.specs.Drawing.{error_in};
 ghost use Rattle.kn_journal.specs.Journal.{time_most};
-ghost use Rattle.kn_journal.specs.LineCalls.{TakesLines};
+ghost use Rattle.kn_journal.specs.LineCalls.{DrawsLines, TakesLines};
 ghost use Rattle.kn_journal.specs.Reading.{most_taken};
 ghost use Rattle.kn_activators.specs.Calls.{FollowsLines, OpensLines, ReadsEvent};
 ghost use Rattle.kn_activators.specs.Replaying.{ReplaysSlices, Stops, WritesNothing, read_error};
 ghost use Rattle.kn_activators.specs.Sharing.{end_line};
 ghost use Rattle.kn_activators.specs.Standing.{AreBefore, IsBelow, IsGroupSetup};
-ghost use Rattle.kn_activators.specs.Verdict.{DrawsLines};
 ghost use Rattle.kn_report.specs.Waiting.{Adds};
 
 use crate::error::GroupError;

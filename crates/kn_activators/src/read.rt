@@ -1,14 +1,14 @@
 //! What is read of an input of several activators, line by line.
 ghost use Rattle.std.specs.Prelude.{◌≡◌, ◌≢◌, ◌+◌, ◌≤◌, length, Err, IfErr, IfOk, IfSome, None, Ok, OnOk};
 ghost use Rattle.kn_journal.specs.Drawing.{error_in};
-ghost use Rattle.kn_journal.specs.LineCalls.{IsFromAhead, TakesLines, TextAhead};
+ghost use Rattle.kn_journal.specs.LineCalls.{IsFromAhead, Reads, TakesLines, TextAhead};
 ghost use Rattle.kn_journal.specs.Reading.{most_taken};
 ghost use Rattle.kn_journal.specs.Telling.{IsCauseOf, Judges};
 ghost use Rattle.kn_activators.specs.Breaking.{DrawsEvent, DrawsSetup};
 ghost use Rattle.kn_activators.specs.Calls.{IsNextGroupEvent, TellsAhead};
 ghost use Rattle.kn_activators.specs.Reading.{is_own};
 ghost use Rattle.kn_activators.specs.Standing.{IsGroupSetup};
-ghost use Rattle.kn_activators.specs.Verdict.{OnEvent, Reads, judged, next_part, opening_part, setup_line_in};
+ghost use Rattle.kn_activators.specs.Verdict.{OnEvent, judged, next_part, opening_part, setup_line_in};
 
 use crate::event::GroupEvent;
 use crate::line::group_event_of;

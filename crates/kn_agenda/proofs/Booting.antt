@@ -11,15 +11,17 @@ use Rattle.kn_event.specs.declared.event.Event.{Event}
 use Rattle.kn_event.specs.declared.revision.Kind.{Kind}
 use Rattle.kn_event.specs.declared.revision.Kind.TheVariants as kind
 use Rattle.kn_event.specs.declared.revision.Spec.{Spec}
+use Rattle.kn_event.specs.Lists.{contains}
 use Rattle.kn_trace.specs.Rows.{created_by, drained_by, gone_by, readied_by}
-use Rattle.kn_trace.specs.Scale.{drain_order, is_same_phase, phase_of, where_true}
-use Rattle.kn_trace.specs.Trace.{Trace, contains, each_row, entry, is_empty, is_live_pod, is_starting, live_pods, ready_pods, starting_pods}
+use Rattle.kn_trace.specs.Scale.{drain_order, is_in_phase, phase_of, where_true}
+use Rattle.kn_trace.specs.Trace.{Trace, each_row, entry, is_empty, is_live_pod, is_starting, live_pods, ready_pods, starting_pods}
 use Rattle.kn_trace.specs.Events.{act_row, act_rows, activation, before_settling, departures, entries_of, react, scaler_rows}
 use Rattle.kn_trace.specs.Settling.{held_assignments, promotions, removals, settling}
+use Rattle.kn_trace.specs.Report.{is_assign}
 use Rattle.kn_record.specs.Facts.{Facts}
 use Rattle.kn_laws.specs.ByAct.{IsArrival}
 use Rattle.kn_laws.specs.Facts.{PartFacts}
-use Rattle.kn_laws.specs.Kinds.{Each, is_act_row, is_assign_row, is_departure_row, is_remove_row, is_run_row}
+use Rattle.kn_laws.specs.Kinds.{Each, is_act_row, is_departure_row, is_remove_row, is_run_row}
 use Rattle.kn_agenda.proofs.Fewer.{filter-fewer}
 use Rattle.kn_agenda.proofs.Said.{none_both, said_less, said_more, said_new, said_same}
 
@@ -37,7 +39,7 @@ run_creates : (x : Row) → is_run_row x ≡ true → created_by x ≡ None
 run_creates (row.Create p n) h = absurd (cc)
 run_creates _ h = refl
 
-assign_creates : (x : Row) → is_assign_row x ≡ true → created_by x ≡ None
+assign_creates : (x : Row) → is_assign x ≡ true → created_by x ≡ None
 assign_creates (row.Create p n) h = absurd (cc)
 assign_creates _ h = refl
 
@@ -77,7 +79,7 @@ no_scaling (kind.Fixed n) s t c _ did h = refl
 
 activation_creates : (t : ℕ) (c : Trace) → each_row created_by (activation t c) ≡ []
 unfolding activation
-activation_creates t c = by (is_same_phase phase.Activating (phase_of c) && not (is_empty (ready_pods c)))
+activation_creates t c = by (is_in_phase phase.Activating (phase_of c) && not (is_empty (ready_pods c)))
   where
     by : (b : Bool) → each_row created_by (where_true b (entry t (row.Phase phase.Active) ∷ [])) ≡ []
     by true = refl
@@ -109,7 +111,7 @@ module _ (facts : Facts) (parts : PartFacts) where
       let ran = promotions t c (live_pods c) in
       let gave = held_assignments s t (c ++ ran) in
       none_both created_by (ran ++ gave) (removals t ((c ++ ran) ++ gave))
-      (none_both created_by ran gave (none-rows created_by is_run_row run_creates ran (promotions-rows t c (live_pods c))) (none-rows created_by is_assign_row assign_creates gave (assignments-rows s t (c ++ ran) _)))
+      (none_both created_by ran gave (none-rows created_by is_run_row run_creates ran (promotions-rows t c (live_pods c))) (none-rows created_by is_assign assign_creates gave (assignments-rows s t (c ++ ran) _)))
       (none-rows created_by is_remove_row remove_creates (removals t ((c ++ ran) ++ gave)) (removals-rows t ((c ++ ran) ++ gave)))
 
   -- an event that is no arrival and no tick creates no pod

@@ -6,9 +6,10 @@ use Rattle.kn_event.specs.declared.entry.Row.{Row}
 use Rattle.kn_event.specs.declared.entry.Row.TheVariants as row
 use Rattle.kn_event.specs.declared.event.Act.TheVariants as act
 use Rattle.kn_event.specs.declared.event.Event.{Event}
+use Rattle.kn_event.specs.Lists.{contains}
 use Rattle.kn_trace.specs.Events.{need_of, opening, react}
-use Rattle.kn_trace.specs.Rows.{assigned_by, ended_by, readied_by, run_by, taken_by}
-use Rattle.kn_trace.specs.Trace.{Trace, arrivals, assigned, contains, each_row, ended, has_begun, has_run, is_running, live}
+use Rattle.kn_trace.specs.Rows.{assigned_by, begun_by, ended_by, expired_by, readied_by, run_by, taken_by}
+use Rattle.kn_trace.specs.Trace.{Trace, arrivals, assigned, each_row, ended, has_begun, has_run, is_running, live}
 use Rattle.kn_record.specs.Facts.{Facts}
 use Rattle.kn_record.specs.Made.{IsMade}
 use Rattle.kn_laws.specs.ByAct.{IsArrival}
@@ -18,8 +19,8 @@ use Rattle.kn_agenda.specs.declared.item.Item.{Item}
 use Rattle.kn_agenda.specs.declared.item.Kind.TheVariants.{Finishes}
 use Rattle.kn_agenda.specs.declared.job.Job.{Job}
 use Rattle.kn_agenda.specs.Workload.{Workload}
-use Rattle.kn_agenda.specs.Course.{ended_at, expired_by}
-use Rattle.kn_agenda.specs.Due.{AreNext, IsDue, IsNext, begun_at, begun_by, event_of, first_time, ticks_of}
+use Rattle.kn_agenda.specs.Course.{ended_at}
+use Rattle.kn_agenda.specs.Due.{AreNext, IsDue, IsNext, begun_at, event_of, first_time, ticks_of}
 use Rattle.kn_agenda.specs.Runs.{ComeByJobs, so_far}
 use Rattle.kn_agenda.proofs.Expiring.{AreExpired, expired_more}
 use Rattle.kn_agenda.proofs.Keeping.{begun_parts}

@@ -9,19 +9,21 @@ use Rattle.kn_event.specs.declared.entry.Row.TheVariants as row
 use Rattle.kn_event.specs.declared.event.Act.TheVariants as act
 use Rattle.kn_event.specs.declared.event.Event.{Event}
 use Rattle.kn_event.specs.declared.revision.Spec.{Spec}
-use Rattle.kn_trace.specs.Rows.{taken_by}
-use Rattle.kn_trace.specs.Trace.{Trace, contains, each_row, entry, first_of, has_not_begun, live_pods, waiting}
+use Rattle.kn_event.specs.Lists.{contains}
+use Rattle.kn_trace.specs.Rows.{expired_by, taken_by}
+use Rattle.kn_trace.specs.Trace.{Trace, each_row, entry, first_of, has_not_begun, live_pods, waiting}
 use Rattle.kn_trace.specs.Events.{act_row, act_rows, activation, before_settling, departures, due, due_by, entries_of, expiries, react, scaler_rows}
 use Rattle.kn_trace.specs.Settling.{held_assignments, promotions, removals, settling}
+use Rattle.kn_trace.specs.Report.{is_assign}
 use Rattle.kn_record.specs.Facts.{Facts}
 use Rattle.kn_record.specs.Made.{AreDistinct, IsMade}
 use Rattle.kn_record.specs.Rows.{says}
 use Rattle.kn_laws.specs.Facts.{PartFacts}
-use Rattle.kn_laws.specs.Kinds.{is_act_row, is_assign_row, is_remove_row, is_run_row, is_scaler_row}
+use Rattle.kn_laws.specs.Kinds.{is_act_row, is_remove_row, is_run_row, is_scaler_row}
 use Rattle.kn_agenda.specs.declared.item.Item.{Item}
 use Rattle.kn_agenda.specs.declared.item.Kind.TheVariants.{Passes}
 use Rattle.kn_agenda.specs.Workload.{Workload}
-use Rattle.kn_agenda.specs.Course.{expired_at, expired_by}
+use Rattle.kn_agenda.specs.Course.{expired_at}
 use Rattle.kn_agenda.specs.Due.{IsNext, event_of, first_time, is_before, rank, taken_at, time_where}
 use Rattle.kn_agenda.proofs.Going.{IsSaidIn, new_time, old_or_new}
 use Rattle.kn_agenda.proofs.Keeping.{time-more}
@@ -50,7 +52,7 @@ run_expires : (x : Row) → is_run_row x ≡ true → expired_by x ≡ None
 run_expires (row.Expire r) h = absurd (cc)
 run_expires _ h = refl
 
-assign_expires : (x : Row) → is_assign_row x ≡ true → expired_by x ≡ None
+assign_expires : (x : Row) → is_assign x ≡ true → expired_by x ≡ None
 assign_expires (row.Expire r) h = absurd (cc)
 assign_expires _ h = refl
 
@@ -127,7 +129,7 @@ module _ (facts : Facts) (parts : PartFacts) where
       let ran = promotions t c (live_pods c) in
       let gave = held_assignments s t (c ++ ran) in
       none_both expired_by (ran ++ gave) (removals t ((c ++ ran) ++ gave))
-      (none_both expired_by ran gave (none-rows expired_by is_run_row run_expires ran (promotions-rows t c (live_pods c))) (none-rows expired_by is_assign_row assign_expires gave (assignments-rows s t (c ++ ran) _)))
+      (none_both expired_by ran gave (none-rows expired_by is_run_row run_expires ran (promotions-rows t c (live_pods c))) (none-rows expired_by is_assign assign_expires gave (assignments-rows s t (c ++ ran) _)))
       (none-rows expired_by is_remove_row remove_expires (removals t ((c ++ ran) ++ gave)) (removals-rows t ((c ++ ran) ++ gave)))
 
   -- those who expire with an event are those who are due at its time

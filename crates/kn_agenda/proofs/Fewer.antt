@@ -9,8 +9,9 @@ use Rattle.kn_event.specs.declared.entry.Row.TheVariants as row
 use Rattle.kn_event.specs.declared.event.Act.{Act}
 use Rattle.kn_event.specs.declared.event.Event.{Event}
 use Rattle.kn_event.specs.declared.revision.Spec.{Spec}
+use Rattle.kn_event.specs.Lists.{contains}
 use Rattle.kn_trace.specs.Rows.{ended_by, taken_by}
-use Rattle.kn_trace.specs.Trace.{Trace, contains, each_row, ended, entry, first_of, has_not_begun, live, waiting}
+use Rattle.kn_trace.specs.Trace.{Trace, each_row, ended, entry, first_of, has_not_begun, live, waiting}
 use Rattle.kn_trace.specs.Events.{act_rows, activation, before_settling, departures, due, due_by, expiries, losses, react}
 use Rattle.kn_trace.specs.Settling.{settling}
 use Rattle.kn_record.specs.Facts.{Facts}

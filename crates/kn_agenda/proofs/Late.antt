@@ -1,15 +1,16 @@
 -- What is due after an event was due before it, or is so at the event's time at the earliest.
 use Rattle.std.proofs.Common.{◌≡◌, ℕ, ◌≤◌, Bool, true, false, not, ◌&&◌, ◌||◌, ◌⊎◌, inl, inr, ◌++◌, refl, sym, ◌∙◌, arith}
 use Rattle.std.specs.Prelude.{Some}
-use Rattle.kn_trace.specs.Rows.{assigned_by, created_by, drained_by, ended_by, gone_by, readied_by, run_by, taken_by}
-use Rattle.kn_trace.specs.Trace.{Trace, assigned, contains, each_row, ended, has_begun, has_not_begun, has_run, is_running, starting_pods, waiting}
+use Rattle.kn_event.specs.Lists.{contains}
+use Rattle.kn_trace.specs.Rows.{assigned_by, begun_by, created_by, drained_by, ended_by, gone_by, readied_by, run_by, taken_by}
+use Rattle.kn_trace.specs.Trace.{Trace, assigned, each_row, ended, has_begun, has_not_begun, has_run, is_running, starting_pods, waiting}
 use Rattle.kn_record.specs.Facts.{Facts}
 use Rattle.kn_record.specs.Kept.{IsIdle}
 use Rattle.kn_laws.specs.Kinds.{EachAt}
 use Rattle.kn_agenda.specs.declared.item.Kind.{Kind}
 use Rattle.kn_agenda.specs.declared.item.Kind.TheVariants.{Arrives, Finishes, Passes, Readies, Ticks}
 use Rattle.kn_agenda.specs.Workload.{Workload}
-use Rattle.kn_agenda.specs.Due.{IsAfter, IsDone, IsDueAt, begun_at, begun_by, created_at, taken_at}
+use Rattle.kn_agenda.specs.Due.{IsAfter, IsDone, IsDueAt, begun_at, created_at, taken_at}
 use Rattle.kn_agenda.proofs.Going.{IsSaidIn, new_time, old_or_new}
 use Rattle.kn_agenda.proofs.Keeping.{begun_parts}
 use Rattle.kn_agenda.proofs.Readies.{happened}

@@ -5,9 +5,10 @@ use Rattle.std.specs.List.{filter}
 use Rattle.std.proofs.lemmas.List.Elements.{filter-append}
 use Rattle.kn_event.specs.declared.event.Act.TheVariants as act
 use Rattle.kn_event.specs.declared.event.Event.{Event}
+use Rattle.kn_event.specs.Lists.{contains}
 use Rattle.kn_trace.specs.Events.{added, need_of, opening, react}
 use Rattle.kn_trace.specs.Rows.{assigned_by, created_by, drained_by, ended_by, gone_by, readied_by, run_by, taken_by}
-use Rattle.kn_trace.specs.Trace.{Trace, arrivals, assigned, contains, each_row, ended, has_begun, has_run, is_running, live, starting_pods}
+use Rattle.kn_trace.specs.Trace.{Trace, arrivals, assigned, each_row, ended, has_begun, has_run, is_running, live, starting_pods}
 use Rattle.kn_record.specs.Facts.{Facts}
 use Rattle.kn_record.specs.Made.{IsMade}
 use Rattle.kn_laws.specs.Facts.{PartFacts}

@@ -8,8 +8,9 @@ use Rattle.kn_event.specs.declared.entry.Row.{Row}
 use Rattle.kn_event.specs.declared.entry.Row.TheVariants as row
 use Rattle.kn_event.specs.declared.event.Event.{Event}
 use Rattle.kn_event.specs.declared.revision.Spec.{Spec}
+use Rattle.kn_event.specs.Lists.{contains}
 use Rattle.kn_trace.specs.Rows.{arrived_by, assigned_by, created_by, run_by, taken_by}
-use Rattle.kn_trace.specs.Trace.{Trace, arrivals, assigned, contains, each_row, ended, has_begun, has_run, is_running, live, starting_pods, waiting}
+use Rattle.kn_trace.specs.Trace.{Trace, arrivals, assigned, each_row, ended, has_begun, has_run, is_running, live, starting_pods, waiting}
 use Rattle.kn_trace.specs.Events.{added, opening, trace_of}
 use Rattle.kn_trace.specs.Scale.{drain_order}
 use Rattle.kn_record.specs.Facts.{Facts}

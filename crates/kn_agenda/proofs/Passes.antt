@@ -4,8 +4,9 @@ use Rattle.std.specs.Prelude.{Option, None, Some, ◌==◌, slice_get}
 use Rattle.std.specs.List.{filter_map}
 use Rattle.std.proofs.lemmas.Bool.Decides.{nat_tests}
 use Rattle.kn_event.specs.declared.entry.Row.{Row}
+use Rattle.kn_event.specs.Lists.{contains}
 use Rattle.kn_trace.specs.Rows.{taken_by}
-use Rattle.kn_trace.specs.Trace.{Trace, arrivals, contains, each_row, first_of, waiting}
+use Rattle.kn_trace.specs.Trace.{Trace, arrivals, each_row, first_of, waiting}
 use Rattle.kn_record.specs.Facts.{Facts}
 use Rattle.kn_record.specs.Made.{IsNumbered}
 use Rattle.kn_record.specs.Rows.{says}

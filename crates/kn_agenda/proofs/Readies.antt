@@ -5,8 +5,9 @@ use Rattle.std.specs.List.{filter, filter_map}
 use Rattle.std.proofs.lemmas.Bool.{eqb-true, eq-eqb, or_cases}
 use Rattle.kn_event.specs.declared.entry.Row.{Row}
 use Rattle.kn_event.specs.declared.revision.Spec.{Spec}
+use Rattle.kn_event.specs.Lists.{contains}
 use Rattle.kn_trace.specs.Rows.{created_by}
-use Rattle.kn_trace.specs.Trace.{Trace, contains, each_row, first_of, is_starting, starting_pods}
+use Rattle.kn_trace.specs.Trace.{Trace, each_row, first_of, is_starting, starting_pods}
 use Rattle.kn_record.specs.Facts.{Facts}
 use Rattle.kn_record.specs.Made.{IsMade}
 use Rattle.kn_record.specs.Order.{AreTimesInOrder, Ascend}

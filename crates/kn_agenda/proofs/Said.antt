@@ -4,7 +4,8 @@ use Rattle.std.specs.Prelude.{Option, ◌==◌}
 use Rattle.std.proofs.lemmas.List.Elements.{filter_map-append}
 use Rattle.kn_event.specs.declared.entry.Entry.{Entry}
 use Rattle.kn_event.specs.declared.entry.Row.{Row}
-use Rattle.kn_trace.specs.Trace.{Trace, contains, each_row}
+use Rattle.kn_event.specs.Lists.{contains}
+use Rattle.kn_trace.specs.Trace.{Trace, each_row}
 
 contains-left : (n : ℕ) (xs ys : List ℕ) → contains n xs ≡ true → contains n (xs ++ ys) ≡ true
 contains-left n [] ys h = absurd (cc)

@@ -5,8 +5,9 @@ use Rattle.kn_event.specs.declared.entry.Row.{Row}
 use Rattle.kn_event.specs.declared.entry.Row.TheVariants as row
 use Rattle.kn_event.specs.declared.event.Act.{Act}
 use Rattle.kn_event.specs.declared.event.Act.TheVariants as act
-use Rattle.kn_trace.specs.Rows.{created_by, ended_by, readied_by}
-use Rattle.kn_trace.specs.Trace.{Trace, contains, each_row, ended}
+use Rattle.kn_event.specs.Lists.{contains}
+use Rattle.kn_trace.specs.Rows.{begun_by, created_by, ended_by, expired_by, readied_by}
+use Rattle.kn_trace.specs.Trace.{Trace, each_row, ended}
 use Rattle.kn_trace.specs.Events.{react}
 use Rattle.kn_record.specs.Facts.{Facts}
 use Rattle.kn_record.specs.Made.{Holds, IsMade, IsProper}
@@ -17,8 +18,8 @@ use Rattle.kn_agenda.specs.declared.item.Kind.{Kind}
 use Rattle.kn_agenda.specs.declared.item.Kind.TheVariants.{Arrives, Finishes, Passes, Readies, Ticks}
 use Rattle.kn_agenda.specs.declared.job.Job.{Job}
 use Rattle.kn_agenda.specs.Workload.{Workload}
-use Rattle.kn_agenda.specs.Course.{ended_at, expired_by, readied_at}
-use Rattle.kn_agenda.specs.Due.{IsAfter, IsDone, IsDue, IsDueAt, begun_at, begun_by, created_at, event_of, tag_of}
+use Rattle.kn_agenda.specs.Course.{ended_at, readied_at}
+use Rattle.kn_agenda.specs.Due.{IsAfter, IsDone, IsDue, IsDueAt, begun_at, created_at, event_of, tag_of}
 use Rattle.kn_agenda.proofs.Going.{IsSaidIn, new_time, old_or_new}
 use Rattle.kn_agenda.proofs.Hearing.{holds_rest}
 use Rattle.kn_agenda.proofs.Keeping.{done-more, time-more}

@@ -6,12 +6,11 @@ use Rattle.kn_event.specs.declared.entry.Entry.{Entry}
 use Rattle.kn_event.specs.declared.entry.Row.{Row}
 use Rattle.kn_event.specs.declared.entry.Row.TheVariants as row
 use Rattle.kn_event.specs.declared.revision.Spec.{Spec}
-use Rattle.kn_trace.specs.Rows.{assigned_by, ended_by, run_by, taken_by}
-use Rattle.kn_trace.specs.Trace.{Trace, assigned, contains, each_row, ended, has_run, held, queued_at, waiting}
+use Rattle.kn_event.specs.Lists.{contains}
+use Rattle.kn_trace.specs.Rows.{assigned_by, begun_by, ended_by, expired_by, run_by, taken_by}
+use Rattle.kn_trace.specs.Trace.{Trace, assigned, each_row, ended, has_run, held, queued_at, waiting}
 use Rattle.kn_record.specs.Facts.{Facts}
 use Rattle.kn_record.specs.Made.{IsMade, IsProper}
-use Rattle.kn_agenda.specs.Course.{expired_by}
-use Rattle.kn_agenda.specs.Due.{begun_by}
 use Rattle.kn_agenda.proofs.Going.{IsSaidIn, said_in}
 use Rattle.kn_agenda.proofs.Keeping.{begun_parts}
 use Rattle.kn_agenda.proofs.Passes.{time-some}

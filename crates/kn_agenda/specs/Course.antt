@@ -5,17 +5,12 @@ use Rattle.kn_event.specs.declared.entry.Row.TheVariants as row
 use Rattle.kn_event.specs.declared.event.Act.{Act}
 use Rattle.kn_event.specs.declared.event.Act.TheVariants as act
 use Rattle.kn_event.specs.declared.event.Event.{Event}
-use Rattle.kn_trace.specs.Rows.{ended_by, readied_by}
+use Rattle.kn_trace.specs.Rows.{ended_by, expired_by, readied_by}
 use Rattle.kn_trace.specs.Trace.{Trace}
 use Rattle.kn_agenda.specs.declared.job.Job.{Job}
 use Rattle.kn_agenda.specs.Due.{first_time}
 
 -- ---- when it happened
-
--- the request whose timeout is over
-abbrev pub expired_by : Row → Option ℕ
-expired_by (row.Expire r) = Some r
-expired_by _ = None
 
 abbrev pub ended_at : Trace → ℕ → Option ℕ
 ended_at c r = first_time ended_by c r

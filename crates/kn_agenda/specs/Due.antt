@@ -7,8 +7,9 @@ use Rattle.kn_event.specs.declared.entry.Row.TheVariants as row
 use Rattle.kn_event.specs.declared.event.Act.{Act}
 use Rattle.kn_event.specs.declared.event.Act.TheVariants as act
 use Rattle.kn_event.specs.declared.event.Event.{Event}
-use Rattle.kn_trace.specs.Rows.{created_by, taken_by}
-use Rattle.kn_trace.specs.Trace.{Trace, arrivals, contains, first_of, is_running, starting_pods, waiting}
+use Rattle.kn_event.specs.Lists.{contains}
+use Rattle.kn_trace.specs.Rows.{begun_by, created_by, taken_by}
+use Rattle.kn_trace.specs.Trace.{Trace, arrivals, first_of, is_running, starting_pods, waiting}
 use Rattle.kn_trace.specs.Events.{trace_of}
 use Rattle.kn_record.specs.Rows.{says}
 use Rattle.kn_agenda.specs.declared.item.Item.{Item}
@@ -26,12 +27,6 @@ time_where false e = None
 -- the time of the first entry whose row says this of the number
 unfoldable pub first_time : (Row → Option ℕ) → Trace → ℕ → Option ℕ
 first_time said c n = first_of (filter_map (λ e. time_where (says (said e.row) n) e) c)
-
--- the request that begins to run: one that is assigned, or that runs at the pod that it was sent to
-abbrev pub begun_by : Row → Option ℕ
-begun_by (row.Assign r p) = Some r
-begun_by (row.Run r) = Some r
-begun_by _ = None
 
 abbrev pub begun_at : Trace → ℕ → Option ℕ
 begun_at c r = first_time begun_by c r

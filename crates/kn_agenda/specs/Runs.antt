@@ -2,7 +2,8 @@
 use Rattle.std.specs.Prelude.{◌≡◌, ◌⊎◌, ℕ, ◌+◌, ◌*◌, ◌<◌, ◌≤◌, ◌++◌, false, List, length, slice_get, Some}
 use Rattle.kn_event.specs.declared.event.Event.{Event}
 use Rattle.kn_event.specs.declared.revision.Spec.{Spec}
-use Rattle.kn_trace.specs.Trace.{Trace, arrivals, contains, live, starting_pods, waiting}
+use Rattle.kn_event.specs.Lists.{contains}
+use Rattle.kn_trace.specs.Trace.{Trace, arrivals, live, starting_pods, waiting}
 use Rattle.kn_trace.specs.Events.{react, trace_of}
 use Rattle.kn_laws.specs.ByAct.{IsArrival}
 use Rattle.kn_agenda.specs.declared.item.Item.{Item}

@@ -1,6 +1,7 @@
 //! What comes next of each kind, and of all.
 ghost use Rattle.std.specs.Prelude.{◌≡◌, ℕ, ◌≤◌, ◌<◌, ◌^◌, ◌+◌, List, [], true, false, None, Some, slice_get, length, IfSome};
-ghost use Rattle.kn_trace.specs.Trace.{Trace, arrivals, contains, is_running, waiting};
+ghost use Rattle.kn_event.specs.Lists.{contains};
+ghost use Rattle.kn_trace.specs.Trace.{Trace, arrivals, is_running, waiting};
 ghost use Rattle.kn_core.specs.State.{StandsFor};
 ghost use Rattle.kn_agenda.specs.declared.agenda.Start.{Start as StartValue};
 ghost use Rattle.kn_agenda.specs.declared.job.Job.{Job as JobValue};

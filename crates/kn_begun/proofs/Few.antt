@@ -7,12 +7,12 @@ use Rattle.kn_event.specs.declared.entry.Entry.{Entry}
 use Rattle.kn_event.specs.declared.entry.Row.{Row}
 use Rattle.kn_event.specs.declared.entry.Row.TheVariants as row
 use Rattle.kn_event.specs.declared.revision.Spec.{Spec}
-use Rattle.kn_trace.specs.Rows.{arrived_by, assigned_by, ended_by, run_by, taken_by}
+use Rattle.kn_trace.specs.Rows.{arrived_by, assigned_by, begun_by, ended_by, run_by, taken_by}
 use Rattle.kn_trace.specs.Trace.{Trace, arrivals, assigned, each_row, ended, has_begun, has_not_begun, has_run, waiting}
 use Rattle.kn_record.specs.Facts.{Facts}
 use Rattle.kn_record.specs.Made.{IsMade, IsProper}
 use Rattle.kn_record.specs.Rows.{counted, says}
-use Rattle.kn_lives.specs.Lives.{begun_by, by_row}
+use Rattle.kn_lives.specs.Lives.{by_row}
 use Rattle.kn_begun.specs.Begun.{wait_by, wait_of, waits}
 use Rattle.kn_begun.proofs.InTime.{begins_waiting}
 

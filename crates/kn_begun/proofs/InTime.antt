@@ -11,31 +11,33 @@ use Rattle.kn_event.specs.declared.entry.Row.{Row}
 use Rattle.kn_event.specs.declared.entry.Row.TheVariants as row
 use Rattle.kn_event.specs.declared.event.Event.{Event}
 use Rattle.kn_event.specs.declared.revision.Spec.{Spec}
+use Rattle.kn_event.specs.Lists.{contains}
 use Rattle.kn_trace.specs.Events.{act_rows, activation, before_settling, departures, due, due_by, expiries, losses, react}
-use Rattle.kn_trace.specs.Rows.{admitted_by, assigned_by, brought_to, ended_by, run_by, taken_by}
+use Rattle.kn_trace.specs.Rows.{admitted_by, assigned_by, begun_by, brought_to, ended_by, run_by, taken_by}
 use Rattle.kn_trace.specs.Settling.{settling}
-use Rattle.kn_trace.specs.Trace.{Trace, assigned, contains, each_row, ended, entry, has_begun, has_not_begun, has_run, held, last_of, queued_at}
+use Rattle.kn_trace.specs.Trace.{Trace, assigned, each_row, ended, entry, has_begun, has_not_begun, has_run, held, last_of, queued_at}
+use Rattle.kn_trace.specs.Report.{is_expire}
 use Rattle.kn_record.specs.Facts.{Facts}
 use Rattle.kn_record.specs.Made.{IsMade, IsNumbered, IsProper}
 use Rattle.kn_record.specs.Rows.{moved_by, says}
 use Rattle.kn_laws.specs.Facts.{PartFacts}
-use Rattle.kn_laws.specs.Kinds.{Each, EachAt, is_expire_row}
-use Rattle.kn_lives.specs.Lives.{begun_by, time_of}
-use Rattle.kn_begun.specs.Begun.{BeginInTime, arrival}
+use Rattle.kn_laws.specs.Kinds.{Each, EachAt}
+use Rattle.kn_lives.specs.Lives.{arrived_at, time_of}
+use Rattle.kn_begun.specs.Begun.{BeginInTime}
 
 -- ---- rows in two parts
 
-expire_begins_nobody : (x : Row) (r : ℕ) → is_expire_row x ≡ true → begun_by x ≡ Some r → ⊥
+expire_begins_nobody : (x : Row) (r : ℕ) → is_expire x ≡ true → begun_by x ≡ Some r → ⊥
 expire_begins_nobody (row.Expire q) r h e = cc
 expire_begins_nobody _ r h e = cc
 
 -- a row that begins a request stands behind the expiries
-pub behind : (gone more before rest : Trace) (x : Entry) (r : ℕ) → Each is_expire_row gone → gone ++ more ≡ before ++ x ∷ rest → begun_by x.row ≡ Some r
+pub behind : (gone more before rest : Trace) (x : Entry) (r : ℕ) → Each is_expire gone → gone ++ more ≡ before ++ x ∷ rest → begun_by x.row ≡ Some r
     → (mid : Trace) × (before ≡ gone ++ mid) × (more ≡ mid ++ x ∷ rest)
 behind [] more before rest x r each is begins = (before, refl, is)
 behind (y ∷ ys) more [] rest x r each is begins =
     let same : y ≡ x = cc in
-    absurd (expire_begins_nobody x.row r (ap (λ (z : Entry). is_expire_row z.row) (sym same) ∙ each.0) begins)
+    absurd (expire_begins_nobody x.row r (ap (λ (z : Entry). is_expire z.row) (sym same) ∙ each.0) begins)
 behind (y ∷ ys) more (z ∷ zs) rest x r each is begins =
     let same : y ≡ z = cc in
     let others : ys ++ more ≡ zs ++ x ∷ rest = cc in
@@ -181,7 +183,7 @@ module _ (facts : Facts) where
           ends_here r c (expiries s t c) (ap (λ (l : List ℕ). contains r l) (expire_ends t (due s t c)) ∙ in_filter (has_not_begun c) r (filter_map (due_by s.timeout_ms t) c) h old)
 
   -- who waits had not waited too long
-  not_due : (s : Spec) (t : ℕ) (c : Trace) (r : ℕ) → IsInTime s t c → has_not_begun c r ≡ true → contains r (each_row taken_by c) ≡ true → t < arrival c r + s.timeout_ms
+  not_due : (s : Spec) (t : ℕ) (c : Trace) (r : ℕ) → IsInTime s t c → has_not_begun c r ≡ true → contains r (each_row taken_by c) ≡ true → t < arrived_at c r + s.timeout_ms
   unfolding time_of
   not_due s t c r held waits taken = by (last_of (filter_map (time_by r) c)) refl (nat_le (unwrap_or (last_of (filter_map (time_by r) c)) 0 + s.timeout_ms) t) refl
     where

@@ -10,18 +10,19 @@ use Rattle.std.proofs.lemmas.List.Sums.{sum_by-append, sum_by-cons}
 use Rattle.kn_event.specs.declared.entry.Entry.{Entry}
 use Rattle.kn_event.specs.declared.event.Event.{Event}
 use Rattle.kn_event.specs.declared.revision.Spec.{Spec}
+use Rattle.kn_event.specs.Lists.{contains, or_else}
 use Rattle.kn_trace.specs.Events.{added, opening, react, trace_of}
-use Rattle.kn_trace.specs.Rows.{arrived_by, taken_by}
-use Rattle.kn_trace.specs.Trace.{Trace, arrivals, contains, each_row, ended, has_begun, has_not_begun, last_of, live, waiting}
+use Rattle.kn_trace.specs.Rows.{arrived_by, begun_by, taken_by}
+use Rattle.kn_trace.specs.Trace.{Trace, arrivals, each_row, ended, has_begun, has_not_begun, last_of, live, waiting}
 use Rattle.kn_record.specs.Facts.{Facts}
 use Rattle.kn_record.specs.Made.{AreDistinct, IsMade, IsProper}
-use Rattle.kn_record.specs.Rows.{or_else, says}
+use Rattle.kn_record.specs.Rows.{says}
 use Rattle.kn_record.specs.Views.{others}
 use Rattle.kn_laws.specs.Facts.{PartFacts}
 use Rattle.kn_laws.specs.History.{AreInOrder, GoesOn}
 use Rattle.kn_laws.specs.Kinds.{EachAt}
-use Rattle.kn_lives.specs.Lives.{begun_by, time_of}
-use Rattle.kn_begun.specs.Begun.{arrival, wait_by, waits}
+use Rattle.kn_lives.specs.Lives.{arrived_at, time_of}
+use Rattle.kn_begun.specs.Begun.{wait_by, waits}
 use Rattle.kn_begun.proofs.Few.{AppendsRows, few_began, nobody_taken, still_waits, waits_no_more, waits-push}
 use Rattle.kn_begun.proofs.InTime.{begins_waiting}
 
@@ -31,7 +32,7 @@ opened s start = append-nil (opening s start)
 
 -- how long those who wait have waited at this time
 abbrev over : Trace → ℕ → ℕ
-over c t = sum_by (λ q. t - arrival c q) (waiting c)
+over c t = sum_by (λ q. t - arrived_at c q) (waiting c)
 
 abbrev total : Trace → ℕ → ℕ
 total c t = sum (waits c) + over c t
@@ -102,12 +103,12 @@ time_of-push c x r =
     ap (λ (l : List ℕ). last_of l) (filter_map-append (λ (y : Entry). then_some (says (taken_by y.row) r) y.time) c (x ∷ []))
     ∙ last_of-end (filter_map (λ (y : Entry). then_some (says (taken_by y.row) r) y.time) c) (then_some (says (taken_by x.row) r) x.time)
 
-arrival-same : (c : Trace) (x : Entry) (r : ℕ) → says (taken_by x.row) r ≡ false → arrival (c ++ x ∷ []) r ≡ arrival c r
+arrival-same : (c : Trace) (x : Entry) (r : ℕ) → says (taken_by x.row) r ≡ false → arrived_at (c ++ x ∷ []) r ≡ arrived_at c r
 arrival-same c x r other =
     let same : or_else (then_some (says (taken_by x.row) r) x.time) (time_of taken_by c r) ≡ time_of taken_by c r = rw other refl in
     ap (λ (o : Option ℕ). unwrap_or o 0) (time_of-push c x r ∙ same)
 
-arrival-now : (c : Trace) (x : Entry) (r : ℕ) → taken_by x.row ≡ Some r → arrival (c ++ x ∷ []) r ≡ x.time
+arrival-now : (c : Trace) (x : Entry) (r : ℕ) → taken_by x.row ≡ Some r → arrived_at (c ++ x ∷ []) r ≡ x.time
 arrival-now c x r is =
     let same : or_else (then_some (says (taken_by x.row) r) x.time) (time_of taken_by c r) ≡ Some x.time = rw (is, itself r) refl in
     ap (λ (o : Option ℕ). unwrap_or o 0) (time_of-push c x r ∙ same)
@@ -140,24 +141,24 @@ module _ (append : AppendsRows) (facts : Facts) where
       let nobody = nobody_taken x.row r is in
       let before = filter (has_not_begun c) (each_row taken_by c) in
       let left = view-less taken_by (has_not_begun c) (has_not_begun (c ++ x ∷ [])) c x r nobody (waits_no_more append facts c x r is) in
-      let same = sum_same (λ (q : ℕ). x.time - arrival (c ++ x ∷ []) q) (λ (q : ℕ). x.time - arrival c q) (λ q. ap (λ (n : ℕ). x.time - n) (arrival-same c x q (rw nobody refl))) (others r before) in
-      let out = take_out (λ (q : ℕ). x.time - arrival c q) r before (distinct-filter (has_not_begun c) (each_row taken_by c) (made_kept s c made).requests.once) (in_filter (has_not_begun c) r (each_row taken_by c) w.taken w.waits) in
-      let one : wait_by c x ≡ (x.time - arrival c r) ∷ [] = rw is refl in
+      let same = sum_same (λ (q : ℕ). x.time - arrived_at (c ++ x ∷ []) q) (λ (q : ℕ). x.time - arrived_at c q) (λ q. ap (λ (n : ℕ). x.time - n) (arrival-same c x q (rw nobody refl))) (others r before) in
+      let out = take_out (λ (q : ℕ). x.time - arrived_at c q) r before (distinct-filter (has_not_begun c) (each_row taken_by c) (made_kept s c made).requests.once) (in_filter (has_not_begun c) r (each_row taken_by c) w.taken w.waits) in
+      let one : wait_by c x ≡ (x.time - arrived_at c r) ∷ [] = rw is refl in
       let counted = ap sum (waits-push append c x) ∙ sum_by-append (λ (n : ℕ). n) (waits c) (wait_by c x) ∙ ap (λ (l : List ℕ). sum (waits c) + sum l) one in
-      omega (arith, counted, ap (sum_by (λ (q : ℕ). x.time - arrival (c ++ x ∷ []) q)) left, same, out)
+      omega (arith, counted, ap (sum_by (λ (q : ℕ). x.time - arrived_at (c ++ x ∷ []) q)) left, same, out)
 
   -- any other row lets nobody wait longer
   others_wait : (s : Spec) (c : Trace) (x : Entry) → IsMade s c → IsProper s c x.row → over (c ++ x ∷ []) x.time ≤ over c x.time
   unfolding waiting
   others_wait s c x made proper =
-      let f : ℕ → ℕ = λ q. x.time - arrival (c ++ x ∷ []) q in
+      let f : ℕ → ℕ = λ q. x.time - arrived_at (c ++ x ∷ []) q in
       let u = has_not_begun (c ++ x ∷ []) in
       let rows = filter_map-append (λ (e : Entry). taken_by e.row) c (x ∷ []) in
       let both = ap (filter u) rows ∙ filter-append u (each_row taken_by c) (cons_option (taken_by x.row) []) in
       omega (
         arith,
         ap (sum_by f) both ∙ sum_by-append f (filter u (each_row taken_by c)) (filter u (cons_option (taken_by x.row) [])),
-        sum_less f (λ (q : ℕ). x.time - arrival c q) u (has_not_begun c) (each_row taken_by c) (λ q there passes. (still_waits append facts c x q passes, old q there)),
+        sum_less f (λ (q : ℕ). x.time - arrived_at c q) u (has_not_begun c) (each_row taken_by c) (λ q there passes. (still_waits append facts c x q passes, old q there)),
         new (taken_by x.row) refl,
       )
     where
@@ -168,15 +169,15 @@ module _ (append : AppendsRows) (facts : Facts) where
           let come = taken_comes c q (made_kept s c made).requests there in
           apart r q (arrivals c) next come
 
-      old : (q : ℕ) → contains q (each_row taken_by c) ≡ true → x.time - arrival (c ++ x ∷ []) q ≤ x.time - arrival c q
+      old : (q : ℕ) → contains q (each_row taken_by c) ≡ true → x.time - arrived_at (c ++ x ∷ []) q ≤ x.time - arrived_at c q
       old q there = omega (arith, arrival-same c x q (other q there (taken_by x.row) refl))
 
-      new : (o : Option ℕ) → taken_by x.row ≡ o → sum_by (λ q. x.time - arrival (c ++ x ∷ []) q) (filter (has_not_begun (c ++ x ∷ [])) (cons_option o [])) ≡ 0
+      new : (o : Option ℕ) → taken_by x.row ≡ o → sum_by (λ q. x.time - arrived_at (c ++ x ∷ []) q) (filter (has_not_begun (c ++ x ∷ [])) (cons_option o [])) ≡ 0
       new None is = refl
       new (Some r) is = by (has_not_begun (c ++ x ∷ []) r)
         where
-          by : (b : Bool) → sum_by (λ q. x.time - arrival (c ++ x ∷ []) q) (cond b (r ∷ []) []) ≡ 0
-          by true = omega (arith, sum_by-cons (λ (q : ℕ). x.time - arrival (c ++ x ∷ []) q) r [], arrival-now c x r is)
+          by : (b : Bool) → sum_by (λ q. x.time - arrived_at (c ++ x ∷ []) q) (cond b (r ∷ []) []) ≡ 0
+          by true = omega (arith, sum_by-cons (λ (q : ℕ). x.time - arrived_at (c ++ x ∷ []) q) r [], arrival-now c x r is)
           by false = refl
 
   one_row : (s : Spec) (c : Trace) (x : Entry) → IsMade s c → IsProper s c x.row → total (c ++ x ∷ []) x.time ≤ total c x.time
@@ -217,7 +218,7 @@ module _ (append : AppendsRows) (facts : Facts) where
         omega (
           arith,
           rows s e.time c (react s c e) (made_react s c e made) (react-at s c e),
-          sum_grows (arrival c) t e.time order (waiting c),
+          sum_grows (arrived_at c) t e.time order (waiting c),
           mul-le-mul_right (e.time - t) (let all : length (waiting c) ≤ 20000 = omega (arith, few_wait c, few) in all),
         )
 
@@ -226,7 +227,7 @@ module _ (append : AppendsRows) (facts : Facts) where
     beginning s start t few =
         let none : waits (opening s start) ≡ [] = nothing (waits (opening s start)) (omega (arith, few, ap length (opening_none arrived_by (λ p n. refl) (λ x. refl) s start))) in
         let nobody : filter (has_not_begun (opening s start)) (each_row taken_by (opening s start)) ≡ [] = rw (opening_none taken_by (λ p n. refl) (λ x. refl) s start) refl in
-        omega (arith, ap sum none, ap (sum_by (λ (q : ℕ). t - arrival (opening s start) q)) nobody)
+        omega (arith, ap sum none, ap (sum_by (λ (q : ℕ). t - arrived_at (opening s start) q)) nobody)
       where
         nothing : (ws : List ℕ) → length ws ≤ 0 → ws ≡ []
         nothing [] h = refl

@@ -4,17 +4,13 @@ use Rattle.kn_event.specs.declared.entry.Entry.{Entry}
 use Rattle.kn_event.specs.declared.event.Event.{Event}
 use Rattle.kn_event.specs.declared.revision.Spec.{Spec}
 use Rattle.kn_trace.specs.Events.{react}
-use Rattle.kn_trace.specs.Rows.{taken_by}
+use Rattle.kn_trace.specs.Rows.{begun_by, taken_by}
 use Rattle.kn_trace.specs.Trace.{Trace}
-use Rattle.kn_lives.specs.Lives.{begun_by, by_row, time_of}
-
--- when request r was taken in
-abbrev pub arrival : Trace → ℕ → ℕ
-arrival c r = unwrap_or (time_of taken_by c r) 0
+use Rattle.kn_lives.specs.Lives.{arrived_at, by_row, time_of}
 
 abbrev pub wait_of : Option ℕ → Trace → ℕ → List ℕ
 wait_of None c t = []
-wait_of (Some r) c t = (t - arrival c r) ∷ []
+wait_of (Some r) c t = (t - arrived_at c r) ∷ []
 
 -- how long a request had waited that begins to run with the entry
 abbrev pub wait_by : Trace → Entry → List ℕ
@@ -27,4 +23,4 @@ waits c = by_row wait_by [] c
 -- who begins to run at an event had waited less than the timeout
 abbrev pub BeginInTime : Spec → Trace → Event → Type 0
 BeginInTime s c e = (before rest : Trace) (x : Entry) (r : ℕ) → react s c e ≡ before ++ x ∷ rest → begun_by x.row ≡ Some r
-    → x.time < arrival (c ++ before) r + s.timeout_ms
+    → x.time < arrived_at (c ++ before) r + s.timeout_ms

@@ -4,7 +4,7 @@ use Rattle.std.specs.Prelude.{Option, None, Some, is_none, ◌==◌}
 use Rattle.std.specs.List.{cons_option, find}
 use Rattle.std.specs.Option.{option_and_then}
 use Rattle.std.proofs.lemmas.Bool.{eqb-true, eq-eqb, false_from_ne_true, or_cases, or_parts, or_right}
-use Rattle.kn_trace.specs.Trace.{contains}
+use Rattle.kn_event.specs.Lists.{contains}
 use Rattle.kn_record.specs.Made.{AreDistinct}
 use Rattle.kn_record.specs.Rows.{says}
 use Rattle.kn_book.specs.declared.book.Holding.{Holding}

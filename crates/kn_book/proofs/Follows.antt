@@ -7,8 +7,9 @@ use Rattle.kn_event.specs.declared.entry.Entry.{Entry}
 use Rattle.kn_event.specs.declared.entry.Row.{Row}
 use Rattle.kn_event.specs.declared.entry.Row.TheVariants as row
 use Rattle.kn_event.specs.declared.revision.Spec.{Spec}
+use Rattle.kn_event.specs.Lists.{contains}
 use Rattle.kn_trace.specs.Rows.{created_by}
-use Rattle.kn_trace.specs.Trace.{Trace, contains, created, live_pods}
+use Rattle.kn_trace.specs.Trace.{Trace, created, live_pods}
 use Rattle.kn_record.specs.declared.admission.Pod.{Pod}
 use Rattle.kn_record.specs.declared.admission.Readiness.{Readiness}
 use Rattle.kn_record.specs.Admission.{Admission, admission, drained, pods_after, readied, stepped, with_limit, with_readiness}

@@ -8,8 +8,9 @@ use Rattle.kn_event.specs.declared.entry.Entry.{Entry}
 use Rattle.kn_event.specs.declared.entry.Row.{Row}
 use Rattle.kn_event.specs.declared.entry.Row.TheVariants as row
 use Rattle.kn_event.specs.declared.revision.Spec.{Spec}
+use Rattle.kn_event.specs.Lists.{contains}
 use Rattle.kn_trace.specs.Rows.{created_by, gone_by}
-use Rattle.kn_trace.specs.Trace.{Trace, contains, each_row, live_pods}
+use Rattle.kn_trace.specs.Trace.{Trace, each_row, live_pods}
 use Rattle.kn_record.specs.Facts.{Facts}
 use Rattle.kn_record.specs.Made.{IsMade, IsProper}
 use Rattle.kn_record.specs.Rows.{says}

@@ -18,15 +18,16 @@ use Rattle.kn_event.specs.declared.revision.Spec.{Spec}
 use Rattle.kn_trace.specs.Events.{act_row, act_rows, activation, before_settling, departures, entries_of, opening, react, scaler_rows}
 use Rattle.kn_trace.specs.Laws.{IsSettled}
 use Rattle.kn_trace.specs.Rows.{created_by, gone_by}
-use Rattle.kn_trace.specs.Scale.{is_same_phase, phase_of, where_true}
+use Rattle.kn_trace.specs.Scale.{is_in_phase, phase_of, where_true}
 use Rattle.kn_trace.specs.Settling.{held_assignments, promotions, removals, settling}
 use Rattle.kn_trace.specs.Trace.{Trace, each_row, entry, held, is_empty, live_pods, ready_pods}
+use Rattle.kn_trace.specs.Report.{is_assign}
 use Rattle.kn_record.specs.Facts.{Facts}
 use Rattle.kn_record.specs.Made.{Holds, IsMade, IsProper}
 use Rattle.kn_laws.specs.Facts.{PartFacts}
-use Rattle.kn_laws.specs.Kinds.{IsActRow, is_act_row, is_assign_row, is_departure_row, is_remove_row, is_run_row, is_scaler_row}
+use Rattle.kn_laws.specs.Kinds.{IsActRow, is_act_row, is_departure_row, is_remove_row, is_run_row, is_scaler_row}
 use Rattle.kn_book.specs.Book.{Book, book_of, pods_in}
-use Rattle.kn_book.specs.State.{BookState, HasRoom, StandsFor, state_of}
+use Rattle.kn_book.specs.State.{BookState, HasRoom, IsBookOf, state_of}
 use Rattle.kn_book.proofs.Follows.{Views, live_pods-push, pods_by}
 use Rattle.kn_book.proofs.Lawful.{has_live_pods}
 
@@ -54,7 +55,7 @@ run_creates : (x : Row) → is_run_row x ≡ true → created_by x ≡ None
 run_creates (row.Create p n) h = absurd (cc)
 run_creates _ h = refl
 
-assign_creates : (x : Row) → is_assign_row x ≡ true → created_by x ≡ None
+assign_creates : (x : Row) → is_assign x ≡ true → created_by x ≡ None
 assign_creates (row.Create p n) h = absurd (cc)
 assign_creates _ h = refl
 
@@ -64,7 +65,7 @@ remove_creates _ h = refl
 
 activation_creates : (t : ℕ) (c : Trace) → each_row created_by (activation t c) ≡ []
 unfolding activation
-activation_creates t c = by (is_same_phase phase.Activating (phase_of c) && not (is_empty (ready_pods c)))
+activation_creates t c = by (is_in_phase phase.Activating (phase_of c) && not (is_empty (ready_pods c)))
   where
     by : (b : Bool) → each_row created_by (where_true b (entry t (row.Phase phase.Active) ∷ [])) ≡ []
     by true = refl
@@ -97,7 +98,7 @@ grown_by (row.Remove p) ps h = absurd (cc)
 grown_by (row.LostPod p) ps h = absurd (cc)
 grown_by _ ps h = omega arith
 
-pub length-holdings : (state : BookState) (c : Trace) → StandsFor state c → length (pods_in (book_of state.addresses c)) ≡ length (live_pods c) → length state.holdings ≤ length (live_pods c)
+pub length-holdings : (state : BookState) (c : Trace) → IsBookOf state c → length (pods_in (book_of state.addresses c)) ≡ length (live_pods c) → length state.holdings ≤ length (live_pods c)
 unfolding state_of
 length-holdings state c e many = by (state.addresses == 0) (ap (λ (x : BookState). x.holdings) e)
   where
@@ -142,7 +143,7 @@ module _ (facts : Facts) (parts : PartFacts) (views : Views) where
         rows-append created_by (ran ++ gave) (removals t ((c ++ ran) ++ gave)),
         rows-append created_by ran gave,
         none-rows created_by is_run_row run_creates ran (promotions-rows t c (live_pods c)),
-        none-rows created_by is_assign_row assign_creates gave (assignments-rows s t (c ++ ran) (held (c ++ ran))),
+        none-rows created_by is_assign assign_creates gave (assignments-rows s t (c ++ ran) (held (c ++ ran))),
         none-rows created_by is_remove_row remove_creates (removals t ((c ++ ran) ++ gave)) (removals-rows t ((c ++ ran) ++ gave)),
       )
       refl
@@ -222,7 +223,7 @@ module _ (facts : Facts) (parts : PartFacts) (views : Views) where
       let none = nobody_lives in
       omega arith
 
-  pub few_holdings : (s : Spec) (c : Trace) (e : Event) (b : BookState) → IsMade s c → StandsFor b c → length (live_pods c) + length (each_row created_by (react s c e)) ≤ 20500 → length b.holdings + length (each_row created_by (react s c e)) ≤ 20500
+  pub few_holdings : (s : Spec) (c : Trace) (e : Event) (b : BookState) → IsMade s c → IsBookOf b c → length (live_pods c) + length (each_row created_by (react s c e)) ≤ 20500 → length b.holdings + length (each_row created_by (react s c e)) ≤ 20500
   few_holdings s c e b made stands few =
       let most = length-holdings b c stands (ap (λ (l : List ℕ). length l) (has_live_pods facts views s b.addresses c made)) in
       omega arith

@@ -5,8 +5,8 @@ use Rattle.std.proofs.lemmas.Bool.{eqb-true, eq-eqb, false_from_ne_true, or_part
 use Rattle.std.proofs.lemmas.List.Folds.{list_any-append}
 use Rattle.kn_event.specs.declared.entry.Row.{Row}
 use Rattle.kn_event.specs.declared.entry.Row.TheVariants as row
+use Rattle.kn_event.specs.Lists.{contains}
 use Rattle.kn_trace.specs.Rows.{created_by}
-use Rattle.kn_trace.specs.Trace.{contains}
 use Rattle.kn_record.specs.Facts.{Facts}
 use Rattle.kn_record.specs.Made.{AreDistinct}
 use Rattle.kn_book.specs.Book.{Book, address_in, given, given_where, least_free, noted, pods_in, shared_out, taken, with_pod, without_pod}

@@ -12,10 +12,10 @@ use Rattle.kn_trace.specs.Trace.{Trace, each_row}
 use Rattle.kn_record.specs.Rows.{counted}
 use Rattle.kn_book.specs.declared.book.Holding.{Holding}
 use Rattle.kn_book.specs.Book.{Book, address_in, address_of, book_of, given, given_where, least_free, noted, noted_all, shared_out, waits, with_pod, without_pod}
-use Rattle.kn_book.specs.State.{BookState, StandsFor, address_at, after, state_of}
+use Rattle.kn_book.specs.State.{BookState, IsBookOf, address_at, after, state_of}
 use Rattle.kn_book.proofs.Lawful.{book-append}
 
-pub address-trace : (state : BookState) (c : Trace) (p : ℕ) → StandsFor state c → address_at state p ≡ address_of state.addresses c p
+pub address-trace : (state : BookState) (c : Trace) (p : ℕ) → IsBookOf state c → address_at state p ≡ address_of state.addresses c p
 unfolding address_at address_of state_of
 address-trace state c p e = by (state.addresses == 0) (ap (λ (x : BookState). x.holdings) e)
   where
@@ -24,18 +24,18 @@ address-trace state c p e = by (state.addresses == 0) (ap (λ (x : BookState). x
     by false e = ap (λ (b : Book). address_in b p) e
 
 -- what is kept says it: by the pod's number, and by its holding
-pub address-zero : (state : BookState) (c : Trace) (p : ℕ) → StandsFor state c → state.addresses ≡ 0 → Some p ≡ address_of state.addresses c p
+pub address-zero : (state : BookState) (c : Trace) (p : ℕ) → IsBookOf state c → state.addresses ≡ 0 → Some p ≡ address_of state.addresses c p
 unfolding address_of
 address-zero state c p stands e = rw e refl
 
-pub address-found : (state : BookState) (c : Trace) (p : ℕ) (found : Option Holding) → StandsFor state c → state.addresses ≢ 0 → found ≡ find (λ (h : Holding). h.pod == p) state.holdings
+pub address-found : (state : BookState) (c : Trace) (p : ℕ) (found : Option Holding) → IsBookOf state c → state.addresses ≢ 0 → found ≡ find (λ (h : Holding). h.pod == p) state.holdings
     → option_and_then (λ (h : Holding). h.address) found ≡ address_of state.addresses c p
 unfolding address_at
 address-found state c p found stands some e =
     ap (λ (o : Option Holding). option_and_then (λ (h : Holding). h.address) o) e
     ∙ rw (false_from_ne_true (state.addresses == 0) (λ z. some (eqb-true state.addresses 0 z))) at (address-trace state c p stands)
 
-pub after-stands : (state : BookState) (c es : Trace) → StandsFor state c → after state es ≡ state_of state.addresses (c ++ es)
+pub after-stands : (state : BookState) (c es : Trace) → IsBookOf state c → after state es ≡ state_of state.addresses (c ++ es)
 unfolding after state_of
 after-stands state c es e = ap (λ (b : Book). record state { holdings = b }) (by (state.addresses == 0) (ap (λ (x : BookState). x.holdings) e))
   where

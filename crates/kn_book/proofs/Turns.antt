@@ -3,7 +3,7 @@ use Rattle.std.proofs.Common.{◌≡◌, ℕ, suc, ◌<◌, Bool, true, false, �
 use Rattle.std.specs.Prelude.{Option, None, Some, ◌==◌, ⊤}
 use Rattle.std.specs.List.{AllPairs}
 use Rattle.std.proofs.lemmas.Bool.{eqb-true, or_cases}
-use Rattle.kn_trace.specs.Trace.{contains}
+use Rattle.kn_event.specs.Lists.{contains}
 use Rattle.kn_record.specs.declared.admission.Pod.{Pod}
 use Rattle.kn_record.specs.Views.{pod_numbers}
 use Rattle.kn_book.specs.Book.{Book, address_in, pods_in, taken}

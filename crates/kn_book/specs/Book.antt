@@ -5,7 +5,8 @@ use Rattle.std.specs.Option.{option_and_then}
 use Rattle.kn_event.specs.declared.entry.Entry.{Entry}
 use Rattle.kn_event.specs.declared.entry.Row.{Row}
 use Rattle.kn_event.specs.declared.entry.Row.TheVariants as row
-use Rattle.kn_trace.specs.Trace.{Trace, contains, first_of, starting_pods}
+use Rattle.kn_event.specs.Lists.{contains}
+use Rattle.kn_trace.specs.Trace.{Trace, first_of, starting_pods}
 use Rattle.kn_book.specs.declared.book.Holding.{Holding}
 
 -- the live pods, in the order in which they were created, each with its address; one without waits for an address

@@ -2,8 +2,9 @@
 use Rattle.std.specs.Prelude.{◌≡◌, ◌≢◌, ◌<◌, ◌≤◌, ◌++◌, ℕ, true, false, [], ◌∷◌, length, Option, None, Some, IsSome}
 use Rattle.std.specs.Option.{option_and_then}
 use Rattle.kn_event.specs.declared.entry.Entry.{Entry}
+use Rattle.kn_event.specs.Lists.{contains}
 use Rattle.kn_trace.specs.Rows.{created_by}
-use Rattle.kn_trace.specs.Trace.{Trace, contains, live_pods, next_starting}
+use Rattle.kn_trace.specs.Trace.{Trace, live_pods, next_starting}
 use Rattle.kn_book.specs.Book.{address_of, addressed, next_to_probe}
 
 abbrev pub IsLive : Trace → ℕ → Type 0

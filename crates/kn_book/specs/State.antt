@@ -17,8 +17,8 @@ pub record BookState : Type 0 where
 unfoldable pub state_of : ℕ → Trace → BookState
 state_of n c = record { addresses = n; holdings = if n == 0 then [] else book_of n c }
 
-abbrev pub StandsFor : BookState → Trace → Type 0
-StandsFor state c = state ≡ state_of state.addresses c
+abbrev pub IsBookOf : BookState → Trace → Type 0
+IsBookOf state c = state ≡ state_of state.addresses c
 
 -- the pods that it has, and those that the entries create, are as many at most as may live
 abbrev pub HasRoom : BookState → List Entry → Type 0
@@ -26,7 +26,7 @@ HasRoom state es = state.addresses ≢ 0 → length state.holdings + length (eac
 
 -- wherever a book stands for the trace it has room for one event more
 abbrev pub HasRoomNext : Spec → Trace → Type 0
-HasRoomNext s c = (state : BookState) (e : Event) → StandsFor state c → HasRoom state (react s c e)
+HasRoomNext s c = (state : BookState) (e : Event) → IsBookOf state c → HasRoom state (react s c e)
 
 -- after these entries
 unfoldable pub after : BookState → List Entry → BookState

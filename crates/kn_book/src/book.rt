@@ -1,11 +1,12 @@
 //! The addresses of the live pods, kept row by row.
 ghost use Rattle.std.specs.Prelude.{◌≡◌, ◌≢◌, ◌↔◌, ◌+◌, ◌<◌, ◌≤◌, ◌++◌, [], length, IsTrue, find, position, ◌==◌, IfOk};
+ghost use Rattle.kn_event.specs.Lists.{contains};
 ghost use Rattle.kn_trace.specs.Rows.{created_by};
-ghost use Rattle.kn_trace.specs.Trace.{Trace, contains, each_row};
+ghost use Rattle.kn_trace.specs.Trace.{Trace, each_row};
 ghost use Rattle.kn_record.specs.Rows.{counted};
 ghost use Rattle.kn_book.specs.declared.book.Holding.{Holding};
 ghost use Rattle.kn_book.specs.Book.{address_of, call_address, least_free, noted, shared_out, taken, waits, with_pod, without_pod};
-ghost use Rattle.kn_book.specs.State.{HasRoom, StandsFor, address_at, after, state_of};
+ghost use Rattle.kn_book.specs.State.{HasRoom, IsBookOf, address_at, after, state_of};
 
 use kn_event::{Entry, Memory, Row};
 use std::alloc::Global;
@@ -180,7 +181,7 @@ impl Book {
         requires room { HasRoom self.old entries.now }
         ensures after { self.new ≡ after self.old entries.now }
         ensures addresses { self.new.addresses ≡ self.old.addresses }
-        ensures stands { (c : Trace) → StandsFor self.old c → StandsFor self.new (c ++ entries.now) }
+        ensures stands { (c : Trace) → IsBookOf self.old c → IsBookOf self.new (c ++ entries.now) }
     {
         if self.addresses == 0 {
             return;
@@ -201,7 +202,7 @@ impl Book {
     #[tactic(auto, unfolding(crate::specs::State::address_at))]
     pub fn address(&self, pod: u64) -> Option<u64>
         ensures value { result ≡ address_at self.now pod }
-        ensures trace { (c : Trace) → StandsFor self.now c → result ≡ address_of self.now.addresses c pod }
+        ensures trace { (c : Trace) → IsBookOf self.now c → result ≡ address_of self.now.addresses c pod }
     {
         if self.addresses == 0 {
             return Some(pod);
@@ -213,7 +214,7 @@ impl Book {
     /// Whom a call of the pod reaches: its address, or the number of addresses, at which there is nobody.
     #[tactic(auto, unfolding(crate::specs::Book::call_address))]
     pub fn call_address(&self, pod: u64) -> u64
-        ensures { (c : Trace) → StandsFor self.now c → result ≡ call_address self.now.addresses c pod }
+        ensures { (c : Trace) → IsBookOf self.now c → result ≡ call_address self.now.addresses c pod }
     {
         self.address(pod).unwrap_or(self.addresses)
     }

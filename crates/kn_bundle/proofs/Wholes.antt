@@ -11,14 +11,13 @@ use Rattle.kn_journal.specs.declared.journal.Journal.{Journal}
 use Rattle.kn_journal.specs.declared.status.Status.{Status}
 use Rattle.kn_journal.specs.declared.status.Status.TheVariants as status
 use Rattle.kn_journal.specs.Bundle.{first_of_part}
-use Rattle.kn_journal.specs.Causes.{Cause, error_of, no_end}
+use Rattle.kn_journal.specs.Causes.{Cause, IsGoodSoFar, error_of, no_end}
 use Rattle.kn_journal.specs.Lines.{lines}
-use Rattle.kn_journal.specs.Reading.{IsOver, TakesPart, most_taken}
+use Rattle.kn_journal.specs.Reading.{EndsThere, IsOver, TakesPart, most_taken}
 use Rattle.kn_journal.specs.Telling.{Gives, Refuses}
 use Rattle.kn_journal.specs.Texts.{TextLaws}
 use Rattle.kn_follow.specs.Account.{Account}
-use Rattle.kn_follow.specs.Endings.{EndsThere, IsReplayed, status_of}
-use Rattle.kn_follow.specs.Following.{IsGoodSoFar}
+use Rattle.kn_follow.specs.Endings.{IsReplayed, status_of}
 use Rattle.kn_follow.specs.Laws.{EndingLaws}
 use Rattle.kn_report.specs.AddingLaws.{AddingLaws}
 use Rattle.kn_bundle.specs.Bundle.{Bundle, bundle, bundle_of_lines, bundle_by, bundle_on, journal_in, no_journal, stopped, with_journals}

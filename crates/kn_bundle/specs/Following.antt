@@ -5,12 +5,11 @@ use Rattle.kn_journal.specs.declared.error.JournalError.TheVariants as error
 use Rattle.kn_journal.specs.declared.journal.Journal.{Journal}
 use Rattle.kn_journal.specs.declared.status.Status.{Status}
 use Rattle.kn_journal.specs.declared.status.Status.TheVariants as status
-use Rattle.kn_journal.specs.Causes.{Cause, error_of}
+use Rattle.kn_journal.specs.Causes.{Cause, IsGoodSoFar, error_of}
 use Rattle.kn_journal.specs.Lines.{lines}
 use Rattle.kn_journal.specs.Reading.{AreWhole, TakesPart, most_taken}
 use Rattle.kn_follow.specs.Account.{Account}
 use Rattle.kn_follow.specs.Endings.{Writes, status_of}
-use Rattle.kn_follow.specs.Following.{IsGoodSoFar}
 use Rattle.kn_bundle.specs.Bundle.{Bundle, bundle, bundle_of_lines}
 
 -- ---- of a bundle

@@ -1,9 +1,9 @@
 //! A bundle that is read from its first byte to its last.
 ghost use Rattle.std.specs.Prelude.{◌≡◌, ◌≢◌, ◌⊎◌, ◌+◌, ◌-◌, ◌≤◌, None, nat_lt};
 ghost use Rattle.kn_io.specs.Causes.{Rose};
-ghost use Rattle.kn_journal.specs.Reading.{most_taken};
+ghost use Rattle.kn_journal.specs.Reading.{EndsThere, most_taken};
 ghost use Rattle.kn_follow.specs.Account.{account_of};
-ghost use Rattle.kn_follow.specs.Endings.{EndsThere, IsReplayed};
+ghost use Rattle.kn_follow.specs.Endings.{IsReplayed};
 ghost use Rattle.kn_bundle.specs.Following.{FollowsBundle, end_by};
 
 use crate::journal::read_journal;

@@ -16,7 +16,7 @@ use Rattle.kn_trace.specs.Rows.{created_by}
 use Rattle.kn_trace.specs.Trace.{Trace, each_row}
 use Rattle.kn_record.specs.Made.{IsMade}
 use Rattle.kn_laws.specs.History.{History, IsMadeBy}
-use Rattle.kn_book.specs.State.{BookState, HasRoom, HasRoomNext, StandsFor as IsBookOf, state_of}
+use Rattle.kn_book.specs.State.{BookState, HasRoom, HasRoomNext, IsBookOf, state_of}
 use Rattle.kn_core.specs.State.{RevisionState, StandsFor, StandsForSome}
 use Rattle.kn_cell.specs.Books.{HasBook, IsBookFor, IsOpenedBy}
 

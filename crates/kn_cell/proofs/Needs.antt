@@ -8,8 +8,9 @@ use Rattle.kn_event.specs.declared.event.Act.TheVariants as act
 use Rattle.kn_event.specs.declared.event.Stand.{Stand}
 use Rattle.kn_event.specs.declared.event.Stand.TheVariants as stand
 use Rattle.kn_event.specs.declared.revision.Spec.{Spec}
+use Rattle.kn_event.specs.Lists.{contains}
 use Rattle.kn_trace.specs.Events.{need_of}
-use Rattle.kn_trace.specs.Trace.{Trace, contains, is_running, stand_of, waiting}
+use Rattle.kn_trace.specs.Trace.{Trace, is_running, stand_of, waiting}
 use Rattle.kn_record.specs.Made.{IsMade}
 use Rattle.kn_laws.specs.History.{IsMadeBy}
 use Rattle.kn_sizes.specs.Course.{IsToldByStand, runs_by, waits_by}

@@ -5,18 +5,19 @@ use mathlib.Core.Path.{ap₂}
 use Rattle.atomic_table.specs.Table.{Me, rest}
 use Rattle.kn_event.specs.declared.event.Act.{Act}
 use Rattle.kn_event.specs.declared.event.Told.{Told}
-use Rattle.kn_book.specs.State.{StandsFor as IsBookOf}
+use Rattle.kn_book.specs.State.{IsBookOf}
 use Rattle.kn_core.specs.State.{StandsFor}
 use Rattle.kn_figures.specs.declared.figures.Figures.{Figures}
 use Rattle.kn_figures.specs.Figures.{IsFiguresOf}
 use Rattle.kn_figures.specs.Tallies.{IsTallyOf}
 use Rattle.kn_trace.specs.Events.{react, told_of, need_of}
 use Rattle.kn_trace.specs.Trace.{Trace}
+use Rattle.kn_core.specs.Gauges.{count_live}
 use Rattle.kn_cell.specs.declared.past.Past.{Past}
 use Rattle.kn_cell.specs.declared.past.Full.{Full}
 use Rattle.kn_cell.specs.declared.view.View.{View}
 use Rattle.kn_cell.specs.Counted.{AreFiguresAt}
-use Rattle.kn_cell.specs.History.{made_by, trace_after, clock_after, live_of, room_for, IsInBounds, IsLegal, past}
+use Rattle.kn_cell.specs.History.{made_by, trace_after, clock_after, room_for, IsInBounds, IsLegal, past}
 use Rattle.kn_cell.specs.State.{DeskState}
 use Rattle.kn_cell.specs.Desk.{Applies, Refuses, event_at, time_at, left_at}
 use Rattle.kn_cell.specs.Views.{opening, IsBounded}
@@ -79,7 +80,7 @@ pub record GoesOn (v : View) (act : Act) (time : ℕ) (told : Told) (y : DeskSta
   pub goes : GoesWith v.key (v.seen ++ row_of v act time told ∷ []) y
   pub gone : v.gone ≡ y.taken
   pub bounds : IsInBounds (row_of v act time told).event
-  pub need : (c : Trace) → StandsFor (opening v.key) c → need_of (trace_of v c) act ≤ room_of v (live_of (trace_of v c))
+  pub need : (c : Trace) → StandsFor (opening v.key) c → need_of (trace_of v c) act ≤ room_of v (count_live (trace_of v c))
 
 pub applied : (v : View) (x : DeskState) (act : Act) (time : ℕ) (told : Told) (y : DeskState) → IsBounded v.key → GoesWith v.key v.seen x → v.gone ≡ x.taken
     → IsLegal (opening v.key) v.seen → Applies x v.number act time told y → GoesOn v act time told y
@@ -131,7 +132,7 @@ applied v x act time told y bounded goes gone legal a =
       };
       gone = gone ∙ sym a.taken;
       bounds = subst (λ k. IsInBounds (event_at k time act)) goes.clock a.bounds;
-      need = λ c s. subst (λ n. need_of (trace_of v c) act ≤ n) (left_is v x (live_of (trace_of v c)) bounded goes gone) (a.need (trace_of v c) (goes.stands c s));
+      need = λ c s. subst (λ n. need_of (trace_of v c) act ≤ n) (left_is v x (count_live (trace_of v c)) bounded goes gone) (a.need (trace_of v c) (goes.stands c s));
     }
 
 pub refused : (v : View) (x : DeskState) (act : Act) (full : Full) → IsBounded v.key → GoesWith v.key v.seen x → v.gone ≡ x.taken → Refuses x act full
@@ -143,7 +144,7 @@ refused v x act full bounded goes gone r =
       room = r.room ∙ goes.room;
       used = omega arith;
       live = λ c s. r.live (trace_of v c) (goes.stands c s);
-      short = λ c s. subst (λ n. n < need_of (trace_of v c) act) (left_is v x (live_of (trace_of v c)) bounded goes gone) (r.short (trace_of v c) (goes.stands c s));
+      short = λ c s. subst (λ n. n < need_of (trace_of v c) act) (left_is v x (count_live (trace_of v c)) bounded goes gone) (r.short (trace_of v c) (goes.stands c s));
     }
 
 -- the seat after the row was counted

@@ -4,7 +4,7 @@ use Rattle.kn_event.specs.Revision.{AreInRange}
 use Rattle.kn_event.specs.declared.entry.Entry.{Entry}
 use Rattle.kn_trace.specs.Events.{opening}
 use Rattle.kn_trace.specs.Trace.{Trace}
-use Rattle.kn_book.specs.State.{BookState, StandsFor as IsBookOf}
+use Rattle.kn_book.specs.State.{BookState, IsBookOf}
 use Rattle.kn_core.specs.State.{RevisionState, StandsFor}
 
 -- the revision has taken no event yet, and these are the entries that it opened with

@@ -5,11 +5,12 @@ use Rattle.kn_event.specs.declared.event.Event.{Event}
 use Rattle.kn_event.specs.declared.event.Told.{Told}
 use Rattle.kn_trace.specs.Events.{react, told_of, need_of}
 use Rattle.kn_trace.specs.Trace.{Trace}
-use Rattle.kn_book.specs.State.{StandsFor as IsBookOf}
+use Rattle.kn_book.specs.State.{IsBookOf}
 use Rattle.kn_core.specs.State.{StandsFor}
+use Rattle.kn_core.specs.Gauges.{count_live}
 use Rattle.kn_figures.specs.Tallies.{IsTallyOf}
 use Rattle.kn_cell.specs.declared.past.Full.{Full}
-use Rattle.kn_cell.specs.History.{past, live_of, IsInBounds}
+use Rattle.kn_cell.specs.History.{past, IsInBounds}
 use Rattle.kn_cell.specs.State.{DeskState, live_in}
 
 -- the least time that is not below `time` and the clock, or 2^42
@@ -42,7 +43,7 @@ pub record Applies (old : DeskState) (pass : ℕ) (act : Act) (time : ℕ) (told
   pub events : new.revision.events ≡ old.revision.events + 1
   pub answer : (c : Trace) → StandsFor old.revision c → told ≡ told_of old.revision.spec c (event_at old.revision.clock time act)
   pub stands : (c : Trace) → StandsFor old.revision c → StandsFor new.revision (c ++ react old.revision.spec c (event_at old.revision.clock time act))
-  pub need : (c : Trace) → StandsFor old.revision c → need_of c act ≤ left_at old (live_of c)
+  pub need : (c : Trace) → StandsFor old.revision c → need_of c act ≤ left_at old (count_live c)
   pub addresses : new.book.addresses ≡ old.book.addresses
   pub book : (c : Trace) → StandsFor old.revision c → IsBookOf old.book c
       → IsBookOf new.book (c ++ react old.revision.spec c (event_at old.revision.clock time act))
@@ -53,5 +54,5 @@ pub record Applies (old : DeskState) (pass : ℕ) (act : Act) (time : ℕ) (told
 pub record Refuses (old : DeskState) (act : Act) (full : Full) : Type 0 where
   pub room : full.room ≡ old.room
   pub used : full.used ≡ length old.history
-  pub live : (c : Trace) → StandsFor old.revision c → full.live ≡ live_of c
-  pub short : (c : Trace) → StandsFor old.revision c → left_at old (live_of c) < need_of c act
+  pub live : (c : Trace) → StandsFor old.revision c → full.live ≡ count_live c
+  pub short : (c : Trace) → StandsFor old.revision c → left_at old (count_live c) < need_of c act

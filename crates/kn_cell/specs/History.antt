@@ -41,10 +41,6 @@ IsLegal b h = (c : Trace) → StandsFor b c → IsLegalFrom b.spec b.clock c h
 abbrev pub rows_by : ℕ → List Past → List Past
 rows_by n h = filter (λ p. p.pass == n) h
 
--- how many requests are live
-abbrev pub live_of : Trace → ℕ
-live_of c = length (live c)
-
 -- How many rows there is room for: `room` less the rows that were not taken out, `gone` of `total`, and less the live requests, each of which
 -- may still end. Where rows may be taken out there are 2^53 at most in all
 abbrev pub room_for : Bool → ℕ → ℕ → ℕ → ℕ → ℕ

@@ -3,7 +3,7 @@ use Rattle.std.specs.Prelude.{ℕ, ◌≡◌, ◌≢◌, ◌⊎◌, ◌≤◌, �
 use mathlib.Core.Option.{Option, none, some}
 use lib.ListN.{get_elem?}
 use Rattle.atomic_table.specs.Table.{State, Me, Step}
-use Rattle.kn_book.specs.State.{StandsFor as IsBookOf}
+use Rattle.kn_book.specs.State.{IsBookOf}
 use Rattle.kn_core.specs.State.{StandsFor}
 use Rattle.kn_figures.specs.Tallies.{IsTallyOf}
 use Rattle.kn_trace.specs.Trace.{Trace}

@@ -11,6 +11,7 @@ use Rattle.kn_core.specs.State.{RevisionState, StandsFor, StandsForSome}
 use Rattle.kn_trace.specs.Events.{need_of}
 use Rattle.kn_trace.specs.Laws.{IsInert, IsLawful, IsSettled}
 use Rattle.kn_trace.specs.Trace.{Trace}
+use Rattle.kn_core.specs.Gauges.{count_live}
 use Rattle.kn_cell.specs.declared.past.Past.{Past}
 use Rattle.kn_cell.specs.declared.past.Full as kept
 use Rattle.kn_cell.specs.declared.past.TryError.{TryError}
@@ -18,7 +19,7 @@ use Rattle.kn_cell.specs.declared.past.TryError.TheVariants.{Busy, Full}
 use Rattle.kn_cell.specs.declared.view.Joined.{Joined}
 use Rattle.kn_cell.specs.declared.view.View.{View}
 use Rattle.kn_cell.specs.Lists.{StartsWith, Each}
-use Rattle.kn_cell.specs.History.{trace_after, clock_after, live_of, room_for, IsInBounds, IsLegal, rows_by, past}
+use Rattle.kn_cell.specs.History.{trace_after, clock_after, room_for, IsInBounds, IsLegal, rows_by, past}
 use Rattle.kn_cell.specs.State.{DeskState}
 use Rattle.kn_cell.specs.Desk.{event_at}
 use Rattle.kn_cell.specs.Splitting.{gone_of}
@@ -109,15 +110,15 @@ pub record Adds (old : PassView) (act : Act) (time : ℕ) (told : Told) (new : P
   pub seen : new.seen ≡ front ++ row ∷ []
   pub mine : new.mine ≡ old.mine ++ row ∷ []
   pub longer : StartsWith front old.seen
-  pub room : (c : Trace) → StandsFor old.opening c → need_of (trace_after old.opening.spec c front) act ≤ left_in new front (live_of (trace_after old.opening.spec c front))
+  pub room : (c : Trace) → StandsFor old.opening c → need_of (trace_after old.opening.spec c front) act ≤ left_in new front (count_live (trace_after old.opening.spec c front))
 
 -- nothing was recorded, since the room is too small after all that is seen
 pub record Misfits (old : PassView) (act : Act) (full : kept.Full) (new : PassView) : Type 0 where
   pub mine : new.mine ≡ old.mine
   pub room : full.room ≡ old.room
   pub used : full.used ≡ length new.seen - new.gone
-  pub live : (c : Trace) → StandsFor old.opening c → full.live ≡ live_of (trace_after old.opening.spec c new.seen)
-  pub short : (c : Trace) → StandsFor old.opening c → left_in new new.seen (live_of (trace_after old.opening.spec c new.seen)) < need_of (trace_after old.opening.spec c new.seen) act
+  pub live : (c : Trace) → StandsFor old.opening c → full.live ≡ count_live (trace_after old.opening.spec c new.seen)
+  pub short : (c : Trace) → StandsFor old.opening c → left_in new new.seen (count_live (trace_after old.opening.spec c new.seen)) < need_of (trace_after old.opening.spec c new.seen) act
 
 -- the first pass of a new cell whose history is kept whole
 abbrev pub first_shown : TableId → RevisionState → ℕ → ℕ → PassView

@@ -6,10 +6,11 @@ use Rattle.kn_event.specs.declared.event.Told.{Told}
 use Rattle.kn_core.specs.State.{StandsFor}
 use Rattle.kn_trace.specs.Events.{need_of}
 use Rattle.kn_trace.specs.Trace.{Trace}
+use Rattle.kn_core.specs.Gauges.{count_live}
 use Rattle.kn_cell.specs.declared.past.Past.{Past}
 use Rattle.kn_cell.specs.declared.past.Full.{Full}
 use Rattle.kn_cell.specs.declared.view.View.{View}
-use Rattle.kn_cell.specs.History.{trace_after, clock_after, live_of, room_for, IsInBounds, IsLegal, past}
+use Rattle.kn_cell.specs.History.{trace_after, clock_after, room_for, IsInBounds, IsLegal, past}
 use Rattle.kn_cell.specs.State.{DeskState}
 use Rattle.kn_cell.specs.Desk.{event_at}
 use Rattle.kn_cell.specs.Views.{opening, IsBounded}
@@ -54,17 +55,17 @@ pub record Enters (v : View) (act : Act) (time : ℕ) (told : Told) (m : Me Desk
   pub view_is : m.0 ≡ recorded v (v.seen ++ row_of v act time told ∷ [])
   pub has : HasTurn m
   pub bounds : IsInBounds (row_of v act time told).event
-  pub need : (c : Trace) → StandsFor (opening v.key) c → need_of (trace_of v c) act ≤ room_of v (live_of (trace_of v c))
+  pub need : (c : Trace) → StandsFor (opening v.key) c → need_of (trace_of v c) act ≤ room_of v (count_live (trace_of v c))
 
 -- the row was recorded, and the turn given back
 pub record RecordsRow (v : View) (act : Act) (time : ℕ) (told : Told) (m : Me DeskState View) : Type 0 where
   pub after_is : m ≡ (without_turn (recorded v (v.seen ++ row_of v act time told ∷ [])), [])
   pub legal : IsLegal (opening v.key) (v.seen ++ row_of v act time told ∷ [])
   pub bounds : IsInBounds (row_of v act time told).event
-  pub need : (c : Trace) → StandsFor (opening v.key) c → need_of (trace_of v c) act ≤ room_of v (live_of (trace_of v c))
+  pub need : (c : Trace) → StandsFor (opening v.key) c → need_of (trace_of v c) act ≤ room_of v (count_live (trace_of v c))
 
 pub record Overflows (v : View) (act : Act) (full : Full) : Type 0 where
   pub room : full.room ≡ v.key.room
   pub used : full.used ≡ length v.seen - v.gone
-  pub live : (c : Trace) → StandsFor (opening v.key) c → full.live ≡ live_of (trace_of v c)
-  pub short : (c : Trace) → StandsFor (opening v.key) c → room_of v (live_of (trace_of v c)) < need_of (trace_of v c) act
+  pub live : (c : Trace) → StandsFor (opening v.key) c → full.live ≡ count_live (trace_of v c)
+  pub short : (c : Trace) → StandsFor (opening v.key) c → room_of v (count_live (trace_of v c)) < need_of (trace_of v c) act

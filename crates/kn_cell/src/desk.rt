@@ -3,7 +3,7 @@ ghost use Rattle.std.specs.Prelude.{◌≡◌, ◌<◌, ◌≤◌, ◌+◌, ◌+
 ghost use Rattle.kn_trace.specs.Events.{need_of};
 ghost use Rattle.kn_trace.specs.Trace.{Trace, next_starting, proxied, stand_of};
 ghost use Rattle.kn_book.specs.Book.{call_address, next_to_probe};
-ghost use Rattle.kn_book.specs.State.{StandsFor as IsBookOf};
+ghost use Rattle.kn_book.specs.State.{IsBookOf};
 ghost use Rattle.kn_core.specs.State.{StandsFor};
 ghost use Rattle.kn_figures.specs.Figures.{IsFiguresOf};
 ghost use Rattle.kn_figures.specs.Tallies.{IsTallyOf};

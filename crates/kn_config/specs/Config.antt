@@ -144,9 +144,9 @@ unfoldable pub config_of : List ℕ → Result Config ConfigError
 config_of text = config_or_fault (json_of text)
 
 -- want of memory, or else what is read
-abbrev pub Gives : Result Config ConfigError → Result Config ConfigError → Type 0
-Gives (Err error.Memory) read = Unit {0}
-Gives given read = given ≡ read
+abbrev pub GivesConfig : Result Config ConfigError → Result Config ConfigError → Type 0
+GivesConfig (Err error.Memory) read = Unit {0}
+GivesConfig given read = given ≡ read
 
 pub record AreTargets (t : Targets) : Type 0 where
   pub utilisation : IsInRange key.ContainerConcurrencyTargetPercentage t.utilisation.0

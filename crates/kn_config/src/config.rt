@@ -5,7 +5,7 @@ ghost use Rattle.serde_json.specs.View.{view};
 ghost use Rattle.kn_config.specs.Keys.{IsInRange};
 ghost use Rattle.kn_config.specs.Values.{IsBurstOf};
 ghost use Rattle.kn_config.specs.Laws.{HaveSame, setting_keys, default_config};
-ghost use Rattle.kn_config.specs.Config.{number_at, percentage_at, burst_at, duration_at, seconds_at, count_at, flag_at, targets_of, windows_of, idling_of, scales_of, settings_of, config_in, config_of, Gives, IsConfig, AreTargets, AreWindows, IsIdling, AreScales};
+ghost use Rattle.kn_config.specs.Config.{number_at, percentage_at, burst_at, duration_at, seconds_at, count_at, flag_at, targets_of, windows_of, idling_of, scales_of, settings_of, config_in, config_of, GivesConfig, IsConfig, AreTargets, AreWindows, IsIdling, AreScales};
 
 use crate::json::{JsonError, read_json};
 use crate::key::Key;
@@ -176,7 +176,7 @@ impl Config {
     /// keys that are not in the table are ignored.
     #[tactic(auto, unfolding(crate::specs::Config::config_of))]
     pub fn read(alloc: Global, text: &[u8]) -> Result<Config, ConfigError>
-        ensures gives { Gives result (config_of text.now) }
+        ensures gives { GivesConfig result (config_of text.now) }
         ensures ranges { IfOk result (λ config. IsConfig config) }
     {
         match read_json(alloc, text) {

@@ -13,28 +13,30 @@ use Rattle.kn_event.specs.declared.revision.Kind.{Kind}
 use Rattle.kn_event.specs.declared.revision.Kind.TheVariants as kind
 use Rattle.kn_event.specs.declared.revision.Spec.{Spec}
 use Rattle.kn_event.specs.declared.units.Frac.{Frac}
+use Rattle.kn_event.specs.Lists.{contains, or_else}
 use Rattle.kn_scaling.specs.Average.{second_of, window_average}
 use Rattle.kn_scaling.specs.Decide.{Ruling, decision_from_stable, no_load, one_request, ruling}
 use Rattle.kn_scaling.specs.Decide as scaling
 use Rattle.kn_scaling.specs.declared.zero.Standing.{Standing}
 use Rattle.kn_scaling.specs.Zero.{has_lasted, no_pods, some_pods, zero_rule, zero_rule_in}
+use Rattle.kn_scaling.specs.Burst.{is_same_mode}
 use Rattle.kn_trace.specs.Events.{activation, scaler_rows, wake_where}
 use Rattle.kn_trace.specs.Laws.{IsSettled}
 use Rattle.kn_trace.specs.Rows.{phase_by}
-use Rattle.kn_trace.specs.Scale.{count_ready, decision_at, decision_rows, is_same_mode, is_same_phase, mode_of, past_of, phase_of, scale_rows, standing_of, tick_rows, tick_rows_of, wake_decision_at, wake_rows, wanted, where_true}
+use Rattle.kn_trace.specs.Scale.{count_ready, decision_at, decision_rows, is_in_phase, mode_of, past_of, phase_of, scale_rows, standing_of, tick_rows, tick_rows_of, wake_decision_at, wake_rows, wanted, where_true}
 use Rattle.kn_trace.specs.Trace.{Trace, created, draining, entry, is_empty, ready_pods, starting_pods}
 use Rattle.kn_record.specs.Made.{Holds, IsMade, IsProper}
-use Rattle.kn_record.specs.Rows.{or_else}
+use Rattle.kn_record.specs.Views.{others}
 use Rattle.kn_laws.specs.Kinds.{Each}
-use Rattle.kn_pods.specs.Numbers.{contains, inserted, without}
-use Rattle.kn_pods.specs.Pods.{PodsState, StandsFor, after_row}
+use Rattle.kn_pods.specs.Numbers.{inserted}
+use Rattle.kn_pods.specs.Pods.{PodsState, ArePodsOf, after_row}
 use Rattle.kn_scaler.specs.Rows.{is_quiet}
 use Rattle.kn_core.proofs.Lists.{first_is_there}
 use Rattle.kn_core.proofs.Scaled.{holds_behind, holds_front}
 use Rattle.kn_core.proofs.Traces.{rows_made, same_said}
 
 abbrev pub IsAwake : Trace → Type 0
-IsAwake c = is_same_phase phase.Activating (phase_of c) ≡ true → ready_pods c ≡ []
+IsAwake c = is_in_phase phase.Activating (phase_of c) ≡ true → ready_pods c ≡ []
 
 pub awake_settled : (s : Spec) (c : Trace) → IsSettled s c → IsAwake c
 awake_settled s c h = by (ready_pods c) refl
@@ -45,9 +47,9 @@ awake_settled s c h = by (ready_pods c) refl
 
 pub none_activated : (t : ℕ) (c : Trace) → IsAwake c → activation t c ≡ []
 unfolding activation
-none_activated t c h = by (is_same_phase phase.Activating (phase_of c)) refl
+none_activated t c h = by (is_in_phase phase.Activating (phase_of c)) refl
   where
-    by : (b : Bool) → is_same_phase phase.Activating (phase_of c) ≡ b → where_true (is_same_phase phase.Activating (phase_of c) && not (is_empty (ready_pods c))) (entry t (row.Phase phase.Active) ∷ []) ≡ []
+    by : (b : Bool) → is_in_phase phase.Activating (phase_of c) ≡ b → where_true (is_in_phase phase.Activating (phase_of c) && not (is_empty (ready_pods c))) (entry t (row.Phase phase.Active) ∷ []) ≡ []
     by false e = rw e refl
     by true e = rw (e, h e) refl
 
@@ -85,17 +87,17 @@ none_ready : (x : Row) (pods : PodsState) → is_calm x ≡ true → pods.ready 
 none_ready (row.Ready p) pods h none = absurd (cc)
 none_ready (row.Drain p) pods h none = by (contains p pods.starting)
   where
-    by : (b : Bool) → (cond b (record pods { starting = without p pods.starting; draining = inserted p pods.draining }) (record pods { ready = without p pods.ready; draining = inserted p pods.draining })).ready ≡ []
+    by : (b : Bool) → (cond b (record pods { starting = others p pods.starting; draining = inserted p pods.draining }) (record pods { ready = others p pods.ready; draining = inserted p pods.draining })).ready ≡ []
     by true = none
     by false = rw none refl
 none_ready (row.LostPod p) pods h none = rw none refl
 none_ready _ pods h none = none
 
-fewer : (p : ℕ) (xs : List ℕ) → length (without p xs) ≤ length xs
+fewer : (p : ℕ) (xs : List ℕ) → length (others p xs) ≤ length xs
 fewer p [] = omega arith
 fewer p (x ∷ xs) = by (p == x) refl (fewer p xs)
   where
-    by : (b : Bool) → (p == x) ≡ b → length (without p xs) ≤ length xs → length (without p (x ∷ xs)) ≤ length (x ∷ xs)
+    by : (b : Bool) → (p == x) ≡ b → length (others p xs) ≤ length xs → length (others p (x ∷ xs)) ≤ length (x ∷ xs)
     by true e rec = rw e (omega (arith, rec))
     by false e rec = rw e (omega (arith, rec))
 
@@ -109,7 +111,7 @@ abbrev pub DrainFew : Trace → Type 0
 DrainFew c = length (draining c) ≤ 20000
 
 module _ (makes : (s : Spec) (c : Trace) (t : ℕ) (x : Row) → IsMade s c → IsProper s c x → IsMade s (c ++ entry t x ∷ []))
-    (goes : (s : Spec) (c : Trace) (t : ℕ) (x : Row) (pods : PodsState) → IsMade s c → IsProper s c x → StandsFor pods c → StandsFor (after_row x pods) (c ++ entry t x ∷ [])) where
+    (goes : (s : Spec) (c : Trace) (t : ℕ) (x : Row) (pods : PodsState) → IsMade s c → IsProper s c x → ArePodsOf pods c → ArePodsOf (after_row x pods) (c ++ entry t x ∷ [])) where
   rows_keep : (s : Spec) (P : Trace → Type 0) (test : Row → Bool) → ((c : Trace) (t : ℕ) (x : Row) → test x ≡ true → IsMade s c → IsProper s c x → P c → P (c ++ entry t x ∷ []))
       → (c es : Trace) → Each test es → IsMade s c → Holds (IsProper s) c es → P c → P (c ++ es)
   rows_keep s P test one c [] each made proper h = subst P (sym (append-nil c)) h
@@ -118,7 +120,7 @@ module _ (makes : (s : Spec) (c : Trace) (t : ℕ) (x : Row) → IsMade s c → 
       (rows_keep s P test one (c ++ e ∷ []) es each.1 (makes s c e.time e.row made proper.0) proper.1 (one c e.time e.row each.0 made proper.0 h))
 
   pods_after : (s : Spec) (c : Trace) (t : ℕ) (x : Row) → IsMade s c → IsProper s c x
-      → StandsFor (after_row x (record { created = created c; starting = starting_pods c; ready = ready_pods c; draining = draining c })) (c ++ entry t x ∷ [])
+      → ArePodsOf (after_row x (record { created = created c; starting = starting_pods c; ready = ready_pods c; draining = draining c })) (c ++ entry t x ∷ [])
   pods_after s c t x made proper =
       goes s c t x (record { created = created c; starting = starting_pods c; ready = ready_pods c; draining = draining c }) made proper
       (record { created = refl; starting = refl; ready = refl; draining = refl })
@@ -144,7 +146,7 @@ module _ (makes : (s : Spec) (c : Trace) (t : ℕ) (x : Row) → IsMade s c → 
   -- ---- the phase of a decision
 
   module _ (push : (c : Trace) (e : Entry) → phase_of (c ++ e ∷ []) ≡ or_else (phase_by e.row) (phase_of c)) (quiet : (s : Spec) (t : ℕ) (c : Trace) (want : ℕ) → Each is_quiet (scale_rows s t c want)) where
-    same_is : (p : Phase) (o : Option Phase) → is_same_phase p o ≡ true → o ≡ Some p
+    same_is : (p : Phase) (o : Option Phase) → is_in_phase p o ≡ true → o ≡ Some p
     same_is phase.Activating (Some phase.Activating) h = refl
     same_is phase.Active (Some phase.Active) h = refl
     same_is phase.Inactive (Some phase.Inactive) h = refl
@@ -155,7 +157,7 @@ module _ (makes : (s : Spec) (c : Trace) (t : ℕ) (x : Row) → IsMade s c → 
     where_calm false es h = tt
 
     -- where a decision leaves it activating, no pod is Ready
-    decision_awake : (s : Spec) (c : Trace) (t : ℕ) (made : Ruling) → (is_same_phase phase.Activating (Some made.phase) ≡ true → ready_pods c ≡ []) → IsMade s c → Holds (IsProper s) c (decision_rows s t c made) → IsAwake c
+    decision_awake : (s : Spec) (c : Trace) (t : ℕ) (made : Ruling) → (is_in_phase phase.Activating (Some made.phase) ≡ true → ready_pods c ≡ []) → IsMade s c → Holds (IsProper s) c (decision_rows s t c made) → IsAwake c
         → IsAwake (c ++ decision_rows s t c made)
     unfolding decision_rows
     decision_awake s c t made none is_made proper h =
@@ -164,7 +166,7 @@ module _ (makes : (s : Spec) (c : Trace) (t : ℕ) (x : Row) → IsMade s c → 
         let front = holds_front (IsProper s) one p (m ++ sc) behind in
         let made_one = makes s c t (row.Decided made.decision) is_made proper.0 in
         let awake_one = awake_row s c t (row.Decided made.decision) refl is_made proper.0 h in
-        let awake_two = here (is_same_phase made.phase (phase_of c)) refl made_one awake_one in
+        let awake_two = here (is_in_phase made.phase (phase_of c)) refl made_one awake_one in
         let last = awake_rows s (one ++ p) (m ++ sc) tail (rows_made makes goes s one p made_one front) (holds_behind (IsProper s) one p (m ++ sc) behind) awake_two in
         subst IsAwake
         (append_assoc one p (m ++ sc) ∙ ap (λ (l : Trace). one ++ l) (sym split) ∙ append_assoc c (entry t (row.Decided made.decision) ∷ []) ((p ++ m) ++ sc)) last
@@ -176,7 +178,7 @@ module _ (makes : (s : Spec) (c : Trace) (t : ℕ) (x : Row) → IsMade s c → 
         y = entry t (row.Phase made.phase)
 
         p : Trace
-        p = where_true (not (is_same_phase made.phase (phase_of c))) (y ∷ [])
+        p = where_true (not (is_in_phase made.phase (phase_of c))) (y ∷ [])
 
         m : Trace
         m = where_true (not (is_same_mode made.decision.mode (mode_of c))) (entry t (row.Mode made.decision.mode) ∷ [])
@@ -189,7 +191,7 @@ module _ (makes : (s : Spec) (c : Trace) (t : ℕ) (x : Row) → IsMade s c → 
             each_append is_calm m sc (where_calm (not (is_same_mode made.decision.mode (mode_of c))) (entry t (row.Mode made.decision.mode) ∷ []) (refl, tt))
             (where_calm made.decision.applied (scale_rows s t c made.decision.want) (each_weaker is_quiet is_calm quiet_calm (scale_rows s t c made.decision.want) (quiet s t c made.decision.want)))
 
-        here : (b : Bool) → is_same_phase made.phase (phase_of c) ≡ b → IsMade s one → IsAwake one → IsAwake (one ++ where_true (not b) (y ∷ []))
+        here : (b : Bool) → is_in_phase made.phase (phase_of c) ≡ b → IsMade s one → IsAwake one → IsAwake (one ++ where_true (not b) (y ∷ []))
         here true e made_one awake = rw (append-nil one) awake
         here false e made_one awake = λ waits.
             let now = rw (push one y) at waits in
@@ -200,40 +202,40 @@ module _ (makes : (s : Spec) (c : Trace) (t : ℕ) (x : Row) → IsMade s c → 
     zero_length [] e = refl
     zero_length (x ∷ xs) e = absurd (omega (arith, e))
 
-    some_waits : (X : Type 0) (ready want : ℕ) → (ready ≡ 0 → X) → is_same_phase phase.Activating (Some (some_pods ready want).phase) ≡ true → X
+    some_waits : (X : Type 0) (ready want : ℕ) → (ready ≡ 0 → X) → is_in_phase phase.Activating (Some (some_pods ready want).phase) ≡ true → X
     some_waits X ready want none h = by (nat_lt 0 ready) refl h
       where
-        by : (b : Bool) → nat_lt 0 ready ≡ b → is_same_phase phase.Activating (Some (cond b phase.Active phase.Activating)) ≡ true → X
+        by : (b : Bool) → nat_lt 0 ready ≡ b → is_in_phase phase.Activating (Some (cond b phase.Active phase.Activating)) ≡ true → X
         by true e h = absurd (cc)
         by false e h = none (grind (arith, nat_tests))
 
-    zero_in_waits : (X : Type 0) (s : Spec) (time ready : ℕ) (standing : Standing) (p : Phase) → (ready ≡ 0 → X) → (is_same_phase phase.Activating (Some p) ≡ true → X)
-        → is_same_phase phase.Activating (Some (zero_rule_in p s time ready standing).phase) ≡ true → X
+    zero_in_waits : (X : Type 0) (s : Spec) (time ready : ℕ) (standing : Standing) (p : Phase) → (ready ≡ 0 → X) → (is_in_phase phase.Activating (Some p) ≡ true → X)
+        → is_in_phase phase.Activating (Some (zero_rule_in p s time ready standing).phase) ≡ true → X
     zero_in_waits X s time ready standing phase.Activating none still h = still refl
     zero_in_waits X s time ready standing phase.Active none still h = by (has_lasted standing.phase_since (1000 * s.stable_s) time) h
       where
-        by : (b : Bool) → is_same_phase phase.Activating (Some (cond b (no_pods false) (some_pods ready 1)).phase) ≡ true → X
+        by : (b : Bool) → is_in_phase phase.Activating (Some (cond b (no_pods false) (some_pods ready 1)).phase) ≡ true → X
         by true h = absurd (cc)
         by false h = some_waits X ready 1 none h
     zero_in_waits X s time ready standing phase.Inactive none still h = absurd (cc)
 
-    zero_waits : (X : Type 0) (s : Spec) (time ready bounded : ℕ) (standing : Standing) → (ready ≡ 0 → X) → (is_same_phase phase.Activating (Some standing.phase) ≡ true → X)
-        → is_same_phase phase.Activating (Some (zero_rule s time ready bounded standing).phase) ≡ true → X
+    zero_waits : (X : Type 0) (s : Spec) (time ready bounded : ℕ) (standing : Standing) → (ready ≡ 0 → X) → (is_in_phase phase.Activating (Some standing.phase) ≡ true → X)
+        → is_in_phase phase.Activating (Some (zero_rule s time ready bounded standing).phase) ≡ true → X
     unfolding zero_rule
     zero_waits X s time ready bounded standing none still h = by (nat_lt 0 bounded) s.to_zero h
       where
-        by : (b z : Bool) → is_same_phase phase.Activating (Some (cond b (some_pods ready bounded) (cond z (zero_rule_in standing.phase s time ready standing) (some_pods ready 1))).phase) ≡ true → X
+        by : (b z : Bool) → is_in_phase phase.Activating (Some (cond b (some_pods ready bounded) (cond z (zero_rule_in standing.phase s time ready standing) (some_pods ready 1))).phase) ≡ true → X
         by true z h = some_waits X ready bounded none h
         by false true h = zero_in_waits X s time ready standing standing.phase none still h
         by false false h = some_waits X ready 1 none h
 
-    waited : (o : Option Phase) → is_same_phase phase.Activating (Some (unwrap_or o phase.Inactive)) ≡ true → is_same_phase phase.Activating o ≡ true
+    waited : (o : Option Phase) → is_in_phase phase.Activating (Some (unwrap_or o phase.Inactive)) ≡ true → is_in_phase phase.Activating o ≡ true
     waited (Some phase.Activating) h = refl
     waited (Some phase.Active) h = absurd (cc)
     waited (Some phase.Inactive) h = absurd (cc)
     waited None h = absurd (cc)
 
-    ruling_waits : (s : Spec) (c : Trace) (t : ℕ) (stable panic : Frac) → IsAwake c → is_same_phase phase.Activating (Some (ruling s (past_of s c) t (count_ready c) stable panic).phase) ≡ true → ready_pods c ≡ []
+    ruling_waits : (s : Spec) (c : Trace) (t : ℕ) (stable panic : Frac) → IsAwake c → is_in_phase phase.Activating (Some (ruling s (past_of s c) t (count_ready c) stable panic).phase) ≡ true → ready_pods c ≡ []
     unfolding ruling past_of standing_of count_ready
     ruling_waits s c t stable panic h waits = zero_waits (ready_pods c ≡ []) s t (length (ready_pods c)) _ (standing_of s c) (zero_length (ready_pods c)) (λ still. h (waited (phase_of c) still)) waits
 

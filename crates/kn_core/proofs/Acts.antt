@@ -5,12 +5,13 @@ use Rattle.std.proofs.Math.Logic.{∥∥₁_elim}
 use Rattle.kn_event.specs.declared.entry.Row.TheVariants as row
 use Rattle.kn_event.specs.declared.event.Act.TheVariants as act
 use Rattle.kn_event.specs.declared.revision.Spec.{Spec}
+use Rattle.kn_event.specs.Lists.{contains}
 use Rattle.kn_trace.specs.Events.{act_row}
-use Rattle.kn_trace.specs.Trace.{Trace, contains, is_starting, live_pods}
+use Rattle.kn_trace.specs.Trace.{Trace, is_starting, live_pods}
 use Rattle.kn_record.specs.Admission.{Admission, is_starting_now, pods_in}
-use Rattle.kn_record.specs.Made.{IsMade, StandsFor as IsRecordOf}
+use Rattle.kn_record.specs.Made.{IsMade, IsRecordOf}
 use Rattle.kn_record.specs.Views.{AreViews}
-use Rattle.kn_pods.specs.Pods.{StandsFor as ArePodsOf}
+use Rattle.kn_pods.specs.Pods.{ArePodsOf}
 use Rattle.kn_core.specs.State.{ArePartsOf, ArePartsOfSome, PartsState}
 use Rattle.kn_core.proofs.Live.{bool_prop}
 

@@ -7,9 +7,9 @@ use Rattle.kn_event.specs.declared.entry.Row.{Row}
 use Rattle.kn_event.specs.declared.entry.Row.TheVariants as row
 use Rattle.kn_event.specs.declared.revision.Spec.{Spec}
 use Rattle.kn_trace.specs.Trace.{Trace, entry}
-use Rattle.kn_record.specs.Made.{Holds, IsMade, IsProper, StandsFor}
+use Rattle.kn_record.specs.Made.{Holds, IsMade, IsProper, IsRecordOf}
 use Rattle.kn_record.specs.Walks.{BeginsWith}
-use Rattle.kn_pods.specs.Pods.{PodsState, StandsFor as ArePodsOf, after_row}
+use Rattle.kn_pods.specs.Pods.{PodsState, ArePodsOf, after_row}
 use Rattle.kn_throttle.specs.State as throttle
 use Rattle.kn_scaler.specs.Stands.{ScalerState}
 use Rattle.kn_core.specs.State.{ArePartsOf, ArePartsOfSome, IsMeasuredAt, IsScalerOf, PartsState}
@@ -29,7 +29,7 @@ end_alone _ pods h = absurd (cc)
 module _ (makes : (s : Spec) (c : Trace) (t : ℕ) (x : Row) → IsMade s c → IsProper s c x → IsMade s (c ++ entry t x ∷ []))
     (goes : (s : Spec) (c : Trace) (t : ℕ) (x : Row) (pods : PodsState) → IsMade s c → IsProper s c x → ArePodsOf pods c → ArePodsOf (after_row x pods) (c ++ entry t x ∷ []))
     (s : Spec) (c : Trace) (t : ℕ) (x : Row) (old new : PartsState) where
-  pub parts_row : IsProper s c x → StandsFor new.throttle.admission (c ++ entry t x ∷ []) → new.throttle.spec ≡ old.throttle.spec → new.pods ≡ after_row x old.pods
+  pub parts_row : IsProper s c x → IsRecordOf new.throttle.admission (c ++ entry t x ∷ []) → new.throttle.spec ≡ old.throttle.spec → new.pods ≡ after_row x old.pods
       → IsScalerOf s new.scaler (c ++ entry t x ∷ []) → ArePartsOf s old c → ArePartsOf s new (c ++ entry t x ∷ [])
   parts_row proper admission spec pods scaler h = record {
     spec = spec ∙ h.spec;
@@ -88,7 +88,7 @@ pub ended_more : ((s : Spec) (c : Trace) (t : ℕ) (x : Row) → IsMade s c → 
     → LeavesParts s all left c new old (log ++ entry t x ∷ [])
 ended_more makes goes s all left c here mid new old log t x ends l begins m threw pods scaler =
     let proper = leaves_proper s all left c here old log l t x begins.0 in
-    let admission = subst (λ (y : throttle.State). StandsFor y.admission (l.here ++ entry t x ∷ [])) (sym threw) begins.1 in
+    let admission = subst (λ (y : throttle.State). IsRecordOf y.admission (l.here ++ entry t x ∷ [])) (sym threw) begins.1 in
     let heard = subst (λ (o : Option ScalerState). IsScalerOf s o (l.here ++ entry t x ∷ [])) (sym scaler) (m.scaler s l.here l.parts proper) in
     leaves_more s all left c here old log l t x new begins.0
     (parts_row makes goes s l.here t x here new proper admission (ap (λ (y : throttle.State). y.spec) threw) (pods ∙ m.pods ∙ sym (end_alone x here.pods ends)) heard l.parts)

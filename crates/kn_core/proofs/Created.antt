@@ -19,7 +19,7 @@ use Rattle.kn_record.specs.declared.admission.Pod.{Pod}
 use Rattle.kn_record.specs.declared.admission.Readiness.{Readiness}
 use Rattle.kn_record.specs.declared.admission.Request.{Request}
 use Rattle.kn_record.specs.Admission.{Admission, is_starting_now, pods_in}
-use Rattle.kn_record.specs.Made.{IsMade, StandsFor as IsRecordOf}
+use Rattle.kn_record.specs.Made.{IsMade, IsRecordOf}
 use Rattle.kn_record.specs.Order.{IsInOrder}
 use Rattle.kn_record.specs.Views.{AreViews, stand_found, stand_in}
 use Rattle.kn_laws.specs.Kinds.{IsActRow, is_act_row}

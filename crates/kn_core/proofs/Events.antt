@@ -14,16 +14,16 @@ use Rattle.kn_event.specs.declared.revision.Spec.{Spec}
 use Rattle.kn_trace.specs.Events.{act_row, act_rows, activation, before_settling, departures, entries_of, react, row_of, scaler_rows, told_of, told_row}
 use Rattle.kn_trace.specs.Laws.{IsSettled}
 use Rattle.kn_trace.specs.Rows.{phase_by}
-use Rattle.kn_trace.specs.Scale.{is_same_phase, phase_of, scale_rows, where_true}
+use Rattle.kn_trace.specs.Scale.{is_in_phase, phase_of, scale_rows, where_true}
 use Rattle.kn_trace.specs.Settling.{settling}
 use Rattle.kn_trace.specs.Trace.{Trace, entry, first_of, is_empty, ready_pods}
 use Rattle.std.specs.Prelude.{not, ◌&&◌}
+use Rattle.kn_event.specs.Lists.{or_else}
 use Rattle.kn_record.specs.Made.{Holds, IsMade, IsProper}
-use Rattle.kn_record.specs.Rows.{or_else}
 use Rattle.kn_record.specs.Walks.{ArePartsProper, gone_after}
 use Rattle.kn_laws.specs.Facts.{RowFacts}
 use Rattle.kn_laws.specs.Kinds.{Each, IsActRow, is_act_row, is_departure_row}
-use Rattle.kn_pods.specs.Pods.{PodsState, StandsFor, after_row}
+use Rattle.kn_pods.specs.Pods.{PodsState, ArePodsOf, after_row}
 use Rattle.kn_scaler.specs.Rows.{is_quiet}
 use Rattle.kn_core.specs.Changes.{woken}
 use Rattle.kn_core.proofs.Active.{DrainFew, IsAwake, awake_rows, awake_settled, drains_none, each_weaker, few_rows, is_calm, none_activated, scaler_awake}
@@ -93,7 +93,7 @@ own_drains_none (Some x) t a h = (act_drains_none x h.0, tt)
 
 activation_drains_none : (t : ℕ) (c : Trace) → Each drains_none (activation t c)
 unfolding activation
-activation_drains_none t c = by (is_same_phase phase.Activating (phase_of c) && not (is_empty (ready_pods c)))
+activation_drains_none t c = by (is_in_phase phase.Activating (phase_of c) && not (is_empty (ready_pods c)))
   where
     by : (b : Bool) → Each drains_none (where_true b (entry t (row.Phase phase.Active) ∷ []))
     by true = (refl, tt)
@@ -128,7 +128,7 @@ pub record Whole (s : Spec) (c : Trace) (e : Event) (own : Option Row) : Type 0 
   pub trace : ruled_after s c e own ++ settling s e.time (ruled_after s c e own) ≡ c ++ react s c e
 
 module _ (makes : (s : Spec) (c : Trace) (t : ℕ) (x : Row) → IsMade s c → IsProper s c x → IsMade s (c ++ entry t x ∷ []))
-    (goes : (s : Spec) (c : Trace) (t : ℕ) (x : Row) (pods : PodsState) → IsMade s c → IsProper s c x → StandsFor pods c → StandsFor (after_row x pods) (c ++ entry t x ∷ []))
+    (goes : (s : Spec) (c : Trace) (t : ℕ) (x : Row) (pods : PodsState) → IsMade s c → IsProper s c x → ArePodsOf pods c → ArePodsOf (after_row x pods) (c ++ entry t x ∷ []))
     (rows : RowFacts) (s : Spec) (c : Trace) (e : Event) (own : Option Row) (made_gone : IsMade s (gone_after s c e)) (proper : ArePartsProper s c e) (by_act : act_row s (gone_after s c e) e.act ≡ own) where
   acts : act_rows s e.time (gone_after s c e) e.act ≡ entries_of e.time own ++ scaler_rows s.kind s e.time (own_after s c e own) e.act own
   unfolding act_rows

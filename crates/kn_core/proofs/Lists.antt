@@ -6,10 +6,11 @@ use Rattle.std.proofs.lemmas.Bool.Decides.{nat_tests}
 use Rattle.kn_event.specs.declared.entry.Entry.{Entry}
 use Rattle.kn_event.specs.declared.entry.Row.{Row}
 use Rattle.kn_event.specs.declared.entry.Row.TheVariants as row
-use Rattle.kn_trace.specs.Trace.{contains, first_of}
+use Rattle.kn_event.specs.Lists.{contains}
+use Rattle.kn_trace.specs.Trace.{first_of}
 use Rattle.kn_record.specs.declared.admission.Request.{Request}
 use Rattle.kn_record.specs.Admission.{without}
-use Rattle.kn_pods.specs.Numbers as numbers
+use Rattle.kn_record.specs.Views.{others}
 use Rattle.kn_pods.specs.Pods.{PodsState}
 use Rattle.kn_core.specs.Changes.{after_removal, after_removals}
 
@@ -36,11 +37,11 @@ module _ (test : Request → Bool) (r : ℕ) where
       by false false e h rec f = rw e (omega (arith, rec (rw h at f)))
 
 -- a number that isn't there can't be taken out
-pub none_without : (p : ℕ) (xs : List ℕ) → numbers.contains p xs ≡ false → numbers.without p xs ≡ xs
+pub none_without : (p : ℕ) (xs : List ℕ) → contains p xs ≡ false → others p xs ≡ xs
 none_without p [] h = refl
 none_without p (q ∷ xs) h = by (q == p) refl h (none_without p xs)
   where
-    by : (b : Bool) → (q == p) ≡ b → numbers.contains p (q ∷ xs) ≡ false → (numbers.contains p xs ≡ false → numbers.without p xs ≡ xs) → numbers.without p (q ∷ xs) ≡ q ∷ xs
+    by : (b : Bool) → (q == p) ≡ b → contains p (q ∷ xs) ≡ false → (contains p xs ≡ false → others p xs ≡ xs) → others p (q ∷ xs) ≡ q ∷ xs
     by true e f rec = absurd (let g = rw e at f in cc)
     by false e f rec =
         let other : (p == q) ≡ false = grind (arith, nat_tests, e) in
@@ -56,7 +57,7 @@ none_removed [] pods none = refl
 none_removed (e ∷ es) pods none = rw (by e.row) (none_removed es pods none)
   where
     by : (x : Row) → after_removal x pods ≡ pods
-    by (row.Remove p) = ap (λ ds. record pods { draining = ds }) (ap (numbers.without p) none ∙ sym none)
+    by (row.Remove p) = ap (λ ds. record pods { draining = ds }) (ap (others p) none ∙ sym none)
     by _ = refl
 
 -- what comes after a list

@@ -6,13 +6,14 @@ use Rattle.std.proofs.Math.Bridge.{le_prop}
 use Rattle.std.proofs.Math.Logic.{∥∥₁_elim}
 use Rattle.std.proofs.lemmas.List.Elements.{All-weaker}
 use Rattle.kn_event.specs.declared.revision.Spec.{Spec}
-use Rattle.kn_trace.specs.Trace.{Trace, contains, live, live_pods}
+use Rattle.kn_event.specs.Lists.{contains}
+use Rattle.kn_trace.specs.Trace.{Trace, live, live_pods}
 use Rattle.kn_record.specs.declared.admission.Request.{Request}
 use Rattle.kn_record.specs.Admission.{Admission}
-use Rattle.kn_record.specs.Made.{IsMade, StandsFor as IsRecordOf}
+use Rattle.kn_record.specs.Made.{IsMade, IsRecordOf}
 use Rattle.kn_record.specs.Order.{AreTimed}
 use Rattle.kn_record.specs.Views.{AreViews, pod_numbers}
-use Rattle.kn_pods.specs.Pods.{StandsFor as ArePodsOf}
+use Rattle.kn_pods.specs.Pods.{ArePodsOf}
 use Rattle.kn_core.specs.State.{ArePartsOf, ArePartsOfSome, PartsState}
 
 pub bool_prop : (a b : Bool) → IsProp (a ≡ b)

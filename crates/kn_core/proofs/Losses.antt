@@ -4,8 +4,9 @@ use Rattle.std.proofs.Math.Logic.{∥∥₁_map}
 use Rattle.kn_event.specs.declared.event.Act.{Act}
 use Rattle.kn_event.specs.declared.event.Act.TheVariants as act
 use Rattle.kn_event.specs.declared.revision.Spec.{Spec}
+use Rattle.kn_event.specs.Lists.{contains}
 use Rattle.kn_trace.specs.Events.{losses}
-use Rattle.kn_trace.specs.Trace.{Trace, contains, live_pods}
+use Rattle.kn_trace.specs.Trace.{Trace, live_pods}
 use Rattle.kn_record.specs.Admission.{Admission}
 use Rattle.kn_record.specs.Made.{Holds, IsProper}
 use Rattle.kn_record.specs.Walks.{losing}

@@ -14,7 +14,7 @@ use Rattle.kn_trace.specs.Scale.{count_ready}
 use Rattle.kn_trace.specs.Trace.{Trace, entry, is_empty, live_pods, proxied, ready_pods, stand_of}
 use Rattle.kn_record.specs.declared.admission.Pod.{Pod}
 use Rattle.kn_record.specs.Admission.{Admission}
-use Rattle.kn_record.specs.Made.{Holds, IsProper, StandsFor as IsRecordOf}
+use Rattle.kn_record.specs.Made.{Holds, IsProper, IsRecordOf}
 use Rattle.kn_record.specs.Views.{AreViews}
 use Rattle.kn_places.specs.Ends.{IsToldOf}
 use Rattle.kn_scaler.specs.Stands.{ScalerState}

@@ -10,14 +10,15 @@ use Rattle.kn_event.specs.declared.entry.Row.TheVariants as row
 use Rattle.kn_event.specs.declared.revision.Kind.{Kind}
 use Rattle.kn_event.specs.declared.revision.Kind.TheVariants as kind
 use Rattle.kn_event.specs.declared.revision.Spec.{Spec}
-use Rattle.kn_trace.specs.Events.{opening, opening_of, opening_phase}
+use Rattle.kn_scaling.specs.Zero.{opening_phase}
+use Rattle.kn_trace.specs.Events.{opening, opening_of}
 use Rattle.kn_trace.specs.Scale.{creations, drain_order, mode_of, opening_scale, phase_of, scale_rows}
 use Rattle.kn_trace.specs.Trace.{Trace, created, draining, entry, ready_pods, starting_pods}
 use Rattle.kn_record.specs.Admission.{Admission, nothing_yet, stepped}
-use Rattle.kn_record.specs.Made.{IsMade, IsProper, StandsFor as IsRecordOf}
+use Rattle.kn_record.specs.Made.{IsMade, IsProper, IsRecordOf}
 use Rattle.kn_record.specs.Order.{AreTimed}
 use Rattle.kn_laws.specs.Kinds.{Each}
-use Rattle.kn_pods.specs.Pods.{PodsState, StandsFor as ArePodsOf, after_row}
+use Rattle.kn_pods.specs.Pods.{PodsState, ArePodsOf, after_row}
 use Rattle.kn_throttle.specs.State.{State, with_row}
 use Rattle.kn_core.specs.Opening.{AreBeginning, first_count, first_rows}
 use Rattle.kn_core.specs.State.{IsUnscaled, IsFixed}

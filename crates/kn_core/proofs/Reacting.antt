@@ -8,6 +8,7 @@ use Rattle.kn_event.specs.declared.entry.Entry.{Entry}
 use Rattle.kn_event.specs.declared.entry.Row.{Row}
 use Rattle.kn_event.specs.declared.event.Event.{Event}
 use Rattle.kn_event.specs.declared.revision.Spec.{Spec}
+use Rattle.kn_event.specs.Lists.{or_else}
 use Rattle.kn_trace.specs.Events.{act_row, entries_of}
 use Rattle.kn_trace.specs.Laws.{IsSettled}
 use Rattle.kn_trace.specs.Rows.{phase_by}
@@ -15,13 +16,12 @@ use Rattle.kn_trace.specs.Scale.{phase_of, scale_rows}
 use Rattle.kn_trace.specs.Trace.{Trace, entry, live_pods}
 use Rattle.kn_record.specs.declared.admission.Pod.{Pod}
 use Rattle.kn_record.specs.Admission.{Admission}
-use Rattle.kn_record.specs.Made.{Holds, IsMade, IsProper, StandsFor as IsRecordOf}
-use Rattle.kn_record.specs.Rows.{or_else}
+use Rattle.kn_record.specs.Made.{Holds, IsMade, IsProper, IsRecordOf}
 use Rattle.kn_record.specs.Views.{AreViews}
 use Rattle.kn_record.specs.Walks.{ArePartsProper, gone_after}
 use Rattle.kn_laws.specs.Facts.{RowFacts}
 use Rattle.kn_laws.specs.Kinds.{Each}
-use Rattle.kn_pods.specs.Pods.{PodsState, StandsFor as ArePodsOf, after_row}
+use Rattle.kn_pods.specs.Pods.{PodsState, ArePodsOf, after_row}
 use Rattle.kn_scaler.specs.Rows.{is_quiet}
 use Rattle.kn_core.specs.State.{ArePartsOf, ArePartsOfSome, PartsState}
 use Rattle.kn_core.specs.Changes.{ArePartsOfSettled, HasFewPods, own_and_woken, woken}

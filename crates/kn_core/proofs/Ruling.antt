@@ -16,13 +16,14 @@ use Rattle.kn_event.specs.declared.revision.Kind.TheVariants as kind
 use Rattle.kn_event.specs.declared.revision.Spec.{Spec}
 use Rattle.kn_trace.specs.Events.{row_of, scaler_rows}
 use Rattle.kn_scaling.specs.Decide.{Ruling}
-use Rattle.kn_trace.specs.Scale.{decision_at, decision_rows, drain_order, is_same_mode, is_same_phase, mode_of, phase_of, scale_rows, tick_rows, tick_rows_of, wake_decision_at, wake_rows, where_true}
+use Rattle.kn_scaling.specs.Burst.{is_same_mode}
+use Rattle.kn_trace.specs.Scale.{decision_at, decision_rows, drain_order, is_in_phase, mode_of, phase_of, scale_rows, tick_rows, tick_rows_of, wake_decision_at, wake_rows, where_true}
 use Rattle.kn_trace.specs.Trace.{Trace, entry, first_of}
 use Rattle.kn_record.specs.Admission.{Admission, stepped}
-use Rattle.kn_record.specs.Made.{Holds, IsMade, IsProper, StandsFor}
+use Rattle.kn_record.specs.Made.{Holds, IsMade, IsProper, IsRecordOf}
 use Rattle.kn_record.specs.Walks.{stepped_by}
 use Rattle.kn_laws.specs.Kinds.{Each, IsActRow}
-use Rattle.kn_pods.specs.Pods.{PodsState, StandsFor as ArePodsOf, after_row}
+use Rattle.kn_pods.specs.Pods.{PodsState, ArePodsOf, after_row}
 use Rattle.kn_throttle.specs.State as throttle
 use Rattle.kn_scaler.specs.Rows.{ruled_by, ruling_rows, tick_rulings}
 use Rattle.kn_scaler.specs.declared.scaler.Ruled.{Ruled}
@@ -70,8 +71,8 @@ append_kind (x ∷ xs) ys h k = (h.0, append_kind xs ys h.1 k)
 pub ruling_kind : (t : ℕ) (c : Trace) (made : Ruling) → Each is_ruling_row (ruling_rows t c made)
 ruling_kind t c made = (
   refl,
-  append_kind (where_true (not (is_same_phase made.phase (phase_of c))) (entry t (row.Phase made.phase) ∷ [])) (where_true (not (is_same_mode made.decision.mode (mode_of c))) (entry t (row.Mode made.decision.mode) ∷ []))
-      (where_kind (not (is_same_phase made.phase (phase_of c))) (entry t (row.Phase made.phase)) refl) (where_kind (not (is_same_mode made.decision.mode (mode_of c))) (entry t (row.Mode made.decision.mode)) refl),
+  append_kind (where_true (not (is_in_phase made.phase (phase_of c))) (entry t (row.Phase made.phase) ∷ [])) (where_true (not (is_same_mode made.decision.mode (mode_of c))) (entry t (row.Mode made.decision.mode) ∷ []))
+      (where_kind (not (is_in_phase made.phase (phase_of c))) (entry t (row.Phase made.phase)) refl) (where_kind (not (is_same_mode made.decision.mode (mode_of c))) (entry t (row.Mode made.decision.mode)) refl),
 )
 
 pub tick_kind : (t : ℕ) (c : Trace) (o : Option Ruling) → Each is_ruling_row (tick_rulings t c o)
@@ -81,13 +82,13 @@ tick_kind t c (Some made) = ruling_kind t c made
 -- the parts after such rows, which throttler and pods leave
 pub parts_ruled : ((s : Spec) (c : Trace) (t : ℕ) (x : Row) → IsMade s c → IsProper s c x → IsMade s (c ++ entry t x ∷ []))
     → ((s : Spec) (c : Trace) (t : ℕ) (x : Row) (pods : PodsState) → IsMade s c → IsProper s c x → ArePodsOf pods c → ArePodsOf (after_row x pods) (c ++ entry t x ∷ []))
-    → ((s : Spec) (a : Admission) (c es : Trace) → StandsFor a c → Holds (IsProper s) c es → StandsFor (stepped_by es a) (c ++ es))
+    → ((s : Spec) (a : Admission) (c es : Trace) → IsRecordOf a c → Holds (IsProper s) c es → IsRecordOf (stepped_by es a) (c ++ es))
     → (s : Spec) (c es : Trace) (old new : PartsState) → Each is_ruling_row es → Holds (IsProper s) c es → new.throttle ≡ old.throttle → new.pods ≡ old.pods → IsScalerOf s new.scaler (c ++ es) → ArePartsOf s old c
     → ArePartsOf s new (c ++ es)
 parts_ruled makes goes rows s c es old new each proper threw kept scaler h = record {
   spec = ap (λ (y : throttle.State). y.spec) threw ∙ h.spec;
   made = rows_made makes goes s c es h.made proper;
-  admission = subst (λ (a : Admission). StandsFor a (c ++ es)) (ruled_stepped es old.throttle.admission each ∙ ap (λ (y : throttle.State). y.admission) (sym threw)) (rows s old.throttle.admission c es h.admission proper);
+  admission = subst (λ (a : Admission). IsRecordOf a (c ++ es)) (ruled_stepped es old.throttle.admission each ∙ ap (λ (y : throttle.State). y.admission) (sym threw)) (rows s old.throttle.admission c es h.admission proper);
   pods = subst (λ (p : PodsState). ArePodsOf p (c ++ es)) (pods_alone is_ruling_row ruling_alone es old.pods each ∙ sym kept) (rows_pods makes goes s c es old.pods h.made proper h.pods);
   scaler = scaler;
 }
@@ -112,7 +113,7 @@ mode_same t false m = refl
 -- what is said of a decision are its rows
 pub said_ruling : (t : ℕ) (c : Trace) (made : Ruling) (ruled : Ruled) → ruled ≡ ruled_by c made → said_rows t ruled ≡ ruling_rows t c made
 said_ruling t c made ruled e =
-    rw (e, phase_same t (not (is_same_phase made.phase (phase_of c))) made.phase, mode_same t (not (is_same_mode made.decision.mode (mode_of c))) made.decision.mode) refl
+    rw (e, phase_same t (not (is_in_phase made.phase (phase_of c))) made.phase, mode_same t (not (is_same_mode made.decision.mode (mode_of c))) made.decision.mode) refl
 
 -- ---- what the autoscaler adds
 
@@ -163,7 +164,7 @@ no_data s c t scales e =
 
 module _ (makes : (s : Spec) (c : Trace) (t : ℕ) (x : Row) → IsMade s c → IsProper s c x → IsMade s (c ++ entry t x ∷ []))
     (goes : (s : Spec) (c : Trace) (t : ℕ) (x : Row) (pods : PodsState) → IsMade s c → IsProper s c x → ArePodsOf pods c → ArePodsOf (after_row x pods) (c ++ entry t x ∷ []))
-    (follows : (s : Spec) (a : Admission) (c es : Trace) → StandsFor a c → Holds (IsProper s) c es → StandsFor (stepped_by es a) (c ++ es))
+    (follows : (s : Spec) (a : Admission) (c es : Trace) → IsRecordOf a c → Holds (IsProper s) c es → IsRecordOf (stepped_by es a) (c ++ es))
     (s : Spec) (c : Trace) (t : ℕ) (ruled : Ruled) (heard rows : List Entry) (d : Decides s c t ruled heard rows) (old mid : PartsState) where
   -- the parts once the autoscaler has decided
   pub decides_mid : Holds (IsProper s) c rows → mid.throttle ≡ old.throttle → mid.pods ≡ old.pods → IsScalerOf s mid.scaler (c ++ heard) → ArePartsOf s old c → ArePartsOf s mid (c ++ ruling_rows t c d.made)

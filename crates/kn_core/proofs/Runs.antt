@@ -6,7 +6,7 @@ use Rattle.kn_event.specs.declared.revision.Spec.{Spec}
 use Rattle.kn_trace.specs.Laws.{IsSettled}
 use Rattle.kn_trace.specs.Trace.{Trace, arrivals}
 use Rattle.kn_record.specs.Admission.{Admission}
-use Rattle.kn_record.specs.Made.{StandsFor as IsRecordOf}
+use Rattle.kn_record.specs.Made.{IsRecordOf}
 use Rattle.kn_record.specs.Views.{AreViews}
 use Rattle.kn_laws.specs.History.{IsMadeBy}
 use Rattle.kn_scaler.specs.Stands.{ScalerState}

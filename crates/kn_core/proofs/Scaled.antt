@@ -10,19 +10,20 @@ use Rattle.kn_event.specs.declared.entry.Entry.{Entry}
 use Rattle.kn_event.specs.declared.entry.Row.{Row}
 use Rattle.kn_event.specs.declared.entry.Row.TheVariants as row
 use Rattle.kn_event.specs.declared.revision.Spec.{Spec}
+use Rattle.kn_event.specs.Lists.{contains}
 use Rattle.kn_trace.specs.Rows.{created_by}
 use Rattle.kn_trace.specs.Scale.{creations, drain_order, scale_rows}
-use Rattle.kn_trace.specs.Trace.{Trace, contains, created, entry, ready_pods, starting_pods}
+use Rattle.kn_trace.specs.Trace.{Trace, created, entry, ready_pods, starting_pods}
 use Rattle.kn_record.specs.declared.admission.Pod.{Pod}
 use Rattle.kn_record.specs.declared.admission.Readiness.{Readiness}
 use Rattle.kn_record.specs.declared.admission.Readiness.TheVariants as readiness
 use Rattle.kn_record.specs.Admission.{Admission, is_draining_now, is_ready_now, is_starting_now, more_by, pods_in, stepped}
-use Rattle.kn_record.specs.Made.{Holds, IsMade, IsProper, StandsFor}
+use Rattle.kn_record.specs.Made.{Holds, IsMade, IsProper, IsRecordOf}
 use Rattle.kn_record.specs.Views.{AreViews}
 use Rattle.kn_record.specs.Walks.{stepped_by}
 use Rattle.kn_laws.specs.Kinds.{Each, EachAt}
 use Rattle.kn_scaler.specs.Rows.{is_quiet}
-use Rattle.kn_scaler.specs.Stands.{ScalerState, StandsFor as IsScalerOfTrace}
+use Rattle.kn_scaler.specs.Stands.{ScalerState, IsScalerOfTrace}
 use Rattle.kn_core.specs.Following.{CanFollow, CanTake}
 use Rattle.kn_core.specs.State.{IsMeasuredAt, IsScalerOf}
 use Rattle.kn_core.proofs.Traces.{is_unscaled_row, unscaled_more}
@@ -114,10 +115,10 @@ follow_then a [] ds h k = k
 follow_then a (e ∷ es) ds h k = (h.0, follow_then (stepped e.time e.row a) es ds h.1 k)
 
 module _ (makes : (s : Spec) (c : Trace) (t : ℕ) (x : Row) → IsMade s c → IsProper s c x → IsMade s (c ++ entry t x ∷ []))
-    (steps : (s : Spec) (a : Admission) (c : Trace) (t : ℕ) (x : Row) → StandsFor a c → IsProper s c x → StandsFor (stepped t x a) (c ++ entry t x ∷ []))
-    (views : (s : Spec) (a : Admission) (c : Trace) → StandsFor a c → AreViews s a c)
+    (steps : (s : Spec) (a : Admission) (c : Trace) (t : ℕ) (x : Row) → IsRecordOf a c → IsProper s c x → IsRecordOf (stepped t x a) (c ++ entry t x ∷ []))
+    (views : (s : Spec) (a : Admission) (c : Trace) → IsRecordOf a c → AreViews s a c)
     (s : Spec) (ranges : AreInRange s) where
-  can_create : (a : Admission) (c : Trace) (p n : ℕ) → n ≤ 1000 → a.created < 2 ^ 63 → count is_draining_now a.pods ≤ 20000 → StandsFor a c → IsProper s c (row.Create p n) → CanTake a (row.Create p n)
+  can_create : (a : Admission) (c : Trace) (p n : ℕ) → n ≤ 1000 → a.created < 2 ^ 63 → count is_draining_now a.pods ≤ 20000 → IsRecordOf a c → IsProper s c (row.Create p n) → CanTake a (row.Create p n)
   unfolding drain_order
   can_create a c p n limit few draining stands proper =
       let v = views s a c stands in
@@ -128,7 +129,7 @@ module _ (makes : (s : Spec) (c : Trace) (t : ℕ) (x : Row) → IsMade s c → 
       let all = length-append (reverse (starting_pods c)) (reverse (ready_pods c)) in
       (number, omega arith, omega (arith, order, one, two, all, counts a.pods, draining, length-reverse (starting_pods c), length-reverse (ready_pods c)), limit)
 
-  pub creates_follow : (es : List Entry) (a : Admission) (c : Trace) (n : ℕ) → n ≤ 1000 → a.created + length es ≤ 2 ^ 63 → count is_draining_now a.pods ≤ 20000 → StandsFor a c → Holds (IsProper s) c es → Creates n es → CanFollow a es
+  pub creates_follow : (es : List Entry) (a : Admission) (c : Trace) (n : ℕ) → n ≤ 1000 → a.created + length es ≤ 2 ^ 63 → count is_draining_now a.pods ≤ 20000 → IsRecordOf a c → Holds (IsProper s) c es → Creates n es → CanFollow a es
   unfolding stepped
   creates_follow [] a c n limit few draining stands proper rows = tt
   creates_follow (e ∷ es) a c n limit few draining stands proper rows =
@@ -140,7 +141,7 @@ module _ (makes : (s : Spec) (c : Trace) (t : ℕ) (x : Row) → IsMade s c → 
         creates_follow es (stepped e.time e.row a) (c ++ e ∷ []) n limit more next (steps s a c e.time e.row stands proper.0) proper.1 rows.1,
       )
 
-  pub drains_follow : (es : List Entry) (a : Admission) (c : Trace) → StandsFor a c → Holds (IsProper s) c es → Drains es → CanFollow a es
+  pub drains_follow : (es : List Entry) (a : Admission) (c : Trace) → IsRecordOf a c → Holds (IsProper s) c es → Drains es → CanFollow a es
   unfolding drain_order
   drains_follow [] a c stands proper rows = tt
   drains_follow (e ∷ es) a c stands proper rows =
@@ -151,8 +152,8 @@ module _ (makes : (s : Spec) (c : Trace) (t : ℕ) (x : Row) → IsMade s c → 
       (subst (CanTake a) (sym rows.0.1) (rw (v.starting, v.ready) at both), drains_follow es (stepped e.time e.row a) (c ++ e ∷ []) (steps s a c e.time e.row stands proper.0) proper.1 rows.1)
 
   -- all rows of a scale
-  pub scale_follows : ((a : Admission) (c es : Trace) → StandsFor a c → Holds (IsProper s) c es → StandsFor (stepped_by es a) (c ++ es)) → (a : Admission) (c : Trace) (t want : ℕ) → want ≤ 500 → a.created + 500 ≤ 2 ^ 63
-      → count is_draining_now a.pods ≤ 20000 → StandsFor a c → Holds (IsProper s) c (scale_rows s t c want) → CanFollow a (scale_rows s t c want)
+  pub scale_follows : ((a : Admission) (c es : Trace) → IsRecordOf a c → Holds (IsProper s) c es → IsRecordOf (stepped_by es a) (c ++ es)) → (a : Admission) (c : Trace) (t want : ℕ) → want ≤ 500 → a.created + 500 ≤ 2 ^ 63
+      → count is_draining_now a.pods ≤ 20000 → IsRecordOf a c → Holds (IsProper s) c (scale_rows s t c want) → CanFollow a (scale_rows s t c want)
   unfolding scale_rows
   scale_follows rows a c t want few numbers draining stands proper =
       let standing = length (drain_order c) in

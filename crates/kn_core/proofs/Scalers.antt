@@ -14,7 +14,7 @@ use Rattle.kn_trace.specs.Scale.{wanted}
 use Rattle.kn_trace.specs.Trace.{Trace, entry, live_pods}
 use Rattle.kn_record.specs.Made.{IsMade}
 use Rattle.kn_scaler.specs.Rows.{ready_rows, says_scale, settles}
-use Rattle.kn_scaler.specs.Stands.{AreNextOfSome, AreNextRows, IsNextOfSome, ScalerState, StandsForSome, StandsFor as IsScalerOfTrace}
+use Rattle.kn_scaler.specs.Stands.{AreNextOfSome, AreNextRows, IsNextOfSome, ScalerState, StandsForSome, IsScalerOfTrace}
 use Rattle.kn_event.specs.declared.entry.Entry.{Entry}
 use Rattle.kn_scaler.specs.declared.scaler.Ruled.{Ruled}
 use Rattle.kn_laws.specs.Kinds.{Each}

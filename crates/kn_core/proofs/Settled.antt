@@ -8,10 +8,10 @@ use Rattle.kn_event.specs.declared.revision.Spec.{Spec}
 use Rattle.kn_trace.specs.Settling.{settling}
 use Rattle.kn_trace.specs.Trace.{Trace, entry}
 use Rattle.kn_record.specs.Admission.{Admission}
-use Rattle.kn_record.specs.Made.{Holds, IsMade, IsProper, StandsFor as IsRecordOf}
+use Rattle.kn_record.specs.Made.{Holds, IsMade, IsProper, IsRecordOf}
 use Rattle.kn_record.specs.Views.{AreViews}
 use Rattle.kn_laws.specs.Kinds.{Each, EachAt}
-use Rattle.kn_pods.specs.Pods.{PodsState, StandsFor as ArePodsOf, after_row}
+use Rattle.kn_pods.specs.Pods.{PodsState, ArePodsOf, after_row}
 use Rattle.kn_scaler.specs.Rows.{settles}
 use Rattle.kn_core.specs.Scaling.{AreNextIn, AreNextInSome}
 use Rattle.kn_core.specs.State.{ArePartsOf, IsMeasuredAt, IsScalerOf, PartsState}

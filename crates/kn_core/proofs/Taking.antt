@@ -13,14 +13,14 @@ use Rattle.kn_event.specs.declared.event.Stand.{Stand}
 use Rattle.kn_event.specs.declared.revision.Spec.{Spec}
 use Rattle.kn_trace.specs.Events.{act_row, activation, entries_of}
 use Rattle.kn_trace.specs.Rows.{ended_by}
-use Rattle.kn_trace.specs.Scale.{is_same_phase, phase_of, where_true}
+use Rattle.kn_trace.specs.Scale.{is_in_phase, phase_of, where_true}
 use Rattle.kn_trace.specs.Trace.{Trace, entry, is_empty, proxied, ready_pods, stand_of}
 use Rattle.kn_record.specs.declared.admission.Pod.{Pod}
 use Rattle.kn_record.specs.Admission.{Admission, pods_after, stepped}
-use Rattle.kn_record.specs.Made.{Holds, IsMade, IsProper, StandsFor}
+use Rattle.kn_record.specs.Made.{Holds, IsMade, IsProper, IsRecordOf}
 use Rattle.kn_record.specs.Views.{AreViews}
 use Rattle.kn_laws.specs.Kinds.{IsActRow, is_act_row}
-use Rattle.kn_pods.specs.Pods.{PodsState, StandsFor as ArePodsOf, after_row}
+use Rattle.kn_pods.specs.Pods.{PodsState, ArePodsOf, after_row}
 use Rattle.kn_scaler.specs.Stands.{ScalerState}
 use Rattle.kn_throttle.specs.State as throttle
 use Rattle.kn_core.specs.Scaling.{IsNextIn, IsNextInSome}
@@ -39,12 +39,12 @@ own_ends a _ h = λ q e. absurd (cc)
 -- the row of a phase leaves throttler and pods
 record AreOf (s : Spec) (a : Admission) (ps : PodsState) (c : Trace) : Type 0 where
   made : IsMade s c
-  admission : StandsFor a c
+  admission : IsRecordOf a c
   pods : ArePodsOf ps c
 
 module _ (makes : (s : Spec) (c : Trace) (t : ℕ) (x : Row) → IsMade s c → IsProper s c x → IsMade s (c ++ entry t x ∷ []))
     (goes : (s : Spec) (c : Trace) (t : ℕ) (x : Row) (pods : PodsState) → IsMade s c → IsProper s c x → ArePodsOf pods c → ArePodsOf (after_row x pods) (c ++ entry t x ∷ []))
-    (steps : (s : Spec) (a : Admission) (c : Trace) (t : ℕ) (x : Row) → StandsFor a c → IsProper s c x → StandsFor (stepped t x a) (c ++ entry t x ∷ [])) where
+    (steps : (s : Spec) (a : Admission) (c : Trace) (t : ℕ) (x : Row) → IsRecordOf a c → IsProper s c x → IsRecordOf (stepped t x a) (c ++ entry t x ∷ [])) where
   phase_kept : (s : Spec) (a : Admission) (pods : PodsState) (t : ℕ) (c : Trace) (b : Bool) → AreOf s a pods c → AreOf s a pods (c ++ where_true b (entry t (row.Phase phase.Active) ∷ []))
   unfolding stepped
   phase_kept s a pods t c false k = rw (append-nil c) k
@@ -56,7 +56,7 @@ module _ (makes : (s : Spec) (c : Trace) (t : ℕ) (x : Row) → IsMade s c → 
 
   woken_kept : (s : Spec) (a : Admission) (pods : PodsState) (t : ℕ) (c : Trace) (own : Option Row) → AreOf s a pods c → AreOf s a pods (c ++ woken own t c)
   unfolding activation
-  woken_kept s a pods t c (Some (row.Ready p)) k = phase_kept s a pods t c (is_same_phase phase.Activating (phase_of c) && not (is_empty (ready_pods c))) k
+  woken_kept s a pods t c (Some (row.Ready p)) k = phase_kept s a pods t c (is_in_phase phase.Activating (phase_of c) && not (is_empty (ready_pods c))) k
   woken_kept s a pods t c _ k = rw (append-nil c) k
 
   -- all parts after the row, and that of the phase
@@ -66,12 +66,12 @@ module _ (makes : (s : Spec) (c : Trace) (t : ℕ) (x : Row) → IsMade s c → 
   parts_took s c t x old mid new proper adds threw kept scaler h =
       let d : Trace = c ++ entry t x ∷ [] in
       let pods = subst (λ (p : PodsState). ArePodsOf p d) (sym adds.pods) (goes s c t x old.pods h.made proper h.pods) in
-      let admission = subst (λ (y : throttle.State). StandsFor y.admission d) (sym adds.throttle) (steps s old.throttle.admission c t x h.admission proper) in
+      let admission = subst (λ (y : throttle.State). IsRecordOf y.admission d) (sym adds.throttle) (steps s old.throttle.admission c t x h.admission proper) in
       let all = woken_kept s mid.throttle.admission mid.pods t d (Some x) (record { made = makes s c t x h.made proper; admission = admission; pods = pods }) in
       record {
         spec = ap (λ (y : throttle.State). y.spec) (threw ∙ adds.throttle) ∙ h.spec;
         made = all.made;
-        admission = subst (λ (y : throttle.State). StandsFor y.admission (d ++ woken (Some x) t d)) (sym threw) all.admission;
+        admission = subst (λ (y : throttle.State). IsRecordOf y.admission (d ++ woken (Some x) t d)) (sym threw) all.admission;
         pods = subst (λ (p : PodsState). ArePodsOf p (d ++ woken (Some x) t d)) (sym kept) all.pods;
         scaler = scaler pods;
       }
@@ -90,7 +90,7 @@ own_next old mid t x a at through s c is_act adds h proper stands handed =
       scaler = h.scaler;
     })
 
-pub own_next_some : ((s : Spec) (a : Admission) (c : Trace) → StandsFor a c → AreViews s a c) → ((s : Spec) (c : Trace) (a : Act) → IsActRow a (act_row s c a)) → (old mid : PartsState) (t : ℕ) (x : Row) (a : Act) (at : Stand) (through : Bool)
+pub own_next_some : ((s : Spec) (a : Admission) (c : Trace) → IsRecordOf a c → AreViews s a c) → ((s : Spec) (c : Trace) (a : Act) → IsActRow a (act_row s c a)) → (old mid : PartsState) (t : ℕ) (x : Row) (a : Act) (at : Stand) (through : Bool)
     → HasFewPods old → AddsRow t x old mid → ((s : Spec) (c : Trace) → ArePartsOf s old c → act_row s c a ≡ Some x)
     → ((s : Spec) (c : Trace) (q : ℕ) → IsSome old.scaler → ArePartsOf s old c → ending_of a ≡ Some q → at ≡ stand_of c q) → ((s : Spec) (c : Trace) (q : ℕ) → IsSome old.scaler → ArePartsOf s old c → ending_of a ≡ Some q → through ≡ proxied c q)
     → IsReadyFor (λ s c. entries_of t (act_row s c a)) old → IsNextInSome mid.scaler x at through

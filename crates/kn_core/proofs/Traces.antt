@@ -10,7 +10,7 @@ use Rattle.kn_trace.specs.Scale.{mode_of, phase_of}
 use Rattle.kn_trace.specs.Trace.{Trace, each_row, entry}
 use Rattle.kn_record.specs.Made.{Holds, IsMade, IsProper}
 use Rattle.kn_laws.specs.Kinds.{Each}
-use Rattle.kn_pods.specs.Pods.{PodsState, StandsFor, after_row}
+use Rattle.kn_pods.specs.Pods.{PodsState, ArePodsOf, after_row}
 use Rattle.kn_scaler.specs.Rows.{says_scale}
 use Rattle.kn_core.specs.State.{IsUnscaled}
 use Rattle.kn_core.specs.Changes.{after_removal, after_removals}
@@ -63,15 +63,15 @@ after_rows [] state = state
 after_rows (e ∷ es) state = after_rows es (after_row e.row state)
 
 module _ (makes : (s : Spec) (c : Trace) (t : ℕ) (x : Row) → IsMade s c → IsProper s c x → IsMade s (c ++ entry t x ∷ []))
-    (goes : (s : Spec) (c : Trace) (t : ℕ) (x : Row) (pods : PodsState) → IsMade s c → IsProper s c x → StandsFor pods c → StandsFor (after_row x pods) (c ++ entry t x ∷ [])) where
+    (goes : (s : Spec) (c : Trace) (t : ℕ) (x : Row) (pods : PodsState) → IsMade s c → IsProper s c x → ArePodsOf pods c → ArePodsOf (after_row x pods) (c ++ entry t x ∷ [])) where
   pub rows_made : (s : Spec) (c es : Trace) → IsMade s c → Holds (IsProper s) c es → IsMade s (c ++ es)
   rows_made s c [] made h = subst (IsMade s) (sym (append-nil c)) made
   rows_made s c (e ∷ es) made h = subst (IsMade s) (append_assoc c (e ∷ []) es) (rows_made s (c ++ e ∷ []) es (makes s c e.time e.row made h.0) h.1)
 
-  pub rows_pods : (s : Spec) (c es : Trace) (pods : PodsState) → IsMade s c → Holds (IsProper s) c es → StandsFor pods c → StandsFor (after_rows es pods) (c ++ es)
-  rows_pods s c [] pods made h stands = subst (StandsFor pods) (sym (append-nil c)) stands
+  pub rows_pods : (s : Spec) (c es : Trace) (pods : PodsState) → IsMade s c → Holds (IsProper s) c es → ArePodsOf pods c → ArePodsOf (after_rows es pods) (c ++ es)
+  rows_pods s c [] pods made h stands = subst (ArePodsOf pods) (sym (append-nil c)) stands
   rows_pods s c (e ∷ es) pods made h stands =
-      subst (StandsFor (after_rows es (after_row e.row pods))) (append_assoc c (e ∷ []) es)
+      subst (ArePodsOf (after_rows es (after_row e.row pods))) (append_assoc c (e ∷ []) es)
       (rows_pods s (c ++ e ∷ []) es (after_row e.row pods) (makes s c e.time e.row made h.0) h.1 (goes s c e.time e.row pods made h.0 stands))
 
 -- rows that change pods only where they remove them

@@ -3,7 +3,7 @@ use Rattle.std.specs.Prelude.{◌≡◌, ◌<◌, ◌≤◌, ◌^◌, ◌||◌, 
 use Rattle.kn_event.specs.declared.entry.Entry.{Entry}
 use Rattle.kn_event.specs.declared.entry.Row.{Row}
 use Rattle.kn_event.specs.declared.entry.Row.TheVariants as row
-use Rattle.kn_trace.specs.Trace.{contains}
+use Rattle.kn_event.specs.Lists.{contains}
 use Rattle.kn_record.specs.Admission.{Admission, is_ready_now, is_starting_now, pods_in, stepped}
 use Rattle.kn_record.specs.Walks.{stepped_by}
 use Rattle.kn_throttle.specs.Kept.{pods_room}

@@ -6,12 +6,12 @@ use Rattle.kn_event.specs.declared.entry.Row.TheVariants as row
 use Rattle.kn_event.specs.declared.revision.Kind.{Kind}
 use Rattle.kn_event.specs.declared.revision.Kind.TheVariants as kind
 use Rattle.kn_event.specs.declared.revision.Spec.{Spec}
-use Rattle.kn_trace.specs.Events.{opening_phase}
+use Rattle.kn_scaling.specs.Zero.{opening_phase}
 use Rattle.kn_trace.specs.Scale.{opening_scale, scale_rows}
 use Rattle.kn_trace.specs.Trace.{Trace, entry}
 use Rattle.kn_record.specs.Admission.{Admission}
-use Rattle.kn_record.specs.Made.{IsMade, StandsFor as IsRecordOf}
-use Rattle.kn_pods.specs.Pods.{PodsState, StandsFor as ArePodsOf}
+use Rattle.kn_record.specs.Made.{IsMade, IsRecordOf}
+use Rattle.kn_pods.specs.Pods.{PodsState, ArePodsOf}
 use Rattle.kn_throttle.specs.State as throttle
 
 -- the phase of a revision that scales

@@ -10,15 +10,15 @@ use Rattle.kn_event.specs.declared.revision.Kind.TheVariants as kind
 use Rattle.kn_event.specs.declared.revision.Spec.{Spec}
 use Rattle.kn_trace.specs.Events.{scaler_rows}
 use Rattle.kn_trace.specs.Load.{has_ready_pod}
-use Rattle.kn_trace.specs.Scale.{count_ready, decision_at, is_same_phase, phase_of, wake_decision_at, wake_rows, wanted, where_true}
+use Rattle.kn_trace.specs.Scale.{count_ready, decision_at, is_in_phase, phase_of, wake_decision_at, wake_rows, wanted, where_true}
 use Rattle.kn_trace.specs.Trace.{Trace, entry, live_pods, proxied, stand_of}
 use Rattle.kn_record.specs.Made.{Holds, IsMade, IsProper}
 use Rattle.kn_laws.specs.Kinds.{Each, EachAt, is_act_row}
 use Rattle.kn_places.specs.Ends.{IsToldOf}
 use Rattle.kn_places.specs.Pods.{HasRoomFor}
-use Rattle.kn_pods.specs.Pods.{StandsFor as ArePodsOf}
+use Rattle.kn_pods.specs.Pods.{ArePodsOf}
 use Rattle.kn_scaler.specs.Rows.{ready_rows, ruled_by, ruling_rows, says_scale, settles, tick_rulings}
-use Rattle.kn_scaler.specs.Stands.{ScalerState, StandsFor as IsScalerOfTrace}
+use Rattle.kn_scaler.specs.Stands.{ScalerState, IsScalerOfTrace}
 use Rattle.kn_scaler.specs.declared.scaler.Ruled.{Ruled}
 use Rattle.kn_core.specs.Changes.{woken}
 use Rattle.kn_core.specs.State.{ArePartsOf, IsMeasuredAt, IsScalerOf, PartsState}
@@ -67,7 +67,7 @@ TakesRows es old new = (s : Spec) (c : Trace) → AreNextIn old es s c → IsSca
 
 -- the revision waits for its first Ready pod
 abbrev pub is_waiting_for_pod : Trace → Bool
-is_waiting_for_pod c = is_same_phase phase.Activating (phase_of c)
+is_waiting_for_pod c = is_in_phase phase.Activating (phase_of c)
 
 -- it has taken the rows of a pod that is Ready, with so many Ready pods
 abbrev pub TakesReady : ℕ → ℕ → Option ScalerState → Option ScalerState → Type 0

@@ -9,12 +9,12 @@ use Rattle.kn_event.specs.declared.revision.Kind.TheVariants as kind
 use Rattle.kn_event.specs.declared.revision.Spec.{Spec}
 use Rattle.kn_trace.specs.Scale.{mode_of, phase_of}
 use Rattle.kn_trace.specs.Trace.{Trace}
-use Rattle.kn_record.specs.Made.{IsMade, StandsFor as IsRecordOf}
+use Rattle.kn_record.specs.Made.{IsMade, IsRecordOf}
 use Rattle.kn_record.specs.Order.{AreTimed}
 use Rattle.kn_laws.specs.History.{IsMadeBy}
-use Rattle.kn_pods.specs.Pods.{PodsState, StandsFor as ArePodsOf}
+use Rattle.kn_pods.specs.Pods.{PodsState, ArePodsOf}
 use Rattle.kn_throttle.specs.State as throttle
-use Rattle.kn_scaler.specs.Stands.{ScalerState, StandsFor as IsScalerOfTrace}
+use Rattle.kn_scaler.specs.Stands.{ScalerState, IsScalerOfTrace}
 
 pub record PartsState : Type 0 where
   pub throttle : throttle.State

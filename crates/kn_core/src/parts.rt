@@ -2,10 +2,11 @@
 ghost use Rattle.std.specs.Prelude.{◌≡◌, ℕ, ◌+◌, ◌≤◌, ◌^◌, ◌++◌, ◌∷◌, [], true, length};
 ghost use Rattle.kn_event.specs.Revision.{AreInRange};
 ghost use Rattle.kn_event.specs.declared.revision.Spec.{Spec as SpecValue};
+ghost use Rattle.kn_event.specs.Lists.{contains};
 ghost use Rattle.kn_trace.specs.Events.{expiries, losses};
 ghost use Rattle.kn_trace.specs.Scale.{scale_rows};
 ghost use Rattle.kn_trace.specs.Settling.{settling};
-ghost use Rattle.kn_trace.specs.Trace.{Trace, contains, entry};
+ghost use Rattle.kn_trace.specs.Trace.{Trace, entry};
 ghost use Rattle.kn_record.specs.Admission.{is_at, placed_in};
 ghost use Rattle.kn_record.specs.Views.{pod_numbers};
 ghost use Rattle.kn_record.specs.Walks.{losing};

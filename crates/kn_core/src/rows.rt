@@ -1,6 +1,6 @@
 //! Rows of an event that come one after the other.
 ghost use Rattle.std.specs.Prelude.{◌≡◌, ℕ, ◌≤◌, drop, length};
-ghost use Rattle.kn_pods.specs.Numbers.{without};
+ghost use Rattle.kn_record.specs.Views.{others};
 ghost use Rattle.kn_throttle.specs.State.{with_row};
 ghost use Rattle.kn_core.specs.Changes.{AddsNobody, after_removals};
 ghost use Rattle.kn_core.specs.Following.{CanFollow, CanTake, after_scale};
@@ -33,7 +33,7 @@ fn remove_all(pods: &mut Pods, entries: &[Entry])
 
 /// Takes a pod away, if it drains.
 fn remove(pods: &mut Pods, p: u64)
-    ensures { pods.new ≡ record pods.old { draining = without p pods.old.draining } }
+    ensures { pods.new ≡ record pods.old { draining = others p pods.old.draining } }
 {
     if pods.is_draining(p) {
         pods.removed(p);

@@ -9,13 +9,13 @@ use Rattle.kn_event.specs.declared.entry.Entry.{Entry}
 use Rattle.kn_event.specs.declared.entry.Row.{Row}
 use Rattle.kn_event.specs.declared.entry.Row.TheVariants as row
 use Rattle.kn_event.specs.declared.revision.Spec.{Spec}
-use Rattle.kn_trace.specs.Rows.{admitted_by, assigned_by, created_by, drained_by, gone_by, readied_by, run_by}
-use Rattle.kn_trace.specs.Trace.{Trace, assigned, contains, each_row, has_run, held, queued_at, starting_pods}
+use Rattle.kn_event.specs.Lists.{contains}
+use Rattle.kn_trace.specs.Rows.{admitted_by, assigned_by, begun_by, created_by, drained_by, gone_by, readied_by, run_by}
+use Rattle.kn_trace.specs.Trace.{Trace, assigned, each_row, has_run, held, queued_at, starting_pods}
 use Rattle.kn_record.specs.Facts.{Facts}
 use Rattle.kn_record.specs.Made.{AreDistinct, IsMade, IsNumbered, IsProper}
 use Rattle.kn_record.specs.Rows.{says}
 use Rattle.kn_record.specs.Views.{others}
-use Rattle.kn_lives.specs.Lives.{begun_by}
 use Rattle.kn_costs.specs.Sums.{unready_by}
 
 -- ---- distinct numbers

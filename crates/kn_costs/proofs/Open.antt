@@ -7,10 +7,11 @@ use Rattle.std.proofs.lemmas.List.Elements.{All-head, All-tail}
 use Rattle.std.proofs.lemmas.List.Sums.{sum_by-cons}
 use Rattle.kn_event.specs.declared.entry.Row.{Row}
 use Rattle.kn_event.specs.declared.revision.Spec.{Spec}
+use Rattle.kn_event.specs.Lists.{contains}
 use Rattle.kn_throttle.specs.Gauges.{count_running}
-use Rattle.kn_trace.specs.Rows.{created_by, drained_by, ended_by, gone_by, readied_by}
+use Rattle.kn_trace.specs.Rows.{begun_by, created_by, drained_by, ended_by, gone_by, readied_by}
 use Rattle.kn_trace.specs.Scale.{count_ready}
-use Rattle.kn_trace.specs.Trace.{Trace, contains, each_row, ended, has_begun, is_live_pod, is_ready, is_running, live_pods, ready_pods, running_at}
+use Rattle.kn_trace.specs.Trace.{Trace, each_row, ended, has_begun, is_live_pod, is_ready, is_running, live_pods, ready_pods, running_at}
 use Rattle.kn_record.specs.Admission.{Admission, placed_in, runs_at, runs_somewhere}
 use Rattle.kn_record.specs.Facts.{Facts}
 use Rattle.kn_record.specs.Made.{AreDistinct, IsMade}
@@ -19,7 +20,6 @@ use Rattle.kn_record.specs.Views.{AreViews, numbers_in, pod_numbers}
 use Rattle.kn_record.specs.declared.admission.Place.{Place}
 use Rattle.kn_record.specs.declared.admission.Place.TheVariants as place
 use Rattle.kn_record.specs.declared.admission.Request.{Request}
-use Rattle.kn_lives.specs.Lives.{begun_by}
 use Rattle.kn_costs.specs.Gauges.{count_pods}
 use Rattle.kn_costs.specs.Sums.{unready_by}
 use Rattle.kn_costs.proofs.Once.{distinct_made, fresh_begun, fresh_readied, has_begun_by, is_unready, readied_created, same_length}

@@ -6,8 +6,9 @@ use Rattle.std.proofs.lemmas.Bool.Decides.{nat_tests}
 use Rattle.std.proofs.lemmas.List.{length-map}
 use Rattle.std.proofs.lemmas.List.Sums.{sum_by-cons}
 use Rattle.kn_event.specs.declared.revision.Spec.{Spec}
+use Rattle.kn_event.specs.Lists.{contains}
 use Rattle.kn_throttle.specs.Gauges.{count_running}
-use Rattle.kn_trace.specs.Trace.{Trace, contains, live, live_pods, running_at}
+use Rattle.kn_trace.specs.Trace.{Trace, live, live_pods, running_at}
 use Rattle.kn_record.specs.Admission.{Admission, placed_in, runs_at}
 use Rattle.kn_record.specs.Made.{AreDistinct}
 use Rattle.kn_record.specs.Views.{AreViews}

@@ -8,8 +8,9 @@ use Rattle.std.proofs.lemmas.List.Elements.{All-head, All-push, All-tail, filter
 use Rattle.std.proofs.lemmas.List.Sums.{sum_by-append, sum_by-cons}
 use Rattle.kn_event.specs.declared.entry.Entry.{Entry}
 use Rattle.kn_event.specs.declared.entry.Row.{Row}
-use Rattle.kn_trace.specs.Trace.{Trace, contains, each_row, first_of}
-use Rattle.kn_record.specs.Rows.{or_else, says}
+use Rattle.kn_event.specs.Lists.{contains, or_else}
+use Rattle.kn_trace.specs.Trace.{Trace, each_row, first_of}
+use Rattle.kn_record.specs.Rows.{says}
 use Rattle.kn_costs.specs.Sums.{first_time, span, spans}
 
 -- ---- the first time

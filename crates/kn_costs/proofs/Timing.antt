@@ -6,13 +6,14 @@ use Rattle.std.proofs.lemmas.List.Sums.{sum_by_push}
 use Rattle.std.proofs.lemmas.List.{map-append}
 use Rattle.kn_event.specs.declared.event.Event.{Event}
 use Rattle.kn_event.specs.declared.revision.Spec.{Spec}
+use Rattle.kn_scaling.specs.Panic.{greatest}
 use Rattle.kn_trace.specs.Events.{added, opening, react, trace_of}
 use Rattle.kn_trace.specs.Scale.{count_ready}
 use Rattle.kn_trace.specs.Trace.{Trace, last_of}
 use Rattle.kn_throttle.specs.Gauges.{count_running}
+use Rattle.kn_core.specs.Gauges.{count_live}
 use Rattle.kn_teller.specs.Run.{Run, later, now_of, trace}
-use Rattle.kn_waits.specs.Waits.{greatest}
-use Rattle.kn_costs.specs.Gauges.{costs, count_held, count_live, count_none, count_pods, gauges, nothing_at, peaks, with_now, with_time}
+use Rattle.kn_costs.specs.Gauges.{costs, count_held, count_none, count_pods, gauges, nothing_at, peaks, with_now, with_time}
 use Rattle.kn_costs.specs.Steps.{Step, area, cold, cold_at, lasting, moments, peak, steps, steps_from}
 
 steps_from-append : (s : Spec) (c : Trace) (t : ℕ) (es : List Event) (e : Event)

@@ -3,6 +3,7 @@ use Rattle.std.specs.Prelude.{ℕ, ◌+◌, ◌-◌, ◌*◌, ◌≤◌, ◌^◌
 use Rattle.kn_throttle.specs.Gauges.{count_running}
 use Rattle.kn_trace.specs.Scale.{count_ready}
 use Rattle.kn_trace.specs.Trace.{Trace, arrivals, held, live, live_pods}
+use Rattle.kn_core.specs.Gauges.{count_live}
 use Rattle.kn_teller.specs.Run.{Run, now_of}
 use Rattle.kn_costs.specs.declared.gauges.Costs.{Costs}
 use Rattle.kn_costs.specs.declared.gauges.Now.{Now}
@@ -14,9 +15,6 @@ count_pods c = length (live_pods c)
 
 abbrev pub count_held : Trace → ℕ
 count_held c = length (held c)
-
-abbrev pub count_live : Trace → ℕ
-count_live c = length (live c)
 
 -- 1 while no pod lives
 abbrev pub count_none : Trace → ℕ

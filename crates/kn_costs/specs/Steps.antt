@@ -3,12 +3,12 @@ use Rattle.std.specs.Prelude.{ℕ, ◌*◌, ◌-◌, ◌==◌, List, [], ◌∷�
 use Rattle.std.specs.List.{sum_by}
 use Rattle.kn_event.specs.declared.event.Event.{Event}
 use Rattle.kn_event.specs.declared.revision.Spec.{Spec}
+use Rattle.kn_scaling.specs.Panic.{greatest}
 use Rattle.kn_trace.specs.Events.{opening, react}
 use Rattle.kn_trace.specs.Report.{is_admit, rows_with}
 use Rattle.kn_trace.specs.Scale.{count_ready}
 use Rattle.kn_trace.specs.Trace.{Trace}
 use Rattle.kn_teller.specs.Run.{Run, trace}
-use Rattle.kn_waits.specs.Waits.{greatest}
 
 -- an event, with the trace and the time before it
 pub record Step : Type 0 where

@@ -5,10 +5,9 @@ use Rattle.std.specs.List.{filter_map, sum_by}
 use Rattle.kn_event.specs.declared.entry.Entry.{Entry}
 use Rattle.kn_event.specs.declared.entry.Row.{Row}
 use Rattle.kn_event.specs.declared.entry.Row.TheVariants as row
-use Rattle.kn_trace.specs.Rows.{created_by, ended_by, gone_by, readied_by}
+use Rattle.kn_trace.specs.Rows.{begun_by, created_by, ended_by, gone_by, readied_by}
 use Rattle.kn_trace.specs.Trace.{Trace, each_row, first_of}
 use Rattle.kn_record.specs.Rows.{says}
-use Rattle.kn_lives.specs.Lives.{begun_by}
 use Rattle.kn_teller.specs.Run.{Run, now_of, trace}
 use Rattle.kn_costs.specs.Gauges.{costs}
 

@@ -11,14 +11,14 @@ use Rattle.kn_scaling.specs.declared.zero.ZeroAnswer.{ZeroAnswer}
 use Rattle.kn_scaling.specs.Average.{second_of, window_average}
 use Rattle.kn_scaling.specs.Burst.{excess_burst, serving_mode}
 use Rattle.kn_scaling.specs.Decide.{Past, Ruling, asked_of, decision_at, judged_of, no_load, one_request, ruling, stable_window_ms, wake_decision_at}
-use Rattle.kn_scaling.specs.Delay.{delayed_count}
+use Rattle.kn_scaling.specs.Delay.{asked_at, delayed_count}
 use Rattle.kn_scaling.specs.Demand.{desired_counts}
 use Rattle.kn_scaling.specs.Panic.{is_panicking, undelayed_count}
 use Rattle.kn_scaling.specs.Zero.{bounded_count, zero_rule}
-use Rattle.kn_panic.specs.Stands.{PanicState, StandsFor as IsPanicOf, judged_by}
-use Rattle.kn_delay.specs.Stands.{DelayState, StandsFor as IsDelayOf, asked_by}
+use Rattle.kn_panic.specs.Stands.{PanicState, IsPanicOf, judged_by}
+use Rattle.kn_delay.specs.Stands.{DelayState, IsDelayOf}
 use Rattle.kn_zero.specs.Zero.{ZeroState, with_answer, with_mode}
-use Rattle.kn_decider.specs.Decider.{DeciderState, StandsFor, with_ruling}
+use Rattle.kn_decider.specs.Decider.{DeciderState, IsDeciderOf, with_ruling}
 
 -- what the parts answer
 pub record Parts : Type 0 where
@@ -40,7 +40,7 @@ module _ (spec : Spec) (past : Past) (time ready : ℕ) (stable panic : Frac) wh
     pub counts : p.counts ≡ desired_counts spec ready stable panic
     pub panicking : p.panicking ≡ is_panicking (judged p.counts)
     pub undelayed : p.undelayed ≡ undelayed_count (judged p.counts)
-    pub delayed : p.delayed ≡ delayed_count spec.delay_s (asked_by (second_of time) p.undelayed ∷ map asked_of past.decisions)
+    pub delayed : p.delayed ≡ delayed_count spec.delay_s (asked_at (second_of time) p.undelayed ∷ map asked_of past.decisions)
     pub excess : p.excess ≡ excess_burst ready spec.total spec.burst panic
     pub bounded : p.bounded ≡ bounded_count spec past.reached p.delayed
     pub answer : p.answer ≡ zero_rule spec time ready p.bounded past.standing
@@ -69,7 +69,7 @@ module _ (spec : Spec) (past : Past) (time ready : ℕ) (stable panic : Frac) wh
 
   parts_ruled : (counts : Counts) (panicking : Bool) (undelayed delayed : ℕ) (excess : ℤ) (bounded : ℕ) (answer : ZeroAnswer) (mode : Mode)
       → counts ≡ desired_counts spec ready stable panic → panicking ≡ is_panicking (judged counts) → undelayed ≡ undelayed_count (judged counts)
-      → delayed ≡ delayed_count spec.delay_s (asked_by (second_of time) undelayed ∷ map asked_of past.decisions)
+      → delayed ≡ delayed_count spec.delay_s (asked_at (second_of time) undelayed ∷ map asked_of past.decisions)
       → excess ≡ excess_burst ready spec.total spec.burst panic → bounded ≡ bounded_count spec past.reached delayed
       → answer ≡ zero_rule spec time ready bounded past.standing → mode ≡ serving_mode answer.want excess answer.phase
       → ruling_by (record { counts = counts; panicking = panicking; undelayed = undelayed; delayed = delayed; excess = excess; bounded = bounded; answer = answer; mode = mode })
@@ -82,14 +82,14 @@ module _ (spec : Spec) (past : Past) (time ready : ℕ) (stable panic : Frac) wh
 
 -- ---- what the decider stands for after it
 
-module _ (old : DeciderState) (past : Past) (until time ready : ℕ) (stable panic : Frac) (p : Parts) (is : AreParts old.spec past time ready stable panic p) (stands : StandsFor old past until)
+module _ (old : DeciderState) (past : Past) (until time ready : ℕ) (stable panic : Frac) (p : Parts) (is : AreParts old.spec past time ready stable panic p) (stands : IsDeciderOf old past until)
     (new_panic : PanicState) (new_delay : DelayState) (new_zero : ZeroState) where
   pub stands_next : IsPanicOf new_panic (judged_by time p.counts (stable_window_ms old.spec) ∷ map (judged_of old.spec) past.decisions)
-      → IsDelayOf new_delay (asked_by (second_of time) p.undelayed ∷ map asked_of past.decisions)
+      → IsDelayOf new_delay (asked_at (second_of time) p.undelayed ∷ map asked_of past.decisions)
       → new_zero.standing ≡ with_mode time p.mode (with_answer time p.answer past.standing)
-      → StandsFor (record old { panic = new_panic; delay = new_delay; zero = new_zero }) (with_ruling time (ruling old.spec past time ready stable panic) past) until
+      → IsDeciderOf (record old { panic = new_panic; delay = new_delay; zero = new_zero }) (with_ruling time (ruling old.spec past time ready stable panic) past) until
   stands_next a b e =
-      subst (λ (r : Ruling). StandsFor (record old { panic = new_panic; delay = new_delay; zero = new_zero }) (with_ruling time r past) until) (ruled old.spec past time ready stable panic p is)
+      subst (λ (r : Ruling). IsDeciderOf (record old { panic = new_panic; delay = new_delay; zero = new_zero }) (with_ruling time r past) until) (ruled old.spec past time ready stable panic p is)
       (record {
         stable = stands.stable;
         panic_window = stands.panic_window;

@@ -6,16 +6,16 @@ use mathlib.Core.HLevel.{Unit-prop}
 use Rattle.std.proofs.lemmas.Bool.Decides.{nat_tests}
 use Rattle.kn_event.specs.declared.revision.Metric.{Metric}
 use Rattle.kn_event.specs.declared.units.Frac.{Frac}
-use Rattle.kn_scaling.specs.Average.{IsAverage, Samples, no_samples, window_average, with_run}
+use Rattle.kn_scaling.specs.Average.{IsAverage, Samples, no_samples, value_of, window_average, with_run}
 use Rattle.kn_scaling.specs.Decide.{Past, asked_of, judged_of}
 use Rattle.kn_scaling.specs.Worked.{run_of}
 use Rattle.kn_stats.specs.declared.closed.Closed.{Closed}
 use Rattle.kn_stats.specs.declared.closed.Run.{Run}
-use Rattle.kn_window.specs.Stands.{WindowState, StandsFor as IsWindowOf}
-use Rattle.kn_panic.specs.Stands.{StandsFor as IsPanicOf}
-use Rattle.kn_delay.specs.Stands.{StandsFor as IsDelayOf}
-use Rattle.kn_decider.specs.Closing.{IsOverAt, below, value_of, with_closed, with_closed_run}
-use Rattle.kn_decider.specs.Decider.{DeciderState, StandsFor}
+use Rattle.kn_window.specs.Stands.{WindowState, IsWindowOf}
+use Rattle.kn_panic.specs.Stands.{IsPanicOf}
+use Rattle.kn_delay.specs.Stands.{IsDelayOf}
+use Rattle.kn_decider.specs.Closing.{IsOverAt, below, with_closed, with_closed_run}
+use Rattle.kn_decider.specs.Decider.{DeciderState, IsDeciderOf}
 
 is_before : (s until : ℕ) → s < until → nat_lt s until ≡ true
 is_before s until lt = grind (arith, nat_tests)
@@ -73,7 +73,7 @@ closed_below m c samples until next le first rest s = by (cases_lt s next)
 abbrev pub Beside : Past → DeciderState → Type 0
 Beside past d = IsPanicOf d.panic (map (judged_of d.spec) past.decisions) × IsDelayOf d.delay (map asked_of past.decisions) × (d.zero.standing ≡ past.standing) × (d.reached ≡ past.reached)
 
-pub beside : (d : DeciderState) (past : Past) (until : ℕ) → StandsFor d past until → Beside past d
+pub beside : (d : DeciderState) (past : Past) (until : ℕ) → IsDeciderOf d past until → Beside past d
 beside d past until stands = (stands.panic, stands.delay, stands.standing, stands.reached)
 
 -- what a record of one run of seconds gives
@@ -84,8 +84,8 @@ pub record Records (old new : DeciderState) (run : Option Run) : Type 0 where
 
 pub closed_stands : ((w : WindowState) (f g : Samples) → ((s : ℕ) → f s ≡ g s) → IsWindowOf w f → IsWindowOf w g)
     → (old mid new : DeciderState) (c : Closed) → Records old mid c.first → Records mid new c.rest
-    → (past : Past) (until next : ℕ) → until ≤ next → IsOverAt next c.first → IsOverAt next c.rest → StandsFor old past until
-    → StandsFor new (record past { samples = with_closed old.spec.metric c (below until past.samples) }) next
+    → (past : Past) (until next : ℕ) → until ≤ next → IsOverAt next c.first → IsOverAt next c.rest → IsDeciderOf old past until
+    → IsDeciderOf new (record past { samples = with_closed old.spec.metric c (below until past.samples) }) next
 closed_stands same old mid new c first rest past until next le over_first over_rest stands =
     let m = old.spec.metric in
     let f = below until past.samples in
@@ -114,7 +114,7 @@ pub average_below : ((f g : Samples) (n end : ℕ) → ((s : ℕ) → s < end �
 average_below law samples until n end le = law (below until samples) samples n end (λ s lt. below_before samples until s (omega arith))
 
 module _ (law : (f g : Samples) (n end : ℕ) → ((s : ℕ) → s < end → f s ≡ g s) → window_average f n end ≡ window_average g n end)
-    (d : DeciderState) (past : Past) (until end : ℕ) (le : end ≤ until) (stands : StandsFor d past until) (average : Option Frac) where
+    (d : DeciderState) (past : Past) (until end : ℕ) (le : end ≤ until) (stands : IsDeciderOf d past until) (average : Option Frac) where
   seen : (m n : ℕ) → m ≡ n → average ≡ window_average (below until past.samples) m end → average ≡ window_average past.samples n end
   seen m n e h = h ∙ ap (λ k. window_average (below until past.samples) k end) e ∙ average_below law past.samples until n end le
 
@@ -145,7 +145,7 @@ below_same f g until same s = by (cases_lt s until)
 
 pub stands_same : ((w : WindowState) (f g : Samples) → ((s : ℕ) → f s ≡ g s) → IsWindowOf w f → IsWindowOf w g)
     → (d : DeciderState) (past : Past) (until : ℕ) (samples : Samples) → ((s : ℕ) → s < until → past.samples s ≡ samples s)
-    → StandsFor d past until → StandsFor d (record past { samples = samples }) until
+    → IsDeciderOf d past until → IsDeciderOf d (record past { samples = samples }) until
 stands_same same d past until samples agree stands =
     let inside = below_same past.samples samples until agree in
     record {

@@ -2,15 +2,10 @@
 use Rattle.std.specs.Prelude.{ℕ, ◌+◌, ◌*◌, ◌^◌, ◌<◌, ◌≤◌, nat_lt, Option, None, Some, IfSome, if◌then◌else◌}
 use Rattle.kn_event.specs.declared.revision.Metric.{Metric}
 use Rattle.kn_event.specs.declared.revision.Metric.TheVariants as metric
-use Rattle.kn_scaling.specs.Average.{Samples, with_run}
+use Rattle.kn_scaling.specs.Average.{Samples, value_of, with_run}
 use Rattle.kn_scaling.specs.Worked.{run_of}
 use Rattle.kn_stats.specs.declared.closed.Closed.{Closed}
 use Rattle.kn_stats.specs.declared.closed.Run.{Run}
-
--- what a second counts for: its load, or 1,000 for each request that came in it
-abbrev pub value_of : Metric → ℕ → ℕ → ℕ
-value_of metric.Concurrency load arrived = load
-value_of metric.Rps load arrived = 1000 * arrived
 
 -- with these seconds, where there are some and they are samples
 abbrev pub with_closed_run : Metric → Option Run → Samples → Samples

@@ -4,9 +4,9 @@ use Rattle.kn_event.specs.declared.revision.Spec.{Spec}
 use Rattle.kn_scaling.specs.Average.{no_samples}
 use Rattle.kn_scaling.specs.Decide.{Past, Ruling, asked_of, judged_of}
 use Rattle.kn_scaling.specs.declared.zero.Standing.{Standing}
-use Rattle.kn_window.specs.Stands.{WindowState, StandsFor as IsWindowOf}
-use Rattle.kn_panic.specs.Stands.{PanicState, StandsFor as IsPanicOf}
-use Rattle.kn_delay.specs.Stands.{DelayState, StandsFor as IsDelayOf}
+use Rattle.kn_window.specs.Stands.{WindowState, IsWindowOf}
+use Rattle.kn_panic.specs.Stands.{PanicState, IsPanicOf}
+use Rattle.kn_delay.specs.Stands.{DelayState, IsDelayOf}
 use Rattle.kn_zero.specs.Zero.{ZeroState, opening_standing, with_answer, with_mode, with_ready_pod}
 use Rattle.kn_decider.specs.Closing.{below}
 
@@ -20,7 +20,7 @@ pub record DeciderState : Type 0 where
   pub reached : Bool
 
 -- it stands for this past, of whose samples it has those below this second
-pub record StandsFor (d : DeciderState) (past : Past) (until : ℕ) : Type 0 where
+pub record IsDeciderOf (d : DeciderState) (past : Past) (until : ℕ) : Type 0 where
   pub stable : IsWindowOf d.stable (below until past.samples)
   pub panic_window : IsWindowOf d.panic_window (below until past.samples)
   pub panic : IsPanicOf d.panic (map (judged_of d.spec) past.decisions)

@@ -1,7 +1,7 @@
 -- What a Decider keeps of its parts.
 use Rattle.std.specs.Prelude.{◌≡◌}
 use Rattle.kn_scaling.specs.Average.{Samples}
-use Rattle.kn_window.specs.Stands.{StandsFor as IsWindowOf}
+use Rattle.kn_window.specs.Stands.{IsWindowOf}
 use Rattle.kn_zero.specs.Zero.{settings_of}
 use Rattle.kn_decider.specs.Decider.{DeciderState}
 

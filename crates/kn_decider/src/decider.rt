@@ -3,9 +3,9 @@ ghost use Rattle.kn_event.specs.declared.revision.Kind.TheVariants as kind;
 ghost use Rattle.kn_scaling.specs.Average.{IsAverage, Samples, second_of};
 ghost use Rattle.kn_scaling.specs.Burst.{is_activating};
 ghost use Rattle.kn_scaling.specs.Decide.{Past, decision_at, ruling, wake_decision_at};
-ghost use Rattle.kn_window.specs.Stands.{StandsFor as IsWindowOf};
+ghost use Rattle.kn_window.specs.Stands.{IsWindowOf};
 ghost use Rattle.kn_decider.specs.Closing.{CanClose, CanFollow, IsOverAt, below, end_after, with_closed, with_closed_run};
-ghost use Rattle.kn_decider.specs.Decider.{StandsFor, opening_past, with_ready, with_ruling, with_tick};
+ghost use Rattle.kn_decider.specs.Decider.{IsDeciderOf, opening_past, with_ready, with_ruling, with_tick};
 
 use crate::parts::{
     average_or_none, excess_burst, is_reached, one_request, stable_window_ms, value_of,
@@ -64,7 +64,7 @@ impl Decider {
     /// No second has closed, and no decision was made. The spec is that of a scaled revision, which opens at this time.
     pub fn new(alloc: Global, spec: &Spec, start: u64) -> Result<Decider, Memory>
         requires { spec.now.kind ≡ kind.Kpa }
-        ensures stands { (until : ℕ) → IfOk result (λ d. StandsFor d (opening_past spec.now start) until) }
+        ensures stands { (until : ℕ) → IfOk result (λ d. IsDeciderOf d (opening_past spec.now start) until) }
         ensures spec { IfOk result (λ d. d.spec ≡ spec.now) }
         ensures end { IfOk result (λ d. d.stable.end ≡ 0) }
         ensures last { IfOk result (λ d. d.delay.last ≡ 0) }
@@ -108,8 +108,8 @@ impl Decider {
     #[inline(always)]
     pub fn closed(&mut self, c: &Closed)
         requires { CanClose self.old.stable.end c.now }
-        ensures stands { (past : Past) (until next : ℕ) → until ≤ next → IsOverAt next c.now.first → IsOverAt next c.now.rest → StandsFor self.old past until
-            → StandsFor self.new (record past { samples = with_closed self.old.spec.metric c.now (below until past.samples) }) next }
+        ensures stands { (past : Past) (until next : ℕ) → until ≤ next → IsOverAt next c.now.first → IsOverAt next c.now.rest → IsDeciderOf self.old past until
+            → IsDeciderOf self.new (record past { samples = with_closed self.old.spec.metric c.now (below until past.samples) }) next }
         ensures end { self.new.stable.end ≡ end_after c.now.rest (end_after c.now.first self.old.stable.end) }
         ensures kept { self.new ≡ record self.old { stable = self.new.stable; panic_window = self.new.panic_window } }
     {
@@ -124,8 +124,8 @@ impl Decider {
         requires stable { IsAverage stable }
         requires panic { IsAverage panic }
         requires last { self.old.delay.last ≤ second_of time }
-        ensures decision { (past : Past) (until : ℕ) → StandsFor self.old past until → result ≡ (ruling self.old.spec past time ready stable panic).decision }
-        ensures stands { (past : Past) (until : ℕ) → StandsFor self.old past until → StandsFor self.new (with_ruling time (ruling self.old.spec past time ready stable panic) past) until }
+        ensures decision { (past : Past) (until : ℕ) → IsDeciderOf self.old past until → result ≡ (ruling self.old.spec past time ready stable panic).decision }
+        ensures stands { (past : Past) (until : ℕ) → IsDeciderOf self.old past until → IsDeciderOf self.new (with_ruling time (ruling self.old.spec past time ready stable panic) past) until }
         ensures last { self.new.delay.last ≡ second_of time }
         ensures kept { self.new ≡ record self.old { panic = self.new.panic; delay = self.new.delay; zero = self.new.zero } }
     {
@@ -162,10 +162,10 @@ impl Decider {
         requires ready { ready ≤ 500 }
         requires closed { self.old.stable.end ≤ second_of time }
         requires last { self.old.delay.last ≤ second_of time }
-        ensures decision { (past : Past) (until : ℕ) → second_of time ≤ until → StandsFor self.old past until
+        ensures decision { (past : Past) (until : ℕ) → second_of time ≤ until → IsDeciderOf self.old past until
             → result ≡ option_map (λ r. r.decision) (decision_at self.old.spec past time ready) }
-        ensures stands { (past : Past) (until : ℕ) → second_of time ≤ until → StandsFor self.old past until
-            → StandsFor self.new (with_tick time (decision_at self.old.spec past time ready) past) until }
+        ensures stands { (past : Past) (until : ℕ) → second_of time ≤ until → IsDeciderOf self.old past until
+            → IsDeciderOf self.new (with_tick time (decision_at self.old.spec past time ready) past) until }
         ensures none { IfNone result (self.new ≡ self.old) }
         ensures last { self.new.delay.last ≤ second_of time }
         ensures kept { self.new ≡ record self.old { panic = self.new.panic; delay = self.new.delay; zero = self.new.zero } }
@@ -185,8 +185,8 @@ impl Decider {
     pub fn poke(&mut self, time: u64, ready: u64) -> Decision
         requires ready { ready ≤ 500 }
         requires last { self.old.delay.last ≤ second_of time }
-        ensures decision { (past : Past) (until : ℕ) → StandsFor self.old past until → result ≡ (wake_decision_at self.old.spec past time ready).decision }
-        ensures stands { (past : Past) (until : ℕ) → StandsFor self.old past until → StandsFor self.new (with_ruling time (wake_decision_at self.old.spec past time ready) past) until }
+        ensures decision { (past : Past) (until : ℕ) → IsDeciderOf self.old past until → result ≡ (wake_decision_at self.old.spec past time ready).decision }
+        ensures stands { (past : Past) (until : ℕ) → IsDeciderOf self.old past until → IsDeciderOf self.new (with_ruling time (wake_decision_at self.old.spec past time ready) past) until }
         ensures last { self.new.delay.last ≡ second_of time }
         ensures kept { self.new ≡ record self.old { panic = self.new.panic; delay = self.new.delay; zero = self.new.zero } }
     {
@@ -196,8 +196,8 @@ impl Decider {
     /// A pod became Ready, and so many are now. Activating becomes active, which is the answer; and the initial scale is
     /// reached from the first time on that so many pods were Ready.
     pub fn pod_ready(&mut self, time: u64, ready: u64) -> bool
-        ensures answer { (past : Past) (until : ℕ) → StandsFor self.old past until → result ≡ is_activating past.standing.phase }
-        ensures stands { (past : Past) (until : ℕ) → StandsFor self.old past until → StandsFor self.new (with_ready self.old.spec time ready past) until }
+        ensures answer { (past : Past) (until : ℕ) → IsDeciderOf self.old past until → result ≡ is_activating past.standing.phase }
+        ensures stands { (past : Past) (until : ℕ) → IsDeciderOf self.old past until → IsDeciderOf self.new (with_ready self.old.spec time ready past) until }
         ensures kept { self.new ≡ record self.old { zero = self.new.zero; reached = self.new.reached } }
     {
         self.reached |= is_reached(&self.spec, ready);
@@ -207,7 +207,7 @@ impl Decider {
     /// The phase now.
     pub fn phase(&self) -> Phase
         ensures value { result ≡ self.now.zero.standing.phase }
-        ensures past { (past : Past) (until : ℕ) → StandsFor self.now past until → result ≡ past.standing.phase }
+        ensures past { (past : Past) (until : ℕ) → IsDeciderOf self.now past until → result ≡ past.standing.phase }
     {
         self.zero.standing().phase
     }
@@ -215,7 +215,7 @@ impl Decider {
     /// How requests reach the pods now.
     pub fn mode(&self) -> Mode
         ensures value { result ≡ self.now.zero.standing.mode }
-        ensures past { (past : Past) (until : ℕ) → StandsFor self.now past until → result ≡ past.standing.mode }
+        ensures past { (past : Past) (until : ℕ) → IsDeciderOf self.now past until → result ≡ past.standing.mode }
     {
         self.zero.standing().mode
     }
@@ -223,7 +223,7 @@ impl Decider {
     /// The pods wanted now.
     pub fn want(&self) -> u64
         ensures value { result ≡ self.now.zero.standing.want }
-        ensures past { (past : Past) (until : ℕ) → StandsFor self.now past until → result ≡ past.standing.want }
+        ensures past { (past : Past) (until : ℕ) → IsDeciderOf self.now past until → result ≡ past.standing.want }
     {
         self.zero.standing().want
     }

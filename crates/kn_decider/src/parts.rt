@@ -1,9 +1,8 @@
 //! What a Decider reads of its specification, and the averages that are constants.
 ghost use Rattle.std.specs.Prelude.{◌≡◌, ◌≤◌, nat_le, unwrap_or, IfSome};
-ghost use Rattle.kn_scaling.specs.Average.{IsAverage};
+ghost use Rattle.kn_scaling.specs.Average.{IsAverage, value_of};
 ghost use Rattle.kn_scaling.specs.Burst.{excess_burst};
 ghost use Rattle.kn_scaling.specs.Decide.{no_load, one_request, stable_window_ms};
-ghost use Rattle.kn_decider.specs.Closing.{value_of};
 
 use kn_burst::excess;
 use kn_event::{Frac, Metric, Spec};

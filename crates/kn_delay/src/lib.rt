@@ -5,8 +5,8 @@ mod peaks;
 
 ghost use Rattle.std.specs.Prelude.{◌≡◌, ◌≤◌, List, [], ◌∷◌, IfOk};
 ghost use Rattle.kn_scaling.specs.declared.delay.Asked.{Asked as AskedValue};
-ghost use Rattle.kn_scaling.specs.Delay.{delayed_count};
-ghost use Rattle.kn_delay.specs.Stands.{IsFalling, StandsFor, asked_by, falling_prop};
+ghost use Rattle.kn_scaling.specs.Delay.{asked_at, delayed_count};
+ghost use Rattle.kn_delay.specs.Stands.{IsFalling, IsDelayOf, falling_prop};
 
 use crate::peaks::greatest_with;
 use circular_buffer::HeapCircularBuffer;
@@ -38,7 +38,7 @@ impl Delay {
     /// No decision yet. A delay is 3,600 seconds at most. It takes all the memory that it will ever have.
     pub fn new(alloc: Global, seconds: u64) -> Result<Delay, Memory>
         requires { seconds ≤ 3600 }
-        ensures stands { IfOk result (λ delay. StandsFor delay []) }
+        ensures stands { IfOk result (λ delay. IsDelayOf delay []) }
         ensures seconds { IfOk result (λ delay. delay.seconds ≡ seconds) }
         ensures last { IfOk result (λ delay. delay.last ≡ 0) }
     {
@@ -56,8 +56,8 @@ impl Delay {
     /// than the delay before it, its own included.
     pub fn take(&mut self, second: u64, count: u64) -> u64
         requires { self.old.last ≤ second }
-        ensures count { (earlier : List AskedValue) → StandsFor self.old earlier → result ≡ delayed_count self.old.seconds (asked_by second count ∷ earlier) }
-        ensures stands { (earlier : List AskedValue) → StandsFor self.old earlier → StandsFor self.new (asked_by second count ∷ earlier) }
+        ensures count { (earlier : List AskedValue) → IsDelayOf self.old earlier → result ≡ delayed_count self.old.seconds (asked_at second count ∷ earlier) }
+        ensures stands { (earlier : List AskedValue) → IsDelayOf self.old earlier → IsDelayOf self.new (asked_at second count ∷ earlier) }
         ensures seconds { self.new.seconds ≡ self.old.seconds }
         ensures last { self.new.last ≡ second }
     {

@@ -12,7 +12,8 @@ use Rattle.kn_journal.specs.Causes.{Cause, error_of}
 use Rattle.kn_journal.specs.Lines.{lines}
 use Rattle.kn_journal.specs.Journal.{Read, next_part, none_read, read_events}
 use Rattle.kn_journal.specs.Telling.{Gives}
-use Rattle.kn_follow.specs.Endings.{EndsThere, Stops, Writes, status_by, status_of}
+use Rattle.kn_journal.specs.Reading.{EndsThere}
+use Rattle.kn_follow.specs.Endings.{Stops, Writes, status_by, status_of}
 use Rattle.kn_follow.specs.Following.{BreaksFollowing, Follows, ending, rest_of_text, ran}
 use Rattle.kn_report.specs.AddingLaws.{AddingLaws}
 use Rattle.kn_report.specs.Waiting.{Adds}

@@ -17,9 +17,9 @@ use Rattle.kn_journal.specs.Causes.{Cause}
 use Rattle.kn_journal.specs.Lines.{lines}
 use Rattle.kn_journal.specs.Parts.{part}
 use Rattle.kn_journal.specs.Journal.{Read, Verdict, bad, from_read, journal_of, opening_part, read_events, start_part, verdict, verdict_of_lines, verdict_on}
-use Rattle.kn_journal.specs.Reading.{Ahead, IsSpent, most_taken}
+use Rattle.kn_journal.specs.Reading.{Ahead, EndsThere, IsSpent, most_taken}
 use Rattle.kn_report.specs.AddingLaws.{AddingLaws}
-use Rattle.kn_follow.specs.Endings.{EndsThere, IsFollowed, Writes, status_of}
+use Rattle.kn_follow.specs.Endings.{IsFollowed, Writes, status_of}
 use Rattle.kn_follow.specs.Following.{FollowsInput, Opened, Opens, ending, rest_of_text, ran}
 use Rattle.kn_follow.specs.Account.{Account, account_of, text_of}
 

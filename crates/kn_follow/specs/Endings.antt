@@ -54,11 +54,6 @@ Stops waiting old new end result = ((result ≡ end) × Appends old new waiting)
 
 -- ---- what is left of the input
 
--- nothing is left of the bytes
-abbrev pub EndsThere : Option (List ℕ) → Option (List ℕ) → Type 0
-EndsThere None new = ⊤
-EndsThere (Some xs) new = new ≡ Some []
-
 -- a line that was read whole was refused
 abbrev pub IsRefusal : Status → Type 0
 IsRefusal (status.BadInput e) = IsLineFault e

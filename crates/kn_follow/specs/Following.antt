@@ -10,7 +10,7 @@ use Rattle.kn_journal.specs.declared.error.JournalError.TheVariants as error
 use Rattle.kn_journal.specs.declared.journal.Journal.{Journal}
 use Rattle.kn_journal.specs.declared.journal.Setup.{Setup}
 use Rattle.kn_journal.specs.declared.status.Status.{Status}
-use Rattle.kn_journal.specs.Causes.{Cause, error_of, no_end}
+use Rattle.kn_journal.specs.Causes.{Cause, IsGoodSoFar, error_of, no_end}
 use Rattle.kn_journal.specs.Journal.{Read, bad, opening_part, read_events, start_part, verdict, verdict_on}
 use Rattle.kn_journal.specs.Lines.{lines}
 use Rattle.kn_journal.specs.Parts.{part}
@@ -21,10 +21,6 @@ use Rattle.kn_follow.specs.Account.{Account, text_of}
 use Rattle.kn_follow.specs.Endings.{Writes, line_of, refusal_of, status_by}
 
 -- ---- where the source failed: of the bytes taken, the lines that ended with LF are all good, and no LF stands behind them
-
-abbrev pub IsGoodSoFar : Option Cause → Type 0
-IsGoodSoFar None = ⊤
-IsGoodSoFar (Some cause) = cause ≡ no_end
 
 -- they are this journal, maybe but for its end
 pub record BreaksAmid (xs : List ℕ) (left : Option (List ℕ)) (j : Journal) : Type 0 where

@@ -4,12 +4,12 @@ ghost use Rattle.kn_io.specs.Causes.{HasCause};
 ghost use Rattle.kn_io.specs.Prefix.{AppendsPrefix};
 ghost use Rattle.kn_event.specs.EventLine.{IsInJournalRange};
 ghost use Rattle.kn_core.specs.State.{StandsFor};
-ghost use Rattle.kn_journal.specs.Reading.{IsOver, unread};
+ghost use Rattle.kn_journal.specs.Reading.{EndsThere, IsOver, unread};
 ghost use Rattle.kn_report.specs.Waiting.{Adds};
 ghost use Rattle.kn_teller.specs.Run.{IsOpened, IsStep, Run, begun, later, now_of, trace};
 ghost use Rattle.kn_follow.specs.Calls.{Draws, IsBroken, IsCaused, IsNext, IsReady, IsSound};
 ghost use Rattle.kn_follow.specs.Cutting.{FollowsCut};
-ghost use Rattle.kn_follow.specs.Endings.{EndsThere, IsFollowed, IsRefusal, Stops};
+ghost use Rattle.kn_follow.specs.Endings.{IsFollowed, IsRefusal, Stops};
 ghost use Rattle.kn_follow.specs.Following.{Follows, FollowsBehind};
 
 use crate::ending::status_of;

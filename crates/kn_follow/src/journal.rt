@@ -1,12 +1,12 @@
 //! A journal that is followed, from its first byte to its last.
 ghost use Rattle.std.specs.Prelude.{◌≡◌, ◌⊎◌, ◌+◌, ◌-◌, ◌≤◌, Err, IfOk, IfErr, OnOk, None, false};
 ghost use Rattle.kn_io.specs.Causes.{Rose};
-ghost use Rattle.kn_journal.specs.Reading.{TakesText, most_taken, unread};
+ghost use Rattle.kn_journal.specs.Reading.{EndsThere, TakesText, most_taken, unread};
 ghost use Rattle.kn_journal.specs.Journal.{time_most};
 ghost use Rattle.kn_follow.specs.Account.{account_of};
 ghost use Rattle.kn_follow.specs.Calls.{Draws, IsBroken, IsSound};
 ghost use Rattle.kn_follow.specs.Cutting.{LeavesCut};
-ghost use Rattle.kn_follow.specs.Endings.{EndsThere, IsBehind, IsRefusal, IsReplayed, LeavesBehind, status_of};
+ghost use Rattle.kn_follow.specs.Endings.{IsBehind, IsRefusal, IsReplayed, LeavesBehind, status_of};
 ghost use Rattle.kn_follow.specs.Following.{FollowsInput, Opens};
 
 use crate::ending::status_of;

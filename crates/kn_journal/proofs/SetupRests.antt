@@ -8,10 +8,10 @@ use Rattle.kn_event.specs.declared.revision.Spec.{Spec}
 use Rattle.kn_config.specs.declared.config.Config.{Config}
 use Rattle.kn_config.specs.declared.config.ConfigError.{ConfigError}
 use Rattle.kn_config.specs.declared.config.ConfigError.TheVariants as config_fault
-use Rattle.kn_config.specs.Config.{config_of, Gives as GivesConfig}
+use Rattle.kn_config.specs.Config.{config_of, GivesConfig}
 use Rattle.kn_revision.specs.declared.error.SpecError.{SpecError}
 use Rattle.kn_revision.specs.declared.error.SpecError.TheVariants as spec_fault
-use Rattle.kn_revision.specs.Revision.{spec_of, Gives as GivesSpec}
+use Rattle.kn_revision.specs.Revision.{spec_of, GivesSpec}
 use Rattle.kn_journal.specs.declared.first.FirstLine.{FirstLine}
 use Rattle.kn_journal.specs.declared.error.JournalError.{JournalError}
 use Rattle.kn_journal.specs.declared.error.JournalError.TheVariants as error

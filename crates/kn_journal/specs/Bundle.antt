@@ -62,10 +62,6 @@ abbrev pub AreSetups : List Setup → Type 0
 AreSetups [] = Unit {0}
 AreSetups (s ∷ more) = IsSetup s × AreSetups more
 
--- of what was taken at a fault nothing is said
-abbrev pub Reaches : Option (List ℕ) → Option (List ℕ) → Type 0
-Reaches old new = ⊤
-
 -- both are of one revision
 abbrev pub is_same : Setup → Setup → Bool
 is_same x y = bytes_eq x.spec.namespace y.spec.namespace && bytes_eq x.spec.name y.spec.name

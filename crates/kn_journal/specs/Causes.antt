@@ -1,5 +1,5 @@
 -- Why a journal is refused: the first line that the grammar refuses. Lines are counted from 1, places in a line from 0.
-use Rattle.std.specs.Prelude.{ℕ}
+use Rattle.std.specs.Prelude.{ℕ, ◌≡◌, Option, None, Some, ⊤}
 use Rattle.kn_event.specs.declared.fault.LineError.{LineError}
 use Rattle.kn_journal.specs.declared.error.SetupError.{SetupError}
 use Rattle.kn_journal.specs.declared.first.FirstLine.{FirstLine}
@@ -33,3 +33,8 @@ error_of (time_too_large line) = error.TimeTooLarge line
 error_of no_end = error.NoEnd
 error_of (after_end line) = error.AfterEnd line
 error_of (too_many line) = error.TooMany line
+
+-- no line is refused, but maybe for its being missing
+abbrev pub IsGoodSoFar : Option Cause → Type 0
+IsGoodSoFar None = ⊤
+IsGoodSoFar (Some cause) = cause ≡ no_end

@@ -1,5 +1,5 @@
 -- What the calls that take lines say of them, from the bytes ahead of the source up to the part that they read.
-use Rattle.std.specs.Prelude.{◌≡◌, ℕ, ◌+◌, ◌<◌, ◌≤◌, Bool, true, List, ◌∷◌, ◌++◌, Contains, IfErr, Option, None, Some, Result, Ok, length, take, drop, slice_range}
+use Rattle.std.specs.Prelude.{◌≡◌, ℕ, ◌+◌, ◌<◌, ◌≤◌, Bool, true, List, ◌∷◌, ◌++◌, Contains, IfErr, Option, None, Some, Result, Ok, length, take, drop, slice_range, ⊤}
 use Rattle.kn_io.specs.declared.traits.Source.{Ghosts}
 use Rattle.kn_io.specs.declared.traits.Faulty.{Ghosts as Counted}
 use Rattle.kn_event.specs.declared.event.Event.{Event}
@@ -127,3 +127,15 @@ DrawsBy Amid old new own faulty before now r = Draws Amid (error_in r) old.input
 -- .. where a fault of the source stops it amid this part
 abbrev pub DrawsIn : {X T : Type 0} → (ℕ → List (List ℕ) → Result (Part T) Cause) → LinesState → LinesState → Ghosts X → Counted X → X → X → Result T JournalError → Type 0
 DrawsIn read old new own faulty before now r = DrawsBy (StopsAmid (read old.number)) old new own faulty before now r
+
+-- of what was taken at a fault nothing is said
+abbrev pub Anywhere : Option (List ℕ) → Option (List ℕ) → Type 0
+Anywhere old new = ⊤
+
+-- a call that reads this part of the lines behind the one read last
+abbrev pub Reads : {T : Type 0} → (ℕ → List (List ℕ) → Result (Part T) Cause) → LinesState → LinesState → Option (List ℕ) → Option (List ℕ) → Result T JournalError → Type 0
+Reads read old new before now r = Tells (read old.number) new.number (unread old.input before) (unread new.input now) r
+
+-- .. and what it does to its input and to its source
+abbrev pub DrawsLines : {X : Type 0} → Option JournalError → LinesState → LinesState → Ghosts X → Counted X → X → X → Type 0
+DrawsLines e old new own faulty before now = Draws Anywhere e old.input new.input own faulty before now

@@ -83,3 +83,8 @@ IsBalanced old new given_before given_now = given_before + (new.taken + length n
 -- nothing is ahead, or all bytes were taken that may be
 abbrev pub IsSpent : Ahead → Type 0
 IsSpent input = (input.taken ≤ most_taken) × ((input.ahead ≡ []) ⊎ (input.taken ≡ most_taken))
+
+-- nothing is left of the bytes
+abbrev pub EndsThere : Option (List ℕ) → Option (List ℕ) → Type 0
+EndsThere None new = ⊤
+EndsThere (Some xs) new = new ≡ Some []

@@ -1,5 +1,5 @@
 -- The exit statuses of programs.
-use Rattle.std.specs.Prelude.{ℕ}
+use Rattle.std.specs.Prelude.{ℕ, ⊤, ⊥}
 use Rattle.kn_journal.specs.declared.status.Status.{Status}
 use Rattle.kn_journal.specs.declared.status.Status.TheVariants as status
 
@@ -13,3 +13,9 @@ code_of status.WriteFault = 6
 code_of status.Memory = 7
 code_of (status.SlotFault k) = 8
 code_of status.ListenFault = 9
+
+-- nothing at all is written then
+abbrev pub WritesNone : Status → Type 0
+WritesNone status.Ok = ⊥
+WritesNone status.WriteFault = ⊥
+WritesNone _ = ⊤

@@ -1,8 +1,8 @@
 //! Setups of different revisions, one after the other.
 ghost use Rattle.std.specs.Prelude.{◌≡◌, IfOk, length};
 ghost use Rattle.std.specs.List.{list_any};
-ghost use Rattle.kn_journal.specs.LineCalls.{DrawsBy, TellsPart};
-ghost use Rattle.kn_journal.specs.Bundle.{AreSetups, Reaches, is_same, listed_part, new_part, setups_part};
+ghost use Rattle.kn_journal.specs.LineCalls.{Anywhere, DrawsBy, TellsPart};
+ghost use Rattle.kn_journal.specs.Bundle.{AreSetups, is_same, listed_part, new_part, setups_part};
 ghost use Rattle.kn_journal.specs.Journal.{IsSetup};
 
 use crate::error::{JournalError, SetupError};
@@ -38,7 +38,7 @@ fn read_new<S: Source>(
 ) -> Result<Setup, JournalError>
     ensures kept { IfOk result IsSetup }
     ensures tells { TellsPart (new_part before.now) lines.old lines.new S.Source.own source.old source.new result }
-    ensures source { DrawsBy Reaches lines.old lines.new S.Source.own S.Faulty source.old source.new result }
+    ensures source { DrawsBy Anywhere lines.old lines.new S.Source.own S.Faulty source.old source.new result }
 {
     let setup = read_setup(alloc, lines, source)?;
     if is_among(&setup, before) {
@@ -57,7 +57,7 @@ fn read_all<S: Source>(
     ensures kept { IfOk result AreSetups }
     ensures count { IfOk result (λ setups. length setups ≡ n) }
     ensures tells { TellsPart (λ k. setups_part k n) lines.old lines.new S.Source.own source.old source.new result }
-    ensures source { DrawsBy Reaches lines.old lines.new S.Source.own S.Faulty source.old source.new result }
+    ensures source { DrawsBy Anywhere lines.old lines.new S.Source.own S.Faulty source.old source.new result }
 {
     let mut setups = Vec::new(alloc);
     for _ in 0..n {
@@ -82,7 +82,7 @@ pub fn read_setups<S: Source>(
     ensures kept { IfOk result AreSetups }
     ensures count { IfOk result (λ setups. length setups ≡ n) }
     ensures tells { TellsPart (λ k. listed_part k n) lines.old lines.new S.Source.own source.old source.new result }
-    ensures source { DrawsBy Reaches lines.old lines.new S.Source.own S.Faulty source.old source.new result }
+    ensures source { DrawsBy Anywhere lines.old lines.new S.Source.own S.Faulty source.old source.new result }
 {
     match lines.first(source, FirstLine::Setups) {
         Ok(_) => {}

@@ -1,7 +1,7 @@
 //! A journal that is read call by call.
 ghost use Rattle.std.specs.Prelude.{◌≡◌, ◌≢◌, ◌+◌, ◌≤◌, ◌↔◌, ℕ, List, [], Option, Err, None, Contains, IfOk, IfSome, IsTrue, false, length, OnOk, true};
-ghost use Rattle.kn_journal.specs.LineCalls.{IsFromAhead, IsNextEvent, SparesSource};
-ghost use Rattle.kn_journal.specs.Bundle.{AreSetups, Reaches};
+ghost use Rattle.kn_journal.specs.LineCalls.{Anywhere, IsFromAhead, IsNextEvent, SparesSource};
+ghost use Rattle.kn_journal.specs.Bundle.{AreSetups};
 ghost use Rattle.kn_journal.specs.Calls.{AmidEvent, AmidOpening, BeginsJournal, DrawsOn, FailsForGood, KeepsJournal, OpensJournal, ReadsAhead, ReadsFirst, ReadsNext, ReadsOpening, ReadsPart, ReadsTo, TellsSetups};
 ghost use Rattle.kn_journal.specs.Journal.{IsSetup, nothing_part, start_part, time_most};
 ghost use Rattle.kn_journal.specs.Reading.{TakesPart, most_taken};
@@ -282,7 +282,7 @@ impl JournalReader {
         ensures kept { IfOk result AreSetups }
         ensures count { IfOk result (λ setups. length setups ≡ n) }
         ensures journal { KeepsJournal self.old self.new }
-        ensures source { DrawsOn Reaches self.old self.new S.Source.own S.Faulty source.old source.new result }
+        ensures source { DrawsOn Anywhere self.old self.new S.Source.own S.Faulty source.old source.new result }
         ensures fails { FailsForGood self.old self.new source.old source.new result }
     {
         if let Some(e) = self.failed {

@@ -10,13 +10,15 @@ use Rattle.kn_event.specs.declared.event.Act.{Act}
 use Rattle.kn_event.specs.declared.event.Act.TheVariants as act
 use Rattle.kn_event.specs.declared.event.Event.{Event}
 use Rattle.kn_event.specs.declared.revision.Spec.{Spec}
-use Rattle.kn_trace.specs.Trace.{Trace, entry, arrivals, contains, direct_turn, held, is_running, is_starting, live, live_pods, ready_pods, waiting}
+use Rattle.kn_event.specs.Lists.{contains}
+use Rattle.kn_trace.specs.Trace.{Trace, entry, arrivals, direct_turn, held, is_running, is_starting, live, live_pods, ready_pods, waiting}
 use Rattle.kn_trace.specs.Capacity.{breaker_full, pod_full}
 use Rattle.kn_trace.specs.Scale.{mode_of}
 use Rattle.kn_trace.specs.Settling.{assignments_of, held_assignments, promotions, removals, settling}
 use Rattle.kn_trace.specs.Events.{act_row, act_rows, activation, admission_row, arrival_row, before_settling, departures, direct_row, entries_of, expiries, live_most, losses, losses_at, lost_with, react, scaler_rows}
+use Rattle.kn_trace.specs.Report.{is_assign, is_expire}
 use Rattle.kn_laws.specs.ByAct.{AreByAct, IsByAct}
-use Rattle.kn_laws.specs.Kinds.{Each, is_assign_row, is_expire_row, is_remove_row, is_run_row, is_scaler_row, is_act_row, IsActRow, EachIs}
+use Rattle.kn_laws.specs.Kinds.{Each, is_remove_row, is_run_row, is_scaler_row, is_act_row, IsActRow, EachIs}
 use Rattle.kn_laws.proofs.Rows.{activation-rows, assignments-rows, expiries-rows, promotions-rows, removed-rows, scaler-rows}
 
 direct-facts : (c : Trace) (ps : List ℕ) (tag : ℕ) → IsActRow (act.Arrive tag) (Some (direct_row c ps))
@@ -100,7 +102,7 @@ by-rows : (a : Act) (test : Row → Bool) → ((x : Row) → test x ≡ true →
 by-rows a test is [] h = tt
 by-rows a test is (e ∷ es) h = (is e.row h.0, by-rows a test is es h.1)
 
-expire_by : (a : Act) (x : Row) → is_expire_row x ≡ true → IsByAct a x
+expire_by : (a : Act) (x : Row) → is_expire x ≡ true → IsByAct a x
 expire_by a (row.Expire r) h = tt
 expire_by a _ h = absurd (cc)
 
@@ -108,7 +110,7 @@ run_by_act : (a : Act) (x : Row) → is_run_row x ≡ true → IsByAct a x
 run_by_act a (row.Run r) h = tt
 run_by_act a _ h = absurd (cc)
 
-assign_by : (a : Act) (x : Row) → is_assign_row x ≡ true → IsByAct a x
+assign_by : (a : Act) (x : Row) → is_assign x ≡ true → IsByAct a x
 assign_by a (row.Assign r p) h = tt
 assign_by a _ h = absurd (cc)
 
@@ -169,12 +171,12 @@ react-by s c e =
     let P = IsByAct e.act in
     EachIs-append P ((gone ++ did) ++ active) ((ran ++ gave) ++ removals e.time ((d ++ ran) ++ gave))
     (EachIs-append P (gone ++ did) active
-    (EachIs-append P gone did (EachIs-append P late lost (by-rows e.act is_expire_row (expire_by e.act) late (expiries-rows s e.time c)) (losses_by e.time (c ++ late) e.act))
+    (EachIs-append P gone did (EachIs-append P late lost (by-rows e.act is_expire (expire_by e.act) late (expiries-rows s e.time c)) (losses_by e.time (c ++ late) e.act))
     (EachIs-append P own more (own_by s e.time (c ++ gone) e.act) (by-rows e.act is_scaler_row (scaler_by e.act) more (scaler-rows s.kind s e.time ((c ++ gone) ++ own) e.act (act_row s (c ++ gone) e.act)))))
     (by-rows e.act is_scaler_row (scaler_by e.act) active (activation-rows e.time ((c ++ gone) ++ did))))
     (EachIs-append P (ran ++ gave) (removals e.time ((d ++ ran) ++ gave))
     (EachIs-append P ran gave (by-rows e.act is_run_row (run_by_act e.act) ran (promotions-rows e.time d (live_pods d)))
-    (by-rows e.act is_assign_row (assign_by e.act) gave (assignments-rows s e.time (d ++ ran) (held (d ++ ran)))))
+    (by-rows e.act is_assign (assign_by e.act) gave (assignments-rows s e.time (d ++ ran) (held (d ++ ran)))))
     (by-rows e.act is_remove_row (remove_by e.act) (removals e.time ((d ++ ran) ++ gave)) (removals-rows e.time ((d ++ ran) ++ gave))))
 
 pub are_by_act : (s : Spec) (c : Trace) (e : Event) → AreByAct s c e

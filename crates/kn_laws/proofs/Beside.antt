@@ -7,7 +7,8 @@ use Rattle.kn_event.specs.declared.event.Act.{Act}
 use Rattle.kn_event.specs.declared.event.Act.TheVariants as act
 use Rattle.kn_event.specs.declared.event.Event.{Event}
 use Rattle.kn_event.specs.declared.revision.Spec.{Spec}
-use Rattle.kn_trace.specs.Trace.{Trace, entry, contains, live_pods}
+use Rattle.kn_event.specs.Lists.{contains}
+use Rattle.kn_trace.specs.Trace.{Trace, entry, live_pods}
 use Rattle.kn_trace.specs.Events.{act_row, expiries, trace_of}
 use Rattle.kn_trace.specs.Laws.{IsInert, IsSettled, is_refusal}
 use Rattle.kn_record.specs.Admission.{Admission, admission, stepped}

@@ -12,9 +12,11 @@ use Rattle.kn_event.specs.declared.event.Event.{Event}
 use Rattle.kn_event.specs.declared.revision.Kind.{Kind}
 use Rattle.kn_event.specs.declared.revision.Kind.TheVariants as kind
 use Rattle.kn_event.specs.declared.revision.Spec.{Spec}
+use Rattle.kn_event.specs.Lists.{contains}
 use Rattle.kn_scaling.specs.Decide.{Ruling}
-use Rattle.kn_trace.specs.Trace.{Trace, at_pod, contains, created, draining, entry, has_free_seat, held, is_empty, live_pods, queued_at, ready_pods}
-use Rattle.kn_trace.specs.Scale.{creations, decision_at, decision_rows, drain_order, is_same_mode, is_same_phase, mode_of, phase_of, scale_rows, tick_rows, tick_rows_of, wake_decision_at, wake_rows, wanted, where_true}
+use Rattle.kn_scaling.specs.Burst.{is_same_mode}
+use Rattle.kn_trace.specs.Trace.{Trace, at_pod, created, draining, entry, has_free_seat, held, is_empty, live_pods, queued_at, ready_pods}
+use Rattle.kn_trace.specs.Scale.{creations, decision_at, decision_rows, drain_order, is_in_phase, mode_of, phase_of, scale_rows, tick_rows, tick_rows_of, wake_decision_at, wake_rows, wanted, where_true}
 use Rattle.kn_trace.specs.Settling.{assignments_of, held_assignments, next_choice, promotions, promotions_at, removals, settling, while_chosen, while_free}
 use Rattle.kn_trace.specs.Events.{act_row, act_rows, activation, added, before_settling, departures, due, entries_of, expiries, losses, losses_at, lost_with, opening, opening_of, react, scaler_rows, trace_of, wake_where}
 use Rattle.kn_record.specs.Order.{AreTimesInOrder}
@@ -55,7 +57,7 @@ decision-at : (s : Spec) (t : ℕ) (c : Trace) (made : Ruling) → EachAt t (dec
 unfolding decision_rows scale_rows
 decision-at s t c made =
     let n = length (drain_order c) in
-    let phase = where_true (not (is_same_phase made.phase (phase_of c))) (entry t (row.Phase made.phase) ∷ []) in
+    let phase = where_true (not (is_in_phase made.phase (phase_of c))) (entry t (row.Phase made.phase) ∷ []) in
     let mode = where_true (not (is_same_mode made.decision.mode (mode_of c))) (entry t (row.Mode made.decision.mode) ∷ []) in
     let new = creations s t (created c) (made.decision.want - n) in
     let old = map (λ p. entry t (row.Drain p)) (take (n - made.decision.want) (drain_order c)) in
@@ -63,7 +65,7 @@ decision-at s t c made =
     let two : EachAt t (entry t (row.Mode made.decision.mode) ∷ []) = (refl, tt) in (
       refl,
       at-append t (phase ++ mode) (where_true made.decision.applied (new ++ old))
-          (at-append t phase mode (at-where t (not (is_same_phase made.phase (phase_of c))) _ one) (at-where t (not (is_same_mode made.decision.mode (mode_of c))) _ two))
+          (at-append t phase mode (at-where t (not (is_in_phase made.phase (phase_of c))) _ one) (at-where t (not (is_same_mode made.decision.mode (mode_of c))) _ two))
           (at-where t made.decision.applied (new ++ old) (at-append t new old (at-map t (λ p. row.Create p s.cc) (range_with_len (created c) (made.decision.want - n))) (at-map t row.Drain (take (n - made.decision.want) (drain_order c))))),
     )
 
@@ -119,7 +121,7 @@ activation-at : (t : ℕ) (c : Trace) → EachAt t (activation t c)
 unfolding activation
 activation-at t c =
     let one : EachAt t (entry t (row.Phase phase.Active) ∷ []) = (refl, tt) in
-    at-where t (is_same_phase phase.Activating (phase_of c) && not (is_empty (ready_pods c))) (entry t (row.Phase phase.Active) ∷ []) one
+    at-where t (is_in_phase phase.Activating (phase_of c) && not (is_empty (ready_pods c))) (entry t (row.Phase phase.Active) ∷ []) one
 
 -- each entry that an event adds has the event's time
 pub react-at : (s : Spec) (c : Trace) (e : Event) → EachAt e.time (react s c e)

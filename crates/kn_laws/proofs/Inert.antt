@@ -14,10 +14,11 @@ use Rattle.kn_event.specs.declared.event.Event.{Event}
 use Rattle.kn_event.specs.declared.revision.Kind.{Kind}
 use Rattle.kn_event.specs.declared.revision.Kind.TheVariants as kind
 use Rattle.kn_event.specs.declared.revision.Spec.{Spec}
+use Rattle.kn_event.specs.Lists.{contains}
 use Rattle.kn_trace.specs.Rows.{admitted_by, assigned_by, brought_to, phase_by}
-use Rattle.kn_trace.specs.Trace.{Trace, entry, assigned, at_pod, contains, draining, each_row, ended, has_begun, has_free_seat, has_not_begun, has_run, held, is_empty, is_held, is_running, limit_of, live_pods, queued_at, ready_pods, running_at, waiting}
+use Rattle.kn_trace.specs.Trace.{Trace, entry, assigned, at_pod, draining, each_row, ended, has_begun, has_free_seat, has_not_begun, has_run, held, is_empty, is_held, is_running, limit_of, live_pods, queued_at, ready_pods, running_at, waiting}
 use Rattle.kn_trace.specs.Capacity.{capacity, in_use}
-use Rattle.kn_trace.specs.Scale.{is_same_phase, phase_of, where_true}
+use Rattle.kn_trace.specs.Scale.{is_in_phase, phase_of, where_true}
 use Rattle.kn_trace.specs.Settling.{assignments_of, held_assignments, next_choice, promotions, promotions_at, removals, settling}
 use Rattle.kn_trace.specs.Events.{act_row, act_rows, activation, before_settling, departures, due, expiries, losses, losses_at, react, scaler_rows}
 use Rattle.kn_trace.specs.Laws.{IsInert, IsSettled, is_refusal}
@@ -88,9 +89,9 @@ runs_some c p h e = shut (limit_of c p) (rw e at h)
 -- nor does the phase change
 activation-none : (s : Spec) (t : ℕ) (c d : Trace) → IsSettled s c → Waned c d → activation t d ≡ []
 unfolding activation
-activation-none s t c d settled w = rw (w.ready, w.phase) (by (ready_pods c) refl (is_same_phase phase.Activating (phase_of c)) refl)
+activation-none s t c d settled w = rw (w.ready, w.phase) (by (ready_pods c) refl (is_in_phase phase.Activating (phase_of c)) refl)
   where
-    by : (l : List ℕ) → ready_pods c ≡ l → (b : Bool) → is_same_phase phase.Activating (phase_of c) ≡ b → where_true (b && not (is_empty l)) (entry t (row.Phase phase.Active) ∷ []) ≡ []
+    by : (l : List ℕ) → ready_pods c ≡ l → (b : Bool) → is_in_phase phase.Activating (phase_of c) ≡ b → where_true (b && not (is_empty l)) (entry t (row.Phase phase.Active) ∷ []) ≡ []
     by l e false f = refl
     by [] e true f = refl
     by (p ∷ l) e true f = absurd (let calm = settled.active p (rw (e, eq-eqb p p refl) refl) in cc)

@@ -6,8 +6,9 @@ use Rattle.kn_event.specs.declared.entry.Row.{Row}
 use Rattle.kn_event.specs.declared.entry.Row.TheVariants as row
 use Rattle.kn_event.specs.declared.event.Event.{Event}
 use Rattle.kn_event.specs.declared.revision.Spec.{Spec}
+use Rattle.kn_event.specs.Lists.{contains}
 use Rattle.kn_trace.specs.Rows.{brought_to, ended_by, outcome_by, refused_by, taken_by}
-use Rattle.kn_trace.specs.Trace.{Trace, arrivals, contains, each_row, ended, queued_at}
+use Rattle.kn_trace.specs.Trace.{Trace, arrivals, each_row, ended, queued_at}
 use Rattle.kn_trace.specs.Events.{trace_of}
 use Rattle.kn_trace.specs.Laws.{Always, IsFirstOutcome, IsLawful, IsRunnableAt, IsWithinLimits, RefusesFull, RemovesEmpty}
 use Rattle.kn_record.specs.Rows.{moved_by, named_by}

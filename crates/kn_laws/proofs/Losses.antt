@@ -11,7 +11,8 @@ use Rattle.kn_event.specs.declared.event.Act.{Act}
 use Rattle.kn_event.specs.declared.event.Act.TheVariants as act
 use Rattle.kn_event.specs.declared.event.Event.{Event}
 use Rattle.kn_event.specs.declared.revision.Spec.{Spec}
-use Rattle.kn_trace.specs.Trace.{Trace, at_pod, contains, each_row, entry, live}
+use Rattle.kn_event.specs.Lists.{contains}
+use Rattle.kn_trace.specs.Trace.{Trace, at_pod, each_row, entry, live}
 use Rattle.kn_trace.specs.Settling.{settling}
 use Rattle.kn_trace.specs.Events.{act_rows, activation, added, before_settling, departures, expiries, losses, lost_with, opening, react, trace_of}
 use Rattle.kn_record.specs.Made.{IsMade}

@@ -21,20 +21,22 @@ use Rattle.kn_scaling.specs.Average.{second_of, window_average}
 use Rattle.kn_scaling.specs.Decide.{Past, Ruling, decision_from_stable, no_load, one_request, ruling}
 use Rattle.kn_scaling.specs.Decide as scaling
 use Rattle.kn_scaling.specs.declared.zero.Standing.{Standing}
-use Rattle.kn_scaling.specs.Zero.{has_lasted, no_pods, some_pods, zero_rule, zero_rule_in}
+use Rattle.kn_scaling.specs.Zero.{has_lasted, no_pods, opening_phase, some_pods, zero_rule, zero_rule_in}
+use Rattle.kn_scaling.specs.Burst.{is_same_mode}
 use Rattle.kn_trace.specs.Rows.{decision_by, phase_by}
 use Rattle.kn_trace.specs.Trace.{Trace, entry, created, each_row, held, is_empty, live_pods, ready_pods}
-use Rattle.kn_trace.specs.Scale.{count_ready, creations, decision_at, decision_rows, drain_order, is_same_mode, is_same_phase, mode_of, opening_scale, past_of, phase_of, scale_rows, standing_of, tick_rows, tick_rows_of, wake_decision_at, wake_rows, wanted, where_true}
+use Rattle.kn_trace.specs.Scale.{count_ready, creations, decision_at, decision_rows, drain_order, is_in_phase, mode_of, opening_scale, past_of, phase_of, scale_rows, standing_of, tick_rows, tick_rows_of, wake_decision_at, wake_rows, wanted, where_true}
 use Rattle.kn_trace.specs.Settling.{assignments_of, held_assignments, promotions, removals, settling}
-use Rattle.kn_trace.specs.Events.{act_row, act_rows, activation, added, before_settling, entries_of, departures, opening, opening_of, opening_phase, react, scaler_rows, trace_of, wake_where}
+use Rattle.kn_trace.specs.Events.{act_row, act_rows, activation, added, before_settling, entries_of, departures, opening, opening_of, react, scaler_rows, trace_of, wake_where}
+use Rattle.kn_trace.specs.Report.{is_assign}
 use Rattle.kn_record.specs.Facts.{Facts}
 use Rattle.kn_laws.specs.Phases.{WantsByPhase}
-use Rattle.kn_laws.specs.Kinds.{Each, is_assign_row, is_departure_row, is_remove_row, is_run_row, is_act_row}
+use Rattle.kn_laws.specs.Kinds.{Each, is_departure_row, is_remove_row, is_run_row, is_act_row}
 use Rattle.kn_laws.proofs.Rows.{assignments-rows, departures-rows, promotions-rows}
 use Rattle.kn_laws.proofs.Acts.{act-rows, removals-rows}
 
 abbrev is_idle : Phase → Bool
-is_idle p = is_same_phase phase.Inactive (Some p)
+is_idle p = is_in_phase phase.Inactive (Some p)
 
 -- ---- the rule
 
@@ -116,7 +118,7 @@ run_plain : (x : Row) → is_run_row x ≡ true → (decision_by x ≡ None) × 
 run_plain (row.Run r) h = (refl, refl)
 run_plain _ h = absurd (cc)
 
-assign_plain : (x : Row) → is_assign_row x ≡ true → (decision_by x ≡ None) × (phase_by x ≡ None)
+assign_plain : (x : Row) → is_assign x ≡ true → (decision_by x ≡ None) × (phase_by x ≡ None)
 assign_plain (row.Assign r p) h = (refl, refl)
 assign_plain _ h = absurd (cc)
 
@@ -143,7 +145,7 @@ where-none : {X : Type 0} (f : Row → Option X) (b : Bool) (x : Entry) → f x.
 where-none f false x h = refl
 where-none f true x h = rw h refl
 
-same_is : (p : Phase) (o : Option Phase) → is_same_phase p o ≡ true → o ≡ Some p
+same_is : (p : Phase) (o : Option Phase) → is_in_phase p o ≡ true → o ≡ Some p
 same_is phase.Activating (Some phase.Activating) h = refl
 same_is phase.Active (Some phase.Active) h = refl
 same_is phase.Inactive (Some phase.Inactive) h = refl
@@ -153,7 +155,7 @@ same_is p o h = absurd (cc)
 stands_some : (s : Spec) (c : Trace) → s.kind ≡ kind.Kpa → WantsByPhase s c → unwrap_or (phase_of c) phase.Inactive ≡ phase.Activating → (wanted s c == 0) ≡ false
 stands_some s c scaled wants h = wants scaled ∙ by (phase_of c) h
   where
-    by : (o : Option Phase) → unwrap_or o phase.Inactive ≡ phase.Activating → is_same_phase phase.Inactive o ≡ false
+    by : (o : Option Phase) → unwrap_or o phase.Inactive ≡ phase.Activating → is_in_phase phase.Inactive o ≡ false
     by (Some phase.Activating) h = refl
     by (Some phase.Active) h = refl
     by (Some phase.Inactive) h = absurd (cc)
@@ -167,7 +169,7 @@ settling-wants s t c wants =
     let gave = assignments_of s t (c ++ ran) (held (c ++ ran)) in
     let gone = removals t ((c ++ ran) ++ gave) in
     let one = wants-each s is_run_row run_plain c ran (promotions-rows t c (live_pods c)) wants in
-    let two = wants-each s is_assign_row assign_plain (c ++ ran) gave (assignments-rows s t (c ++ ran) (held (c ++ ran))) one in
+    let two = wants-each s is_assign assign_plain (c ++ ran) gave (assignments-rows s t (c ++ ran) (held (c ++ ran))) one in
     let three = wants-each s is_remove_row remove_plain ((c ++ ran) ++ gave) gone (removals-rows t ((c ++ ran) ++ gave)) two in
     subst (λ (d : Trace). WantsByPhase s d) (append_assoc (c ++ ran) gave gone ∙ append_assoc c ran (gave ++ gone) ∙ ap (λ (l : Trace). c ++ l) (sym (append_assoc ran gave gone))) three
 
@@ -185,10 +187,10 @@ module _ (facts : Facts) where
   unfolding decision_rows
   decision-wants s t c made rules scaled =
       rw (sym (append_assoc c (x ∷ []) ((p ++ m) ++ sc)))
-      (rw (unwanted s (c ++ x ∷ []) ((p ++ m) ++ sc) tail, wanted-push s c x) (rules ∙ ap (λ (o : Option Phase). is_same_phase phase.Inactive o) (sym phases)))
+      (rw (unwanted s (c ++ x ∷ []) ((p ++ m) ++ sc) tail, wanted-push s c x) (rules ∙ ap (λ (o : Option Phase). is_in_phase phase.Inactive o) (sym phases)))
     where
       bp : Bool
-      bp = is_same_phase made.phase (phase_of c)
+      bp = is_in_phase made.phase (phase_of c)
 
       x : Entry
       x = entry t (row.Decided made.decision)
@@ -224,7 +226,7 @@ module _ (facts : Facts) where
       first : phase_of (c ++ x ∷ []) ≡ phase_of c
       first = phase_of-push c x
 
-      here : (b : Bool) → is_same_phase made.phase (phase_of c) ≡ b → phase_of ((c ++ x ∷ []) ++ where_true (not b) (y ∷ [])) ≡ Some made.phase
+      here : (b : Bool) → is_in_phase made.phase (phase_of c) ≡ b → phase_of ((c ++ x ∷ []) ++ where_true (not b) (y ∷ [])) ≡ Some made.phase
       here true e = rw (append-nil (c ++ x ∷ [])) (first ∙ same_is made.phase (phase_of c) e)
       here false e = phase_of-push (c ++ x ∷ []) y
 
@@ -257,19 +259,19 @@ module _ (facts : Facts) where
   -- activating or active, some pod is wanted
   activation-wants : (s : Spec) (t : ℕ) (c : Trace) → WantsByPhase s c → WantsByPhase s (c ++ activation t c)
   unfolding activation
-  activation-wants s t c wants scaled = by (is_same_phase phase.Activating (phase_of c)) refl (is_empty (ready_pods c))
+  activation-wants s t c wants scaled = by (is_in_phase phase.Activating (phase_of c)) refl (is_empty (ready_pods c))
     where
       x : Entry
       x = entry t (row.Phase phase.Active)
 
-      apart : (o : Option Phase) → is_same_phase phase.Activating o ≡ true → is_same_phase phase.Inactive o ≡ false
+      apart : (o : Option Phase) → is_in_phase phase.Activating o ≡ true → is_in_phase phase.Inactive o ≡ false
       apart (Some phase.Activating) h = refl
       apart (Some phase.Active) h = absurd (cc)
       apart (Some phase.Inactive) h = absurd (cc)
       apart None h = absurd (cc)
 
-      by : (a : Bool) → is_same_phase phase.Activating (phase_of c) ≡ a → (b : Bool)
-          → (wanted s (c ++ where_true (a && not b) (x ∷ [])) == 0) ≡ is_same_phase phase.Inactive (phase_of (c ++ where_true (a && not b) (x ∷ [])))
+      by : (a : Bool) → is_in_phase phase.Activating (phase_of c) ≡ a → (b : Bool)
+          → (wanted s (c ++ where_true (a && not b) (x ∷ [])) == 0) ≡ is_in_phase phase.Inactive (phase_of (c ++ where_true (a && not b) (x ∷ [])))
       by false e b = rw (append-nil c) (wants scaled)
       by true e true = rw (append-nil c) (wants scaled)
       by true e false = rw (wanted-push s c x, phase_of-push c x) (wants scaled ∙ apart (phase_of c) e)
@@ -306,7 +308,7 @@ module _ (facts : Facts) where
       first zero = refl
       first (suc n) = false_from_ne_true (suc n == 0) (λ h. let e : suc n ≡ 0 = eqb-true (suc n) 0 h in absurd (omega arith))
 
-      by : (k : Kind) → k ≡ kind.Kpa → (wanted s (opening_of k s start) == 0) ≡ is_same_phase phase.Inactive (phase_of (opening_of k s start))
+      by : (k : Kind) → k ≡ kind.Kpa → (wanted s (opening_of k s start) == 0) ≡ is_in_phase phase.Inactive (phase_of (opening_of k s start))
       by kind.Kpa h =
           rw (unwanted s (x ∷ []) new (made-none decision_by (λ p n. refl) s start (range_with_len 0 (opening_scale s))), unphased (x ∷ []) new (made-none phase_by (λ p n. refl) s start (range_with_len 0 (opening_scale s))))
           (rw (wanted-push s [] x, phase_of-push [] x, nothing_wanted s) (first (opening_scale s)))

@@ -12,17 +12,19 @@ use Rattle.kn_event.specs.declared.event.Event.{Event}
 use Rattle.kn_event.specs.declared.event.Stand.{Stand}
 use Rattle.kn_event.specs.declared.event.Stand.TheVariants as stand
 use Rattle.kn_event.specs.declared.revision.Spec.{Spec}
+use Rattle.kn_event.specs.Lists.{contains}
 use Rattle.kn_trace.specs.Rows.{decision_by, mode_by, phase_by}
-use Rattle.kn_trace.specs.Trace.{Trace, contains, entry, first_of, live_pods, stand_of}
+use Rattle.kn_trace.specs.Trace.{Trace, entry, first_of, live_pods, stand_of}
 use Rattle.kn_trace.specs.Scale.{decided_by, wanted}
 use Rattle.kn_trace.specs.Events.{act_row, act_rows, departures, entries_of, expiries, losses, losses_at, react, row_of, scaler_rows, told_of, told_row, told_stand, trace_of}
 use Rattle.kn_trace.specs.Laws.{IsSettled, is_refusal}
+use Rattle.kn_trace.specs.Report.{is_expire, is_loss}
 use Rattle.kn_record.specs.Admission.{pods}
 use Rattle.kn_record.specs.Made.{IsMade}
 use Rattle.kn_record.specs.Rows.{SaysNoPod}
 use Rattle.kn_record.specs.Facts.{Facts}
 use Rattle.kn_laws.specs.Refusals.{AddsRefusal, KeepsScale, RefusesByAnswer, is_told_refusal}
-use Rattle.kn_laws.specs.Kinds.{Each, is_expire_row, is_loss_row, is_scaler_row}
+use Rattle.kn_laws.specs.Kinds.{Each, is_scaler_row}
 use Rattle.kn_laws.proofs.Rows.{departures-same, expiries-rows, live_pods-each, loss_pods, losses-rows, scaler-rows}
 use Rattle.kn_laws.proofs.Inert.{no_loss, refusals_inert}
 use Rattle.kn_laws.proofs.Settles.{settled_trace}
@@ -133,7 +135,7 @@ module _ (facts : Facts) where
       more = losses e.time c1 e.act
 
       same : live_pods (c ++ (expiries s e.time c ++ more)) ≡ live_pods c1
-      same = ap live_pods (sym (append_assoc c (expiries s e.time c) more)) ∙ live_pods-each facts is_loss_row (loss_pods facts) c1 more (losses-rows e.time c1 e.act)
+      same = ap live_pods (sym (append_assoc c (expiries s e.time c) more)) ∙ live_pods-each facts is_loss (loss_pods facts) c1 more (losses-rows e.time c1 e.act)
 
       shut : (b : Bool) → contains p (live_pods (c ++ (expiries s e.time c ++ more))) ≡ b → b ≡ true → ⊥
       shut true k refl' = no (rw k at is)
@@ -180,11 +182,11 @@ module _ (facts : Facts) where
   refusal-scale (row.NoPod p) h = record { pod = says_no_pod (row.NoPod p) refl; phase = refl; mode = refl; decision = refl }
   refusal-scale _ h = absurd (cc)
 
-  expired-scale : (es : Trace) → Each is_expire_row es → EachSaysNoScale es
+  expired-scale : (es : Trace) → Each is_expire es → EachSaysNoScale es
   expired-scale [] h = tt
   expired-scale (e ∷ es) h = (by e.row h.0, expired-scale es h.1)
     where
-      by : (x : Row) → is_expire_row x ≡ true → SaysNoScale x
+      by : (x : Row) → is_expire x ≡ true → SaysNoScale x
       by (row.Expire r) k = expire-scale r
       by _ k = absurd (cc)
 

@@ -10,8 +10,9 @@ use Rattle.std.proofs.Math.Bool.{or-false}
 use Rattle.kn_event.specs.declared.entry.Entry.{Entry}
 use Rattle.kn_event.specs.declared.entry.Row.TheVariants as row
 use Rattle.kn_event.specs.declared.revision.Spec.{Spec}
+use Rattle.kn_event.specs.Lists.{contains}
 use Rattle.kn_trace.specs.Rows.{brought_to, created_by, drained_by, limit_by, readied_by, gone_by}
-use Rattle.kn_trace.specs.Trace.{Trace, entry, assigned, at_pod, contains, draining, each_row, ended, has_begun, has_free_seat, has_not_begun, has_run, held, is_draining, is_empty, is_live_pod, is_ready, is_running, limit_of, live_pods, queued_at, ready_pods, running_at}
+use Rattle.kn_trace.specs.Trace.{Trace, entry, assigned, at_pod, draining, each_row, ended, has_begun, has_free_seat, has_not_begun, has_run, held, is_draining, is_empty, is_live_pod, is_ready, is_running, limit_of, live_pods, queued_at, ready_pods, running_at}
 use Rattle.kn_trace.specs.Capacity.{capacity, in_use, seats_of}
 use Rattle.kn_trace.specs.Choice.{choice}
 use Rattle.kn_trace.specs.Settling.{assignments_of, next_choice, promotions, promotions_at, while_chosen, while_free}

@@ -11,28 +11,31 @@ use Rattle.kn_event.specs.declared.event.Event.{Event}
 use Rattle.kn_event.specs.declared.revision.Kind.{Kind}
 use Rattle.kn_event.specs.declared.revision.Kind.TheVariants as kind
 use Rattle.kn_event.specs.declared.revision.Spec.{Spec}
+use Rattle.kn_event.specs.Lists.{contains}
+use Rattle.kn_scaling.specs.Zero.{opening_phase}
 use Rattle.kn_trace.specs.Rows.{admitted_by, brought_to, created_by, drained_by, phase_by, readied_by}
-use Rattle.kn_trace.specs.Trace.{Trace, entry, at_pod, contains, draining, each_row, held, is_empty, is_ready, live_pods, queued_at, ready_pods}
-use Rattle.kn_trace.specs.Scale.{creations, is_same_phase, opening_scale, phase_of, where_true}
+use Rattle.kn_trace.specs.Trace.{Trace, entry, at_pod, draining, each_row, held, is_empty, is_ready, live_pods, queued_at, ready_pods}
+use Rattle.kn_trace.specs.Scale.{creations, is_in_phase, opening_scale, phase_of, where_true}
 use Rattle.kn_trace.specs.Settling.{assignments_of, held_assignments, promotions, removals, settling}
-use Rattle.kn_trace.specs.Events.{act_rows, activation, added, before_settling, departures, opening, opening_of, opening_phase, react, trace_of}
+use Rattle.kn_trace.specs.Events.{act_rows, activation, added, before_settling, departures, opening, opening_of, react, trace_of}
 use Rattle.kn_trace.specs.Laws.{IsSettled}
+use Rattle.kn_trace.specs.Report.{is_assign}
 use Rattle.kn_record.specs.Made.{IsMade}
 use Rattle.kn_record.specs.Kept.{Kept}
 use Rattle.kn_record.specs.Facts.{Facts}
-use Rattle.kn_laws.specs.Kinds.{is_assign_row, is_remove_row, is_run_row}
+use Rattle.kn_laws.specs.Kinds.{is_remove_row, is_run_row}
 use Rattle.kn_laws.proofs.Rows.{assign_pods, run_pods, assignments-rows, phase-each, promotions-rows, ready-each, removed-rows}
 use Rattle.kn_laws.proofs.Settled.{assignments-busy, assignments-filled, busier-then, draining_drained, filled-same, full-busier, promotions-busy, promotions-full, removals-drained, removed-busy, removed-seats}
 
 -- no pod is Ready while the phase is activating
 abbrev pub IsActive : Trace → Type 0
-IsActive c = (p : ℕ) → contains p (ready_pods c) ≡ true → is_same_phase phase.Activating (phase_of c) ≡ false
+IsActive c = (p : ℕ) → contains p (ready_pods c) ≡ true → is_in_phase phase.Activating (phase_of c) ≡ false
 
 run_phase : (x : Row) → is_run_row x ≡ true → phase_by x ≡ None
 run_phase (row.Run r) h = refl
 run_phase _ h = absurd (cc)
 
-assign_phase : (x : Row) → is_assign_row x ≡ true → phase_by x ≡ None
+assign_phase : (x : Row) → is_assign x ≡ true → phase_by x ≡ None
 assign_phase (row.Assign r p) h = refl
 assign_phase _ h = absurd (cc)
 
@@ -65,13 +68,13 @@ module _ (facts : Facts) where
   -- after the activation it is so
   pub activation-active : (t : ℕ) (c : Trace) → IsActive (c ++ activation t c)
   unfolding activation
-  activation-active t c p = by (is_same_phase phase.Activating (phase_of c)) refl (ready_pods c) refl
+  activation-active t c p = by (is_in_phase phase.Activating (phase_of c)) refl (ready_pods c) refl
     where
       x : Entry
       x = entry t (row.Phase phase.Active)
 
-      by : (b : Bool) → is_same_phase phase.Activating (phase_of c) ≡ b → (l : List ℕ) → ready_pods c ≡ l
-          → contains p (ready_pods (c ++ where_true (b && not (is_empty l)) (x ∷ []))) ≡ true → is_same_phase phase.Activating (phase_of (c ++ where_true (b && not (is_empty l)) (x ∷ []))) ≡ false
+      by : (b : Bool) → is_in_phase phase.Activating (phase_of c) ≡ b → (l : List ℕ) → ready_pods c ≡ l
+          → contains p (ready_pods (c ++ where_true (b && not (is_empty l)) (x ∷ []))) ≡ true → is_in_phase phase.Activating (phase_of (c ++ where_true (b && not (is_empty l)) (x ∷ []))) ≡ false
       by false e l f h = rw (append-nil c) e
       by true e [] f h = absurd (let none : contains p (ready_pods c) ≡ false = rw f refl in let some : contains p (ready_pods c) ≡ true = rw (append-nil c) at h in cc)
       by true e (q ∷ l) f h = rw (phase_of-push c x) refl
@@ -98,11 +101,11 @@ module _ (facts : Facts) where
       let homes = subst (λ (d : Trace). (p r : ℕ) → contains r (at_pod d p) ≡ true → contains p (live_pods d) ≡ true) (sym all) whole.homes in
       let phases : phase_of (c2 ++ rows) ≡ phase_of c =
       phase-each facts is_remove_row remove_phase c2 rows (removed-rows t gone)
-      ∙ phase-each facts is_assign_row assign_phase (c ++ ran) gave (assignments-rows s t (c ++ ran) (held (c ++ ran)))
+      ∙ phase-each facts is_assign assign_phase (c ++ ran) gave (assignments-rows s t (c ++ ran) (held (c ++ ran)))
       ∙ phase-each facts is_run_row run_phase c ran (promotions-rows t c (live_pods c)) in
       let pods : ready_pods (c2 ++ rows) ≡ ready_pods c =
       same.ready
-      ∙ ready-each facts is_assign_row (assign_pods facts) (c ++ ran) gave (assignments-rows s t (c ++ ran) (held (c ++ ran)))
+      ∙ ready-each facts is_assign (assign_pods facts) (c ++ ran) gave (assignments-rows s t (c ++ ran) (held (c ++ ran)))
       ∙ ready-each facts is_run_row (run_pods facts) c ran (promotions-rows t c (live_pods c)) in
       subst (λ (d : Trace). IsSettled s d) all (record {
         held = filled;

@@ -8,13 +8,15 @@ use Rattle.kn_event.specs.declared.event.Act.TheVariants as act
 use Rattle.kn_event.specs.declared.event.Event.{Event}
 use Rattle.kn_event.specs.declared.revision.Kind.{Kind}
 use Rattle.kn_event.specs.declared.revision.Spec.{Spec}
+use Rattle.kn_event.specs.Lists.{contains}
 use Rattle.kn_trace.specs.Events.{act_row, activation, departures, entries_of, expiries, opening, react, scaler_rows}
 use Rattle.kn_trace.specs.Laws.{IsSettled}
 use Rattle.kn_trace.specs.Settling.{assignments_of, promotions, removals}
-use Rattle.kn_trace.specs.Trace.{Trace, contains, draining, each_row, entry, running_at}
+use Rattle.kn_trace.specs.Trace.{Trace, draining, each_row, entry, running_at}
+use Rattle.kn_trace.specs.Report.{is_assign, is_expire}
 use Rattle.kn_record.specs.Rows.{SaysNoPod}
 use Rattle.kn_laws.specs.ByAct.{AreByAct}
-use Rattle.kn_laws.specs.Kinds.{Each, EachAt, IsActRow, is_act_row, is_assign_row, is_departure_row, is_expire_row, is_remove_row, is_run_row, is_scaler_row}
+use Rattle.kn_laws.specs.Kinds.{Each, EachAt, IsActRow, is_act_row, is_departure_row, is_remove_row, is_run_row, is_scaler_row}
 
 -- rows of a kind, and what they leave as it is
 pub record EachFacts : Type 0 where
@@ -26,14 +28,14 @@ pub record EachFacts : Type 0 where
   pub none-rows : (f : Row → Option ℕ) (test : Row → Bool) → ((x : Row) → test x ≡ true → f x ≡ None) → (es : Trace) → Each test es → each_row f es ≡ []
   -- runs and assignments say nothing of pods
   pub run_pods : (x : Row) → is_run_row x ≡ true → SaysNoPod x
-  pub assign_pods : (x : Row) → is_assign_row x ≡ true → SaysNoPod x
+  pub assign_pods : (x : Row) → is_assign x ≡ true → SaysNoPod x
   -- such rows leave the draining pods
   pub draining-each : (test : Row → Bool) → ((x : Row) → test x ≡ true → SaysNoPod x) → (c es : Trace) → Each test es → draining (c ++ es) ≡ draining c
 
 -- the rows that each part of an event adds
 pub record RowFacts : Type 0 where
   -- expiries are expire rows
-  pub expiries-rows : (s : Spec) (t : ℕ) (c : Trace) → Each is_expire_row (expiries s t c)
+  pub expiries-rows : (s : Spec) (t : ℕ) (c : Trace) → Each is_expire (expiries s t c)
   -- all that end before the act's own row are expired or lost
   pub departures-rows : (s : Spec) (c : Trace) (e : Event) → Each is_departure_row (departures s c e)
   -- only the loss of a pod ends anybody but the expired
@@ -51,7 +53,7 @@ pub record RowFacts : Type 0 where
   -- promotions are run rows
   pub promotions-rows : (t : ℕ) (c : Trace) (ps : List ℕ) → Each is_run_row (promotions t c ps)
   -- assignments are assign rows
-  pub assignments-rows : (s : Spec) (t : ℕ) (c : Trace) (rs : List ℕ) → Each is_assign_row (assignments_of s t c rs)
+  pub assignments-rows : (s : Spec) (t : ℕ) (c : Trace) (rs : List ℕ) → Each is_assign (assignments_of s t c rs)
   -- rows that remove pods are remove rows
   pub removed-rows : (t : ℕ) (ps : List ℕ) → Each is_remove_row (map (λ p. entry t (row.Remove p)) ps)
   -- so are the removals

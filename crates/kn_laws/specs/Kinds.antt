@@ -27,21 +27,9 @@ abbrev pub is_run_row : Row → Bool
 is_run_row (row.Run r) = true
 is_run_row _ = false
 
-abbrev pub is_assign_row : Row → Bool
-is_assign_row (row.Assign r p) = true
-is_assign_row _ = false
-
 abbrev pub is_remove_row : Row → Bool
 is_remove_row (row.Remove p) = true
 is_remove_row _ = false
-
-abbrev pub is_expire_row : Row → Bool
-is_expire_row (row.Expire r) = true
-is_expire_row _ = false
-
-abbrev pub is_loss_row : Row → Bool
-is_loss_row (row.LostRequest r) = true
-is_loss_row _ = false
 
 -- who ends before the act's own row
 abbrev pub is_departure_row : Row → Bool

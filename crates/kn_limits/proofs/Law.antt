@@ -8,18 +8,20 @@ use Rattle.kn_event.specs.declared.entry.Row.{Row}
 use Rattle.kn_event.specs.declared.entry.Row.TheVariants as row
 use Rattle.kn_event.specs.declared.event.Event.{Event}
 use Rattle.kn_event.specs.declared.revision.Spec.{Spec}
+use Rattle.kn_event.specs.Lists.{contains}
 use Rattle.kn_trace.specs.Events.{activation, act_row, act_rows, before_settling, departures, entries_of, react, scaler_rows}
 use Rattle.kn_trace.specs.Rows.{limit_by}
 use Rattle.kn_trace.specs.Settling.{assignments_of, held_assignments, promotions, removals, settling}
-use Rattle.kn_trace.specs.Trace.{Trace, contains, entry, has_free_seat, held, limit_of, live_pods, pod_of, queued_at, running_at}
+use Rattle.kn_trace.specs.Trace.{Trace, entry, has_free_seat, held, limit_of, live_pods, pod_of, queued_at, running_at}
+use Rattle.kn_trace.specs.Report.{is_assign}
 use Rattle.kn_record.specs.declared.admission.Request.{Request}
 use Rattle.kn_record.specs.Admission.{Admission, admission, live_after, placed_in, queues_at, stepped}
 use Rattle.kn_record.specs.Facts.{Facts}
-use Rattle.kn_record.specs.Made.{Holds, IsMade, IsProper, StandsFor}
+use Rattle.kn_record.specs.Made.{Holds, IsMade, IsProper, IsRecordOf}
 use Rattle.kn_record.specs.Order.{IsInOrder}
 use Rattle.kn_record.specs.Views.{AreViews}
 use Rattle.kn_laws.specs.Facts.{PartFacts}
-use Rattle.kn_laws.specs.Kinds.{Each, is_act_row, is_assign_row, is_departure_row, is_remove_row, is_run_row, is_scaler_row}
+use Rattle.kn_laws.specs.Kinds.{Each, is_act_row, is_departure_row, is_remove_row, is_run_row, is_scaler_row}
 use Rattle.kn_limits.specs.Limits.{seats_nobody, sets_no_limit}
 use Rattle.kn_limits.proofs.Counting.{false-true}
 use Rattle.kn_limits.proofs.Rows.{assign-elsewhere, assign-one, row-seats_nobody, run-elsewhere, run-one, running_in}
@@ -27,9 +29,9 @@ use Rattle.kn_limits.proofs.Rows.{assign-elsewhere, assign-one, row-seats_nobody
 -- what is used of the record
 pub record Laws : Type 0 where
   pub next : (s : Spec) (c : Trace) (t : ℕ) (x : Row) → IsMade s c → IsProper s c x → admission (c ++ entry t x ∷ []) ≡ stepped t x (admission c)
-  pub stands : (s : Spec) (c : Trace) → IsMade s c → StandsFor (admission c) c
-  pub views : (s : Spec) (a : Admission) (c : Trace) → StandsFor a c → AreViews s a c
-  pub order : (s : Spec) (a : Admission) (c : Trace) → IsMade s c → StandsFor a c → IsInOrder a
+  pub stands : (s : Spec) (c : Trace) → IsMade s c → IsRecordOf (admission c) c
+  pub views : (s : Spec) (a : Admission) (c : Trace) → IsRecordOf a c → AreViews s a c
+  pub order : (s : Spec) (a : Admission) (c : Trace) → IsMade s c → IsRecordOf a c → IsInOrder a
   pub made : (s : Spec) (c : Trace) (t : ℕ) (x : Row) → IsMade s c → IsProper s c x → IsMade s (c ++ entry t x ∷ [])
 
 length-numbers : (xs : List Request) → length (map (λ (q : Request). q.number) xs) ≡ length xs
@@ -162,7 +164,7 @@ module _ (laws : Laws) (facts : Facts) (parts : PartFacts) where
   running (row.Limit p n) e = e
   running _ e = refl
 
-  assigning : (x : Row) → is_assign_row x ≡ true → sets_no_limit x ≡ true
+  assigning : (x : Row) → is_assign x ≡ true → sets_no_limit x ≡ true
   assigning (row.Create p n) e = e
   assigning (row.Limit p n) e = e
   assigning _ e = refl
@@ -179,7 +181,7 @@ module _ (laws : Laws) (facts : Facts) (parts : PartFacts) where
       let gave = assignments_of s t (c ++ ran) (held (c ++ ran)) in
       let left = removals t ((c ++ ran) ++ gave) in
       let a = parts.each.Each-weaken is_run_row sets_no_limit running ran (parts.rows.promotions-rows t c (live_pods c)) in
-      let b = parts.each.Each-weaken is_assign_row sets_no_limit assigning gave (parts.rows.assignments-rows s t (c ++ ran) (held (c ++ ran))) in
+      let b = parts.each.Each-weaken is_assign sets_no_limit assigning gave (parts.rows.assignments-rows s t (c ++ ran) (held (c ++ ran))) in
       let d = parts.each.Each-weaken is_remove_row sets_no_limit removing left (parts.rows.removals-rows t ((c ++ ran) ++ gave)) in
       parts.each.Each-append sets_no_limit (ran ++ gave) left (parts.each.Each-append sets_no_limit ran gave a b) d
 

@@ -16,15 +16,17 @@ use Rattle.kn_event.specs.declared.event.Event.{Event}
 use Rattle.kn_event.specs.declared.revision.Kind.{Kind}
 use Rattle.kn_event.specs.declared.revision.Kind.TheVariants as kind
 use Rattle.kn_event.specs.declared.revision.Spec.{Spec}
+use Rattle.kn_event.specs.Lists.{contains}
 use Rattle.kn_trace.specs.Events.{activation, act_row, act_rows, before_settling, departures, entries_of, react, scaler_rows}
 use Rattle.kn_trace.specs.Rows.{created_by, drained_by, gone_by, limit_by}
-use Rattle.kn_trace.specs.Scale.{is_same_phase, phase_of, where_true}
+use Rattle.kn_trace.specs.Scale.{is_in_phase, phase_of, where_true}
 use Rattle.kn_trace.specs.Settling.{assignments_of, held_assignments, promotions, removals, settling}
-use Rattle.kn_trace.specs.Trace.{Trace, at_pod, contains, draining, each_row, entry, held, is_draining, is_live_pod, is_empty, last_of, limit_of, live_pods, ready_pods}
+use Rattle.kn_trace.specs.Trace.{Trace, at_pod, draining, each_row, entry, held, is_draining, is_live_pod, is_empty, last_of, limit_of, live_pods, ready_pods}
+use Rattle.kn_trace.specs.Report.{is_assign}
 use Rattle.kn_record.specs.Facts.{Facts}
 use Rattle.kn_record.specs.Rows.{says}
 use Rattle.kn_laws.specs.Facts.{PartFacts}
-use Rattle.kn_laws.specs.Kinds.{Each, EachIs, IsActRow, is_assign_row, is_departure_row, is_remove_row, is_run_row}
+use Rattle.kn_laws.specs.Kinds.{Each, EachIs, IsActRow, is_departure_row, is_remove_row, is_run_row}
 use Rattle.kn_limits.specs.Limits.{StaysPods}
 use Rattle.kn_limits.proofs.Counting.{false-true}
 
@@ -58,7 +60,7 @@ quiet_run q (row.Create p n) e = absurd (false-true e)
 quiet_run q (row.Limit p n) e = absurd (false-true e)
 quiet_run q _ e = refl
 
-quiet_assign : (q : ℕ) (x : Row) → is_assign_row x ≡ true → Quiet q x
+quiet_assign : (q : ℕ) (x : Row) → is_assign x ≡ true → Quiet q x
 quiet_assign q (row.Create p n) e = absurd (false-true e)
 quiet_assign q (row.Limit p n) e = absurd (false-true e)
 quiet_assign q _ e = refl
@@ -84,7 +86,7 @@ quiet_owns q t a (Some x) other is = (quiet_own q a x other is, tt)
 
 quiet_active : (q : ℕ) (t : ℕ) (c : Trace) → EachIs (Quiet q) (activation t c)
 unfolding activation
-quiet_active q t c = by (is_same_phase phase.Activating (phase_of c) && not (is_empty (ready_pods c)))
+quiet_active q t c = by (is_in_phase phase.Activating (phase_of c) && not (is_empty (ready_pods c)))
   where
     by : (b : Bool) → EachIs (Quiet q) (where_true b (entry t (row.Phase phase.Active) ∷ []))
     by true = (refl, tt)
@@ -109,7 +111,7 @@ module _ (facts : Facts) (parts : PartFacts) where
       let left = removals t ((c ++ ran) ++ gave) in
       each_both (Quiet q) (ran ++ gave) left (each_both (Quiet q) ran gave
       (each_is (Quiet q) is_run_row (quiet_run q) ran (parts.rows.promotions-rows t c (live_pods c)))
-      (each_is (Quiet q) is_assign_row (quiet_assign q) gave (parts.rows.assignments-rows s t (c ++ ran) (held (c ++ ran)))))
+      (each_is (Quiet q) is_assign (quiet_assign q) gave (parts.rows.assignments-rows s t (c ++ ran) (held (c ++ ran)))))
       (each_is (Quiet q) is_remove_row (quiet_remove q) left (parts.rows.removals-rows t ((c ++ ran) ++ gave)))
 
   quiet_before : (q : ℕ) (s : Spec) (c : Trace) (e : Event) → (pods : ℕ) → s.kind ≡ kind.Fixed pods → ((n : ℕ) → e.act ≡ act.Limit q n → ⊥) → EachIs (Quiet q) (before_settling s c e)
@@ -174,7 +176,7 @@ module _ (facts : Facts) (parts : PartFacts) where
   still_run (row.Run r) e = record { created = refl; drained = refl; gone = refl }
   still_run _ e = absurd (false-true e)
 
-  still_assign : (x : Row) → is_assign_row x ≡ true → Still x
+  still_assign : (x : Row) → is_assign x ≡ true → Still x
   still_assign (row.Assign r p) e = record { created = refl; drained = refl; gone = refl }
   still_assign _ e = absurd (false-true e)
 
@@ -191,7 +193,7 @@ module _ (facts : Facts) (parts : PartFacts) where
 
   still_active : (t : ℕ) (c : Trace) → EachIs Still (activation t c)
   unfolding activation
-  still_active t c = by (is_same_phase phase.Activating (phase_of c) && not (is_empty (ready_pods c)))
+  still_active t c = by (is_in_phase phase.Activating (phase_of c) && not (is_empty (ready_pods c)))
     where
       by : (b : Bool) → EachIs Still (where_true b (entry t (row.Phase phase.Active) ∷ []))
       by true = (record { created = refl; drained = refl; gone = refl }, tt)
@@ -221,7 +223,7 @@ module _ (facts : Facts) (parts : PartFacts) where
       let left = removals e.time last in
       let (live0, drain0) = still_all c first (still_before s c e pods fixed other) in
       let (live1, drain1) = still_all d ran (each_is Still is_run_row still_run ran (parts.rows.promotions-rows e.time d (live_pods d))) in
-      let (live2, drain2) = still_all (d ++ ran) gave (each_is Still is_assign_row still_assign gave (parts.rows.assignments-rows s e.time (d ++ ran) (held (d ++ ran)))) in
+      let (live2, drain2) = still_all (d ++ ran) gave (each_is Still is_assign still_assign gave (parts.rows.assignments-rows s e.time (d ++ ran) (held (d ++ ran)))) in
       let empty : draining last ≡ [] = drain2 ∙ (drain1 ∙ (drain0 ∙ none)) in
       let gone : left ≡ [] = ap (λ ps. map (λ p. entry e.time (row.Remove p)) (filter (λ p. is_empty (at_pod last p)) ps)) empty in
       let whole : c ++ (first ++ ((ran ++ gave) ++ left)) ≡ last = regroup c first ran gave left gone in

@@ -6,7 +6,7 @@ use Rattle.std.proofs.lemmas.Bool.{eqb-true}
 use Rattle.std.proofs.Common.{eq-eqb}
 use Rattle.kn_event.specs.declared.entry.Row.{Row}
 use Rattle.kn_event.specs.declared.entry.Row.TheVariants as row
-use Rattle.kn_trace.specs.Trace.{contains}
+use Rattle.kn_event.specs.Lists.{contains}
 use Rattle.kn_record.specs.declared.admission.Place.{Place}
 use Rattle.kn_record.specs.declared.admission.Place.TheVariants as place
 use Rattle.kn_record.specs.declared.admission.Request.{Request}

@@ -7,8 +7,9 @@ ghost use Rattle.kn_event.specs.declared.event.Act.TheVariants as act;
 ghost use Rattle.kn_event.specs.declared.event.Event.{Event};
 ghost use Rattle.kn_event.specs.declared.revision.Kind.TheVariants as kind;
 ghost use Rattle.kn_event.specs.declared.revision.Spec.{Spec};
+ghost use Rattle.kn_event.specs.Lists.{contains};
 ghost use Rattle.kn_trace.specs.Events.{react};
-ghost use Rattle.kn_trace.specs.Trace.{Trace, contains, draining, limit_of, live_pods, running_at};
+ghost use Rattle.kn_trace.specs.Trace.{Trace, draining, limit_of, live_pods, running_at};
 ghost use Rattle.kn_record.specs.Made.{IsMade};
 ghost use Rattle.kn_limits.specs.Limits.{StaysPods};
 

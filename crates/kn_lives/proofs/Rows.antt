@@ -9,14 +9,15 @@ use Rattle.kn_event.specs.declared.entry.Row.{Row}
 use Rattle.kn_event.specs.declared.entry.Row.TheVariants as row
 use Rattle.kn_event.specs.declared.event.Event.{Event}
 use Rattle.kn_event.specs.declared.revision.Spec.{Spec}
+use Rattle.kn_event.specs.Lists.{contains}
 use Rattle.kn_trace.specs.Events.{live_most}
-use Rattle.kn_trace.specs.Rows.{arrived_by, directed_by, ended_by, pod_by, taken_by}
-use Rattle.kn_trace.specs.Trace.{Trace, contains, live}
+use Rattle.kn_trace.specs.Rows.{arrived_by, begun_by, directed_by, ended_by, pod_by, taken_by}
+use Rattle.kn_trace.specs.Trace.{Trace, live}
 use Rattle.kn_record.specs.Facts.{Facts}
 use Rattle.kn_record.specs.Made.{IsNumbered, IsProper}
 use Rattle.kn_record.specs.Rows.{named_by, says}
 use Rattle.kn_lives.specs.declared.lives.Life.{Life}
-use Rattle.kn_lives.specs.Lives.{AreKnown, AreLiveBy, AreLives, ComesNext, begun_by, life_at, life_in}
+use Rattle.kn_lives.specs.Lives.{AreKnown, AreLiveBy, AreLives, ComesNext, life_at, life_in}
 use Rattle.kn_lives.proofs.Steps.{begins, below_next, forgets, idle_row, life_of-live, proper_live, takes_in}
 
 -- what a row that takes r in says beside

@@ -14,14 +14,15 @@ use Rattle.kn_event.specs.declared.entry.Row.{Row}
 use Rattle.kn_event.specs.declared.entry.Row.TheVariants as row
 use Rattle.kn_event.specs.declared.event.Event.{Event}
 use Rattle.kn_event.specs.declared.revision.Spec.{Spec}
-use Rattle.kn_trace.specs.Rows.{directed_by, ended_by, pod_by, taken_by}
-use Rattle.kn_trace.specs.Trace.{Trace, arrivals, contains, each_row, ended, last_of, live, pod_of}
+use Rattle.kn_event.specs.Lists.{contains, or_else}
+use Rattle.kn_trace.specs.Rows.{begun_by, directed_by, ended_by, pod_by, taken_by}
+use Rattle.kn_trace.specs.Trace.{Trace, arrivals, each_row, ended, last_of, live, pod_of}
 use Rattle.kn_record.specs.Facts.{Facts}
 use Rattle.kn_record.specs.Made.{IsNumbered, IsProper}
-use Rattle.kn_record.specs.Rows.{moved_by, named_by, or_else, says}
+use Rattle.kn_record.specs.Rows.{moved_by, named_by, says}
 use Rattle.kn_record.specs.Views.{others}
 use Rattle.kn_lives.specs.declared.lives.Life.{Life}
-use Rattle.kn_lives.specs.Lives.{AreLives, begun_by, life_at, life_in, life_of, tag_of, time_of}
+use Rattle.kn_lives.specs.Lives.{AreLives, life_at, life_in, life_of, tag_of, time_of}
 use Rattle.kn_lives.proofs.Pairs.{member_found}
 
 -- ---- times

@@ -13,18 +13,20 @@ use Rattle.kn_event.specs.declared.event.Act.{Act}
 use Rattle.kn_event.specs.declared.event.Act.TheVariants as act
 use Rattle.kn_event.specs.declared.event.Event.{Event}
 use Rattle.kn_event.specs.declared.revision.Spec.{Spec}
+use Rattle.kn_event.specs.Lists.{contains}
 use Rattle.kn_trace.specs.Capacity.{breaker_full, pod_full}
 use Rattle.kn_trace.specs.Events.{act_row, act_rows, activation, added, admission_row, arrival_row, before_settling, departures, entries_of, live_most, opening, react, scaler_rows, trace_of}
 use Rattle.kn_trace.specs.Rows.{arrived_by, taken_by}
 use Rattle.kn_trace.specs.Scale.{mode_of}
 use Rattle.kn_trace.specs.Settling.{assignments_of, held_assignments, promotions, removals, settling}
-use Rattle.kn_trace.specs.Trace.{Trace, arrivals, contains, direct_turn, each_row, held, live, live_pods, ready_pods}
+use Rattle.kn_trace.specs.Trace.{Trace, arrivals, direct_turn, each_row, held, live, live_pods, ready_pods}
+use Rattle.kn_trace.specs.Report.{is_assign}
 use Rattle.kn_record.specs.Facts.{Facts}
 use Rattle.kn_record.specs.Made.{IsMade, IsProper}
 use Rattle.kn_record.specs.Rows.{counted}
 use Rattle.kn_laws.specs.ByAct.{IsByAct}
 use Rattle.kn_laws.specs.Facts.{PartFacts}
-use Rattle.kn_laws.specs.Kinds.{Each, IsActRow, is_assign_row, is_departure_row, is_remove_row, is_run_row, is_scaler_row}
+use Rattle.kn_laws.specs.Kinds.{Each, IsActRow, is_departure_row, is_remove_row, is_run_row, is_scaler_row}
 use Rattle.kn_lives.specs.declared.lives.Life.{Life}
 use Rattle.kn_lives.specs.Lives.{AreLives, ComesNext, life_in, life_of, tag_by, tag_of, tags}
 
@@ -46,7 +48,7 @@ run_arrives : (x : Row) → is_run_row x ≡ true → arrived_by x ≡ None
 run_arrives (row.Run r) h = refl
 run_arrives _ h = absurd (cc)
 
-assign_arrives : (x : Row) → is_assign_row x ≡ true → arrived_by x ≡ None
+assign_arrives : (x : Row) → is_assign x ≡ true → arrived_by x ≡ None
 assign_arrives (row.Assign r p) h = refl
 assign_arrives _ h = absurd (cc)
 
@@ -134,7 +136,7 @@ module _ (facts : Facts) (parts : PartFacts) where
       let gave = assignments_of s t (c ++ ran) (held (c ++ ran)) in
       let gone = removals t ((c ++ ran) ++ gave) in
       let a = none is_run_row run_arrives ran (promotions-rows t c (live_pods c)) in
-      let b = none is_assign_row assign_arrives gave (assignments-rows s t (c ++ ran) (held (c ++ ran))) in
+      let b = none is_assign assign_arrives gave (assignments-rows s t (c ++ ran) (held (c ++ ran))) in
       let d = none is_remove_row remove_arrives gone (removals-rows t ((c ++ ran) ++ gave)) in
       let one = arrived-length ran gave in
       let two = arrived-length (ran ++ gave) gone in

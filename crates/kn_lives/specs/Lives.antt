@@ -10,9 +10,10 @@ use Rattle.kn_event.specs.declared.event.Act.{Act}
 use Rattle.kn_event.specs.declared.event.Act.TheVariants as act
 use Rattle.kn_event.specs.declared.event.Event.{Event}
 use Rattle.kn_event.specs.declared.revision.Spec.{Spec}
+use Rattle.kn_event.specs.Lists.{contains}
 use Rattle.kn_trace.specs.Events.{react, trace_of}
-use Rattle.kn_trace.specs.Rows.{arrived_by, directed_by, taken_by}
-use Rattle.kn_trace.specs.Trace.{Trace, arrivals, contains, each_row, last_of, live, pod_of}
+use Rattle.kn_trace.specs.Rows.{arrived_by, begun_by, directed_by, taken_by}
+use Rattle.kn_trace.specs.Trace.{Trace, arrivals, each_row, last_of, live, pod_of}
 use Rattle.kn_record.specs.Made.{IsMade, IsProper}
 use Rattle.kn_record.specs.Rows.{says}
 use Rattle.kn_lives.specs.declared.lives.Life.{Life}
@@ -33,12 +34,6 @@ unfoldable pub tag_of : List Event → ℕ → ℕ
 tag_of es r = slice_index (tags es) r
 
 -- ---- of a trace
-
--- the request that begins to run with the row: assigned, or with a run row of its own
-abbrev pub begun_by : Row → Option ℕ
-begun_by (row.Assign r p) = Some r
-begun_by (row.Run r) = Some r
-begun_by _ = None
 
 -- the time of the last row that says r of this kind
 unfoldable pub time_of : (Row → Option ℕ) → Trace → ℕ → Option ℕ
@@ -103,3 +98,12 @@ AreLiveBy said c x = (r : ℕ) → said x ≡ Some r → contains r (live c) ≡
 -- who is live has a life in the pairs
 abbrev pub AreKnown : List (ℕ × Life) → List Event → Trace → Type 0
 AreKnown l es c = (r : ℕ) → contains r (live c) ≡ true → life_at l r ≡ Some (life_in es c r)
+
+-- each of these rows comes next, one after the other
+abbrev pub ComeNext : Spec → List Event → ℕ → Trace → List Entry → Type 0
+ComeNext s es tag c xs = (before rest : Trace) (x : Entry)
+    → xs ≡ before ++ x ∷ rest → ComesNext s es tag (c ++ before) x.row
+
+-- when request r was taken in
+abbrev pub arrived_at : Trace → ℕ → ℕ
+arrived_at c r = unwrap_or (time_of taken_by c r) 0

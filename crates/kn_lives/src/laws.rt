@@ -5,10 +5,10 @@ ghost use Rattle.kn_event.specs.declared.entry.Row.{Row};
 ghost use Rattle.kn_event.specs.declared.event.Event.{Event};
 ghost use Rattle.kn_event.specs.declared.revision.Spec.{Spec};
 ghost use Rattle.kn_trace.specs.Events.{trace_of};
-ghost use Rattle.kn_trace.specs.Rows.{ended_by};
+ghost use Rattle.kn_trace.specs.Rows.{begun_by, ended_by};
 ghost use Rattle.kn_trace.specs.Trace.{Trace, arrivals};
 ghost use Rattle.kn_lives.specs.declared.lives.Life.{Life};
-ghost use Rattle.kn_lives.specs.Lives.{AreKnown, AreLiveBy, AreLives, ComeInTurn, ComesNext, StayLives, begun_by, by_row, tags};
+ghost use Rattle.kn_lives.specs.Lives.{AreKnown, AreLiveBy, AreLives, ComeInTurn, ComesNext, StayLives, by_row, tags};
 
 use kn_laws::parts::part_laws;
 use kn_record::facts::fact_laws;

@@ -12,9 +12,10 @@ use Rattle.kn_event.specs.declared.event.Act.TheVariants as act
 use Rattle.kn_event.specs.declared.event.Event.{Event}
 use Rattle.kn_event.specs.declared.event.Stand.TheVariants as stand
 use Rattle.kn_event.specs.declared.revision.Spec.{Spec}
+use Rattle.kn_event.specs.Lists.{contains}
 use Rattle.kn_trace.specs.Events.{react}
 use Rattle.kn_trace.specs.Rows.{arrived_by, ended_by, taken_by}
-use Rattle.kn_trace.specs.Trace.{Trace, arrivals, contains, each_row, ended, has_begun, live, pod_of, stand_of, stand_of_arrived, stand_where}
+use Rattle.kn_trace.specs.Trace.{Trace, arrivals, each_row, ended, has_begun, live, pod_of, stand_of, stand_of_arrived, stand_where}
 use Rattle.kn_record.specs.Facts.{Facts}
 use Rattle.kn_record.specs.Made.{IsMade}
 use Rattle.kn_laws.specs.ByAct.{AreByAct, IsByAct}

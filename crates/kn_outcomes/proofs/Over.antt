@@ -4,7 +4,8 @@ use Rattle.std.specs.Prelude.{cond, ◌==◌, slice_index_or}
 use Rattle.kn_event.specs.declared.event.Act.TheVariants as act
 use Rattle.kn_event.specs.declared.event.Event.{Event}
 use Rattle.kn_event.specs.declared.revision.Spec.{Spec}
-use Rattle.kn_trace.specs.Trace.{Trace, contains, live}
+use Rattle.kn_event.specs.Lists.{contains}
+use Rattle.kn_trace.specs.Trace.{Trace, live}
 use Rattle.kn_record.specs.Facts.{Facts}
 use Rattle.kn_record.specs.Made.{IsMade}
 use Rattle.kn_laws.specs.ByAct.{AreByAct}

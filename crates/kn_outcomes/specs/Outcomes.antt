@@ -3,8 +3,9 @@ use Rattle.std.specs.Prelude.{ℕ, ◌≡◌, ◌*◌, List, length}
 use Rattle.kn_event.specs.declared.revision.Spec.{Spec}
 use Rattle.kn_trace.specs.Trace.{Trace}
 use Rattle.kn_core.specs.State.{RevisionState, StandsFor}
+use Rattle.kn_core.specs.Gauges.{count_live}
 use Rattle.kn_cell.specs.declared.past.Past.{Past}
-use Rattle.kn_cell.specs.History.{live_of, trace_after}
+use Rattle.kn_cell.specs.History.{trace_after}
 use Rattle.kn_request.specs.declared.slot.Slot.{Slot}
 use Rattle.kn_request.specs.Terms.{Terms}
 use Rattle.kn_session.specs.Lasting.{SlotLasted}
@@ -15,7 +16,7 @@ use Rattle.kn_session.specs.Session.{IsOneHistory, MayBegin, SlotServed}
 
 -- no request is live after the whole history: each that was taken in has ended
 abbrev pub IsOver : RevisionState → List Past → Type 0
-IsOver b h = (c : Trace) → StandsFor b c → live_of (trace_after b.spec c h) ≡ 0
+IsOver b h = (c : Trace) → StandsFor b c → count_live (trace_after b.spec c h) ≡ 0
 
 -- so it is of the one history of a revision that began with no live request, where each of its slots lasted on these terms, whatever is
 -- told of it

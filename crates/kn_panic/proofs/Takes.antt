@@ -4,9 +4,9 @@ use Rattle.std.specs.Prelude.{Option, None, Some, option_map, if◌then◌else�
 use Rattle.std.specs.List.{find}
 use Rattle.kn_scaling.specs.declared.panic.Judged.{Judged}
 use Rattle.kn_scaling.specs.Panic.{is_over_decision, is_within_window, is_panicking, panicking_run, run_with, greater_count, greatest, greatest_after, greatest_of_run, undelayed_count}
-use Rattle.kn_panic.specs.Stands.{PanicState, StandsFor, last_moment, moment_after, is_moment_within}
+use Rattle.kn_panic.specs.Stands.{PanicState, IsPanicOf, last_moment, moment_after, is_moment_within}
 
-pub stands_for_none : StandsFor (record { moment = None; greatest = 0 }) []
+pub stands_for_none : IsPanicOf (record { moment = None; greatest = 0 }) []
 unfolding greatest_of_run panicking_run
 stands_for_none = record { moment = refl; greatest = refl }
 
@@ -39,22 +39,22 @@ pub record Takes (old new : PanicState) (panics : Bool) (d : Judged) : Type 0 wh
   pub within : panics ≡ is_moment_within d.time d.window_ms new.moment
   pub greatest : new.greatest ≡ greatest_after panics (greater_count d) old.greatest
 
-after_moment : (old new : PanicState) (b : Bool) (d : Judged) (ds : List Judged) → Takes old new b d → StandsFor old ds → new.moment ≡ last_moment (d ∷ ds)
+after_moment : (old new : PanicState) (b : Bool) (d : Judged) (ds : List Judged) → Takes old new b d → IsPanicOf old ds → new.moment ≡ last_moment (d ∷ ds)
 after_moment old new b d ds t s = t.moment ∙ ap (moment_after d.counts.over d.time) s.moment ∙ sym (moment_next d ds)
 
-pub after_panics : (old new : PanicState) (b : Bool) (d : Judged) (ds : List Judged) → Takes old new b d → StandsFor old ds → b ≡ is_panicking (d ∷ ds)
+pub after_panics : (old new : PanicState) (b : Bool) (d : Judged) (ds : List Judged) → Takes old new b d → IsPanicOf old ds → b ≡ is_panicking (d ∷ ds)
 after_panics old new b d ds t s = t.within ∙ ap (is_moment_within d.time d.window_ms) (after_moment old new b d ds t s) ∙ sym (panics_next d ds)
 
-after_greatest : (old new : PanicState) (b : Bool) (d : Judged) (ds : List Judged) → Takes old new b d → StandsFor old ds → new.greatest ≡ greatest_of_run (d ∷ ds)
+after_greatest : (old new : PanicState) (b : Bool) (d : Judged) (ds : List Judged) → Takes old new b d → IsPanicOf old ds → new.greatest ≡ greatest_of_run (d ∷ ds)
 after_greatest old new b d ds t s =
     t.greatest ∙ ap (greatest_after b (greater_count d)) s.greatest
     ∙ ap (λ x. greatest_after x (greater_count d) (greatest_of_run ds)) (after_panics old new b d ds t s) ∙ sym (greatest_next d ds)
 
-pub after_stands : (old new : PanicState) (b : Bool) (d : Judged) (ds : List Judged) → Takes old new b d → StandsFor old ds → StandsFor new (d ∷ ds)
+pub after_stands : (old new : PanicState) (b : Bool) (d : Judged) (ds : List Judged) → Takes old new b d → IsPanicOf old ds → IsPanicOf new (d ∷ ds)
 after_stands old new b d ds t s = record { moment = after_moment old new b d ds t s; greatest = after_greatest old new b d ds t s }
 
 pub after_count : (old new : PanicState) (b : Bool) (d : Judged) (ds : List Judged) (count : ℕ)
-    → count ≡ (if b then new.greatest else d.counts.stable_count) → Takes old new b d → StandsFor old ds → count ≡ undelayed_count (d ∷ ds)
+    → count ≡ (if b then new.greatest else d.counts.stable_count) → Takes old new b d → IsPanicOf old ds → count ≡ undelayed_count (d ∷ ds)
 unfolding undelayed_count
 after_count old new b d ds count e t s =
     e ∙ ap (λ x. if b then x else d.counts.stable_count) (after_greatest old new b d ds t s)

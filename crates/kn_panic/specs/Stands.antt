@@ -14,7 +14,7 @@ abbrev pub last_moment : List Judged → Option ℕ
 last_moment decisions = option_map (λ d. d.time) (find is_over_decision decisions)
 
 -- it stands for these earlier decisions, the latest first
-pub record StandsFor (state : PanicState) (decisions : List Judged) : Type 0 where
+pub record IsPanicOf (state : PanicState) (decisions : List Judged) : Type 0 where
   pub moment : state.moment ≡ last_moment decisions
   pub greatest : state.greatest ≡ greatest_of_run decisions
 

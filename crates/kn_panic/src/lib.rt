@@ -4,7 +4,7 @@
 ghost use Rattle.std.specs.Prelude.{◌≡◌, List, [], ◌∷◌, if◌then◌else◌};
 ghost use Rattle.kn_scaling.specs.declared.panic.Judged.{Judged};
 ghost use Rattle.kn_scaling.specs.Panic.{greatest_after, is_panicking, undelayed_count};
-ghost use Rattle.kn_panic.specs.Stands.{StandsFor, is_moment_within, judged_by, moment_after};
+ghost use Rattle.kn_panic.specs.Stands.{IsPanicOf, is_moment_within, judged_by, moment_after};
 
 use kn_event::Counts;
 use std::marker::Model;
@@ -36,7 +36,7 @@ impl Panic {
     /// No decision yet.
     #[tactic(auto, using(crate::proofs::Takes::stands_for_none))]
     pub fn new() -> Panic
-        ensures { StandsFor result [] }
+        ensures { IsPanicOf result [] }
     {
         Panic {
             moment: None,
@@ -47,9 +47,9 @@ impl Panic {
     /// One more decision, at a time in milliseconds. It panics where some decision up to it was over, and the last such
     /// one lies at most its window before it. Only a decision that doesn't panic breaks a run, and a pause doesn't.
     pub fn take(&mut self, time: u64, c: &Counts, window_ms: u64) -> Panicked
-        ensures panicking { (earlier : List Judged) → StandsFor self.old earlier → result.panicking ≡ is_panicking (judged_by time c.now window_ms ∷ earlier) }
-        ensures count { (earlier : List Judged) → StandsFor self.old earlier → result.count ≡ undelayed_count (judged_by time c.now window_ms ∷ earlier) }
-        ensures stands { (earlier : List Judged) → StandsFor self.old earlier → StandsFor self.new (judged_by time c.now window_ms ∷ earlier) }
+        ensures panicking { (earlier : List Judged) → IsPanicOf self.old earlier → result.panicking ≡ is_panicking (judged_by time c.now window_ms ∷ earlier) }
+        ensures count { (earlier : List Judged) → IsPanicOf self.old earlier → result.count ≡ undelayed_count (judged_by time c.now window_ms ∷ earlier) }
+        ensures stands { (earlier : List Judged) → IsPanicOf self.old earlier → IsPanicOf self.new (judged_by time c.now window_ms ∷ earlier) }
     {
         self.moment = moment_after(c.over, time, self.moment);
         let panicking = is_within(time, window_ms, self.moment);

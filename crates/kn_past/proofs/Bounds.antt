@@ -7,9 +7,9 @@ use Rattle.kn_event.specs.declared.revision.Metric.{Metric}
 use Rattle.kn_event.specs.declared.revision.Metric.TheVariants as metric
 use Rattle.kn_event.specs.declared.revision.Spec.{Spec}
 use Rattle.std.specs.Option.{IfSome}
-use Rattle.kn_scaling.specs.Average.{IsAverage, window_average}
+use Rattle.kn_scaling.specs.Average.{IsAverage, value_of, window_average}
 use Rattle.kn_trace.specs.Trace.{Trace, live}
-use Rattle.kn_trace.specs.Load.{count_in, entries_before, has_ready_pod, load_in, samples, spans, value_of}
+use Rattle.kn_trace.specs.Load.{count_in, entries_before, has_ready_pod, load_in, samples, spans}
 use Rattle.kn_record.specs.Made.{IsMade, IsProper}
 use Rattle.kn_record.specs.Facts.{Facts}
 use Rattle.kn_record.specs.Order.{AreTimesInOrder}

@@ -7,9 +7,10 @@ use Rattle.std.proofs.lemmas.List.Elements.{filter_map-append}
 use Rattle.std.proofs.lemmas.Bool.{or_parts, eq-eqb}
 use Rattle.kn_event.specs.declared.entry.Entry.{Entry}
 use Rattle.kn_trace.specs.Rows.{ended_by}
-use Rattle.kn_trace.specs.Trace.{Trace, contains, each_row, ended, first_of}
-use Rattle.kn_trace.specs.Load.{end_by, end_of, is_some_of}
+use Rattle.kn_trace.specs.Trace.{Trace, each_row, ended, first_of}
+use Rattle.kn_trace.specs.Load.{end_by, end_of}
 use Rattle.std.specs.Option.{option_or}
+use Rattle.kn_event.specs.Lists.{contains, is_some_of}
 
 first-push : (xs : List ℕ) (o : Option ℕ) → first_of (xs ++ cons_option o []) ≡ option_or (first_of xs) o
 first-push [] None = refl

@@ -6,10 +6,11 @@ use Rattle.std.specs.List.{cons_option, filter_map, sum_by}
 use Rattle.std.proofs.lemmas.List.Elements.{filter_map-append, filter-append}
 use Rattle.std.proofs.lemmas.List.Sums.{sum_by-append, sum_by-cons}
 use Rattle.kn_event.specs.declared.revision.Metric.{Metric}
+use Rattle.kn_event.specs.Lists.{is_some_of}
 use Rattle.kn_scaling.specs.Average.{window_average}
 use Rattle.kn_trace.specs.Rows.{ended_by, taken_by}
 use Rattle.kn_trace.specs.Trace.{Trace, first_of}
-use Rattle.kn_trace.specs.Load.{count_in, count_most, end_by, end_of, end_within, entries_before, has_ready_pod, is_some_of, load_in, samples, taken_in}
+use Rattle.kn_trace.specs.Load.{count_in, count_most, end_by, end_of, end_within, entries_before, has_ready_pod, load_in, samples, taken_in}
 use Rattle.kn_past.specs.Seconds.{AreFrom, end_of_second, sample_by}
 use Rattle.kn_past.proofs.Adds.{adds, adds_of, load-sum}
 use Rattle.kn_past.proofs.Below.{average_below}

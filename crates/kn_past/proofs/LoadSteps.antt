@@ -5,8 +5,9 @@ use Rattle.std.specs.List.{cons_option, sum_by}
 use Rattle.std.proofs.lemmas.List.Sums.{sum_by-cons}
 use Rattle.std.proofs.lemmas.Bool.{eqb-true, or_parts, ne_eqb, eqb-false}
 use Rattle.kn_event.specs.declared.entry.Entry.{Entry}
+use Rattle.kn_event.specs.Lists.{contains}
 use Rattle.kn_trace.specs.Rows.{taken_by}
-use Rattle.kn_trace.specs.Trace.{Trace, contains, each_row}
+use Rattle.kn_trace.specs.Trace.{Trace, each_row}
 use Rattle.kn_trace.specs.Load.{end_of, end_within, load_in}
 use Rattle.kn_record.specs.Made.{AreDistinct, IsNumbered}
 use Rattle.kn_past.specs.Loads.{after_in}

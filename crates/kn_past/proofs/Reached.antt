@@ -9,8 +9,9 @@ use Rattle.kn_event.specs.declared.entry.Entry.{Entry}
 use Rattle.kn_event.specs.declared.entry.Row.{Row}
 use Rattle.kn_event.specs.declared.entry.Row.TheVariants as row
 use Rattle.kn_event.specs.declared.revision.Spec.{Spec}
+use Rattle.kn_event.specs.Lists.{contains}
 use Rattle.kn_trace.specs.Rows.{created_by, drained_by, gone_by, readied_by}
-use Rattle.kn_trace.specs.Trace.{Trace, contains, each_row, is_live_pod, is_ready, ready_pods}
+use Rattle.kn_trace.specs.Trace.{Trace, each_row, is_live_pod, is_ready, ready_pods}
 use Rattle.kn_trace.specs.Scale.{count_ready, initial_reached}
 use Rattle.kn_past.specs.Changes.{leaves_pods}
 use Rattle.kn_past.proofs.Ranges.{any_parts, any_same, any_shift}

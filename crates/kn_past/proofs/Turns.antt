@@ -5,8 +5,9 @@ use Rattle.std.proofs.lemmas.Bool.{false_from_ne_true}
 use Rattle.kn_event.specs.declared.entry.Row.{Row}
 use Rattle.kn_event.specs.declared.entry.Row.TheVariants as row
 use Rattle.kn_event.specs.declared.revision.Spec.{Spec}
+use Rattle.kn_event.specs.Lists.{contains}
 use Rattle.kn_trace.specs.Rows.{ended_by, taken_by}
-use Rattle.kn_trace.specs.Trace.{Trace, arrivals, contains, each_row, ended, is_running, waiting}
+use Rattle.kn_trace.specs.Trace.{Trace, arrivals, each_row, ended, is_running, waiting}
 use Rattle.kn_record.specs.Made.{IsNumbered, IsProper}
 use Rattle.kn_record.specs.Facts.{Facts}
 

@@ -3,8 +3,9 @@ use Rattle.std.specs.Prelude.{◌≡◌, ℕ, true, ◌+◌, ◌-◌, ◌*◌, m
 use Rattle.std.specs.List.{sum_by}
 use Rattle.kn_event.specs.declared.entry.Entry.{Entry}
 use Rattle.kn_event.specs.declared.entry.Row.{Row}
+use Rattle.kn_event.specs.Lists.{contains}
 use Rattle.kn_trace.specs.Rows.{ended_by}
-use Rattle.kn_trace.specs.Trace.{Trace, contains, live}
+use Rattle.kn_trace.specs.Trace.{Trace, live}
 
 -- the milliseconds of second s that lie after this time
 abbrev pub after_in : ℕ → ℕ → ℕ

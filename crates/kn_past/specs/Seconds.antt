@@ -2,8 +2,7 @@
 use Rattle.std.specs.Prelude.{◌≡◌, ℕ, ◌+◌, ◌*◌, ◌<◌, ◌≤◌, [], ◌∷◌, Bool, ◌||◌, nat_lt, Option, Some, ⊤}
 use Rattle.std.specs.Bool.{then_some}
 use Rattle.kn_event.specs.declared.revision.Metric.{Metric}
-use Rattle.kn_scaling.specs.Average.{Samples}
-use Rattle.kn_trace.specs.Load.{value_of}
+use Rattle.kn_scaling.specs.Average.{Samples, value_of}
 use Rattle.kn_trace.specs.Trace.{Trace}
 
 -- the same of each second below this one

@@ -7,9 +7,10 @@ use Rattle.std.proofs.lemmas.List.Elements.{recursion_from_All}
 use Rattle.kn_event.specs.declared.entry.Row.{Row}
 use Rattle.kn_event.specs.declared.entry.Row.TheVariants as row
 use Rattle.kn_event.specs.declared.revision.Spec.{Spec}
+use Rattle.kn_event.specs.Lists.{contains}
 use Rattle.kn_scaling.specs.Average.{second_of}
 use Rattle.kn_trace.specs.Rows.{ended_by, gone_by}
-use Rattle.kn_trace.specs.Trace.{Trace, at_pod, contains, each_row, entry, live_pods, ready_pods}
+use Rattle.kn_trace.specs.Trace.{Trace, at_pod, each_row, entry, live_pods, ready_pods}
 use Rattle.kn_record.specs.declared.admission.Place.{Place}
 use Rattle.kn_record.specs.declared.admission.Place.TheVariants as place
 use Rattle.kn_record.specs.declared.admission.Pod.{Pod}
@@ -17,7 +18,7 @@ use Rattle.kn_record.specs.declared.admission.Readiness.{Readiness}
 use Rattle.kn_record.specs.declared.admission.Request.{Request}
 use Rattle.kn_record.specs.Admission.{Admission, admission, is_at, is_draining_now, is_held_place, is_ready_now, is_through, pods_in}
 use Rattle.kn_record.specs.Facts.{Facts}
-use Rattle.kn_record.specs.Made.{IsMade, IsNext, IsProper, StandsFor}
+use Rattle.kn_record.specs.Made.{IsMade, IsNext, IsProper, IsRecordOf}
 use Rattle.kn_record.specs.Order.{IsAmong, IsInOrder}
 use Rattle.kn_record.specs.Views.{AreViews, pod_numbers}
 use Rattle.kn_stats.specs.declared.change.Change.{Change}
@@ -25,7 +26,7 @@ use Rattle.kn_stats.specs.declared.change.Change.TheVariants as change
 use Rattle.kn_stats.specs.declared.tally.Tally.{Tally}
 use Rattle.kn_stats.specs.Changes.{TimedChange}
 use Rattle.kn_stats.specs.Pods.{anew_if, found, pod_after, put}
-use Rattle.kn_stats.specs.Stands.{CanChange, IsIdle, StandsFor as IsStatsOf, StatsState, changed, left_of, live_in}
+use Rattle.kn_stats.specs.Stands.{CanChange, IsIdle, IsStatsOf, StatsState, changed, left_of, live_in}
 use Rattle.kn_changes.specs.Changes.{change_by, changes_of, end_after}
 use Rattle.kn_places.specs.Counts.{AreCounted, is_past_at, is_through_at}
 use Rattle.kn_places.specs.Ends.{end_of_place}
@@ -102,9 +103,9 @@ module _ (stats : StatsState) (cs : List TimedChange) (gone : List ℕ) (live : 
 
 module _
     (facts : Facts)
-    (views : (s : Spec) (a : Admission) (c : Trace) → StandsFor a c → AreViews s a c)
-    (stands_of : (s : Spec) (c : Trace) → IsMade s c → StandsFor (admission c) c)
-    (order : (s : Spec) (a : Admission) (c : Trace) → IsMade s c → StandsFor a c → IsInOrder a)
+    (views : (s : Spec) (a : Admission) (c : Trace) → IsRecordOf a c → AreViews s a c)
+    (stands_of : (s : Spec) (c : Trace) → IsMade s c → IsRecordOf (admission c) c)
+    (order : (s : Spec) (a : Admission) (c : Trace) → IsMade s c → IsRecordOf a c → IsInOrder a)
   where
     in_live : (test : Readiness → Bool) (s : Spec) (c : Trace) (p : ℕ) → IsMade s c → contains p (pods_in test (admission c).pods) ≡ true → contains p (live_pods c) ≡ true
     in_live test s c p made h = subst (λ ps. contains p ps ≡ true) (sym (views s (admission c) c (stands_of s c made)).pods) (is_listed test p (admission c).pods h)
@@ -157,9 +158,9 @@ module _
         → AreKeptOf (changed change stats).pods (c ++ entry t x ∷ [])
     kept_changed s c t x change stats made proper is kept = subst (λ o. KeptIf o stats (c ++ entry t x ∷ [])) is (kept_if s c t x stats made proper kept)
 
-    module _ (counted_of : (s : Spec) (a : Admission) (c : Trace) → IsMade s c → StandsFor a c → AreCounted (changes_of c) a.live) where
+    module _ (counted_of : (s : Spec) (a : Admission) (c : Trace) → IsMade s c → IsRecordOf a c → AreCounted (changes_of c) a.live) where
       module _ (s : Spec) (c : Trace) (stats : StatsState) (made : IsMade s c) (measure : IsMeasureOf stats c) where
-        now : StandsFor (admission c) c
+        now : IsRecordOf (admission c) c
         now = stands_of s c made
 
         counted : AreCounted (changes_of c) (admission c).live

@@ -13,7 +13,7 @@ use Rattle.kn_record.specs.declared.admission.Place.{Place}
 use Rattle.kn_record.specs.declared.admission.Place.TheVariants as place
 use Rattle.kn_record.specs.Admission.{Admission, admission, begun, is_held_place, is_through, live_after, live_requests, stepped, without}
 use Rattle.kn_record.specs.Facts.{Facts}
-use Rattle.kn_record.specs.Made.{Holds, IsMade, IsProper, StandsFor}
+use Rattle.kn_record.specs.Made.{Holds, IsMade, IsProper, IsRecordOf}
 use Rattle.kn_record.specs.Views.{AreViews}
 use Rattle.kn_stats.specs.declared.change.Change.{Change}
 use Rattle.kn_stats.specs.declared.change.Change.TheVariants as change
@@ -123,14 +123,14 @@ count-none test = refl
 
 module _
     (facts : Facts)
-    (views : (s : Spec) (a : Admission) (c : Trace) → StandsFor a c → AreViews s a c)
-    (stands : (s : Spec) (c : Trace) → IsMade s c → StandsFor (admission c) c)
+    (views : (s : Spec) (a : Admission) (c : Trace) → IsRecordOf a c → AreViews s a c)
+    (stands : (s : Spec) (c : Trace) → IsMade s c → IsRecordOf (admission c) c)
     (admit : (s : Spec) (c : Trace) (t : ℕ) (x : Row) → IsMade s c → IsProper s c x → admission (c ++ entry t x ∷ []) ≡ stepped t x (admission c))
     (made_more : (s : Spec) (c : Trace) (t : ℕ) (x : Row) → IsMade s c → IsProper s c x → IsMade s (c ++ entry t x ∷ []))
     (more : (c : Trace) (e : Entry) → changes_of (c ++ e ∷ []) ≡ changes_of c ++ option_to_list (change_of c e))
   where
     module _ (begins ends : Change → Bool) (test : Place → Bool) (go : GoWith begins ends test) where
-      ended-counts : (s : Spec) (a : Admission) (c : Trace) (x : Row) (r : ℕ) → StandsFor a c → IsProper s c x → ended_by x ≡ Some r
+      ended-counts : (s : Spec) (a : Admission) (c : Trace) (x : Row) (r : ℕ) → IsRecordOf a c → IsProper s c x → ended_by x ≡ Some r
           → bit (begins (end_after c r)) + tally test a.live ≡ bit (ends (end_after c r)) + tally test (without r a.live)
       ended-counts s a c x r h proper is =
           let at = ends_at facts views s a c x r h proper is in
@@ -138,7 +138,7 @@ module _
           let over = go.ended at.0 in
           rw at.2 (omega (arith, less, over))
 
-      row-counts : (s : Spec) (a : Admission) (c : Trace) (t : ℕ) (x : Row) → StandsFor a c → IsProper s c x
+      row-counts : (s : Spec) (a : Admission) (c : Trace) (t : ℕ) (x : Row) → IsRecordOf a c → IsProper s c x
           → bit_if begins (change_by c x) + tally test a.live ≡ bit_if ends (change_by c x) + tally test (live_after t x a.live)
       row-counts s a c t (row.Admit r tag) h proper =
           let last = tally-last test (record { number = r; time = t; place = place.Held }) a.live in
@@ -186,7 +186,7 @@ module _
           let ended_none = count-none ends in
           leaves-all s [] c (record { rows = tt }) (omega (arith, begun_none, ended_none)) made.rows
 
-    pub are_counted : (s : Spec) (a : Admission) (c : Trace) → IsMade s c → StandsFor a c → AreCounted (changes_of c) a.live
+    pub are_counted : (s : Spec) (a : Admission) (c : Trace) → IsMade s c → IsRecordOf a c → AreCounted (changes_of c) a.live
     are_counted s a c made h =
         subst (λ (b : Admission). AreCounted (changes_of c) b.live) (sym h.kept)
         (record {

@@ -9,14 +9,15 @@ use Rattle.kn_event.specs.declared.entry.Row.{Row}
 use Rattle.kn_event.specs.declared.entry.Row.TheVariants as row
 use Rattle.kn_event.specs.declared.event.Stand.{Stand}
 use Rattle.kn_event.specs.declared.revision.Spec.{Spec}
+use Rattle.kn_event.specs.Lists.{contains}
 use Rattle.kn_trace.specs.Rows.{ended_by, taken_by}
-use Rattle.kn_trace.specs.Trace.{Trace, arrivals, assigned, contains, ended, has_begun, has_run, held, live, pod_of, proxied, stand_at, stand_of}
+use Rattle.kn_trace.specs.Trace.{Trace, arrivals, assigned, ended, has_begun, has_run, held, live, pod_of, proxied, stand_at, stand_of}
 use Rattle.kn_record.specs.declared.admission.Place.{Place}
 use Rattle.kn_record.specs.declared.admission.Place.TheVariants as place
 use Rattle.kn_record.specs.declared.admission.Request.{Request}
 use Rattle.kn_record.specs.Admission.{Admission, admission, is_at, is_held_place, live_requests, place_at, place_of, placed_in, request_of, runs_somewhere, waits}
 use Rattle.kn_record.specs.Facts.{Facts}
-use Rattle.kn_record.specs.Made.{AreDistinct, IsMade, IsProper, StandsFor}
+use Rattle.kn_record.specs.Made.{AreDistinct, IsMade, IsProper, IsRecordOf}
 use Rattle.kn_record.specs.Views.{AreViews, numbers_in}
 use Rattle.kn_changes.specs.Changes.{change_by, end_after, end_at}
 use Rattle.kn_places.specs.Ends.{IsToldOf, change_in, end_of, end_of_place}
@@ -59,7 +60,7 @@ ends_all : (c : Trace) (live : List Request) → AllByRecursion (IsPlaced c) liv
 ends_all c [] h = tt
 ends_all c (q ∷ qs) h = (ends_by_place c q.number ∙ ap end_of_place (sym h.0), ends_all c qs h.1)
 
-pub record_ends : (a : Admission) (c : Trace) → StandsFor a c → AllByRecursion (λ (q : Request). end_after c q.number ≡ end_of_place q.place) a.live
+pub record_ends : (a : Admission) (c : Trace) → IsRecordOf a c → AllByRecursion (λ (q : Request). end_after c q.number ≡ end_of_place q.place) a.live
 unfolding admission
 record_ends a c h = ends_all c a.live (subst (λ (b : Admission). AllByRecursion (IsPlaced c) b.live) (sym h.kept) (placed_requests c))
 
@@ -100,34 +101,34 @@ module _ (facts : Facts) where
       let below : nat_lt r (arrivals c) ≡ true = let lt = taken_comes c r numbered member.0 in grind (arith, nat_tests, lt) in
       rw (below, is_live, not_over (assigned c r) (ended c r) member.1) (end_at_stand (pod_of c r) (assigned c r) (has_begun c r))
 
-  module _ (views : (s : Spec) (a : Admission) (c : Trace) → StandsFor a c → AreViews s a c) where
+  module _ (views : (s : Spec) (a : Admission) (c : Trace) → IsRecordOf a c → AreViews s a c) where
     found : (a : Admission) (test : Place → Bool) (q r : ℕ) → contains q (placed_in test a.live) ≡ true → q ≡ r → (y : Place) × IsThere r y a.live
     found a test q r k is = let there = placed_there test q a.live k in (there.0, subst (λ n. IsThere n there.0 a.live) is there.2)
 
     -- who ends is there
-    pub ends_there : (s : Spec) (a : Admission) (c : Trace) (x : Row) (r : ℕ) → StandsFor a c → IsProper s c x → ended_by x ≡ Some r → (y : Place) × IsThere r y a.live
+    pub ends_there : (s : Spec) (a : Admission) (c : Trace) (x : Row) (r : ℕ) → IsRecordOf a c → IsProper s c x → ended_by x ≡ Some r → (y : Place) × IsThere r y a.live
     ends_there s a c (row.Finish q ok) r h proper is = found a runs_somewhere q r (sym ((views s a c h).is_running q) ∙ proper) (cc)
     ends_there s a c (row.Expire q) r h proper is = found a waits q r (subst (λ xs. contains q xs ≡ true) (views s a c h).waiting proper) (cc)
     ends_there s a c (row.Cancel q) r h proper is = found a waits q r (subst (λ xs. contains q xs ≡ true) (views s a c h).waiting proper) (cc)
     ends_there s a c (row.LostRequest q) r h proper is = found a (is_at proper.0) q r (sym ((views s a c h).is_at_pod proper.0 q) ∙ proper.1) (cc)
     ends_there s a c _ r h proper is = absurd (cc)
 
-    pub are_distinct : (s : Spec) (a : Admission) (c : Trace) → StandsFor a c → AreDistinct (numbers_in a.live)
+    pub are_distinct : (s : Spec) (a : Admission) (c : Trace) → IsRecordOf a c → AreDistinct (numbers_in a.live)
     are_distinct s a c h = subst AreDistinct (views s a c h).live (live_distinct c h.requests)
 
-    pub assigned_there : (s : Spec) (a : Admission) (c : Trace) (r p : ℕ) → StandsFor a c → IsProper s c (row.Assign r p) → IsThere r place.Held a.live
+    pub assigned_there : (s : Spec) (a : Admission) (c : Trace) (r p : ℕ) → IsRecordOf a c → IsProper s c (row.Assign r p) → IsThere r place.Held a.live
     assigned_there s a c r p h proper =
         let member = first_member r (held c) proper.first in
         let there = placed_there is_held_place r a.live (subst (λ xs. contains r xs ≡ true) (views s a c h).held member) in
         subst (λ y. IsThere r y a.live) (held_is there.0 there.1) there.2
 
-    pub ends_at : (s : Spec) (a : Admission) (c : Trace) (x : Row) (r : ℕ) → StandsFor a c → IsProper s c x → ended_by x ≡ Some r → (y : Place) × IsThere r y a.live × (end_after c r ≡ end_of_place y)
+    pub ends_at : (s : Spec) (a : Admission) (c : Trace) (x : Row) (r : ℕ) → IsRecordOf a c → IsProper s c x → ended_by x ≡ Some r → (y : Place) × IsThere r y a.live × (end_after c r ≡ end_of_place y)
     ends_at s a c x r h proper is =
         let there = ends_there s a c x r h proper is in
         (there.0, there.1, there_ends r there.0 c a.live (record_ends a c h) there.1)
 
     -- so a row changes what is said of it
-    pub change_is : (s : Spec) (c : Trace) (x : Row) (at : Stand) (through : Bool) → StandsFor (admission c) c → IsMade s c → IsProper s c x → IsToldOf c x at through → change_in x at through ≡ change_by c x
+    pub change_is : (s : Spec) (c : Trace) (x : Row) (at : Stand) (through : Bool) → IsRecordOf (admission c) c → IsMade s c → IsProper s c x → IsToldOf c x at through → change_in x at through ≡ change_by c x
     change_is s c x at through h made proper told = by x proper told
       where
         ended : (y : Row) (r : ℕ) → IsProper s c y → IsToldOf c y at through → ended_by y ≡ Some r → Some (end_of at through) ≡ Some (end_after c r)

@@ -4,8 +4,9 @@ use Rattle.std.specs.Prelude.{◌==◌, ◌||◌, ◌&&◌, not, nat_lt, if◌th
 use Rattle.std.proofs.lemmas.Bool.{eqb-true}
 use Rattle.std.proofs.lemmas.List.{length-map}
 use Rattle.kn_event.specs.declared.entry.Entry.{Entry}
+use Rattle.kn_event.specs.Lists.{contains}
 use Rattle.kn_trace.specs.Rows.{created_by, gone_by}
-use Rattle.kn_trace.specs.Trace.{Trace, contains, each_row, is_live_pod, live_pods}
+use Rattle.kn_trace.specs.Trace.{Trace, each_row, is_live_pod, live_pods}
 use Rattle.kn_record.specs.Facts.{Facts}
 use Rattle.kn_record.specs.Made.{AreDistinct, ArePodsNumbered}
 use Rattle.kn_record.specs.Rows.{says}

@@ -2,11 +2,12 @@
 use Rattle.std.specs.Prelude.{◌≡◌, ℕ, ◌≤◌, true, List, length, map, ⊤}
 use Rattle.kn_event.specs.declared.entry.Row.{Row}
 use Rattle.kn_event.specs.declared.entry.Row.TheVariants as row
+use Rattle.kn_event.specs.Lists.{contains}
 use Rattle.kn_trace.specs.Rows.{gone_by}
-use Rattle.kn_trace.specs.Trace.{Trace, contains, each_row, live_pods}
+use Rattle.kn_trace.specs.Trace.{Trace, each_row, live_pods}
 use Rattle.kn_stats.specs.declared.tally.PodTally.{PodTally}
 use Rattle.kn_stats.specs.Pods.{IsSorted}
-use Rattle.kn_stats.specs.Stands.{StatsState, StandsFor as IsStatsOf}
+use Rattle.kn_stats.specs.Stands.{StatsState, IsStatsOf}
 use Rattle.kn_changes.specs.Changes.{changes_of}
 
 abbrev pub numbers_of : List PodTally → List ℕ

@@ -3,11 +3,12 @@ ghost use Rattle.std.specs.Prelude.{◌≡◌, ℕ, ◌++◌, List, [], ◌∷�
 ghost use Rattle.kn_event.specs.declared.entry.Row.{Row};
 ghost use Rattle.kn_event.specs.declared.event.Stand.{Stand};
 ghost use Rattle.kn_event.specs.declared.revision.Spec.{Spec};
+ghost use Rattle.kn_event.specs.Lists.{contains};
 ghost use Rattle.kn_trace.specs.Rows.{gone_by};
-ghost use Rattle.kn_trace.specs.Trace.{Trace, contains, entry, live, proxied, stand_of};
+ghost use Rattle.kn_trace.specs.Trace.{Trace, entry, live, proxied, stand_of};
 ghost use Rattle.kn_record.specs.declared.admission.Request.{Request};
 ghost use Rattle.kn_record.specs.Admission.{Admission, place_of};
-ghost use Rattle.kn_record.specs.Made.{IsMade, IsProper, StandsFor};
+ghost use Rattle.kn_record.specs.Made.{IsMade, IsProper, IsRecordOf};
 ghost use Rattle.kn_stats.specs.declared.change.Change.{Change};
 ghost use Rattle.kn_stats.specs.declared.tally.PodTally.{PodTally};
 ghost use Rattle.kn_stats.specs.Pods.{without_pod};
@@ -25,7 +26,7 @@ use kn_record::facts::fact_laws;
 /// is what is said of the row with these.
 pub fn place_laws()
     ensures place { (c : Trace) (r : ℕ) → end_after c r ≡ end_of_place (place_of c r) }
-    ensures record_place { (a : Admission) (c : Trace) → StandsFor a c → All (λ (q : Request). end_after c q.number ≡ end_of_place q.place) a.live }
+    ensures record_place { (a : Admission) (c : Trace) → IsRecordOf a c → All (λ (q : Request). end_after c q.number ≡ end_of_place q.place) a.live }
     ensures stand { (s : Spec) (c : Trace) (r : ℕ) → IsMade s c → contains r (live c) ≡ true → end_after c r ≡ end_of (stand_of c r) (proxied c r) }
     ensures change { (s : Spec) (c : Trace) (x : Row) (at : Stand) (through : Bool) → IsMade s c → IsProper s c x → IsToldOf c x at through → change_in x at through ≡ change_by c x }
 {
@@ -35,7 +36,7 @@ pub fn place_laws()
 
 /// By the changes of a trace that events made, as many are live of each way and at each pod as by its record.
 pub fn count_laws()
-    ensures { (s : Spec) (a : Admission) (c : Trace) → IsMade s c → StandsFor a c → AreCounted (changes_of c) a.live }
+    ensures { (s : Spec) (a : Admission) (c : Trace) → IsMade s c → IsRecordOf a c → AreCounted (changes_of c) a.live }
 {
     append_laws();
     order_laws();

@@ -4,12 +4,13 @@ use Rattle.std.specs.List.{AllPairs, filter}
 use Rattle.std.proofs.lemmas.Bool.{cases_order}
 use Rattle.std.proofs.lemmas.List.{reverse-append}
 use Rattle.std.proofs.lemmas.List.Folds.{list_any-append}
+use Rattle.kn_event.specs.Lists.{contains}
 use Rattle.kn_record.specs.declared.admission.Pod.{Pod}
 use Rattle.kn_record.specs.declared.admission.Readiness.{Readiness}
 use Rattle.kn_record.specs.declared.admission.Readiness.TheVariants as readiness
 use Rattle.kn_record.specs.Admission.{is_draining_now, is_ready_now, is_starting_now, pods_in, with_limit, with_readiness}
-use Rattle.kn_record.specs.Views.{pod_numbers}
-use Rattle.kn_pods.specs.Numbers.{contains, inserted, without}
+use Rattle.kn_record.specs.Views.{others, pod_numbers}
+use Rattle.kn_pods.specs.Numbers.{inserted}
 use Rattle.kn_pods.proofs.Places.{AllAbove, above_more, contains_above, differs, inserted_above, inserted_first, inserted_same, is_same}
 
 -- the pods' numbers ascend
@@ -52,11 +53,11 @@ above_in test n (x ∷ xs) h = subst (AllAbove n) (sym (pods_in-cons test x xs))
 
 -- ---- one more number in front
 
-without_same : (p n : ℕ) (b : Bool) (ys : List ℕ) → nat_eq p n ≡ true → without p (if_in b n ys) ≡ without p ys
+without_same : (p n : ℕ) (b : Bool) (ys : List ℕ) → nat_eq p n ≡ true → others p (if_in b n ys) ≡ others p ys
 without_same p n true ys e = rw e refl
 without_same p n false ys e = refl
 
-without_other : (p n : ℕ) (b : Bool) (ys : List ℕ) → nat_eq p n ≡ false → without p (if_in b n ys) ≡ if_in b n (without p ys)
+without_other : (p n : ℕ) (b : Bool) (ys : List ℕ) → nat_eq p n ≡ false → others p (if_in b n ys) ≡ if_in b n (others p ys)
 without_other p n true ys e = rw e refl
 without_other p n false ys e = refl
 
@@ -85,19 +86,19 @@ module _ (p : ℕ) where
 
   -- a mark that takes the pod out
   pub pods_in-marked_out : (test : Readiness → Bool) (f : Readiness → Readiness) → ((r : Readiness) → test (f r) ≡ false) → (all : List Pod)
-      → pods_in test (with_readiness p f all) ≡ without p (pods_in test all)
+      → pods_in test (with_readiness p f all) ≡ others p (pods_in test all)
   pods_in-marked_out test f out [] = refl
   pods_in-marked_out test f out (x ∷ xs) = by (nat_eq p x.number) refl (pods_in-marked_out test f out xs)
     where
-      by : (b : Bool) → nat_eq p x.number ≡ b → pods_in test (with_readiness p f xs) ≡ without p (pods_in test xs)
-          → pods_in test (cond b (record x { readiness = f x.readiness }) x ∷ with_readiness p f xs) ≡ without p (pods_in test (x ∷ xs))
+      by : (b : Bool) → nat_eq p x.number ≡ b → pods_in test (with_readiness p f xs) ≡ others p (pods_in test xs)
+          → pods_in test (cond b (record x { readiness = f x.readiness }) x ∷ with_readiness p f xs) ≡ others p (pods_in test (x ∷ xs))
       by true e rest =
           pods_in-cons test (record x { readiness = f x.readiness }) (with_readiness p f xs)
           ∙ ap (λ u. if_in u x.number (pods_in test (with_readiness p f xs))) (out x.readiness) ∙ rest
-          ∙ sym (ap (without p) (pods_in-cons test x xs) ∙ without_same p x.number (test x.readiness) (pods_in test xs) e)
+          ∙ sym (ap (others p) (pods_in-cons test x xs) ∙ without_same p x.number (test x.readiness) (pods_in test xs) e)
       by false e rest =
           pods_in-cons test x (with_readiness p f xs) ∙ ap (λ ys. if_in (test x.readiness) x.number ys) rest
-          ∙ sym (ap (without p) (pods_in-cons test x xs) ∙ without_other p x.number (test x.readiness) (pods_in test xs) e)
+          ∙ sym (ap (others p) (pods_in-cons test x xs) ∙ without_other p x.number (test x.readiness) (pods_in test xs) e)
 
   -- a mark that doesn't matter
   pub pods_in-marked_same : (test : Readiness → Bool) (f : Readiness → Readiness) → ((r : Readiness) → test (f r) ≡ test r) → (all : List Pod)
@@ -114,19 +115,19 @@ module _ (p : ℕ) where
       by false rest =
           pods_in-cons test x (with_readiness p f xs) ∙ ap (λ ys. if_in (test x.readiness) x.number ys) rest ∙ sym (pods_in-cons test x xs)
 
-  pub pods_in-gone : (test : Readiness → Bool) (all : List Pod) → pods_in test (filter (λ q. not (nat_eq p q.number)) all) ≡ without p (pods_in test all)
+  pub pods_in-gone : (test : Readiness → Bool) (all : List Pod) → pods_in test (filter (λ q. not (nat_eq p q.number)) all) ≡ others p (pods_in test all)
   pods_in-gone test [] = refl
   pods_in-gone test (x ∷ xs) = by (nat_eq p x.number) refl (pods_in-gone test xs)
     where
       rest_of : List Pod
       rest_of = filter (λ q. not (nat_eq p q.number)) xs
 
-      by : (b : Bool) → nat_eq p x.number ≡ b → pods_in test rest_of ≡ without p (pods_in test xs)
-          → pods_in test (cond (not b) (x ∷ rest_of) rest_of) ≡ without p (pods_in test (x ∷ xs))
-      by true e rest = rest ∙ sym (ap (without p) (pods_in-cons test x xs) ∙ without_same p x.number (test x.readiness) (pods_in test xs) e)
+      by : (b : Bool) → nat_eq p x.number ≡ b → pods_in test rest_of ≡ others p (pods_in test xs)
+          → pods_in test (cond (not b) (x ∷ rest_of) rest_of) ≡ others p (pods_in test (x ∷ xs))
+      by true e rest = rest ∙ sym (ap (others p) (pods_in-cons test x xs) ∙ without_same p x.number (test x.readiness) (pods_in test xs) e)
       by false e rest =
           pods_in-cons test x rest_of ∙ ap (λ ys. if_in (test x.readiness) x.number ys) rest
-          ∙ sym (ap (without p) (pods_in-cons test x xs) ∙ without_other p x.number (test x.readiness) (pods_in test xs) e)
+          ∙ sym (ap (others p) (pods_in-cons test x xs) ∙ without_other p x.number (test x.readiness) (pods_in test xs) e)
 
   -- ---- a pod stands once
 

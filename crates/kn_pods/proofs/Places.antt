@@ -4,7 +4,10 @@ use Rattle.std.specs.Prelude.{slice_get}
 use Rattle.std.specs.List.{filter, find, insert, remove}
 use Rattle.std.proofs.lemmas.Bool.{cases_order}
 use Rattle.std.proofs.lemmas.Bool.Decides.{nat_tests}
-use Rattle.kn_pods.specs.Numbers.{IsAscending, IsPlaceOf, contains, inserted, is_number, without}
+use Rattle.kn_event.specs.Lists.{contains, is_some_of}
+use Rattle.kn_pods.specs.Numbers.{IsPlaceOf, inserted}
+use Rattle.kn_record.specs.Views.{others}
+use Rattle.kn_record.specs.Order.{Ascend}
 
 -- ---- tests
 
@@ -65,7 +68,7 @@ all_above : (p : ℕ) (xs : List ℕ) → AllAbove p xs → filter (λ q. nat_lt
 all_above p [] h = refl
 all_above p (x ∷ xs) h = rw (is_below p x h.0) (ap (λ ys. x ∷ ys) (all_above p xs h.1))
 
-without_above : (p : ℕ) (xs : List ℕ) → AllAbove p xs → without p xs ≡ xs
+without_above : (p : ℕ) (xs : List ℕ) → AllAbove p xs → others p xs ≡ xs
 without_above p [] h = refl
 without_above p (x ∷ xs) h = rw (differs p x (λ e. let a = h.0 in absurd (omega arith))) (ap (λ ys. x ∷ ys) (without_above p xs h.1))
 
@@ -81,34 +84,34 @@ inserted_same p xs h = rw (not_below p p (omega arith), none_below p xs h, all_a
 
 -- ---- numbers that ascend
 
-pub ascending_rest : (x : ℕ) (xs : List ℕ) → IsAscending (x ∷ xs) → IsAscending xs
+pub ascending_rest : (x : ℕ) (xs : List ℕ) → Ascend (x ∷ xs) → Ascend xs
 ascending_rest x xs rise i j d lt inside = rise (suc i) (suc j) d (omega arith) (omega arith)
 
-pub above_first : (x : ℕ) (xs : List ℕ) → IsAscending (x ∷ xs) → AllAbove x xs
+pub above_first : (x : ℕ) (xs : List ℕ) → Ascend (x ∷ xs) → AllAbove x xs
 above_first x xs rise = above_from x xs (λ k d lt. rise 0 (suc k) d (omega arith) (omega arith))
 
-ascending_cons : (x : ℕ) (xs : List ℕ) → AllAbove x xs → IsAscending xs → IsAscending (x ∷ xs)
+ascending_cons : (x : ℕ) (xs : List ℕ) → AllAbove x xs → Ascend xs → Ascend (x ∷ xs)
 ascending_cons x xs h rise zero zero d lt inside = absurd (omega arith)
 ascending_cons x xs h rise zero (suc j) d lt inside = above_at x xs h j d (omega arith)
 ascending_cons x xs h rise (suc i) zero d lt inside = absurd (omega arith)
 ascending_cons x xs h rise (suc i) (suc j) d lt inside = rise i j d (omega arith) (omega arith)
 
-ascending_where : (b : Bool) (x : ℕ) (xs : List ℕ) → AllAbove x xs → IsAscending xs → IsAscending (cond b (x ∷ xs) xs)
+ascending_where : (b : Bool) (x : ℕ) (xs : List ℕ) → AllAbove x xs → Ascend xs → Ascend (cond b (x ∷ xs) xs)
 ascending_where true x xs h rise = ascending_cons x xs h rise
 ascending_where false x xs h rise = rise
 
-ascending-filter : (test : ℕ → Bool) (xs : List ℕ) → IsAscending xs → IsAscending (filter test xs)
+ascending-filter : (test : ℕ → Bool) (xs : List ℕ) → Ascend xs → Ascend (filter test xs)
 ascending-filter test [] rise = rise
 ascending-filter test (x ∷ xs) rise =
     ascending_where (test x) x (filter test xs) (above-filter x test xs (above_first x xs rise)) (ascending-filter test xs (ascending_rest x xs rise))
 
-pub ascending-without : (p : ℕ) (xs : List ℕ) → IsAscending xs → IsAscending (without p xs)
+pub ascending-without : (p : ℕ) (xs : List ℕ) → Ascend xs → Ascend (others p xs)
 ascending-without p xs rise = ascending-filter (λ q. not (nat_eq p q)) xs rise
 
 pub inserted_first : (p x : ℕ) (xs : List ℕ) → x < p → inserted p (x ∷ xs) ≡ x ∷ inserted p xs
 inserted_first p x xs h = rw (is_below x p h, not_below p x (omega arith)) refl
 
-pub inserted_there : (p : ℕ) (xs : List ℕ) → IsAscending xs → contains p xs ≡ true → inserted p xs ≡ xs
+pub inserted_there : (p : ℕ) (xs : List ℕ) → Ascend xs → contains p xs ≡ true → inserted p xs ≡ xs
 inserted_there p [] rise there = absurd (cc)
 inserted_there p (x ∷ xs) rise there = by (cases_order x p) (inserted_there p xs (ascending_rest x xs rise))
   where
@@ -121,14 +124,14 @@ inserted_there p (x ∷ xs) rise there = by (cases_order x p) (inserted_there p 
     by (inr (inr h)) rest =
         let none = contains_above p (x ∷ xs) (h, above_more p x xs (omega arith) above) in absurd (cc)
 
-pub ascending-inserted : (p : ℕ) (xs : List ℕ) → IsAscending xs → IsAscending (inserted p xs)
+pub ascending-inserted : (p : ℕ) (xs : List ℕ) → Ascend xs → Ascend (inserted p xs)
 ascending-inserted p [] rise = ascending_cons p [] tt rise
 ascending-inserted p (x ∷ xs) rise = by (cases_order x p) (ascending-inserted p xs (ascending_rest x xs rise))
   where
     above : AllAbove x xs
     above = above_first x xs rise
 
-    by : (x ≡ p) ⊎ ((x < p) ⊎ (p < x)) → IsAscending (inserted p xs) → IsAscending (inserted p (x ∷ xs))
+    by : (x ≡ p) ⊎ ((x < p) ⊎ (p < x)) → Ascend (inserted p xs) → Ascend (inserted p (x ∷ xs))
     by (inr (inl h)) more =
         rw (inserted_first p x xs h)
         (ascending_cons x (inserted p xs) (above-append x (filter (λ q. nat_lt q p) xs) (p ∷ filter (λ q. nat_lt p q) xs) (above-filter x (λ q. nat_lt q p) xs above) (h, above-filter x (λ q. nat_lt p q) xs above)) more)
@@ -158,7 +161,7 @@ next_at p [] (suc i) cut = absurd (let a = cut.bound in omega arith)
 next_at p (x ∷ xs) zero cut = rw (at_most p x (cut.after 0 0 (omega arith) (omega arith))) refl
 next_at p (x ∷ xs) (suc i) cut = rw (above p x (cut.before 0 0 (omega arith))) (next_at p xs i (cut_rest p x xs i cut))
 
-there_at : (p : ℕ) (xs : List ℕ) (i : ℕ) → IsAscending xs → IsCut p xs i → contains p xs ≡ is_number p (slice_get xs i)
+there_at : (p : ℕ) (xs : List ℕ) (i : ℕ) → Ascend xs → IsCut p xs i → contains p xs ≡ is_some_of p (slice_get xs i)
 there_at p [] zero rise cut = refl
 there_at p [] (suc i) rise cut = absurd (let a = cut.bound in omega arith)
 there_at p (x ∷ xs) zero rise cut = by (nat_eq x p) refl
@@ -172,7 +175,7 @@ there_at p (x ∷ xs) zero rise cut = by (nat_eq x p) refl
 there_at p (x ∷ xs) (suc i) rise cut =
     rw (differs x p (λ e. let a = cut.before 0 0 (omega arith) in absurd (omega arith))) (there_at p xs i (ascending_rest x xs rise) (cut_rest p x xs i cut))
 
-removed_at : (p : ℕ) (xs : List ℕ) (i : ℕ) → IsAscending xs → IsCut p xs i → contains p xs ≡ true → without p xs ≡ remove xs i
+removed_at : (p : ℕ) (xs : List ℕ) (i : ℕ) → Ascend xs → IsCut p xs i → contains p xs ≡ true → others p xs ≡ remove xs i
 removed_at p [] i rise cut there = absurd (cc)
 removed_at p (x ∷ xs) zero rise cut there = by (nat_eq x p) refl
   where
@@ -182,7 +185,7 @@ removed_at p (x ∷ xs) zero rise cut there = by (nat_eq x p) refl
     rest : AllAbove p xs
     rest = above_more p x xs le (above_first x xs rise)
 
-    by : (b : Bool) → nat_eq x p ≡ b → without p (x ∷ xs) ≡ xs
+    by : (b : Bool) → nat_eq x p ≡ b → others p (x ∷ xs) ≡ xs
     by true e = rw (is_same p x (grind (arith, nat_tests))) (without_above p xs rest)
     by false e = let none = contains_above p xs rest in let h = rw (e, none) at there in absurd (cc)
 removed_at p (x ∷ xs) (suc i) rise cut there =
@@ -190,7 +193,7 @@ removed_at p (x ∷ xs) (suc i) rise cut there =
     rw (differs p x (λ e. absurd (omega arith)))
     (ap (λ ys. x ∷ ys) (removed_at p xs i (ascending_rest x xs rise) (cut_rest p x xs i cut) (rw (differs x p (λ e. absurd (omega arith))) at there)))
 
-inserted_at : (p : ℕ) (xs : List ℕ) (i : ℕ) → IsAscending xs → IsCut p xs i → contains p xs ≡ false → inserted p xs ≡ insert xs i p
+inserted_at : (p : ℕ) (xs : List ℕ) (i : ℕ) → Ascend xs → IsCut p xs i → contains p xs ≡ false → inserted p xs ≡ insert xs i p
 inserted_at p [] zero rise cut none = refl
 inserted_at p [] (suc i) rise cut none = absurd (let a = cut.bound in omega arith)
 inserted_at p (x ∷ xs) zero rise cut none = by (cases_order x p)
@@ -207,22 +210,22 @@ inserted_at p (x ∷ xs) (suc i) rise cut none =
     inserted_first p x xs lt
     ∙ ap (λ ys. x ∷ ys) (inserted_at p xs i (ascending_rest x xs rise) (cut_rest p x xs i cut) (rw (differs x p (λ e. absurd (omega arith))) at none))
 
-inside_at : (p : ℕ) (xs : List ℕ) (i : ℕ) → IsAscending xs → IsCut p xs i → contains p xs ≡ true → i < length xs
+inside_at : (p : ℕ) (xs : List ℕ) (i : ℕ) → Ascend xs → IsCut p xs i → contains p xs ≡ true → i < length xs
 inside_at p [] i rise cut there = absurd (cc)
 inside_at p (x ∷ xs) zero rise cut there = omega arith
 inside_at p (x ∷ xs) (suc i) rise cut there =
     let lt : x < p = cut.before 0 0 (omega arith) in
     let h = inside_at p xs i (ascending_rest x xs rise) (cut_rest p x xs i cut) (rw (differs x p (λ e. absurd (omega arith))) at there) in omega arith
 
-pub without_absent : (p : ℕ) (xs : List ℕ) → contains p xs ≡ false → without p xs ≡ xs
+pub without_absent : (p : ℕ) (xs : List ℕ) → contains p xs ≡ false → others p xs ≡ xs
 without_absent p [] none = refl
 without_absent p (x ∷ xs) none = by (nat_eq x p) refl none (without_absent p xs)
   where
-    by : (b : Bool) → nat_eq x p ≡ b → (b || contains p xs) ≡ false → (contains p xs ≡ false → without p xs ≡ xs) → without p (x ∷ xs) ≡ x ∷ xs
+    by : (b : Bool) → nat_eq x p ≡ b → (b || contains p xs) ≡ false → (contains p xs ≡ false → others p xs ≡ xs) → others p (x ∷ xs) ≡ x ∷ xs
     by true e h rest = absurd (cc)
     by false e h rest = rw (differs p x (grind (arith, nat_tests))) (ap (λ ys. x ∷ ys) (rest h))
 
-pub place_at : (p : ℕ) (xs : List ℕ) (i : ℕ) → IsAscending xs → IsCut p xs i → IsPlaceOf p xs i
+pub place_at : (p : ℕ) (xs : List ℕ) (i : ℕ) → Ascend xs → IsCut p xs i → IsPlaceOf p xs i
 place_at p xs i rise cut = record {
   bound = cut.bound;
   next = next_at p xs i cut;
@@ -236,7 +239,7 @@ place_at p xs i rise cut = record {
   more = ascending-inserted p xs rise;
 }
 
-pub not_falling : (xs : List ℕ) → IsAscending xs → (i j d : ℕ) → i ≤ j → j < length xs → get_or xs i d ≤ get_or xs j d
+pub not_falling : (xs : List ℕ) → Ascend xs → (i j d : ℕ) → i ≤ j → j < length xs → get_or xs i d ≤ get_or xs j d
 not_falling xs rise i j d le inside = grind (arith, rise i j d, λ (same : i ≡ j). ap (λ k. get_or xs k d) same)
 
 -- ---- the last one
@@ -245,7 +248,7 @@ above_last : (n p : ℕ) (ys : List ℕ) → AllAbove n (ys ++ p ∷ []) → n <
 above_last n p [] h = h.0
 above_last n p (y ∷ ys) h = above_last n p ys h.1
 
-pub without_last : (p : ℕ) (ys : List ℕ) → IsAscending (ys ++ p ∷ []) → without p (ys ++ p ∷ []) ≡ ys
+pub without_last : (p : ℕ) (ys : List ℕ) → Ascend (ys ++ p ∷ []) → others p (ys ++ p ∷ []) ≡ ys
 without_last p [] rise = rw (is_same p p refl) refl
 without_last p (y ∷ ys) rise =
     let lt : y < p = above_last y p ys (above_first y (ys ++ p ∷ []) rise) in

@@ -6,6 +6,7 @@ use Rattle.kn_event.specs.declared.entry.Row.{Row}
 use Rattle.kn_event.specs.declared.entry.Row.TheVariants as row
 use Rattle.kn_event.specs.declared.event.Act.TheVariants as act
 use Rattle.kn_event.specs.declared.revision.Spec.{Spec}
+use Rattle.kn_event.specs.Lists.{contains}
 use Rattle.kn_trace.specs.Rows.{created_by}
 use Rattle.kn_trace.specs.Trace.{Trace, created, draining, entry, is_starting, live_pods, ready_pods, starting_pods}
 use Rattle.kn_trace.specs.Events.{act_row}
@@ -14,11 +15,10 @@ use Rattle.kn_record.specs.declared.admission.Pod.{Pod}
 use Rattle.kn_record.specs.declared.admission.Readiness.{Readiness}
 use Rattle.kn_record.specs.declared.admission.Readiness.TheVariants as readiness
 use Rattle.kn_record.specs.Admission.{Admission, admission, drained, is_draining_now, is_ready_now, is_starting_now, more_by, pods_after, pods_in, readied, stepped}
-use Rattle.kn_record.specs.Made.{IsMade, IsProper, StandsFor as IsRecordOf}
+use Rattle.kn_record.specs.Made.{IsMade, IsProper, IsRecordOf}
 use Rattle.kn_record.specs.Order.{IsInOrder}
 use Rattle.kn_record.specs.Views.{AreViews}
-use Rattle.kn_pods.specs.Numbers.{contains}
-use Rattle.kn_pods.specs.Pods.{PodsState, StandsFor, after_row, is_live, lost_row, no_pods, ready_row, with_drained}
+use Rattle.kn_pods.specs.Pods.{PodsState, ArePodsOf, after_row, is_live, lost_row, no_pods, ready_row, with_drained}
 use Rattle.kn_pods.proofs.Places.{without_absent}
 use Rattle.kn_pods.proofs.Lists.{Ascend, apart, contains-kinds, contains-reverse, pods_in-created, pods_in-gone, pods_in-limited, pods_in-marked_in, pods_in-marked_out, pods_in-marked_same}
 
@@ -30,7 +30,7 @@ pub record RecordFacts : Type 0 where
   pub order : (s : Spec) (a : Admission) (c : Trace) → IsMade s c → IsRecordOf a c → IsInOrder a
   pub row : (s : Spec) (c : Trace) (t : ℕ) (x : Row) → IsMade s c → IsProper s c x → IsMade s (c ++ entry t x ∷ [])
 
-pub stands_for_none : StandsFor no_pods []
+pub stands_for_none : ArePodsOf no_pods []
 unfolding created starting_pods ready_pods draining
 stands_for_none = record { created = refl; starting = refl; ready = refl; draining = refl }
 
@@ -129,10 +129,10 @@ module _ (facts : RecordFacts) (s : Spec) (c : Trace) (made : IsMade s c) where
   rise : Ascend (admission c).pods
   rise = (facts.order s (admission c) c made (facts.stands s c made)).pods
 
-  is_state : (pods : PodsState) → StandsFor pods c → pods ≡ state_of (admission c).created (admission c).pods
+  is_state : (pods : PodsState) → ArePodsOf pods c → pods ≡ state_of (admission c).created (admission c).pods
   is_state pods stands = same_state _ _ (stands.created ∙ views.created) (stands.starting ∙ views.starting) (stands.ready ∙ views.ready) (stands.draining ∙ views.draining)
 
-  from_state : (pods : PodsState) → pods ≡ state_of (admission c).created (admission c).pods → StandsFor pods c
+  from_state : (pods : PodsState) → pods ≡ state_of (admission c).created (admission c).pods → ArePodsOf pods c
   from_state pods e = record {
     created = ap (λ (x : PodsState). x.created) e ∙ sym views.created;
     starting = ap (λ (x : PodsState). x.starting) e ∙ sym views.starting;
@@ -148,7 +148,7 @@ module _ (facts : RecordFacts) (s : Spec) (c : Trace) (made : IsMade s c) where
   fits (row.Remove p) h = sym (ap (contains p) views.draining) ∙ h.0
   fits x h = tt
 
-pub stands_row : RecordFacts → (s : Spec) (c : Trace) (t : ℕ) (x : Row) (pods : PodsState) → IsMade s c → IsProper s c x → StandsFor pods c → StandsFor (after_row x pods) (c ++ entry t x ∷ [])
+pub stands_row : RecordFacts → (s : Spec) (c : Trace) (t : ℕ) (x : Row) (pods : PodsState) → IsMade s c → IsProper s c x → ArePodsOf pods c → ArePodsOf (after_row x pods) (c ++ entry t x ∷ [])
 unfolding stepped
 stands_row facts s c t x pods made proper stands =
     let a = admission c in
@@ -157,7 +157,7 @@ stands_row facts s c t x pods made proper stands =
     (ap (after_row x) (is_state facts s c made pods stands) ∙ after_fit a.created a.pods (rise facts s c made) x (fits facts s c made x proper)
     ∙ sym (ap (λ (b : Admission). state_of b.created b.pods) next))
 
-pub live_by : RecordFacts → (s : Spec) (c : Trace) (p : ℕ) (pods : PodsState) → IsMade s c → StandsFor pods c → contains p (live_pods c) ≡ is_live p pods
+pub live_by : RecordFacts → (s : Spec) (c : Trace) (p : ℕ) (pods : PodsState) → IsMade s c → ArePodsOf pods c → contains p (live_pods c) ≡ is_live p pods
 live_by facts s c p pods made stands =
     ap (contains p) (views facts s c made).pods ∙ contains-kinds p (admission c).pods ∙ sym (ap (is_live p) (is_state facts s c made pods stands))
 
@@ -174,7 +174,7 @@ ready_where p false false i true d e f = absurd (cc)
 ready_where p false false i false true e f = absurd (cc)
 ready_where p false false i false false e f = refl
 
-pub ready_by : RecordFacts → (s : Spec) (c : Trace) (p : ℕ) (pods : PodsState) → IsMade s c → StandsFor pods c → act_row s c (act.Ready p) ≡ Some (ready_row p pods)
+pub ready_by : RecordFacts → (s : Spec) (c : Trace) (p : ℕ) (pods : PodsState) → IsMade s c → ArePodsOf pods c → act_row s c (act.Ready p) ≡ Some (ready_row p pods)
 unfolding act_row
 ready_by facts s c p pods made stands =
     let v = views facts s c made in
@@ -185,6 +185,6 @@ lost_where : (p : ℕ) (live : Bool) → (if live then row.LostPod p else row.No
 lost_where p true = refl
 lost_where p false = refl
 
-pub lost_by : RecordFacts → (s : Spec) (c : Trace) (p : ℕ) (pods : PodsState) → IsMade s c → StandsFor pods c → act_row s c (act.Lost p) ≡ Some (lost_row p (is_live p pods))
+pub lost_by : RecordFacts → (s : Spec) (c : Trace) (p : ℕ) (pods : PodsState) → IsMade s c → ArePodsOf pods c → act_row s c (act.Lost p) ≡ Some (lost_row p (is_live p pods))
 unfolding act_row
 lost_by facts s c p pods made stands = ap Some (lost_where p (contains p (live_pods c)) ∙ ap (lost_row p) (live_by facts s c p pods made stands))

@@ -9,26 +9,28 @@ use Rattle.kn_event.specs.declared.entry.Entry.{Entry}
 use Rattle.kn_event.specs.declared.entry.Row.{Row}
 use Rattle.kn_event.specs.declared.entry.Row.TheVariants as row
 use Rattle.kn_event.specs.declared.revision.Spec.{Spec}
+use Rattle.kn_event.specs.Lists.{contains}
 use Rattle.kn_trace.specs.Scale as scale
 use Rattle.kn_trace.specs.Scale.{drain_order, scale_rows}
 use Rattle.kn_trace.specs.Trace.{Trace, created, entry, ready_pods}
 use Rattle.kn_record.specs.Made.{IsMade, IsProper}
-use Rattle.kn_pods.specs.Numbers.{contains, inserted, without}
-use Rattle.kn_pods.specs.Pods.{GoesOn, PodsState, StandsFor, after_row, after_rows, creations, drain_order_of, drains, rows_of_scale, with_drained}
+use Rattle.kn_record.specs.Views.{others}
+use Rattle.kn_pods.specs.Numbers.{inserted}
+use Rattle.kn_pods.specs.Pods.{GoesOn, PodsState, ArePodsOf, after_row, after_rows, creations, drain_order_of, drains, rows_of_scale, with_drained}
 use Rattle.kn_pods.proofs.Places.{is_same}
 
-pub came_without : (n p : ℕ) (xs : List ℕ) → All (λ q. q < n) xs → All (λ q. q < n) (without p xs)
+pub came_without : (n p : ℕ) (xs : List ℕ) → All (λ q. q < n) xs → All (λ q. q < n) (others p xs)
 came_without n p xs h = All-filter _ (λ q. q < n) xs h
 
 -- ---- one list of entries after another
 
 pub goes_none : (pods : PodsState) → GoesOn pods pods []
-goes_none pods = λ s c made stands. (subst (IsMade s) (sym (append-nil c)) made, subst (StandsFor pods) (sym (append-nil c)) stands)
+goes_none pods = λ s c made stands. (subst (IsMade s) (sym (append-nil c)) made, subst (ArePodsOf pods) (sym (append-nil c)) stands)
 
 pub goes_then : (a b d : PodsState) (es fs : List Entry) → GoesOn a b es → GoesOn b d fs → GoesOn a d (es ++ fs)
 goes_then a b d es fs first then = λ s c made stands.
     let one = first s c made stands in
-    let two = then s (c ++ es) one.0 one.1 in (subst (IsMade s) (append_assoc c es fs) two.0, subst (StandsFor d) (append_assoc c es fs) two.1)
+    let two = then s (c ++ es) one.0 one.1 in (subst (IsMade s) (append_assoc c es fs) two.0, subst (ArePodsOf d) (append_assoc c es fs) two.1)
 
 -- ---- by one more row
 
@@ -48,24 +50,24 @@ scale-drains want limit t n pods is le = rw (le-ltb (length (drain_order_of pods
 
 -- by a row that is proper wherever the pods stand
 module _ (makes : (s : Spec) (c : Trace) (t : ℕ) (x : Row) → IsMade s c → IsProper s c x → IsMade s (c ++ entry t x ∷ []))
-    (goes : (s : Spec) (c : Trace) (t : ℕ) (x : Row) (pods : PodsState) → IsMade s c → IsProper s c x → StandsFor pods c → StandsFor (after_row x pods) (c ++ entry t x ∷ []))
+    (goes : (s : Spec) (c : Trace) (t : ℕ) (x : Row) (pods : PodsState) → IsMade s c → IsProper s c x → ArePodsOf pods c → ArePodsOf (after_row x pods) (c ++ entry t x ∷ []))
     (old new : PodsState) where
-  pub goes_by : (t : ℕ) (x : Row) → new ≡ after_row x old → ((s : Spec) (c : Trace) → IsMade s c → StandsFor old c → IsProper s c x) → GoesOn old new (entry t x ∷ [])
+  pub goes_by : (t : ℕ) (x : Row) → new ≡ after_row x old → ((s : Spec) (c : Trace) → IsMade s c → ArePodsOf old c → IsProper s c x) → GoesOn old new (entry t x ∷ [])
   goes_by t x e proper = λ s c made stands.
-      (makes s c t x made (proper s c made stands), subst (λ (pods : PodsState). StandsFor pods (c ++ entry t x ∷ [])) (sym e) (goes s c t x old made (proper s c made stands) stands))
+      (makes s c t x made (proper s c made stands), subst (λ (pods : PodsState). ArePodsOf pods (c ++ entry t x ∷ [])) (sym e) (goes s c t x old made (proper s c made stands) stands))
 
 -- ---- what a trace says by its pods
 
-pub drain_order_by : (pods : PodsState) (c : Trace) → StandsFor pods c → drain_order c ≡ drain_order_of pods
+pub drain_order_by : (pods : PodsState) (c : Trace) → ArePodsOf pods c → drain_order c ≡ drain_order_of pods
 unfolding drain_order
 drain_order_by pods c stands = ap (λ xs. reverse xs ++ reverse (ready_pods c)) (sym stands.starting) ∙ ap (λ xs. reverse pods.starting ++ reverse xs) (sym stands.ready)
 
 -- the next pod may be created while fewer than 500 don't drain
-pub create_proper : (pods : PodsState) (s : Spec) (c : Trace) (limit : ℕ) → length (drain_order_of pods) < 500 → StandsFor pods c → IsProper s c (row.Create pods.created limit)
+pub create_proper : (pods : PodsState) (s : Spec) (c : Trace) (limit : ℕ) → length (drain_order_of pods) < 500 → ArePodsOf pods c → IsProper s c (row.Create pods.created limit)
 create_proper pods s c limit few stands = (stands.created, λ ranges. rw (drain_order_by pods c stands) few)
 
 -- the first one may drain
-pub drain_proper : (pods : PodsState) (s : Spec) (c : Trace) (p : ℕ) (ps : List ℕ) → drain_order_of pods ≡ p ∷ ps → StandsFor pods c → IsProper s c (row.Drain p)
+pub drain_proper : (pods : PodsState) (s : Spec) (c : Trace) (p : ℕ) (ps : List ℕ) → drain_order_of pods ≡ p ∷ ps → ArePodsOf pods c → IsProper s c (row.Drain p)
 drain_proper pods s c p ps first stands = ap (contains p) (drain_order_by pods c stands ∙ first) ∙ rw (is_same p p refl) refl
 
 pub some_popped : (xs : List ℕ) (r : Option ℕ) → IfNone r (xs ≡ []) → 0 < length xs → IsSome r
@@ -82,11 +84,11 @@ first_ready xs ys zs ws p e f g = rw (e, f, g) (reverse-append ws (p ∷ []))
 pub some_ready : (xs zs : List ℕ) → xs ≡ [] → 0 < length (reverse xs ++ reverse zs) → 0 < length zs
 some_ready xs zs e lt = let h = rw e at lt in omega (arith, length-reverse zs)
 
-pub drained_starting : (old : PodsState) (p : ℕ) (starting draining : List ℕ) → contains p old.starting ≡ true → starting ≡ without p old.starting → draining ≡ inserted p old.draining
+pub drained_starting : (old : PodsState) (p : ℕ) (starting draining : List ℕ) → contains p old.starting ≡ true → starting ≡ others p old.starting → draining ≡ inserted p old.draining
     → record old { starting = starting; draining = draining } ≡ with_drained p old
 drained_starting old p starting draining h e f = rw (h, e, f) refl
 
-pub drained_ready : (old : PodsState) (p : ℕ) (starting ready draining : List ℕ) → old.starting ≡ [] → starting ≡ [] → ready ≡ without p old.ready → draining ≡ inserted p old.draining
+pub drained_ready : (old : PodsState) (p : ℕ) (starting ready draining : List ℕ) → old.starting ≡ [] → starting ≡ [] → ready ≡ others p old.ready → draining ≡ inserted p old.draining
     → record old { starting = starting; ready = ready; draining = draining } ≡ with_drained p old
 drained_ready old p starting ready draining h e f g =
     rw (e, f, g) (let none : contains p old.starting ≡ false = ap (contains p) h in rw none (rw h refl))
@@ -121,7 +123,7 @@ logged_more log before new e es fs a b f = b ∙ ap (λ xs. xs ++ e ∷ []) a �
 scaled : (s : Spec) (t from n k limit : ℕ) (order : List ℕ) → s.cc ≡ limit → n ≡ 0 → scale.creations s t from k ++ map (λ p. entry t (row.Drain p)) (take n order) ≡ creations limit t from k
 scaled s t from n k limit order e f = rw (f, e) (append-nil (creations limit t from k))
 
-pub rows_created : (s : Spec) (t limit want : ℕ) (pods : PodsState) (c : Trace) → StandsFor pods c → s.cc ≡ limit → length (drain_order_of pods) < want
+pub rows_created : (s : Spec) (t limit want : ℕ) (pods : PodsState) (c : Trace) → ArePodsOf pods c → s.cc ≡ limit → length (drain_order_of pods) < want
     → scale_rows s t c want ≡ creations limit t pods.created (want - length (drain_order_of pods))
 unfolding scale_rows
 rows_created s t limit want pods c stands e lt =
@@ -131,7 +133,7 @@ rows_created s t limit want pods c stands e lt =
 unscaled : (s : Spec) (t from k : ℕ) (es : List Entry) → k ≡ 0 → scale.creations s t from k ++ es ≡ es
 unscaled s t from k es e = rw e refl
 
-pub rows_drained : (s : Spec) (t want : ℕ) (pods : PodsState) (c : Trace) → StandsFor pods c → want ≤ length (drain_order_of pods)
+pub rows_drained : (s : Spec) (t want : ℕ) (pods : PodsState) (c : Trace) → ArePodsOf pods c → want ≤ length (drain_order_of pods)
     → scale_rows s t c want ≡ drains t (take (length (drain_order_of pods) - want) (drain_order_of pods))
 unfolding scale_rows
 rows_drained s t want pods c stands le =

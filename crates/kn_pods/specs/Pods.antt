@@ -5,9 +5,11 @@ use Rattle.kn_event.specs.declared.entry.Entry.{Entry}
 use Rattle.kn_event.specs.declared.entry.Row.{Row}
 use Rattle.kn_event.specs.declared.entry.Row.TheVariants as row
 use Rattle.kn_event.specs.declared.revision.Spec.{Spec}
+use Rattle.kn_event.specs.Lists.{contains}
 use Rattle.kn_trace.specs.Trace.{Trace, created, draining, entry, ready_pods, starting_pods}
 use Rattle.kn_record.specs.Made.{IsMade}
-use Rattle.kn_pods.specs.Numbers.{contains, inserted, without}
+use Rattle.kn_record.specs.Views.{others}
+use Rattle.kn_pods.specs.Numbers.{inserted}
 
 -- how many pods were created, and the live ones, each list in the order of the numbers
 pub record PodsState : Type 0 where
@@ -17,7 +19,7 @@ pub record PodsState : Type 0 where
   pub draining : List ℕ
 
 -- these are the pods of the trace
-pub record StandsFor (state : PodsState) (c : Trace) : Type 0 where
+pub record ArePodsOf (state : PodsState) (c : Trace) : Type 0 where
   pub created : state.created ≡ created c
   pub starting : state.starting ≡ starting_pods c
   pub ready : state.ready ≡ ready_pods c
@@ -35,19 +37,19 @@ drain_order_of state = reverse state.starting ++ reverse state.ready
 
 abbrev pub with_drained : ℕ → PodsState → PodsState
 with_drained p state =
-    if contains p state.starting then record state { starting = without p state.starting; draining = inserted p state.draining }
-    else record state { ready = without p state.ready; draining = inserted p state.draining }
+    if contains p state.starting then record state { starting = others p state.starting; draining = inserted p state.draining }
+    else record state { ready = others p state.ready; draining = inserted p state.draining }
 
 -- a row of another kind leaves the pods
 abbrev pub after_row : Row → PodsState → PodsState
 after_row (row.Create p n) state = record state { created = state.created + 1; starting = state.starting ++ p ∷ [] }
-after_row (row.Ready p) state = record state { starting = without p state.starting; ready = inserted p state.ready }
+after_row (row.Ready p) state = record state { starting = others p state.starting; ready = inserted p state.ready }
 after_row (row.Drain p) state = with_drained p state
-after_row (row.Remove p) state = record state { draining = without p state.draining }
+after_row (row.Remove p) state = record state { draining = others p state.draining }
 after_row (row.LostPod p) state = record state {
-  starting = without p state.starting;
-  ready = without p state.ready;
-  draining = without p state.draining;
+  starting = others p state.starting;
+  ready = others p state.ready;
+  draining = others p state.draining;
 }
 after_row _ state = state
 
@@ -59,7 +61,7 @@ after_rows (e ∷ es) state = after_rows es (after_row e.row state)
 -- wherever the old pods stand for a trace that events made, these entries leave it one that events make, and the new pods
 -- stand for it
 abbrev pub GoesOn : PodsState → PodsState → List Entry → Type 0
-GoesOn old new es = (s : Spec) (c : Trace) → IsMade s c → StandsFor old c → IsMade s (c ++ es) × StandsFor new (c ++ es)
+GoesOn old new es = (s : Spec) (c : Trace) → IsMade s c → ArePodsOf old c → IsMade s (c ++ es) × ArePodsOf new (c ++ es)
 
 -- ---- the rows of a call
 

@@ -2,7 +2,9 @@ ghost use Rattle.std.specs.Prelude.{◌≡◌, ◌+◌, ◌<◌, ◌≤◌, [], 
 ghost use Rattle.std.specs.Bool.{OnFalse};
 ghost use Rattle.std.specs.List.{All, find};
 ghost use Rattle.std.specs.Option.{option_to_list};
-ghost use Rattle.kn_pods.specs.Numbers.{IsPlaceOf, contains, inserted, is_number, without};
+ghost use Rattle.kn_event.specs.Lists.{contains, is_some_of};
+ghost use Rattle.kn_record.specs.Views.{others};
+ghost use Rattle.kn_pods.specs.Numbers.{IsPlaceOf, inserted};
 
 use kn_event::Memory;
 use std::alloc::Global;
@@ -16,13 +18,14 @@ pub(crate) struct Numbers {
 
 impl Model for Numbers {
     ghost use Rattle.std.specs.Prelude.{vec_capacity};
-    ghost use Rattle.kn_pods.specs.Numbers.{IsAscending, NumbersState};
+    ghost use Rattle.kn_record.specs.Order.{Ascend};
+    ghost use Rattle.kn_pods.specs.Numbers.{NumbersState};
 
     ghost Value = { NumbersState };
 
     ghost view = { λ n. record { items = n.items.items; room = vec_capacity n.items } };
 
-    ghost invariant = { λ n. IsAscending n.items.items };
+    ghost invariant = { λ n. Ascend n.items.items };
 }
 
 impl Numbers {
@@ -59,7 +62,7 @@ impl Numbers {
 
     /// Whether this number stands there.
     fn is_at(&self, p: u64, place: usize) -> bool
-        ensures { result ≡ is_number p (slice_get self.now.items place) }
+        ensures { result ≡ is_some_of p (slice_get self.now.items place) }
     {
         match self.items.get(place) {
             None => false,
@@ -97,7 +100,7 @@ impl Numbers {
     /// Takes a number out, if it is there.
     pub(crate) fn remove(&mut self, p: u64) -> bool
         ensures there { result ≡ contains p self.old.items }
-        ensures removed { self.new ≡ record self.old { items = without p self.old.items } }
+        ensures removed { self.new ≡ record self.old { items = others p self.old.items } }
         ensures counted { length self.new.items + (if result then 1 else 0) ≡ length self.old.items }
         ensures kept { OnFalse result (self.new ≡ self.old) }
     {
@@ -113,7 +116,7 @@ impl Numbers {
     pub(crate) fn pop(&mut self) -> Option<u64>
         ensures popped { self.old.items ≡ self.new.items ++ option_to_list result }
         ensures there { IfSome result (λ p. contains p self.old.items ≡ true) }
-        ensures without { IfSome result (λ p. self.new.items ≡ without p self.old.items) }
+        ensures without { IfSome result (λ p. self.new.items ≡ others p self.old.items) }
         ensures none { IfNone result (self.old.items ≡ []) }
         ensures room { self.new.room ≡ self.old.room }
     {

@@ -2,11 +2,12 @@ ghost use Rattle.std.specs.Prelude.{◌≡◌, ℕ, true, ◌+◌, ◌^◌, ◌<
 ghost use Rattle.kn_event.specs.declared.entry.Row.TheVariants as row;
 ghost use Rattle.kn_event.specs.declared.event.Act.TheVariants as act;
 ghost use Rattle.kn_event.specs.declared.revision.Spec.{Spec};
+ghost use Rattle.kn_event.specs.Lists.{contains};
 ghost use Rattle.kn_trace.specs.Events.{act_row};
 ghost use Rattle.kn_trace.specs.Scale.{count_ready, scale_rows};
-ghost use Rattle.kn_trace.specs.Trace.{Trace, contains, entry, live_pods, next_starting};
+ghost use Rattle.kn_trace.specs.Trace.{Trace, entry, live_pods, next_starting};
 ghost use Rattle.kn_record.specs.Made.{IsMade, IsProper};
-ghost use Rattle.kn_pods.specs.Pods.{GoesOn, StandsFor, after_row, after_rows, creations, drain_order_of, drains, is_live, lost_row, ready_row, rows_of_scale};
+ghost use Rattle.kn_pods.specs.Pods.{GoesOn, ArePodsOf, after_row, after_rows, creations, drain_order_of, drains, is_live, lost_row, ready_row, rows_of_scale};
 
 use crate::laws::row_laws;
 use crate::numbers::Numbers;
@@ -69,7 +70,7 @@ impl Pods {
 
     /// No pod yet. It takes all the memory that it will ever have.
     pub fn new(alloc: Global) -> Result<Pods, Memory>
-        ensures { IfOk result (λ pods. StandsFor pods []) }
+        ensures { IfOk result (λ pods. ArePodsOf pods []) }
     {
         row_laws();
         let starting = Numbers::new(alloc, Pods::SCALE_MOST)?;
@@ -176,9 +177,9 @@ impl Pods {
         requires room { length log.old ≤ 65036 }
         ensures rows { log.new ≡ log.old ++ rows_of_scale want limit time self.old }
         ensures changed { self.new ≡ after_rows (rows_of_scale want limit time self.old) self.old }
-        ensures logged { (s : Spec) (c : Trace) → IsMade s c → StandsFor self.old c → s.cc ≡ limit → log.new ≡ log.old ++ scale_rows s time c want }
-        ensures made { (s : Spec) (c : Trace) → IsMade s c → StandsFor self.old c → s.cc ≡ limit → IsMade s (c ++ scale_rows s time c want) }
-        ensures stands { (s : Spec) (c : Trace) → IsMade s c → StandsFor self.old c → s.cc ≡ limit → StandsFor self.new (c ++ scale_rows s time c want) }
+        ensures logged { (s : Spec) (c : Trace) → IsMade s c → ArePodsOf self.old c → s.cc ≡ limit → log.new ≡ log.old ++ scale_rows s time c want }
+        ensures made { (s : Spec) (c : Trace) → IsMade s c → ArePodsOf self.old c → s.cc ≡ limit → IsMade s (c ++ scale_rows s time c want) }
+        ensures stands { (s : Spec) (c : Trace) → IsMade s c → ArePodsOf self.old c → s.cc ≡ limit → ArePodsOf self.new (c ++ scale_rows s time c want) }
     {
         let standing = self.standing();
         if standing < want {
@@ -193,8 +194,8 @@ impl Pods {
     pub fn ready(&mut self, p: u64) -> PodAnswer
         ensures answer { row_of p result ≡ ready_row p self.old }
         ensures changed { self.new ≡ after_row (row_of p result) self.old }
-        ensures act { (s : Spec) (c : Trace) → IsMade s c → StandsFor self.old c → act_row s c (act.Ready p) ≡ Some (row_of p result) }
-        ensures stands { (s : Spec) (c : Trace) (t : ℕ) → IsMade s c → StandsFor self.old c → StandsFor self.new (c ++ entry t (row_of p result) ∷ []) }
+        ensures act { (s : Spec) (c : Trace) → IsMade s c → ArePodsOf self.old c → act_row s c (act.Ready p) ≡ Some (row_of p result) }
+        ensures stands { (s : Spec) (c : Trace) (t : ℕ) → IsMade s c → ArePodsOf self.old c → ArePodsOf self.new (c ++ entry t (row_of p result) ∷ []) }
     {
         row_laws();
         if self.starting.remove(p) {
@@ -210,7 +211,7 @@ impl Pods {
     /// Whether a live pod has this number.
     pub fn live(&self, p: u64) -> bool
         ensures value { result ≡ is_live p self.now }
-        ensures trace { (s : Spec) (c : Trace) → IsMade s c → StandsFor self.now c → result ≡ contains p (live_pods c) }
+        ensures trace { (s : Spec) (c : Trace) → IsMade s c → ArePodsOf self.now c → result ≡ contains p (live_pods c) }
     {
         row_laws();
         self.starting.contains(p) || self.ready.contains(p) || self.draining.contains(p)
@@ -220,7 +221,7 @@ impl Pods {
     pub fn removed(&mut self, p: u64)
         requires { contains p self.old.draining ≡ true }
         ensures changed { self.new ≡ after_row (row.Remove p) self.old }
-        ensures stands { (s : Spec) (c : Trace) (t : ℕ) → IsMade s c → IsProper s c (row.Remove p) → StandsFor self.old c → StandsFor self.new (c ++ entry t (row.Remove p) ∷ []) }
+        ensures stands { (s : Spec) (c : Trace) (t : ℕ) → IsMade s c → IsProper s c (row.Remove p) → ArePodsOf self.old c → ArePodsOf self.new (c ++ entry t (row.Remove p) ∷ []) }
     {
         row_laws();
         let _ = self.draining.remove(p);
@@ -231,8 +232,8 @@ impl Pods {
     pub fn lost(&mut self, p: u64) -> bool
         ensures value { result ≡ is_live p self.old }
         ensures changed { self.new ≡ after_row (lost_row p result) self.old }
-        ensures act { (s : Spec) (c : Trace) → IsMade s c → StandsFor self.old c → act_row s c (act.Lost p) ≡ Some (lost_row p result) }
-        ensures stands { (s : Spec) (c : Trace) (t : ℕ) → IsMade s c → IsProper s c (lost_row p result) → StandsFor self.old c → StandsFor self.new (c ++ entry t (lost_row p result) ∷ []) }
+        ensures act { (s : Spec) (c : Trace) → IsMade s c → ArePodsOf self.old c → act_row s c (act.Lost p) ≡ Some (lost_row p result) }
+        ensures stands { (s : Spec) (c : Trace) (t : ℕ) → IsMade s c → IsProper s c (lost_row p result) → ArePodsOf self.old c → ArePodsOf self.new (c ++ entry t (lost_row p result) ∷ []) }
     {
         row_laws();
         let starting = self.starting.remove(p);
@@ -245,7 +246,7 @@ impl Pods {
     #[tactic(auto, unfolding(kn_trace::specs::Scale::count_ready))]
     pub fn count_ready(&self) -> u64
         ensures value { result ≡ length self.now.ready }
-        ensures trace { (c : Trace) → StandsFor self.now c → result ≡ count_ready c }
+        ensures trace { (c : Trace) → ArePodsOf self.now c → result ≡ count_ready c }
     {
         self.ready.len()
     }
@@ -261,7 +262,7 @@ impl Pods {
     #[tactic(auto, unfolding(kn_trace::specs::Trace::next_starting))]
     pub fn next_starting(&self, from: u64) -> Option<u64>
         ensures value { result ≡ find (λ p. nat_le from p) self.now.starting }
-        ensures trace { (c : Trace) → StandsFor self.now c → result ≡ next_starting c from }
+        ensures trace { (c : Trace) → ArePodsOf self.now c → result ≡ next_starting c from }
     {
         self.starting.next_from(from)
     }

@@ -9,7 +9,8 @@ use Rattle.kn_event.specs.declared.entry.Mode.TheVariants as mode
 use Rattle.kn_event.specs.declared.event.Act.{Act}
 use Rattle.kn_event.specs.declared.event.Act.TheVariants as act
 use Rattle.kn_event.specs.declared.revision.Spec.{Spec}
-use Rattle.kn_trace.specs.Trace.{Trace, contains, is_starting}
+use Rattle.kn_event.specs.Lists.{contains}
+use Rattle.kn_trace.specs.Trace.{Trace, is_starting}
 use Rattle.kn_trace.specs.Scale.{mode_of}
 use Rattle.kn_trace.specs.Events.{act_row, admission_row, arrival_row, direct_row, live_most}
 use Rattle.kn_record.specs.declared.admission.Pod.{Pod}
@@ -17,7 +18,7 @@ use Rattle.kn_record.specs.declared.admission.Readiness.{Readiness}
 use Rattle.kn_record.specs.declared.admission.Request.{Request}
 use Rattle.kn_record.specs.Acting.{admission_row_in, arrival_row_in, direct_row_in, row_in}
 use Rattle.kn_record.specs.Admission.{Admission, is_ready_now, is_starting_now, pods_in}
-use Rattle.kn_record.specs.Made.{StandsFor}
+use Rattle.kn_record.specs.Made.{IsRecordOf}
 use Rattle.kn_record.specs.Views.{AreViews, pod_numbers}
 use Rattle.kn_record.proofs.Members.{contains-at}
 use Rattle.kn_record.proofs.Standing.{are_views}
@@ -58,7 +59,7 @@ arrival_by_record mode.Serve s a c (p ∷ ps) tag v k = direct_by_record s a c p
 arrival_by_record mode.Serve s a c [] tag v k = admission_by_record s a c tag v
 arrival_by_record mode.Proxy s a c ready tag v k = admission_by_record s a c tag v
 
-ready_by_record : (s : Spec) (a : Admission) (c : Trace) (p : ℕ) → StandsFor a c → act_row s c (act.Ready p) ≡ row_in s (mode_of c) a (act.Ready p)
+ready_by_record : (s : Spec) (a : Admission) (c : Trace) (p : ℕ) → IsRecordOf a c → act_row s c (act.Ready p) ≡ row_in s (mode_of c) a (act.Ready p)
 unfolding act_row row_in
 ready_by_record s a c p h = rw (v.pods) (by (contains p (pod_numbers a.pods)) refl)
   where
@@ -71,7 +72,7 @@ ready_by_record s a c p h = rw (v.pods) (by (contains p (pod_numbers a.pods)) re
     by false e = refl
 
 -- the row of an act, whichever it is
-pub act_by_record : (s : Spec) (a : Admission) (c : Trace) (did : Act) → StandsFor a c → act_row s c did ≡ row_in s (mode_of c) a did
+pub act_by_record : (s : Spec) (a : Admission) (c : Trace) (did : Act) → IsRecordOf a c → act_row s c did ≡ row_in s (mode_of c) a did
 unfolding act_row row_in
 act_by_record s a c (act.Arrive tag) h =
     let v = are_views s a c h in

@@ -7,14 +7,15 @@ use Rattle.kn_event.specs.declared.entry.Entry.{Entry}
 use Rattle.kn_event.specs.declared.entry.Row.{Row}
 use Rattle.kn_event.specs.declared.entry.Row.TheVariants as row
 use Rattle.kn_event.specs.declared.revision.Spec.{Spec}
+use Rattle.kn_event.specs.Lists.{contains}
 use Rattle.kn_trace.specs.Rows.{arrived_by, taken_by, assigned_by, turned_by, created_by, readied_by, drained_by, gone_by}
-use Rattle.kn_trace.specs.Trace.{Trace, entry, each_row, contains, arrivals, created, direct_turn, ended, is_live_pod, live, live_pods}
+use Rattle.kn_trace.specs.Trace.{Trace, entry, each_row, arrivals, created, direct_turn, ended, is_live_pod, live, live_pods}
 use Rattle.kn_trace.specs.Choice.{assignment_count, place_by, place_from, round_robin_place}
 use Rattle.kn_record.specs.declared.admission.Request.{Request}
 use Rattle.kn_record.specs.declared.admission.Pod.{Pod}
 use Rattle.kn_record.specs.Rows.{named_by, pod_named_by, counted}
 use Rattle.kn_record.specs.Admission.{Admission, admission, nothing_yet, stepped, live_requests, live_after, more_by, pods, pods_after, robin_after}
-use Rattle.kn_record.specs.Made.{IsMade, IsProper, StandsFor}
+use Rattle.kn_record.specs.Made.{IsMade, IsProper, IsRecordOf}
 use Rattle.kn_record.proofs.Flags.{length-push}
 use Rattle.kn_record.proofs.Kept.{kept-nil, made_kept}
 use Rattle.kn_record.proofs.Members.{other_number, contains-filter, contains-within}
@@ -112,8 +113,8 @@ admission-push c t x requests' pods' =
     more-counted (Some q) n = refl
 
 -- a record that stands for a trace goes on by its step
-pub StandsFor-push : (s : Spec) (a : Admission) (c : Trace) (t : ℕ) (x : Row) → StandsFor a c → IsProper s c x → StandsFor (stepped t x a) (c ++ entry t x ∷ [])
-StandsFor-push s a c t x h p =
+pub record-push : (s : Spec) (a : Admission) (c : Trace) (t : ℕ) (x : Row) → IsRecordOf a c → IsProper s c x → IsRecordOf (stepped t x a) (c ++ entry t x ∷ [])
+record-push s a c t x h p =
     let k = proper_keeps s c x h.requests p in
     let l = proper_keeps_pods s c x h.pods p in
     record {
@@ -123,7 +124,7 @@ StandsFor-push s a c t x h p =
     }
 
 -- a live pod that is lost leaves the record, whoever is there
-pub stands_lost : (a : Admission) (c : Trace) (t p : ℕ) → StandsFor a c → contains p (live_pods c) ≡ true → StandsFor (stepped t (row.LostPod p) a) (c ++ entry t (row.LostPod p) ∷ [])
+pub stands_lost : (a : Admission) (c : Trace) (t p : ℕ) → IsRecordOf a c → contains p (live_pods c) ≡ true → IsRecordOf (stepped t (row.LostPod p) a) (c ++ entry t (row.LostPod p) ∷ [])
 stands_lost a c t p h live =
     let x = row.LostPod p in
     let k = keeps_none c x refl refl refl refl in
@@ -135,7 +136,7 @@ stands_lost a c t p h live =
     }
 
 -- the record of a trace that was made stands for it
-pub stands_made : (s : Spec) (c : Trace) → IsMade s c → StandsFor (admission c) c
+pub stands_made : (s : Spec) (c : Trace) → IsMade s c → IsRecordOf (admission c) c
 stands_made s c made = let kept = made_kept s c made in record { kept = refl; requests = kept.requests; pods = kept.pods }
 
 -- so at each trace that was made
@@ -143,6 +144,6 @@ pub admission_made : (s : Spec) (c : Trace) (t : ℕ) (x : Row) → IsMade s c �
 admission_made s c t x made p = let kept = made_kept s c made in admission-push c t x (proper_keeps s c x kept.requests p) (proper_keeps_pods s c x kept.pods p)
 
 -- the empty record stands for the trace without an entry
-pub stands_nothing : (s : Spec) → StandsFor nothing_yet []
+pub stands_nothing : (s : Spec) → IsRecordOf nothing_yet []
 unfolding admission arrivals live_requests created pods assignment_count round_robin_place direct_turn
 stands_nothing s = let kept = kept-nil s in record { kept = refl; requests = kept.requests; pods = kept.pods }

@@ -7,8 +7,9 @@ use Rattle.std.proofs.lemmas.List.Elements.{filter-append}
 use Rattle.std.specs.Option.{option_map}
 use Rattle.std.proofs.lemmas.Bool.{eq-eqb, and_parts}
 use Rattle.kn_event.specs.declared.revision.Spec.{Spec}
+use Rattle.kn_event.specs.Lists.{contains}
 use Rattle.kn_trace.specs.declared.candidate.Cand.{Cand}
-use Rattle.kn_trace.specs.Trace.{Trace, contains, has_free_seat, limit_of, ready_pods, running_at}
+use Rattle.kn_trace.specs.Trace.{Trace, has_free_seat, limit_of, ready_pods, running_at}
 use Rattle.kn_trace.specs.Capacity.{capacity, in_use}
 use Rattle.kn_trace.specs.Settling.{next_choice}
 use Rattle.kn_trace.specs.Choice.{assignment_count, candidates, choice, choice_of_two, chosen_pod, first_available, has_seat, less_busy, other_position, random_choice, random_word, round_robin, round_robin_place, turned_to}

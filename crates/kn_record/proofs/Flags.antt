@@ -7,9 +7,10 @@ use Rattle.std.proofs.lemmas.List.Folds.{list_any-append}
 use Rattle.std.proofs.Math.Bool.{or-false}
 use Rattle.kn_event.specs.declared.entry.Entry.{Entry}
 use Rattle.kn_event.specs.declared.entry.Row.{Row}
+use Rattle.kn_event.specs.Lists.{contains, or_else}
 use Rattle.kn_trace.specs.Rows.{arrived_by, assigned_by, created_by, ended_by, limit_by, pod_by, run_by}
-use Rattle.kn_trace.specs.Trace.{Trace, each_row, contains, last_of, arrivals, assigned, created, ended, has_run, limit_of, pod_of}
-use Rattle.kn_record.specs.Rows.{says, or_else, counted}
+use Rattle.kn_trace.specs.Trace.{Trace, each_row, last_of, arrivals, assigned, created, ended, has_run, limit_of, pod_of}
+use Rattle.kn_record.specs.Rows.{says, counted}
 
 contains-option : (r : ℕ) (o : Option ℕ) → contains r (cons_option o []) ≡ says o r
 contains-option r None = refl

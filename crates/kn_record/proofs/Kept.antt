@@ -9,12 +9,13 @@ use Rattle.kn_event.specs.declared.entry.Row.TheVariants as row
 use Rattle.kn_event.specs.declared.entry.Decision.{Decision}
 use Rattle.kn_event.specs.declared.revision.Spec.{Spec}
 use Rattle.kn_event.specs.Revision.{AreInRange}
+use Rattle.kn_event.specs.Lists.{contains, or_else}
 use Rattle.kn_scaling.specs.Zero.{pods_most}
 use Rattle.kn_trace.specs.Rows.{brought_to, created_by, decision_by, phase_by, gone_by}
-use Rattle.kn_trace.specs.Trace.{Trace, arrivals, assigned, at_pod, contains, created, each_row, ended, has_run, last_of, live_pods}
+use Rattle.kn_trace.specs.Trace.{Trace, arrivals, assigned, at_pod, created, each_row, ended, has_run, last_of, live_pods}
 use Rattle.kn_trace.specs.Scale.{opening_scale, phase_of, wanted}
 use Rattle.kn_record.specs.Made.{Holds, IsMade, IsProper}
-use Rattle.kn_record.specs.Rows.{says, or_else, want_after}
+use Rattle.kn_record.specs.Rows.{says, want_after}
 use Rattle.kn_record.specs.Kept.{AreHoused, Kept}
 use Rattle.kn_record.proofs.Flags.{contains-push, ended-push, last_of-push}
 use Rattle.kn_record.proofs.Numbers.{IsNumbered-push, filter_member, in_filter, proper_keeps, says-true}

@@ -4,10 +4,10 @@ use Rattle.kn_event.specs.declared.entry.Entry.{Entry}
 use Rattle.kn_event.specs.declared.entry.Row.{Row}
 use Rattle.kn_trace.specs.Trace.{Trace, entry}
 use Rattle.kn_record.specs.Admission.{Admission, stepped}
-use Rattle.kn_record.specs.Made.{StandsFor}
+use Rattle.kn_record.specs.Made.{IsRecordOf}
 use Rattle.kn_record.specs.Walks.{BeginsWith, Leaves}
 
-pub leaves_begin : (all : Trace → List Entry) (c : Trace) (a : Admission) (log : List Entry) → StandsFor a c → Leaves all all c a log log
+pub leaves_begin : (all : Trace → List Entry) (c : Trace) (a : Admission) (log : List Entry) → IsRecordOf a c → Leaves all all c a log log
 leaves_begin all c a log h = record { here = c; stands = h; rows = refl; whole = refl }
 
 -- one more row
@@ -28,7 +28,7 @@ leaves_next all left next c a old log l e = record { here = l.here; stands = l.s
 pub leaves_logged : (all left : Trace → List Entry) (c : Trace) (a : Admission) (old log : List Entry) (l : Leaves all left c a old log) → left l.here ≡ [] → log ≡ old ++ all c
 leaves_logged all left c a old log l e = sym (append-nil log) ∙ ap (λ (r : List Entry). log ++ r) (sym e) ∙ l.rows
 
-pub leaves_stands : (all left : Trace → List Entry) (c : Trace) (a : Admission) (old log : List Entry) (l : Leaves all left c a old log) → left l.here ≡ [] → StandsFor a (c ++ all c)
+pub leaves_stands : (all left : Trace → List Entry) (c : Trace) (a : Admission) (old log : List Entry) (l : Leaves all left c a old log) → left l.here ≡ [] → IsRecordOf a (c ++ all c)
 leaves_stands all left c a old log l e =
     let same : l.here ≡ c ++ all c = sym (append-nil l.here) ∙ ap (λ (r : List Entry). l.here ++ r) (sym e) ∙ l.whole in
     rw (← same) l.stands

@@ -5,7 +5,8 @@ use Rattle.std.specs.List.{filter, cons_option}
 use Rattle.std.proofs.lemmas.Bool.{eqb-true, eq-eqb, or_parts}
 use Rattle.std.proofs.lemmas.List.Folds.{list_any-append}
 use Rattle.kn_event.specs.declared.entry.Row.{Row}
-use Rattle.kn_trace.specs.Trace.{Trace, each_row, contains}
+use Rattle.kn_event.specs.Lists.{contains}
+use Rattle.kn_trace.specs.Trace.{Trace, each_row}
 use Rattle.kn_record.specs.Made.{AreDistinct}
 
 pub other_number : (r q : ℕ) → (r == q) ≡ false → (q == r) ≡ false

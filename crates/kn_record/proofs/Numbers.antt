@@ -8,8 +8,9 @@ use Rattle.kn_event.specs.declared.entry.Entry.{Entry}
 use Rattle.kn_event.specs.declared.entry.Row.{Row}
 use Rattle.kn_event.specs.declared.entry.Row.TheVariants as row
 use Rattle.kn_event.specs.declared.revision.Spec.{Spec}
+use Rattle.kn_event.specs.Lists.{contains}
 use Rattle.kn_trace.specs.Rows.{arrived_by, admitted_by, taken_by, assigned_by, brought_to, directed_by, run_by, ended_by, refused_by, outcome_by, pod_by}
-use Rattle.kn_trace.specs.Trace.{Trace, each_row, contains, first_of, last_of, arrivals, assigned, at_pod, ended, has_begun, has_not_begun, has_run, held, is_held, is_running, live, pod_of, queued_at, waiting}
+use Rattle.kn_trace.specs.Trace.{Trace, each_row, first_of, last_of, arrivals, assigned, at_pod, ended, has_begun, has_not_begun, has_run, held, is_held, is_running, live, pod_of, queued_at, waiting}
 use Rattle.kn_record.specs.Rows.{named_by, moved_by, says, counted}
 use Rattle.kn_record.specs.Made.{AreDistinct, IsNumbered, IsProper}
 use Rattle.kn_record.specs.Kept.{IsIdle, IsHeldMember}

@@ -12,14 +12,15 @@ use Rattle.kn_event.specs.declared.entry.Entry.{Entry}
 use Rattle.kn_event.specs.declared.entry.Row.{Row}
 use Rattle.kn_event.specs.declared.entry.Row.TheVariants as row
 use Rattle.kn_event.specs.declared.revision.Spec.{Spec}
+use Rattle.kn_event.specs.Lists.{contains}
 use Rattle.kn_trace.specs.Rows.{created_by, taken_by}
-use Rattle.kn_trace.specs.Trace.{Trace, entry, arrivals, at_pod, contains, created, each_row, ended, is_live_pod, is_starting, live, live_pods, starting_pods}
+use Rattle.kn_trace.specs.Trace.{Trace, entry, arrivals, at_pod, created, each_row, ended, is_live_pod, is_starting, live, live_pods, starting_pods}
 use Rattle.kn_record.specs.declared.admission.Place.{Place}
 use Rattle.kn_record.specs.declared.admission.Place.TheVariants as place
 use Rattle.kn_record.specs.declared.admission.Request.{Request}
 use Rattle.kn_record.specs.declared.admission.Pod.{Pod}
 use Rattle.kn_record.specs.Admission.{Admission, admission, is_at, live_requests, placed_in, pods}
-use Rattle.kn_record.specs.Made.{Holds, IsMade, IsProper, StandsFor}
+use Rattle.kn_record.specs.Made.{Holds, IsMade, IsProper, IsRecordOf}
 use Rattle.kn_record.specs.Order.{IsAmong, IsInOrder, Ascend}
 use Rattle.kn_record.specs.Views.{pod_numbers}
 use Rattle.kn_record.specs.Kept.{Kept}
@@ -140,5 +141,5 @@ pub made_row : (s : Spec) (c : Trace) (t : ℕ) (x : Row) → IsMade s c → IsP
 made_row s c t x made h = made_more s c (entry t x ∷ []) made (h, tt)
 
 -- so is each record that stands for one
-pub stands_in_order : (s : Spec) (a : Admission) (c : Trace) → IsMade s c → StandsFor a c → IsInOrder a
+pub stands_in_order : (s : Spec) (a : Admission) (c : Trace) → IsMade s c → IsRecordOf a c → IsInOrder a
 stands_in_order s a c made h = rw h.kept (in_order s c made)

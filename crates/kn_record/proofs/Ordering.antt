@@ -11,15 +11,16 @@ use Rattle.std.proofs.lemmas.List.Quantifiers.{all_pairs_push}
 use Rattle.kn_event.specs.declared.entry.Entry.{Entry}
 use Rattle.kn_event.specs.declared.entry.Row.{Row}
 use Rattle.kn_event.specs.declared.entry.Row.TheVariants as row
+use Rattle.kn_event.specs.Lists.{contains}
 use Rattle.kn_trace.specs.Rows.{arrived_by, created_by, taken_by}
-use Rattle.kn_trace.specs.Trace.{Trace, contains, ended}
+use Rattle.kn_trace.specs.Trace.{Trace, ended}
 use Rattle.kn_record.specs.declared.admission.Place.{Place}
 use Rattle.kn_record.specs.declared.admission.Place.TheVariants as place
 use Rattle.kn_record.specs.declared.admission.Request.{Request}
 use Rattle.kn_record.specs.declared.admission.Readiness.{Readiness}
 use Rattle.kn_record.specs.declared.admission.Pod.{Pod}
 use Rattle.kn_record.specs.Admission.{Admission, admission, begun, begun_at, drained, is_at, limited, live_after, live_requests, marked, more_by, moved_to, nothing_yet, place_of, placed_in, pods_after, readied, request_of, stepped}
-use Rattle.kn_record.specs.Made.{StandsFor}
+use Rattle.kn_record.specs.Made.{IsRecordOf}
 use Rattle.kn_record.specs.Order.{AreTimed, AreTimesInOrder, FitsRecord, IsAmong, IsInOrder}
 use Rattle.kn_record.specs.Views.{pod_numbers}
 use Rattle.kn_record.proofs.Order.{none_in_pairs}
@@ -325,7 +326,7 @@ requests_within c start clock (e ∷ d) h =
     by (Some q) this rest = let same = this q refl in rw (← same) (within_cons clock q _ (rw same rest))
 
 -- the times of the live requests ascend where those of the trace do
-pub stands_timed : (a : Admission) (c : Trace) (start clock : ℕ) → StandsFor a c → AreTimesInOrder start c clock → AreTimed clock a
+pub stands_timed : (a : Admission) (c : Trace) (start clock : ℕ) → IsRecordOf a c → AreTimesInOrder start c clock → AreTimed clock a
 unfolding admission live_requests
 stands_timed a c start clock h order =
     let all = requests_within c start clock c order in

@@ -7,8 +7,9 @@ use Rattle.kn_event.specs.declared.entry.Entry.{Entry}
 use Rattle.kn_event.specs.declared.entry.Row.{Row}
 use Rattle.kn_event.specs.declared.entry.Row.TheVariants as row
 use Rattle.kn_event.specs.declared.revision.Spec.{Spec}
+use Rattle.kn_event.specs.Lists.{contains}
 use Rattle.kn_trace.specs.Rows.{created_by, readied_by, drained_by, gone_by}
-use Rattle.kn_trace.specs.Trace.{Trace, each_row, contains, created, draining, is_draining, is_live_pod, is_ready, is_starting, live_pods, ready_pods, starting_pods}
+use Rattle.kn_trace.specs.Trace.{Trace, each_row, created, draining, is_draining, is_live_pod, is_ready, is_starting, live_pods, ready_pods, starting_pods}
 use Rattle.kn_trace.specs.Scale.{drain_order}
 use Rattle.kn_record.specs.Rows.{pod_named_by, says, counted}
 use Rattle.kn_record.specs.Made.{ArePodsNumbered, IsProper}

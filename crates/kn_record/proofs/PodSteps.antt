@@ -8,8 +8,9 @@ use Rattle.std.proofs.Math.Bool.{or-false}
 use Rattle.kn_event.specs.declared.entry.Entry.{Entry}
 use Rattle.kn_event.specs.declared.entry.Row.{Row}
 use Rattle.kn_event.specs.declared.entry.Row.TheVariants as row
+use Rattle.kn_event.specs.Lists.{contains}
 use Rattle.kn_trace.specs.Rows.{created_by, drained_by, limit_by, readied_by, gone_by}
-use Rattle.kn_trace.specs.Trace.{Trace, entry, contains, draining, each_row, is_draining, is_live_pod, is_ready, is_starting, limit_of, live_pods, ready_pods, starting_pods}
+use Rattle.kn_trace.specs.Trace.{Trace, entry, draining, each_row, is_draining, is_live_pod, is_ready, is_starting, limit_of, live_pods, ready_pods, starting_pods}
 use Rattle.kn_trace.specs.Scale.{drain_order}
 use Rattle.kn_record.specs.Rows.{pod_named_by, says, SaysNoPod}
 use Rattle.kn_record.proofs.Flags.{each_row-push, contains-push, limit_of-push}

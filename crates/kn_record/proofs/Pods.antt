@@ -8,11 +8,12 @@ use Rattle.std.proofs.lemmas.Bool.{eq-eqb}
 use Rattle.std.proofs.Math.Bool.{or-false}
 use Rattle.kn_event.specs.declared.entry.Entry.{Entry}
 use Rattle.kn_event.specs.declared.entry.Row.TheVariants as row
+use Rattle.kn_event.specs.Lists.{contains}
 use Rattle.kn_record.specs.declared.admission.Readiness.{Readiness}
 use Rattle.kn_record.specs.declared.admission.Readiness.TheVariants as readiness
 use Rattle.kn_record.specs.declared.admission.Pod.{Pod}
 use Rattle.kn_trace.specs.Rows.{limit_by, created_by, readied_by, drained_by, gone_by}
-use Rattle.kn_trace.specs.Trace.{Trace, entry, each_row, contains, limit_of, live_pods, is_live_pod, ready_pods, is_ready}
+use Rattle.kn_trace.specs.Trace.{Trace, entry, each_row, limit_of, live_pods, is_live_pod, ready_pods, is_ready}
 use Rattle.kn_record.specs.Admission.{readiness_by, readiness_of, pod_record, pods, limited, with_limit, marked, with_readiness, readied, drained, is_ready_now, pods_in}
 use Rattle.kn_record.specs.Rows.{says}
 use Rattle.kn_record.proofs.Flags.{contains-push, limit_after, limit_of-push}

@@ -7,8 +7,9 @@ use Rattle.std.proofs.lemmas.Bool.{eq-eqb}
 use Rattle.kn_event.specs.declared.entry.Entry.{Entry}
 use Rattle.kn_event.specs.declared.entry.Row.{Row}
 use Rattle.kn_event.specs.declared.entry.Row.TheVariants as row
+use Rattle.kn_event.specs.Lists.{contains}
 use Rattle.kn_trace.specs.Rows.{admitted_by, assigned_by, brought_to, directed_by, taken_by}
-use Rattle.kn_trace.specs.Trace.{Trace, assigned, contains, each_row, ended, has_begun, has_not_begun, has_run, pod_of, queued_at}
+use Rattle.kn_trace.specs.Trace.{Trace, assigned, each_row, ended, has_begun, has_not_begun, has_run, pod_of, queued_at}
 use Rattle.kn_record.specs.Admission.{place_at, place_of, placed, queues_at}
 use Rattle.kn_record.specs.Made.{IsNumbered}
 use Rattle.kn_record.proofs.Numbers.{admitted_taken, within-from}

@@ -12,8 +12,9 @@ use Rattle.kn_event.specs.declared.event.Act.{Act}
 use Rattle.kn_event.specs.declared.event.Act.TheVariants as act
 use Rattle.kn_event.specs.declared.event.Event.{Event}
 use Rattle.kn_event.specs.declared.revision.Spec.{Spec}
+use Rattle.kn_event.specs.Lists.{contains}
 use Rattle.kn_trace.specs.Rows.{admitted_by, brought_to, created_by, taken_by, ended_by}
-use Rattle.kn_trace.specs.Trace.{Trace, entry, arrivals, at_pod, contains, direct_turn, each_row, ended, has_not_begun, held, is_held, is_running, is_starting, live, live_pods, queued_at, ready_pods, starting_pods, waiting}
+use Rattle.kn_trace.specs.Trace.{Trace, entry, arrivals, at_pod, direct_turn, each_row, ended, has_not_begun, held, is_held, is_running, is_starting, live, live_pods, queued_at, ready_pods, starting_pods, waiting}
 use Rattle.kn_trace.specs.Capacity.{breaker_full, pod_full}
 use Rattle.kn_trace.specs.Scale.{mode_of}
 use Rattle.kn_trace.specs.Settling.{assignments_of, next_choice, while_chosen}

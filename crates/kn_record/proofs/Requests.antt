@@ -14,7 +14,8 @@ use Rattle.kn_trace.specs.Rows.{ended_by, assigned_by, run_by, pod_by, taken_by}
 use Rattle.kn_trace.specs.Trace.{Trace, entry, ended, assigned, has_run, pod_of}
 use Rattle.kn_record.specs.Admission.{place_at, place_of, request_of, live_requests, without, moved, moved_to, begun_at, begins}
 use Rattle.std.proofs.lemmas.Bool.{eqb-true, eq-eqb}
-use Rattle.kn_record.specs.Rows.{says, or_else}
+use Rattle.kn_event.specs.Lists.{or_else}
+use Rattle.kn_record.specs.Rows.{says}
 use Rattle.kn_record.proofs.Flags.{ended-push, assigned-push, has_run-push, pod_of-push}
 
 -- an optional request, changed

@@ -6,8 +6,9 @@ use Rattle.std.proofs.lemmas.Bool.{eq-eqb, or_right}
 use Rattle.kn_event.specs.declared.entry.Row.TheVariants as row
 use Rattle.kn_event.specs.declared.event.Event.{Event}
 use Rattle.kn_event.specs.declared.revision.Spec.{Spec}
+use Rattle.kn_event.specs.Lists.{contains}
 use Rattle.kn_trace.specs.Rows.{created_by}
-use Rattle.kn_trace.specs.Trace.{Trace, entry, at_pod, contains, draining, each_row, has_free_seat, held, is_draining, is_empty, live_pods, queued_at}
+use Rattle.kn_trace.specs.Trace.{Trace, entry, at_pod, draining, each_row, has_free_seat, held, is_draining, is_empty, live_pods, queued_at}
 use Rattle.kn_trace.specs.Settling.{held_assignments, promotions, promotions_at, removals, settling, while_free}
 use Rattle.kn_trace.specs.Events.{act_rows, activation, added, before_settling, departures, opening, react, trace_of}
 use Rattle.kn_record.specs.Made.{AreDistinct, ArePodsNumbered, Holds, IsMade, IsNumbered, IsProper}

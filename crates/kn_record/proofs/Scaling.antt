@@ -15,15 +15,17 @@ use Rattle.kn_event.specs.declared.revision.Kind.TheVariants as kind
 use Rattle.kn_event.specs.declared.revision.Spec.{Spec}
 use Rattle.kn_event.specs.declared.units.Frac.{Frac}
 use Rattle.kn_event.specs.Revision.{AreInRange}
+use Rattle.kn_event.specs.Lists.{contains}
 use Rattle.kn_scaling.specs.Average.{window_average, second_of}
 use Rattle.kn_scaling.specs.Decide.{Past, Ruling, decision_from_stable, no_load, one_request, ruling}
 use Rattle.kn_scaling.specs.Decide as scaling
 use Rattle.kn_scaling.specs.declared.zero.Standing.{Standing}
-use Rattle.kn_scaling.specs.Zero.{bounded_count, has_lasted, no_pods, pods_most, some_pods, zero_rule, zero_rule_in}
+use Rattle.kn_scaling.specs.Zero.{bounded_count, has_lasted, no_pods, opening_phase, pods_most, some_pods, zero_rule, zero_rule_in}
+use Rattle.kn_scaling.specs.Burst.{is_same_mode}
 use Rattle.kn_trace.specs.Rows.{created_by, drained_by, readied_by, gone_by}
-use Rattle.kn_trace.specs.Trace.{Trace, entry, contains, created, each_row, is_empty, is_live_pod, is_ready, is_starting, ready_pods, starting_pods}
-use Rattle.kn_trace.specs.Scale.{count_ready, creations, decision_at, decision_rows, drain_order, is_same_mode, is_same_phase, mode_of, opening_scale, past_of, phase_of, scale_rows, standing_of, tick_rows, tick_rows_of, wake_decision_at, wake_rows, wanted, where_true}
-use Rattle.kn_trace.specs.Events.{act_row, act_rows, activation, entries_of, opening, opening_of, opening_phase, scaler_rows, wake_where}
+use Rattle.kn_trace.specs.Trace.{Trace, entry, created, each_row, is_empty, is_live_pod, is_ready, is_starting, ready_pods, starting_pods}
+use Rattle.kn_trace.specs.Scale.{count_ready, creations, decision_at, decision_rows, drain_order, is_in_phase, mode_of, opening_scale, past_of, phase_of, scale_rows, standing_of, tick_rows, tick_rows_of, wake_decision_at, wake_rows, wanted, where_true}
+use Rattle.kn_trace.specs.Events.{act_row, act_rows, activation, entries_of, opening, opening_of, scaler_rows, wake_where}
 use Rattle.kn_record.specs.Made.{AreDistinct, ArePodsNumbered, Holds, IsMade, IsProper}
 use Rattle.kn_record.specs.Rows.{SaysNoPod}
 use Rattle.kn_record.specs.Kept.{Kept, IsCleared}
@@ -179,18 +181,18 @@ unfolding decision_rows
 decision-holds s t c made kept few =
     let one : IsProper s c (row.Decided made.decision) = few in
     let x = entry t (row.Decided made.decision) in
-    let p = where_true (not (is_same_phase made.phase (phase_of c))) (entry t (row.Phase made.phase) ∷ []) in
+    let p = where_true (not (is_in_phase made.phase (phase_of c))) (entry t (row.Phase made.phase) ∷ []) in
     let m = where_true (not (is_same_mode made.decision.mode (mode_of c))) (entry t (row.Mode made.decision.mode) ∷ []) in
     let c1 = c ++ x ∷ [] in
     let c2 = c1 ++ p in
     let c3 = c2 ++ m in
     let kept1 = Kept-push s c x kept one in
-    let two = quiet-hold s t c1 (not (is_same_phase made.phase (phase_of c))) (row.Phase made.phase) tt in
+    let two = quiet-hold s t c1 (not (is_in_phase made.phase (phase_of c))) (row.Phase made.phase) tt in
     let kept2 = Holds-kept s c1 p kept1 two in
     let three = quiet-hold s t c2 (not (is_same_mode made.decision.mode (mode_of c))) (row.Mode made.decision.mode) tt in
     let kept3 = Holds-kept s c2 m kept2 three in
     let same1 = same_pods c c x (refl, refl) (says_no_pod (row.Decided made.decision) refl) in
-    let same2 = same_where c c1 (not (is_same_phase made.phase (phase_of c))) t (row.Phase made.phase) same1 (says_no_pod (row.Phase made.phase) refl) in
+    let same2 = same_where c c1 (not (is_in_phase made.phase (phase_of c))) t (row.Phase made.phase) same1 (says_no_pod (row.Phase made.phase) refl) in
     let same3 = same_where c c2 (not (is_same_mode made.decision.mode (mode_of c))) t (row.Mode made.decision.mode) same2 (says_no_pod (row.Mode made.decision.mode) refl) in (
       one,
       Holds-append (IsProper s) c1 (p ++ m) (where_true made.decision.applied (scale_rows s t c made.decision.want)) (Holds-append (IsProper s) c1 p m two three)
@@ -237,7 +239,7 @@ acts-hold s t c a kept clear =
 -- the activation is
 pub activation-holds : (s : Spec) (t : ℕ) (c : Trace) → Holds (IsProper s) c (activation t c)
 unfolding activation
-activation-holds s t c = quiet-hold s t c (is_same_phase phase.Activating (phase_of c) && not (is_empty (ready_pods c))) (row.Phase phase.Active) tt
+activation-holds s t c = quiet-hold s t c (is_in_phase phase.Activating (phase_of c) && not (is_empty (ready_pods c))) (row.Phase phase.Active) tt
 
 -- ---- the opening
 

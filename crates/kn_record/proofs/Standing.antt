@@ -13,9 +13,10 @@ use Rattle.kn_event.specs.declared.event.Act.{Act}
 use Rattle.kn_event.specs.declared.event.Act.TheVariants as act
 use Rattle.kn_event.specs.declared.event.Stand.TheVariants as stand
 use Rattle.kn_event.specs.declared.revision.Spec.{Spec}
+use Rattle.kn_event.specs.Lists.{contains}
 use Rattle.kn_trace.specs.declared.candidate.Cand.{Cand}
 use Rattle.kn_trace.specs.Rows.{taken_by}
-use Rattle.kn_trace.specs.Trace.{Trace, entry, arrivals, assigned, contains, each_row, ended, has_begun, has_free_seat, has_not_begun, has_run, limit_of, live, live_pods, next_starting, pod_of, ready_pods, running_at, stand_at, stand_of, stand_of_arrived, stand_where}
+use Rattle.kn_trace.specs.Trace.{Trace, entry, arrivals, assigned, each_row, ended, has_begun, has_free_seat, has_not_begun, has_run, limit_of, live, live_pods, next_starting, pod_of, ready_pods, running_at, stand_at, stand_of, stand_of_arrived, stand_where}
 use Rattle.kn_trace.specs.Capacity.{breaker_full, capacity, pod_full, seats_of}
 use Rattle.kn_trace.specs.Choice.{candidates, choice}
 use Rattle.kn_trace.specs.Settling.{next_choice}
@@ -24,7 +25,7 @@ use Rattle.kn_record.specs.declared.admission.Place.{Place}
 use Rattle.kn_record.specs.declared.admission.Pod.{Pod}
 use Rattle.kn_record.specs.declared.admission.Request.{Request}
 use Rattle.kn_record.specs.Admission.{Admission, admission, candidates_in, capacity_in, is_assigned_place, is_at, is_held_place, is_ready_now, is_through, live_requests, next_in, place_at, place_of, placed, placed_in, pods, queues_at, request_of, runs_at, runs_somewhere, stepped, waits}
-use Rattle.kn_record.specs.Made.{IsMade, IsNumbered, StandsFor}
+use Rattle.kn_record.specs.Made.{IsMade, IsNumbered, IsRecordOf}
 use Rattle.kn_record.specs.Views.{AreByPlace, AreViews, due_in, is_free, is_full, stand_found, stand_in, stand_of_place}
 use Rattle.kn_record.proofs.Members.{filter-members}
 use Rattle.kn_record.proofs.Pods.{live-pods, ready-pods}
@@ -34,7 +35,7 @@ use Rattle.kn_record.proofs.Words.{at_pod-count, at_pod-members, held-placed, in
 use Rattle.kn_record.proofs.Queues.{queued_at-placed}
 use Rattle.kn_record.proofs.PodViews.{by_number, draining-pods, live_is_starting, pods_limits, ready_limits, starting-pods}
 use Rattle.kn_record.proofs.Reacting.{act-holds, contains-fewer, due_taken}
-use Rattle.kn_record.proofs.Appends.{StandsFor-push, stands_lost}
+use Rattle.kn_record.proofs.Appends.{record-push, stands_lost}
 
 -- ---- the views by place
 
@@ -222,27 +223,27 @@ views_of s c num = record {
 }
 
 -- a record that stands for a trace answers each view
-pub are_views : (s : Spec) (a : Admission) (c : Trace) → StandsFor a c → AreViews s a c
+pub are_views : (s : Spec) (a : Admission) (c : Trace) → IsRecordOf a c → AreViews s a c
 are_views s a c h = rw h.kept (whole h.requests)
   where
     whole : IsNumbered c → AreViews s (admission c) c
     whole num = views_of s c num
 
 -- the row of an act, whichever it is
-lost-stands : (s : Spec) (a : Admission) (c : Trace) (t p : ℕ) (x : Row) → StandsFor a c → act_row s c (act.Lost p) ≡ Some x → StandsFor (stepped t x a) (c ++ entry t x ∷ [])
+lost-stands : (s : Spec) (a : Admission) (c : Trace) (t p : ℕ) (x : Row) → IsRecordOf a c → act_row s c (act.Lost p) ≡ Some x → IsRecordOf (stepped t x a) (c ++ entry t x ∷ [])
 unfolding act_row
 lost-stands s a c t p x h e = by (contains p (live_pods c)) refl e
   where
     P : Row → Type 0
-    P y = StandsFor (stepped t y a) (c ++ entry t y ∷ [])
+    P y = IsRecordOf (stepped t y a) (c ++ entry t y ∷ [])
 
     by : (b : Bool) → contains p (live_pods c) ≡ b → Some (cond b (row.LostPod p) (row.NoPod p)) ≡ Some x → P x
     by true live e = let same : row.LostPod p ≡ x = cc in subst P same (stands_lost a c t p h live)
-    by false live e = let same : row.NoPod p ≡ x = cc in subst P same (StandsFor-push s a c t (row.NoPod p) h tt)
+    by false live e = let same : row.NoPod p ≡ x = cc in subst P same (record-push s a c t (row.NoPod p) h tt)
 
-act-stands : (s : Spec) (a : Admission) (c : Trace) (t : ℕ) (did : Act) (x : Row) → StandsFor a c → act_row s c did ≡ Some x → ((p : ℕ) → did ≡ act.Lost p → ⊥) → StandsFor (stepped t x a) (c ++ entry t x ∷ [])
-act-stands s a c t did x h e other = StandsFor-push s a c t x h (rw e at (act-holds s t c did (λ p lost. absurd (other p lost)))).0
+act-stands : (s : Spec) (a : Admission) (c : Trace) (t : ℕ) (did : Act) (x : Row) → IsRecordOf a c → act_row s c did ≡ Some x → ((p : ℕ) → did ≡ act.Lost p → ⊥) → IsRecordOf (stepped t x a) (c ++ entry t x ∷ [])
+act-stands s a c t did x h e other = record-push s a c t x h (rw e at (act-holds s t c did (λ p lost. absurd (other p lost)))).0
 
-pub stands_act : (s : Spec) (a : Admission) (c : Trace) (t : ℕ) (did : Act) (x : Row) → StandsFor a c → act_row s c did ≡ Some x → StandsFor (stepped t x a) (c ++ entry t x ∷ [])
+pub stands_act : (s : Spec) (a : Admission) (c : Trace) (t : ℕ) (did : Act) (x : Row) → IsRecordOf a c → act_row s c did ≡ Some x → IsRecordOf (stepped t x a) (c ++ entry t x ∷ [])
 stands_act s a c t (act.Lost p) x h e = lost-stands s a c t p x h e
 stands_act s a c t did x h e = act-stands s a c t did x h e (λ p lost. absurd (cc))

@@ -7,13 +7,14 @@ use Rattle.kn_event.specs.declared.entry.Entry.{Entry}
 use Rattle.kn_event.specs.declared.entry.Row.TheVariants as row
 use Rattle.kn_event.specs.declared.event.Event.{Event}
 use Rattle.kn_event.specs.declared.revision.Spec.{Spec}
+use Rattle.kn_event.specs.Lists.{contains}
 use Rattle.kn_trace.specs.Rows.{created_by, drained_by, gone_by}
-use Rattle.kn_trace.specs.Trace.{Trace, entry, assigned, at_pod, contains, draining, each_row, ended, first_of, has_begun, has_free_seat, has_not_begun, has_run, held, is_draining, is_empty, is_live_pod, queued_at}
+use Rattle.kn_trace.specs.Trace.{Trace, entry, assigned, at_pod, draining, each_row, ended, first_of, has_begun, has_free_seat, has_not_begun, has_run, held, is_draining, is_empty, is_live_pod, queued_at}
 use Rattle.kn_trace.specs.Settling.{assignments_of, held_assignments, next_choice, promotions, promotions_at, removals}
 use Rattle.kn_trace.specs.Events.{act_rows, before_settling, departures, due, due_by, expiries, react}
 use Rattle.kn_record.specs.declared.admission.Pod.{Pod}
 use Rattle.kn_record.specs.Admission.{Admission, is_at, is_held_place, next_in, placed_in, queues_at, stepped}
-use Rattle.kn_record.specs.Made.{AreDistinct, Holds, IsMade, IsNumbered, IsProper, StandsFor}
+use Rattle.kn_record.specs.Made.{AreDistinct, Holds, IsMade, IsNumbered, IsProper, IsRecordOf}
 use Rattle.kn_record.specs.Views.{due_in, has_free_seat_in, is_free, is_pod_where, pod_numbered, pod_numbers, others}
 use Rattle.kn_record.specs.Walks.{ArePartsProper, BeginsWith, leaving_in, promoting, stepped_by}
 use Rattle.kn_record.proofs.Members.{distinct-filter, filter-first}
@@ -25,7 +26,7 @@ use Rattle.kn_record.proofs.Reacting.{departures-clear, departures-hold, due_dis
 use Rattle.kn_record.proofs.Scaling.{activation-holds, acts-hold}
 use Rattle.kn_record.proofs.Choosing.{next_choice-good}
 use Rattle.kn_record.proofs.Running.{before-holds, draining_distinct, empty_list, queued-next, react-holds, settling-holds}
-use Rattle.kn_record.proofs.Appends.{StandsFor-push}
+use Rattle.kn_record.proofs.Appends.{record-push}
 use Rattle.kn_record.proofs.Standing.{are_views}
 
 -- ---- expiries
@@ -72,12 +73,12 @@ expiries-end s t c f = by (due s t c) f
     by [] f = refl
     by (q ∷ rs) f = absurd (cc)
 
-pub walk_expire : (s : Spec) (a : Admission) (c : Trace) (t r : ℕ) → StandsFor a c → first_of (due_in s.timeout_ms t a.live) ≡ Some r → BeginsWith (expiries s t) t (row.Expire r) a c
+pub walk_expire : (s : Spec) (a : Admission) (c : Trace) (t r : ℕ) → IsRecordOf a c → first_of (due_in s.timeout_ms t a.live) ≡ Some r → BeginsWith (expiries s t) t (row.Expire r) a c
 walk_expire s a c t r h f =
     let g : first_of (due s t c) ≡ Some r = ap (λ (l : List ℕ). first_of l) ((are_views s a c h).due t) ∙ f in
-    (expiries-one s t c r h.requests g, StandsFor-push s a c t (row.Expire r) h (due_waits s t c r (first_member r (due s t c) g)))
+    (expiries-one s t c r h.requests g, record-push s a c t (row.Expire r) h (due_waits s t c r (first_member r (due s t c) g)))
 
-pub walk_expired : (s : Spec) (a : Admission) (c : Trace) (t : ℕ) → StandsFor a c → first_of (due_in s.timeout_ms t a.live) ≡ None → expiries s t c ≡ []
+pub walk_expired : (s : Spec) (a : Admission) (c : Trace) (t : ℕ) → IsRecordOf a c → first_of (due_in s.timeout_ms t a.live) ≡ None → expiries s t c ≡ []
 walk_expired s a c t h f = expiries-end s t c (ap (λ (l : List ℕ). first_of l) ((are_views s a c h).due t) ∙ f)
 
 -- ---- promotions, a pod at a time
@@ -120,15 +121,15 @@ seat_listed test p (q ∷ all) h = by (q.number == p) refl (seat_listed test p a
     by true e rest = refl
     by false e rest = rest (rw e at h)
 
-pub walk_promote : (s : Spec) (a : Admission) (c : Trace) (t p : ℕ) (ps : List ℕ) (r : ℕ) → StandsFor a c → first_of (placed_in (queues_at p) a.live) ≡ Some r → has_free_seat_in a p ≡ true → BeginsWith (promoting t (p ∷ ps)) t (row.Run r) a c
+pub walk_promote : (s : Spec) (a : Admission) (c : Trace) (t p : ℕ) (ps : List ℕ) (r : ℕ) → IsRecordOf a c → first_of (placed_in (queues_at p) a.live) ≡ Some r → has_free_seat_in a p ≡ true → BeginsWith (promoting t (p ∷ ps)) t (row.Run r) a c
 unfolding promoting
 walk_promote s a c t p ps r h f seat =
     let views = are_views s a c h in
     let g : first_of (queued_at c p) ≡ Some r = ap (λ (l : List ℕ). first_of l) (views.queued p) ∙ f in
     let free : has_free_seat c p ≡ true = views.free_at p (seat_listed (is_free a.live) p a.pods seat) ∙ seat in
-    (promotions-one t c p ps r h.requests g free, StandsFor-push s a c t (row.Run r) h (p, record { first = g; free = free }))
+    (promotions-one t c p ps r h.requests g free, record-push s a c t (row.Run r) h (p, record { first = g; free = free }))
 
-pub walk_promoted : (s : Spec) (a : Admission) (c : Trace) (t p : ℕ) (ps : List ℕ) → StandsFor a c → contains p (pod_numbers a.pods) ≡ true → (first_of (placed_in (queues_at p) a.live) ≡ None) ⊎ (has_free_seat_in a p ≡ false)
+pub walk_promoted : (s : Spec) (a : Admission) (c : Trace) (t p : ℕ) (ps : List ℕ) → IsRecordOf a c → contains p (pod_numbers a.pods) ≡ true → (first_of (placed_in (queues_at p) a.live) ≡ None) ⊎ (has_free_seat_in a p ≡ false)
     → promoting t (p ∷ ps) c ≡ promoting t ps c
 unfolding promoting
 walk_promoted s a c t p ps h listed over = promotions-next t c p ps (by over)
@@ -163,15 +164,15 @@ assignments-end s t c over = by (held c) over
     by (q ∷ rs) (inl f) = absurd (cc)
     by (q ∷ rs) (inr n) = rw n refl
 
-pub walk_assign : (s : Spec) (a : Admission) (c : Trace) (t r p : ℕ) → StandsFor a c → first_of (placed_in is_held_place a.live) ≡ Some r → next_in s a ≡ Some p → BeginsWith (held_assignments s t) t (row.Assign r p) a c
+pub walk_assign : (s : Spec) (a : Admission) (c : Trace) (t r p : ℕ) → IsRecordOf a c → first_of (placed_in is_held_place a.live) ≡ Some r → next_in s a ≡ Some p → BeginsWith (held_assignments s t) t (row.Assign r p) a c
 walk_assign s a c t r p h f n =
     let views = are_views s a c h in
     let g : first_of (held c) ≡ Some r = ap (λ (l : List ℕ). first_of l) views.held ∙ f in
     let m : next_choice s c ≡ Some p = views.next ∙ n in
     let good = next_choice-good s c p m in
-    (assignments-one s t c r p h.requests g m, StandsFor-push s a c t (row.Assign r p) h (record { first = g; ready = good.1; free = good.2; room = good.0 }))
+    (assignments-one s t c r p h.requests g m, record-push s a c t (row.Assign r p) h (record { first = g; ready = good.1; free = good.2; room = good.0 }))
 
-pub walk_assigned : (s : Spec) (a : Admission) (c : Trace) (t : ℕ) → StandsFor a c → (first_of (placed_in is_held_place a.live) ≡ None) ⊎ (next_in s a ≡ None) → held_assignments s t c ≡ []
+pub walk_assigned : (s : Spec) (a : Admission) (c : Trace) (t : ℕ) → IsRecordOf a c → (first_of (placed_in is_held_place a.live) ≡ None) ⊎ (next_in s a ≡ None) → held_assignments s t c ≡ []
 walk_assigned s a c t h over = assignments-end s t c (by over)
   where
     by : (first_of (placed_in is_held_place a.live) ≡ None) ⊎ (next_in s a ≡ None) → (first_of (held c) ≡ None) ⊎ (next_choice s c ≡ None)
@@ -244,7 +245,7 @@ same-empty (x ∷ xs) [] h = absurd (omega arith)
 same-empty (x ∷ xs) (y ∷ ys) h = refl
 
 -- they are the record's
-leaving-record : (s : Spec) (a : Admission) (c : Trace) → StandsFor a c → leaving c ≡ leaving_in a
+leaving-record : (s : Spec) (a : Admission) (c : Trace) → IsRecordOf a c → leaving c ≡ leaving_in a
 unfolding leaving
 leaving-record s a c h =
     let views = are_views s a c h in
@@ -255,23 +256,23 @@ leaving-parts : (c : Trace) (p : ℕ) → contains p (leaving c) ≡ true → (c
 unfolding leaving
 leaving-parts c p h = let both = filter_member (λ p. is_empty (at_pod c p)) p (draining c) h in (both.0, empty_list (at_pod c p) both.1)
 
-pub walk_remove : (s : Spec) (a : Admission) (c : Trace) (t p : ℕ) → StandsFor a c → first_of (leaving_in a) ≡ Some p → BeginsWith (removals t) t (row.Remove p) a c
+pub walk_remove : (s : Spec) (a : Admission) (c : Trace) (t p : ℕ) → IsRecordOf a c → first_of (leaving_in a) ≡ Some p → BeginsWith (removals t) t (row.Remove p) a c
 walk_remove s a c t p h f =
     let g : first_of (leaving c) ≡ Some p = ap (λ (l : List ℕ). first_of l) (leaving-record s a c h) ∙ f in
-    (removals-one t c p (draining_distinct c h.pods) g, StandsFor-push s a c t (row.Remove p) h (leaving-parts c p (first_member p (leaving c) g)))
+    (removals-one t c p (draining_distinct c h.pods) g, record-push s a c t (row.Remove p) h (leaving-parts c p (first_member p (leaving c) g)))
 
-pub walk_removed : (s : Spec) (a : Admission) (c : Trace) (t : ℕ) → StandsFor a c → first_of (leaving_in a) ≡ None → removals t c ≡ []
+pub walk_removed : (s : Spec) (a : Admission) (c : Trace) (t : ℕ) → IsRecordOf a c → first_of (leaving_in a) ≡ None → removals t c ≡ []
 walk_removed s a c t h f = removals-end t c (ap (λ (l : List ℕ). first_of l) (leaving-record s a c h) ∙ f)
 
 -- ---- a list of rows at once
 
 -- a record that stands for a trace goes on by rows that are all proper
-pub walk_rows : (s : Spec) (a : Admission) (c es : Trace) → StandsFor a c → Holds (IsProper s) c es → StandsFor (stepped_by es a) (c ++ es)
+pub walk_rows : (s : Spec) (a : Admission) (c es : Trace) → IsRecordOf a c → Holds (IsProper s) c es → IsRecordOf (stepped_by es a) (c ++ es)
 walk_rows s a c [] h p = rw (append-nil c) h
-walk_rows s a c (e ∷ es) h p = rw (append_assoc c (e ∷ []) es) at (walk_rows s (stepped e.time e.row a) (c ++ e ∷ []) es (StandsFor-push s a c e.time e.row h p.0) p.1)
+walk_rows s a c (e ∷ es) h p = rw (append_assoc c (e ∷ []) es) at (walk_rows s (stepped e.time e.row a) (c ++ e ∷ []) es (record-push s a c e.time e.row h p.0) p.1)
 
 -- so it goes on by a whole event
-pub walk_event : (s : Spec) (a : Admission) (c : Trace) (e : Event) → IsMade s c → StandsFor a c → StandsFor (stepped_by (react s c e) a) (c ++ react s c e)
+pub walk_event : (s : Spec) (a : Admission) (c : Trace) (e : Event) → IsMade s c → IsRecordOf a c → IsRecordOf (stepped_by (react s c e) a) (c ++ react s c e)
 walk_event s a c e made h = walk_rows s a c (react s c e) h (react-holds s c e (made_kept s c made))
 
 -- the parts of an event, each proper where it comes

@@ -7,8 +7,9 @@ use Rattle.std.proofs.lemmas.Bool.{eqb-true, eq-eqb, false_from_ne_true, or_righ
 use Rattle.kn_event.specs.declared.entry.Entry.{Entry}
 use Rattle.kn_event.specs.declared.entry.Row.{Row}
 use Rattle.kn_event.specs.declared.entry.Row.TheVariants as row
+use Rattle.kn_event.specs.Lists.{contains}
 use Rattle.kn_trace.specs.Rows.{admitted_by, assigned_by, brought_to, directed_by, pod_by, taken_by}
-use Rattle.kn_trace.specs.Trace.{Trace, assigned, at_pod, contains, each_row, ended, has_begun, has_not_begun, has_run, held, in_breaker, is_held, is_running, last_of, live, pod_of, proxied, running_at, waiting}
+use Rattle.kn_trace.specs.Trace.{Trace, assigned, at_pod, each_row, ended, has_begun, has_not_begun, has_run, held, in_breaker, is_held, is_running, last_of, live, pod_of, proxied, running_at, waiting}
 use Rattle.kn_trace.specs.Capacity.{in_use}
 use Rattle.kn_record.specs.declared.admission.Place.{Place}
 use Rattle.kn_record.specs.Rows.{moved_by, says}

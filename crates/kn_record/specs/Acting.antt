@@ -7,7 +7,7 @@ use Rattle.kn_event.specs.declared.entry.Mode.TheVariants as mode
 use Rattle.kn_event.specs.declared.event.Act.{Act}
 use Rattle.kn_event.specs.declared.event.Act.TheVariants as act
 use Rattle.kn_event.specs.declared.revision.Spec.{Spec}
-use Rattle.kn_trace.specs.Trace.{contains}
+use Rattle.kn_event.specs.Lists.{contains}
 use Rattle.kn_trace.specs.Events.{live_most}
 use Rattle.kn_record.specs.Admission.{Admission, is_ready_now, is_starting_now, is_through, placed_in, pods_in, runs_somewhere, waits}
 use Rattle.kn_record.specs.Views.{is_full_in, pod_numbers}

@@ -6,9 +6,10 @@ use Rattle.kn_event.specs.declared.entry.Entry.{Entry}
 use Rattle.kn_event.specs.declared.entry.Row.{Row}
 use Rattle.kn_event.specs.declared.entry.Row.TheVariants as row
 use Rattle.kn_event.specs.declared.revision.Spec.{Spec}
+use Rattle.kn_event.specs.Lists.{contains}
 use Rattle.kn_trace.specs.declared.candidate.Cand.{Cand}
 use Rattle.kn_trace.specs.Rows.{arrived_by, assigned_by, taken_by, turned_by, created_by, readied_by, drained_by, gone_by}
-use Rattle.kn_trace.specs.Trace.{Trace, contains, each_row, arrivals, created, direct_turn, assigned, ended, has_run, limit_of, live, pod_of}
+use Rattle.kn_trace.specs.Trace.{Trace, each_row, arrivals, created, direct_turn, assigned, ended, has_run, limit_of, live, pod_of}
 use Rattle.kn_trace.specs.Capacity.{seats_of}
 use Rattle.kn_trace.specs.Choice.{assignment_count, chosen_pod, round_robin_place}
 use Rattle.kn_record.specs.declared.admission.Place.{Place}

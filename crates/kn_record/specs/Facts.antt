@@ -8,18 +8,19 @@ use Rattle.kn_event.specs.declared.event.Act.{Act}
 use Rattle.kn_event.specs.declared.event.Event.{Event}
 use Rattle.kn_event.specs.declared.revision.Kind.{Kind}
 use Rattle.kn_event.specs.declared.revision.Spec.{Spec}
+use Rattle.kn_event.specs.Lists.{contains, or_else}
 use Rattle.kn_trace.specs.Capacity.{capacity, in_use}
 use Rattle.kn_trace.specs.Choice.{choice}
 use Rattle.kn_trace.specs.Events.{act_row, activation, before_settling, departures, entries_of, expiries, opening, react, scaler_rows, trace_of, wake_where}
 use Rattle.kn_trace.specs.Rows.{admitted_by, arrived_by, assigned_by, brought_to, created_by, decision_by, directed_by, drained_by, ended_by, gone_by, limit_by, outcome_by, phase_by, pod_by, readied_by, refused_by, run_by, taken_by}
 use Rattle.kn_trace.specs.Scale.{drain_order, phase_of, tick_rows, wanted}
 use Rattle.kn_trace.specs.Settling.{held_assignments, next_choice, promotions, promotions_at, settling}
-use Rattle.kn_trace.specs.Trace.{Trace, arrivals, assigned, at_pod, contains, created, draining, each_row, ended, entry, first_of, has_free_seat, has_not_begun, has_run, held, is_held, is_live_pod, is_ready, is_running, last_of, limit_of, live, live_pods, pod_of, queued_at, ready_pods, running_at, starting_pods, waiting}
+use Rattle.kn_trace.specs.Trace.{Trace, arrivals, assigned, at_pod, created, draining, each_row, ended, entry, first_of, has_free_seat, has_not_begun, has_run, held, is_held, is_live_pod, is_ready, is_running, last_of, limit_of, live, live_pods, pod_of, queued_at, ready_pods, running_at, starting_pods, waiting}
 use Rattle.kn_record.specs.Admission.{admission, pods, stepped}
 use Rattle.kn_record.specs.Kept.{IsCleared, IsHeldMember, IsIdle, Kept}
 use Rattle.kn_record.specs.Made.{AreDistinct, ArePodsNumbered, Holds, IsMade, IsNumbered, IsProper}
 use Rattle.kn_record.specs.Order.{Ascend}
-use Rattle.kn_record.specs.Rows.{IsQuiet, SaysNoPod, counted, moved_by, named_by, or_else, pod_named_by, says, want_after}
+use Rattle.kn_record.specs.Rows.{IsQuiet, SaysNoPod, counted, moved_by, named_by, pod_named_by, says, want_after}
 use Rattle.kn_record.specs.Views.{AreByPlace, others}
 
 -- lists of numbers

@@ -4,9 +4,10 @@ use Rattle.kn_event.specs.declared.event.Act.{Act}
 use Rattle.kn_event.specs.declared.event.Act.TheVariants as act
 use Rattle.kn_event.specs.declared.revision.Spec.{Spec}
 use Rattle.kn_event.specs.Revision.{AreInRange}
+use Rattle.kn_event.specs.Lists.{contains}
 use Rattle.kn_scaling.specs.Zero.{pods_most}
 use Rattle.kn_trace.specs.Rows.{admitted_by}
-use Rattle.kn_trace.specs.Trace.{Trace, assigned, at_pod, contains, each_row, ended, has_run, live_pods}
+use Rattle.kn_trace.specs.Trace.{Trace, assigned, at_pod, each_row, ended, has_run, live_pods}
 use Rattle.kn_trace.specs.Scale.{wanted}
 use Rattle.kn_record.specs.Made.{ArePodsNumbered, IsNumbered}
 

@@ -4,9 +4,10 @@ use Rattle.kn_event.specs.declared.entry.Row.{Row}
 use Rattle.kn_event.specs.declared.entry.Row.TheVariants as row
 use Rattle.kn_event.specs.declared.revision.Spec.{Spec}
 use Rattle.kn_event.specs.Revision.{AreInRange}
+use Rattle.kn_event.specs.Lists.{contains}
 use Rattle.kn_scaling.specs.Zero.{pods_most}
 use Rattle.kn_trace.specs.Rows.{admitted_by, directed_by, refused_by, taken_by, created_by}
-use Rattle.kn_trace.specs.Trace.{Trace, arrivals, assigned, at_pod, contains, created, draining, each_row, has_run, is_running, live, live_pods, starting_pods, waiting}
+use Rattle.kn_trace.specs.Trace.{Trace, arrivals, assigned, at_pod, created, draining, each_row, has_run, is_running, live, live_pods, starting_pods, waiting}
 use Rattle.kn_trace.specs.Capacity.{breaker_full, pod_full}
 use Rattle.kn_trace.specs.Scale.{drain_order}
 use Rattle.kn_trace.specs.Events.{live_most}
@@ -76,7 +77,7 @@ pub record ArePodsNumbered (c : Trace) : Type 0 where
   pub once : AreDistinct (each_row created_by c)
 
 -- a record of what is kept stands for a trace
-pub record StandsFor (a : Admission) (c : Trace) : Type 0 where
+pub record IsRecordOf (a : Admission) (c : Trace) : Type 0 where
   pub kept : a ≡ admission c
   pub requests : IsNumbered c
   pub pods : ArePodsNumbered c

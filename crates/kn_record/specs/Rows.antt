@@ -42,11 +42,6 @@ abbrev pub says : Option ℕ → ℕ → Bool
 says None r = false
 says (Some q) r = q == r
 
--- what it says, or what was so before
-abbrev pub or_else : {X : Type 0} → Option X → Option X → Option X
-or_else None other = other
-or_else (Some x) other = Some x
-
 -- how many rows of its kind it adds
 abbrev pub counted : {X : Type 0} → Option X → ℕ
 counted None = 0

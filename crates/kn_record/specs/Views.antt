@@ -4,7 +4,8 @@ use Rattle.std.specs.List.{All, filter, find}
 use Rattle.kn_event.specs.declared.event.Stand.{Stand}
 use Rattle.kn_event.specs.declared.event.Stand.TheVariants as stand
 use Rattle.kn_event.specs.declared.revision.Spec.{Spec}
-use Rattle.kn_trace.specs.Trace.{Trace, arrivals, at_pod, contains, created, direct_turn, draining, has_free_seat, held, in_breaker, is_running, is_starting, limit_of, live, live_pods, next_starting, proxied, queued_at, ready_pods, running_at, stand_of, starting_pods, waiting}
+use Rattle.kn_event.specs.Lists.{contains}
+use Rattle.kn_trace.specs.Trace.{Trace, arrivals, at_pod, created, direct_turn, draining, has_free_seat, held, in_breaker, is_running, is_starting, limit_of, live, live_pods, next_starting, proxied, queued_at, ready_pods, running_at, stand_of, starting_pods, waiting}
 use Rattle.kn_trace.specs.Capacity.{breaker_full, capacity, in_use, pod_full}
 use Rattle.kn_trace.specs.Choice.{assignment_count, candidates, round_robin_place}
 use Rattle.kn_trace.specs.Settling.{next_choice}

@@ -9,17 +9,17 @@ use Rattle.kn_trace.specs.Trace.{Trace, entry, is_empty}
 use Rattle.kn_trace.specs.Settling.{promotions, settling}
 use Rattle.kn_trace.specs.Events.{act_rows, activation, before_settling, departures, expiries, losses, losses_at}
 use Rattle.kn_record.specs.Admission.{Admission, is_at, is_draining_now, placed_in, pods_in, stepped}
-use Rattle.kn_record.specs.Made.{Holds, IsProper, StandsFor}
+use Rattle.kn_record.specs.Made.{Holds, IsProper, IsRecordOf}
 
 -- the rows to come at the trace c begin with this one; the others are those to come after it, and the record goes on
 abbrev pub BeginsWith : (Trace → List Entry) → ℕ → Row → Admission → Trace → Type 0
-BeginsWith rest t x a c = (rest c ≡ entry t x ∷ rest (c ++ entry t x ∷ [])) × StandsFor (stepped t x a) (c ++ entry t x ∷ [])
+BeginsWith rest t x a c = (rest c ≡ entry t x ∷ rest (c ++ entry t x ∷ [])) × IsRecordOf (stepped t x a) (c ++ entry t x ∷ [])
 
 -- a loop that makes the rows all of the trace c: log has grown from old by the first of them, left is still to come at
 -- the trace that they made, and the record stands for that trace
 pub record Leaves (all left : Trace → List Entry) (c : Trace) (a : Admission) (old log : List Entry) : Type 0 where
   pub here : Trace
-  pub stands : StandsFor a here
+  pub stands : IsRecordOf a here
   pub rows : log ++ left here ≡ old ++ all c
   pub whole : here ++ left here ≡ c ++ all c
 

@@ -42,9 +42,3 @@ SimulatesBy (Err cause) old new result = IsRefusedFor cause result
 abbrev pub Simulates : Option (List ℕ) → Option (List ℕ) → Option (List ℕ) → Status → Type 0
 Simulates None old new result = ⊤
 Simulates (Some xs) old new result = SimulatesBy (workload_of xs) old new result
-
--- nothing at all is written then
-abbrev pub WritesNone : Status → Type 0
-WritesNone status.Ok = ⊥
-WritesNone status.WriteFault = ⊥
-WritesNone _ = ⊤

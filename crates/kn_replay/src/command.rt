@@ -8,6 +8,7 @@ ghost use Rattle.kn_trace.specs.Laws.{IsInert, IsLawful, IsSettled};
 ghost use Rattle.kn_laws.specs.Losses.{LosesNothing};
 ghost use Rattle.kn_core.specs.Refused.{LeavesByAnswer};
 ghost use Rattle.kn_journal.specs.Reading.{most_taken};
+ghost use Rattle.kn_journal.specs.Status.{WritesNone};
 ghost use Rattle.kn_replay.specs.Report.{OnJournalOf, trace_of_journal};
 ghost use Rattle.kn_replay.specs.Bundled.{ReplaysBundle, TakesMemoryFirst};
 ghost use Rattle.kn_replay.specs.Replaying.{EndsThere, IsRefusal, IsReplayed, LeavesBehind, LeavesCut, Replays, Tells};
@@ -15,7 +16,7 @@ ghost use Rattle.kn_replay.specs.Texts.{status_text};
 ghost use Rattle.kn_replay.specs.Commands.{command_of, generate_of, replay_of};
 ghost use Rattle.kn_replay.specs.Generating.{Generates};
 ghost use Rattle.kn_replay.specs.Grouped.{ReplaysGroup};
-ghost use Rattle.kn_replay.specs.Simulating.{Simulates, WritesNone};
+ghost use Rattle.kn_replay.specs.Simulating.{Simulates};
 
 use crate::bundle::replay_bundle;
 use crate::generate::generate;

@@ -2,8 +2,9 @@
 ghost use Rattle.std.specs.Prelude.{◌≡◌, ◌⊎◌, ◌+◌, ◌≤◌};
 ghost use Rattle.kn_io.specs.Causes.{Rose};
 ghost use Rattle.kn_journal.specs.Reading.{most_taken};
+ghost use Rattle.kn_journal.specs.Status.{WritesNone};
 ghost use Rattle.kn_replay.specs.Replaying.{IsReplayed};
-ghost use Rattle.kn_replay.specs.Simulating.{Simulates, WritesNone};
+ghost use Rattle.kn_replay.specs.Simulating.{Simulates};
 
 use kn_follow::status_of;
 use kn_io::{Sink, Source};

@@ -11,9 +11,10 @@ use Rattle.kn_event.specs.declared.event.Event.{Event}
 use Rattle.kn_event.specs.declared.event.Stand.{Stand}
 use Rattle.kn_event.specs.declared.event.Stand.TheVariants as stand
 use Rattle.kn_event.specs.declared.revision.Spec.{Spec}
+use Rattle.kn_event.specs.Lists.{contains}
 use Rattle.kn_trace.specs.Events.{need_of, react}
 use Rattle.kn_trace.specs.Outcome.{Outcome, Refused, Overload, Expired, Cancelled, Finished, Lost, outcome_of}
-use Rattle.kn_trace.specs.Trace.{Trace, arrivals, contains, is_running, pod_of, stand_of, waiting}
+use Rattle.kn_trace.specs.Trace.{Trace, arrivals, is_running, pod_of, stand_of, waiting}
 use Rattle.kn_record.specs.Made.{IsMade}
 use Rattle.kn_laws.specs.History.{IsMadeBy}
 use Rattle.kn_sizes.specs.Course.{HasFinished, IsToldByStand, IsUnfinished, MayEnd, runs_by, waits_by}

@@ -9,8 +9,9 @@ use native.Mathlib.Bridge.{le_prop}
 use native.Mathlib.Nat.{ℕ_set}
 use Rattle.kn_event.specs.declared.event.Event.{Event}
 use Rattle.kn_event.specs.declared.revision.Spec.{Spec}
+use Rattle.kn_event.specs.Lists.{contains}
 use Rattle.kn_trace.specs.Events.{react}
-use Rattle.kn_trace.specs.Trace.{Trace, contains, created, next_starting, starting_pods}
+use Rattle.kn_trace.specs.Trace.{Trace, created, next_starting, starting_pods}
 use Rattle.kn_record.specs.Made.{IsMade}
 use Rattle.kn_sizes.specs.Starting.{IsLeastFrom}
 use Rattle.kn_sizes.specs.Stays.{Stays}

@@ -10,17 +10,19 @@ use Rattle.kn_event.specs.declared.event.Act.{Act}
 use Rattle.kn_event.specs.declared.event.Act.TheVariants as act
 use Rattle.kn_event.specs.declared.event.Told.{Told}
 use Rattle.kn_event.specs.declared.revision.Spec.{Spec}
+use Rattle.kn_event.specs.Lists.{contains}
 use Rattle.kn_trace.specs.Events.{need_of, react}
-use Rattle.kn_trace.specs.Trace.{Trace, contains, created, starting_pods}
+use Rattle.kn_trace.specs.Trace.{Trace, created, starting_pods}
 use Rattle.kn_book.specs.Book.{address_of, next_to_probe}
 use Rattle.kn_core.specs.State.{RevisionState, StandsFor}
 use Rattle.kn_cell.specs.declared.past.Past.{Past}
 use Rattle.kn_cell.specs.declared.past.Full.{Full}
 use Rattle.kn_cell.specs.Lists.{StartsWith, Each}
-use Rattle.kn_cell.specs.History.{live_of, trace_after}
+use Rattle.kn_cell.specs.History.{trace_after}
 use Rattle.kn_cell.specs.Shown.{PassView, Looks, Adds, Misfits, left_in}
 use Rattle.kn_io.specs.Links.{Link, Tells}
 use Rattle.kn_io.specs.declared.records.Probe.{Probe}
+use Rattle.kn_core.specs.Gauges.{count_live}
 use Rattle.kn_request.specs.Laws.{Made, RequestLaws}
 use Rattle.kn_request.specs.Pods.{IsStarting, IsStartingAt, PodLaws}
 use Rattle.kn_request.specs.Requests.{Recorded}
@@ -84,8 +86,8 @@ was_full laws p q a full what l x = record {
   none_left = λ c s.
       let m = x.short c s in
       let n = need_one laws (trace_after p.opening.spec c q.seen) a what in
-      let same = ap (λ (v : PassView). left_in v q.seen (live_of (trace_after p.opening.spec c q.seen))) l.same in
-      let here : left_in q q.seen (live_of (trace_after p.opening.spec c q.seen)) < 1 = omega (arith, m, n) in
+      let same = ap (λ (v : PassView). left_in v q.seen (count_live (trace_after p.opening.spec c q.seen))) l.same in
+      let here : left_in q q.seen (count_live (trace_after p.opening.spec c q.seen)) < 1 = omega (arith, m, n) in
       subst (λ k. k < 1) same here;
 }
 
@@ -103,7 +105,7 @@ at_later now p q xs l all k x at = let y = all k x at in (recorded_later (λ t. 
 -- fullness, seen from earlier and from later
 full_before : (p q s : PassView) → Looks p q → WasFull q s → WasFull p s
 full_before p q s l w =
-    let Q : PassView → Type 0 = λ v. (c : Trace) → StandsFor v.opening c → left_in (record v { gone = w.gone }) w.front (live_of (trace_after v.opening.spec c w.front)) < 1 in
+    let Q : PassView → Type 0 = λ v. (c : Trace) → StandsFor v.opening c → left_in (record v { gone = w.gone }) w.front (count_live (trace_after v.opening.spec c w.front)) < 1 in
     record {
       front = w.front;
       early = w.early;

@@ -3,8 +3,9 @@ use Rattle.std.specs.Prelude.{◌≡◌, ◌≤◌, ◌<◌, ℕ, true, ◌++◌
 use Rattle.kn_event.specs.declared.event.Act.TheVariants as act
 use Rattle.kn_event.specs.declared.event.Event.{Event}
 use Rattle.kn_event.specs.declared.revision.Spec.{Spec}
+use Rattle.kn_event.specs.Lists.{contains}
 use Rattle.kn_trace.specs.Events.{need_of, react}
-use Rattle.kn_trace.specs.Trace.{Trace, contains, created, starting_pods}
+use Rattle.kn_trace.specs.Trace.{Trace, created, starting_pods}
 use Rattle.kn_book.specs.Book.{address_of, next_to_probe}
 use Rattle.kn_request.specs.Laws.{Made}
 

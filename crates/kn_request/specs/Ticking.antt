@@ -8,10 +8,11 @@ use Rattle.kn_book.specs.Book.{next_to_probe}
 use Rattle.kn_core.specs.State.{StandsFor}
 use Rattle.kn_cell.specs.declared.past.Past.{Past}
 use Rattle.kn_cell.specs.Lists.{Each, StartsWith}
-use Rattle.kn_cell.specs.History.{live_of, trace_after}
+use Rattle.kn_cell.specs.History.{trace_after}
 use Rattle.kn_cell.specs.Shown.{PassView, Looks, left_in}
 use Rattle.kn_io.specs.Links.{Link, Tells}
 use Rattle.kn_io.specs.declared.records.Probe.{Probe}
+use Rattle.kn_core.specs.Gauges.{count_live}
 use Rattle.kn_request.specs.declared.ticks.Turn.{Turn}
 use Rattle.kn_request.specs.declared.ticks.Probed.{Probed}
 use Rattle.kn_request.specs.declared.ticks.Probed.TheVariants as found
@@ -34,7 +35,7 @@ pub record WasFull (old new : PassView) : Type 0 where
   pub most : gone ≤ length front
   pub plain : old.lasting ≡ false → gone ≡ 0
   pub none_left : (c : Trace) → StandsFor old.opening c
-      → left_in (record old { gone = gone }) front (live_of (trace_after old.opening.spec c front)) < 1
+      → left_in (record old { gone = gone }) front (count_live (trace_after old.opening.spec c front)) < 1
 
 -- ---- visits
 

@@ -115,6 +115,6 @@ unfoldable pub spec_of : Config → List ℕ → Slots → Result Spec SpecError
 spec_of config text slots = spec_or_fault config slots (json_of text)
 
 -- want of memory, or else what is read
-abbrev pub Gives : Result Spec SpecError → Result Spec SpecError → Type 0
-Gives (Err error.Memory) read = Unit {0}
-Gives given read = given ≡ read
+abbrev pub GivesSpec : Result Spec SpecError → Result Spec SpecError → Type 0
+GivesSpec (Err error.Memory) read = Unit {0}
+GivesSpec given read = given ≡ read

@@ -6,7 +6,7 @@ ghost use Rattle.kn_event.specs.Defaults.{scaling_target};
 ghost use Rattle.kn_config.specs.Config.{IsConfig};
 ghost use Rattle.kn_revision.specs.Laws.{DefaultsAreFixed, OthersAreIgnored};
 ghost use Rattle.kn_revision.specs.Amounts.{AreAmounts};
-ghost use Rattle.kn_revision.specs.Revision.{Gives, spec_of, spec_in, fault_of, parts_of, total_of, concurrency_total, panic_seconds};
+ghost use Rattle.kn_revision.specs.Revision.{GivesSpec, spec_of, spec_in, fault_of, parts_of, total_of, concurrency_total, panic_seconds};
 
 use crate::amounts::Amounts;
 use crate::error::{Field, SpecError};
@@ -23,7 +23,7 @@ use std::alloc::Global;
 pub fn resolve(alloc: Global, config: &Config, text: &[u8], slots: Slots) -> Result<Spec, SpecError>
     requires config { IsConfig config.now }
     requires slots { AreSlots slots }
-    ensures gives { Gives result (spec_of config.now text.now slots) }
+    ensures gives { GivesSpec result (spec_of config.now text.now slots) }
     ensures scaled { IfOk result (λ spec. spec.kind ≡ Kind.Kpa) }
     ensures slots { IfOk result (λ spec. spec.slots ≡ slots) }
 {
@@ -56,7 +56,7 @@ fn spec_in(
 ) -> Result<Spec, SpecError>
     requires config { IsConfig config.now }
     requires slots { AreSlots slots }
-    ensures gives { Gives result (spec_in config.now slots (view revision.now)) }
+    ensures gives { GivesSpec result (spec_in config.now slots (view revision.now)) }
     ensures scaled { IfOk result (λ spec. spec.kind ≡ Kind.Kpa) }
     ensures slots { IfOk result (λ spec. spec.slots ≡ slots) }
 {

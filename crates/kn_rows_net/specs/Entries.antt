@@ -4,7 +4,8 @@ use Rattle.kn_event.specs.declared.entry.Row.TheVariants as row
 use Rattle.kn_event.specs.declared.event.Stand.TheVariants as stand
 use Rattle.kn_event.specs.declared.revision.Spec.{Spec}
 use Rattle.kn_event.specs.FixedSpec.{fixed_spec}
-use Rattle.kn_trace.specs.Trace.{Trace, entry, arrivals, at_pod, contains, created, has_free_seat, held, in_breaker, is_draining, is_starting, limit_of, live, pod_of, queued_at, ready_pods, running_at, stand_of, waiting}
+use Rattle.kn_event.specs.Lists.{contains}
+use Rattle.kn_trace.specs.Trace.{Trace, entry, arrivals, at_pod, created, has_free_seat, held, in_breaker, is_draining, is_starting, limit_of, live, pod_of, queued_at, ready_pods, running_at, stand_of, waiting}
 use Rattle.kn_trace.specs.Capacity.{breaker_full, capacity, in_use, pod_full}
 use Rattle.kn_trace.specs.Load.{end_of, load_in}
 use Rattle.kn_trace.specs.Worked.{slots}

@@ -15,17 +15,18 @@ use Rattle.kn_event.specs.declared.event.Act.TheVariants as act
 use Rattle.kn_event.specs.declared.revision.Kind.{Kind}
 use Rattle.kn_event.specs.declared.revision.Kind.TheVariants as kind
 use Rattle.kn_event.specs.declared.revision.Spec.{Spec}
+use Rattle.kn_event.specs.Lists.{contains}
 use Rattle.kn_trace.specs.Rows.{admitted_by, arrived_by, assigned_by, brought_to, created_by, decision_by, drained_by, ended_by, gone_by, limit_by, mode_by, phase_by, readied_by, run_by, taken_by}
-use Rattle.kn_trace.specs.Trace.{Trace, entry, arrivals, assigned, contains, draining, each_row, ended, has_begun, has_not_begun, held, in_breaker, is_draining, is_held, is_live_pod, is_ready, is_running, last_of, limit_of, live, live_pods, queued_at, ready_pods}
+use Rattle.kn_trace.specs.Trace.{Trace, entry, arrivals, assigned, draining, each_row, ended, has_begun, has_not_begun, held, in_breaker, is_draining, is_held, is_live_pod, is_ready, is_running, last_of, limit_of, live, live_pods, queued_at, ready_pods}
 use Rattle.kn_trace.specs.Capacity.{breaker_full, capacity, in_use}
 use Rattle.kn_trace.specs.Choice.{candidates, choice, choice_of_two, chosen_pod, random_choice}
 use Rattle.kn_trace.specs.Scale.{mode_of, opening_scale, phase_of, wanted}
 use Rattle.kn_trace.specs.Settling.{assignments_of, held_assignments, next_choice, promotions, promotions_at, removals, settling}
 use Rattle.kn_trace.specs.Events.{act_row, act_rows, activation, added, before_settling, departures, due, expiries, live_most, losses, react, scaler_rows}
-use Rattle.kn_trace.specs.Worked.{at}
 use Rattle.kn_rows_runs.specs.Long.{arrivals_from, assigned_from}
 use Rattle.kn_rows_runs.specs.Counts.{brief_requests_from, finished_from}
 use Rattle.kn_rows_runs.proofs.Lists.{each-none, each-some, filter-none, length-upto, nobody_due, not_below, upto, upto-more}
+use Rattle.kn_trace.specs.Worked.{at}
 
 -- pod 0 is Ready and has no limit; so many requests came, so many of them were assigned to it, and so many ended
 pub record IsAssigning (d : Trace) (m a j : ℕ) : Type 0 where

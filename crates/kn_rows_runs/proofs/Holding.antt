@@ -17,9 +17,9 @@ use Rattle.kn_trace.specs.Capacity.{breaker_full, capacity, in_use}
 use Rattle.kn_trace.specs.Scale.{mode_of, phase_of}
 use Rattle.kn_trace.specs.Settling.{assignments_of, held_assignments, next_choice, promotions, removals, settling}
 use Rattle.kn_trace.specs.Events.{act_row, act_rows, activation, added, before_settling, due, departures, expiries, live_most, losses, opening, react, scaler_rows, trace_of}
-use Rattle.kn_trace.specs.Worked.{at}
 use Rattle.kn_rows_runs.specs.Long.{BreakerRefuses9001, admitted_from, arrivals_from, refused_from, without_pods}
 use Rattle.kn_rows_runs.proofs.Lists.{each-none, each-some, filter-all, length-upto, nobody_due, upto, upto-more, upto-none}
+use Rattle.kn_trace.specs.Worked.{at}
 
 -- no pod, and so many requests that are held
 record IsHolding (d : Trace) (m : ℕ) : Type 0 where

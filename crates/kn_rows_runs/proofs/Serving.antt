@@ -10,15 +10,16 @@ use Rattle.kn_event.specs.declared.event.Act.TheVariants as act
 use Rattle.kn_event.specs.declared.revision.Kind.{Kind}
 use Rattle.kn_event.specs.declared.revision.Kind.TheVariants as kind
 use Rattle.kn_event.specs.declared.revision.Spec.{Spec}
+use Rattle.kn_event.specs.Lists.{contains}
 use Rattle.kn_trace.specs.Rows.{admitted_by, arrived_by, assigned_by, brought_to, created_by, drained_by, ended_by, limit_by, mode_by, phase_by, readied_by, gone_by, run_by, taken_by, turned_by}
-use Rattle.kn_trace.specs.Trace.{Trace, entry, arrivals, assigned, contains, direct_turn, draining, each_row, ended, has_begun, has_free_seat, has_not_begun, has_run, held, is_draining, is_live_pod, is_ready, last_of, limit_of, live, live_pods, queued_at, ready_pods}
+use Rattle.kn_trace.specs.Trace.{Trace, entry, arrivals, assigned, direct_turn, draining, each_row, ended, has_begun, has_free_seat, has_not_begun, has_run, held, is_draining, is_live_pod, is_ready, last_of, limit_of, live, live_pods, queued_at, ready_pods}
 use Rattle.kn_trace.specs.Capacity.{pod_full}
 use Rattle.kn_trace.specs.Scale.{mode_of, phase_of}
 use Rattle.kn_trace.specs.Settling.{assignments_of, held_assignments, promotions, promotions_at, removals, settling}
 use Rattle.kn_trace.specs.Events.{act_row, act_rows, activation, added, before_settling, due, departures, expiries, live_most, losses, react, scaler_rows}
-use Rattle.kn_trace.specs.Worked.{at}
 use Rattle.kn_rows_runs.specs.Long.{arrivals_from, served_from}
 use Rattle.kn_rows_runs.proofs.Lists.{each-none, each-some, filter-all, filter-none, length-upto, nobody_due, not_below, upto, upto-more}
+use Rattle.kn_trace.specs.Worked.{at}
 
 -- pod 0 is Ready and has no limit; so many requests were sent to it, and so many of them have a run entry; nobody else came
 pub record IsServing (d : Trace) (m k : ℕ) : Type 0 where

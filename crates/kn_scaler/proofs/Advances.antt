@@ -13,13 +13,13 @@ use Rattle.kn_record.specs.Made.{IsMade}
 use Rattle.kn_stats.specs.declared.closed.Closed.{Closed}
 use Rattle.kn_stats.specs.Changes.{TimedChange, arrived_by, load_by}
 use Rattle.kn_stats.specs.Closing.{closed_by}
-use Rattle.kn_stats.specs.Stands.{StatsState, StandsFor as IsStatsOf, advanced}
+use Rattle.kn_stats.specs.Stands.{StatsState, IsStatsOf, advanced}
 use Rattle.kn_decider.specs.Closing.{CanClose, IsOverAt, below, end_after, with_closed}
-use Rattle.kn_decider.specs.Decider.{DeciderState, StandsFor as IsDeciderOf}
+use Rattle.kn_decider.specs.Decider.{DeciderState, IsDeciderOf}
 use Rattle.kn_changes.specs.Changes.{changes_of}
 use Rattle.kn_places.specs.Pods.{AreKeptOf}
 use Rattle.kn_scaler.specs.Facts.{TraceFacts}
-use Rattle.kn_scaler.specs.Stands.{IsUpToNow, ScalerState, StandsFor, StandsForSome, gone_pods}
+use Rattle.kn_scaler.specs.Stands.{IsUpToNow, ScalerState, IsScalerOfTrace, StandsForSome, gone_pods}
 use Rattle.kn_scaler.proofs.Closings.{all_over, can_close, close_prop, closed-samples, ends_by}
 use Rattle.kn_scaler.proofs.Pasts.{decider-alike}
 use Rattle.kn_scaler.proofs.Times.{times-later}
@@ -38,7 +38,7 @@ pub record TakesIn (old new : DeciderState) (closed : Closed) : Type 0 where
   pub kept : new ≡ record old { stable = new.stable; panic_window = new.panic_window }
 
 -- the seconds that are over are those of the trace
-closed-of : (s : Spec) (x : ScalerState) (c : Trace) (to : ℕ) (ready : Bool) (closed : Closed) → StandsFor s x c → AreOver x.stats to ready closed
+closed-of : (s : Spec) (x : ScalerState) (c : Trace) (to : ℕ) (ready : Bool) (closed : Closed) → IsScalerOfTrace s x c → AreOver x.stats to ready closed
     → closed ≡ closed_by s.metric (changes_of c) (second_of x.stats.time) (second_of to) ready
 closed-of s x c to ready closed stands over =
     over.seconds (changes_of c) (gone_pods c) stands.stats
@@ -49,7 +49,7 @@ module _ (facts : TraceFacts) where
   may-close x to ready closed over high low some =
       let P : Closed → Type 0 = CanClose x.decider.stable.end in
       ∥∥₁_elim some (close_prop x.decider.stable.end closed)
-      (λ (f : (c : Trace) × IsMade x.decider.spec c × StandsFor x.decider.spec x c).
+      (λ (f : (c : Trace) × IsMade x.decider.spec c × IsScalerOfTrace x.decider.spec x c).
       subst P (sym (closed-of x.decider.spec x f.0 to ready closed f.2 over))
       (can_close facts x.decider.spec f.0 ready x.stats.time to x.decider.stable.end (record { made = f.1; times = f.2.times; order = over.order }) high low))
 
@@ -58,11 +58,11 @@ module _ (facts : TraceFacts) where
   end-stays x to ready closed over low some =
       let P : Closed → Type 0 = λ k. end_after k.rest (end_after k.first x.decider.stable.end) ≤ second_of to in
       ∥∥₁_elim some (λ p q. le_prop p q)
-      (λ (f : (c : Trace) × IsMade x.decider.spec c × StandsFor x.decider.spec x c).
+      (λ (f : (c : Trace) × IsMade x.decider.spec c × IsScalerOfTrace x.decider.spec x c).
       subst P (sym (closed-of x.decider.spec x f.0 to ready closed f.2 over)) (ends_by x.decider.spec f.0 ready x.stats.time to x.decider.stable.end over.order low))
 
   pub advanced-stands : (s : Spec) (x y : ScalerState) (c : Trace) (to : ℕ) (ready : Bool) (closed : Closed) → AreOver x.stats to ready closed → y.stats ≡ advanced to x.stats → TakesIn x.decider y.decider closed
-      → IsStatsOf y.stats (changes_of c) (gone_pods c) → IsMade s c → has_ready_pod c ≡ ready → StandsFor s x c → StandsFor s y c
+      → IsStatsOf y.stats (changes_of c) (gone_pods c) → IsMade s c → has_ready_pod c ≡ ready → IsScalerOfTrace s x c → IsScalerOfTrace s y c
   unfolding past_of
   advanced-stands s x y c to ready closed over is takes stats made is_ready stands =
       let eq = closed-of s x c to ready closed stands over in

@@ -8,7 +8,7 @@ use mathlib.Core.HLevel.{Unit-prop}
 use Rattle.kn_event.specs.declared.revision.Metric.{Metric}
 use Rattle.kn_event.specs.declared.revision.Metric.TheVariants as metric
 use Rattle.kn_event.specs.declared.revision.Spec.{Spec}
-use Rattle.kn_scaling.specs.Average.{Samples, is_in_run, second_of, with_run}
+use Rattle.kn_scaling.specs.Average.{Samples, is_in_run, second_of, value_of, with_run}
 use Rattle.kn_scaling.specs.Worked as worked
 use Rattle.kn_trace.specs.Load.{count_in, has_ready_pod, load_in, samples}
 use Rattle.kn_trace.specs.Trace.{Trace}
@@ -19,7 +19,7 @@ use Rattle.kn_stats.specs.declared.closed.Closed.{Closed}
 use Rattle.kn_stats.specs.declared.closed.Run.{Run}
 use Rattle.kn_stats.specs.Changes.{arrived_by, arrived_count, counted_most, load_by}
 use Rattle.kn_stats.specs.Closing.{closed_by, end_of_first, is_sampled, run_of}
-use Rattle.kn_decider.specs.Closing.{CanClose, CanFollow, IsOverAt, below, end_after, value_of, with_closed, with_closed_run}
+use Rattle.kn_decider.specs.Closing.{CanClose, CanFollow, IsOverAt, below, end_after, with_closed, with_closed_run}
 use Rattle.kn_changes.specs.Changes.{changes_of}
 use Rattle.kn_scaler.specs.Facts.{TraceFacts}
 use Rattle.kn_scaler.proofs.Times.{is_not_over}

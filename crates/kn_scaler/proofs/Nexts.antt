@@ -18,7 +18,7 @@ use Rattle.kn_changes.specs.Changes.{change_by}
 use Rattle.kn_places.specs.Ends.{IsToldOf, change_in}
 use Rattle.kn_places.specs.Pods.{AreKeptOf, HasRoomFor, IsMeasureOf}
 use Rattle.kn_scaler.specs.Facts.{PodsStay}
-use Rattle.kn_scaler.specs.Stands.{IsNextOfSome, IsNextRow, ScalerState, StandsFor, changed_if}
+use Rattle.kn_scaler.specs.Stands.{IsNextOfSome, IsNextRow, ScalerState, IsScalerOfTrace, changed_if}
 
 lt_prop : (a b : ℕ) → IsProp (a < b)
 lt_prop a b = hlevel props
@@ -47,7 +47,7 @@ none_goes (row.Remove p) at through d h = absurd (cc)
 none_goes (row.LostPod p) at through d h = absurd (cc)
 none_goes _ at through d h = refl
 
-measure_of : (s : Spec) (x : ScalerState) (c : Trace) → StandsFor s x c → IsMeasureOf x.stats c
+measure_of : (s : Spec) (x : ScalerState) (c : Trace) → IsScalerOfTrace s x c → IsMeasureOf x.stats c
 measure_of s x c h = record { stands = h.stats; pods = h.pods }
 
 -- a row, by what is said of it

@@ -15,20 +15,20 @@ use Rattle.kn_event.specs.declared.revision.Metric.TheVariants as metric
 use Rattle.kn_event.specs.declared.revision.Spec.{Spec}
 use Rattle.kn_scaling.specs.declared.zero.Standing.{Standing}
 use Rattle.kn_scaling.specs.Average.{second_of}
-use Rattle.kn_trace.specs.Events.{opening, opening_of, opening_phase}
+use Rattle.kn_scaling.specs.Zero.{opening_phase}
+use Rattle.kn_trace.specs.Events.{opening, opening_of}
 use Rattle.kn_trace.specs.Load.{count_in, samples, spans}
 use Rattle.kn_trace.specs.Rows.{readied_by}
 use Rattle.kn_trace.specs.Scale.{count_ready, creations, initial_reached, mode_of, mode_since, opening_scale, past_of, phase_of, phase_since, standing_of, wanted}
 use Rattle.kn_trace.specs.Trace.{Trace, each_row, entry, is_ready, ready_pods}
 use Rattle.kn_record.specs.Order.{AreTimesInOrder}
 use Rattle.kn_laws.specs.Kinds.{EachAt, EachIs}
-use Rattle.kn_stats.specs.Stands.{StatsState, StandsFor as IsStatsOf, opened}
-use Rattle.kn_zero.specs.Zero as zero_rule
-use Rattle.kn_decider.specs.Decider.{StandsFor as IsDeciderOf, opening_past}
+use Rattle.kn_stats.specs.Stands.{StatsState, IsStatsOf, opened}
+use Rattle.kn_decider.specs.Decider.{IsDeciderOf, opening_past}
 use Rattle.kn_changes.specs.Changes.{changes_of}
 use Rattle.kn_places.specs.Pods.{AreKeptOf}
 use Rattle.kn_scaler.specs.Facts.{TraceFacts}
-use Rattle.kn_scaler.specs.Stands.{ScalerState, StandsFor}
+use Rattle.kn_scaler.specs.Stands.{ScalerState, IsScalerOfTrace}
 use Rattle.kn_scaler.proofs.Times.{from_time, is_over}
 use Rattle.kn_scaler.proofs.Pasts.{IsSame, decider-alike, sampled, was_reached, with_entries}
 use Rattle.kn_scaler.proofs.Steps.{IsSilent, silent-stands}
@@ -77,10 +77,6 @@ unfolding samples spans count_in ready_pods
 samples-none metric.Concurrency n = refl
 samples-none metric.Rps n = refl
 
-phase_same : (want : ℕ) → zero_rule.opening_phase want ≡ opening_phase want
-phase_same zero = refl
-phase_same (suc n) = let is : (suc n == 0) ≡ false = grind (arith, nat_tests) in rw is refl
-
 abbrev first : Spec → ℕ → Trace
 first s start = entry start (row.Phase (opening_phase (opening_scale s))) ∷ []
 
@@ -96,7 +92,7 @@ first-same : (s : Spec) (start : ℕ) → IsSame (opening_past s start) (past_of
 unfolding past_of standing_of phase_of phase_since mode_of mode_since wanted
 first-same s start = record {
   decisions = refl;
-  standing = ap (λ (p : Phase). let st : Standing = record { phase = p; phase_since = start; mode = mode.Proxy; mode_since = start; want = opening_scale s } in st) (phase_same (opening_scale s));
+  standing = refl;
 }
 
 -- nothing was measured yet, and nothing decided
@@ -107,7 +103,7 @@ pub record IsNew (s : Spec) (start : ℕ) (x : ScalerState) : Type 0 where
   pub spec : x.decider.spec ≡ s
   pub decider : (until : ℕ) → IsDeciderOf x.decider (opening_past s start) until
 
-first-stands : TraceFacts → (s : Spec) (start : ℕ) (x : ScalerState) → IsNew s start x → StandsFor s x (first s start)
+first-stands : TraceFacts → (s : Spec) (start : ℕ) (x : ScalerState) → IsNew s start x → IsScalerOfTrace s x (first s start)
 unfolding changes_of past_of standing_of phase_of
 first-stands facts s start x new =
     let time : x.stats.time ≡ start = ap (λ (z : StatsState). z.time) new.state in
@@ -127,12 +123,12 @@ opening-is : (s : Spec) (start : ℕ) → s.kind ≡ kind.Kpa → first s start 
 unfolding opening
 opening-is s start kpa = ap (λ (k : Kind). opening_of k s start) (sym kpa)
 
-pub opening-stands : TraceFacts → (s : Spec) (start : ℕ) (x : ScalerState) → IsNew s start x → StandsFor s x (opening s start)
+pub opening-stands : TraceFacts → (s : Spec) (start : ℕ) (x : ScalerState) → IsNew s start x → IsScalerOfTrace s x (opening s start)
 opening-stands facts s start x new =
     let ps = range_with_len 0 (opening_scale s) in
     let stands = first-stands facts s start x new in
     let time : x.stats.time ≡ start = ap (λ (z : StatsState). z.time) new.state in
-    subst (λ (c : Trace). StandsFor s x c) (opening-is s start new.kind)
+    subst (λ (c : Trace). IsScalerOfTrace s x c) (opening-is s start new.kind)
     (silent-stands facts s x (first s start) (map (created_at start s.cc) ps) x.decider (past_of s (first s start)) stands
     (record {
       at = subst (λ t. EachAt t (map (created_at start s.cc) ps)) (sym time) (new_at start s.cc ps);

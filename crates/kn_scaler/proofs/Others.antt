@@ -12,18 +12,19 @@ use Rattle.kn_event.specs.declared.entry.Phase.{Phase}
 use Rattle.kn_event.specs.declared.entry.Row.{Row}
 use Rattle.kn_event.specs.declared.entry.Row.TheVariants as row
 use Rattle.kn_event.specs.declared.revision.Spec.{Spec}
+use Rattle.kn_event.specs.Lists.{contains}
 use Rattle.kn_scaling.specs.Decide.{Decided, Past}
 use Rattle.kn_trace.specs.Rows.{gone_by}
 use Rattle.kn_trace.specs.Scale.{initial_reached, past_of}
 use Rattle.kn_trace.specs.Trace.{Trace, entry}
 use Rattle.kn_stats.specs.declared.change.Change.{Change}
 use Rattle.kn_stats.specs.Changes.{TimedChange, timed}
-use Rattle.kn_stats.specs.Stands.{StatsState, StandsFor as IsStatsOf, is_among}
+use Rattle.kn_stats.specs.Stands.{StatsState, IsStatsOf}
 use Rattle.kn_changes.specs.Changes.{change_by, changes_of}
 use Rattle.kn_places.specs.Pods.{AreKeptOf}
 use Rattle.kn_scaler.specs.Facts.{TraceFacts}
 use Rattle.kn_scaler.specs.Rows.{IsBeside}
-use Rattle.kn_scaler.specs.Stands.{ScalerState, StandsFor, gone_pods}
+use Rattle.kn_scaler.specs.Stands.{ScalerState, IsScalerOfTrace, gone_pods}
 use Rattle.kn_scaler.proofs.Pasts.{IsSame, sampled, was_reached, with_entries}
 use Rattle.kn_scaler.proofs.Steps.{change-more, decided-stands, gone-more, gone-same, stats-same}
 
@@ -77,11 +78,11 @@ gone-last x cs gone p stands = record {
   activator = stands.activator;
   direct = stands.direct;
   arrived = stands.arrived;
-  pods = λ q h. stands.pods q (or_swap (is_among q gone) _ (sym (list_any-append _ gone (p ∷ [])) ∙ h));
+  pods = λ q h. stands.pods q (or_swap (contains q gone) _ (sym (list_any-append _ gone (p ∷ [])) ∙ h));
 }
 
-module _ (facts : TraceFacts) (s : Spec) (x : ScalerState) (c : Trace) (r : Row) (y : StatsState) (stands : StandsFor s x c) (is : IsBeside c (entry x.stats.time r)) (time : y.time ≡ x.stats.time) (metric : y.metric ≡ x.stats.metric) (pods : AreKeptOf y.pods (c ++ entry x.stats.time r ∷ [])) where
-  beside-stands : IsStatsOf y (changes_of (c ++ entry x.stats.time r ∷ [])) (gone_pods (c ++ entry x.stats.time r ∷ [])) → StandsFor s (record { stats = y; decider = x.decider }) (c ++ entry x.stats.time r ∷ [])
+module _ (facts : TraceFacts) (s : Spec) (x : ScalerState) (c : Trace) (r : Row) (y : StatsState) (stands : IsScalerOfTrace s x c) (is : IsBeside c (entry x.stats.time r)) (time : y.time ≡ x.stats.time) (metric : y.metric ≡ x.stats.metric) (pods : AreKeptOf y.pods (c ++ entry x.stats.time r ∷ [])) where
+  beside-stands : IsStatsOf y (changes_of (c ++ entry x.stats.time r ∷ [])) (gone_pods (c ++ entry x.stats.time r ∷ [])) → IsScalerOfTrace s (record { stats = y; decider = x.decider }) (c ++ entry x.stats.time r ∷ [])
   beside-stands stats =
       let e = entry x.stats.time r in
       decided-stands facts s x c (e ∷ []) x.decider (past_of s c) y stands
@@ -94,12 +95,12 @@ module _ (facts : TraceFacts) (s : Spec) (x : ScalerState) (c : Trace) (r : Row)
       }) refl time metric stats pods
 
   pub row-stands : (change : Option Change) → change_by c r ≡ change → gone_by r ≡ None → IsStatsOf y (changes_of c ++ option_to_list (option_map (timed x.stats.time) change)) (gone_pods c)
-      → StandsFor s (record { stats = y; decider = x.decider }) (c ++ entry x.stats.time r ∷ [])
+      → IsScalerOfTrace s (record { stats = y; decider = x.decider }) (c ++ entry x.stats.time r ∷ [])
   row-stands change makes stays stats =
       let e = entry x.stats.time r in
       beside-stands (stats-same y _ _ _ _ (sym (change-more facts c e change makes)) (sym (gone-same c e stays)) stats)
 
-  pub leaves-stands : (p : ℕ) → gone_by r ≡ Some p → IsStatsOf y (changes_of c) (p ∷ gone_pods c) → StandsFor s (record { stats = y; decider = x.decider }) (c ++ entry x.stats.time r ∷ [])
+  pub leaves-stands : (p : ℕ) → gone_by r ≡ Some p → IsStatsOf y (changes_of c) (p ∷ gone_pods c) → IsScalerOfTrace s (record { stats = y; decider = x.decider }) (c ++ entry x.stats.time r ∷ [])
   leaves-stands p leaves stats =
       let e = entry x.stats.time r in
       let gone = gone-more c e ∙ ap (λ (o : Option ℕ). gone_pods c ++ option_to_list o) leaves in

@@ -20,10 +20,10 @@ use Rattle.kn_trace.specs.Scale.{decided_by, initial_reached, past_of, phase_of,
 use Rattle.kn_trace.specs.Trace.{Trace, is_empty}
 use Rattle.kn_laws.specs.Kinds.{Each, EachAt}
 use Rattle.kn_past.specs.Changes.{leaves_pods, time_by, want_by}
-use Rattle.kn_panic.specs.Stands.{StandsFor as IsPanicOf}
-use Rattle.kn_delay.specs.Stands.{StandsFor as IsDelayOf}
+use Rattle.kn_panic.specs.Stands.{IsPanicOf}
+use Rattle.kn_delay.specs.Stands.{IsDelayOf}
 use Rattle.kn_decider.specs.Closing.{below}
-use Rattle.kn_decider.specs.Decider.{DeciderState, StandsFor as IsDeciderOf}
+use Rattle.kn_decider.specs.Decider.{DeciderState, IsDeciderOf}
 use Rattle.kn_scaler.specs.Facts.{TraceFacts}
 use Rattle.kn_scaler.proofs.Times.{from_time, is_over}
 

@@ -11,7 +11,7 @@ use Rattle.kn_trace.specs.Trace.{Trace, entry}
 use Rattle.kn_record.specs.declared.admission.Pod.{Pod}
 use Rattle.kn_record.specs.declared.admission.Readiness.TheVariants as readiness
 use Rattle.kn_record.specs.Admission.{Admission, admission, drained, is_ready_now, limited, marked, pods_after, pods_in, stepped}
-use Rattle.kn_record.specs.Made.{IsMade, IsProper, StandsFor}
+use Rattle.kn_record.specs.Made.{IsMade, IsProper, IsRecordOf}
 use Rattle.kn_record.specs.Views.{AreViews}
 use Rattle.kn_scaler.specs.Rows.{IsBeside, says_scale}
 
@@ -86,9 +86,9 @@ silent (row.Decided d) h = absurd (cc)
 silent _ h = (refl, refl, refl)
 
 module _
-    (views : (s : Spec) (a : Admission) (c : Trace) → StandsFor a c → AreViews s a c)
-    (stands : (s : Spec) (c : Trace) → IsMade s c → StandsFor (admission c) c)
-    (append : (s : Spec) (a : Admission) (c : Trace) (t : ℕ) (x : Row) → StandsFor a c → IsProper s c x → StandsFor (stepped t x a) (c ++ entry t x ∷ []))
+    (views : (s : Spec) (a : Admission) (c : Trace) → IsRecordOf a c → AreViews s a c)
+    (stands : (s : Spec) (c : Trace) → IsMade s c → IsRecordOf (admission c) c)
+    (append : (s : Spec) (a : Admission) (c : Trace) (t : ℕ) (x : Row) → IsRecordOf a c → IsProper s c x → IsRecordOf (stepped t x a) (c ++ entry t x ∷ []))
   where
     pub is_beside : (s : Spec) (c : Trace) (t : ℕ) (x : Row) → IsMade s c → IsProper s c x → says_scale x ≡ false → IsBeside c (entry t x)
     unfolding count_ready stepped

@@ -12,25 +12,25 @@ use Rattle.kn_event.specs.declared.entry.Row.TheVariants as row
 use Rattle.kn_event.specs.declared.revision.Spec.{Spec}
 use Rattle.kn_scaling.specs.declared.zero.Standing.{Standing}
 use Rattle.kn_scaling.specs.Average.{second_of}
-use Rattle.kn_scaling.specs.Burst.{is_activating}
+use Rattle.kn_scaling.specs.Burst.{is_activating, is_same_mode}
 use Rattle.kn_scaling.specs.Decide as scaling
 use Rattle.kn_scaling.specs.Decide.{Past, Ruling}
-use Rattle.kn_trace.specs.Scale.{count_ready, decision_at, initial_reached, is_same_mode, is_same_phase, mode_of, past_of, phase_of, standing_of, wake_decision_at, wanted, where_true}
+use Rattle.kn_trace.specs.Scale.{count_ready, decision_at, initial_reached, is_in_phase, mode_of, past_of, phase_of, standing_of, wake_decision_at, wanted, where_true}
 use Rattle.kn_trace.specs.Trace.{Trace, entry}
 use Rattle.kn_laws.specs.Kinds.{Each, EachAt, EachIs}
 use Rattle.kn_past.specs.Changes.{leaves_pods}
 use Rattle.kn_zero.specs.Zero as zero_rule
-use Rattle.kn_decider.specs.Decider.{DeciderState, StandsFor as IsDeciderOf, with_ready, with_ruling, with_tick}
+use Rattle.kn_decider.specs.Decider.{DeciderState, IsDeciderOf, with_ready, with_ruling, with_tick}
 use Rattle.kn_scaler.specs.declared.scaler.Ruled.{Ruled}
 use Rattle.kn_scaler.specs.Facts.{TraceFacts}
 use Rattle.kn_scaler.specs.Rows.{ready_rows, ruled_by, ruled_from, ruling_rows, tick_rulings}
-use Rattle.kn_scaler.specs.Stands.{ScalerState, StandsFor}
+use Rattle.kn_scaler.specs.Stands.{ScalerState, IsScalerOfTrace}
 use Rattle.kn_scaler.proofs.Pasts.{IsSame, reached-more, sampled, was_reached, with_entries}
 use Rattle.kn_scaler.proofs.Steps.{IsSilent, silent-stands}
 
 -- ---- whether phase and mode changed
 
-phases-same : (new old : Phase) → is_same_phase new (Some old) ≡ zero_rule.is_same_phase new old
+phases-same : (new old : Phase) → is_in_phase new (Some old) ≡ zero_rule.is_same_phase new old
 phases-same phase.Activating phase.Activating = refl
 phases-same phase.Activating phase.Active = refl
 phases-same phase.Activating phase.Inactive = refl
@@ -52,13 +52,7 @@ same_phase phase.Inactive phase.Activating h = absurd (cc)
 same_phase phase.Inactive phase.Active h = absurd (cc)
 same_phase phase.Inactive phase.Inactive h = refl
 
-modes-same : (new old : Mode) → is_same_mode new old ≡ zero_rule.is_same_mode new old
-modes-same mode.Proxy mode.Proxy = refl
-modes-same mode.Proxy mode.Serve = refl
-modes-same mode.Serve mode.Proxy = refl
-modes-same mode.Serve mode.Serve = refl
-
-same_mode : (new old : Mode) → zero_rule.is_same_mode new old ≡ true → new ≡ old
+same_mode : (new old : Mode) → is_same_mode new old ≡ true → new ≡ old
 same_mode mode.Proxy mode.Proxy h = refl
 same_mode mode.Proxy mode.Serve h = absurd (cc)
 same_mode mode.Serve mode.Proxy h = absurd (cc)
@@ -129,12 +123,11 @@ unfolding past_of standing_of
 stands-mode s c = refl
 
 rows-are : (t : ℕ) (c : Trace) (r : Ruling) (st : Standing) → phase_of c ≡ Some st.phase → mode_of c ≡ st.mode
-    → ruling_rows t c r ≡ rows_of t r (zero_rule.is_same_phase r.phase st.phase) (zero_rule.is_same_mode r.decision.mode st.mode)
+    → ruling_rows t c r ≡ rows_of t r (zero_rule.is_same_phase r.phase st.phase) (is_same_mode r.decision.mode st.mode)
 rows-are t c r st is_phase is_mode =
-    ap (λ (o : Option Phase). rows_of t r (is_same_phase r.phase o) (is_same_mode r.decision.mode (mode_of c))) is_phase
+    ap (λ (o : Option Phase). rows_of t r (is_in_phase r.phase o) (is_same_mode r.decision.mode (mode_of c))) is_phase
     ∙ ap (λ b. rows_of t r b (is_same_mode r.decision.mode (mode_of c))) (phases-same r.phase st.phase)
     ∙ ap (λ (m : Mode). rows_of t r (zero_rule.is_same_phase r.phase st.phase) (is_same_mode r.decision.mode m)) is_mode
-    ∙ ap (rows_of t r (zero_rule.is_same_phase r.phase st.phase)) (modes-same r.decision.mode st.mode)
 
 -- ---- the rows of a pod that is Ready
 
@@ -154,7 +147,7 @@ after_leaves t true = (refl, tt)
 after_leaves t false = tt
 
 -- whether the revision waited for its first Ready pod
-pub waits-same : (p : Phase) → is_same_phase phase.Activating (Some p) ≡ is_activating p
+pub waits-same : (p : Phase) → is_in_phase phase.Activating (Some p) ≡ is_activating p
 waits-same phase.Activating = refl
 waits-same phase.Active = refl
 waits-same phase.Inactive = refl
@@ -169,13 +162,13 @@ ready_past t p ready s q = by q.standing.phase q.standing.phase_since q.standing
     by phase.Active since way way_since want = record { decisions = refl; standing = refl }
     by phase.Inactive since way way_since want = record { decisions = refl; standing = refl }
 
-module _ (facts : TraceFacts) (s : Spec) (x : ScalerState) (c : Trace) (stands : StandsFor s x c) (t : ℕ) (now : t ≡ x.stats.time) (d : DeciderState) (spec : d.spec ≡ x.decider.spec) where
-  pub ruling-stands : (r : Ruling) → IsDeciderOf d (with_ruling t r (past_of s c)) (second_of x.stats.time) → StandsFor s (record { stats = x.stats; decider = d }) (c ++ ruling_rows t c r)
+module _ (facts : TraceFacts) (s : Spec) (x : ScalerState) (c : Trace) (stands : IsScalerOfTrace s x c) (t : ℕ) (now : t ≡ x.stats.time) (d : DeciderState) (spec : d.spec ≡ x.decider.spec) where
+  pub ruling-stands : (r : Ruling) → IsDeciderOf d (with_ruling t r (past_of s c)) (second_of x.stats.time) → IsScalerOfTrace s (record { stats = x.stats; decider = d }) (c ++ ruling_rows t c r)
   ruling-stands r is =
       let p = past_of s c in
       let a = zero_rule.is_same_phase r.phase p.standing.phase in
-      let b = zero_rule.is_same_mode r.decision.mode p.standing.mode in
-      subst (λ (es : Trace). StandsFor s (record { stats = x.stats; decider = d }) (c ++ es)) (sym (rows-are t c r p.standing (stands-phase s c _ stands.phase) (stands-mode s c)))
+      let b = is_same_mode r.decision.mode p.standing.mode in
+      subst (λ (es : Trace). IsScalerOfTrace s (record { stats = x.stats; decider = d }) (c ++ es)) (sym (rows-are t c r p.standing (stands-phase s c _ stands.phase) (stands-mode s c)))
       (silent-stands facts s x c (rows_of t r a b) d (with_ruling t r p) stands
       (record {
         at = subst (λ k. EachAt k (rows_of t r a b)) now (rows_at t r a b);
@@ -185,7 +178,7 @@ module _ (facts : TraceFacts) (s : Spec) (x : ScalerState) (c : Trace) (stands :
         stands = is;
       }) spec (rows_silent t r a b))
 
-  pub tick-stands : (o : Option Ruling) → IsDeciderOf d (with_tick t o (past_of s c)) (second_of x.stats.time) → StandsFor s (record { stats = x.stats; decider = d }) (c ++ tick_rulings t c o)
+  pub tick-stands : (o : Option Ruling) → IsDeciderOf d (with_tick t o (past_of s c)) (second_of x.stats.time) → IsScalerOfTrace s (record { stats = x.stats; decider = d }) (c ++ tick_rulings t c o)
   tick-stands None is =
       silent-stands facts s x c (entry t row.NoData ∷ []) d (past_of s c) stands
       (record {
@@ -198,17 +191,17 @@ module _ (facts : TraceFacts) (s : Spec) (x : ScalerState) (c : Trace) (stands :
   tick-stands (Some r) is = ruling-stands r is
 
   pub ready-stands : (p ready : ℕ) → count_ready (c ++ entry t (row.Ready p) ∷ []) ≡ ready → IsDeciderOf d (with_ready s t ready (past_of s c)) (second_of x.stats.time)
-      → StandsFor s (record { stats = x.stats; decider = d }) (c ++ ready_rows t c p)
+      → IsScalerOfTrace s (record { stats = x.stats; decider = d }) (c ++ ready_rows t c p)
   ready-stands p ready many is =
       let q = past_of s c in
       let b = is_activating q.standing.phase in
       let e = entry t (row.Ready p) in
       let more = where_true b (entry t (row.Phase phase.Active) ∷ []) in
-      let waits : is_same_phase phase.Activating (phase_of c) ≡ b = ap (is_same_phase phase.Activating) (stands-phase s c _ stands.phase) ∙ waits-same q.standing.phase in
+      let waits : is_in_phase phase.Activating (phase_of c) ≡ b = ap (is_in_phase phase.Activating) (stands-phase s c _ stands.phase) ∙ waits-same q.standing.phase in
       let reached : initial_reached s (c ++ e ∷ more) ≡ (initial_reached s c || nat_le s.initial ready) =
       ap (initial_reached s) (sym (append_assoc c (e ∷ []) more)) ∙ reached-more facts s (c ++ e ∷ []) more (after_leaves t b) ∙ facts.entries.reached s c e
       ∙ ap (λ n. initial_reached s c || nat_le s.initial n) many in
-      subst (λ (k : Bool). StandsFor s (record { stats = x.stats; decider = d }) (c ++ ready_rows_of t p k)) (sym waits)
+      subst (λ (k : Bool). IsScalerOfTrace s (record { stats = x.stats; decider = d }) (c ++ ready_rows_of t p k)) (sym waits)
       (silent-stands facts s x c (ready_rows_of t p b) d (with_ready s t ready q) stands
       (record {
         at = subst (λ k. EachAt k (ready_rows_of t p b)) now (ready_at t p b);
@@ -230,7 +223,7 @@ wake-at s d c t ready is many = ap (λ (z : Spec). scaling.wake_decision_at z (p
 
 pub ruled-is : (c : Trace) (r : Ruling) (p : Past) → phase_of c ≡ Some p.standing.phase → mode_of c ≡ p.standing.mode → ruled_from r.decision p.standing.phase p.standing.mode r.phase r.decision.mode ≡ ruled_by c r
 ruled-is c r p is_phase is_mode =
-    let at = ap (λ (o : Option Phase). then_some (not (is_same_phase r.phase o)) r.phase) (sym is_phase) in
+    let at = ap (λ (o : Option Phase). then_some (not (is_in_phase r.phase o)) r.phase) (sym is_phase) in
     let way = ap (λ (m : Mode). then_some (not (is_same_mode r.decision.mode m)) r.decision.mode) (sym is_mode) in
     λ i. record { decision = r.decision; phase = at i; mode = way i }
 

@@ -12,8 +12,9 @@ use Rattle.kn_event.specs.declared.entry.Row.{Row}
 use Rattle.kn_event.specs.declared.entry.Row.TheVariants as row
 use Rattle.kn_event.specs.declared.event.Stand.TheVariants as stand
 use Rattle.kn_event.specs.declared.revision.Spec.{Spec}
+use Rattle.kn_event.specs.Lists.{contains}
 use Rattle.kn_trace.specs.Rows.{created_by, ended_by, gone_by}
-use Rattle.kn_trace.specs.Trace.{Trace, contains, each_row, entry, is_live_pod, live_pods}
+use Rattle.kn_trace.specs.Trace.{Trace, each_row, entry, is_live_pod, live_pods}
 use Rattle.kn_record.specs.Made.{Holds, IsMade, IsProper}
 use Rattle.kn_record.specs.Facts.{Facts}
 use Rattle.kn_record.specs.Rows.{says}
@@ -22,7 +23,7 @@ use Rattle.kn_changes.specs.Changes.{change_by, changes_of}
 use Rattle.kn_places.specs.Pods.{HasRoomFor}
 use Rattle.kn_scaler.specs.Facts.{TraceFacts}
 use Rattle.kn_scaler.specs.Rows.{IsBeside, is_quiet, says_scale, settles}
-use Rattle.kn_scaler.specs.Stands.{AreNextOfSome, AreNextRows, IsNextOfSome, IsNextRow, ScalerState, StandsFor}
+use Rattle.kn_scaler.specs.Stands.{AreNextOfSome, AreNextRows, IsNextOfSome, IsNextRow, ScalerState, IsScalerOfTrace}
 use Rattle.kn_scaler.proofs.Others.{row-stands}
 use Rattle.kn_scaler.proofs.Steps.{stats-same}
 
@@ -47,17 +48,17 @@ quiet_parts (row.NoPod p) c h = (refl, refl, refl)
 quiet_parts _ c h = absurd (cc)
 
 module _ (facts : TraceFacts) (beside : (s : Spec) (c : Trace) (t : ℕ) (x : Row) → IsMade s c → IsProper s c x → says_scale x ≡ false → IsBeside c (entry t x)) where
-  quiet_one : (s : Spec) (x : ScalerState) (c : Trace) (r : Row) → IsMade s c → IsProper s c r → is_quiet r ≡ true → StandsFor s x c → StandsFor s x (c ++ entry x.stats.time r ∷ [])
+  quiet_one : (s : Spec) (x : ScalerState) (c : Trace) (r : Row) → IsMade s c → IsProper s c r → is_quiet r ≡ true → IsScalerOfTrace s x c → IsScalerOfTrace s x (c ++ entry x.stats.time r ∷ [])
   quiet_one s x c r made proper quiet stands =
       let parts = quiet_parts r c quiet in
       row-stands facts s x c r x.stats stands (beside s c x.stats.time r made proper parts.2) refl refl (facts.pods c x.stats.time r x.stats.pods parts.1 stands.pods) None parts.0 parts.1
       (stats-same x.stats _ _ _ _ (sym (append-nil (changes_of c))) refl stands.stats)
 
-  pub quiet_all : MadeMore → (s : Spec) (x : ScalerState) (c es : Trace) → IsMade s c → Holds (IsProper s) c es → EachAt x.stats.time es → Each is_quiet es → StandsFor s x c → StandsFor s x (c ++ es)
-  quiet_all more s x c [] made proper at quiet stands = subst (StandsFor s x) (sym (append-nil c)) stands
+  pub quiet_all : MadeMore → (s : Spec) (x : ScalerState) (c es : Trace) → IsMade s c → Holds (IsProper s) c es → EachAt x.stats.time es → Each is_quiet es → IsScalerOfTrace s x c → IsScalerOfTrace s x (c ++ es)
+  quiet_all more s x c [] made proper at quiet stands = subst (IsScalerOfTrace s x) (sym (append-nil c)) stands
   quiet_all more s x c (e ∷ es) made proper at quiet stands =
-      let one : StandsFor s x (c ++ e ∷ []) = subst (λ t. StandsFor s x (c ++ entry t e.row ∷ [])) (sym at.0) (quiet_one s x c e.row made proper.0 quiet.0 stands) in
-      subst (StandsFor s x) (append_assoc c (e ∷ []) es)
+      let one : IsScalerOfTrace s x (c ++ e ∷ []) = subst (λ t. IsScalerOfTrace s x (c ++ entry t e.row ∷ [])) (sym at.0) (quiet_one s x c e.row made proper.0 quiet.0 stands) in
+      subst (IsScalerOfTrace s x) (append_assoc c (e ∷ []) es)
       (quiet_all more s x (c ++ e ∷ []) es (more s c e.time e.row made proper.0) proper.1 at.1 quiet.1 one)
 
 -- ---- rows of a settling
@@ -99,13 +100,13 @@ first_settles x e es some =
 
 -- what the call says of the row
 abbrev pub Takes : ScalerState → ScalerState → Row → Type 0
-Takes x y r = (s : Spec) (c : Trace) → says_scale r ≡ false → IsNextRow x r stand.Held false s c → StandsFor s y (c ++ entry x.stats.time r ∷ [])
+Takes x y r = (s : Spec) (c : Trace) → says_scale r ≡ false → IsNextRow x r stand.Held false s c → IsScalerOfTrace s y (c ++ entry x.stats.time r ∷ [])
 
 pub rest_next : MadeMore → (s : Spec) (x y : ScalerState) (c : Trace) (e : Entry) (es : List Entry) → Takes x y e.row → y.stats.time ≡ x.stats.time → AreNextRows x (e ∷ es) s c → AreNextRows y es s (c ++ e ∷ [])
 rest_next more s x y c e es takes time next =
     let parts = settling_parts e.row next.kind.0 in
     record {
-      stands = subst (λ t. StandsFor s y (c ++ entry t e.row ∷ [])) (sym next.at.0) (takes s c parts.0 (first_next s x c e es next));
+      stands = subst (λ t. IsScalerOfTrace s y (c ++ entry t e.row ∷ [])) (sym next.at.0) (takes s c parts.0 (first_next s x c e es next));
       made = more s c e.time e.row next.made next.proper.0;
       proper = next.proper.1;
       at = subst (λ t. EachAt t es) (sym time) next.at.1;

@@ -19,14 +19,14 @@ use Rattle.kn_trace.specs.Trace.{Trace}
 use Rattle.kn_record.specs.Order.{AreTimesInOrder}
 use Rattle.kn_laws.specs.Kinds.{EachAt, EachIs}
 use Rattle.kn_stats.specs.Changes.{TimedChange, timed}
-use Rattle.kn_stats.specs.Stands.{StatsState, StandsFor as IsStatsOf}
+use Rattle.kn_stats.specs.Stands.{StatsState, IsStatsOf}
 use Rattle.kn_stats.specs.declared.change.Change.{Change}
-use Rattle.kn_decider.specs.Decider.{DeciderState, StandsFor as IsDeciderOf}
+use Rattle.kn_decider.specs.Decider.{DeciderState, IsDeciderOf}
 use Rattle.kn_changes.specs.Changes.{change_by, changes_of}
 use Rattle.kn_stats.specs.declared.tally.PodTally.{PodTally}
 use Rattle.kn_places.specs.Pods.{AreKeptOf}
 use Rattle.kn_scaler.specs.Facts.{TraceFacts}
-use Rattle.kn_scaler.specs.Stands.{ScalerState, StandsFor, gone_pods}
+use Rattle.kn_scaler.specs.Stands.{ScalerState, IsScalerOfTrace, gone_pods}
 use Rattle.kn_scaler.proofs.Times.{times-more}
 use Rattle.kn_scaler.proofs.Pasts.{IsSame, decider-more, not_empty, phase-more, with_entries}
 
@@ -82,8 +82,8 @@ module _ (facts : TraceFacts) where
   phase-stands s c d until p h stands =
       h ∙ ap Some (ap (λ (o : Option Phase). unwrap_or o phase.Inactive) (sym h) ∙ sym (ap (λ (st : Standing). st.phase) stands.standing))
 
-  pub decided-stands : (s : Spec) (x : ScalerState) (c es : Trace) (d : DeciderState) (p : Past) (y : StatsState) → StandsFor s x c → Decides s c es x.stats.time d p → d.spec ≡ x.decider.spec
-      → y.time ≡ x.stats.time → y.metric ≡ x.stats.metric → IsStatsOf y (changes_of (c ++ es)) (gone_pods (c ++ es)) → AreKeptOf y.pods (c ++ es) → StandsFor s (record { stats = y; decider = d }) (c ++ es)
+  pub decided-stands : (s : Spec) (x : ScalerState) (c es : Trace) (d : DeciderState) (p : Past) (y : StatsState) → IsScalerOfTrace s x c → Decides s c es x.stats.time d p → d.spec ≡ x.decider.spec
+      → y.time ≡ x.stats.time → y.metric ≡ x.stats.metric → IsStatsOf y (changes_of (c ++ es)) (gone_pods (c ++ es)) → AreKeptOf y.pods (c ++ es) → IsScalerOfTrace s (record { stats = y; decider = d }) (c ++ es)
   decided-stands s x c es d p y stands is spec time metric stats pods =
       let decider : IsDeciderOf d (past_of s (c ++ es)) (second_of x.stats.time) = decider-more facts s c es x.stats.time d p (not_empty c _ stands.phase) is.at is.samples is.same is.reached is.stands in
       let phase = phase-more facts c es _ stands.phase in
@@ -98,8 +98,8 @@ module _ (facts : TraceFacts) where
       }
 
   -- entries that Stats need not know of
-  pub silent-stands : (s : Spec) (x : ScalerState) (c es : Trace) (d : DeciderState) (p : Past) → StandsFor s x c → Decides s c es x.stats.time d p → d.spec ≡ x.decider.spec
-      → EachIs IsSilent es → StandsFor s (record { stats = x.stats; decider = d }) (c ++ es)
+  pub silent-stands : (s : Spec) (x : ScalerState) (c es : Trace) (d : DeciderState) (p : Past) → IsScalerOfTrace s x c → Decides s c es x.stats.time d p → d.spec ≡ x.decider.spec
+      → EachIs IsSilent es → IsScalerOfTrace s (record { stats = x.stats; decider = d }) (c ++ es)
   silent-stands s x c es d p stands is spec silent =
       decided-stands s x c es d p x.stats stands is spec refl refl
       (stats-same x.stats _ _ _ _ (sym (silent-changes c es silent)) (sym (silent-gone c es silent)) stands.stats)

@@ -17,7 +17,7 @@ use Rattle.kn_record.specs.Order.{AreTimesInOrder}
 use Rattle.kn_past.specs.Changes.{leaves_pods, time_by, want_by}
 use Rattle.kn_past.specs.Seconds.{AreFrom, end_of_second, sample_by}
 use Rattle.kn_stats.specs.Changes.{arrived_count, load_by}
-use Rattle.kn_window.specs.Stands.{WindowState, StandsFor as IsWindowOf}
+use Rattle.kn_window.specs.Stands.{WindowState, IsWindowOf}
 use Rattle.kn_changes.specs.Changes.{change_of, changes_of}
 use Rattle.kn_places.specs.Pods.{AreKeptOf}
 

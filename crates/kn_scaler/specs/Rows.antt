@@ -9,8 +9,9 @@ use Rattle.kn_event.specs.declared.entry.Phase.TheVariants as phase
 use Rattle.kn_event.specs.declared.entry.Row.{Row}
 use Rattle.kn_event.specs.declared.entry.Row.TheVariants as row
 use Rattle.kn_scaling.specs.Decide.{Ruling}
+use Rattle.kn_scaling.specs.Burst.{is_same_mode}
 use Rattle.kn_trace.specs.Rows.{decision_by, mode_by, phase_by}
-use Rattle.kn_trace.specs.Scale.{count_ready, is_same_mode, is_same_phase, mode_of, phase_of, where_true}
+use Rattle.kn_trace.specs.Scale.{count_ready, is_in_phase, mode_of, phase_of, where_true}
 use Rattle.kn_trace.specs.Trace.{Trace, entry}
 use Rattle.kn_scaler.specs.declared.scaler.Ruled.{Ruled}
 
@@ -55,7 +56,7 @@ settles _ = false
 abbrev pub ruling_rows : ℕ → Trace → Ruling → List Entry
 ruling_rows t c made =
     entry t (row.Decided made.decision)
-    ∷ where_true (not (is_same_phase made.phase (phase_of c))) (entry t (row.Phase made.phase) ∷ [])
+    ∷ where_true (not (is_in_phase made.phase (phase_of c))) (entry t (row.Phase made.phase) ∷ [])
     ++ where_true (not (is_same_mode made.decision.mode (mode_of c))) (entry t (row.Mode made.decision.mode) ∷ [])
 
 abbrev pub tick_rulings : ℕ → Trace → Option Ruling → List Entry
@@ -66,7 +67,7 @@ tick_rulings t c (Some made) = ruling_rows t c made
 abbrev pub ruled_from : Decision → Phase → Mode → Phase → Mode → Ruled
 ruled_from decision phase_before mode_before phase_after mode_after = record {
   decision = decision;
-  phase = then_some (not (is_same_phase phase_after (Some phase_before))) phase_after;
+  phase = then_some (not (is_in_phase phase_after (Some phase_before))) phase_after;
   mode = then_some (not (is_same_mode mode_after mode_before)) mode_after;
 }
 
@@ -74,10 +75,10 @@ ruled_from decision phase_before mode_before phase_after mode_after = record {
 abbrev pub ruled_by : Trace → Ruling → Ruled
 ruled_by c made = record {
   decision = made.decision;
-  phase = then_some (not (is_same_phase made.phase (phase_of c))) made.phase;
+  phase = then_some (not (is_in_phase made.phase (phase_of c))) made.phase;
   mode = then_some (not (is_same_mode made.decision.mode (mode_of c))) made.decision.mode;
 }
 
 -- the rows of a pod that is Ready, which may be the first one
 abbrev pub ready_rows : ℕ → Trace → ℕ → List Entry
-ready_rows t c p = entry t (row.Ready p) ∷ where_true (is_same_phase phase.Activating (phase_of c)) (entry t (row.Phase phase.Active) ∷ [])
+ready_rows t c p = entry t (row.Ready p) ∷ where_true (is_in_phase phase.Activating (phase_of c)) (entry t (row.Phase phase.Active) ∷ [])

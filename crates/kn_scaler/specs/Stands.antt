@@ -13,8 +13,8 @@ use Rattle.kn_record.specs.Made.{Holds, IsMade, IsProper}
 use Rattle.kn_record.specs.Order.{AreTimesInOrder}
 use Rattle.kn_laws.specs.Kinds.{Each, EachAt}
 use Rattle.kn_stats.specs.declared.change.Change.{Change}
-use Rattle.kn_stats.specs.Stands.{StatsState, StandsFor as IsStatsOf, changed, without}
-use Rattle.kn_decider.specs.Decider.{DeciderState, StandsFor as IsDeciderOf}
+use Rattle.kn_stats.specs.Stands.{StatsState, IsStatsOf, changed, without}
+use Rattle.kn_decider.specs.Decider.{DeciderState, IsDeciderOf}
 use Rattle.kn_changes.specs.Changes.{changes_of}
 use Rattle.kn_places.specs.Ends.{IsToldOf, change_in}
 use Rattle.kn_places.specs.Pods.{AreKeptOf, HasRoomFor}
@@ -29,7 +29,7 @@ gone_pods c = each_row gone_by c
 
 -- a trace of this specification, up to the time of what is measured: that has all its changes of live requests, and keeps no
 -- pod but live ones; and the decisions look back on its past, with the samples of the seconds that are over
-pub record StandsFor (s : Spec) (x : ScalerState) (c : Trace) : Type 0 where
+pub record IsScalerOfTrace (s : Spec) (x : ScalerState) (c : Trace) : Type 0 where
   pub spec : x.decider.spec ≡ s
   pub metric : x.stats.metric ≡ s.metric
   pub times : AreTimesInOrder 0 c x.stats.time
@@ -54,7 +54,7 @@ after_row x at through stats = without_if (gone_by x) (changed_if (change_in x a
 
 -- it stands for some trace that events made
 abbrev pub StandsForSome : ScalerState → Type 0
-StandsForSome x = ∥ ((c : Trace) × IsMade x.decider.spec c × StandsFor x.decider.spec x c) ∥₁
+StandsForSome x = ∥ ((c : Trace) × IsMade x.decider.spec c × IsScalerOfTrace x.decider.spec x c) ∥₁
 
 -- after rows with which no request ends
 abbrev pub after_rows : List Entry → StatsState → StatsState
@@ -63,7 +63,7 @@ after_rows (e ∷ es) stats = after_rows es (after_row e.row stand.Held false st
 
 -- a row that is proper after a trace that events made and that it stands for, and where a request stands that ends with it
 pub record IsNextRow (x : ScalerState) (y : Row) (at : Stand) (through : Bool) (s : Spec) (c : Trace) : Type 0 where
-  pub stands : StandsFor s x c
+  pub stands : IsScalerOfTrace s x c
   pub made : IsMade s c
   pub proper : IsProper s c y
   pub told : IsToldOf c y at through
@@ -74,7 +74,7 @@ IsNextOfSome x y at through = ∥ ((s : Spec) × (c : Trace) × IsNextRow x y at
 
 -- rows of a settling that are proper one after the other after such a trace, at the time of what is measured
 pub record AreNextRows (x : ScalerState) (es : List Entry) (s : Spec) (c : Trace) : Type 0 where
-  pub stands : StandsFor s x c
+  pub stands : IsScalerOfTrace s x c
   pub made : IsMade s c
   pub proper : Holds (IsProper s) c es
   pub at : EachAt x.stats.time es

@@ -9,7 +9,7 @@ ghost use Rattle.kn_trace.specs.Trace.{Trace, entry};
 ghost use Rattle.kn_record.specs.Made.{Holds, IsMade, IsProper};
 ghost use Rattle.kn_laws.specs.Kinds.{Each, EachAt};
 ghost use Rattle.kn_scaler.specs.Rows.{IsBeside, is_quiet, ruling_rows, says_scale, settles};
-ghost use Rattle.kn_scaler.specs.Stands.{ScalerState, StandsFor};
+ghost use Rattle.kn_scaler.specs.Stands.{ScalerState, IsScalerOfTrace};
 
 use crate::facts::trace_facts;
 use kn_record::append::{append_laws, order_laws};
@@ -26,7 +26,7 @@ pub fn row_laws()
 
 /// Rows that change nothing of live requests and say nothing of the scale leave a Scaler standing for the trace with them.
 pub fn quiet_laws()
-    ensures { (s : Spec) (x : ScalerState) (c es : Trace) → IsMade s c → Holds (IsProper s) c es → EachAt x.stats.time es → Each is_quiet es → StandsFor s x c → StandsFor s x (c ++ es) }
+    ensures { (s : Spec) (x : ScalerState) (c es : Trace) → IsMade s c → Holds (IsProper s) c es → EachAt x.stats.time es → Each is_quiet es → IsScalerOfTrace s x c → IsScalerOfTrace s x (c ++ es) }
 {
     row_laws();
     trace_facts();

@@ -7,18 +7,19 @@ ghost use Rattle.kn_event.specs.declared.event.Stand.TheVariants as stand;
 ghost use Rattle.kn_event.specs.declared.revision.Kind.TheVariants as kind;
 ghost use Rattle.kn_event.specs.declared.revision.Spec.{Spec as SpecValue};
 ghost use Rattle.kn_scaling.specs.Decide.{Past};
+ghost use Rattle.kn_scaling.specs.Burst.{is_same_mode};
 ghost use Rattle.kn_stats.specs.Stands.{CanChange, IsIdle, advanced, without};
-ghost use Rattle.kn_decider.specs.Decider.{StandsFor as IsDeciderOf};
+ghost use Rattle.kn_decider.specs.Decider.{IsDeciderOf};
 ghost use Rattle.kn_trace.specs.Events.{opening};
 ghost use Rattle.kn_trace.specs.Load.{has_ready_pod};
 ghost use Rattle.kn_trace.specs.Rows.{gone_by};
-ghost use Rattle.kn_trace.specs.Scale.{count_ready, decision_at, is_same_mode, is_same_phase, mode_of, phase_of, wake_decision_at, wanted};
+ghost use Rattle.kn_trace.specs.Scale.{count_ready, decision_at, is_in_phase, mode_of, phase_of, wake_decision_at, wanted};
 ghost use Rattle.kn_trace.specs.Trace.{Trace, entry};
 ghost use Rattle.kn_record.specs.Made.{IsMade};
 ghost use Rattle.kn_changes.specs.Changes.{change_by};
 ghost use Rattle.kn_places.specs.Pods.{AreKeptOf};
 ghost use Rattle.kn_scaler.specs.Rows.{IsBeside, ready_rows, ruled_by, ruled_from, ruling_rows, says_scale, settles, tick_rulings};
-ghost use Rattle.kn_scaler.specs.Stands.{AreNextOfSome, AreNextRows, IsNextOfSome, IsNextRow, StandsFor, StandsForSome, after_row, after_rows, changed_if};
+ghost use Rattle.kn_scaler.specs.Stands.{AreNextOfSome, AreNextRows, IsNextOfSome, IsNextRow, IsScalerOfTrace, StandsForSome, after_row, after_rows, changed_if};
 
 use crate::facts::trace_facts;
 use crate::laws::row_laws;
@@ -44,7 +45,7 @@ pub struct Ruled {
 
 /// The phase after a decision, where it is another.
 fn changed_phase(before: Phase, after: Phase) -> Option<Phase>
-    ensures { result ≡ then_some (not (is_same_phase after (Some before))) after }
+    ensures { result ≡ then_some (not (is_in_phase after (Some before))) after }
 {
     if after == before { None } else { Some(after) }
 }
@@ -99,7 +100,7 @@ impl Scaler {
     /// The revision opens at this time. It takes all the memory that it will ever have.
     pub fn new(alloc: Global, spec: &Spec, start: u64) -> Result<Scaler, Memory>
         requires { spec.now.kind ≡ kind.Kpa }
-        ensures stands { IfOk result (λ x. StandsFor spec.now x (opening spec.now start)) }
+        ensures stands { IfOk result (λ x. IsScalerOfTrace spec.now x (opening spec.now start)) }
         ensures time { IfOk result (λ x. x.stats.time ≡ start) }
     {
         trace_facts();
@@ -114,7 +115,7 @@ impl Scaler {
         requires order { self.old.stats.time ≤ time }
         requires range { time ≤ 2 ^ 42 }
         requires made { StandsForSome self.old }
-        ensures stands { (s : SpecValue) (c : Trace) → IsMade s c → has_ready_pod c ≡ ready → StandsFor s self.old c → StandsFor s self.new c }
+        ensures stands { (s : SpecValue) (c : Trace) → IsMade s c → has_ready_pod c ≡ ready → IsScalerOfTrace s self.old c → IsScalerOfTrace s self.new c }
         ensures stats { self.new.stats ≡ advanced time self.old.stats }
         ensures spec { self.new.decider.spec ≡ self.old.decider.spec }
     {
@@ -131,7 +132,7 @@ impl Scaler {
     pub fn row(&mut self, added: Row, at: Stand, through: bool)
         requires { IsNextOfSome self.old added at through }
         ensures stands { (s : SpecValue) (c : Trace) → says_scale added ≡ false → IsNextRow self.old added at through s c
-            → StandsFor s self.new (c ++ entry self.old.stats.time added ∷ []) }
+            → IsScalerOfTrace s self.new (c ++ entry self.old.stats.time added ∷ []) }
         ensures stats { self.new.stats ≡ after_row added at through self.old.stats }
         ensures time { self.new.stats.time ≡ self.old.stats.time }
         ensures decider { self.new.decider ≡ self.old.decider }
@@ -153,7 +154,7 @@ impl Scaler {
     /// The rows of a settling, all at this time.
     pub fn rows(&mut self, added: &[Entry])
         requires { AreNextOfSome self.old added.now }
-        ensures stands { (s : SpecValue) (c : Trace) → AreNextRows self.old added.now s c → StandsFor s self.new (c ++ added.now) }
+        ensures stands { (s : SpecValue) (c : Trace) → AreNextRows self.old added.now s c → IsScalerOfTrace s self.new (c ++ added.now) }
         ensures stats { self.new.stats ≡ after_rows added.now self.old.stats }
         ensures time { self.new.stats.time ≡ self.old.stats.time }
         ensures decider { self.new.decider ≡ self.old.decider }
@@ -170,7 +171,7 @@ impl Scaler {
     fn settled(&mut self, added: Row)
         requires kind { settles added ≡ true }
         requires next { IsNextOfSome self.old added stand.Held false }
-        ensures stands { (s : SpecValue) (c : Trace) → IsNextRow self.old added stand.Held false s c → StandsFor s self.new (c ++ entry self.old.stats.time added ∷ []) }
+        ensures stands { (s : SpecValue) (c : Trace) → IsNextRow self.old added stand.Held false s c → IsScalerOfTrace s self.new (c ++ entry self.old.stats.time added ∷ []) }
         ensures stats { self.new.stats ≡ after_row added stand.Held false self.old.stats }
         ensures time { self.new.stats.time ≡ self.old.stats.time }
         ensures decider { self.new.decider ≡ self.old.decider }
@@ -189,8 +190,8 @@ impl Scaler {
     fn requests_change(&mut self, change: Option<Change>)
         requires { IfSome change (CanChange self.old.stats) }
         ensures stands { (s : SpecValue) (c : Trace) (x : RowValue) → change_by c x ≡ change → gone_by x ≡ None → IsBeside c (entry self.old.stats.time x)
-            → AreKeptOf self.new.stats.pods (c ++ entry self.old.stats.time x ∷ []) → StandsFor s self.old c
-            → StandsFor s self.new (c ++ entry self.old.stats.time x ∷ []) }
+            → AreKeptOf self.new.stats.pods (c ++ entry self.old.stats.time x ∷ []) → IsScalerOfTrace s self.old c
+            → IsScalerOfTrace s self.new (c ++ entry self.old.stats.time x ∷ []) }
         ensures stats { self.new.stats ≡ changed_if change self.old.stats }
         ensures decider { self.new.decider ≡ self.old.decider }
     {
@@ -206,8 +207,8 @@ impl Scaler {
     fn pod_leaves(&mut self, p: u64)
         requires { IsIdle p self.old.stats }
         ensures stands { (s : SpecValue) (c : Trace) (x : RowValue) → gone_by x ≡ Some p → IsBeside c (entry self.old.stats.time x)
-            → AreKeptOf self.new.stats.pods (c ++ entry self.old.stats.time x ∷ []) → StandsFor s self.old c
-            → StandsFor s self.new (c ++ entry self.old.stats.time x ∷ []) }
+            → AreKeptOf self.new.stats.pods (c ++ entry self.old.stats.time x ∷ []) → IsScalerOfTrace s self.old c
+            → IsScalerOfTrace s self.new (c ++ entry self.old.stats.time x ∷ []) }
         ensures stats { self.new.stats ≡ without p self.old.stats }
         ensures decider { self.new.decider ≡ self.old.decider }
     {
@@ -220,8 +221,8 @@ impl Scaler {
     pub fn tick(&mut self, time: u64, ready: u64) -> Option<Ruled>
         requires now { time ≡ self.old.stats.time }
         requires ready { ready ≤ 500 }
-        ensures ruled { (s : SpecValue) (c : Trace) → count_ready c ≡ ready → StandsFor s self.old c → result ≡ option_map (ruled_by c) (decision_at s c time) }
-        ensures stands { (s : SpecValue) (c : Trace) → count_ready c ≡ ready → StandsFor s self.old c → StandsFor s self.new (c ++ tick_rulings time c (decision_at s c time)) }
+        ensures ruled { (s : SpecValue) (c : Trace) → count_ready c ≡ ready → IsScalerOfTrace s self.old c → result ≡ option_map (ruled_by c) (decision_at s c time) }
+        ensures stands { (s : SpecValue) (c : Trace) → count_ready c ≡ ready → IsScalerOfTrace s self.old c → IsScalerOfTrace s self.new (c ++ tick_rulings time c (decision_at s c time)) }
         ensures stats { self.new.stats ≡ self.old.stats }
         ensures spec { self.new.decider.spec ≡ self.old.decider.spec }
     {
@@ -239,8 +240,8 @@ impl Scaler {
     pub fn wake(&mut self, time: u64, ready: u64) -> Ruled
         requires now { time ≡ self.old.stats.time }
         requires ready { ready ≤ 500 }
-        ensures ruled { (s : SpecValue) (c : Trace) → count_ready c ≡ ready → StandsFor s self.old c → result ≡ ruled_by c (wake_decision_at s c time) }
-        ensures stands { (s : SpecValue) (c : Trace) → count_ready c ≡ ready → StandsFor s self.old c → StandsFor s self.new (c ++ ruling_rows time c (wake_decision_at s c time)) }
+        ensures ruled { (s : SpecValue) (c : Trace) → count_ready c ≡ ready → IsScalerOfTrace s self.old c → result ≡ ruled_by c (wake_decision_at s c time) }
+        ensures stands { (s : SpecValue) (c : Trace) → count_ready c ≡ ready → IsScalerOfTrace s self.old c → IsScalerOfTrace s self.new (c ++ ruling_rows time c (wake_decision_at s c time)) }
         ensures stats { self.new.stats ≡ self.old.stats }
         ensures spec { self.new.decider.spec ≡ self.old.decider.spec }
     {
@@ -255,8 +256,8 @@ impl Scaler {
     /// from now on.
     pub fn pod_ready(&mut self, time: u64, ready: u64) -> bool
         requires now { time ≡ self.old.stats.time }
-        ensures answer { (s : SpecValue) (c : Trace) → StandsFor s self.old c → result ≡ is_same_phase phase.Activating (phase_of c) }
-        ensures stands { (s : SpecValue) (c : Trace) (p : ℕ) → count_ready (c ++ entry time (row.Ready p) ∷ []) ≡ ready → StandsFor s self.old c → StandsFor s self.new (c ++ ready_rows time c p) }
+        ensures answer { (s : SpecValue) (c : Trace) → IsScalerOfTrace s self.old c → result ≡ is_in_phase phase.Activating (phase_of c) }
+        ensures stands { (s : SpecValue) (c : Trace) (p : ℕ) → count_ready (c ++ entry time (row.Ready p) ∷ []) ≡ ready → IsScalerOfTrace s self.old c → IsScalerOfTrace s self.new (c ++ ready_rows time c p) }
         ensures stats { self.new.stats ≡ self.old.stats }
         ensures spec { self.new.decider.spec ≡ self.old.decider.spec }
     {
@@ -267,7 +268,7 @@ impl Scaler {
     /// The phase now.
     pub fn phase(&self) -> Phase
         ensures value { result ≡ self.now.decider.zero.standing.phase }
-        ensures trace { (s : SpecValue) (c : Trace) → StandsFor s self.now c → phase_of c ≡ Some result }
+        ensures trace { (s : SpecValue) (c : Trace) → IsScalerOfTrace s self.now c → phase_of c ≡ Some result }
     {
         self.decider.phase()
     }
@@ -275,7 +276,7 @@ impl Scaler {
     /// How requests reach the pods now.
     pub fn mode(&self) -> Mode
         ensures value { result ≡ self.now.decider.zero.standing.mode }
-        ensures trace { (s : SpecValue) (c : Trace) → StandsFor s self.now c → result ≡ mode_of c }
+        ensures trace { (s : SpecValue) (c : Trace) → IsScalerOfTrace s self.now c → result ≡ mode_of c }
     {
         self.decider.mode()
     }
@@ -283,7 +284,7 @@ impl Scaler {
     /// The pods wanted now.
     pub fn want(&self) -> u64
         ensures value { result ≡ self.now.decider.zero.standing.want }
-        ensures trace { (s : SpecValue) (c : Trace) → StandsFor s self.now c → result ≡ wanted s c }
+        ensures trace { (s : SpecValue) (c : Trace) → IsScalerOfTrace s self.now c → result ≡ wanted s c }
     {
         self.decider.want()
     }

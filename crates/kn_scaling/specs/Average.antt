@@ -3,6 +3,8 @@ use Rattle.std.specs.Prelude.{ℕ, Bool, false, not, ◌+◌, ◌-◌, ◌*◌, 
 use Rattle.std.specs.List.{filter, fold, list_any, range_with_len, sum_by}
 use Rattle.std.proofs.Common.{subst, sym, add-one, lit<}
 use Rattle.std.proofs.Math.Nat.{mul-pos, zero-lt-suc}
+use Rattle.kn_event.specs.declared.revision.Metric.{Metric}
+use Rattle.kn_event.specs.declared.revision.Metric.TheVariants as metric
 use Rattle.kn_event.specs.declared.units.Frac.{Frac}
 use Rattle.kn_scaling.specs.declared.average.SampleRun.{SampleRun}
 
@@ -76,6 +78,11 @@ pub record IsAverage (average : Frac) : Type 0 where
   pub value : average.num ≤ 1000000 * average.den
 
 -- ---- how samples come
+
+-- what a second counts for: its load, or 1,000 for each request that was taken in in it
+abbrev pub value_of : Metric → ℕ → ℕ → ℕ
+value_of metric.Concurrency load count = load
+value_of metric.Rps load count = 1000 * count
 
 abbrev pub no_samples : Samples
 no_samples s = None

@@ -32,3 +32,8 @@ is_activating phase.Inactive = false
 -- through the activator where no pod is wanted, a burst would not fit, or no pod is Ready yet
 unfoldable pub serving_mode : ℕ → ℤ → Phase → Mode
 serving_mode want excess new_phase = if want == 0 || is_negative excess || is_activating new_phase then mode.Proxy else mode.Serve
+
+abbrev pub is_same_mode : Mode → Mode → Bool
+is_same_mode mode.Proxy mode.Proxy = true
+is_same_mode mode.Serve mode.Serve = true
+is_same_mode _ _ = false

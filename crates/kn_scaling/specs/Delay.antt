@@ -17,3 +17,7 @@ recent_count delay second earlier = greatest (map (λ a. a.count) (filter (is_re
 unfoldable pub delayed_count : ℕ → List Asked → ℕ
 delayed_count delay [] = 0
 delayed_count delay (a ∷ earlier) = max a.count (recent_count delay a.second earlier)
+
+-- so many pods were asked for in this second
+abbrev pub asked_at : ℕ → ℕ → Asked
+asked_at second count = record { second = second; count = count }

@@ -59,9 +59,6 @@ over_at time stable panic = judged_at true time stable panic
 abbrev pub calm_at : ℕ → ℕ → ℕ → Judged
 calm_at time stable panic = judged_at false time stable panic
 
-abbrev pub asked_at : ℕ → ℕ → Asked
-asked_at second count = record { second = second; count = count }
-
 -- in this phase and mode since these times, with one pod wanted
 abbrev pub standing_at : Phase → ℕ → Mode → ℕ → Standing
 standing_at phase phase_since mode mode_since = record { phase = phase; phase_since = phase_since; mode = mode; mode_since = mode_since; want = 1 }

@@ -63,3 +63,7 @@ unfoldable pub zero_rule : Spec → ℕ → ℕ → ℕ → Standing → ZeroAns
 zero_rule spec time ready bounded standing =
     if nat_lt 0 bounded then some_pods ready bounded
     else (if spec.to_zero then zero_rule_in standing.phase spec time ready standing else some_pods ready 1)
+
+abbrev pub opening_phase : ℕ → Phase
+opening_phase zero = phase.Inactive
+opening_phase (suc want) = phase.Activating

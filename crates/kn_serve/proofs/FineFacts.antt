@@ -5,9 +5,9 @@ use Rattle.std.specs.List.{list_any, position, position_or_len}
 use Rattle.std.proofs.lemmas.Bool.{ltb-false}
 use Rattle.std.proofs.lemmas.List.Sums.{fails_before_first}
 use Rattle.std.proofs.lemmas.List.Folds.{list_any_at}
+use Rattle.kn_event.specs.Lists.{EachIs}
 use Rattle.kn_journal.specs.declared.status.Status.TheVariants as status
 use Rattle.kn_request.specs.declared.slot.Slot.{Slot}
-use Rattle.kn_session.specs.Lists.{EachIs}
 use Rattle.kn_serve.specs.Ending.{status_by}
 use Rattle.kn_serve.proofs.Slots.{list_any-map, position-map}
 

@@ -4,12 +4,12 @@ use Rattle.std.specs.Prelude.{◌||◌, false, slice_index_or, suc}
 use Rattle.std.specs.List.{list_any, position, position_or_len, range_with_len}
 use Rattle.std.proofs.lemmas.List.{ext_get_or, get_or-map, length-map}
 use Rattle.std.proofs.lemmas.List.FromFn.{length-range_with_len}
+use Rattle.kn_event.specs.Lists.{EachIs}
 use Rattle.kn_core.specs.State.{RevisionState}
 use Rattle.kn_cell.specs.declared.past.Past.{Past}
 use Rattle.kn_journal.specs.declared.journal.Setup.{Setup}
 use Rattle.kn_request.specs.declared.slot.WideSlot.{WideSlot}
 use Rattle.kn_request.specs.Wide.{faults_in, memories_in}
-use Rattle.kn_session.specs.Lists.{EachIs}
 use Rattle.kn_session.specs.Wide.{at_flag}
 use Rattle.kn_serve.specs.Ending.{has_fault, has_want, status_by}
 use Rattle.kn_serve.specs.Many.{one_failed, one_wanted, status_after_all}

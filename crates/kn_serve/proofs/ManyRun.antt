@@ -5,6 +5,7 @@ use Rattle.std.specs.Global.{Global}
 use Rattle.std.specs.List.{list_any, position}
 use Rattle.std.proofs.lemmas.List.{get_or-map, length-map}
 use Rattle.kn_event.specs.declared.revision.Spec.{Spec}
+use Rattle.kn_event.specs.Lists.{EachIs}
 use Rattle.kn_core.specs.State.{RevisionState}
 use Rattle.kn_cell.specs.declared.past.Past.{Past}
 use Rattle.kn_cell.specs.Lists.{Each}
@@ -18,7 +19,7 @@ use Rattle.kn_journal.specs.Journal.{IsJournal, IsSetup, good, journal_text, ver
 use Rattle.kn_print.specs.Printed.{HasSmall}
 use Rattle.kn_request.specs.declared.slot.WideSlot.{WideSlot}
 use Rattle.kn_request.specs.Wide.{at_count, at_wire, faults_in, memories_in}
-use Rattle.kn_session.specs.Lists.{EachDone, EachIs}
+use Rattle.kn_session.specs.Lists.{EachDone}
 use Rattle.kn_session.specs.Session.{IsFine, IsOneHistory, IsTicked}
 use Rattle.kn_session.specs.Wide.{AreFine, AreHistories, WideSides, WideSlotServed, at_flag, at_history}
 use Rattle.kn_serve.specs.Ending.{AreAllCleared}

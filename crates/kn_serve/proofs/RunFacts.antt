@@ -3,6 +3,7 @@ use Rattle.std.proofs.Common.{◌≡◌, ◌<◌, ◌≤◌, ◌^◌, ℕ, Bool,
 use Rattle.std.specs.Prelude.{All, None, Option, Some, false, slice_index_or, true}
 use Rattle.std.proofs.lemmas.List.{get_or-map}
 use Rattle.kn_event.specs.declared.revision.Spec.{Spec}
+use Rattle.kn_event.specs.Lists.{EachIs}
 use Rattle.kn_trace.specs.Trace.{Trace}
 use Rattle.kn_trace.specs.Events.{opening}
 use Rattle.kn_trace.specs.Laws.{IsLawful, IsSettled}
@@ -13,7 +14,7 @@ use Rattle.kn_cell.specs.History.{IsLegal, IsLegalFrom, trace_after}
 use Rattle.kn_journal.specs.declared.journal.Journal.{Journal}
 use Rattle.kn_journal.specs.Journal.{IsJournal, IsSetup, good, journal_text, verdict}
 use Rattle.kn_request.specs.declared.slot.Slot.{Slot}
-use Rattle.kn_session.specs.Lists.{EachDone, EachIs}
+use Rattle.kn_session.specs.Lists.{EachDone}
 use Rattle.kn_session.specs.Rounds.{Sides}
 use Rattle.kn_session.specs.Session.{IsFine, IsOneHistory}
 use Rattle.kn_serve.specs.Ending.{AreCleared, status_by}

@@ -15,10 +15,11 @@ use Rattle.kn_journal.specs.Lines.{begins_with_lf, fits, lines, lines_at_lf, ont
 use Rattle.kn_journal.specs.Parts.{Part, part, then_part}
 use Rattle.kn_journal.specs.Bundle.{listed_part, opening_by, setups_behind, setups_end, setups_part}
 use Rattle.kn_journal.specs.Telling.{Gives, ReaderState, Refused, Refuses, Tells, TellsOpening}
+use Rattle.kn_journal.specs.Reading.{EndsThere}
 use Rattle.kn_replay.specs.Replaying.{status_of}
 use Rattle.kn_serve.specs.Front.{SaysFront}
 use Rattle.kn_serve.specs.Setups.{SaysSetups}
-use Rattle.kn_serve.specs.Setup.{IsReadOut, SaysSetup, nothing_behind, setup_alone}
+use Rattle.kn_serve.specs.Setup.{SaysSetup, nothing_behind, setup_alone}
 
 pub rose_on : (a b d : ℕ) → a ≤ b → Rose b d → Rose a d
 rose_on a b d h k = grind (arith)
@@ -148,7 +149,7 @@ none_of_both (x ∷ xs) ys e = absurd (cc)
 
 -- after the end of the input nothing of it is left
 pub read_out : (old mid : Option (List ℕ)) (ahead : List ℕ) (left : Option (List ℕ)) (opening : Opening) (n m : ℕ) → Gives (opening_part JournalLine 0) opening n old mid
-    → Gives (nothing_part n) tt m mid (prepend_known ahead left) → IsReadOut old left
+    → Gives (nothing_part n) tt m mid (prepend_known ahead left) → EndsThere old left
 read_out None mid ahead left opening n m h k = tt
 read_out (Some xs) None ahead left opening n m h k = absurd h
 read_out (Some xs) (Some ys) ahead None opening n m h k = absurd k
@@ -184,7 +185,7 @@ none_listed n count ls p e =
     (λ _ n lines. none_then (setups_behind n count lines) setups_end p (λ setups n ls. none_behind setups n ls p)) e
 
 pub setups_out : (count m : ℕ) (old : Option (List ℕ)) (ahead : List ℕ) (left : Option (List ℕ)) (r : Result (List Setup) JournalError) → Tells (listed_part 0 count) m old (prepend_known ahead left) r
-    → OnOk r (IsReadOut old left)
+    → OnOk r (EndsThere old left)
 setups_out count m old ahead left (Err e) h = tt
 setups_out count m None ahead left (Ok setups) h = tt
 setups_out count m (Some xs) ahead None (Ok setups) h = absurd h

@@ -4,10 +4,10 @@ use Rattle.std.specs.Prelude.{All}
 use Rattle.std.specs.List.{slice_split}
 use Rattle.std.proofs.lemmas.List.{length-map}
 use Rattle.std.proofs.lemmas.List.Splits.{length-slice_split}
+use Rattle.kn_event.specs.Lists.{EachIs}
 use Rattle.kn_plan.specs.declared.wide_plan.WidePlan.{WidePlan}
 use Rattle.kn_plan.specs.Plan.{AsksForMany, is_comma, is_semicolon}
 use Rattle.kn_request.specs.declared.slot.WideSlot.{WideSlot}
-use Rattle.kn_session.specs.Lists.{EachIs}
 use Rattle.kn_session.specs.Wide.{HasOfEach}
 use Rattle.kn_serve.specs.Many.{IsInWideRange, IsReadyFor}
 use Rattle.kn_serve.specs.Opening.{IsEmptyWork}

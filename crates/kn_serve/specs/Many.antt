@@ -3,29 +3,29 @@ use Rattle.std.specs.Prelude.{◌≡◌, ◌⊎◌, ◌<◌, ◌≤◌, ◌*◌,
 use Rattle.std.specs.List.{list_any, position, range_with_len}
 use Rattle.std.specs.Io.KnownBytes.{Appends}
 use Rattle.kn_event.specs.declared.revision.Spec.{Spec}
+use Rattle.kn_event.specs.Lists.{EachIs}
 use Rattle.kn_trace.specs.Events.{opening}
 use Rattle.kn_trace.specs.Trace.{Trace}
 use Rattle.kn_core.specs.State.{RevisionState, StandsFor}
-use Rattle.kn_cell.specs.History.{live_of}
 use Rattle.kn_io.specs.Links.{Link}
 use Rattle.kn_io.specs.Prefix.{AppendsPrefix}
+use Rattle.kn_core.specs.Gauges.{count_live}
 use Rattle.kn_journal.specs.declared.error.JournalError.{JournalError}
 use Rattle.kn_journal.specs.declared.journal.Setup.{Setup}
 use Rattle.kn_journal.specs.declared.status.Status.{Status}
 use Rattle.kn_journal.specs.declared.status.Status.TheVariants as status
 use Rattle.kn_journal.specs.Journal.{good, journal_text, verdict}
+use Rattle.kn_journal.specs.Reading.{EndsThere}
 use Rattle.kn_plan.specs.declared.wide_plan.WidePlan.{WidePlan}
 use Rattle.kn_print.specs.Printed.{journals_text}
 use Rattle.kn_replay.specs.Replaying.{status_of}
 use Rattle.kn_request.specs.declared.slot.WideSlot.{WideSlot}
 use Rattle.kn_request.specs.Wide.{at_count, at_wire}
-use Rattle.kn_session.specs.Lists.{EachIs}
 use Rattle.kn_session.specs.Session.{IsTicked}
 use Rattle.kn_session.specs.Wide.{WideSides, WideSlotServed, at_flag}
 use Rattle.kn_serve.specs.Ending.{status_by}
 use Rattle.kn_serve.specs.Opening.{IsEmptyWork}
 use Rattle.kn_serve.specs.Running.{IsSession, Session, journal_of}
-use Rattle.kn_serve.specs.Setup.{IsReadOut}
 use Rattle.kn_serve.specs.Setups.{SaysSetups}
 
 -- what such a session may be asked for
@@ -51,7 +51,7 @@ pub record IsOpenedAt (spec : Spec) (start : ℕ) (r : RevisionState) : Type 0 w
   pub spec_is : r.spec ≡ spec
   pub clock : r.clock ≡ start
   pub events : r.events ≡ 0
-  pub live : (c : Trace) → StandsFor r c → live_of c ≡ 0
+  pub live : (c : Trace) → StandsFor r c → count_live c ≡ 0
 
 -- the revision of each setup
 abbrev pub AreOpenedAt : List Setup → ℕ → List RevisionState → Type 0
@@ -103,7 +103,7 @@ pub record ServesAll (reading : ℕ → Type 0) (slots count : ℕ) (left left' 
   pub many : length sessions ≡ count
   pub each : EachIs (IsSession reading slots) sessions
   pub said : SaysSetups count left (Ok (map (λ x. x.setup) sessions))
-  pub whole : IsReadOut left left'
+  pub whole : EndsThere left left'
   pub slots_did : SlotsDid sessions
   pub ticker_did : TickerDid sessions
   pub ends : EndAll held held' slots sessions result

@@ -15,6 +15,7 @@ use Rattle.kn_journal.specs.declared.journal.Setup.{Setup}
 use Rattle.kn_journal.specs.declared.status.Status.{Status}
 use Rattle.kn_journal.specs.declared.status.Status.TheVariants as status
 use Rattle.kn_journal.specs.Journal.{good, journal_text, verdict}
+use Rattle.kn_journal.specs.Reading.{EndsThere}
 use Rattle.kn_plan.specs.declared.plan.Plan.{Plan}
 use Rattle.kn_replay.specs.Replaying.{status_of}
 use Rattle.kn_session.specs.Lists.{HasOne}
@@ -22,7 +23,7 @@ use Rattle.kn_session.specs.Own.{IsAloneIn, IsArrivalOf}
 use Rattle.kn_session.specs.Session.{IsFine, IsRowOf}
 use Rattle.kn_serve.specs.Ending.{status_by}
 use Rattle.kn_print.specs.Printed.{events_of, printed_journal}
-use Rattle.kn_serve.specs.Setup.{IsReadOut, SaysSetup}
+use Rattle.kn_serve.specs.Setup.{SaysSetup}
 
 -- what a session may be asked for
 pub record IsInRange (plan : Plan) : Type 0 where
@@ -90,7 +91,7 @@ pub record Serves (reading : ℕ → Type 0) (slots : ℕ) (left left' held held
   pub session : Session
   pub is : IsSession reading slots session
   pub said : SaysSetup left (Ok session.setup)
-  pub whole : IsReadOut left left'
+  pub whole : EndsThere left left'
   pub slots_did : SlotsDid session
   pub ticker_did : TickerDid session
   pub ends : Ends held held' session result

@@ -35,8 +35,3 @@ SaysSetup (Some xs) (Err e) = Refused e (setup_alone (lines xs))
 -- its count of faults rose, or it gave as many bytes as are ever read
 abbrev pub HasBrokenOff : {S : Type 0} → (S → ℕ) → (S → ℕ) → Change S → Type 0
 HasBrokenOff faults given source = Rose (faults (was source)) (faults (became source)) ⊎ (given (was source) + most_taken ≤ given (became source))
-
--- where the input was told, nothing of it is left
-abbrev pub IsReadOut : Option (List ℕ) → Option (List ℕ) → Type 0
-IsReadOut None left = ⊤
-IsReadOut (Some xs) left = left ≡ Some []

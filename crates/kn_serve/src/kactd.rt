@@ -1,7 +1,7 @@
 //! The top call of `kactd`: its words, its opening, and a session.
 ghost use Rattle.std.specs.Prelude.{◌≡◌, [], None};
+ghost use Rattle.kn_event.specs.Lists.{EachIs};
 ghost use Rattle.kn_io.specs.Causes.{Rose};
-ghost use Rattle.kn_session.specs.Lists.{EachIs};
 ghost use Rattle.kn_serve.specs.Course.{CourseOf};
 ghost use Rattle.kn_serve.specs.Opening.{IsEmptyWork};
 ghost use Rattle.kn_serve.specs.Setup.{HasBrokenOff};

@@ -1,7 +1,7 @@
 //! A run of a session over several revisions: the setups are read, each revision opened, the slots served, and the journals printed.
 ghost use Rattle.std.specs.Prelude.{◌≡◌, ◌≤◌, ◌^◌, length, map, IfOk};
+ghost use Rattle.kn_event.specs.Lists.{EachIs};
 ghost use Rattle.kn_io.specs.Causes.{Rose};
-ghost use Rattle.kn_session.specs.Lists.{EachIs};
 ghost use Rattle.kn_serve.specs.Many.{AreOpenedAt, IsInWideRange, IsReadyFor};
 ghost use Rattle.kn_serve.specs.ManyCourse.{CourseAll};
 ghost use Rattle.kn_serve.specs.Setup.{HasBrokenOff};

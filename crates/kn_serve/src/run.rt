@@ -1,12 +1,12 @@
 //! A run of a session: its setup is read, its revision opened, its slots served, and its journal printed.
 ghost use Rattle.std.specs.Prelude.{◌≡◌, ◌≤◌, ◌^◌, length, IfOk};
+ghost use Rattle.kn_event.specs.Lists.{EachIs};
 ghost use Rattle.kn_io.specs.Causes.{Rose};
 ghost use Rattle.kn_trace.specs.Events.{opening};
 ghost use Rattle.kn_trace.specs.Trace.{Trace};
 ghost use Rattle.kn_core.specs.State.{StandsFor};
+ghost use Rattle.kn_core.specs.Gauges.{count_live};
 ghost use Rattle.kn_cell.specs.Books.{IsOpenedBy};
-ghost use Rattle.kn_cell.specs.History.{live_of};
-ghost use Rattle.kn_session.specs.Lists.{EachIs};
 ghost use Rattle.kn_serve.specs.Course.{CourseBy};
 ghost use Rattle.kn_serve.specs.Opening.{IsEmptyWork};
 ghost use Rattle.kn_serve.specs.Running.{IsInRange, IsStart};
@@ -49,7 +49,7 @@ pub fn open_revision(alloc: Global, spec: &Spec, start: u64) -> Result<Revision,
     ensures spec { IfOk result (λ r. r.spec ≡ spec.now) }
     ensures clock { IfOk result (λ r. r.clock ≡ start) }
     ensures events { IfOk result (λ r. r.events ≡ 0) }
-    ensures live { IfOk result (λ r. (c : Trace) → StandsFor r c → live_of c ≡ 0) }
+    ensures live { IfOk result (λ r. (c : Trace) → StandsFor r c → count_live c ≡ 0) }
 {
     match open_logged(alloc, spec, start) {
         Ok((revision, _)) => Ok(revision),
@@ -64,7 +64,7 @@ pub fn open_logged(alloc: Global, spec: &Spec, start: u64) -> Result<(Revision, 
     ensures spec { IfOk result (λ r. r.0.spec ≡ spec.now) }
     ensures clock { IfOk result (λ r. r.0.clock ≡ start) }
     ensures events { IfOk result (λ r. r.0.events ≡ 0) }
-    ensures live { IfOk result (λ r. (c : Trace) → StandsFor r.0 c → live_of c ≡ 0) }
+    ensures live { IfOk result (λ r. (c : Trace) → StandsFor r.0 c → count_live c ≡ 0) }
     ensures opened { IfOk result (λ r. IsOpenedBy r.0 r.1) }
 {
     let mut log = match EntryLog::new(alloc) {

@@ -2,8 +2,9 @@
 ghost use Rattle.std.specs.Prelude.{◌≡◌, ◌≤◌, Err, IfOk, OnOk, length};
 ghost use Rattle.kn_journal.specs.Bundle.{AreSetups};
 ghost use Rattle.kn_journal.specs.Journal.{IsSetup};
+ghost use Rattle.kn_journal.specs.Reading.{EndsThere};
 ghost use Rattle.kn_serve.specs.Front.{SaysFront};
-ghost use Rattle.kn_serve.specs.Setup.{HasBrokenOff, IsReadOut, SaysSetup};
+ghost use Rattle.kn_serve.specs.Setup.{HasBrokenOff, SaysSetup};
 ghost use Rattle.kn_serve.specs.Setups.{SaysSetups};
 
 use kn_event::Memory;
@@ -15,7 +16,7 @@ use std::alloc::Global;
 pub fn read_setup<S: Source>(alloc: Global, source: &mut S) -> Result<Setup, JournalError>
     ensures says { SaysSetup (S.left source.old) result }
     ensures kept { IfOk result IsSetup }
-    ensures whole { OnOk result (IsReadOut (S.left source.old) (S.left source.new)) }
+    ensures whole { OnOk result (EndsThere (S.left source.old) (S.left source.new)) }
     ensures fault { result ≡ Err JournalError.ReadFault → HasBrokenOff S.Faulty.faults S.given source }
     ensures never_falls { S.Faulty.faults source.old ≤ S.Faulty.faults source.new }
 {
@@ -56,7 +57,7 @@ pub fn read_setups<S: Source>(
     ensures says { SaysSetups count (S.left source.old) result }
     ensures kept { IfOk result AreSetups }
     ensures many { IfOk result (λ setups. length setups ≡ count) }
-    ensures whole { OnOk result (IsReadOut (S.left source.old) (S.left source.new)) }
+    ensures whole { OnOk result (EndsThere (S.left source.old) (S.left source.new)) }
     ensures fault { result ≡ Err JournalError.ReadFault → HasBrokenOff S.Faulty.faults S.given source }
     ensures never_falls { S.Faulty.faults source.old ≤ S.Faulty.faults source.new }
 {

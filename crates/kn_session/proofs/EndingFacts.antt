@@ -9,7 +9,7 @@ use Rattle.kn_core.specs.State.{RevisionState, StandsFor}
 use Rattle.kn_cell.specs.declared.past.Past.{Past}
 use Rattle.kn_cell.specs.declared.past.Full.{Full}
 use Rattle.kn_cell.specs.Lists.{Each}
-use Rattle.kn_cell.specs.History.{live_of, room_for, trace_after}
+use Rattle.kn_cell.specs.History.{room_for, trace_after}
 use Rattle.kn_cell.specs.Shown.{PassView, Misfits}
 use Rattle.kn_io.specs.Causes.{Rose}
 use Rattle.kn_io.specs.Links.{Link}
@@ -24,6 +24,7 @@ use Rattle.kn_request.specs.declared.meant.Meant.TheVariants as meant
 use Rattle.kn_request.specs.declared.slot.Served.{Served}
 use Rattle.kn_request.specs.declared.slot.Served.TheVariants as served
 use Rattle.kn_io.specs.Callers.{texts_of}
+use Rattle.kn_core.specs.Gauges.{count_live}
 use Rattle.kn_request.specs.Outside.{Said}
 use Rattle.kn_request.specs.Requests.{AreCancels, AreFinishes}
 use Rattle.kn_request.specs.Served.{HasArrived, IsServed, IsCourse}
@@ -230,7 +231,7 @@ short_whole b room h x = record {
   front = x.front;
   early = x.early;
   short = λ c st.
-      let live = live_of (trace_after b.spec c x.front) in
+      let live = count_live (trace_after b.spec c x.front) in
       let less = x.short c st in
       let left = left_whole false room x.gone (length x.front) live refl (x.plain refl) in
       omega (arith, less, left);
@@ -262,13 +263,13 @@ rounds_full laws h k terms spec tag (s ∷ ss) p q a b x r has =
       | inl z ↦
           let o = subst (λ (v : Served). ServesGuest (terms a.faults r.1.faults) spec tag p m a.wire r.1.wire a.said r.1.said v) z.1 r.2.served in
           let mis = misfits_of (terms a.faults r.1.faults) spec tag p m a.wire r.1.wire a.said r.1.said z.0 o in
-          let Short : Kind → Type 0 = λ v. (c : Trace) → StandsFor v.opening c → room_for v.lasting v.room m.gone (length m.seen) (live_of (trace_after v.opening.spec c m.seen)) < 2 in
+          let Short : Kind → Type 0 = λ v. (c : Trace) → StandsFor v.opening c → room_for v.lasting v.room m.gone (length m.seen) (count_live (trace_after v.opening.spec c m.seen)) < 2 in
           let same = (next_of p m r.2.later).kind in
           let short : Short (kind_of p) = λ c st.
           (let t = trace_after p.opening.spec c m.seen in
           let less = mis.short c st in
           let n = laws.need t tag in
-          let e = ap (λ (v : Kind). room_for v.lasting v.room m.gone (length m.seen) (live_of t)) same in
+          let e = ap (λ (v : Kind). room_for v.lasting v.room m.gone (length m.seen) (count_live t)) same in
           omega (arith, less, n, e)) in
           record { front = m.seen; early = r.2.then.front; gone = m.gone; most = y.most; plain = y.plain; short = subst Short x.kind short }
       | inr z ↦ rounds_full laws h k terms spec (tag + 1) ss m q r.1 b y r.3 z

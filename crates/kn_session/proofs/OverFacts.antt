@@ -4,6 +4,7 @@ use Rattle.std.specs.Prelude.{Option, Some, slice_index_or, ⊤}
 use Rattle.std.proofs.lemmas.Bool.{cases_lt}
 use Rattle.atomic_table.specs.Seated.{TableId}
 use Rattle.kn_event.specs.declared.revision.Spec.{Spec}
+use Rattle.kn_event.specs.Lists.{EachIs}
 use Rattle.kn_core.specs.State.{RevisionState}
 use Rattle.kn_cell.specs.declared.past.Past.{Past}
 use Rattle.kn_cell.specs.Lists.{Each, StartsWith}
@@ -15,7 +16,7 @@ use Rattle.kn_request.specs.Wide.{TicksOf}
 use Rattle.kn_session.specs.Attending.{ClosesAll, first_of}
 use Rattle.kn_session.specs.Lasting.{Lasted, SlotLasted}
 use Rattle.kn_session.specs.Laws.{SessionLaws}
-use Rattle.kn_session.specs.Lists.{EachDone, EachIs}
+use Rattle.kn_session.specs.Lists.{EachDone}
 use Rattle.kn_session.specs.Passes.{HasLone, IsBlank, IsEmptied, IsFirst, IsGiven, IsGivenOf, IsKept, IsNewOf, IsUnmarked, Kind, kind_of, plain_kind}
 use Rattle.kn_session.specs.Rounds.{AllRounds, HasTexts, IsPaced, Sides}
 use Rattle.kn_session.specs.Session.{IsClosedAs, IsFine, SlotServed}

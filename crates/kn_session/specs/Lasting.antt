@@ -4,10 +4,11 @@ use Rattle.kn_event.specs.declared.revision.Spec.{Spec}
 use Rattle.kn_trace.specs.Trace.{Trace}
 use Rattle.kn_core.specs.State.{RevisionState, StandsFor}
 use Rattle.kn_cell.specs.declared.past.Past.{Past}
-use Rattle.kn_cell.specs.History.{live_of, room_for, trace_after}
+use Rattle.kn_cell.specs.History.{room_for, trace_after}
 use Rattle.kn_cell.specs.Lists.{Each, StartsWith}
 use Rattle.kn_cell.specs.Shown.{PassView}
 use Rattle.kn_io.specs.Links.{Link}
+use Rattle.kn_core.specs.Gauges.{count_live}
 use Rattle.kn_request.specs.declared.slot.Slot.{Slot}
 use Rattle.kn_request.specs.Terms.{Terms}
 use Rattle.kn_session.specs.Changes.{Change, became, was}
@@ -24,7 +25,7 @@ pub record WasShortIn (k : Kind) (h : List Past) : Type 0 where
   pub gone : ℕ
   pub most : gone ≤ length front
   pub plain : k.lasting ≡ false → gone ≡ 0
-  pub short : (c : Trace) → StandsFor k.opening c → room_for k.lasting k.room gone (length front) (live_of (trace_after k.opening.spec c front)) < 2
+  pub short : (c : Trace) → StandsFor k.opening c → room_for k.lasting k.room gone (length front) (count_live (trace_after k.opening.spec c front)) < 2
 
 -- slot i was served as many rounds as its pace says, by a new pass of its own, the first with this tag. The rows that the pass
 -- made are those of the history with its number, and what it knew after each round holds of the whole history

@@ -6,10 +6,6 @@ abbrev pub HasOne : {A : Type 0} → (A → Type 0) → List A → Type 0
 HasOne {A} P [] = ⊥
 HasOne {A} P (x ∷ xs) = P x ⊎ HasOne P xs
 
--- each member has it
-abbrev pub EachIs : {A : Type 0} → (A → Type 0) → List A → Type 0
-EachIs {A} P xs = (i : ℕ) (d : A) → i < length xs → P (slice_index_or xs i d)
-
 -- each member has it at its place
 abbrev pub EachAt : {A : Type 0} → (ℕ → A → Type 0) → List A → Type 0
 EachAt {A} P xs = (i : ℕ) (d : A) → i < length xs → P i (slice_index_or xs i d)

@@ -8,10 +8,11 @@ use Rattle.kn_trace.specs.Trace.{Trace}
 use Rattle.kn_core.specs.State.{RevisionState, StandsFor}
 use Rattle.kn_cell.specs.declared.past.Past.{Past}
 use Rattle.kn_cell.specs.Lists.{Each, StartsWith}
-use Rattle.kn_cell.specs.History.{IsInBounds, IsLegal, clock_after, live_of, rows_by, trace_after}
+use Rattle.kn_cell.specs.History.{IsInBounds, IsLegal, clock_after, rows_by, trace_after}
 use Rattle.kn_cell.specs.Shown.{Closes, PassView}
 use Rattle.kn_io.specs.Links.{Link, Tells}
 use Rattle.kn_io.specs.declared.records.Probe.{Probe}
+use Rattle.kn_core.specs.Gauges.{count_live}
 use Rattle.kn_request.specs.declared.slot.Slot.{Slot}
 use Rattle.kn_request.specs.Pods.{IsStarting}
 use Rattle.kn_request.specs.Terms.{watched}
@@ -43,7 +44,7 @@ pub record IsAfter (b : RevisionState) (h : List Past) (now : RevisionState) : T
 pub record WasShort (b : RevisionState) (room : ℕ) (h : List Past) : Type 0 where
   pub front : List Past
   pub early : StartsWith h front
-  pub short : (c : Trace) → StandsFor b c → room - length front - live_of (trace_after b.spec c front) < 2
+  pub short : (c : Trace) → StandsFor b c → room - length front - count_live (trace_after b.spec c front) < 2
 
 -- the row is no finish of a request that failed
 abbrev pub IsFine : Past → Type 0
@@ -129,7 +130,7 @@ pub record IsTickedIn (reading : ℕ → Type 0) (start : ℕ) (k : Kind) (h : L
 
 -- a revision with no live request, and with room for events
 pub record MayBegin (b : RevisionState) : Type 0 where
-  pub live : (c : Trace) → StandsFor b c → live_of c ≡ 0
+  pub live : (c : Trace) → StandsFor b c → count_live c ≡ 0
   pub events : b.events < 2 ^ 53
 
 -- the whole history that the last pass of a cell closed it with, and the revision then

@@ -3,6 +3,7 @@ use Rattle.std.specs.List.{list_any}
 use Rattle.std.specs.Prelude.{ℕ, ◌≡◌, ◌⊎◌, ◌≤◌, ◌<◌, ◌+◌, ◌*◌, ◌==◌, ◌&&◌, List, [], ◌∷◌, length, map, Option, None, Some, Bool, true, false, slice_index_or, Vec}
 use Rattle.std.specs.Global.{Global}
 use Rattle.kn_event.specs.declared.revision.Spec.{Spec}
+use Rattle.kn_event.specs.Lists.{EachIs}
 use Rattle.kn_core.specs.State.{RevisionState}
 use Rattle.kn_cell.specs.declared.past.Past.{Past}
 use Rattle.kn_cell.specs.Lists.{Each}
@@ -15,7 +16,7 @@ use Rattle.kn_request.specs.Outside.{Said, said}
 use Rattle.kn_request.specs.Wide.{ServesWide, WideCauses, at_count, at_pass, at_wire, faults_in, memories_in}
 use Rattle.kn_session.specs.declared.wide_setting.WideSetting.{WideSetting}
 use Rattle.kn_session.specs.Changes.{Change, became, was}
-use Rattle.kn_session.specs.Lists.{EachDone, EachIs, HasOne}
+use Rattle.kn_session.specs.Lists.{EachDone, HasOne}
 use Rattle.kn_session.specs.Own.{Lasts}
 use Rattle.kn_session.specs.Passes.{IsNew}
 use Rattle.kn_session.specs.Rounds.{HasTexts, IsFullOf, is_fault, is_memory}

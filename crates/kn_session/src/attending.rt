@@ -1,7 +1,7 @@
 //! The attendants of a session beside its slots.
 ghost use Rattle.std.specs.Prelude.{◌≡◌, ◌≤◌, ◌^◌, length};
+ghost use Rattle.kn_event.specs.Lists.{EachIs};
 ghost use Rattle.kn_session.specs.Attending.{HasAttended};
-ghost use Rattle.kn_session.specs.Lists.{EachIs};
 ghost use Rattle.kn_session.specs.Passes.{HasPass};
 ghost use Rattle.kn_session.specs.Rounds.{HaveServed};
 ghost use Rattle.kn_session.specs.Session.{HasTicked};

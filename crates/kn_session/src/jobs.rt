@@ -1,6 +1,7 @@
 //! The slots beside each other in threads.
 ghost use Rattle.std.specs.Prelude.{◌≤◌, ◌<◌, ◌^◌, ℕ, length};
-ghost use Rattle.kn_session.specs.Lists.{EachDone, EachIs};
+ghost use Rattle.kn_event.specs.Lists.{EachIs};
+ghost use Rattle.kn_session.specs.Lists.{EachDone};
 ghost use Rattle.kn_session.specs.Passes.{HasPass};
 ghost use Rattle.kn_session.specs.Rounds.{HasServed};
 

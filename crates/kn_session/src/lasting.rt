@@ -1,10 +1,10 @@
 //! A whole session that goes on.
 ghost use Rattle.std.specs.Prelude.{◌≡◌, ◌≢◌, ◌≤◌, ◌+◌, ◌^◌, length, None, IfOk, OnErr};
+ghost use Rattle.kn_event.specs.Lists.{EachIs};
 ghost use Rattle.kn_cell.specs.Books.{IsOpenedBy};
 ghost use Rattle.kn_cell.specs.Shown.{PassView};
 ghost use Rattle.kn_request.specs.Terms.{watched};
 ghost use Rattle.kn_session.specs.Lasting.{AreLasted, KeeperLasted, Lasted};
-ghost use Rattle.kn_session.specs.Lists.{EachIs};
 ghost use Rattle.kn_session.specs.Passes.{IsNewLasting, IsScribes, IsUnmarked, lasting_kind};
 ghost use Rattle.kn_session.specs.Rounds.{IsPaced};
 ghost use Rattle.kn_session.specs.Session.{MayBegin};

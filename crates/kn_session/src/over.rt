@@ -1,11 +1,12 @@
 //! A session over a cell, from its first pass to the last row.
 ghost use Rattle.std.specs.Prelude.{◌≡◌, ◌≤◌, ◌+◌, ◌^◌, [], length, None};
+ghost use Rattle.kn_event.specs.Lists.{EachIs};
 ghost use Rattle.kn_cell.specs.Lists.{Each};
 ghost use Rattle.kn_cell.specs.Shown.{PassView};
 ghost use Rattle.kn_request.specs.Terms.{watched};
 ghost use Rattle.kn_session.specs.Attending.{ClosesAll, first_of};
 ghost use Rattle.kn_session.specs.Lasting.{AreLasted, KeeperLasted, Lasted};
-ghost use Rattle.kn_session.specs.Lists.{EachAt, EachDone, EachIs};
+ghost use Rattle.kn_session.specs.Lists.{EachAt, EachDone};
 ghost use Rattle.kn_session.specs.Passes.{HasLone, IsEmptied, IsFirst, IsLone, IsNewOf, IsUnmarked, kind_of};
 ghost use Rattle.kn_session.specs.Rounds.{IsPaced};
 

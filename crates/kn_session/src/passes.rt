@@ -1,7 +1,8 @@
 //! How the slots get their passes, and how these come back.
 ghost use Rattle.std.specs.Prelude.{◌≡◌, ◌≤◌, ◌<◌, ◌-◌, length, Some};
+ghost use Rattle.kn_event.specs.Lists.{EachIs};
 ghost use Rattle.kn_cell.specs.Shown.{PassView};
-ghost use Rattle.kn_session.specs.Lists.{EachDone, EachIs};
+ghost use Rattle.kn_session.specs.Lists.{EachDone};
 ghost use Rattle.kn_session.specs.Passes.{HasPass, IsBlank, IsEmptied, IsGiven, IsGivenOf, IsNewOf, found_in, joined_all, kind_of, where_some};
 ghost use Rattle.kn_session.specs.WidePasses.{IsTakenOut};
 

@@ -1,7 +1,7 @@
 //! A whole session over one revision.
 ghost use Rattle.std.specs.Prelude.{◌≡◌, ◌≤◌, length, None, IfOk, OnErr};
+ghost use Rattle.kn_event.specs.Lists.{EachIs};
 ghost use Rattle.kn_cell.specs.Lists.{Each};
-ghost use Rattle.kn_session.specs.Lists.{EachIs};
 ghost use Rattle.kn_session.specs.Passes.{IsUnmarked};
 ghost use Rattle.kn_session.specs.Session.{AreServed, IsAfter, IsFine, IsOneHistory, KeeperServed, MayBegin};
 

@@ -1,7 +1,7 @@
 //! A whole session over several revisions.
 ghost use Rattle.std.specs.Prelude.{◌≡◌, ◌≤◌, ℕ, length, None, IfOk, OnErr};
+ghost use Rattle.kn_event.specs.Lists.{EachIs};
 ghost use Rattle.kn_request.specs.Wide.{at_pass, passes_in};
-ghost use Rattle.kn_session.specs.Lists.{EachIs};
 ghost use Rattle.kn_session.specs.Session.{MayBegin};
 ghost use Rattle.kn_session.specs.Wide.{AreOneEach, AreFine, AreHistories, StayMany, AreServedWide, HasOfEach, KeepersServed};
 

@@ -1,7 +1,7 @@
 //! The slots over several revisions beside each other in threads, and the ticker of all revisions beside them.
 ghost use Rattle.std.specs.Prelude.{◌≡◌, ◌≤◌, length};
+ghost use Rattle.kn_event.specs.Lists.{EachIs};
 ghost use Rattle.kn_request.specs.Wide.{ArePassesOf};
-ghost use Rattle.kn_session.specs.Lists.{EachIs};
 ghost use Rattle.kn_session.specs.WidePasses.{HasServedWide, HaveAllTicked, HaveServedWide, IsReadySlot};
 
 use crate::jobs::{Job, beside};

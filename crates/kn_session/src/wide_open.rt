@@ -1,6 +1,6 @@
 //! The cells of several revisions, and what is held beside them.
 ghost use Rattle.std.specs.Prelude.{◌≡◌, ◌≤◌, [], length, vec_capacity, IfOk};
-ghost use Rattle.kn_session.specs.Lists.{EachIs};
+ghost use Rattle.kn_event.specs.Lists.{EachIs};
 ghost use Rattle.kn_session.specs.Session.{MayBegin};
 ghost use Rattle.kn_session.specs.WidePasses.{AreOpen, IsOpen, IsReserved};
 

@@ -1,6 +1,7 @@
 //! How the slots get a pass of each revision, and how these come back.
 ghost use Rattle.std.specs.Prelude.{◌≡◌, ◌<◌, ◌-◌, length};
-ghost use Rattle.kn_session.specs.Lists.{EachDone, EachIs};
+ghost use Rattle.kn_event.specs.Lists.{EachIs};
+ghost use Rattle.kn_session.specs.Lists.{EachDone};
 ghost use Rattle.kn_session.specs.WidePasses.{EachGave, EachGiven, EachMayGive, EachOf, EachTakenOut, EachTook, EachTookAll, HasSame, IsGivenBy, MayGive, gave};
 ghost use Rattle.kn_request.specs.Wide.{ArePassesOf, passes_in};
 

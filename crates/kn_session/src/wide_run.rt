@@ -1,7 +1,7 @@
 //! The slots and the ticker over cells that were opened, from the first pass handed out to the last one taken back.
 ghost use Rattle.std.specs.Prelude.{◌≡◌, ◌≤◌, ◌<◌, length};
+ghost use Rattle.kn_event.specs.Lists.{EachIs};
 ghost use Rattle.kn_request.specs.Wide.{ArePassesOf};
-ghost use Rattle.kn_session.specs.Lists.{EachIs};
 ghost use Rattle.kn_session.specs.Wide.{HasOfEach};
 ghost use Rattle.kn_session.specs.WidePasses.{EachMayGive, HaveAllTicked, HaveRun};
 

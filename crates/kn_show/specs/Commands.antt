@@ -4,10 +4,10 @@ use Rattle.std.specs.Str.{bytes_eq}
 use Rattle.kn_event.specs.Numbers.{number_of}
 use Rattle.kn_journal.specs.declared.status.Status.{Status}
 use Rattle.kn_journal.specs.declared.status.Status.TheVariants as status
+use Rattle.kn_journal.specs.Reading.{EndsThere}
 use Rattle.kn_teller.specs.Manner.{Manner}
 use Rattle.kn_follow.specs.Account.{account_of}
 use Rattle.kn_follow.specs.Cutting.{LeavesCut}
-use Rattle.kn_follow.specs.Endings.{EndsThere}
 use Rattle.kn_follow.specs.Following.{FollowsInput}
 use Rattle.kn_show_reasons.specs.Reasons.{reasons}
 use Rattle.kn_show_requests.specs.Requests.{requests}

@@ -9,17 +9,18 @@ use Rattle.kn_event.specs.declared.entry.Row.{Row}
 use Rattle.kn_event.specs.declared.entry.Row.TheVariants as row
 use Rattle.kn_event.specs.declared.event.Event.{Event}
 use Rattle.kn_event.specs.declared.revision.Spec.{Spec}
+use Rattle.kn_event.specs.Lists.{contains}
 use Rattle.kn_trace.specs.Rows.{decision_by, ended_by}
 use Rattle.kn_trace.specs.Scale.{count_ready, phase_of, phase_since}
-use Rattle.kn_trace.specs.Trace.{Trace, contains, live, pod_of}
-use Rattle.kn_laws.specs.Kinds.{is_expire_row}
+use Rattle.kn_trace.specs.Trace.{Trace, live, pod_of}
+use Rattle.kn_trace.specs.Report.{is_expire}
 use Rattle.kn_lives.specs.declared.lives.Life.{Life}
-use Rattle.kn_lives.specs.Lives.{AreKnown, AreLiveBy, by_row, life_in}
+use Rattle.kn_lives.specs.Lives.{AreKnown, AreLiveBy, arrived_at, by_row, life_in}
 use Rattle.kn_show_reasons.specs.declared.notice.Notice.{Notice}
 use Rattle.kn_show_reasons.specs.declared.notice.Notice.TheVariants as notice
 use Rattle.kn_reason.specs.declared.reason.Reason.{Reason}
 use Rattle.kn_show_reasons.specs.declared.seen.Seen.{Seen}
-use Rattle.kn_show_reasons.specs.Notices.{arrived_at, arrived_in, notice_by, notice_line, notice_where, pod_in, pod_where}
+use Rattle.kn_show_reasons.specs.Notices.{arrived_in, notice_by, notice_line, notice_where, pod_in, pod_where}
 use Rattle.kn_show_reasons.specs.Reasons.{line, row_text, rows_text, text_where}
 use Rattle.kn_show_reasons.specs.Sentences.{sentences_of}
 use Rattle.kn_show_reasons.specs.State.{SeesPhase}
@@ -52,7 +53,7 @@ module _ (es : List Event) (c : Trace) (l : List (ℕ × Life)) (known : AreKnow
   unfolding life_in
   pod_same r alive = ap pod_where (known r alive)
 
-  same_row : (s : Spec) (x : Seen) (t : ℕ) (y : Row) → AreLiveBy ended_by c y → SeesPhase x c → (is_expire_row y ≡ true → x.ready ≡ count_ready c)
+  same_row : (s : Spec) (x : Seen) (t : ℕ) (y : Row) → AreLiveBy ended_by c y → SeesPhase x c → (is_expire y ≡ true → x.ready ≡ count_ready c)
       → row_text s x.phase x.since (arrived_in l) (pod_in l) x.ready t y ≡ row_text s (phase_of c) (phase_since c) (arrived_at c) (pod_of c) (count_ready c) t y
   same_row s x t (row.Decided d) alive sees ready =
       ap (λ (p : Option Phase). sentences_text t (sentences_of s t p x.since d)) sees.phase ∙ ap (sentences_text t) (sentences_same s t (phase_of c) x.since (phase_since c) d sees.since)
@@ -63,7 +64,7 @@ module _ (es : List Event) (c : Trace) (l : List (ℕ × Life)) (known : AreKnow
   same_row s x t (row.LostRequest r) alive sees ready = ap (λ (o : Option ℕ). notice_line t (notice.Lost r o)) (pod_same r (alive r refl))
   same_row s x t _ alive sees ready = refl
 
-  pub same_text : (s : Spec) (x : Seen) (e : Entry) → AreLiveBy ended_by c e.row → SeesPhase x c → (is_expire_row e.row ≡ true → x.ready ≡ count_ready c)
+  pub same_text : (s : Spec) (x : Seen) (e : Entry) → AreLiveBy ended_by c e.row → SeesPhase x c → (is_expire e.row ≡ true → x.ready ≡ count_ready c)
       → row_text s x.phase x.since (arrived_in l) (pod_in l) x.ready e.time e.row ≡ line s c e
   unfolding line
   same_text s x e alive sees ready = same_row s x e.time e.row alive sees ready

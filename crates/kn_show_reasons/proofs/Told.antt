@@ -8,12 +8,12 @@ use Rattle.kn_trace.specs.Scale.{count_ready}
 use Rattle.kn_trace.specs.Trace.{Trace}
 use Rattle.kn_core.specs.State.{RevisionState}
 use Rattle.kn_laws.specs.Facts.{PartFacts}
-use Rattle.kn_lives.specs.Lives.{ComeInTurn, StayLives, tag_by}
+use Rattle.kn_lives.specs.Lives.{ComeInTurn, ComeNext, StayLives, tag_by}
 use Rattle.kn_past.specs.Changes.{leaves_pods}
 use Rattle.kn_teller.specs.Run.{IsStep, Run, later, trace}
 use Rattle.kn_show_reasons.specs.declared.seen.Seen.{Seen}
 use Rattle.kn_show_reasons.specs.Reasons.{event_text, rows_text}
-use Rattle.kn_show_reasons.specs.State.{AreReady, AreReasonsOf, ComeNext, Follows, Knows, ReasonsState}
+use Rattle.kn_show_reasons.specs.State.{AreReady, AreReasonsOf, Follows, Knows, ReasonsState}
 use Rattle.kn_show_reasons.proofs.Expiries.{ready_before}
 
 pub told_text : (r : Run) (e : Event) (rev : RevisionState) (log : Trace) (x : ReasonsState) (s : Spec) → s ≡ x.spec → AreReasonsOf x r → IsStep r e rev log → rows_text s (trace r) log ≡ event_text r e

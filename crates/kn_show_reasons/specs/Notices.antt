@@ -15,10 +15,6 @@ use Rattle.kn_reason.specs.Numbers.{pods_text}
 
 -- ---- of which row
 
--- when a request arrived
-abbrev pub arrived_at : Trace → ℕ → ℕ
-arrived_at c r = unwrap_or (time_of taken_by c r) 0
-
 -- of a row at this time, by when requests arrived, the pods that they were sent to, and how many pods are ready
 abbrev pub notice_by : Spec → (ℕ → ℕ) → (ℕ → Option ℕ) → ℕ → ℕ → Row → Option Notice
 notice_by s arrived pod ready t row.NoData = Some (notice.NoSample s.stable_s)

@@ -10,10 +10,10 @@ use Rattle.kn_trace.specs.Events.{react}
 use Rattle.kn_trace.specs.Rows.{decision_by}
 use Rattle.kn_trace.specs.Scale.{count_ready, phase_of, phase_since}
 use Rattle.kn_trace.specs.Trace.{Trace, pod_of}
-use Rattle.kn_lives.specs.Lives.{by_row}
+use Rattle.kn_lives.specs.Lives.{arrived_at, by_row}
 use Rattle.kn_teller.specs.Manner.{Manner}
 use Rattle.kn_teller.specs.Run.{Run, trace}
-use Rattle.kn_show_reasons.specs.Notices.{arrived_at, notice_by, notice_where}
+use Rattle.kn_show_reasons.specs.Notices.{notice_by, notice_where}
 use Rattle.kn_show_reasons.specs.Sentences.{sentences_of}
 use Rattle.kn_reason.specs.Texts.{sentences_text}
 

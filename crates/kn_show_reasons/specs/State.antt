@@ -6,8 +6,8 @@ use Rattle.kn_event.specs.declared.event.Event.{Event}
 use Rattle.kn_event.specs.declared.revision.Spec.{Spec}
 use Rattle.kn_trace.specs.Scale.{count_ready, phase_of, phase_since}
 use Rattle.kn_trace.specs.Trace.{Trace}
-use Rattle.kn_laws.specs.Kinds.{is_expire_row}
-use Rattle.kn_lives.specs.Lives.{AreLives, ComesNext}
+use Rattle.kn_trace.specs.Report.{is_expire}
+use Rattle.kn_lives.specs.Lives.{AreLives, ComeNext, ComesNext}
 use Rattle.kn_teller.specs.Run.{Run, trace}
 use Rattle.kn_show_reasons.specs.declared.seen.Seen.{Seen}
 
@@ -27,11 +27,7 @@ pub record Knows (x : Seen) (es : List Event) (c : Trace) : Type 0 where
 
 -- so many pods are ready wherever one of these rows expires a request
 abbrev pub AreReady : ℕ → Trace → List Entry → Type 0
-AreReady n c xs = (before rest : Trace) (x : Entry) → xs ≡ before ++ x ∷ rest → is_expire_row x.row ≡ true → n ≡ count_ready (c ++ before)
-
--- each of these rows comes next, one after the other
-abbrev pub ComeNext : Spec → List Event → ℕ → Trace → List Entry → Type 0
-ComeNext s es tag c xs = (before rest : Trace) (x : Entry) → xs ≡ before ++ x ∷ rest → ComesNext s es tag (c ++ before) x.row
+AreReady n c xs = (before rest : Trace) (x : Entry) → xs ≡ before ++ x ∷ rest → is_expire x.row ≡ true → n ≡ count_ready (c ++ before)
 
 -- what rows that come next need of what is kept before them
 pub record Follows (s : Spec) (es : List Event) (tag : ℕ) (x : Seen) (c : Trace) (xs : List Entry) : Type 0 where

@@ -5,7 +5,8 @@ use Rattle.std.specs.List.{filter, flat_map, range_with_len}
 use Rattle.std.proofs.lemmas.List.Concat.{flat_map-append}
 use Rattle.std.proofs.lemmas.List.Elements.{filter-append}
 use Rattle.kn_event.specs.declared.event.Event.{Event}
-use Rattle.kn_trace.specs.Trace.{Trace, arrivals, contains, live}
+use Rattle.kn_event.specs.Lists.{contains}
+use Rattle.kn_trace.specs.Trace.{Trace, arrivals, live}
 use Rattle.kn_lives.specs.declared.lives.Life.{Life}
 use Rattle.kn_lives.specs.Lives.{AreLives, life_at, life_in, life_of}
 use Rattle.kn_show_requests.specs.Requests.{live_below, live_text, live_told}

@@ -11,9 +11,10 @@ use Rattle.kn_event.specs.declared.entry.Entry.{Entry}
 use Rattle.kn_event.specs.declared.entry.Row.{Row}
 use Rattle.kn_event.specs.declared.entry.Row.TheVariants as row
 use Rattle.kn_event.specs.declared.revision.Spec.{Spec}
+use Rattle.kn_event.specs.Lists.{contains}
 use Rattle.kn_trace.specs.Laws.{HasNoOutcome, IsFirstOutcome, IsLawful}
 use Rattle.kn_trace.specs.Rows.{arrived_by, ended_by, outcome_by, refused_by, taken_by}
-use Rattle.kn_trace.specs.Trace.{Trace, arrivals, contains, each_row, ended, live}
+use Rattle.kn_trace.specs.Trace.{Trace, arrivals, each_row, ended, live}
 use Rattle.kn_record.specs.Facts.{Facts}
 use Rattle.kn_record.specs.Made.{AreDistinct, IsMade, IsProper}
 

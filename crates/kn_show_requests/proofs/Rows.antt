@@ -10,9 +10,9 @@ use Rattle.kn_event.specs.declared.revision.Spec.{Spec}
 use Rattle.kn_trace.specs.Rows.{arrived_by, ended_by}
 use Rattle.kn_trace.specs.Trace.{Trace}
 use Rattle.kn_lives.specs.declared.lives.Life.{Life}
-use Rattle.kn_lives.specs.Lives.{AreKnown, AreLiveBy, ComesNext, by_row, life_at, life_in, tag_of}
+use Rattle.kn_lives.specs.Lives.{AreKnown, AreLiveBy, ComeNext, ComesNext, by_row, life_at, life_in, tag_of}
 use Rattle.kn_show_requests.specs.declared.told.Outcome.TheVariants as outcome
-use Rattle.kn_show_requests.specs.Requests.{ComeNext, ended, row_text, rows_text, told_by}
+use Rattle.kn_show_requests.specs.Requests.{ended, row_text, rows_text, told_by}
 use Rattle.kn_show_requests.specs.Texts.{line_where}
 
 -- ---- what a table of lives tells of a row is what the trace does

@@ -8,8 +8,8 @@ use Rattle.kn_trace.specs.Trace.{arrivals}
 use Rattle.kn_record.specs.Facts.{Facts}
 use Rattle.kn_core.specs.State.{RevisionState}
 use Rattle.kn_teller.specs.Run.{IsStep, Run, later, trace}
-use Rattle.kn_lives.specs.Lives.{ComeInTurn, tag_by, tags}
-use Rattle.kn_show_requests.specs.Requests.{ComeNext, end_text, event_text, live_below, rows_text}
+use Rattle.kn_lives.specs.Lives.{ComeInTurn, ComeNext, tag_by, tags}
+use Rattle.kn_show_requests.specs.Requests.{end_text, event_text, live_below, rows_text}
 use Rattle.kn_show_requests.proofs.Lives.{live_all}
 
 pub rows_come : (r : Run) (e : Event) (x : RevisionState) (log : List Entry) (tag : ℕ) → ComeInTurn r.spec r.start r.events e → tag ≡ unwrap_or (tag_by e.act) 0 → IsStep r e x log → ComeNext r.spec (later r e).events tag (trace r) log

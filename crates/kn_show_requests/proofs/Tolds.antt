@@ -13,10 +13,11 @@ use Rattle.kn_event.specs.declared.entry.Row.{Row}
 use Rattle.kn_event.specs.declared.entry.Row.TheVariants as row
 use Rattle.kn_event.specs.declared.event.Event.{Event}
 use Rattle.kn_event.specs.declared.revision.Spec.{Spec}
+use Rattle.kn_event.specs.Lists.{contains}
 use Rattle.kn_trace.specs.Events.{added, opening, react, trace_of}
 use Rattle.kn_trace.specs.Laws.{IsLawful}
 use Rattle.kn_trace.specs.Rows.{outcome_by}
-use Rattle.kn_trace.specs.Trace.{Trace, arrivals, contains, each_row, live}
+use Rattle.kn_trace.specs.Trace.{Trace, arrivals, each_row, live}
 use Rattle.kn_record.specs.Facts.{Facts}
 use Rattle.kn_record.specs.Made.{IsMade}
 use Rattle.kn_laws.specs.Facts.{PartFacts}

@@ -5,8 +5,9 @@ use Rattle.std.specs.Option.{option_to_list}
 use Rattle.kn_event.specs.declared.entry.Entry.{Entry}
 use Rattle.kn_event.specs.declared.event.Event.{Event}
 use Rattle.kn_event.specs.declared.revision.Spec.{Spec}
+use Rattle.kn_event.specs.Lists.{contains}
 use Rattle.kn_trace.specs.Events.{react}
-use Rattle.kn_trace.specs.Trace.{Trace, arrivals, contains, live}
+use Rattle.kn_trace.specs.Trace.{Trace, arrivals, live}
 use Rattle.kn_lives.specs.Lives.{by_row, life_in, tag_of}
 use Rattle.kn_teller.specs.Manner.{told}
 use Rattle.kn_teller.specs.Run.{Run, begun, later, trace}

@@ -6,8 +6,9 @@ use Rattle.kn_event.specs.declared.entry.Row.{Row}
 use Rattle.kn_event.specs.declared.entry.Row.TheVariants as row
 use Rattle.kn_event.specs.declared.event.Event.{Event}
 use Rattle.kn_event.specs.declared.revision.Spec.{Spec}
+use Rattle.kn_event.specs.Lists.{contains}
 use Rattle.kn_trace.specs.Events.{react}
-use Rattle.kn_trace.specs.Trace.{Trace, arrivals, contains, live}
+use Rattle.kn_trace.specs.Trace.{Trace, arrivals, live}
 use Rattle.kn_lives.specs.declared.lives.Life.{Life}
 use Rattle.kn_lives.specs.Lives.{ComesNext, by_row, life_in, tag_of}
 use Rattle.kn_teller.specs.Manner.{Manner}
@@ -87,11 +88,6 @@ row_text es c x = line_where (told_by (tag_of es) (λ r. Some (life_in es c r)) 
 
 unfoldable pub live_text : List Event → Trace → ℕ → List ℕ
 live_text es c r = line_text (live_told r (life_in es c r))
-
--- each of these rows comes next, one after the other
-abbrev pub ComeNext : Spec → List Event → ℕ → Trace → List Entry → Type 0
-ComeNext s es tag c xs = (before rest : Trace) (x : Entry)
-    → xs ≡ before ++ x ∷ rest → ComesNext s es tag (c ++ before) x.row
 
 -- the lines of these rows, after the trace
 unfoldable pub rows_text : List Event → Trace → List Entry → List ℕ

@@ -7,8 +7,8 @@ ghost use Rattle.kn_io.specs.Prefix.{AppendsPrefix};
 ghost use Rattle.kn_report.specs.Waiting.{Adds};
 ghost use Rattle.kn_trace.specs.Trace.{Trace};
 ghost use Rattle.kn_teller.specs.Run.{trace};
-ghost use Rattle.kn_lives.specs.Lives.{AreLives, life_at};
-ghost use Rattle.kn_show_requests.specs.Requests.{ComeNext, ended, live_below, live_told, requests, rows_text, told_by};
+ghost use Rattle.kn_lives.specs.Lives.{AreLives, ComeNext, life_at};
+ghost use Rattle.kn_show_requests.specs.Requests.{ended, live_below, live_told, requests, rows_text, told_by};
 ghost use Rattle.kn_show_requests.specs.Texts.{line_where};
 
 use crate::told::{Outcome, Told};

@@ -12,11 +12,12 @@ use Rattle.kn_event.specs.declared.revision.Spec.{Spec}
 use Rattle.kn_trace.specs.Events.{added, opening, react, trace_of}
 use Rattle.kn_trace.specs.Laws.{IsSettled}
 use Rattle.kn_trace.specs.Trace.{Trace, each_row}
+use Rattle.kn_trace.specs.Rows.{begun_by}
 use Rattle.kn_record.specs.Made.{IsMade}
 use Rattle.kn_record.specs.Order.{AreTimesInOrder}
 use Rattle.kn_record.specs.Rows.{counted}
 use Rattle.kn_laws.specs.History.{History}
-use Rattle.kn_lives.specs.Lives.{begun_by, by_row}
+use Rattle.kn_lives.specs.Lives.{by_row}
 use Rattle.kn_show_series.specs.Steps.{step_of, wait_in, wait_until, waits_in}
 use Rattle.kn_show_series.proofs.Lists.{length-each_row-append, length-each_row-cons, length-each_row-le}
 

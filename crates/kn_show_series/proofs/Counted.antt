@@ -10,8 +10,9 @@ use Rattle.kn_event.specs.declared.event.Event.{Event}
 use Rattle.kn_event.specs.declared.revision.Spec.{Spec}
 use Rattle.kn_trace.specs.Events.{react}
 use Rattle.kn_trace.specs.Trace.{Trace}
+use Rattle.kn_trace.specs.Rows.{begun_by}
 use Rattle.kn_lives.specs.declared.lives.Life.{Life}
-use Rattle.kn_lives.specs.Lives.{AddsRow, AreKnown, AreLiveBy, AreLives, ComeInTurn, ComesNext, StayLives, begun_by, by_row, life_at, life_in, tag_by}
+use Rattle.kn_lives.specs.Lives.{AddsRow, AreKnown, AreLiveBy, AreLives, ComeInTurn, ComesNext, StayLives, by_row, life_at, life_in, tag_by}
 use Rattle.kn_teller.specs.Run.{Run, later, trace}
 use Rattle.kn_show_series.specs.declared.counts.Counts.{Counts}
 use Rattle.kn_show_series.specs.declared.current.OpenStep.{OpenStep}

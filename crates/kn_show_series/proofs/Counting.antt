@@ -3,11 +3,10 @@ use Rattle.std.proofs.Common.{◌≡◌, ◌+◌, ◌-◌, ◌^◌, ℕ, List, [
 use Rattle.std.specs.Prelude.{min, max, sum}
 use Rattle.std.proofs.lemmas.List.Sums.{fold-append, sum_by-append}
 use Rattle.kn_event.specs.declared.entry.Entry.{Entry}
-use Rattle.kn_trace.specs.Rows.{arrived_by, decision_by, ended_by, refused_by}
+use Rattle.kn_trace.specs.Rows.{arrived_by, begun_by, decision_by, ended_by, expired_by, refused_by}
 use Rattle.kn_trace.specs.Trace.{Trace}
-use Rattle.kn_lives.specs.Lives.{begun_by}
 use Rattle.kn_show_series.specs.Counting.{with_cap, with_row}
-use Rattle.kn_show_series.specs.Steps.{counts_of, expired_by, failed_by}
+use Rattle.kn_show_series.specs.Steps.{counts_of, failed_by}
 use Rattle.kn_show_series.proofs.Lists.{length-each_row_push}
 
 cap_sum : (a b m : ℕ) → min (a + b) m ≡ min (min a m + b) m

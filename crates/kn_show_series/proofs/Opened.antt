@@ -9,18 +9,18 @@ use Rattle.kn_event.specs.declared.entry.Row.{Row}
 use Rattle.kn_event.specs.declared.event.Event.{Event}
 use Rattle.kn_event.specs.declared.revision.Spec.{Spec}
 use Rattle.kn_trace.specs.Events.{opening, trace_of}
-use Rattle.kn_trace.specs.Rows.{arrived_by, decision_by, ended_by, refused_by}
+use Rattle.kn_trace.specs.Rows.{arrived_by, begun_by, decision_by, ended_by, expired_by, refused_by}
 use Rattle.kn_trace.specs.Trace.{Trace, each_row, held, last_of}
 use Rattle.kn_core.specs.State.{RevisionState}
 use Rattle.kn_record.specs.Order.{AreTimesInOrder}
 use Rattle.kn_lives.specs.declared.lives.Life.{Life}
-use Rattle.kn_lives.specs.Lives.{AreLives, begun_by, by_row}
+use Rattle.kn_lives.specs.Lives.{AreLives, by_row}
 use Rattle.kn_teller.specs.Run.{IsOpened, Run, now_of, trace}
 use Rattle.kn_show_series.specs.declared.current.OpenStep.{OpenStep}
 use Rattle.kn_show_series.specs.declared.gauges.Gauges.{Gauges}
 use Rattle.kn_show_series.specs.Series.{open_step}
 use Rattle.kn_show_series.specs.State.{IsPast, IsSeriesOf, IsStepOf, IsUnopened, SeriesState}
-use Rattle.kn_show_series.specs.Steps.{counts_of, events_before, expired_by, failed_by, follows_filled, gauges_of, held_after, held_peak, is_filled, rows_in, step_of, wait_in, waits_in}
+use Rattle.kn_show_series.specs.Steps.{counts_of, events_before, failed_by, follows_filled, gauges_of, held_after, held_peak, is_filled, rows_in, step_of, wait_in, waits_in}
 use Rattle.kn_show_series.proofs.Bounds.{times_all}
 use Rattle.kn_show_series.proofs.Lists.{each_row-filter_none}
 

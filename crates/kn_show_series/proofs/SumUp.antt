@@ -8,16 +8,16 @@ use Rattle.kn_event.specs.declared.entry.Entry.{Entry}
 use Rattle.kn_event.specs.declared.entry.Row.{Row}
 use Rattle.kn_event.specs.declared.event.Event.{Event}
 use Rattle.kn_event.specs.declared.revision.Spec.{Spec}
-use Rattle.kn_trace.specs.Rows.{arrived_by, decision_by, ended_by, refused_by}
+use Rattle.kn_trace.specs.Rows.{arrived_by, begun_by, decision_by, ended_by, expired_by, refused_by}
 use Rattle.kn_trace.specs.Trace.{Trace, each_row}
 use Rattle.kn_record.specs.Order.{AreTimesInOrder}
 use Rattle.kn_laws.specs.History.{AreInOrder, GoesOn, IsMadeBy}
-use Rattle.kn_lives.specs.Lives.{begun_by, by_row}
+use Rattle.kn_lives.specs.Lives.{by_row}
 use Rattle.kn_teller.specs.Run.{Run, now_of, trace}
 use Rattle.kn_show_series.specs.declared.counts.Counts.{Counts}
 use Rattle.kn_show_series.specs.Laws.{SumUp, counts_at, over_lines_of, steps_with_line}
 use Rattle.kn_show_series.specs.Series.{open_step}
-use Rattle.kn_show_series.specs.Steps.{counts_in, counts_of, expired_by, failed_by, follows_filled, is_filled, is_shown, is_told, rows_in, step_of, wait_of, waits_in}
+use Rattle.kn_show_series.specs.Steps.{counts_in, counts_of, failed_by, follows_filled, is_filled, is_shown, is_told, rows_in, step_of, wait_of, waits_in}
 use Rattle.kn_show_series.proofs.Bounds.{times_all}
 use Rattle.kn_show_series.proofs.Events.{GoesByParts}
 use Rattle.kn_show_series.proofs.Lines.{range-append}

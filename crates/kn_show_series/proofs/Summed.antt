@@ -9,8 +9,9 @@ use Rattle.std.proofs.lemmas.List.Sums.{sum_by-append, sum_by-cons}
 use Rattle.kn_event.specs.declared.entry.Entry.{Entry}
 use Rattle.kn_event.specs.declared.entry.Row.{Row}
 use Rattle.kn_trace.specs.Trace.{Trace, each_row}
+use Rattle.kn_trace.specs.Rows.{begun_by}
 use Rattle.kn_record.specs.Rows.{counted}
-use Rattle.kn_lives.specs.Lives.{begun_by, by_row}
+use Rattle.kn_lives.specs.Lives.{by_row}
 use Rattle.kn_show_series.specs.Steps.{is_shown, rows_in, step_of, wait_in, wait_of}
 use Rattle.kn_show_series.proofs.Lists.{length-each_row-cons}
 

@@ -6,12 +6,11 @@ use Rattle.kn_event.specs.declared.entry.Entry.{Entry}
 use Rattle.kn_event.specs.declared.entry.Row.{Row}
 use Rattle.kn_event.specs.declared.entry.Row.TheVariants as row
 use Rattle.kn_trace.specs.Report.{is_admit, is_cancel, is_decision, is_direct, is_expire, is_failure, is_finish, is_loss, is_overload, is_queue_full, totals}
-use Rattle.kn_trace.specs.Rows.{arrived_by, decision_by, ended_by, refused_by}
+use Rattle.kn_trace.specs.Rows.{arrived_by, begun_by, decision_by, ended_by, expired_by, refused_by}
 use Rattle.kn_trace.specs.Trace.{Trace, each_row}
 use Rattle.kn_record.specs.Rows.{counted}
-use Rattle.kn_lives.specs.Lives.{begun_by}
 use Rattle.kn_show_series.specs.Laws.{arrived_in, ended_in, refused_in}
-use Rattle.kn_show_series.specs.Steps.{expired_by, failed_by}
+use Rattle.kn_show_series.specs.Steps.{failed_by}
 use Rattle.kn_show_series.proofs.Lists.{length-each_row-cons}
 use Rattle.kn_show_series.proofs.Summed.{IsSaidByShown, sum_both}
 

@@ -1,11 +1,10 @@
 -- What one more row changes of the counts of a step.
 use Rattle.std.specs.Prelude.{ℕ, ◌+◌, ◌-◌, ◌^◌, min, max, List, [], ◌∷◌, fold, sum, Option, None, Some}
 use Rattle.kn_event.specs.declared.entry.Row.{Row}
-use Rattle.kn_trace.specs.Rows.{arrived_by, decision_by, ended_by, refused_by}
+use Rattle.kn_trace.specs.Rows.{arrived_by, begun_by, decision_by, ended_by, expired_by, refused_by}
 use Rattle.kn_record.specs.Rows.{counted}
-use Rattle.kn_lives.specs.Lives.{begun_by}
 use Rattle.kn_show_series.specs.declared.counts.Counts.{Counts}
-use Rattle.kn_show_series.specs.Steps.{expired_by, failed_by}
+use Rattle.kn_show_series.specs.Steps.{failed_by}
 
 -- where a request begins to run, it had waited so long
 abbrev pub waits_by : Option ℕ → ℕ → List ℕ

@@ -4,7 +4,8 @@ use Rattle.std.specs.List.{filter, flat_map, range_with_len, sum_by}
 use Rattle.kn_event.specs.declared.event.Event.{Event}
 use Rattle.kn_trace.specs.Report.{Totals, totals}
 use Rattle.kn_trace.specs.Trace.{each_row}
-use Rattle.kn_lives.specs.Lives.{begun_by, by_row}
+use Rattle.kn_trace.specs.Rows.{begun_by}
+use Rattle.kn_lives.specs.Lives.{by_row}
 use Rattle.kn_teller.specs.Manner.{told}
 use Rattle.kn_teller.specs.Run.{Run, begun, trace}
 use Rattle.kn_show_series.specs.declared.counts.Counts.{Counts}

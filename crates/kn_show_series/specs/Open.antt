@@ -1,7 +1,7 @@
 -- An open step: how it opens, what a row and an event change of it, and its text.
 use Rattle.std.specs.Prelude.{ℕ, Bool, true, false, ◌||◌, max, List, []}
 use Rattle.kn_event.specs.declared.entry.Row.{Row}
-use Rattle.kn_lives.specs.Lives.{begun_by}
+use Rattle.kn_trace.specs.Rows.{begun_by}
 use Rattle.kn_show_series.specs.declared.gauges.Gauges.{Gauges}
 use Rattle.kn_show_series.specs.declared.current.OpenStep.{OpenStep}
 use Rattle.kn_show_series.specs.Counting.{waits_by, with_row}

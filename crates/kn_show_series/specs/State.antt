@@ -7,8 +7,9 @@ use Rattle.kn_event.specs.declared.event.Event.{Event}
 use Rattle.kn_event.specs.declared.revision.Spec.{Spec}
 use Rattle.kn_trace.specs.Events.{react}
 use Rattle.kn_trace.specs.Trace.{Trace}
+use Rattle.kn_trace.specs.Rows.{begun_by}
 use Rattle.kn_lives.specs.declared.lives.Life.{Life}
-use Rattle.kn_lives.specs.Lives.{AreLives, ComesNext, begun_by, by_row}
+use Rattle.kn_lives.specs.Lives.{AreLives, ComesNext, by_row}
 use Rattle.kn_teller.specs.Run.{Run, later, now_of, trace}
 use Rattle.kn_show_series.specs.declared.current.OpenStep.{OpenStep}
 use Rattle.kn_show_series.specs.Counting.{waits_by, with_cap}

@@ -9,11 +9,11 @@ use Rattle.kn_event.specs.declared.revision.Kind.{Kind}
 use Rattle.kn_event.specs.declared.revision.Kind.TheVariants as kind
 use Rattle.kn_event.specs.declared.revision.Spec.{Spec}
 use Rattle.kn_trace.specs.Events.{trace_of}
-use Rattle.kn_trace.specs.Rows.{arrived_by, decision_by, ended_by, refused_by, taken_by}
+use Rattle.kn_trace.specs.Rows.{arrived_by, begun_by, decision_by, ended_by, expired_by, refused_by, taken_by}
 use Rattle.kn_trace.specs.Scale.{count_ready, wanted}
 use Rattle.kn_trace.specs.Trace.{Trace, draining, each_row, held, starting_pods}
 use Rattle.kn_throttle.specs.Gauges.{count_queued, count_running}
-use Rattle.kn_lives.specs.Lives.{begun_by, by_row, time_of}
+use Rattle.kn_lives.specs.Lives.{by_row, time_of}
 use Rattle.kn_teller.specs.Run.{Run, trace}
 use Rattle.kn_show_series.specs.declared.counts.Counts.{Counts}
 use Rattle.kn_show_series.specs.declared.gauges.Gauges.{Gauges}
@@ -31,10 +31,6 @@ rows_in step start k c = filter (λ (x : Entry). step_of step start x.time == k)
 abbrev pub failed_by : Row → Option ℕ
 failed_by (row.Finish r false) = Some r
 failed_by _ = None
-
-abbrev pub expired_by : Row → Option ℕ
-expired_by (row.Expire r) = Some r
-expired_by _ = None
 
 -- the greatest of numbers, 0 of none
 abbrev pub greatest : List ℕ → ℕ

@@ -1,6 +1,6 @@
 //! What is counted within one step.
 ghost use Rattle.std.specs.Prelude.{◌≡◌, ◌+◌, ◌<◌, ◌≤◌, ◌^◌, ◌++◌, [], length, max};
-ghost use Rattle.kn_lives.specs.Lives.{begun_by};
+ghost use Rattle.kn_trace.specs.Rows.{begun_by};
 ghost use Rattle.kn_show_series.specs.Counting.{capped, size_of, waits_by, with_row};
 ghost use Rattle.kn_show_series.specs.Fields.{arrivals_text, begun_text, counts_text, ends_text, field};
 ghost use Rattle.kn_show_series.specs.Steps.{counts_of};

@@ -1,6 +1,6 @@
 //! The teller of the series, and the form that makes it.
 ghost use Rattle.std.specs.Prelude.{◌≡◌, ◌+◌, ◌<◌, ◌≤◌, ◌^◌, ◌↔◌, IfSome, IsSome};
-ghost use Rattle.kn_lives.specs.Lives.{begun_by};
+ghost use Rattle.kn_trace.specs.Rows.{begun_by};
 ghost use Rattle.kn_show_series.specs.Counting.{size_of};
 ghost use Rattle.kn_show_series.specs.State.{CountsRows, IsWaitOf};
 ghost use Rattle.kn_show_series.specs.Steps.{pods_of};

@@ -59,9 +59,3 @@ abbrev pub IsShown : Status → Type 0
 IsShown status.Ok = ⊤
 IsShown status.WriteFault = ⊤
 IsShown _ = ⊥
-
--- nothing was written
-abbrev pub IsUnshown : Status → Type 0
-IsUnshown status.Ok = ⊥
-IsUnshown status.WriteFault = ⊥
-IsUnshown _ = ⊤

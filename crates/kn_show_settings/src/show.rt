@@ -2,8 +2,9 @@
 ghost use Rattle.std.specs.Prelude.{◌≡◌, ◌⊎◌, ◌+◌, ◌≤◌};
 ghost use Rattle.kn_io.specs.Causes.{Rose};
 ghost use Rattle.kn_journal.specs.Reading.{most_taken};
+ghost use Rattle.kn_journal.specs.Status.{WritesNone};
 ghost use Rattle.kn_follow.specs.Endings.{IsRefusal, IsReplayed, LeavesBehind};
-ghost use Rattle.kn_show_settings.specs.Showing.{IsShown, IsUnshown, LeavesOpening, ShowsInput};
+ghost use Rattle.kn_show_settings.specs.Showing.{IsShown, LeavesOpening, ShowsInput};
 
 use crate::settings::settings_text;
 use kn_event::Memory;
@@ -21,7 +22,7 @@ pub fn show_settings<S: Source, O: Sink>(alloc: Global, source: &mut S, out: &mu
     ensures replayed { IsReplayed result }
     ensures left { IsShown result → LeavesOpening (S.left source.old) (S.left source.new) }
     ensures rest { IsRefusal result → LeavesBehind result (S.left source.old) (S.left source.new) }
-    ensures unshown { IsUnshown result → out.new ≡ out.old }
+    ensures unshown { WritesNone result → out.new ≡ out.old }
     ensures read_fault { result ≡ Status.ReadFault → Rose (S.Faulty.faults source.old) (S.Faulty.faults source.new) ⊎
         (S.given source.old + most_taken ≤ S.given source.new) }
     ensures write_fault { result ≡ Status.WriteFault → Rose (O.Faulty.faults out.old) (O.Faulty.faults out.new) }

@@ -5,9 +5,10 @@ use Rattle.kn_event.specs.declared.event.Event.{Event}
 use Rattle.kn_event.specs.declared.revision.Spec.{Spec}
 use Rattle.kn_trace.specs.Events.{react, trace_of}
 use Rattle.kn_trace.specs.Trace.{Trace, arrivals}
+use Rattle.kn_trace.specs.Rows.{begun_by}
 use Rattle.kn_lives.specs.declared.lives.Life.{Life}
-use Rattle.kn_lives.specs.Lives.{AreLives, ComesNext, begun_by, tag_by}
-use Rattle.kn_begun.specs.Begun.{arrival, waits}
+use Rattle.kn_lives.specs.Lives.{AreLives, ComesNext, arrived_at, tag_by}
+use Rattle.kn_begun.specs.Begun.{waits}
 use Rattle.kn_waits.specs.Waits.{AreWaits, WaitsState}
 use Rattle.kn_show_summary.specs.Counted.{CountsState, counted}
 
@@ -27,7 +28,7 @@ pub record AreRowsOf (x : RowsState) (s : Spec) (es : List Event) (c : Trace) : 
 pub record CanCount (s : Spec) (es : List Event) (tag : ℕ) (c : Trace) (x : Entry) : Type 0 where
   pub comes : ComesNext s es tag c x.row
   pub some : 0 < s.timeout_ms
-  pub in_time : (r : ℕ) → begun_by x.row ≡ Some r → x.time < arrival c r + s.timeout_ms
+  pub in_time : (r : ℕ) → begun_by x.row ≡ Some r → x.time < arrived_at c r + s.timeout_ms
   pub few : arrivals (c ++ x ∷ []) < 2 ^ 64
 
 -- one entry more, of whatever trace it is

@@ -1,8 +1,9 @@
 //! What is kept row by row: counts, waits, and who lives.
 ghost use Rattle.std.specs.Prelude.{◌≡◌, ◌+◌, ◌-◌, ◌<◌, ◌≤◌, ◌^◌, [], length, IfOk, OnOk, Some};
 ghost use Rattle.kn_event.specs.Revision.{AreInRange};
+ghost use Rattle.kn_trace.specs.Rows.{begun_by};
 ghost use Rattle.kn_lives.specs.declared.lives.Life.{Life as LifeValue};
-ghost use Rattle.kn_lives.specs.Lives.{begun_by, life_at};
+ghost use Rattle.kn_lives.specs.Lives.{life_at};
 ghost use Rattle.kn_waits.specs.Waits.{AddsWait};
 ghost use Rattle.kn_show_summary.specs.Rows.{AreRowsOf, CountsAll, CountsBegun, GoesOnBy, GoesOnUpTo};
 

@@ -11,7 +11,7 @@ use Rattle.kn_journal.specs.Drawing.{Draws, error_in}
 use Rattle.kn_journal.specs.Parts.{Part}
 use Rattle.kn_journal.specs.Reading.{Ahead}
 use Rattle.kn_journal.specs.Telling.{IsCauseOf, Judges}
-use Rattle.kn_sim.specs.Reading.{Anywhere}
+use Rattle.kn_journal.specs.LineCalls.{Anywhere}
 
 -- no fault of the source
 abbrev pub IsNoFault : Option JournalError → Type 0

@@ -20,8 +20,9 @@ use Rattle.kn_journal.specs.Lines.{fits, lines}
 use Rattle.kn_journal.specs.Parts.{Part, part, then_part, with_line}
 use Rattle.kn_journal.specs.Reading.{Ahead, TakesLine, most_taken, unread}
 use Rattle.kn_journal.specs.Telling.{Gives, IsCauseOf, Judges, Lacks, Refuses, Tells}
+use Rattle.kn_journal.specs.LineCalls.{Anywhere}
 use Rattle.kn_sim.specs.declared.workload.Workload.{Workload}
-use Rattle.kn_sim.specs.Reading.{Anywhere, TellsWorkload, boot_most, course_part, in_turn, job_of, jobs_most, jobs_part, named_line_in, named_of, named_part, next_job_in, next_job_part, until_most, workload_of, workload_part, workload_with}
+use Rattle.kn_sim.specs.Reading.{TellsWorkload, boot_most, course_part, in_turn, job_of, jobs_most, jobs_part, named_line_in, named_of, named_part, next_job_in, next_job_part, until_most, workload_of, workload_part, workload_with}
 use Rattle.kn_sim.proofs.Tellings.{lacks_refuses, line-gives, line-refuses, line-tells, refused-on, then-gives, then-refuses}
 
 -- ---- a line of a word and a number

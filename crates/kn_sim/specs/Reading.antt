@@ -19,6 +19,7 @@ use Rattle.kn_io.specs.declared.traits.Faulty.{Ghosts as Counted}
 use Rattle.kn_journal.specs.Drawing.{Draws}
 use Rattle.kn_journal.specs.Reading.{unread}
 use Rattle.kn_journal.specs.Telling.{LinesState, Refused, Tells}
+use Rattle.kn_journal.specs.LineCalls.{Anywhere}
 use Rattle.kn_sim.specs.declared.workload.Workload.{Workload}
 
 -- ---- a line of a word and a number
@@ -162,15 +163,3 @@ TellsWorkload (Some xs) (Err e) = Refused e (workload_of xs)
 abbrev pub OnJob : Result (Option Job) JournalError → (Job → Type 0) → Type 0
 OnJob (Ok (Some j)) P = P j
 OnJob _ P = ⊤
-
--- wherever it stopped
-abbrev pub Anywhere : Option (List ℕ) → Option (List ℕ) → Type 0
-Anywhere old new = ⊤
-
--- a call that reads this part of the lines behind the one read last
-abbrev pub Reads : {T : Type 0} → (ℕ → List (List ℕ) → Result (Part T) Cause) → LinesState → LinesState → Option (List ℕ) → Option (List ℕ) → Result T JournalError → Type 0
-Reads read old new before now r = Tells (read old.number) new.number (unread old.input before) (unread new.input now) r
-
--- .. and what it does to its input and to its source
-abbrev pub DrawsLines : {X : Type 0} → Option JournalError → LinesState → LinesState → Ghosts X → Counted X → X → X → Type 0
-DrawsLines e old new own faulty before now = Draws Anywhere e old.input new.input own faulty before now

@@ -15,19 +15,22 @@ use Rattle.kn_event.specs.declared.revision.Kind.{Kind}
 use Rattle.kn_event.specs.declared.revision.Kind.TheVariants as kind
 use Rattle.kn_event.specs.declared.revision.Spec.{Spec}
 use Rattle.kn_event.specs.Revision.{AreInRange}
+use Rattle.kn_event.specs.Lists.{contains}
 use Rattle.kn_scaling.specs.Decide.{Ruling}
 use Rattle.kn_scaling.specs.Zero.{pods_most}
+use Rattle.kn_scaling.specs.Burst.{is_same_mode}
 use Rattle.kn_trace.specs.Rows.{created_by, drained_by, ended_by, taken_by}
-use Rattle.kn_trace.specs.Trace.{Trace, entry, at_pod, contains, created, draining, each_row, held, is_empty, live, live_pods, ready_pods, waiting}
-use Rattle.kn_trace.specs.Scale.{creations, decision_at, decision_rows, drain_order, is_same_mode, is_same_phase, mode_of, phase_of, scale_rows, tick_rows, tick_rows_of, wake_decision_at, wake_rows, wanted, where_true}
+use Rattle.kn_trace.specs.Trace.{Trace, entry, at_pod, created, draining, each_row, held, is_empty, live, live_pods, ready_pods, waiting}
+use Rattle.kn_trace.specs.Scale.{creations, decision_at, decision_rows, drain_order, is_in_phase, mode_of, phase_of, scale_rows, tick_rows, tick_rows_of, wake_decision_at, wake_rows, wanted, where_true}
 use Rattle.kn_trace.specs.Settling.{held_assignments, promotions, removals, settling}
 use Rattle.kn_trace.specs.Events.{act_row, act_rows, activation, before_settling, departures, entries_of, expiries, live_most, react, scaler_rows, wake_where}
 use Rattle.kn_trace.specs.Laws.{IsSettled}
+use Rattle.kn_trace.specs.Report.{is_assign, is_expire}
 use Rattle.kn_record.specs.Made.{Holds, IsMade, IsProper}
 use Rattle.kn_record.specs.Rows.{counted}
 use Rattle.kn_record.specs.Kept.{Kept}
 use Rattle.kn_record.specs.Facts.{Facts}
-use Rattle.kn_laws.specs.Kinds.{Each, is_assign_row, is_departure_row, is_expire_row, is_remove_row, is_run_row, is_scaler_row, is_act_row}
+use Rattle.kn_laws.specs.Kinds.{Each, is_departure_row, is_remove_row, is_run_row, is_scaler_row, is_act_row}
 use Rattle.kn_laws.specs.Facts.{PartFacts}
 use Rattle.kn_sizes.proofs.Ends.{live-many}
 use Rattle.kn_sizes.proofs.Counts.{count-append, count-each, count-live, count-pods, draining-less, few_live, few_standing, leaves-list, leaves_by, live_pods-list, none-each}
@@ -110,7 +113,7 @@ departure_takes (row.Expire r) h = refl
 departure_takes (row.LostRequest r) h = refl
 departure_takes _ h = absurd (cc)
 
-expire_leaves : (x : Row) → is_expire_row x ≡ true → counted (leaves_by x) ≡ 1
+expire_leaves : (x : Row) → is_expire x ≡ true → counted (leaves_by x) ≡ 1
 expire_leaves (row.Expire r) h = refl
 expire_leaves _ h = absurd (cc)
 
@@ -118,11 +121,11 @@ run_leaves : (x : Row) → is_run_row x ≡ true → counted (leaves_by x) ≡ 1
 run_leaves (row.Run r) h = refl
 run_leaves _ h = absurd (cc)
 
-assign_leaves : (x : Row) → is_assign_row x ≡ true → counted (leaves_by x) ≡ 1
+assign_leaves : (x : Row) → is_assign x ≡ true → counted (leaves_by x) ≡ 1
 assign_leaves (row.Assign r p) h = refl
 assign_leaves _ h = absurd (cc)
 
-expire_takes : (x : Row) → is_expire_row x ≡ true → taken_by x ≡ None
+expire_takes : (x : Row) → is_expire x ≡ true → taken_by x ≡ None
 expire_takes (row.Expire r) h = refl
 expire_takes _ h = absurd (cc)
 
@@ -130,7 +133,7 @@ pub run_takes : (x : Row) → is_run_row x ≡ true → taken_by x ≡ None
 run_takes (row.Run r) h = refl
 run_takes _ h = absurd (cc)
 
-pub assign_takes : (x : Row) → is_assign_row x ≡ true → taken_by x ≡ None
+pub assign_takes : (x : Row) → is_assign x ≡ true → taken_by x ≡ None
 assign_takes (row.Assign r p) h = refl
 assign_takes _ h = absurd (cc)
 
@@ -200,7 +203,7 @@ record Before (c gone es : Trace) : Type 0 where
 
 activation-creates : (t : ℕ) (c : Trace) → length (each_row created_by (activation t c)) ≡ 0
 unfolding activation
-activation-creates t c = rw (where-created (is_same_phase phase.Activating (phase_of c) && not (is_empty (ready_pods c))) (entry t (row.Phase phase.Active)) refl) refl
+activation-creates t c = rw (where-created (is_in_phase phase.Activating (phase_of c) && not (is_empty (ready_pods c))) (entry t (row.Phase phase.Active)) refl) refl
 
 pub before-whole : (c gone own more active : Trace) → ((c ++ gone) ++ own) ++ (more ++ active) ≡ c ++ ((gone ++ (own ++ more)) ++ active)
 before-whole c gone own more active = simp append_assoc refl
@@ -223,7 +226,7 @@ module _ (facts : Facts) (parts : PartFacts) where
   decision-few : (s : Spec) (t : ℕ) (c : Trace) (made : Ruling) → length (drain_order c) ≤ pods_most → made.decision.want ≤ pods_most → AddsFew 503 c (decision_rows s t c made)
   unfolding decision_rows
   decision-few s t c made few some =
-      let bp = not (is_same_phase made.phase (phase_of c)) in
+      let bp = not (is_in_phase made.phase (phase_of c)) in
       let bm = not (is_same_mode made.decision.mode (mode_of c)) in
       let p = where_true bp (entry t (row.Phase made.phase) ∷ []) in
       let m = where_true bm (entry t (row.Mode made.decision.mode) ∷ []) in
@@ -274,7 +277,7 @@ module _ (facts : Facts) (parts : PartFacts) where
       let sum : length (draining ((c ++ e ∷ []) ++ es)) ≤ length (draining c) = omega arith in
       rw (append_assoc c (e ∷ []) es) at sum
 
-  pub held_rows : (s : Spec) (t : ℕ) (c : Trace) → Each is_assign_row (held_assignments s t c)
+  pub held_rows : (s : Spec) (t : ℕ) (c : Trace) → Each is_assign (held_assignments s t c)
   unfolding held_assignments
   held_rows s t c = assignments-rows s t c (held c)
 
@@ -359,17 +362,17 @@ module _ (facts : Facts) (parts : PartFacts) where
       let w1 = leaves-list facts s d ran kept one in
       let w2 = leaves-list facts s (d ++ ran) gave kept1 two in
       let n1 = count-each leaves_by is_run_row run_leaves ran ran_kind in
-      let n2 = count-each leaves_by is_assign_row assign_leaves gave gave_kind in
+      let n2 = count-each leaves_by is_assign assign_leaves gave gave_kind in
       let t1 : length (each_row taken_by ran) ≡ 0 = rw (none-each taken_by is_run_row run_takes ran ran_kind) refl in
-      let t2 : length (each_row taken_by gave) ≡ 0 = rw (none-each taken_by is_assign_row assign_takes gave gave_kind) refl in
-      let d1 : length (draining d2) ≡ length (draining d) = ap (λ (l : List ℕ). length l) (draining-each is_assign_row assign_pods (d ++ ran) gave gave_kind ∙ draining-each is_run_row run_pods d ran ran_kind) in
+      let t2 : length (each_row taken_by gave) ≡ 0 = rw (none-each taken_by is_assign assign_takes gave gave_kind) refl in
+      let d1 : length (draining d2) ≡ length (draining d) = ap (λ (l : List ℕ). length l) (draining-each is_assign assign_pods (d ++ ran) gave gave_kind ∙ draining-each is_run_row run_pods d ran ran_kind) in
       let r1 = length-map (λ p. entry t (row.Remove p)) ps in
       let r2 = length-filter-within (λ p. is_empty (at_pod d2 p)) (draining d2) in
       let len : length ((ran ++ gave) ++ rem) ≡ (length ran + length gave) + length rem = rw (length-append, length-append) refl in
       let c0 : length (each_row created_by ((ran ++ gave) ++ rem)) ≡ (length (each_row created_by ran) + length (each_row created_by gave)) + length (each_row created_by rem)
       = rw (count-append created_by (ran ++ gave) rem, count-append created_by ran gave) refl in
       let c1 : length (each_row created_by ran) ≡ 0 = rw (none-each created_by is_run_row (λ x k. (run_pods x k).created) ran ran_kind) refl in
-      let c2 : length (each_row created_by gave) ≡ 0 = rw (none-each created_by is_assign_row (λ x k. (assign_pods x k).created) gave gave_kind) refl in
+      let c2 : length (each_row created_by gave) ≡ 0 = rw (none-each created_by is_assign (λ x k. (assign_pods x k).created) gave gave_kind) refl in
       let c3 : length (each_row created_by rem) ≡ 0 = rw (none-each created_by is_remove_row remove_creates rem (removed-rows t ps)) refl in
       (omega arith, omega arith)
 
@@ -426,7 +429,7 @@ module _ (facts : Facts) (parts : PartFacts) where
       let pods = before.pods in
       let same = ap (λ (l : Trace). length l) (departures-same s c e other) in
       let left = ap (λ (l : Trace). length (each_row leaves_by l)) (departures-same s c e other) in
-      let each = count-each leaves_by is_expire_row expire_leaves (expiries s e.time c) (expiries-rows s e.time c) in
+      let each = count-each leaves_by is_expire expire_leaves (expiries s e.time c) (expiries-rows s e.time c) in
       let w = leaves-list facts s c first kept hold in
       let after = settling-count s e.time (c ++ first) (Holds-kept s c first kept hold) in
       let some = after.0 in
@@ -489,8 +492,8 @@ module _ (facts : Facts) (parts : PartFacts) where
   pub few_expiries : (s : Spec) (t : ℕ) (c : Trace) → IsMade s c → length (expiries s t c) ≤ live_most
   few_expiries s t c made =
       let w = leaves-list facts s c (expiries s t c) (made_kept s c made) (expiries-hold s t c (made_kept s c made).requests) in
-      let n = count-each leaves_by is_expire_row expire_leaves (expiries s t c) (expiries-rows s t c) in
-      let k : length (each_row taken_by (expiries s t c)) ≡ 0 = rw (none-each taken_by is_expire_row expire_takes (expiries s t c) (expiries-rows s t c)) refl in
+      let n = count-each leaves_by is_expire expire_leaves (expiries s t c) (expiries-rows s t c) in
+      let k : length (each_row taken_by (expiries s t c)) ≡ 0 = rw (none-each taken_by is_expire expire_takes (expiries s t c) (expiries-rows s t c)) refl in
       let d = count-live c in
       let g = few_live facts s c made in
       omega arith

@@ -10,9 +10,10 @@ use Rattle.kn_event.specs.declared.entry.Row.{Row}
 use Rattle.kn_event.specs.declared.entry.Row.TheVariants as row
 use Rattle.kn_event.specs.declared.revision.Spec.{Spec}
 use Rattle.kn_event.specs.Revision.{AreInRange}
+use Rattle.kn_event.specs.Lists.{contains}
 use Rattle.kn_scaling.specs.Zero.{pods_most}
 use Rattle.kn_trace.specs.Rows.{admitted_by, created_by, directed_by, drained_by, readied_by, gone_by, taken_by}
-use Rattle.kn_trace.specs.Trace.{Trace, entry, assigned, contains, draining, each_row, ended, has_begun, has_not_begun, has_run, held, is_draining, is_live_pod, is_ready, is_running, is_starting, live, live_pods, queued_at, ready_pods, starting_pods, waiting}
+use Rattle.kn_trace.specs.Trace.{Trace, entry, assigned, draining, each_row, ended, has_begun, has_not_begun, has_run, held, is_draining, is_live_pod, is_ready, is_running, is_starting, live, live_pods, queued_at, ready_pods, starting_pods, waiting}
 use Rattle.kn_trace.specs.Scale.{drain_order}
 use Rattle.kn_trace.specs.Events.{live_most}
 use Rattle.kn_record.specs.Rows.{counted}

@@ -11,17 +11,19 @@ use Rattle.kn_event.specs.declared.event.Act.{Act}
 use Rattle.kn_event.specs.declared.event.Act.TheVariants as act
 use Rattle.kn_event.specs.declared.event.Event.{Event}
 use Rattle.kn_event.specs.declared.revision.Spec.{Spec}
+use Rattle.kn_event.specs.Lists.{contains}
 use Rattle.kn_trace.specs.Outcome.{Cancelled, Expired, outcome_of}
 use Rattle.kn_trace.specs.Rows.{assigned_by, ended_by, pod_by, run_by, taken_by}
-use Rattle.kn_trace.specs.Trace.{Trace, entry, assigned, at_pod, contains, each_row, has_not_begun, has_run, is_running, live, live_pods, pod_of, waiting}
+use Rattle.kn_trace.specs.Trace.{Trace, entry, assigned, at_pod, each_row, has_not_begun, has_run, is_running, live, live_pods, pod_of, waiting}
 use Rattle.kn_trace.specs.Events.{act_row, departures, entries_of, expiries, losses, losses_at, lost_with, react}
+use Rattle.kn_trace.specs.Report.{is_expire}
 use Rattle.kn_record.specs.Admission.{is_at, place_at, place_of, placed}
 use Rattle.kn_record.specs.Made.{Holds, IsMade, IsNumbered, IsProper}
 use Rattle.kn_record.specs.Rows.{says}
 use Rattle.kn_record.specs.Kept.{Kept}
 use Rattle.kn_record.specs.Facts.{Facts}
 use Rattle.kn_laws.specs.ByAct.{IsByAct}
-use Rattle.kn_laws.specs.Kinds.{Each, is_expire_row, EachIs, IsActRow, is_act_row}
+use Rattle.kn_laws.specs.Kinds.{Each, EachIs, IsActRow, is_act_row}
 use Rattle.kn_laws.specs.Facts.{PartFacts}
 use Rattle.kn_sizes.specs.Course.{IsUnfinished, MayEnd}
 use Rattle.kn_sizes.proofs.Outcomes.{live_outcome, outcome_comes, outcome_stays}
@@ -43,7 +45,7 @@ pub ends-each : (pod : ℕ → Option ℕ) (a : Act) (test : Row → Bool) → (
 ends-each pod a test is [] h = tt
 ends-each pod a test is (e ∷ es) h = (is e.row h.0, ends-each pod a test is es h.1)
 
-pub expire_ends : (pod : ℕ → Option ℕ) (a : Act) (x : Row) → is_expire_row x ≡ true → IsEndBy pod a x
+pub expire_ends : (pod : ℕ → Option ℕ) (a : Act) (x : Row) → is_expire x ≡ true → IsEndBy pod a x
 expire_ends pod a (row.Expire r) h = tt
 expire_ends pod a _ h = absurd (cc)
 
@@ -57,7 +59,7 @@ own_ends pod a (row.Finish r ok) h k = k
 own_ends pod a (row.LostRequest r) h k = absurd (cc)
 own_ends pod a _ h k = tt
 
-expire_moves : (q : ℕ) (x : Row) → is_expire_row x ≡ true → pod_by q x ≡ None
+expire_moves : (q : ℕ) (x : Row) → is_expire x ≡ true → pod_by q x ≡ None
 expire_moves q (row.Expire r) h = refl
 expire_moves q _ h = absurd (cc)
 
@@ -171,7 +173,7 @@ module _ (facts : Facts) (parts : PartFacts) where
   -- expiries bring nobody to a pod
   expired_pod : (s : Spec) (t : ℕ) (c : Trace) (q : ℕ) → pod_of (c ++ expiries s t c) q ≡ pod_of c q
   unfolding pod_of
-  expired_pod s t c q = rw (filter_map-append (λ (e : Entry). pod_by q e.row) c (expiries s t c), none-rows (pod_by q) is_expire_row (expire_moves q) (expiries s t c) (expiries-rows s t c), append-nil (each_row (pod_by q) c)) refl
+  expired_pod s t c q = rw (filter_map-append (λ (e : Entry). pod_by q e.row) c (expiries s t c), none-rows (pod_by q) is_expire (expire_moves q) (expiries s t c) (expiries-rows s t c), append-nil (each_row (pod_by q) c)) refl
 
   -- the losses are of requests at the act's pod
   losses_end : (s : Spec) (c : Trace) (t u : ℕ) (a : Act) → Kept s c → EachIs (IsEndBy (pod_of c) a) (losses t (c ++ expiries s u c) a)
@@ -204,7 +206,7 @@ module _ (facts : Facts) (parts : PartFacts) where
   unfolding departures
   departures_end s c e kept =
       EachIs-append (IsEndBy (pod_of c) e.act) (expiries s e.time c) (losses e.time (c ++ expiries s e.time c) e.act)
-      (ends-each (pod_of c) e.act is_expire_row (expire_ends (pod_of c) e.act) (expiries s e.time c) (expiries-rows s e.time c)) (losses_end s c e.time e.time e.act kept)
+      (ends-each (pod_of c) e.act is_expire (expire_ends (pod_of c) e.act) (expiries s e.time c) (expiries-rows s e.time c)) (losses_end s c e.time e.time e.act kept)
 
   react-ends : (s : Spec) (c : Trace) (e : Event) → Kept s c → EachIs (IsEndBy (pod_of c) e.act) (react s c e)
   react-ends s c e kept =

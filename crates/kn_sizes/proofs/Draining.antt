@@ -4,8 +4,9 @@ use Rattle.std.specs.Prelude.{Some, ◌==◌}
 use Rattle.std.specs.List.{filter}
 use Rattle.std.proofs.lemmas.Bool.{eqb-true, eq-eqb, or_right}
 use Rattle.kn_event.specs.declared.revision.Spec.{Spec}
+use Rattle.kn_event.specs.Lists.{contains}
 use Rattle.kn_trace.specs.Rows.{brought_to, created_by, taken_by}
-use Rattle.kn_trace.specs.Trace.{Trace, contains, draining, each_row, is_draining, is_running, pod_of, running_at}
+use Rattle.kn_trace.specs.Trace.{Trace, draining, each_row, is_draining, is_running, pod_of, running_at}
 use Rattle.kn_trace.specs.Laws.{IsSettled}
 use Rattle.kn_record.specs.Rows.{moved_by}
 use Rattle.kn_record.specs.Made.{AreDistinct, IsMade}

@@ -6,8 +6,9 @@ use Rattle.kn_event.specs.declared.entry.Entry.{Entry}
 use Rattle.kn_event.specs.declared.entry.Row.{Row}
 use Rattle.kn_event.specs.declared.entry.Row.TheVariants as row
 use Rattle.kn_event.specs.declared.revision.Spec.{Spec}
+use Rattle.kn_event.specs.Lists.{contains}
 use Rattle.kn_trace.specs.Rows.{ended_by, taken_by}
-use Rattle.kn_trace.specs.Trace.{Trace, entry, contains, each_row, is_running, live, waiting}
+use Rattle.kn_trace.specs.Trace.{Trace, entry, each_row, is_running, live, waiting}
 use Rattle.kn_record.specs.Made.{Holds, IsNumbered, IsProper}
 use Rattle.kn_record.specs.Rows.{counted}
 use Rattle.kn_record.specs.Kept.{Kept}

@@ -10,14 +10,15 @@ use Rattle.kn_event.specs.declared.event.Act.TheVariants as act
 use Rattle.kn_event.specs.declared.event.Event.{Event}
 use Rattle.kn_event.specs.declared.event.Stand.TheVariants as stand
 use Rattle.kn_event.specs.declared.revision.Spec.{Spec}
+use Rattle.kn_event.specs.Lists.{contains}
 use Rattle.kn_trace.specs.Outcome.{Finished, outcome_of}
 use Rattle.kn_trace.specs.Rows.{taken_by}
-use Rattle.kn_trace.specs.Trace.{Trace, entry, arrivals, contains, each_row, ended, is_running, live, pod_of, stand_of}
+use Rattle.kn_trace.specs.Trace.{Trace, entry, arrivals, each_row, ended, is_running, live, pod_of, stand_of}
 use Rattle.kn_trace.specs.Events.{act_row, added, departures, expiries, react}
+use Rattle.kn_trace.specs.Report.{is_expire}
 use Rattle.kn_record.specs.Made.{IsMade}
 use Rattle.kn_record.specs.Kept.{Kept}
 use Rattle.kn_record.specs.Facts.{Facts}
-use Rattle.kn_laws.specs.Kinds.{is_expire_row}
 use Rattle.kn_laws.specs.Facts.{PartFacts}
 use Rattle.kn_sizes.specs.Course.{HasFinished, MayEnd}
 use Rattle.kn_sizes.proofs.Course.{ends-each, expire_ends, runs-rows, runs_until}
@@ -41,7 +42,7 @@ module _ (facts : Facts) (parts : PartFacts) where
   -- a running request doesn't expire
   runs_over_expiries : (s : Spec) (c : Trace) (t r : ℕ) → IsMade s c → is_running c r ≡ true → is_running (c ++ expiries s t c) r ≡ true
   runs_over_expiries s c t r made runs =
-      by (runs-rows facts parts s (pod_of c) act.Pass c (expiries s t c) r (expiries-hold s t c (made_kept s c made).requests) (ends-each (pod_of c) act.Pass is_expire_row (expire_ends (pod_of c) act.Pass) (expiries s t c) (expiries-rows s t c)) runs)
+      by (runs-rows facts parts s (pod_of c) act.Pass c (expiries s t c) r (expiries-hold s t c (made_kept s c made).requests) (ends-each (pod_of c) act.Pass is_expire (expire_ends (pod_of c) act.Pass) (expiries s t c) (expiries-rows s t c)) runs)
     where
       by : (is_running (c ++ expiries s t c) r ≡ true) ⊎ MayEnd r (pod_of c r) act.Pass → is_running (c ++ expiries s t c) r ≡ true
       by (inl k) = k

@@ -7,15 +7,17 @@ use Rattle.kn_event.specs.declared.event.Act.{Act}
 use Rattle.kn_event.specs.declared.event.Act.TheVariants as act
 use Rattle.kn_event.specs.declared.event.Event.{Event}
 use Rattle.kn_event.specs.declared.revision.Spec.{Spec}
+use Rattle.kn_event.specs.Lists.{contains}
 use Rattle.kn_trace.specs.Rows.{ended_by, taken_by}
-use Rattle.kn_trace.specs.Trace.{Trace, entry, contains, each_row, is_running, live, live_pods, waiting}
+use Rattle.kn_trace.specs.Trace.{Trace, entry, each_row, is_running, live, live_pods, waiting}
 use Rattle.kn_trace.specs.Events.{act_row, before_settling, entries_of, expiries, need_of, react}
 use Rattle.kn_trace.specs.Settling.{held_assignments, promotions, removals, settling}
+use Rattle.kn_trace.specs.Report.{is_assign, is_expire}
 use Rattle.kn_record.specs.Rows.{counted}
 use Rattle.kn_record.specs.Facts.{Facts}
 use Rattle.kn_laws.specs.ByAct.{IsByAct}
 use Rattle.kn_record.specs.Made.{Holds, IsMade, IsProper}
-use Rattle.kn_laws.specs.Kinds.{Each, is_departure_row, is_assign_row, is_expire_row, is_remove_row, is_run_row, is_scaler_row, IsActRow}
+use Rattle.kn_laws.specs.Kinds.{Each, is_departure_row, is_remove_row, is_run_row, is_scaler_row, IsActRow}
 use Rattle.kn_laws.specs.Facts.{PartFacts}
 use Rattle.kn_sizes.proofs.Serving.{runs-push, waiting_idle}
 use Rattle.kn_sizes.proofs.Counts.{count-append, none-each}
@@ -63,12 +65,12 @@ cancel-ends : (s : Spec) (c : Trace) (t r : ℕ) → contains r (waiting c) ≡ 
 unfolding act_row
 cancel-ends s c t r waits = rw waits refl
 
-expire_ends : (x : Row) → is_expire_row x ≡ true → counted (ended_by x) ≡ 1
+expire_ends : (x : Row) → is_expire x ≡ true → counted (ended_by x) ≡ 1
 expire_ends (row.Expire r) h = refl
 expire_ends _ h = absurd (cc)
 
 -- somebody expires, or none does
-expired-or-same : (c es : Trace) → Each is_expire_row es → (1 ≤ length (each_row ended_by es)) ⊎ (c ++ es ≡ c)
+expired-or-same : (c es : Trace) → Each is_expire es → (1 ≤ length (each_row ended_by es)) ⊎ (c ++ es ≡ c)
 expired-or-same c [] kind = inr (append-nil c)
 expired-or-same c (e ∷ es) kind = let one = expire_ends e.row kind.0 in let all = count-cons ended_by e es in inl (omega arith)
 
@@ -93,7 +95,7 @@ module _ (facts : Facts) (parts : PartFacts) where
       let gave = held_assignments s t (d ++ ran) in
       let rem = removals t ((d ++ ran) ++ gave) in
       let a : length (each_row taken_by ran) ≡ 0 = rw (none-each taken_by is_run_row run_takes ran (promotions-rows t d (live_pods d))) refl in
-      let b : length (each_row taken_by gave) ≡ 0 = rw (none-each taken_by is_assign_row assign_takes gave (held_rows facts parts s t (d ++ ran))) refl in
+      let b : length (each_row taken_by gave) ≡ 0 = rw (none-each taken_by is_assign assign_takes gave (held_rows facts parts s t (d ++ ran))) refl in
       let e : length (each_row taken_by rem) ≡ 0 = rw (none-each taken_by is_remove_row remove_takes rem (removals-rows t ((d ++ ran) ++ gave))) refl in
       let f = count-append taken_by (ran ++ gave) rem in
       let g = count-append taken_by ran gave in
@@ -119,11 +121,11 @@ module _ (facts : Facts) (parts : PartFacts) where
 
   -- ---- who runs doesn't expire, and who waits expires or can be cancelled
 
-  runs-past : (s : Spec) (c es : Trace) (r : ℕ) → Each is_expire_row es → Holds (IsProper s) c es → is_running c r ≡ true → is_running (c ++ es) r ≡ true
+  runs-past : (s : Spec) (c es : Trace) (r : ℕ) → Each is_expire es → Holds (IsProper s) c es → is_running c r ≡ true → is_running (c ++ es) r ≡ true
   runs-past s c [] r kind h runs = rw (append-nil c) runs
   runs-past s c (e ∷ es) r kind h runs = rw (append_assoc c (e ∷ []) es) at (runs-past s (c ++ e ∷ []) es r kind.1 h.1 (one e.row kind.0 h.0))
     where
-      one : (x : Row) → is_expire_row x ≡ true → IsProper s c x → is_running (c ++ entry e.time x ∷ []) r ≡ true
+      one : (x : Row) → is_expire x ≡ true → IsProper s c x → is_running (c ++ entry e.time x ∷ []) r ≡ true
       one (row.Expire q) k p = runs-push facts c (entry e.time (row.Expire q)) r runs (waiting_idle facts c q r p runs)
       one _ k p = absurd (cc)
 

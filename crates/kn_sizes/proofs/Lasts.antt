@@ -11,9 +11,10 @@ use Rattle.kn_event.specs.declared.event.Act.{Act}
 use Rattle.kn_event.specs.declared.event.Act.TheVariants as act
 use Rattle.kn_event.specs.declared.event.Event.{Event}
 use Rattle.kn_event.specs.declared.revision.Spec.{Spec}
+use Rattle.kn_event.specs.Lists.{contains}
 use Rattle.kn_trace.specs.Outcome.{Outcome, outcome_of}
 use Rattle.kn_trace.specs.Rows.{assigned_by, directed_by, pod_by, taken_by}
-use Rattle.kn_trace.specs.Trace.{Trace, entry, arrivals, assigned, contains, each_row, ended, has_not_begun, has_run, is_running, last_of, pod_of, proxied, waiting}
+use Rattle.kn_trace.specs.Trace.{Trace, entry, arrivals, assigned, each_row, ended, has_not_begun, has_run, is_running, last_of, pod_of, proxied, waiting}
 use Rattle.kn_trace.specs.Events.{act_row, departures, need_of, react}
 use Rattle.kn_record.specs.Rows.{moved_by, says}
 use Rattle.kn_record.specs.Made.{AreDistinct, IsMade, IsNumbered, IsProper}

@@ -7,11 +7,12 @@ use Rattle.std.proofs.lemmas.Bool.{or_parts, false_from_ne_true}
 use Rattle.kn_event.specs.declared.entry.Entry.{Entry}
 use Rattle.kn_event.specs.declared.entry.Row.{Row}
 use Rattle.kn_event.specs.declared.entry.Row.TheVariants as row
+use Rattle.kn_event.specs.Lists.{contains, or_else}
 use Rattle.kn_trace.specs.Outcome.{Outcome, outcome_in, outcome_of}
 use Rattle.kn_trace.specs.Rows.{ended_by, outcome_by, refused_by, taken_by}
-use Rattle.kn_trace.specs.Trace.{Trace, contains, each_row, ended, first_of}
+use Rattle.kn_trace.specs.Trace.{Trace, each_row, ended, first_of}
 use Rattle.kn_record.specs.Made.{IsNumbered}
-use Rattle.kn_record.specs.Rows.{or_else, says}
+use Rattle.kn_record.specs.Rows.{says}
 use Rattle.kn_record.specs.Facts.{Facts}
 
 first_of-append : {X : Type 0} (xs ys : List X) → first_of (xs ++ ys) ≡ or_else (first_of xs) (first_of ys)

@@ -4,8 +4,9 @@ use Rattle.std.specs.Prelude.{◌==◌}
 use Rattle.std.proofs.lemmas.Bool.{eqb-true, or_cases, false_from_ne_true}
 use Rattle.kn_event.specs.declared.entry.Entry.{Entry}
 use Rattle.kn_event.specs.declared.revision.Spec.{Spec}
+use Rattle.kn_event.specs.Lists.{contains}
 use Rattle.kn_trace.specs.Rows.{ended_by, taken_by}
-use Rattle.kn_trace.specs.Trace.{Trace, arrivals, assigned, contains, each_row, ended, has_begun, has_not_begun, has_run, is_running, waiting}
+use Rattle.kn_trace.specs.Trace.{Trace, arrivals, assigned, each_row, ended, has_begun, has_not_begun, has_run, is_running, waiting}
 use Rattle.kn_record.specs.Made.{Holds, IsMade, IsProper}
 use Rattle.kn_record.specs.Rows.{says}
 use Rattle.kn_record.specs.Facts.{Facts}

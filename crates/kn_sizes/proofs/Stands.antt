@@ -4,8 +4,9 @@ use Rattle.std.specs.Prelude.{Option, None, Some}
 use Rattle.std.proofs.lemmas.Bool.Decides.{nat_tests}
 use Rattle.std.proofs.lemmas.Bool.{false_from_ne_true}
 use Rattle.kn_event.specs.declared.revision.Spec.{Spec}
+use Rattle.kn_event.specs.Lists.{contains}
 use Rattle.kn_trace.specs.Rows.{taken_by}
-use Rattle.kn_trace.specs.Trace.{Trace, arrivals, contains, each_row, has_begun, has_not_begun, is_running, live, pod_of, stand_of, stand_of_arrived, stand_where, waiting}
+use Rattle.kn_trace.specs.Trace.{Trace, arrivals, each_row, has_begun, has_not_begun, is_running, live, pod_of, stand_of, stand_of_arrived, stand_where, waiting}
 use Rattle.kn_record.specs.Made.{IsMade, IsNumbered}
 use Rattle.kn_record.specs.Facts.{Facts}
 use Rattle.kn_laws.specs.Facts.{PartFacts}

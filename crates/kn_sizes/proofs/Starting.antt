@@ -6,8 +6,9 @@ use Rattle.std.proofs.lemmas.Bool.{eqb-true, or_cases, eq-eqb, false_from_ne_tru
 use Rattle.std.proofs.lemmas.Bool.Decides.{nat_tests}
 use Rattle.kn_event.specs.declared.entry.Entry.{Entry}
 use Rattle.kn_event.specs.declared.revision.Spec.{Spec}
+use Rattle.kn_event.specs.Lists.{contains}
 use Rattle.kn_trace.specs.Rows.{created_by, drained_by, gone_by, readied_by}
-use Rattle.kn_trace.specs.Trace.{Trace, contains, created, each_row, next_starting, starting_pods}
+use Rattle.kn_trace.specs.Trace.{Trace, created, each_row, next_starting, starting_pods}
 use Rattle.kn_record.specs.Made.{IsMade, IsProper}
 use Rattle.kn_record.specs.Rows.{says}
 use Rattle.kn_record.specs.Order.{Ascend}

@@ -13,17 +13,19 @@ use Rattle.kn_event.specs.declared.event.Event.{Event}
 use Rattle.kn_event.specs.declared.event.Stand.{Stand}
 use Rattle.kn_event.specs.declared.event.Stand.TheVariants as stand
 use Rattle.kn_event.specs.declared.revision.Spec.{Spec}
+use Rattle.kn_event.specs.Lists.{contains}
 use Rattle.kn_trace.specs.Outcome.{Outcome, Overload, Refused, outcome_in, outcome_of}
 use Rattle.kn_trace.specs.Rows.{arrived_by, ended_by, outcome_by, refused_by, taken_by}
-use Rattle.kn_trace.specs.Trace.{Trace, entry, arrivals, contains, each_row, ended, first_of, has_begun, live, live_pods, pod_of, stand_at, stand_of}
+use Rattle.kn_trace.specs.Trace.{Trace, entry, arrivals, each_row, ended, first_of, has_begun, live, live_pods, pod_of, stand_at, stand_of}
 use Rattle.kn_trace.specs.Settling.{held_assignments, promotions, removals, settling}
 use Rattle.kn_trace.specs.Events.{act_row, act_rows, activation, before_settling, entries_of, departures, react, row_of, scaler_rows, told_of, told_row, told_stand}
+use Rattle.kn_trace.specs.Report.{is_assign}
 use Rattle.kn_record.specs.Rows.{named_by}
 use Rattle.kn_record.specs.Made.{Holds, IsMade, IsNumbered, IsProper}
 use Rattle.kn_record.specs.Kept.{Kept}
 use Rattle.kn_record.specs.Facts.{Facts}
 use Rattle.kn_laws.specs.ByAct.{IsByAct}
-use Rattle.kn_laws.specs.Kinds.{Each, is_assign_row, is_departure_row, is_remove_row, is_run_row, is_scaler_row, IsActRow, is_act_row}
+use Rattle.kn_laws.specs.Kinds.{Each, is_departure_row, is_remove_row, is_run_row, is_scaler_row, IsActRow, is_act_row}
 use Rattle.kn_laws.specs.Facts.{PartFacts}
 use Rattle.kn_sizes.specs.Told.{IsTold, arrival_told, outcome_told, stand_told}
 use Rattle.kn_sizes.proofs.Bounds.{held_rows}
@@ -39,7 +41,7 @@ run_later : (x : Row) → is_run_row x ≡ true → is_later_row x ≡ true
 run_later (row.Run r) h = refl
 run_later _ h = absurd (cc)
 
-assign_later : (x : Row) → is_assign_row x ≡ true → is_later_row x ≡ true
+assign_later : (x : Row) → is_assign x ≡ true → is_later_row x ≡ true
 assign_later (row.Assign r p) h = refl
 assign_later _ h = absurd (cc)
 
@@ -161,7 +163,7 @@ module _ (facts : Facts) (parts : PartFacts) where
       let ran = promotions t d (live_pods d) in
       let gave = held_assignments s t (d ++ ran) in
       Each-append is_later_row (ran ++ gave) (removals t ((d ++ ran) ++ gave))
-      (Each-append is_later_row ran gave (Each-weaken is_run_row is_later_row run_later ran (promotions-rows t d (live_pods d))) (Each-weaken is_assign_row is_later_row assign_later gave (held_rows facts parts s t (d ++ ran))))
+      (Each-append is_later_row ran gave (Each-weaken is_run_row is_later_row run_later ran (promotions-rows t d (live_pods d))) (Each-weaken is_assign is_later_row assign_later gave (held_rows facts parts s t (d ++ ran))))
       (Each-weaken is_remove_row is_later_row remove_later (removals t ((d ++ ran) ++ gave)) (removals-rows t ((d ++ ran) ++ gave)))
 
   -- all that follows the act's own row

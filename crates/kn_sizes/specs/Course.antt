@@ -4,8 +4,9 @@ use Rattle.kn_event.specs.declared.event.Act.{Act}
 use Rattle.kn_event.specs.declared.event.Act.TheVariants as act
 use Rattle.kn_event.specs.declared.event.Stand.{Stand}
 use Rattle.kn_event.specs.declared.event.Stand.TheVariants as stand
+use Rattle.kn_event.specs.Lists.{contains}
 use Rattle.kn_trace.specs.Outcome.{Expired, Cancelled, Finished, outcome_of}
-use Rattle.kn_trace.specs.Trace.{Trace, arrivals, contains, is_running, pod_of, stand_of, waiting}
+use Rattle.kn_trace.specs.Trace.{Trace, arrivals, is_running, pod_of, stand_of, waiting}
 
 -- it waits, or runs, or it expired or was cancelled: nobody finished it, and it was not lost
 abbrev pub IsUnfinished : Trace → ℕ → Type 0

@@ -1,6 +1,6 @@
 -- The least number of a list that is not below a bound.
 use Rattle.std.specs.Prelude.{◌≡◌, ◌≤◌, ◌<◌, ◌↔◌, ℕ, true, List, Option, None, Some}
-use Rattle.kn_trace.specs.Trace.{contains}
+use Rattle.kn_event.specs.Lists.{contains}
 
 pub record IsLeastFrom (from : ℕ) (all : List ℕ) (next : Option ℕ) : Type 0 where
   -- one of them, not below the bound

@@ -12,8 +12,9 @@ use Rattle.kn_event.specs.declared.event.Act.TheVariants as act
 use Rattle.kn_event.specs.declared.event.Event.{Event}
 use Rattle.kn_event.specs.declared.revision.Kind.TheVariants as kind
 use Rattle.kn_event.specs.declared.revision.Spec.{Spec}
+use Rattle.kn_event.specs.Lists.{contains}
 use Rattle.kn_trace.specs.Events.{react}
-use Rattle.kn_trace.specs.Trace.{Trace, contains, draining, limit_of, live_pods}
+use Rattle.kn_trace.specs.Trace.{Trace, draining, limit_of, live_pods}
 use Rattle.kn_trace.specs.Trace as trace
 use Rattle.kn_record.specs.declared.admission.Pod.{Pod}
 use Rattle.kn_record.specs.Admission.{Admission}

@@ -5,13 +5,14 @@ use Rattle.std.proofs.lemmas.Bool.{cases_eq}
 use Rattle.std.proofs.lemmas.List.{get_or_default, length-set, get_or-set_same, get_or-set_other}
 use Rattle.std.proofs.lemmas.List.Sums.{sum_by-cons}
 use Rattle.kn_event.specs.declared.revision.Spec.{Spec}
+use Rattle.kn_event.specs.Lists.{or_else}
 use Rattle.kn_trace.specs.Trace.{Trace}
 use Rattle.kn_record.specs.Admission.{Admission}
 use Rattle.kn_record.specs.Made as made
 use Rattle.kn_record.specs.Views.{AreViews}
 use Rattle.kn_core.specs.State.{RevisionState, StandsFor}
 use Rattle.kn_slices.specs.Activators.{IsActivator, IsGroupOf, limit_at, running_at}
-use Rattle.kn_slices.specs.Slices.{change, change_where, cut_at, cut_of, due_change, first_from, hold, or_else, raise_at, raise_of, runs, slice_of}
+use Rattle.kn_slices.specs.Slices.{change, change_where, cut_at, cut_of, due_change, first_from, hold, raise_at, raise_of, runs, slice_of}
 use Rattle.kn_slices.specs.Traces.{AreTraces, IsSafe, limit_by, running_by, trace_at}
 use Rattle.kn_slices.proofs.Activators.{limit_is, there}
 use Rattle.kn_slices.proofs.Due.{runs_within}

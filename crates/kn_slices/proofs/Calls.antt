@@ -8,11 +8,12 @@ use Rattle.std.proofs.Math.Nat.{mul-suc}
 use Rattle.kn_event.specs.declared.event.Act.{Act}
 use Rattle.kn_event.specs.declared.event.Act.TheVariants as act
 use Rattle.kn_event.specs.declared.event.Event.{Event}
+use Rattle.kn_event.specs.Lists.{EachIs}
 use Rattle.kn_core.specs.State.{RevisionState}
 use Rattle.kn_core.specs.Steps.{IsWithinRange}
 use Rattle.kn_slices.specs.declared.change.Change.{Change}
 use Rattle.kn_slices.specs.Slices.{due_change, hold, slice_of}
-use Rattle.kn_slices.specs.Activators.{EachIs, HasPod, IsActivator, IsGroupOf, IsPlain, StaysLow, limit_at, running_at}
+use Rattle.kn_slices.specs.Activators.{HasPod, IsActivator, IsGroupOf, IsPlain, StaysLow, limit_at, running_at}
 use Rattle.kn_slices.specs.Calls.{AreForcesAfter, IsGroupAct}
 use Rattle.kn_slices.proofs.Activators.{has_pod, keeps_of, sets_of}
 use Rattle.kn_slices.proofs.Due.{after_change, after_step, due_is, group_within}

@@ -5,9 +5,10 @@ use Rattle.std.proofs.lemmas.List.{length-set, get_or-set_same, get_or-set_other
 use Rattle.std.proofs.lemmas.Bool.{cases_eq}
 use Rattle.kn_event.specs.declared.event.Act.TheVariants as act
 use Rattle.kn_event.specs.declared.event.Event.{Event}
+use Rattle.kn_event.specs.Lists.{or_else}
 use Rattle.kn_core.specs.State.{RevisionState}
 use Rattle.kn_slices.specs.Activators.{AreMarked, AreSliced, Takes, limit_at, running_at}
-use Rattle.kn_slices.specs.Slices.{cut_of, due_change, first_from, force_after, hold, or_else, raise_of, slice_of}
+use Rattle.kn_slices.specs.Slices.{cut_of, due_change, first_from, force_after, hold, raise_of, slice_of}
 use Rattle.kn_slices.proofs.Marks.{all_sliced, none_from, sliced_no_cut, sliced_no_raise}
 
 pub force_same : (held wanted : ℕ) → force_after held wanted wanted ≡ wanted

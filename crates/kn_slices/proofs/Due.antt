@@ -6,8 +6,9 @@ use Rattle.std.proofs.lemmas.List.Sums.{sum_by-cons, sum_by_more_le}
 use Rattle.std.proofs.lemmas.List.{length-set}
 use Rattle.std.proofs.Math.Seq.{drop-cons, take-append_seam}
 use Rattle.std.specs.Prelude.{IfSome, slice_set, if◌then◌else◌}
+use Rattle.kn_event.specs.Lists.{or_else}
 use Rattle.kn_slices.specs.Group.{IsDue, IsGroup, IsWithin, Keeps, Sets}
-use Rattle.kn_slices.specs.Slices.{change, change_where, cut_at, cut_of, due_change, first_from, force_after, hold, or_else, raise_at, raise_of, runs, slice_of}
+use Rattle.kn_slices.specs.Slices.{change, change_where, cut_at, cut_of, due_change, first_from, force_after, hold, raise_at, raise_of, runs, slice_of}
 use Rattle.kn_slices.specs.declared.change.Change.{Change}
 use Rattle.kn_slices.proofs.Sums.{hold_set}
 

@@ -4,8 +4,9 @@ use Rattle.std.proofs.lemmas.Bool.{cases_eq}
 use Rattle.std.specs.Prelude.{slice_set}
 use Rattle.std.proofs.lemmas.List.{get_or_append_left, get_or_default, get_or-set_other}
 use Rattle.std.proofs.Math.Seq.{get_or-append_seam}
+use Rattle.kn_event.specs.Lists.{or_else}
 use Rattle.kn_slices.specs.Activators.{AreListed, AreOpen, IsOff}
-use Rattle.kn_slices.specs.Slices.{first_from, force_after, or_else}
+use Rattle.kn_slices.specs.Slices.{first_from, force_after}
 use Rattle.kn_slices.proofs.Calm.{force_stays}
 use Rattle.kn_slices.proofs.Marks.{none_from}
 

@@ -3,7 +3,8 @@ use Rattle.std.proofs.Common.{◌≡◌, ◌<◌, ℕ, zero, suc, ◌+◌, Bool,
 use Rattle.std.specs.Prelude.{Option}
 use Rattle.std.specs.Prelude.{◌==◌, ◌-◌, if◌then◌else◌}
 use Rattle.std.proofs.lemmas.Bool.{eqb-true}
-use Rattle.kn_slices.specs.Slices.{change, change_where, count_from, cut_at, first_from, or_else, raise_at, slice_of}
+use Rattle.kn_event.specs.Lists.{or_else}
+use Rattle.kn_slices.specs.Slices.{change, change_where, count_from, cut_at, first_from, raise_at, slice_of}
 
 abbrev pub bit : Bool → ℕ
 bit b = if b then 1 else 0

@@ -6,13 +6,14 @@ use Rattle.std.specs.List.{cons_option, range_with_len}
 use Rattle.kn_event.specs.declared.entry.Row.TheVariants as row
 use Rattle.kn_event.specs.declared.revision.Kind.TheVariants as kind
 use Rattle.kn_event.specs.declared.revision.Spec.{Spec}
+use Rattle.kn_event.specs.Lists.{contains}
 use Rattle.kn_laws.specs.Facts.{PartFacts}
 use Rattle.kn_record.specs.Admission.{Admission}
 use Rattle.kn_record.specs.Made as made
 use Rattle.kn_record.specs.Views.{AreViews}
 use Rattle.kn_trace.specs.Events.{opening, opening_of}
 use Rattle.kn_trace.specs.Rows.{brought_to, created_by, drained_by, gone_by, limit_by}
-use Rattle.kn_trace.specs.Trace.{Trace, contains, draining, each_row, entry, is_draining, is_live_pod, is_running, last_of, limit_of, live_pods, running_at}
+use Rattle.kn_trace.specs.Trace.{Trace, draining, each_row, entry, is_draining, is_live_pod, is_running, last_of, limit_of, live_pods, running_at}
 use Rattle.kn_core.specs.State.{RevisionState}
 use Rattle.kn_slices.specs.Activators as part
 use Rattle.kn_slices.specs.Activators.{HasPods, IsActivator, IsOpen}

@@ -8,8 +8,9 @@ use Rattle.kn_event.specs.declared.event.Event.{Event}
 use Rattle.kn_event.specs.declared.revision.Kind.TheVariants as kind
 use Rattle.kn_event.specs.declared.revision.Slots.{Slots}
 use Rattle.kn_event.specs.declared.revision.Spec.{Spec}
+use Rattle.kn_event.specs.Lists.{EachIs, contains}
 use Rattle.kn_trace.specs.Events.{opening}
-use Rattle.kn_trace.specs.Trace.{Trace, contains}
+use Rattle.kn_trace.specs.Trace.{Trace}
 use Rattle.kn_record.specs.Admission.{is_draining_now, placed_in, pods_in, runs_at}
 use Rattle.kn_record.specs.Views.{pod_numbers}
 use Rattle.kn_throttle.specs.Gauges.{limit_in}
@@ -45,9 +46,6 @@ pub record IsActivator (pods : ℕ) (x : RevisionState) : Type 0 where
   pub fixed : x.spec.kind ≡ kind.Fixed pods
   pub has : HasPods pods x
   pub limits : (q : ℕ) → q < pods → 1 ≤ limit_at q x
-
-abbrev pub EachIs : {A : Type 0} → (A → Type 0) → List A → Type 0
-EachIs {A} P xs = (i : ℕ) (d : A) → i < length xs → P (slice_index_or xs i d)
 
 -- the activators, and each pod's part of the group
 pub record IsGroupOf (parts : List RevisionState) (wanted force : List ℕ) : Type 0 where

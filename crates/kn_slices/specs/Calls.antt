@@ -9,11 +9,12 @@ use Rattle.kn_event.specs.declared.event.Told.{Told}
 use Rattle.kn_event.specs.declared.revision.Kind.TheVariants as kind
 use Rattle.kn_event.specs.declared.revision.Slots.{Slots}
 use Rattle.kn_event.specs.declared.revision.Spec.{Spec}
+use Rattle.kn_event.specs.Lists.{EachIs}
 use Rattle.kn_trace.specs.Events.{opening, react, told_of}
 use Rattle.kn_trace.specs.Trace.{Trace}
 use Rattle.kn_core.specs.State.{RevisionState, StandsFor, StandsForSome}
 use Rattle.kn_core.specs.Steps.{IsWithinRange}
-use Rattle.kn_slices.specs.Activators.{AreInForce, AreListed, EachIs, Goes, HasPods, IsActivator, limit_at, openings_of, running_at, slices_of}
+use Rattle.kn_slices.specs.Activators.{AreInForce, AreListed, Goes, HasPods, IsActivator, limit_at, openings_of, running_at, slices_of}
 use Rattle.kn_slices.specs.Slices.{force_after, hold}
 use Rattle.kn_slices.specs.declared.change.Change.{Change}
 use Rattle.kn_slices.specs.Traces.{AreLawful, AreSafe, AreTraces, GroupState, IsSameGroup, clocks_of, counts_of, due_of, forces_by, limit_by, load_of, made_at, part_at, rows_of, running_by, specs_of, trace_at, traces_after, unset_of}

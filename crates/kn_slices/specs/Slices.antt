@@ -2,6 +2,7 @@
 -- limit at each pod and requests that run there: `limit p a`, `running p a`. So the words are the same of the activators' traces and
 -- of what is kept of them.
 use Rattle.std.specs.Prelude.{ℕ, ◌+◌, ◌-◌, ◌/◌, ◌%◌, ◌==◌, ◌&&◌, nat_lt, nat_le, not, max, Bool, true, false, List, [], ◌∷◌, Option, None, Some, if◌then◌else◌, sum_by}
+use Rattle.kn_event.specs.Lists.{or_else}
 use Rattle.kn_slices.specs.declared.change.Change.{Change}
 
 -- the slice of activator i of n
@@ -26,10 +27,6 @@ forces_from limit running parts p (w ∷ ws) (f ∷ fs) = force_after (hold (lim
 forces_from limit running parts p _ _ = []
 
 -- ---- the due change
-
-abbrev pub or_else : {X : Type 0} → Option X → Option X → Option X
-or_else None y = y
-or_else (Some x) y = Some x
 
 -- the first answer of the test, over these members from place i on
 abbrev pub first_from : {A X : Type 0} → (ℕ → A → Option X) → ℕ → List A → Option X

@@ -1,6 +1,7 @@
 //! The pods that may be open, and what is done at those only.
 ghost use Rattle.std.specs.Prelude.{◌≡◌, ◌<◌, ◌≤◌, ℕ, length, slice_index_or, true, vec_capacity};
-ghost use Rattle.kn_slices.specs.Activators.{AreClosed, AreListed, AreMarked, AreOpen, EachIs, HasPod, IsOff, limit_at, running_at};
+ghost use Rattle.kn_event.specs.Lists.{EachIs};
+ghost use Rattle.kn_slices.specs.Activators.{AreClosed, AreListed, AreMarked, AreOpen, HasPod, IsOff, limit_at, running_at};
 ghost use Rattle.kn_slices.specs.Calls.{AreForcesAfter, HasOthersInForce};
 ghost use Rattle.kn_slices.specs.Slices.{cut_of, first_from, hold, raise_of};
 

@@ -1,6 +1,7 @@
 //! What is counted over the activators.
 ghost use Rattle.std.specs.Prelude.{◌≡◌, ◌<◌, ◌≤◌, ◌+◌, ◌-◌, ◌&&◌, length, max, nat_le, nat_lt};
-ghost use Rattle.kn_slices.specs.Activators.{EachIs, HasPod, limit_at, running_at};
+ghost use Rattle.kn_event.specs.Lists.{EachIs};
+ghost use Rattle.kn_slices.specs.Activators.{HasPod, limit_at, running_at};
 ghost use Rattle.kn_slices.specs.Slices.{cut_of, force_after, hold, raise_of, runs, slice_of, unset_at};
 
 use crate::change::Change;

@@ -2,20 +2,21 @@
 use Rattle.std.proofs.Common.{◌≡◌, refl, sym, ◌∙◌, ℕ, ◌+◌, ◌-◌, ◌*◌, ◌≤◌, ◌<◌, Bool, true, false, ◌&&◌, List, arith}
 use Rattle.std.specs.Prelude.{nat_lt, None, Some, IfSome, if◌then◌else◌}
 use Rattle.kn_event.specs.declared.revision.Metric.{Metric}
+use Rattle.kn_event.specs.Lists.{contains, is_some_of}
 use Rattle.kn_scaling.specs.Average.{second_of}
 use Rattle.kn_stats.specs.declared.change.Change.{Change}
 use Rattle.kn_stats.specs.declared.closed.Run.{Run}
-use Rattle.kn_stats.specs.Changes.{TimedChange, after_sum, arrived_by, at, ends_admitted, ends_assigned, ends_directed, is_admitted, is_arrival_at, is_assigned, is_directed, is_end_at, is_pod, load_by, pod_of, time_taken}
+use Rattle.kn_stats.specs.Changes.{TimedChange, after_sum, arrived_by, at, ends_admitted, ends_assigned, ends_directed, is_admitted, is_arrival_at, is_assigned, is_directed, is_end_at, load_by, pod_of, time_taken}
 use Rattle.kn_stats.specs.Closing.{closed_by, end_of_first, is_sampled, run_of}
 use Rattle.kn_stats.specs.Pods.{found, fresh, so_far}
-use Rattle.kn_stats.specs.Stands.{IsWithin, StandsFor, StatsState, advanced, advanced_by, closed_at, is_among, left_of, live_in}
+use Rattle.kn_stats.specs.Stands.{IsWithin, IsStatsOf, StatsState, advanced, advanced_by, closed_at, left_of, live_in}
 use Rattle.kn_stats.proofs.Allowed.{apart_arrivals, apart_ends, apart_pod_ends, apart_starts}
 use Rattle.kn_stats.proofs.Bounds.{area_small}
 use Rattle.kn_stats.proofs.Sums.{past-arrived, so_far_is, sum-both, sum-past}
 
 -- ---- seconds
 
-open_load : (s : StatsState) (cs : List TimedChange) (gone : List ℕ) → StandsFor s cs gone → load_by cs (second_of s.time) ≡ s.activator.area + s.direct.area
+open_load : (s : StatsState) (cs : List TimedChange) (gone : List ℕ) → IsStatsOf s cs gone → load_by cs (second_of s.time) ≡ s.activator.area + s.direct.area
 unfolding time_taken
 open_load s cs gone is =
     let from = 1000 * second_of s.time in
@@ -24,7 +25,7 @@ open_load s cs gone is =
     let b = sum-both ends_admitted ends_directed from until cs apart_ends in
     omega (arith, a, b, is.activator.area, is.direct.area)
 
-pub whole_load : (s : StatsState) (cs : List TimedChange) (gone : List ℕ) (n : ℕ) → StandsFor s cs gone → second_of s.time < n → load_by cs n ≡ 1000 * live_in s
+pub whole_load : (s : StatsState) (cs : List TimedChange) (gone : List ℕ) (n : ℕ) → IsStatsOf s cs gone → second_of s.time < n → load_by cs n ≡ 1000 * live_in s
 unfolding time_taken
 whole_load s cs gone n is later =
     let from = 1000 * n in
@@ -37,13 +38,13 @@ whole_load s cs gone n is later =
     let z = sum-past ends_directed n s.time cs later is.times in
     omega (arith, a, b, w, x, y, z, is.activator.count, is.direct.count)
 
-pub alike : (s : StatsState) (cs : List TimedChange) (gone : List ℕ) (n : ℕ) → StandsFor s cs gone → second_of s.time < n → load_by cs n ≡ load_by cs (second_of s.time + 1)
+pub alike : (s : StatsState) (cs : List TimedChange) (gone : List ℕ) (n : ℕ) → IsStatsOf s cs gone → second_of s.time < n → load_by cs n ≡ load_by cs (second_of s.time + 1)
 alike s cs gone n is later = whole_load s cs gone n is later ∙ sym (whole_load s cs gone (second_of s.time + 1) is (omega arith))
 
-pub quiet : (s : StatsState) (cs : List TimedChange) (gone : List ℕ) (n : ℕ) → StandsFor s cs gone → second_of s.time < n → arrived_by cs n ≡ 0
+pub quiet : (s : StatsState) (cs : List TimedChange) (gone : List ℕ) (n : ℕ) → IsStatsOf s cs gone → second_of s.time < n → arrived_by cs n ≡ 0
 quiet s cs gone n is later = past-arrived n s.time cs later is.times
 
-pub closed_is : (s : StatsState) (cs : List TimedChange) (gone : List ℕ) (to : ℕ) (ready : Bool) → StandsFor s cs gone → closed_at s to ready ≡ closed_by s.metric cs (second_of s.time) (second_of to) ready
+pub closed_is : (s : StatsState) (cs : List TimedChange) (gone : List ℕ) (to : ℕ) (ready : Bool) → IsStatsOf s cs gone → closed_at s to ready ≡ closed_by s.metric cs (second_of s.time) (second_of to) ready
 unfolding closed_by
 closed_is s cs gone to ready is =
     rw (open_load s cs gone is, whole_load s cs gone (second_of s.time + 1) is (omega arith), ← is.arrived) refl
@@ -97,7 +98,7 @@ load_few s within =
 
 -- ---- the area of a pod
 
-module _ (s : StatsState) (cs : List TimedChange) (gone : List ℕ) (p : ℕ) (within : IsWithin s) (is : StandsFor s cs gone) (there : is_among p gone ≡ false) where
+module _ (s : StatsState) (cs : List TimedChange) (gone : List ℕ) (p : ℕ) (within : IsWithin s) (is : IsStatsOf s cs gone) (there : contains p gone ≡ false) where
   from : ℕ
   from = 1000 * second_of s.time
 
@@ -122,7 +123,7 @@ module _ (s : StatsState) (cs : List TimedChange) (gone : List ℕ) (p : ℕ) (w
   proxied_is = let sum = q_proxied in omega (arith, sum)
 
   apart-at : (f g : Change → Bool) → ((c : Change) → f c ≡ true → g c ≡ false) → (c : Change) → at f p c ≡ true → at g p c ≡ false
-  apart-at f g apart c h = by (f c) (g c) (is_pod p (pod_of c)) (apart c) h
+  apart-at f g apart c h = by (f c) (g c) (is_some_of p (pod_of c)) (apart c) h
     where
       by : (a b o : Bool) → (a ≡ true → b ≡ false) → (a && o) ≡ true → (b && o) ≡ false
       by true true o k h = absurd (let e = k refl in cc)

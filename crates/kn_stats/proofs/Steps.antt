@@ -4,14 +4,15 @@ use Rattle.std.specs.Prelude.{◌==◌, nat_lt, Option, None, Some, if◌then◌
 use Rattle.std.specs.List.{sum_by}
 use Rattle.std.proofs.lemmas.Bool.{eqb-true}
 use Rattle.kn_event.specs.declared.revision.Metric.{Metric}
+use Rattle.kn_event.specs.Lists.{contains, is_some_of}
 use Rattle.kn_scaling.specs.Average.{second_of}
 use Rattle.kn_stats.specs.declared.change.Change.{Change}
 use Rattle.kn_stats.specs.declared.change.Change.TheVariants as change
 use Rattle.kn_stats.specs.declared.tally.Tally.{Tally}
 use Rattle.kn_stats.specs.declared.tally.PodTally.{PodTally}
-use Rattle.kn_stats.specs.Changes.{TimedChange, arrived_by, at, count_of, counted_most, ends_admitted, ends_assigned, ends_directed, ends_waiting, is_admitted, is_assigned, is_directed, is_pod, is_start, pod_of, timed}
+use Rattle.kn_stats.specs.Changes.{TimedChange, arrived_by, at, count_of, counted_most, ends_admitted, ends_assigned, ends_directed, ends_waiting, is_admitted, is_assigned, is_directed, is_start, pod_of, timed}
 use Rattle.kn_stats.specs.Pods.{IsSmall, IsSmallPod, IsSorted, anew, anew_if, found, fresh, idle, no_tally, pod_after, put, tally_after, without_pod}
-use Rattle.kn_stats.specs.Stands.{CanChange, IsIdle, IsPodOf, IsTally, IsWithin, StandsFor, StatsState, advanced, advanced_by, changed, is_among, left_of, live_in, opened, pods_by, waiting_after, without}
+use Rattle.kn_stats.specs.Stands.{CanChange, IsIdle, IsPodOf, IsTally, IsWithin, IsStatsOf, StatsState, advanced, advanced_by, changed, left_of, live_in, opened, pods_by, waiting_after, without}
 use Rattle.kn_stats.proofs.Allowed.{apart_admitted, apart_assigned, apart_directed, apart_starts, apart_waiting, room_admitted, room_assigned_at, room_at, room_direct_at, room_directed, some_admitted, some_assigned_at, some_direct_at, some_directed, some_waiting}
 use Rattle.kn_stats.proofs.Bounds.{count-fresh-direct, count-fresh-proxied, left_inside, small_after, small_anew, small_later, small_none}
 use Rattle.kn_stats.proofs.Sums.{arrived-push, by-later, by-push, count-push, past-arrived, tally_anew, tally_none, tally_push}
@@ -22,7 +23,7 @@ left_most t = omega arith
 
 -- ---- nothing yet
 
-pub stands_none : (m : Metric) (t : ℕ) → StandsFor (opened m t) [] []
+pub stands_none : (m : Metric) (t : ℕ) → IsStatsOf (opened m t) [] []
 unfolding count_of arrived_by
 stands_none m t = record {
   times = tt;
@@ -96,8 +97,8 @@ module _ (s : StatsState) (within : IsWithin s) (c : Change) (can : CanChange s 
 
   -- ---- the pod that is named
 
-  named-is : (p q : ℕ) → pod_of c ≡ Some q → (q == p) ≡ true → is_pod p (pod_of c) ≡ true
-  named-is p q e h = ap (is_pod p) e ∙ h
+  named-is : (p q : ℕ) → pod_of c ≡ Some q → (q == p) ≡ true → is_some_of p (pod_of c) ≡ true
+  named-is p q e h = ap (is_some_of p) e ∙ h
 
   found-after : (p : ℕ) → pod_of c ≡ Some p → fresh second (found p (put p (pod_after second left c) s.pods)) ≡ pod_after second left c (found p s.pods)
   found-after p e = ap (fresh second) (found-put p (pod_after second left c) s.pods (λ q. refl) within.sorted) ∙ fresh-after second left c (found p s.pods)
@@ -120,23 +121,23 @@ module _ (s : StatsState) (within : IsWithin s) (c : Change) (can : CanChange s 
 
   pod_named : (cs : List TimedChange) (p : ℕ) → pod_of c ≡ Some p → IsPodOf p second (found p s.pods) cs → IsPodOf p second (found p (put p (pod_after second left c) s.pods)) (later cs)
   pod_named cs p e is =
-      let named : is_pod p (pod_of c) ≡ true = named-is p p e (grind arith) in
+      let named : is_some_of p (pod_of c) ≡ true = named-is p p e (grind arith) in
       let whole = found-after p e in
       record {
         direct = subst (λ (q : PodTally). IsTally (at is_directed p) (at ends_directed p) second q.direct (later cs)) (sym whole)
             (tally_push (at is_directed p) (at ends_directed p) s.time c (fresh second (found p s.pods)).direct cs (is_directed c) (ends_directed c)
-            (and-true (is_directed c) (is_pod p (pod_of c)) named) (and-true (ends_directed c) (is_pod p (pod_of c)) named) (apart_directed c) (direct_there p e) is.direct);
+            (and-true (is_directed c) (is_some_of p (pod_of c)) named) (and-true (ends_directed c) (is_some_of p (pod_of c)) named) (apart_directed c) (direct_there p e) is.direct);
         proxied = subst (λ (q : PodTally). IsTally (at is_assigned p) (at ends_assigned p) second q.proxied (later cs)) (sym whole)
             (tally_push (at is_assigned p) (at ends_assigned p) s.time c (fresh second (found p s.pods)).proxied cs (is_assigned c) (ends_assigned c)
-            (and-true (is_assigned c) (is_pod p (pod_of c)) named) (and-true (ends_assigned c) (is_pod p (pod_of c)) named) (apart_assigned c) (proxied_there p e) is.proxied);
+            (and-true (is_assigned c) (is_some_of p (pod_of c)) named) (and-true (ends_assigned c) (is_some_of p (pod_of c)) named) (apart_assigned c) (proxied_there p e) is.proxied);
       }
 
-  pod_other : (cs : List TimedChange) (p : ℕ) → is_pod p (pod_of c) ≡ false → IsPodOf p second (found p s.pods) cs → IsPodOf p second (found p s.pods) (later cs)
+  pod_other : (cs : List TimedChange) (p : ℕ) → is_some_of p (pod_of c) ≡ false → IsPodOf p second (found p s.pods) cs → IsPodOf p second (found p s.pods) (later cs)
   pod_other cs p other is = record {
     direct = tally_push (at is_directed p) (at ends_directed p) s.time c (fresh second (found p s.pods)).direct cs false false
-        (and-false (is_directed c) (is_pod p (pod_of c)) other) (and-false (ends_directed c) (is_pod p (pod_of c)) other) (λ h. refl) (λ h. absurd (cc)) is.direct;
+        (and-false (is_directed c) (is_some_of p (pod_of c)) other) (and-false (ends_directed c) (is_some_of p (pod_of c)) other) (λ h. refl) (λ h. absurd (cc)) is.direct;
     proxied = tally_push (at is_assigned p) (at ends_assigned p) s.time c (fresh second (found p s.pods)).proxied cs false false
-        (and-false (is_assigned c) (is_pod p (pod_of c)) other) (and-false (ends_assigned c) (is_pod p (pod_of c)) other) (λ h. refl) (λ h. absurd (cc)) is.proxied;
+        (and-false (is_assigned c) (is_some_of p (pod_of c)) other) (and-false (ends_assigned c) (is_some_of p (pod_of c)) other) (λ h. refl) (λ h. absurd (cc)) is.proxied;
   }
 
   pod_push : (cs : List TimedChange) (p : ℕ) → IsPodOf p second (found p s.pods) cs → IsPodOf p second (found p (pods_by (pod_of c) s.time c s.pods)) (later cs)
@@ -149,10 +150,10 @@ module _ (s : StatsState) (within : IsWithin s) (c : Change) (can : CanChange s 
           (pod_named cs p (e ∙ ap (λ x. Some x) (sym same)) is)
       at_pod q e false h =
           subst (λ x. IsPodOf p (second_of s.time) x (cs ++ timed s.time c ∷ [])) (sym (found-put-other q p (pod_after (second_of s.time) (left_of s.time) c) s.pods h (λ x. refl)))
-          (pod_other cs p (ap (is_pod p) e ∙ h) is)
+          (pod_other cs p (ap (is_some_of p) e ∙ h) is)
 
       by : (o : Option ℕ) → pod_of c ≡ o → IsPodOf p (second_of s.time) (found p (pods_by o s.time c s.pods)) (cs ++ timed s.time c ∷ [])
-      by None e = pod_other cs p (ap (is_pod p) e) is
+      by None e = pod_other cs p (ap (is_some_of p) e) is
       by (Some q) e = at_pod q e (q == p) refl
 
   -- ---- the whole
@@ -167,7 +168,7 @@ module _ (s : StatsState) (within : IsWithin s) (c : Change) (can : CanChange s 
   arrived-next true n m h = omega (arith, h)
   arrived-next false n m h = omega (arith, h)
 
-  pub stands_changed : (cs : List TimedChange) (gone : List ℕ) → StandsFor s cs gone → StandsFor (changed c s) (cs ++ timed s.time c ∷ []) gone
+  pub stands_changed : (cs : List TimedChange) (gone : List ℕ) → IsStatsOf s cs gone → IsStatsOf (changed c s) (cs ++ timed s.time c ∷ []) gone
   stands_changed cs gone is = record {
     times = by-push s.time cs (timed s.time c) is.times (omega arith);
     waiting =
@@ -308,14 +309,14 @@ module _ (s : StatsState) (within : IsWithin s) where
 -- ---- a pod leaves
 
 module _ (s : StatsState) (p : ℕ) where
-  not-among : (q r : ℕ) (gone : List ℕ) → ((q == r) || is_among r gone) ≡ false → ((q == r) ≡ false) × (is_among r gone ≡ false)
+  not-among : (q r : ℕ) (gone : List ℕ) → ((q == r) || contains r gone) ≡ false → ((q == r) ≡ false) × (contains r gone ≡ false)
   not-among q r gone h = by (q == r) refl h
     where
-      by : (b : Bool) → (q == r) ≡ b → (b || is_among r gone) ≡ false → ((q == r) ≡ false) × (is_among r gone ≡ false)
+      by : (b : Bool) → (q == r) ≡ b → (b || contains r gone) ≡ false → ((q == r) ≡ false) × (contains r gone ≡ false)
       by true e h = absurd (cc)
       by false e h = (e, h)
 
-  pub stands_without : (cs : List TimedChange) (gone : List ℕ) → StandsFor s cs gone → StandsFor (without p s) cs (p ∷ gone)
+  pub stands_without : (cs : List TimedChange) (gone : List ℕ) → IsStatsOf s cs gone → IsStatsOf (without p s) cs (p ∷ gone)
   stands_without cs gone is = record {
     times = is.times;
     waiting = is.waiting;
@@ -354,7 +355,7 @@ anew-twice true t = refl
 anew-twice false t = refl
 
 module _ (s : StatsState) (to : ℕ) (later : s.time ≤ to) where
-  stands_new : (cs : List TimedChange) (gone : List ℕ) → IsWithin s → second_of s.time < second_of to → StandsFor s cs gone → StandsFor (advanced_by true to s) cs gone
+  stands_new : (cs : List TimedChange) (gone : List ℕ) → IsWithin s → second_of s.time < second_of to → IsStatsOf s cs gone → IsStatsOf (advanced_by true to s) cs gone
   stands_new cs gone within new is = record {
     times = by-later s.time to cs later is.times;
     waiting = is.waiting;
@@ -378,7 +379,7 @@ module _ (s : StatsState) (to : ℕ) (later : s.time ≤ to) where
         proxied = one (at is_assigned p) (at ends_assigned p) (nat_lt (found p s.pods).second (second_of to)) (found p s.pods).proxied (over p) (nat_lt (found p s.pods).second (second_of s.time)) i.proxied;
       }
 
-  stands_same : (cs : List TimedChange) (gone : List ℕ) → second_of s.time ≡ second_of to → StandsFor s cs gone → StandsFor (advanced_by false to s) cs gone
+  stands_same : (cs : List TimedChange) (gone : List ℕ) → second_of s.time ≡ second_of to → IsStatsOf s cs gone → IsStatsOf (advanced_by false to s) cs gone
   stands_same cs gone same is = record {
     times = by-later s.time to cs later is.times;
     waiting = is.waiting;
@@ -388,10 +389,10 @@ module _ (s : StatsState) (to : ℕ) (later : s.time ≤ to) where
     pods = λ p h. subst (λ n. IsPodOf p n (found p s.pods) cs) same (is.pods p h);
   }
 
-  pub stands_advanced : (cs : List TimedChange) (gone : List ℕ) → IsWithin s → StandsFor s cs gone → StandsFor (advanced to s) cs gone
+  pub stands_advanced : (cs : List TimedChange) (gone : List ℕ) → IsWithin s → IsStatsOf s cs gone → IsStatsOf (advanced to s) cs gone
   stands_advanced cs gone within is = by (nat_lt (second_of s.time) (second_of to)) refl
     where
-      by : (b : Bool) → nat_lt (second_of s.time) (second_of to) ≡ b → StandsFor (advanced_by b to s) cs gone
+      by : (b : Bool) → nat_lt (second_of s.time) (second_of to) ≡ b → IsStatsOf (advanced_by b to s) cs gone
       by true h = stands_new cs gone within (grind (arith, h)) is
       by false h = stands_same cs gone (grind (arith, h, later)) is
 

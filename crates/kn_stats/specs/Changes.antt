@@ -1,6 +1,7 @@
 -- Changes of live requests with their times, and what they make of a stretch of time. Lists have the earliest first.
 use Rattle.std.specs.Prelude.{ℕ, Bool, true, false, ◌+◌, ◌-◌, ◌*◌, ◌&&◌, ◌||◌, ◌==◌, not, ◌≤◌, max, min, List, [], ◌∷◌, ⊤, Option, None, Some, if◌then◌else◌}
 use Rattle.std.specs.List.{count_by, sum_by}
+use Rattle.kn_event.specs.Lists.{is_some_of}
 use Rattle.kn_scaling.specs.Average.{second_of}
 use Rattle.kn_stats.specs.declared.change.Change.{Change}
 use Rattle.kn_stats.specs.declared.change.Change.TheVariants as change
@@ -67,13 +68,9 @@ pod_of (change.Directed p) = Some p
 pod_of (change.EndedAt p proxied) = Some p
 pod_of _ = None
 
-abbrev pub is_pod : ℕ → Option ℕ → Bool
-is_pod p None = false
-is_pod p (Some q) = q == p
-
 -- the same kinds at pod p alone
 abbrev pub at : (Change → Bool) → ℕ → Change → Bool
-at test p c = test c && is_pod p (pod_of c)
+at test p c = test c && is_some_of p (pod_of c)
 
 -- a request comes to a pod, on either way
 abbrev pub is_arrival_at : ℕ → Change → Bool

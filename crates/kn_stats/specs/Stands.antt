@@ -2,6 +2,7 @@
 use Rattle.std.specs.Prelude.{◌≡◌, true, false, ℕ, Bool, ◌+◌, ◌-◌, ◌*◌, ◌%◌, ◌<◌, ◌≤◌, ◌==◌, min, nat_lt, List, [], length, Option, None, Some, if◌then◌else◌}
 use Rattle.std.specs.List.{list_any, sum_by}
 use Rattle.kn_event.specs.declared.revision.Metric.{Metric}
+use Rattle.kn_event.specs.Lists.{contains}
 use Rattle.kn_scaling.specs.Average.{second_of}
 use Rattle.kn_stats.specs.declared.change.Change.{Change}
 use Rattle.kn_stats.specs.declared.change.Change.TheVariants as change
@@ -43,17 +44,14 @@ pub record IsPodOf (p second : ℕ) (q : PodTally) (cs : List TimedChange) : Typ
   pub direct : IsTally (at is_directed p) (at ends_directed p) second (fresh second q).direct cs
   pub proxied : IsTally (at is_assigned p) (at ends_assigned p) second (fresh second q).proxied cs
 
-abbrev pub is_among : ℕ → List ℕ → Bool
-is_among p gone = list_any (λ q. q == p) gone
-
 -- it stands for these changes, where the pods in `gone` have left
-pub record StandsFor (s : StatsState) (cs : List TimedChange) (gone : List ℕ) : Type 0 where
+pub record IsStatsOf (s : StatsState) (cs : List TimedChange) (gone : List ℕ) : Type 0 where
   pub times : AreBy s.time cs
   pub waiting : s.waiting + count_of ends_waiting cs ≡ count_of is_admitted cs
   pub activator : IsTally is_admitted ends_admitted (second_of s.time) s.activator cs
   pub direct : IsTally is_directed ends_directed (second_of s.time) s.direct cs
   pub arrived : s.arrived ≡ arrived_count cs (second_of s.time)
-  pub pods : (p : ℕ) → is_among p gone ≡ false → IsPodOf p (second_of s.time) (found p s.pods) cs
+  pub pods : (p : ℕ) → contains p gone ≡ false → IsPodOf p (second_of s.time) (found p s.pods) cs
 
 -- ---- one change
 

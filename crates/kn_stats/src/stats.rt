@@ -1,8 +1,9 @@
 ghost use Rattle.std.specs.Prelude.{◌≡◌, ◌≤◌, ◌<◌, ◌+◌, ◌-◌, ◌*◌, false, min, ℕ, List, [], ◌∷◌, ◌++◌, IfOk, IfSome};
+ghost use Rattle.kn_event.specs.Lists.{contains};
 ghost use Rattle.kn_scaling.specs.Average.{second_of};
 ghost use Rattle.kn_stats.specs.Changes.{TimedChange, arrived_by, at, ends_assigned, is_arrival_at, is_assigned, is_end_at, load_by, time_taken, timed};
 ghost use Rattle.kn_stats.specs.Closing.{closed_by, end_of_first};
-ghost use Rattle.kn_stats.specs.Stands.{CanChange, IsIdle, IsWithin, StandsFor, advanced, changed, closed_at, is_among, opened, without};
+ghost use Rattle.kn_stats.specs.Stands.{CanChange, IsIdle, IsWithin, IsStatsOf, advanced, changed, closed_at, opened, without};
 
 use crate::clock::Clock;
 use crate::closed::run_of;
@@ -80,7 +81,7 @@ fn end_of_first(from: u64, to: u64) -> u64
 impl Stats {
     /// No change yet, at this time. It takes all the memory that it will ever have.
     pub fn new(alloc: Global, start: u64, metric: Metric) -> Result<Stats, Memory>
-        ensures stands { IfOk result (λ s. StandsFor s [] []) }
+        ensures stands { IfOk result (λ s. IsStatsOf s [] []) }
         ensures state { IfOk result (λ s. s ≡ opened metric start) }
     {
         let Ok(pods) = Vec::with_capacity(alloc, 20_500) else {
@@ -103,7 +104,7 @@ impl Stats {
     #[inline(always)]
     pub fn change(&mut self, c: Change)
         requires { CanChange self.old c }
-        ensures stands { (cs : List TimedChange) (gone : List ℕ) → StandsFor self.old cs gone → StandsFor self.new (cs ++ timed self.old.time c ∷ []) gone }
+        ensures stands { (cs : List TimedChange) (gone : List ℕ) → IsStatsOf self.old cs gone → IsStatsOf self.new (cs ++ timed self.old.time c ∷ []) gone }
         ensures state { self.new ≡ changed c self.old }
     {
         self.count(c);
@@ -151,7 +152,7 @@ impl Stats {
     /// A pod at which nothing is leaves. What it took of the open second still counts.
     pub fn pod_leaves(&mut self, p: u64)
         requires { IsIdle p self.old }
-        ensures stands { (cs : List TimedChange) (gone : List ℕ) → StandsFor self.old cs gone → StandsFor self.new cs (p ∷ gone) }
+        ensures stands { (cs : List TimedChange) (gone : List ℕ) → IsStatsOf self.old cs gone → IsStatsOf self.new cs (p ∷ gone) }
         ensures state { self.new ≡ without p self.old }
     {
         pods::remove(&mut self.pods, &mut self.hints, p);
@@ -161,12 +162,12 @@ impl Stats {
     #[inline(always)]
     pub fn advance(&mut self, to: u64, ready: bool) -> Closed
         requires { self.old.time ≤ to }
-        ensures closed { (cs : List TimedChange) (gone : List ℕ) → StandsFor self.old cs gone → result ≡ closed_by self.old.metric cs (second_of self.old.time) (second_of to) ready }
-        ensures alike { (cs : List TimedChange) (gone : List ℕ) (s : ℕ) → StandsFor self.old cs gone → second_of self.old.time < s → load_by cs s ≡ load_by cs (second_of self.old.time + 1) }
-        ensures quiet { (cs : List TimedChange) (gone : List ℕ) (s : ℕ) → StandsFor self.old cs gone → second_of self.old.time < s → arrived_by cs s ≡ 0 }
+        ensures closed { (cs : List TimedChange) (gone : List ℕ) → IsStatsOf self.old cs gone → result ≡ closed_by self.old.metric cs (second_of self.old.time) (second_of to) ready }
+        ensures alike { (cs : List TimedChange) (gone : List ℕ) (s : ℕ) → IsStatsOf self.old cs gone → second_of self.old.time < s → load_by cs s ≡ load_by cs (second_of self.old.time + 1) }
+        ensures quiet { (cs : List TimedChange) (gone : List ℕ) (s : ℕ) → IsStatsOf self.old cs gone → second_of self.old.time < s → arrived_by cs s ≡ 0 }
         ensures first_fits { IfSome result.first (λ run. (run.load ≤ 1000000000) × (run.arrived ≤ 1000000)) }
         ensures rest_fits { IfSome result.rest (λ run. (run.load ≤ 1000000000) × (run.arrived ≤ 1000000)) }
-        ensures stands { (cs : List TimedChange) (gone : List ℕ) → StandsFor self.old cs gone → StandsFor self.new cs gone }
+        ensures stands { (cs : List TimedChange) (gone : List ℕ) → IsStatsOf self.old cs gone → IsStatsOf self.new cs gone }
         ensures state { self.new ≡ advanced to self.old }
     {
         // (so it mostly is)
@@ -197,9 +198,9 @@ impl Stats {
 
     /// What requests at the pod took of the open second, up to the last advance. A pod that left has no area.
     pub fn pod_area(&self, p: u64) -> PodArea
-        ensures area { (cs : List TimedChange) (gone : List ℕ) → StandsFor self.now cs gone → is_among p gone ≡ false
+        ensures area { (cs : List TimedChange) (gone : List ℕ) → IsStatsOf self.now cs gone → contains p gone ≡ false
             → result.area ≡ time_taken (is_arrival_at p) (is_end_at p) (1000 * second_of self.now.time) self.now.time cs }
-        ensures proxied { (cs : List TimedChange) (gone : List ℕ) → StandsFor self.now cs gone → is_among p gone ≡ false
+        ensures proxied { (cs : List TimedChange) (gone : List ℕ) → IsStatsOf self.now cs gone → contains p gone ≡ false
             → result.proxied ≡ time_taken (at is_assigned p) (at ends_assigned p) (1000 * second_of self.now.time) self.now.time cs }
     {
         let left = self.clock.left();

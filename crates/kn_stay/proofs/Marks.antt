@@ -2,8 +2,8 @@
 use Rattle.std.proofs.Common.{◌≡◌, Bool, List, map, sym, ◌∙◌, arith, false}
 use Rattle.std.specs.Prelude.{All}
 use Rattle.std.proofs.lemmas.List.{get_or-map, length-map}
+use Rattle.kn_event.specs.Lists.{EachIs}
 use Rattle.kn_request.specs.declared.slot.Slot.{Slot}
-use Rattle.kn_session.specs.Lists.{EachIs}
 use Rattle.kn_session.specs.Passes.{IsUnmarked}
 
 -- where no slot has a mark, no work has one

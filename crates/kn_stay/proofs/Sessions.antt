@@ -3,6 +3,7 @@ use Rattle.std.proofs.Common.{◌≡◌, ◌⊎◌, ◌*◌, ◌^◌, ℕ, List,
 use Rattle.std.specs.Prelude.{Option, Result}
 use Rattle.std.proofs.lemmas.List.{length-map}
 use Rattle.kn_event.specs.declared.revision.Spec.{Spec}
+use Rattle.kn_event.specs.Lists.{EachIs}
 use Rattle.kn_io.specs.declared.traits.Failed.{Failed}
 use Rattle.kn_trace.specs.Events.{opening}
 use Rattle.kn_core.specs.State.{RevisionState, StandsFor}
@@ -16,7 +17,7 @@ use Rattle.kn_request.specs.declared.slot.Slot.{Slot}
 use Rattle.kn_request.specs.Terms.{watched}
 use Rattle.kn_session.specs.declared.lasting.Lasting.{Lasting}
 use Rattle.kn_session.specs.Lasting.{Lasted, SlotLasted}
-use Rattle.kn_session.specs.Lists.{EachDone, EachIs}
+use Rattle.kn_session.specs.Lists.{EachDone}
 use Rattle.kn_session.specs.Passes.{IsFirst, IsUnmarked, Kind, lasting_kind}
 use Rattle.kn_session.specs.Rounds.{IsPaced}
 use Rattle.kn_session.specs.Session.{IsFine, IsOneHistory, IsTickedIn}

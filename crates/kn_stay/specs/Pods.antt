@@ -4,15 +4,11 @@ use Rattle.kn_event.specs.declared.revision.Kind.{Kind}
 use Rattle.kn_event.specs.declared.revision.Kind.TheVariants as kind
 use Rattle.kn_event.specs.declared.revision.Spec.{Spec}
 use Rattle.kn_trace.specs.Scale.{opening_scale}
-
--- how many pods the revision opens with
-abbrev pub pods_at_first : Kind → Spec → ℕ
-pods_at_first (kind.Fixed pods) s = pods
-pods_at_first kind.Kpa s = opening_scale s
+use Rattle.kn_core.specs.Opening.{first_count}
 
 -- the most pods that it names: those that it opens with, or its max-scale where that is more. A max-scale of 0 is none
 abbrev pub named_pods : Spec → ℕ
-named_pods s = max (pods_at_first s.kind s) s.max
+named_pods s = max (first_count s.kind s) s.max
 
 -- they are more than the addresses. Where there are 0 of these, a pod's number is its address
 pub record HasTooMany (addresses : ℕ) (s : Spec) : Type 0 where

@@ -3,7 +3,8 @@ use Rattle.std.proofs.Common.{◌≡◌, sym, ap, ◌∙◌, ℕ, ◌+◌, ◌�
 use Rattle.std.specs.Prelude.{IfSome, nat_le, option_map, slice_get}
 use Rattle.std.specs.List.{AllPairs, filter}
 use Rattle.std.proofs.lemmas.Bool.Decides.{nat_tests}
-use Rattle.kn_trace.specs.Trace.{contains, first_of}
+use Rattle.kn_event.specs.Lists.{contains}
+use Rattle.kn_trace.specs.Trace.{first_of}
 use Rattle.kn_record.specs.declared.admission.Place.{Place}
 use Rattle.kn_record.specs.declared.admission.Request.{Request}
 use Rattle.kn_record.specs.Admission.{placed_in, waits}

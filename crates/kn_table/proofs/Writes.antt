@@ -4,8 +4,8 @@ use Rattle.std.specs.Prelude.{◌&&◌, MatchOption, IsSome, is_some}
 use Rattle.std.specs.List.{All, filter}
 use Rattle.std.proofs.lemmas.List.{get_or-set_same, get_or_default, length-map, length-set, length_push}
 use Rattle.std.proofs.lemmas.List.Folds.{position_or_len-set}
+use Rattle.kn_event.specs.Lists.{contains}
 use Rattle.kn_trace.specs.Events.{live_most}
-use Rattle.kn_trace.specs.Trace.{contains}
 use Rattle.kn_record.specs.declared.admission.Place.{Place}
 use Rattle.kn_record.specs.declared.admission.Place.TheVariants as place
 use Rattle.kn_record.specs.declared.admission.Request.{Request}

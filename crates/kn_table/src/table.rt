@@ -1,6 +1,7 @@
 ghost use Rattle.std.specs.Prelude.{◌≡◌, ◌==◌, ◌+◌, ◌<◌, ◌≤◌, ℕ, Bool, true, false, List, [], ◌∷◌, ◌++◌, All, IfOk, IfSome, filter, find, is_some, length, nat_le, vec_capacity};
+ghost use Rattle.kn_event.specs.Lists.{contains};
 ghost use Rattle.kn_trace.specs.Events.{live_most};
-ghost use Rattle.kn_trace.specs.Trace.{contains, first_of};
+ghost use Rattle.kn_trace.specs.Trace.{first_of};
 ghost use Rattle.kn_record.specs.declared.admission.Place.{Place};
 ghost use Rattle.kn_record.specs.declared.admission.Place.TheVariants as place;
 ghost use Rattle.kn_record.specs.declared.admission.Request.{Request};

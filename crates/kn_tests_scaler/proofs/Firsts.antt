@@ -14,7 +14,7 @@ use Rattle.kn_trace.specs.Trace.{Trace, arrivals, each_row, entry, in_breaker, i
 use Rattle.kn_record.specs.Facts.{Facts}
 use Rattle.kn_record.specs.Made.{IsMade, IsProper}
 use Rattle.kn_laws.specs.Facts.{PartFacts}
-use Rattle.kn_scaler.specs.Stands.{IsNextOfSome, IsNextRow, ScalerState, StandsFor, StandsForSome}
+use Rattle.kn_scaler.specs.Stands.{IsNextOfSome, IsNextRow, ScalerState, IsScalerOfTrace, StandsForSome}
 
 filter-none : (t : ℕ → Bool) (xs : List ℕ) → ((x : ℕ) → t x ≡ false) → filter t xs ≡ []
 filter-none t [] none = refl
@@ -46,7 +46,7 @@ module _ (facts : Facts) (parts : PartFacts) (s : Spec) (start : ℕ) where
   pub opening_made : IsMade s (opening s start)
   opening_made = facts.proper.made_opening s start
 
-  pub first_next : (x : ScalerState) (tag : ℕ) → 0 < s.slots.depth + s.slots.max → StandsFor s x (opening s start) → IsNextRow x (row.Admit 0 tag) stand.Unknown false s (opening s start)
+  pub first_next : (x : ScalerState) (tag : ℕ) → 0 < s.slots.depth + s.slots.max → IsScalerOfTrace s x (opening s start) → IsNextRow x (row.Admit 0 tag) stand.Unknown false s (opening s start)
   first_next x tag some stands = record {
     stands = stands;
     made = opening_made;
@@ -54,13 +54,13 @@ module _ (facts : Facts) (parts : PartFacts) (s : Spec) (start : ℕ) where
     told = record { stands = λ r is. absurd (cc); handed = λ r is. absurd (cc) };
   }
 
-  pub first_of_some : (x : ScalerState) (tag : ℕ) → 0 < s.slots.depth + s.slots.max → StandsFor s x (opening s start) → IsNextOfSome x (row.Admit 0 tag) stand.Unknown false
+  pub first_of_some : (x : ScalerState) (tag : ℕ) → 0 < s.slots.depth + s.slots.max → IsScalerOfTrace s x (opening s start) → IsNextOfSome x (row.Admit 0 tag) stand.Unknown false
   first_of_some x tag some stands = ∣ (s, opening s start, first_next x tag some stands, tt) ∣₁
 
   pub first_made : (t tag : ℕ) → 0 < s.slots.depth + s.slots.max → IsMade s (opening s start ++ entry t (row.Admit 0 tag) ∷ [])
   first_made t tag some = facts.proper.made_more s (opening s start) (entry t (row.Admit 0 tag) ∷ []) opening_made (first_proper tag some, tt)
 
-pub for_some : (s : Spec) (x : ScalerState) (c : Trace) → IsMade s c → StandsFor s x c → StandsForSome x
+pub for_some : (s : Spec) (x : ScalerState) (c : Trace) → IsMade s c → IsScalerOfTrace s x c → StandsForSome x
 for_some s x c made stands =
-    let P : Spec → Type 0 = λ z. (b : Trace) × IsMade z b × StandsFor z x b in
+    let P : Spec → Type 0 = λ z. (b : Trace) × IsMade z b × IsScalerOfTrace z x b in
     ∣ subst P (sym stands.spec) (c, made, stands) ∣₁

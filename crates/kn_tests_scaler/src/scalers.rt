@@ -2,7 +2,7 @@
 ghost use Rattle.std.specs.Prelude.{◌≡◌, ◌^◌, ◌+◌, ◌<◌, ◌≤◌, IfSome};
 ghost use Rattle.kn_event.specs.declared.revision.Kind.TheVariants as kind;
 ghost use Rattle.kn_trace.specs.Events.{opening};
-ghost use Rattle.kn_scaler.specs.Stands.{StandsFor, StandsForSome};
+ghost use Rattle.kn_scaler.specs.Stands.{IsScalerOfTrace, StandsForSome};
 
 use crate::outcome::Outcome;
 use kn_event::{Decision, Frac, Kind, Mode, Phase, Row, Slots, Spec, Stand};
@@ -13,7 +13,7 @@ use std::alloc::Global;
 
 /// The first request is admitted at this time.
 fn admit_first(scaler: &mut Scaler, spec: &Spec, time: u64)
-    requires stands { StandsFor spec.now scaler.old (opening spec.now 0) }
+    requires stands { IsScalerOfTrace spec.now scaler.old (opening spec.now 0) }
     requires order { scaler.old.stats.time ≤ time }
     requires range { time ≤ 2 ^ 42 }
     requires slots { 0 < spec.now.slots.depth + spec.now.slots.max }
@@ -80,7 +80,7 @@ fn opens(scaler: &mut Scaler) -> bool
 
 /// With no pod wanted, the first request that is admitted wakes the revision; then a pod is Ready.
 fn wakes(scaler: &mut Scaler, spec: &Spec) -> bool
-    requires stands { StandsFor spec.now scaler.old (opening spec.now 0) }
+    requires stands { IsScalerOfTrace spec.now scaler.old (opening spec.now 0) }
     requires time { scaler.old.stats.time ≡ 0 }
     requires slots { 0 < spec.now.slots.depth + spec.now.slots.max }
 {
@@ -95,7 +95,7 @@ fn wakes(scaler: &mut Scaler, spec: &Spec) -> bool
 
 /// A request that is held from half a second on takes half of that one and all of the next.
 fn holds(scaler: &mut Scaler, spec: &Spec) -> bool
-    requires stands { StandsFor spec.now scaler.old (opening spec.now 0) }
+    requires stands { IsScalerOfTrace spec.now scaler.old (opening spec.now 0) }
     requires time { scaler.old.stats.time ≡ 0 }
     requires slots { 0 < spec.now.slots.depth + spec.now.slots.max }
 {
@@ -117,7 +117,7 @@ enum Case {
 }
 
 fn goes_well(scaler: &mut Scaler, spec: &Spec, case: Case) -> bool
-    requires stands { StandsFor spec.now scaler.old (opening spec.now 0) }
+    requires stands { IsScalerOfTrace spec.now scaler.old (opening spec.now 0) }
     requires time { scaler.old.stats.time ≡ 0 }
     requires slots { 0 < spec.now.slots.depth + spec.now.slots.max }
 {

@@ -1,6 +1,6 @@
 //! Whole sessions, most of one round a slot. The clock stands still, and the ticker makes the pod Ready.
 ghost use Rattle.std.specs.Prelude.{◌≡◌, true, length};
-ghost use Rattle.kn_session.specs.Lists.{EachIs};
+ghost use Rattle.kn_event.specs.Lists.{EachIs};
 ghost use Rattle.kn_serve.specs.Opening.{IsEmptyWork};
 ghost use Rattle.kn_serve.specs.Running.{IsInRange};
 

@@ -4,11 +4,12 @@ use Rattle.std.specs.List.{filter}
 use Rattle.std.specs.Option.{is_some}
 use Rattle.std.proofs.lemmas.List.{length-map}
 use Rattle.std.proofs.lemmas.Bool.{eq-eqb}
+use Rattle.kn_event.specs.Lists.{contains}
 use Rattle.kn_record.specs.declared.admission.Pod.{Pod}
 use Rattle.kn_record.specs.declared.admission.Readiness.{Readiness}
 use Rattle.kn_record.specs.declared.admission.Readiness.TheVariants.{Starting, Ready, Draining}
 use Rattle.kn_record.specs.Admission.{is_starting_now, marked, pods_in, readied, with_readiness}
-use Rattle.kn_trace.specs.Trace.{contains, first_of}
+use Rattle.kn_trace.specs.Trace.{first_of}
 
 or_true : (b : Bool) → (b || true) ≡ true
 or_true true = refl

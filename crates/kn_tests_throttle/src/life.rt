@@ -1,6 +1,6 @@
 //! A pod comes, its limit is cut, and it is lost with its request.
 ghost use Rattle.std.specs.Prelude.{◌≡◌, [], true};
-ghost use Rattle.kn_trace.specs.Trace.{contains};
+ghost use Rattle.kn_event.specs.Lists.{contains};
 ghost use Rattle.kn_record.specs.Admission.{nothing_yet};
 ghost use Rattle.kn_record.specs.Views.{pod_numbers};
 

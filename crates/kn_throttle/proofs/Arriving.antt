@@ -9,8 +9,9 @@ use Rattle.kn_event.specs.declared.entry.Mode.{Mode}
 use Rattle.kn_event.specs.declared.entry.Mode.TheVariants as mode
 use Rattle.kn_event.specs.declared.event.Act.TheVariants as act
 use Rattle.kn_event.specs.declared.revision.Spec.{Spec}
+use Rattle.kn_event.specs.Lists.{contains}
 use Rattle.kn_trace.specs.declared.candidate.Cand.{Cand}
-use Rattle.kn_trace.specs.Trace.{contains, is_empty}
+use Rattle.kn_trace.specs.Trace.{is_empty}
 use Rattle.kn_trace.specs.Events.{live_most}
 use Rattle.kn_breaker.specs.Breaker as breaker
 use Rattle.kn_seats.specs.Seats as seats

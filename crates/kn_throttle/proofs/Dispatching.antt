@@ -5,8 +5,9 @@ use Rattle.std.specs.List.{All, filter}
 use Rattle.std.proofs.lemmas.Bool.{eqb-true, eq-eqb}
 use Rattle.std.proofs.lemmas.Bool.Decides.{nat_tests}
 use Rattle.kn_event.specs.declared.revision.Spec.{Spec}
+use Rattle.kn_event.specs.Lists.{contains}
 use Rattle.kn_trace.specs.declared.candidate.Cand.{Cand}
-use Rattle.kn_trace.specs.Trace.{contains, first_of, is_empty}
+use Rattle.kn_trace.specs.Trace.{first_of, is_empty}
 use Rattle.kn_breaker.specs.Breaker as breaker
 use Rattle.kn_seats.specs.Seats as seats
 use Rattle.kn_seats.specs.Pods.{has_free_seat, pod_at, requests_at_all}

@@ -5,8 +5,9 @@ use Rattle.std.specs.List.{All}
 use Rattle.std.proofs.lemmas.Bool.{eq-eqb}
 use Rattle.std.proofs.lemmas.List.Elements.{All-head, All-tail}
 use Rattle.kn_event.specs.declared.revision.Spec.{Spec}
+use Rattle.kn_event.specs.Lists.{contains}
 use Rattle.kn_trace.specs.declared.candidate.Cand.{Cand}
-use Rattle.kn_trace.specs.Trace.{contains, is_empty}
+use Rattle.kn_trace.specs.Trace.{is_empty}
 use Rattle.kn_breaker.specs.Breaker as breaker
 use Rattle.kn_seats.specs.Seats as seats
 use Rattle.kn_seats.specs.Pods.{has_pod, pod_at, requests_at_all, without_request}

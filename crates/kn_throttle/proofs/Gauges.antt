@@ -4,8 +4,9 @@ use Rattle.std.specs.Prelude.{sum_by}
 use Rattle.std.specs.List.{All}
 use Rattle.std.proofs.lemmas.List.Sums.{sum_by-cons}
 use Rattle.kn_event.specs.declared.revision.Spec.{Spec}
+use Rattle.kn_event.specs.Lists.{contains}
 use Rattle.kn_trace.specs.declared.candidate.Cand.{Cand}
-use Rattle.kn_trace.specs.Trace.{Trace, contains, limit_of, live_pods, queued_at, running_at}
+use Rattle.kn_trace.specs.Trace.{Trace, limit_of, live_pods, queued_at, running_at}
 use Rattle.kn_breaker.specs.Breaker as breaker
 use Rattle.kn_seats.specs.Kept.{queued_at_all}
 use Rattle.kn_seats.specs.Pods.{pod_at, requests_at_all}

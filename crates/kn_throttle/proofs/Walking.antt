@@ -9,10 +9,11 @@ use Rattle.kn_event.specs.declared.entry.Entry.{Entry}
 use Rattle.kn_event.specs.declared.entry.Row.{Row}
 use Rattle.kn_event.specs.declared.entry.Row.TheVariants as row
 use Rattle.kn_event.specs.declared.revision.Spec.{Spec}
+use Rattle.kn_event.specs.Lists.{contains}
 use Rattle.kn_trace.specs.declared.candidate.Cand.{Cand}
 use Rattle.kn_trace.specs.Rows.{arrived_by, created_by}
 use Rattle.kn_record.specs.Order.{AreTimed}
-use Rattle.kn_trace.specs.Trace.{Trace, contains, entry, first_of, is_empty}
+use Rattle.kn_trace.specs.Trace.{Trace, entry, first_of, is_empty}
 use Rattle.kn_trace.specs.Choice.{chosen_pod, generator_at, has_seat}
 use Rattle.kn_trace.specs.Settling.{promotions}
 use Rattle.kn_breaker.specs.Breaker as breaker
@@ -25,7 +26,7 @@ use Rattle.kn_record.specs.declared.admission.Place.TheVariants as place
 use Rattle.kn_record.specs.declared.admission.Request.{Request}
 use Rattle.kn_record.specs.declared.admission.Pod.{Pod}
 use Rattle.kn_record.specs.Admission.{Admission, begins, candidate_of, candidates_in, capacity_in, is_assigned_place, is_at, is_draining_now, is_held_place, is_ready_now, next_in, placed_in, pods_in, queues_at, stepped, waits}
-use Rattle.kn_record.specs.Made.{StandsFor}
+use Rattle.kn_record.specs.Made.{IsRecordOf}
 use Rattle.kn_record.specs.Views.{has_free_seat_in, is_free, is_pod_where, pod_numbered, pod_numbers}
 use Rattle.kn_record.specs.Walks.{BeginsWith, leaving_in, promoting}
 use Rattle.kn_table.specs.Moves.{Moves}
@@ -233,9 +234,9 @@ kept_left_all s a b t k p run leave h f = record { sound = h.sound; breaker = h.
 -- ---- runs
 
 -- p's run comes first, for the pods before it have none, and get none
-pub walk_run : ((s : Spec) (a : Admission) (c : Trace) (t p : ℕ) (ps : List ℕ) (r : ℕ) → StandsFor a c → first_of (placed_in (queues_at p) a.live) ≡ Some r → has_free_seat_in a p ≡ true → BeginsWith (promoting t (p ∷ ps)) t (row.Run r) a c)
-    → ((s : Spec) (a : Admission) (c : Trace) (t p : ℕ) (ps : List ℕ) → StandsFor a c → contains p (pod_numbers a.pods) ≡ true → (first_of (placed_in (queues_at p) a.live) ≡ None) ⊎ (has_free_seat_in a p ≡ false) → promoting t (p ∷ ps) c ≡ promoting t ps c)
-    → (s : Spec) (a : Admission) (c : Trace) (t p r : ℕ) (all : List Pod) → StandsFor a c → All (λ (q : Pod). pod_numbered q.number a.pods ≡ Some q) all → Moves r (place.Queued p) (place.Running p false) a.live (begins r a.live)
+pub walk_run : ((s : Spec) (a : Admission) (c : Trace) (t p : ℕ) (ps : List ℕ) (r : ℕ) → IsRecordOf a c → first_of (placed_in (queues_at p) a.live) ≡ Some r → has_free_seat_in a p ≡ true → BeginsWith (promoting t (p ∷ ps)) t (row.Run r) a c)
+    → ((s : Spec) (a : Admission) (c : Trace) (t p : ℕ) (ps : List ℕ) → IsRecordOf a c → contains p (pod_numbers a.pods) ≡ true → (first_of (placed_in (queues_at p) a.live) ≡ None) ⊎ (has_free_seat_in a p ≡ false) → promoting t (p ∷ ps) c ≡ promoting t ps c)
+    → (s : Spec) (a : Admission) (c : Trace) (t p r : ℕ) (all : List Pod) → IsRecordOf a c → All (λ (q : Pod). pod_numbered q.number a.pods ≡ Some q) all → Moves r (place.Queued p) (place.Running p false) a.live (begins r a.live)
     → first_of (pods_where (can_run a.live) all) ≡ Some p → first_of (placed_in (queues_at p) a.live) ≡ Some r → BeginsWith (promoting t (pod_numbers all)) t (row.Run r) a c
 unfolding stepped
 walk_run promote promoted s a c t p r [] h each m f g = absurd (cc)
@@ -281,8 +282,8 @@ walk_run promote promoted s a c t p r (q ∷ all) h each m f g =
         )
 
 -- no pod has one
-pub walk_none : ((s : Spec) (a : Admission) (c : Trace) (t p : ℕ) (ps : List ℕ) → StandsFor a c → contains p (pod_numbers a.pods) ≡ true → (first_of (placed_in (queues_at p) a.live) ≡ None) ⊎ (has_free_seat_in a p ≡ false) → promoting t (p ∷ ps) c ≡ promoting t ps c)
-    → (s : Spec) (a : Admission) (c : Trace) (t : ℕ) (all : List Pod) → StandsFor a c → All (λ (q : Pod). pod_numbered q.number a.pods ≡ Some q) all → All (λ (q : Pod). can_run a.live q ≡ false) all → promoting t (pod_numbers all) c ≡ []
+pub walk_none : ((s : Spec) (a : Admission) (c : Trace) (t p : ℕ) (ps : List ℕ) → IsRecordOf a c → contains p (pod_numbers a.pods) ≡ true → (first_of (placed_in (queues_at p) a.live) ≡ None) ⊎ (has_free_seat_in a p ≡ false) → promoting t (p ∷ ps) c ≡ promoting t ps c)
+    → (s : Spec) (a : Admission) (c : Trace) (t : ℕ) (all : List Pod) → IsRecordOf a c → All (λ (q : Pod). pod_numbered q.number a.pods ≡ Some q) all → All (λ (q : Pod). can_run a.live q ≡ false) all → promoting t (pod_numbers all) c ≡ []
 unfolding promoting promotions
 walk_none promoted s a c t [] h each none = refl
 walk_none promoted s a c t (q ∷ all) h each none =

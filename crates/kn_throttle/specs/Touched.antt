@@ -1,7 +1,7 @@
 -- Which pods may have something to do.
 use Rattle.std.specs.Prelude.{◌≡◌, ℕ, Bool, true, false, ◌==◌, List, if◌then◌else◌, ⊤}
 use Rattle.std.specs.List.{All}
-use Rattle.kn_trace.specs.Trace.{contains}
+use Rattle.kn_event.specs.Lists.{contains}
 use Rattle.kn_record.specs.declared.admission.Pod.{Pod}
 use Rattle.kn_record.specs.Views.{pod_numbers}
 use Rattle.kn_throttle.specs.declared.touched.Touched.{Touched}

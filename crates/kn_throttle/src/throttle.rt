@@ -1,10 +1,11 @@
 //! The throttler: what it keeps, and what it answers about it.
 ghost use Rattle.std.specs.Prelude.{◌≡◌, IfOk, true, length};
 ghost use Rattle.kn_event.specs.declared.revision.Spec.{Spec};
-ghost use Rattle.kn_trace.specs.Trace.{Trace, contains, first_of, proxied, stand_of};
+ghost use Rattle.kn_event.specs.Lists.{contains};
+ghost use Rattle.kn_trace.specs.Trace.{Trace, first_of, proxied, stand_of};
 ghost use Rattle.kn_trace.specs.Events.{due, lost_with};
 ghost use Rattle.kn_record.specs.Admission.{is_assigned_place, is_at, nothing_yet, placed_in};
-ghost use Rattle.kn_record.specs.Made.{StandsFor};
+ghost use Rattle.kn_record.specs.Made.{IsRecordOf};
 ghost use Rattle.kn_record.specs.Views.{due_in, pod_numbers, stand_in, stand_of_place};
 
 mod arriving;
@@ -113,7 +114,7 @@ impl Throttle {
     /// The least number of a request that has waited for its whole timeout at this time. None where there is none.
     pub fn due(&self, time: u64) -> Option<u64>
         ensures value { result ≡ first_of (due_in self.now.spec.timeout_ms time self.now.admission.live) }
-        ensures due { (c : Trace) → StandsFor self.now.admission c → result ≡ first_of (due self.now.spec time c) }
+        ensures due { (c : Trace) → IsRecordOf self.now.admission c → result ≡ first_of (due self.now.spec time c) }
     {
         append_laws();
         self.table.first_due(self.spec.timeout_ms, time)
@@ -123,7 +124,7 @@ impl Throttle {
     #[inline(always)]
     pub fn stand(&self, r: u64) -> Stand
         ensures value { result ≡ stand_in self.now.admission r }
-        ensures stand { (c : Trace) → StandsFor self.now.admission c → result ≡ stand_of c r }
+        ensures stand { (c : Trace) → IsRecordOf self.now.admission c → result ≡ stand_of c r }
     {
         append_laws();
         if r >= self.arrivals {
@@ -153,7 +154,7 @@ impl Throttle {
     #[inline(always)]
     pub fn proxied(&self, r: u64) -> bool
         ensures value { result ≡ contains r (placed_in is_assigned_place self.now.admission.live) }
-        ensures proxied { (c : Trace) → StandsFor self.now.admission c → result ≡ proxied c r }
+        ensures proxied { (c : Trace) → IsRecordOf self.now.admission c → result ≡ proxied c r }
     {
         append_laws();
         match self.table.get(r) {
@@ -166,7 +167,7 @@ impl Throttle {
     pub fn first_at(&self, p: u64) -> Option<u64>
         requires { contains p (pod_numbers self.now.admission.pods) ≡ true }
         ensures value { result ≡ first_of (placed_in (is_at p) self.now.admission.live) }
-        ensures first { (c : Trace) → StandsFor self.now.admission c → result ≡ first_of (lost_with c p) }
+        ensures first { (c : Trace) → IsRecordOf self.now.admission c → result ≡ first_of (lost_with c p) }
     {
         append_laws();
         // (the table is looked through for those alone that have one)

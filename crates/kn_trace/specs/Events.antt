@@ -18,10 +18,12 @@ use Rattle.kn_event.specs.declared.event.Stand.TheVariants as stand
 use Rattle.kn_event.specs.declared.revision.Spec.{Spec}
 use Rattle.kn_event.specs.declared.revision.Kind.{Kind}
 use Rattle.kn_event.specs.declared.revision.Kind.TheVariants as kind
+use Rattle.kn_event.specs.Lists.{contains}
+use Rattle.kn_scaling.specs.Zero.{opening_phase}
 use Rattle.kn_trace.specs.Rows.{taken_by}
-use Rattle.kn_trace.specs.Trace.{Trace, entry, arrivals, contains, first_of, has_not_begun, is_empty, is_running, is_starting, at_pod, live, live_pods, ready_pods, direct_turn, stand_of, waiting}
+use Rattle.kn_trace.specs.Trace.{Trace, entry, arrivals, first_of, has_not_begun, is_empty, is_running, is_starting, at_pod, live, live_pods, ready_pods, direct_turn, stand_of, waiting}
 use Rattle.kn_trace.specs.Capacity.{breaker_full, pod_full}
-use Rattle.kn_trace.specs.Scale.{creations, is_same_phase, mode_of, opening_scale, phase_of, tick_rows, wake_rows, wanted, where_true}
+use Rattle.kn_trace.specs.Scale.{creations, is_in_phase, mode_of, opening_scale, phase_of, tick_rows, wake_rows, wanted, where_true}
 use Rattle.kn_trace.specs.Settling.{settling}
 
 -- ---- first, who waited too long
@@ -115,7 +117,7 @@ act_rows s t c a =
 
 -- a revision that waits for its first Ready pod is active from then on
 unfoldable pub activation : ℕ → Trace → List Entry
-activation t c = where_true (is_same_phase phase.Activating (phase_of c) && not (is_empty (ready_pods c))) (entry t (row.Phase phase.Active) ∷ [])
+activation t c = where_true (is_in_phase phase.Activating (phase_of c) && not (is_empty (ready_pods c))) (entry t (row.Phase phase.Active) ∷ [])
 
 -- ---- an event
 
@@ -164,10 +166,6 @@ unfoldable pub told_of : Spec → Trace → Event → Told
 told_of s c e = told_row (c ++ react s c e) (row_of (first_of (act_rows s e.time (c ++ departures s c e) e.act)))
 
 -- ---- a whole run
-
-abbrev pub opening_phase : ℕ → Phase
-opening_phase zero = phase.Inactive
-opening_phase (suc want) = phase.Activating
 
 abbrev pub opening_of : Kind → Spec → ℕ → List Entry
 opening_of (kind.Fixed pods) s start = creations s start 0 pods

@@ -6,10 +6,11 @@ use Rattle.kn_event.specs.declared.entry.Row.TheVariants as row
 use Rattle.kn_event.specs.declared.entry.Phase.TheVariants as phase
 use Rattle.kn_event.specs.declared.event.Event.{Event}
 use Rattle.kn_event.specs.declared.revision.Spec.{Spec}
+use Rattle.kn_event.specs.Lists.{contains}
 use Rattle.kn_trace.specs.Rows.{outcome_by}
-use Rattle.kn_trace.specs.Trace.{Trace, entry, each_row, contains, first_of, held, at_pod, live_pods, pod_of, queued_at, ready_pods, draining, has_free_seat}
+use Rattle.kn_trace.specs.Trace.{Trace, entry, each_row, first_of, held, at_pod, live_pods, pod_of, queued_at, ready_pods, draining, has_free_seat}
 use Rattle.kn_trace.specs.Capacity.{capacity, in_use, breaker_full, pod_full}
-use Rattle.kn_trace.specs.Scale.{is_same_phase, phase_of}
+use Rattle.kn_trace.specs.Scale.{is_in_phase, phase_of}
 use Rattle.kn_trace.specs.Events.{act_row, expiries, react}
 
 -- P holds of each row of a trace and of the trace before its entry
@@ -88,7 +89,7 @@ pub record IsSettled (s : Spec) (c : Trace) : Type 0 where
   -- a draining pod has a request
   pub draining : (p : ℕ) → contains p (draining c) ≡ true → (at_pod c p ≡ [] → ⊥)
   -- the phase is not activating while a pod is Ready
-  pub active : (p : ℕ) → contains p (ready_pods c) ≡ true → is_same_phase phase.Activating (phase_of c) ≡ false
+  pub active : (p : ℕ) → contains p (ready_pods c) ≡ true → is_in_phase phase.Activating (phase_of c) ≡ false
 
 -- ---- inert refusals
 

@@ -5,7 +5,8 @@ use Rattle.std.specs.List.{filter, filter_map, sum_by}
 use Rattle.kn_event.specs.declared.entry.Entry.{Entry}
 use Rattle.kn_event.specs.declared.revision.Metric.{Metric}
 use Rattle.kn_event.specs.declared.revision.Metric.TheVariants as metric
-use Rattle.kn_scaling.specs.Average.{Samples, second_of}
+use Rattle.kn_event.specs.Lists.{is_some_of}
+use Rattle.kn_scaling.specs.Average.{Samples, second_of, value_of}
 use Rattle.kn_trace.specs.Rows.{taken_by, ended_by}
 use Rattle.kn_trace.specs.Trace.{Trace, first_of, is_empty, ready_pods}
 
@@ -13,10 +14,6 @@ use Rattle.kn_trace.specs.Trace.{Trace, first_of, is_empty, ready_pods}
 pub record Span : Type 0 where
   pub from : ℕ
   pub until : Option ℕ
-
-abbrev pub is_some_of : ℕ → Option ℕ → Bool
-is_some_of r None = false
-is_some_of r (Some q) = q == r
 
 -- the time of the entry, where it ends request r
 abbrev pub end_by : ℕ → Entry → Option ℕ
@@ -64,11 +61,6 @@ taken_in s e = if second_of e.time == s then taken_by e.row else None
 -- how many requests were taken in in second s, through the activator or past it
 unfoldable pub count_in : Trace → ℕ → ℕ
 count_in c s = min count_most (length (filter_map (taken_in s) c))
-
--- what a second counts for: its load, or 1,000 for each request that was taken in in it
-abbrev pub value_of : Metric → ℕ → ℕ → ℕ
-value_of metric.Concurrency load count = load
-value_of metric.Rps load count = 1000 * count
 
 -- a second is a sample where its value or its load is above 0, or a pod is Ready at its end, which is after all entries
 -- before the next second. Before the start there is none of these

@@ -83,6 +83,17 @@ turned_by (row.Direct r p) = Some r
 turned_by (row.QueueFull r (Some p)) = Some r
 turned_by _ = None
 
+-- the request that begins to run with the row: assigned, or with a run row of its own
+abbrev pub begun_by : Row → Option ℕ
+begun_by (row.Assign r p) = Some r
+begun_by (row.Run r) = Some r
+begun_by _ = None
+
+-- the request whose timeout is over
+abbrev pub expired_by : Row → Option ℕ
+expired_by (row.Expire r) = Some r
+expired_by _ = None
+
 -- ---- pods
 
 abbrev pub created_by : Row → Option ℕ

@@ -12,6 +12,7 @@ use Rattle.kn_event.specs.declared.revision.Spec.{Spec}
 use Rattle.kn_scaling.specs.declared.zero.Standing.{Standing}
 use Rattle.kn_scaling.specs.Decide as scaling
 use Rattle.kn_scaling.specs.Decide.{Decided, Past, Ruling}
+use Rattle.kn_scaling.specs.Burst.{is_same_mode}
 use Rattle.kn_trace.specs.Rows.{phase_by, mode_by, decision_by}
 use Rattle.kn_trace.specs.Trace.{Trace, entry, each_row, last_of, ready_pods, starting_pods, created}
 use Rattle.kn_trace.specs.Load.{samples}
@@ -98,16 +99,11 @@ scale_rows s t c want =
 
 -- ---- the rows of a decision
 
-abbrev pub is_same_phase : Phase → Option Phase → Bool
-is_same_phase phase.Activating (Some phase.Activating) = true
-is_same_phase phase.Active (Some phase.Active) = true
-is_same_phase phase.Inactive (Some phase.Inactive) = true
-is_same_phase _ _ = false
-
-abbrev pub is_same_mode : Mode → Mode → Bool
-is_same_mode mode.Proxy mode.Proxy = true
-is_same_mode mode.Serve mode.Serve = true
-is_same_mode _ _ = false
+abbrev pub is_in_phase : Phase → Option Phase → Bool
+is_in_phase phase.Activating (Some phase.Activating) = true
+is_in_phase phase.Active (Some phase.Active) = true
+is_in_phase phase.Inactive (Some phase.Inactive) = true
+is_in_phase _ _ = false
 
 abbrev pub where_true : Bool → List Entry → List Entry
 where_true false es = []
@@ -117,7 +113,7 @@ where_true true es = es
 unfoldable pub decision_rows : Spec → ℕ → Trace → Ruling → List Entry
 decision_rows s t c made =
     entry t (row.Decided made.decision)
-    ∷ where_true (not (is_same_phase made.phase (phase_of c))) (entry t (row.Phase made.phase) ∷ [])
+    ∷ where_true (not (is_in_phase made.phase (phase_of c))) (entry t (row.Phase made.phase) ∷ [])
     ++ where_true (not (is_same_mode made.decision.mode (mode_of c))) (entry t (row.Mode made.decision.mode) ∷ [])
     ++ where_true made.decision.applied (scale_rows s t c made.decision.want)
 

@@ -5,6 +5,7 @@ use Rattle.kn_event.specs.declared.entry.Entry.{Entry}
 use Rattle.kn_event.specs.declared.entry.Row.{Row}
 use Rattle.kn_event.specs.declared.event.Stand.{Stand}
 use Rattle.kn_event.specs.declared.event.Stand.TheVariants as stand
+use Rattle.kn_event.specs.Lists.{contains}
 use Rattle.kn_trace.specs.Rows.{arrived_by, admitted_by, taken_by, assigned_by, run_by, ended_by, brought_to, pod_by, turned_by, created_by, readied_by, drained_by, gone_by, limit_by}
 
 abbrev pub Trace : Type 0
@@ -16,9 +17,6 @@ entry time row = record { time = time; row = row }
 -- what the rows of one kind say, in the order of their entries
 abbrev pub each_row : {X : Type 0} → (Row → Option X) → Trace → List X
 each_row said c = filter_map (λ e. said e.row) c
-
-abbrev pub contains : ℕ → List ℕ → Bool
-contains x xs = list_any (λ y. y == x) xs
 
 abbrev pub first_of : {X : Type 0} → List X → Option X
 first_of [] = None

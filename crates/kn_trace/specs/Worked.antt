@@ -14,6 +14,7 @@ use Rattle.kn_event.specs.declared.revision.Spec.{Spec}
 use Rattle.kn_event.specs.Defaults.{milli}
 use Rattle.kn_event.specs.EntryLine.{labelled, with_number, with_numbers, averages_text, demand_text, scale_text, effect_text, decision_text, row_text, entry_text}
 use Rattle.kn_event.specs.FixedSpec.{fixed_spec}
+use Rattle.kn_event.specs.EventLine.{event_at}
 use Rattle.kn_scaling.specs.Average.{is_any_sample, is_spell_start, first_write, window_sum, last_sample, window_average}
 use Rattle.kn_scaling.specs.Demand.{pods_for, max_scale_up, max_scale_down, count_for, is_over, desired_counts}
 use Rattle.kn_scaling.specs.Panic.{is_panicking, panicking_run, greatest_of_run, undelayed_count}
@@ -35,8 +36,9 @@ use Rattle.kn_trace.specs.Events.{due, expiries, lost_with, losses, departures, 
 abbrev pub slots : ℕ → ℕ → Slots
 slots depth most = record { depth = depth; max = most; seed = 0 }
 
+-- in rows: an event at a time
 abbrev pub at : ℕ → Act → Event
-at time a = record { time = time; act = a }
+at time a = event_at time a
 
 -- the trace of these events makes just these lines
 abbrev pub Reports : Spec → ℕ → List Event → List (List ℕ) → Type 0

@@ -13,7 +13,8 @@ use Rattle.std.proofs.lemmas.List.Elements.{All-head, All-tail, filter-append, f
 use Rattle.std.proofs.lemmas.List.Quantifiers.{all_pairs_remove}
 use Rattle.std.proofs.lemmas.List.Sorted.{IsPermutation-refl, IsPermutation-trans, IsPermutation-cons, IsPermutation-middle, IsPermutation-sym, IsPermutation-map, IsPermutation-append_left, IsPermutation-append_right, IsPermutation-remove, IsNonDecreasingBy-insert}
 use Rattle.kn_event.specs.declared.entry.Entry.{Entry}
-use Rattle.kn_trace.specs.Trace.{contains, each_row}
+use Rattle.kn_event.specs.Lists.{contains}
+use Rattle.kn_trace.specs.Trace.{each_row}
 use Rattle.kn_waiters.specs.declared.waiters.Waiter.{Waiter}
 use Rattle.kn_waiters.specs.Waiting.{waiter, WaitersState, AreByRequest, IsStartOf, IsPlaceIn, TakesOut, Calls, rouses, woken_by}
 

@@ -5,8 +5,9 @@ use Rattle.std.specs.List.Sorted.{IsNonDecreasingBy, IsPartitionPoint, IsPermuta
 use Rattle.kn_event.specs.declared.entry.Entry.{Entry}
 use Rattle.kn_event.specs.declared.entry.Row.{Row}
 use Rattle.kn_event.specs.declared.entry.Row.TheVariants as row
+use Rattle.kn_event.specs.Lists.{contains}
 use Rattle.kn_trace.specs.Rows.{ended_by}
-use Rattle.kn_trace.specs.Trace.{contains, each_row}
+use Rattle.kn_trace.specs.Trace.{each_row}
 use Rattle.kn_waiters.specs.declared.waiters.Waiter.{Waiter}
 
 -- the request whose wait a row ends, since it was assigned to a pod, runs or has ended

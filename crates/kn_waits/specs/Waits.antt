@@ -1,11 +1,7 @@
 -- How long requests waited.
 use Rattle.std.specs.Prelude.{◌≡◌, ℕ, ◌+◌, ◌*◌, ◌<◌, ◌≤◌, ◌^◌, Bool, ◌==◌, nat_le, max, List, [], ◌∷◌, ◌++◌, length, Option, None, Some, slice_index}
 use Rattle.std.specs.List.{All, count_by, find, range_with_len, sum}
-
--- 0 where there is none
-abbrev pub greatest : List ℕ → ℕ
-greatest [] = 0
-greatest (n ∷ ns) = max n (greatest ns)
+use Rattle.kn_scaling.specs.Panic.{greatest}
 
 abbrev pub count_up_to : ℕ → List ℕ → ℕ
 count_up_to w ws = count_by (λ v. nat_le v w) ws

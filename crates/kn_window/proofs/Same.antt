@@ -3,13 +3,13 @@ use Rattle.std.proofs.Common.{◌≡◌, refl, sym, ap, subst, ◌∙◌, ◌+�
 use Rattle.std.specs.Prelude.{Option, None, Some, is_some, unwrap_or}
 use Rattle.std.specs.List.{filter, range_with_len}
 use Rattle.kn_scaling.specs.Average.{Samples, last_of, is_sample, is_spell_start, first_write, last_sample, window_sum, window_average, average_to, load_over}
-use Rattle.kn_window.specs.Stands.{StandsFor, WindowState, first_of, load_at, total_before}
+use Rattle.kn_window.specs.Stands.{IsWindowOf, WindowState, first_of, load_at, total_before}
 use Rattle.kn_window.proofs.Spells.{starts_same}
 use Rattle.kn_window.proofs.Rings.{holds_same, sum_same}
 use Rattle.kn_window.proofs.Windows.{total_same}
 
 -- a window stands for all samples that are the same
-pub stands_same : (w : WindowState) (f g : Samples) → ((s : ℕ) → f s ≡ g s) → StandsFor w f → StandsFor w g
+pub stands_same : (w : WindowState) (f g : Samples) → ((s : ℕ) → f s ≡ g s) → IsWindowOf w f → IsWindowOf w g
 stands_same w f g h r = record {
   beyond = λ s i. sym (h s) ∙ r.beyond s i;
   small = λ s. subst (λ o. unwrap_or o 0 ≤ 1000000000) (h s) (r.small s);

@@ -6,7 +6,7 @@ use Rattle.std.proofs.lemmas.List.Sums.{sum_by-cons}
 use Rattle.std.proofs.Math.Nat.{eq-or-lt_of_le}
 use Rattle.kn_scaling.specs.Average.{IsAverage, Samples, is_in_run, last_of, is_sample, is_spell_start, first_write, last_sample, window_sum, window_average, average_to, load_over, with_run, no_samples}
 use Rattle.kn_scaling.specs.Worked.{run_of}
-use Rattle.kn_window.specs.Stands.{Holds, StandsFor, WindowState, first_of, load_at, total_before}
+use Rattle.kn_window.specs.Stands.{Holds, IsWindowOf, WindowState, first_of, load_at, total_before}
 use Rattle.kn_window.proofs.Spells.{last_pass, last_none, none_starts, started_before, starts_at, quiet_before, starts_same, run_inside, run_before, run_after}
 use Rattle.kn_window.proofs.Rings.{holds_none, holds_same, held_at, sum_split, sum_zero, sum_same, sum_alike}
 
@@ -33,7 +33,7 @@ total_none : total_before no_samples 0 ≡ 0
 unfolding total_before
 total_none = refl
 
-pub stands_none : (n : ℕ) → StandsFor (state n [] 0 0) no_samples
+pub stands_none : (n : ℕ) → IsWindowOf (state n [] 0 0) no_samples
 stands_none n = record {
   beyond = λ s h. refl;
   small = λ s. omega arith;
@@ -47,20 +47,20 @@ stands_none n = record {
 
 -- ---- the average
 
-pub average_none : (f : Samples) (w : WindowState) (now : ℕ) → StandsFor w f → w.end ≤ now - w.seconds → window_average f w.seconds now ≡ None
+pub average_none : (f : Samples) (w : WindowState) (now : ℕ) → IsWindowOf w f → w.end ≤ now - w.seconds → window_average f w.seconds now ≡ None
 unfolding window_average last_sample
 average_none f w now r h =
     let low = now - w.seconds in
     ap (average_to f w.seconds now) (last_none (is_sample f) (now - low) low (λ s from below. ap is_some (r.beyond s (omega (arith, h, from)))))
 
-last_is : (f : Samples) (w : WindowState) (now : ℕ) → StandsFor w f → now - w.seconds < w.end → w.end ≤ now → last_sample f w.seconds now ≡ Some (w.end - 1)
+last_is : (f : Samples) (w : WindowState) (now : ℕ) → IsWindowOf w f → now - w.seconds < w.end → w.end ≤ now → last_sample f w.seconds now ≡ Some (w.end - 1)
 unfolding last_sample
 last_is f w now r low high =
     let some : 0 < w.end = omega (arith, low) in
     last_pass (is_sample f) (now - (now - w.seconds)) (now - w.seconds) (w.end - 1) (omega (arith, low)) (omega (arith, low, high)) (r.last some)
     (λ s later. ap is_some (r.beyond s (omega (arith, later, some))))
 
-first_is : (f : Samples) (w : WindowState) (now : ℕ) → StandsFor w f → now - w.seconds < w.end → w.end ≤ now → first_write f w.seconds now ≡ max (first_of w) (now - w.seconds)
+first_is : (f : Samples) (w : WindowState) (now : ℕ) → IsWindowOf w f → now - w.seconds < w.end → w.end ≤ now → first_write f w.seconds now ≡ max (first_of w) (now - w.seconds)
 unfolding first_write
 first_is f w now r below above = place (nat_lt (first_of w) low) (nat_lt (w.end - n) first) refl refl
   where
@@ -110,7 +110,7 @@ start_of w now = max (first_of w) (now - w.seconds)
 abbrev pub sum_of : WindowState → ℕ → ℕ
 sum_of w now = w.total - unwrap_or (slice_get w.totals (start_of w now - first_of w)) 0
 
-sum_is : (f : Samples) (w : WindowState) (now : ℕ) → StandsFor w f → now - w.seconds < w.end → w.end ≤ now → window_sum f w.seconds now ≡ sum_of w now
+sum_is : (f : Samples) (w : WindowState) (now : ℕ) → IsWindowOf w f → now - w.seconds < w.end → w.end ≤ now → window_sum f w.seconds now ≡ sum_of w now
 unfolding window_sum
 sum_is f w now r below above =
     let whole = ap (λ j. sum_by v (range_with_len low j)) (let e : now - low ≡ (start - low) + (w.end - start + (now - w.end)) = omega (arith, below, above, inside, ring) in e) in
@@ -144,7 +144,7 @@ sum_is f w now r below above =
         let begun = r.begun (omega (arith, from, until, above)) in
         quiet_before f w.seconds (first_of w) s begun (omega (arith, from, until, above, inside)) (omega (arith, from, until))
 
-pub average_some : (f : Samples) (w : WindowState) (now : ℕ) → StandsFor w f → now - w.seconds < w.end → w.end ≤ now
+pub average_some : (f : Samples) (w : WindowState) (now : ℕ) → IsWindowOf w f → now - w.seconds < w.end → w.end ≤ now
     → window_average f w.seconds now ≡ Some (load_over (sum_of w now) (w.end - start_of w now - 1))
 unfolding window_average
 average_some f w now r below above =
@@ -161,7 +161,7 @@ sum_small v (suc k) a h =
     omega (arith, sum_by-cons v a (range_with_len (a + 1) k), first, rest)
 
 -- what a window of an hour at most gives
-pub average_small : (f : Samples) (w : WindowState) (now : ℕ) → StandsFor w f → now - w.seconds < w.end → w.end ≤ now → w.seconds ≤ 3600 → IsAverage (load_over (sum_of w now) (w.end - start_of w now - 1))
+pub average_small : (f : Samples) (w : WindowState) (now : ℕ) → IsWindowOf w f → now - w.seconds < w.end → w.end ≤ now → w.seconds ≤ 3600 → IsAverage (load_over (sum_of w now) (w.end - start_of w now - 1))
 average_small f w now r below above hour =
     let start = start_of w now in
     let ring = r.totals.within in
@@ -209,9 +209,9 @@ module _ (f : Samples) (n a k v : ℕ) where
       go true e = let j : s < a + k = grind (arith, e) in started_inside s (omega (arith, j, low, h, some)) i j
       go false e = let j : a + k ≤ s = grind (arith, e) in none_starts g n s (none_beyond end beyond after s j)
 
-  pub stands_new : (w : WindowState) (ws : List ℕ) (total : ℕ) → w.seconds ≡ n → 0 < n → v ≤ 1000000000 → 0 < k → w.end ≤ a → (w.end ≡ 0) ⊎ (w.end + n ≤ a + 1) → StandsFor w f
+  pub stands_new : (w : WindowState) (ws : List ℕ) (total : ℕ) → w.seconds ≡ n → 0 < n → v ≤ 1000000000 → 0 < k → w.end ≤ a → (w.end ≡ 0) ⊎ (w.end + n ≤ a + 1) → IsWindowOf w f
       → Holds ws total (total_before g) (a + k) → length ws ≤ n → 0 < length ws → a + k - length ws ≡ max a (a + k - n)
-      → StandsFor (state n ws total (a + k)) g
+      → IsWindowOf (state n ws total (a + k)) g
   stands_new w ws total size long few some after apart r held fits any place = record {
     beyond = none_beyond w.end r.beyond after;
     small = all_small few r.small;
@@ -230,9 +230,9 @@ module _ (f : Samples) (n a k v : ℕ) where
       reach (inl e) x low = omega (arith, e)
       reach (inr e) x low = omega (arith, e, low)
 
-  pub stands_on : (w : WindowState) (ws : List ℕ) (total : ℕ) → w.seconds ≡ n → 0 < n → v ≤ 1000000000 → 0 < k → w.end ≤ a → 0 < w.end → a + 1 < w.end + n → StandsFor w f
+  pub stands_on : (w : WindowState) (ws : List ℕ) (total : ℕ) → w.seconds ≡ n → 0 < n → v ≤ 1000000000 → 0 < k → w.end ≤ a → 0 < w.end → a + 1 < w.end + n → IsWindowOf w f
       → Holds ws total (total_before g) (a + k) → length ws ≤ n → 0 < length ws → a + k - length ws ≡ max (first_of w) (a + k - n)
-      → StandsFor (state n ws total (a + k)) g
+      → IsWindowOf (state n ws total (a + k)) g
   stands_on w ws total size long few some after was near r held fits any place = record {
     beyond = none_beyond w.end r.beyond after;
     small = all_small few r.small;
@@ -287,7 +287,7 @@ module _ (f : Samples) (n a k v : ℕ) where
       → length zs ≡ min n (length ys + (a - from))
       → ((before : ℕ → ℕ) → Holds zs z before (yend + (a - from)) → ((s : ℕ) → yend + (a - from) ≤ s → s < yend + (a - from) + (a + k - max from a) → before (s + 1) ≡ before s + v) → Holds ws total before (yend + (a - from) + (a + k - max from a)))
       → length ws ≡ min n (length zs + (a + k - max from a))
-      → StandsFor w f → StandsFor (state n ws total (a + k)) g
+      → IsWindowOf w f → IsWindowOf (state n ws total (a + k)) g
   stands_run w from is_new cut ys zs ws y z total yend size long few some after new_is from_is cut_is ys_is y_is yend_is first first_len second second_len r = go is_new cut refl refl
     where
       none_before : w.end ≤ from → (s : ℕ) → from ≤ s → s < from + (a - from) → total_before g (s + 1) ≡ total_before g s + 0
@@ -313,7 +313,7 @@ module _ (f : Samples) (n a k v : ℕ) where
           subst (λ xs. Holds xs y (total_before g) from) (sym none)
           (holds_none (total_before g) y from (let skip = total_skip w.end from r.beyond after low high in omega (arith, e, r.totals.whole, skip)))
 
-      go : (b c : Bool) → is_new ≡ b → cut ≡ c → StandsFor (state n ws total (a + k)) g
+      go : (b c : Bool) → is_new ≡ b → cut ≡ c → IsWindowOf (state n ws total (a + k)) g
       go true c e d =
           let whole : from ≡ max a (a + k - n) = from_is ∙ ap (λ t. max (cond t a w.end) (a + k - n)) e in
           let is_cut : cut ≡ true = cut_is ∙ ap (λ t. t || nat_lt w.end from) e in

@@ -29,7 +29,7 @@ abbrev pub first_of : WindowState → ℕ
 first_of w = w.end - length w.totals
 
 -- it stands for these samples
-pub record StandsFor (w : WindowState) (samples : Samples) : Type 0 where
+pub record IsWindowOf (w : WindowState) (samples : Samples) : Type 0 where
   pub beyond : (s : ℕ) → w.end ≤ s → samples s ≡ None
   pub small : (s : ℕ) → load_at samples s ≤ 1000000000
   pub last : 0 < w.end → is_sample samples (w.end - 1) ≡ true

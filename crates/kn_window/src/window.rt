@@ -1,7 +1,7 @@
 ghost use Rattle.std.specs.Prelude.{◌≡◌, ◌≤◌, ◌<◌, ◌+◌, ◌-◌, ◌^◌, ◌==◌, ◌||◌, nat_le, nat_lt, IfOk, IfSome, max, if◌then◌else◌};
 ghost use Rattle.kn_scaling.specs.Average.{IsAverage, Samples, no_samples, window_average, with_run};
 ghost use Rattle.kn_scaling.specs.Worked.{run_of};
-ghost use Rattle.kn_window.specs.Stands.{StandsFor};
+ghost use Rattle.kn_window.specs.Stands.{IsWindowOf};
 
 use crate::totals::Totals;
 use kn_event::{Frac, Memory};
@@ -56,7 +56,7 @@ impl Window {
     pub fn new(alloc: Global, seconds: u64) -> Result<Window, Memory>
         requires low { 1 ≤ seconds }
         requires high { seconds ≤ 3600 }
-        ensures stands { IfOk result (λ w. StandsFor w no_samples) }
+        ensures stands { IfOk result (λ w. IsWindowOf w no_samples) }
         ensures seconds { IfOk result (λ w. w.seconds ≡ seconds) }
         ensures end { IfOk result (λ w. w.end ≡ 0) }
     {
@@ -73,7 +73,7 @@ impl Window {
         requires some { 0 < count }
         requires end { second + count ≤ 2 ^ 42 }
         requires load { load ≤ 1000000000 }
-        ensures stands { (samples : Samples) → StandsFor self.old samples → StandsFor self.new (with_run samples (run_of second count load)) }
+        ensures stands { (samples : Samples) → IsWindowOf self.old samples → IsWindowOf self.new (with_run samples (run_of second count load)) }
         ensures seconds { self.new.seconds ≡ self.old.seconds }
         ensures end { self.new.end ≡ second + count }
     {
@@ -92,7 +92,7 @@ impl Window {
         requires some { 0 < count }
         requires end { second + count ≤ 2 ^ 42 }
         requires load { load ≤ 1000000000 }
-        ensures stands { (samples : Samples) → StandsFor self.old samples → StandsFor self.new (with_run samples (run_of second count load)) }
+        ensures stands { (samples : Samples) → IsWindowOf self.old samples → IsWindowOf self.new (with_run samples (run_of second count load)) }
         ensures seconds { self.new.seconds ≡ self.old.seconds }
         ensures end { self.new.end ≡ second + count }
     {
@@ -113,8 +113,8 @@ impl Window {
     /// No sample may lie at this second or later. It takes the same time for each window.
     pub fn average(&self, now: u64) -> Option<Frac>
         requires { self.now.end ≤ now }
-        ensures value { (samples : Samples) → StandsFor self.now samples → result ≡ window_average samples self.now.seconds now }
-        ensures small { (samples : Samples) → StandsFor self.now samples → IfSome result IsAverage }
+        ensures value { (samples : Samples) → IsWindowOf self.now samples → result ≡ window_average samples self.now.seconds now }
+        ensures small { (samples : Samples) → IsWindowOf self.now samples → IfSome result IsAverage }
     {
         let (first, end) = (self.totals.first(), self.totals.end());
         let low = now.saturating_sub(self.totals.seconds());

@@ -7,8 +7,9 @@ use Rattle.kn_event.specs.declared.entry.Mode.TheVariants as mode
 use Rattle.kn_event.specs.declared.revision.Spec.{Spec}
 use Rattle.kn_scaling.specs.declared.zero.Standing.{Standing}
 use Rattle.kn_scaling.specs.declared.zero.ZeroAnswer.{ZeroAnswer}
-use Rattle.kn_scaling.specs.Burst.{is_activating}
+use Rattle.kn_scaling.specs.Burst.{is_activating, is_same_mode}
 use Rattle.kn_scaling.specs.Decide.{stable_window_ms}
+use Rattle.kn_scaling.specs.Zero.{opening_phase}
 use Rattle.kn_zero.specs.declared.settings.Settings.{Settings}
 
 pub record ZeroState : Type 0 where
@@ -25,10 +26,6 @@ settings_of spec = record {
 
 -- ---- where the revision stands
 
--- inactive where no pod is wanted, else activating
-abbrev pub opening_phase : ℕ → Phase
-opening_phase want = if want == 0 then phase.Inactive else phase.Activating
-
 -- at the opening the initial scale is wanted, or min-scale where that is more
 abbrev pub opening_standing : Spec → ℕ → Standing
 opening_standing spec start = record {
@@ -44,11 +41,6 @@ is_same_phase phase.Activating phase.Activating = true
 is_same_phase phase.Active phase.Active = true
 is_same_phase phase.Inactive phase.Inactive = true
 is_same_phase _ _ = false
-
-abbrev pub is_same_mode : Mode → Mode → Bool
-is_same_mode mode.Proxy mode.Proxy = true
-is_same_mode mode.Serve mode.Serve = true
-is_same_mode _ _ = false
 
 -- in this phase from now on; since this time, unless it was in it before
 abbrev pub with_phase : ℕ → Phase → Standing → Standing

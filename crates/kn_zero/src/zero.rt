@@ -1,9 +1,9 @@
 ghost use Rattle.std.specs.Prelude.{◌≡◌};
 ghost use Rattle.kn_event.specs.declared.revision.Spec.{Spec as Parts};
 ghost use Rattle.kn_event.specs.declared.revision.Kind.TheVariants as kind;
-ghost use Rattle.kn_scaling.specs.Burst.{is_activating};
-ghost use Rattle.kn_scaling.specs.Zero.{zero_rule};
-ghost use Rattle.kn_zero.specs.Zero.{is_same_mode, is_same_phase, opening_phase, opening_standing, settings_of, with_answer, with_mode, with_phase, with_ready_pod};
+ghost use Rattle.kn_scaling.specs.Burst.{is_activating, is_same_mode};
+ghost use Rattle.kn_scaling.specs.Zero.{opening_phase, zero_rule};
+ghost use Rattle.kn_zero.specs.Zero.{is_same_phase, opening_standing, settings_of, with_answer, with_mode, with_phase, with_ready_pod};
 
 use crate::settings::Settings;
 use kn_event::{Mode, Phase, Spec};

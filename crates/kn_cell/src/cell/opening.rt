@@ -3,8 +3,8 @@ ghost use Rattle.std.specs.Prelude.{◌≡◌, ◌≢◌, ◌<◌, ◌≤◌, �
 ghost use Rattle.kn_trace.specs.Trace.{Trace};
 ghost use Rattle.kn_book.specs.State.{HasRoom, state_of};
 ghost use Rattle.kn_core.specs.State.{StandsFor};
+ghost use Rattle.kn_core.specs.Gauges.{count_live};
 ghost use Rattle.kn_cell.specs.Books.{IsBookFor, IsOpenedBy};
-ghost use Rattle.kn_cell.specs.History.{live_of};
 ghost use Rattle.kn_cell.specs.Shown.{first_lasting, first_shown};
 
 use super::{Pass, RevisionCell};
@@ -27,7 +27,7 @@ impl RevisionCell {
         room: u64,
         passes: u64,
     ) -> Result<(RevisionCell, Pass), Memory>
-        requires live { (c : Trace) → StandsFor revision c → live_of c ≡ 0 }
+        requires live { (c : Trace) → StandsFor revision c → count_live c ≡ 0 }
         requires events { revision.events < 2 ^ 53 }
         requires room { room ≤ 1000000 }
         requires passes { (1 ≤ passes) × (passes ≤ 1100) }
@@ -46,7 +46,7 @@ impl RevisionCell {
         passes: u64,
         addresses: u64,
     ) -> Result<(RevisionCell, Pass), Memory>
-        requires live { (c : Trace) → StandsFor revision c → live_of c ≡ 0 }
+        requires live { (c : Trace) → StandsFor revision c → count_live c ≡ 0 }
         requires events { revision.events < 2 ^ 53 }
         requires room { room ≤ 1000000 }
         requires passes { (1 ≤ passes) × (passes ≤ 1100) }
@@ -81,7 +81,7 @@ fn opened(
     passes: u64,
     lasting: bool,
 ) -> Result<(RevisionCell, Pass), Memory>
-    requires live { (c : Trace) → StandsFor revision c → live_of c ≡ 0 }
+    requires live { (c : Trace) → StandsFor revision c → count_live c ≡ 0 }
     requires events { revision.events < 2 ^ 53 }
     requires room { room ≤ 1000000 }
     requires passes { (1 ≤ passes) × (passes ≤ 1100) }

@@ -1,7 +1,8 @@
 //! What a revision opens with.
 ghost use Rattle.std.specs.Prelude.{◌≡◌, ◌+◌, ◌<◌, ◌≤◌, ◌^◌, [], ◌++◌, length, IfOk, OnOk, OnErr};
 ghost use Rattle.kn_event.specs.Revision.{AreInRange};
-ghost use Rattle.kn_trace.specs.Events.{opening, opening_phase};
+ghost use Rattle.kn_scaling.specs.Zero.{opening_phase};
+ghost use Rattle.kn_trace.specs.Events.{opening};
 ghost use Rattle.kn_trace.specs.Scale.{opening_scale};
 ghost use Rattle.kn_record.specs.Order.{AreTimed};
 ghost use Rattle.kn_core.specs.Changes.{AddsNobody};

@@ -1,7 +1,8 @@
 //! What is counted of a revision, each count answered at once.
 ghost use Rattle.std.specs.Prelude.{◌≡◌, length, true};
+ghost use Rattle.kn_event.specs.Lists.{contains};
 ghost use Rattle.kn_trace.specs.Scale.{count_ready};
-ghost use Rattle.kn_trace.specs.Trace.{Trace, contains, draining, held, limit_of, running_at, starting_pods};
+ghost use Rattle.kn_trace.specs.Trace.{Trace, draining, held, limit_of, running_at, starting_pods};
 ghost use Rattle.kn_record.specs.Admission.{is_held_place, placed_in, runs_at};
 ghost use Rattle.kn_record.specs.Views.{pod_numbers};
 ghost use Rattle.kn_throttle.specs.Gauges.{count_queued, count_queued_in, count_running, count_running_in, limit_in};

@@ -2,11 +2,10 @@ use Rattle.std.proofs.Common.{[], refl, arith, List}
 use Rattle.kn_event.specs.declared.event.Event.{Event}
 use Rattle.kn_throttle.specs.Gauges.{count_running}
 use Rattle.kn_trace.specs.Events.{trace_of}
-use Rattle.kn_trace.specs.Rows.{created_by, ended_by, gone_by, readied_by}
+use Rattle.kn_trace.specs.Rows.{begun_by, created_by, ended_by, gone_by, readied_by}
 use Rattle.kn_trace.specs.Scale.{count_ready}
 use Rattle.kn_record.specs.Admission.{admission}
 use Rattle.kn_record.specs.Order.{AreTimesInOrder}
-use Rattle.kn_lives.specs.Lives.{begun_by}
 use Rattle.kn_teller.specs.Run.{now_of}
 use Rattle.kn_costs.specs.Gauges.{costs, count_pods}
 use Rattle.kn_costs.specs.Sums.{unready_by}

@@ -8,10 +8,10 @@ ghost use Rattle.kn_event.specs.Defaults.{milli, scaling_target};
 ghost use Rattle.kn_scaling.specs.Average.{no_samples, samples_of, window_average};
 ghost use Rattle.kn_scaling.specs.Demand.{desired_counts};
 ghost use Rattle.kn_scaling.specs.Panic.{is_panicking, undelayed_count};
-ghost use Rattle.kn_scaling.specs.Delay.{delayed_count};
+ghost use Rattle.kn_scaling.specs.Delay.{asked_at, delayed_count};
 ghost use Rattle.kn_scaling.specs.Burst.{excess_burst, serving_mode};
 ghost use Rattle.kn_scaling.specs.Zero.{bounded_count, zero_rule};
-ghost use Rattle.kn_scaling.specs.Worked.{scaled, fraction, over_seconds, numbers_of, run_of, samples_at, over_at, calm_at, asked_at, standing_at, answer};
+ghost use Rattle.kn_scaling.specs.Worked.{scaled, fraction, over_seconds, numbers_of, run_of, samples_at, over_at, calm_at, standing_at, answer};
 
 /// Two samples and the seconds between them: three seconds apart they are one spell of a window of six.
 #[tactic(auto, unfolding(crate::specs::Worked::whole_decision))]

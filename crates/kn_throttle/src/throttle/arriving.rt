@@ -6,7 +6,7 @@ ghost use Rattle.kn_trace.specs.Scale.{mode_of};
 ghost use Rattle.kn_trace.specs.Events.{act_row};
 ghost use Rattle.kn_record.specs.declared.admission.Request.{Request};
 ghost use Rattle.kn_record.specs.Acting.{row_in};
-ghost use Rattle.kn_record.specs.Made.{StandsFor};
+ghost use Rattle.kn_record.specs.Made.{IsRecordOf};
 
 use super::Throttle;
 use kn_event::Mode;
@@ -41,8 +41,8 @@ impl Throttle {
         requires order { All (λ (q : Request). q.time ≤ time) self.old.admission.live }
         ensures value { (tag : ℕ) → row_in self.old.spec mode self.old.admission (act.Arrive tag) ≡ Some (arrival_row r tag result) }
         ensures after { (tag : ℕ) → self.new ≡ with_row time (arrival_row r tag result) self.old }
-        ensures row { (c : Trace) (tag : ℕ) → StandsFor self.old.admission c → mode_of c ≡ mode → act_row self.old.spec c (act.Arrive tag) ≡ Some (arrival_row r tag result) }
-        ensures stands { (c : Trace) (tag : ℕ) → StandsFor self.old.admission c → mode_of c ≡ mode → StandsFor self.new.admission (c ++ entry time (arrival_row r tag result) ∷ []) }
+        ensures row { (c : Trace) (tag : ℕ) → IsRecordOf self.old.admission c → mode_of c ≡ mode → act_row self.old.spec c (act.Arrive tag) ≡ Some (arrival_row r tag result) }
+        ensures stands { (c : Trace) (tag : ℕ) → IsRecordOf self.old.admission c → mode_of c ≡ mode → IsRecordOf self.new.admission (c ++ entry time (arrival_row r tag result) ∷ []) }
     {
         append_laws();
         self.enter(time, mode)

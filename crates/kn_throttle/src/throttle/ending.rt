@@ -4,11 +4,12 @@ ghost use Rattle.std.specs.Bool.{OnTrue, OnFalse};
 ghost use Rattle.kn_event.specs.declared.entry.Row.TheVariants as row;
 ghost use Rattle.kn_event.specs.declared.event.Act.TheVariants as act;
 ghost use Rattle.kn_event.specs.declared.revision.Spec.{Spec};
-ghost use Rattle.kn_trace.specs.Trace.{Trace, contains, entry, first_of};
+ghost use Rattle.kn_event.specs.Lists.{contains};
+ghost use Rattle.kn_trace.specs.Trace.{Trace, entry, first_of};
 ghost use Rattle.kn_trace.specs.Events.{act_row, expiries};
 ghost use Rattle.kn_record.specs.declared.admission.Request.{Request};
 ghost use Rattle.kn_record.specs.Admission.{placed_in, runs_somewhere, waits, without};
-ghost use Rattle.kn_record.specs.Made.{StandsFor};
+ghost use Rattle.kn_record.specs.Made.{IsRecordOf};
 ghost use Rattle.kn_record.specs.Views.{due_in, numbers_in};
 ghost use Rattle.kn_record.specs.Walks.{BeginsWith};
 ghost use Rattle.kn_table.specs.Moves.{Leaves};
@@ -28,8 +29,8 @@ impl Throttle {
     pub fn finish(&mut self, r: u64) -> bool
         ensures value { result ≡ contains r (placed_in runs_somewhere self.old.admission.live) }
         ensures after { (time : ℕ) (ok : Bool) → self.new ≡ with_row time (finish_row r ok result) self.old }
-        ensures row { (s : Spec) (c : Trace) (ok : Bool) → StandsFor self.old.admission c → act_row s c (act.Finish r ok) ≡ Some (finish_row r ok result) }
-        ensures stands { (c : Trace) (time : ℕ) (ok : Bool) → StandsFor self.old.admission c → StandsFor self.new.admission (c ++ entry time (finish_row r ok result) ∷ []) }
+        ensures row { (s : Spec) (c : Trace) (ok : Bool) → IsRecordOf self.old.admission c → act_row s c (act.Finish r ok) ≡ Some (finish_row r ok result) }
+        ensures stands { (c : Trace) (time : ℕ) (ok : Bool) → IsRecordOf self.old.admission c → IsRecordOf self.new.admission (c ++ entry time (finish_row r ok result) ∷ []) }
     {
         append_laws();
         self.end_where(r, false)
@@ -39,8 +40,8 @@ impl Throttle {
     pub fn cancel(&mut self, r: u64) -> bool
         ensures value { result ≡ contains r (placed_in waits self.old.admission.live) }
         ensures after { (time : ℕ) → self.new ≡ with_row time (cancel_row r result) self.old }
-        ensures row { (s : Spec) (c : Trace) → StandsFor self.old.admission c → act_row s c (act.Cancel r) ≡ Some (cancel_row r result) }
-        ensures stands { (c : Trace) (time : ℕ) → StandsFor self.old.admission c → StandsFor self.new.admission (c ++ entry time (cancel_row r result) ∷ []) }
+        ensures row { (s : Spec) (c : Trace) → IsRecordOf self.old.admission c → act_row s c (act.Cancel r) ≡ Some (cancel_row r result) }
+        ensures stands { (c : Trace) (time : ℕ) → IsRecordOf self.old.admission c → IsRecordOf self.new.admission (c ++ entry time (cancel_row r result) ∷ []) }
     {
         append_laws();
         self.end_where(r, true)
@@ -53,8 +54,8 @@ impl Throttle {
         ensures value { result ≡ first_of (due_in self.old.spec.timeout_ms time self.old.admission.live) }
         ensures after { IfSome result (λ r. self.new ≡ with_row time (row.Expire r) self.old) }
         ensures unchanged { IfNone result (self.new ≡ self.old) }
-        ensures stands { (c : Trace) → StandsFor self.old.admission c → IfSome result (λ r. BeginsWith (expiries self.old.spec time) time (row.Expire r) self.old.admission c) }
-        ensures none { (c : Trace) → StandsFor self.old.admission c → IfNone result (expiries self.old.spec time c ≡ []) }
+        ensures stands { (c : Trace) → IsRecordOf self.old.admission c → IfSome result (λ r. BeginsWith (expiries self.old.spec time) time (row.Expire r) self.old.admission c) }
+        ensures none { (c : Trace) → IsRecordOf self.old.admission c → IfNone result (expiries self.old.spec time c ≡ []) }
     {
         walk_laws();
         match self.table.first_due(self.spec.timeout_ms, time) {

@@ -1,9 +1,10 @@
 //! Pods come, change and go.
 ghost use Rattle.std.specs.Prelude.{◌≡◌, ℕ, ◌+◌, ◌<◌, ◌≤◌, ◌^◌, ◌||◌, true, [], ◌∷◌, ◌++◌, length};
 ghost use Rattle.kn_event.specs.declared.entry.Row.TheVariants as row;
-ghost use Rattle.kn_trace.specs.Trace.{Trace, contains, entry};
+ghost use Rattle.kn_event.specs.Lists.{contains};
+ghost use Rattle.kn_trace.specs.Trace.{Trace, entry};
 ghost use Rattle.kn_record.specs.Admission.{is_at, is_ready_now, is_starting_now, placed_in, pods_in};
-ghost use Rattle.kn_record.specs.Made.{StandsFor};
+ghost use Rattle.kn_record.specs.Made.{IsRecordOf};
 ghost use Rattle.kn_record.specs.Views.{pod_numbers};
 ghost use Rattle.kn_throttle.specs.Kept.{pods_room};
 
@@ -24,7 +25,7 @@ impl Throttle {
         requires room { length self.old.admission.pods < pods_room }
         requires limit { limit ≤ 1000 }
         ensures after { (time : ℕ) → self.new ≡ with_row time (row.Create p limit) self.old }
-        ensures stands { (c : Trace) (time : ℕ) → StandsFor self.old.admission c → StandsFor self.new.admission (c ++ entry time (row.Create p limit) ∷ []) }
+        ensures stands { (c : Trace) (time : ℕ) → IsRecordOf self.old.admission c → IsRecordOf self.new.admission (c ++ entry time (row.Create p limit) ∷ []) }
     {
         append_laws();
         order_laws();
@@ -42,7 +43,7 @@ impl Throttle {
     pub fn pod_ready(&mut self, p: u64)
         requires { contains p (pods_in is_starting_now self.old.admission.pods) ≡ true }
         ensures after { (time : ℕ) → self.new ≡ with_row time (row.Ready p) self.old }
-        ensures stands { (c : Trace) (time : ℕ) → StandsFor self.old.admission c → StandsFor self.new.admission (c ++ entry time (row.Ready p) ∷ []) }
+        ensures stands { (c : Trace) (time : ℕ) → IsRecordOf self.old.admission c → IsRecordOf self.new.admission (c ++ entry time (row.Ready p) ∷ []) }
     {
         append_laws();
         order_laws();
@@ -62,7 +63,7 @@ impl Throttle {
         requires there { contains p (pod_numbers self.old.admission.pods) ≡ true }
         requires limit { n ≤ 1000 }
         ensures after { (time : ℕ) → self.new ≡ with_row time (row.Limit p n) self.old }
-        ensures stands { (c : Trace) (time : ℕ) → StandsFor self.old.admission c → StandsFor self.new.admission (c ++ entry time (row.Limit p n) ∷ []) }
+        ensures stands { (c : Trace) (time : ℕ) → IsRecordOf self.old.admission c → IsRecordOf self.new.admission (c ++ entry time (row.Limit p n) ∷ []) }
     {
         append_laws();
         order_laws();
@@ -79,7 +80,7 @@ impl Throttle {
     pub fn drain(&mut self, p: u64)
         requires { (contains p (pods_in is_starting_now self.old.admission.pods) || contains p (pods_in is_ready_now self.old.admission.pods)) ≡ true }
         ensures after { (time : ℕ) → self.new ≡ with_row time (row.Drain p) self.old }
-        ensures stands { (c : Trace) (time : ℕ) → StandsFor self.old.admission c → StandsFor self.new.admission (c ++ entry time (row.Drain p) ∷ []) }
+        ensures stands { (c : Trace) (time : ℕ) → IsRecordOf self.old.admission c → IsRecordOf self.new.admission (c ++ entry time (row.Drain p) ∷ []) }
     {
         append_laws();
         order_laws();
@@ -96,7 +97,7 @@ impl Throttle {
     pub fn lose(&mut self, r: u64)
         requires { (p : ℕ) × (contains r (placed_in (is_at p) self.old.admission.live) ≡ true) }
         ensures after { (time : ℕ) → self.new ≡ with_row time (row.LostRequest r) self.old }
-        ensures stands { (c : Trace) (time : ℕ) → StandsFor self.old.admission c → StandsFor self.new.admission (c ++ entry time (row.LostRequest r) ∷ []) }
+        ensures stands { (c : Trace) (time : ℕ) → IsRecordOf self.old.admission c → IsRecordOf self.new.admission (c ++ entry time (row.LostRequest r) ∷ []) }
     {
         append_laws();
         let others = self.has_company(r);
@@ -128,7 +129,7 @@ impl Throttle {
         requires there { contains p (pod_numbers self.old.admission.pods) ≡ true }
         requires none { placed_in (is_at p) self.old.admission.live ≡ [] }
         ensures after { (time : ℕ) → self.new ≡ with_row time (row.LostPod p) self.old }
-        ensures stands { (c : Trace) (time : ℕ) → StandsFor self.old.admission c → StandsFor self.new.admission (c ++ entry time (row.LostPod p) ∷ []) }
+        ensures stands { (c : Trace) (time : ℕ) → IsRecordOf self.old.admission c → IsRecordOf self.new.admission (c ++ entry time (row.LostPod p) ∷ []) }
     {
         append_laws();
         self.take_away(p);

@@ -1,9 +1,10 @@
 //! What follows without a further act: who waits is dispatched, and empty pods go.
 ghost use Rattle.std.specs.Prelude.{◌≡◌, ℕ, true, ◌+◌, ◌≤◌, ◌==◌, ◌||◌, ◌&&◌, [], ◌++◌, nat_lt, length, IfSome, IfNone, Some, None, if◌then◌else◌};
 ghost use Rattle.kn_event.specs.declared.entry.Row.TheVariants as row;
-ghost use Rattle.kn_trace.specs.Trace.{Trace, contains, first_of, live_pods};
+ghost use Rattle.kn_event.specs.Lists.{contains};
+ghost use Rattle.kn_trace.specs.Trace.{Trace, first_of, live_pods};
 ghost use Rattle.kn_trace.specs.Settling.{held_assignments, promotions, removals, settling};
-ghost use Rattle.kn_record.specs.Made.{StandsFor};
+ghost use Rattle.kn_record.specs.Made.{IsRecordOf};
 ghost use Rattle.kn_record.specs.Views.{pod_numbers};
 ghost use Rattle.kn_record.specs.Walks.{BeginsWith, promoting};
 ghost use Rattle.kn_throttle.specs.Kept.{can_leave, can_run};
@@ -27,8 +28,8 @@ impl Throttle {
     /// is removed. The log has at most 20,600 entries.
     pub fn settle(&mut self, time: u64, log: &mut EntryLog)
         requires room { length log.old ≤ 20600 }
-        ensures logged { (c : Trace) → StandsFor self.old.admission c → log.new ≡ log.old ++ settling self.old.spec time c }
-        ensures stands { (c : Trace) → StandsFor self.old.admission c → StandsFor self.new.admission (c ++ settling self.old.spec time c) }
+        ensures logged { (c : Trace) → IsRecordOf self.old.admission c → log.new ≡ log.old ++ settling self.old.spec time c }
+        ensures stands { (c : Trace) → IsRecordOf self.old.admission c → IsRecordOf self.new.admission (c ++ settling self.old.spec time c) }
         ensures spec { self.new.spec ≡ self.old.spec }
         ensures steps { LogsSteps self.old.admission self.new.admission log.old log.new }
         ensures nobody { AddsNobody self.old.admission self.new.admission }
@@ -43,8 +44,8 @@ impl Throttle {
 
     fn run_all(&mut self, time: u64, log: &mut EntryLog)
         requires { length log.old + rows_left self.old.admission ≤ 61100 }
-        ensures logged { (c : Trace) → StandsFor self.old.admission c → log.new ≡ log.old ++ promotions time c (live_pods c) }
-        ensures stands { (c : Trace) → StandsFor self.old.admission c → StandsFor self.new.admission (c ++ promotions time c (live_pods c)) }
+        ensures logged { (c : Trace) → IsRecordOf self.old.admission c → log.new ≡ log.old ++ promotions time c (live_pods c) }
+        ensures stands { (c : Trace) → IsRecordOf self.old.admission c → IsRecordOf self.new.admission (c ++ promotions time c (live_pods c)) }
         ensures spec { self.new.spec ≡ self.old.spec }
         ensures steps { LogsSteps self.old.admission self.new.admission log.old log.new }
         ensures nobody { AddsNobody self.old.admission self.new.admission }
@@ -63,8 +64,8 @@ impl Throttle {
 
     fn assign_all(&mut self, time: u64, log: &mut EntryLog)
         requires { length log.old + rows_left self.old.admission ≤ 61100 }
-        ensures logged { (c : Trace) → StandsFor self.old.admission c → log.new ≡ log.old ++ held_assignments self.old.spec time c }
-        ensures stands { (c : Trace) → StandsFor self.old.admission c → StandsFor self.new.admission (c ++ held_assignments self.old.spec time c) }
+        ensures logged { (c : Trace) → IsRecordOf self.old.admission c → log.new ≡ log.old ++ held_assignments self.old.spec time c }
+        ensures stands { (c : Trace) → IsRecordOf self.old.admission c → IsRecordOf self.new.admission (c ++ held_assignments self.old.spec time c) }
         ensures spec { self.new.spec ≡ self.old.spec }
         ensures steps { LogsSteps self.old.admission self.new.admission log.old log.new }
         ensures nobody { AddsNobody self.old.admission self.new.admission }
@@ -82,8 +83,8 @@ impl Throttle {
 
     fn remove_all(&mut self, time: u64, log: &mut EntryLog)
         requires { length log.old + rows_left self.old.admission ≤ 61100 }
-        ensures logged { (c : Trace) → StandsFor self.old.admission c → log.new ≡ log.old ++ removals time c }
-        ensures stands { (c : Trace) → StandsFor self.old.admission c → StandsFor self.new.admission (c ++ removals time c) }
+        ensures logged { (c : Trace) → IsRecordOf self.old.admission c → log.new ≡ log.old ++ removals time c }
+        ensures stands { (c : Trace) → IsRecordOf self.old.admission c → IsRecordOf self.new.admission (c ++ removals time c) }
         ensures spec { self.new.spec ≡ self.old.spec }
         ensures steps { LogsSteps self.old.admission self.new.admission log.old log.new }
         ensures nobody { AddsNobody self.old.admission self.new.admission }
@@ -104,8 +105,8 @@ impl Throttle {
         ensures after { (time : ℕ) → IfSome result (λ r. self.new ≡ with_row time (row.Run r) self.old) }
         ensures unchanged { IfNone result (self.new ≡ self.old) }
         ensures fewer { IfSome result (λ r. rows_left self.new.admission + 1 ≡ rows_left self.old.admission) }
-        ensures begins { (c : Trace) (time : ℕ) → StandsFor self.old.admission c → IfSome result (λ r. BeginsWith (promoting time (pod_numbers self.old.admission.pods)) time (row.Run r) self.old.admission c) }
-        ensures ends { (c : Trace) (time : ℕ) → StandsFor self.old.admission c → IfNone result (promoting time (pod_numbers self.old.admission.pods) c ≡ []) }
+        ensures begins { (c : Trace) (time : ℕ) → IsRecordOf self.old.admission c → IfSome result (λ r. BeginsWith (promoting time (pod_numbers self.old.admission.pods)) time (row.Run r) self.old.admission c) }
+        ensures ends { (c : Trace) (time : ℕ) → IsRecordOf self.old.admission c → IfNone result (promoting time (pod_numbers self.old.admission.pods) c ≡ []) }
     {
         order_laws();
         walk_laws();
@@ -131,8 +132,8 @@ impl Throttle {
         ensures after { (time : ℕ) → IfSome result (λ x. self.new ≡ with_row time (row.Assign x.0 x.1) self.old) }
         ensures unchanged { IfNone result (self.new ≡ self.old) }
         ensures fewer { IfSome result (λ x. rows_left self.new.admission + 1 ≡ rows_left self.old.admission) }
-        ensures begins { (c : Trace) (time : ℕ) → StandsFor self.old.admission c → IfSome result (λ x. BeginsWith (held_assignments self.old.spec time) time (row.Assign x.0 x.1) self.old.admission c) }
-        ensures ends { (c : Trace) (time : ℕ) → StandsFor self.old.admission c → IfNone result (held_assignments self.old.spec time c ≡ []) }
+        ensures begins { (c : Trace) (time : ℕ) → IsRecordOf self.old.admission c → IfSome result (λ x. BeginsWith (held_assignments self.old.spec time) time (row.Assign x.0 x.1) self.old.admission c) }
+        ensures ends { (c : Trace) (time : ℕ) → IsRecordOf self.old.admission c → IfNone result (held_assignments self.old.spec time c ≡ []) }
     {
         order_laws();
         walk_laws();
@@ -169,8 +170,8 @@ impl Throttle {
         ensures after { (time : ℕ) → IfSome result (λ p. self.new ≡ with_row time (row.Remove p) self.old) }
         ensures unchanged { IfNone result (self.new ≡ self.old) }
         ensures fewer { IfSome result (λ p. rows_left self.new.admission + 1 ≡ rows_left self.old.admission) }
-        ensures begins { (c : Trace) (time : ℕ) → StandsFor self.old.admission c → IfSome result (λ p. BeginsWith (removals time) time (row.Remove p) self.old.admission c) }
-        ensures ends { (c : Trace) (time : ℕ) → StandsFor self.old.admission c → IfNone result (removals time c ≡ []) }
+        ensures begins { (c : Trace) (time : ℕ) → IsRecordOf self.old.admission c → IfSome result (λ p. BeginsWith (removals time) time (row.Remove p) self.old.admission c) }
+        ensures ends { (c : Trace) (time : ℕ) → IsRecordOf self.old.admission c → IfNone result (removals time c ≡ []) }
     {
         walk_laws();
         match self.pod_to_leave() {

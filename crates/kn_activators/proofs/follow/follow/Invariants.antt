@@ -2,10 +2,9 @@ use Rattle.std.proofs.Common.{◌≡◌, ◌≤◌, ◌+◌, ◌*◌, List, leng
 use Rattle.kn_journal.specs.Journal.{time_most}
 use Rattle.std.specs.Prelude.{None}
 use Rattle.kn_journal.specs.Drawing.{Draws}
-use Rattle.kn_activators.specs.Verdict.{Anywhere}
-use Rattle.kn_journal.specs.Reading.{most_taken, unread}
+use Rattle.kn_journal.specs.Reading.{IsOver, most_taken, unread}
+use Rattle.kn_journal.specs.LineCalls.{Anywhere}
 use Rattle.kn_activators.specs.declared.event.GroupEvent.{GroupEvent}
-use Rattle.kn_activators.specs.Breaking.{IsOver}
 use Rattle.kn_activators.specs.Sharing.{Sharing, by_lines}
 use Rattle.kn_activators.specs.Standing.{AreBefore, IsBelow, Stands}
 use Rattle.kn_report.specs.Waiting.{Adds}

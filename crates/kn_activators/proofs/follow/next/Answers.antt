@@ -1,8 +1,7 @@
 -- An event that is ahead, the end of the input, or what is read over the source.
 use Rattle.std.proofs.Common.{◌≡◌, ◌≤◌, ◌∙◌, Bool, true, refl, sym, ap, subst}
-use Rattle.kn_journal.specs.Reading.{most_taken, unread}
+use Rattle.kn_journal.specs.Reading.{IsOver, most_taken, unread}
 use Rattle.kn_journal.specs.Telling.{LinesState}
-use Rattle.kn_activators.specs.Breaking.{IsOver}
 use Rattle.kn_activators.specs.Verdict.{next_part}
 use Rattle.kn_activators.proofs.Breaks.{over_refuses}
 use Rattle.kn_activators.proofs.Drawings.{draws_ahead, draws_none, draws_well}

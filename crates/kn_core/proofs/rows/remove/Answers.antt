@@ -1,5 +1,5 @@
 use Rattle.std.proofs.Common.{◌≡◌, false, refl, rules}
-use Rattle.kn_pods.specs.Numbers.{contains}
+use Rattle.kn_event.specs.Lists.{contains}
 use Rattle.kn_core.proofs.Lists.{none_without}
 use Rattle.kn_core.proofs.rows.remove.Goals as goal
 

@@ -2,6 +2,7 @@ use Rattle.std.proofs.Common.{◌≡◌, ◌∙◌, ◌-◌, ℕ, ap, sym, refl,
 use Rattle.std.specs.Prelude.{Option, None, Some, map, string_bytes}
 use Rattle.kn_journal.specs.declared.status.Status.{Status}
 use Rattle.kn_journal.specs.declared.status.Status.TheVariants as status
+use Rattle.kn_journal.specs.Status.{WritesNone}
 use Rattle.kn_replay.specs.declared.command.Command.{Command}
 use Rattle.kn_replay.specs.declared.command.Command.TheVariants as command
 use Rattle.kn_replay.specs.Bundled.{ReplaysBundle, TakesMemoryFirst}
@@ -9,7 +10,7 @@ use Rattle.kn_replay.specs.Commands.{command_of}
 use Rattle.kn_replay.specs.Generating.{Generates}
 use Rattle.kn_replay.specs.Grouped.{ReplaysGroup}
 use Rattle.kn_replay.specs.Replaying.{IsRefusal, IsReplayed, LeavesBehind, Replays}
-use Rattle.kn_replay.specs.Simulating.{Simulates, WritesNone}
+use Rattle.kn_replay.specs.Simulating.{Simulates}
 use Rattle.kn_replay.proofs.Generating.{of_same}
 use Rattle.kn_replay.proofs.Replays.{never_usage}
 use Rattle.kn_replay.proofs.command.run.Goals as goal

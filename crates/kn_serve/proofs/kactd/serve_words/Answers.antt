@@ -1,7 +1,7 @@
 use Rattle.std.proofs.Common.{List, ap, arith, inl, length, inr, map, refl, string_bytes, subst, sym, ◌∙◌}
 use Rattle.std.specs.Prelude.{Err, Some}
+use Rattle.kn_event.specs.Lists.{EachIs}
 use Rattle.kn_request.specs.declared.slot.Slot.{Slot}
-use Rattle.kn_session.specs.Lists.{EachIs}
 use Rattle.kn_serve.specs.Opening.{IsEmptyWork}
 use Rattle.kn_io.specs.Causes.{Rose}
 use Rattle.kn_plan.specs.declared.plan_error.PlanError.{PlanError}

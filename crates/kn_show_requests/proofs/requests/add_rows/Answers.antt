@@ -4,8 +4,8 @@ use Rattle.std.proofs.lemmas.List.{take_all}
 use Rattle.kn_trace.specs.Trace.{Trace}
 use Rattle.kn_io.specs.Prefix.{AppendsPrefix}
 use Rattle.kn_report.specs.Waiting.{Adds}
-use Rattle.kn_lives.specs.Lives.{AreLives, life_at}
-use Rattle.kn_show_requests.specs.Requests.{ComeNext, rows_text, told_by}
+use Rattle.kn_lives.specs.Lives.{AreLives, ComeNext, life_at}
+use Rattle.kn_show_requests.specs.Requests.{rows_text, told_by}
 use Rattle.kn_show_requests.specs.Texts.{line_where}
 use Rattle.kn_show_requests.proofs.Rows.{comes_here, rows_around, rows_more, rows_nothing, same_text, trace_more}
 use Rattle.kn_show_requests.proofs.requests.add_rows.Goals as goal

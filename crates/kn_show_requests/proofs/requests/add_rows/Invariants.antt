@@ -3,8 +3,8 @@ use Rattle.kn_event.specs.declared.event.Event.{Event}
 use Rattle.kn_event.specs.declared.revision.Spec.{Spec}
 use Rattle.kn_trace.specs.Trace.{Trace}
 use Rattle.kn_report.specs.Waiting.{Adds}
-use Rattle.kn_lives.specs.Lives.{AreLives}
-use Rattle.kn_show_requests.specs.Requests.{ComeNext, rows_text}
+use Rattle.kn_lives.specs.Lives.{AreLives, ComeNext}
+use Rattle.kn_show_requests.specs.Requests.{rows_text}
 use Rattle.kn_show_requests.proofs.requests.add_rows.Given as goal
 
 abbrev pub invariant-loop-e : goal.invariant-loop-e

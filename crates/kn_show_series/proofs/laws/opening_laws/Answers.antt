@@ -2,9 +2,8 @@ use Rattle.std.proofs.Common.{refl}
 use Rattle.std.specs.Prelude.{option_map}
 use Rattle.kn_event.specs.declared.entry.Decision.{Decision}
 use Rattle.kn_trace.specs.Events.{opening}
-use Rattle.kn_trace.specs.Rows.{arrived_by, decision_by, ended_by, refused_by}
-use Rattle.kn_lives.specs.Lives.{begun_by}
-use Rattle.kn_show_series.specs.Steps.{expired_by, failed_by}
+use Rattle.kn_trace.specs.Rows.{arrived_by, begun_by, decision_by, ended_by, expired_by, refused_by}
+use Rattle.kn_show_series.specs.Steps.{failed_by}
 use Rattle.kn_show_series.proofs.Opened.{counts_of-none, each_row-map_none}
 use Rattle.kn_show_series.proofs.laws.opening_laws.Goals as goal
 

@@ -1,7 +1,7 @@
 use Rattle.std.proofs.Common.{refl, arith}
 use Rattle.std.proofs.Math.Bridge.{le_prop}
 use Rattle.std.proofs.Math.Logic.{∥∥₁_elim}
-use Rattle.kn_lives.specs.Lives.{begun_by}
+use Rattle.kn_trace.specs.Rows.{begun_by}
 use Rattle.kn_show_series.proofs.Bounds.{waits_few}
 use Rattle.kn_show_series.proofs.laws.wait_laws.Goals as goal
 

@@ -3,7 +3,8 @@ use Rattle.std.proofs.Common.{◌≡◌, ◌-◌, ◌≤◌, None, vec_len}
 use Rattle.kn_agenda.specs.Workload.{AreJobs}
 use Rattle.kn_journal.specs.Drawing.{Draws}
 use Rattle.kn_journal.specs.Reading.{unread}
-use Rattle.kn_sim.specs.Reading.{Anywhere, jobs_most}
+use Rattle.kn_journal.specs.LineCalls.{Anywhere}
+use Rattle.kn_sim.specs.Reading.{jobs_most}
 use Rattle.kn_sim.proofs.JobLines.{AreRead, last_of_jobs}
 use Rattle.kn_sim.proofs.read.read_jobs.Given as goal
 

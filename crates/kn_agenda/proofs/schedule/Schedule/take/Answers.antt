@@ -5,7 +5,8 @@ use Rattle.std.specs.Prelude.{slice_index_or}
 use Rattle.kn_event.specs.declared.entry.Entry.{Entry}
 use Rattle.kn_event.specs.declared.event.Event.{Event}
 use Rattle.kn_event.specs.declared.revision.Spec.{Spec}
-use Rattle.kn_trace.specs.Trace.{Trace, arrivals, contains, waiting}
+use Rattle.kn_event.specs.Lists.{contains}
+use Rattle.kn_trace.specs.Trace.{Trace, arrivals, waiting}
 use Rattle.kn_trace.specs.Events.{react}
 use Rattle.kn_core.specs.State.{StandsFor}
 use Rattle.kn_record.specs.Made.{Holds, IsProper}

@@ -3,7 +3,7 @@ use Rattle.std.specs.Prelude.{max, min}
 use Rattle.kn_event.specs.declared.event.Event.{Event}
 use Rattle.kn_trace.specs.Events.{react}
 use Rattle.kn_trace.specs.Trace.{Trace}
-use Rattle.kn_book.specs.State.{StandsFor as IsBookOf}
+use Rattle.kn_book.specs.State.{IsBookOf}
 use Rattle.kn_core.specs.State.{StandsFor}
 use Rattle.kn_figures.specs.Tallies.{IsTallyOf}
 use Rattle.kn_cell.specs.Desk.{event_at}

@@ -1,9 +1,10 @@
 use Rattle.std.proofs.Common.{◌≡◌, ◌∙◌, sym, ap, subst}
 use Rattle.kn_trace.specs.Events.{losses}
-use Rattle.kn_trace.specs.Trace.{Trace, contains, live_pods}
+use Rattle.kn_trace.specs.Trace.{Trace, live_pods}
 use Rattle.kn_record.specs.Made.{IsMade}
 use Rattle.kn_event.specs.declared.revision.Spec.{Spec}
-use Rattle.kn_pods.specs.Pods.{StandsFor as ArePodsOf}
+use Rattle.kn_event.specs.Lists.{contains}
+use Rattle.kn_pods.specs.Pods.{ArePodsOf}
 use Rattle.kn_core.specs.State.{PartsState}
 use Rattle.kn_core.proofs.Adding.{adds_none, adds_same, ends_none}
 use Rattle.kn_core.proofs.Live.{live_there}

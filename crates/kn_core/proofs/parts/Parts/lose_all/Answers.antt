@@ -1,6 +1,7 @@
 use Rattle.std.proofs.Common.{◌≡◌, ◌∙◌, refl, sym, ap, subst, ◌∷◌, [], length, length-append, arith, Some, None, true}
 use Rattle.kn_event.specs.declared.entry.Row.TheVariants as row
-use Rattle.kn_trace.specs.Trace.{contains, entry, first_of}
+use Rattle.kn_event.specs.Lists.{contains}
+use Rattle.kn_trace.specs.Trace.{entry, first_of}
 use Rattle.kn_record.specs.declared.admission.Request.{Request}
 use Rattle.kn_record.specs.Admission.{is_at, placed_in}
 use Rattle.kn_record.specs.Views.{pod_numbers}

@@ -2,9 +2,9 @@ use Rattle.std.proofs.Common.{◌∙◌, ◌++◌, sym, ap, subst, arith, List}
 use Rattle.kn_event.specs.declared.entry.Entry.{Entry}
 use Rattle.kn_event.specs.declared.revision.Spec.{Spec}
 use Rattle.kn_trace.specs.Scale.{scale_rows}
-use Rattle.kn_record.specs.Made.{StandsFor as IsRecordOf}
+use Rattle.kn_record.specs.Made.{IsRecordOf}
 use Rattle.kn_record.specs.Order.{AreTimed}
-use Rattle.kn_pods.specs.Pods.{StandsFor as ArePodsOf}
+use Rattle.kn_pods.specs.Pods.{ArePodsOf}
 use Rattle.kn_throttle.specs.State.{State}
 use Rattle.kn_core.specs.Opening.{first_rows}
 use Rattle.kn_core.proofs.Openings.{beginning, nothing_created, nothing_drains, opening_rows}

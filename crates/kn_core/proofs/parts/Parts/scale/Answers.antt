@@ -5,7 +5,7 @@ use Rattle.kn_event.specs.declared.entry.Entry.{Entry}
 use Rattle.kn_event.specs.declared.revision.Spec.{Spec}
 use Rattle.kn_trace.specs.Scale.{scale_rows}
 use Rattle.kn_record.specs.Admission.{is_draining_now, pods_in}
-use Rattle.kn_record.specs.Made.{StandsFor}
+use Rattle.kn_record.specs.Made.{IsRecordOf}
 use Rattle.kn_record.specs.Walks.{stepped_by}
 use Rattle.kn_throttle.specs.State as throttle
 use Rattle.kn_core.specs.Following.{CanFollow, after_scale}
@@ -78,7 +78,7 @@ returns-clause-adds c = rw (← c.self.view_is) (record {
       record {
         spec = ap (λ (y : throttle.State). y.spec) threw ∙ h.spec;
         made = made;
-        admission = subst (λ (y : throttle.State). StandsFor y.admission (d ++ scale_rows s t d c.args.want)) (sym threw) (c.walk_laws.ensures.rows s c.self.inside.throttle.admission d (scale_rows s t d c.args.want) h.admission proper);
+        admission = subst (λ (y : throttle.State). IsRecordOf y.admission (d ++ scale_rows s t d c.args.want)) (sym threw) (c.walk_laws.ensures.rows s c.self.inside.throttle.admission d (scale_rows s t d c.args.want) h.admission proper);
         pods = c.apply.ensures.stands s d h.made h.pods cc;
         scaler = scaler_quiet c.quiet_laws.ensures s c.self.inside.scaler t d (scale_rows s t d c.args.want) (rw (← c.self.view_is) at c.requires.can.measured) h.made proper (c.kind_laws.ensures.scale_at s t d c.args.want) (c.kind_laws.ensures.scale s t d c.args.want) h.scaler;
       };

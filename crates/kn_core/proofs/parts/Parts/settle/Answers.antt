@@ -4,7 +4,7 @@ use Rattle.std.proofs.Math.Logic.{∥∥₁_elim}
 use Rattle.kn_event.specs.declared.entry.Entry.{Entry}
 use Rattle.kn_event.specs.declared.revision.Spec.{Spec}
 use Rattle.kn_trace.specs.Settling.{settling}
-use Rattle.kn_record.specs.Made.{StandsFor}
+use Rattle.kn_record.specs.Made.{IsRecordOf}
 use Rattle.kn_pods.specs.Pods.{PodsState}
 use Rattle.kn_core.specs.State.{ArePartsOf, IsScalerOf, PartsState}
 use Rattle.kn_core.specs.Scaling.{AreNextIn}
@@ -47,7 +47,7 @@ returns-clause-adds c = rw (← c.self.view_is) (record {
   logged = λ s d h proper. subst (λ (z : Spec). c.settle.new.log ≡ c.args.log.now ++ settling z c.args.time d) h.spec (c.settle.ensures.logged d h.admission);
   stands = λ s d h proper.
       let t = c.args.time in
-      let here = subst (λ (z : Spec). StandsFor c.settle.new.self.admission (d ++ settling z t d)) h.spec (c.settle.ensures.stands d h.admission) in
+      let here = subst (λ (z : Spec). IsRecordOf c.settle.new.self.admission (d ++ settling z t d)) h.spec (c.settle.ensures.stands d h.admission) in
       let logged = subst (λ (z : Spec). c.settle.new.log ≡ c.args.log.now ++ settling z t d) h.spec (c.settle.ensures.logged d h.admission) in
       let gone = rw c.entries-before.ensures at c.remove_behind.ensures in
       let added = behind c.args.log.now (settling s t d) c.settle.new.log logged in

@@ -4,7 +4,7 @@ use Rattle.std.proofs.Math.Logic.{∥∥₁_elim, ∥∥₁_map}
 use Rattle.kn_event.specs.declared.entry.Entry.{Entry}
 use Rattle.kn_trace.specs.Scale.{scale_rows}
 use Rattle.kn_record.specs.Admission.{is_draining_now, pods_in}
-use Rattle.kn_record.specs.Made.{StandsFor}
+use Rattle.kn_record.specs.Made.{IsRecordOf}
 use Rattle.kn_record.specs.Walks.{stepped_by}
 use Rattle.kn_throttle.specs.State as throttle
 use Rattle.kn_core.specs.Following.{CanFollow, after_scale}
@@ -61,6 +61,6 @@ returns-clause-creates c = record {
       let gone = rw c.entries-before.ensures at c.follow_behind.ensures.all in
       let added = behind c.args.log.now es c.apply.new.log (c.apply.ensures.logged s d h.made h.pods h.cc) in
       let threw = gone ∙ ap (λ (l : List Entry). after_scale l c.args.throttle.now) added in
-      subst (λ (y : throttle.State). StandsFor y.admission (d ++ es)) (sym threw) (c.walk_laws.ensures.rows s c.args.throttle.now.admission d es h.admission proper);
+      subst (λ (y : throttle.State). IsRecordOf y.admission (d ++ es)) (sym threw) (c.walk_laws.ensures.rows s c.args.throttle.now.admission d es h.admission proper);
   pods = λ s d h. c.apply.ensures.stands s d h.made h.pods h.cc;
 }

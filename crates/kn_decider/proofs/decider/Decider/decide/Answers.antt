@@ -5,13 +5,12 @@ use Rattle.std.proofs.lemmas.Int.{to_z-of_z}
 use Rattle.kn_scaling.specs.declared.zero.Standing.{Standing}
 use Rattle.kn_scaling.specs.Average.{second_of}
 use Rattle.kn_scaling.specs.Decide.{Past, Ruling, asked_of, judged_of}
-use Rattle.kn_scaling.specs.Delay.{delayed_count}
+use Rattle.kn_scaling.specs.Delay.{asked_at, delayed_count}
 use Rattle.kn_scaling.specs.Panic.{is_panicking, undelayed_count}
 use Rattle.kn_scaling.specs.Zero.{bounded_count, zero_rule}
-use Rattle.kn_panic.specs.Stands.{StandsFor as IsPanicOf, judged_by}
-use Rattle.kn_delay.specs.Stands.{asked_by}
+use Rattle.kn_panic.specs.Stands.{IsPanicOf, judged_by}
 use Rattle.kn_zero.specs.Zero.{ZeroState, with_answer, with_mode}
-use Rattle.kn_decider.specs.Decider.{DeciderState, StandsFor}
+use Rattle.kn_decider.specs.Decider.{DeciderState, IsDeciderOf}
 use Rattle.kn_decider.proofs.Rulings.{AreParts, Parts, ruled, stands_next}
 use Rattle.kn_decider.proofs.decider.Decider.decide.Goals as goal
 
@@ -38,7 +37,7 @@ parts c = record {
   mode = c.mode-mode.result;
 }
 
-are_parts : (c : goal.After-mode_is) (past : Past) (until : ℕ) → StandsFor (state c) past until → AreParts (state c).spec past c.args.time c.args.ready c.args.stable c.args.panic (parts c)
+are_parts : (c : goal.After-mode_is) (past : Past) (until : ℕ) → IsDeciderOf (state c) past until → AreParts (state c).spec past c.args.time c.args.ready c.args.stable c.args.panic (parts c)
 are_parts c past until stands =
     let spec = c.self.inside.spec in
     let window = c.stable_window_ms-window_ms.ensures in
@@ -52,7 +51,7 @@ are_parts c past until stands =
           ∙ ap (λ w. undelayed_count (judged_by c.args.time c.counts-counts.result w ∷ map (judged_of spec) past.decisions)) window;
       delayed =
           c.take-delayed.ensures.count (map asked_of past.decisions) stands.delay
-          ∙ ap (λ n. delayed_count n (asked_by (second_of c.args.time) c.take-panicked.result.count ∷ map asked_of past.decisions)) c.self.invariant.delay;
+          ∙ ap (λ n. delayed_count n (asked_at (second_of c.args.time) c.take-panicked.result.count ∷ map asked_of past.decisions)) c.self.invariant.delay;
       excess = let fits : SFits w64 c.excess_burst-excess.result = search rules in to_z-of_z w64 c.excess_burst-excess.result fits ∙ c.excess_burst-excess.ensures;
       bounded = c.bounds-bounded.ensures ∙ ap (λ b. bounded_count spec b c.take-delayed.result) stands.reached;
       answer =

@@ -2,7 +2,7 @@ use Rattle.std.proofs.Common.{sym, ◌∙◌}
 use Rattle.std.proofs.Math.Logic.{∥∥₁_map}
 use Rattle.kn_scaling.specs.Average.{Samples, with_run}
 use Rattle.kn_scaling.specs.Worked.{run_of}
-use Rattle.kn_window.specs.Stands.{StandsFor as IsWindowOf}
+use Rattle.kn_window.specs.Stands.{IsWindowOf}
 use Rattle.kn_decider.proofs.decider.Decider.record.Goals as goal
 
 pub invariant_of-self : goal.invariant_of-self

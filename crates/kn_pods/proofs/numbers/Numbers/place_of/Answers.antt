@@ -1,11 +1,12 @@
 use Rattle.std.proofs.Common.{ℕ, List, nat_lt, rules, arith, subst, sym, ap, ◌∙◌, ltb-true, ltb-false}
 use Rattle.std.proofs.lemmas.List.Sorted.{IsPartitionPoint-from_clause, IsPartitionedBy-ltb}
-use Rattle.kn_pods.specs.Numbers.{IsAscending, IsPlaceOf, NumbersState}
+use Rattle.kn_record.specs.Order.{Ascend}
+use Rattle.kn_pods.specs.Numbers.{IsPlaceOf, NumbersState}
 use Rattle.kn_pods.proofs.Places.{IsCut, not_falling, place_at}
 use Rattle.kn_pods.proofs.numbers.Numbers.place_of.Goals as goal
 
-rise : (c : goal.After-partition_point) → IsAscending c.deref.result.now
-rise c = subst IsAscending (sym c.deref.ensures.value) c.self.invariant
+rise : (c : goal.After-partition_point) → Ascend c.deref.result.now
+rise c = subst Ascend (sym c.deref.ensures.value) c.self.invariant
 
 cut : (c : goal.After-partition_point) → IsCut c.args.p c.deref.result.now c.partition_point.result
 cut c =

@@ -3,11 +3,11 @@ use Rattle.kn_event.specs.declared.revision.Spec.{Spec}
 use Rattle.kn_trace.specs.Scale.{scale_rows}
 use Rattle.kn_trace.specs.Trace.{Trace}
 use Rattle.kn_record.specs.Made.{IsMade}
-use Rattle.kn_pods.specs.Pods.{StandsFor, after_rows, creations, drain_order_of, drains, rows_of_scale}
+use Rattle.kn_pods.specs.Pods.{ArePodsOf, after_rows, creations, drain_order_of, drains, rows_of_scale}
 use Rattle.kn_pods.proofs.Steps.{rows_created, rows_drained, scale-creates, scale-drains}
 use Rattle.kn_pods.proofs.pods.Pods.apply.Goals as goal
 
-created_rows : (c : goal.After-create) (s : Spec) (d : Trace) → StandsFor c.args.self.now d → s.cc ≡ c.args.limit
+created_rows : (c : goal.After-create) (s : Spec) (d : Trace) → ArePodsOf c.args.self.now d → s.cc ≡ c.args.limit
     → creations c.args.limit c.args.time c.args.self.now.created (c.args.want - c.standing-standing.result) ≡ scale_rows s c.args.time d c.args.want
 created_rows c s d stands e =
     rw c.standing-standing.ensures.count
@@ -29,9 +29,9 @@ pub returns-then-standing-want-clause-made : goal.returns-then-standing-want-cla
 returns-then-standing-want-clause-made c = λ s d made stands e. subst (λ es. IsMade s (d ++ es)) (created_rows c s d stands e) (c.create.ensures.goes s d made stands).0
 
 pub returns-then-standing-want-clause-stands : goal.returns-then-standing-want-clause-stands
-returns-then-standing-want-clause-stands c = λ s d made stands e. subst (λ es. StandsFor c.create.new.self (d ++ es)) (created_rows c s d stands e) (c.create.ensures.goes s d made stands).1
+returns-then-standing-want-clause-stands c = λ s d made stands e. subst (λ es. ArePodsOf c.create.new.self (d ++ es)) (created_rows c s d stands e) (c.create.ensures.goes s d made stands).1
 
-drained_rows : (c : goal.After-drain) (s : Spec) (d : Trace) → StandsFor c.args.self.now d
+drained_rows : (c : goal.After-drain) (s : Spec) (d : Trace) → ArePodsOf c.args.self.now d
     → drains c.args.time (take (c.standing-standing.result - c.args.want) (drain_order_of c.args.self.now)) ≡ scale_rows s c.args.time d c.args.want
 drained_rows c s d stands =
     rw c.standing-standing.ensures.count
@@ -53,4 +53,4 @@ pub returns-else-standing-want-clause-made : goal.returns-else-standing-want-cla
 returns-else-standing-want-clause-made c = λ s d made stands e. subst (λ es. IsMade s (d ++ es)) (drained_rows c s d stands) (c.drain.ensures.goes s d made stands).0
 
 pub returns-else-standing-want-clause-stands : goal.returns-else-standing-want-clause-stands
-returns-else-standing-want-clause-stands c = λ s d made stands e. subst (λ es. StandsFor c.drain.new.self (d ++ es)) (drained_rows c s d stands) (c.drain.ensures.goes s d made stands).1
+returns-else-standing-want-clause-stands c = λ s d made stands e. subst (λ es. ArePodsOf c.drain.new.self (d ++ es)) (drained_rows c s d stands) (c.drain.ensures.goes s d made stands).1

@@ -2,7 +2,7 @@ use Rattle.std.proofs.Common.{sym, ap, ◌∙◌, subst}
 use Rattle.kn_event.specs.declared.revision.Spec.{Spec}
 use Rattle.kn_scaling.specs.Average.{second_of}
 use Rattle.kn_trace.specs.Scale.{past_of}
-use Rattle.kn_decider.specs.Decider.{DeciderState, StandsFor as IsDeciderOf, with_ready}
+use Rattle.kn_decider.specs.Decider.{DeciderState, IsDeciderOf, with_ready}
 use Rattle.kn_scaler.specs.Stands.{ScalerState}
 use Rattle.kn_scaler.proofs.Rulings.{ready-stands}
 use Rattle.kn_scaler.proofs.scaler.Scaler.pod_ready.Goals as goal

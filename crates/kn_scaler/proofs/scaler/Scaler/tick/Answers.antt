@@ -4,7 +4,7 @@ use Rattle.kn_scaling.specs.Decide.{Ruling}
 use Rattle.kn_trace.specs.Scale.{past_of}
 use Rattle.kn_decider.specs.Decider.{DeciderState}
 use Rattle.kn_scaler.specs.Rows.{ruled_by, tick_rulings}
-use Rattle.kn_scaler.specs.Stands.{ScalerState, StandsFor}
+use Rattle.kn_scaler.specs.Stands.{ScalerState, IsScalerOfTrace}
 use Rattle.kn_scaler.proofs.Rulings.{le_same, no-answer, stands-phase, tick-answer, tick-at, tick-stands}
 use Rattle.kn_scaler.proofs.scaler.Scaler.tick.Goals.{in-None, in-Some}
 use Rattle.kn_scaler.proofs.scaler.Scaler.tick.Goals as goal
@@ -15,7 +15,7 @@ pub returns-clause-stands : goal.returns-clause-stands
 returns-clause-stands c =
     rw (← c.self.view_is)
     (λ s b many stands.
-    subst (λ (o : Option Ruling). StandsFor s (record { stats = c.self.inside.stats; decider = c.tick.new.self }) (b ++ tick_rulings c.args.time b o)) (tick-at s c.self.inside.decider b c.args.time c.args.ready stands.spec many)
+    subst (λ (o : Option Ruling). IsScalerOfTrace s (record { stats = c.self.inside.stats; decider = c.tick.new.self }) (b ++ tick_rulings c.args.time b o)) (tick-at s c.self.inside.decider b c.args.time c.args.ready stands.spec many)
     (tick-stands c.trace_facts.ensures s (record { stats = c.self.inside.stats; decider = c.self.inside.decider }) b stands c.args.time (c.requires.now ∙ ap (λ (z : ScalerState). z.stats.time) (sym c.self.view_is)) c.tick.new.self
     (ap (λ (d : DeciderState). d.spec) c.tick.ensures.kept) (scaling.decision_at c.self.inside.decider.spec (past_of s b) c.args.time c.args.ready)
     (c.tick.ensures.stands (past_of s b) (second_of c.self.inside.stats.time) (le_same _ _ (c.requires.now ∙ ap (λ (z : ScalerState). z.stats.time) (sym c.self.view_is))) stands.decider)))

@@ -4,7 +4,7 @@ use Rattle.kn_scaling.specs.Decide.{Ruling}
 use Rattle.kn_trace.specs.Scale.{past_of}
 use Rattle.kn_decider.specs.Decider.{DeciderState}
 use Rattle.kn_scaler.specs.Rows.{ruled_by, ruling_rows}
-use Rattle.kn_scaler.specs.Stands.{ScalerState, StandsFor}
+use Rattle.kn_scaler.specs.Stands.{ScalerState, IsScalerOfTrace}
 use Rattle.kn_scaler.proofs.Rulings.{ruling-answer, ruling-stands, stands-phase, wake-at}
 use Rattle.kn_scaler.proofs.scaler.Scaler.wake.Goals as goal
 use Rattle.kn_scaling.specs.Decide as scaling
@@ -13,7 +13,7 @@ pub returns-clause-stands : goal.returns-clause-stands
 returns-clause-stands c =
     rw (← c.self.view_is)
     (λ s b many stands.
-    subst (λ (r : Ruling). StandsFor s (record { stats = c.self.inside.stats; decider = c.poke-decision.new.self }) (b ++ ruling_rows c.args.time b r)) (wake-at s c.self.inside.decider b c.args.time c.args.ready stands.spec many)
+    subst (λ (r : Ruling). IsScalerOfTrace s (record { stats = c.self.inside.stats; decider = c.poke-decision.new.self }) (b ++ ruling_rows c.args.time b r)) (wake-at s c.self.inside.decider b c.args.time c.args.ready stands.spec many)
     (ruling-stands c.trace_facts.ensures s (record { stats = c.self.inside.stats; decider = c.self.inside.decider }) b stands c.args.time (c.requires.now ∙ ap (λ (z : ScalerState). z.stats.time) (sym c.self.view_is)) c.poke-decision.new.self
     (ap (λ (d : DeciderState). d.spec) c.poke-decision.ensures.kept) (scaling.wake_decision_at c.self.inside.decider.spec (past_of s b) c.args.time c.args.ready)
     (c.poke-decision.ensures.stands (past_of s b) (second_of c.self.inside.stats.time) stands.decider)))

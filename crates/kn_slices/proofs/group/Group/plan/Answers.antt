@@ -1,7 +1,8 @@
 -- The due change, in the words of the activators' traces.
 use Rattle.std.proofs.Common.{◌≡◌, ◌<◌, ◌∙◌, ap, sym, length}
+use Rattle.kn_event.specs.Lists.{or_else}
 use Rattle.kn_slices.specs.Activators.{limit_at, running_at}
-use Rattle.kn_slices.specs.Slices.{due_change, first_from, or_else, raise_of}
+use Rattle.kn_slices.specs.Slices.{due_change, first_from, raise_of}
 use Rattle.kn_slices.specs.declared.change.Change.{Change}
 use Rattle.kn_slices.proofs.Alike.{due_traces}
 use Rattle.kn_slices.proofs.Due.{due_inside, on_some}

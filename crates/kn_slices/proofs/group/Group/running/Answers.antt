@@ -1,8 +1,9 @@
 use Rattle.std.proofs.Common.{◌<◌, ◌≤◌, ◌∙◌, ap, sym, subst, arith, List, length}
 use Rattle.std.specs.Prelude.{slice_index_or}
+use Rattle.kn_event.specs.Lists.{EachIs}
 use Rattle.kn_core.specs.State.{RevisionState}
 use Rattle.kn_slices.specs.Slices.{runs}
-use Rattle.kn_slices.specs.Activators.{EachIs, HasPod, limit_at, running_at}
+use Rattle.kn_slices.specs.Activators.{HasPod, limit_at, running_at}
 use Rattle.kn_slices.proofs.Alike.{runs_traces}
 use Rattle.kn_slices.proofs.Calls.{each_has}
 use Rattle.kn_slices.proofs.Due.{runs_within}

@@ -1,7 +1,7 @@
 use Rattle.std.proofs.Common.{◌≡◌, sym, ap, subst, ◌∙◌, ◌≤◌, arith}
 use Rattle.std.proofs.lemmas.Bool.{eqb-true}
 use Rattle.kn_scaling.specs.Average.{second_of}
-use Rattle.kn_stats.specs.Stands.{IsWithin, StandsFor, StatsState}
+use Rattle.kn_stats.specs.Stands.{IsWithin, IsStatsOf, StatsState}
 use Rattle.kn_stats.proofs.Closings.{advanced_within, alike, closed_is, none_closed, quiet}
 use Rattle.kn_stats.proofs.Steps.{stands_advanced, within_advanced}
 use Rattle.kn_stats.proofs.stats.Stats.advance.Goals.{Then-has_second_of}
@@ -35,8 +35,8 @@ returns-then-has_second_of-clause-quiet c = λ cs gone s is after. quiet c.args.
 pub returns-then-has_second_of-clause-stands : goal.returns-then-has_second_of-clause-stands
 returns-then-has_second_of-clause-stands c = λ cs gone is.
     rw c.go_on.ensures
-    (subst (λ s. StandsFor s cs gone) (sym (advanced_within _ c.args.to (same c.before.before)))
-    (stands_advanced _ c.args.to (later c.before.before) cs gone c.self.invariant.within (subst (λ s. StandsFor s cs gone) (sym c.self.view_is) is)))
+    (subst (λ s. IsStatsOf s cs gone) (sym (advanced_within _ c.args.to (same c.before.before)))
+    (stands_advanced _ c.args.to (later c.before.before) cs gone c.self.invariant.within (subst (λ s. IsStatsOf s cs gone) (sym c.self.view_is) is)))
 
 -- ---- into a later one
 
@@ -51,5 +51,5 @@ returns-clause-quiet c = λ cs gone s is after. quiet c.args.self.now cs gone s 
 
 pub returns-clause-stands : goal.returns-clause-stands
 returns-clause-stands c = λ cs gone is.
-    subst (λ s. StandsFor s cs gone) (sym c.begin_second.ensures.state)
+    subst (λ s. IsStatsOf s cs gone) (sym c.begin_second.ensures.state)
     (stands_advanced c.args.self.now c.args.to c.requires cs gone (subst IsWithin c.self.view_is c.self.invariant.within) is)

@@ -3,7 +3,7 @@ use Rattle.kn_scaling.specs.Average.{second_of}
 use Rattle.kn_stats.specs.declared.tally.PodTally.{PodTally}
 use Rattle.kn_stats.specs.Changes.{at, ends_assigned, is_arrival_at, is_assigned, is_end_at, time_taken}
 use Rattle.kn_stats.specs.Pods.{found, fresh, so_far}
-use Rattle.kn_stats.specs.Stands.{StandsFor, StatsState, left_of}
+use Rattle.kn_stats.specs.Stands.{IsStatsOf, StatsState, left_of}
 use Rattle.kn_stats.proofs.Closings.{area_is, proxied_is}
 use Rattle.kn_stats.proofs.stats.Stats.pod_area.Goals as goal
 
@@ -21,7 +21,7 @@ direct_of c =
 pub returns-clause-area : goal.returns-clause-area
 returns-clause-area c = λ cs gone is there.
     let time = ap (λ (s : StatsState). s.time) c.self.view_is in
-    let before = subst (λ s. StandsFor s cs gone) (sym c.self.view_is) is in
+    let before = subst (λ s. IsStatsOf s cs gone) (sym c.self.view_is) is in
     let taken = area_is _ cs gone c.args.p c.self.invariant.within before there in
     let sum : c.so_far.result + c.so_far-proxied.result ≡ time_taken (is_arrival_at c.args.p) (is_end_at c.args.p) (1000 * second_of c.self.inside.clock) c.self.inside.clock cs = omega (arith, taken, direct_of c, proxied_of c) in
     sum ∙ ap (λ t. time_taken (is_arrival_at c.args.p) (is_end_at c.args.p) (1000 * second_of t) t cs) time
@@ -29,6 +29,6 @@ returns-clause-area c = λ cs gone is there.
 pub returns-clause-proxied : goal.returns-clause-proxied
 returns-clause-proxied c = λ cs gone is there.
     let time = ap (λ (s : StatsState). s.time) c.self.view_is in
-    let before = subst (λ s. StandsFor s cs gone) (sym c.self.view_is) is in
+    let before = subst (λ s. IsStatsOf s cs gone) (sym c.self.view_is) is in
     proxied_of c ∙ proxied_is _ cs gone c.args.p c.self.invariant.within before there
     ∙ ap (λ t. time_taken (at is_assigned c.args.p) (at ends_assigned c.args.p) (1000 * second_of t) t cs) time

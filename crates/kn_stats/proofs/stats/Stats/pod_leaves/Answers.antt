@@ -1,5 +1,5 @@
 use Rattle.std.proofs.Common.{sym, subst, arith}
-use Rattle.kn_stats.specs.Stands.{IsIdle, StandsFor}
+use Rattle.kn_stats.specs.Stands.{IsIdle, IsStatsOf}
 use Rattle.kn_stats.proofs.Steps.{stands_without, within_without}
 use Rattle.kn_stats.proofs.stats.Stats.pod_leaves.Goals as goal
 
@@ -13,4 +13,4 @@ invariant_of-self c =
 
 pub returns-clause-stands : goal.returns-clause-stands
 returns-clause-stands c = λ cs gone is.
-    rw c.remove.ensures.without (stands_without _ c.args.p cs gone (subst (λ s. StandsFor s cs gone) (sym c.self.view_is) is))
+    rw c.remove.ensures.without (stands_without _ c.args.p cs gone (subst (λ s. IsStatsOf s cs gone) (sym c.self.view_is) is))

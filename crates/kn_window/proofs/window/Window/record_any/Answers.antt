@@ -2,7 +2,7 @@ use Rattle.std.proofs.Common.{◌≡◌, refl, ap, subst, ◌∙◌, ◌+◌, �
 use Rattle.std.specs.Prelude.{nat_le, nat_lt}
 use Rattle.kn_scaling.specs.Average.{with_run}
 use Rattle.kn_scaling.specs.Worked.{run_of}
-use Rattle.kn_window.specs.Stands.{WindowState, StandsFor, Holds}
+use Rattle.kn_window.specs.Stands.{WindowState, IsWindowOf, Holds}
 use Rattle.kn_window.proofs.Windows.{run_ends, stands_run}
 use Rattle.kn_window.proofs.window.Window.record_any.Goals as goal
 
@@ -52,7 +52,7 @@ returns-clause-stands c = λ f r.
     let ends = run_ends a k n w.end from is_new cut c.requires.second c.requires.some long from_is cut_is in
     let whole = stands_run f n a k v w from is_new cut y.ring.items z.ring.items last.ring.items y.total z.total last.total y.end refl long c.requires.load c.requires.some c.requires.second
     new_is from_is cut_is ys_is y_is yend_is first first_len second second_len r in
-    subst (λ m. StandsFor (record { seconds = m; totals = last.ring.items; total = last.total; end = last.end }) (with_run f (run_of a k v)))
+    subst (λ m. IsWindowOf (record { seconds = m; totals = last.ring.items; total = last.total; end = last.end }) (with_run f (run_of a k v)))
     (let e : n ≡ last.ring.capacity = omega (arith, size, c.push_all-2.ensures.capacity, c.push_all.ensures.capacity, c.skip_if.ensures.capacity) in e)
-    (subst (λ e. StandsFor (record { seconds = n; totals = last.ring.items; total = last.total; end = e }) (with_run f (run_of a k v)))
+    (subst (λ e. IsWindowOf (record { seconds = n; totals = last.ring.items; total = last.total; end = e }) (with_run f (run_of a k v)))
     (let e : a + k ≡ last.end = omega (arith, c.push_all-2.ensures.end, zend, rest, yend_is, ends) in e) whole)
