@@ -1,5 +1,4 @@
 pub mod Pieces
-pub mod Waits
 pub mod Phases
 pub mod Expiries
 pub mod Several

@@ -23,6 +23,7 @@ use kn_lives::{Lives, arrival_tag};
 use kn_past::changes::entry_laws;
 use kn_reason::Reason;
 use kn_report::Waiting;
+use kn_report::laws::adding_laws;
 use kn_teller::{Form, Teller};
 use std::alloc::Global;
 use std::marker::Model;
@@ -81,6 +82,7 @@ fn add_sentences<O: Sink>(
     ensures err { OnErr result (AppendsPrefix (O.held out.old) (O.held out.new) (waiting.old ++ sentences_text time sentences.now)) }
     ensures cause { HasCause (O.Faulty.faults out.old) (O.Faulty.faults out.new) result }
 {
+    adding_laws();
     for sentence in sentences {
         match add_sentence(*sentence, time, line, waiting, out) {
             Ok(()) => {}
@@ -174,6 +176,7 @@ fn add_rows<O: Sink>(
     ensures knows { (es : List EventValue) (c : Trace) → Follows spec.now es tag seen.old c log.now → OnOk result (Knows seen.new es (c ++ log.now)) }
     ensures cause { HasCause (O.Faulty.faults out.old) (O.Faulty.faults out.new) result }
 {
+    adding_laws();
     row_laws();
     for e in log.entries() {
         match add_row(spec, seen, e, line, waiting, out) {

@@ -7,12 +7,11 @@ use Rattle.kn_trace.specs.Trace.{Trace}
 use Rattle.kn_show_reasons.specs.Reasons.{rows_text}
 use Rattle.kn_show_reasons.specs.State.{Follows, Knows}
 use Rattle.kn_show_reasons.proofs.Rows.{rows_around, rows_more, rows_nothing, same_text, split, trace_more}
-use Rattle.kn_show_reasons.proofs.Waits.{adds_nothing, adds_some, adds_trans}
 use Rattle.kn_show_reasons.proofs.reasons.add_rows.Goals as goal
 
 pub loop-e-init : goal.loop-e-init
 loop-e-init g c = record {
-  held = λ es t f. subst (Adds (g.O.Sink.held c.args.out.now) (g.O.Sink.held c.args.out.now) c.args.waiting.now c.args.waiting.now) (sym (rows_nothing c.args.spec.now t)) (adds_nothing _ _);
+  held = λ es t f. subst (Adds (g.O.Sink.held c.args.out.now) (g.O.Sink.held c.args.out.now) c.args.waiting.now c.args.waiting.now) (sym (rows_nothing c.args.spec.now t)) c.adding_laws.ensures.laws.nothing;
   knows = λ es t f. subst (Knows c.args.seen.now es) (sym (append-nil t)) f.knows;
   ready = refl;
   later = omega arith;
@@ -32,9 +31,8 @@ loop-e-preserved g c = record {
       let known = c.row_laws.ensures.known es (t ++ take i items) c.loop-e.seen.lives here.lives in
       let alive = c.row_laws.ensures.ended s es c.args.tag (t ++ take i items) x.row comes in
       let text = same_text es (t ++ take i items) c.loop-e.seen.lives known s c.loop-e.seen x alive here.sees (λ e. c.loop-e.invariant.ready ∙ f.ready (take i items) (drop (i + 1) items) x at e) in
-      let both = adds_trans _ _ _ _ _ _ _ _ (c.loop-e.invariant.held es t f) c.in-Ok.ensures.ok in
-      subst (Adds (g.O.Sink.held c.args.out.now) (g.O.Sink.held c.add_row.new.out) c.args.waiting.now c.add_row.new.waiting)
-      (ap (λ m. rows_text s t (take i items) ++ m) text ∙ sym (rows_more append s t items i x c.loop-e-test.true c.e-item.is)) both;
+      c.adding_laws.ensures.laws.more (c.loop-e.invariant.held es t f) c.in-Ok.ensures.ok
+      (ap (λ m. rows_text s t (take i items) ++ m) text ∙ sym (rows_more append s t items i x c.loop-e-test.true c.e-item.is));
   knows = λ es t f.
       let s = c.args.spec.now in
       let append = c.row_laws.ensures.append in
@@ -64,7 +62,7 @@ returns-in-Err-clause-err g c es t follows =
     let alive = c.row_laws.ensures.ended s es c.args.tag (t ++ take i items) x.row comes in
     let text = same_text es (t ++ take i items) c.loop-e.seen.lives known s c.loop-e.seen x alive here.sees (λ e. c.loop-e.invariant.ready ∙ f.ready (take i items) (drop (i + 1) items) x at e) in
     let rest = rows_text s ((t ++ take i items) ++ x ∷ []) (drop (i + 1) items) in
-    let some = adds_some _ _ _ _ _ _ _ rest (c.loop-e.invariant.held es t f) c.in-Err.ensures.err in
+    let some = c.adding_laws.ensures.laws.some _ _ rest (c.loop-e.invariant.held es t f) c.in-Err.ensures.err in
     subst (λ m. AppendsPrefix (g.O.Sink.held c.args.out.now) (g.O.Sink.held c.add_row.new.out) (c.args.waiting.now ++ m))
     (ap (λ m. rows_text s t (take i items) ++ (m ++ rest)) text ∙ sym (rows_around append s t items i x c.loop-e-test.true c.e-item.is) ∙ ap (rows_text s t) same) some
 

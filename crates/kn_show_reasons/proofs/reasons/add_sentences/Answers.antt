@@ -5,21 +5,18 @@ use Rattle.kn_io.specs.Prefix.{AppendsPrefix}
 use Rattle.kn_report.specs.Waiting.{Adds}
 use Rattle.kn_reason.specs.Texts.{sentences_text}
 use Rattle.kn_show_reasons.proofs.Several.{sentences_around, sentences_more, sentences_nothing}
-use Rattle.kn_show_reasons.proofs.Waits.{adds_nothing, adds_some, adds_trans}
 use Rattle.kn_show_reasons.proofs.reasons.add_sentences.Goals as goal
 
 pub loop-sentence-init : goal.loop-sentence-init
 loop-sentence-init g c = record {
-  held = subst (Adds (g.O.Sink.held c.args.out.now) (g.O.Sink.held c.args.out.now) c.args.waiting.now c.args.waiting.now) (sym (sentences_nothing c.args.time)) (adds_nothing _ _);
+  held = subst (Adds (g.O.Sink.held c.args.out.now) (g.O.Sink.held c.args.out.now) c.args.waiting.now c.args.waiting.now) (sym (sentences_nothing c.args.time)) c.adding_laws.ensures.laws.nothing;
   later = omega arith;
 }
 
 pub loop-sentence-preserved : goal.loop-sentence-preserved
 loop-sentence-preserved g c = record {
-  held =
-      let both = adds_trans _ _ _ _ _ _ _ _ c.loop-sentence.invariant.held c.in-Ok.ensures.ok in
-      subst (Adds (g.O.Sink.held c.args.out.now) (g.O.Sink.held c.add_sentence.new.out) c.args.waiting.now c.add_sentence.new.waiting)
-      (sym (sentences_more c.args.time c.args.sentences.now c.loop-sentence.sentence-index c.sentence-item.result c.loop-sentence-test.true c.sentence-item.is)) both;
+  held = c.adding_laws.ensures.laws.more c.loop-sentence.invariant.held c.in-Ok.ensures.ok
+      (sym (sentences_more c.args.time c.args.sentences.now c.loop-sentence.sentence-index c.sentence-item.result c.loop-sentence-test.true c.sentence-item.is));
   later = grind (arith, common_steps);
 }
 
@@ -29,7 +26,7 @@ returns-in-Err-clause-err g c =
     let xs = c.args.sentences.now in
     let i = c.loop-sentence.sentence-index in
     let rest = sentences_text t (drop (i + 1) xs) in
-    let some = adds_some _ _ _ _ _ _ _ rest c.loop-sentence.invariant.held c.in-Err.ensures.err in
+    let some = c.adding_laws.ensures.laws.some _ _ rest c.loop-sentence.invariant.held c.in-Err.ensures.err in
     subst (λ m. AppendsPrefix (g.O.Sink.held c.args.out.now) (g.O.Sink.held c.add_sentence.new.out) (c.args.waiting.now ++ m))
     (sym (sentences_around t xs i c.sentence-item.result c.loop-sentence-test.true c.sentence-item.is)) some
 
