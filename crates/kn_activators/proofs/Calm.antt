@@ -3,13 +3,13 @@ use Rattle.std.proofs.Common.{◌≡◌, ◌++◌, ◌∷◌, ℕ, zero, suc, �
 use Rattle.std.specs.Prelude.{None, Option, if◌then◌else◌}
 use Rattle.std.proofs.lemmas.Bool.{eq-eqb}
 use Rattle.kn_event.specs.declared.event.Event.{Event}
+use Rattle.kn_report.specs.AddingLaws.{AddingLaws}
 use Rattle.kn_report.specs.Waiting.{Adds}
 use Rattle.kn_slices.specs.Traces.{GroupState, IsCalm, made_at}
 use Rattle.kn_activators.specs.declared.event.GroupEvent.TheVariants as group
 use Rattle.kn_activators.specs.declared.setup.GroupSetup.{GroupSetup}
 use Rattle.kn_activators.specs.Sharing.{Outcome, Sharing, and_then, by_line, by_one, changes, changes_most, due_in, force_line, force_lines, stepped, unsaid, while_due}
 use Rattle.kn_activators.specs.Standing.{Fails, Makes, ReplayState, Stands}
-use Rattle.kn_activators.proofs.Waits.{waits_more}
 
 none_changes : (s : GroupSetup) (time n : ℕ) (x : Sharing) → due_in x ≡ None → changes s time n x ≡ unsaid x
 unfolding changes
@@ -57,9 +57,9 @@ makes_calm s i e a b o p calm calm' h = λ x old.
       adds = subst (Adds o p a.waiting b.waiting) (sym (line_says s i e x a.group b.group calm calm' old came.stands)) came.adds;
     }
 
-pub fails_calm : (s : GroupSetup) (i : ℕ) (e : Event) (a : ReplayState) (o p : Option (List ℕ)) → Fails (λ x. by_one s x i e) a o p → Fails (by_line s (group.One i e)) a o p
+pub fails_calm : AddingLaws → (s : GroupSetup) (i : ℕ) (e : Event) (a : ReplayState) (o p : Option (List ℕ)) → Fails (λ x. by_one s x i e) a o p → Fails (by_line s (group.One i e)) a o p
 unfolding by_line
-fails_calm s i e a o p h = λ x old.
+fails_calm laws s i e a o p h = λ x old.
     let made = changes s e.time (changes_most s) (stepped s x i e) in
     let row = (by_one s x i e).text in
-    waits_more o p a.waiting (row ++ made.text) (force_lines e.time 0 x.force made.now.force) (waits_more o p a.waiting row made.text (h x old))
+    laws.behind o p a.waiting (row ++ made.text) (force_lines e.time 0 x.force made.now.force) (laws.behind o p a.waiting row made.text (h x old))

@@ -18,10 +18,10 @@ use Rattle.kn_activators.specs.Breaking.{BreaksIn, StopsAtEvent}
 use Rattle.kn_activators.specs.Replaying.{Follows, IsRefused, Stops, WritesNothing, rest_text}
 use Rattle.kn_activators.specs.Sharing.{Outcome, Sharing, by_line, by_lines, end_line, time_of}
 use Rattle.kn_activators.specs.Verdict.{Read, ending, next_part, none_read, read_events}
+use Rattle.kn_report.specs.AddingLaws.{AddingLaws}
 use Rattle.kn_report.specs.Waiting.{Adds}
 use Rattle.kn_activators.proofs.Breaks.{HasRead, HasTaken, breaks_in, so_over}
 use Rattle.kn_activators.proofs.EventLines.{GoesOn, lines_more, lines_one, no_more, none_more, one_more, with_events, with_more}
-use Rattle.kn_activators.proofs.Waits.{adds_all, adds_last, adds_some, adds_stop, waits_more}
 
 -- the text of the events so far, and what is behind it
 abbrev tail_of : GroupSetup → Sharing → ℕ → Read → List ℕ
@@ -69,7 +69,7 @@ refused_by cut s x last n xs ys es now m left waiting o q e goes broken all told
     by (journal.AfterEnd a) broken (cause, is, h) other = (cause, is, (told_by cause h).0, (told_by cause h).1)
     by (journal.TooMany a) broken (cause, is, h) other = (cause, is, (told_by cause h).0, (told_by cause h).1)
 
-module _ (cut : Bool) (s : GroupSetup) (x : Sharing) (last n : ℕ) where
+module _ (adding : AddingLaws) (cut : Bool) (s : GroupSetup) (x : Sharing) (last n : ℕ) where
   -- writing failed amid what waits
   pub follows_cut : (known left : Option (List ℕ)) (es : List GroupEvent) (now m : ℕ) (rest : Option (List ℕ)) (waiting w : List ℕ) (o p q : Option (List ℕ)) → GoesOn s last n known es now m rest
       → Adds o p waiting w (by_lines s es x).text → AppendsPrefix p q w → Follows {T = Unit {0}} cut s x last n known left waiting o q (Err error.Output)
@@ -78,7 +78,7 @@ module _ (cut : Bool) (s : GroupSetup) (x : Sharing) (last n : ℕ) where
   follows_cut (Some xs) left es now m (Some ys) waiting w o p q goes adds some =
       let r = read_events s now m (lines ys) in
       subst (λ (z : List ℕ). AppendsPrefix o q (waiting ++ z)) (sym (ap (rest_text s x) goes ∙ rest_split s x es r))
-      (waits_more o q waiting (by_lines s es x).text (tail_of s (by_lines s es x).now (length es) r) (adds_stop o p q waiting w (by_lines s es x).text adds some))
+      (adding.behind o q waiting (by_lines s es x).text (tail_of s (by_lines s es x).now (length es) r) (adding.stop q adds some))
 
   -- .. or amid the text of an event
   pub follows_take : (known left : Option (List ℕ)) (es : List GroupEvent) (now m : ℕ) (rest : Option (List ℕ)) (e : GroupEvent) (k : ℕ) (new : Option (List ℕ)) (waiting w : List ℕ) (o p q : Option (List ℕ))
@@ -95,7 +95,7 @@ module _ (cut : Bool) (s : GroupSetup) (x : Sharing) (last n : ℕ) where
       let tail = tail_of s (by_lines s (es ++ e ∷ []) x).now (length (es ++ e ∷ [])) r in
       let split : rest_text s x (read_events s last n (lines xs)) ≡ (by_lines s es x).text ++ ((by_line s e y).text ++ tail) =
       ap (rest_text s x) all ∙ (rest_split s x (es ++ e ∷ []) r ∙ (ap (λ (z : List ℕ). z ++ tail) text ∙ append_assoc (by_lines s es x).text (by_line s e y).text tail)) in
-      subst (λ (z : List ℕ). AppendsPrefix o q (waiting ++ z)) (sym split) (adds_some o p q waiting w (by_lines s es x).text (by_line s e y).text tail adds some)
+      subst (λ (z : List ℕ). AppendsPrefix o q (waiting ++ z)) (sym split) (adding.some q (by_line s e y).text tail adds some)
 
   -- all lines are good
   pub follows_done : (u : Unit {0}) (known left : Option (List ℕ)) (es : List GroupEvent) (now m k : ℕ) (rest new : Option (List ℕ)) (waiting w : List ℕ) (o p q : Option (List ℕ)) → GoesOn s last n known es now m rest
@@ -107,7 +107,7 @@ module _ (cut : Bool) (s : GroupSetup) (x : Sharing) (last n : ℕ) where
       let is = goes ∙ ap (with_events es) (no_more s now m k (lines ys) (lines zs) gives) in
       let split = ap (rest_text s x) is ∙ rest_none s x es None in (
         ap (λ (r : Read). r.refused) is,
-        subst (λ (z : List ℕ). Appends o q (waiting ++ z)) (sym split) (subst (Appends o q) (append_assoc waiting (by_lines s es x).text (end_line (length es))) (adds_all o p q waiting w (by_lines s es x).text (end_line (length es)) adds all)),
+        subst (λ (z : List ℕ). Appends o q (waiting ++ z)) (sym split) (subst (Appends o q) (append_assoc waiting (by_lines s es x).text (end_line (length es))) (adding.all q (end_line (length es)) adds all)),
       )
 
   pub follows_half : (known left : Option (List ℕ)) (es : List GroupEvent) (now m k : ℕ) (rest new : Option (List ℕ)) (waiting w : List ℕ) (o p q : Option (List ℕ)) → GoesOn s last n known es now m rest
@@ -118,7 +118,7 @@ module _ (cut : Bool) (s : GroupSetup) (x : Sharing) (last n : ℕ) where
   follows_half (Some xs) left es now m k (Some ys) (Some zs) waiting w o p q goes gives adds some =
       let is = goes ∙ ap (with_events es) (no_more s now m k (lines ys) (lines zs) gives) in
       let split = ap (rest_text s x) is ∙ rest_none s x es None in
-      subst (λ (z : List ℕ). AppendsPrefix o q (waiting ++ z)) (sym split) (adds_last o p q waiting w (by_lines s es x).text (end_line (length es)) adds some)
+      subst (λ (z : List ℕ). AppendsPrefix o q (waiting ++ z)) (sym split) (adding.last q (end_line (length es)) adds some)
 
   pub follows_stop : (laws : TextLaws) (over : Bool) (known left : Option (List ℕ)) (es : List GroupEvent) (now m : ℕ) (rest : Option (List ℕ)) (waiting w : List ℕ) (o p q : Option (List ℕ)) (e : JournalError) (result : GroupError)
       → GoesOn s last n known es now m rest → HasRead cut over s last n known es now m rest → (e ≡ journal.ReadFault → StopsAtEvent rest left) → (e ≡ journal.ReadFault → over ≡ false) → (IsOver over rest → Refuses (next_part s now m) e rest) → (e ≡ journal.Memory → ⊥) → Adds o p waiting w (by_lines s es x).text → Stops e w p q result
@@ -127,7 +127,7 @@ module _ (cut : Bool) (s : GroupSetup) (x : Sharing) (last n : ℕ) where
   follows_stop laws over (Some xs) left es now m None waiting w o p q e result goes read amid uncut told other adds stops = absurd goes
   follows_stop laws over (Some xs) left es now m (Some ys) waiting w o p q e result goes read amid uncut told other adds (inl (is, appends)) =
       let whole : Appends o q (waiting ++ (by_lines s es x).text) =
-      subst (Appends o q) (append-nil (waiting ++ (by_lines s es x).text)) (adds_all o p q waiting w (by_lines s es x).text [] adds (subst (Appends p q) (sym (append-nil w)) appends)) in
+      subst (Appends o q) (append-nil (waiting ++ (by_lines s es x).text)) (adding.all q [] adds (subst (Appends p q) (sym (append-nil w)) appends)) in
       subst (λ (z : GroupError). Follows {T = Unit {0}} cut s x last n (Some xs) left waiting o q (Err z)) (sym is) (refused_by cut s x last n xs ys es now m left waiting o q e goes
       (λ fault. breaks_in laws cut s x last n xs es now m ys left waiting (subst (λ (b : Bool). HasTaken cut b s last n xs es now m ys) (uncut fault) read) (amid fault)) whole (told (so_over cut over read.text ys read.so)) other)
   follows_stop laws over (Some xs) left es now m (Some ys) waiting w o p q e result goes read amid uncut told other adds (inr (is, some)) =

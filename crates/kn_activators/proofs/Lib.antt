@@ -1,5 +1,4 @@
 mod Pieces
-mod Waits
 mod Standings
 mod Making
 mod Tellings

@@ -9,8 +9,8 @@ use Rattle.kn_slices.specs.Traces.{GroupState}
 use Rattle.kn_activators.specs.Calls.{StepsOnly}
 use Rattle.kn_activators.specs.Sharing.{Outcome, Sharing, and_then, by_one, force_lines, rows_at, said, stepped, unsaid, with_forces}
 use Rattle.kn_activators.specs.Standing.{Came, Fails, IsSameReplay, Makes, ReplayState, Stands}
+use Rattle.kn_report.specs.AddingLaws.{AddingLaws}
 use Rattle.kn_report.specs.Waiting.{Adds, own_rows}
-use Rattle.kn_activators.proofs.Waits.{adds_last, adds_nothing, adds_some, adds_trans, waits_more}
 
 -- one activator's event, whose rows were then added
 module _ (i : ℕ) (e : Event) (before mid now : ReplayState) (old new : Option (List ℕ)) (steps : StepsOnly before mid i e) where
@@ -52,19 +52,19 @@ pub record Going (whole : Outcome) (rest : Sharing → Outcome) (now : ReplaySta
 abbrev pub Goes : (Sharing → Outcome) → (Sharing → Outcome) → ReplayState → ReplayState → Option (List ℕ) → Option (List ℕ) → Type 0
 Goes whole rest before now old new = (x : Sharing) → Stands before.group x → Going (whole x) rest now before.waiting old new
 
-pub goes_begin : (f : Sharing → Outcome) (a : ReplayState) (old : Option (List ℕ)) → Goes f f a a old old
-goes_begin f a old x stands = record { here = x; text = []; stands = stands; adds = adds_nothing old a.waiting; left = refl }
+pub goes_begin : AddingLaws → (f : Sharing → Outcome) (a : ReplayState) (old : Option (List ℕ)) → Goes f f a a old old
+goes_begin laws f a old x stands = record { here = x; text = []; stands = stands; adds = laws.nothing; left = refl }
 
-pub goes_more : (whole rest next one : Sharing → Outcome) (a b c : ReplayState) (o p q : Option (List ℕ)) → Goes whole rest a b o p
+pub goes_more : AddingLaws → (whole rest next one : Sharing → Outcome) (a b c : ReplayState) (o p q : Option (List ℕ)) → Goes whole rest a b o p
     → ((y : Sharing) → Stands b.group y → rest y ≡ and_then (one y) next) → Makes one b c p q → Goes whole next a c o q
-goes_more whole rest next one a b c o p q goes opens makes x stands =
+goes_more laws whole rest next one a b c o p q goes opens makes x stands =
     let g = goes x stands in
     let m = makes g.here g.stands in
     record {
       here = (one g.here).now;
       text = g.text ++ (one g.here).text;
       stands = m.stands;
-      adds = adds_trans o p q a.waiting b.waiting c.waiting g.text (one g.here).text g.adds m.adds;
+      adds = laws.more g.adds m.adds refl;
       left = g.left ∙ (ap (said g.text) (opens g.here g.stands) ∙ said_said g.text (one g.here).text (next (one g.here).now));
     }
 
@@ -78,28 +78,28 @@ goes_end whole rest a b o p goes end x stands =
       adds = subst (λ (z : Outcome). Adds o p a.waiting b.waiting z.text) (sym is) adds;
     }
 
-pub goes_cut : (whole rest next one : Sharing → Outcome) (a b : ReplayState) (o p q : Option (List ℕ)) → Goes whole rest a b o p
+pub goes_cut : AddingLaws → (whole rest next one : Sharing → Outcome) (a b : ReplayState) (o p q : Option (List ℕ)) → Goes whole rest a b o p
     → ((y : Sharing) → Stands b.group y → rest y ≡ and_then (one y) next) → Fails one b p q → Fails whole a o q
-goes_cut whole rest next one a b o p q goes opens fails x stands =
+goes_cut laws whole rest next one a b o p q goes opens fails x stands =
     let g = goes x stands in
     let texts : (whole x).text ≡ g.text ++ ((one g.here).text ++ (next (one g.here).now).text) = ap (λ (z : Outcome). z.text) (g.left ∙ ap (said g.text) (opens g.here g.stands)) in
     subst (λ (t : List ℕ). AppendsPrefix o q (a.waiting ++ t)) (sym texts)
-    (adds_some o p q a.waiting b.waiting g.text (one g.here).text (next (one g.here).now).text g.adds (fails g.here g.stands))
+    (laws.some q (one g.here).text (next (one g.here).now).text g.adds (fails g.here g.stands))
 
 -- two calls
-pub makes_both : (f g : Sharing → Outcome) (a b c : ReplayState) (o p q : Option (List ℕ)) → Makes f a b o p → Makes g b c p q → Makes (λ x. and_then (f x) g) a c o q
-makes_both f g a b c o p q first second x stands =
+pub makes_both : AddingLaws → (f g : Sharing → Outcome) (a b c : ReplayState) (o p q : Option (List ℕ)) → Makes f a b o p → Makes g b c p q → Makes (λ x. and_then (f x) g) a c o q
+makes_both laws f g a b c o p q first second x stands =
     let m = first x stands in
     let n = second (f x).now m.stands in
-    record { stands = n.stands; adds = adds_trans o p q a.waiting b.waiting c.waiting (f x).text (g (f x).now).text m.adds n.adds }
+    record { stands = n.stands; adds = laws.more m.adds n.adds refl }
 
-pub fails_second : (f g : Sharing → Outcome) (a b : ReplayState) (o p q : Option (List ℕ)) → Makes f a b o p → Fails g b p q → Fails (λ x. and_then (f x) g) a o q
-fails_second f g a b o p q first fails x stands =
+pub fails_second : AddingLaws → (f g : Sharing → Outcome) (a b : ReplayState) (o p q : Option (List ℕ)) → Makes f a b o p → Fails g b p q → Fails (λ x. and_then (f x) g) a o q
+fails_second laws f g a b o p q first fails x stands =
     let m = first x stands in
-    adds_last o p q a.waiting b.waiting (f x).text (g (f x).now).text m.adds (fails (f x).now m.stands)
+    laws.last q (g (f x).now).text m.adds (fails (f x).now m.stands)
 
-pub fails_first : (f g : Sharing → Outcome) (a : ReplayState) (o q : Option (List ℕ)) → Fails f a o q → Fails (λ x. and_then (f x) g) a o q
-fails_first f g a o q fails x stands = waits_more o q a.waiting (f x).text (g (f x).now).text (fails x stands)
+pub fails_first : AddingLaws → (f g : Sharing → Outcome) (a : ReplayState) (o q : Option (List ℕ)) → Fails f a o q → Fails (λ x. and_then (f x) g) a o q
+fails_first laws f g a o q fails x stands = laws.behind o q a.waiting (f x).text (g (f x).now).text (fails x stands)
 
 pub some_one : (o : Option Change) (n m pods : ℕ) → n ≡ m → IfSome o (λ x. (x.activator < n) × (x.pod < pods)) → IfSome o (λ x. x.activator < m)
 some_one None n m pods e h = tt
@@ -110,7 +110,7 @@ same_on a b c first second = record { setup = second.setup ∙ first.setup; befo
 
 -- ---- a line: what was made, and then the limits in force that are others
 
-module _ (f : Sharing → Outcome) (time : ℕ) (a k b : ReplayState) (o p q : Option (List ℕ)) (same : k.group ≡ a.group) (waits : k.waiting ≡ a.waiting) where
+module _ (laws : AddingLaws) (f : Sharing → Outcome) (time : ℕ) (a k b : ReplayState) (o p q : Option (List ℕ)) (same : k.group ≡ a.group) (waits : k.waiting ≡ a.waiting) where
   at_start : (x : Sharing) → Stands a.group x → Stands k.group x
   at_start x stands = subst (λ (z : GroupState). Stands z x) (sym same) stands
 
@@ -127,18 +127,18 @@ module _ (f : Sharing → Outcome) (time : ℕ) (a k b : ReplayState) (o p q : O
         let more = subst (Adds p q b.waiting c.waiting) (texts x stands) adds in
         record {
           stands = subst (λ (z : GroupState). Stands z (f x).now) (sym still) m.stands;
-          adds = adds_trans o p q a.waiting b.waiting c.waiting (f x).text (force_lines time 0 x.force (f x).now.force) m.adds more;
+          adds = laws.more m.adds more refl;
         }
 
     pub fails_line : AppendsPrefix p q (b.waiting ++ force_lines time 0 b.before b.group.force) → Fails (λ x. with_forces time x (f x)) a o q
     fails_line some x stands =
         let m = came x stands in
         let more = subst (λ (t : List ℕ). AppendsPrefix p q (b.waiting ++ t)) (texts x stands) some in
-        adds_last o p q a.waiting b.waiting (f x).text (force_lines time 0 x.force (f x).now.force) m.adds more
+        laws.last q (force_lines time 0 x.force (f x).now.force) m.adds more
 
   pub fails_made : Fails f k o q → Fails (λ x. with_forces time x (f x)) a o q
   fails_made fails x stands =
-      waits_more o q a.waiting (f x).text (force_lines time 0 x.force (f x).now.force) (subst (λ (w : List ℕ). AppendsPrefix o q (w ++ (f x).text)) waits (fails x (at_start x stands)))
+      laws.behind o q a.waiting (f x).text (force_lines time 0 x.force (f x).now.force) (subst (λ (w : List ℕ). AppendsPrefix o q (w ++ (f x).text)) waits (fails x (at_start x stands)))
 
 pub on_every : {T E P : Type 0} (r : Result T E) → P → OnOk r P
 on_every (Ok x) h = h

@@ -20,10 +20,9 @@ use Rattle.kn_activators.specs.Breaking.{BreaksBefore, BreaksBeyond, BreaksIn}
 use Rattle.kn_activators.specs.Replaying.{FailsToOpen, Follows, IsRefused, Opened, Opens, ReplaysSlices, Writes, WritesNothing, rest_text}
 use Rattle.kn_activators.specs.Sharing.{by_lines, opened, openings_text, run_text}
 use Rattle.kn_activators.specs.Verdict.{Read, ending, input_of, input_of_lines, opening_part, read_events, refusal_of, text_of}
+use Rattle.kn_report.specs.AddingLaws.{AddingLaws}
 use Rattle.kn_report.specs.Waiting.{Adds}
 use Rattle.kn_activators.proofs.Breaks.{before_setup, before_start, breaks_after, breaks_before, over_of}
-use Rattle.kn_activators.proofs.Pieces.{prefix_more}
-use Rattle.kn_activators.proofs.Waits.{adds_all, adds_last}
 
 -- ---- what stands before the events
 
@@ -107,14 +106,14 @@ unfolding run_text
 text_is s start r = append_assoc (openings_text s start) (by_lines s r.events (opened s start)).text (ending (length r.events) r.refused)
 
 -- what was written before stands in front of it
-behind : (a b d : Option (List ℕ)) (w x y : List ℕ) (refused : Option Cause) (In All : List ℕ → Type 0) (r : Result (Unit {0}) GroupError) (adds : Adds a b [] w x) → (WritesNothing r → ⊥)
+behind : AddingLaws → (a b d : Option (List ℕ)) (w x y : List ℕ) (refused : Option Cause) (In All : List ℕ → Type 0) (r : Result (Unit {0}) GroupError) (adds : Adds a b [] w x) → (WritesNothing r → ⊥)
     → (r ≡ Err (error.Input journal.ReadFault) → (front : List ℕ) → In front → All (adds.written ++ front)) → Writes (w ++ y) refused In b d r → Writes (x ++ y) refused All a d r
-behind a b d w x y refused In All (Ok u) adds other broken h = (h.0, adds_all a b d [] w x y adds h.1)
-behind a b d w x y refused In All (Err error.Output) adds other broken h = adds_last a b d [] w x y adds h
-behind a b d w x y refused In All (Err (error.Input e)) adds other broken h = by e other broken h
+behind laws a b d w x y refused In All (Ok u) adds other broken h = (h.0, laws.all d y adds h.1)
+behind laws a b d w x y refused In All (Err error.Output) adds other broken h = laws.last d y adds h
+behind laws a b d w x y refused In All (Err (error.Input e)) adds other broken h = by e other broken h
   where
     all : Appends b d (w ++ y) → Appends a d (x ++ y)
-    all t = adds_all a b d [] w x y adds t
+    all t = laws.all d y adds t
 
     by : (e : JournalError) → (WritesNothing {T = Unit {0}} (Err (error.Input e)) → ⊥) → (failed (error.Input e) ≡ Err (error.Input journal.ReadFault) → (front : List ℕ) → In front → All (adds.written ++ front))
         → IsRefused (w ++ y) refused In e b d → IsRefused (x ++ y) refused All e a d
@@ -133,12 +132,12 @@ behind a b d w x y refused In All (Err (error.Input e)) adds other broken h = by
     by (journal.AfterEnd n) other broken (cause, is, h, t) = (cause, is, h, all t)
     by (journal.TooMany n) other broken (cause, is, h, t) = (cause, is, h, all t)
 
-pub whole_follows : (laws : TextLaws) (cut : Bool) (known rest : Option (List ℕ)) (ahead : List ℕ) (left : Option (List ℕ)) (given number : ℕ) (s : GroupSetup) (start : ℕ) (a b d : Option (List ℕ)) (w : List ℕ) (r : Result (Unit {0}) GroupError) → Opens known rest number (Ok (s, start))
+pub whole_follows : (laws : TextLaws) (adding : AddingLaws) (cut : Bool) (known rest : Option (List ℕ)) (ahead : List ℕ) (left : Option (List ℕ)) (given number : ℕ) (s : GroupSetup) (start : ℕ) (a b d : Option (List ℕ)) (w : List ℕ) (r : Result (Unit {0}) GroupError) → Opens known rest number (Ok (s, start))
     → TakesText cut known rest → (r ≡ Err (error.Input journal.ReadFault) → length ahead ≡ given - most_taken)
     → Adds a b [] w (openings_text s start) → (WritesNothing r → ⊥) → (IsOver cut rest → Follows cut s (opened s start) start number rest (prepend_known ahead left) w b d r) → ReplaysSlices known left given a d r
-whole_follows laws cut None rest ahead left given number s start a b d w r o text beyond adds other h = tt
-whole_follows laws cut (Some xs) None ahead left given number s start a b d w r o text beyond adds other h = absurd o
-whole_follows laws cut (Some xs) (Some ys) ahead left given number s start a b d w r o text beyond adds other h =
+whole_follows laws adding cut None rest ahead left given number s start a b d w r o text beyond adds other h = tt
+whole_follows laws adding cut (Some xs) None ahead left given number s start a b d w r o text beyond adds other h = absurd o
+whole_follows laws adding cut (Some xs) (Some ys) ahead left given number s start a b d w r o text beyond adds other h =
     let read = read_events s start number (lines ys) in
     let is = input_is xs s start number (lines ys) o in
     let told : text_of (input_of xs) ≡ openings_text s start ++ rest_text s (opened s start) read = ap text_of is ∙ text_is s start read in
@@ -146,17 +145,17 @@ whole_follows laws cut (Some xs) (Some ys) ahead left given number s start a b d
     let left_over = prepend_known ahead left in
     subst (λ (t : List ℕ). Writes t (refusal_of (input_of xs)) (BreaksBeyond xs left given) a d r) (sym told)
     (subst (λ (c : Option Cause). Writes (openings_text s start ++ rest_text s (opened s start) read) c (BreaksBeyond xs left given) a d r) (sym refused)
-    (behind a b d w (openings_text s start) (rest_text s (opened s start) read) read.refused (BreaksIn cut s (opened s start) start number ys left_over w) (BreaksBeyond xs left given) r adds other
+    (behind adding a b d w (openings_text s start) (rest_text s (opened s start) read) read.refused (BreaksIn cut s (opened s start) start number ys left_over w) (BreaksBeyond xs left given) r adds other
     (λ fault front breaks. (ahead, beyond fault, breaks_after laws cut xs ys s start number left_over adds.written w front o text adds.all breaks)) (h (over_of cut text.0 ys text.2))))
 
-pub whole_unbegun : (known rest left : Option (List ℕ)) (given number : ℕ) (s : GroupSetup) (start : ℕ) (a d : Option (List ℕ)) → Opens known rest number (Ok (s, start)) → AppendsPrefix a d (openings_text s start)
+pub whole_unbegun : AddingLaws → (known rest left : Option (List ℕ)) (given number : ℕ) (s : GroupSetup) (start : ℕ) (a d : Option (List ℕ)) → Opens known rest number (Ok (s, start)) → AppendsPrefix a d (openings_text s start)
     → ReplaysSlices {T = Unit {0}} known left given a d (Err error.Output)
-whole_unbegun None rest left given number s start a d o some = tt
-whole_unbegun (Some xs) None left given number s start a d o some = absurd o
-whole_unbegun (Some xs) (Some ys) left given number s start a d o some =
+whole_unbegun laws None rest left given number s start a d o some = tt
+whole_unbegun laws (Some xs) None left given number s start a d o some = absurd o
+whole_unbegun laws (Some xs) (Some ys) left given number s start a d o some =
     let read = read_events s start number (lines ys) in
     let text : text_of (input_of xs) ≡ openings_text s start ++ rest_text s (opened s start) read = ap text_of (input_is xs s start number (lines ys) o) ∙ text_is s start read in
-    subst (AppendsPrefix a d) (sym text) (prefix_more a d (openings_text s start) (rest_text s (opened s start) read) some)
+    subst (AppendsPrefix a d) (sym text) (laws.front a d (openings_text s start) (rest_text s (opened s start) read) some)
 
 -- nothing was read ahead
 pub from_start : (x : Ahead) (left : Option (List ℕ)) → x.ahead ≡ [] → unread x left ≡ left

@@ -21,6 +21,7 @@ use crate::setup::GroupSetup;
 use kn_event::Memory;
 use kn_io::{Failed, Sink, Source};
 use kn_journal::{JournalError, Lines, text_laws};
+use kn_report::laws::adding_laws;
 use std::alloc::Global;
 
 /// Writes what waits, and answers the error, or that this failed.
@@ -29,6 +30,7 @@ fn stop<O: Sink>(replay: &mut Replay, e: JournalError, out: &mut O) -> GroupErro
     ensures fault { result ≡ GroupError.Output → Rose (O.Faulty.faults out.old) (O.Faulty.faults out.new) }
     ensures never_falls { O.Faulty.faults out.old ≤ O.Faulty.faults out.new }
 {
+    adding_laws();
     match replay.flush(out) {
         Ok(()) => GroupError::Input(e),
         Err(Failed) => GroupError::Output,
@@ -43,6 +45,7 @@ fn finish<O: Sink>(replay: &mut Replay, events: u64, out: &mut O) -> Result<(), 
     ensures fault { OnErr result (Rose (O.Faulty.faults out.old) (O.Faulty.faults out.new)) }
     ensures never_falls { O.Faulty.faults out.old ≤ O.Faulty.faults out.new }
 {
+    adding_laws();
     match replay.end(events, out) {
         Ok(()) => {}
         Err(Failed) => return Err(GroupError::Output),
@@ -121,6 +124,7 @@ fn follow<S: Source, O: Sink>(
     ensures write_fault { result ≡ Err GroupError.Output → Rose (O.Faulty.faults out.old) (O.Faulty.faults out.new) }
     ensures never_falls { O.Faulty.faults out.old ≤ O.Faulty.faults out.new }
 {
+    adding_laws();
     text_laws();
     let mut last = start;
     // Each event takes six bytes at least, so after so many 2^56 bytes were taken.
@@ -176,6 +180,7 @@ pub fn replay_slices<S: Source, O: Sink>(
     ensures write_fault { result ≡ Err GroupError.Output → Rose (O.Faulty.faults out.old) (O.Faulty.faults out.new) }
     ensures never_falls { S.Faulty.faults source.old ≤ S.Faulty.faults source.new }
 {
+    adding_laws();
     text_laws();
     let mut lines = match Lines::new(alloc) {
         Ok(lines) => lines,

@@ -8,6 +8,7 @@ ghost use Rattle.kn_activators.specs.Sharing.{force_change, force_line, force_li
 use kn_event::Line;
 use kn_io::{Failed, Sink};
 use kn_report::Waiting;
+use kn_report::laws::adding_laws;
 
 /// Sets the line to what is said of a pod's limit in force.
 fn set_force(line: &mut Line, time: u64, p: u64, force: u64)
@@ -58,6 +59,7 @@ pub fn add_forces<O: Sink>(
     ensures err { OnErr result (AppendsPrefix (O.held out.old) (O.held out.new) (waiting.old ++ force_lines time 0 before.now forces.now)) }
     ensures cause { HasCause (O.Faulty.faults out.old) (O.Faulty.faults out.new) result }
 {
+    adding_laws();
     for p in 0..before.len() {
         match add_force(before[p], forces[p], time, p as u64, line, waiting, out) {
             Ok(()) => {}

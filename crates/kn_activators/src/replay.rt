@@ -16,6 +16,7 @@ use crate::forces::add_forces;
 use crate::setup::GroupSetup;
 use kn_event::{Act, EntryLog, Event, Line};
 use kn_io::{Failed, Sink};
+use kn_report::laws::adding_laws;
 use kn_report::{Waiting, add_own_rows};
 use kn_slices::{Change, Group};
 use std::marker::Model;
@@ -149,6 +150,7 @@ impl Replay {
         ensures load { Grows one self.old.group self.new.group }
         ensures cause { HasCause (O.Faulty.faults out.old) (O.Faulty.faults out.new) result }
     {
+        adding_laws();
         for i in 0..self.activators() {
             match self.step(i, e, out) {
                 Ok(()) => {}
@@ -219,6 +221,7 @@ impl Replay {
         ensures load { Grows none self.old.group self.new.group }
         ensures cause { HasCause (O.Faulty.faults out.old) (O.Faulty.faults out.new) result }
     {
+        adding_laws();
         for k in 0..self.changes_most() {
             let Some(change) = self.due() else {
                 return Ok(());
@@ -244,6 +247,7 @@ impl Replay {
         ensures load { Grows one self.old.group self.new.group }
         ensures cause { HasCause (O.Faulty.faults out.old) (O.Faulty.faults out.new) result }
     {
+        adding_laws();
         match self.act(e, out) {
             Ok(()) => {}
             Err(Failed) => return Err(Failed),
@@ -294,6 +298,7 @@ impl Replay {
         ensures load { OnOk result (Grows one self.old.group self.new.group) }
         ensures cause { HasCause (O.Faulty.faults out.old) (O.Faulty.faults out.new) result }
     {
+        adding_laws();
         self.keep_forces();
         match self.make_all(e, out) {
             Ok(()) => {}
@@ -318,6 +323,7 @@ impl Replay {
         ensures load { Grows one self.old.group self.new.group }
         ensures cause { HasCause (O.Faulty.faults out.old) (O.Faulty.faults out.new) result }
     {
+        adding_laws();
         let _many = self.activators();
         self.step(i, e, out)
     }

@@ -11,6 +11,7 @@ use crate::setup::GroupSetup;
 use kn_event::{EntryLog, Line, Memory};
 use kn_io::{Failed, Sink};
 use kn_report::Waiting;
+use kn_report::laws::adding_laws;
 use kn_slices::Group;
 use std::alloc::Global;
 
@@ -81,6 +82,7 @@ impl Replay {
         ensures setup { self.new.setup ≡ self.old.setup }
         ensures cause { HasCause (O.Faulty.faults out.old) (O.Faulty.faults out.new) result }
     {
+        adding_laws();
         for i in 0..self.activators() {
             self.open_only(i);
             match self.put_rows(i, out) {

@@ -15,7 +15,6 @@ use Rattle.kn_activators.proofs.Breaks.{read_next, read_none}
 use Rattle.kn_activators.proofs.EventLines.{goes_next, goes_none, lines_nil, lines_one}
 use Rattle.kn_activators.proofs.Endings.{follows_cut, follows_finish, follows_stop, follows_take, stops_told}
 use Rattle.kn_activators.proofs.Standings.{below_after, below_less}
-use Rattle.kn_activators.proofs.Waits.{adds_nothing, adds_on, adds_trans}
 use Rattle.kn_activators.proofs.follow.follow.Goals as goal
 
 pub loop-count-init : goal.loop-count-init
@@ -24,7 +23,7 @@ loop-count-init g c = record {
       let none = sym (lines_nil c.args.setup.now x) in (
         [],
         subst (λ (o : Outcome). Stands c.args.replay.now.group o.now) none stands,
-        subst (λ (o : Outcome). Adds (g.O.Sink.held c.args.out.now) (g.O.Sink.held c.args.out.now) c.args.replay.now.waiting c.args.replay.now.waiting o.text) none (adds_nothing (g.O.Sink.held c.args.out.now) c.args.replay.now.waiting),
+        subst (λ (o : Outcome). Adds (g.O.Sink.held c.args.out.now) (g.O.Sink.held c.args.out.now) c.args.replay.now.waiting c.args.replay.now.waiting o.text) none c.adding_laws.ensures.laws.nothing,
         refl,
         goes_none c.args.setup.now c.args.start c.args.lines.now.number (unread c.args.lines.now.input (g.S.Source.left c.args.source.now)),
         read_none c.text_laws.ensures.laws c.args.lines.now.cut c.args.setup.now c.args.start c.args.lines.now.number (unread c.args.lines.now.input (g.S.Source.left c.args.source.now)) over,
@@ -42,7 +41,7 @@ loop-count-init g c = record {
 pub returns-in-Err-clause-follows : goal.returns-in-Err-clause-follows
 returns-in-Err-clause-follows g c = λ x stands over.
     let on = c.loop-count.invariant.on x stands over in
-    follows_cut c.args.lines.now.cut c.args.setup.now x c.args.start c.args.lines.now.number (unread c.args.lines.now.input (g.S.Source.left c.args.source.now))
+    follows_cut c.adding_laws.ensures.laws c.args.lines.now.cut c.args.setup.now x c.args.start c.args.lines.now.number (unread c.args.lines.now.input (g.S.Source.left c.args.source.now))
     (unread c.next.new.lines.input (g.S.Source.left c.next.new.source)) on.0 c.loop-count.last c.loop-count.lines.number (unread c.loop-count.lines.input (g.S.Source.left c.loop-count.source))
     c.args.replay.now.waiting c.loop-count.replay.waiting (g.O.Sink.held c.args.out.now) (g.O.Sink.held c.loop-count.out) (g.O.Sink.held c.next.new.out) on.4 on.2 c.in-Err.ensures.failed
 
@@ -50,13 +49,12 @@ pub returns-in-Err-read-clause-follows : goal.returns-in-Err-read-clause-follows
 returns-in-Err-read-clause-follows g c = λ x stands over.
     let on = c.loop-count.invariant.on x stands over in
     let s = c.args.setup.now in
-    let text = (by_lines s on.0 x).text in
-    let adds = adds_on (g.O.Sink.held c.args.out.now) (g.O.Sink.held c.loop-count.out) (g.O.Sink.held c.next.new.out) c.args.replay.now.waiting c.loop-count.replay.waiting c.next.new.replay.waiting text on.2 c.in-Ok.ensures.adds in
+    let adds = c.adding_laws.ensures.laws.on on.2 c.in-Ok.ensures.adds in
     let told = rw c.in-Err-read.is at c.in-Ok.ensures.read.refuses in
     let source = rw c.in-Err-read.is at c.in-Ok.ensures.read.source in
     let not_cut = c.in-Ok.ensures.read.uncut in
     let no = c.in-Ok.ensures.read.memory in
-    follows_stop c.args.lines.now.cut s x c.args.start c.args.lines.now.number c.text_laws.ensures.laws c.loop-count.lines.cut (unread c.args.lines.now.input (g.S.Source.left c.args.source.now))
+    follows_stop c.adding_laws.ensures.laws c.args.lines.now.cut s x c.args.start c.args.lines.now.number c.text_laws.ensures.laws c.loop-count.lines.cut (unread c.args.lines.now.input (g.S.Source.left c.args.source.now))
     (unread c.next.new.lines.input (g.S.Source.left c.next.new.source)) on.0 c.loop-count.last c.loop-count.lines.number (unread c.loop-count.lines.input (g.S.Source.left c.loop-count.source))
     c.args.replay.now.waiting c.next.new.replay.waiting (g.O.Sink.held c.args.out.now) (g.O.Sink.held c.next.new.out) (g.O.Sink.held c.stop.new.out) c.in-Err-read.e c.stop.result on.4 on.5
     (λ fault. source.amid (ap (λ (e : JournalError). Some e) fault)) (λ fault. not_cut (c.in-Err-read.is ∙ ap (λ (e : JournalError). Err e) fault)) told
@@ -71,10 +69,9 @@ pub returns-in-None-clause-follows : goal.returns-in-None-clause-follows
 returns-in-None-clause-follows g c = λ x stands over.
     let on = c.loop-count.invariant.on x stands over in
     let s = c.args.setup.now in
-    let text = (by_lines s on.0 x).text in
-    let adds = adds_on (g.O.Sink.held c.args.out.now) (g.O.Sink.held c.loop-count.out) (g.O.Sink.held c.next.new.out) c.args.replay.now.waiting c.loop-count.replay.waiting c.next.new.replay.waiting text on.2 c.in-Ok.ensures.adds in
+    let adds = c.adding_laws.ensures.laws.on on.2 c.in-Ok.ensures.adds in
     let gives = rw (c.in-Ok-read.is, c.in-None.is) at c.in-Ok.ensures.read.gives in
-    follows_finish c.args.lines.now.cut s x c.args.start c.args.lines.now.number (unread c.args.lines.now.input (g.S.Source.left c.args.source.now))
+    follows_finish c.adding_laws.ensures.laws c.args.lines.now.cut s x c.args.start c.args.lines.now.number (unread c.args.lines.now.input (g.S.Source.left c.args.source.now))
     (unread c.next.new.lines.input (g.S.Source.left c.next.new.source)) on.0 c.loop-count.last c.loop-count.lines.number c.next.new.lines.number (unread c.loop-count.lines.input (g.S.Source.left c.loop-count.source)) (unread c.next.new.lines.input (g.S.Source.left c.next.new.source))
     c.args.replay.now.waiting c.next.new.replay.waiting (g.O.Sink.held c.args.out.now) (g.O.Sink.held c.next.new.out) (g.O.Sink.held c.finish.new.out) c.loop-count.count c.finish.result on.4 gives adds on.3 c.finish.ensures.ok c.finish.ensures.err c.finish.ensures.some
 
@@ -108,13 +105,12 @@ returns-in-Err-take-clause-follows g c = λ x stands over.
     let s = c.args.setup.now in
     let e = c.in-Some.e in
     let y = (by_lines s on.0 x).now in
-    let text = (by_lines s on.0 x).text in
-    let adds = adds_on (g.O.Sink.held c.args.out.now) (g.O.Sink.held c.loop-count.out) (g.O.Sink.held c.next.new.out) c.args.replay.now.waiting c.loop-count.replay.waiting c.next.new.replay.waiting text on.2 c.in-Ok.ensures.adds in
+    let adds = c.adding_laws.ensures.laws.on on.2 c.in-Ok.ensures.adds in
     let gives = rw (c.in-Ok-read.is, c.in-Some.is) at c.in-Ok.ensures.read.gives in
     let stood = subst (λ (z : GroupState). Stands z y) (sym c.next.ensures.group) on.1 in
     let same = c.next.ensures.setup ∙ c.loop-count.invariant.setup in
     let some = subst (λ (z : GroupSetup). AppendsPrefix (g.O.Sink.held c.next.new.out) (g.O.Sink.held c.take.new.out) (c.next.new.replay.waiting ++ (by_line z e y).text)) same (c.in-Err-take.ensures.err y stood) in
-    follows_take c.args.lines.now.cut s x c.args.start c.args.lines.now.number (unread c.args.lines.now.input (g.S.Source.left c.args.source.now))
+    follows_take c.adding_laws.ensures.laws c.args.lines.now.cut s x c.args.start c.args.lines.now.number (unread c.args.lines.now.input (g.S.Source.left c.args.source.now))
     (unread c.next.new.lines.input (g.S.Source.left c.next.new.source)) on.0 c.loop-count.last c.loop-count.lines.number (unread c.loop-count.lines.input (g.S.Source.left c.loop-count.source)) e c.next.new.lines.number (unread c.next.new.lines.input (g.S.Source.left c.next.new.source))
     c.args.replay.now.waiting c.next.new.replay.waiting (g.O.Sink.held c.args.out.now) (g.O.Sink.held c.next.new.out) (g.O.Sink.held c.take.new.out) on.4 gives adds some
 
@@ -134,12 +130,11 @@ loop-count-preserved g c =
           let on = kept.on x stands over in
           let es = on.0 in
           let y = (by_lines s es x).now in
-          let text = (by_lines s es x).text in
-          let adds = adds_on (g.O.Sink.held c.args.out.now) (g.O.Sink.held c.loop-count.out) (g.O.Sink.held c.next.new.out) c.args.replay.now.waiting c.loop-count.replay.waiting c.next.new.replay.waiting text on.2 c.in-Ok.ensures.adds in
+          let adds = c.adding_laws.ensures.laws.on on.2 c.in-Ok.ensures.adds in
           let stood = subst (λ (z : GroupState). Stands z y) (sym c.next.ensures.group) on.1 in
           let came = subst (λ (z : GroupSetup). Came (by_line z e y) c.take.new.self c.next.new.replay.waiting (g.O.Sink.held c.next.new.out) (g.O.Sink.held c.take.new.out)) same (c.in-Ok-take.ensures.ok y stood) in
           let one = sym (lines_one s es e x) in
-          let both = adds_trans (g.O.Sink.held c.args.out.now) (g.O.Sink.held c.next.new.out) (g.O.Sink.held c.take.new.out) c.args.replay.now.waiting c.next.new.replay.waiting c.take.new.self.waiting text (by_line s e y).text adds came.adds in (
+          let both = c.adding_laws.ensures.laws.more adds came.adds refl in (
             es ++ e ∷ [],
             subst (λ (o : Outcome). Stands c.take.new.self.group o.now) one came.stands,
             subst (λ (o : Outcome). Adds (g.O.Sink.held c.args.out.now) (g.O.Sink.held c.take.new.out) c.args.replay.now.waiting c.take.new.self.waiting o.text) one both,

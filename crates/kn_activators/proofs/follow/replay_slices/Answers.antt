@@ -27,7 +27,7 @@ returns-in-Err-new-clause-report g c = whole_memory (g.S.Source.left c.args.sour
 pub returns-in-Err-open-2-clause-report : goal.returns-in-Err-open-2-clause-report
 returns-in-Err-open-2-clause-report g c =
     let opens = subst (λ (z : Option (List ℕ)). Opens z (unread c.open.new.lines.input (g.S.Source.left c.open.new.source)) c.open.new.lines.number (Ok c.in-Ok-open.parts)) (from_start c.in-Ok.lines.input (g.S.Source.left c.args.source.now) c.in-Ok.ensures.ahead) c.in-Ok-open.ensures.opens in
-    whole_unbegun (g.S.Source.left c.args.source.now) (unread c.open.new.lines.input (g.S.Source.left c.open.new.source)) (g.S.Source.left c.open.new.source) (g.S.Source.given c.open.new.source - g.S.Source.given c.args.source.now) c.open.new.lines.number c.in-Ok-open.parts.0 c.in-Ok-open.parts.1 (g.O.Sink.held c.args.out.now) (g.O.Sink.held c.open-2.new.out) opens
+    whole_unbegun c.adding_laws.ensures.laws (g.S.Source.left c.args.source.now) (unread c.open.new.lines.input (g.S.Source.left c.open.new.source)) (g.S.Source.left c.open.new.source) (g.S.Source.given c.open.new.source - g.S.Source.given c.args.source.now) c.open.new.lines.number c.in-Ok-open.parts.0 c.in-Ok-open.parts.1 (g.O.Sink.held c.args.out.now) (g.O.Sink.held c.open-2.new.out) opens
     (rw (c.in-Ok-new.ensures.waiting, c.in-Ok-new.ensures.setup, c.in-Ok-new.ensures.start) at c.in-Err-open-2.ensures.err)
 
 pub returns-clause-report : goal.returns-clause-report
@@ -39,7 +39,7 @@ returns-clause-report g c =
     let stands = subst (λ (z : GroupState). Stands z (opened s start)) (sym c.open-2.ensures.group) c.in-Ok-new.ensures.stands in
     let text = subst (λ (z : Option (List ℕ)). TakesText c.open.new.lines.cut z (unread c.open.new.lines.input (g.S.Source.left c.open.new.source))) (from_start c.in-Ok.lines.input (g.S.Source.left c.args.source.now) c.in-Ok.ensures.ahead) c.in-Ok-open.ensures.text in
     let source = draws_more c.in-Ok-open.ensures.source c.follow.ensures.source in
-    whole_follows c.text_laws.ensures.laws c.open.new.lines.cut (g.S.Source.left c.args.source.now) (unread c.open.new.lines.input (g.S.Source.left c.open.new.source)) c.follow.new.lines.input.ahead (g.S.Source.left c.follow.new.source) (g.S.Source.given c.follow.new.source - g.S.Source.given c.args.source.now) c.open.new.lines.number s start (g.O.Sink.held c.args.out.now) (g.O.Sink.held c.open-2.new.out) (g.O.Sink.held c.follow.new.out) c.open-2.new.self.waiting c.follow.result
+    whole_follows c.text_laws.ensures.laws c.adding_laws.ensures.laws c.open.new.lines.cut (g.S.Source.left c.args.source.now) (unread c.open.new.lines.input (g.S.Source.left c.open.new.source)) c.follow.new.lines.input.ahead (g.S.Source.left c.follow.new.source) (g.S.Source.given c.follow.new.source - g.S.Source.given c.args.source.now) c.open.new.lines.number s start (g.O.Sink.held c.args.out.now) (g.O.Sink.held c.open-2.new.out) (g.O.Sink.held c.follow.new.out) c.open-2.new.self.waiting c.follow.result
     opens text (λ fault. beyond_at (read_error c.follow.result) c.in-Ok.lines.input c.follow.new.lines.input c.args.source.now c.follow.new.source c.in-Ok.ensures.taken c.in-Ok.ensures.ahead source (ap read_error fault)) adds c.follow.ensures.memory (c.follow.ensures.follows (opened s start) stands)
 
 -- ---- faults

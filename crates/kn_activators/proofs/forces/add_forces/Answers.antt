@@ -5,11 +5,10 @@ use Rattle.kn_activators.specs.Sharing.{force_change, force_lines}
 use Rattle.kn_report.specs.Waiting.{Adds}
 use Rattle.kn_io.specs.Prefix.{AppendsPrefix}
 use Rattle.kn_activators.proofs.Pieces.{forces_end, forces_more}
-use Rattle.kn_activators.proofs.Waits.{adds_nothing, adds_some, adds_trans}
 use Rattle.kn_activators.proofs.forces.add_forces.Goals as goal
 
 pub loop-p-init : goal.loop-p-init
-loop-p-init g c = record { on = ([], adds_nothing (g.O.Sink.held c.args.out.now) c.args.waiting.now, refl); later = omega arith }
+loop-p-init g c = record { on = ([], c.adding_laws.ensures.laws.nothing, refl); later = omega arith }
 
 pub loop-p-preserved : goal.loop-p-preserved
 loop-p-preserved g c =
@@ -24,7 +23,7 @@ loop-p-preserved g c =
     record {
       on = (
         on.0 ++ change,
-        adds_trans (g.O.Sink.held c.args.out.now) (g.O.Sink.held c.loop-p.out) (g.O.Sink.held c.add_force.new.out) c.args.waiting.now c.loop-p.waiting c.add_force.new.waiting on.0 change on.1 wrote,
+        c.adding_laws.ensures.laws.more on.1 wrote refl,
         append_assoc on.0 change (force_lines c.args.time (p + 1) (drop (p + 1) before) (drop (p + 1) forces)) ∙ (ap (λ (z : List ℕ). on.0 ++ z) (sym split) ∙ on.2),
       );
       later = omega (arith, c.loop-p.invariant.later, c.add_force.ensures.cause.never_falls);
@@ -42,7 +41,7 @@ returns-in-Err-clause-err g c =
     let rest = force_lines c.args.time (p + 1) (drop (p + 1) before) (drop (p + 1) forces) in
     let some : AppendsPrefix (g.O.Sink.held c.loop-p.out) (g.O.Sink.held c.add_force.new.out) (c.loop-p.waiting ++ change) = grind (arith, common_steps) in
     subst (λ (z : List ℕ). AppendsPrefix (g.O.Sink.held c.args.out.now) (g.O.Sink.held c.add_force.new.out) (c.args.waiting.now ++ z)) (ap (λ (z : List ℕ). on.0 ++ z) (sym split) ∙ on.2)
-    (adds_some (g.O.Sink.held c.args.out.now) (g.O.Sink.held c.loop-p.out) (g.O.Sink.held c.add_force.new.out) c.args.waiting.now c.loop-p.waiting on.0 change rest on.1 some)
+    (c.adding_laws.ensures.laws.some (g.O.Sink.held c.add_force.new.out) change rest on.1 some)
 
 pub returns-clause-ok : goal.returns-clause-ok
 returns-clause-ok g c =

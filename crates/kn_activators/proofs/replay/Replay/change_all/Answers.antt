@@ -14,7 +14,7 @@ loop-k-init g c =
     let m = changes_most s in
     record {
       goes = subst (λ (n : ℕ). Goes (changes s c.args.time m) (changes s c.args.time n) c.args.self.now c.args.self.now (g.O.Sink.held c.args.out.now) (g.O.Sink.held c.args.out.now)) (all m)
-          (goes_begin (changes s c.args.time m) c.args.self.now (g.O.Sink.held c.args.out.now));
+          (goes_begin c.adding_laws.ensures.laws (changes s c.args.time m) c.args.self.now (g.O.Sink.held c.args.out.now));
       same = record { setup = refl; before = refl; parts = refl };
       order = c.requires.order;
       load = grows_begin c.args.self.now.group none;
@@ -44,7 +44,7 @@ loop-k-preserved g c =
     let low : c.loop-k.k < m = subst (λ (n : ℕ). c.loop-k.k < n) c.changes_most-k-end.ensures c.loop-k-test.true in
     let made = subst (λ (z : GroupSetup). Makes (λ y. by_one z y x.activator (made_at c.args.time x)) c.loop-k.self c.make.new.self (g.O.Sink.held c.loop-k.out) (g.O.Sink.held c.make.new.out)) kept.same.setup c.in-Ok.ensures.ok in
     record {
-      goes = goes_more (changes s c.args.time m) (changes s c.args.time (m - c.loop-k.k)) (changes s c.args.time (m - (c.loop-k.k + 1))) (λ y. by_one s y x.activator (made_at c.args.time x)) c.args.self.now c.loop-k.self c.make.new.self
+      goes = goes_more c.adding_laws.ensures.laws (changes s c.args.time m) (changes s c.args.time (m - c.loop-k.k)) (changes s c.args.time (m - (c.loop-k.k + 1))) (λ y. by_one s y x.activator (made_at c.args.time x)) c.args.self.now c.loop-k.self c.make.new.self
           (g.O.Sink.held c.args.out.now) (g.O.Sink.held c.loop-k.out) (g.O.Sink.held c.make.new.out) kept.goes (λ y stands. changes_more s c.args.time m c.loop-k.k y x low (sym (c.in-Some.ensures.stands y stands))) made;
       same = same_on c.args.self.now c.loop-k.self c.make.new.self kept.same c.make.ensures.same;
       order = c.make.ensures.order;
@@ -68,7 +68,7 @@ returns-in-Err-clause-err g c =
     let x = c.in-Some.change in
     let low : c.loop-k.k < m = subst (λ (n : ℕ). c.loop-k.k < n) c.changes_most-k-end.ensures c.loop-k-test.true in
     let cut = subst (λ (z : GroupSetup). Fails (λ y. by_one z y x.activator (made_at c.args.time x)) c.loop-k.self (g.O.Sink.held c.loop-k.out) (g.O.Sink.held c.make.new.out)) kept.same.setup c.in-Err.ensures.err in
-    goes_cut (changes s c.args.time m) (changes s c.args.time (m - c.loop-k.k)) (changes s c.args.time (m - (c.loop-k.k + 1))) (λ y. by_one s y x.activator (made_at c.args.time x)) c.args.self.now c.loop-k.self
+    goes_cut c.adding_laws.ensures.laws (changes s c.args.time m) (changes s c.args.time (m - c.loop-k.k)) (changes s c.args.time (m - (c.loop-k.k + 1))) (λ y. by_one s y x.activator (made_at c.args.time x)) c.args.self.now c.loop-k.self
     (g.O.Sink.held c.args.out.now) (g.O.Sink.held c.loop-k.out) (g.O.Sink.held c.make.new.out) kept.goes (λ y stands. changes_more s c.args.time m c.loop-k.k y x low (sym (c.in-Some.ensures.stands y stands))) cut
 
 pub returns-in-Err-clause-same : goal.returns-in-Err-clause-same

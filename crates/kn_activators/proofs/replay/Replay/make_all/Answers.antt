@@ -16,7 +16,7 @@ change_all-requires-clause-few g c = below_after c.args.self.now.group c.act.new
 pub returns-in-Err-clause-err : goal.returns-in-Err-clause-err
 returns-in-Err-clause-err g c =
     let s = c.args.self.now.setup in
-    fails_first (by_event s c.args.e.now) (changes s (time_of c.args.e.now) (changes_most s)) c.args.self.now (g.O.Sink.held c.args.out.now) (g.O.Sink.held c.act.new.out) c.in-Err.ensures.err
+    fails_first c.adding_laws.ensures.laws (by_event s c.args.e.now) (changes s (time_of c.args.e.now) (changes_most s)) c.args.self.now (g.O.Sink.held c.args.out.now) (g.O.Sink.held c.act.new.out) c.in-Err.ensures.err
 
 pub returns-clause-ok : goal.returns-clause-ok
 returns-clause-ok g c =
@@ -24,7 +24,7 @@ returns-clause-ok g c =
     let time = time_of c.args.e.now in
     let more = rw (c.act.ensures.same.setup, c.time.ensures) at c.change_all.ensures.ok in
     on_ok c.change_all.result
-    (makes_both (by_event s c.args.e.now) (changes s time (changes_most s)) c.args.self.now c.act.new.self c.change_all.new.self (g.O.Sink.held c.args.out.now) (g.O.Sink.held c.act.new.out) (g.O.Sink.held c.change_all.new.out) c.in-Ok.ensures.ok)
+    (makes_both c.adding_laws.ensures.laws (by_event s c.args.e.now) (changes s time (changes_most s)) c.args.self.now c.act.new.self c.change_all.new.self (g.O.Sink.held c.args.out.now) (g.O.Sink.held c.act.new.out) (g.O.Sink.held c.change_all.new.out) c.in-Ok.ensures.ok)
     more
 
 pub returns-clause-err : goal.returns-clause-err
@@ -33,7 +33,7 @@ returns-clause-err g c =
     let time = time_of c.args.e.now in
     let more = rw (c.act.ensures.same.setup, c.time.ensures) at c.change_all.ensures.err in
     on_err c.change_all.result
-    (fails_second (by_event s c.args.e.now) (changes s time (changes_most s)) c.args.self.now c.act.new.self (g.O.Sink.held c.args.out.now) (g.O.Sink.held c.act.new.out) (g.O.Sink.held c.change_all.new.out) c.in-Ok.ensures.ok)
+    (fails_second c.adding_laws.ensures.laws (by_event s c.args.e.now) (changes s time (changes_most s)) c.args.self.now c.act.new.self (g.O.Sink.held c.args.out.now) (g.O.Sink.held c.act.new.out) (g.O.Sink.held c.change_all.new.out) c.in-Ok.ensures.ok)
     more
 
 pub returns-clause-same : goal.returns-clause-same

@@ -8,12 +8,11 @@ use Rattle.kn_activators.specs.declared.setup.GroupSetup.{GroupSetup}
 use Rattle.kn_activators.specs.Sharing.{numbers_of, opening_at, openings_text}
 use Rattle.kn_report.specs.Waiting.{Adds, own_rows}
 use Rattle.kn_activators.proofs.Standings.{openings_end, openings_more}
-use Rattle.kn_activators.proofs.Waits.{adds_nothing, adds_some, adds_trans}
 use Rattle.kn_activators.proofs.replay.Replay.open.Goals as goal
 
 pub loop-i-init : goal.loop-i-init
 unfolding openings_text
-loop-i-init g c = record { on = ([], adds_nothing (g.O.Sink.held c.args.out.now) c.args.self.now.waiting, refl); group = refl; setup = refl; later = omega arith }
+loop-i-init g c = record { on = ([], c.adding_laws.ensures.laws.nothing, refl); group = refl; setup = refl; later = omega arith }
 
 pub open_only-requires : goal.open_only-requires
 open_only-requires g c =
@@ -42,7 +41,7 @@ loop-i-preserved g c =
     record {
       on = (
         on.0 ++ own_rows i (opening_at s start i),
-        adds_trans (g.O.Sink.held c.args.out.now) (g.O.Sink.held c.loop-i.out) (g.O.Sink.held c.put_rows.new.out) c.args.self.now.waiting c.loop-i.self.waiting c.put_rows.new.self.waiting on.0 (own_rows i (opening_at s start i)) on.1 wrote,
+        c.adding_laws.ensures.laws.more on.1 wrote refl,
         append_assoc on.0 (own_rows i (opening_at s start i)) (flat_map (λ k. own_rows k (opening_at s start k)) (drop (i + 1) (numbers_of s))) ∙ (ap (λ (z : List ℕ). on.0 ++ z) (sym split) ∙ on.2),
       );
       group = c.put_rows.ensures.group ∙ (c.open_only.ensures.group ∙ kept.group);
@@ -64,7 +63,7 @@ returns-in-Err-clause-err g c =
     let rest = flat_map (λ k. own_rows k (opening_at s start k)) (drop (i + 1) (numbers_of s)) in
     let split = openings_more s start i low in
     subst (λ (z : List ℕ). AppendsPrefix (g.O.Sink.held c.args.out.now) (g.O.Sink.held c.put_rows.new.out) (c.args.self.now.waiting ++ z)) (ap (λ (z : List ℕ). on.0 ++ z) (sym split) ∙ on.2)
-    (adds_some (g.O.Sink.held c.args.out.now) (g.O.Sink.held c.loop-i.out) (g.O.Sink.held c.put_rows.new.out) c.args.self.now.waiting c.loop-i.self.waiting on.0 (own_rows i (opening_at s start i)) rest on.1 some)
+    (c.adding_laws.ensures.laws.some (g.O.Sink.held c.put_rows.new.out) (own_rows i (opening_at s start i)) rest on.1 some)
 
 pub returns-clause-ok : goal.returns-clause-ok
 returns-clause-ok g c =

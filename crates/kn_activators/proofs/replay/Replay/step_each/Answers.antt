@@ -9,7 +9,7 @@ use Rattle.kn_activators.proofs.replay.Replay.step_each.Goals as goal
 
 pub loop-i-init : goal.loop-i-init
 loop-i-init g c = record {
-  goes = goes_begin (by_each c.args.self.now.setup c.args.e.now (numbers_of c.args.self.now.setup)) c.args.self.now (g.O.Sink.held c.args.out.now);
+  goes = goes_begin c.adding_laws.ensures.laws (by_each c.args.self.now.setup c.args.e.now (numbers_of c.args.self.now.setup)) c.args.self.now (g.O.Sink.held c.args.out.now);
   same = record { setup = refl; before = refl; parts = refl };
   order = c.requires.order;
   load = grows_begin c.args.self.now.group (one_below 0);
@@ -42,7 +42,7 @@ loop-i-preserved g c =
     let inside = low i _ s.activators c.loop-i-test.true c.activators-i-end.ensures.value in
     let made = subst (λ (z : GroupSetup). Makes (λ y. by_one z y i e) c.loop-i.self c.step.new.self (g.O.Sink.held c.loop-i.out) (g.O.Sink.held c.step.new.out)) kept.same.setup c.in-Ok.ensures.ok in
     record {
-      goes = goes_more (by_each s e (numbers_of s)) (by_each s e (drop i (numbers_of s))) (by_each s e (drop (i + 1) (numbers_of s))) (λ y. by_one s y i e) c.args.self.now c.loop-i.self c.step.new.self
+      goes = goes_more c.adding_laws.ensures.laws (by_each s e (numbers_of s)) (by_each s e (drop i (numbers_of s))) (by_each s e (drop (i + 1) (numbers_of s))) (λ y. by_one s y i e) c.args.self.now c.loop-i.self c.step.new.self
           (g.O.Sink.held c.args.out.now) (g.O.Sink.held c.loop-i.out) (g.O.Sink.held c.step.new.out) kept.goes (λ y stands. each_more s e i y inside) made;
       same = same_on c.args.self.now c.loop-i.self c.step.new.self kept.same c.step.ensures.same;
       order = c.step.ensures.order;
@@ -58,7 +58,7 @@ returns-in-Err-clause-err g c =
     let i = c.loop-i.i in
     let inside = low i _ s.activators c.loop-i-test.true c.activators-i-end.ensures.value in
     let cut = subst (λ (z : GroupSetup). Fails (λ y. by_one z y i e) c.loop-i.self (g.O.Sink.held c.loop-i.out) (g.O.Sink.held c.step.new.out)) kept.same.setup c.in-Err.ensures.err in
-    goes_cut (by_each s e (numbers_of s)) (by_each s e (drop i (numbers_of s))) (by_each s e (drop (i + 1) (numbers_of s))) (λ y. by_one s y i e) c.args.self.now c.loop-i.self
+    goes_cut c.adding_laws.ensures.laws (by_each s e (numbers_of s)) (by_each s e (drop i (numbers_of s))) (by_each s e (drop (i + 1) (numbers_of s))) (λ y. by_one s y i e) c.args.self.now c.loop-i.self
     (g.O.Sink.held c.args.out.now) (g.O.Sink.held c.loop-i.out) (g.O.Sink.held c.step.new.out) kept.goes (λ y stands. each_more s e i y inside) cut
 
 pub returns-in-Err-clause-same : goal.returns-in-Err-clause-same

@@ -10,4 +10,4 @@ returns-clause-ok g c =
 
 pub returns-clause-err : goal.returns-clause-err
 returns-clause-err g c =
-    on_err c.step.result (fails_calm c.args.self.now.setup c.args.i c.args.e.now c.args.self.now (g.O.Sink.held c.args.out.now) (g.O.Sink.held c.step.new.out)) c.step.ensures.err
+    on_err c.step.result (fails_calm c.adding_laws.ensures.laws c.args.self.now.setup c.args.i c.args.e.now c.args.self.now (g.O.Sink.held c.args.out.now) (g.O.Sink.held c.step.new.out)) c.step.ensures.err

@@ -12,7 +12,7 @@ unfolding by_line
 returns-in-Err-clause-err g c =
     let s = c.args.self.now.setup in
     let time = time_of c.args.e.now in
-    fails_made (λ x. and_then (by_event s c.args.e.now x) (changes s time (changes_most s))) time c.args.self.now c.keep_forces.new.self c.make_all.new.self (g.O.Sink.held c.args.out.now) (g.O.Sink.held c.args.out.now) (g.O.Sink.held c.make_all.new.out)
+    fails_made c.adding_laws.ensures.laws (λ x. and_then (by_event s c.args.e.now x) (changes s time (changes_most s))) time c.args.self.now c.keep_forces.new.self c.make_all.new.self (g.O.Sink.held c.args.out.now) (g.O.Sink.held c.args.out.now) (g.O.Sink.held c.make_all.new.out)
     c.keep_forces.ensures.group c.keep_forces.ensures.waiting (rw c.keep_forces.ensures.setup at c.in-Err.ensures.err)
 
 pub returns-clause-ok : goal.returns-clause-ok
@@ -21,7 +21,7 @@ returns-clause-ok g c =
     let s = c.args.self.now.setup in
     let time = time_of c.args.e.now in
     on_ok c.put_forces.result
-    (makes_line (λ x. and_then (by_event s c.args.e.now x) (changes s time (changes_most s))) time c.args.self.now c.keep_forces.new.self c.make_all.new.self (g.O.Sink.held c.args.out.now) (g.O.Sink.held c.make_all.new.out) (g.O.Sink.held c.put_forces.new.out)
+    (makes_line c.adding_laws.ensures.laws (λ x. and_then (by_event s c.args.e.now x) (changes s time (changes_most s))) time c.args.self.now c.keep_forces.new.self c.make_all.new.self (g.O.Sink.held c.args.out.now) (g.O.Sink.held c.make_all.new.out) (g.O.Sink.held c.put_forces.new.out)
     c.keep_forces.ensures.group c.keep_forces.ensures.waiting (c.make_all.ensures.same.before ∙ c.keep_forces.ensures.before) (rw c.keep_forces.ensures.setup at c.in-Ok.ensures.ok) c.put_forces.new.self c.put_forces.ensures.group)
     (rw c.time.ensures at c.put_forces.ensures.ok)
 
@@ -31,7 +31,7 @@ returns-clause-err g c =
     let s = c.args.self.now.setup in
     let time = time_of c.args.e.now in
     on_err c.put_forces.result
-    (fails_line (λ x. and_then (by_event s c.args.e.now x) (changes s time (changes_most s))) time c.args.self.now c.keep_forces.new.self c.make_all.new.self (g.O.Sink.held c.args.out.now) (g.O.Sink.held c.make_all.new.out) (g.O.Sink.held c.put_forces.new.out)
+    (fails_line c.adding_laws.ensures.laws (λ x. and_then (by_event s c.args.e.now x) (changes s time (changes_most s))) time c.args.self.now c.keep_forces.new.self c.make_all.new.self (g.O.Sink.held c.args.out.now) (g.O.Sink.held c.make_all.new.out) (g.O.Sink.held c.put_forces.new.out)
     c.keep_forces.ensures.group c.keep_forces.ensures.waiting (c.make_all.ensures.same.before ∙ c.keep_forces.ensures.before) (rw c.keep_forces.ensures.setup at c.in-Ok.ensures.ok))
     (rw c.time.ensures at c.put_forces.ensures.err)
 
