@@ -12,8 +12,8 @@ use Rattle.kn_journal.specs.declared.journal.Journal.{Journal}
 use Rattle.kn_journal.specs.declared.journal.Setup.{Setup}
 use Rattle.kn_journal.specs.Journal.{journal_text}
 use Rattle.kn_print.specs.Printed.{HasSmall, journals_text, printed_journal, printed_journals, printed}
+use Rattle.kn_report.specs.AddingLaws.{AddingLaws}
 use Rattle.kn_report.specs.Waiting.{Adds}
-use Rattle.kn_print.proofs.Waits.{adds_some, adds_trans}
 
 -- the journals up to one, and that one
 pub journals-more : (js : List Journal) (i : ℕ) (j : Journal) → i < length js → j ≡ get_or js i j
@@ -42,26 +42,25 @@ pub printed-many : (setups : List Setup) (start : ℕ) (hs : List (List Past)) �
 printed-many setups start hs same = length-zip2 (λ (x : Setup) (y : List Past). printed_journal x start y) setups hs (sym same)
 
 -- one journal more was added
-pub added_more : (a b c : Option (List ℕ)) (p q r : List ℕ) (setups : List Setup) (start : ℕ) (hs : List (List Past)) (i : ℕ) (s : Setup) (h : List Past) → i < length setups → length hs ≡ length setups
+pub added_more : AddingLaws → (a b c : Option (List ℕ)) (p q r : List ℕ) (setups : List Setup) (start : ℕ) (hs : List (List Past)) (i : ℕ) (s : Setup) (h : List Past) → i < length setups → length hs ≡ length setups
     → s ≡ get_or setups i s → h ≡ get_or hs i h → Adds a b p q (journals_text (take i (printed_journals setups start hs))) → Adds b c q r (printed s start h)
     → Adds a c p r (journals_text (take (i + 1) (printed_journals setups start hs)))
-added_more a b c p q r setups start hs i s h low same is_s is_h before here =
+added_more laws a b c p q r setups start hs i s h low same is_s is_h before here =
     let js = printed_journals setups start hs in
     let j = printed_journal s start h in
     let low' : i < length js = omega (arith, printed-many setups start hs same, low) in
-    subst (Adds a c p r) (sym (journals-more js i j low' (printed-at setups start hs i s h j low same is_s is_h)))
-    (adds_trans a b c p q r (journals_text (take i js)) (journal_text j) before here)
+    laws.more before here (sym (journals-more js i j low' (printed-at setups start hs i s h j low same is_s is_h)))
 
 -- .. or some of it was written
-pub added_some : (a b c : Option (List ℕ)) (p q : List ℕ) (setups : List Setup) (start : ℕ) (hs : List (List Past)) (i : ℕ) (s : Setup) (h : List Past) → i < length setups → length hs ≡ length setups
+pub added_some : AddingLaws → (a b c : Option (List ℕ)) (p q : List ℕ) (setups : List Setup) (start : ℕ) (hs : List (List Past)) (i : ℕ) (s : Setup) (h : List Past) → i < length setups → length hs ≡ length setups
     → s ≡ get_or setups i s → h ≡ get_or hs i h → Adds a b p q (journals_text (take i (printed_journals setups start hs))) → AppendsPrefix b c (q ++ printed s start h)
     → AppendsPrefix a c (p ++ journals_text (printed_journals setups start hs))
-added_some a b c p q setups start hs i s h low same is_s is_h before here =
+added_some laws a b c p q setups start hs i s h low same is_s is_h before here =
     let js = printed_journals setups start hs in
     let j = printed_journal s start h in
     let low' : i < length js = omega (arith, printed-many setups start hs same, low) in
     subst (λ (z : List ℕ). AppendsPrefix a c (p ++ z)) (sym (journals-around js i j low' (printed-at setups start hs i s h j low same is_s is_h)))
-    (adds_some a b c p q (journals_text (take i js)) (journal_text j) (journals_text (drop (i + 1) js)) before here)
+    (laws.some c (journal_text j) (journals_text (drop (i + 1) js)) before here)
 
 -- .. all
 pub added_all : (a b : Option (List ℕ)) (p q : List ℕ) (setups : List Setup) (start : ℕ) (hs : List (List Past)) (i : ℕ) → length setups ≤ i → length hs ≡ length setups

@@ -11,6 +11,7 @@ use kn_event::Line;
 use kn_io::{Failed, Sink};
 use kn_journal::Setup;
 use kn_report::Waiting;
+use kn_report::laws::adding_laws;
 
 /// Sets the line to a word and a number, with its LF.
 #[tactic(auto, using(std::proofs::Common::append_assoc))]
@@ -36,6 +37,7 @@ pub fn add_opening<O: Sink>(
     ensures err { OnErr result (AddsPrefix (O.held out.old) (O.held out.new) text.old (preface setup.now start)) }
     ensures cause { HasCause (O.Faulty.faults out.old) (O.Faulty.faults out.new) result }
 {
+    adding_laws();
     set_line(line, b"kact journal ", 1);
     match text.add(line.bytes(), out) {
         Ok(()) => {}
@@ -56,6 +58,7 @@ pub fn print_opening<O: Sink>(setup: &Setup, start: u64, out: &mut O) -> Result<
     ensures err { OnErr result (AppendsPrefix (O.held out.old) (O.held out.new) (preface setup.now start)) }
     ensures cause { HasCause (O.Faulty.faults out.old) (O.Faulty.faults out.new) result }
 {
+    adding_laws();
     let mut text = Waiting::new();
     match add_opening(setup, start, &mut Line::new(), &mut text, out) {
         Ok(()) => {}

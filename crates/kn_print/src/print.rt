@@ -14,6 +14,7 @@ use kn_event::Line;
 use kn_io::{Failed, Sink};
 use kn_journal::Setup;
 use kn_report::Waiting;
+use kn_report::laws::adding_laws;
 
 /// What the parts of a printed journal make.
 pub fn printed_laws()
@@ -34,6 +35,7 @@ pub fn add_journal<O: Sink>(
     ensures small { OnOk result (All (λ p. HasSmall p.event.act) rows.now) }
     ensures cause { HasCause (O.Faulty.faults out.old) (O.Faulty.faults out.new) result }
 {
+    adding_laws();
     printed_laws();
     match add_opening(setup, start, line, text, out) {
         Ok(()) => {}
@@ -55,6 +57,7 @@ pub fn print_journal<O: Sink>(
     ensures small { OnOk result (All (λ p. HasSmall p.event.act) rows.now) }
     ensures cause { HasCause (O.Faulty.faults out.old) (O.Faulty.faults out.new) result }
 {
+    adding_laws();
     let mut line = Line::new();
     let mut text = Waiting::new();
     match add_journal(setup, start, rows, &mut line, &mut text, out) {

@@ -11,6 +11,7 @@ use kn_event::Line;
 use kn_io::{Failed, Sink};
 use kn_journal::Setup;
 use kn_report::Waiting;
+use kn_report::laws::adding_laws;
 
 /// Writes the journal of each history, in order, or on `Failed` some first bytes of these journals.
 pub fn print_journals<O: Sink>(
@@ -25,6 +26,7 @@ pub fn print_journals<O: Sink>(
     ensures small { OnOk result (All (All (λ p. HasSmall p.event.act)) histories.now) }
     ensures cause { HasCause (O.Faulty.faults out.old) (O.Faulty.faults out.new) result }
 {
+    adding_laws();
     let mut line = Line::new();
     let mut text = Waiting::new();
     for i in 0..setups.len() {

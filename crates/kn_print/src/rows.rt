@@ -10,6 +10,7 @@ use kn_cell::Past;
 use kn_event::{Act, Line, event_line};
 use kn_io::{Failed, Sink};
 use kn_report::Waiting;
+use kn_report::laws::adding_laws;
 
 /// Knows that an act's numbers fit a line, since each is one of 64 bits.
 fn fits(act: Act)
@@ -38,6 +39,7 @@ fn add_rows<O: Sink>(
     ensures small { OnOk result (All (λ p. HasSmall p.event.act) rows.now) }
     ensures cause { HasCause (O.Faulty.faults out.old) (O.Faulty.faults out.new) result }
 {
+    adding_laws();
     for row in rows {
         fits(row.event.act);
         event_line(&row.event, line);
@@ -61,6 +63,7 @@ pub fn add_rest<O: Sink>(
     ensures small { OnOk result (All (λ p. HasSmall p.event.act) rows.now) }
     ensures cause { HasCause (O.Faulty.faults out.old) (O.Faulty.faults out.new) result }
 {
+    adding_laws();
     match add_rows(rows, line, text, out) {
         Ok(()) => {}
         Err(Failed) => return Err(Failed),
@@ -75,6 +78,7 @@ pub fn print_rows<O: Sink>(rows: &[Past], out: &mut O) -> Result<(), Failed>
     ensures small { OnOk result (All (λ p. HasSmall p.event.act) rows.now) }
     ensures cause { HasCause (O.Faulty.faults out.old) (O.Faulty.faults out.new) result }
 {
+    adding_laws();
     let mut text = Waiting::new();
     match add_rows(rows, &mut Line::new(), &mut text, out) {
         Ok(()) => {}
@@ -90,6 +94,7 @@ pub fn print_rest<O: Sink>(rows: &[Past], out: &mut O) -> Result<(), Failed>
     ensures small { OnOk result (All (λ p. HasSmall p.event.act) rows.now) }
     ensures cause { HasCause (O.Faulty.faults out.old) (O.Faulty.faults out.new) result }
 {
+    adding_laws();
     let mut text = Waiting::new();
     match add_rest(rows, &mut Line::new(), &mut text, out) {
         Ok(()) => {}
