@@ -1,5 +1,5 @@
 -- How long requests waited.
-use Rattle.std.specs.Prelude.{◌≡◌, ℕ, ◌+◌, ◌*◌, ◌<◌, ◌≤◌, ◌^◌, Bool, ◌==◌, nat_le, max, List, [], ◌∷◌, ◌++◌, length, Option, None, Some, slice_index}
+use Rattle.std.specs.Prelude.{◌≡◌, ℕ, ◌+◌, ◌*◌, ◌<◌, ◌≤◌, ◌^◌, Bool, ◌==◌, nat_le, List, [], ◌∷◌, ◌++◌, length, Option, None, Some, slice_index}
 use Rattle.std.specs.List.{All, count_by, find, range_with_len, sum}
 use Rattle.kn_event.specs.Lists.{greatest}
 
