@@ -5,9 +5,10 @@ use Rattle.std.specs.Fmt.{decimal}
 use Rattle.std.proofs.lemmas.Bool.Decides.{eqb_tells}
 use Rattle.std.proofs.lemmas.List.{get_or_default, take_more, take-append-drop}
 use Rattle.kn_event.specs.EventLine.{event_text}
+use Rattle.kn_preamble.specs.First.{first_line}
 use Rattle.kn_cell.specs.declared.past.Past.{Past}
 use Rattle.kn_journal.specs.declared.journal.Setup.{Setup}
-use Rattle.kn_journal.specs.Journal.{first_line, journal_text}
+use Rattle.kn_journal.specs.Journal.{journal_text}
 use Rattle.kn_print.specs.Printed.{HasSmall, preface, lines_to_end, lines_of, printed}
 
 -- what is said of one outcome, turned into what follows from it

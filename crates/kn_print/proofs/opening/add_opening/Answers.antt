@@ -2,7 +2,7 @@
 use Rattle.std.proofs.Common.{◌++◌, ◌∷◌, [], ◌∙◌, refl}
 use Rattle.std.specs.Prelude.{codes}
 use Rattle.std.specs.Fmt.{decimal}
-use Rattle.kn_journal.specs.Journal.{first_line}
+use Rattle.kn_preamble.specs.First.{first_line}
 use Rattle.kn_print.specs.Printed.{preface}
 use Rattle.kn_print.proofs.Pieces.{on_err, on_ok}
 use Rattle.kn_print.proofs.opening.add_opening.Goals as goal
