@@ -10,13 +10,7 @@ use Rattle.kn_journal.specs.Journal.{first_part, nothing_part, start_part, time_
 use Rattle.kn_journal.specs.Lines.{lines}
 use Rattle.kn_journal.specs.Parts.{Part, part, then_part, with_line}
 use Rattle.kn_journal.specs.SetupLine.{fixed_line}
-use Rattle.kn_io.specs.declared.traits.Source.{Ghosts}
-use Rattle.kn_io.specs.declared.traits.Faulty.{Ghosts as Counted}
 use Rattle.kn_journal.specs.declared.error.JournalError.{JournalError}
-use Rattle.kn_journal.specs.Drawing.{Draws}
-use Rattle.kn_journal.specs.Reading.{unread}
-use Rattle.kn_journal.specs.Telling.{LinesState, Tells}
-use Rattle.kn_journal.specs.LineCalls.{Anywhere}
 use Rattle.kn_activators.specs.declared.event.GroupEvent.{GroupEvent}
 use Rattle.kn_activators.specs.declared.setup.GroupSetup.{GroupSetup}
 use Rattle.kn_activators.specs.Reading.{group_event_of}

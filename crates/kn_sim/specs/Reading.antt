@@ -14,12 +14,7 @@ use Rattle.kn_journal.specs.Causes.{Cause, bad_line, no_end, time_back, time_too
 use Rattle.kn_journal.specs.Journal.{nothing_part, opening_part, start_part, time_most}
 use Rattle.kn_journal.specs.Lines.{lines}
 use Rattle.kn_journal.specs.Parts.{Part, part, then_part, with_line}
-use Rattle.kn_io.specs.declared.traits.Source.{Ghosts}
-use Rattle.kn_io.specs.declared.traits.Faulty.{Ghosts as Counted}
-use Rattle.kn_journal.specs.Drawing.{Draws}
-use Rattle.kn_journal.specs.Reading.{unread}
-use Rattle.kn_journal.specs.Telling.{LinesState, Refused, Tells}
-use Rattle.kn_journal.specs.LineCalls.{Anywhere}
+use Rattle.kn_journal.specs.Telling.{Refused}
 use Rattle.kn_sim.specs.declared.workload.Workload.{Workload}
 
 -- ---- a line of a word and a number
