@@ -8,9 +8,9 @@ ghost use Rattle.kn_show_settings.specs.Settings.{bound_text, load_settings, mea
 use kn_config::Key;
 use kn_event::{Burst, Memory, Slots, Spec};
 use kn_origins::{
-    Origin, add_flag, add_ignored_text, add_number, add_thousandths, add_word, annotated, configured,
-    metric_text, overridden, panic_origin, renamed, specified, target_milli, target_origin,
-    total_origin, utilisation, utilisation_origin, window_origin,
+    Origin, add_flag, add_ignored_text, add_number, add_thousandths, add_word, annotated,
+    configured, metric_text, overridden, panic_origin, renamed, specified, target_milli,
+    target_origin, total_origin, utilisation, utilisation_origin, window_origin,
 };
 use serde_json::Value;
 use std::alloc::Global;
