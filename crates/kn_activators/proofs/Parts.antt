@@ -10,7 +10,8 @@ use Rattle.kn_journal.specs.declared.error.SetupError.{SetupError}
 use Rattle.kn_journal.specs.declared.first.FirstLine.TheVariants.{Slices as SlicesLine}
 use Rattle.kn_journal.specs.declared.setting.FixedLine.{FixedLine}
 use Rattle.kn_journal.specs.Causes.{bad_line, bad_setup, time_back, time_too_large}
-use Rattle.kn_journal.specs.Journal.{first_part, nothing_part, time_most}
+use Rattle.kn_journal.specs.Journal.{first_part, time_most}
+use Rattle.kn_journal.specs.Series.{nothing_part}
 use Rattle.kn_journal.specs.Lines.{fits, lines}
 use Rattle.kn_journal.specs.Parts.{with_line}
 use Rattle.kn_journal.specs.Reading.{TakesLine}

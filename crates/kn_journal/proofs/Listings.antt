@@ -9,7 +9,8 @@ use Rattle.kn_journal.specs.declared.first.FirstLine.TheVariants.{Setups as Setu
 use Rattle.kn_journal.specs.declared.journal.Setup.{Setup}
 use Rattle.kn_journal.specs.Bundle.{AreSetups, is_same, listed_part, new_in, new_part, setups_behind, setups_end, setups_part, with_setup}
 use Rattle.kn_journal.specs.Causes.{Cause, bad_setup}
-use Rattle.kn_journal.specs.Journal.{IsSetup, first_part, nothing_part}
+use Rattle.kn_journal.specs.Journal.{IsSetup, first_part}
+use Rattle.kn_journal.specs.Series.{nothing_part}
 use Rattle.kn_journal.specs.Lines.{lines}
 use Rattle.kn_journal.specs.Parts.{Part, part, then_part}
 use Rattle.kn_journal.specs.Setup.{setup_part}

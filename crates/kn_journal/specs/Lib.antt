@@ -2,6 +2,7 @@ pub mod Lines
 pub mod Causes
 pub mod Drawing
 pub mod Parts
+pub mod Series
 pub mod SetupLine
 pub mod Setup
 pub mod Journal

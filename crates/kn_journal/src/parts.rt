@@ -7,7 +7,8 @@ ghost use Rattle.kn_journal.specs.Lines.{line_most};
 ghost use Rattle.kn_journal.specs.Reading.{TakesPart, most_taken, unread};
 ghost use Rattle.kn_journal.specs.Telling.{AmidNext, IsCauseOf, IsEventFault, IsLineFault, Judges, Lacks, OnEvent};
 ghost use Rattle.kn_journal.specs.Bundle.{next_by};
-ghost use Rattle.kn_journal.specs.Journal.{first_part, in_time, nothing_part, start_line_in, start_of, start_part, time_most, version_most};
+ghost use Rattle.kn_journal.specs.Journal.{first_part, in_time, start_line_in, start_of, start_part, time_most, version_most};
+ghost use Rattle.kn_journal.specs.Series.{nothing_part};
 
 use crate::error::JournalError;
 use crate::first::{FirstLine, judge_first};

@@ -10,7 +10,8 @@ use Rattle.kn_journal.specs.declared.journal.Opening.{Opening}
 use Rattle.kn_journal.specs.declared.journal.Setup.{Setup}
 use Rattle.kn_journal.specs.declared.status.Status.TheVariants as status
 use Rattle.kn_journal.specs.Causes.{Cause, after_end, line_too_long}
-use Rattle.kn_journal.specs.Journal.{first_part, nothing_part, opening_part}
+use Rattle.kn_journal.specs.Journal.{first_part, opening_part}
+use Rattle.kn_journal.specs.Series.{nothing_part}
 use Rattle.kn_journal.specs.Lines.{begins_with_lf, fits, lines, lines_at_lf, onto_first, without_crs}
 use Rattle.kn_journal.specs.Parts.{Part, part, then_part}
 use Rattle.kn_journal.specs.Bundle.{listed_part, opening_by, setups_behind, setups_end, setups_part}
