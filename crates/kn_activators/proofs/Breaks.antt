@@ -4,7 +4,7 @@ use Rattle.std.specs.Prelude.{◌⊎◌, Option, None, Some, Result, Ok, Err, co
 use Rattle.std.specs.Str.{bytes_eq}
 use Rattle.std.proofs.lemmas.Slice.Eq.{bytes_eq-Decides}
 use Rattle.kn_journal.specs.declared.error.JournalError.TheVariants as error
-use Rattle.kn_journal.specs.declared.first.FirstLine.TheVariants.{Slices as SlicesLine}
+use Rattle.kn_preamble.specs.declared.first.FirstLine.TheVariants.{Slices as SlicesLine}
 use Rattle.kn_journal.specs.Causes.{Cause, IsGoodSoFar, no_end}
 use Rattle.kn_journal.specs.Journal.{first_part, start_part}
 use Rattle.kn_journal.specs.Lines.{fits, lines}

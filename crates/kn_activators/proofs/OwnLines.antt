@@ -3,14 +3,15 @@ use Rattle.std.proofs.Common.{◌≡◌, ◌+◌, ℕ, Bool, true, false, List, 
 use Rattle.std.specs.Prelude.{◌⊎◌, Option, None, Some, Result, Ok, Err, codes, nat_le, if◌then◌else◌}
 use Rattle.std.specs.Str.{bytes_eq}
 use Rattle.kn_event.specs.declared.fault.LineError.{LineError}
-use Rattle.kn_journal.specs.declared.error.SetupError.{SetupError}
-use Rattle.kn_journal.specs.declared.first.FirstLine.TheVariants.{Slices as SlicesLine}
-use Rattle.kn_journal.specs.declared.setting.FixedLine.{FixedLine}
+use Rattle.kn_preamble.specs.declared.error.SetupError.{SetupError}
+use Rattle.kn_preamble.specs.declared.first.FirstLine.TheVariants.{Slices as SlicesLine}
+use Rattle.kn_preamble.specs.declared.setting.FixedLine.{FixedLine}
 use Rattle.kn_journal.specs.Causes.{Cause, bad_first_line, bad_line, bad_setup, line_too_long, no_end, time_too_large}
-use Rattle.kn_journal.specs.Journal.{first_in, first_part, start_in, start_line_in, start_of, start_part, time_most, version_by, version_in}
+use Rattle.kn_journal.specs.Journal.{first_in, first_part, start_in, start_line_in, start_of, start_part, time_most, version_in}
 use Rattle.kn_journal.specs.Lines.{fits}
 use Rattle.kn_journal.specs.Parts.{Part, part, then_part, with_line}
-use Rattle.kn_journal.specs.SetupLine.{fixed_line}
+use Rattle.kn_preamble.specs.First.{version_by}
+use Rattle.kn_preamble.specs.SetupLine.{fixed_line}
 use Rattle.kn_activators.specs.declared.event.GroupEvent.{GroupEvent}
 use Rattle.kn_activators.specs.declared.setup.GroupSetup.{GroupSetup}
 use Rattle.kn_activators.specs.Reading.{group_event_of}

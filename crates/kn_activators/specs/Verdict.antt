@@ -2,14 +2,14 @@
 use Rattle.std.specs.Prelude.{ℕ, ◌++◌, ⊤, nat_le, List, [], ◌∷◌, length, Option, None, Some, Result, Ok, Err, codes, if◌then◌else◌}
 use Rattle.std.specs.Str.{bytes_eq}
 use Rattle.kn_event.specs.declared.fault.LineError.{LineError}
-use Rattle.kn_journal.specs.declared.error.SetupError.{SetupError}
-use Rattle.kn_journal.specs.declared.first.FirstLine.TheVariants.{Slices as SlicesLine}
-use Rattle.kn_journal.specs.declared.setting.FixedLine.{FixedLine}
+use Rattle.kn_preamble.specs.declared.error.SetupError.{SetupError}
+use Rattle.kn_preamble.specs.declared.first.FirstLine.TheVariants.{Slices as SlicesLine}
+use Rattle.kn_preamble.specs.declared.setting.FixedLine.{FixedLine}
+use Rattle.kn_preamble.specs.SetupLine.{fixed_line}
 use Rattle.kn_journal.specs.Causes.{Cause, bad_line, bad_setup, time_back, time_too_large}
 use Rattle.kn_journal.specs.Journal.{first_part, start_part, time_most}
 use Rattle.kn_journal.specs.Lines.{lines}
 use Rattle.kn_journal.specs.Parts.{Part, part, then_part, with_line}
-use Rattle.kn_journal.specs.SetupLine.{fixed_line}
 use Rattle.kn_journal.specs.declared.error.JournalError.{JournalError}
 use Rattle.kn_activators.specs.declared.event.GroupEvent.{GroupEvent}
 use Rattle.kn_activators.specs.declared.setup.GroupSetup.{GroupSetup}

@@ -6,7 +6,8 @@ use Rattle.std.proofs.lemmas.Grind.{common_steps}
 use Rattle.kn_event.specs.declared.event.Event.{Event}
 use Rattle.kn_event.specs.declared.fault.LineError.{LineError}
 use Rattle.kn_event.specs.EventLine.{event_of}
-use Rattle.kn_journal.specs.declared.first.FirstLine.TheVariants.{Journal as JournalLine}
+use Rattle.kn_preamble.specs.declared.first.FirstLine.TheVariants.{Journal as JournalLine}
+use Rattle.kn_preamble.specs.First.{version_of}
 use Rattle.kn_journal.specs.declared.journal.Setup.{Setup}
 use Rattle.kn_journal.specs.declared.journal.Opening.{Opening}
 use Rattle.kn_journal.specs.declared.journal.Journal.{Journal}
@@ -14,7 +15,7 @@ use Rattle.kn_journal.specs.Causes.{Cause, time_back, time_too_large}
 use Rattle.kn_journal.specs.Lines.{lines, text_of}
 use Rattle.kn_journal.specs.Parts.{Part, part}
 use Rattle.kn_journal.specs.Setup.{setup_part}
-use Rattle.kn_journal.specs.Journal.{AreEvents, IsJournal, IsSetup, Verdict, first_in, first_part, good, in_time, journal_of, next_in, next_part, opening_in, opening_part, or_bad, read_events, start_in, start_line_in, start_of, start_part, time_most, verdict, verdict_of_lines, verdict_on, version_in, version_of}
+use Rattle.kn_journal.specs.Journal.{AreEvents, IsJournal, IsSetup, Verdict, first_in, first_part, good, in_time, journal_of, next_in, next_part, opening_in, opening_part, or_bad, read_events, start_in, start_line_in, start_of, start_part, time_most, verdict, verdict_of_lines, verdict_on, version_in}
 use Rattle.kn_journal.specs.Series.{Read, end_part, item_in, nothing_part, onward, then_events}
 use Rattle.kn_journal.proofs.Aheads.{lines-plain}
 use Rattle.kn_journal.proofs.Consumed.{part-left, setup-takes, then_part-ok, with_line-ok}

@@ -7,12 +7,13 @@ use Rattle.kn_event.specs.declared.event.Event.{Event}
 use Rattle.kn_event.specs.declared.fault.LineError.{LineError}
 use Rattle.kn_event.specs.EventLine.{event_of}
 use Rattle.std.proofs.lemmas.Grind.{common_steps}
-use Rattle.kn_journal.specs.declared.first.FirstLine.{FirstLine}
+use Rattle.kn_preamble.specs.declared.first.FirstLine.{FirstLine}
+use Rattle.kn_preamble.specs.First.{version_by}
 use Rattle.kn_journal.specs.declared.error.JournalError.{JournalError}
 use Rattle.kn_journal.specs.declared.error.JournalError.TheVariants as error
 use Rattle.kn_journal.specs.Causes.{Cause, after_end, bad_first_line, bad_line, error_of, line_too_long, no_end, time_back, time_too_large}
 use Rattle.kn_journal.specs.Bundle.{next_by, next_of_in, next_of_part}
-use Rattle.kn_journal.specs.Journal.{first_in, first_part, in_time, next_in, next_part, start_line_in, start_of, start_part, time_most, version_by}
+use Rattle.kn_journal.specs.Journal.{first_in, first_part, in_time, next_in, next_part, start_line_in, start_of, start_part, time_most}
 use Rattle.kn_journal.specs.Series.{end_part, item_in, nothing_part}
 use Rattle.kn_journal.specs.Lines.{fits, line_most, lines, lines_at_lf, without_crs}
 use Rattle.kn_journal.specs.Parts.{Part, part, then_part, with_line}

@@ -4,12 +4,13 @@ use Rattle.std.specs.List.{list_any}
 use Rattle.std.specs.Str.{bytes_eq}
 use Rattle.kn_event.specs.declared.event.Event.{Event}
 use Rattle.kn_event.specs.EventLine.{event_of}
-use Rattle.kn_journal.specs.declared.first.FirstLine.TheVariants.{Journal as JournalLine, Setups as SetupsLine}
-use Rattle.kn_journal.specs.declared.error.SetupError.TheVariants as setup_error
+use Rattle.kn_preamble.specs.declared.first.FirstLine.TheVariants.{Journal as JournalLine, Setups as SetupsLine}
+use Rattle.kn_preamble.specs.declared.error.SetupError.TheVariants as setup_error
+use Rattle.kn_preamble.specs.First.{version_of}
 use Rattle.kn_journal.specs.declared.journal.Opening.{Opening}
 use Rattle.kn_journal.specs.declared.journal.Setup.{Setup}
 use Rattle.kn_journal.specs.Causes.{Cause, after_end, bad_first_line, bad_setup}
-use Rattle.kn_journal.specs.Journal.{IsSetup, first_part, in_time, next_part, opening_in, opening_part, version_of}
+use Rattle.kn_journal.specs.Journal.{IsSetup, first_part, in_time, next_part, opening_in, opening_part}
 use Rattle.kn_journal.specs.Series.{item_in, nothing_part}
 use Rattle.kn_journal.specs.Parts.{Part, part, then_part, with_line}
 use Rattle.kn_journal.specs.Setup.{setup_part}

@@ -3,7 +3,6 @@ pub mod Causes
 pub mod Drawing
 pub mod Parts
 pub mod Series
-pub mod SetupLine
 pub mod Setup
 pub mod Journal
 pub mod Bundle

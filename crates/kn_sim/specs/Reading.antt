@@ -8,7 +8,7 @@ use Rattle.kn_event.specs.Fields.{fields}
 use Rattle.kn_event.specs.Numbers.{number_of}
 use Rattle.kn_agenda.specs.declared.job.Job.{Job}
 use Rattle.kn_journal.specs.declared.error.JournalError.{JournalError}
-use Rattle.kn_journal.specs.declared.first.FirstLine.TheVariants.{Workload as WorkloadLine}
+use Rattle.kn_preamble.specs.declared.first.FirstLine.TheVariants.{Workload as WorkloadLine}
 use Rattle.kn_journal.specs.declared.journal.Setup.{Setup}
 use Rattle.kn_journal.specs.Causes.{Cause, bad_line, no_end, time_back, time_too_large, too_many}
 use Rattle.kn_journal.specs.Journal.{opening_part, start_part, time_most}
