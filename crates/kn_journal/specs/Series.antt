@@ -1,5 +1,5 @@
 -- What stands in a text one after the other, up to `end`: the events of a journal or of several activators, the jobs of a workload.
-use Rattle.std.specs.Prelude.{ℕ, ◌+◌, List, [], ◌∷◌, Option, None, Some, Result, Ok, Err, ⊤, tt, if◌then◌else◌}
+use Rattle.std.specs.Prelude.{ℕ, ◌+◌, List, [], ◌∷◌, Option, None, Some, Result, Ok, Err, ⊤, if◌then◌else◌}
 use Rattle.kn_journal.specs.Lines.{fits}
 use Rattle.kn_journal.specs.Causes.{Cause, after_end, line_too_long}
 use Rattle.kn_journal.specs.Parts.{Part, part, then_part}
