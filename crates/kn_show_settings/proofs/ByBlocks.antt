@@ -20,7 +20,7 @@ use Rattle.kn_journal.specs.Journal.{IsSetup, first_in, first_part, opening_in, 
 use Rattle.kn_journal.specs.Lines.{lines, text_of}
 use Rattle.kn_journal.specs.Parts.{Part, part, then_part}
 use Rattle.kn_journal.specs.Setup.{blocks_text, setup_part}
-use Rattle.kn_show_settings.specs.Amounts.{utilisation}
+use Rattle.kn_origins.specs.Amounts.{utilisation}
 use Rattle.kn_show_settings.specs.Blocks.{config_block, revision_block, value_of}
 use Rattle.kn_show_settings.specs.Laws.{IsByBlocks, IsByText}
 use Rattle.kn_show_settings.specs.Showing.{opening_of}

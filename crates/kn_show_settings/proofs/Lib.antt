@@ -1,6 +1,5 @@
 pub mod Pieces
 pub mod Places
-pub mod Names
 pub mod Shown
 pub mod Lined
 pub mod Blocked

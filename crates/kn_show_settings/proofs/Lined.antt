@@ -1,7 +1,7 @@
 -- The line of a setting, by what its value and its origin are.
 use Rattle.std.proofs.Common.{◌≡◌, ℕ, List, ◌++◌, ap, ◌∙◌}
-use Rattle.kn_show_settings.specs.declared.origin.Origin.{Origin}
-use Rattle.kn_show_settings.specs.Lines.{setting, setting_line}
+use Rattle.kn_origins.specs.declared.origin.Origin.{Origin}
+use Rattle.kn_origins.specs.Lines.{setting, setting_line}
 
 pub lined : (new start name value known : List ℕ) (from origin : Origin) → new ≡ start ++ setting_line (setting name value from) → value ≡ known → from ≡ origin
     → new ≡ start ++ setting_line (setting name known origin)

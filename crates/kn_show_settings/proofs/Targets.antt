@@ -30,7 +30,7 @@ use Rattle.kn_revision.specs.Amounts.{amounts_of, load_of, overridden, pace_of, 
 use Rattle.kn_revision.specs.Annotations.{annotation_name, annotations_of, number_at, seconds_at, target_at}
 use Rattle.kn_revision.specs.Members.{inner, limits_of, name_of}
 use Rattle.kn_revision.specs.Revision.{◌>>>=◌, fault_of, of_keys, parts_of, spec_in, spec_of, unless}
-use Rattle.kn_show_settings.specs.Amounts.{amount, number_or, percentage_or_default, utilisation, utilisation_without}
+use Rattle.kn_origins.specs.Amounts.{amount, number_or, percentage_or_default, utilisation, utilisation_without}
 use Rattle.kn_show_settings.specs.Blocks.{or_null, value_of}
 
 -- ---- what these steps read, whose types have no name here

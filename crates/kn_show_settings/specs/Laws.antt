@@ -6,7 +6,7 @@ use Rattle.kn_config.specs.declared.config.Config.{Config}
 use Rattle.kn_config.specs.Config.{config_of}
 use Rattle.kn_revision.specs.Revision.{spec_of}
 use Rattle.kn_journal.specs.declared.journal.Setup.{Setup}
-use Rattle.kn_show_settings.specs.Amounts.{utilisation}
+use Rattle.kn_origins.specs.Amounts.{utilisation}
 use Rattle.kn_show_settings.specs.Blocks.{config_block, revision_block, value_of}
 
 -- the utilisation in its lines, in thousandths of a per cent

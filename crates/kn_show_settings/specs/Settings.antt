@@ -8,13 +8,13 @@ use Rattle.kn_event.specs.declared.revision.Slots.{Slots}
 use Rattle.kn_event.specs.declared.revision.Spec.{Spec}
 use Rattle.kn_config.specs.declared.key.Key.TheVariants as key
 use Rattle.kn_journal.specs.declared.journal.Setup.{Setup}
-use Rattle.kn_show_settings.specs.declared.origin.Origin.TheVariants as origin
-use Rattle.kn_show_settings.specs.Origins.{annotated, configured, overridden, renamed, specified}
 use Rattle.kn_milli.specs.Milli.{milli_text}
-use Rattle.kn_show_settings.specs.Lines.{Setting, flag_text, setting, setting_lines}
+use Rattle.kn_origins.specs.declared.origin.Origin.TheVariants as origin
+use Rattle.kn_origins.specs.Origins.{annotated, configured, overridden, renamed, specified}
+use Rattle.kn_origins.specs.Lines.{Setting, flag_text, setting, setting_lines}
+use Rattle.kn_origins.specs.Amounts.{burst_text, metric_text, panic_origin, target_milli, target_origin, total_origin, utilisation, utilisation_origin, window_origin}
+use Rattle.kn_origins.specs.Ignored.{ignored_text}
 use Rattle.kn_show_settings.specs.Blocks.{config_block, revision_block, value_of}
-use Rattle.kn_show_settings.specs.Amounts.{burst_text, metric_text, panic_origin, target_milli, target_origin, total_origin, utilisation, utilisation_origin, window_origin}
-use Rattle.kn_show_settings.specs.Ignored.{ignored_annotations, ignored_keys, ignored_lines}
 
 -- ---- of fixed pods
 
@@ -85,9 +85,6 @@ measure_text spec config revision =
 unfoldable pub bound_text : Spec → Data → Data → List ℕ
 bound_text spec config revision =
     setting_lines (rate_settings spec config) ++ (setting_lines (zero_settings spec config revision) ++ setting_lines (scale_settings spec config revision))
-
-unfoldable pub ignored_text : Data → Data → List ℕ
-ignored_text config revision = ignored_lines (ignored_keys config) ++ ignored_lines (ignored_annotations revision)
 
 -- the settings in force over a ConfigMap and a Revision, and what is ignored of these
 unfoldable pub scaled_text : Spec → Data → Data → List ℕ

@@ -1,12 +1,8 @@
 //! The settings in force of a setup: what each is, and where it comes from.
 #![tactic(auto)]
 
-mod amounts;
 mod blocks;
-mod ignored;
 pub mod laws;
-mod lines;
-mod origin;
 mod scaled;
 mod settings;
 mod show;

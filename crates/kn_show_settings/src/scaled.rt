@@ -1,19 +1,17 @@
 //! The settings of a revision that scales.
 ghost use Rattle.std.specs.Prelude.{◌≡◌, ◌++◌, OnOk};
 ghost use Rattle.serde_json.specs.View.{view};
-ghost use Rattle.kn_show_settings.specs.Amounts.{burst_text};
-ghost use Rattle.kn_show_settings.specs.Lines.{setting, setting_line, setting_lines};
+ghost use Rattle.kn_origins.specs.Amounts.{burst_text};
+ghost use Rattle.kn_origins.specs.Lines.{setting, setting_line, setting_lines};
 ghost use Rattle.kn_show_settings.specs.Settings.{bound_text, load_settings, measure_text, own_settings, rate_settings, scale_settings, scaled_text, slot_settings, window_settings, zero_settings};
 
-use crate::amounts::{
-    metric_text, panic_origin, target_milli, target_origin, total_origin, utilisation,
-    utilisation_origin, window_origin,
-};
-use crate::ignored::add_ignored_text;
-use crate::lines::{add_flag, add_number, add_thousandths, add_word};
-use crate::origin::{Origin, annotated, configured, overridden, renamed, specified};
 use kn_config::Key;
 use kn_event::{Burst, Memory, Slots, Spec};
+use kn_origins::{
+    Origin, add_flag, add_ignored_text, add_number, add_thousandths, add_word, annotated,
+    configured, metric_text, overridden, panic_origin, renamed, specified, target_milli,
+    target_origin, total_origin, utilisation, utilisation_origin, window_origin,
+};
 use serde_json::Value;
 use std::alloc::Global;
 
@@ -157,7 +155,7 @@ fn add_slots(text: &mut Vec<u8>, slots: Slots) -> Result<(), Memory>
 }
 
 /// Adds what a pod bears and what is averaged.
-#[tactic(auto, using(crate::proofs::Pieces::three_pieces), unfolding(crate::specs::Settings::measure_text))]
+#[tactic(auto, using(std::proofs::Common::append_assoc), unfolding(crate::specs::Settings::measure_text))]
 fn add_measures(
     alloc: Global,
     text: &mut Vec<u8>,
@@ -174,7 +172,7 @@ fn add_measures(
 }
 
 /// Adds how soon counts change, and their bounds.
-#[tactic(auto, using(crate::proofs::Pieces::three_pieces), unfolding(crate::specs::Settings::bound_text))]
+#[tactic(auto, using(std::proofs::Common::append_assoc), unfolding(crate::specs::Settings::bound_text))]
 fn add_bounds(
     alloc: Global,
     text: &mut Vec<u8>,

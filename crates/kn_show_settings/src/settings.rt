@@ -1,15 +1,14 @@
 //! The settings of a setup.
 ghost use Rattle.std.specs.Prelude.{◌≡◌, ◌++◌, [], IfOk, OnOk};
-ghost use Rattle.kn_show_settings.specs.Lines.{setting_lines};
+ghost use Rattle.kn_origins.specs.Lines.{setting_lines};
 ghost use Rattle.kn_show_settings.specs.Blocks.{config_block, revision_block, value_of};
 ghost use Rattle.kn_show_settings.specs.Settings.{fixed_settings, scaled_text, settings_text};
 
 use crate::blocks::{config_block, revision_block, value_of};
-use crate::lines::add_number;
-use crate::origin::Origin;
 use crate::scaled::add_scaled;
 use kn_event::{Kind, Memory, Spec};
 use kn_journal::Setup;
+use kn_origins::{Origin, add_number};
 use std::alloc::Global;
 
 /// Adds the settings of fixed pods.

@@ -4,8 +4,8 @@ use Rattle.std.specs.Fmt.{decimal}
 use Rattle.std.proofs.lemmas.Result.{on_ok_weaker}
 use Rattle.serde_json.specs.View.{view}
 use Rattle.kn_config.specs.declared.key.Key.TheVariants as key
-use Rattle.kn_show_settings.specs.declared.origin.Origin.TheVariants as origin
-use Rattle.kn_show_settings.specs.Origins.{specified}
+use Rattle.kn_origins.specs.declared.origin.Origin.TheVariants as origin
+use Rattle.kn_origins.specs.Origins.{specified}
 use Rattle.kn_show_settings.specs.Settings.{own_settings}
 use Rattle.kn_show_settings.proofs.Lined.{lined}
 use Rattle.kn_show_settings.proofs.Pieces.{four_lines}

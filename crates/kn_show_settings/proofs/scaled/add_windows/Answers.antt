@@ -4,9 +4,9 @@ use Rattle.std.specs.Fmt.{decimal}
 use Rattle.std.proofs.lemmas.Result.{on_ok_weaker}
 use Rattle.serde_json.specs.View.{view}
 use Rattle.kn_config.specs.declared.key.Key.TheVariants as key
-use Rattle.kn_show_settings.specs.Amounts.{burst_text, panic_origin, window_origin}
+use Rattle.kn_origins.specs.Amounts.{burst_text, panic_origin, window_origin}
 use Rattle.kn_milli.specs.Milli.{milli_text}
-use Rattle.kn_show_settings.specs.Origins.{overridden}
+use Rattle.kn_origins.specs.Origins.{overridden}
 use Rattle.kn_show_settings.specs.Settings.{window_settings}
 use Rattle.kn_show_settings.proofs.Lined.{lined}
 use Rattle.kn_show_settings.proofs.Pieces.{four_lines}

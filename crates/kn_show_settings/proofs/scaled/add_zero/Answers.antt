@@ -4,8 +4,8 @@ use Rattle.std.specs.Fmt.{decimal}
 use Rattle.std.proofs.lemmas.Result.{on_ok_weaker}
 use Rattle.serde_json.specs.View.{view}
 use Rattle.kn_config.specs.declared.key.Key.TheVariants as key
-use Rattle.kn_show_settings.specs.Lines.{flag_text}
-use Rattle.kn_show_settings.specs.Origins.{configured, overridden}
+use Rattle.kn_origins.specs.Lines.{flag_text}
+use Rattle.kn_origins.specs.Origins.{configured, overridden}
 use Rattle.kn_show_settings.specs.Settings.{zero_settings}
 use Rattle.kn_show_settings.proofs.Lined.{lined}
 use Rattle.kn_show_settings.proofs.Pieces.{three_lines}

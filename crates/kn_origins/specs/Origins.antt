@@ -5,8 +5,8 @@ use Rattle.serde_json.specs.Find.{get}
 use Rattle.kn_config.specs.declared.key.Key.{Key}
 use Rattle.kn_config.specs.Keys.{key_text}
 use Rattle.kn_revision.specs.Members.{inner}
-use Rattle.kn_show_settings.specs.declared.origin.Origin.{Origin}
-use Rattle.kn_show_settings.specs.declared.origin.Origin.TheVariants as origin
+use Rattle.kn_origins.specs.declared.origin.Origin.{Origin}
+use Rattle.kn_origins.specs.declared.origin.Origin.TheVariants as origin
 
 abbrev pub origin_text : Origin → List ℕ
 origin_text origin.Default = codes "default"

@@ -1,7 +1,8 @@
-//! Amounts of a scaled revision that its specification has in other parts, and what gives each of them.
+//! Amounts of a scaled revision that its specification has in other parts, and what gives each of them. The ConfigMap and the
+//! Revision are given by the values of their texts.
 ghost use Rattle.std.specs.Prelude.{◌≡◌, ◌≤◌, ◌<◌, IfOk, Option, option_map};
 ghost use Rattle.serde_json.specs.View.{view};
-ghost use Rattle.kn_show_settings.specs.Amounts.{metric_text, number_in, panic_origin, percentage_in, target_milli, target_origin, total_origin, total_otherwise, utilisation, utilisation_origin, utilisation_otherwise, utilisation_without, window_origin};
+ghost use Rattle.kn_origins.specs.Amounts.{metric_text, number_in, panic_origin, percentage_in, target_milli, target_origin, total_origin, total_otherwise, utilisation, utilisation_origin, utilisation_otherwise, utilisation_without, window_origin};
 
 use crate::origin::{Origin, annotated, annotation, configured, inner};
 use kn_config::{Key, value};
@@ -9,6 +10,7 @@ use kn_event::{Frac, Memory, Metric, Spec};
 use serde_json::Value;
 use std::alloc::Global;
 
+/// What is averaged, in a word: `concurrency` or `rps`.
 pub fn metric_text(metric: Metric) -> &'static [u8]
     ensures { result.now ≡ metric_text metric }
 {
@@ -32,7 +34,9 @@ fn total_otherwise(metric: Metric, cc: u64, config: &Value) -> Origin
     }
 }
 
-/// What gives the total.
+/// What gives the total that a pod could bear: the annotation of the target; else the Revision, where its
+/// containerConcurrency is above 0 and bounds the metric; else the ConfigMap's key for the metric, or the default. The only
+/// error is want of memory.
 #[tactic(auto, unfolding(crate::specs::Amounts::total_origin))]
 pub fn total_origin(
     alloc: Global,
@@ -93,7 +97,9 @@ fn configured_utilisation(config: &Value) -> u64
     }
 }
 
-/// The utilisation, in thousandths of a per cent.
+/// The utilisation, in thousandths of a per cent: by its annotation, else by the ConfigMap's key or its default; of requests
+/// per second without the annotation always 70 per cent. A text that says no such amount counts as 0, but no setup that was
+/// read has one. The only error is want of memory.
 #[tactic(auto, unfolding(crate::specs::Amounts::utilisation))]
 pub fn utilisation(
     alloc: Global,
@@ -120,7 +126,7 @@ fn utilisation_otherwise(metric: Metric, config: &Value) -> Origin
     }
 }
 
-/// What gives the utilisation.
+/// What gives the utilisation: its annotation, else the ConfigMap's key, or the default. The only error is want of memory.
 #[tactic(auto, unfolding(crate::specs::Amounts::utilisation_origin))]
 pub fn utilisation_origin(
     alloc: Global,
@@ -134,7 +140,7 @@ pub fn utilisation_origin(
     annotated(alloc, Key::TargetUtilizationPercentage, revision, otherwise)
 }
 
-/// The target in thousandths, rounded down.
+/// The target in thousandths, rounded down. Its numerator is at most 10^14, as that of each specification is.
 pub fn target_milli(target: Frac) -> u128
     requires { target.num ≤ 100000000000000 }
     ensures { result ≡ target_milli target }
@@ -142,7 +148,8 @@ pub fn target_milli(target: Frac) -> u128
     1000 * target.num / target.den
 }
 
-/// What gives the target: the utilisation or the total.
+/// What gives the target, which is the utilisation's part of the total: of what gives these two the one that overrides the
+/// other. The only error is want of memory.
 #[tactic(auto, unfolding(crate::specs::Amounts::target_origin))]
 pub fn target_origin(
     alloc: Global,
@@ -161,7 +168,7 @@ pub fn target_origin(
     }
 }
 
-/// What gives the stable window.
+/// What gives the stable window: its annotation, else the ConfigMap's key, or the default. The only error is want of memory.
 #[tactic(auto, unfolding(crate::specs::Amounts::window_origin))]
 pub fn window_origin(alloc: Global, config: &Value, revision: &Value) -> Result<Origin, Memory>
     ensures { IfOk result (λ from. from ≡ window_origin (view config.now) (view revision.now)) }
@@ -174,7 +181,8 @@ pub fn window_origin(alloc: Global, config: &Value, revision: &Value) -> Result<
     )
 }
 
-/// What gives the panic window: its part of the stable one, or that one.
+/// What gives the panic window, which is a part of the stable one: of what gives that part and the stable window the one that
+/// overrides the other. The only error is want of memory.
 #[tactic(auto, unfolding(crate::specs::Amounts::panic_origin))]
 pub fn panic_origin(alloc: Global, config: &Value, revision: &Value) -> Result<Origin, Memory>
     ensures { IfOk result (λ from. from ≡ panic_origin (view config.now) (view revision.now)) }

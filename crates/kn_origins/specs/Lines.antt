@@ -1,7 +1,7 @@
 -- The lines of settings.
 use Rattle.std.specs.Prelude.{ℕ, Bool, true, false, ◌++◌, List, [], ◌∷◌, codes}
-use Rattle.kn_show_settings.specs.declared.origin.Origin.{Origin}
-use Rattle.kn_show_settings.specs.Origins.{origin_text}
+use Rattle.kn_origins.specs.declared.origin.Origin.{Origin}
+use Rattle.kn_origins.specs.Origins.{origin_text}
 
 -- a setting: its name, its value, and where that comes from
 pub record Setting : Type 0 where

@@ -3,8 +3,7 @@ ghost use Rattle.std.specs.Prelude.{◌≡◌, ◌<◌, ◌++◌, OnOk, bytes_eq
 ghost use Rattle.std.specs.List.{filter};
 ghost use Rattle.serde_json.specs.View.{members_view, view};
 ghost use Rattle.kn_config.specs.Keys.{key_text};
-ghost use Rattle.kn_show_settings.specs.Ignored.{byte_text, hex_digit, ignored_annotations, ignored_if, ignored_keys, ignored_lines, is_among, is_old, is_read, is_unread, is_unset, name_text, names_of};
-ghost use Rattle.kn_show_settings.specs.Settings.{ignored_text};
+ghost use Rattle.kn_origins.specs.Ignored.{byte_text, hex_digit, ignored_annotations, ignored_if, ignored_keys, ignored_lines, ignored_text, is_among, is_old, is_read, is_unread, is_unset, name_text, names_of};
 
 use crate::lines::add;
 use crate::origin::{annotations, has_annotation, prefix};
@@ -202,8 +201,11 @@ fn add_ignored_annotations(
     }
 }
 
-/// Adds what is ignored.
-#[tactic(auto, using(std::proofs::Common::append_assoc), unfolding(crate::specs::Settings::ignored_text))]
+/// Adds a line `ignored NAME` for each key of the ConfigMap's `data` that no setting comes from, and then for each annotation
+/// of the Revision below `autoscaling.knative.dev/` that none comes from, each in the order of their names' bytes. In a name a
+/// control code and a backslash are spelled as JSON does. Both are given by the values of their texts. The only error is want
+/// of memory; some first bytes may then have been added.
+#[tactic(auto, using(std::proofs::Common::append_assoc), unfolding(crate::specs::Ignored::ignored_text))]
 pub fn add_ignored_text(
     alloc: Global,
     text: &mut Vec<u8>,

@@ -15,9 +15,9 @@ use Rattle.kn_config.specs.declared.value.KeyError.{KeyError}
 use Rattle.kn_config.specs.Keys.{key_text, rule_of}
 use Rattle.kn_config.specs.Values.{number_of, percentage_of}
 use Rattle.kn_revision.specs.Members.{inner}
-use Rattle.kn_show_settings.specs.declared.origin.Origin.{Origin}
-use Rattle.kn_show_settings.specs.declared.origin.Origin.TheVariants as origin
-use Rattle.kn_show_settings.specs.Origins.{above, annotated, annotation, configured}
+use Rattle.kn_origins.specs.declared.origin.Origin.{Origin}
+use Rattle.kn_origins.specs.declared.origin.Origin.TheVariants as origin
+use Rattle.kn_origins.specs.Origins.{above, annotated, annotation, configured}
 use Rattle.kn_milli.specs.Milli.{milli_text}
 
 abbrev pub metric_text : Metric → List ℕ

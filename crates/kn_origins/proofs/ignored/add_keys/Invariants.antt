@@ -1,8 +1,8 @@
 -- The lines so far, and those of the members that are left.
 use Rattle.std.proofs.Common.{◌≡◌, ◌++◌}
-use Rattle.kn_show_settings.specs.Ignored.{is_unset}
-use Rattle.kn_show_settings.proofs.Names.{lines_of}
-use Rattle.kn_show_settings.proofs.ignored.add_keys.Given as goal
+use Rattle.kn_origins.specs.Ignored.{is_unset}
+use Rattle.kn_origins.proofs.Names.{lines_of}
+use Rattle.kn_origins.proofs.ignored.add_keys.Given as goal
 
 abbrev pub invariant-loop-name : goal.invariant-loop-name
 invariant-loop-name l = l.text.items ++ lines_of is_unset l.name-iterator ≡ l.initial.text.items ++ lines_of is_unset l.initial.name-iterator

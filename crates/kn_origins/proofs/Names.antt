@@ -4,7 +4,7 @@ use Rattle.std.specs.Prelude.{Bool, true, false, string_bytes}
 use Rattle.std.specs.List.{filter}
 use Rattle.serde_json.specs.View.{members_view}
 use Rattle.serde_json.proofs.Views.{Entry}
-use Rattle.kn_show_settings.specs.Ignored.{ignored_if, ignored_lines, names_of}
+use Rattle.kn_origins.specs.Ignored.{ignored_if, ignored_lines, names_of}
 
 -- the lines of these members
 abbrev pub lines_of : (List ℕ → Bool) → List Entry → List ℕ

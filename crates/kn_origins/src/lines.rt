@@ -1,9 +1,9 @@
-//! The lines of settings, added to a text.
+//! The lines of settings, added to a text. Where memory is wanting, some first bytes of a line may have been added.
 ghost use Rattle.std.specs.Prelude.{◌≡◌, ◌++◌, OnOk, codes};
 ghost use Rattle.std.specs.Fmt.{decimal};
 ghost use Rattle.kn_milli.specs.Milli.{milli_text};
-ghost use Rattle.kn_show_settings.specs.Lines.{flag_text, setting, setting_line};
-ghost use Rattle.kn_show_settings.specs.Origins.{origin_text};
+ghost use Rattle.kn_origins.specs.Lines.{flag_text, setting, setting_line};
+ghost use Rattle.kn_origins.specs.Origins.{origin_text};
 
 use crate::origin::Origin;
 use itoa::{Buffer, Integer};
@@ -56,7 +56,8 @@ fn end(text: &mut Vec<u8>, from: Origin) -> Result<(), Memory>
     add(text, b"\n")
 }
 
-/// Adds a setting whose value is a word.
+/// Adds the line of a setting whose value is a word: its name, the word and where it comes from, parted by a space, and an LF.
+/// The only error is want of memory.
 #[tactic(auto, using(crate::proofs::Pieces::line_pieces), unfolding(crate::specs::Lines::setting_line))]
 pub fn add_word(text: &mut Vec<u8>, name: &[u8], word: &[u8], from: Origin) -> Result<(), Memory>
     ensures { OnOk result (text.new.items ≡ text.old.items ++ setting_line (setting name.now word.now from)) }
@@ -66,7 +67,7 @@ pub fn add_word(text: &mut Vec<u8>, name: &[u8], word: &[u8], from: Origin) -> R
     end(text, from)
 }
 
-/// Adds a setting whose value is a whole number.
+/// Adds the line of a setting whose value is a whole number, in decimal. The only error is want of memory.
 #[tactic(auto, using(crate::proofs::Pieces::line_pieces), unfolding(crate::specs::Lines::setting_line))]
 pub fn add_number(text: &mut Vec<u8>, name: &[u8], n: u64, from: Origin) -> Result<(), Memory>
     ensures { OnOk result (text.new.items ≡ text.old.items ++ setting_line (setting name.now (decimal n) from)) }
@@ -76,7 +77,8 @@ pub fn add_number(text: &mut Vec<u8>, name: &[u8], n: u64, from: Origin) -> Resu
     end(text, from)
 }
 
-/// Adds a setting whose value is a number of thousandths.
+/// Adds the line of a setting whose value is so many thousandths, as a number with up to three digits behind the point.
+/// The only error is want of memory.
 #[tactic(auto, using(crate::proofs::Pieces::line_pieces), unfolding(crate::specs::Lines::setting_line))]
 pub fn add_thousandths(text: &mut Vec<u8>, name: &[u8], n: u128, from: Origin) -> Result<(), Memory>
     ensures { OnOk result (text.new.items ≡ text.old.items ++ setting_line (setting name.now (milli_text n) from)) }
@@ -86,7 +88,7 @@ pub fn add_thousandths(text: &mut Vec<u8>, name: &[u8], n: u128, from: Origin) -
     end(text, from)
 }
 
-/// Adds a setting that is on or off.
+/// Adds the line of a setting that is on or off, as `true` or `false`. The only error is want of memory.
 pub fn add_flag(text: &mut Vec<u8>, name: &[u8], flag: bool, from: Origin) -> Result<(), Memory>
     ensures { OnOk result (text.new.items ≡ text.old.items ++ setting_line (setting name.now (flag_text flag) from)) }
 {

@@ -2,16 +2,17 @@
 ghost use Rattle.std.specs.Prelude.{◌≡◌, IfOk, option_map, string_bytes};
 ghost use Rattle.serde_json.specs.View.{view};
 ghost use Rattle.kn_revision.specs.Members.{inner};
-ghost use Rattle.kn_show_settings.specs.Origins.{above, annotated, annotation, annotation_text, annotations, config_or, configured, has_annotation, origin_text, overridden, prefix, renamed, specified};
+ghost use Rattle.kn_origins.specs.Origins.{above, annotated, annotation, annotation_text, annotations, config_or, configured, has_annotation, origin_text, overridden, prefix, renamed, specified};
 
 use kn_config::Key;
 use kn_event::Memory;
 use serde_json::Value;
 use std::alloc::Global;
 
-/// What gives a setting.
+/// What gives the value of a setting.
 #[derive(Clone, Copy, Debug, PartialEq, Eq)]
 pub enum Origin {
+    /// Nothing that was said.
     Default,
     /// The ConfigMap.
     Config,
@@ -22,6 +23,7 @@ pub enum Origin {
 }
 
 impl Origin {
+    /// Its word in a setting's line: `default`, `config`, `revision` or `setup`.
     pub fn text(self) -> &'static [u8]
         ensures { result.now ≡ origin_text self }
     {
@@ -45,7 +47,8 @@ impl Origin {
         }
     }
 
-    /// Of two that have a part in a setting, the one that overrides the other.
+    /// Of two that have a part in a setting, the one that overrides the other: the Revision the ConfigMap, and that the
+    /// default.
     pub fn above(self, other: Origin) -> Origin
         ensures { result ≡ above self other }
     {
@@ -119,7 +122,8 @@ pub fn has_annotation(alloc: Global, key: Key, revision: &Value) -> Result<bool,
     }
 }
 
-/// The Revision where it has the annotation, or what it is otherwise.
+/// The Revision where it has the annotation of this key, below `autoscaling.knative.dev/`, or what it is otherwise.
+/// `revision` is the value of the Revision's text. The only error is want of memory.
 #[tactic(auto, unfolding(crate::specs::Origins::annotated))]
 pub fn annotated(
     alloc: Global,
@@ -136,7 +140,8 @@ pub fn annotated(
     }
 }
 
-/// The Revision where its `spec` has the member, else the default.
+/// The Revision where its `spec` has the member of this key, whatever that says, else the default. `revision` is the value of
+/// the Revision's text.
 #[tactic(auto, unfolding(crate::specs::Origins::specified))]
 pub fn specified(key: Key, revision: &Value) -> Origin
     ensures { result ≡ specified key (view revision.now) }
@@ -147,7 +152,8 @@ pub fn specified(key: Key, revision: &Value) -> Origin
     }
 }
 
-/// The configuration where its `data` has the key, else the default.
+/// The configuration where its `data` has the key, whatever that says, else the default. `config` is the value of the
+/// ConfigMap's text.
 #[tactic(auto, unfolding(crate::specs::Origins::configured))]
 pub fn configured(key: Key, config: &Value) -> Origin
     ensures { result ≡ configured key (view config.now) }
@@ -158,7 +164,8 @@ pub fn configured(key: Key, config: &Value) -> Origin
     }
 }
 
-/// An annotation before the key of the same name.
+/// An annotation of the Revision before the ConfigMap's key of the same name, and that before the default. Both are given by
+/// the values of their texts. The only error is want of memory.
 #[tactic(auto, unfolding(crate::specs::Origins::overridden))]
 pub fn overridden(
     alloc: Global,
@@ -171,7 +178,8 @@ pub fn overridden(
     annotated(alloc, key, revision, configured(key, config))
 }
 
-/// An annotation before its old spelling, and that before the key.
+/// An annotation of the Revision before its old spelling, that before the ConfigMap's key of the new name, and that before the
+/// default. Both are given by the values of their texts. The only error is want of memory.
 #[tactic(auto, unfolding(crate::specs::Origins::renamed))]
 pub fn renamed(
     alloc: Global,

@@ -7,7 +7,7 @@ use Rattle.kn_config.specs.declared.key.Key.{Key}
 use Rattle.kn_config.specs.declared.key.Key.TheVariants as key
 use Rattle.kn_config.specs.Keys.{key_text}
 use Rattle.kn_config.specs.Laws.{setting_keys}
-use Rattle.kn_show_settings.specs.Origins.{annotations, has_annotation, prefix}
+use Rattle.kn_origins.specs.Origins.{annotations, has_annotation, prefix}
 
 -- the names of an object's members, in the order of their bytes
 abbrev pub names_of : Members → List (List ℕ)
@@ -83,3 +83,7 @@ ignored_lines (name ∷ more) = ignored_line name ++ ignored_lines more
 abbrev pub ignored_if : Bool → List ℕ → List ℕ
 ignored_if true name = ignored_line name
 ignored_if false name = []
+
+-- of the ConfigMap, and then of the Revision
+unfoldable pub ignored_text : Data → Data → List ℕ
+ignored_text config revision = ignored_lines (ignored_keys config) ++ ignored_lines (ignored_annotations revision)

@@ -1,8 +1,8 @@
 use Rattle.std.proofs.Common.{◌≡◌, ◌∙◌, rules}
-use Rattle.kn_show_settings.specs.Ignored.{is_unread}
+use Rattle.kn_origins.specs.Ignored.{is_unread}
 use Rattle.serde_json.proofs.Views.{Entry}
-use Rattle.kn_show_settings.proofs.Names.{done, step}
-use Rattle.kn_show_settings.proofs.ignored.add_annotations.Goals as goal
+use Rattle.kn_origins.proofs.Names.{done, step}
+use Rattle.kn_origins.proofs.ignored.add_annotations.Goals as goal
 
 pub loop-name-preserved : goal.loop-name-preserved
 loop-name-preserved c =

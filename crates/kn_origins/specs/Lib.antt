@@ -1,0 +1,4 @@
+pub mod Origins
+pub mod Lines
+pub mod Amounts
+pub mod Ignored
