@@ -1,16 +1,13 @@
 //! A journal's events that are followed, one after the other.
-ghost use Rattle.std.specs.Prelude.{◌≡◌, ◌≢◌, ◌⊎◌, ◌+◌, ◌<◌, ◌≤◌, ◌^◌, [], ◌++◌, length, IfOk, OnOk, OnErr, false};
+ghost use Rattle.std.specs.Prelude.{◌≡◌, ◌≢◌, ◌⊎◌, ◌+◌, ◌<◌, ◌≤◌, ◌^◌, [], length, IfOk, OnOk, OnErr, false};
 ghost use Rattle.kn_io.specs.Causes.{HasCause};
 ghost use Rattle.kn_io.specs.Prefix.{AppendsPrefix};
 ghost use Rattle.kn_event.specs.EventLine.{IsInJournalRange};
 ghost use Rattle.kn_core.specs.State.{StandsFor};
-ghost use Rattle.kn_journal.specs.Reading.{EndsThere, IsOver, unread};
 ghost use Rattle.kn_report.specs.Waiting.{Adds};
-ghost use Rattle.kn_teller.specs.Run.{IsOpened, IsStep, Run, begun, later, now_of, trace};
-ghost use Rattle.kn_follow.specs.Calls.{Draws, IsBroken, IsCaused, IsNext, IsReady, IsSound};
-ghost use Rattle.kn_follow.specs.Cutting.{FollowsCut};
-ghost use Rattle.kn_follow.specs.Endings.{IsFollowed, IsRefusal, Stops};
-ghost use Rattle.kn_follow.specs.Following.{Follows, FollowsBehind};
+ghost use Rattle.kn_teller.specs.Run.{IsOpened, begun, trace};
+ghost use Rattle.kn_follow.specs.Calls.{AddsEvent, AddsStart, BreaksInput, ClosesRun, CutsEvent, CutsStart, DrawsInput, FindsNext, FollowsEvents, FollowsEventsCut, IsCaused, IsReady, IsSound, KnowsEvent, KnowsStart, ReadsToEnd, RestOfEvents, StepsBy, run_from};
+ghost use Rattle.kn_follow.specs.Endings.{IsFollowed, Stops};
 
 use crate::ending::status_of;
 use kn_core::Revision;
@@ -77,8 +74,7 @@ impl Follower {
         requires times { e.now.time ≤ 2 ^ 42 }
         requires events { self.old.revision.events < 2 ^ 54 }
         requires range { IsInJournalRange e.now.act }
-        ensures step { (r : Run) → StandsFor self.old.revision (trace r) → self.old.revision.spec ≡ r.spec →
-            now_of r ≡ self.old.revision.clock → IsStep r e.now self.new.revision self.new.log }
+        ensures step { StepsBy self.old self.new e.now }
         ensures spec { self.new.revision.spec ≡ self.old.revision.spec }
         ensures clock { self.new.revision.clock ≡ e.now.time }
         ensures events { self.new.revision.events ≡ self.old.revision.events + 1 }
@@ -96,12 +92,9 @@ impl Follower {
         out: &mut O,
     ) -> Result<(), Failed>
         requires few { T.load teller.old ≤ 0 }
-        ensures ok { (r : Run) → T.awaits teller.old r → IsOpened r self.old.revision self.old.log → OnOk result
-            (Adds (O.held out.old) (O.held out.new) self.old.waiting self.new.waiting ((T.manner teller.old).opens r)) }
-        ensures err { (r : Run) → T.awaits teller.old r → IsOpened r self.old.revision self.old.log → OnErr result
-            (AppendsPrefix (O.held out.old) (O.held out.new) (self.old.waiting ++ (T.manner teller.old).opens r)) }
-        ensures knows { (r : Run) → T.awaits teller.old r → IsOpened r self.old.revision self.old.log →
-            OnOk result (T.knows teller.new r) }
+        ensures ok { AddsStart T.Teller O.Sink.own teller.old self.old self.new out.old out.new result }
+        ensures err { CutsStart T.Teller O.Sink.own teller.old self.old out.old out.new result }
+        ensures knows { KnowsStart T.Teller teller.old teller.new self.old result }
         ensures manner { T.manner teller.new ≡ T.manner teller.old }
         ensures few { OnOk result (T.load teller.new < 2 ^ 64) }
         ensures revision { self.new.revision ≡ self.old.revision }
@@ -125,12 +118,9 @@ impl Follower {
         out: &mut O,
     ) -> Result<(), Failed>
         requires few { T.load teller.old ≤ 2 ^ 126 }
-        ensures ok { (r : Run) → T.knows teller.old r → IsStep r e.now self.old.revision self.old.log → OnOk result
-            (Adds (O.held out.old) (O.held out.new) self.old.waiting self.new.waiting ((T.manner teller.old).tells r e.now)) }
-        ensures err { (r : Run) → T.knows teller.old r → IsStep r e.now self.old.revision self.old.log → OnErr result
-            (AppendsPrefix (O.held out.old) (O.held out.new) (self.old.waiting ++ (T.manner teller.old).tells r e.now)) }
-        ensures knows { (r : Run) → T.knows teller.old r → IsStep r e.now self.old.revision self.old.log →
-            OnOk result (T.knows teller.new (later r e.now)) }
+        ensures ok { AddsEvent T.Teller O.Sink.own teller.old e.now self.old self.new out.old out.new result }
+        ensures err { CutsEvent T.Teller O.Sink.own teller.old e.now self.old out.old out.new result }
+        ensures knows { KnowsEvent T.Teller teller.old teller.new e.now self.old result }
         ensures manner { T.manner teller.new ≡ T.manner teller.old }
         ensures few { OnOk result (T.load teller.new < T.load teller.old + 2 ^ 64) }
         ensures revision { self.new.revision ≡ self.old.revision }
@@ -179,12 +169,9 @@ impl Follower {
         ensures room { length self.old.waiting ≤ 65536 }
         ensures fits { length self.new.waiting ≤ 65536 }
         ensures revision { self.new.revision ≡ self.old.revision }
-        ensures next { IfOk result (IsNext reader.old reader.new
-            (unread reader.old.input (S.left source.old)) (unread reader.new.input (S.left source.new))
-            (S.Faulty.faults source.old) (S.Faulty.faults source.new)) }
+        ensures next { IfOk result (FindsNext reader.old reader.new S.Source.own S.Faulty source.old source.new) }
         ensures version { reader.new.version ≡ reader.old.version }
-        ensures draws { Draws reader.old.input reader.new.input (S.given source.old) (S.given source.new)
-            (S.Faulty.faults source.old) (S.Faulty.faults source.new) }
+        ensures draws { DrawsInput reader.old reader.new S.Source.own S.Faulty source.old source.new }
         ensures cause { HasCause (O.Faulty.faults out.old) (O.Faulty.faults out.new) result }
     {
         adding_laws();
@@ -224,8 +211,7 @@ impl Follower {
         out: &mut O,
     ) -> Status
         requires few { T.load teller.old ≤ 2 ^ 126 }
-        ensures stops { (r : Run) → T.knows teller.old r → events ≡ length r.events → Stops
-            (self.old.waiting ++ (T.manner teller.old).ends version r) (O.held out.old) (O.held out.new) Status.Ok result }
+        ensures stops { ClosesRun T.Teller O.Sink.own teller.old version events self.old out.old out.new result }
         ensures cause { IsCaused (O.Faulty.faults out.old) (O.Faulty.faults out.new) result }
         ensures only { (result ≡ Status.Ok) ⊎ (result ≡ Status.WriteFault) }
     {
@@ -247,28 +233,18 @@ impl Follower {
         out: &mut O,
     ) -> Status
         requires ready { IsReady self.old.revision reader.old }
-        requires stands { StandsFor self.old.revision (trace (begun self.old.revision.spec self.old.revision.clock)) }
-        requires knows { T.knows teller.old (begun self.old.revision.spec self.old.revision.clock) }
+        requires stands { StandsFor self.old.revision (trace (run_from self.old.revision)) }
+        requires knows { T.knows teller.old (run_from self.old.revision) }
         requires load { T.load teller.old < 2 ^ 64 }
-        ensures follows { IsOver reader.old.cut (unread reader.old.input (S.left source.old)) →
-            Follows reader.old.cut reader.old.version (T.manner teller.old)
-            (begun self.old.revision.spec self.old.revision.clock) reader.old.last reader.old.number
-            (unread reader.old.input (S.left source.old)) (unread reader.new.input (S.left source.new))
-            self.old.waiting (O.held out.old) (O.held out.new) result }
-        ensures rest { IsRefusal result → FollowsBehind reader.old.version reader.old.last reader.old.number result
-            (unread reader.old.input (S.left source.old)) (unread reader.new.input (S.left source.new)) }
-        ensures cut { IsOver reader.old.cut (unread reader.old.input (S.left source.old)) → result ≡ Status.WriteFault →
-            FollowsCut reader.old.version (T.manner teller.old) (begun self.old.revision.spec self.old.revision.clock)
-            reader.old.last reader.old.number
-            (unread reader.old.input (S.left source.old)) (unread reader.new.input (S.left source.new))
-            self.old.waiting (O.held out.old) (O.held out.new) }
+        ensures follows { FollowsEvents (T.manner teller.old) self.old reader.old reader.new S.Source.own O.Sink.own
+            source.old source.new out.old out.new result }
+        ensures rest { RestOfEvents reader.old reader.new S.Source.own source.old source.new result }
+        ensures cut { FollowsEventsCut (T.manner teller.old) self.old reader.old reader.new S.Source.own O.Sink.own
+            source.old source.new out.old out.new result }
         ensures followed { IsFollowed result }
-        ensures ended { result ≡ Status.Ok →
-            EndsThere (unread reader.old.input (S.left source.old)) (unread reader.new.input (S.left source.new)) }
-        ensures broken { result ≡ Status.ReadFault → IsBroken reader.new.input
-            (S.Faulty.faults source.old) (S.Faulty.faults source.new) }
-        ensures draws { Draws reader.old.input reader.new.input (S.given source.old) (S.given source.new)
-            (S.Faulty.faults source.old) (S.Faulty.faults source.new) }
+        ensures ended { result ≡ Status.Ok → ReadsToEnd reader.old reader.new S.Source.own source.old source.new }
+        ensures broken { result ≡ Status.ReadFault → BreaksInput reader.new S.Faulty source.old source.new }
+        ensures draws { DrawsInput reader.old reader.new S.Source.own S.Faulty source.old source.new }
         ensures cause { IsCaused (O.Faulty.faults out.old) (O.Faulty.faults out.new) result }
     {
         adding_laws();

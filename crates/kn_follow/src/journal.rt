@@ -1,13 +1,11 @@
 //! A journal that is followed, from its first byte to its last.
-ghost use Rattle.std.specs.Prelude.{◌≡◌, ◌⊎◌, ◌+◌, ◌-◌, ◌≤◌, Err, IfOk, IfErr, OnOk, None, false};
+ghost use Rattle.std.specs.Prelude.{◌≡◌, ◌≤◌, Err, IfOk, OnOk, None, false};
 ghost use Rattle.kn_io.specs.Causes.{Rose};
-ghost use Rattle.kn_journal.specs.Reading.{EndsThere, TakesText, most_taken, unread};
+ghost use Rattle.kn_journal.specs.Calls.{ReadsTo};
 ghost use Rattle.kn_journal.specs.Journal.{time_most};
-ghost use Rattle.kn_follow.specs.Account.{account_of};
-ghost use Rattle.kn_follow.specs.Calls.{Draws, IsBroken, IsSound};
-ghost use Rattle.kn_follow.specs.Cutting.{LeavesCut};
-ghost use Rattle.kn_follow.specs.Endings.{IsBehind, IsRefusal, IsReplayed, LeavesBehind, status_of};
-ghost use Rattle.kn_follow.specs.Following.{FollowsInput, Opens};
+ghost use Rattle.kn_journal.specs.Reading.{EndsThere};
+ghost use Rattle.kn_follow.specs.Calls.{BreaksInput, DrawsInput, FailsSource, FollowsWhole, FollowsWholeCut, IsSound, OpensInput, RestOfOpening};
+ghost use Rattle.kn_follow.specs.Endings.{IsRefusal, IsReplayed, LeavesBehind};
 
 use crate::ending::status_of;
 use crate::follower::Follower;
@@ -28,19 +26,14 @@ fn open<S: Source>(
     requires number { reader.old.number ≡ 0 }
     requires bundle { reader.old.bundle ≡ false }
     requires begun { reader.old.begun ≡ false }
-    ensures opens { Opens (unread reader.old.input (S.left source.old)) (unread reader.new.input (S.left source.new))
-        reader.new.version reader.new.number result }
-    ensures rest { IfErr result (λ e. IsRefusal (status_of e) → IsBehind (status_of e)
-        (unread reader.old.input (S.left source.old)) (unread reader.new.input (S.left source.new))) }
-    ensures text { OnOk result (TakesText reader.new.cut
-        (unread reader.old.input (S.left source.old)) (unread reader.new.input (S.left source.new))) }
+    ensures opens { OpensInput reader.old reader.new S.Source.own source.old source.new result }
+    ensures rest { RestOfOpening reader.old reader.new S.Source.own source.old source.new result }
+    ensures text { OnOk result (ReadsTo reader.old reader.new S.Source.own source.old source.new) }
     ensures start { IfOk result (λ parts. reader.new.last ≡ parts.1) }
     ensures most { IfOk result (λ parts. parts.1 ≤ time_most) }
     ensures sound { OnOk result (IsSound reader.new) }
-    ensures broken { result ≡ Err JournalError.ReadFault → IsBroken reader.new.input
-        (S.Faulty.faults source.old) (S.Faulty.faults source.new) }
-    ensures draws { Draws reader.old.input reader.new.input (S.given source.old) (S.given source.new)
-        (S.Faulty.faults source.old) (S.Faulty.faults source.new) }
+    ensures broken { result ≡ Err JournalError.ReadFault → BreaksInput reader.new S.Faulty source.old source.new }
+    ensures draws { DrawsInput reader.old reader.new S.Source.own S.Faulty source.old source.new }
 {
     openings_are_whole();
     text_laws();
@@ -60,16 +53,13 @@ pub fn follow_journal<T: Teller + Drop, F: Form<T>, S: Source, O: Sink>(
     source: &mut S,
     out: &mut O,
 ) -> Status
-    ensures report { FollowsInput (account_of (F.writes form.now)) (S.left source.old) (S.left source.new)
-        (S.given source.new - S.given source.old) (O.held out.old) (O.held out.new) result }
+    ensures report { FollowsWhole (F.writes form.now) S.Source.own O.Sink.own source.old source.new out.old out.new result }
     ensures replayed { IsReplayed result }
     ensures rest { IsRefusal result → LeavesBehind result (S.left source.old) (S.left source.new) }
-    ensures cut { result ≡ Status.WriteFault → LeavesCut (account_of (F.writes form.now))
-        (S.left source.old) (S.left source.new) (O.held out.old) (O.held out.new) }
+    ensures cut { FollowsWholeCut (F.writes form.now) S.Source.own O.Sink.own source.old source.new out.old out.new result }
     ensures ended { result ≡ Status.Ok → EndsThere (S.left source.old) (S.left source.new) }
     ensures memory { result ≡ Status.Memory → out.new ≡ out.old }
-    ensures read_fault { result ≡ Status.ReadFault → Rose (S.Faulty.faults source.old) (S.Faulty.faults source.new) ⊎
-        (S.given source.old + most_taken ≤ S.given source.new) }
+    ensures read_fault { result ≡ Status.ReadFault → FailsSource S.Source.own S.Faulty source.old source.new }
     ensures write_fault { result ≡ Status.WriteFault → Rose (O.Faulty.faults out.old) (O.Faulty.faults out.new) }
     ensures never_falls { S.Faulty.faults source.old ≤ S.Faulty.faults source.new }
     ensures out_never_falls { O.Faulty.faults out.old ≤ O.Faulty.faults out.new }
