@@ -30,7 +30,7 @@ use Rattle.kn_slices.specs.Group.{Keeps, Sets}
 
 -- the laws that are used
 pub record Laws : Type 0 where
-  pub views : (s : Spec) (a : Admission) (c : Trace) → made.StandsFor a c → AreViews s a c
+  pub views : (s : Spec) (a : Admission) (c : Trace) → made.IsRecordOf a c → AreViews s a c
   pub runs : (s : Spec) (c : Trace) (e : Event) (p : ℕ) → IsMade s c → 1 ≤ limit_of (c ++ react s c e) p
       → length (trace.running_at (c ++ react s c e) p) ≤ max (length (trace.running_at c p)) (limit_of (c ++ react s c e) p)
   pub limits : (s : Spec) (c : Trace) (e : Event) (q pods : ℕ) → s.kind ≡ kind.Fixed pods → ((n : ℕ) → e.act ≡ act.Limit q n → ⊥) → limit_of (c ++ react s c e) q ≡ limit_of c q

@@ -75,7 +75,7 @@ module _ {A B : Type 0} (limit running : ℕ → A → ℕ) (limit' running' : �
 
 -- ---- the activators and their traces
 
-module _ (views : (s : Spec) (a : Admission) (c : Trace) → made.StandsFor a c → AreViews s a c) where
+module _ (views : (s : Spec) (a : Admission) (c : Trace) → made.IsRecordOf a c → AreViews s a c) where
   part_alike : (pods p : ℕ) (x : RevisionState) (c : Trace) → IsActivator pods x → p < pods → StandsFor x c → (limit_at p x ≡ limit_by p c) × (running_at p x ≡ running_by p c)
   part_alike pods p x c is low stands =
       let v = views x.spec x.parts.throttle.admission c stands.parts.admission in

@@ -57,7 +57,7 @@ pub opening_is : (s : Spec) (start pods : ℕ) → s.kind ≡ kind.Fixed pods �
 unfolding opening
 opening_is s start pods fixed = ap (λ k. opening_of k s start) fixed
 
-module _ (parts : PartFacts) (views : (s : Spec) (a : Admission) (c : Trace) → made.StandsFor a c → AreViews s a c) where
+module _ (parts : PartFacts) (views : (s : Spec) (a : Admission) (c : Trace) → made.IsRecordOf a c → AreViews s a c) where
   opening_pods : (s : Spec) (start pods : ℕ) → s.kind ≡ kind.Fixed pods → live_pods (opening s start) ≡ range_with_len 0 pods
   unfolding live_pods is_live_pod
   opening_pods s start pods fixed =

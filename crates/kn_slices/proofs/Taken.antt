@@ -69,7 +69,7 @@ module _ (parts new : List RevisionState) (pods i : ℕ) (e : Event) (low : i < 
 
 -- the laws that are used
 pub record RuleLaws : Type 0 where
-  pub views : (s : Spec) (a : Admission) (c : Trace) → made.StandsFor a c → AreViews s a c
+  pub views : (s : Spec) (a : Admission) (c : Trace) → made.IsRecordOf a c → AreViews s a c
   pub lawful : (s : Spec) (start clock count : ℕ) (c : Trace) → IsMadeBy s start clock count c → IsLawful s c
   pub settled : (s : Spec) (start clock count : ℕ) (c : Trace) → IsMadeBy s start clock count c → IsSettled s c
   pub inert : (s : Spec) (start clock count : ℕ) (c : Trace) (e : Event) → IsMadeBy s start clock count c → IsInert s c e
