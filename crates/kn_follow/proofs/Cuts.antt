@@ -65,7 +65,7 @@ same_cause d cause r h k = cc
 near_is : {T : Type 0} (n : ℕ) (all : List (List ℕ)) (d cause : Cause) (r : Result T Cause) → r ≡ Err d → r ≡ Err cause → IsNear n all d → IsNear n all cause
 near_is n all d cause r h k near = subst (IsNear n all) (same_cause d cause r h k) near
 
-end_near : (n : ℕ) (line : List ℕ) (more : List (List ℕ)) (cause : Cause) → end_part (n + 1) more ≡ Err cause → IsNear n (line ∷ more) cause
+end_near : (n : ℕ) (line : List ℕ) (more : List (List ℕ)) (cause : Cause) → end_part {E = Event} (n + 1) more ≡ Err cause → IsNear n (line ∷ more) cause
 end_near n line [] cause h = cc
 end_near n line (l ∷ ls) cause h = by_fit (fits l) refl h
   where
