@@ -8,7 +8,7 @@ use Rattle.kn_journal.specs.declared.status.Status.TheVariants as status
 use Rattle.kn_journal.specs.Causes.{Cause, IsGoodSoFar, error_of}
 use Rattle.kn_journal.specs.Lines.{lines}
 use Rattle.kn_journal.specs.Reading.{AreWhole, TakesPart, most_taken}
-use Rattle.kn_follow.specs.Account.{Account}
+use Rattle.kn_follow.specs.Account.{Account, SaysSame}
 use Rattle.kn_follow.specs.Endings.{Writes, status_of}
 use Rattle.kn_bundle.specs.Bundle.{Bundle, bundle, bundle_of_lines}
 
@@ -74,3 +74,8 @@ abbrev pub FollowsBundle : Account → ℕ → Option (List ℕ) → Option (Lis
 FollowsBundle a k None left given old new result = ⊤
 FollowsBundle a k (Some xs) left given old new result =
     WritesUnless (text_in a k (bundle xs)) (end_in k (bundle xs)) (BreaksBeyond a k xs left given) (LacksMemory a k (lines xs)) old new result
+
+-- of two accounts that write the same of each journal: what is so of one is so of the other
+abbrev pub FollowsSame : Type 0
+FollowsSame = (a b : Account) (k : ℕ) (known left : Option (List ℕ)) (given : ℕ) (old new : Option (List ℕ)) (result : Status) → SaysSame a b
+    → FollowsBundle a k known left given old new result → FollowsBundle b k known left given old new result

@@ -1,10 +1,11 @@
 //! A bundle that is read from its first byte to its last.
-ghost use Rattle.std.specs.Prelude.{◌≡◌, ◌≢◌, ◌⊎◌, ◌+◌, ◌-◌, ◌≤◌, None, nat_lt};
+ghost use Rattle.std.specs.Prelude.{◌≡◌, ◌≢◌, ◌≤◌, None, nat_lt};
 ghost use Rattle.kn_io.specs.Causes.{Rose};
-ghost use Rattle.kn_journal.specs.Reading.{EndsThere, most_taken};
-ghost use Rattle.kn_follow.specs.Account.{account_of};
+ghost use Rattle.kn_journal.specs.Reading.{EndsThere};
+ghost use Rattle.kn_follow.specs.Calls.{FailsSource};
 ghost use Rattle.kn_follow.specs.Endings.{IsReplayed};
-ghost use Rattle.kn_bundle.specs.Following.{FollowsBundle, end_by};
+ghost use Rattle.kn_bundle.specs.Calls.{FollowsAll};
+ghost use Rattle.kn_bundle.specs.Following.{end_by};
 
 use crate::journal::read_journal;
 use kn_event::Memory;
@@ -45,12 +46,10 @@ pub fn follow_bundle<T: Teller + Drop, F: Form<T>, S: Source, O: Sink>(
     source: &mut S,
     out: &mut O,
 ) -> Status
-    ensures bundle { FollowsBundle (account_of (F.writes form.now)) k (S.left source.old) (S.left source.new)
-        (S.given source.new - S.given source.old) (O.held out.old) (O.held out.new) result }
+    ensures bundle { FollowsAll (F.writes form.now) k S.Source.own O.Sink.own source.old source.new out.old out.new result }
     ensures replayed { IsReplayed result }
     ensures ended { result ≡ Status.Ok → EndsThere (S.left source.old) (S.left source.new) }
-    ensures read_fault { result ≡ Status.ReadFault → Rose (S.Faulty.faults source.old) (S.Faulty.faults source.new) ⊎
-        (S.given source.old + most_taken ≤ S.given source.new) }
+    ensures read_fault { result ≡ Status.ReadFault → FailsSource S.Source.own S.Faulty source.old source.new }
     ensures write_fault { result ≡ Status.WriteFault → Rose (O.Faulty.faults out.old) (O.Faulty.faults out.new) }
     ensures never_falls { S.Faulty.faults source.old ≤ S.Faulty.faults source.new }
     ensures out_never_falls { O.Faulty.faults out.old ≤ O.Faulty.faults out.new }

@@ -1,14 +1,11 @@
 //! The events of a journal in a bundle, up to its `end`.
-ghost use Rattle.std.specs.Prelude.{◌≡◌, ◌≢◌, ◌≤◌, ◌<◌, ◌^◌, ◌++◌, ℕ, List, [], Option};
+ghost use Rattle.std.specs.Prelude.{◌≡◌, ◌≢◌, ◌≤◌, ◌<◌, ◌^◌};
 ghost use Rattle.kn_core.specs.State.{StandsFor};
-ghost use Rattle.kn_journal.specs.Reading.{IsOver, TakesText, unread};
-ghost use Rattle.kn_teller.specs.Manner.{told};
-ghost use Rattle.kn_teller.specs.Run.{begun, trace};
-ghost use Rattle.kn_follow.specs.Calls.{Draws, IsBroken, IsCaused};
+ghost use Rattle.kn_journal.specs.Calls.{ReadsTo};
+ghost use Rattle.kn_teller.specs.Run.{trace};
+ghost use Rattle.kn_follow.specs.Calls.{BreaksInput, DrawsInput, IsCaused, run_from};
 ghost use Rattle.kn_follow.specs.Endings.{IsFollowed};
-ghost use Rattle.kn_follow.specs.Following.{ran};
-ghost use Rattle.kn_bundle.specs.Calls.{IsNextOf, IsReadyFor, IsWithin};
-ghost use Rattle.kn_bundle.specs.Stages.{FollowsCourse};
+ghost use Rattle.kn_bundle.specs.Calls.{FindsNextOf, FollowsEventsOf, IsReadyFor, IsWithin, SkipsEvents};
 
 use kn_event::Event;
 use kn_follow::laws::{call_laws, ending_laws, telling_laws};
@@ -24,12 +21,9 @@ fn next_event<S: Source>(
     source: &mut S,
 ) -> Result<Option<Event>, JournalError>
     requires within { IsWithin reader.old }
-    ensures next { IsNextOf reader.old reader.new
-        (unread reader.old.input (S.left source.old)) (unread reader.new.input (S.left source.new))
-        (S.Faulty.faults source.old) (S.Faulty.faults source.new) result }
+    ensures next { FindsNextOf reader.old reader.new S.Source.own S.Faulty source.old source.new result }
     ensures version { reader.new.version ≡ reader.old.version }
-    ensures draws { Draws reader.old.input reader.new.input (S.given source.old) (S.given source.new)
-        (S.Faulty.faults source.old) (S.Faulty.faults source.new) }
+    ensures draws { DrawsInput reader.old reader.new S.Source.own S.Faulty source.old source.new }
     ensures grows { reader.old.input.taken ≤ reader.new.input.taken }
 {
     text_laws();
@@ -42,18 +36,13 @@ fn next_event<S: Source>(
 /// Reads the events and `end` of a journal of which nothing is written. `Ok` says that `end` was read.
 pub fn skip_events<S: Source>(reader: &mut JournalReader, source: &mut S) -> Status
     requires within { IsWithin reader.old }
-    ensures skips { (out : Option (List ℕ)) → IsOver reader.old.cut (unread reader.old.input (S.left source.old)) →
-        FollowsCourse (λ es. []) (λ es. []) reader.old.version reader.old.last reader.old.number reader.new.number
-        (unread reader.old.input (S.left source.old)) (unread reader.new.input (S.left source.new)) out out result }
+    ensures skips { SkipsEvents reader.old reader.new S.Source.own source.old source.new result }
     ensures followed { IsFollowed result }
     ensures writes_nothing { result ≢ Status.WriteFault }
-    ensures text { result ≡ Status.Ok → TakesText reader.new.cut
-        (unread reader.old.input (S.left source.old)) (unread reader.new.input (S.left source.new)) }
+    ensures text { result ≡ Status.Ok → ReadsTo reader.old reader.new S.Source.own source.old source.new }
     ensures within { result ≡ Status.Ok → IsWithin reader.new }
-    ensures broken { result ≡ Status.ReadFault → IsBroken reader.new.input
-        (S.Faulty.faults source.old) (S.Faulty.faults source.new) }
-    ensures draws { Draws reader.old.input reader.new.input (S.given source.old) (S.given source.new)
-        (S.Faulty.faults source.old) (S.Faulty.faults source.new) }
+    ensures broken { result ≡ Status.ReadFault → BreaksInput reader.new S.Faulty source.old source.new }
+    ensures draws { DrawsInput reader.old reader.new S.Source.own S.Faulty source.old source.new }
     ensures grows { reader.old.input.taken ≤ reader.new.input.taken }
 {
     text_laws();
@@ -81,24 +70,16 @@ pub fn follow_events<T: Teller, S: Source, O: Sink>(
     out: &mut O,
 ) -> Status
     requires ready { IsReadyFor follower.old.revision reader.old }
-    requires stands { StandsFor follower.old.revision (trace (begun follower.old.revision.spec follower.old.revision.clock)) }
-    requires knows { T.knows teller.old (begun follower.old.revision.spec follower.old.revision.clock) }
+    requires stands { StandsFor follower.old.revision (trace (run_from follower.old.revision)) }
+    requires knows { T.knows teller.old (run_from follower.old.revision) }
     requires load { T.load teller.old < 2 ^ 64 }
-    ensures follows { IsOver reader.old.cut (unread reader.old.input (S.left source.old)) → FollowsCourse
-        (λ es. follower.old.waiting ++ told (T.manner teller.old) (begun follower.old.revision.spec follower.old.revision.clock) es)
-        (λ es. (T.manner teller.old).ends reader.old.version
-        (ran (begun follower.old.revision.spec follower.old.revision.clock) es))
-        reader.old.version reader.old.last reader.old.number reader.new.number
-        (unread reader.old.input (S.left source.old)) (unread reader.new.input (S.left source.new))
-        (O.held out.old) (O.held out.new) result }
+    ensures follows { FollowsEventsOf (T.manner teller.old) follower.old reader.old reader.new S.Source.own O.Sink.own
+        source.old source.new out.old out.new result }
     ensures followed { IsFollowed result }
-    ensures text { result ≡ Status.Ok → TakesText reader.new.cut
-        (unread reader.old.input (S.left source.old)) (unread reader.new.input (S.left source.new)) }
+    ensures text { result ≡ Status.Ok → ReadsTo reader.old reader.new S.Source.own source.old source.new }
     ensures within { result ≡ Status.Ok → IsWithin reader.new }
-    ensures broken { result ≡ Status.ReadFault → IsBroken reader.new.input
-        (S.Faulty.faults source.old) (S.Faulty.faults source.new) }
-    ensures draws { Draws reader.old.input reader.new.input (S.given source.old) (S.given source.new)
-        (S.Faulty.faults source.old) (S.Faulty.faults source.new) }
+    ensures broken { result ≡ Status.ReadFault → BreaksInput reader.new S.Faulty source.old source.new }
+    ensures draws { DrawsInput reader.old reader.new S.Source.own S.Faulty source.old source.new }
     ensures grows { reader.old.input.taken ≤ reader.new.input.taken }
     ensures cause { IsCaused (O.Faulty.faults out.old) (O.Faulty.faults out.new) result }
 {

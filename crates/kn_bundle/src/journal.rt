@@ -1,11 +1,9 @@
 //! One journal of a bundle, behind its first line.
-ghost use Rattle.std.specs.Prelude.{◌≡◌, ◌≢◌, ◌≤◌, ℕ, List, Option, false};
-ghost use Rattle.kn_journal.specs.Reading.{TakesText, unread};
-ghost use Rattle.kn_follow.specs.Account.{account_of};
-ghost use Rattle.kn_follow.specs.Calls.{Draws, IsBroken, IsCaused};
+ghost use Rattle.std.specs.Prelude.{◌≡◌, ◌≢◌, ◌≤◌, false};
+ghost use Rattle.kn_journal.specs.Calls.{ReadsTo};
+ghost use Rattle.kn_follow.specs.Calls.{BreaksInput, DrawsInput, IsCaused};
 ghost use Rattle.kn_follow.specs.Endings.{IsReplayed};
-ghost use Rattle.kn_bundle.specs.Calls.{IsBegun, IsWithin};
-ghost use Rattle.kn_bundle.specs.Stages.{FollowsStage, chosen, nothing};
+ghost use Rattle.kn_bundle.specs.Calls.{FollowsChosen, FollowsOne, IsBegun, IsWithin, SkipsOne};
 
 use crate::events::{follow_events, skip_events};
 use crate::opening::open_journal;
@@ -20,18 +18,14 @@ use std::alloc::Global;
 /// Reads a journal of which nothing is written: no revision is made for it. `Ok` says that its `end` was read.
 fn skip_journal<S: Source>(alloc: Global, reader: &mut JournalReader, source: &mut S) -> Status
     requires begun { IsBegun reader.old }
-    ensures skips { (out : Option (List ℕ)) → FollowsStage nothing reader.old.version reader.old.number reader.new.number
-        (unread reader.old.input (S.left source.old)) (unread reader.new.input (S.left source.new)) out out result }
+    ensures skips { SkipsOne reader.old reader.new S.Source.own source.old source.new result }
     ensures replayed { IsReplayed result }
     ensures writes_nothing { result ≢ Status.WriteFault }
-    ensures text { result ≡ Status.Ok → TakesText reader.new.cut
-        (unread reader.old.input (S.left source.old)) (unread reader.new.input (S.left source.new)) }
+    ensures text { result ≡ Status.Ok → ReadsTo reader.old reader.new S.Source.own source.old source.new }
     ensures within { result ≡ Status.Ok → IsWithin reader.new }
     ensures grows { reader.old.input.taken ≤ reader.new.input.taken }
-    ensures broken { result ≡ Status.ReadFault → IsBroken reader.new.input
-        (S.Faulty.faults source.old) (S.Faulty.faults source.new) }
-    ensures draws { Draws reader.old.input reader.new.input (S.given source.old) (S.given source.new)
-        (S.Faulty.faults source.old) (S.Faulty.faults source.new) }
+    ensures broken { result ≡ Status.ReadFault → BreaksInput reader.new S.Faulty source.old source.new }
+    ensures draws { DrawsInput reader.old reader.new S.Source.own S.Faulty source.old source.new }
 {
     openings_are_whole();
     text_laws();
@@ -54,18 +48,14 @@ fn follow_one<T: Teller + Drop, F: Form<T>, S: Source, O: Sink>(
     out: &mut O,
 ) -> Status
     requires begun { IsBegun reader.old }
-    ensures follows { FollowsStage (account_of (F.writes form.now)) reader.old.version reader.old.number reader.new.number
-        (unread reader.old.input (S.left source.old)) (unread reader.new.input (S.left source.new))
-        (O.held out.old) (O.held out.new) result }
+    ensures follows { FollowsOne (F.writes form.now) reader.old reader.new S.Source.own O.Sink.own
+        source.old source.new out.old out.new result }
     ensures replayed { IsReplayed result }
-    ensures text { result ≡ Status.Ok → TakesText reader.new.cut
-        (unread reader.old.input (S.left source.old)) (unread reader.new.input (S.left source.new)) }
+    ensures text { result ≡ Status.Ok → ReadsTo reader.old reader.new S.Source.own source.old source.new }
     ensures within { result ≡ Status.Ok → IsWithin reader.new }
     ensures grows { reader.old.input.taken ≤ reader.new.input.taken }
-    ensures broken { result ≡ Status.ReadFault → IsBroken reader.new.input
-        (S.Faulty.faults source.old) (S.Faulty.faults source.new) }
-    ensures draws { Draws reader.old.input reader.new.input (S.given source.old) (S.given source.new)
-        (S.Faulty.faults source.old) (S.Faulty.faults source.new) }
+    ensures broken { result ≡ Status.ReadFault → BreaksInput reader.new S.Faulty source.old source.new }
+    ensures draws { DrawsInput reader.old reader.new S.Source.own S.Faulty source.old source.new }
     ensures cause { IsCaused (O.Faulty.faults out.old) (O.Faulty.faults out.new) result }
 {
     openings_are_whole();
@@ -101,20 +91,15 @@ pub fn read_journal<T: Teller + Drop, F: Form<T>, S: Source, O: Sink>(
     out: &mut O,
 ) -> Status
     requires begun { IsBegun reader.old }
-    ensures follows { FollowsStage (chosen wanted (account_of (F.writes form.now))) reader.old.version reader.old.number
-        reader.new.number
-        (unread reader.old.input (S.left source.old)) (unread reader.new.input (S.left source.new))
-        (O.held out.old) (O.held out.new) result }
+    ensures follows { FollowsChosen wanted (F.writes form.now) reader.old reader.new S.Source.own O.Sink.own
+        source.old source.new out.old out.new result }
     ensures unwritten { wanted ≡ false → result ≢ Status.WriteFault }
     ensures replayed { IsReplayed result }
-    ensures text { result ≡ Status.Ok → TakesText reader.new.cut
-        (unread reader.old.input (S.left source.old)) (unread reader.new.input (S.left source.new)) }
+    ensures text { result ≡ Status.Ok → ReadsTo reader.old reader.new S.Source.own source.old source.new }
     ensures within { result ≡ Status.Ok → IsWithin reader.new }
     ensures grows { reader.old.input.taken ≤ reader.new.input.taken }
-    ensures broken { result ≡ Status.ReadFault → IsBroken reader.new.input
-        (S.Faulty.faults source.old) (S.Faulty.faults source.new) }
-    ensures draws { Draws reader.old.input reader.new.input (S.given source.old) (S.given source.new)
-        (S.Faulty.faults source.old) (S.Faulty.faults source.new) }
+    ensures broken { result ≡ Status.ReadFault → BreaksInput reader.new S.Faulty source.old source.new }
+    ensures draws { DrawsInput reader.old reader.new S.Source.own S.Faulty source.old source.new }
     ensures cause { IsCaused (O.Faulty.faults out.old) (O.Faulty.faults out.new) result }
 {
     if wanted {

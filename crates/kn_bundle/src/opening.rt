@@ -1,10 +1,9 @@
 //! What stands before the events of a journal in a bundle.
 ghost use Rattle.std.specs.Prelude.{◌≡◌, ◌≤◌, Err, IfOk, OnOk};
+ghost use Rattle.kn_journal.specs.Calls.{ReadsTo};
 ghost use Rattle.kn_journal.specs.Journal.{time_most};
-ghost use Rattle.kn_journal.specs.Reading.{TakesText, unread};
-ghost use Rattle.kn_follow.specs.Calls.{Draws, IsBroken};
-ghost use Rattle.kn_bundle.specs.Calls.{IsBegun, IsWithin};
-ghost use Rattle.kn_bundle.specs.Stages.{OpensStage};
+ghost use Rattle.kn_follow.specs.Calls.{BreaksInput, DrawsInput};
+ghost use Rattle.kn_bundle.specs.Calls.{IsBegun, IsWithin, OpensWithin};
 
 use kn_io::Source;
 use kn_journal::{JournalError, JournalReader, Setup, openings_are_whole, text_laws};
@@ -17,18 +16,14 @@ pub fn open_journal<S: Source>(
     source: &mut S,
 ) -> Result<(Setup, u64), JournalError>
     requires begun { IsBegun reader.old }
-    ensures opens { OpensStage reader.old.version reader.old.number (unread reader.old.input (S.left source.old))
-        (unread reader.new.input (S.left source.new)) reader.new.version reader.new.number result }
-    ensures text { OnOk result (TakesText reader.new.cut
-        (unread reader.old.input (S.left source.old)) (unread reader.new.input (S.left source.new))) }
+    ensures opens { OpensWithin reader.old reader.new S.Source.own source.old source.new result }
+    ensures text { OnOk result (ReadsTo reader.old reader.new S.Source.own source.old source.new) }
     ensures start { IfOk result (λ parts. reader.new.last ≡ parts.1) }
     ensures most { IfOk result (λ parts. parts.1 ≤ time_most) }
     ensures within { OnOk result (IsWithin reader.new) }
     ensures grows { reader.old.input.taken ≤ reader.new.input.taken }
-    ensures broken { result ≡ Err JournalError.ReadFault → IsBroken reader.new.input
-        (S.Faulty.faults source.old) (S.Faulty.faults source.new) }
-    ensures draws { Draws reader.old.input reader.new.input (S.given source.old) (S.given source.new)
-        (S.Faulty.faults source.old) (S.Faulty.faults source.new) }
+    ensures broken { result ≡ Err JournalError.ReadFault → BreaksInput reader.new S.Faulty source.old source.new }
+    ensures draws { DrawsInput reader.old reader.new S.Source.own S.Faulty source.old source.new }
 {
     openings_are_whole();
     text_laws();
