@@ -13,6 +13,7 @@ use Rattle.kn_journal.specs.Parts.{Part, part}
 use Rattle.kn_journal.specs.Reading.{Ahead, IsOver, TakesPart, TakesText, most_taken, unread}
 use Rattle.kn_journal.specs.Telling.{Gives, Refused, Refuses, StopsAmid}
 use Rattle.kn_journal.specs.Texts.{TextLaws}
+use Rattle.kn_activators.specs.declared.event.GroupEvent.{GroupEvent}
 use Rattle.kn_activators.specs.declared.error.GroupError.{GroupError}
 use Rattle.kn_activators.specs.declared.error.GroupError.TheVariants as error
 use Rattle.kn_activators.specs.declared.setup.GroupSetup.{GroupSetup}
