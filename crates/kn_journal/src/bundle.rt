@@ -7,11 +7,11 @@ ghost use Rattle.kn_journal.specs.Reading.{TakesPart, most_taken};
 ghost use Rattle.kn_journal.specs.Telling.{Judges, OnFirst, none_at_end};
 
 use crate::error::JournalError;
-use kn_preamble::FirstLine;
 use crate::journal::Opening;
 use crate::parts::Lines;
 use crate::setup::{read_opening, read_setup};
 use kn_io::Source;
+use kn_preamble::FirstLine;
 use std::alloc::Global;
 
 /// The version that the line of this number names, where a journal's first line is due: as line 1, or behind an `end`.

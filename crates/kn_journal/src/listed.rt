@@ -6,13 +6,12 @@ ghost use Rattle.kn_journal.specs.Bundle.{AreSetups, is_same, listed_part, new_p
 ghost use Rattle.kn_journal.specs.Journal.{IsSetup};
 
 use crate::error::JournalError;
-use kn_preamble::SetupError;
-use kn_preamble::FirstLine;
 use crate::journal::{Setup, Setups};
 use crate::parts::Lines;
 use crate::setup::read_setup;
 use kn_event::Items;
 use kn_io::Source;
+use kn_preamble::{FirstLine, SetupError};
 use std::alloc::Global;
 
 /// Whether both are of one revision.

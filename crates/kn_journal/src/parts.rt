@@ -13,13 +13,13 @@ ghost use Rattle.kn_journal.specs.Series.{nothing_part};
 
 use crate::error::JournalError;
 use crate::first::judge_first;
-use kn_preamble::FirstLine;
 use crate::input::Input;
 use crate::lines::{NoLine, read_line};
 use kn_event::{
     Event, LastTime, LineError, Memory, first_end, last_number, read_event, spellings_are_read,
 };
 use kn_io::Source;
+use kn_preamble::FirstLine;
 use memchr::memchr;
 use std::alloc::Global;
 use std::marker::Model;

@@ -13,14 +13,12 @@ ghost use Rattle.kn_journal.specs.Reading.{TakesText, unread};
 ghost use Rattle.kn_journal.specs.Telling.{Judges, config_error, revision_error};
 
 use crate::error::JournalError;
-use kn_preamble::SetupError;
-use kn_preamble::FirstLine;
 use crate::journal::{Opening, Setup};
 use crate::parts::Lines;
-use kn_preamble::{SetupLine, read_setup_line};
 use kn_config::{Config, ConfigError};
 use kn_event::{Memory, Slots, Spec, Text};
 use kn_io::Source;
+use kn_preamble::{FirstLine, SetupError, SetupLine, read_setup_line};
 use kn_revision::{SpecError, resolve};
 use std::alloc::Global;
 
