@@ -15,7 +15,7 @@ ghost use Rattle.kn_serve.specs.Texts.{IsToldOn, status_text};
 
 use crate::ending::{clear, end_of};
 use crate::outside::Outside;
-use crate::setups::read_setup;
+use crate::setup::read_setup;
 use crate::telling::tell;
 use kn_core::Revision;
 use kn_event::{EntryLog, Memory, Spec};
