@@ -4,7 +4,7 @@ use Rattle.std.specs.Prelude.{◌⊎◌, Option, None, Some, Result, Ok, Err, co
 use Rattle.std.specs.Str.{bytes_eq}
 use Rattle.std.proofs.lemmas.Slice.Eq.{bytes_eq-Decides}
 use Rattle.kn_journal.specs.declared.error.JournalError.TheVariants as error
-use Rattle.kn_journal.specs.declared.first.FirstLine.TheVariants.{Slices as SlicesLine}
+use Rattle.kn_preamble.specs.declared.first.FirstLine.TheVariants.{Slices as SlicesLine}
 use Rattle.kn_journal.specs.Causes.{Cause, IsGoodSoFar, no_end}
 use Rattle.kn_journal.specs.Journal.{first_part, start_part}
 use Rattle.kn_journal.specs.Lines.{fits, lines}
@@ -17,7 +17,8 @@ use Rattle.kn_activators.specs.declared.setup.GroupSetup.{GroupSetup}
 use Rattle.kn_activators.specs.Breaking.{Breaks, BreaksBefore, BreaksIn, StopsAtEvent, rows_of}
 use Rattle.kn_activators.specs.Replaying.{Opened}
 use Rattle.kn_activators.specs.Sharing.{Sharing, by_lines, opened, openings_text, run_text, time_of}
-use Rattle.kn_activators.specs.Verdict.{Input, Read, input_of, input_of_lines, next_part, none_read, opening_part, read_events, refusal_of, setup_part}
+use Rattle.kn_activators.specs.Verdict.{Input, input_of, input_of_lines, next_part, opening_part, read_events, refusal_of, setup_part}
+use Rattle.kn_journal.specs.Series.{Read, none_read}
 use Rattle.kn_activators.proofs.EventLines.{no_more, none_more, one_more, with_events, with_more}
 use Rattle.kn_activators.proofs.OwnLines.{event_own, first_own, input_with, no_first, no_setup, no_start, opened_own, opening-is, opening_own}
 
@@ -191,7 +192,7 @@ end_line_part : (s : GroupSetup) (last n : ℕ) → next_part s last n (codes "e
 unfolding next_part
 end_line_part s last n = refl
 
-abbrev read_with : List GroupEvent → Option Cause → Read
+abbrev read_with : List GroupEvent → Option Cause → Read GroupEvent
 read_with es refused = record { events = es; refused = refused }
 
 none_else : (es : List GroupEvent) (refused : Option Cause) → with_events es (none_read refused) ≡ read_with es refused
@@ -204,8 +205,8 @@ breaks_with cut s x last n xs left waiting bytes mid es refused split ended read
   mid = mid;
   split = split;
   ended = ended;
-  good = subst (λ (r : Read). IsGoodSoFar r.refused) (sym read) fine;
-  rows = ap (λ (r : Read). waiting ++ (by_lines s r.events x).text) (sym read);
+  good = subst (λ (r : Read GroupEvent). IsGoodSoFar r.refused) (sym read) fine;
+  rows = ap (λ (r : Read GroupEvent). waiting ++ (by_lines s r.events x).text) (sym read);
   rest = rest;
 }
 
@@ -233,7 +234,7 @@ input_is : (bytes : List ℕ) (r : Result Input Cause) → input_of_lines (lines
 unfolding input_of
 input_is bytes r h = h
 
-rows_are : (s : GroupSetup) (start : ℕ) (r : Read) → run_text s start r.events ≡ openings_text s start ++ (by_lines s r.events (opened s start)).text
+rows_are : (s : GroupSetup) (start : ℕ) (r : Read GroupEvent) → run_text s start r.events ≡ openings_text s start ++ (by_lines s r.events (opened s start)).text
 unfolding run_text
 rows_are s start r = refl
 

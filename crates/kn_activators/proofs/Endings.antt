@@ -17,17 +17,18 @@ use Rattle.kn_activators.specs.declared.setup.GroupSetup.{GroupSetup}
 use Rattle.kn_activators.specs.Breaking.{BreaksIn, StopsAtEvent}
 use Rattle.kn_activators.specs.Replaying.{Follows, IsRefused, Stops, WritesNothing, rest_text}
 use Rattle.kn_activators.specs.Sharing.{Outcome, Sharing, by_line, by_lines, end_line, time_of}
-use Rattle.kn_activators.specs.Verdict.{Read, ending, next_part, none_read, read_events}
+use Rattle.kn_activators.specs.Verdict.{ending, next_part, read_events}
+use Rattle.kn_journal.specs.Series.{Read, none_read}
 use Rattle.kn_report.specs.Waiting.{Adds}
 use Rattle.kn_activators.proofs.Breaks.{HasRead, HasTaken, breaks_in, so_over}
 use Rattle.kn_activators.proofs.EventLines.{GoesOn, lines_more, lines_one, no_more, none_more, one_more, with_events, with_more}
 use Rattle.kn_activators.proofs.Waits.{adds_all, adds_last, adds_some, adds_stop, waits_more}
 
 -- the text of the events so far, and what is behind it
-abbrev tail_of : GroupSetup → Sharing → ℕ → Read → List ℕ
+abbrev tail_of : GroupSetup → Sharing → ℕ → Read GroupEvent → List ℕ
 tail_of s y count r = (by_lines s r.events y).text ++ ending (count + length r.events) r.refused
 
-rest_split : (s : GroupSetup) (x : Sharing) (es : List GroupEvent) (r : Read) → rest_text s x (with_events es r) ≡ (by_lines s es x).text ++ tail_of s (by_lines s es x).now (length es) r
+rest_split : (s : GroupSetup) (x : Sharing) (es : List GroupEvent) (r : Read GroupEvent) → rest_text s x (with_events es r) ≡ (by_lines s es x).text ++ tail_of s (by_lines s es x).now (length es) r
 rest_split s x es r =
     ap (λ (o : Outcome). o.text ++ ending (length (es ++ r.events)) r.refused) (lines_more s es r.events x)
     ∙ (append_assoc (by_lines s es x).text (by_lines s r.events (by_lines s es x).now).text (ending (length (es ++ r.events)) r.refused)
@@ -49,7 +50,7 @@ refused_by cut s x last n xs ys es now m left waiting o q e goes broken all told
     told_by cause h =
         let is = goes ∙ ap (with_events es) (none_more s now m (lines ys) cause h) in
         let split = ap (rest_text s x) is ∙ (rest_none s x es (Some cause) ∙ append-nil (by_lines s es x).text) in
-        (ap (λ (r : Read). r.refused) is, subst (λ (z : List ℕ). Appends o q (waiting ++ z)) (sym split) all)
+        (ap (λ (r : Read GroupEvent). r.refused) is, subst (λ (z : List ℕ). Appends o q (waiting ++ z)) (sym split) all)
 
     by : (e : JournalError) → (e ≡ journal.ReadFault → BreaksIn cut s x last n xs left waiting (waiting ++ (by_lines s es x).text)) → Refused e (next_part s now m (lines ys)) → (e ≡ journal.Memory → ⊥)
         → IsRefused (waiting ++ rest_text s x (read_events s last n (lines xs))) (read_events s last n (lines xs)).refused (BreaksIn cut s x last n xs left waiting) e o q
@@ -106,7 +107,7 @@ module _ (cut : Bool) (s : GroupSetup) (x : Sharing) (last n : ℕ) where
   follows_done u (Some xs) left es now m k (Some ys) (Some zs) waiting w o p q goes gives adds all =
       let is = goes ∙ ap (with_events es) (no_more s now m k (lines ys) (lines zs) gives) in
       let split = ap (rest_text s x) is ∙ rest_none s x es None in (
-        ap (λ (r : Read). r.refused) is,
+        ap (λ (r : Read GroupEvent). r.refused) is,
         subst (λ (z : List ℕ). Appends o q (waiting ++ z)) (sym split) (subst (Appends o q) (append_assoc waiting (by_lines s es x).text (end_line (length es))) (adds_all o p q waiting w (by_lines s es x).text (end_line (length es)) adds all)),
       )
 

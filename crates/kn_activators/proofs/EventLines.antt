@@ -3,7 +3,6 @@ use Rattle.std.proofs.Common.{◌≡◌, ◌+◌, ℕ, Bool, true, false, List, 
 use Rattle.std.specs.Prelude.{Option, None, Some, Result, Ok, Err, codes, if◌then◌else◌}
 use Rattle.std.specs.Str.{bytes_eq}
 use Rattle.kn_journal.specs.Causes.{Cause, line_too_long}
-use Rattle.kn_journal.specs.Journal.{nothing_part}
 use Rattle.kn_journal.specs.Lines.{fits, lines}
 use Rattle.kn_journal.specs.Parts.{Part, part, then_part}
 use Rattle.kn_journal.specs.Telling.{Gives}
@@ -11,7 +10,8 @@ use Rattle.kn_activators.specs.declared.event.GroupEvent.{GroupEvent}
 use Rattle.kn_activators.specs.declared.setup.GroupSetup.{GroupSetup}
 use Rattle.kn_activators.specs.Reading.{group_event_of}
 use Rattle.kn_activators.specs.Sharing.{Outcome, Sharing, and_then, by_line, by_lines, said, time_of, unsaid}
-use Rattle.kn_activators.specs.Verdict.{Read, end_part, event_in, in_time, next_in, next_part, none_read, read_events, with_event}
+use Rattle.kn_activators.specs.Verdict.{in_time, next_in, next_part, read_events}
+use Rattle.kn_journal.specs.Series.{Read, end_part, item_in, none_read, nothing_part, with_event}
 
 -- ---- what one line leaves
 
@@ -33,7 +33,7 @@ unfolding next_part
 event-left s last m [] p e h is = absurd (cc)
 event-left s last m (line ∷ more) p e h is = by_fit (fits line) h
   where
-    by_event : (r : Result GroupEvent Cause) → event_in (m + 1) more r ≡ Ok p → IsOneLine (line ∷ more) p
+    by_event : (r : Result GroupEvent Cause) → item_in (m + 1) more r ≡ Ok p → IsOneLine (line ∷ more) p
     by_event (Ok k) g = record { line = line; more = more; split = refl; left = (made_is (Some k) (m + 1) more p g).1 }
     by_event (Err cause) g = absurd (cc)
 
@@ -41,7 +41,7 @@ event-left s last m (line ∷ more) p e h is = by_fit (fits line) h
     by_end (Ok q) g = let none = (made_is None q.number q.left p g).0 in absurd (cc)
     by_end (Err cause) g = absurd (cc)
 
-    by_word : (b : Bool) → (if b then end_part (m + 1) more else event_in (m + 1) more (in_time (m + 1) last (group_event_of s.activators s.pods line))) ≡ Ok p → IsOneLine (line ∷ more) p
+    by_word : (b : Bool) → (if b then end_part (m + 1) more else item_in (m + 1) more (in_time (m + 1) last (group_event_of s.activators s.pods line))) ≡ Ok p → IsOneLine (line ∷ more) p
     by_word true g = by_end (nothing_part (m + 1) more) g
     by_word false g = by_event (in_time (m + 1) last (group_event_of s.activators s.pods line)) g
 
@@ -71,7 +71,7 @@ none_more s last m (line ∷ more) cause h = rw h refl
 
 -- ---- events so far
 
-abbrev pub with_events : List GroupEvent → Read → Read
+abbrev pub with_events : List GroupEvent → Read GroupEvent → Read GroupEvent
 with_events es r = record { events = es ++ r.events; refused = r.refused }
 
 -- these events were read of the old bytes, up to line m and this time; the new ones are left
@@ -84,10 +84,10 @@ pub goes_none : (s : GroupSetup) (last n : ℕ) (old : Option (List ℕ)) → Go
 goes_none s last n None = tt
 goes_none s last n (Some xs) = refl
 
-pub with_more : (es : List GroupEvent) (e : GroupEvent) (r : Read) → with_events es (with_event e r) ≡ with_events (es ++ e ∷ []) r
+pub with_more : (es : List GroupEvent) (e : GroupEvent) (r : Read GroupEvent) → with_events es (with_event e r) ≡ with_events (es ++ e ∷ []) r
 with_more es e r = ap (λ (xs : List GroupEvent). with_list xs r.refused) (sym (append_assoc es (e ∷ []) r.events))
   where
-    with_list : List GroupEvent → Option Cause → Read
+    with_list : List GroupEvent → Option Cause → Read GroupEvent
     with_list xs refused = record { events = xs; refused = refused }
 
 pub goes_next : (s : GroupSetup) (last n : ℕ) (es : List GroupEvent) (now m k : ℕ) (e : GroupEvent) (old mid new : Option (List ℕ)) → GoesOn s last n old es now m mid → Gives (next_part s now m) (Some e) k mid new

@@ -3,19 +3,21 @@ use Rattle.std.proofs.Common.{◌≡◌, ◌+◌, ℕ, Bool, true, false, List, 
 use Rattle.std.specs.Prelude.{◌⊎◌, Option, None, Some, Result, Ok, Err, codes, nat_le, if◌then◌else◌}
 use Rattle.std.specs.Str.{bytes_eq}
 use Rattle.kn_event.specs.declared.fault.LineError.{LineError}
-use Rattle.kn_journal.specs.declared.error.SetupError.{SetupError}
-use Rattle.kn_journal.specs.declared.first.FirstLine.TheVariants.{Slices as SlicesLine}
-use Rattle.kn_journal.specs.declared.setting.FixedLine.{FixedLine}
+use Rattle.kn_preamble.specs.declared.error.SetupError.{SetupError}
+use Rattle.kn_preamble.specs.declared.first.FirstLine.TheVariants.{Slices as SlicesLine}
+use Rattle.kn_preamble.specs.declared.setting.FixedLine.{FixedLine}
 use Rattle.kn_journal.specs.Causes.{Cause, bad_first_line, bad_line, bad_setup, line_too_long, no_end, time_too_large}
-use Rattle.kn_journal.specs.Journal.{first_in, first_part, nothing_part, start_in, start_line_in, start_of, start_part, time_most, version_by, version_in}
+use Rattle.kn_journal.specs.Journal.{first_in, first_part, start_in, start_line_in, start_of, start_part, time_most, version_in}
 use Rattle.kn_journal.specs.Lines.{fits}
 use Rattle.kn_journal.specs.Parts.{Part, part, then_part, with_line}
-use Rattle.kn_journal.specs.SetupLine.{fixed_line}
+use Rattle.kn_preamble.specs.First.{version_by}
+use Rattle.kn_preamble.specs.SetupLine.{fixed_line}
 use Rattle.kn_activators.specs.declared.event.GroupEvent.{GroupEvent}
 use Rattle.kn_activators.specs.declared.setup.GroupSetup.{GroupSetup}
 use Rattle.kn_activators.specs.Reading.{group_event_of}
 use Rattle.kn_activators.specs.Replaying.{Opened}
-use Rattle.kn_activators.specs.Verdict.{Input, Read, end_part, event_in, in_time, input_of_lines, next_in, next_part, opening_part, read_events, setup_in, setup_line_in, setup_part, setup_with}
+use Rattle.kn_activators.specs.Verdict.{Input, in_time, input_of_lines, next_in, next_part, opening_part, read_events, setup_in, setup_line_in, setup_part, setup_with}
+use Rattle.kn_journal.specs.Series.{Read, end_part, item_in, nothing_part}
 
 -- ---- what one line gives, whatever follows it
 
@@ -134,7 +136,7 @@ opening_own n ls left s m h = by (first_part SlicesLine n ls) refl (sym (opening
               ∙ b.alone later;
         }
 
-abbrev pub input_with : GroupSetup → ℕ → Read → Input
+abbrev pub input_with : GroupSetup → ℕ → Read GroupEvent → Input
 input_with setup start r = record { setup = setup; start = start; read = r }
 
 pub opened_own : (ls left : List (List ℕ)) (setup : GroupSetup) (start number : ℕ) → Opened ls setup start number left → OwnLines input_of_lines ls (λ later. input_with setup start (read_events setup start number later)) left
@@ -155,7 +157,7 @@ unfolding next_part
 event_own s last m k [] left e h = absurd (cc)
 event_own s last m k (line ∷ more) left e h = by_fit (fits line) refl h
   where
-    by_event : fits line ≡ true → bytes_eq line (codes "end") ≡ false → (r : Result GroupEvent Cause) → in_time (m + 1) last (group_event_of s.activators s.pods line) ≡ r → event_in (m + 1) more r ≡ Ok (part (Some e) k left) → OwnLine (λ z. with_line m z (next_in s last)) (line ∷ more) (Some e) k left
+    by_event : fits line ≡ true → bytes_eq line (codes "end") ≡ false → (r : Result GroupEvent Cause) → in_time (m + 1) last (group_event_of s.activators s.pods line) ≡ r → item_in (m + 1) more r ≡ Ok (part (Some e) k left) → OwnLine (λ z. with_line m z (next_in s last)) (line ∷ more) (Some e) k left
     by_event fit other (Err cause) is g = absurd (cc)
     by_event fit other (Ok a) is g =
         let same = parts_are (Some a) (Some e) (m + 1) k more left g in
@@ -169,7 +171,7 @@ event_own s last m k (line ∷ more) left e h = by_fit (fits line) refl h
     by_end (Ok q) g = let none = (parts_are None (Some e) q.number k q.left left g).0 in absurd (cc)
     by_end (Err cause) g = absurd (cc)
 
-    by_word : fits line ≡ true → (b : Bool) → bytes_eq line (codes "end") ≡ b → (if b then end_part (m + 1) more else event_in (m + 1) more (in_time (m + 1) last (group_event_of s.activators s.pods line))) ≡ Ok (part (Some e) k left) → OwnLine (λ z. with_line m z (next_in s last)) (line ∷ more) (Some e) k left
+    by_word : fits line ≡ true → (b : Bool) → bytes_eq line (codes "end") ≡ b → (if b then end_part (m + 1) more else item_in (m + 1) more (in_time (m + 1) last (group_event_of s.activators s.pods line))) ≡ Ok (part (Some e) k left) → OwnLine (λ z. with_line m z (next_in s last)) (line ∷ more) (Some e) k left
     by_word fit true word g = by_end (nothing_part (m + 1) more) g
     by_word fit false word g = by_event fit word (in_time (m + 1) last (group_event_of s.activators s.pods line)) refl g
 

@@ -6,15 +6,16 @@ use Rattle.std.proofs.lemmas.Grind.{common_steps}
 use Rattle.kn_event.specs.declared.fault.LineError.{LineError}
 use Rattle.kn_journal.specs.declared.error.JournalError.{JournalError}
 use Rattle.kn_journal.specs.declared.error.JournalError.TheVariants as error
-use Rattle.kn_journal.specs.declared.error.SetupError.{SetupError}
-use Rattle.kn_journal.specs.declared.first.FirstLine.TheVariants.{Slices as SlicesLine}
-use Rattle.kn_journal.specs.declared.setting.FixedLine.{FixedLine}
+use Rattle.kn_preamble.specs.declared.error.SetupError.{SetupError}
+use Rattle.kn_preamble.specs.declared.first.FirstLine.TheVariants.{Slices as SlicesLine}
+use Rattle.kn_preamble.specs.declared.setting.FixedLine.{FixedLine}
+use Rattle.kn_preamble.specs.SetupLine.{fixed_line}
 use Rattle.kn_journal.specs.Causes.{bad_line, bad_setup, time_back, time_too_large}
-use Rattle.kn_journal.specs.Journal.{first_part, nothing_part, time_most}
+use Rattle.kn_journal.specs.Journal.{first_part, time_most}
+use Rattle.kn_journal.specs.Series.{nothing_part}
 use Rattle.kn_journal.specs.Lines.{fits, lines}
 use Rattle.kn_journal.specs.Parts.{with_line}
 use Rattle.kn_journal.specs.Reading.{TakesLine}
-use Rattle.kn_journal.specs.SetupLine.{fixed_line}
 use Rattle.kn_journal.specs.Telling.{Gives, IsCauseOf, Judges, Lacks, Refuses, Tells}
 use Rattle.kn_activators.specs.declared.event.GroupEvent.{GroupEvent}
 use Rattle.kn_activators.specs.declared.setup.GroupSetup.{GroupSetup}

@@ -19,7 +19,8 @@ use Rattle.kn_activators.specs.declared.setup.GroupSetup.{GroupSetup}
 use Rattle.kn_activators.specs.Breaking.{BreaksBefore, BreaksBeyond, BreaksIn}
 use Rattle.kn_activators.specs.Replaying.{FailsToOpen, Follows, IsRefused, Opened, Opens, ReplaysSlices, Writes, WritesNothing, rest_text}
 use Rattle.kn_activators.specs.Sharing.{by_lines, opened, openings_text, run_text}
-use Rattle.kn_activators.specs.Verdict.{Read, ending, input_of, input_of_lines, opening_part, read_events, refusal_of, text_of}
+use Rattle.kn_activators.specs.Verdict.{ending, input_of, input_of_lines, opening_part, read_events, refusal_of, text_of}
+use Rattle.kn_journal.specs.Series.{Read}
 use Rattle.kn_report.specs.Waiting.{Adds}
 use Rattle.kn_activators.proofs.Breaks.{before_setup, before_start, breaks_after, breaks_before, over_of}
 use Rattle.kn_activators.proofs.Pieces.{prefix_more}
@@ -102,7 +103,7 @@ input_is : (xs : List ℕ) (setup : GroupSetup) (start number : ℕ) (left : Lis
 unfolding input_of input_of_lines
 input_is xs setup start number left o = rw (o.opening, o.begins) refl
 
-text_is : (s : GroupSetup) (start : ℕ) (r : Read) → run_text s start r.events ++ ending (length r.events) r.refused ≡ openings_text s start ++ rest_text s (opened s start) r
+text_is : (s : GroupSetup) (start : ℕ) (r : Read GroupEvent) → run_text s start r.events ++ ending (length r.events) r.refused ≡ openings_text s start ++ rest_text s (opened s start) r
 unfolding run_text
 text_is s start r = append_assoc (openings_text s start) (by_lines s r.events (opened s start)).text (ending (length r.events) r.refused)
 

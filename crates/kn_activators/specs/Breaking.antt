@@ -1,5 +1,5 @@
 -- What was written where the source failed amid an input of several activators.
-use Rattle.std.specs.Prelude.{◌≡◌, ◌⊎◌, ℕ, ◌-◌, ◌++◌, Bool, true, false, List, [], length, Option, None, Some, Result, Ok, Err, ⊤}
+use Rattle.std.specs.Prelude.{◌≡◌, ◌⊎◌, ℕ, ◌-◌, ◌++◌, Bool, false, List, [], length, Option, Some, Result, Ok, Err}
 use Rattle.std.specs.Io.KnownBytes.{prepend_known}
 use Rattle.kn_io.specs.declared.traits.Source.{Ghosts}
 use Rattle.kn_io.specs.declared.traits.Faulty.{Ghosts as Counted}

@@ -13,7 +13,8 @@ use Rattle.kn_activators.specs.declared.error.GroupError.TheVariants as error
 use Rattle.kn_activators.specs.declared.setup.GroupSetup.{GroupSetup}
 use Rattle.kn_activators.specs.Sharing.{Sharing, by_lines}
 use Rattle.kn_activators.specs.Breaking.{BreaksBefore, BreaksBeyond, BreaksIn, IsFrontOf}
-use Rattle.kn_activators.specs.Verdict.{Read, ending, input_of, opening_part, read_events, refusal_of, text_of}
+use Rattle.kn_activators.specs.Verdict.{ending, input_of, opening_part, read_events, refusal_of, text_of}
+use Rattle.kn_journal.specs.Series.{Read}
 
 -- a refused line, which is the first one, and all text before it; what a fault of the source leaves is some first bytes of it, of
 -- which more is said apart
@@ -29,7 +30,7 @@ Writes text refused Broken old new (Err error.Output) = AppendsPrefix old new te
 Writes text refused Broken old new (Err (error.Input e)) = IsRefused text refused Broken e old new
 
 -- what these events add, and the last line where all lines are good
-abbrev pub rest_text : GroupSetup → Sharing → Read → List ℕ
+abbrev pub rest_text : GroupSetup → Sharing → Read GroupEvent → List ℕ
 rest_text s x r = (by_lines s r.events x).text ++ ending (length r.events) r.refused
 
 -- of the bytes behind a start, whose line was cut or not and has this number, and those left: what waits, and what they add

@@ -2,25 +2,20 @@
 use Rattle.std.specs.Prelude.{ℕ, ◌++◌, ⊤, nat_le, List, [], ◌∷◌, length, Option, None, Some, Result, Ok, Err, codes, if◌then◌else◌}
 use Rattle.std.specs.Str.{bytes_eq}
 use Rattle.kn_event.specs.declared.fault.LineError.{LineError}
-use Rattle.kn_journal.specs.declared.error.SetupError.{SetupError}
-use Rattle.kn_journal.specs.declared.first.FirstLine.TheVariants.{Slices as SlicesLine}
-use Rattle.kn_journal.specs.declared.setting.FixedLine.{FixedLine}
+use Rattle.kn_preamble.specs.declared.error.SetupError.{SetupError}
+use Rattle.kn_preamble.specs.declared.first.FirstLine.TheVariants.{Slices as SlicesLine}
+use Rattle.kn_preamble.specs.declared.setting.FixedLine.{FixedLine}
+use Rattle.kn_preamble.specs.SetupLine.{fixed_line}
 use Rattle.kn_journal.specs.Causes.{Cause, bad_line, bad_setup, time_back, time_too_large}
-use Rattle.kn_journal.specs.Journal.{first_part, nothing_part, start_part, time_most}
+use Rattle.kn_journal.specs.Journal.{first_part, start_part, time_most}
 use Rattle.kn_journal.specs.Lines.{lines}
 use Rattle.kn_journal.specs.Parts.{Part, part, then_part, with_line}
-use Rattle.kn_journal.specs.SetupLine.{fixed_line}
-use Rattle.kn_io.specs.declared.traits.Source.{Ghosts}
-use Rattle.kn_io.specs.declared.traits.Faulty.{Ghosts as Counted}
 use Rattle.kn_journal.specs.declared.error.JournalError.{JournalError}
-use Rattle.kn_journal.specs.Drawing.{Draws}
-use Rattle.kn_journal.specs.Reading.{unread}
-use Rattle.kn_journal.specs.Telling.{LinesState, Tells}
-use Rattle.kn_journal.specs.LineCalls.{Anywhere}
 use Rattle.kn_activators.specs.declared.event.GroupEvent.{GroupEvent}
 use Rattle.kn_activators.specs.declared.setup.GroupSetup.{GroupSetup}
 use Rattle.kn_activators.specs.Reading.{group_event_of}
 use Rattle.kn_activators.specs.Sharing.{end_line, run_text, time_of}
+use Rattle.kn_journal.specs.Series.{Read, end_part, item_in, none_read, then_events}
 
 -- ---- the setup
 
@@ -54,43 +49,16 @@ in_time n last (Err why) = Err (bad_line n why)
 abbrev pub judged : GroupSetup → ℕ → ℕ → List ℕ → Result GroupEvent Cause
 judged s last number line = in_time number last (group_event_of s.activators s.pods line)
 
--- after `end` in line n
-abbrev pub end_part : ℕ → List (List ℕ) → Result (Part (Option GroupEvent)) Cause
-end_part n lines = then_part (nothing_part n lines) (λ _ n left. Ok (part None n left))
-
-abbrev pub event_in : ℕ → List (List ℕ) → Result GroupEvent Cause → Result (Part (Option GroupEvent)) Cause
-event_in n left (Ok a) = Ok (part (Some a) n left)
-event_in n left (Err cause) = Err cause
-
 abbrev pub next_in : GroupSetup → ℕ → ℕ → List ℕ → List (List ℕ) → Result (Part (Option GroupEvent)) Cause
 next_in s last number line left =
-    if bytes_eq line (codes "end") then end_part number left else event_in number left (judged s last number line)
+    if bytes_eq line (codes "end") then end_part number left else item_in number left (judged s last number line)
 
 -- the next event after line n and this time, or none where `end` ends the input
 unfoldable pub next_part : GroupSetup → ℕ → ℕ → List (List ℕ) → Result (Part (Option GroupEvent)) Cause
 next_part s last n lines = with_line n lines (next_in s last)
 
--- the events, and the cause of the first refused line, if there is one
-pub record Read : Type 0 where
-  pub events : List GroupEvent
-  pub refused : Option Cause
-
-abbrev pub none_read : Option Cause → Read
-none_read refused = record { events = []; refused = refused }
-
-abbrev pub with_event : GroupEvent → Read → Read
-with_event a more = record { events = a ∷ more.events; refused = more.refused }
-
-abbrev pub onward : Option GroupEvent → (GroupEvent → Read) → Read
-onward None next = none_read None
-onward (Some a) next = with_event a (next a)
-
-abbrev pub then_events : Result (Part (Option GroupEvent)) Cause → (GroupEvent → ℕ → Read) → Read
-then_events (Err cause) next = none_read (Some cause)
-then_events (Ok p) next = onward p.value (λ a. next a p.number)
-
 -- all events after line n and this time
-unfoldable pub read_events : GroupSetup → ℕ → ℕ → List (List ℕ) → Read
+unfoldable pub read_events : GroupSetup → ℕ → ℕ → List (List ℕ) → Read GroupEvent
 read_events s last n [] = then_events (next_part s last n []) (λ a number. none_read None)
 read_events s last n (line ∷ more) = then_events (next_part s last n (line ∷ more)) (λ a number. read_events s (time_of a) number more)
 
@@ -100,7 +68,7 @@ read_events s last n (line ∷ more) = then_events (next_part s last n (line ∷
 pub record Input : Type 0 where
   pub setup : GroupSetup
   pub start : ℕ
-  pub read : Read
+  pub read : Read GroupEvent
 
 -- line 1 is `kact slices N`; then come the setup, the start, the events and `end`, and then the end of the input
 unfoldable pub input_of_lines : List (List ℕ) → Result Input Cause

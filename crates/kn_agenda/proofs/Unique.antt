@@ -6,7 +6,7 @@ use Rattle.kn_trace.specs.Trace.{Trace}
 use Rattle.kn_agenda.specs.declared.item.Item.{Item}
 use Rattle.kn_agenda.specs.declared.item.Kind.{Kind}
 use Rattle.kn_agenda.specs.Workload.{Workload}
-use Rattle.kn_agenda.specs.Due.{AreNext, IsFront, IsNext, IsOver, IsSchedule, event_of, is_before, rank}
+use Rattle.kn_agenda.specs.Due.{AreNext, IsFront, IsNext, LeavesNothingDue, IsSchedule, event_of, is_before, rank}
 use Rattle.kn_agenda.proofs.Least.{later_from, rank_one}
 
 -- at one time the further test decides
@@ -44,7 +44,7 @@ pub goes_on : (w : Workload) (before es fs : List Event) → AreNext w (before +
 goes_on w before [] fs steps all = (fs, refl)
 goes_on w before (e ∷ es) [] steps all =
     let next = steps before e es refl in
-    let late = subst (IsOver w) (append-nil before) all.over next.0 next.1.due in
+    let late = subst (LeavesNothingDue w) (append-nil before) all.over next.0 next.1.due in
     let soon = next.2 in
     absurd (omega arith)
 goes_on w before (e ∷ es) (f ∷ fs) steps all =

@@ -3,7 +3,6 @@ use Rattle.std.specs.Prelude.{◌≡◌, ℕ, ◌+◌, ◌*◌, ◌<◌, ◌≤�
 use Rattle.std.specs.List.{filter, filter_map}
 use Rattle.kn_event.specs.declared.entry.Entry.{Entry}
 use Rattle.kn_event.specs.declared.entry.Row.{Row}
-use Rattle.kn_event.specs.declared.entry.Row.TheVariants as row
 use Rattle.kn_event.specs.declared.event.Act.{Act}
 use Rattle.kn_event.specs.declared.event.Act.TheVariants as act
 use Rattle.kn_event.specs.declared.event.Event.{Event}
@@ -119,8 +118,8 @@ abbrev pub ComesNext : Workload → List Event → Event → Type 0
 ComesNext w es e = (x : Item) × IsNext w (trace_of w.spec w.start es) (ticks_of es) x × (x.time ≤ w.until) × (e ≡ event_of w x)
 
 -- after these events all that is due comes too late
-abbrev pub IsOver : Workload → List Event → Type 0
-IsOver w es = (x : Item) → IsDue w (trace_of w.spec w.start es) (ticks_of es) x → w.until < x.time
+abbrev pub LeavesNothingDue : Workload → List Event → Type 0
+LeavesNothingDue w es = (x : Item) → IsDue w (trace_of w.spec w.start es) (ticks_of es) x → w.until < x.time
 
 -- each event came next when it came
 abbrev pub AreNext : Workload → List Event → Type 0
@@ -129,7 +128,7 @@ AreNext w es = (before : List Event) (e : Event) (rest : List Event) → es ≡ 
 -- all events of a workload
 pub record IsSchedule (w : Workload) (es : List Event) : Type 0 where
   pub steps : AreNext w es
-  pub over : IsOver w es
+  pub over : LeavesNothingDue w es
 
 -- the first events of these
 abbrev pub IsFront : List Event → List Event → Type 0

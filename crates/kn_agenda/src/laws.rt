@@ -16,7 +16,7 @@ ghost use Rattle.kn_agenda.specs.declared.item.Kind.{Kind};
 ghost use Rattle.kn_agenda.specs.declared.item.Kind.TheVariants as kind;
 ghost use Rattle.kn_agenda.specs.Workload.{IsWorkload, Workload};
 ghost use Rattle.kn_agenda.specs.Course.{arrive_of, ended_at, expired_at, is_arrival, is_pass, readied_at};
-ghost use Rattle.kn_agenda.specs.Due.{AreNext, IsAfter, IsDone, IsDue, IsDueAt, IsFront, IsNext, IsOver, IsSchedule, begun_at, created_at, event_of, taken_at, ticks_of};
+ghost use Rattle.kn_agenda.specs.Due.{AreNext, IsAfter, IsDone, IsDue, IsDueAt, IsFront, IsNext, LeavesNothingDue, IsSchedule, begun_at, created_at, event_of, taken_at, ticks_of};
 ghost use Rattle.kn_agenda.specs.Runs.{ComeByJobs, IsByNextJob, Runs, Shrinks, so_far};
 
 use kn_laws::laws::{history_laws, trace_laws};
@@ -61,7 +61,7 @@ pub fn shrink_laws()
 pub fn next_laws()
     ensures order { (w : Workload) (es : List Event) (clock : ℕ) (x : Item) → Runs w es clock → IsNext w (so_far w es) (ticks_of es) x → clock ≤ x.time }
     ensures step { (w : Workload) (es : List Event) (clock : ℕ) (x : Item) → IsWorkload w → Runs w es clock → IsNext w (so_far w es) (ticks_of es) x → x.time ≤ w.until → Runs w (es ++ event_of w x ∷ []) x.time }
-    ensures over { (w : Workload) (es : List Event) (x : Item) → IsNext w (so_far w es) (ticks_of es) x → w.until < x.time → IsOver w es }
+    ensures over { (w : Workload) (es : List Event) (x : Item) → IsNext w (so_far w es) (ticks_of es) x → w.until < x.time → LeavesNothingDue w es }
 {
     trace_laws();
     request_laws();

@@ -2,7 +2,7 @@
 ghost use Rattle.std.specs.Prelude.{◌≡◌, ◌+◌, ◌≤◌, ◌^◌, ◌++◌, ◌∷◌, [], List, None, IfOk, IfSome};
 ghost use Rattle.kn_event.specs.declared.event.Event.{Event as EventValue};
 ghost use Rattle.kn_event.specs.EventLine.{IsInJournalRange, IsInVersion};
-ghost use Rattle.kn_agenda.specs.Due.{IsNext, IsOver, event_of, ticks_of};
+ghost use Rattle.kn_agenda.specs.Due.{IsNext, LeavesNothingDue, event_of, ticks_of};
 ghost use Rattle.kn_agenda.specs.Kinds.{ticks_behind};
 ghost use Rattle.kn_agenda.specs.Runs.{so_far};
 ghost use Rattle.kn_agenda.specs.Schedule.{ComesToSome, Made};
@@ -161,7 +161,7 @@ impl<'a> Schedule<'a> {
 
     /// Takes the next event, and answers it; none where nothing is due up to the end.
     pub fn next(&mut self) -> Option<Event>
-        ensures over { result ≡ None → (es : List EventValue) → Made es self.old → IsOver self.old.workload es }
+        ensures over { result ≡ None → (es : List EventValue) → Made es self.old → LeavesNothingDue self.old.workload es }
         ensures stays { result ≡ None → (es : List EventValue) → Made es self.old → Made es self.new }
         ensures goes { IfSome result (λ e. (es : List EventValue) → Made es self.old → Made (es ++ e ∷ []) self.new) }
         ensures counted { IfSome result (λ e. self.new.revision.events ≡ self.old.revision.events + 1) }

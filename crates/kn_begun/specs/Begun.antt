@@ -1,12 +1,12 @@
 -- How long requests waited until they began to run.
-use Rattle.std.specs.Prelude.{◌≡◌, ℕ, ◌+◌, ◌-◌, ◌<◌, List, [], ◌∷◌, ◌++◌, Option, None, Some, unwrap_or}
+use Rattle.std.specs.Prelude.{◌≡◌, ℕ, ◌+◌, ◌-◌, ◌<◌, List, [], ◌∷◌, ◌++◌, Option, None, Some}
 use Rattle.kn_event.specs.declared.entry.Entry.{Entry}
 use Rattle.kn_event.specs.declared.event.Event.{Event}
 use Rattle.kn_event.specs.declared.revision.Spec.{Spec}
 use Rattle.kn_trace.specs.Events.{react}
-use Rattle.kn_trace.specs.Rows.{begun_by, taken_by}
+use Rattle.kn_trace.specs.Rows.{begun_by}
 use Rattle.kn_trace.specs.Trace.{Trace}
-use Rattle.kn_lives.specs.Lives.{arrived_at, by_row, time_of}
+use Rattle.kn_lives.specs.Lives.{arrived_at, by_row}
 
 abbrev pub wait_of : Option ℕ → Trace → ℕ → List ℕ
 wait_of None c t = []

@@ -15,7 +15,7 @@ use Rattle.kn_record.specs.Facts.{Facts}
 use Rattle.kn_record.specs.Made.{IsMade, IsProper}
 use Rattle.kn_record.specs.Rows.{says}
 use Rattle.kn_book.specs.Book.{Book, address_in, address_of, book_of, call_address, given_where, least_free, noted, noted_all, pods_in, shared_out, taken, with_pod, without_pod}
-use Rattle.kn_book.specs.Laws.{IsLeastFree, IsTaken}
+use Rattle.kn_book.specs.Laws.{IsLeastFree, IsAddressTaken}
 use Rattle.kn_book.proofs.Lists.{IsFirst, all_below}
 use Rattle.kn_book.proofs.Holdings.{someone_waits, taken-with_pod}
 use Rattle.kn_book.proofs.Addresses.{address-absent, address-first, address-given, address-new, address-with_pod, address-without_pod, address_apart, address_member, holder, less_taken, waiter}
@@ -115,20 +115,20 @@ module _ (facts : Facts) (views : Views) where
   pub gone : (s : Spec) (n : ℕ) (c : Trace) (p : ℕ) → IsMade s c → n ≢ 0 → contains p (live_pods c) ≡ false → address_of n c p ≡ None
   gone s n c p made some out = address_kept n c p (not_zero n some) ∙ address-absent (book_of n c) p (listed s n c p false made out)
 
-  taken_there : (s : Spec) (n : ℕ) (c : Trace) (a : ℕ) → IsMade s c → (n == 0) ≡ false → contains a (taken (book_of n c)) ≡ true → IsTaken n c a
+  taken_there : (s : Spec) (n : ℕ) (c : Trace) (a : ℕ) → IsMade s c → (n == 0) ≡ false → contains a (taken (book_of n c)) ≡ true → IsAddressTaken n c a
   taken_there s n c a made z there = by (holder (book_of n c) a k.sound.pods there)
     where
       k : IsBook n (book_of n c) c
       k = is_book facts views s n c made
 
-      by : (p : ℕ) × (contains p (pods_in (book_of n c)) ≡ true) × (address_in (book_of n c) p ≡ Some a) → IsTaken n c a
+      by : (p : ℕ) × (contains p (pods_in (book_of n c)) ≡ true) × (address_in (book_of n c) p ≡ Some a) → IsAddressTaken n c a
       by (p, there, has) = (p, rw (k.pods) at there, address_kept n c p z ∙ has)
 
   -- ---- a new pod, and who waits
 
   pub least_is_free : (s : Spec) (n : ℕ) (c : Trace) (o : Option ℕ) → IsMade s c → (n == 0) ≡ false → o ≡ least_free n (book_of n c) → IsLeastFree n c o
   least_is_free s n c o made z is = record {
-    free = λ a e. let within = first.within a (sym is ∙ e) in let less : a < 0 + n = within.1 in (omega arith, λ (taker : IsTaken n c a). nobody a e taker);
+    free = λ a e. let within = first.within a (sym is ∙ e) in let less : a < 0 + n = within.1 in (omega arith, λ (taker : IsAddressTaken n c a). nobody a e taker);
     lower = λ a e x less. taken_there s n c x made z (not-false (contains x (taken b)) (first.lower a (sym is ∙ e) x (omega arith) less));
     none = λ e x less. taken_there s n c x made z (not-false (contains x (taken b)) (first.none (sym is ∙ e) x (omega arith) (omega arith)));
   }
@@ -139,7 +139,7 @@ module _ (facts : Facts) (views : Views) where
       first : IsFirst (is_free b) 0 n (least_free n b)
       first = least n b
 
-      nobody : (a : ℕ) → o ≡ Some a → IsTaken n c a → ⊥
+      nobody : (a : ℕ) → o ≡ Some a → IsAddressTaken n c a → ⊥
       nobody a e (p, there, has) =
           let yes = address_member b p a (sym (address_kept n c p z) ∙ has) in
           let free = not-true (contains a (taken b)) (first.passes a (sym is ∙ e)) in
@@ -173,7 +173,7 @@ module _ (facts : Facts) (views : Views) where
       by true z = absurd (let is = address_number n c p z in cc)
       by false z = (waiter (book_of n c) p (listed s n c p true made live) (sym (address_kept n c p z) ∙ none), z)
 
-  pub waits : (s : Spec) (n : ℕ) (c : Trace) (p : ℕ) → IsMade s c → contains p (live_pods c) ≡ true → address_of n c p ≡ None → (a : ℕ) → a < n → IsTaken n c a
+  pub waits : (s : Spec) (n : ℕ) (c : Trace) (p : ℕ) → IsMade s c → contains p (live_pods c) ≡ true → address_of n c p ≡ None → (a : ℕ) → a < n → IsAddressTaken n c a
   waits s n c p made live none a less =
       let w = full s n c p made live none in
       taken_there s n c a made w.1 ((is_book facts views s n c made).sound.full w.0 a less)

@@ -11,8 +11,8 @@ abbrev pub IsLive : Trace → ℕ → Type 0
 IsLive c p = contains p (live_pods c) ≡ true
 
 -- two live pods with one address are one pod
-abbrev pub AreApart : ℕ → Trace → Type 0
-AreApart n c = (p q a : ℕ) → IsLive c p → IsLive c q → p ≢ q → address_of n c p ≡ Some a → address_of n c q ≢ Some a
+abbrev pub HaveOwnAddresses : ℕ → Trace → Type 0
+HaveOwnAddresses n c = (p q a : ℕ) → IsLive c p → IsLive c q → p ≢ q → address_of n c p ≡ Some a → address_of n c q ≢ Some a
 
 -- an address is one of those that there are
 abbrev pub AreThere : ℕ → Trace → Type 0
@@ -27,14 +27,14 @@ abbrev pub Stay : ℕ → Trace → Trace → Type 0
 Stay n c more = (p a : ℕ) → IsLive c p → IsLive (c ++ more) p → address_of n c p ≡ Some a → address_of n (c ++ more) p ≡ Some a
 
 -- some live pod has the address
-abbrev pub IsTaken : ℕ → Trace → ℕ → Type 0
-IsTaken n c a = (p : ℕ) × IsLive c p × (address_of n c p ≡ Some a)
+abbrev pub IsAddressTaken : ℕ → Trace → ℕ → Type 0
+IsAddressTaken n c a = (p : ℕ) × IsLive c p × (address_of n c p ≡ Some a)
 
 -- the least of n addresses that no live pod has; none where each is some pod's
 pub record IsLeastFree (n : ℕ) (c : Trace) (least : Option ℕ) : Type 0 where
-  pub free : (a : ℕ) → least ≡ Some a → (a < n) × ¬ IsTaken n c a
-  pub lower : (a : ℕ) → least ≡ Some a → (b : ℕ) → b < a → IsTaken n c b
-  pub none : least ≡ None → (b : ℕ) → b < n → IsTaken n c b
+  pub free : (a : ℕ) → least ≡ Some a → (a < n) × ¬ IsAddressTaken n c a
+  pub lower : (a : ℕ) → least ≡ Some a → (b : ℕ) → b < a → IsAddressTaken n c b
+  pub none : least ≡ None → (b : ℕ) → b < n → IsAddressTaken n c b
 
 -- a pod that the entry creates gets that one
 abbrev pub GetsLeast : ℕ → Trace → Entry → Type 0
@@ -42,7 +42,7 @@ GetsLeast n c e = (p : ℕ) → n ≢ 0 → created_by e.row ≡ Some p → IsLe
 
 -- while a pod waits no address is free
 abbrev pub WaitInNeed : ℕ → Trace → Type 0
-WaitInNeed n c = (p : ℕ) → IsLive c p → address_of n c p ≡ None → (a : ℕ) → a < n → IsTaken n c a
+WaitInNeed n c = (p : ℕ) → IsLive c p → address_of n c p ≡ None → (a : ℕ) → a < n → IsAddressTaken n c a
 
 -- so none waits where there are as many addresses as live pods, or more
 abbrev pub AreEnough : ℕ → Trace → Type 0

@@ -8,7 +8,7 @@ ghost use Rattle.kn_trace.specs.Laws.{IsSettled};
 ghost use Rattle.kn_trace.specs.Trace.{Trace, live_pods};
 ghost use Rattle.kn_record.specs.Made.{IsMade};
 ghost use Rattle.kn_book.specs.Book.{address_of, book_of, call_address, pods_in};
-ghost use Rattle.kn_book.specs.Laws.{AreApart, AreEnough, AreThere, GetsLeast, GoWithPods, ProbesTheNext, Stay, WaitInNeed, WaitInTurn};
+ghost use Rattle.kn_book.specs.Laws.{HaveOwnAddresses, AreEnough, AreThere, GetsLeast, GoWithPods, ProbesTheNext, Stay, WaitInNeed, WaitInTurn};
 ghost use Rattle.kn_book.specs.State.{HasRoom, HasRoomNext, state_of};
 
 use kn_laws::laws::step_laws;
@@ -23,7 +23,7 @@ use kn_sizes::sizes::size_laws;
 /// Starting pod is the next to probe, or no other is. Without addresses a pod's number is its address.
 pub fn book_laws()
     ensures pods { (s : Spec) (n : ℕ) (c : Trace) → IsMade s c → pods_in (book_of n c) ≡ live_pods c }
-    ensures apart { (s : Spec) (n : ℕ) (c : Trace) → IsMade s c → AreApart n c }
+    ensures apart { (s : Spec) (n : ℕ) (c : Trace) → IsMade s c → HaveOwnAddresses n c }
     ensures range { (s : Spec) (n : ℕ) (c : Trace) → IsMade s c → AreThere n c }
     ensures gone { (s : Spec) (n : ℕ) (c : Trace) → IsMade s c → GoWithPods n c }
     ensures kept { (s : Spec) (n : ℕ) (c more : Trace) → IsMade s (c ++ more) → Stay n c more }

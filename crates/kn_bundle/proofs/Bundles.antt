@@ -1,10 +1,10 @@
 -- The journals of a bundle, one after the other.
 use Rattle.std.proofs.Common.{◌≡◌, ◌+◌, ◌-◌, ◌≤◌, ℕ, suc, Bool, true, false, List, [], ◌∷◌, ◌++◌, length, length-append, append_assoc, append-nil, refl, sym, ap, ◌∙◌, arith}
 use Rattle.std.specs.Prelude.{Option, None, Some, Result, Ok, Err, if◌then◌else◌}
+use Rattle.kn_preamble.specs.First.{version_of}
 use Rattle.kn_journal.specs.declared.journal.Journal.{Journal}
 use Rattle.kn_journal.specs.Bundle.{first_of_part, version_of_in}
 use Rattle.kn_journal.specs.Causes.{Cause, line_too_long}
-use Rattle.kn_journal.specs.Journal.{version_of}
 use Rattle.kn_journal.specs.Lines.{fits, lines}
 use Rattle.kn_journal.specs.Parts.{Part, part}
 use Rattle.kn_bundle.specs.Bundle.{Bundle, Stage, bundle, bundle_by, bundle_of_lines, bundle_on, from_first, journal_in, no_journal, with_journals}

@@ -6,7 +6,8 @@ use Rattle.kn_event.specs.declared.event.Event.{Event}
 use Rattle.kn_event.specs.EventLine.{event_of}
 use Rattle.kn_journal.specs.Bundle.{next_of_part}
 use Rattle.kn_journal.specs.Causes.{Cause, line_too_long, no_end}
-use Rattle.kn_journal.specs.Journal.{event_in, in_time}
+use Rattle.kn_journal.specs.Journal.{in_time}
+use Rattle.kn_journal.specs.Series.{item_in}
 use Rattle.kn_journal.specs.Lines.{fits, lines}
 use Rattle.kn_journal.specs.Parts.{Part, part}
 use Rattle.kn_journal.specs.Telling.{Gives}
@@ -32,7 +33,7 @@ next-line version last n (line ∷ more) x m left h =
     by_tests (fits line) (bytes_eq line (codes "end")) (in_time (n + 1) last (event_of version line)) refl refl refl h
   where
     by_tests : (f d : Bool) (r : Result Event Cause) → fits line ≡ f → bytes_eq line (codes "end") ≡ d → in_time (n + 1) last (event_of version line) ≡ r
-        → (if f then (if d then Ok (part None (n + 1) more) else event_in (n + 1) more r) else Err (line_too_long (n + 1))) ≡ Ok (part x m left)
+        → (if f then (if d then Ok (part None (n + 1) more) else item_in (n + 1) more r) else Err (line_too_long (n + 1))) ≡ Ok (part x m left)
         → IsLine version last n (line ∷ more) x m left
     by_tests false d r p q s g = cc
     by_tests true true r p q s g =

@@ -22,7 +22,7 @@ use Rattle.kn_cell.specs.Lists.{StartsWith}
 use Rattle.kn_cell.specs.History.{trace_after, clock_after, IsLegal, IsLegalFrom}
 use Rattle.kn_cell.specs.Views.{opening, weight, Has, Passes, Takings}
 use Rattle.kn_cell.specs.Rule.{GoesWith, IsResting, IsTaken, IsKept}
-use Rattle.kn_cell.specs.Shown.{shown, PassView, Closes, IsClosed}
+use Rattle.kn_cell.specs.Shown.{shown, PassView, ClosesCell, IsClosed}
 use Rattle.kn_cell.proofs.ListFacts.{at_same, two_weights}
 use Rattle.kn_cell.proofs.HistoryFacts.{legal-front}
 
@@ -59,7 +59,7 @@ module _ (key : Key) (log : List Past) (views : List View) (id : ℕ) (v : View)
       let h = p.holders n low in
       subst (λ (x : View). Has x n) (at_same views (p.owner n) id h.view v h.there me (only (p.owner n) h.view h.there h.fresh)) h.has
 
-  pub closes_with : (t : TableId) (x : DeskState) → GoesWith key log x → Closes (shown t v) x.revision log
+  pub closes_with : (t : TableId) (x : DeskState) → GoesWith key log x → ClosesCell (shown t v) x.revision log
   closes_with t x goes =
       let mine = p.each id v me fresh in
       let k = sym mine.key_is in
@@ -94,7 +94,7 @@ always_so P law step b h front legal first c s = along_so P law step b.spec b.st
 
 -- what is so of each trace that events made is so of the trace after the whole history
 stays_so : (P : Spec → Trace → Type 0) → ((s : Spec) (start clock count : ℕ) (c : Trace) → IsMadeBy s start clock count c → P s c)
-    → (p : PassView) (r : RevisionState) (h : List Past) → Closes p r h → (c : Trace) → StandsFor p.opening c → P p.opening.spec (trace_after p.opening.spec c h)
+    → (p : PassView) (r : RevisionState) (h : List Past) → ClosesCell p r h → (c : Trace) → StandsFor p.opening c → P p.opening.spec (trace_after p.opening.spec c h)
 stays_so P law p r h k c s =
     let d = trace_after p.opening.spec c h in
     subst (λ q. P q d) k.spec (law r.spec r.start r.clock r.events d (k.stands c s).events)
@@ -116,7 +116,7 @@ module _ (lawful : (s : Spec) (start clock count : ℕ) (c : Trace) → IsMadeBy
       let count = goes.count in
       let lasting = ap (λ (k : Key). k.lasting) (p.each id v me fresh).key_is in
       let history = goes.front ++ x.history in
-      let k : Closes s x.revision history = subst (λ l. Closes s x.revision l) goes.whole (closes_with key log views id v p me fresh all t x goes) in
+      let k : ClosesCell s x.revision history = subst (λ l. ClosesCell s x.revision l) goes.whole (closes_with key log views id v p me fresh all t x goes) in
       record {
         front = goes.front;
         plain = λ no. none_in goes.front (goes.count ∙ goes.plain (sym lasting ∙ no));

@@ -11,7 +11,7 @@ use Rattle.kn_cell.specs.History.{IsInBounds}
 use Rattle.kn_cell.specs.State.{DeskState}
 use Rattle.kn_cell.specs.Rule.{Learns, without_turn}
 use Rattle.kn_cell.specs.Turns.{WaitsForTurn, RecordsRow, Overflows, row_of}
-use Rattle.kn_cell.specs.Shown.{shown, Looks, Adds, Misfits}
+use Rattle.kn_cell.specs.Shown.{shown, Looks, RecordsLast, Misfits}
 use Rattle.kn_cell.proofs.ListFacts.{longer}
 use Rattle.kn_cell.proofs.HistoryFacts.{Each-one, rows_by-own}
 
@@ -56,10 +56,10 @@ looks_recorded t v act time told m w got r =
     looks_more t v got.log got.taken got.missed act time told w got.later got.alone got.learns (subst (λ (x : View). RecordsRow x act time told w) got.view_is r)
 
 adds_more : (t : TableId) (v : View) (log : List Past) (taken k : ℕ) (act : Act) (time : ℕ) (told : Told) (w : Me DeskState View) → Learns v log taken
-    → RecordsRow (waited v log taken k) act time told w → Adds (shown t v) act time told (shown t w.0)
+    → RecordsRow (waited v log taken k) act time told w → RecordsLast (shown t v) act time told (shown t w.0)
 adds_more t v log taken k act time told w l r =
     let row = row_of (waited v log taken k) act time told in
-    subst (λ (x : Me DeskState View). Adds (shown t v) act time told (shown t x.0)) (sym r.after_is)
+    subst (λ (x : Me DeskState View). RecordsLast (shown t v) act time told (shown t x.0)) (sym r.after_is)
     record {
       front = log;
       row = row;
@@ -71,7 +71,7 @@ adds_more t v log taken k act time told w l r =
     }
 
 pub adds_recorded : (t : TableId) (v : View) (act : Act) (time : ℕ) (told : Told) (m w : Me DeskState View) → WaitsForTurn v m → RecordsRow m.0 act time told w
-    → Adds (shown t v) act time told (shown t w.0)
+    → RecordsLast (shown t v) act time told (shown t w.0)
 adds_recorded t v act time told m w got r =
     adds_more t v got.log got.taken got.missed act time told w got.learns (subst (λ (x : View). RecordsRow x act time told w) got.view_is r)
 

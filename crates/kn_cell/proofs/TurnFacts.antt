@@ -19,10 +19,10 @@ use Rattle.kn_cell.specs.declared.view.View.{View}
 use Rattle.kn_cell.specs.Counted.{AreFiguresAt}
 use Rattle.kn_cell.specs.History.{made_by, trace_after, clock_after, room_for, IsInBounds, IsLegal, past}
 use Rattle.kn_cell.specs.State.{DeskState}
-use Rattle.kn_cell.specs.Desk.{Applies, Refuses, event_at, time_at, left_at}
+use Rattle.kn_cell.specs.Desk.{Applies, IsTooSmall, event_by_clock, time_at, left_at}
 use Rattle.kn_cell.specs.Views.{opening, IsBounded}
 use Rattle.kn_cell.specs.Rule.{GoesWith, GetsTurn, Misses, last_row, missed_one, recorded}
-use Rattle.kn_cell.specs.Turns.{HasTurn, WaitsForTurn, Overflows, row_of, room_of, trace_of}
+use Rattle.kn_cell.specs.Turns.{HasTurn, WaitsForTurn, Overflows, row_of, room_of, trace_seen}
 use Rattle.kn_cell.proofs.Counting.{made_by-one}
 use Rattle.kn_cell.proofs.TakenMoves.{taken_within, last_row-one}
 use Rattle.kn_cell.proofs.TurnMoves.{first_or}
@@ -80,7 +80,7 @@ pub record GoesOn (v : View) (act : Act) (time : ℕ) (told : Told) (y : DeskSta
   pub goes : GoesWith v.key (v.seen ++ row_of v act time told ∷ []) y
   pub gone : v.gone ≡ y.taken
   pub bounds : IsInBounds (row_of v act time told).event
-  pub need : (c : Trace) → StandsFor (opening v.key) c → need_of (trace_of v c) act ≤ room_of v (count_live (trace_of v c))
+  pub need : (c : Trace) → StandsFor (opening v.key) c → need_of (trace_seen v c) act ≤ room_of v (count_live (trace_seen v c))
 
 pub applied : (v : View) (x : DeskState) (act : Act) (time : ℕ) (told : Told) (y : DeskState) → IsBounded v.key → GoesWith v.key v.seen x → v.gone ≡ x.taken
     → IsLegal (opening v.key) v.seen → Applies x v.number act time told y → GoesOn v act time told y
@@ -88,15 +88,15 @@ applied v x act time told y bounded goes gone legal a =
     let h = v.seen in
     let b = opening v.key in
     let p = row_of v act time told in
-    let row' : y.history ≡ x.history ++ p ∷ [] = a.row ∙ ap (λ (k : ℕ). x.history ++ past v.number (event_at k time act) told ∷ []) goes.clock in
+    let row' : y.history ≡ x.history ++ p ∷ [] = a.row ∙ ap (λ (k : ℕ). x.history ++ past v.number (event_by_clock k time act) told ∷ []) goes.clock in
     let order : clock_after b.clock h ≤ time_at (clock_after b.clock h) time = subst (λ k. k ≤ time_at k time) goes.clock a.order in
     let answer : (c : Trace) → StandsFor b c → told ≡ told_of b.spec (trace_after b.spec c h) p.event =
-    (λ c s. subst (λ k. told ≡ told_of b.spec (trace_after b.spec c h) (event_at k time act)) goes.clock
-    (subst (λ q. told ≡ told_of q (trace_after b.spec c h) (event_at x.revision.clock time act)) goes.spec (a.answer (trace_after b.spec c h) (goes.stands c s)))) in
+    (λ c s. subst (λ k. told ≡ told_of b.spec (trace_after b.spec c h) (event_by_clock k time act)) goes.clock
+    (subst (λ q. told ≡ told_of q (trace_after b.spec c h) (event_by_clock x.revision.clock time act)) goes.spec (a.answer (trace_after b.spec c h) (goes.stands c s)))) in
     let stands : (c : Trace) → StandsFor b c → StandsFor y.revision (trace_after b.spec c (h ++ p ∷ [])) =
     (λ c s. subst (StandsFor y.revision) (sym (trace_after-one b.spec c h p))
-    (subst (λ k. StandsFor y.revision (trace_after b.spec c h ++ react b.spec (trace_after b.spec c h) (event_at k time act))) goes.clock
-    (subst (λ q. StandsFor y.revision (trace_after b.spec c h ++ react q (trace_after b.spec c h) (event_at x.revision.clock time act))) goes.spec
+    (subst (λ k. StandsFor y.revision (trace_after b.spec c h ++ react b.spec (trace_after b.spec c h) (event_by_clock k time act))) goes.clock
+    (subst (λ q. StandsFor y.revision (trace_after b.spec c h ++ react q (trace_after b.spec c h) (event_by_clock x.revision.clock time act))) goes.spec
     (a.stands (trace_after b.spec c h) (goes.stands c s))))) in
     let len = length-append h (p ∷ []) in
     let events = a.events in
@@ -121,21 +121,21 @@ applied v x act time told y bounded goes gone legal a =
         addresses = a.addresses ∙ goes.addresses;
         book = λ c s.
             subst (IsBookOf y.book) (sym (trace_after-one b.spec c h p))
-            (subst (λ k. IsBookOf y.book (trace_after b.spec c h ++ react b.spec (trace_after b.spec c h) (event_at k time act))) goes.clock
-            (subst (λ q. IsBookOf y.book (trace_after b.spec c h ++ react q (trace_after b.spec c h) (event_at x.revision.clock time act))) goes.spec
+            (subst (λ k. IsBookOf y.book (trace_after b.spec c h ++ react b.spec (trace_after b.spec c h) (event_by_clock k time act))) goes.clock
+            (subst (λ q. IsBookOf y.book (trace_after b.spec c h ++ react q (trace_after b.spec c h) (event_by_clock x.revision.clock time act))) goes.spec
             (a.book (trace_after b.spec c h) (goes.stands c s) (goes.book c s))));
         tally = λ c s.
             subst (IsTallyOf y.tally) (sym (made_by-one b.spec c h p))
-            (subst (λ k. IsTallyOf y.tally (made_by b.spec c h ++ react b.spec (trace_after b.spec c h) (event_at k time act))) goes.clock
-            (subst (λ q. IsTallyOf y.tally (made_by b.spec c h ++ react q (trace_after b.spec c h) (event_at x.revision.clock time act))) goes.spec
+            (subst (λ k. IsTallyOf y.tally (made_by b.spec c h ++ react b.spec (trace_after b.spec c h) (event_by_clock k time act))) goes.clock
+            (subst (λ q. IsTallyOf y.tally (made_by b.spec c h ++ react q (trace_after b.spec c h) (event_by_clock x.revision.clock time act))) goes.spec
             (a.tally (trace_after b.spec c h) (made_by b.spec c h) (goes.stands c s) (goes.tally c s))));
       };
       gone = gone ∙ sym a.taken;
-      bounds = subst (λ k. IsInBounds (event_at k time act)) goes.clock a.bounds;
-      need = λ c s. subst (λ n. need_of (trace_of v c) act ≤ n) (left_is v x (count_live (trace_of v c)) bounded goes gone) (a.need (trace_of v c) (goes.stands c s));
+      bounds = subst (λ k. IsInBounds (event_by_clock k time act)) goes.clock a.bounds;
+      need = λ c s. subst (λ n. need_of (trace_seen v c) act ≤ n) (left_is v x (count_live (trace_seen v c)) bounded goes gone) (a.need (trace_seen v c) (goes.stands c s));
     }
 
-pub refused : (v : View) (x : DeskState) (act : Act) (full : Full) → IsBounded v.key → GoesWith v.key v.seen x → v.gone ≡ x.taken → Refuses x act full
+pub refused : (v : View) (x : DeskState) (act : Act) (full : Full) → IsBounded v.key → GoesWith v.key v.seen x → v.gone ≡ x.taken → IsTooSmall x act full
     → Overflows v act full
 refused v x act full bounded goes gone r =
     let within = taken_within v.key v.seen x goes in
@@ -143,8 +143,8 @@ refused v x act full bounded goes gone r =
     record {
       room = r.room ∙ goes.room;
       used = omega arith;
-      live = λ c s. r.live (trace_of v c) (goes.stands c s);
-      short = λ c s. subst (λ n. n < need_of (trace_of v c) act) (left_is v x (count_live (trace_of v c)) bounded goes gone) (r.short (trace_of v c) (goes.stands c s));
+      live = λ c s. r.live (trace_seen v c) (goes.stands c s);
+      short = λ c s. subst (λ n. n < need_of (trace_seen v c) act) (left_is v x (count_live (trace_seen v c)) bounded goes gone) (r.short (trace_seen v c) (goes.stands c s));
     }
 
 -- the seat after the row was counted
@@ -175,7 +175,7 @@ pub figures_seen : (v : View) (x : DeskState) (f : Figures) → GoesWith v.key v
     → ((c counted : Trace) → StandsFor x.revision c → IsTallyOf x.tally counted → IsFiguresOf x.revision.spec c counted (x.taken + length x.history) x.taken f) → AreFiguresAt v f
 figures_seen v x f goes gone of c s =
     let counted = made_by (opening v.key).spec c v.seen in
-    subst (λ q. IsFiguresOf q (trace_of v c) counted (length v.seen) v.gone f) goes.spec
-    (subst (λ n. IsFiguresOf x.revision.spec (trace_of v c) counted n v.gone f) (taken_within v.key v.seen x goes)
-    (subst (λ n. IsFiguresOf x.revision.spec (trace_of v c) counted (x.taken + length x.history) n f) (sym gone)
-    (of (trace_of v c) counted (goes.stands c s) (goes.tally c s))))
+    subst (λ q. IsFiguresOf q (trace_seen v c) counted (length v.seen) v.gone f) goes.spec
+    (subst (λ n. IsFiguresOf x.revision.spec (trace_seen v c) counted n v.gone f) (taken_within v.key v.seen x goes)
+    (subst (λ n. IsFiguresOf x.revision.spec (trace_seen v c) counted (x.taken + length x.history) n f) (sym gone)
+    (of (trace_seen v c) counted (goes.stands c s) (goes.tally c s))))

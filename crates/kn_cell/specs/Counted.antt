@@ -9,14 +9,14 @@ use Rattle.kn_trace.specs.Trace.{Trace}
 use Rattle.kn_cell.specs.History.{made_by, trace_after}
 use Rattle.kn_cell.specs.Lists.{StartsWith}
 use Rattle.kn_cell.specs.Shown.{PassView}
-use Rattle.kn_cell.specs.Turns.{trace_of}
+use Rattle.kn_cell.specs.Turns.{trace_seen}
 use Rattle.kn_cell.specs.Views.{opening}
 use Rattle.kn_cell.specs.declared.view.View.{View}
 
 -- the figures after all that the view has seen
 abbrev pub AreFiguresAt : View → Figures → Type 0
 AreFiguresAt v f = (c : Trace) → StandsFor (opening v.key) c
-    → IsFiguresOf (opening v.key).spec (trace_of v c) (made_by (opening v.key).spec c v.seen) (length v.seen) v.gone f
+    → IsFiguresOf (opening v.key).spec (trace_seen v c) (made_by (opening v.key).spec c v.seen) (length v.seen) v.gone f
 
 -- of the whole trace, but the rows by their kinds without those that the revision opened with
 abbrev pub AreFiguresOf : PassView → Figures → Type 0

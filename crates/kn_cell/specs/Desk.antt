@@ -17,8 +17,8 @@ use Rattle.kn_cell.specs.State.{DeskState, live_in}
 abbrev pub time_at : ℕ → ℕ → ℕ
 time_at clock time = min (max time clock) (2 ^ 42)
 
-abbrev pub event_at : ℕ → ℕ → Act → Event
-event_at clock time act = record { time = time_at clock time; act = act }
+abbrev pub event_by_clock : ℕ → ℕ → Act → Event
+event_by_clock clock time act = record { time = time_at clock time; act = act }
 
 -- how many rows there is room for, beside so many live requests
 abbrev pub left_at : DeskState → ℕ → ℕ
@@ -32,26 +32,26 @@ emptied x = record x { taken = x.taken + length x.history; history = [] }
 pub record Applies (old : DeskState) (pass : ℕ) (act : Act) (time : ℕ) (told : Told) (new : DeskState) : Type 0 where
   pub room : new.room ≡ old.room
   pub taken : new.taken ≡ old.taken
-  pub row : new.history ≡ old.history ++ past pass (event_at old.revision.clock time act) told ∷ []
+  pub row : new.history ≡ old.history ++ past pass (event_by_clock old.revision.clock time act) told ∷ []
   pub fits : length new.history + live_in new.revision ≤ new.room
   pub few : new.taken + length new.history + live_in new.revision ≤ 2 ^ 53
   pub order : old.revision.clock ≤ time_at old.revision.clock time
-  pub bounds : IsInBounds (event_at old.revision.clock time act)
+  pub bounds : IsInBounds (event_by_clock old.revision.clock time act)
   pub spec : new.revision.spec ≡ old.revision.spec
   pub start : new.revision.start ≡ old.revision.start
   pub clock : new.revision.clock ≡ time_at old.revision.clock time
   pub events : new.revision.events ≡ old.revision.events + 1
-  pub answer : (c : Trace) → StandsFor old.revision c → told ≡ told_of old.revision.spec c (event_at old.revision.clock time act)
-  pub stands : (c : Trace) → StandsFor old.revision c → StandsFor new.revision (c ++ react old.revision.spec c (event_at old.revision.clock time act))
+  pub answer : (c : Trace) → StandsFor old.revision c → told ≡ told_of old.revision.spec c (event_by_clock old.revision.clock time act)
+  pub stands : (c : Trace) → StandsFor old.revision c → StandsFor new.revision (c ++ react old.revision.spec c (event_by_clock old.revision.clock time act))
   pub need : (c : Trace) → StandsFor old.revision c → need_of c act ≤ left_at old (count_live c)
   pub addresses : new.book.addresses ≡ old.book.addresses
   pub book : (c : Trace) → StandsFor old.revision c → IsBookOf old.book c
-      → IsBookOf new.book (c ++ react old.revision.spec c (event_at old.revision.clock time act))
+      → IsBookOf new.book (c ++ react old.revision.spec c (event_by_clock old.revision.clock time act))
   pub tally : (c counted : Trace) → StandsFor old.revision c → IsTallyOf old.tally counted
-      → IsTallyOf new.tally (counted ++ react old.revision.spec c (event_at old.revision.clock time act))
+      → IsTallyOf new.tally (counted ++ react old.revision.spec c (event_by_clock old.revision.clock time act))
 
 -- the room is too small for the act
-pub record Refuses (old : DeskState) (act : Act) (full : Full) : Type 0 where
+pub record IsTooSmall (old : DeskState) (act : Act) (full : Full) : Type 0 where
   pub room : full.room ≡ old.room
   pub used : full.used ≡ length old.history
   pub live : (c : Trace) → StandsFor old.revision c → full.live ≡ count_live c

@@ -21,7 +21,7 @@ use Rattle.kn_cell.specs.declared.view.View.{View}
 use Rattle.kn_cell.specs.Lists.{StartsWith, Each}
 use Rattle.kn_cell.specs.History.{trace_after, clock_after, room_for, IsInBounds, IsLegal, rows_by, past}
 use Rattle.kn_cell.specs.State.{DeskState}
-use Rattle.kn_cell.specs.Desk.{event_at}
+use Rattle.kn_cell.specs.Desk.{event_by_clock}
 use Rattle.kn_cell.specs.Splitting.{gone_of}
 
 pub record PassView : Type 0 where
@@ -103,10 +103,10 @@ abbrev pub left_in : PassView → List Past → ℕ → ℕ
 left_in p front live = room_for p.lasting p.room p.gone (length front) live
 
 -- the row of this act was recorded, last of all that is seen
-pub record Adds (old : PassView) (act : Act) (time : ℕ) (told : Told) (new : PassView) : Type 0 where
+pub record RecordsLast (old : PassView) (act : Act) (time : ℕ) (told : Told) (new : PassView) : Type 0 where
   pub front : List Past
   pub row : Past
-  pub row_is : row ≡ past old.number (event_at (clock_after old.opening.clock front) time act) told
+  pub row_is : row ≡ past old.number (event_by_clock (clock_after old.opening.clock front) time act) told
   pub seen : new.seen ≡ front ++ row ∷ []
   pub mine : new.mine ≡ old.mine ++ row ∷ []
   pub longer : StartsWith front old.seen
@@ -146,7 +146,7 @@ first_lasting t b room passes addresses = record (first_shown t b room passes) {
 
 -- the whole answer of an attempt that does not wait
 abbrev pub Tries : PassView → Act → ℕ → Result Told TryError → PassView → Type 0
-Tries old act time (Ok told) new = Looks old new × Adds old act time told new × (new.missed ≡ old.missed)
+Tries old act time (Ok told) new = Looks old new × RecordsLast old act time told new × (new.missed ≡ old.missed)
 Tries old act time (Err Busy) new = (new ≡ record old { missed = old.missed + 1 }) × (1 + old.free + old.back < old.passes)
 Tries old act time (Err (Full full)) new = Looks old new × Misfits old act full new × (new.missed ≡ old.missed)
 
@@ -182,7 +182,7 @@ abbrev pub IsNumberOf : PassView → ℕ → Type 0
 IsNumberOf p n = (n ≡ p.number) ⊎ ((k : ℕ) × (o : Joined) × (get_elem? p.others k ≡ some o) × (n ≡ o.number))
 
 -- what is left when the last pass closes the cell
-pub record Closes (p : PassView) (revision : RevisionState) (history : List Past) : Type 0 where
+pub record ClosesCell (p : PassView) (revision : RevisionState) (history : List Past) : Type 0 where
   pub legal : IsLegal p.opening history
   pub bounds : Each (λ r. IsInBounds r.event) history
   pub spec : revision.spec ≡ p.opening.spec
@@ -202,7 +202,7 @@ pub record IsClosed (p : PassView) (revision : RevisionState) (rest : List Past)
   pub plain : p.lasting ≡ false → front ≡ []
   pub gone : p.gone ≤ length front
   pub exact : p.scribe ≡ true → length front ≡ p.gone
-  pub closes : Closes p revision (front ++ rest)
+  pub closes : ClosesCell p revision (front ++ rest)
   pub lawful : (c : Trace) → StandsFor p.opening c → IsLawful p.opening.spec (trace_after p.opening.spec c (front ++ rest))
   pub settled : (c : Trace) → StandsFor p.opening c → IsSettled p.opening.spec (trace_after p.opening.spec c (front ++ rest))
   pub always_settled : (c : Trace) (first : List Past) → StandsFor p.opening c → StartsWith (front ++ rest) first

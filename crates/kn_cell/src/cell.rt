@@ -9,7 +9,7 @@ ghost use Rattle.kn_cell.specs.declared.past.Past.{Past};
 ghost use Rattle.kn_cell.specs.Counted.{AreFiguresOf};
 ghost use Rattle.kn_cell.specs.Course.{IsCourseOf};
 ghost use Rattle.kn_cell.specs.History.{MayCome, rows_by, trace_after};
-ghost use Rattle.kn_cell.specs.Shown.{Looks, LooksBy, Adds, Misfits, Tries, new_shown, joined_shown, IsClosed};
+ghost use Rattle.kn_cell.specs.Shown.{Looks, LooksBy, RecordsLast, Misfits, Tries, new_shown, joined_shown, IsClosed};
 
 mod opening;
 
@@ -86,7 +86,7 @@ impl RevisionCell {
         requires cell { pass.old.cell ≡ self.now }
         requires act { MayCome act }
         ensures looks { Looks pass.old pass.new }
-        ensures ok { IfOk result (λ told. Adds pass.old act time told pass.new) }
+        ensures ok { IfOk result (λ told. RecordsLast pass.old act time told pass.new) }
         ensures full { IfErr result (λ full. Misfits pass.old act full pass.new) }
     {
         let board = &self.table.shared;
@@ -168,7 +168,7 @@ impl RevisionCell {
     ) -> Result<(Told, Course), Full>
         requires cell { pass.old.cell ≡ self.now }
         ensures looks { Looks pass.old pass.new }
-        ensures ok { IfOk result (λ x. Adds pass.old (act.Arrive tag) time x.0 pass.new) }
+        ensures ok { IfOk result (λ x. RecordsLast pass.old (act.Arrive tag) time x.0 pass.new) }
         ensures course { IfOk result (λ x. (c : Trace) (r : ℕ) → StandsFor pass.new.opening c → arrival_told x.0 ≡ Some r → IsCourseOf pass.new.book (trace_after pass.new.opening.spec c pass.new.seen) r x.1) }
         ensures full { IfErr result (λ full. Misfits pass.old (act.Arrive tag) full pass.new) }
     {

@@ -8,7 +8,7 @@ ghost use Rattle.kn_core.specs.State.{StandsFor};
 ghost use Rattle.kn_figures.specs.Figures.{IsFiguresOf};
 ghost use Rattle.kn_figures.specs.Tallies.{IsTallyOf};
 ghost use Rattle.kn_cell.specs.History.{MayCome, past};
-ghost use Rattle.kn_cell.specs.Desk.{Applies, Refuses, emptied};
+ghost use Rattle.kn_cell.specs.Desk.{Applies, IsTooSmall, emptied};
 ghost use Rattle.kn_cell.specs.Books.{HasBook};
 ghost use Rattle.kn_cell.specs.State.{live_in};
 
@@ -107,7 +107,7 @@ impl Desk {
         requires events { self.old.revision.events < 2 ^ 54 }
         requires act { MayCome act }
         ensures ok { IfOk result (λ _. Applies self.old pass act time answer.new self.new) }
-        ensures err { IfErr result (λ full. (self.new ≡ self.old) × Refuses self.old act full) }
+        ensures err { IfErr result (λ full. (self.new ≡ self.old) × IsTooSmall self.old act full) }
     {
         history_laws();
         room_laws();

@@ -4,12 +4,12 @@ ghost use Rattle.kn_book.specs.Book.{call_address, next_to_probe};
 ghost use Rattle.kn_core.specs.State.{StandsFor};
 ghost use Rattle.kn_trace.specs.Trace.{Trace, stand_of, proxied, next_starting};
 ghost use Rattle.kn_cell.specs.State.{DeskState};
-ghost use Rattle.kn_cell.specs.Desk.{Applies, Refuses, emptied};
+ghost use Rattle.kn_cell.specs.Desk.{Applies, IsTooSmall, emptied};
 ghost use Rattle.kn_cell.specs.Views.{opening};
 ghost use Rattle.kn_cell.specs.History.{trace_after, MayCome};
 ghost use Rattle.kn_cell.specs.Rule.{without_turn};
 ghost use Rattle.kn_cell.specs.Counted.{AreFiguresAt};
-ghost use Rattle.kn_cell.specs.Turns.{HasTurn, WaitsForTurn, Enters, RecordsRow, Overflows, trace_of};
+ghost use Rattle.kn_cell.specs.Turns.{HasTurn, WaitsForTurn, Enters, RecordsRow, Overflows, trace_seen};
 
 use crate::past::{Full, Past};
 use crate::steps::{AWAITED, Board, Place, TAKEN, give, record, ring_left, take};
@@ -112,7 +112,7 @@ fn apply_at(
     requires act { MayCome act }
     ensures same { (place.new.table_id ≡ place.old.table_id) × (place.new.id ≡ place.old.id) × (place.new.me.0 ≡ place.old.me.0) }
     ensures ok { (x : DeskState) → place.old.me.1 ≡ (0, x) ∷ [] → IfOk result (λ _. (y : DeskState) × (place.new.me.1 ≡ (0, y) ∷ []) × Applies x number act time answer.new y) }
-    ensures err { (x : DeskState) → place.old.me.1 ≡ (0, x) ∷ [] → IfErr result (λ full. (place.new.me.1 ≡ place.old.me.1) × Refuses x act full) }
+    ensures err { (x : DeskState) → place.old.me.1 ≡ (0, x) ∷ [] → IfErr result (λ full. (place.new.me.1 ≡ place.old.me.1) × IsTooSmall x act full) }
 {
     place.slot_mut(board, 0).apply(number, act, time, answer)
 }
@@ -264,7 +264,7 @@ pub fn call_address_at(board: &Board, place: &mut Place, pod: u64) -> u64
     requires same { place.old.table_id ≡ board.now.table_id }
     requires turn { HasTurn place.old.me }
     ensures same { (place.new.table_id ≡ place.old.table_id) × (place.new.id ≡ place.old.id) × (place.new.me ≡ place.old.me) }
-    ensures value { (c : Trace) → StandsFor (opening place.old.me.0.key) c → result ≡ call_address place.old.me.0.key.addresses (trace_of place.old.me.0 c) pod }
+    ensures value { (c : Trace) → StandsFor (opening place.old.me.0.key) c → result ≡ call_address place.old.me.0.key.addresses (trace_seen place.old.me.0 c) pod }
 {
     place.slot_mut(board, 0).call_address(pod)
 }
@@ -284,7 +284,7 @@ pub fn to_probe_at(board: &Board, place: &mut Place, from: u64) -> Option<(u64, 
     requires same { place.old.table_id ≡ board.now.table_id }
     requires turn { HasTurn place.old.me }
     ensures same { (place.new.table_id ≡ place.old.table_id) × (place.new.id ≡ place.old.id) × (place.new.me ≡ place.old.me) }
-    ensures value { (c : Trace) → StandsFor (opening place.old.me.0.key) c → result ≡ next_to_probe place.old.me.0.key.addresses (trace_of place.old.me.0 c) from }
+    ensures value { (c : Trace) → StandsFor (opening place.old.me.0.key) c → result ≡ next_to_probe place.old.me.0.key.addresses (trace_seen place.old.me.0 c) from }
     ensures from { IfSome result (λ x. from ≤ x.0) }
     ensures most { IfSome result (λ x. x.0 < 2 ^ 63) }
 {

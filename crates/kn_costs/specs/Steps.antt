@@ -3,7 +3,7 @@ use Rattle.std.specs.Prelude.{ℕ, ◌*◌, ◌-◌, ◌==◌, List, [], ◌∷�
 use Rattle.std.specs.List.{sum_by}
 use Rattle.kn_event.specs.declared.event.Event.{Event}
 use Rattle.kn_event.specs.declared.revision.Spec.{Spec}
-use Rattle.kn_scaling.specs.Panic.{greatest}
+use Rattle.kn_event.specs.Lists.{greatest}
 use Rattle.kn_trace.specs.Events.{opening, react}
 use Rattle.kn_trace.specs.Report.{is_admit, rows_with}
 use Rattle.kn_trace.specs.Scale.{count_ready}

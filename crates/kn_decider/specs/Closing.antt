@@ -1,7 +1,6 @@
 -- What the seconds that closed make of the samples.
-use Rattle.std.specs.Prelude.{ℕ, ◌+◌, ◌*◌, ◌^◌, ◌<◌, ◌≤◌, nat_lt, Option, None, Some, IfSome, if◌then◌else◌}
+use Rattle.std.specs.Prelude.{ℕ, ◌+◌, ◌^◌, ◌<◌, ◌≤◌, nat_lt, Option, None, Some, IfSome, if◌then◌else◌}
 use Rattle.kn_event.specs.declared.revision.Metric.{Metric}
-use Rattle.kn_event.specs.declared.revision.Metric.TheVariants as metric
 use Rattle.kn_scaling.specs.Average.{Samples, value_of, with_run}
 use Rattle.kn_scaling.specs.Worked.{run_of}
 use Rattle.kn_stats.specs.declared.closed.Closed.{Closed}

@@ -1,5 +1,5 @@
 -- Words of lists and of options that all layers share.
-use Rattle.std.specs.Prelude.{◌==◌, ◌<◌, ℕ, Bool, false, List, length, slice_index_or, Option, None, Some}
+use Rattle.std.specs.Prelude.{◌==◌, ◌<◌, ℕ, Bool, false, max, List, [], ◌∷◌, length, slice_index_or, Option, None, Some}
 use Rattle.std.specs.List.{list_any}
 
 -- whether the number is in the list
@@ -19,3 +19,8 @@ or_else (Some x) other = Some x
 -- each member has it
 abbrev pub EachIs : {A : Type 0} → (A → Type 0) → List A → Type 0
 EachIs {A} P xs = (i : ℕ) (d : A) → i < length xs → P (slice_index_or xs i d)
+
+-- 0 where there is none
+abbrev pub greatest : List ℕ → ℕ
+greatest [] = 0
+greatest (n ∷ ns) = max n (greatest ns)

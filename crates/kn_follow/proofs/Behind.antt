@@ -2,7 +2,7 @@
 use Rattle.std.proofs.Common.{◌≡◌, ◌+◌, ℕ, List, ◌++◌, length, length-append, append_assoc, arith, refl, sym, ap, ◌∙◌, subst, inl, inr}
 use Rattle.std.specs.Prelude.{Option, None, Some, Ok, Err}
 use Rattle.kn_event.specs.declared.event.Event.{Event}
-use Rattle.kn_journal.specs.declared.first.FirstLine.TheVariants.{Journal as JournalLine}
+use Rattle.kn_preamble.specs.declared.first.FirstLine.TheVariants.{Journal as JournalLine}
 use Rattle.kn_journal.specs.declared.error.JournalError.{JournalError}
 use Rattle.kn_journal.specs.declared.error.JournalError.TheVariants as error
 use Rattle.kn_journal.specs.declared.journal.Opening.{Opening}
@@ -11,7 +11,8 @@ use Rattle.kn_journal.specs.declared.status.Status.{Status}
 use Rattle.kn_journal.specs.Causes.{Cause}
 use Rattle.kn_journal.specs.Lines.{lines}
 use Rattle.kn_journal.specs.Parts.{IsWhole, part}
-use Rattle.kn_journal.specs.Journal.{Read, Verdict, bad, from_read, journal_of, next_part, none_read, opening_part, read_events, start_part, verdict_of_lines}
+use Rattle.kn_journal.specs.Journal.{Verdict, bad, from_read, journal_of, next_part, opening_part, read_events, start_part, verdict_of_lines}
+use Rattle.kn_journal.specs.Series.{Read, none_read}
 use Rattle.kn_journal.specs.Telling.{Gives, IsLineFault, LeavesRest, refused_line}
 use Rattle.kn_follow.specs.Endings.{IsBehind, IsRefusal, Stops, line_of, refusal_of, status_by, status_of}
 use Rattle.kn_follow.specs.Following.{FollowsBehind, Opens}
@@ -122,7 +123,7 @@ goes_behind version last number (Some xs) es time m (Some ys) (Some zs) e result
       own,
       h.split ∙ ap (λ (y : List (List ℕ)). h.own ++ y) split ∙ sym (append_assoc h.own more (lines zs)),
       ap line_of same ∙ line_named None (number + length own) e (no_first (number + length own)) (named ∙ ap (λ (x : ℕ). Some x) count),
-      ap (λ (r : Read). status_by r.refused) read ∙ ap status_of is ∙ sym same,
+      ap (λ (r : Read Event). status_by r.refused) read ∙ ap status_of is ∙ sym same,
     )
 
 -- ---- the whole

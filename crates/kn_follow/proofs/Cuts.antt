@@ -17,7 +17,8 @@ use Rattle.kn_journal.specs.Lines.{fits, lines}
 use Rattle.kn_journal.specs.Parts.{part}
 use Rattle.kn_journal.specs.declared.journal.Opening.{Opening}
 use Rattle.kn_journal.specs.declared.journal.Setup.{Setup}
-use Rattle.kn_journal.specs.Journal.{Read, bad, end_part, event_in, from_read, in_time, journal_of, next_part, read_events, time_most, verdict_of_lines}
+use Rattle.kn_journal.specs.Journal.{bad, from_read, in_time, journal_of, next_part, read_events, time_most, verdict_of_lines}
+use Rattle.kn_journal.specs.Series.{Read, end_part, item_in}
 use Rattle.kn_journal.specs.Reading.{IsOver, TakesPart, TakesText}
 use Rattle.kn_journal.specs.Telling.{Gives, IsLineFault, LeavesRest, Refuses, TakesEnd, refused_line}
 use Rattle.kn_journal.specs.Texts.{TextLaws}
@@ -72,11 +73,11 @@ end_near n line (l ∷ ls) cause h = by_fit (fits l) refl h
     by_fit true p g = near_is n (line ∷ l ∷ ls) (after_end (n + 1 + 1)) cause _ refl g (inr (tt, n + 1 + 1, refl, omega arith))
     by_fit false p g = inl (λ left. soon_more line (l ∷ ls) left (inr p))
 
-in_near : (n last : ℕ) (all more : List (List ℕ)) (r : Result Event LineError) (cause : Cause) → event_in (n + 1) more (in_time (n + 1) last r) ≡ Err cause → IsNear n all cause
+in_near : (n last : ℕ) (all more : List (List ℕ)) (r : Result Event LineError) (cause : Cause) → item_in (n + 1) more (in_time (n + 1) last r) ≡ Err cause → IsNear n all cause
 in_near n last all more (Err why) cause h = near_is n all (bad_line (n + 1) why) cause _ refl h (inr (tt, n + 1, refl, omega arith))
 in_near n last all more (Ok e) cause h = by_times (nat_le e.time time_most) (nat_le last e.time) h
   where
-    by_times : (f d : Bool) → event_in (n + 1) more (if f then (if d then Ok e else Err (time_back (n + 1) last e.time)) else Err (time_too_large (n + 1))) ≡ Err cause → IsNear n all cause
+    by_times : (f d : Bool) → item_in (n + 1) more (if f then (if d then Ok e else Err (time_back (n + 1) last e.time)) else Err (time_too_large (n + 1))) ≡ Err cause → IsNear n all cause
     by_times true true g = cc
     by_times true false g = near_is n all (time_back (n + 1) last e.time) cause _ refl g (inr (tt, n + 1, refl, omega arith))
     by_times false d g = near_is n all (time_too_large (n + 1)) cause _ refl g (inr (tt, n + 1, refl, omega arith))
@@ -87,7 +88,7 @@ next_near version last n [] cause h = inl (λ left. soon_none [] left tt)
 next_near version last n (line ∷ more) cause h = by_tests (fits line) (bytes_eq line (codes "end")) refl h
   where
     by_tests : (f d : Bool) → fits line ≡ f
-        → (if f then (if d then end_part (n + 1) more else event_in (n + 1) more (in_time (n + 1) last (event_of version line))) else Err (line_too_long (n + 1))) ≡ Err cause
+        → (if f then (if d then end_part (n + 1) more else item_in (n + 1) more (in_time (n + 1) last (event_of version line))) else Err (line_too_long (n + 1))) ≡ Err cause
         → IsNear n (line ∷ more) cause
     by_tests false d p g = inl (λ left. soon_none (line ∷ more) left p)
     by_tests true true p g = end_near n line more cause g
@@ -262,7 +263,7 @@ has_begun xs ys version setup start number own rest es whole begin h split read 
       split = a.split ∙ ap (λ (y : List (List ℕ)). a.own ++ y) after ∙ sym (append_assoc a.own behind rest);
       reads =
           lines_read (a.own ++ behind) version setup start h.at number behind own (a.alone behind) (b.alone own)
-          ∙ ap (λ (r : Read). from_read version setup start r) read;
+          ∙ ap (λ (r : Read Event). from_read version setup start r) read;
     }
 
 -- what is written of the start was not all written

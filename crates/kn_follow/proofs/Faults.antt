@@ -6,7 +6,7 @@ use Rattle.kn_event.specs.declared.event.Event.{Event}
 use Rattle.kn_io.specs.Prefix.{AppendsPrefix}
 use Rattle.kn_journal.specs.declared.error.JournalError.{JournalError}
 use Rattle.kn_journal.specs.declared.error.JournalError.TheVariants as error
-use Rattle.kn_journal.specs.declared.first.FirstLine.TheVariants.{Journal as JournalLine}
+use Rattle.kn_preamble.specs.declared.first.FirstLine.TheVariants.{Journal as JournalLine}
 use Rattle.kn_journal.specs.declared.journal.Journal.{Journal}
 use Rattle.kn_journal.specs.declared.journal.Opening.{Opening}
 use Rattle.kn_journal.specs.declared.journal.Setup.{Setup}
@@ -15,7 +15,8 @@ use Rattle.kn_journal.specs.declared.status.Status.TheVariants as status
 use Rattle.kn_journal.specs.Causes.{Cause, error_of, no_end}
 use Rattle.kn_journal.specs.Lines.{lines}
 use Rattle.kn_journal.specs.Parts.{part}
-use Rattle.kn_journal.specs.Journal.{Read, Verdict, bad, from_read, journal_of, next_part, opening_part, read_events, start_part, verdict, verdict_of_lines}
+use Rattle.kn_journal.specs.Journal.{Verdict, bad, from_read, journal_of, next_part, opening_part, read_events, start_part, verdict, verdict_of_lines}
+use Rattle.kn_journal.specs.Series.{Read}
 use Rattle.kn_journal.specs.Reading.{AreWhole, EndsWithLf, IsCutOff, IsOver, TakesPart, TakesText, most_taken}
 use Rattle.kn_journal.specs.Telling.{Gives, Refuses, StopsAmid, TakesEnd}
 use Rattle.kn_journal.specs.Texts.{TextLaws}
@@ -86,7 +87,7 @@ over_of false text ys h = tt
 
 -- ---- the source failed
 
-fault_ends : AddingLaws → (first : Bool) (version : ℕ) (w : Manner) (run : Run) (last number : ℕ) (xs : List ℕ) (left : Option (List ℕ)) (waiting now : List ℕ) (old mid new : Option (List ℕ)) (es : List Event) (r : Read) (refused : Option Cause) (result : Status)
+fault_ends : AddingLaws → (first : Bool) (version : ℕ) (w : Manner) (run : Run) (last number : ℕ) (xs : List ℕ) (left : Option (List ℕ)) (waiting now : List ℕ) (old mid new : Option (List ℕ)) (es : List Event) (r : Read Event) (refused : Option Cause) (result : Status)
     → read_events version last number (lines xs) ≡ with_events es r
     → BreaksIn first version last number xs left (record { events = es; refused = refused })
     → Adds old mid waiting now (told w run es) → Stops now mid new status.ReadFault result
@@ -260,7 +261,7 @@ ended_after laws over text ys more cut (inl (none, uncut)) = laws.ends_still tex
 ended_after laws over text ys more cut (inr ends) = laws.ends text more ends
 
 -- what was read behind a start is read of the whole
-breaks_amid : (laws : TextLaws) (xs text ys : List ℕ) (over : Bool) (version : ℕ) (setup : Setup) (start number : ℕ) (left : Option (List ℕ)) (read : Read) → AreOpenings → AreStarts
+breaks_amid : (laws : TextLaws) (xs text ys : List ℕ) (over : Bool) (version : ℕ) (setup : Setup) (start number : ℕ) (left : Option (List ℕ)) (read : Read Event) → AreOpenings → AreStarts
     → Opened (lines xs) version setup start number (lines ys) → xs ≡ text ++ ys → IsCutOff over text ys → BreaksIn over version start number ys left read
     → BreaksAmid xs left (journal_of version setup start read.events)
 breaks_amid laws xs text ys over version setup start number left read are begin h split cut breaks =

@@ -10,7 +10,8 @@ use Rattle.kn_journal.specs.declared.status.Status.{Status}
 use Rattle.kn_journal.specs.declared.status.Status.TheVariants as status
 use Rattle.kn_journal.specs.Causes.{Cause, error_of}
 use Rattle.kn_journal.specs.Lines.{lines}
-use Rattle.kn_journal.specs.Journal.{Read, next_part, none_read, read_events}
+use Rattle.kn_journal.specs.Journal.{next_part, read_events}
+use Rattle.kn_journal.specs.Series.{Read, none_read}
 use Rattle.kn_journal.specs.Telling.{Gives}
 use Rattle.kn_journal.specs.Reading.{EndsThere}
 use Rattle.kn_follow.specs.Endings.{Stops, Writes, status_by, status_of}
@@ -44,7 +45,7 @@ pub told-more : (w : Manner) (run : Run) (es : List Event) (e : Event) → told 
 told-more w run es e = told-append w run es (e ∷ []) ∙ ap (λ (z : List ℕ). told w run es ++ z) (told-one w (ran run es) e)
 
 -- what is written of these events, and then of the others
-rest-split : (version : ℕ) (w : Manner) (run : Run) (es : List Event) (r : Read)
+rest-split : (version : ℕ) (w : Manner) (run : Run) (es : List Event) (r : Read Event)
     → (more : List ℕ) × (rest_of_text version w run (with_events es r) ≡ told w run es ++ more)
 unfolding rest_of_text
 rest-split version w run es r =
@@ -110,7 +111,7 @@ follows_end : AddingLaws → (over : Bool) (version : ℕ) (w : Manner) (run : R
     → Follows over version w run last number (Some xs) left waiting old new result
 unfolding rest_of_text
 follows_end adding over version w run last number xs left waiting now old mid new es refused result h adds stops =
-    let P : Read → Type 0 = λ r. Writes (waiting ++ rest_of_text version w run r) (status_by r.refused) (BreaksFollowing over version w run last number xs left waiting) old new result in
+    let P : Read Event → Type 0 = λ r. Writes (waiting ++ rest_of_text version w run r) (status_by r.refused) (BreaksFollowing over version w run last number xs left waiting) old new result in
     subst P (sym h)
     (writes_stop _ (status_by refused) _ old new result (plain_end refused) (stops_after adding old mid new waiting now (told w run es) _ _ result adds stops))
 
@@ -140,11 +141,11 @@ goes_refused adding over version w run last number xs waiting now old mid new es
     (stops_nil now mid new _ result (subst (λ (x : JournalError). Stops now mid new (status_of x) result) (sym is) stops))
 
 -- an event's rows were not all written, or what waited
-pub cut : AddingLaws → (version : ℕ) (w : Manner) (run : Run) (es : List Event) (r : Read) (all : Read) (waiting some : List ℕ) (old new : Option (List ℕ))
+pub cut : AddingLaws → (version : ℕ) (w : Manner) (run : Run) (es : List Event) (r : Read Event) (all : Read Event) (waiting some : List ℕ) (old new : Option (List ℕ))
     → all ≡ with_events es r → AppendsPrefix old new (waiting ++ told w run es) → AppendsPrefix old new (waiting ++ rest_of_text version w run all)
 cut adding version w run es r all waiting some old new h k =
     let split = rest-split version w run es r in
-    let text : told w run es ++ split.0 ≡ rest_of_text version w run all = sym split.1 ∙ ap (λ (x : Read). rest_of_text version w run x) (sym h) in
+    let text : told w run es ++ split.0 ≡ rest_of_text version w run all = sym split.1 ∙ ap (λ (x : Read Event). rest_of_text version w run x) (sym h) in
     subst (λ (z : List ℕ). AppendsPrefix old new (waiting ++ z)) text (adding.behind old new waiting (told w run es) split.0 k)
 
 pub goes_cut : AddingLaws → (over : Bool) (version : ℕ) (w : Manner) (run : Run) (last number : ℕ) (known : Option (List ℕ)) (waiting now : List ℕ) (old mid new : Option (List ℕ)) (es : List Event) (time m : ℕ) (rest : Option (List ℕ)) (e : Event) (n : ℕ) (left last_left : Option (List ℕ))

@@ -6,7 +6,7 @@ use Rattle.std.proofs.KnownBytes.{Appends-nil, Appends-trans}
 use Rattle.kn_io.specs.Prefix.{AppendsPrefix}
 use Rattle.kn_teller.specs.Manner.{Manner, told}
 use Rattle.kn_teller.specs.Run.{Run, begun}
-use Rattle.kn_journal.specs.declared.first.FirstLine.TheVariants.{Journal as JournalLine}
+use Rattle.kn_preamble.specs.declared.first.FirstLine.TheVariants.{Journal as JournalLine}
 use Rattle.kn_journal.specs.declared.error.JournalError.{JournalError}
 use Rattle.kn_journal.specs.declared.error.JournalError.TheVariants as error
 use Rattle.kn_journal.specs.declared.journal.Opening.{Opening}
@@ -16,7 +16,8 @@ use Rattle.kn_journal.specs.declared.status.Status.TheVariants as status
 use Rattle.kn_journal.specs.Causes.{Cause}
 use Rattle.kn_journal.specs.Lines.{lines}
 use Rattle.kn_journal.specs.Parts.{part}
-use Rattle.kn_journal.specs.Journal.{Read, Verdict, bad, from_read, journal_of, opening_part, read_events, start_part, verdict, verdict_of_lines, verdict_on}
+use Rattle.kn_journal.specs.Journal.{Verdict, bad, from_read, journal_of, opening_part, read_events, start_part, verdict, verdict_of_lines, verdict_on}
+use Rattle.kn_journal.specs.Series.{Read}
 use Rattle.kn_journal.specs.Reading.{Ahead, EndsThere, IsSpent, most_taken}
 use Rattle.kn_report.specs.AddingLaws.{AddingLaws}
 use Rattle.kn_follow.specs.Endings.{IsFollowed, Writes, status_of}
@@ -38,7 +39,7 @@ unfolding verdict verdict_of_lines
 opened_verdict xs version setup start number left h = rw h.opening (rw h.begins refl)
 
 -- what is written of a start, and behind it
-pub text_is : (w : Manner) (version : ℕ) (setup : Setup) (start : ℕ) (r : Read)
+pub text_is : (w : Manner) (version : ℕ) (setup : Setup) (start : ℕ) (r : Read Event)
     → text_of (account_of w) (from_read version setup start r) ≡ w.opens (begun setup.spec start) ++ rest_of_text version w (begun setup.spec start) r
 unfolding rest_of_text
 text_is w version setup start r = by_refused r.refused

@@ -7,14 +7,15 @@ use Rattle.kn_event.specs.EventLine.{event_of}
 use Rattle.kn_journal.specs.Causes.{Cause, after_end, line_too_long, no_end}
 use Rattle.kn_journal.specs.Lines.{begins_with_lf, fits, lines, lines_at_lf, onto_first, without_crs}
 use Rattle.kn_journal.specs.Parts.{Part, part, then_part}
-use Rattle.kn_journal.specs.Journal.{Read, end_part, event_in, in_time, next_part, none_read, read_events, with_event}
+use Rattle.kn_journal.specs.Journal.{in_time, next_part, read_events}
+use Rattle.kn_journal.specs.Series.{Read, end_part, item_in, none_read, with_event}
 
 -- ---- events in front of what is read behind them
 
-abbrev pub with_events : List Event → Read → Read
+abbrev pub with_events : List Event → Read Event → Read Event
 with_events es r = record { events = es ++ r.events; refused = r.refused }
 
-pub with_events-more : (es : List Event) (e : Event) (r : Read) → with_events es (with_event e r) ≡ with_events (es ++ e ∷ []) r
+pub with_events-more : (es : List Event) (e : Event) (r : Read Event) → with_events es (with_event e r) ≡ with_events (es ++ e ∷ []) r
 with_events-more es e r = ap (λ (x : List Event). record { events = x; refused = r.refused }) (sym (append_assoc es (e ∷ []) r.events))
 
 -- ---- the next line
@@ -77,7 +78,7 @@ next_event version last n (line ∷ more) e m left h =
     by_tests (fits line) (bytes_eq line (codes "end")) (in_time (n + 1) last (event_of version line)) refl refl refl h
   where
     by_tests : (f d : Bool) (r : Result Event Cause) → fits line ≡ f → bytes_eq line (codes "end") ≡ d → in_time (n + 1) last (event_of version line) ≡ r
-        → (if f then (if d then end_part (n + 1) more else event_in (n + 1) more r) else Err (line_too_long (n + 1))) ≡ Ok (part (Some e) m left)
+        → (if f then (if d then end_part (n + 1) more else item_in (n + 1) more r) else Err (line_too_long (n + 1))) ≡ Ok (part (Some e) m left)
         → IsEventLine version last n (line ∷ more) e m left
     by_tests false d r p q s g = cc
     by_tests true true r p q s g = absurd (some_none e (end_gives (n + 1) more (Some e) m left g).0)
@@ -109,7 +110,7 @@ next_last version last n (line ∷ more) m left h =
     by_tests (fits line) (bytes_eq line (codes "end")) (in_time (n + 1) last (event_of version line)) h
   where
     by_tests : (f d : Bool) (r : Result Event Cause)
-        → (if f then (if d then end_part (n + 1) more else event_in (n + 1) more r) else Err (line_too_long (n + 1))) ≡ Ok (part None m left) → (x : List ℕ) × (line ∷ more ≡ x ∷ left)
+        → (if f then (if d then end_part (n + 1) more else item_in (n + 1) more r) else Err (line_too_long (n + 1))) ≡ Ok (part None m left) → (x : List ℕ) × (line ∷ more ≡ x ∷ left)
     by_tests false d r g = cc
     by_tests true true r g = (line, ap (λ (x : List (List ℕ)). line ∷ x) (end_last (n + 1) more None m left g))
     by_tests true false (Err cause) g = cc
@@ -123,7 +124,7 @@ next_none version last n (line ∷ more) m left h =
     by_tests (fits line) (bytes_eq line (codes "end")) (in_time (n + 1) last (event_of version line)) h
   where
     by_tests : (f d : Bool) (r : Result Event Cause)
-        → (if f then (if d then end_part (n + 1) more else event_in (n + 1) more r) else Err (line_too_long (n + 1))) ≡ Ok (part None m left) → left ≡ []
+        → (if f then (if d then end_part (n + 1) more else item_in (n + 1) more r) else Err (line_too_long (n + 1))) ≡ Ok (part None m left) → left ≡ []
     by_tests false d r g = cc
     by_tests true true r g = (end_gives (n + 1) more None m left g).1
     by_tests true false (Err cause) g = cc

@@ -4,14 +4,15 @@ use Rattle.std.specs.Io.KnownBytes.{prepend_known}
 use Rattle.kn_event.specs.declared.entry.Entry.{Entry}
 use Rattle.kn_event.specs.declared.event.Event.{Event}
 use Rattle.kn_core.specs.State.{RevisionState}
-use Rattle.kn_journal.specs.declared.first.FirstLine.TheVariants.{Journal as JournalLine}
+use Rattle.kn_preamble.specs.declared.first.FirstLine.TheVariants.{Journal as JournalLine}
 use Rattle.kn_journal.specs.declared.error.JournalError.{JournalError}
 use Rattle.kn_journal.specs.declared.error.JournalError.TheVariants as error
 use Rattle.kn_journal.specs.declared.journal.Journal.{Journal}
 use Rattle.kn_journal.specs.declared.journal.Setup.{Setup}
 use Rattle.kn_journal.specs.declared.status.Status.{Status}
 use Rattle.kn_journal.specs.Causes.{Cause, IsGoodSoFar, error_of, no_end}
-use Rattle.kn_journal.specs.Journal.{Read, bad, opening_part, read_events, start_part, verdict, verdict_on}
+use Rattle.kn_journal.specs.Journal.{bad, opening_part, read_events, start_part, verdict, verdict_on}
+use Rattle.kn_journal.specs.Series.{Read}
 use Rattle.kn_journal.specs.Lines.{lines}
 use Rattle.kn_journal.specs.Parts.{part}
 use Rattle.kn_journal.specs.Reading.{AreWhole, EndsWithLf, TakesPart, most_taken}
@@ -96,11 +97,11 @@ ending version m run None = m.ends version run
 ending version m run (Some cause) = []
 
 -- what is written of the events behind a run, and at the end
-unfoldable pub rest_of_text : ℕ → Manner → Run → Read → List ℕ
+unfoldable pub rest_of_text : ℕ → Manner → Run → Read Event → List ℕ
 rest_of_text version m run r = told m run r.events ++ ending version m (ran run r.events) r.refused
 
 -- where the source failed: these events ended before it, or none behind a line that wasn't cut
-pub record BreaksIn (cut : Bool) (version last number : ℕ) (xs : List ℕ) (left : Option (List ℕ)) (read : Read) : Type 0 where
+pub record BreaksIn (cut : Bool) (version last number : ℕ) (xs : List ℕ) (left : Option (List ℕ)) (read : Read Event) : Type 0 where
   pub bytes : List ℕ
   pub mid : List ℕ
   pub split : xs ≡ bytes ++ mid
@@ -111,7 +112,7 @@ pub record BreaksIn (cut : Bool) (version last number : ℕ) (xs : List ℕ) (le
 
 abbrev pub BreaksFollowing : Bool → ℕ → Manner → Run → ℕ → ℕ → List ℕ → Option (List ℕ) → List ℕ → List ℕ → Type 0
 BreaksFollowing cut version m run last number xs left waiting front =
-    (read : Read) × BreaksIn cut version last number xs left read × (front ≡ waiting ++ told m run read.events)
+    (read : Read Event) × BreaksIn cut version last number xs left read × (front ≡ waiting ++ told m run read.events)
 
 -- what waits, and what is told of the events in these bytes, which stand behind a line that was cut or not
 abbrev pub Follows : Bool → ℕ → Manner → Run → ℕ → ℕ → Option (List ℕ) → Option (List ℕ) → List ℕ → Option (List ℕ) → Option (List ℕ) → Status → Type 0

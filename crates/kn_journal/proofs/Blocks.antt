@@ -5,7 +5,7 @@ use Rattle.std.specs.Str.{bytes_eq}
 use Rattle.std.proofs.lemmas.Grind.{common_steps}
 use Rattle.kn_journal.specs.declared.error.JournalError.{JournalError}
 use Rattle.kn_journal.specs.declared.error.JournalError.TheVariants as error
-use Rattle.kn_journal.specs.declared.error.SetupError.TheVariants as setup_error
+use Rattle.kn_preamble.specs.declared.error.SetupError.TheVariants as setup_error
 use Rattle.kn_journal.specs.Causes.{bad_setup, line_too_long, no_end}
 use Rattle.kn_journal.specs.Lines.{ends_with_cr, fits, lines}
 use Rattle.kn_journal.specs.Reading.{AreWhole, TakesLine, TakesPart, TakesText}

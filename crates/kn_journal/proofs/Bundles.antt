@@ -1,12 +1,12 @@
 -- Where the next journal of a bundle begins.
 use Rattle.std.proofs.Common.{◌≡◌, ◌+◌, ℕ, Bool, true, false, List, [], ◌∷◌, refl, sym, ap, ◌∙◌, subst}
 use Rattle.std.specs.Prelude.{Option, None, Some, Result, Ok, Err, IfErr, nat_eq, if◌then◌else◌}
-use Rattle.kn_journal.specs.declared.first.FirstLine.TheVariants.{Journal as JournalLine}
+use Rattle.kn_preamble.specs.declared.first.FirstLine.TheVariants.{Journal as JournalLine}
+use Rattle.kn_preamble.specs.First.{version_of}
 use Rattle.kn_journal.specs.declared.error.JournalError.{JournalError}
 use Rattle.kn_journal.specs.declared.error.JournalError.TheVariants as error
 use Rattle.kn_journal.specs.Bundle.{first_of_in, first_of_part, version_of_in}
 use Rattle.kn_journal.specs.Causes.{Cause, after_end, bad_first_line, error_of}
-use Rattle.kn_journal.specs.Journal.{version_of}
 use Rattle.kn_journal.specs.Lines.{fits, lines}
 use Rattle.kn_journal.specs.Parts.{Part, with_line}
 use Rattle.kn_journal.specs.Reading.{IsOver, TakesLine}

@@ -11,15 +11,15 @@ use Rattle.kn_config.specs.declared.config.ConfigError.{ConfigError}
 use Rattle.kn_config.specs.Config.{config_of}
 use Rattle.kn_revision.specs.declared.error.SpecError.{SpecError}
 use Rattle.kn_revision.specs.Revision.{spec_of}
-use Rattle.kn_journal.specs.declared.error.SetupError.{SetupError}
-use Rattle.kn_journal.specs.declared.error.SetupError.TheVariants as setup_error
-use Rattle.kn_journal.specs.declared.setting.SetupLine.{SetupLine}
-use Rattle.kn_journal.specs.declared.setting.SetupLine.TheVariants.{Fixed, Kpa}
+use Rattle.kn_preamble.specs.declared.error.SetupError.{SetupError}
+use Rattle.kn_preamble.specs.declared.error.SetupError.TheVariants as setup_error
+use Rattle.kn_preamble.specs.declared.setting.SetupLine.{SetupLine}
+use Rattle.kn_preamble.specs.declared.setting.SetupLine.TheVariants.{Fixed, Kpa}
+use Rattle.kn_preamble.specs.SetupLine.{setup_line}
 use Rattle.kn_journal.specs.declared.journal.Setup.{Setup}
 use Rattle.kn_journal.specs.Causes.{Cause, bad_setup, line_too_long}
 use Rattle.kn_journal.specs.Lines.{fits, text_of}
 use Rattle.kn_journal.specs.Parts.{Part, part, then_part, with_line}
-use Rattle.kn_journal.specs.SetupLine.{setup_line}
 use Rattle.kn_journal.specs.Setup.{word_part, block_part, behind_line, blocks_part, blocks_text, config_in, fits_block, longer, revision_part, setup_in, setup_of, setup_part, spec_in, word_in}
 
 -- the part is read from these lines alone, whatever follows them

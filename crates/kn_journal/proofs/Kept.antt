@@ -6,7 +6,8 @@ use Rattle.std.proofs.lemmas.Grind.{common_steps}
 use Rattle.kn_event.specs.declared.event.Event.{Event}
 use Rattle.kn_event.specs.declared.fault.LineError.{LineError}
 use Rattle.kn_event.specs.EventLine.{event_of}
-use Rattle.kn_journal.specs.declared.first.FirstLine.TheVariants.{Journal as JournalLine}
+use Rattle.kn_preamble.specs.declared.first.FirstLine.TheVariants.{Journal as JournalLine}
+use Rattle.kn_preamble.specs.First.{version_of}
 use Rattle.kn_journal.specs.declared.journal.Setup.{Setup}
 use Rattle.kn_journal.specs.declared.journal.Opening.{Opening}
 use Rattle.kn_journal.specs.declared.journal.Journal.{Journal}
@@ -14,7 +15,8 @@ use Rattle.kn_journal.specs.Causes.{Cause, time_back, time_too_large}
 use Rattle.kn_journal.specs.Lines.{lines, text_of}
 use Rattle.kn_journal.specs.Parts.{Part, part}
 use Rattle.kn_journal.specs.Setup.{setup_part}
-use Rattle.kn_journal.specs.Journal.{AreEvents, IsJournal, IsSetup, Read, Verdict, end_part, event_in, first_in, first_part, good, in_time, journal_of, next_in, next_part, nothing_part, onward, opening_in, opening_part, or_bad, read_events, start_in, start_line_in, start_of, start_part, then_events, time_most, verdict, verdict_of_lines, verdict_on, version_in, version_of}
+use Rattle.kn_journal.specs.Journal.{AreEvents, IsJournal, IsSetup, Verdict, first_in, first_part, good, in_time, journal_of, next_in, next_part, opening_in, opening_part, or_bad, read_events, start_in, start_line_in, start_of, start_part, time_most, verdict, verdict_of_lines, verdict_on, version_in}
+use Rattle.kn_journal.specs.Series.{Read, end_part, item_in, nothing_part, onward, then_events}
 use Rattle.kn_journal.proofs.Aheads.{lines-plain}
 use Rattle.kn_journal.proofs.Consumed.{part-left, setup-takes, then_part-ok, with_line-ok}
 use Rattle.kn_journal.proofs.Plain.{ArePlainButLast, plain-behind, plain-lines}
@@ -126,7 +128,7 @@ timely n last (Ok d) e h = by_tests (nat_le d.time time_most) (nat_le last d.tim
     by_tests true false f g k = cc
     by_tests false b f g k = cc
 
-event_in-some : (n : ℕ) (left : List (List ℕ)) (r : Result Event Cause) (p : Part (Option Event)) (e : Event) → event_in n left r ≡ Ok p → p.value ≡ Some e → r ≡ Ok e
+event_in-some : (n : ℕ) (left : List (List ℕ)) (r : Result Event Cause) (p : Part (Option Event)) (e : Event) → item_in n left r ≡ Ok p → p.value ≡ Some e → r ≡ Ok e
 event_in-some n left (Err cause) p e h k = cc
 event_in-some n left (Ok d) p e h k =
     let made : Part (Option Event) = part (Some d) n left in
@@ -144,7 +146,7 @@ next-said : (version last n : ℕ) (line : List ℕ) (left : List (List ℕ)) (p
     → IsTimely last (event_of version line) e
 next-said version last n line left p e h k = by_test (bytes_eq line (codes "end")) h
   where
-    by_test : (t : Bool) → (if t then end_part n left else event_in n left (in_time n last (event_of version line))) ≡ Ok p → IsTimely last (event_of version line) e
+    by_test : (t : Bool) → (if t then end_part n left else item_in n left (in_time n last (event_of version line))) ≡ Ok p → IsTimely last (event_of version line) e
     by_test true g =
         let none : None ≡ Some e = sym (end_part-none n left p g) ∙ k in
         absurd cc
@@ -156,7 +158,7 @@ next-kept version last n ls p e h k =
     let has = with_line-ok n ls (next_in version last) p h in
     (has.line, next-said version last (n + 1) has.line has.more p e has.rest k)
 
-no_lines : (version last n : ℕ) (next : Event → ℕ → Read) → AreEvents version last (then_events (next_part version last n []) next).events
+no_lines : (version last n : ℕ) (next : Event → ℕ → Read Event) → AreEvents version last (then_events (next_part version last n []) next).events
 unfolding next_part
 no_lines version last n next = tt
 

@@ -14,7 +14,6 @@ pub mod ReadBack
 pub mod Rests
 pub mod SetupLines
 pub mod SetupRests
-pub mod Settings
 pub mod Setups
 pub mod Stops
 pub mod Tellings

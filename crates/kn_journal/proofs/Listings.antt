@@ -4,12 +4,13 @@ use Rattle.std.specs.Prelude.{Option, None, Some, Result, Ok, Err}
 use Rattle.std.specs.List.{list_any}
 use Rattle.kn_journal.specs.declared.error.JournalError.{JournalError}
 use Rattle.kn_journal.specs.declared.error.JournalError.TheVariants as error
-use Rattle.kn_journal.specs.declared.error.SetupError.TheVariants as setup_error
-use Rattle.kn_journal.specs.declared.first.FirstLine.TheVariants.{Setups as SetupsLine}
+use Rattle.kn_preamble.specs.declared.error.SetupError.TheVariants as setup_error
+use Rattle.kn_preamble.specs.declared.first.FirstLine.TheVariants.{Setups as SetupsLine}
 use Rattle.kn_journal.specs.declared.journal.Setup.{Setup}
 use Rattle.kn_journal.specs.Bundle.{AreSetups, is_same, listed_part, new_in, new_part, setups_behind, setups_end, setups_part, with_setup}
 use Rattle.kn_journal.specs.Causes.{Cause, bad_setup}
-use Rattle.kn_journal.specs.Journal.{IsSetup, first_part, nothing_part}
+use Rattle.kn_journal.specs.Journal.{IsSetup, first_part}
+use Rattle.kn_journal.specs.Series.{nothing_part}
 use Rattle.kn_journal.specs.Lines.{lines}
 use Rattle.kn_journal.specs.Parts.{Part, part, then_part}
 use Rattle.kn_journal.specs.Setup.{setup_part}

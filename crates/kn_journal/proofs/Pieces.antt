@@ -9,8 +9,9 @@ use Rattle.std.proofs.Math.Seq.{take-append-add}
 use Rattle.kn_event.specs.declared.event.Event.{Event}
 use Rattle.kn_event.specs.EventLine.{event_text}
 use Rattle.kn_io.specs.Prefix.{AppendsPrefix}
+use Rattle.kn_preamble.specs.First.{first_line}
 use Rattle.kn_journal.specs.declared.journal.Journal.{Journal}
-use Rattle.kn_journal.specs.Journal.{events_text, first_line, journal_text}
+use Rattle.kn_journal.specs.Journal.{events_text, journal_text}
 
 first_of_more : (n : ℕ) (x y rest : List ℕ) → n ≤ length y → take (length x + n) (x ++ (y ++ rest)) ≡ x ++ take n y
 first_of_more n x y rest h = take-append-add x (y ++ rest) n ∙ ap (λ (z : List ℕ). x ++ z) (take-append-le n y rest h)

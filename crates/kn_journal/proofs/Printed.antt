@@ -12,13 +12,15 @@ use Rattle.kn_event.specs.declared.event.Event.{Event}
 use Rattle.kn_event.specs.EventLine.{event_of, event_text, IsInJournalRange, IsInVersion, is_printable, Spells}
 use Rattle.kn_event.specs.Fields.{fields, is_space}
 use Rattle.kn_event.specs.Numbers.{is_digit, is_numeral, has_no_leading_zero, number_of}
-use Rattle.kn_journal.specs.declared.first.FirstLine.TheVariants.{Journal as JournalLine}
+use Rattle.kn_preamble.specs.declared.first.FirstLine.TheVariants.{Journal as JournalLine}
+use Rattle.kn_preamble.specs.First.{first_line, version_of}
 use Rattle.kn_journal.specs.declared.journal.Setup.{Setup}
 use Rattle.kn_journal.specs.declared.journal.Journal.{Journal}
 use Rattle.kn_journal.specs.Lines.{fits, lines, lines_at_lf, without_crs}
 use Rattle.kn_journal.specs.Parts.{part}
 use Rattle.kn_journal.specs.Setup.{setup_part}
-use Rattle.kn_journal.specs.Journal.{AreEvents, IsJournal, IsSetup, good, events_text, first_in, first_line, first_part, in_time, journal_text, next_in, next_part, read_events, start_line_in, start_of, start_part, time_most, opening_part, verdict, verdict_of_lines, version_of, with_event}
+use Rattle.kn_journal.specs.Journal.{AreEvents, IsJournal, IsSetup, good, events_text, first_in, first_part, in_time, journal_text, next_in, next_part, read_events, start_line_in, start_of, start_part, time_most, opening_part, verdict, verdict_of_lines}
+use Rattle.kn_journal.specs.Series.{with_event}
 use Rattle.kn_journal.proofs.LineTexts.{lines-append, lines-printable, text-ends}
 use Rattle.kn_journal.proofs.Consumed.{same_bytes, setup-takes, with_line-fits}
 

@@ -9,14 +9,14 @@ use Rattle.kn_event.specs.FixedSpec.{fixed_spec}
 use Rattle.kn_config.specs.declared.config.Config.{Config}
 use Rattle.kn_config.specs.Config.{config_of}
 use Rattle.kn_revision.specs.Revision.{spec_of}
-use Rattle.kn_journal.specs.declared.error.SetupError.{SetupError}
+use Rattle.kn_preamble.specs.declared.error.SetupError.{SetupError}
 use Rattle.kn_journal.specs.declared.journal.Setup.{Setup}
-use Rattle.kn_journal.specs.declared.setting.SetupLine.{SetupLine}
-use Rattle.kn_journal.specs.declared.setting.SetupLine.TheVariants.{Fixed}
+use Rattle.kn_preamble.specs.declared.setting.SetupLine.{SetupLine}
+use Rattle.kn_preamble.specs.declared.setting.SetupLine.TheVariants.{Fixed}
+use Rattle.kn_preamble.specs.SetupLine.{setup_line}
 use Rattle.kn_journal.specs.Journal.{IsSetup}
 use Rattle.kn_journal.specs.Lines.{ends_with_cr, fits, lines}
 use Rattle.kn_journal.specs.Parts.{part}
-use Rattle.kn_journal.specs.SetupLine.{setup_line}
 use Rattle.kn_journal.specs.Setup.{IsBlockText, ReadsBack, behind_line, block_most, block_part, blocks_part, blocks_text, fits_block, longer, revision_part, setup_in, setup_of, setup_part, word_part}
 use Rattle.kn_journal.proofs.Aheads.{lines-plain}
 use Rattle.kn_journal.proofs.Blocks.{longer-length}

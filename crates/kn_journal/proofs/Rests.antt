@@ -9,7 +9,8 @@ use Rattle.kn_journal.specs.declared.error.JournalError.{JournalError}
 use Rattle.kn_journal.specs.declared.error.JournalError.TheVariants as error
 use Rattle.kn_journal.specs.Causes.{Cause, after_end, bad_line, error_of, time_back, time_too_large}
 use Rattle.kn_journal.specs.Bundle.{next_by, next_of_in, next_of_part}
-use Rattle.kn_journal.specs.Journal.{in_time, next_in, next_part, nothing_part, start_in, start_line_in, start_of, start_part, time_most}
+use Rattle.kn_journal.specs.Journal.{in_time, next_in, next_part, start_in, start_line_in, start_of, start_part, time_most}
+use Rattle.kn_journal.specs.Series.{nothing_part}
 use Rattle.kn_journal.specs.Lines.{fits}
 use Rattle.kn_journal.specs.Parts.{Part, part, with_line}
 use Rattle.kn_journal.specs.Reading.{TakesLine}

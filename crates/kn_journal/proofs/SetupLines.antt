@@ -10,13 +10,13 @@ use Rattle.std.proofs.lemmas.Slice.Eq.{starts_is}
 use Rattle.kn_event.specs.EventLine.{is_printable}
 use Rattle.kn_event.specs.Fields.{fields}
 use Rattle.kn_event.specs.Numbers.{number_of}
-use Rattle.kn_journal.specs.declared.error.SetupError.{SetupError}
-use Rattle.kn_journal.specs.declared.error.SetupError.TheVariants.{BadWord}
-use Rattle.kn_journal.specs.declared.setting.Placed.{Placed}
-use Rattle.kn_journal.specs.declared.setting.Setting.{Setting}
-use Rattle.kn_journal.specs.declared.setting.Setting.TheVariants.{Limit, Depth, Max, Pods, Timeout, Seed}
-use Rattle.kn_journal.specs.declared.setting.SetupLine.{SetupLine}
-use Rattle.kn_journal.specs.SetupLine.{fixed_from, fixed_settings, in_ranges, kpa_from, kpa_settings, numbers_due, placed_due, placed_or, setting_number, setting_text, setup_line, setup_line_of_fields, with_placed}
+use Rattle.kn_preamble.specs.declared.error.SetupError.{SetupError}
+use Rattle.kn_preamble.specs.declared.error.SetupError.TheVariants.{BadWord}
+use Rattle.kn_preamble.specs.declared.setting.Placed.{Placed}
+use Rattle.kn_preamble.specs.declared.setting.Setting.{Setting}
+use Rattle.kn_preamble.specs.declared.setting.Setting.TheVariants.{Limit, Depth, Max, Pods, Timeout, Seed}
+use Rattle.kn_preamble.specs.declared.setting.SetupLine.{SetupLine}
+use Rattle.kn_preamble.specs.SetupLine.{fixed_from, fixed_settings, in_ranges, kpa_from, kpa_settings, numbers_due, placed_due, placed_or, setting_number, setting_text, setup_line, setup_line_of_fields, with_placed}
 use Rattle.kn_journal.proofs.Consumed.{same_bytes}
 use Rattle.kn_journal.proofs.Printed.{digits-printable, numeral-digits}
 

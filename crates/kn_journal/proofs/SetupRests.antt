@@ -12,19 +12,20 @@ use Rattle.kn_config.specs.Config.{config_of, GivesConfig}
 use Rattle.kn_revision.specs.declared.error.SpecError.{SpecError}
 use Rattle.kn_revision.specs.declared.error.SpecError.TheVariants as spec_fault
 use Rattle.kn_revision.specs.Revision.{spec_of, GivesSpec}
-use Rattle.kn_journal.specs.declared.first.FirstLine.{FirstLine}
+use Rattle.kn_preamble.specs.declared.first.FirstLine.{FirstLine}
 use Rattle.kn_journal.specs.declared.error.JournalError.{JournalError}
 use Rattle.kn_journal.specs.declared.error.JournalError.TheVariants as error
-use Rattle.kn_journal.specs.declared.error.SetupError.{SetupError}
-use Rattle.kn_journal.specs.declared.error.SetupError.TheVariants as setup_error
+use Rattle.kn_preamble.specs.declared.error.SetupError.{SetupError}
+use Rattle.kn_preamble.specs.declared.error.SetupError.TheVariants as setup_error
 use Rattle.kn_journal.specs.declared.journal.Setup.{Setup}
-use Rattle.kn_journal.specs.declared.setting.SetupLine.{SetupLine}
+use Rattle.kn_preamble.specs.declared.setting.SetupLine.{SetupLine}
 use Rattle.kn_journal.specs.Causes.{Cause, bad_first_line, bad_setup, error_of}
-use Rattle.kn_journal.specs.Journal.{first_in, first_part, opening_part, version_by, version_in}
+use Rattle.kn_journal.specs.Journal.{first_in, first_part, opening_part, version_in}
 use Rattle.kn_journal.specs.Lines.{fits, lines}
 use Rattle.kn_journal.specs.Parts.{Part, part, then_part}
 use Rattle.kn_journal.specs.Reading.{TakesLine}
-use Rattle.kn_journal.specs.SetupLine.{setup_line}
+use Rattle.kn_preamble.specs.First.{version_by}
+use Rattle.kn_preamble.specs.SetupLine.{setup_line}
 use Rattle.kn_journal.specs.Setup.{behind_line, block_most, block_part, blocks_part, blocks_text, config_in, fits_block, longer, revision_part, setup_in, setup_part, spec_in, word_in, word_part}
 use Rattle.kn_journal.specs.Telling.{Gives, IsLineFault, Judges, LeavesRest, config_error, refused_line, revision_error}
 use Rattle.kn_journal.proofs.Blocks.{IsBlock, longer-length}

@@ -10,21 +10,22 @@ use Rattle.kn_config.specs.Config.{config_of, GivesConfig}
 use Rattle.kn_revision.specs.declared.error.SpecError.{SpecError}
 use Rattle.kn_revision.specs.declared.error.SpecError.TheVariants as spec_fault
 use Rattle.kn_revision.specs.Revision.{spec_of, GivesSpec}
-use Rattle.kn_journal.specs.declared.first.FirstLine.{FirstLine}
+use Rattle.kn_preamble.specs.declared.first.FirstLine.{FirstLine}
 use Rattle.kn_journal.specs.declared.error.JournalError.{JournalError}
 use Rattle.kn_journal.specs.declared.error.JournalError.TheVariants as error
-use Rattle.kn_journal.specs.declared.error.SetupError.TheVariants as setup_error
+use Rattle.kn_preamble.specs.declared.error.SetupError.TheVariants as setup_error
 use Rattle.kn_journal.specs.declared.journal.Setup.{Setup}
 use Rattle.kn_journal.specs.Causes.{Cause, bad_setup}
-use Rattle.kn_journal.specs.declared.error.SetupError.{SetupError}
+use Rattle.kn_preamble.specs.declared.error.SetupError.{SetupError}
 use Rattle.kn_journal.specs.declared.journal.Opening.{Opening}
-use Rattle.kn_journal.specs.declared.setting.SetupLine.{SetupLine}
-use Rattle.kn_journal.specs.Journal.{first_in, first_part, opening_in, opening_part, version_by, version_in}
+use Rattle.kn_preamble.specs.declared.setting.SetupLine.{SetupLine}
+use Rattle.kn_journal.specs.Journal.{first_in, first_part, opening_in, opening_part, version_in}
 use Rattle.kn_journal.specs.Lines.{fits}
 use Rattle.kn_journal.specs.Reading.{TakesLine, TakesPart, TakesText}
 use Rattle.kn_journal.specs.Parts.{Part, part, then_part}
 use Rattle.kn_journal.specs.Setup.{behind_line, block_part, blocks_part, blocks_text, config_in, revision_part, setup_in, setup_of, setup_part, spec_in, word_part}
-use Rattle.kn_journal.specs.SetupLine.{setup_line}
+use Rattle.kn_preamble.specs.First.{version_by}
+use Rattle.kn_preamble.specs.SetupLine.{setup_line}
 use Rattle.kn_journal.specs.Telling.{Gives, Lacks, Refuses, StopsAmid, Tells, config_error, revision_error}
 use Rattle.kn_journal.proofs.Tellings.{lacks_refuses, line-refuses, line-then, then-gives, then-refuses}
 use Rattle.kn_journal.proofs.Consumed.{IsOneLine, block-takes, line-takes, ok_part-same, part-left, with_line-ok, word-takes}

@@ -7,12 +7,14 @@ use Rattle.kn_event.specs.declared.event.Event.{Event}
 use Rattle.kn_event.specs.declared.fault.LineError.{LineError}
 use Rattle.kn_event.specs.EventLine.{event_of}
 use Rattle.std.proofs.lemmas.Grind.{common_steps}
-use Rattle.kn_journal.specs.declared.first.FirstLine.{FirstLine}
+use Rattle.kn_preamble.specs.declared.first.FirstLine.{FirstLine}
+use Rattle.kn_preamble.specs.First.{version_by}
 use Rattle.kn_journal.specs.declared.error.JournalError.{JournalError}
 use Rattle.kn_journal.specs.declared.error.JournalError.TheVariants as error
 use Rattle.kn_journal.specs.Causes.{Cause, after_end, bad_first_line, bad_line, error_of, line_too_long, no_end, time_back, time_too_large}
 use Rattle.kn_journal.specs.Bundle.{next_by, next_of_in, next_of_part}
-use Rattle.kn_journal.specs.Journal.{end_part, event_in, nothing_part, first_in, first_part, in_time, next_in, next_part, start_line_in, start_of, start_part, time_most, version_by}
+use Rattle.kn_journal.specs.Journal.{first_in, first_part, in_time, next_in, next_part, start_line_in, start_of, start_part, time_most}
+use Rattle.kn_journal.specs.Series.{end_part, item_in, nothing_part}
 use Rattle.kn_journal.specs.Lines.{fits, line_most, lines, lines_at_lf, without_crs}
 use Rattle.kn_journal.specs.Parts.{Part, part, then_part, with_line}
 use Rattle.kn_journal.specs.Reading.{Counts, HasLongLine, TakesLine, TakesText}
@@ -188,7 +190,7 @@ event-bad n last why r h = (bad_line n why, refl, rw (sym h) refl)
 -- an event's line, or `end` and what is asked for behind it
 abbrev next_with : (ℕ → List (List ℕ) → Result (Part (Option Event)) Cause) → ℕ → ℕ → ℕ → List ℕ → List (List ℕ) → Result (Part (Option Event)) Cause
 next_with ended version last number line left =
-    if bytes_eq line (codes "end") then ended number left else event_in number left (in_time number last (event_of version line))
+    if bytes_eq line (codes "end") then ended number left else item_in number left (in_time number last (event_of version line))
 
 -- nothing
 abbrev whatever : ℕ → List (List ℕ) → Result (Part (Option Event)) Cause

@@ -1,15 +1,17 @@
 -- Journals one after the other, which are a bundle, and setups one after the other: what is read of their lines.
-use Rattle.std.specs.Prelude.{ℕ, zero, suc, Bool, true, false, ◌&&◌, ◌++◌, nat_eq, List, [], ◌∷◌, Option, None, Some, Result, Ok, Err, codes, if◌then◌else◌, ⊤}
+use Rattle.std.specs.Prelude.{ℕ, zero, suc, Bool, true, false, ◌&&◌, ◌++◌, nat_eq, List, [], ◌∷◌, Option, None, Some, Result, Ok, Err, codes, if◌then◌else◌}
 use Rattle.std.specs.List.{list_any}
 use Rattle.std.specs.Str.{bytes_eq}
 use Rattle.kn_event.specs.declared.event.Event.{Event}
 use Rattle.kn_event.specs.EventLine.{event_of}
-use Rattle.kn_journal.specs.declared.first.FirstLine.TheVariants.{Journal as JournalLine, Setups as SetupsLine}
-use Rattle.kn_journal.specs.declared.error.SetupError.TheVariants as setup_error
+use Rattle.kn_preamble.specs.declared.first.FirstLine.TheVariants.{Journal as JournalLine, Setups as SetupsLine}
+use Rattle.kn_preamble.specs.declared.error.SetupError.TheVariants as setup_error
+use Rattle.kn_preamble.specs.First.{version_of}
 use Rattle.kn_journal.specs.declared.journal.Opening.{Opening}
 use Rattle.kn_journal.specs.declared.journal.Setup.{Setup}
 use Rattle.kn_journal.specs.Causes.{Cause, after_end, bad_first_line, bad_setup}
-use Rattle.kn_journal.specs.Journal.{IsSetup, event_in, first_part, in_time, next_part, nothing_part, opening_in, opening_part, version_of}
+use Rattle.kn_journal.specs.Journal.{IsSetup, first_part, in_time, next_part, opening_in, opening_part}
+use Rattle.kn_journal.specs.Series.{item_in, nothing_part}
 use Rattle.kn_journal.specs.Parts.{Part, part, then_part, with_line}
 use Rattle.kn_journal.specs.Setup.{setup_part}
 
@@ -17,7 +19,7 @@ use Rattle.kn_journal.specs.Setup.{setup_part}
 
 abbrev pub next_of_in : ℕ → ℕ → ℕ → List ℕ → List (List ℕ) → Result (Part (Option Event)) Cause
 next_of_in version last number line left =
-    if bytes_eq line (codes "end") then Ok (part None number left) else event_in number left (in_time number last (event_of version line))
+    if bytes_eq line (codes "end") then Ok (part None number left) else item_in number left (in_time number last (event_of version line))
 
 -- the next event after line n and this time, or none at `end`, whatever follows that
 unfoldable pub next_of_part : ℕ → ℕ → ℕ → List (List ℕ) → Result (Part (Option Event)) Cause

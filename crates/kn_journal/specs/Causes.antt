@@ -1,8 +1,8 @@
 -- Why a journal is refused: the first line that the grammar refuses. Lines are counted from 1, places in a line from 0.
 use Rattle.std.specs.Prelude.{ℕ, ◌≡◌, Option, None, Some, ⊤}
 use Rattle.kn_event.specs.declared.fault.LineError.{LineError}
-use Rattle.kn_journal.specs.declared.error.SetupError.{SetupError}
-use Rattle.kn_journal.specs.declared.first.FirstLine.{FirstLine}
+use Rattle.kn_preamble.specs.declared.error.SetupError.{SetupError}
+use Rattle.kn_preamble.specs.declared.first.FirstLine.{FirstLine}
 use Rattle.kn_journal.specs.declared.error.JournalError.{JournalError}
 use Rattle.kn_journal.specs.declared.error.JournalError.TheVariants as error
 

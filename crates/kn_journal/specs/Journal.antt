@@ -1,66 +1,25 @@
 -- What the bytes of an input say: a journal, or the journal before the first refused line and the cause; and a journal's text.
-use Rattle.std.specs.Prelude.{◌≡◌, ℕ, ◌+◌, ◌++◌, ◌≤◌, ◌&&◌, nat_eq, nat_le, List, [], ◌∷◌, drop, length, Option, None, Some, Result, Ok, Err, codes, if◌then◌else◌, ⊤}
+use Rattle.std.specs.Prelude.{◌≡◌, ℕ, ◌+◌, ◌++◌, ◌≤◌, nat_le, List, [], ◌∷◌, length, Option, None, Some, Result, Ok, Err, codes, if◌then◌else◌}
 use Rattle.std.specs.Fmt.{decimal}
-use Rattle.std.specs.List.{starts_with}
 use Rattle.std.specs.Str.{bytes_eq}
 use Rattle.kn_event.specs.declared.event.Event.{Event}
 use Rattle.kn_event.specs.declared.fault.LineError.{LineError}
 use Rattle.kn_event.specs.declared.fault.LineError.TheVariants as line_error
 use Rattle.kn_event.specs.EventLine.{event_of, event_text, IsInJournalRange, IsInVersion, last_number}
 use Rattle.kn_event.specs.Fields.{fields}
-use Rattle.kn_event.specs.Numbers.{number_of}
-use Rattle.kn_journal.specs.declared.first.FirstLine.{FirstLine}
-use Rattle.kn_journal.specs.declared.first.FirstLine.TheVariants.{Journal as JournalLine, Setups as SetupsLine, Slices as SlicesLine, Workload as WorkloadLine}
+use Rattle.kn_preamble.specs.declared.first.FirstLine.{FirstLine}
+use Rattle.kn_preamble.specs.declared.first.FirstLine.TheVariants.{Journal as JournalLine}
+use Rattle.kn_preamble.specs.First.{first_line, version_by, version_most}
 use Rattle.kn_journal.specs.declared.journal.Setup.{Setup}
 use Rattle.kn_journal.specs.declared.journal.Journal.{Journal}
 use Rattle.kn_journal.specs.declared.journal.Opening.{Opening}
-use Rattle.kn_journal.specs.Lines.{fits, lines}
-use Rattle.kn_journal.specs.Causes.{Cause, after_end, bad_first_line, bad_line, line_too_long, time_back, time_too_large}
+use Rattle.kn_journal.specs.Lines.{lines}
+use Rattle.kn_journal.specs.Causes.{Cause, bad_first_line, bad_line, time_back, time_too_large}
 use Rattle.kn_journal.specs.Parts.{Part, part, then_part, with_line}
 use Rattle.kn_journal.specs.Setup.{setup_part}
+use Rattle.kn_journal.specs.Series.{Read, end_part, item_in, none_read, then_events}
 
 -- ---- the first line
-
-abbrev pub first_line : ℕ → List ℕ
-first_line version = codes "kact journal " ++ decimal version
-
--- the version that a first line names
-abbrev pub version_of : List ℕ → Option ℕ
-version_of line = if bytes_eq line (codes "kact journal 1") then Some 1 else (if bytes_eq line (codes "kact journal 2") then Some 2 else None)
-
--- the version of a workload that a first line names
-abbrev pub workload_version_of : List ℕ → Option ℕ
-workload_version_of line = if bytes_eq line (codes "kact workload 1") then Some 1 else None
-
--- the version of a list of setups that a first line names
-abbrev pub setups_version_of : List ℕ → Option ℕ
-setups_version_of line = if bytes_eq line (codes "kact setups 1") then Some 1 else None
-
--- how many activators there may be
-abbrev pub activators_most : ℕ
-activators_most = 16
-
-abbrev pub as_activators : Option ℕ → Option ℕ
-as_activators None = None
-as_activators (Some n) = if nat_le 1 n && nat_le n activators_most then Some n else None
-
--- how many activators a first line `kact slices N` names
-unfoldable pub activators_of : List ℕ → Option ℕ
-activators_of line = if starts_with nat_eq line (codes "kact slices ") then as_activators (number_of (drop (length (codes "kact slices ")) line)) else None
-
--- what a first line of this form names: a version, or how many activators there are
-abbrev pub version_by : FirstLine → List ℕ → Option ℕ
-version_by JournalLine line = version_of line
-version_by WorkloadLine line = workload_version_of line
-version_by SlicesLine line = activators_of line
-version_by SetupsLine line = setups_version_of line
-
--- the greatest that it may name
-abbrev pub version_most : FirstLine → ℕ
-version_most JournalLine = 2
-version_most WorkloadLine = 2
-version_most SlicesLine = activators_most
-version_most SetupsLine = 1
 
 abbrev pub version_in : FirstLine → ℕ → List (List ℕ) → Option ℕ → Result (Part ℕ) Cause
 version_in due n left None = Err (bad_first_line due)
@@ -114,48 +73,16 @@ abbrev pub in_time : ℕ → ℕ → Result Event LineError → Result Event Cau
 in_time n last (Ok e) = if nat_le e.time time_most then (if nat_le last e.time then Ok e else Err (time_back n last e.time)) else Err (time_too_large n)
 in_time n last (Err why) = Err (bad_line n why)
 
--- after line n no line may follow
-abbrev pub nothing_part : ℕ → List (List ℕ) → Result (Part ⊤) Cause
-nothing_part n [] = Ok (part tt n [])
-nothing_part n (line ∷ more) = if fits line then Err (after_end (n + 1)) else Err (line_too_long (n + 1))
-
--- after `end` in line n
-abbrev pub end_part : ℕ → List (List ℕ) → Result (Part (Option Event)) Cause
-end_part n lines = then_part (nothing_part n lines) (λ _ n left. Ok (part None n left))
-
-abbrev pub event_in : ℕ → List (List ℕ) → Result Event Cause → Result (Part (Option Event)) Cause
-event_in n left (Ok e) = Ok (part (Some e) n left)
-event_in n left (Err cause) = Err cause
-
 abbrev pub next_in : ℕ → ℕ → ℕ → List ℕ → List (List ℕ) → Result (Part (Option Event)) Cause
 next_in version last number line left =
-    if bytes_eq line (codes "end") then end_part number left else event_in number left (in_time number last (event_of version line))
+    if bytes_eq line (codes "end") then end_part number left else item_in number left (in_time number last (event_of version line))
 
 -- the next event after line n and this time, or none where `end` ends the input
 unfoldable pub next_part : ℕ → ℕ → ℕ → List (List ℕ) → Result (Part (Option Event)) Cause
 next_part version last n lines = with_line n lines (next_in version last)
 
--- the events, and the cause of the first refused line, if there is one
-pub record Read : Type 0 where
-  pub events : List Event
-  pub refused : Option Cause
-
-abbrev pub none_read : Option Cause → Read
-none_read refused = record { events = []; refused = refused }
-
-abbrev pub with_event : Event → Read → Read
-with_event e more = record { events = e ∷ more.events; refused = more.refused }
-
-abbrev pub onward : Option Event → (Event → Read) → Read
-onward None next = none_read None
-onward (Some e) next = with_event e (next e)
-
-abbrev pub then_events : Result (Part (Option Event)) Cause → (Event → ℕ → Read) → Read
-then_events (Err cause) next = none_read (Some cause)
-then_events (Ok p) next = onward p.value (λ e. next e p.number)
-
 -- all events after line n and this time
-unfoldable pub read_events : ℕ → ℕ → ℕ → List (List ℕ) → Read
+unfoldable pub read_events : ℕ → ℕ → ℕ → List (List ℕ) → Read Event
 read_events version last n [] = then_events (next_part version last n []) (λ e number. none_read None)
 read_events version last n (line ∷ more) = then_events (next_part version last n (line ∷ more)) (λ e number. read_events version e.time number more)
 
@@ -173,7 +100,7 @@ abbrev pub verdict_on : Journal → Option Cause → Verdict
 verdict_on j None = good j
 verdict_on j (Some cause) = bad (Some j) cause
 
-abbrev pub from_read : ℕ → Setup → ℕ → Read → Verdict
+abbrev pub from_read : ℕ → Setup → ℕ → Read Event → Verdict
 from_read version setup start read = verdict_on (journal_of version setup start read.events) read.refused
 
 abbrev pub or_bad : {T : Type 0} → Result (Part T) Cause → (T → ℕ → List (List ℕ) → Verdict) → Verdict

@@ -2,7 +2,7 @@ pub mod Lines
 pub mod Causes
 pub mod Drawing
 pub mod Parts
-pub mod SetupLine
+pub mod Series
 pub mod Setup
 pub mod Journal
 pub mod Bundle

@@ -8,7 +8,8 @@ use Rattle.kn_journal.specs.declared.error.JournalError.{JournalError}
 use Rattle.kn_journal.specs.Bundle.{next_by}
 use Rattle.kn_journal.specs.Causes.{Cause}
 use Rattle.kn_journal.specs.Drawing.{Draws, error_in}
-use Rattle.kn_journal.specs.Journal.{nothing_part, time_most}
+use Rattle.kn_journal.specs.Journal.{time_most}
+use Rattle.kn_journal.specs.Series.{nothing_part}
 use Rattle.kn_journal.specs.Lines.{fits, line_most, lines}
 use Rattle.kn_journal.specs.Parts.{Part}
 use Rattle.kn_journal.specs.Reading.{Ahead, Counts, TakesLine, TakesText, unread}

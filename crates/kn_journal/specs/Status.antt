@@ -1,5 +1,5 @@
 -- The exit statuses of programs.
-use Rattle.std.specs.Prelude.{ℕ, ⊤, ⊥}
+use Rattle.std.specs.Prelude.{ℕ, ⊤}
 use Rattle.kn_journal.specs.declared.status.Status.{Status}
 use Rattle.kn_journal.specs.declared.status.Status.TheVariants as status
 

@@ -7,7 +7,7 @@ use Rattle.kn_config.specs.declared.config.ConfigError.{ConfigError}
 use Rattle.kn_config.specs.declared.config.ConfigError.TheVariants as config_fault
 use Rattle.kn_revision.specs.declared.error.SpecError.{SpecError}
 use Rattle.kn_revision.specs.declared.error.SpecError.TheVariants as spec_fault
-use Rattle.kn_journal.specs.declared.error.SetupError.TheVariants as setup_error
+use Rattle.kn_preamble.specs.declared.error.SetupError.TheVariants as setup_error
 use Rattle.kn_journal.specs.declared.journal.Setup.{Setup}
 use Rattle.kn_journal.specs.declared.journal.Opening.{Opening}
 use Rattle.kn_journal.specs.Causes.{Cause, error_of, no_end}

@@ -7,7 +7,7 @@ ghost use Rattle.kn_journal.specs.Reading.{TakesPart, most_taken};
 ghost use Rattle.kn_journal.specs.Telling.{Judges, OnFirst, none_at_end};
 
 use crate::error::JournalError;
-use crate::first::FirstLine;
+use kn_preamble::FirstLine;
 use crate::journal::Opening;
 use crate::parts::Lines;
 use crate::setup::{read_opening, read_setup};

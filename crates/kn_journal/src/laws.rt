@@ -1,6 +1,6 @@
 //! What was printed is read, and what was read is printed; what stands before the events is read by itself; and lines are apart.
 ghost use Rattle.std.specs.Prelude.{◌≡◌, ℕ, List, Ok};
-ghost use Rattle.kn_journal.specs.declared.first.FirstLine.TheVariants.{Journal as JournalLine};
+ghost use Rattle.kn_preamble.specs.declared.first.FirstLine.TheVariants.{Journal as JournalLine};
 ghost use Rattle.kn_journal.specs.declared.journal.Journal.{Journal};
 ghost use Rattle.kn_journal.specs.declared.journal.Opening.{Opening};
 ghost use Rattle.kn_journal.specs.declared.journal.Setup.{Setup};

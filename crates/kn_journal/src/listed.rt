@@ -5,8 +5,9 @@ ghost use Rattle.kn_journal.specs.LineCalls.{Anywhere, DrawsBy, TellsPart};
 ghost use Rattle.kn_journal.specs.Bundle.{AreSetups, is_same, listed_part, new_part, setups_part};
 ghost use Rattle.kn_journal.specs.Journal.{IsSetup};
 
-use crate::error::{JournalError, SetupError};
-use crate::first::FirstLine;
+use crate::error::JournalError;
+use kn_preamble::SetupError;
+use kn_preamble::FirstLine;
 use crate::journal::{Setup, Setups};
 use crate::parts::Lines;
 use crate::setup::read_setup;

@@ -2,15 +2,18 @@
 ghost use Rattle.std.specs.Prelude.{◌≡◌, ◌≢◌, ◌+◌, ◌≤◌, ◌<◌, ◌↔◌, ℕ, [], true, Err, Ok, None, Option, Some, Contains, IfOk, IfErr, IfSome, IsTrue, OnOk, drop, false, length, slice_range, take};
 ghost use Rattle.std.specs.List.{list_all};
 ghost use Rattle.kn_event.specs.EventLine.{event_of, is_printable, Spells};
+ghost use Rattle.kn_preamble.specs.First.{version_most};
 ghost use Rattle.kn_journal.specs.LineCalls.{DrawsBy, FindsNothing, HasLfAt, HasLfFrom, HasLineOf, IsFromAhead, IsNextEvent, RestOfFirst, RestOf, SparesSource, TakesAhead, TakesLines, TakesNext, TellsEvent, TellsPart, TextAhead};
 ghost use Rattle.kn_journal.specs.Lines.{line_most};
 ghost use Rattle.kn_journal.specs.Reading.{TakesPart, most_taken, unread};
 ghost use Rattle.kn_journal.specs.Telling.{AmidNext, IsCauseOf, IsEventFault, IsLineFault, Judges, Lacks, OnEvent};
 ghost use Rattle.kn_journal.specs.Bundle.{next_by};
-ghost use Rattle.kn_journal.specs.Journal.{first_part, in_time, nothing_part, start_line_in, start_of, start_part, time_most, version_most};
+ghost use Rattle.kn_journal.specs.Journal.{first_part, in_time, start_line_in, start_of, start_part, time_most};
+ghost use Rattle.kn_journal.specs.Series.{nothing_part};
 
 use crate::error::JournalError;
-use crate::first::{FirstLine, judge_first};
+use crate::first::judge_first;
+use kn_preamble::FirstLine;
 use crate::input::Input;
 use crate::lines::{NoLine, read_line};
 use kn_event::{

@@ -3,7 +3,8 @@ ghost use Rattle.std.specs.Prelude.{◌≡◌, ◌≢◌, ◌+◌, ◌≤◌, �
 ghost use Rattle.kn_journal.specs.LineCalls.{Anywhere, IsFromAhead, IsNextEvent, SparesSource};
 ghost use Rattle.kn_journal.specs.Bundle.{AreSetups};
 ghost use Rattle.kn_journal.specs.Calls.{AmidEvent, AmidOpening, BeginsJournal, DrawsOn, FailsForGood, KeepsJournal, OpensJournal, ReadsAhead, ReadsFirst, ReadsNext, ReadsOpening, ReadsPart, ReadsTo, TellsSetups};
-ghost use Rattle.kn_journal.specs.Journal.{IsSetup, nothing_part, start_part, time_most};
+ghost use Rattle.kn_journal.specs.Journal.{IsSetup, start_part, time_most};
+ghost use Rattle.kn_journal.specs.Series.{nothing_part};
 ghost use Rattle.kn_journal.specs.Reading.{TakesPart, most_taken};
 ghost use Rattle.kn_journal.specs.Telling.{OnEvent};
 

@@ -4,7 +4,8 @@ ghost use Rattle.std.specs.Fmt.{decimal};
 ghost use Rattle.std.specs.Io.KnownBytes.{Appends};
 ghost use Rattle.kn_io.specs.Causes.{HasCause};
 ghost use Rattle.kn_io.specs.Prefix.{AppendsPrefix};
-ghost use Rattle.kn_journal.specs.Journal.{IsJournal, events_text, first_line, journal_text};
+ghost use Rattle.kn_preamble.specs.First.{first_line};
+ghost use Rattle.kn_journal.specs.Journal.{IsJournal, events_text, journal_text};
 
 use crate::journal::Journal;
 use kn_event::{Event, Line, event_line};

@@ -3,7 +3,7 @@ use Rattle.std.proofs.Common.{◌≡◌, ◌+◌, ◌∙◌, ℕ, List, [], ap, 
 use Rattle.std.specs.Prelude.{Option, None, Some, Result, Ok, Err, OnOk, Bool, true, false, ◌∷◌, ◌++◌, if◌then◌else◌, ⊤}
 use Rattle.std.specs.Io.KnownBytes.{prepend_known}
 use Rattle.std.proofs.lemmas.Iterator.Adapters.{option_map_id}
-use Rattle.kn_journal.specs.declared.first.FirstLine.TheVariants.{Setups as SetupsLine}
+use Rattle.kn_preamble.specs.declared.first.FirstLine.TheVariants.{Setups as SetupsLine}
 use Rattle.kn_journal.specs.declared.error.JournalError.{JournalError}
 use Rattle.kn_journal.specs.declared.journal.Setup.{Setup}
 use Rattle.kn_journal.specs.Bundle.{listed_part, setups_behind, setups_end, setups_part}

@@ -2,8 +2,9 @@
 use Rattle.std.proofs.Common.{◌≡◌, refl, sym, ap, ◌∙◌, ℕ, Bool, true, false, List, [], ◌∷◌, map}
 use Rattle.std.specs.Prelude.{Option, None, Some, option_map, if◌then◌else◌}
 use Rattle.std.specs.List.{find}
+use Rattle.kn_event.specs.Lists.{greatest}
 use Rattle.kn_scaling.specs.declared.panic.Judged.{Judged}
-use Rattle.kn_scaling.specs.Panic.{is_over_decision, is_within_window, is_panicking, panicking_run, run_with, greater_count, greatest, greatest_after, greatest_of_run, undelayed_count}
+use Rattle.kn_scaling.specs.Panic.{is_over_decision, is_within_window, is_panicking, panicking_run, run_with, greater_count, greatest_after, greatest_of_run, undelayed_count}
 use Rattle.kn_panic.specs.Stands.{PanicState, IsPanicOf, last_moment, moment_after, is_moment_within}
 
 pub stands_for_none : IsPanicOf (record { moment = None; greatest = 0 }) []

@@ -1,6 +1,6 @@
 -- Numbers in ascending order.
-use Rattle.std.specs.Prelude.{◌≡◌, ℕ, Bool, true, false, not, ◌<◌, ◌≤◌, ◌==◌, nat_lt, nat_le, List, ◌∷◌, ◌++◌, length, Option, None, Some, slice_get}
-use Rattle.std.specs.List.{AllPairs, filter, find, insert, list_any, remove}
+use Rattle.std.specs.Prelude.{◌≡◌, ℕ, true, false, not, ◌<◌, ◌≤◌, nat_lt, nat_le, List, ◌∷◌, ◌++◌, length, slice_get}
+use Rattle.std.specs.List.{filter, find, insert, remove}
 use Rattle.kn_event.specs.Lists.{contains, is_some_of}
 use Rattle.kn_record.specs.Order.{Ascend}
 use Rattle.kn_record.specs.Views.{others}

@@ -9,9 +9,10 @@ use Rattle.std.proofs.lemmas.List.{get_or_default, take_more, take-append-le, ta
 use Rattle.std.proofs.Math.Seq.{take-append-add}
 use Rattle.kn_event.specs.EventLine.{event_text}
 use Rattle.kn_io.specs.Prefix.{AppendsPrefix}
+use Rattle.kn_preamble.specs.First.{first_line}
 use Rattle.kn_cell.specs.declared.past.Past.{Past}
 use Rattle.kn_journal.specs.declared.journal.Setup.{Setup}
-use Rattle.kn_journal.specs.Journal.{first_line, journal_text}
+use Rattle.kn_journal.specs.Journal.{journal_text}
 use Rattle.kn_print.specs.Printed.{HasSmall, preface, lines_to_end, lines_of, printed}
 
 first_of_more : (n : ℕ) (x y rest : List ℕ) → n ≤ length y → take (length x + n) (x ++ (y ++ rest)) ≡ x ++ take n y

@@ -8,9 +8,10 @@ use Rattle.kn_event.specs.declared.event.Act.TheVariants as act
 use Rattle.kn_event.specs.declared.event.Event.{Event}
 use Rattle.kn_cell.specs.declared.past.Past.{Past}
 use Rattle.kn_io.specs.Prefix.{AppendsPrefix}
+use Rattle.kn_preamble.specs.First.{first_line}
 use Rattle.kn_journal.specs.declared.journal.Journal.{Journal}
 use Rattle.kn_journal.specs.declared.journal.Setup.{Setup}
-use Rattle.kn_journal.specs.Journal.{events_text, first_line, journal_text}
+use Rattle.kn_journal.specs.Journal.{events_text, journal_text}
 
 abbrev pub events_of : List Past → List Event
 events_of h = map (λ p. p.event) h

@@ -8,14 +8,15 @@ use Rattle.kn_event.specs.declared.event.Event.{Event}
 use Rattle.kn_event.specs.declared.fault.LineError.{LineError}
 use Rattle.kn_event.specs.EventLine.{event_of, IsInVersion, Spells}
 use Rattle.kn_laws.specs.Losses.{AreNoLosses}
-use Rattle.kn_journal.specs.declared.first.FirstLine.TheVariants.{Journal as JournalLine}
+use Rattle.kn_preamble.specs.declared.first.FirstLine.TheVariants.{Journal as JournalLine}
 use Rattle.kn_journal.specs.declared.journal.Opening.{Opening}
 use Rattle.kn_journal.specs.declared.journal.Setup.{Setup}
 use Rattle.kn_journal.specs.Causes.{Cause, line_too_long, time_back, time_too_large}
 use Rattle.kn_journal.specs.Lines.{fits, lines}
 use Rattle.kn_journal.specs.Parts.{Part, part, then_part}
 use Rattle.kn_journal.specs.declared.journal.Journal.{Journal}
-use Rattle.kn_journal.specs.Journal.{Read, Verdict, bad, end_part, event_in, from_read, good, in_time, journal_of, next_part, nothing_part, opening_part, or_bad, read_events, start_part, then_events, time_most, verdict, verdict_of_lines, verdict_on}
+use Rattle.kn_journal.specs.Journal.{Verdict, bad, from_read, good, in_time, journal_of, next_part, opening_part, or_bad, read_events, start_part, time_most, verdict, verdict_of_lines, verdict_on}
+use Rattle.kn_journal.specs.Series.{Read, end_part, item_in, nothing_part, then_events}
 use Rattle.kn_replay.specs.Report.{OnJournal, OnJournalOf}
 
 on_verdict : (v : Verdict) (P : Journal → Type 0) → ((j : Journal) → P j) → OnJournal v P
@@ -36,7 +37,7 @@ AreSpelled = (version : ℕ) (line : List ℕ) (e : Event) → event_of version 
 no_loss : (a : Act) → IsInVersion 1 a → (p : ℕ) → a ≡ act.Lost p → ⊥
 no_loss a h p is = let two : 1 ≡ 2 = subst (IsInVersion 1) is h in absurd (omega (arith, two))
 
-no_more : (r : Result (Part ⊤) Cause) (next : Event → ℕ → Read) → AreNoLosses (then_events (then_part r (λ _ n left. Ok (part None n left))) next).events
+no_more : (r : Result (Part ⊤) Cause) (next : Event → ℕ → Read Event) → AreNoLosses (then_events (then_part r (λ _ n left. Ok (part None n left))) next).events
 no_more (Ok p) next = tt
 no_more (Err cause) next = tt
 
@@ -45,17 +46,17 @@ unfolding read_events next_part
 read_no_losses spelled last n [] = tt
 read_no_losses spelled last n (line ∷ more) = by_tests (λ (e : Event). read_no_losses spelled e.time (n + 1) more) (fits line) (bytes_eq line (codes "end")) (event_of 1 line) refl
   where
-    next : Event → ℕ → Read
+    next : Event → ℕ → Read Event
     next e number = read_events 1 e.time number more
 
     by_time : ((e : Event) → AreNoLosses (read_events 1 e.time (n + 1) more).events) → (e : Event) (b d : Bool) → event_of 1 line ≡ Ok e
-        → AreNoLosses (then_events (event_in (n + 1) more (if b then (if d then Ok e else Err (time_back (n + 1) last e.time)) else Err (time_too_large (n + 1)))) next).events
+        → AreNoLosses (then_events (item_in (n + 1) more (if b then (if d then Ok e else Err (time_back (n + 1) last e.time)) else Err (time_too_large (n + 1)))) next).events
     by_time rest e false d is = tt
     by_time rest e true false is = tt
     by_time rest e true true is = (no_loss e.act (spelled 1 line e is).act, rest e)
 
     by_tests : ((e : Event) → AreNoLosses (read_events 1 e.time (n + 1) more).events) → (f d : Bool) (r : Result Event LineError) → event_of 1 line ≡ r
-        → AreNoLosses (then_events (if f then (if d then end_part (n + 1) more else event_in (n + 1) more (in_time (n + 1) last r)) else Err (line_too_long (n + 1))) next).events
+        → AreNoLosses (then_events (if f then (if d then end_part (n + 1) more else item_in (n + 1) more (in_time (n + 1) last r)) else Err (line_too_long (n + 1))) next).events
     by_tests rest false d r is = tt
     by_tests rest true true r is = no_more (nothing_part (n + 1) more) next
     by_tests rest true false (Err why) is = tt

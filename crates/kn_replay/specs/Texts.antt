@@ -10,10 +10,10 @@ use Rattle.kn_revision.specs.declared.error.Field.{Field}
 use Rattle.kn_revision.specs.declared.error.Field.TheVariants as field
 use Rattle.kn_revision.specs.declared.error.SpecError.{SpecError}
 use Rattle.kn_revision.specs.declared.error.SpecError.TheVariants as spec_error
-use Rattle.kn_journal.specs.declared.error.SetupError.{SetupError}
-use Rattle.kn_journal.specs.declared.error.SetupError.TheVariants as setup_error
-use Rattle.kn_journal.specs.declared.first.FirstLine.{FirstLine}
-use Rattle.kn_journal.specs.declared.first.FirstLine.TheVariants as first
+use Rattle.kn_preamble.specs.declared.error.SetupError.{SetupError}
+use Rattle.kn_preamble.specs.declared.error.SetupError.TheVariants as setup_error
+use Rattle.kn_preamble.specs.declared.first.FirstLine.{FirstLine}
+use Rattle.kn_preamble.specs.declared.first.FirstLine.TheVariants as first
 use Rattle.kn_journal.specs.declared.error.JournalError.{JournalError}
 use Rattle.kn_journal.specs.declared.error.JournalError.TheVariants as error
 use Rattle.kn_journal.specs.declared.status.Status.{Status}

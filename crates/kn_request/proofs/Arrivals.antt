@@ -17,7 +17,7 @@ use Rattle.kn_sizes.specs.Told.{IsTold, arrival_told, outcome_told, stand_told}
 use Rattle.kn_core.specs.State.{RevisionState, StandsFor}
 use Rattle.kn_cell.specs.declared.past.Past.{Past}
 use Rattle.kn_cell.specs.History.{IsLegal, IsLegalFrom, trace_after}
-use Rattle.kn_cell.specs.Shown.{PassView, Looks, Adds}
+use Rattle.kn_cell.specs.Shown.{PassView, Looks, RecordsLast}
 use Rattle.kn_io.specs.Links.{Link}
 use Rattle.kn_head.specs.declared.head.Head.{Head}
 use Rattle.kn_request.specs.declared.meant.Meant.{Meant}
@@ -57,7 +57,7 @@ as_told s c t x told is last i r named =
     }
 
 -- the request of the arrival, told to be r
-pub told_at : RequestLaws → (tag time r : ℕ) (told : Told) (p q : PassView) (l : Looks p q) (x : Adds p (act.Arrive tag) time told q) → arrival_told told ≡ Some r → (c : Trace) → StandsFor q.opening c
+pub told_at : RequestLaws → (tag time r : ℕ) (told : Told) (p q : PassView) (l : Looks p q) (x : RecordsLast p (act.Arrive tag) time told q) → arrival_told told ≡ Some r → (c : Trace) → StandsFor q.opening c
     → ∥ IsAsTold (sight q c) r told ∥₁
 told_at laws tag time r told p q l x named c s =
     let spec = p.opening.spec in
@@ -71,7 +71,7 @@ told_at laws tag time r told p q l x named c s =
     ∥∥₁_map (laws.told spec f x.row.event tag made act_is) (λ (i : IsTold spec f x.row.event). as_told spec f (sight q c) x.row told same (added_last p q (act.Arrive tag) time told l x c) i r named)
 
 -- an arrival is told a request
-pub told_some : RequestLaws → (tag time : ℕ) (told : Told) (p q : PassView) (l : Looks p q) (x : Adds p (act.Arrive tag) time told q) → arrival_told told ≡ None → ⊥
+pub told_some : RequestLaws → (tag time : ℕ) (told : Told) (p q : PassView) (l : Looks p q) (x : RecordsLast p (act.Arrive tag) time told q) → arrival_told told ≡ None → ⊥
 told_some laws tag time told p q l x un = ∥∥₁_elim l.some (λ u v. absurd u) (λ m.
     let c = m.0 in
     let spec = p.opening.spec in
@@ -114,22 +114,22 @@ live_left stand.Ended o e = absurd (cc)
 live_known : (s : Stand) → (waits_by s || runs_by s) ≡ true → s ≢ stand.Unknown
 live_known s e un = let f = ap (λ x. waits_by x || runs_by x) un in absurd (cc)
 
-pub is_live_told : RequestLaws → (tag time r : ℕ) (told : Told) (s : Stand) (p q : PassView) (l : Looks p q) (x : Adds p (act.Arrive tag) time told q) → arrival_told told ≡ Some r → stand_told told ≡ Some s
+pub is_live_told : RequestLaws → (tag time r : ℕ) (told : Told) (s : Stand) (p q : PassView) (l : Looks p q) (x : RecordsLast p (act.Arrive tag) time told q) → arrival_told told ≡ Some r → stand_told told ≡ Some s
     → (waits_by s || runs_by s) ≡ true → (c : Trace) → StandsFor q.opening c → (waits_by (stand_of (sight q c) r) || runs_by (stand_of (sight q c) r)) ≡ true
 is_live_told laws tag time r told s p q l x named is live c st =
     ∥∥₁_elim (told_at laws tag time r told p q l x named c st) (Bool-set (waits_by (stand_of (sight q c) r) || runs_by (stand_of (sight q c) r)) true)
     (λ (i : IsAsTold (sight q c) r told). stand_test (λ y. waits_by y || runs_by y) (sight q c) r told s is live i)
 
-pub told_left : RequestLaws → (tag time r : ℕ) (told : Told) (s : Stand) (p q : PassView) (l : Looks p q) (x : Adds p (act.Arrive tag) time told q) → arrival_told told ≡ Some r → stand_told told ≡ Some s
+pub told_left : RequestLaws → (tag time r : ℕ) (told : Told) (s : Stand) (p q : PassView) (l : Looks p q) (x : RecordsLast p (act.Arrive tag) time told q) → arrival_told told ≡ Some r → stand_told told ≡ Some s
     → (waits_by s || runs_by s) ≡ true → IsLeft q r
 told_left laws tag time r told s p q l x named is live c st = live_left (stand_of (sight q c) r) (outcome_of (sight q c) r) (is_live_told laws tag time r told s p q l x named is live c st)
 
-pub told_known : RequestLaws → (tag time r : ℕ) (told : Told) (s : Stand) (p q : PassView) (l : Looks p q) (x : Adds p (act.Arrive tag) time told q) → arrival_told told ≡ Some r → stand_told told ≡ Some s
+pub told_known : RequestLaws → (tag time r : ℕ) (told : Told) (s : Stand) (p q : PassView) (l : Looks p q) (x : RecordsLast p (act.Arrive tag) time told q) → arrival_told told ≡ Some r → stand_told told ≡ Some s
     → (waits_by s || runs_by s) ≡ true → IsKnown q r
 told_known laws tag time r told s p q l x named is live c st = live_known (stand_of (sight q c) r) (is_live_told laws tag time r told s p q l x named is live c st)
 
 -- the whole of it
-refused_served : RequestLaws → (terms : Terms) (timeout tag time r : ℕ) (head : Head) (x : Told) (o : Outcome) (m : Meant) (p q : PassView) (wire : Option Link) (l : Looks p q) (y : Adds p (act.Arrive tag) time x q) (now : terms.reading time)
+refused_served : RequestLaws → (terms : Terms) (timeout tag time r : ℕ) (head : Head) (x : Told) (o : Outcome) (m : Meant) (p q : PassView) (wire : Option Link) (l : Looks p q) (y : RecordsLast p (act.Arrive tag) time x q) (now : terms.reading time)
     → arrival_told x ≡ Some r → stand_told x ≡ Some stand.Ended → outcome_told x ≡ Some o → IsRefusedBy o m → HasArrived terms timeout tag head p q wire wire m
 refused_served laws terms timeout tag time r head x o m p q wire l y now named stands outcome is = record {
   mid = q;
@@ -150,7 +150,7 @@ refused_served laws terms timeout tag time r head x o m p q wire l y now named s
 }
 
 -- the outcome is one by which arrivals are refused
-pub away_served : RequestLaws → (terms : Terms) (timeout tag time r : ℕ) (head : Head) (x : Told) (o : Outcome) (m : Meant) (p q : PassView) (wire : Option Link) (l : Looks p q) (y : Adds p (act.Arrive tag) time x q) (now : terms.reading time)
+pub away_served : RequestLaws → (terms : Terms) (timeout tag time r : ℕ) (head : Head) (x : Told) (o : Outcome) (m : Meant) (p q : PassView) (wire : Option Link) (l : Looks p q) (y : RecordsLast p (act.Arrive tag) time x q) (now : terms.reading time)
     → arrival_told x ≡ Some r → stand_told x ≡ Some stand.Ended → outcome_told x ≡ Some o → IsRefusedBy o m → IsServed terms timeout tag head p q wire wire m
 away_served laws terms timeout tag time r head x Refused m p q wire l y now named stands outcome is =
     subst (λ (v : Meant). IsServed terms timeout tag head p q wire wire v) (sym is) (refused_served laws terms timeout tag time r head x Refused meant.QueueFull p q wire l y now named stands outcome refl)
@@ -161,7 +161,7 @@ away_served laws terms timeout tag time r head x Cancelled m p q wire l y now na
 away_served laws terms timeout tag time r head x (Finished ok) m p q wire l y now named stands outcome is = absurd is
 away_served laws terms timeout tag time r head x Lost m p q wire l y now named stands outcome is = absurd is
 
-taken_served : (terms : Terms) (timeout tag time due r : ℕ) (x : Told) (head : Head) (p q s : PassView) (wire wire' : Option Link) (m : Meant) (l : Looks p q) (y : Adds p (act.Arrive tag) time x q) (now : terms.reading time)
+taken_served : (terms : Terms) (timeout tag time due r : ℕ) (x : Told) (head : Head) (p q s : PassView) (wire wire' : Option Link) (m : Meant) (l : Looks p q) (y : RecordsLast p (act.Arrive tag) time x q) (now : terms.reading time)
     → (s ≡ q) ⊎ Looks q s → arrival_told x ≡ Some r → due ≡ min time (2 ^ 42) + timeout → IsLeft q r → IsCourse terms due head r q s wire wire' m → HasArrived terms timeout tag head p s wire wire' m
 taken_served terms timeout tag time due r x head p q s wire wire' m l y now since named is left course = record {
   mid = q;
@@ -175,7 +175,7 @@ taken_served terms timeout tag time due r x head p q s wire wire' m l y now sinc
 }
 
 -- a request that was taken in is never answered as Full
-pub served_of : (terms : Terms) (timeout tag time due r : ℕ) (x : Told) (head : Head) (p q s : PassView) (wire wire' : Option Link) (m : Meant) (l : Looks p q) (y : Adds p (act.Arrive tag) time x q) (now : terms.reading time)
+pub served_of : (terms : Terms) (timeout tag time due r : ℕ) (x : Told) (head : Head) (p q s : PassView) (wire wire' : Option Link) (m : Meant) (l : Looks p q) (y : RecordsLast p (act.Arrive tag) time x q) (now : terms.reading time)
     → (s ≡ q) ⊎ Looks q s → arrival_told x ≡ Some r → due ≡ min time (2 ^ 42) + timeout → IsLeft q r → IsCourse terms due head r q s wire wire' m → IsServed terms timeout tag head p s wire wire' m
 served_of terms timeout tag time due r x head p q s wire wire' (meant.Full f) l y now since named is left course = absurd course
 served_of terms timeout tag time due r x head p q s wire wire' (meant.Reply t) l y now since named is left course = taken_served terms timeout tag time due r x head p q s wire wire' (meant.Reply t) l y now since named is left course

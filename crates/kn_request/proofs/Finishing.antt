@@ -13,7 +13,7 @@ use Rattle.kn_cell.specs.declared.past.Past.{Past}
 use Rattle.kn_cell.specs.declared.past.Full.{Full}
 use Rattle.kn_cell.specs.Lists.{Each}
 use Rattle.kn_cell.specs.History.{rows_by, trace_after}
-use Rattle.kn_cell.specs.Shown.{PassView, Looks, Adds, Misfits}
+use Rattle.kn_cell.specs.Shown.{PassView, Looks, RecordsLast, Misfits}
 use Rattle.kn_request.specs.Laws.{RequestLaws}
 use Rattle.kn_request.specs.Sight.{IsAlone, IsOwn, IsRunning, sight}
 use Rattle.kn_request.specs.Requests.{IsFinished}
@@ -39,7 +39,7 @@ quiet_before r p q more row l own seen mine pass alone =
     let others' : Each P more = each_right P p.seen more (each_left P (p.seen ++ more) (row ∷ []) (subst (Each P) seen others)) in
     by_whom (SparesIt r) p.number more others' (subst (Each (SparesIt r)) (sym no_own) (none (SparesIt r)))
 
-pub ok_finished : RequestLaws → (reading : ℕ → Type 0) (r time : ℕ) (ok : Bool) (told : Told) (p q : PassView) (l : Looks p q) (x : Adds p (act.Finish r ok) time told q) (now : reading time)
+pub ok_finished : RequestLaws → (reading : ℕ → Type 0) (r time : ℕ) (ok : Bool) (told : Told) (p q : PassView) (l : Looks p q) (x : RecordsLast p (act.Finish r ok) time told q) (now : reading time)
     → IsOwn p → IsRunning p r → IsAlone q r → (c : Trace) → StandsFor q.opening c
     → IsFinished reading r ok q ((recorded_of reading p q (act.Finish r ok) time told l x now).row ∷ []) c
 ok_finished laws reading r time ok told p q l x now own runs alone c s =

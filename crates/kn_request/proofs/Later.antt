@@ -20,8 +20,8 @@ use Rattle.kn_cell.specs.declared.past.Full.{Full}
 use Rattle.kn_cell.specs.declared.course.Course.TheVariants as course
 use Rattle.kn_cell.specs.Lists.{Each}
 use Rattle.kn_cell.specs.History.{IsInBounds, IsLegal, MayCome, clock_after, past, rows_by, trace_after}
-use Rattle.kn_cell.specs.Desk.{event_at}
-use Rattle.kn_cell.specs.Shown.{PassView, Looks, Adds, Misfits, IsLater}
+use Rattle.kn_cell.specs.Desk.{event_by_clock}
+use Rattle.kn_cell.specs.Shown.{PassView, Looks, RecordsLast, Misfits, IsLater}
 use Rattle.kn_request.specs.Laws.{Made, RequestLaws, Spares, is_left}
 use Rattle.kn_request.specs.Sight.{HasCourse, IsAlone, IsKnown, IsLeft, IsOwn, IsRunning, StandsAt, sight}
 use Rattle.kn_request.specs.Requests.{Cancels, Recorded}
@@ -157,13 +157,13 @@ looks_trans a b c l m = record {
 
 -- ---- rows
 
-abbrev pub recorded_of : (reading : ℕ → Type 0) (p q : PassView) (a : Act) (time : ℕ) (told : Told) → Looks p q → Adds p a time told q → reading time → Recorded reading q a
+abbrev pub recorded_of : (reading : ℕ → Type 0) (p q : PassView) (a : Act) (time : ℕ) (told : Told) → Looks p q → RecordsLast p a time told q → reading time → Recorded reading q a
 recorded_of reading p q a time told l x is = record {
   row = x.row;
   front = x.front;
   at = time;
   is_reading = is;
-  row_is = rw (number_is p q l, opening_is p q l) (x.row_is ∙ ap (λ t. past p.number (event_at (clock_after p.opening.clock x.front) time a) t) (sym (ap (λ (y : Past). y.told) x.row_is)));
+  row_is = rw (number_is p q l, opening_is p q l) (x.row_is ∙ ap (λ t. past p.number (event_by_clock (clock_after p.opening.clock x.front) time a) t) (sym (ap (λ (y : Past). y.told) x.row_is)));
   place = ([], x.seen ∙ sym (append-nil (x.front ++ x.row ∷ [])));
 }
 
@@ -178,7 +178,7 @@ recorded_later reading p q a l x = record {
 }
 
 -- the trace after a row that was added last
-pub added_last : (p q : PassView) (a : Act) (time : ℕ) (told : Told) (l : Looks p q) (x : Adds p a time told q) (c : Trace)
+pub added_last : (p q : PassView) (a : Act) (time : ℕ) (told : Told) (l : Looks p q) (x : RecordsLast p a time told q) (c : Trace)
     → sight q c ≡ trace_after p.opening.spec c x.front ++ react p.opening.spec (trace_after p.opening.spec c x.front) x.row.event
 added_last p q a time told l x c = sight_is p q l c ∙ (ap (trace_after p.opening.spec c) x.seen ∙ trace_after-append p.opening.spec c x.front (x.row ∷ []))
 
@@ -233,7 +233,7 @@ left_after laws r p q so own same old alone = elim so [
 ]
 
 -- after a cancel the request waits no more: it was recorded, or there was no need of room for it
-pub ok_cancelled : RequestLaws → (r time : ℕ) (told : Told) (p q : PassView) → Looks p q → Adds p (act.Cancel r) time told q → IsWaitingNoMore q r
+pub ok_cancelled : RequestLaws → (r time : ℕ) (told : Told) (p q : PassView) → Looks p q → RecordsLast p (act.Cancel r) time told q → IsWaitingNoMore q r
 ok_cancelled laws r time told p q l x c s =
     let f = trace_after p.opening.spec c x.front in
     let made = made_after laws p.opening.spec x.front c (laws.made p.opening c (stands_is p q l c s)) in

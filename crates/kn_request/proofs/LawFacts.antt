@@ -18,7 +18,7 @@ use Rattle.kn_trace.specs.Trace.{Trace, arrivals, is_running, pod_of, stand_of, 
 use Rattle.kn_record.specs.Made.{IsMade}
 use Rattle.kn_laws.specs.History.{IsMadeBy}
 use Rattle.kn_sizes.specs.Course.{HasFinished, IsToldByStand, IsUnfinished, MayEnd, runs_by, waits_by}
-use Rattle.kn_sizes.specs.Stays.{Stays}
+use Rattle.kn_sizes.specs.Stays.{HoldsOnwards}
 use Rattle.kn_sizes.specs.Told.{IsTold}
 use Rattle.kn_core.specs.State.{RevisionState, StandsFor}
 use Rattle.kn_request.specs.Laws.{Made, Spares, is_lapsed, is_left}
@@ -124,7 +124,7 @@ module _ (history : (s : Spec) (start clock count : ℕ) (c : Trace) → IsMadeB
   pub keeps_of : (s : Spec) (c : Trace) (e : Event) → Made s c → Made s (c ++ react s c e)
   keeps_of s c e made = ∥∥₁_map made (step s c e)
 
-  pub known_of : ((s : Spec) (c : Trace) → Stays s c (λ d. arrivals c ≤ arrivals d)) → (s : Spec) (c : Trace) (e : Event) (r : ℕ) → Made s c → stand_of c r ≢ stand.Unknown → stand_of (c ++ react s c e) r ≢ stand.Unknown
+  pub known_of : ((s : Spec) (c : Trace) → HoldsOnwards s c (λ d. arrivals c ≤ arrivals d)) → (s : Spec) (c : Trace) (e : Event) (r : ℕ) → Made s c → stand_of c r ≢ stand.Unknown → stand_of (c ++ react s c e) r ≢ stand.Unknown
   known_of stay s c e r made known un = ∥∥₁_elim made (λ u v. absurd u) (λ (m : IsMade s c).
       let few = (stands s (c ++ react s c e) r (step s c e m)).unknown.0 un in
       let grow = (stay s c).once e in
@@ -133,7 +133,7 @@ module _ (history : (s : Spec) (start clock count : ℕ) (c : Trace) → IsMadeB
   come_of : (s : Spec) (c : Trace) (r : ℕ) → IsMade s c → stand_of c r ≢ stand.Unknown → r < arrivals c
   come_of s c r m known = elim (cases_lt r (arrivals c)) [ inl l ↦ l | inr l ↦ absurd (known ((stands s c r m).unknown.1 l)) ]
 
-  pub waits_of : ((s : Spec) (c : Trace) (r : ℕ) → IsMade s c → r < arrivals c → contains r (waiting c) ≡ false → Stays s c (λ d. contains r (waiting d) ≡ false))
+  pub waits_of : ((s : Spec) (c : Trace) (r : ℕ) → IsMade s c → r < arrivals c → contains r (waiting c) ≡ false → HoldsOnwards s c (λ d. contains r (waiting d) ≡ false))
       → (s : Spec) (c : Trace) (e : Event) (r : ℕ) → Made s c → stand_of c r ≢ stand.Unknown → waits_by (stand_of c r) ≡ false → waits_by (stand_of (c ++ react s c e) r) ≡ false
   waits_of stay s c e r made known not = ∥∥₁_elim made (Bool-set (waits_by (stand_of (c ++ react s c e) r)) false) (λ (m : IsMade s c).
       sym (stands s (c ++ react s c e) r (step s c e m)).waits ∙ (stay s c r m (come_of s c r m known) ((stands s c r m).waits ∙ not)).once e)

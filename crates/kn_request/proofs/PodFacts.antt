@@ -14,7 +14,7 @@ use Rattle.kn_trace.specs.Events.{react}
 use Rattle.kn_trace.specs.Trace.{Trace, created, next_starting, starting_pods}
 use Rattle.kn_record.specs.Made.{IsMade}
 use Rattle.kn_sizes.specs.Starting.{IsLeastFrom}
-use Rattle.kn_sizes.specs.Stays.{Stays}
+use Rattle.kn_sizes.specs.Stays.{HoldsOnwards}
 use Rattle.kn_book.specs.Book.{address_of, addressed, next_to_probe}
 use Rattle.kn_book.specs.Laws.{IsLive, ProbesTheNext, Stay, WaitInTurn}
 use Rattle.kn_request.specs.Laws.{Made}
@@ -87,11 +87,11 @@ pub created_of : ((s : Spec) (c : Trace) (p : ℕ) → IsMade s c → contains p
     → (s : Spec) (c : Trace) (j : ℕ) → Made s c → IsStarting c j → j < created c
 created_of law s c j made starts = ∥∥₁_elim made le_prop (λ (m : IsMade s c). law s c j m starts)
 
-pub stay_of : ((s : Spec) (c : Trace) → IsMade s c → Stays s c (λ d. created c ≤ created d))
+pub stay_of : ((s : Spec) (c : Trace) → IsMade s c → HoldsOnwards s c (λ d. created c ≤ created d))
     → (s : Spec) (c : Trace) (e : Event) (j : ℕ) → Made s c → j < created c → j < created (c ++ react s c e)
 stay_of law s c e j made low = ∥∥₁_elim made le_prop (λ (m : IsMade s c). let grow = (law s c m).once e in omega (arith, grow, low))
 
-pub gone_of : ((s : Spec) (c : Trace) (p : ℕ) → IsMade s c → p < created c → contains p (starting_pods c) ≡ false → Stays s c (λ d. contains p (starting_pods d) ≡ false))
+pub gone_of : ((s : Spec) (c : Trace) (p : ℕ) → IsMade s c → p < created c → contains p (starting_pods c) ≡ false → HoldsOnwards s c (λ d. contains p (starting_pods d) ≡ false))
     → (s : Spec) (c : Trace) (e : Event) (j : ℕ) → Made s c → j < created c → (IsStarting c j → ⊥) → IsStarting (c ++ react s c e) j → ⊥
 gone_of law s c e j made low not starts = ∥∥₁_elim made (λ u v. absurd u) (λ (m : IsMade s c).
     let out = (law s c j m low (false_from_ne_true (contains j (starting_pods c)) not)).once e in absurd (cc))

@@ -19,7 +19,7 @@ use Rattle.kn_cell.specs.declared.past.Past.{Past}
 use Rattle.kn_cell.specs.declared.past.Full.{Full}
 use Rattle.kn_cell.specs.Lists.{StartsWith, Each}
 use Rattle.kn_cell.specs.History.{trace_after}
-use Rattle.kn_cell.specs.Shown.{PassView, Looks, Adds, Misfits, left_in}
+use Rattle.kn_cell.specs.Shown.{PassView, Looks, RecordsLast, Misfits, left_in}
 use Rattle.kn_io.specs.Links.{Link, Tells}
 use Rattle.kn_io.specs.declared.records.Probe.{Probe}
 use Rattle.kn_core.specs.Gauges.{count_live}
@@ -65,7 +65,7 @@ before p q so P is = subst (λ n. P p.opening n) (book_after p q so) (subst (λ 
 
 -- ---- rows
 
-pub is_at : (p q : PassView) (a : Act) (time : ℕ) (told : Told) (l : Looks p q) (x : Adds p a time told q) → IsAt time q x.row
+pub is_at : (p q : PassView) (a : Act) (time : ℕ) (told : Told) (l : Looks p q) (x : RecordsLast p a time told q) → IsAt time q x.row
 is_at p q a time told l x =
     let act_is : x.row.event.act ≡ a = ap (λ (y : Past). y.event.act) x.row_is in
     subst (λ b. (y : Recorded (λ t. t ≡ time) q b) × (y.row ≡ x.row)) (sym act_is) (recorded_of (λ t. t ≡ time) p q a time told l x refl, refl)

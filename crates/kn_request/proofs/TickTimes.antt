@@ -10,7 +10,7 @@ use Rattle.kn_cell.specs.Lists.{Each}
 use Rattle.kn_cell.specs.Shown.{PassView, Looks}
 use Rattle.kn_io.specs.Links.{Link}
 use Rattle.kn_request.specs.declared.ticks.Turn.{Turn}
-use Rattle.kn_request.specs.Ticking.{AreApart, AreReady, AreRecordedAt, IsAt, IsTickerRow, ReadyOf, TakesTurn, TicksApart, TurnsFrom, TurnsTo, Visit, is_tick, ticks_of}
+use Rattle.kn_request.specs.Ticking.{AreTwoSecondsApart, AreReady, AreRecordedAt, IsAt, IsTickerRow, ReadyOf, TakesTurn, TicksApart, TurnsFrom, TurnsTo, Visit, is_tick, ticks_of}
 use Rattle.kn_request.proofs.Lists.{each_tail, none, one}
 use Rattle.kn_request.proofs.Later.{looks_trans}
 use Rattle.kn_request.proofs.TickFacts.{at_later, each_both}
@@ -45,7 +45,7 @@ ready_rows xs all k x at = inr (all k x at)
 
 -- ---- one turn before others
 
-apart_before : (a b : ℕ) (ts : List ℕ) → a ≤ b → AreApart b ts → AreApart a ts
+apart_before : (a b : ℕ) (ts : List ℕ) → a ≤ b → AreTwoSecondsApart b ts → AreTwoSecondsApart a ts
 apart_before a b [] low apart = tt
 apart_before a b (t ∷ ts) low apart = let first = apart.0 in (omega arith, apart.1)
 

@@ -9,7 +9,7 @@ use Rattle.kn_book.specs.Book.{call_address}
 use Rattle.kn_core.specs.State.{StandsFor}
 use Rattle.kn_cell.specs.declared.past.Past.{Past}
 use Rattle.kn_cell.specs.Lists.{StartsWith}
-use Rattle.kn_cell.specs.Desk.{event_at}
+use Rattle.kn_cell.specs.Desk.{event_by_clock}
 use Rattle.kn_cell.specs.History.{clock_after, past, trace_after}
 use Rattle.kn_cell.specs.Shown.{PassView}
 use Rattle.kn_io.specs.Links.{Link, Tells, called}
@@ -26,7 +26,7 @@ pub record Recorded (reading : ℕ → Type 0) (p : PassView) (a : Act) : Type 0
   pub front : List Past
   pub at : ℕ
   pub is_reading : reading at
-  pub row_is : row ≡ past p.number (event_at (clock_after p.opening.clock front) at a) row.told
+  pub row_is : row ≡ past p.number (event_by_clock (clock_after p.opening.clock front) at a) row.told
   pub place : StartsWith p.seen (front ++ row ∷ [])
 
 -- at most one cancel of the request, at or after the time that it was due, or where its client has left

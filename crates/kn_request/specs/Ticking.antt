@@ -199,9 +199,9 @@ abbrev pub ticks_of : List Past → List Past
 ticks_of rows = filter (λ x. is_tick x.event.act) rows
 
 -- each is at least 2,000 above the one before, and the first above this one
-abbrev pub AreApart : ℕ → List ℕ → Type 0
-AreApart last [] = ⊤
-AreApart last (t ∷ ts) = (last + 2000 ≤ t) × AreApart t ts
+abbrev pub AreTwoSecondsApart : ℕ → List ℕ → Type 0
+AreTwoSecondsApart last [] = ⊤
+AreTwoSecondsApart last (t ∷ ts) = (last + 2000 ≤ t) × AreTwoSecondsApart t ts
 
 -- each row was recorded at its reading
 abbrev pub AreRecordedAt : (ℕ → Type 0) → PassView → List ℕ → List Past → Type 0
@@ -219,5 +219,5 @@ pub record TicksApart (reading : ℕ → Type 0) (start : ℕ) (old new : PassVi
   pub mine : new.mine ≡ old.mine ++ rows
   pub only : Each IsTickerRow rows
   pub times : List ℕ
-  pub apart : AreApart start times
+  pub apart : AreTwoSecondsApart start times
   pub at : AreRecordedAt reading new times (ticks_of rows)

@@ -1,8 +1,8 @@
 -- The delay before fewer pods are asked for. Lists of decisions have the latest first.
 use Rattle.std.specs.Prelude.{ℕ, Bool, ◌-◌, nat_lt, max, List, [], ◌∷◌, map}
 use Rattle.std.specs.List.{filter}
+use Rattle.kn_event.specs.Lists.{greatest}
 use Rattle.kn_scaling.specs.declared.delay.Asked.{Asked}
-use Rattle.kn_scaling.specs.Panic.{greatest}
 
 -- whether that one lies less than the delay before this second
 abbrev pub is_recent : ℕ → ℕ → Asked → Bool

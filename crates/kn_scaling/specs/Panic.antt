@@ -1,11 +1,8 @@
 -- When decisions panic, and what they ask for before any delay. Lists of decisions have the latest first.
 use Rattle.std.specs.Prelude.{ℕ, Bool, true, false, ◌+◌, nat_le, max, List, [], ◌∷◌, map, Option, None, Some, if◌then◌else◌}
 use Rattle.std.specs.List.{find}
+use Rattle.kn_event.specs.Lists.{greatest}
 use Rattle.kn_scaling.specs.declared.panic.Judged.{Judged}
-
-abbrev pub greatest : List ℕ → ℕ
-greatest [] = 0
-greatest (n ∷ ns) = max n (greatest ns)
 
 abbrev pub is_over_decision : Judged → Bool
 is_over_decision d = d.counts.over

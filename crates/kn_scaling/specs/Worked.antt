@@ -10,7 +10,6 @@ use Rattle.kn_event.specs.declared.revision.Kind.TheVariants as kind
 use Rattle.kn_event.specs.FixedSpec.{fixed_spec}
 use Rattle.kn_scaling.specs.declared.average.SampleRun.{SampleRun}
 use Rattle.kn_scaling.specs.declared.panic.Judged.{Judged}
-use Rattle.kn_scaling.specs.declared.delay.Asked.{Asked}
 use Rattle.kn_scaling.specs.declared.zero.Standing.{Standing}
 use Rattle.kn_scaling.specs.declared.zero.ZeroAnswer.{ZeroAnswer}
 use Rattle.kn_scaling.specs.Average.{Samples, load_over, is_any_sample, is_spell_start, first_write, window_sum, last_sample, window_average, with_run, samples_of}

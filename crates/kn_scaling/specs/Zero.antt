@@ -1,5 +1,5 @@
 -- The bounds of a count, and when a revision goes to no pods at all.
-use Rattle.std.specs.Prelude.{ℕ, Bool, true, false, ◌+◌, ◌*◌, ◌&&◌, ◌||◌, ◌==◌, nat_lt, nat_le, min, max, if◌then◌else◌}
+use Rattle.std.specs.Prelude.{ℕ, zero, suc, Bool, true, false, ◌+◌, ◌*◌, ◌&&◌, ◌||◌, ◌==◌, nat_lt, nat_le, min, max, if◌then◌else◌}
 use Rattle.kn_event.specs.declared.entry.Phase.{Phase}
 use Rattle.kn_event.specs.declared.entry.Phase.TheVariants as phase
 use Rattle.kn_event.specs.declared.entry.Mode.{Mode}

@@ -1,7 +1,7 @@
 -- Chains of cells after a change of the cells.
 use Rattle.std.proofs.Common.{◌≡◌, ℕ, zero, suc, ◌<◌, ◌≤◌, List, [], ◌∷◌, ◌++◌, set, get_or, length, refl, sym, ap, subst, ◌∙◌, arith, get_or-set_other, get_or-set_same, Bool, true, false, cond, Option, Some}
 use Rattle.std.specs.Prelude.{slice_get, None}
-use Rattle.kn_seats.specs.Chains.{after, requests_in, Avoids, AreApart, AreOwned}
+use Rattle.kn_seats.specs.Chains.{after, requests_in, Avoids, AreDistinctSteps, AreOwned}
 
 pub length_requests : (request next : List ℕ) (place n : ℕ) → length (requests_in request next place n) ≡ n
 unfolding requests_in
@@ -64,13 +64,13 @@ module _ (owner owner_after : ℕ → Option ℕ) (who : Option ℕ) (next next_
       let here = keeps place owned.0 in
       (apart.0, subst (λ p. Avoids next_after other p n) (sym here.1) (avoids-kept other (get_or next place 0) n owned.1 apart.1))
 
-  pub apart-kept : (place n : ℕ) → AreOwned owner who next place n → AreApart next place n → AreApart next_after place n
-  unfolding AreOwned AreApart
+  pub apart-kept : (place n : ℕ) → AreOwned owner who next place n → AreDistinctSteps next place n → AreDistinctSteps next_after place n
+  unfolding AreOwned AreDistinctSteps
   apart-kept place zero owned apart = tt
   apart-kept place (suc n) owned apart =
       let here = keeps place owned.0 in (
         subst (λ p. Avoids next_after place p n) (sym here.1) (avoids-kept place (get_or next place 0) n owned.1 apart.0),
-        subst (λ p. AreApart next_after p n) (sym here.1) (apart-kept (get_or next place 0) n owned.1 apart.1),
+        subst (λ p. AreDistinctSteps next_after p n) (sym here.1) (apart-kept (get_or next place 0) n owned.1 apart.1),
       )
 
   pub after-kept : (place n : ℕ) → AreOwned owner who next place n → after next_after place n ≡ after next place n
@@ -95,8 +95,8 @@ module _ (owner owner_after : ℕ → Option ℕ) (who : Option ℕ) (next next_
     (stays : (x : ℕ) → owner x ≡ who → owner_after x ≡ who) (others : (x : ℕ) → (x ≡ last → ⊥) → get_or next_after x 0 ≡ get_or next x 0)
     (behind : get_or next_after last 0 ≡ new) (fresh : owner new ≡ who → ⊥) (given : owner_after new ≡ who) where
   -- a cell before the last leads where it led
-  leads : (place n : ℕ) → AreApart next place (suc (suc n)) → after next place (suc n) ≡ last → get_or next_after place 0 ≡ get_or next place 0
-  unfolding AreApart after
+  leads : (place n : ℕ) → AreDistinctSteps next place (suc (suc n)) → after next place (suc n) ≡ last → get_or next_after place 0 ≡ get_or next place 0
+  unfolding AreDistinctSteps after
   leads place n apart is = others place (λ e. avoided next place (get_or next place 0) (suc n) n apart.0 (omega arith) (is ∙ sym e))
 
   -- the last leads to the new one
@@ -104,44 +104,44 @@ module _ (owner owner_after : ℕ → Option ℕ) (who : Option ℕ) (next next_
   unfolding after
   leads_on place is = ap (λ p. get_or next_after p 0) is ∙ behind
 
-  pub owned-push : (place n : ℕ) → AreApart next place (suc n) → after next place n ≡ last → AreOwned owner who next place (suc n)
+  pub owned-push : (place n : ℕ) → AreDistinctSteps next place (suc n) → after next place n ≡ last → AreOwned owner who next place (suc n)
       → AreOwned owner_after who next_after place (suc (suc n))
-  unfolding AreOwned AreApart after
+  unfolding AreOwned AreDistinctSteps after
   owned-push place zero apart is owned = (stays place owned.0, (ap owner_after (leads_on place is) ∙ given, tt))
   owned-push place (suc n) apart is owned = (
     stays place owned.0,
     subst (λ p. AreOwned owner_after who next_after p (suc (suc n))) (sym (leads place n apart is)) (owned-push (get_or next place 0) n apart.1 is owned.1),
   )
 
-  avoids-push : (other place n : ℕ) → AreApart next place (suc n) → after next place n ≡ last → Avoids next other place (suc n) → (new ≡ other → ⊥)
+  avoids-push : (other place n : ℕ) → AreDistinctSteps next place (suc n) → after next place n ≡ last → Avoids next other place (suc n) → (new ≡ other → ⊥)
       → Avoids next_after other place (suc (suc n))
-  unfolding Avoids AreApart after
+  unfolding Avoids AreDistinctSteps after
   avoids-push other place zero apart is avoids differ = (avoids.0, (λ e. differ (sym (leads_on place is) ∙ e), tt))
   avoids-push other place (suc n) apart is avoids differ = (
     avoids.0,
     subst (λ p. Avoids next_after other p (suc (suc n))) (sym (leads place n apart is)) (avoids-push other (get_or next place 0) n apart.1 is avoids.1 differ),
   )
 
-  pub apart-push : (place n : ℕ) → AreApart next place (suc n) → after next place n ≡ last → AreOwned owner who next place (suc n)
-      → AreApart next_after place (suc (suc n))
-  unfolding Avoids AreApart AreOwned after
+  pub apart-push : (place n : ℕ) → AreDistinctSteps next place (suc n) → after next place n ≡ last → AreOwned owner who next place (suc n)
+      → AreDistinctSteps next_after place (suc (suc n))
+  unfolding Avoids AreDistinctSteps AreOwned after
   apart-push place zero apart is owned = ((λ e. fresh (ap owner (sym (leads_on place is) ∙ e) ∙ owned.0), tt), (tt, tt))
   apart-push place (suc n) apart is owned = (
     subst (λ p. Avoids next_after place p (suc (suc n))) (sym (leads place n apart is))
         (avoids-push place (get_or next place 0) n apart.1 is apart.0 (λ e. fresh (ap owner e ∙ owned.0))),
-    subst (λ p. AreApart next_after p (suc (suc n))) (sym (leads place n apart is)) (apart-push (get_or next place 0) n apart.1 is owned.1),
+    subst (λ p. AreDistinctSteps next_after p (suc (suc n))) (sym (leads place n apart is)) (apart-push (get_or next place 0) n apart.1 is owned.1),
   )
 
-  pub after-push : (place n : ℕ) → AreApart next place (suc n) → after next place n ≡ last → after next_after place (suc n) ≡ new
-  unfolding AreApart after
+  pub after-push : (place n : ℕ) → AreDistinctSteps next place (suc n) → after next place n ≡ last → after next_after place (suc n) ≡ new
+  unfolding AreDistinctSteps after
   after-push place zero apart is = leads_on place is
   after-push place (suc n) apart is =
       ap (λ p. after next_after p (suc n)) (leads place n apart is) ∙ after-push (get_or next place 0) n apart.1 is
 
   pub requests-push : (request request_after : List ℕ) (r : ℕ) → ((x : ℕ) → owner x ≡ who → get_or request_after x 0 ≡ get_or request x 0) → get_or request_after new 0 ≡ r
-      → (place n : ℕ) → AreApart next place (suc n) → after next place n ≡ last → AreOwned owner who next place (suc n)
+      → (place n : ℕ) → AreDistinctSteps next place (suc n) → after next place n ≡ last → AreOwned owner who next place (suc n)
       → requests_in request_after next_after place (suc (suc n)) ≡ requests_in request next place (suc n) ++ r ∷ []
-  unfolding AreApart AreOwned requests_in after
+  unfolding AreDistinctSteps AreOwned requests_in after
   requests-push request request_after r same has place zero apart is owned =
       ap (λ q. q ∷ get_or request_after (get_or next_after place 0) 0 ∷ []) (same place owned.0)
       ∙ ap (λ q. get_or request place 0 ∷ q ∷ []) (ap (λ p. get_or request_after p 0) (leads_on place is) ∙ has)
@@ -167,9 +167,9 @@ requests-avoid request next other v place (suc n) avoids =
     ∙ ap (λ l. get_or request place 0 ∷ l) (requests-avoid request next other v (get_or next place 0) n avoids.1)
 
 -- a cell of a chain gets another request
-pub requests-set : (request next : List ℕ) (v place n k : ℕ) → AreApart next place n → k < n → ((j : ℕ) → j < n → after next place j < length request)
+pub requests-set : (request next : List ℕ) (v place n k : ℕ) → AreDistinctSteps next place n → k < n → ((j : ℕ) → j < n → after next place j < length request)
     → requests_in (set request (after next place k) v) next place n ≡ set (requests_in request next place n) k v
-unfolding AreApart requests_in after
+unfolding AreDistinctSteps requests_in after
 requests-set request next v place zero k apart lt inside = absurd (omega arith)
 requests-set request next v place (suc n) zero apart lt inside =
     ap (λ q. q ∷ requests_in (set request place v) next (get_or next place 0) n) (get_or-set_same request place v 0 (inside 0 (omega arith)))

@@ -4,7 +4,7 @@ use Rattle.std.specs.Prelude.{Contains}
 use Rattle.std.proofs.lemmas.Bool.{cases_eq}
 use Rattle.std.proofs.lemmas.List.{get_or_default}
 use Rattle.kn_seats.specs.Pods.{without_request}
-use Rattle.kn_seats.specs.Chains.{after, requests_in, Avoids, AreApart}
+use Rattle.kn_seats.specs.Chains.{after, requests_in, Avoids, AreDistinctSteps}
 use Rattle.kn_seats.proofs.Chains.{length_requests, request_at, after_more, requests-set, apart_from}
 use Rattle.kn_seats.proofs.Places.{is_named, not_named}
 
@@ -94,7 +94,7 @@ module _ (before request next : List ℕ) (first count r place held turn : ℕ) 
       let turns = closing.turns in
       rw (ap (λ p. get_or next p 0) closing.stands ∙ after_more next first closing.steps) (inside (suc closing.steps) (omega arith))
 
-  pub closing-more : turn < count → (held ≡ r → ⊥) → AreApart next first count → ((k : ℕ) → k < count → after next first k < length before)
+  pub closing-more : turn < count → (held ≡ r → ⊥) → AreDistinctSteps next first count → ((k : ℕ) → k < count → after next first k < length before)
       → IsClosing before (set request (get_or next place 0) held) next first count r (get_or next place 0) (get_or request (get_or next place 0) 0) (turn + 1)
   unfolding queued
   closing-more more differ apart inside =

@@ -12,7 +12,7 @@ use Rattle.kn_seats.specs.declared.cells.Cells.{Cells}
 use Rattle.kn_seats.specs.declared.tracker.Tracker.{Tracker}
 use Rattle.kn_seats.specs.Pods.{Pod, idle_pod, requests_at, requests_at_all}
 use Rattle.kn_seats.specs.Cells.{IsNew}
-use Rattle.kn_seats.specs.Chains.{requests_in, AreApart, AreOwned}
+use Rattle.kn_seats.specs.Chains.{requests_in, AreDistinctSteps, AreOwned}
 use Rattle.kn_seats.specs.Kept.{IsKept, IsHeld, IsLine, HasQueue, seen}
 use Rattle.kn_seats.proofs.Kept.{kept-remove}
 
@@ -53,7 +53,7 @@ kept-add pods pod spare pod_room request_room kept room below none =
     }
 
 empty_line : (owner : ℕ → Option ℕ) (who : Option ℕ) (next : List ℕ) (first last count : ℕ) → count ≡ 0 → IsLine owner who next first last count
-unfolding AreApart AreOwned
+unfolding AreDistinctSteps AreOwned
 empty_line owner who next first last zero none = record { apart = tt; owned = tt; ends = λ n e. absurd (omega arith) }
 empty_line owner who next first last (suc n) none = absurd (omega arith)
 

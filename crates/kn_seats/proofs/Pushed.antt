@@ -1,11 +1,11 @@
 -- A queue with one request more, and one with the first request less.
 use Rattle.std.proofs.Common.{◌≡◌, ℕ, zero, suc, ◌<◌, List, [], ◌∷◌, ◌++◌, set, get_or, length, drop, refl, sym, ap, subst, ◌∙◌, arith, get_or-set_other, get_or-set_same, Option}
-use Rattle.kn_seats.specs.Chains.{after, requests_in, Avoids, AreApart, AreOwned}
+use Rattle.kn_seats.specs.Chains.{after, requests_in, Avoids, AreDistinctSteps, AreOwned}
 use Rattle.kn_seats.specs.Kept.{IsLine}
 use Rattle.kn_seats.proofs.Chains.{owned-push, apart-push, after-push, requests-push, owned-without}
 
 -- the last of a line of so many
-line-last : (owner : ℕ → Option ℕ) (who : Option ℕ) (next : List ℕ) (first last n : ℕ) → AreApart next first (suc n) → AreOwned owner who next first (suc n)
+line-last : (owner : ℕ → Option ℕ) (who : Option ℕ) (next : List ℕ) (first last n : ℕ) → AreDistinctSteps next first (suc n) → AreOwned owner who next first (suc n)
     → after next first n ≡ last → IsLine owner who next first last (suc n)
 line-last owner who next first last n apart owned is = record {
   apart = apart;
@@ -22,7 +22,7 @@ module _ (owner owner_after : ℕ → Option ℕ) (who : Option ℕ) (request re
       IsLine owner_after who next_after first_after new (suc count) × (requests_in request_after next_after first_after (suc count) ≡ requests_in request next first count ++ r ∷ [])
 
   pushed-alone : (first_after : ℕ) → first_after ≡ new → (first : ℕ) → Pushed first first_after 0
-  unfolding Pushed AreApart Avoids AreOwned after requests_in
+  unfolding Pushed AreDistinctSteps Avoids AreOwned after requests_in
   pushed-alone first_after is first = (
     line-last owner_after who next_after first_after new 0 (tt, tt) (ap owner_after is ∙ given, tt) is,
     ap (λ q. q ∷ []) (ap (λ p. get_or request_after p 0) is ∙ has),
@@ -51,7 +51,7 @@ module _ (owner owner_after : ℕ → Option ℕ) (who : Option ℕ) (request re
 -- a line without its first cell
 pub line-popped : (owner owner_after : ℕ → Option ℕ) (who : Option ℕ) (next : List ℕ) (first last count : ℕ) → ((x : ℕ) → (x ≡ first → ⊥) → owner x ≡ who → owner_after x ≡ who)
     → IsLine owner who next first last (suc count) → IsLine owner_after who next (get_or next first 0) last count
-unfolding AreApart AreOwned after
+unfolding AreDistinctSteps AreOwned after
 line-popped owner owner_after who next first last count stays line = record {
   apart = line.apart.1;
   owned = owned-without owner owner_after who next first stays (get_or next first 0) count line.apart.0 line.owned.1;

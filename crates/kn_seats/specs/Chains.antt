@@ -17,9 +17,9 @@ Avoids next other place zero = Unit {0}
 Avoids next other place (suc n) = (place ≡ other → ⊥) × Avoids next other (slice_index next place) n
 
 -- so many from a place on are all different
-unfoldable pub AreApart : List ℕ → ℕ → ℕ → Type 0
-AreApart next place zero = Unit {0}
-AreApart next place (suc n) = Avoids next place (slice_index next place) n × AreApart next (slice_index next place) n
+unfoldable pub AreDistinctSteps : List ℕ → ℕ → ℕ → Type 0
+AreDistinctSteps next place zero = Unit {0}
+AreDistinctSteps next place (suc n) = Avoids next place (slice_index next place) n × AreDistinctSteps next (slice_index next place) n
 
 -- so many from a place on have this owner
 unfoldable pub AreOwned : (ℕ → Option ℕ) → Option ℕ → List ℕ → ℕ → ℕ → Type 0

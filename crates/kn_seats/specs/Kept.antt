@@ -4,7 +4,7 @@ use Rattle.std.specs.List.{AllPairs}
 use Rattle.kn_seats.specs.declared.cells.Cells.{Cells}
 use Rattle.kn_seats.specs.declared.tracker.Tracker.{Tracker}
 use Rattle.kn_seats.specs.Pods.{Pod, requests_at_all, pod_at, with_pod_changed, without_pod}
-use Rattle.kn_seats.specs.Chains.{after, requests_in, AreApart, AreOwned}
+use Rattle.kn_seats.specs.Chains.{after, requests_in, AreDistinctSteps, AreOwned}
 
 -- the numbers rise
 abbrev pub IsAscending : List Pod → Type 0
@@ -34,7 +34,7 @@ seen cells tracker = record {
 
 -- so many cells from the first on, all different and of one owner, and the last of them
 pub record IsLine (owner : ℕ → Option ℕ) (who : Option ℕ) (next : List ℕ) (first last count : ℕ) : Type 0 where
-  pub apart : AreApart next first count
+  pub apart : AreDistinctSteps next first count
   pub owned : AreOwned owner who next first count
   pub ends : (n : ℕ) → count ≡ n + 1 → after next first n ≡ last
 

@@ -1,7 +1,7 @@
 //! Queues whose cells were made before, so that no change of one takes memory.
 ghost use Rattle.std.specs.Prelude.{◌≡◌, ℕ, ◌+◌, ◌-◌, ◌^◌, ◌<◌, ◌≤◌, drop, length, slice_index, Contains, IfOk};
 ghost use Rattle.kn_seats.specs.Pods.{without_request};
-ghost use Rattle.kn_seats.specs.Chains.{after, requests_in, Avoids, AreApart};
+ghost use Rattle.kn_seats.specs.Chains.{after, requests_in, Avoids, AreDistinctSteps};
 
 use std::alloc::{AllocError, Global};
 use std::mem;
@@ -98,7 +98,7 @@ impl Queue {
 /// cell has means nothing then.
 pub fn close_up(queue: Queue, r: u64, request: &mut [u64], next: &[usize])
     requires queued { Contains (requests_in request.old next.now queue.first queue.count) r }
-    requires apart { AreApart next.now queue.first queue.count }
+    requires apart { AreDistinctSteps next.now queue.first queue.count }
     requires few { (length request.old < 2 ^ 32) × (length next.now < 2 ^ 32) }
     requires request { (k : ℕ) → k < queue.count → after next.now queue.first k < length request.old }
     requires next { (k : ℕ) → k < queue.count → after next.now queue.first k < length next.now }

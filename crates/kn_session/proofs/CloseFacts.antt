@@ -7,7 +7,7 @@ use Rattle.kn_cell.specs.declared.past.Past.{Past}
 use Rattle.kn_cell.specs.declared.view.Joined.{Joined}
 use Rattle.kn_cell.specs.Lists.{Each, StartsWith}
 use Rattle.kn_cell.specs.History.{rows_by}
-use Rattle.kn_cell.specs.Shown.{Closes, IsClosed, PassView, joined_shown}
+use Rattle.kn_cell.specs.Shown.{ClosesCell, IsClosed, PassView, joined_shown}
 use Rattle.kn_request.specs.declared.slot.Slot.{Slot}
 use Rattle.kn_session.specs.Attending.{ClosesAll}
 use Rattle.kn_session.specs.Passes.{HasLone, IsLone, Kind, found_by, joined_all}
@@ -37,7 +37,7 @@ closing_full {A} cell f xs p ticks lone last all =
     let zero' = last.back in
     omega arith
 
-pub closing_kept : {A : Type 0} (cell : TableId) (f : A → Option PassView) (xs : List A) (p ticks : PassView) (now : RevisionState) (h : List Past) → AreLone cell f xs → Closes (closing f xs p ticks) now h
+pub closing_kept : {A : Type 0} (cell : TableId) (f : A → Option PassView) (xs : List A) (p ticks : PassView) (now : RevisionState) (h : List Past) → AreLone cell f xs → ClosesCell (closing f xs p ticks) now h
     → (i : ℕ) (d : A) → i < length xs → (q : PassView) → f (slice_index_or xs i d) ≡ Some q → IsPart h (2 + i) q
 closing_kept {A} cell f xs p ticks now h lone closes i d low q is =
     let P : Joined → Type 0 = λ o. StartsWith h o.seen × (o.mine ≡ rows_by o.number h) in
@@ -50,7 +50,7 @@ closing_kept {A} cell f xs p ticks now h lone closes i d low q is =
     let named : q.number ≡ 2 + i = ap (λ (v : PassView). v.number) same ∙ it.2.named in
     record { named = named; front = z.0; whole = z.1 ∙ ap (λ n. rows_by n h) named }
 
-pub closing_ticker : {A : Type 0} (f : A → Option PassView) (xs : List A) (p ticks : PassView) (now : RevisionState) (h : List Past) → ticks.number ≡ 1 → Closes (closing f xs p ticks) now h → IsPart h 1 ticks
+pub closing_ticker : {A : Type 0} (f : A → Option PassView) (xs : List A) (p ticks : PassView) (now : RevisionState) (h : List Past) → ticks.number ≡ 1 → ClosesCell (closing f xs p ticks) now h → IsPart h 1 ticks
 closing_ticker {A} f xs p ticks now h named closes =
     let P : Joined → Type 0 = λ o. StartsWith h o.seen × (o.mine ≡ rows_by o.number h) in
     let z = (joined_last P (joined_all p (found_by f xs)) ticks closes.others).1 in
@@ -61,7 +61,7 @@ abbrev pub DidNothing : Joined → Type 0
 DidNothing o = o.mine ≡ []
 
 pub closing_rows : {A : Type 0} (cell : TableId) (f : A → Option PassView) (xs : List A) (p ticks : PassView) (now : RevisionState) (h : List Past) → AreLone cell f xs → IsLone cell 1 ticks
-    → p.number ≡ 0 → p.mine ≡ [] → Each DidNothing p.others → Closes (closing f xs p ticks) now h → Each (λ x. (x.pass ≡ 1) ⊎ IsSlots (length xs) x) h
+    → p.number ≡ 0 → p.mine ≡ [] → Each DidNothing p.others → ClosesCell (closing f xs p ticks) now h → Each (λ x. (x.pass ≡ 1) ⊎ IsSlots (length xs) x) h
 closing_rows {A} cell f xs p ticks now h lone last number mine others closes k x at =
     let qs = found_by f xs in
     let N : Joined → Type 0 = λ o. DidNothing o ⊎ ((o.number ≡ 1) ⊎ ((i : ℕ) × (i < length xs) × (o.number ≡ 2 + i))) in

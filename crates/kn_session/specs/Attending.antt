@@ -7,7 +7,7 @@ use Rattle.kn_cell.specs.Lists.{Each, StartsWith}
 use Rattle.kn_cell.specs.Shown.{LooksBy, PassView, first_shown}
 use Rattle.kn_request.specs.declared.slot.Slot.{Slot}
 use Rattle.kn_session.specs.Changes.{Change, became, was}
-use Rattle.kn_session.specs.Lists.{EachAt}
+use Rattle.kn_session.specs.Lists.{EachInPlace}
 use Rattle.kn_session.specs.Passes.{Kind}
 use Rattle.kn_session.specs.Session.{IsClosedAs, IsPart, IsSlots}
 
@@ -28,7 +28,7 @@ pub record ClosesAll {C L : Type 0} (first ticks : PassView) (slots : List (Slot
   pub plain : first.lasting ≡ false → front ≡ []
   pub exact : first.scribe ≡ true → length front ≡ first.gone
   pub closed : IsClosedAs first.opening now (front ++ rest)
-  pub kept : EachAt (λ i s. (q : PassView) → s.work.pass ≡ Some q → IsPart (front ++ rest) (2 + i) q) slots
+  pub kept : EachInPlace (λ i s. (q : PassView) → s.work.pass ≡ Some q → IsPart (front ++ rest) (2 + i) q) slots
   pub ticker : IsPart (front ++ rest) 1 ticks
   pub rows : Each (λ x. (x.pass ≡ 1) ⊎ IsSlots (length slots) x) (front ++ rest)
   pub seen : StartsWith (front ++ rest) first.seen

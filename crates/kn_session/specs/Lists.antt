@@ -7,8 +7,8 @@ HasOne {A} P [] = ⊥
 HasOne {A} P (x ∷ xs) = P x ⊎ HasOne P xs
 
 -- each member has it at its place
-abbrev pub EachAt : {A : Type 0} → (ℕ → A → Type 0) → List A → Type 0
-EachAt {A} P xs = (i : ℕ) (d : A) → i < length xs → P i (slice_index_or xs i d)
+abbrev pub EachInPlace : {A : Type 0} → (ℕ → A → Type 0) → List A → Type 0
+EachInPlace {A} P xs = (i : ℕ) (d : A) → i < length xs → P i (slice_index_or xs i d)
 
 -- as many as before, and of each what it was and what it is now
 abbrev pub EachDone : {A : Type 0} → (ℕ → A → A → Type 0) → List A → List A → Type 0

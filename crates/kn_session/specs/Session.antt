@@ -9,7 +9,7 @@ use Rattle.kn_core.specs.State.{RevisionState, StandsFor}
 use Rattle.kn_cell.specs.declared.past.Past.{Past}
 use Rattle.kn_cell.specs.Lists.{Each, StartsWith}
 use Rattle.kn_cell.specs.History.{IsInBounds, IsLegal, clock_after, rows_by, trace_after}
-use Rattle.kn_cell.specs.Shown.{Closes, PassView}
+use Rattle.kn_cell.specs.Shown.{ClosesCell, PassView}
 use Rattle.kn_io.specs.Links.{Link, Tells}
 use Rattle.kn_io.specs.declared.records.Probe.{Probe}
 use Rattle.kn_core.specs.Gauges.{count_live}
@@ -135,7 +135,7 @@ pub record MayBegin (b : RevisionState) : Type 0 where
 
 -- the whole history that the last pass of a cell closed it with, and the revision then
 pub record ClosesWhole (p : PassView) (now : RevisionState) (h : List Past) : Type 0 where
-  pub closes : Closes p now h
+  pub closes : ClosesCell p now h
   pub lawful : (c : Trace) → StandsFor p.opening c → IsLawful p.opening.spec (trace_after p.opening.spec c h)
   pub settled : (c : Trace) → StandsFor p.opening c → IsSettled p.opening.spec (trace_after p.opening.spec c h)
 

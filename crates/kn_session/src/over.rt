@@ -6,7 +6,7 @@ ghost use Rattle.kn_cell.specs.Shown.{PassView};
 ghost use Rattle.kn_request.specs.Terms.{watched};
 ghost use Rattle.kn_session.specs.Attending.{ClosesAll, first_of};
 ghost use Rattle.kn_session.specs.Lasting.{AreLasted, KeeperLasted, Lasted};
-ghost use Rattle.kn_session.specs.Lists.{EachAt, EachDone};
+ghost use Rattle.kn_session.specs.Lists.{EachInPlace, EachDone};
 ghost use Rattle.kn_session.specs.Passes.{HasLone, IsEmptied, IsFirst, IsLone, IsNewOf, IsUnmarked, kind_of};
 ghost use Rattle.kn_session.specs.Rounds.{IsPaced};
 
@@ -33,7 +33,7 @@ fn close_session<C, L>(
 ) -> (Revision, History)
     requires cell { first.cell ≡ cell }
     requires first { (first.number ≡ 0) × (first.mine ≡ []) × Each (λ o. o.mine ≡ []) first.others }
-    requires passes { EachAt (λ i s. HasLone cell (2 + i) s.work.pass) slots.old }
+    requires passes { EachInPlace (λ i s. HasLone cell (2 + i) s.work.pass) slots.old }
     requires ticks { IsLone cell 1 ticks }
     requires all { 1 + first.free + first.back + 1 + length slots.old ≡ first.passes }
     ensures closes { ClosesAll first ticks slots.old result.0 result.1 }

@@ -5,10 +5,8 @@ use Rattle.kn_event.specs.declared.entry.Row.{Row}
 use Rattle.kn_event.specs.declared.entry.Row.TheVariants as row
 use Rattle.kn_event.specs.declared.revision.Spec.{Spec}
 use Rattle.kn_event.specs.EntryLine.{labelled}
-use Rattle.kn_trace.specs.Rows.{taken_by}
-use Rattle.kn_trace.specs.Trace.{Trace}
 use Rattle.kn_lives.specs.declared.lives.Life.{Life}
-use Rattle.kn_lives.specs.Lives.{life_at, time_of}
+use Rattle.kn_lives.specs.Lives.{life_at}
 use Rattle.kn_show_reasons.specs.declared.notice.Notice.{Notice}
 use Rattle.kn_show_reasons.specs.declared.notice.Notice.TheVariants as notice
 use Rattle.kn_reason.specs.Numbers.{pods_text}

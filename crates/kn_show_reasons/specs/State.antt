@@ -7,7 +7,7 @@ use Rattle.kn_event.specs.declared.revision.Spec.{Spec}
 use Rattle.kn_trace.specs.Scale.{count_ready, phase_of, phase_since}
 use Rattle.kn_trace.specs.Trace.{Trace}
 use Rattle.kn_trace.specs.Report.{is_expire}
-use Rattle.kn_lives.specs.Lives.{AreLives, ComeNext, ComesNext}
+use Rattle.kn_lives.specs.Lives.{AreLives, ComeNext}
 use Rattle.kn_teller.specs.Run.{Run, trace}
 use Rattle.kn_show_reasons.specs.declared.seen.Seen.{Seen}
 

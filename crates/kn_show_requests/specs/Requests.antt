@@ -1,16 +1,15 @@
 -- What is written of a run: a line for each request, when it ends or is refused, and at the end one for each live one.
-use Rattle.std.specs.Prelude.{◌≡◌, ℕ, ◌-◌, true, false, List, ◌∷◌, ◌++◌, Option, None, Some, option_map, unwrap_or, if◌then◌else◌}
+use Rattle.std.specs.Prelude.{ℕ, ◌-◌, true, false, List, Option, None, Some, option_map, unwrap_or, if◌then◌else◌}
 use Rattle.std.specs.List.{filter, flat_map, range_with_len}
 use Rattle.kn_event.specs.declared.entry.Entry.{Entry}
 use Rattle.kn_event.specs.declared.entry.Row.{Row}
 use Rattle.kn_event.specs.declared.entry.Row.TheVariants as row
 use Rattle.kn_event.specs.declared.event.Event.{Event}
-use Rattle.kn_event.specs.declared.revision.Spec.{Spec}
 use Rattle.kn_event.specs.Lists.{contains}
 use Rattle.kn_trace.specs.Events.{react}
 use Rattle.kn_trace.specs.Trace.{Trace, arrivals, live}
 use Rattle.kn_lives.specs.declared.lives.Life.{Life}
-use Rattle.kn_lives.specs.Lives.{ComesNext, by_row, life_in, tag_of}
+use Rattle.kn_lives.specs.Lives.{by_row, life_in, tag_of}
 use Rattle.kn_teller.specs.Manner.{Manner}
 use Rattle.kn_teller.specs.Run.{Run, later, trace}
 use Rattle.kn_show_requests.specs.declared.told.Outcome.{Outcome}

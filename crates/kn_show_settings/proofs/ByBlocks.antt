@@ -11,11 +11,12 @@ use Rattle.kn_config.specs.declared.config.Config.{Config}
 use Rattle.kn_config.specs.Config.{config_of}
 use Rattle.kn_config.specs.Json.{json_of}
 use Rattle.kn_revision.specs.Revision.{spec_of}
-use Rattle.kn_journal.specs.declared.first.FirstLine.{FirstLine}
-use Rattle.kn_journal.specs.declared.first.FirstLine.TheVariants.{Journal as JournalLine}
+use Rattle.kn_preamble.specs.declared.first.FirstLine.{FirstLine}
+use Rattle.kn_preamble.specs.declared.first.FirstLine.TheVariants.{Journal as JournalLine}
+use Rattle.kn_preamble.specs.First.{version_by}
 use Rattle.kn_journal.specs.declared.journal.Opening.{Opening}
 use Rattle.kn_journal.specs.declared.journal.Setup.{Setup}
-use Rattle.kn_journal.specs.Journal.{IsSetup, first_in, first_part, opening_in, opening_part, version_by, version_in}
+use Rattle.kn_journal.specs.Journal.{IsSetup, first_in, first_part, opening_in, opening_part, version_in}
 use Rattle.kn_journal.specs.Lines.{lines, text_of}
 use Rattle.kn_journal.specs.Parts.{Part, part, then_part}
 use Rattle.kn_journal.specs.Setup.{blocks_text, setup_part}

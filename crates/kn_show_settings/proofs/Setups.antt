@@ -11,15 +11,15 @@ use Rattle.kn_config.specs.declared.config.ConfigError.{ConfigError}
 use Rattle.kn_config.specs.Config.{config_of}
 use Rattle.kn_revision.specs.declared.error.SpecError.{SpecError}
 use Rattle.kn_revision.specs.Revision.{spec_of}
-use Rattle.kn_journal.specs.declared.error.SetupError.{SetupError}
+use Rattle.kn_preamble.specs.declared.error.SetupError.{SetupError}
 use Rattle.kn_journal.specs.declared.journal.Setup.{Setup}
-use Rattle.kn_journal.specs.declared.setting.SetupLine.{SetupLine}
-use Rattle.kn_journal.specs.declared.setting.SetupLine.TheVariants.{Fixed, Kpa}
+use Rattle.kn_preamble.specs.declared.setting.SetupLine.{SetupLine}
+use Rattle.kn_preamble.specs.declared.setting.SetupLine.TheVariants.{Fixed, Kpa}
+use Rattle.kn_preamble.specs.SetupLine.{setup_line}
 use Rattle.kn_journal.specs.Causes.{Cause, line_too_long}
 use Rattle.kn_journal.specs.Lines.{fits, text_of}
 use Rattle.kn_journal.specs.Parts.{Part, part, then_part, with_line}
 use Rattle.kn_journal.specs.Setup.{behind_line, block_part, blocks_part, blocks_text, config_in, fits_block, longer, revision_part, setup_in, setup_of, setup_part, spec_in, word_in, word_part}
-use Rattle.kn_journal.specs.SetupLine.{setup_line}
 use Rattle.kn_show_settings.proofs.Blocked.{AreInside, HasNoLf, HaveNoLf}
 
 -- ---- one part, and then the next

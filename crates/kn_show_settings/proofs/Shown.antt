@@ -6,7 +6,7 @@ use Rattle.std.proofs.KnownBytes.{Appends-nil}
 use Rattle.kn_io.specs.Prefix.{AppendsPrefix}
 use Rattle.kn_journal.specs.declared.error.JournalError.{JournalError}
 use Rattle.kn_journal.specs.declared.error.JournalError.TheVariants as error
-use Rattle.kn_journal.specs.declared.first.FirstLine.TheVariants.{Journal as JournalLine}
+use Rattle.kn_preamble.specs.declared.first.FirstLine.TheVariants.{Journal as JournalLine}
 use Rattle.kn_journal.specs.declared.journal.Opening.{Opening}
 use Rattle.kn_journal.specs.declared.status.Status.TheVariants as status
 use Rattle.kn_journal.specs.Causes.{Cause}

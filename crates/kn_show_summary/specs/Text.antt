@@ -2,7 +2,7 @@
 use Rattle.std.specs.Prelude.{ℕ, List, [], ◌∷◌, ◌++◌, codes, length, Option, None, Some}
 use Rattle.std.specs.Fmt.{decimal}
 use Rattle.std.specs.List.{sum}
-use Rattle.kn_scaling.specs.Panic.{greatest}
+use Rattle.kn_event.specs.Lists.{greatest}
 use Rattle.kn_waits.specs.Waits.{percentile}
 use Rattle.kn_costs.specs.declared.gauges.Costs.{Costs}
 use Rattle.kn_costs.specs.declared.gauges.Now.{Now}

@@ -6,11 +6,11 @@ use Rattle.kn_agenda.specs.declared.job.Job.{Job}
 use Rattle.kn_agenda.specs.Workload.{AreJobs}
 use Rattle.kn_journal.specs.declared.error.JournalError.{JournalError}
 use Rattle.kn_journal.specs.Causes.{Cause, line_too_long, no_end}
-use Rattle.kn_journal.specs.Journal.{nothing_part}
 use Rattle.kn_journal.specs.Lines.{fits, lines}
 use Rattle.kn_journal.specs.Parts.{Part, part, then_part}
 use Rattle.kn_journal.specs.Telling.{Gives, Refuses}
-use Rattle.kn_sim.specs.Reading.{end_part, in_turn, job_in, job_of, jobs_part, next_job_in, next_job_part, with_job}
+use Rattle.kn_sim.specs.Reading.{in_turn, job_of, jobs_part, next_job_in, next_job_part, with_job}
+use Rattle.kn_journal.specs.Series.{end_part, item_in, nothing_part}
 use Rattle.kn_sim.proofs.Tellings.{refused-on}
 
 -- ---- what one line leaves
@@ -36,7 +36,7 @@ unfolding next_job_part
 job-left until last count m [] p j h is = absurd (cc)
 job-left until last count m (line ∷ more) p j h is = by_fit (fits line) h
   where
-    by_job : (r : Result Job Cause) → job_in (m + 1) more r ≡ Ok p → IsOneLine (line ∷ more) m p
+    by_job : (r : Result Job Cause) → item_in (m + 1) more r ≡ Ok p → IsOneLine (line ∷ more) m p
     by_job (Ok k) g = record { line = line; more = more; split = refl; left = (made_is (Some k) (m + 1) more p g).1 }
     by_job (Err cause) g = absurd (cc)
 
@@ -44,7 +44,7 @@ job-left until last count m (line ∷ more) p j h is = by_fit (fits line) h
     by_end (Ok q) g = let none = (made_is None q.number q.left p g).0 in absurd (cc)
     by_end (Err cause) g = absurd (cc)
 
-    by_word : (b : Bool) → (if b then end_part (m + 1) more else job_in (m + 1) more (in_turn until last count (m + 1) (job_of line))) ≡ Ok p → IsOneLine (line ∷ more) m p
+    by_word : (b : Bool) → (if b then end_part (m + 1) more else item_in (m + 1) more (in_turn until last count (m + 1) (job_of line))) ≡ Ok p → IsOneLine (line ∷ more) m p
     by_word true g = by_end (nothing_part (m + 1) more) g
     by_word false g = by_job (in_turn until last count (m + 1) (job_of line)) g
 

@@ -4,7 +4,8 @@ use Rattle.std.specs.Prelude.{Result, Ok, Err, OnOk, OnErr, codes}
 use Rattle.std.specs.Fmt.{decimal}
 use Rattle.kn_event.specs.declared.event.Event.{Event}
 use Rattle.kn_event.specs.EventLine.{event_text}
-use Rattle.kn_journal.specs.Journal.{events_text, first_line, journal_text}
+use Rattle.kn_preamble.specs.First.{first_line}
+use Rattle.kn_journal.specs.Journal.{events_text, journal_text}
 use Rattle.kn_sim.specs.declared.workload.Workload.{Workload}
 use Rattle.kn_sim.specs.Simulated.{opening_text, simulated}
 

@@ -10,12 +10,13 @@ use Rattle.kn_io.specs.declared.traits.Source.{Ghosts}
 use Rattle.kn_io.specs.declared.traits.Faulty.{Ghosts as Counted}
 use Rattle.kn_journal.specs.declared.error.JournalError.{JournalError}
 use Rattle.kn_journal.specs.declared.error.JournalError.TheVariants as error
-use Rattle.kn_journal.specs.declared.first.FirstLine.TheVariants.{Workload as WorkloadLine}
+use Rattle.kn_preamble.specs.declared.first.FirstLine.TheVariants.{Workload as WorkloadLine}
 use Rattle.kn_journal.specs.declared.journal.Opening.{Opening}
 use Rattle.kn_journal.specs.declared.journal.Setup.{Setup}
 use Rattle.kn_journal.specs.Causes.{Cause, bad_line, time_back, time_too_large, too_many}
 use Rattle.kn_journal.specs.Drawing.{Draws, error_in}
-use Rattle.kn_journal.specs.Journal.{nothing_part, opening_part, start_part}
+use Rattle.kn_journal.specs.Journal.{opening_part, start_part}
+use Rattle.kn_journal.specs.Series.{nothing_part}
 use Rattle.kn_journal.specs.Lines.{fits, lines}
 use Rattle.kn_journal.specs.Parts.{Part, part, then_part, with_line}
 use Rattle.kn_journal.specs.Reading.{Ahead, TakesLine, most_taken, unread}

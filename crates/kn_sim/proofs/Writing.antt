@@ -5,7 +5,7 @@ use Rattle.kn_event.specs.declared.event.Event.{Event}
 use Rattle.kn_event.specs.EventLine.{IsInJournalRange, IsInVersion, event_text}
 use Rattle.kn_io.specs.Prefix.{AppendsPrefix}
 use Rattle.kn_journal.specs.Journal.{AreEvents, events_text, time_most}
-use Rattle.kn_agenda.specs.Due.{AreNext, IsFront, IsOver, IsSchedule}
+use Rattle.kn_agenda.specs.Due.{AreNext, IsFront, LeavesNothingDue, IsSchedule}
 use Rattle.kn_agenda.specs.Schedule.{Made, ScheduleState}
 use Rattle.kn_report.specs.AddingLaws.{AddingLaws}
 use Rattle.kn_report.specs.Waiting.{Adds}
@@ -44,7 +44,7 @@ go_more laws before x y z a b d p q r e goes step order most range version clock
 
 -- nothing is due any more
 pub go_all : (before : List Event) (x y z : ScheduleState) (a b : Option (List ℕ)) (p q : List ℕ) → y.workload ≡ x.workload → GoesOn before x y a b p q
-    → ((es : List Event) → Made es y → IsOver y.workload es) → ((es : List Event) → Made es y → Made es z) → WritesAll before x z a b p q
+    → ((es : List Event) → Made es y → LeavesNothingDue y.workload es) → ((es : List Event) → Made es y → Made es z) → WritesAll before x z a b p q
 go_all before x y z a b p q same goes over stays = record {
   events = goes.events;
   schedule = subst (λ w. IsSchedule w (before ++ goes.events)) same (record { steps = goes.made.runs.steps; over = over (before ++ goes.events) goes.made });

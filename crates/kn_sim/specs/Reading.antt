@@ -8,19 +8,15 @@ use Rattle.kn_event.specs.Fields.{fields}
 use Rattle.kn_event.specs.Numbers.{number_of}
 use Rattle.kn_agenda.specs.declared.job.Job.{Job}
 use Rattle.kn_journal.specs.declared.error.JournalError.{JournalError}
-use Rattle.kn_journal.specs.declared.first.FirstLine.TheVariants.{Workload as WorkloadLine}
+use Rattle.kn_preamble.specs.declared.first.FirstLine.TheVariants.{Workload as WorkloadLine}
 use Rattle.kn_journal.specs.declared.journal.Setup.{Setup}
 use Rattle.kn_journal.specs.Causes.{Cause, bad_line, no_end, time_back, time_too_large, too_many}
-use Rattle.kn_journal.specs.Journal.{nothing_part, opening_part, start_part, time_most}
+use Rattle.kn_journal.specs.Journal.{opening_part, start_part, time_most}
 use Rattle.kn_journal.specs.Lines.{lines}
 use Rattle.kn_journal.specs.Parts.{Part, part, then_part, with_line}
-use Rattle.kn_io.specs.declared.traits.Source.{Ghosts}
-use Rattle.kn_io.specs.declared.traits.Faulty.{Ghosts as Counted}
-use Rattle.kn_journal.specs.Drawing.{Draws}
-use Rattle.kn_journal.specs.Reading.{unread}
-use Rattle.kn_journal.specs.Telling.{LinesState, Refused, Tells}
-use Rattle.kn_journal.specs.LineCalls.{Anywhere}
+use Rattle.kn_journal.specs.Telling.{Refused}
 use Rattle.kn_sim.specs.declared.workload.Workload.{Workload}
+use Rattle.kn_journal.specs.Series.{end_part, item_in}
 
 -- ---- a line of a word and a number
 
@@ -90,17 +86,9 @@ in_turn until last count n (Ok j) =
     else (if nat_le j.time until then (if nat_le last j.time then Ok j else Err (time_back n last j.time)) else Err (time_too_large n))
 in_turn until last count n (Err why) = Err (bad_line n why)
 
-abbrev pub job_in : ℕ → List (List ℕ) → Result Job Cause → Result (Part (Option Job)) Cause
-job_in n left (Ok j) = Ok (part (Some j) n left)
-job_in n left (Err cause) = Err cause
-
--- after `end` in line n
-abbrev pub end_part : ℕ → List (List ℕ) → Result (Part (Option Job)) Cause
-end_part n lines = then_part (nothing_part n lines) (λ _ n left. Ok (part None n left))
-
 abbrev pub next_job_in : ℕ → ℕ → ℕ → ℕ → List ℕ → List (List ℕ) → Result (Part (Option Job)) Cause
 next_job_in until last count number line left =
-    if bytes_eq line (codes "end") then end_part number left else job_in number left (in_turn until last count number (job_of line))
+    if bytes_eq line (codes "end") then end_part number left else item_in number left (in_turn until last count number (job_of line))
 
 -- the next job after line n, this time and so many jobs, or none where `end` ends the input
 unfoldable pub next_job_part : ℕ → ℕ → ℕ → ℕ → List (List ℕ) → Result (Part (Option Job)) Cause

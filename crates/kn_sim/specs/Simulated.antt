@@ -5,10 +5,11 @@ use Rattle.std.specs.Io.KnownBytes.{Appends}
 use Rattle.kn_event.specs.declared.event.Event.{Event}
 use Rattle.kn_io.specs.Prefix.{AppendsPrefix}
 use Rattle.kn_journal.specs.declared.journal.Journal.{Journal}
-use Rattle.kn_journal.specs.Journal.{AreEvents, IsJournal, IsSetup, events_text, first_line, journal_text}
+use Rattle.kn_journal.specs.Journal.{AreEvents, IsJournal, IsSetup, events_text, journal_text}
 use Rattle.kn_agenda.specs.Workload as plain
 use Rattle.kn_agenda.specs.Due.{IsSchedule}
 use Rattle.kn_agenda.specs.Schedule.{Made, ScheduleState}
+use Rattle.kn_preamble.specs.First.{first_line}
 use Rattle.kn_report.specs.Waiting.{Adds}
 use Rattle.kn_sim.specs.declared.workload.Workload.{Workload}
 

@@ -22,7 +22,7 @@ use Rattle.kn_record.specs.Kept.{Kept}
 use Rattle.kn_record.specs.Facts.{Facts}
 use Rattle.kn_laws.specs.Kinds.{Each}
 use Rattle.kn_laws.specs.Facts.{PartFacts}
-use Rattle.kn_sizes.specs.Stays.{Stays}
+use Rattle.kn_sizes.specs.Stays.{HoldsOnwards}
 use Rattle.kn_sizes.proofs.Counts.{not_begun-less}
 use Rattle.kn_sizes.proofs.Lasting.{stays_always, stays_by, stays_less}
 use Rattle.kn_sizes.proofs.Outcomes.{outcome_stays}
@@ -30,15 +30,15 @@ use Rattle.kn_sizes.proofs.Telling.{after-parts, arrivals-list, is_later_row, la
 
 -- ---- who has come
 
-pub arrivals_stay : (s : Spec) (c : Trace) → Stays s c (λ d. arrivals c ≤ arrivals d)
+pub arrivals_stay : (s : Spec) (c : Trace) → HoldsOnwards s c (λ d. arrivals c ≤ arrivals d)
 arrivals_stay s c = stays_always s (λ d. arrivals c ≤ arrivals d) c (λ es. let all = arrivals-list c es in omega arith)
 
-pub known_stays : (s : Spec) (c : Trace) (r : ℕ) → r < arrivals c → Stays s c (λ d. r < arrivals d)
+pub known_stays : (s : Spec) (c : Trace) (r : ℕ) → r < arrivals c → HoldsOnwards s c (λ d. r < arrivals d)
 known_stays s c r less = stays_less s (λ d. arrivals c ≤ arrivals d) (λ d. r < arrivals d) c (λ d more. omega arith) (arrivals_stay s c)
 
 -- ---- the outcome
 
-pub outcome_lasts : (s : Spec) (c : Trace) (r : ℕ) (o : Outcome) → outcome_of c r ≡ Some o → Stays s c (λ d. outcome_of d r ≡ Some o)
+pub outcome_lasts : (s : Spec) (c : Trace) (r : ℕ) (o : Outcome) → outcome_of c r ≡ Some o → HoldsOnwards s c (λ d. outcome_of d r ≡ Some o)
 outcome_lasts s c r o h = stays_always s (λ d. outcome_of d r ≡ Some o) c (λ es. outcome_stays c es r o h)
 
 distinct-last : (xs : List ℕ) (r : ℕ) → AreDistinct (xs ++ r ∷ []) → contains r xs ≡ false
@@ -97,11 +97,11 @@ module _ (facts : Facts) (parts : PartFacts) where
       or-none true = refl
       or-none false = refl
 
-  placed_stays : (s : Spec) (c : Trace) (r p : ℕ) → IsMade s c → pod_of c r ≡ Some p → Stays s c (IsPlaced r p (assigned c r))
+  placed_stays : (s : Spec) (c : Trace) (r p : ℕ) → IsMade s c → pod_of c r ≡ Some p → HoldsOnwards s c (IsPlaced r p (assigned c r))
   placed_stays s c r p made there = stays_by facts s (IsPlaced r p (assigned c r)) c (λ d e kept h old. placed-push s r p (assigned c r) d e kept h old) made (record { pod = there; assigned = refl })
 
   -- the pod of a request stays
-  pub pod_stays : (s : Spec) (c : Trace) (r p : ℕ) → IsMade s c → pod_of c r ≡ Some p → Stays s c (λ d. pod_of d r ≡ Some p)
+  pub pod_stays : (s : Spec) (c : Trace) (r p : ℕ) → IsMade s c → pod_of c r ≡ Some p → HoldsOnwards s c (λ d. pod_of d r ≡ Some p)
   pod_stays s c r p made there = stays_less s (IsPlaced r p (assigned c r)) (λ d. pod_of d r ≡ Some p) c (λ d h. h.pod) (placed_stays s c r p made there)
 
   -- ---- the assignment
@@ -110,17 +110,17 @@ module _ (facts : Facts) (parts : PartFacts) where
   assigned-list c [] r h = rw (append-nil c) h
   assigned-list c (e ∷ es) r h = rw (append_assoc c (e ∷ []) es) at (assigned-list (c ++ e ∷ []) es r (assigned-push c e r ∙ rw h refl))
 
-  pub assigned_stays : (s : Spec) (c : Trace) (r : ℕ) → assigned c r ≡ true → Stays s c (λ d. assigned d r ≡ true)
+  pub assigned_stays : (s : Spec) (c : Trace) (r : ℕ) → assigned c r ≡ true → HoldsOnwards s c (λ d. assigned d r ≡ true)
   assigned_stays s c r h = stays_always s (λ d. assigned d r ≡ true) c (λ es. assigned-list c es r h)
 
-  pub proxied_stays : (s : Spec) (c : Trace) (r : ℕ) → proxied c r ≡ true → Stays s c (λ d. ended d r ≡ false → proxied d r ≡ true)
+  pub proxied_stays : (s : Spec) (c : Trace) (r : ℕ) → proxied c r ≡ true → HoldsOnwards s c (λ d. ended d r ≡ false → proxied d r ≡ true)
   unfolding proxied
   proxied_stays s c r h =
       stays_less s (λ d. assigned d r ≡ true) (λ d. ended d r ≡ false → (assigned d r && not (ended d r)) ≡ true) c
       (λ d yes still. rw (yes, still) refl) (assigned_stays s c r (and_parts (assigned c r) (not (ended c r)) h).0)
 
   -- nor does the way that it came to its pod change
-  pub way_stays : (s : Spec) (c : Trace) (r p : ℕ) → IsMade s c → pod_of c r ≡ Some p → ended c r ≡ false → Stays s c (λ d. ended d r ≡ false → proxied d r ≡ proxied c r)
+  pub way_stays : (s : Spec) (c : Trace) (r p : ℕ) → IsMade s c → pod_of c r ≡ Some p → ended c r ≡ false → HoldsOnwards s c (λ d. ended d r ≡ false → proxied d r ≡ proxied c r)
   unfolding proxied
   way_stays s c r p made there on =
       stays_less s (IsPlaced r p (assigned c r)) (λ d. ended d r ≡ false → (assigned d r && not (ended d r)) ≡ (assigned c r && not (ended c r))) c

@@ -11,7 +11,7 @@ use Rattle.kn_record.specs.Made.{Holds, IsMade, IsProper}
 use Rattle.kn_record.specs.Rows.{says}
 use Rattle.kn_record.specs.Facts.{Facts}
 use Rattle.kn_sizes.proofs.Counts.{not_begun-less}
-use Rattle.kn_sizes.specs.Stays.{Stays}
+use Rattle.kn_sizes.specs.Stays.{HoldsOnwards}
 use Rattle.kn_sizes.proofs.Lasting.{stays_over}
 
 module _ (facts : Facts) where
@@ -40,7 +40,7 @@ module _ (facts : Facts) where
       rw (append_assoc c (e ∷ []) es) at (waits_no_longer s (c ++ e ∷ []) es r h.1 (omega arith) (waits_no_more s c e r h.0 less out))
 
   -- a request that has come and does not wait never waits again, whatever happens
-  pub waits_once : (s : Spec) (c : Trace) (r : ℕ) → IsMade s c → r < arrivals c → contains r (waiting c) ≡ false → Stays s c (λ d. contains r (waiting d) ≡ false)
+  pub waits_once : (s : Spec) (c : Trace) (r : ℕ) → IsMade s c → r < arrivals c → contains r (waiting c) ≡ false → HoldsOnwards s c (λ d. contains r (waiting d) ≡ false)
   waits_once s c r made less out = stays_over facts s (λ d. contains r (waiting d) ≡ false) c made (λ es h. waits_no_longer s c es r h less out)
 
   -- ---- running is left by an end alone

@@ -13,7 +13,7 @@ use Rattle.kn_record.specs.Made.{IsMade, IsProper}
 use Rattle.kn_record.specs.Rows.{says}
 use Rattle.kn_record.specs.Order.{Ascend}
 use Rattle.kn_record.specs.Facts.{Facts}
-use Rattle.kn_sizes.specs.Stays.{Stays}
+use Rattle.kn_sizes.specs.Stays.{HoldsOnwards}
 use Rattle.kn_sizes.specs.Starting.{IsLeastFrom}
 use Rattle.kn_sizes.proofs.Lasting.{stays_by, stays_less}
 
@@ -116,11 +116,11 @@ module _ (facts : Facts) where
           absurd (cc)
 
   -- a pod that was created and doesn't start never starts again
-  pub starts_once : (s : Spec) (c : Trace) (p : ℕ) → IsMade s c → p < created c → contains p (starting_pods c) ≡ false → Stays s c (λ d. contains p (starting_pods d) ≡ false)
+  pub starts_once : (s : Spec) (c : Trace) (p : ℕ) → IsMade s c → p < created c → contains p (starting_pods c) ≡ false → HoldsOnwards s c (λ d. contains p (starting_pods d) ≡ false)
   starts_once s c p made less out =
       stays_less s (StartsNoMore p) (λ d. contains p (starting_pods d) ≡ false) c (λ d h. h.out)
       (stays_by facts s (StartsNoMore p) c (λ d e kept h old. starts_no_more s p d e h old) made (record { created = less; out = out }))
 
   -- pods that were created stay so
-  pub created_stays : (s : Spec) (c : Trace) → IsMade s c → Stays s c (λ d. created c ≤ created d)
+  pub created_stays : (s : Spec) (c : Trace) → IsMade s c → HoldsOnwards s c (λ d. created c ≤ created d)
   created_stays s c made = stays_by facts s (λ d. created c ≤ created d) c (λ d e kept h old. let more = created-push d e in omega arith) made (omega arith)

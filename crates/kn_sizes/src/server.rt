@@ -12,7 +12,7 @@ ghost use Rattle.kn_laws.specs.ByAct.{AreByAct};
 ghost use Rattle.kn_record.specs.Made.{IsMade};
 ghost use Rattle.kn_sizes.specs.Course.{HasFinished, IsToldByStand, IsUnfinished, MayEnd};
 ghost use Rattle.kn_sizes.specs.Starting.{IsLeastFrom};
-ghost use Rattle.kn_sizes.specs.Stays.{Stays};
+ghost use Rattle.kn_sizes.specs.Stays.{HoldsOnwards};
 ghost use Rattle.kn_sizes.specs.Told.{IsTold};
 
 use kn_laws::parts::part_laws;
@@ -42,14 +42,14 @@ pub fn request_laws()
 /// came to its pod through the activator, until it ends; and a running request runs on until an event finishes it or
 /// loses its pod.
 pub fn lasting_laws()
-    ensures arrivals { (s : Spec) (c : Trace) → Stays s c (λ d. arrivals c ≤ arrivals d) }
-    ensures known { (s : Spec) (c : Trace) (r : ℕ) → r < arrivals c → Stays s c (λ d. r < arrivals d) }
-    ensures waits { (s : Spec) (c : Trace) (r : ℕ) → IsMade s c → r < arrivals c → contains r (waiting c) ≡ false → Stays s c (λ d. contains r (waiting d) ≡ false) }
-    ensures outcome { (s : Spec) (c : Trace) (r : ℕ) (o : Outcome) → outcome_of c r ≡ Some o → Stays s c (λ d. outcome_of d r ≡ Some o) }
-    ensures pod { (s : Spec) (c : Trace) (r p : ℕ) → IsMade s c → pod_of c r ≡ Some p → Stays s c (λ d. pod_of d r ≡ Some p) }
-    ensures assigned { (s : Spec) (c : Trace) (r : ℕ) → assigned c r ≡ true → Stays s c (λ d. assigned d r ≡ true) }
-    ensures proxied { (s : Spec) (c : Trace) (r : ℕ) → proxied c r ≡ true → Stays s c (λ d. ended d r ≡ false → proxied d r ≡ true) }
-    ensures way { (s : Spec) (c : Trace) (r p : ℕ) → IsMade s c → pod_of c r ≡ Some p → ended c r ≡ false → Stays s c (λ d. ended d r ≡ false → proxied d r ≡ proxied c r) }
+    ensures arrivals { (s : Spec) (c : Trace) → HoldsOnwards s c (λ d. arrivals c ≤ arrivals d) }
+    ensures known { (s : Spec) (c : Trace) (r : ℕ) → r < arrivals c → HoldsOnwards s c (λ d. r < arrivals d) }
+    ensures waits { (s : Spec) (c : Trace) (r : ℕ) → IsMade s c → r < arrivals c → contains r (waiting c) ≡ false → HoldsOnwards s c (λ d. contains r (waiting d) ≡ false) }
+    ensures outcome { (s : Spec) (c : Trace) (r : ℕ) (o : Outcome) → outcome_of c r ≡ Some o → HoldsOnwards s c (λ d. outcome_of d r ≡ Some o) }
+    ensures pod { (s : Spec) (c : Trace) (r p : ℕ) → IsMade s c → pod_of c r ≡ Some p → HoldsOnwards s c (λ d. pod_of d r ≡ Some p) }
+    ensures assigned { (s : Spec) (c : Trace) (r : ℕ) → assigned c r ≡ true → HoldsOnwards s c (λ d. assigned d r ≡ true) }
+    ensures proxied { (s : Spec) (c : Trace) (r : ℕ) → proxied c r ≡ true → HoldsOnwards s c (λ d. ended d r ≡ false → proxied d r ≡ true) }
+    ensures way { (s : Spec) (c : Trace) (r p : ℕ) → IsMade s c → pod_of c r ≡ Some p → ended c r ≡ false → HoldsOnwards s c (λ d. ended d r ≡ false → proxied d r ≡ proxied c r) }
     ensures runs { (s : Spec) (c : Trace) (es : List Event) (r : ℕ) → IsMade s c → is_running c r ≡ true → (is_running (c ++ added s c es) r ≡ true) ⊎ Any (λ (e : Event). MayEnd r (pod_of c r) e.act) es }
 {
     fact_laws();
@@ -74,8 +74,8 @@ pub fn need_laws()
 pub fn starting_laws()
     ensures next { (s : Spec) (c : Trace) (from : ℕ) → IsMade s c → IsLeastFrom from (starting_pods c) (next_starting c from) }
     ensures created { (s : Spec) (c : Trace) (p : ℕ) → IsMade s c → contains p (starting_pods c) ≡ true → p < created c }
-    ensures stay { (s : Spec) (c : Trace) → IsMade s c → Stays s c (λ d. created c ≤ created d) }
-    ensures gone { (s : Spec) (c : Trace) (p : ℕ) → IsMade s c → p < created c → contains p (starting_pods c) ≡ false → Stays s c (λ d. contains p (starting_pods d) ≡ false) }
+    ensures stay { (s : Spec) (c : Trace) → IsMade s c → HoldsOnwards s c (λ d. created c ≤ created d) }
+    ensures gone { (s : Spec) (c : Trace) (p : ℕ) → IsMade s c → p < created c → contains p (starting_pods c) ≡ false → HoldsOnwards s c (λ d. contains p (starting_pods d) ≡ false) }
 {
     fact_laws();
 }

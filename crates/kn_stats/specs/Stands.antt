@@ -1,6 +1,6 @@
 -- Which timed changes a Stats stands for.
-use Rattle.std.specs.Prelude.{◌≡◌, true, false, ℕ, Bool, ◌+◌, ◌-◌, ◌*◌, ◌%◌, ◌<◌, ◌≤◌, ◌==◌, min, nat_lt, List, [], length, Option, None, Some, if◌then◌else◌}
-use Rattle.std.specs.List.{list_any, sum_by}
+use Rattle.std.specs.Prelude.{◌≡◌, true, false, ℕ, Bool, ◌+◌, ◌-◌, ◌*◌, ◌%◌, ◌<◌, ◌≤◌, min, nat_lt, List, [], length, Option, None, Some, if◌then◌else◌}
+use Rattle.std.specs.List.{sum_by}
 use Rattle.kn_event.specs.declared.revision.Metric.{Metric}
 use Rattle.kn_event.specs.Lists.{contains}
 use Rattle.kn_scaling.specs.Average.{second_of}

@@ -1,9 +1,6 @@
 -- Whether a setup asks for more pods than there are addresses.
 use Rattle.std.specs.Prelude.{ℕ, ◌≢◌, ◌<◌, max}
-use Rattle.kn_event.specs.declared.revision.Kind.{Kind}
-use Rattle.kn_event.specs.declared.revision.Kind.TheVariants as kind
 use Rattle.kn_event.specs.declared.revision.Spec.{Spec}
-use Rattle.kn_trace.specs.Scale.{opening_scale}
 use Rattle.kn_core.specs.Opening.{first_count}
 
 -- the most pods that it names: those that it opens with, or its max-scale where that is more. A max-scale of 0 is none

@@ -1,10 +1,9 @@
 -- What one event adds to a trace, what it is told, and the trace of a whole journal.
-use Rattle.std.specs.Prelude.{ℕ, Bool, true, false, not, ◌+◌, ◌%◌, ◌&&◌, ◌==◌, ◌++◌, zero, suc, nat_le, List, [], ◌∷◌, map, length, Option, None, Some, slice_index, if◌then◌else◌}
+use Rattle.std.specs.Prelude.{ℕ, Bool, true, false, not, ◌+◌, ◌%◌, ◌&&◌, ◌==◌, ◌++◌, nat_le, List, [], ◌∷◌, map, length, Option, None, Some, slice_index, if◌then◌else◌}
 use Rattle.std.specs.List.{filter, filter_map}
 use Rattle.kn_event.specs.declared.entry.Entry.{Entry}
 use Rattle.kn_event.specs.declared.entry.Row.{Row}
 use Rattle.kn_event.specs.declared.entry.Row.TheVariants as row
-use Rattle.kn_event.specs.declared.entry.Phase.{Phase}
 use Rattle.kn_event.specs.declared.entry.Phase.TheVariants as phase
 use Rattle.kn_event.specs.declared.entry.Mode.{Mode}
 use Rattle.kn_event.specs.declared.entry.Mode.TheVariants as mode

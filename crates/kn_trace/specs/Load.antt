@@ -1,10 +1,9 @@
 -- How many milliseconds of each second the requests took, how many came in it, and which seconds are samples.
-use Rattle.std.specs.Prelude.{ℕ, Bool, false, not, ◌+◌, ◌-◌, ◌*◌, ◌||◌, ◌==◌, nat_lt, min, max, List, length, Option, None, Some, option_map, if◌then◌else◌}
+use Rattle.std.specs.Prelude.{ℕ, Bool, not, ◌+◌, ◌-◌, ◌*◌, ◌||◌, ◌==◌, nat_lt, min, max, List, length, Option, None, Some, option_map, if◌then◌else◌}
 use Rattle.std.specs.Bool.{then_some}
 use Rattle.std.specs.List.{filter, filter_map, sum_by}
 use Rattle.kn_event.specs.declared.entry.Entry.{Entry}
 use Rattle.kn_event.specs.declared.revision.Metric.{Metric}
-use Rattle.kn_event.specs.declared.revision.Metric.TheVariants as metric
 use Rattle.kn_event.specs.Lists.{is_some_of}
 use Rattle.kn_scaling.specs.Average.{Samples, second_of, value_of}
 use Rattle.kn_trace.specs.Rows.{taken_by, ended_by}

@@ -1,6 +1,6 @@
 -- What a trace says. A trace is the list of all entries so far, and each view reads the whole of it.
 use Rattle.std.specs.Prelude.{ℕ, Bool, true, false, not, ◌&&◌, ◌||◌, ◌==◌, nat_le, nat_lt, List, [], ◌∷◌, length, Option, None, Some, unwrap_or}
-use Rattle.std.specs.List.{filter, filter_map, find, list_any}
+use Rattle.std.specs.List.{filter, filter_map, find}
 use Rattle.kn_event.specs.declared.entry.Entry.{Entry}
 use Rattle.kn_event.specs.declared.entry.Row.{Row}
 use Rattle.kn_event.specs.declared.event.Stand.{Stand}

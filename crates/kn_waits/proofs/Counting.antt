@@ -6,7 +6,7 @@ use Rattle.std.proofs.lemmas.Bool.Decides.{nat_tests}
 use Rattle.std.proofs.lemmas.List.{get_or_default}
 use Rattle.std.proofs.lemmas.List.Elements.{All-head, All-push, All-tail}
 use Rattle.std.proofs.lemmas.List.Sums.{sum_by-cons, sum_by_push, count_by-le-length}
-use Rattle.kn_scaling.specs.Panic.{greatest}
+use Rattle.kn_event.specs.Lists.{greatest}
 use Rattle.kn_waits.specs.Waits.{AreWaits, IsLeastEnough, WaitsState, count_up_to, is_enough, percentile}
 
 -- ---- how many waited less than, just, and at most so long

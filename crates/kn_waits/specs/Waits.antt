@@ -1,7 +1,7 @@
 -- How long requests waited.
-use Rattle.std.specs.Prelude.{◌≡◌, ℕ, ◌+◌, ◌*◌, ◌<◌, ◌≤◌, ◌^◌, Bool, ◌==◌, nat_le, max, List, [], ◌∷◌, ◌++◌, length, Option, None, Some, slice_index}
+use Rattle.std.specs.Prelude.{◌≡◌, ℕ, ◌+◌, ◌*◌, ◌<◌, ◌≤◌, ◌^◌, Bool, ◌==◌, nat_le, List, [], ◌∷◌, ◌++◌, length, Option, None, Some, slice_index}
 use Rattle.std.specs.List.{All, count_by, find, range_with_len, sum}
-use Rattle.kn_scaling.specs.Panic.{greatest}
+use Rattle.kn_event.specs.Lists.{greatest}
 
 abbrev pub count_up_to : ℕ → List ℕ → ℕ
 count_up_to w ws = count_by (λ v. nat_le v w) ws

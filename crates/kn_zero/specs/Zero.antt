@@ -1,5 +1,5 @@
 -- What a revision's zero rule keeps between its decisions.
-use Rattle.std.specs.Prelude.{ℕ, Bool, true, false, ◌==◌, max, if◌then◌else◌}
+use Rattle.std.specs.Prelude.{ℕ, Bool, true, false, max, if◌then◌else◌}
 use Rattle.kn_event.specs.declared.entry.Phase.{Phase}
 use Rattle.kn_event.specs.declared.entry.Phase.TheVariants as phase
 use Rattle.kn_event.specs.declared.entry.Mode.{Mode}

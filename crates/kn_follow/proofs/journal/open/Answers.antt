@@ -1,7 +1,7 @@
 use Rattle.std.proofs.Common.{arith, ◌≡◌, Bool, ℕ, ◌+◌, ap, ◌∙◌, subst, sym}
 use Rattle.std.specs.Prelude.{Err, Ok, Some}
 use Rattle.std.proofs.lemmas.Result.{err_from_is_err_and}
-use Rattle.kn_journal.specs.declared.first.FirstLine.TheVariants.{Journal as JournalLine}
+use Rattle.kn_preamble.specs.declared.first.FirstLine.TheVariants.{Journal as JournalLine}
 use Rattle.kn_journal.specs.declared.error.JournalError.{JournalError}
 use Rattle.kn_journal.specs.declared.error.JournalError.TheVariants as error
 use Rattle.kn_journal.specs.declared.journal.Opening.{Opening}

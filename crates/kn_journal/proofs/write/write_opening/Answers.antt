@@ -1,7 +1,7 @@
 -- Line 1, and then the setup.
 use Rattle.std.proofs.Common.{◌++◌, ◌∷◌, [], ◌∙◌}
 use Rattle.std.proofs.KnownBytes.{Appends-trans}
-use Rattle.kn_journal.specs.Journal.{first_line}
+use Rattle.kn_preamble.specs.First.{first_line}
 use Rattle.kn_journal.proofs.Pieces.{on_err, on_ok, prefix_last, prefix_more}
 use Rattle.kn_journal.proofs.write.write_opening.Goals as goal
 

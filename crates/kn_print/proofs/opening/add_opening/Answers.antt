@@ -2,7 +2,7 @@
 use Rattle.std.proofs.Common.{◌++◌, ◌∷◌, [], ◌∙◌}
 use Rattle.std.specs.Prelude.{codes}
 use Rattle.std.specs.Fmt.{decimal}
-use Rattle.kn_journal.specs.Journal.{first_line}
+use Rattle.kn_preamble.specs.First.{first_line}
 use Rattle.kn_print.specs.Printed.{preface}
 use Rattle.kn_print.proofs.Pieces.{on_err, on_ok, prefix_behind}
 use Rattle.kn_print.proofs.Waits.{adds_last, adds_some, adds_trans}

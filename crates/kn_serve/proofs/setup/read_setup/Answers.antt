@@ -1,6 +1,6 @@
 use Rattle.std.proofs.Common.{ℕ, Option, List, subst, length, ap, ◌∙◌, arith}
 use Rattle.std.specs.Prelude.{Err, Ok, Result}
-use Rattle.kn_journal.specs.declared.first.FirstLine.TheVariants.{Journal as JournalLine}
+use Rattle.kn_preamble.specs.declared.first.FirstLine.TheVariants.{Journal as JournalLine}
 use Rattle.kn_journal.specs.declared.error.JournalError.{JournalError}
 use Rattle.kn_journal.specs.declared.error.JournalError.TheVariants as error
 use Rattle.kn_journal.specs.declared.journal.Opening.{Opening}

@@ -3,7 +3,7 @@ use Rattle.std.proofs.Common.{◌++◌, ◌∷◌, [], ◌∙◌, ℕ, List, app
 use Rattle.std.specs.Prelude.{codes}
 use Rattle.std.specs.Fmt.{decimal}
 use Rattle.kn_io.specs.Prefix.{AppendsPrefix}
-use Rattle.kn_journal.specs.Journal.{first_line}
+use Rattle.kn_preamble.specs.First.{first_line}
 use Rattle.kn_sim.proofs.Pieces.{on_err, on_ok}
 use Rattle.kn_sim.proofs.print.write_opening.Goals as goal
 

@@ -6,7 +6,7 @@ use Rattle.kn_trace.specs.Trace.{Trace}
 use Rattle.kn_book.specs.State.{IsBookOf}
 use Rattle.kn_core.specs.State.{StandsFor}
 use Rattle.kn_figures.specs.Tallies.{IsTallyOf}
-use Rattle.kn_cell.specs.Desk.{event_at}
+use Rattle.kn_cell.specs.Desk.{event_by_clock}
 use Rattle.kn_cell.specs.State.{live_in}
 use Rattle.kn_cell.proofs.Bookkeeping.{has_next, has_room}
 use Rattle.kn_cell.proofs.Rooms.{room_left}
@@ -46,7 +46,7 @@ returns-clause-ok c =
     let len = c.keep.ensures.len in
     let clock = c.self.inside.revision.clock in
     let now : Event = record { time = c.min-time.result; act = c.args.act } in
-    let is : now ≡ event_at clock c.args.time c.args.act = ap (λ t. record { time = t; act = c.args.act })
+    let is : now ≡ event_by_clock clock c.args.time c.args.act = ap (λ t. record { time = t; act = c.args.act })
     (c.min-time.ensures ∙ ap (λ t. min t (2 ^ 42)) (c.max.ensures ∙ ap (λ t. max c.args.time t) c.now.ensures.value)) in
     record {
       room = search rules;

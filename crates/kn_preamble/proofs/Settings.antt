@@ -4,11 +4,11 @@ use Rattle.std.specs.Prelude.{Result, Ok, Err}
 use Rattle.std.specs.List.{slice_split}
 use Rattle.std.proofs.lemmas.List.Splits.{length-slice_split}
 use Rattle.kn_event.specs.Fields.{fields, fields_behind, is_space}
-use Rattle.kn_journal.specs.declared.error.SetupError.{SetupError}
-use Rattle.kn_journal.specs.declared.error.SetupError.TheVariants.{BadField}
-use Rattle.kn_journal.specs.declared.setting.Setting.{Setting}
-use Rattle.kn_journal.specs.declared.setting.Placed.{Placed}
-use Rattle.kn_journal.specs.SetupLine.{placed_due}
+use Rattle.kn_preamble.specs.declared.error.SetupError.{SetupError}
+use Rattle.kn_preamble.specs.declared.error.SetupError.TheVariants.{BadField}
+use Rattle.kn_preamble.specs.declared.setting.Setting.{Setting}
+use Rattle.kn_preamble.specs.declared.setting.Placed.{Placed}
+use Rattle.kn_preamble.specs.SetupLine.{placed_due}
 
 -- these numbers, and then those of the rest
 abbrev pub with_all : List Placed → Result (List Placed) SetupError → Result (List Placed) SetupError

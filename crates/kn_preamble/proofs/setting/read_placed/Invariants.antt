@@ -1,9 +1,9 @@
 -- The numbers so far, and then what is due of the fields that are left.
 use Rattle.std.proofs.Common.{◌≡◌, ◌≤◌, length, take, drop}
 use Rattle.kn_event.specs.Fields.{fields_behind}
-use Rattle.kn_journal.specs.SetupLine.{placed_due}
-use Rattle.kn_journal.proofs.Settings.{with_all}
-use Rattle.kn_journal.proofs.setting.read_placed.Given as goal
+use Rattle.kn_preamble.specs.SetupLine.{placed_due}
+use Rattle.kn_preamble.proofs.Settings.{with_all}
+use Rattle.kn_preamble.proofs.setting.read_placed.Given as goal
 
 abbrev pub invariant-loop-i : goal.invariant-loop-i
 invariant-loop-i l = record {

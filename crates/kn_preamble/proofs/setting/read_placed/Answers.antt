@@ -1,8 +1,8 @@
 -- A field that no setting is left for.
 use Rattle.std.proofs.Common.{◌≡◌, ◌<◌, ◌∙◌, [], length, take, drop, arith}
 use Rattle.std.proofs.lemmas.Grind.{common_steps}
-use Rattle.kn_journal.proofs.Settings.{one_too_many}
-use Rattle.kn_journal.proofs.setting.read_placed.Goals as goal
+use Rattle.kn_preamble.proofs.Settings.{one_too_many}
+use Rattle.kn_preamble.proofs.setting.read_placed.Goals as goal
 
 pub returns-else-end-line-clause-err : goal.returns-else-end-line-clause-err
 returns-else-end-line-clause-err c =

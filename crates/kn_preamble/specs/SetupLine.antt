@@ -2,18 +2,18 @@
 use Rattle.std.specs.Prelude.{ℕ, Bool, ◌+◌, ◌≤◌, nat_eq, nat_lt, List, [], ◌∷◌, drop, length, map, Option, None, Some, Result, Ok, Err, codes, if◌then◌else◌}
 use Rattle.std.specs.List.{starts_with}
 use Rattle.std.specs.Str.{bytes_eq}
+use Rattle.kn_event.specs.declared.revision.Slots.{Slots}
 use Rattle.kn_event.specs.Fields.{fields}
 use Rattle.kn_event.specs.Numbers.{number_of}
 use Rattle.kn_event.specs.Ranges.{AreSlots, is_between}
-use Rattle.kn_event.specs.declared.revision.Slots.{Slots}
-use Rattle.kn_journal.specs.declared.error.SetupError.{SetupError}
-use Rattle.kn_journal.specs.declared.error.SetupError.TheVariants.{BadField, OutOfRange, BadWord}
-use Rattle.kn_journal.specs.declared.setting.Setting.{Setting}
-use Rattle.kn_journal.specs.declared.setting.Setting.TheVariants.{Limit, Depth, Max, Pods, Timeout, Seed}
-use Rattle.kn_journal.specs.declared.setting.Placed.{Placed}
-use Rattle.kn_journal.specs.declared.setting.FixedLine.{FixedLine}
-use Rattle.kn_journal.specs.declared.setting.SetupLine.{SetupLine}
-use Rattle.kn_journal.specs.declared.setting.SetupLine.TheVariants.{Fixed, Kpa}
+use Rattle.kn_preamble.specs.declared.error.SetupError.{SetupError}
+use Rattle.kn_preamble.specs.declared.error.SetupError.TheVariants.{BadField, OutOfRange, BadWord}
+use Rattle.kn_preamble.specs.declared.setting.Setting.{Setting}
+use Rattle.kn_preamble.specs.declared.setting.Setting.TheVariants.{Limit, Depth, Max, Pods, Timeout, Seed}
+use Rattle.kn_preamble.specs.declared.setting.Placed.{Placed}
+use Rattle.kn_preamble.specs.declared.setting.FixedLine.{FixedLine}
+use Rattle.kn_preamble.specs.declared.setting.SetupLine.{SetupLine}
+use Rattle.kn_preamble.specs.declared.setting.SetupLine.TheVariants.{Fixed, Kpa}
 
 -- ---- the numbers
 

@@ -1,7 +1,7 @@
 //! The first line of a setup.
 ghost use Rattle.std.specs.Prelude.{◌≡◌, ◌+◌, ◌≤◌, List, ◌∷◌, Ok, Err, None, OnOk, IfOk, IfErr, length, drop};
 ghost use Rattle.kn_event.specs.Fields.{fields, fields_behind};
-ghost use Rattle.kn_journal.specs.SetupLine.{fixed_from, fixed_line, fixed_settings, is_in_range, IsFixedLine, IsSetupLine, least_due, least_from, kpa_from, kpa_settings, least_of, most_of, numbers_due, placed_due, range_fault, setting_number, setting_text, setup_line, with_placed};
+ghost use Rattle.kn_preamble.specs.SetupLine.{fixed_from, fixed_line, fixed_settings, is_in_range, IsFixedLine, IsSetupLine, least_due, least_from, kpa_from, kpa_settings, least_of, most_of, numbers_due, placed_due, range_fault, setting_number, setting_text, setup_line, with_placed};
 
 use crate::error::SetupError;
 use kn_event::{Slots, first_end, next_end, read_number};
