@@ -22,10 +22,7 @@ pub fn read_setup<S: Source>(alloc: Global, source: &mut S) -> Result<Setup, Jou
         Ok(reader) => reader,
         Err(Memory) => return Err(JournalError::Memory),
     };
-    let setup = match reader.setup(alloc, source) {
-        Ok(setup) => setup,
-        Err(error) => return Err(error),
-    };
+    let setup = reader.setup(alloc, source)?;
     match reader.finish_setup(source) {
         Ok(()) => Ok(setup),
         Err(error) => Err(error),
