@@ -29,10 +29,7 @@ fn specs_of(alloc: Global, setups: &[Setup]) -> Result<Vec<Spec>, Memory>
 {
     let mut specs = Vec::new(alloc);
     for setup in setups {
-        let spec = match setup.spec.copy(alloc) {
-            Ok(spec) => spec,
-            Err(Memory) => return Err(Memory),
-        };
+        let spec = setup.spec.copy(alloc)?;
         if specs.push(spec).is_err() {
             return Err(Memory);
         }
@@ -48,10 +45,7 @@ fn open_revisions(alloc: Global, setups: &[Setup], start: u64) -> Result<Vec<Rev
 {
     let mut revisions = Vec::new(alloc);
     for setup in setups {
-        let revision = match open_revision(alloc, &setup.spec, start) {
-            Ok(revision) => revision,
-            Err(Memory) => return Err(Memory),
-        };
+        let revision = open_revision(alloc, &setup.spec, start)?;
         if revisions.push(revision).is_err() {
             return Err(Memory);
         }
