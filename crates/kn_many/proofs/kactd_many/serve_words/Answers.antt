@@ -1,4 +1,4 @@
-use Rattle.std.proofs.Common.{◌∙◌, ap, arith, inl, inr, length, map, refl, string_bytes, subst, sym}
+use Rattle.std.proofs.Common.{◌∙◌, ap, arith, drop, inl, inr, length, map, refl, string_bytes, subst, sym}
 use Rattle.std.specs.Prelude.{Err}
 use Rattle.kn_io.specs.Causes.{Rose}
 use Rattle.kn_plan.specs.Plan.{AsksForMany}
@@ -23,8 +23,8 @@ serve_all-requires-clause-slots g c κs within = opened_ready _ _ c.in-Ok.plan c
 
 pub returns-clause-course : goal.returns-clause-course
 returns-clause-course g c =
-    let back = taken_all c.open.new.slots.len c.serve_all.new.slots _ (omega (arith, c.serve_all.auto.slots, c.deref_mut.ensures.len, ap length c.deref_mut.ensures.value)) in
-    let back' = taken_all c.open.new.keepers.len c.serve_all.new.keepers _ (omega (arith, c.serve_all.auto.keepers, c.deref_mut-2.ensures.len, ap length c.deref_mut-2.ensures.value)) in
+    let back = taken_all c.open.new.slots.len c.serve_all.new.slots (drop (length c.serve_all.new.slots) c.open.new.slots.items) (omega (arith, c.serve_all.auto.slots, c.deref_mut.ensures.len, ap length c.deref_mut.ensures.value)) in
+    let back' = taken_all c.open.new.keepers.len c.serve_all.new.keepers (drop (length c.serve_all.new.keepers) c.open.new.keepers.items) (omega (arith, c.serve_all.auto.keepers, c.deref_mut-2.ensures.len, ap length c.deref_mut-2.ensures.value)) in
     rw (back, back') (inr (record {
       plan = c.in-Ok.plan;
       asks = c.in-Ok.ensures.plan;
@@ -36,5 +36,5 @@ returns-clause-course g c =
 
 pub returns-clause-works : goal.returns-clause-works
 returns-clause-works g c =
-    let back = taken_all c.open.new.slots.len c.serve_all.new.slots _ (omega (arith, c.serve_all.auto.slots, c.deref_mut.ensures.len, ap length c.deref_mut.ensures.value)) in
+    let back = taken_all c.open.new.slots.len c.serve_all.new.slots (drop (length c.serve_all.new.slots) c.open.new.slots.items) (omega (arith, c.serve_all.auto.slots, c.deref_mut.ensures.len, ap length c.deref_mut.ensures.value)) in
     rw back (λ i d low. (c.serve_all.ensures.slots i d low).empty)
