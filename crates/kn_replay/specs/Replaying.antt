@@ -7,7 +7,8 @@ use Rattle.kn_journal.specs.declared.status.Status.{Status}
 use Rattle.kn_follow.specs.Cutting as cutting
 use Rattle.kn_follow.specs.Following.{FollowsInput}
 use Rattle.kn_replay.specs.Report.{report}
-pub use Rattle.kn_follow.specs.Endings.{EndsThere, IsRefusal, IsReplayed, LeavesBehind, Writes, status_by, status_of}
+pub use Rattle.kn_journal.specs.Reading.{EndsThere}
+pub use Rattle.kn_follow.specs.Endings.{IsRefusal, IsReplayed, LeavesBehind, Writes, status_by, status_of}
 
 -- a replay of an input with these bytes, of which these are left and so many were given, writes the report
 abbrev pub Replays : Option (List ℕ) → Option (List ℕ) → ℕ → Option (List ℕ) → Option (List ℕ) → Status → Type 0
