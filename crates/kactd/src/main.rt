@@ -4,8 +4,9 @@
 
 use kn_io::{MachineClock, OpenGate, ReaderSource, WriterSink};
 use kn_journal::Status;
+use kn_many::kactd_many_run;
 use kn_opener::{TcpOpener, TcpWideOpener};
-use kn_serve::{kactd_many_run, kactd_run};
+use kn_serve::kactd_run;
 use kn_stay_tcp::{Streams, kactd_stay};
 use std::net::{Net, TcpListener, TcpStream};
 use std::process::ExitCode;

@@ -3,9 +3,9 @@ use Rattle.std.specs.Prelude.{◌≡◌, All, ℕ, List, None, length, map, slic
 use Rattle.std.proofs.lemmas.List.Elements.{All-map}
 use Rattle.kn_request.specs.declared.slot.Slot.{Slot}
 use Rattle.kn_request.specs.declared.slot.WideSlot.{WideSlot}
-use Rattle.kn_serve.specs.Many.{IsReadyFor}
+use Rattle.kn_many.specs.Many.{IsReadyFor}
 use Rattle.kn_serve.specs.Opening.{IsEmptyWork, IsFresh, IsUnused}
-use Rattle.kn_serve.specs.WideOpening.{IsFreshWide}
+use Rattle.kn_many.specs.WideOpening.{IsFreshWide}
 
 pub untold : IsUnused None
 untold l is = cc

@@ -1,11 +1,12 @@
 //! What listens for the clients of several revisions, and reaches their pods over TCP.
 ghost use Rattle.std.specs.Prelude.{◌≡◌, [], All, OnOk, length};
-ghost use Rattle.kn_serve.specs.Many.{IsReadyFor};
+ghost use Rattle.kn_many.specs.Many.{IsReadyFor};
 ghost use Rattle.kn_serve.specs.Opening.{IsEmptyWork};
 
 use crate::sockets::{caller, link, listen};
 use kn_io::Faulty;
-use kn_serve::{HostLists, OpenError, WideOpener, WidePlan, WideSlot, Work};
+use kn_many::{HostLists, WideOpener, WidePlan, WideSlot};
+use kn_serve::{OpenError, Work};
 use kn_tcp::{TcpCaller, TcpLink};
 use std::alloc::Global;
 use std::net::{Net, TcpListener, TcpStream};

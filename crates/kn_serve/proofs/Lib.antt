@@ -4,7 +4,3 @@ pub mod Slots
 pub mod RunFacts
 pub mod ShutFacts
 pub mod FineFacts
-pub mod WideFacts
-pub mod ManyFacts
-pub mod ManyEnds
-pub mod ManyRun

@@ -1,10 +1,9 @@
 -- How a session ends by its slots, and what is left of a slot.
-use Rattle.std.specs.Prelude.{◌≡◌, ◌<◌, ℕ, Bool, true, false, List, All, length, map, slice_index_or, Option, None, Some}
+use Rattle.std.specs.Prelude.{◌≡◌, ◌<◌, ℕ, Bool, true, false, List, length, map, slice_index_or, Option, None, Some}
 use Rattle.std.specs.List.{list_any, position}
 use Rattle.kn_journal.specs.declared.status.Status.{Status}
 use Rattle.kn_journal.specs.declared.status.Status.TheVariants as status
 use Rattle.kn_request.specs.declared.slot.Slot.{Slot}
-use Rattle.kn_request.specs.declared.slot.WideSlot.{WideSlot}
 use Rattle.kn_serve.specs.Opening.{IsEmptyWork}
 
 -- its work is empty, and all else is as it was
@@ -26,20 +25,3 @@ status_by None false = status.Ok
 -- .. by the works of slots
 abbrev pub status_of_slots : {C L : Type 0} → List (Slot C L) → Status
 status_of_slots {C} {L} slots = status_by (position (λ b. b) (map (λ (s : Slot C L). s.work.fault) slots)) (list_any (λ b. b) (map (λ (s : Slot C L). s.work.memory) slots))
-
--- the same of a slot over several revisions
-pub record IsAllCleared {C L : Type 0} (s t : WideSlot C L) : Type 0 where
-  pub caller : t.caller ≡ s.caller
-  pub links : t.links ≡ s.links
-  pub many : length t.works.items ≡ length s.works.items
-  pub empty : All IsEmptyWork t.works.items
-
-abbrev pub AreAllCleared : {C L : Type 0} → List (WideSlot C L) → List (WideSlot C L) → Type 0
-AreAllCleared {C} {L} ss ts = (length ts ≡ length ss) × ((i : ℕ) (d : WideSlot C L) → i < length ss → IsAllCleared (slice_index_or ss i d) (slice_index_or ts i d))
-
--- a round of the slot ended in a fault, of whichever revision; one did in want of memory
-abbrev pub has_fault : {C L : Type 0} → WideSlot C L → Bool
-has_fault {C} {L} s = list_any (λ w. w.fault) s.works.items
-
-abbrev pub has_want : {C L : Type 0} → WideSlot C L → Bool
-has_want {C} {L} s = list_any (λ w. w.memory) s.works.items

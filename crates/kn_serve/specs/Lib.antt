@@ -2,12 +2,8 @@ pub mod Course
 pub mod Ending
 pub mod Front
 pub mod Laws
-pub mod Many
-pub mod ManyCourse
 pub mod Opening
 pub mod Running
 pub mod Setup
-pub mod Setups
 pub mod Shut
 pub mod Texts
-pub mod WideOpening

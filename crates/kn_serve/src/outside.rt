@@ -1,6 +1,5 @@
 //! What is seen of the outside of a session, in clauses alone.
 use crate::opening::Opener;
-use crate::wide_opening::WideOpener;
 use kn_io::{Caller, Clock, PodLink, Sink, Source};
 use kn_request::{Slot, WideSlot};
 use kn_session::Sided;
@@ -36,25 +35,5 @@ pub trait Opens<S, C, L, K, O> {
 
 impl<W: Opener<C, L>, S: Source, C: Caller, L: PodLink, K: Clock, O: Sink> Opens<S, C, L, K, O>
     for W {
-    ghost seen = { record { outside = ⟦<() as Outside<S, C, L, K, O>>⟧.seen; opener_faults = W.Faulty.faults; gives = W.gives } };
-}
-
-/// .. of an opener for several revisions.
-pub trait OpensAll<S, C, L, K, O> {
-    ghost use Rattle.std.specs.Prelude.{List};
-    ghost use Rattle.kn_plan.specs.declared.wide_plan.WidePlan.{WidePlan};
-    ghost use Rattle.kn_request.specs.declared.slot.WideSlot.{WideSlot};
-    ghost use Rattle.kn_serve.specs.Course.{SeenOpening};
-
-    ghost seen: { SeenOpening Self WidePlan (List (WideSlot C L)) (List L) S C L K O };
-}
-
-impl<W: WideOpener<C, L>, S: Source, C: Caller, L: PodLink, K: Clock, O: Sink> OpensAll<
-    S,
-    C,
-    L,
-    K,
-    O,
-> for W {
     ghost seen = { record { outside = ⟦<() as Outside<S, C, L, K, O>>⟧.seen; opener_faults = W.Faulty.faults; gives = W.gives } };
 }

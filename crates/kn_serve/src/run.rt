@@ -15,7 +15,7 @@ ghost use Rattle.kn_serve.specs.Texts.{IsToldOn, status_text};
 
 use crate::ending::{clear, end_of};
 use crate::outside::Outside;
-use crate::setups::read_setup;
+use crate::setup::read_setup;
 use crate::telling::tell;
 use kn_core::Revision;
 use kn_event::{EntryLog, Memory, Spec};
@@ -67,18 +67,9 @@ pub fn open_logged(alloc: Global, spec: &Spec, start: u64) -> Result<(Revision, 
     ensures live { IfOk result (λ r. (c : Trace) → StandsFor r.0 c → count_live c ≡ 0) }
     ensures opened { IfOk result (λ r. IsOpenedBy r.0 r.1) }
 {
-    let mut log = match EntryLog::new(alloc) {
-        Ok(log) => log,
-        Err(Memory) => return Err(Memory),
-    };
-    let spec = match spec.copy(alloc) {
-        Ok(spec) => spec,
-        Err(Memory) => return Err(Memory),
-    };
-    let revision = match Revision::new(alloc, spec, start, &mut log) {
-        Ok(revision) => revision,
-        Err(Memory) => return Err(Memory),
-    };
+    let mut log = EntryLog::new(alloc)?;
+    let spec = spec.copy(alloc)?;
+    let revision = Revision::new(alloc, spec, start, &mut log)?;
     let live = revision.live();
     prove!(live == 0);
     Ok((revision, log))

@@ -8,7 +8,7 @@ use Rattle.kn_io.specs.MemLink.{Wire}
 use Rattle.kn_request.specs.declared.slot.Work.{Work}
 use Rattle.kn_request.specs.Outside.{said}
 use Rattle.kn_serve.specs.Opening.{IsEmptyWork, IsFresh, IsSilent, IsUnused}
-use Rattle.kn_serve.specs.WideOpening.{IsFreshWide}
+use Rattle.kn_many.specs.WideOpening.{IsFreshWide}
 
 silent : (kept : List (List ℕ)) (held : List ℕ) → kept ≡ [] → held ≡ [] → IsSilent (said (Some kept) (Some held))
 unfolding every_second

@@ -12,7 +12,7 @@ use kn_case::shown;
 use kn_event::Memory;
 use kn_io::{MemCaller, MemLink, OpenGate};
 use kn_journal::Status;
-use kn_serve::{MemWideOpener, kactd_many_run};
+use kn_many::{MemWideOpener, kactd_many_run};
 use std::alloc::{AllocError, Global};
 use std::io;
 use std::sync::Wait;

@@ -4,13 +4,14 @@ ghost use Rattle.kn_io.specs.Links.{unused};
 ghost use Rattle.kn_io.specs.MemCaller.{kept_of};
 ghost use Rattle.kn_request.specs.Outside.{said};
 ghost use Rattle.kn_serve.specs.Opening.{IsEmptyWork, IsUnused};
-ghost use Rattle.kn_serve.specs.WideOpening.{IsFreshWide};
+ghost use Rattle.kn_many.specs.WideOpening.{IsFreshWide};
 
 use crate::lines::number_of;
 use crate::setting::{NEVER, caller_of, keeper, link_of};
 use kn_event::Memory;
 use kn_io::{MemCaller, MemLink, PodLink, Sink};
-use kn_serve::{WideSlot, Work};
+use kn_many::WideSlot;
+use kn_serve::Work;
 use std::alloc::Global;
 
 pub type MemWideSlot = WideSlot<MemCaller, MemLink>;

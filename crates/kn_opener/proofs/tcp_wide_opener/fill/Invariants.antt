@@ -1,7 +1,7 @@
 -- The slots so far, none of which did anything.
 use Rattle.std.proofs.Common.{◌≡◌, vec_len}
 use Rattle.std.specs.Prelude.{All, length}
-use Rattle.kn_serve.specs.Many.{IsReadyFor}
+use Rattle.kn_many.specs.Many.{IsReadyFor}
 use Rattle.kn_opener.proofs.tcp_wide_opener.fill.Given as goal
 
 abbrev pub invariant-loop : goal.invariant-loop

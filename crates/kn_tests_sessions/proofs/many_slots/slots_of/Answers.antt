@@ -6,7 +6,7 @@ use Rattle.kn_io.specs.declared.mem_link.MemLink.{MemLink}
 use Rattle.kn_io.specs.MemCaller.{kept_of}
 use Rattle.kn_request.specs.declared.slot.WideSlot.{WideSlot}
 use Rattle.kn_request.specs.Outside.{said}
-use Rattle.kn_serve.specs.WideOpening.{IsFreshWide}
+use Rattle.kn_many.specs.WideOpening.{IsFreshWide}
 use Rattle.kn_tests_sessions.proofs.many_slots.slots_of.Goals as goal
 
 pub loop-word-preserved : goal.loop-word-preserved

@@ -2,7 +2,7 @@
 use Rattle.std.specs.Prelude.{All, Some, map}
 use Rattle.kn_io.specs.MemCaller.{kept_of}
 use Rattle.kn_request.specs.Outside.{said}
-use Rattle.kn_serve.specs.WideOpening.{IsFreshWide}
+use Rattle.kn_many.specs.WideOpening.{IsFreshWide}
 use Rattle.kn_tests_sessions.proofs.many_slots.slots_of.Given as goal
 
 abbrev pub invariant-loop-word : goal.invariant-loop-word

@@ -1,0 +1,5 @@
+pub mod Ending
+pub mod Many
+pub mod ManyCourse
+pub mod Setups
+pub mod WideOpening
