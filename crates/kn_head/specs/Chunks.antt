@@ -1,5 +1,5 @@
 -- A request's body in chunks, and the first refusal from the left.
-use Rattle.std.specs.Prelude.{ℕ, ◌+◌, ◌≤◌, ◌<◌, Some, List, ◌++◌, length, ⊤}
+use Rattle.std.specs.Prelude.{◌≡◌, ℕ, ◌+◌, ◌≤◌, ◌<◌, Some, List, ◌∷◌, ◌++◌, length, ⊤}
 use Rattle.httparse.specs.Spans.{SectionExceeds}
 use Rattle.kn_http.specs.declared.parts.Bounds.{Bounds}
 use Rattle.kn_http.specs.Chunks as http
@@ -18,9 +18,17 @@ request_bounds = record { line = Some 1024; fields = room; trailer = Some limit 
 abbrev pub IsSizeLine : List ℕ → ℕ → List ℕ → Type 0
 IsSizeLine bytes n rest = http.IsSizeLine request_bounds bytes n rest
 
+-- .. which says so many
+abbrev pub SaysSize : ℕ → List ℕ → List ℕ → Type 0
+SaysSize n bytes rest = IsSizeLine bytes n rest
+
 -- the bytes begin with a trailer, and the rest follows
 abbrev pub IsTrailer : List ℕ → List ℕ → Type 0
 IsTrailer bytes rest = http.IsTrailer request_bounds bytes rest
+
+-- the bytes begin with CR LF, and the rest follows
+abbrev pub BeginsWithLineEnd : List ℕ → List ℕ → Type 0
+BeginsWithLineEnd bytes rest = bytes ≡ 13 ∷ 10 ∷ rest
 
 -- the bytes begin with a body in chunks that stands for a value, and the rest follows
 abbrev pub IsChunked : List ℕ → List ℕ → List ℕ → Type 0

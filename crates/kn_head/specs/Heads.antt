@@ -1,7 +1,9 @@
 -- The head at the front of a stream, and why there is none.
 use Rattle.std.specs.Prelude.{◌⊎◌, ℕ, ◌≤◌, ◌<◌, List, length, take, map, ⊤}
 use Rattle.httparse.specs.Grammar.{RequestHead, print_request, ReadsRequest, HasNoRequest, NeverHasRequest, MayBecomeRequest}
-use Rattle.httparse.specs.Spans.{RequestExceeds, RequestOverflows, name_and_value}
+use Rattle.httparse.specs.Spans.{IsRequestAt, RequestExceeds, RequestOverflows, name_and_value}
+use Rattle.httparse.specs.declared.spans.HeaderSpan.{HeaderSpan}
+use Rattle.httparse.specs.declared.spans.RequestSpans.{RequestSpans}
 use Rattle.kn_head.specs.declared.head.HeadError.{HeadError}
 use Rattle.kn_head.specs.declared.head.HeadError.TheVariants as error
 
@@ -18,6 +20,10 @@ pub record BeginsWithHead (bytes : List ℕ) (head : RequestHead) (rest : List �
   pub reads : ReadsRequest bytes head rest
   pub few : length head.fields ≤ room
   pub short : length (print_request head) ≤ limit
+
+-- these are the spans of a head at the front of the bytes, with no more fields than there may be
+abbrev pub FindsHead : List ℕ → List HeaderSpan → RequestSpans → Type 0
+FindsHead bytes spans found = (h : RequestHead) × IsRequestAt bytes spans found h × (length h.fields ≤ room)
 
 -- its fields, each a name and a value without spaces and tabs at both ends
 abbrev pub fields_of : RequestHead → List (List ℕ × List ℕ)

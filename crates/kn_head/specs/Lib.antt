@@ -7,4 +7,5 @@ pub mod Lines
 pub mod Rules
 pub mod Chunks
 pub mod Reading
+pub mod Calls
 pub mod Laws

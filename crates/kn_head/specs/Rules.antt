@@ -30,6 +30,10 @@ abbrev pub owner_of : List (List ℕ × List ℕ) → Option (List ℕ × List �
 owner_of fields =
     both (only (values_named (codes "knative-serving-namespace") fields)) (only (values_named (codes "knative-serving-revision") fields))
 
+-- they name this namespace and this revision
+abbrev pub NameOwner : List (List ℕ × List ℕ) → List ℕ → List ℕ → Type 0
+NameOwner fields namespace revision = owner_of fields ≡ Some (namespace, revision)
+
 -- 1 to 19 digits
 abbrev pub is_length : List ℕ → Bool
 is_length v = are_digits v && nat_le (length v) 19

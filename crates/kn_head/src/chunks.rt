@@ -1,10 +1,11 @@
 //! A body in chunks.
-ghost use Rattle.std.specs.Prelude.{◌≡◌, ℕ, ◌≤◌, ◌<◌, List, ◌∷◌, ◌++◌, length, Option, vec_len, true, false, Ok, IfOk, IfErr, IfSome, OnOk};
+ghost use Rattle.std.specs.Prelude.{◌≡◌, ℕ, ◌≤◌, List, Option, vec_len, true, false, Ok, IfOk, IfErr, IfSome, OnOk};
 ghost use Rattle.kn_io.specs.Causes.{Rose};
 ghost use Rattle.kn_http.specs.Parts.{TrailerCut};
-ghost use Rattle.kn_head.specs.Told.{unread, IfTold, Draws, Stops};
+ghost use Rattle.kn_head.specs.Told.{Stops};
 ghost use Rattle.kn_head.specs.Rules.{body_limit};
-ghost use Rattle.kn_head.specs.Chunks.{request_bounds, IsSizeLine, IsTrailer, SizeFails, TrailerFails, BytesFail, LineEndFails, TakesChunk, EndsChunks, IsChunked, ChunksFail};
+ghost use Rattle.kn_head.specs.Chunks.{request_bounds, SaysSize, IsTrailer, BeginsWithLineEnd, SizeFails, TrailerFails, BytesFail, LineEndFails, ChunksFail};
+ghost use Rattle.kn_head.specs.Calls.{DrawsSource, TakesFront, IsFaultIn, AddsBytes, Decodes, EndsBody, TakesBody};
 
 use crate::head::HeadError;
 use crate::lines::line_feeds;
@@ -34,10 +35,10 @@ fn cut_trailer(stop: HeadError, bytes: &[u8]) -> HeadError
 
 /// Takes a size line, in whatever pieces it comes.
 fn take_size<S: Source>(source: &mut S, window: &mut Window) -> Result<u64, HeadError>
-    ensures line { IfOk result (λ n. IfTold (unread window.old (S.left source.old)) (unread window.new (S.left source.new)) (λ bytes rest. IsSizeLine bytes n rest)) }
-    ensures fails { IfErr result (λ e. IfSome (unread window.old (S.left source.old)) (λ bytes. SizeFails bytes e)) }
+    ensures line { IfOk result (λ n. TakesFront (SaysSize n) window.old window.new S.Source.own source.old source.new) }
+    ensures fails { IfErr result (IsFaultIn SizeFails window.old S.Source.own source.old) }
     ensures fault { result ≡ Err HeadError.ReadFault → Rose (S.Faulty.faults source.old) (S.Faulty.faults source.new) }
-    ensures source { Draws (S.left source.old) (S.left source.new) (S.apart source.old) (S.apart source.new) (S.Faulty.faults source.old) (S.Faulty.faults source.new) }
+    ensures source { DrawsSource S.Source.own S.Faulty source.old source.new }
 {
     'pieces: loop {
         match size_line(window.bytes(), BOUNDS) {
@@ -57,10 +58,10 @@ fn take_size<S: Source>(source: &mut S, window: &mut Window) -> Result<u64, Head
 
 /// Takes a trailer, in whatever pieces it comes, and drops it.
 fn take_trailer<S: Source>(source: &mut S, window: &mut Window) -> Result<(), HeadError>
-    ensures trailer { OnOk result (IfTold (unread window.old (S.left source.old)) (unread window.new (S.left source.new)) IsTrailer) }
-    ensures fails { IfErr result (λ e. IfSome (unread window.old (S.left source.old)) (λ bytes. TrailerFails bytes e)) }
+    ensures trailer { OnOk result (TakesFront IsTrailer window.old window.new S.Source.own source.old source.new) }
+    ensures fails { IfErr result (IsFaultIn TrailerFails window.old S.Source.own source.old) }
     ensures fault { result ≡ Err HeadError.ReadFault → Rose (S.Faulty.faults source.old) (S.Faulty.faults source.new) }
-    ensures source { Draws (S.left source.old) (S.left source.new) (S.apart source.old) (S.apart source.new) (S.Faulty.faults source.old) (S.Faulty.faults source.new) }
+    ensures source { DrawsSource S.Source.own S.Faulty source.old source.new }
 {
     'pieces: loop {
         match trailer(window.bytes(), BOUNDS) {
@@ -80,10 +81,10 @@ fn take_trailer<S: Source>(source: &mut S, window: &mut Window) -> Result<(), He
 
 /// Takes CR LF, in whatever pieces it comes.
 fn take_line_end<S: Source>(source: &mut S, window: &mut Window) -> Result<(), HeadError>
-    ensures end { OnOk result (IfTold (unread window.old (S.left source.old)) (unread window.new (S.left source.new)) (λ bytes rest. bytes ≡ 13 ∷ 10 ∷ rest)) }
-    ensures fails { IfErr result (λ e. IfSome (unread window.old (S.left source.old)) (λ bytes. LineEndFails bytes e)) }
+    ensures end { OnOk result (TakesFront BeginsWithLineEnd window.old window.new S.Source.own source.old source.new) }
+    ensures fails { IfErr result (IsFaultIn LineEndFails window.old S.Source.own source.old) }
     ensures fault { result ≡ Err HeadError.ReadFault → Rose (S.Faulty.faults source.old) (S.Faulty.faults source.new) }
-    ensures source { Draws (S.left source.old) (S.left source.new) (S.apart source.old) (S.apart source.new) (S.Faulty.faults source.old) (S.Faulty.faults source.new) }
+    ensures source { DrawsSource S.Source.own S.Faulty source.old source.new }
 {
     'pieces: loop {
         match line_end(window.bytes()) {
@@ -108,11 +109,10 @@ pub(crate) fn take_bytes<S: Source>(
     n: usize,
     body: &mut Vec<u8>,
 ) -> Result<(), HeadError>
-    ensures piece { OnOk result ((piece : List ℕ) × (body.new.items ≡ body.old.items ++ piece) × (length piece ≡ n)
-        × IfTold (unread window.old (S.left source.old)) (unread window.new (S.left source.new)) (λ bytes rest. bytes ≡ piece ++ rest)) }
-    ensures fails { IfErr result (λ e. IfSome (unread window.old (S.left source.old)) (λ bytes. BytesFail n bytes e)) }
+    ensures piece { OnOk result (AddsBytes n body.old body.new window.old window.new S.Source.own source.old source.new) }
+    ensures fails { IfErr result (IsFaultIn (BytesFail n) window.old S.Source.own source.old) }
     ensures fault { result ≡ Err HeadError.ReadFault → Rose (S.Faulty.faults source.old) (S.Faulty.faults source.new) }
-    ensures source { Draws (S.left source.old) (S.left source.new) (S.apart source.old) (S.apart source.new) (S.Faulty.faults source.old) (S.Faulty.faults source.new) }
+    ensures source { DrawsSource S.Source.own S.Faulty source.old source.new }
 {
     let mut left = n;
     'pieces: while left > 0 {
@@ -139,14 +139,12 @@ fn take_chunk<S: Source>(
     body: &mut Vec<u8>,
 ) -> Result<bool, HeadError>
     requires { vec_len body.old ≤ body_limit }
-    ensures chunk { result ≡ Ok true → (piece : List ℕ) × (body.new.items ≡ body.old.items ++ piece) × (0 < length piece)
-        × IfTold (unread window.old (S.left source.old)) (unread window.new (S.left source.new)) (λ bytes rest. TakesChunk (vec_len body.old) bytes piece rest) }
-    ensures last { result ≡ Ok false → (body.new.items ≡ body.old.items)
-        × IfTold (unread window.old (S.left source.old)) (unread window.new (S.left source.new)) EndsChunks }
+    ensures chunk { result ≡ Ok true → Decodes body.old body.new window.old window.new S.Source.own source.old source.new }
+    ensures last { result ≡ Ok false → EndsBody body.old body.new window.old window.new S.Source.own source.old source.new }
     ensures short { IfOk result (λ _. vec_len body.new ≤ body_limit) }
-    ensures fails { IfErr result (λ e. IfSome (unread window.old (S.left source.old)) (λ bytes. ChunksFail (vec_len body.old) bytes e)) }
+    ensures fails { IfErr result (IsFaultIn (ChunksFail (vec_len body.old)) window.old S.Source.own source.old) }
     ensures fault { result ≡ Err HeadError.ReadFault → Rose (S.Faulty.faults source.old) (S.Faulty.faults source.new) }
-    ensures source { Draws (S.left source.old) (S.left source.new) (S.apart source.old) (S.apart source.new) (S.Faulty.faults source.old) (S.Faulty.faults source.new) }
+    ensures source { DrawsSource S.Source.own S.Faulty source.old source.new }
 {
     let size = take_size(source, window)?;
     if size == 0 {
@@ -175,11 +173,11 @@ pub(crate) fn take_chunks<S: Source>(
     source: &mut S,
     window: &mut Window,
 ) -> Result<Vec<u8>, HeadError>
-    ensures body { IfOk result (λ body. IfTold (unread window.old (S.left source.old)) (unread window.new (S.left source.new)) (λ bytes rest. IsChunked bytes body.items rest)) }
+    ensures body { IfOk result (λ body. TakesBody window.old window.new S.Source.own source.old source.new body.items) }
     ensures short { IfOk result (λ body. vec_len body ≤ body_limit) }
-    ensures fails { IfErr result (λ e. IfSome (unread window.old (S.left source.old)) (λ bytes. ChunksFail 0 bytes e)) }
+    ensures fails { IfErr result (IsFaultIn (ChunksFail 0) window.old S.Source.own source.old) }
     ensures fault { result ≡ Err HeadError.ReadFault → Rose (S.Faulty.faults source.old) (S.Faulty.faults source.new) }
-    ensures source { Draws (S.left source.old) (S.left source.new) (S.apart source.old) (S.apart source.new) (S.Faulty.faults source.old) (S.Faulty.faults source.new) }
+    ensures source { DrawsSource S.Source.own S.Faulty source.old source.new }
 {
     let mut body = Vec::new(alloc);
     'chunks: loop {

@@ -1,11 +1,11 @@
 //! The head at the front of a stream.
 ghost use Rattle.std.specs.Prelude.{◌≡◌, ℕ, ◌≤◌, ◌<◌, List, length, Option, IfOk, IfErr, IfSome, IfNone, OnOk};
 ghost use Rattle.std.specs.Io.KnownBytes.{Keeps};
-ghost use Rattle.httparse.specs.Grammar.{RequestHead};
-ghost use Rattle.httparse.specs.Spans.{IsRequestAt, IsRequestWithin};
+ghost use Rattle.httparse.specs.Spans.{IsRequestWithin};
 ghost use Rattle.kn_io.specs.Causes.{Rose};
-ghost use Rattle.kn_head.specs.Told.{unread, Draws, Stops};
-ghost use Rattle.kn_head.specs.Heads.{room, limit, IsUnfinished, HeadRefused, HeadFails};
+ghost use Rattle.kn_head.specs.Told.{unread, Stops};
+ghost use Rattle.kn_head.specs.Heads.{room, limit, FindsHead, IsUnfinished, HeadRefused, HeadFails};
+ghost use Rattle.kn_head.specs.Calls.{DrawsSource, IsFaultIn};
 
 use crate::head::HeadError;
 use crate::lines::line_feeds_after_blank;
@@ -17,7 +17,7 @@ use kn_io::Source;
 /// What the bytes that came say: a whole head, or that more is wanted, or why they are none.
 fn judge(bytes: &[u8], spans: &mut [HeaderSpan]) -> Result<Option<RequestSpans>, HeadError>
     requires { length spans.old ≡ room }
-    ensures whole { IfOk result (λ found. IfSome found (λ r. (h : RequestHead) × IsRequestAt bytes.now spans.new r h × (length h.fields ≤ room))) }
+    ensures whole { IfOk result (λ found. IfSome found (FindsHead bytes.now spans.new)) }
     ensures within { IfOk result (λ found. IfSome found (λ r. IsRequestWithin bytes.now spans.new r)) }
     ensures more { IfOk result (λ found. IfNone found (IsUnfinished bytes.now)) }
     ensures refused { IfErr result (HeadRefused bytes.now) }
@@ -51,13 +51,13 @@ pub(crate) fn find_head<S: Source>(
     spans: &mut [HeaderSpan],
 ) -> Result<RequestSpans, HeadError>
     requires { length spans.old ≡ room }
-    ensures whole { IfOk result (λ r. (h : RequestHead) × IsRequestAt window.new spans.new r h × (length h.fields ≤ room)) }
+    ensures whole { IfOk result (FindsHead window.new spans.new) }
     ensures within { IfOk result (λ r. IsRequestWithin window.new spans.new r) }
     ensures short { OnOk result (length window.new ≤ limit) }
     ensures stays { OnOk result (Keeps (unread window.old (S.left source.old)) (unread window.new (S.left source.new))) }
-    ensures fails { IfErr result (λ e. IfSome (unread window.old (S.left source.old)) (λ bytes. HeadFails bytes e)) }
+    ensures fails { IfErr result (IsFaultIn HeadFails window.old S.Source.own source.old) }
     ensures fault { result ≡ Err HeadError.ReadFault → Rose (S.Faulty.faults source.old) (S.Faulty.faults source.new) }
-    ensures source { Draws (S.left source.old) (S.left source.new) (S.apart source.old) (S.apart source.new) (S.Faulty.faults source.old) (S.Faulty.faults source.new) }
+    ensures source { DrawsSource S.Source.own S.Faulty source.old source.new }
 {
     'pieces: loop {
         match judge(window.bytes(), spans) {

@@ -1,9 +1,10 @@
 //! A whole request, read from a stream.
 ghost use Rattle.std.specs.Prelude.{◌≡◌, ◌≤◌, IfOk, IfErr, IfSome, Err};
 ghost use Rattle.kn_io.specs.Causes.{Rose};
-ghost use Rattle.kn_head.specs.Told.{unread, IfTold, LosesFront, Draws};
+ghost use Rattle.kn_head.specs.Told.{unread, LosesFront};
 ghost use Rattle.kn_head.specs.Chunks.{BytesFail};
-ghost use Rattle.kn_head.specs.Reading.{HasBodyOf, HasBody, BodyFails, is_chunked, HasHead, GivesOwner, Reads};
+ghost use Rattle.kn_head.specs.Reading.{HasBodyOf, HasBody, BodyFails, is_chunked, GivesOwner, Reads};
+ghost use Rattle.kn_head.specs.Calls.{DrawsSource, IsFaultIn, TakesHead};
 
 use crate::chunks::{take_bytes, take_chunks};
 use crate::find::find_head;
@@ -22,10 +23,10 @@ fn read_parts<S: Source>(
     source: &mut S,
     window: &mut Window,
 ) -> Result<Parts, HeadError>
-    ensures parts { IfOk result (λ parts. IfTold (unread window.old (S.left source.old)) (unread window.new (S.left source.new)) (HasHead parts.method parts.target parts.minor parts.headers)) }
-    ensures fails { IfErr result (λ e. IfSome (unread window.old (S.left source.old)) (λ bytes. Reads bytes (Err e))) }
+    ensures parts { IfOk result (TakesHead window.old window.new S.Source.own source.old source.new) }
+    ensures fails { IfErr result (IsFaultIn (λ bytes e. Reads bytes (Err e)) window.old S.Source.own source.old) }
     ensures fault { result ≡ Err HeadError.ReadFault → Rose (S.Faulty.faults source.old) (S.Faulty.faults source.new) }
-    ensures source { Draws (S.left source.old) (S.left source.new) (S.apart source.old) (S.apart source.new) (S.Faulty.faults source.old) (S.Faulty.faults source.new) }
+    ensures source { DrawsSource S.Source.own S.Faulty source.old source.new }
 {
     let mut spans = [EMPTY_HEADER_SPAN; 100];
     let found = find_head(source, window, &mut spans)?;
@@ -62,9 +63,9 @@ fn read_plain<S: Source>(
     n: u64,
 ) -> Result<Text, HeadError>
     ensures body { IfOk result (λ body. IfSome (unread window.old (S.left source.old)) (HasBodyOf n body)) }
-    ensures fails { IfErr result (λ e. IfSome (unread window.old (S.left source.old)) (λ bytes. BytesFail n bytes e)) }
+    ensures fails { IfErr result (IsFaultIn (BytesFail n) window.old S.Source.own source.old) }
     ensures fault { result ≡ Err HeadError.ReadFault → Rose (S.Faulty.faults source.old) (S.Faulty.faults source.new) }
-    ensures source { Draws (S.left source.old) (S.left source.new) (S.apart source.old) (S.apart source.new) (S.Faulty.faults source.old) (S.Faulty.faults source.new) }
+    ensures source { DrawsSource S.Source.own S.Faulty source.old source.new }
 {
     let n = n as usize;
     let mut body = match Vec::with_capacity(alloc, n) {
@@ -85,9 +86,9 @@ fn read_body<S: Source>(
     form: Form,
 ) -> Result<Text, HeadError>
     ensures body { IfOk result (λ body. IfSome (unread window.old (S.left source.old)) (λ bytes. HasBody form bytes body)) }
-    ensures fails { IfErr result (λ e. IfSome (unread window.old (S.left source.old)) (λ bytes. BodyFails form bytes e)) }
+    ensures fails { IfErr result (IsFaultIn (BodyFails form) window.old S.Source.own source.old) }
     ensures fault { result ≡ Err HeadError.ReadFault → Rose (S.Faulty.faults source.old) (S.Faulty.faults source.new) }
-    ensures source { Draws (S.left source.old) (S.left source.new) (S.apart source.old) (S.apart source.new) (S.Faulty.faults source.old) (S.Faulty.faults source.new) }
+    ensures source { DrawsSource S.Source.own S.Faulty source.old source.new }
 {
     match form {
         Form::Plain(n) => read_plain(alloc, source, window, n),

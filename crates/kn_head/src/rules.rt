@@ -2,7 +2,7 @@
 ghost use Rattle.std.specs.Prelude.{◌≡◌, ◌≢◌, ◌++◌, ◌∷◌, [], ℕ, List, map, None, Some, MatchOption};
 ghost use Rattle.std.specs.Char.{to_ascii_lowercase};
 ghost use Rattle.kn_head.specs.Fields.{values_named};
-ghost use Rattle.kn_head.specs.Rules.{form_by_length, form_by_coding, form_of, owner_of, AreValues};
+ghost use Rattle.kn_head.specs.Rules.{form_by_length, form_by_coding, form_of, owner_of, NameOwner, AreValues};
 
 use crate::head::{HeadError, Headers};
 use kn_http::{is_word, number};
@@ -48,7 +48,7 @@ fn values_of<'a>(headers: &'a Headers, known: &[u8]) -> Values<'a>
 
 /// The namespace and the revision, where the fields name each exactly once.
 pub(crate) fn owner(headers: &Headers) -> Option<(&[u8], &[u8])>
-    ensures { MatchOption result (owner_of headers.now ≡ None) (λ owner. owner_of headers.now ≡ Some (owner.0.now, owner.1.now)) }
+    ensures { MatchOption result (owner_of headers.now ≡ None) (λ owner. NameOwner headers.now owner.0.now owner.1.now) }
 {
     let namespaces = values_of(headers, b"knative-serving-namespace");
     let revisions = values_of(headers, b"knative-serving-revision");

@@ -2,8 +2,9 @@
 ghost use Rattle.std.specs.Prelude.{◌≡◌, ◌-◌, ◌<◌, ◌≤◌, [], length, take, drop, IfErr, OnOk};
 ghost use Rattle.std.specs.Io.KnownBytes.{Keeps};
 ghost use Rattle.kn_io.specs.Causes.{Rose};
-ghost use Rattle.kn_head.specs.Told.{unread, Draws, Stops};
+ghost use Rattle.kn_head.specs.Told.{unread, Stops};
 ghost use Rattle.kn_head.specs.Heads.{limit};
+ghost use Rattle.kn_head.specs.Calls.{DrawsSource};
 
 use crate::head::HeadError;
 use kn_io::{Failed, Source};
@@ -76,7 +77,7 @@ impl Window {
         ensures stops { IfErr result (Stops self.old (unread self.old (S.left source.old))) }
         ensures kept { IfErr result (λ _. self.new ≡ self.old) }
         ensures fault { result ≡ Err HeadError.ReadFault → Rose (S.Faulty.faults source.old) (S.Faulty.faults source.new) }
-        ensures source { Draws (S.left source.old) (S.left source.new) (S.apart source.old) (S.apart source.new) (S.Faulty.faults source.old) (S.Faulty.faults source.new) }
+        ensures source { DrawsSource S.Source.own S.Faulty source.old source.new }
     {
         self.end = pack(&mut self.buffer, self.start, self.end);
         self.start = 0;
@@ -96,7 +97,7 @@ impl Window {
         ensures stays { OnOk result (Keeps (unread self.old (S.left source.old)) (unread self.new (S.left source.new))) }
         ensures stops { IfErr result (Stops [] (unread self.old (S.left source.old))) }
         ensures fault { result ≡ Err HeadError.ReadFault → Rose (S.Faulty.faults source.old) (S.Faulty.faults source.new) }
-        ensures source { Draws (S.left source.old) (S.left source.new) (S.apart source.old) (S.apart source.new) (S.Faulty.faults source.old) (S.Faulty.faults source.new) }
+        ensures source { DrawsSource S.Source.own S.Faulty source.old source.new }
     {
         if self.bytes().is_empty() {
             return self.fill(source);
