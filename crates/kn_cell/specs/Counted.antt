@@ -1,17 +1,23 @@
 -- What is counted after all that a pass has seen.
-use Rattle.std.specs.Prelude.{◌≡◌, ◌≤◌, length}
+use Rattle.std.specs.Prelude.{◌≡◌, ◌≤◌, ◌+◌, length}
 use Rattle.kn_core.specs.State.{StandsFor, StandsForSome}
 use Rattle.kn_figures.specs.declared.figures.Figures.{Figures}
 use Rattle.kn_figures.specs.declared.kind.Kind.{Kind}
 use Rattle.kn_figures.specs.Figures.{IsFiguresOf}
-use Rattle.kn_figures.specs.Tallies.{count_in}
+use Rattle.kn_figures.specs.Tallies.{IsTallyOf, count_in}
 use Rattle.kn_trace.specs.Trace.{Trace}
 use Rattle.kn_cell.specs.History.{made_by, trace_after}
 use Rattle.kn_cell.specs.Lists.{StartsWith}
 use Rattle.kn_cell.specs.Shown.{PassView}
+use Rattle.kn_cell.specs.State.{DeskState}
 use Rattle.kn_cell.specs.Turns.{trace_seen}
 use Rattle.kn_cell.specs.Views.{opening}
 use Rattle.kn_cell.specs.declared.view.View.{View}
+
+-- the figures of a desk, by its tally and its rows
+abbrev pub AreFiguresIn : DeskState → Figures → Type 0
+AreFiguresIn x f = (c counted : Trace) → StandsFor x.revision c → IsTallyOf x.tally counted
+    → IsFiguresOf x.revision.spec c counted (x.taken + length x.history) x.taken f
 
 -- the figures after all that the view has seen
 abbrev pub AreFiguresAt : View → Figures → Type 0

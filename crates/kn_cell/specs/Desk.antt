@@ -1,13 +1,15 @@
 -- What taking an event in does.
-use Rattle.std.specs.Prelude.{ℕ, ◌≡◌, ◌≤◌, ◌<◌, ◌+◌, ◌-◌, ◌^◌, [], ◌∷◌, ◌++◌, length, min, max}
+use Rattle.std.specs.Prelude.{ℕ, ◌≡◌, ◌≤◌, ◌<◌, ◌+◌, ◌-◌, ◌^◌, [], ◌∷◌, ◌++◌, length, min, max, Option}
 use Rattle.kn_event.specs.declared.event.Act.{Act}
 use Rattle.kn_event.specs.declared.event.Event.{Event}
 use Rattle.kn_event.specs.declared.event.Told.{Told}
 use Rattle.kn_trace.specs.Events.{react, told_of, need_of}
 use Rattle.kn_trace.specs.Trace.{Trace}
-use Rattle.kn_book.specs.State.{IsBookOf}
-use Rattle.kn_core.specs.State.{StandsFor}
+use Rattle.kn_book.specs.Book.{next_to_probe}
+use Rattle.kn_book.specs.State.{BookState, IsBookOf}
+use Rattle.kn_core.specs.State.{RevisionState, StandsFor}
 use Rattle.kn_core.specs.Gauges.{count_live}
+use Rattle.kn_figures.specs.declared.tally.Tally.{Tally}
 use Rattle.kn_figures.specs.Tallies.{IsTallyOf}
 use Rattle.kn_cell.specs.declared.past.Full.{Full}
 use Rattle.kn_cell.specs.History.{past, IsInBounds}
@@ -19,6 +21,10 @@ time_at clock time = min (max time clock) (2 ^ 42)
 
 abbrev pub event_by_clock : ℕ → ℕ → Act → Event
 event_by_clock clock time act = record { time = time_at clock time; act = act }
+
+-- the revision and the book of its pods, with this room, and no rows
+abbrev pub new_desk : ℕ → RevisionState → BookState → Tally → DeskState
+new_desk room revision book tally = record { room = room; revision = revision; taken = 0; history = []; book = book; tally = tally }
 
 -- how many rows there is room for, beside so many live requests
 abbrev pub left_at : DeskState → ℕ → ℕ
@@ -56,3 +62,7 @@ pub record IsTooSmall (old : DeskState) (act : Act) (full : Full) : Type 0 where
   pub used : full.used ≡ length old.history
   pub live : (c : Trace) → StandsFor old.revision c → full.live ≡ count_live c
   pub short : (c : Trace) → StandsFor old.revision c → left_at old (count_live c) < need_of c act
+
+-- the least Starting pod that is not below this number and has an address in the desk's book, with that address
+abbrev pub IsNextToProbe : DeskState → ℕ → Option (ℕ × ℕ) → Type 0
+IsNextToProbe x from r = (c : Trace) → StandsFor x.revision c → IsBookOf x.book c → r ≡ next_to_probe x.book.addresses c from

@@ -5,6 +5,7 @@ pub mod Books
 pub mod Desk
 pub mod Views
 pub mod Rule
+pub mod Seats
 pub mod Turns
 pub mod Splitting
 pub mod Shown

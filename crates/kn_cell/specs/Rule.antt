@@ -127,8 +127,11 @@ pub record HasRow (m : Me DeskState View) : Type 0 where
   pub legal : IsLegal (opening m.0.key) (m.0.seen ++ row ∷ [])
 
 -- the last row in the slot is now seen
+abbrev pub SeesLast : Me DeskState View → Me DeskState View → Type 0
+SeesLast m w = (x : DeskState) → m.1 ≡ (0, x) ∷ [] → w ≡ (recorded m.0 (m.0.seen ++ last_row x.history), m.1)
+
 abbrev pub Records : Step DeskState → Me DeskState View → ℕ → Me DeskState View → Type 0
-Records st m n w = (x : DeskState) → m.1 ≡ (0, x) ∷ [] → w ≡ (recorded m.0 (m.0.seen ++ last_row x.history), m.1)
+Records st m n w = SeesLast m w
 
 -- the slot may go home: a pass that is not the scribe has taken nothing out
 pub record GoesBack (v : View) (x : DeskState) : Type 0 where

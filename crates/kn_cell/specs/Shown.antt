@@ -98,6 +98,10 @@ pub record LooksBy (given : ℕ) (old new : PassView) : Type 0 where
 abbrev pub Looks : PassView → PassView → Type 0
 Looks = LooksBy 0
 
+-- it is so of the trace after all that the pass has seen, whichever the opening stands for
+abbrev pub Sees : PassView → (Trace → Type 0) → Type 0
+Sees p P = (c : Trace) → StandsFor p.opening c → P (trace_after p.opening.spec c p.seen)
+
 -- how many rows there is room for after these, beside so many live requests. Where rows are never taken out, it is the room less both
 abbrev pub left_in : PassView → List Past → ℕ → ℕ
 left_in p front live = room_for p.lasting p.room p.gone (length front) live
@@ -143,6 +147,10 @@ first_shown t b room passes = record {
 -- the same, where rows may be taken out, by this pass, and pods have so many addresses
 abbrev pub first_lasting : TableId → RevisionState → ℕ → ℕ → ℕ → PassView
 first_lasting t b room passes addresses = record (first_shown t b room passes) { lasting = true; scribe = true; book = addresses }
+
+-- the first pass of a new cell, from which rows may be taken out or not, and whose pods have so many addresses
+abbrev pub first_opened : Bool → TableId → RevisionState → ℕ → ℕ → ℕ → PassView
+first_opened lasting t b room passes addresses = record (first_shown t b room passes) { lasting = lasting; scribe = lasting; book = addresses }
 
 -- the whole answer of an attempt that does not wait
 abbrev pub Tries : PassView → Act → ℕ → Result Told TryError → PassView → Type 0

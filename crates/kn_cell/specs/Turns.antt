@@ -50,6 +50,10 @@ room_of v live = room_for v.key.lasting v.key.room v.gone (length v.seen) live
 abbrev pub trace_seen : View → Trace → Trace
 trace_seen v c = trace_after (opening v.key).spec c v.seen
 
+-- it is so of the trace after all that the view has seen, whichever the opening stands for
+abbrev pub SeesAt : View → (Trace → Type 0) → Type 0
+SeesAt v P = (c : Trace) → StandsFor (opening v.key) c → P (trace_seen v c)
+
 -- the row was recorded, and the seat still has the turn
 pub record Enters (v : View) (act : Act) (time : ℕ) (told : Told) (m : Me DeskState View) : Type 0 where
   pub view_is : m.0 ≡ recorded v (v.seen ++ row_of v act time told ∷ [])

@@ -1,15 +1,13 @@
 //! The cell and its passes.
-ghost use Rattle.std.specs.Prelude.{◌≡◌, ◌<◌, ◌≤◌, ◌+◌, ◌++◌, ◌-◌, ◌^◌, List, [], true, length, vec_capacity, IfOk, IfErr, IfSome, Some, ℕ};
+ghost use Rattle.std.specs.Prelude.{◌≡◌, ◌<◌, ◌≤◌, ◌+◌, ◌++◌, ◌-◌, ◌^◌, List, [], true, length, vec_capacity, IfOk, IfErr, IfSome};
 ghost use Rattle.kn_event.specs.declared.event.Act.TheVariants as act;
-ghost use Rattle.kn_sizes.specs.Told.{arrival_told};
-ghost use Rattle.kn_trace.specs.Trace.{Trace, next_starting, proxied, stand_of};
+ghost use Rattle.kn_trace.specs.Trace.{next_starting, proxied, stand_of};
 ghost use Rattle.kn_book.specs.Book.{next_to_probe};
-ghost use Rattle.kn_core.specs.State.{StandsFor};
 ghost use Rattle.kn_cell.specs.declared.past.Past.{Past};
 ghost use Rattle.kn_cell.specs.Counted.{AreFiguresOf};
-ghost use Rattle.kn_cell.specs.Course.{IsCourseOf};
-ghost use Rattle.kn_cell.specs.History.{MayCome, rows_by, trace_after};
-ghost use Rattle.kn_cell.specs.Shown.{Looks, LooksBy, RecordsLast, Misfits, Tries, new_shown, joined_shown, IsClosed};
+ghost use Rattle.kn_cell.specs.Course.{ArrivalHasCourse, IsCourseOf};
+ghost use Rattle.kn_cell.specs.History.{MayCome, rows_by};
+ghost use Rattle.kn_cell.specs.Shown.{Looks, LooksBy, Sees, RecordsLast, Misfits, Tries, new_shown, joined_shown, IsClosed};
 
 mod opening;
 
@@ -127,7 +125,7 @@ impl RevisionCell {
         requires { pass.old.cell ≡ self.now }
         ensures looks { Looks pass.old pass.new }
         ensures mine { pass.new.mine ≡ pass.old.mine }
-        ensures stand { (c : Trace) → StandsFor pass.new.opening c → result ≡ stand_of (trace_after pass.new.opening.spec c pass.new.seen) r }
+        ensures stand { Sees pass.new (λ c. result ≡ stand_of c r) }
     {
         let board = &self.table.shared;
         let number = pass.number;
@@ -145,7 +143,7 @@ impl RevisionCell {
         requires { pass.old.cell ≡ self.now }
         ensures looks { Looks pass.old pass.new }
         ensures mine { pass.new.mine ≡ pass.old.mine }
-        ensures course { (c : Trace) → StandsFor pass.new.opening c → IsCourseOf pass.new.book (trace_after pass.new.opening.spec c pass.new.seen) r result }
+        ensures course { Sees pass.new (λ c. IsCourseOf pass.new.book c r result) }
     {
         let board = &self.table.shared;
         let number = pass.number;
@@ -169,7 +167,7 @@ impl RevisionCell {
         requires cell { pass.old.cell ≡ self.now }
         ensures looks { Looks pass.old pass.new }
         ensures ok { IfOk result (λ x. RecordsLast pass.old (act.Arrive tag) time x.0 pass.new) }
-        ensures course { IfOk result (λ x. (c : Trace) (r : ℕ) → StandsFor pass.new.opening c → arrival_told x.0 ≡ Some r → IsCourseOf pass.new.book (trace_after pass.new.opening.spec c pass.new.seen) r x.1) }
+        ensures course { IfOk result (λ x. ArrivalHasCourse pass.new x.0 x.1) }
         ensures full { IfErr result (λ full. Misfits pass.old (act.Arrive tag) full pass.new) }
     {
         let board = &self.table.shared;
@@ -200,7 +198,7 @@ impl RevisionCell {
         requires { pass.old.cell ≡ self.now }
         ensures looks { Looks pass.old pass.new }
         ensures mine { pass.new.mine ≡ pass.old.mine }
-        ensures proxied { (c : Trace) → StandsFor pass.new.opening c → result ≡ proxied (trace_after pass.new.opening.spec c pass.new.seen) r }
+        ensures proxied { Sees pass.new (λ c. result ≡ proxied c r) }
     {
         let board = &self.table.shared;
         let place = &mut pass.place;
@@ -215,7 +213,7 @@ impl RevisionCell {
         requires { pass.old.cell ≡ self.now }
         ensures looks { Looks pass.old pass.new }
         ensures mine { pass.new.mine ≡ pass.old.mine }
-        ensures starting { (c : Trace) → StandsFor pass.new.opening c → result ≡ next_starting (trace_after pass.new.opening.spec c pass.new.seen) from }
+        ensures starting { Sees pass.new (λ c. result ≡ next_starting c from) }
         ensures from { IfSome result (λ p. from ≤ p) }
         ensures most { IfSome result (λ p. p < 2 ^ 63) }
     {
@@ -232,7 +230,7 @@ impl RevisionCell {
         requires { pass.old.cell ≡ self.now }
         ensures looks { Looks pass.old pass.new }
         ensures mine { pass.new.mine ≡ pass.old.mine }
-        ensures probe { (c : Trace) → StandsFor pass.new.opening c → result ≡ next_to_probe pass.new.book (trace_after pass.new.opening.spec c pass.new.seen) from }
+        ensures probe { Sees pass.new (λ c. result ≡ next_to_probe pass.new.book c from) }
         ensures from { IfSome result (λ x. from ≤ x.0) }
         ensures most { IfSome result (λ x. x.0 < 2 ^ 63) }
     {

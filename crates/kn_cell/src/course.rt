@@ -1,12 +1,9 @@
 //! How a request goes on, as a pass with the turn finds it.
-ghost use Rattle.std.specs.Prelude.{◌≡◌, ℕ, Some};
-ghost use Rattle.kn_core.specs.State.{StandsFor};
+ghost use Rattle.std.specs.Prelude.{◌≡◌};
 ghost use Rattle.kn_sizes.specs.Told.{arrival_told};
-ghost use Rattle.kn_trace.specs.Trace.{Trace};
-ghost use Rattle.kn_cell.specs.Course.{IsCourseOf};
-ghost use Rattle.kn_cell.specs.History.{trace_after};
-ghost use Rattle.kn_cell.specs.Turns.{HasTurn};
-ghost use Rattle.kn_cell.specs.Views.{opening};
+ghost use Rattle.kn_cell.specs.Course.{ArrivalHasCourseAt, IsCourseOf};
+ghost use Rattle.kn_cell.specs.Seats.{KeepsSeat};
+ghost use Rattle.kn_cell.specs.Turns.{HasTurn, SeesAt};
 
 use crate::steps::{Board, Place};
 use crate::turn::{call_address_at, proxied_at, stand_at};
@@ -56,8 +53,8 @@ pub fn course_at(
 ) -> Course
     requires same { place.old.table_id ≡ board.now.table_id }
     requires turn { HasTurn place.old.me }
-    ensures same { (place.new.table_id ≡ place.old.table_id) × (place.new.id ≡ place.old.id) × (place.new.me ≡ place.old.me) }
-    ensures value { (c : Trace) → StandsFor (opening place.old.me.0.key) c → IsCourseOf place.old.me.0.key.addresses (trace_after (opening place.old.me.0.key).spec c place.old.me.0.seen) r result }
+    ensures same { KeepsSeat place.old place.new }
+    ensures value { SeesAt place.old.me.0 (λ c. IsCourseOf place.old.me.0.key.addresses c r result) }
 {
     match stand_at(board, place, number, asked, r) {
         Stand::Held | Stand::Queued(_) => Course::Waits,
@@ -80,8 +77,8 @@ pub fn arrival_at(
 ) -> Course
     requires same { place.old.table_id ≡ board.now.table_id }
     requires turn { HasTurn place.old.me }
-    ensures same { (place.new.table_id ≡ place.old.table_id) × (place.new.id ≡ place.old.id) × (place.new.me ≡ place.old.me) }
-    ensures value { (c : Trace) (r : ℕ) → StandsFor (opening place.old.me.0.key) c → arrival_told told ≡ Some r → IsCourseOf place.old.me.0.key.addresses (trace_after (opening place.old.me.0.key).spec c place.old.me.0.seen) r result }
+    ensures same { KeepsSeat place.old place.new }
+    ensures value { ArrivalHasCourseAt place.old.me.0 told result }
 {
     match arrived(told) {
         Some(r) => course_at(board, place, number, asked, r),

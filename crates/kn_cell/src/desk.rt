@@ -1,14 +1,14 @@
 //! What lies in the slot: the revision with its history. What an event does is said here, and needs no thread.
-ghost use Rattle.std.specs.Prelude.{◌≡◌, ◌<◌, ◌≤◌, ◌+◌, ◌++◌, ◌∷◌, ◌^◌, true, false, IfOk, IfErr, IfSome, [], length, vec_capacity, vec_len};
+ghost use Rattle.std.specs.Prelude.{◌≡◌, ◌<◌, ◌≤◌, ◌+◌, ◌++◌, ◌∷◌, ◌^◌, true, false, IfOk, IfErr, IfSome, [], vec_capacity, vec_len};
 ghost use Rattle.kn_trace.specs.Events.{need_of};
 ghost use Rattle.kn_trace.specs.Trace.{Trace, next_starting, proxied, stand_of};
-ghost use Rattle.kn_book.specs.Book.{call_address, next_to_probe};
+ghost use Rattle.kn_book.specs.Book.{call_address};
 ghost use Rattle.kn_book.specs.State.{IsBookOf};
 ghost use Rattle.kn_core.specs.State.{StandsFor};
-ghost use Rattle.kn_figures.specs.Figures.{IsFiguresOf};
 ghost use Rattle.kn_figures.specs.Tallies.{IsTallyOf};
 ghost use Rattle.kn_cell.specs.History.{MayCome, past};
-ghost use Rattle.kn_cell.specs.Desk.{Applies, IsTooSmall, emptied};
+ghost use Rattle.kn_cell.specs.Desk.{Applies, IsNextToProbe, IsTooSmall, emptied, new_desk};
+ghost use Rattle.kn_cell.specs.Counted.{AreFiguresIn};
 ghost use Rattle.kn_cell.specs.Books.{HasBook};
 ghost use Rattle.kn_cell.specs.State.{live_in};
 
@@ -81,7 +81,7 @@ impl Desk {
         requires live { live_in revision ≤ room }
         requires room { room ≤ 1000000 }
         requires book { HasBook book revision }
-        ensures new { IfOk result (λ d. d ≡ record { room = room; revision = revision; taken = 0; history = []; book = book; tally = d.tally }) }
+        ensures new { IfOk result (λ d. d ≡ new_desk room revision book d.tally) }
         ensures tally { IfOk result (λ d. IsTallyOf d.tally []) }
     {
         let Ok(history) = Vec::with_capacity(alloc, room as usize) else {
@@ -179,7 +179,7 @@ impl Desk {
 
     /// What is counted of it.
     pub fn figures(&self) -> Figures
-        ensures { (c counted : Trace) → StandsFor self.now.revision c → IsTallyOf self.now.tally counted → IsFiguresOf self.now.revision.spec c counted (self.now.taken + length self.now.history) self.now.taken result }
+        ensures { AreFiguresIn self.now result }
     {
         let left = self.history.len() as u64;
         Figures::of(&self.revision, &self.tally, self.taken, left)
@@ -217,7 +217,7 @@ impl Desk {
 
     /// The least Starting pod that is not below this number and has an address, with that address.
     pub fn next_to_probe(&self, from: u64) -> Option<(u64, u64)>
-        ensures probe { (c : Trace) → StandsFor self.now.revision c → IsBookOf self.now.book c → result ≡ next_to_probe self.now.book.addresses c from }
+        ensures probe { IsNextToProbe self.now from result }
         ensures from { IfSome result (λ x. from ≤ x.0) }
         ensures most { IfSome result (λ x. x.0 < 2 ^ 63) }
     {

@@ -1,7 +1,8 @@
 //! The steps on the table, each with what it asks.
-ghost use Rattle.std.specs.Prelude.{◌≡◌, ◌≢◌, ◌<◌, ◌≤◌, ◌+◌, ◌++◌, ◌∷◌, [], ◌^◌, length, true, false, IfSome};
+ghost use Rattle.std.specs.Prelude.{◌≡◌, ◌≢◌, ◌<◌, ◌≤◌, ◌+◌, ◌∷◌, [], ◌^◌, length, true, false, IfSome};
 ghost use Rattle.kn_cell.specs.State.{DeskState};
-ghost use Rattle.kn_cell.specs.Rule.{GetsTurn, Misses, GoesBack, HasRow, last_row, recorded, gives_back, without_turn, IsSound};
+ghost use Rattle.kn_cell.specs.Rule.{GetsTurn, Misses, GoesBack, HasRow, SeesLast, gives_back, IsSound};
+ghost use Rattle.kn_cell.specs.Seats.{KeepsSeat, MayTakeTurn, GivesTurn};
 ghost use Rattle.kn_cell.specs.Turns.{HasTurn};
 
 use crate::desk::Desk;
@@ -27,7 +28,7 @@ pub fn take(board: &Board, place: &mut Place, mark: u64) -> u64
     requires same { place.old.table_id ≡ board.now.table_id }
     requires sized { 2 ≤ board.now.table_id.words }
     requires mark { mark ≢ 0 }
-    requires free { (place.old.me.0.turn ≡ false) × (place.old.me.0.spent ≡ false) × (place.old.me.1 ≡ []) }
+    requires free { MayTakeTurn place.old.me }
     ensures same { (place.new.table_id ≡ place.old.table_id) × (place.new.id ≡ place.old.id) }
     ensures turn { result ≡ 0 → GetsTurn place.old.me place.new.me }
     ensures held { result ≢ 0 → Misses place.old.me place.new.me }
@@ -43,7 +44,7 @@ pub fn record(board: &Board, place: &mut Place)
     requires added { HasRow place.old.me }
     requires small { length place.old.me.0.seen < 2 ^ 63 }
     ensures same { (place.new.table_id ≡ place.old.table_id) × (place.new.id ≡ place.old.id) }
-    ensures seen { (x : DeskState) → place.old.me.1 ≡ (0, x) ∷ [] → place.new.me ≡ (recorded place.old.me.0 (place.old.me.0.seen ++ last_row x.history), place.old.me.1) }
+    ensures seen { SeesLast place.old.me place.new.me }
 {
     board.fetch_add::<Record>(place, 0, 1);
 }
@@ -54,7 +55,7 @@ pub fn give(board: &Board, place: &mut Place)
     requires sized { 2 ≤ board.now.table_id.words }
     requires turn { HasTurn place.old.me }
     ensures same { (place.new.table_id ≡ place.old.table_id) × (place.new.id ≡ place.old.id) }
-    ensures free { place.new.me ≡ (without_turn place.old.me.0, []) }
+    ensures free { GivesTurn place.old.me place.new.me }
 {
     hand_back(board, place);
 }
@@ -78,7 +79,7 @@ pub fn ring(board: &Board, place: &mut Place, pass: u64)
     requires same { place.old.table_id ≡ board.now.table_id }
     requires sized { pass + 2 < board.now.table_id.words }
     requires small { pass < 2 ^ 32 }
-    ensures same { (place.new.table_id ≡ place.old.table_id) × (place.new.id ≡ place.old.id) × (place.new.me ≡ place.old.me) }
+    ensures same { KeepsSeat place.old place.new }
 {
     let bell = pass as usize + 2;
     board.fetch_add::<Ring>(place, bell, 1);
@@ -91,7 +92,7 @@ pub fn ring_left(board: &Board, place: &mut Place, passes: u64, left: Option<u64
     requires sized { board.now.table_id.words ≡ passes + 2 }
     requires few { passes ≤ 1100 }
     requires left { IfSome left (λ p. p < passes) }
-    ensures same { (place.new.table_id ≡ place.old.table_id) × (place.new.id ≡ place.old.id) × (place.new.me ≡ place.old.me) }
+    ensures same { KeepsSeat place.old place.new }
 {
     if let Some(pass) = left {
         ring(board, place, pass);
@@ -124,7 +125,7 @@ pub fn confirm(board: &Board, place: &mut Place)
     requires same { place.old.table_id ≡ board.now.table_id }
     requires sized { 2 ≤ board.now.table_id.words }
     requires fresh { place.old.me.0.spent ≡ false }
-    ensures same { (place.new.table_id ≡ place.old.table_id) × (place.new.id ≡ place.old.id) × (place.new.me ≡ place.old.me) }
+    ensures same { KeepsSeat place.old place.new }
     ensures so { IsSound place.old.me.0 }
 {
     board.load::<Confirm>(place, 0);

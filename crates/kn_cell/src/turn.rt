@@ -1,15 +1,13 @@
 //! What a pass does with the turn: it waits for it, and records one event.
-ghost use Rattle.std.specs.Prelude.{◌≡◌, ◌<◌, ◌≤◌, ◌+◌, ◌∷◌, [], ◌^◌, false, IfOk, IfErr, IfSome, vec_capacity};
+ghost use Rattle.std.specs.Prelude.{◌≡◌, ◌<◌, ◌≤◌, ◌+◌, ◌∷◌, [], ◌^◌, IfOk, IfErr, IfSome, vec_capacity};
 ghost use Rattle.kn_book.specs.Book.{call_address, next_to_probe};
-ghost use Rattle.kn_core.specs.State.{StandsFor};
-ghost use Rattle.kn_trace.specs.Trace.{Trace, stand_of, proxied, next_starting};
+ghost use Rattle.kn_trace.specs.Trace.{stand_of, proxied, next_starting};
 ghost use Rattle.kn_cell.specs.State.{DeskState};
-ghost use Rattle.kn_cell.specs.Desk.{Applies, IsTooSmall, emptied};
-ghost use Rattle.kn_cell.specs.Views.{opening};
-ghost use Rattle.kn_cell.specs.History.{trace_after, MayCome};
-ghost use Rattle.kn_cell.specs.Rule.{without_turn};
+ghost use Rattle.kn_cell.specs.Desk.{emptied};
+ghost use Rattle.kn_cell.specs.History.{MayCome};
+ghost use Rattle.kn_cell.specs.Seats.{KeepsSeat, KeepsView, MayTakeTurn, GivesTurn, AppliesInSlot, OverflowsSlot};
 ghost use Rattle.kn_cell.specs.Counted.{AreFiguresAt};
-ghost use Rattle.kn_cell.specs.Turns.{HasTurn, WaitsForTurn, Enters, RecordsRow, Overflows, trace_seen};
+ghost use Rattle.kn_cell.specs.Turns.{HasTurn, WaitsForTurn, Enters, RecordsRow, Overflows, SeesAt};
 
 use crate::past::{Full, Past};
 use crate::steps::{AWAITED, Board, Place, TAKEN, give, record, ring_left, take};
@@ -32,7 +30,7 @@ const TRIES: u64 = 100;
 pub fn take_turn<R: Wait>(rt: &R, board: &Board, place: &mut Place)
     requires same { place.old.table_id ≡ board.now.table_id }
     requires sized { 2 ≤ board.now.table_id.words }
-    requires free { (place.old.me.0.turn ≡ false) × (place.old.me.0.spent ≡ false) × (place.old.me.1 ≡ []) }
+    requires free { MayTakeTurn place.old.me }
     ensures same { (place.new.table_id ≡ place.old.table_id) × (place.new.id ≡ place.old.id) }
     ensures turn { WaitsForTurn place.old.me.0 place.new.me }
 {
@@ -48,7 +46,7 @@ pub fn take_turn<R: Wait>(rt: &R, board: &Board, place: &mut Place)
 fn await_turn<R: Wait>(rt: &R, board: &Board, place: &mut Place, before: u64)
     requires same { place.old.table_id ≡ board.now.table_id }
     requires sized { 2 ≤ board.now.table_id.words }
-    requires free { (place.old.me.0.turn ≡ false) × (place.old.me.0.spent ≡ false) × (place.old.me.1 ≡ []) }
+    requires free { MayTakeTurn place.old.me }
     ensures same { (place.new.table_id ≡ place.old.table_id) × (place.new.id ≡ place.old.id) }
     ensures turn { WaitsForTurn place.old.me.0 place.new.me }
 {
@@ -110,9 +108,9 @@ fn apply_at(
     requires same { place.old.table_id ≡ board.now.table_id }
     requires slot { (x : DeskState) × (place.old.me.1 ≡ (0, x) ∷ []) × (x.revision.events < 2 ^ 54) }
     requires act { MayCome act }
-    ensures same { (place.new.table_id ≡ place.old.table_id) × (place.new.id ≡ place.old.id) × (place.new.me.0 ≡ place.old.me.0) }
-    ensures ok { (x : DeskState) → place.old.me.1 ≡ (0, x) ∷ [] → IfOk result (λ _. (y : DeskState) × (place.new.me.1 ≡ (0, y) ∷ []) × Applies x number act time answer.new y) }
-    ensures err { (x : DeskState) → place.old.me.1 ≡ (0, x) ∷ [] → IfErr result (λ full. (place.new.me.1 ≡ place.old.me.1) × IsTooSmall x act full) }
+    ensures same { KeepsView place.old place.new }
+    ensures ok { AppliesInSlot place.old.me place.new.me number act time answer.new result }
+    ensures err { OverflowsSlot place.old.me place.new.me act result }
 {
     place.slot_mut(board, 0).apply(number, act, time, answer)
 }
@@ -122,7 +120,7 @@ pub fn rows_at(board: &Board, place: &mut Place, rows: &mut Vec<Past>)
     requires same { place.old.table_id ≡ board.now.table_id }
     requires slot { (x : DeskState) × (place.old.me.1 ≡ (0, x) ∷ []) × (x.room ≤ vec_capacity rows.old) }
     requires empty { rows.old.items ≡ [] }
-    ensures same { (place.new.table_id ≡ place.old.table_id) × (place.new.id ≡ place.old.id) × (place.new.me.0 ≡ place.old.me.0) }
+    ensures same { KeepsView place.old place.new }
     ensures slot { (x : DeskState) → place.old.me.1 ≡ (0, x) ∷ [] → place.new.me.1 ≡ (0, emptied x) ∷ [] }
     ensures rows { (x : DeskState) → place.old.me.1 ≡ (0, x) ∷ [] → rows.new.items ≡ x.history }
     ensures room { (x : DeskState) → place.old.me.1 ≡ (0, x) ∷ [] → x.room ≤ vec_capacity rows.new }
@@ -134,7 +132,7 @@ pub fn rows_at(board: &Board, place: &mut Place, rows: &mut Vec<Past>)
 fn called_at(board: &Board, place: &mut Place) -> Option<u64>
     requires same { place.old.table_id ≡ board.now.table_id }
     requires slot { (x : DeskState) × (place.old.me.1 ≡ (0, x) ∷ []) }
-    ensures same { (place.new.table_id ≡ place.old.table_id) × (place.new.id ≡ place.old.id) × (place.new.me ≡ place.old.me) }
+    ensures same { KeepsSeat place.old place.new }
 {
     place.slot_mut(board, 0).next_called()
 }
@@ -146,7 +144,7 @@ fn ring_called(board: &Board, place: &mut Place, passes: u64) -> Option<u64>
     requires sized { board.now.table_id.words ≡ passes + 2 }
     requires few { passes ≤ 1100 }
     requires slot { (x : DeskState) × (place.old.me.1 ≡ (0, x) ∷ []) }
-    ensures same { (place.new.table_id ≡ place.old.table_id) × (place.new.id ≡ place.old.id) × (place.new.me ≡ place.old.me) }
+    ensures same { KeepsSeat place.old place.new }
     ensures left { IfSome result (λ p. p < passes) }
 {
     let mut left = None;
@@ -212,7 +210,7 @@ pub fn attempt(
     requires act { MayCome act }
     ensures same { (place.new.table_id ≡ place.old.table_id) × (place.new.id ≡ place.old.id) }
     ensures ok { IfOk result (λ _. RecordsRow place.old.me.0 act time answer.new place.new.me) }
-    ensures err { IfErr result (λ full. (place.new.me ≡ (without_turn place.old.me.0, [])) × Overflows place.old.me.0 act full) }
+    ensures err { IfErr result (λ full. GivesTurn place.old.me place.new.me × Overflows place.old.me.0 act full) }
 {
     match enter(board, place, number, passes, act, time, answer) {
         Ok(left) => {
@@ -231,8 +229,8 @@ pub fn attempt(
 pub fn stand_at(board: &Board, place: &mut Place, number: u64, asked: Option<u64>, r: u64) -> Stand
     requires same { place.old.table_id ≡ board.now.table_id }
     requires turn { HasTurn place.old.me }
-    ensures same { (place.new.table_id ≡ place.old.table_id) × (place.new.id ≡ place.old.id) × (place.new.me ≡ place.old.me) }
-    ensures value { (c : Trace) → StandsFor (opening place.old.me.0.key) c → result ≡ stand_of (trace_after (opening place.old.me.0.key).spec c place.old.me.0.seen) r }
+    ensures same { KeepsSeat place.old place.new }
+    ensures value { SeesAt place.old.me.0 (λ c. result ≡ stand_of c r) }
 {
     place.slot_mut(board, 0).look(number, asked, r)
 }
@@ -241,8 +239,8 @@ pub fn stand_at(board: &Board, place: &mut Place, number: u64, asked: Option<u64
 pub fn proxied_at(board: &Board, place: &mut Place, r: u64) -> bool
     requires same { place.old.table_id ≡ board.now.table_id }
     requires turn { HasTurn place.old.me }
-    ensures same { (place.new.table_id ≡ place.old.table_id) × (place.new.id ≡ place.old.id) × (place.new.me ≡ place.old.me) }
-    ensures value { (c : Trace) → StandsFor (opening place.old.me.0.key) c → result ≡ proxied (trace_after (opening place.old.me.0.key).spec c place.old.me.0.seen) r }
+    ensures same { KeepsSeat place.old place.new }
+    ensures value { SeesAt place.old.me.0 (λ c. result ≡ proxied c r) }
 {
     place.slot_mut(board, 0).proxied(r)
 }
@@ -251,8 +249,8 @@ pub fn proxied_at(board: &Board, place: &mut Place, r: u64) -> bool
 pub fn starting_at(board: &Board, place: &mut Place, from: u64) -> Option<u64>
     requires same { place.old.table_id ≡ board.now.table_id }
     requires turn { HasTurn place.old.me }
-    ensures same { (place.new.table_id ≡ place.old.table_id) × (place.new.id ≡ place.old.id) × (place.new.me ≡ place.old.me) }
-    ensures value { (c : Trace) → StandsFor (opening place.old.me.0.key) c → result ≡ next_starting (trace_after (opening place.old.me.0.key).spec c place.old.me.0.seen) from }
+    ensures same { KeepsSeat place.old place.new }
+    ensures value { SeesAt place.old.me.0 (λ c. result ≡ next_starting c from) }
     ensures from { IfSome result (λ p. from ≤ p) }
     ensures most { IfSome result (λ p. p < 2 ^ 63) }
 {
@@ -263,8 +261,8 @@ pub fn starting_at(board: &Board, place: &mut Place, from: u64) -> Option<u64>
 pub fn call_address_at(board: &Board, place: &mut Place, pod: u64) -> u64
     requires same { place.old.table_id ≡ board.now.table_id }
     requires turn { HasTurn place.old.me }
-    ensures same { (place.new.table_id ≡ place.old.table_id) × (place.new.id ≡ place.old.id) × (place.new.me ≡ place.old.me) }
-    ensures value { (c : Trace) → StandsFor (opening place.old.me.0.key) c → result ≡ call_address place.old.me.0.key.addresses (trace_seen place.old.me.0 c) pod }
+    ensures same { KeepsSeat place.old place.new }
+    ensures value { SeesAt place.old.me.0 (λ c. result ≡ call_address place.old.me.0.key.addresses c pod) }
 {
     place.slot_mut(board, 0).call_address(pod)
 }
@@ -273,7 +271,7 @@ pub fn call_address_at(board: &Board, place: &mut Place, pod: u64) -> u64
 pub fn figures_at(board: &Board, place: &mut Place) -> Figures
     requires same { place.old.table_id ≡ board.now.table_id }
     requires turn { HasTurn place.old.me }
-    ensures same { (place.new.table_id ≡ place.old.table_id) × (place.new.id ≡ place.old.id) × (place.new.me ≡ place.old.me) }
+    ensures same { KeepsSeat place.old place.new }
     ensures value { AreFiguresAt place.old.me.0 result }
 {
     place.slot_mut(board, 0).figures()
@@ -283,8 +281,8 @@ pub fn figures_at(board: &Board, place: &mut Place) -> Figures
 pub fn to_probe_at(board: &Board, place: &mut Place, from: u64) -> Option<(u64, u64)>
     requires same { place.old.table_id ≡ board.now.table_id }
     requires turn { HasTurn place.old.me }
-    ensures same { (place.new.table_id ≡ place.old.table_id) × (place.new.id ≡ place.old.id) × (place.new.me ≡ place.old.me) }
-    ensures value { (c : Trace) → StandsFor (opening place.old.me.0.key) c → result ≡ next_to_probe place.old.me.0.key.addresses (trace_seen place.old.me.0 c) from }
+    ensures same { KeepsSeat place.old place.new }
+    ensures value { SeesAt place.old.me.0 (λ c. result ≡ next_to_probe place.old.me.0.key.addresses c from) }
     ensures from { IfSome result (λ x. from ≤ x.0) }
     ensures most { IfSome result (λ x. x.0 < 2 ^ 63) }
 {

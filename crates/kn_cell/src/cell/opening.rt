@@ -5,7 +5,7 @@ ghost use Rattle.kn_book.specs.State.{HasRoom, state_of};
 ghost use Rattle.kn_core.specs.State.{StandsFor};
 ghost use Rattle.kn_core.specs.Gauges.{count_live};
 ghost use Rattle.kn_cell.specs.Books.{IsBookFor, IsOpenedBy};
-ghost use Rattle.kn_cell.specs.Shown.{first_lasting, first_shown};
+ghost use Rattle.kn_cell.specs.Shown.{first_lasting, first_opened, first_shown};
 
 use super::{Pass, RevisionCell};
 use crate::desk::Desk;
@@ -86,7 +86,7 @@ fn opened(
     requires room { room ≤ 1000000 }
     requires passes { (1 ≤ passes) × (passes ≤ 1100) }
     requires book { IsBookFor book revision }
-    ensures { IfOk result (λ r. r.1 ≡ record (first_shown r.0 revision room passes) { lasting = lasting; scribe = lasting; book = book.addresses }) }
+    ensures { IfOk result (λ r. r.1 ≡ first_opened lasting r.0 revision room passes book.addresses) }
 {
     let _live = revision.live();
     let key = Key {
