@@ -13,12 +13,12 @@ use Rattle.kn_many.specs.Many.{IsOpenedAt}
 use Rattle.kn_serve.specs.Running.{Session, journal_of}
 
 -- one revision more
-pub opened_more : (setups : List Setup) (start : ℕ) (rs : List RevisionState) (i : ℕ) (s : Setup) (r : RevisionState) → length rs ≡ i → i < length setups → IsOpenedAt (get_or setups i s).spec start r
+pub opened_more : (setups : List Setup) (start : ℕ) (rs : List RevisionState) (i : ℕ) (s : Setup) (r : RevisionState) → length rs ≡ i → i < length setups → s ≡ get_or setups i s → IsOpenedAt s.spec start r
     → ((v : ℕ) (b : RevisionState) (x : Setup) → v < i → IsOpenedAt (slice_index_or setups v x).spec start (slice_index_or rs v b))
     → (v : ℕ) (b : RevisionState) (x : Setup) → v < i + 1 → IsOpenedAt (slice_index_or setups v x).spec start (slice_index_or (rs ++ r ∷ []) v b)
-opened_more setups start rs i s r many within new before v b x low = elim (eqb_tells v i) [
+opened_more setups start rs i s r many within is new before v b x low = elim (eqb_tells v i) [
   | inl e ↦
-      let here : get_or setups i s ≡ get_or setups v x = get_or_default setups i s x within ∙ ap (λ (n : ℕ). get_or setups n x) (sym e.1) in
+      let here : s ≡ get_or setups v x = is ∙ get_or_default setups i s x within ∙ ap (λ (n : ℕ). get_or setups n x) (sym e.1) in
       let last : get_or (rs ++ r ∷ []) v b ≡ r = ap (λ (n : ℕ). get_or (rs ++ r ∷ []) n b) (e.1 ∙ sym many) ∙ get_or_push rs r b (length rs) refl in
       subst (λ (z : RevisionState). IsOpenedAt (get_or setups v x).spec start z) (sym last) (subst (λ (z : Setup). IsOpenedAt z.spec start r) here new)
   | inr e ↦

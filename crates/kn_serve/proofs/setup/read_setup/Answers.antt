@@ -1,5 +1,6 @@
 use Rattle.std.proofs.Common.{ℕ, Option, List, subst, length, ap, ◌∙◌, arith}
-use Rattle.std.specs.Prelude.{Err, Ok, Result}
+use Rattle.std.proofs.lemmas.Result.{err_from_is_err_and}
+use Rattle.std.specs.Prelude.{◌≡◌, Err, Ok, Result}
 use Rattle.kn_preamble.specs.declared.first.FirstLine.TheVariants.{Journal as JournalLine}
 use Rattle.kn_journal.specs.declared.error.JournalError.{JournalError}
 use Rattle.kn_journal.specs.declared.error.JournalError.TheVariants as error
@@ -22,11 +23,19 @@ pub returns-in_err-setup-clause-says : goal.returns-in_err-setup-clause-says
 returns-in_err-setup-clause-says g c =
     let start = nothing_ahead c.in-Ok.reader.input.ahead (g.S.Source.left c.args.source.now) c.in-Ok.ensures.ahead in
     let tells = refused_from_start c.in-Ok.reader c.in_err-setup.field-0.0 (unread c.in-Ok.reader.input (g.S.Source.left c.args.source.now)) c.in-Ok.ensures.begun c.in-Ok.ensures.number (c.in_err-setup.ensures.reads.tells c.in-Ok.ensures.failed) in
-    opening_refused (g.S.Source.left c.args.source.now) c.in_err-setup.field-0.0 (subst (Refuses (opening_part JournalLine 0) c.in_err-setup.field-0.0) start tells)
+    let p = err_from_is_err_and c.from_residual.result c.from_residual.ensures.1 in
+    rw (p.1, p.2)
+    (opening_refused (g.S.Source.left c.args.source.now) c.in_err-setup.field-0.0 (subst (Refuses (opening_part JournalLine 0) c.in_err-setup.field-0.0) start tells))
 
 pub returns-in_err-setup-clause-fault : goal.returns-in_err-setup-clause-fault
 returns-in_err-setup-clause-fault g c is =
-    either (c.setup.ensures.source.fault c.in-Ok.ensures.failed (c.in_err-setup.is ∙ is)) (λ rose. rose)
+    let e = c.in_err-setup.field-0.0 in
+    let p = err_from_is_err_and c.from_residual.result c.from_residual.ensures.1 in
+    let told = p.1 in
+    let made : p.0 ≡ e = p.2 in
+    let same : e ≡ error.ReadFault = cc in
+    let fault = c.in_err-setup.was ∙ ap (λ (e : JournalError). Err e) same in
+    either (c.setup.ensures.source.fault c.in-Ok.ensures.failed fault) (λ rose. rose)
     (λ all. omega (arith, all, c.setup.ensures.source.balance, c.in-Ok.ensures.taken, ap length c.in-Ok.ensures.ahead))
 
 pub returns-in-Ok-finish_setup-clause-says : goal.returns-in-Ok-finish_setup-clause-says
