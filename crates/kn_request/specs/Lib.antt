@@ -1,3 +1,4 @@
+pub mod Changes
 pub mod Laws
 pub mod Pods
 pub mod Sight
@@ -9,3 +10,4 @@ pub mod Served
 pub mod One
 pub mod Ticking
 pub mod Wide
+pub mod Calls

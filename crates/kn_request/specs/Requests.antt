@@ -17,7 +17,7 @@ use Rattle.kn_io.specs.declared.links.LinkError.{LinkError}
 use Rattle.kn_head.specs.declared.head.Head.{Head}
 use Rattle.kn_head.specs.Forwarding.{forwarded}
 use Rattle.kn_request.specs.Laws.{is_lapsed}
-use Rattle.kn_request.specs.Sight.{EndsBy, IsAlone, IsLeft, StandsAt, sight}
+use Rattle.kn_request.specs.Sight.{EndsBy, IsAlone, IsLeft, IsRunning, StandsAt, sight}
 use Rattle.kn_request.specs.Terms.{MayCancel, Terms}
 
 -- a row of the pass: its time is the larger of a reading and the clock just before it, at most 2^42
@@ -47,6 +47,11 @@ pub record IsFinished (reading : ℕ → Type 0) (r : ℕ) (ok : Bool) (p : Pass
 abbrev pub Finishes : (ℕ → Type 0) → ℕ → Bool → PassView → PassView → Type 0
 Finishes reading r ok old new = (xs : List Past) × AreFinishes reading r ok new xs × (new.mine ≡ old.mine ++ xs)
     × (IsAlone new r → (c : Trace) → StandsFor new.opening c → IsFinished reading r ok new xs c)
+
+-- .. of a request that was found running
+abbrev pub FinishesRunning : (ℕ → Type 0) → ℕ → Bool → PassView → PassView → Type 0
+FinishesRunning reading r ok old new = (xs : List Past) × AreFinishes reading r ok new xs × (new.mine ≡ old.mine ++ xs)
+    × (IsRunning old r → IsAlone new r → (c : Trace) → StandsFor new.opening c → IsFinished reading r ok new xs c)
 
 -- the one call of the pod where the request ran, in the form that it came by
 pub record CallsPod (head : Head) (wire wire' : Option Link) (p : PassView) (r : ℕ) (reply : Result (List ℕ) LinkError) : Type 0 where

@@ -3,9 +3,8 @@ ghost use Rattle.std.specs.Prelude.{◌≡◌, ◌≢◌, ◌≤◌, ◌⊎◌, 
 ghost use Rattle.kn_cell.specs.Shown.{Looks};
 ghost use Rattle.kn_head.specs.Answers.{answer_for};
 ghost use Rattle.kn_request.specs.Answers.{IsFor};
-ghost use Rattle.kn_request.specs.Outside.{said};
-ghost use Rattle.kn_request.specs.Terms.{watched};
-ghost use Rattle.kn_request.specs.One.{text_of, served_by, Writes, Refuses, IsUnread, ServesRead, ServesMet, ServesGuest, ServesOne, CallerCause, HasCauses};
+ghost use Rattle.kn_request.specs.One.{served_by, Writes, Refuses, IsUnread, CallerCause};
+ghost use Rattle.kn_request.specs.Calls.{AnswersMeant, AttendsTo, FailsByCause, ServesHead, ServesSlot, ServesUnwatched, said_by};
 
 use crate::meant::Meant;
 use crate::serve::serve_event;
@@ -20,7 +19,7 @@ use std::sync::Wait;
 
 /// Writes the bytes, and answers so; or answers that the caller failed.
 fn put<C: Caller>(caller: &mut C, bytes: &[u8], served: Served) -> Served
-    ensures writes { Writes (said (C.Sink.kept caller.old) (C.Sink.held caller.old)) (said (C.Sink.kept caller.new) (C.Sink.held caller.new)) result served bytes.now }
+    ensures writes { Writes (said_by C.Sink.own caller.old) (said_by C.Sink.own caller.new) result served bytes.now }
     ensures cause { CallerCause (C.Faulty.faults caller.old) (C.Faulty.faults caller.new) served result }
 {
     match put_all(caller, bytes) {
@@ -31,7 +30,7 @@ fn put<C: Caller>(caller: &mut C, bytes: &[u8], served: Served) -> Served
 
 /// Refuses a request.
 pub fn refuse<C: Caller>(caller: &mut C, answer: Answer) -> Served
-    ensures refuses { Refuses (said (C.Sink.kept caller.old) (C.Sink.held caller.old)) (said (C.Sink.kept caller.new) (C.Sink.held caller.new)) answer result }
+    ensures refuses { Refuses (said_by C.Sink.own caller.old) (said_by C.Sink.own caller.new) answer result }
     ensures cause { CallerCause (C.Faulty.faults caller.old) (C.Faulty.faults caller.new) (Served.Refused answer) result }
 {
     put(caller, answer.bytes(), Served::Refused(answer))
@@ -39,7 +38,7 @@ pub fn refuse<C: Caller>(caller: &mut C, answer: Answer) -> Served
 
 /// Answers what is meant.
 fn answer<C: Caller>(caller: &mut C, meant: Meant) -> Served
-    ensures writes { Writes (said (C.Sink.kept caller.old) (C.Sink.held caller.old)) (said (C.Sink.kept caller.new) (C.Sink.held caller.new)) result (served_by meant) (text_of meant) }
+    ensures writes { AnswersMeant C.Sink.own caller.old caller.new meant result }
     ensures cause { CallerCause (C.Faulty.faults caller.old) (C.Faulty.faults caller.new) (served_by meant) result }
 {
     match meant {
@@ -85,9 +84,8 @@ pub fn serve_read<R: Wait, C: Caller, W: Watch<C>, L: PodLink, K: Clock, G: Gate
 ) -> Served
     requires cell { pass.old.cell ≡ cell.now }
     ensures looks { (pass.new ≡ pass.old) ⊎ Looks pass.old pass.new }
-    ensures serves { ServesRead (watched (K.reading clock.now) W.leaves (C.Faulty.faults caller.old) (C.Faulty.faults caller.new))
-        spec.now.timeout_ms tag head.now pass.old pass.new (L.told link.old) (L.told link.new) (said (C.Sink.kept caller.old) (C.Sink.held caller.old)) (said (C.Sink.kept caller.new) (C.Sink.held caller.new)) result }
-    ensures causes { HasCauses (C.Faulty.faults caller.old) (C.Faulty.faults caller.new) (L.Faulty.faults link.old) (L.Faulty.faults link.new) result }
+    ensures serves { ServesHead K.reading W.leaves C.Sink.own C.Faulty L.told clock spec tag head pass caller link result }
+    ensures causes { FailsByCause C.Faulty L.Faulty caller.old caller.new link.old link.new result }
 {
     let Ok(room) = Forward::reserve(alloc, head) else {
         return Served::Memory;
@@ -139,9 +137,8 @@ fn serve_met<R: Wait, C: Caller, W: Watch<C>, L: PodLink, K: Clock, G: Gate>(
 ) -> Served
     requires cell { pass.old.cell ≡ cell.now }
     ensures looks { (pass.new ≡ pass.old) ⊎ Looks pass.old pass.new }
-    ensures serves { ServesMet (watched (K.reading clock.now) W.leaves (C.Faulty.faults caller.old) (C.Faulty.faults caller.new))
-        spec.now tag pass.old pass.new (L.told link.old) (L.told link.new) (C.Source.left caller.old) (said (C.Sink.kept caller.old) (C.Sink.held caller.old)) (said (C.Sink.kept caller.new) (C.Sink.held caller.new)) result }
-    ensures causes { HasCauses (C.Faulty.faults caller.old) (C.Faulty.faults caller.new) (L.Faulty.faults link.old) (L.Faulty.faults link.new) result }
+    ensures serves { AttendsTo K.reading W.leaves C.left C.Sink.own C.Faulty L.told clock spec tag pass caller link result }
+    ensures causes { FailsByCause C.Faulty L.Faulty caller.old caller.new link.old link.new result }
 {
     match read_head(alloc, caller) {
         Ok(head) => match is_for(spec, &head) {
@@ -173,10 +170,8 @@ pub fn serve_guest<R: Wait, C: Caller, L: PodLink, K: Clock, G: Gate, W: Watch<C
 ) -> Served
     requires cell { pass.old.cell ≡ cell.now }
     ensures looks { (pass.new ≡ pass.old) ⊎ Looks pass.old pass.new }
-    ensures serves { ServesGuest (watched (K.reading clock.now) W.leaves (C.Faulty.faults slot.old.caller) (C.Faulty.faults slot.new.caller))
-        spec.now tag pass.old pass.new (L.told slot.old.link) (L.told slot.new.link) (said (C.Sink.kept slot.old.caller) (C.Sink.held slot.old.caller))
-        (said (C.Sink.kept slot.new.caller) (C.Sink.held slot.new.caller)) result }
-    ensures causes { HasCauses (C.Faulty.faults slot.old.caller) (C.Faulty.faults slot.new.caller) (L.Faulty.faults slot.old.link) (L.Faulty.faults slot.new.link) result }
+    ensures serves { ServesSlot K.reading W.leaves C.Sink.own C.Faulty L.told clock spec tag pass slot result }
+    ensures causes { FailsByCause C.Faulty L.Faulty slot.old.caller slot.new.caller slot.old.link slot.new.link result }
     ensures work { slot.new.work ≡ slot.old.work }
 {
     caller_laws();
@@ -212,8 +207,8 @@ pub fn serve_one<R: Wait, C: Caller, L: PodLink, K: Clock, G: Gate>(
 ) -> Served
     requires cell { pass.old.cell ≡ cell.now }
     ensures looks { (pass.new ≡ pass.old) ⊎ Looks pass.old pass.new }
-    ensures serves { ServesOne (K.reading clock.now) spec.now tag pass.old pass.new (L.told slot.old.link) (L.told slot.new.link) (said (C.Sink.kept slot.old.caller) (C.Sink.held slot.old.caller)) (said (C.Sink.kept slot.new.caller) (C.Sink.held slot.new.caller)) result }
-    ensures causes { HasCauses (C.Faulty.faults slot.old.caller) (C.Faulty.faults slot.new.caller) (L.Faulty.faults slot.old.link) (L.Faulty.faults slot.new.link) result }
+    ensures serves { ServesUnwatched K.reading C.Sink.own L.told clock spec tag pass slot result }
+    ensures causes { FailsByCause C.Faulty L.Faulty slot.old.caller slot.new.caller slot.old.link slot.new.link result }
     ensures work { slot.new.work ≡ slot.old.work }
 {
     serve_guest(

@@ -1,13 +1,10 @@
 //! A request runs: its pod is called, and it is finished.
-ghost use Rattle.std.specs.Prelude.{◌≡◌, ◌≤◌, ◌++◌, Bool, List, length, Err, is_ok};
-ghost use Rattle.kn_trace.specs.Trace.{Trace};
-ghost use Rattle.kn_core.specs.State.{StandsFor};
-ghost use Rattle.kn_cell.specs.declared.past.Past.{Past};
+ghost use Rattle.std.specs.Prelude.{◌≡◌, ◌≤◌, Bool, length, Err, is_ok};
 ghost use Rattle.kn_cell.specs.Shown.{Looks};
 ghost use Rattle.kn_io.specs.Causes.{Rose};
 ghost use Rattle.kn_head.specs.Forwarding.{forwarded};
-ghost use Rattle.kn_request.specs.Sight.{IsRunning, IsAlone, IsOwn, RunsAt};
-ghost use Rattle.kn_request.specs.Requests.{AreFinishes, IsFinished, CallsPod, Finishes};
+ghost use Rattle.kn_request.specs.Sight.{IsOwn, RunsAt};
+ghost use Rattle.kn_request.specs.Requests.{CallsPod, Finishes, FinishesRunning};
 
 use crate::laws::server_laws;
 use kn_cell::{Pass, RevisionCell, Run};
@@ -29,8 +26,7 @@ fn finish<R: Wait, K: Clock>(
     requires cell { pass.old.cell ≡ cell.now }
     requires own { IsOwn pass.old }
     ensures looks { Looks pass.old pass.new }
-    ensures finish { (xs : List Past) × AreFinishes (K.reading clock.now) r ok pass.new xs × (pass.new.mine ≡ pass.old.mine ++ xs)
-        × (IsRunning pass.old r → IsAlone pass.new r → (c : Trace) → StandsFor pass.new.opening c → IsFinished (K.reading clock.now) r ok pass.new xs c) }
+    ensures finish { FinishesRunning (K.reading clock.now) r ok pass.old pass.new }
 {
     server_laws();
     let now = clock.now_ms();

@@ -3,9 +3,9 @@ ghost use Rattle.std.specs.Prelude.{◌≡◌, ◌≢◌, ◌⊎◌, ◌≤◌, 
 ghost use Rattle.kn_sizes.specs.Told.{arrival_told};
 ghost use Rattle.kn_cell.specs.Shown.{Looks};
 ghost use Rattle.kn_head.specs.Forwarding.{forwarded};
-ghost use Rattle.kn_request.specs.Terms.{watched};
 ghost use Rattle.kn_request.specs.Sight.{HasCourse, IsKnown, IsOwn};
-ghost use Rattle.kn_request.specs.Served.{IsCourse, IsServed, IsTakenIn, IsTurnedAway, MeantCause};
+ghost use Rattle.kn_request.specs.Served.{IsTakenIn, IsTurnedAway, MeantCause};
+ghost use Rattle.kn_request.specs.Calls.{ServesArrival, TakesCourse};
 
 use crate::laws::server_laws;
 use crate::meant::Meant;
@@ -41,8 +41,7 @@ fn serve_request<R: Wait, C: Caller, W: Watch<C>, L: PodLink, K: Clock>(
     requires course { HasCourse pass.old r course }
     requires room { (proxied : Bool) → length (forwarded head.now proxied) ≤ room }
     ensures looks { (pass.new ≡ pass.old) ⊎ Looks pass.old pass.new }
-    ensures course { IsCourse (watched (K.reading clock.now) W.leaves (C.Faulty.faults caller.old) (C.Faulty.faults caller.new))
-        due head.now r pass.old pass.new (L.told link.old) (L.told link.new) result }
+    ensures course { TakesCourse K.reading W.leaves C.Faulty L.told clock due head r pass caller link result }
     ensures cause { MeantCause (L.Faulty.faults link.old) (L.Faulty.faults link.new) result }
     ensures kept { C.Sink.kept caller.new ≡ C.Sink.kept caller.old }
     ensures held { C.Sink.held caller.new ≡ C.Sink.held caller.old }
@@ -95,8 +94,7 @@ pub fn serve_event<R: Wait, C: Caller, W: Watch<C>, L: PodLink, K: Clock, G: Gat
     requires timeout { timeout ≤ 2 ^ 42 }
     requires room { (proxied : Bool) → length (forwarded head.now proxied) ≤ room }
     ensures looks { Looks pass.old pass.new }
-    ensures served { IsServed (watched (K.reading clock.now) W.leaves (C.Faulty.faults caller.old) (C.Faulty.faults caller.new))
-        timeout tag head.now pass.old pass.new (L.told link.old) (L.told link.new) result }
+    ensures served { ServesArrival K.reading W.leaves C.Faulty L.told clock timeout tag head pass caller link result }
     ensures cause { MeantCause (L.Faulty.faults link.old) (L.Faulty.faults link.new) result }
     ensures kept { C.Sink.kept caller.new ≡ C.Sink.kept caller.old }
     ensures held { C.Sink.held caller.new ≡ C.Sink.held caller.old }

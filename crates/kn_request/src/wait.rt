@@ -3,9 +3,10 @@ ghost use Rattle.std.specs.Prelude.{◌≡◌, ◌⊎◌, ◌≤◌, IfSome, IfN
 ghost use Rattle.kn_event.specs.declared.event.Stand.TheVariants as stand;
 ghost use Rattle.kn_cell.specs.Shown.{Looks};
 ghost use Rattle.kn_request.specs.Sight.{HasCourse, RunsAt, StandsAt, IsKnown, IsLeft, IsAlone, IsOwn};
-ghost use Rattle.kn_request.specs.Terms.{unwatched, watched};
+ghost use Rattle.kn_request.specs.Terms.{unwatched};
 ghost use Rattle.kn_request.specs.Requests.{Cancels};
 ghost use Rattle.kn_request.specs.Served.{IsFound, IsWaitingNoMore};
+ghost use Rattle.kn_request.specs.Calls.{watched_by};
 
 use crate::laws::server_laws;
 use kn_cell::{Course, Pass, RevisionCell, Run};
@@ -39,7 +40,7 @@ fn wait_while<R: Wait, C: Caller, W: Watch<C>, K: Clock>(
     requires known { IsKnown pass.old r }
     ensures looks { (pass.new ≡ pass.old) ⊎ Looks pass.old pass.new }
     ensures mine { pass.new.mine ≡ pass.old.mine }
-    ensures found { IsFound (watched (K.reading clock.now) W.leaves (C.Faulty.faults caller.old) (C.Faulty.faults caller.new)) due pass.new r result }
+    ensures found { IsFound (watched_by K.reading W.leaves C.Faulty clock caller) due pass.new r result }
     ensures kept { C.Sink.kept caller.new ≡ C.Sink.kept caller.old }
     ensures held { C.Sink.held caller.new ≡ C.Sink.held caller.old }
     ensures never_falls { C.Faulty.faults caller.old ≤ C.Faulty.faults caller.new }
@@ -76,7 +77,7 @@ fn wait_out<R: Wait, C: Caller, W: Watch<C>, K: Clock>(
     requires own { IsOwn pass.old }
     requires known { IsKnown pass.old r }
     ensures looks { (pass.new ≡ pass.old) ⊎ Looks pass.old pass.new }
-    ensures cancels { Cancels (watched (K.reading clock.now) W.leaves (C.Faulty.faults caller.old) (C.Faulty.faults caller.new)) due r pass.old pass.new }
+    ensures cancels { Cancels (watched_by K.reading W.leaves C.Faulty clock caller) due r pass.old pass.new }
     ensures runs { IfSome result (λ x. RunsAt pass.new r x) }
     ensures ended { IfNone result (StandsAt pass.new r stand.Ended) }
     ensures left { IsLeft pass.old r → IsAlone pass.new r → IsLeft pass.new r }
@@ -112,7 +113,7 @@ pub fn leave_queue<R: Wait, C: Caller, W: Watch<C>, K: Clock>(
     requires known { IsKnown pass.old r }
     requires course { HasCourse pass.old r course }
     ensures looks { (pass.new ≡ pass.old) ⊎ Looks pass.old pass.new }
-    ensures cancels { Cancels (watched (K.reading clock.now) W.leaves (C.Faulty.faults caller.old) (C.Faulty.faults caller.new)) due r pass.old pass.new }
+    ensures cancels { Cancels (watched_by K.reading W.leaves C.Faulty clock caller) due r pass.old pass.new }
     ensures runs { IfSome result (λ x. RunsAt pass.new r x) }
     ensures ended { IfNone result (StandsAt pass.new r stand.Ended) }
     ensures left { IsLeft pass.old r → IsAlone pass.new r → IsLeft pass.new r }

@@ -1,10 +1,8 @@
 //! One request to one of several revisions, each with a cell of its own.
-ghost use Rattle.std.specs.Prelude.{◌≡◌, ◌⊎◌, Some, IfSome, IfNone, length, map};
-ghost use Rattle.kn_cell.specs.Shown.{Looks, PassView};
-ghost use Rattle.kn_request.specs.Outside.{said};
-ghost use Rattle.kn_request.specs.Terms.{unwatched};
-ghost use Rattle.kn_request.specs.One.{HasCauses, ServesMetBy, ServesRead};
-ghost use Rattle.kn_request.specs.Wide.{EachPass, IsForNone, IsNamed, IsWideWay, ServesWide, WideCauses, faults_in, memories_in, passes_in};
+ghost use Rattle.std.specs.Prelude.{◌≡◌, Some, IfSome, IfNone, length};
+ghost use Rattle.kn_cell.specs.Shown.{PassView};
+ghost use Rattle.kn_request.specs.Wide.{EachPass, IsForNone, IsNamed, faults_in, memories_in, passes_in};
+ghost use Rattle.kn_request.specs.Calls.{FailsByCause, FailsByCauseAt, FailsByCauseIn, KeepsLengths, ServesByWork, ServesNamed, ServesWideSlot};
 
 use crate::one::{fault_of, is_for, refuse, serve_read};
 use crate::slot::{Ended, Served, WideSlot, Work};
@@ -45,9 +43,8 @@ fn serve_with<R: Wait, C: Caller, L: PodLink, K: Clock, G: Gate>(
     gate: &G,
 ) -> Served
     requires pass { (p : PassView) × (work.old.pass ≡ Some p) × (p.cell ≡ cell.now) }
-    ensures pass { (p : PassView) → work.old.pass ≡ Some p → (q : PassView) × (work.new.pass ≡ Some q) × ((q ≡ p) ⊎ Looks p q)
-        × ServesRead (unwatched (K.reading clock.now)) spec.now.timeout_ms tag head.now p q (L.told link.old) (L.told link.new) (said (C.Sink.kept caller.old) (C.Sink.held caller.old)) (said (C.Sink.kept caller.new) (C.Sink.held caller.new)) result }
-    ensures causes { HasCauses (C.Faulty.faults caller.old) (C.Faulty.faults caller.new) (L.Faulty.faults link.old) (L.Faulty.faults link.new) result }
+    ensures pass { ServesByWork K.reading C.Sink.own L.told clock spec tag head work caller link result }
+    ensures causes { FailsByCause C.Faulty L.Faulty caller.old caller.new link.old link.new result }
     ensures flags { (work.new.fault ≡ work.old.fault) × (work.new.memory ≡ work.old.memory) }
 {
     let pass = work.pass.take();
@@ -80,8 +77,8 @@ fn serve_named<R: Wait, C: Caller, L: PodLink, K: Clock, G: Gate>(
     requires cells { length cells.now ≡ length specs.now }
     requires slot { (length links.old ≡ length specs.now) × (length works.old ≡ length specs.now) }
     requires passes { EachPass cells.now (passes_in works.old) }
-    ensures serves { ServesMetBy (IsWideWay (K.reading clock.now) specs.now tag (passes_in works.old) (passes_in works.new) (map (λ l. L.told l) links.old) (map (λ l. L.told l) links.new) result.revision) (C.Source.left caller.old) (said (C.Sink.kept caller.old) (C.Sink.held caller.old)) (said (C.Sink.kept caller.new) (C.Sink.held caller.new)) result.served }
-    ensures causes { WideCauses (C.Faulty.faults caller.old) (C.Faulty.faults caller.new) (map (λ l. L.Faulty.faults l) links.old) (map (λ l. L.Faulty.faults l) links.new) result.revision result.served }
+    ensures serves { ServesNamed K.reading C.left C.Sink.own L.told clock specs tag works caller links result }
+    ensures causes { FailsByCauseAt C.Faulty L.Faulty caller.old caller.new links.old links.new result }
     ensures count { (length links.new ≡ length links.old) × (length works.new ≡ length works.old) }
     ensures fault { faults_in works.new ≡ faults_in works.old }
     ensures memory { memories_in works.new ≡ memories_in works.old }
@@ -142,9 +139,9 @@ pub fn serve_wide<R: Wait, C: Caller, L: PodLink, K: Clock, G: Gate>(
     requires cells { length cells.now ≡ length specs.now }
     requires slot { (length slot.old.links.items ≡ length specs.now) × (length slot.old.works.items ≡ length specs.now) }
     requires passes { EachPass cells.now (passes_in slot.old.works.items) }
-    ensures serves { ServesWide (K.reading clock.now) specs.now tag (passes_in slot.old.works.items) (passes_in slot.new.works.items) (map (λ l. L.told l) slot.old.links.items) (map (λ l. L.told l) slot.new.links.items) result.revision (said (C.Sink.kept slot.old.caller) (C.Sink.held slot.old.caller)) (said (C.Sink.kept slot.new.caller) (C.Sink.held slot.new.caller)) result.served }
-    ensures causes { WideCauses (C.Faulty.faults slot.old.caller) (C.Faulty.faults slot.new.caller) (map (λ l. L.Faulty.faults l) slot.old.links.items) (map (λ l. L.Faulty.faults l) slot.new.links.items) result.revision result.served }
-    ensures count { (length slot.new.links.items ≡ length slot.old.links.items) × (length slot.new.works.items ≡ length slot.old.works.items) }
+    ensures serves { ServesWideSlot K.reading C.Sink.own L.told clock specs tag slot result }
+    ensures causes { FailsByCauseIn C.Faulty L.Faulty slot.old slot.new result }
+    ensures count { KeepsLengths slot.old slot.new }
     ensures fault { faults_in slot.new.works.items ≡ faults_in slot.old.works.items }
     ensures memory { memories_in slot.new.works.items ≡ memories_in slot.old.works.items }
     ensures passes { EachPass cells.now (passes_in slot.new.works.items) }

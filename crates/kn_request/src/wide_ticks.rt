@@ -1,6 +1,7 @@
 //! The ticker of several revisions.
-ghost use Rattle.std.specs.Prelude.{◌≡◌, length, map};
-ghost use Rattle.kn_request.specs.Wide.{AreSetTo, ArePassesOf, TakesTurns, TicksAll};
+ghost use Rattle.std.specs.Prelude.{◌≡◌, length};
+ghost use Rattle.kn_request.specs.Wide.{AreSetTo, ArePassesOf};
+ghost use Rattle.kn_request.specs.Calls.{IsAsLong, TicksEach, TurnsEach};
 
 use crate::ticks::{Left, tick_turn};
 use kn_cell::{Pass, RevisionCell};
@@ -27,8 +28,8 @@ fn turn_all<R: Wait, L: PodLink>(
 )
     requires cells { ArePassesOf cells.now passes.old }
     requires count { (length lasts.old ≡ length cells.now) × (length keepers.old ≡ length cells.now) }
-    ensures turns { TakesTurns now passes.old passes.new lasts.old lasts.new (map (λ l. L.told l) keepers.old) (map (λ l. L.told l) keepers.new) (map (λ l. L.Faulty.faults l) keepers.old) (map (λ l. L.Faulty.faults l) keepers.new) }
-    ensures count { (length passes.new ≡ length passes.old) × (length lasts.new ≡ length lasts.old) × (length keepers.new ≡ length keepers.old) }
+    ensures turns { TurnsEach L.told L.Faulty now passes.old passes.new lasts.old lasts.new keepers.old keepers.new }
+    ensures count { IsAsLong passes.new passes.old × IsAsLong lasts.new lasts.old × IsAsLong keepers.new keepers.old }
 {
     for v in 0..cells.len() {
         let turn = tick_turn(
@@ -58,8 +59,8 @@ pub fn tick_all<R: Wait, L: PodLink, K: Clock>(
 )
     requires cells { ArePassesOf cells.now passes.old }
     requires count { (length lasts.old ≡ length cells.now) × (length keepers.old ≡ length cells.now) }
-    ensures ticks { TicksAll (K.reading clock.now) start passes.old passes.new (map (λ l. L.told l) keepers.old) (map (λ l. L.told l) keepers.new) (map (λ l. L.Faulty.faults l) keepers.old) (map (λ l. L.Faulty.faults l) keepers.new) }
-    ensures count { (length passes.new ≡ length passes.old) × (length lasts.new ≡ length lasts.old) × (length keepers.new ≡ length keepers.old) }
+    ensures ticks { TicksEach L.told L.Faulty (K.reading clock.now) start passes.old passes.new keepers.old keepers.new }
+    ensures count { IsAsLong passes.new passes.old × IsAsLong lasts.new lasts.old × IsAsLong keepers.new keepers.old }
 {
     set_all(lasts, start);
     let now = clock.now_ms();
