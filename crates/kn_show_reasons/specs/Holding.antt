@@ -1,5 +1,6 @@
 -- Where sentences stand: exactly where the rule that they tell of changed the count.
 use Rattle.std.specs.Prelude.{◌≡◌, ℕ, ◌==◌, ◌<◌, not, ◌&&◌, ◌||◌, nat_lt, nat_le, ◌∷◌, map}
+use Rattle.kn_event.specs.Revision.{AreInRange}
 use Rattle.kn_event.specs.declared.entry.Decision.{Decision}
 use Rattle.kn_event.specs.declared.units.Frac.{Frac}
 use Rattle.kn_event.specs.declared.revision.Spec.{Spec}
@@ -32,3 +33,7 @@ pub record BoundsTell (s : Spec) (past : Past) (t : ℕ) (d : Decision) : Type 0
 
 abbrev pub Tells : Spec → Past → ℕ → ℕ → Frac → Frac → Type 0
 Tells s past t ready stable panic = BoundsTell s past t (ruling s past t ready stable panic).decision
+
+-- this holds of whatever is decided by a specification in range
+abbrev pub AtEachDecision : (Spec → Past → ℕ → ℕ → Frac → Frac → Type 0) → Type 0
+AtEachDecision P = (s : Spec) (past : Past) (t ready : ℕ) (stable panic : Frac) → AreInRange s → P s past t ready stable panic

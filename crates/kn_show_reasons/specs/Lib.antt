@@ -4,3 +4,4 @@ pub mod Reasons
 pub mod State
 pub mod Reading
 pub mod Holding
+pub mod Adding

@@ -1,15 +1,10 @@
 //! The teller of reasons.
-ghost use Rattle.std.specs.Prelude.{◌++◌, List, OnErr, OnOk};
-ghost use Rattle.kn_event.specs.declared.event.Event.{Event as EventValue};
 ghost use Rattle.kn_io.specs.Causes.{HasCause};
-ghost use Rattle.kn_io.specs.Prefix.{AppendsPrefix};
-ghost use Rattle.kn_report.specs.Waiting.{Adds};
-ghost use Rattle.kn_trace.specs.Trace.{Trace};
 ghost use Rattle.kn_reason.specs.Texts.{sentence_text, sentences_text};
-ghost use Rattle.kn_show_reasons.specs.Notices.{arrived_in, notice_where, pod_in};
-ghost use Rattle.kn_show_reasons.specs.Reasons.{reasons, row_text, rows_text};
-ghost use Rattle.kn_show_reasons.specs.Sentences.{sentences_of};
-ghost use Rattle.kn_show_reasons.specs.State.{AreReasonsOf, Follows, IsUnopened, Knows};
+ghost use Rattle.kn_show_reasons.specs.Adding.{AddsBehind, AddsDecision, AddsEachRow, CutsBehind, CutsDecision, CutsEachRow, KnowsEachRow, seen_text};
+ghost use Rattle.kn_show_reasons.specs.Notices.{notice_where};
+ghost use Rattle.kn_show_reasons.specs.Reasons.{reasons};
+ghost use Rattle.kn_show_reasons.specs.State.{AreReasonsOf, IsUnopened};
 
 use crate::notice::Notice;
 use crate::seen::Seen;
@@ -57,8 +52,8 @@ fn add_sentence<O: Sink>(
     waiting: &mut Waiting,
     out: &mut O,
 ) -> Result<(), Failed>
-    ensures ok { OnOk result (Adds (O.held out.old) (O.held out.new) waiting.old waiting.new (sentence_text time sentence)) }
-    ensures err { OnErr result (AppendsPrefix (O.held out.old) (O.held out.new) (waiting.old ++ sentence_text time sentence)) }
+    ensures ok { AddsBehind O.Sink.own out.old out.new waiting.old waiting.new (sentence_text time sentence) result }
+    ensures err { CutsBehind O.Sink.own out.old out.new waiting.old (sentence_text time sentence) result }
     ensures cause { HasCause (O.Faulty.faults out.old) (O.Faulty.faults out.new) result }
 {
     match sentence {
@@ -78,8 +73,8 @@ fn add_sentences<O: Sink>(
     waiting: &mut Waiting,
     out: &mut O,
 ) -> Result<(), Failed>
-    ensures ok { OnOk result (Adds (O.held out.old) (O.held out.new) waiting.old waiting.new (sentences_text time sentences.now)) }
-    ensures err { OnErr result (AppendsPrefix (O.held out.old) (O.held out.new) (waiting.old ++ sentences_text time sentences.now)) }
+    ensures ok { AddsBehind O.Sink.own out.old out.new waiting.old waiting.new (sentences_text time sentences.now) result }
+    ensures err { CutsBehind O.Sink.own out.old out.new waiting.old (sentences_text time sentences.now) result }
     ensures cause { HasCause (O.Faulty.faults out.old) (O.Faulty.faults out.new) result }
 {
     adding_laws();
@@ -100,8 +95,8 @@ fn add_notice<O: Sink>(
     waiting: &mut Waiting,
     out: &mut O,
 ) -> Result<(), Failed>
-    ensures ok { OnOk result (Adds (O.held out.old) (O.held out.new) waiting.old waiting.new (notice_where time notice)) }
-    ensures err { OnErr result (AppendsPrefix (O.held out.old) (O.held out.new) (waiting.old ++ notice_where time notice)) }
+    ensures ok { AddsBehind O.Sink.own out.old out.new waiting.old waiting.new (notice_where time notice) result }
+    ensures err { CutsBehind O.Sink.own out.old out.new waiting.old (notice_where time notice) result }
     ensures cause { HasCause (O.Faulty.faults out.old) (O.Faulty.faults out.new) result }
 {
     match notice {
@@ -125,10 +120,8 @@ fn add_decision<O: Sink>(
     waiting: &mut Waiting,
     out: &mut O,
 ) -> Result<(), Failed>
-    ensures ok { OnOk result (Adds (O.held out.old) (O.held out.new) waiting.old waiting.new
-        (sentences_text time (sentences_of spec.now time seen.now.phase seen.now.since d.now))) }
-    ensures err { OnErr result (AppendsPrefix (O.held out.old) (O.held out.new)
-        (waiting.old ++ sentences_text time (sentences_of spec.now time seen.now.phase seen.now.since d.now))) }
+    ensures ok { AddsDecision O.Sink.own out.old out.new waiting.old waiting.new spec.now seen.now time d.now result }
+    ensures err { CutsDecision O.Sink.own out.old out.new waiting.old spec.now seen.now time d.now result }
     ensures cause { HasCause (O.Faulty.faults out.old) (O.Faulty.faults out.new) result }
 {
     let sentences = sentences_of(spec, time, seen.phase, seen.since, d);
@@ -144,10 +137,8 @@ fn add_row<O: Sink>(
     waiting: &mut Waiting,
     out: &mut O,
 ) -> Result<(), Failed>
-    ensures ok { OnOk result (Adds (O.held out.old) (O.held out.new) waiting.old waiting.new
-        (row_text spec.now seen.now.phase seen.now.since (arrived_in seen.now.lives) (pod_in seen.now.lives) seen.now.ready e.now.time e.now.row)) }
-    ensures err { OnErr result (AppendsPrefix (O.held out.old) (O.held out.new)
-        (waiting.old ++ row_text spec.now seen.now.phase seen.now.since (arrived_in seen.now.lives) (pod_in seen.now.lives) seen.now.ready e.now.time e.now.row)) }
+    ensures ok { AddsBehind O.Sink.own out.old out.new waiting.old waiting.new (seen_text spec.now seen.now e.now) result }
+    ensures err { CutsBehind O.Sink.own out.old out.new waiting.old (seen_text spec.now seen.now e.now) result }
     ensures cause { HasCause (O.Faulty.faults out.old) (O.Faulty.faults out.new) result }
 {
     match &e.row {
@@ -169,11 +160,9 @@ fn add_rows<O: Sink>(
     waiting: &mut Waiting,
     out: &mut O,
 ) -> Result<(), Failed>
-    ensures ok { (es : List EventValue) (c : Trace) → Follows spec.now es tag seen.old c log.now
-        → OnOk result (Adds (O.held out.old) (O.held out.new) waiting.old waiting.new (rows_text spec.now c log.now)) }
-    ensures err { (es : List EventValue) (c : Trace) → Follows spec.now es tag seen.old c log.now
-        → OnErr result (AppendsPrefix (O.held out.old) (O.held out.new) (waiting.old ++ rows_text spec.now c log.now)) }
-    ensures knows { (es : List EventValue) (c : Trace) → Follows spec.now es tag seen.old c log.now → OnOk result (Knows seen.new es (c ++ log.now)) }
+    ensures ok { AddsEachRow O.Sink.own out.old out.new waiting.old waiting.new spec.now tag seen.old log.now result }
+    ensures err { CutsEachRow O.Sink.own out.old out.new waiting.old spec.now tag seen.old log.now result }
+    ensures knows { KnowsEachRow spec.now tag seen.old seen.new log.now result }
     ensures cause { HasCause (O.Faulty.faults out.old) (O.Faulty.faults out.new) result }
 {
     adding_laws();

@@ -1,13 +1,10 @@
 //! What is kept of the rows so far.
-ghost use Rattle.std.specs.Prelude.{◌≡◌, ◌++◌, ◌∷◌, [], List, None, unwrap_or};
+ghost use Rattle.std.specs.Prelude.{◌≡◌, None, unwrap_or};
 ghost use Rattle.std.specs.Option.{option_or};
-ghost use Rattle.kn_event.specs.declared.event.Event.{Event as EventValue};
-ghost use Rattle.kn_event.specs.declared.revision.Spec.{Spec as SpecValue};
 ghost use Rattle.kn_trace.specs.Rows.{phase_by};
-ghost use Rattle.kn_trace.specs.Trace.{Trace};
 ghost use Rattle.kn_past.specs.Changes.{time_by};
-ghost use Rattle.kn_lives.specs.Lives.{ComesNext};
-ghost use Rattle.kn_show_reasons.specs.State.{Knows, SeesPhase};
+ghost use Rattle.kn_show_reasons.specs.Adding.{KnowsNext};
+ghost use Rattle.kn_show_reasons.specs.State.{SeesPhase};
 
 use kn_event::{Entry, EntryLog, Phase, Row};
 use kn_lives::Lives;
@@ -70,7 +67,7 @@ impl Seen {
 
     /// Goes on by one row. The tag is that of the event, which who arrives with the row has.
     pub(crate) fn add(&mut self, tag: u64, e: &Entry)
-        ensures knows { (s : SpecValue) (es : List EventValue) (c : Trace) → ComesNext s es tag c e.now.row → Knows self.old es c → Knows self.new es (c ++ e.now ∷ []) }
+        ensures knows { KnowsNext tag self.old self.new e.now }
         ensures ready { self.new.ready ≡ self.old.ready }
     {
         entry_laws();
