@@ -1,14 +1,12 @@
 //! Writes the lines of a run.
-ghost use Rattle.std.specs.Prelude.{◌≡◌, ◌++◌, [], List, OnErr, OnOk, option_map};
-ghost use Rattle.kn_event.specs.declared.event.Event.{Event};
-ghost use Rattle.kn_event.specs.declared.revision.Spec.{Spec};
+ghost use Rattle.std.specs.Prelude.{◌≡◌, ◌++◌, [], OnErr, OnOk, option_map};
 ghost use Rattle.kn_io.specs.Causes.{HasCause};
 ghost use Rattle.kn_io.specs.Prefix.{AppendsPrefix};
 ghost use Rattle.kn_report.specs.Waiting.{Adds};
-ghost use Rattle.kn_trace.specs.Trace.{Trace};
 ghost use Rattle.kn_teller.specs.Run.{trace};
-ghost use Rattle.kn_lives.specs.Lives.{AreLives, ComeNext, life_at};
-ghost use Rattle.kn_show_requests.specs.Requests.{ended, live_below, live_told, requests, rows_text, told_by};
+ghost use Rattle.kn_lives.specs.Lives.{AreLives, life_at};
+ghost use Rattle.kn_show_requests.specs.Adding.{AddsLives, AddsRowLines, CutsLives, CutsRowLines, KeepsLives};
+ghost use Rattle.kn_show_requests.specs.Requests.{ended, live_told, requests, told_by};
 ghost use Rattle.kn_show_requests.specs.Texts.{line_where};
 
 use crate::told::{Outcome, Told};
@@ -106,12 +104,9 @@ fn add_rows<O: Sink>(
     waiting: &mut Waiting,
     out: &mut O,
 ) -> Result<(), Failed>
-    ensures ok { (s : Spec) (es : List Event) (c : Trace) → ComeNext s es tag c log.now → AreLives lives.old es c
-        → OnOk result (Adds (O.held out.old) (O.held out.new) waiting.old waiting.new (rows_text es c log.now)) }
-    ensures err { (s : Spec) (es : List Event) (c : Trace) → ComeNext s es tag c log.now → AreLives lives.old es c
-        → OnErr result (AppendsPrefix (O.held out.old) (O.held out.new) (waiting.old ++ rows_text es c log.now)) }
-    ensures lives { (s : Spec) (es : List Event) (c : Trace) → ComeNext s es tag c log.now → AreLives lives.old es c
-        → OnOk result (AreLives lives.new es (c ++ log.now)) }
+    ensures ok { AddsRowLines O.Sink.own out.old out.new waiting.old waiting.new tag lives.old log.now result }
+    ensures err { CutsRowLines O.Sink.own out.old out.new waiting.old tag lives.old log.now result }
+    ensures lives { KeepsLives tag lives.old lives.new log.now result }
     ensures cause { HasCause (O.Faulty.faults out.old) (O.Faulty.faults out.new) result }
 {
     adding_laws();
@@ -144,10 +139,8 @@ fn add_live<O: Sink>(
     waiting: &mut Waiting,
     out: &mut O,
 ) -> Result<(), Failed>
-    ensures ok { (es : List Event) (c : Trace) → AreLives lives.now es c
-        → OnOk result (Adds (O.held out.old) (O.held out.new) waiting.old waiting.new (live_below es c below)) }
-    ensures err { (es : List Event) (c : Trace) → AreLives lives.now es c
-        → OnErr result (AppendsPrefix (O.held out.old) (O.held out.new) (waiting.old ++ live_below es c below)) }
+    ensures ok { AddsLives O.Sink.own out.old out.new waiting.old waiting.new lives.now below result }
+    ensures err { CutsLives O.Sink.own out.old out.new waiting.old lives.now below result }
     ensures cause { HasCause (O.Faulty.faults out.old) (O.Faulty.faults out.new) result }
 {
     adding_laws();
