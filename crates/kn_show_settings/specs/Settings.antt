@@ -1,6 +1,7 @@
 -- The settings of a setup, in the order of their lines.
-use Rattle.std.specs.Prelude.{ℕ, ◌/◌, ◌++◌, List, [], ◌∷◌, codes}
+use Rattle.std.specs.Prelude.{◌≡◌, ℕ, ◌/◌, ◌++◌, List, [], ◌∷◌, codes, OnOk, Result, Vec}
 use Rattle.std.specs.Fmt.{decimal}
+use Rattle.std.specs.Global.{Global}
 use Rattle.serde_json.specs.Data.{Data}
 use Rattle.kn_event.specs.declared.revision.Kind.{Kind}
 use Rattle.kn_event.specs.declared.revision.Kind.TheVariants.{Fixed, Kpa}
@@ -15,6 +16,10 @@ use Rattle.kn_origins.specs.Lines.{Setting, flag_text, setting, setting_lines}
 use Rattle.kn_origins.specs.Amounts.{burst_text, metric_text, panic_origin, target_milli, target_origin, total_origin, utilisation, utilisation_origin, window_origin}
 use Rattle.kn_origins.specs.Ignored.{ignored_text}
 use Rattle.kn_show_settings.specs.Blocks.{config_block, revision_block, value_of}
+
+-- a line for each of these was added
+abbrev pub AddsSettings : {T E : Type 0} → Vec ℕ Global → Vec ℕ Global → List Setting → Result T E → Type 0
+AddsSettings old new settings result = OnOk result (new.items ≡ old.items ++ setting_lines settings)
 
 -- ---- of fixed pods
 
@@ -93,9 +98,13 @@ scaled_text spec config revision =
 
 -- ---- of a setup
 
+-- those over the ConfigMap and the Revision in a setup's text
+abbrev pub text_by_blocks : Spec → List ℕ → List ℕ
+text_by_blocks spec text = scaled_text spec (value_of (config_block text)) (value_of (revision_block text))
+
 abbrev pub text_by : Kind → Spec → List ℕ → List ℕ
 text_by (Fixed pods) spec text = setting_lines (fixed_settings pods spec)
-text_by Kpa spec text = scaled_text spec (value_of (config_block text)) (value_of (revision_block text))
+text_by Kpa spec text = text_by_blocks spec text
 
 unfoldable pub settings_text : Setup → List ℕ
 settings_text s = text_by s.spec.kind s.spec s.text

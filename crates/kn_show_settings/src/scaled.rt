@@ -2,8 +2,8 @@
 ghost use Rattle.std.specs.Prelude.{◌≡◌, ◌++◌, OnOk};
 ghost use Rattle.serde_json.specs.View.{view};
 ghost use Rattle.kn_origins.specs.Amounts.{burst_text};
-ghost use Rattle.kn_origins.specs.Lines.{setting, setting_line, setting_lines};
-ghost use Rattle.kn_show_settings.specs.Settings.{bound_text, load_settings, measure_text, own_settings, rate_settings, scale_settings, scaled_text, slot_settings, window_settings, zero_settings};
+ghost use Rattle.kn_origins.specs.Lines.{setting, setting_line};
+ghost use Rattle.kn_show_settings.specs.Settings.{AddsSettings, bound_text, load_settings, measure_text, own_settings, rate_settings, scale_settings, scaled_text, slot_settings, window_settings, zero_settings};
 
 use kn_config::Key;
 use kn_event::{Burst, Memory, Slots, Spec};
@@ -27,8 +27,7 @@ fn add_burst(text: &mut Vec<u8>, name: &[u8], burst: Burst, from: Origin) -> Res
 
 #[tactic(auto, using(crate::proofs::Pieces::four_lines), unfolding(crate::specs::Settings::own_settings))]
 fn add_own(text: &mut Vec<u8>, spec: &Spec, revision: &Value) -> Result<(), Memory>
-    ensures { OnOk result (text.new.items ≡ text.old.items
-        ++ setting_lines (own_settings spec.now (view revision.now))) }
+    ensures { AddsSettings text.old text.new (own_settings spec.now (view revision.now)) result }
 {
     add_word(text, b"namespace", spec.namespace.bytes(), Origin::Revision)?;
     add_word(text, b"name", spec.name.bytes(), Origin::Revision)?;
@@ -46,8 +45,7 @@ fn add_load(
     config: &Value,
     revision: &Value,
 ) -> Result<(), Memory>
-    ensures { OnOk result (text.new.items ≡ text.old.items
-        ++ setting_lines (load_settings spec.now (view config.now) (view revision.now))) }
+    ensures { AddsSettings text.old text.new (load_settings spec.now (view config.now) (view revision.now)) result }
 {
     let metric = annotated(alloc, Key::Metric, revision, Origin::Default)?;
     let total = total_origin(alloc, spec, config, revision)?;
@@ -73,8 +71,7 @@ fn add_windows(
     config: &Value,
     revision: &Value,
 ) -> Result<(), Memory>
-    ensures { OnOk result (text.new.items ≡ text.old.items
-        ++ setting_lines (window_settings spec.now (view config.now) (view revision.now))) }
+    ensures { AddsSettings text.old text.new (window_settings spec.now (view config.now) (view revision.now)) result }
 {
     let stable = window_origin(alloc, config, revision)?;
     let panic = panic_origin(alloc, config, revision)?;
@@ -89,8 +86,7 @@ fn add_windows(
 
 #[tactic(auto, using(crate::proofs::Pieces::two_lines))]
 fn add_rates(text: &mut Vec<u8>, spec: &Spec, config: &Value) -> Result<(), Memory>
-    ensures { OnOk result (text.new.items ≡ text.old.items
-        ++ setting_lines (rate_settings spec.now (view config.now))) }
+    ensures { AddsSettings text.old text.new (rate_settings spec.now (view config.now)) result }
 {
     let from = configured(Key::MaxScaleUpRate, config);
     add_thousandths(text, b"max-scale-up-rate", u128::from(spec.up.0), from)?;
@@ -106,8 +102,7 @@ fn add_zero(
     config: &Value,
     revision: &Value,
 ) -> Result<(), Memory>
-    ensures { OnOk result (text.new.items ≡ text.old.items
-        ++ setting_lines (zero_settings spec.now (view config.now) (view revision.now))) }
+    ensures { AddsSettings text.old text.new (zero_settings spec.now (view config.now) (view revision.now)) result }
 {
     let on = configured(Key::EnableScaleToZero, config);
     let grace = configured(Key::ScaleToZeroGracePeriod, config);
@@ -130,8 +125,7 @@ fn add_scales(
     config: &Value,
     revision: &Value,
 ) -> Result<(), Memory>
-    ensures { OnOk result (text.new.items ≡ text.old.items
-        ++ setting_lines (scale_settings spec.now (view config.now) (view revision.now))) }
+    ensures { AddsSettings text.old text.new (scale_settings spec.now (view config.now) (view revision.now)) result }
 {
     let min = renamed(alloc, Key::MinScale, Key::OldMinScale, config, revision)?;
     let max = renamed(alloc, Key::MaxScale, Key::OldMaxScale, config, revision)?;
@@ -147,7 +141,7 @@ fn add_scales(
 
 #[tactic(auto, using(crate::proofs::Pieces::three_lines))]
 fn add_slots(text: &mut Vec<u8>, slots: Slots) -> Result<(), Memory>
-    ensures { OnOk result (text.new.items ≡ text.old.items ++ setting_lines (slot_settings slots)) }
+    ensures { AddsSettings text.old text.new (slot_settings slots) result }
 {
     add_number(text, b"depth", slots.depth, Origin::Setup)?;
     add_number(text, b"max", slots.max, Origin::Setup)?;

@@ -1,8 +1,6 @@
 //! The settings of a setup.
 ghost use Rattle.std.specs.Prelude.{◌≡◌, ◌++◌, [], IfOk, OnOk};
-ghost use Rattle.kn_origins.specs.Lines.{setting_lines};
-ghost use Rattle.kn_show_settings.specs.Blocks.{config_block, revision_block, value_of};
-ghost use Rattle.kn_show_settings.specs.Settings.{fixed_settings, scaled_text, settings_text};
+ghost use Rattle.kn_show_settings.specs.Settings.{AddsSettings, fixed_settings, settings_text, text_by_blocks};
 
 use crate::blocks::{config_block, revision_block, value_of};
 use crate::scaled::add_scaled;
@@ -14,7 +12,7 @@ use std::alloc::Global;
 /// Adds the settings of fixed pods.
 #[tactic(auto, using(crate::proofs::Pieces::six_lines))]
 fn add_fixed(text: &mut Vec<u8>, pods: u64, spec: &Spec) -> Result<(), Memory>
-    ensures { OnOk result (text.new.items ≡ text.old.items ++ setting_lines (fixed_settings pods spec.now)) }
+    ensures { AddsSettings text.old text.new (fixed_settings pods spec.now) result }
 {
     add_number(text, b"limit", spec.cc, Origin::Setup)?;
     add_number(text, b"depth", spec.slots.depth, Origin::Setup)?;
@@ -26,8 +24,7 @@ fn add_fixed(text: &mut Vec<u8>, pods: u64, spec: &Spec) -> Result<(), Memory>
 
 /// Adds the settings of a revision that scales, whose setup has this text.
 fn add_kpa(alloc: Global, text: &mut Vec<u8>, spec: &Spec, setup: &[u8]) -> Result<(), Memory>
-    ensures { OnOk result (text.new.items ≡ text.old.items
-        ++ scaled_text spec.now (value_of (config_block setup.now)) (value_of (revision_block setup.now))) }
+    ensures { OnOk result (text.new.items ≡ text.old.items ++ text_by_blocks spec.now setup.now) }
 {
     let config = value_of(alloc, config_block(setup))?;
     let revision = value_of(alloc, revision_block(setup))?;

@@ -1,8 +1,8 @@
 //! The settings of a journal's setup, read and written.
-ghost use Rattle.std.specs.Prelude.{◌≡◌, ◌⊎◌, ◌+◌, ◌≤◌};
+ghost use Rattle.std.specs.Prelude.{◌≡◌, ◌≤◌};
 ghost use Rattle.kn_io.specs.Causes.{Rose};
-ghost use Rattle.kn_journal.specs.Reading.{most_taken};
 ghost use Rattle.kn_journal.specs.Status.{WritesNone};
+ghost use Rattle.kn_follow.specs.Calls.{FailsSource};
 ghost use Rattle.kn_follow.specs.Endings.{IsRefusal, IsReplayed, LeavesBehind};
 ghost use Rattle.kn_show_settings.specs.Showing.{IsShown, LeavesOpening, ShowsInput};
 
@@ -23,8 +23,7 @@ pub fn show_settings<S: Source, O: Sink>(alloc: Global, source: &mut S, out: &mu
     ensures left { IsShown result → LeavesOpening (S.left source.old) (S.left source.new) }
     ensures rest { IsRefusal result → LeavesBehind result (S.left source.old) (S.left source.new) }
     ensures unshown { WritesNone result → out.new ≡ out.old }
-    ensures read_fault { result ≡ Status.ReadFault → Rose (S.Faulty.faults source.old) (S.Faulty.faults source.new) ⊎
-        (S.given source.old + most_taken ≤ S.given source.new) }
+    ensures read_fault { result ≡ Status.ReadFault → FailsSource S.Source.own S.Faulty source.old source.new }
     ensures write_fault { result ≡ Status.WriteFault → Rose (O.Faulty.faults out.old) (O.Faulty.faults out.new) }
     ensures never_falls { S.Faulty.faults source.old ≤ S.Faulty.faults source.new }
     ensures out_never_falls { O.Faulty.faults out.old ≤ O.Faulty.faults out.new }
