@@ -1,7 +1,10 @@
 -- What the words after the program's name ask for, and what is written then.
-use Rattle.std.specs.Prelude.{◌≡◌, ℕ, Bool, ◌&&◌, List, [], ◌∷◌, Option, None, Some, codes, nat_le, if◌then◌else◌, ⊤}
+use Rattle.std.specs.Prelude.{◌≡◌, ℕ, ◌-◌, Bool, ◌&&◌, List, [], ◌∷◌, map, Option, None, Some, String, codes, nat_le, string_bytes, if◌then◌else◌, ⊤}
+use Rattle.std.specs.Global.{Global}
 use Rattle.std.specs.Str.{bytes_eq}
 use Rattle.kn_event.specs.Numbers.{number_of}
+use Rattle.kn_io.specs.declared.traits.Source.{Ghosts}
+use Rattle.kn_io.specs.declared.traits.Sink.{Ghosts as Writing}
 use Rattle.kn_journal.specs.declared.status.Status.{Status}
 use Rattle.kn_journal.specs.declared.status.Status.TheVariants as status
 use Rattle.kn_journal.specs.Reading.{EndsThere}
@@ -61,3 +64,20 @@ LeavesBy None old new result = IsShown result → LeavesOpening old new
 abbrev pub CutsBy : Option Manner → Option (List ℕ) → Option (List ℕ) → Option (List ℕ) → Option (List ℕ) → Status → Type 0
 CutsBy (Some m) known left old new result = result ≡ status.WriteFault → LeavesCut (account_of m) known left old new
 CutsBy None known left old new result = ⊤
+
+-- ---- what was asked for by these words, in a call on an input and an output
+
+-- what is written, and how it ends
+abbrev pub ShowsAsked : {X Y : Type 0} → List (String Global) → Ghosts X → Writing Y → X → X → Y → Y → Status → Type 0
+ShowsAsked words own sink before now out written result = (asked : Command) → command_of (map string_bytes words) ≡ Some asked →
+    ShowsBy (manner_of asked) (own.left before) (own.left now) (own.given now - own.given before) (sink.held out) (sink.held written) result
+
+-- what is left of the input where nothing was refused
+abbrev pub LeavesAsked : {X : Type 0} → List (String Global) → Ghosts X → X → X → Status → Type 0
+LeavesAsked words own before now result = (asked : Command) → command_of (map string_bytes words) ≡ Some asked →
+    LeavesBy (manner_of asked) (own.left before) (own.left now) result
+
+-- how much was written where writing failed
+abbrev pub CutsAsked : {X Y : Type 0} → List (String Global) → Ghosts X → Writing Y → X → X → Y → Y → Status → Type 0
+CutsAsked words own sink before now out written result = (asked : Command) → command_of (map string_bytes words) ≡ Some asked →
+    CutsBy (manner_of asked) (own.left before) (own.left now) (sink.held out) (sink.held written) result

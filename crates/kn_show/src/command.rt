@@ -1,12 +1,11 @@
 //! The forms of `kact_show`.
-ghost use Rattle.std.specs.Prelude.{◌≡◌, ◌⊎◌, ◌↔◌, ◌+◌, ◌-◌, ◌≤◌, ℕ, None, Some, map, string_bytes};
+ghost use Rattle.std.specs.Prelude.{◌≡◌, ◌⊎◌, ◌↔◌, ◌≤◌, ℕ, None, Some, map, string_bytes};
 ghost use Rattle.kn_event.specs.Numbers.{number_of};
 ghost use Rattle.kn_io.specs.Causes.{Rose};
+ghost use Rattle.kn_follow.specs.Calls.{FailsSource};
 ghost use Rattle.kn_follow.specs.Endings.{IsRefusal, IsReplayed, LeavesBehind};
-ghost use Rattle.kn_journal.specs.Reading.{most_taken};
-ghost use Rattle.kn_replay.specs.Replaying.{Tells};
-ghost use Rattle.kn_show.specs.Commands.{CutsBy, LeavesBy, ShowsBy, command_of, manner_of, series_of, word_of};
-ghost use Rattle.kn_show.specs.Texts.{status_text};
+ghost use Rattle.kn_show.specs.Commands.{CutsAsked, LeavesAsked, ShowsAsked, command_of, series_of, word_of};
+ghost use Rattle.kn_show.specs.Texts.{TellsStatus};
 
 use crate::texts::tell;
 use kn_event::read_number;
@@ -101,23 +100,17 @@ pub fn show_run<S: Source, O: Sink, E: Sink>(
     ensures only { (result ≡ Status.Usage) ⊎ IsReplayed result }
 
     // The text of the run that the bytes are, or of their setup, and the first refused line with its cause.
-    ensures shows { (asked : Command) → command_of (map string_bytes words.now) ≡ Some asked →
-        ShowsBy (manner_of asked) (S.left input.old) (S.left input.new) (S.given input.new - S.given input.old)
-        (O.held out.old) (O.held out.new) result }
-    ensures ended { (asked : Command) → command_of (map string_bytes words.now) ≡ Some asked →
-        LeavesBy (manner_of asked) (S.left input.old) (S.left input.new) result }
+    ensures shows { ShowsAsked words.now S.Source.own O.Sink.own input.old input.new out.old out.new result }
+    ensures ended { LeavesAsked words.now S.Source.own input.old input.new result }
     // The lines taken are those up to the refused one, and behind it at most 65,536 bytes were read ahead.
     ensures rest { IsRefusal result → LeavesBehind result (S.left input.old) (S.left input.new) }
     // Where writing failed, all of the events that were taken was written, but the last event's and 65,536 bytes at most.
-    ensures cut { (asked : Command) → command_of (map string_bytes words.now) ≡ Some asked →
-        CutsBy (manner_of asked) (S.left input.old) (S.left input.new) (O.held out.old) (O.held out.new) result }
+    ensures cut { CutsAsked words.now S.Source.own O.Sink.own input.old input.new out.old out.new result }
 
     // A fault comes only where its count rose, or 2^56 bytes were read.
-    ensures read_fault { result ≡ Status.ReadFault → Rose (S.Faulty.faults input.old) (S.Faulty.faults input.new)
-        ⊎ (S.given input.old + most_taken ≤ S.given input.new) }
+    ensures read_fault { result ≡ Status.ReadFault → FailsSource S.Source.own S.Faulty input.old input.new }
     ensures write_fault { result ≡ Status.WriteFault → Rose (O.Faulty.faults out.old) (O.Faulty.faults out.new) }
-    ensures told { Tells (status_text result) (E.held err.old) (E.held err.new)
-        (E.Faulty.faults err.old) (E.Faulty.faults err.new) }
+    ensures told { TellsStatus E.Sink.own E.Faulty err.old err.new result }
 {
     match command_of(words) {
         None => tell(Status::Usage, err),

@@ -1,8 +1,7 @@
 //! What is told of a status.
 ghost use Rattle.std.specs.Prelude.{◌≡◌, ◌≤◌, ◌++◌, length};
 ghost use Rattle.kn_replay.specs.Texts.{error_text};
-ghost use Rattle.kn_replay.specs.Replaying.{Tells};
-ghost use Rattle.kn_show.specs.Texts.{status_text, told};
+ghost use Rattle.kn_show.specs.Texts.{TellsStatus, status_text, told};
 
 use kn_event::Line;
 use kn_io::{Sink, put_all};
@@ -43,7 +42,7 @@ fn put_status(status: &Status, line: &mut Line)
 /// Tells of a status, and answers it.
 pub fn tell<E: Sink>(status: Status, err: &mut E) -> Status
     ensures same { result ≡ status }
-    ensures told { Tells (status_text result) (E.held err.old) (E.held err.new) (E.Faulty.faults err.old) (E.Faulty.faults err.new) }
+    ensures told { TellsStatus E.Sink.own E.Faulty err.old err.new result }
 {
     let mut line = Line::new();
     put_status(&status, &mut line);
