@@ -34,3 +34,7 @@ size_of n = n.arrived + n.refused + n.ended + n.failed + n.expired + n.decisions
 
 abbrev pub with_cap : Counts → Counts
 with_cap n = record n { waited = capped n.waited }
+
+-- with one request more that began to run and had waited so long
+abbrev pub with_begun : ℕ → Counts → Counts
+with_begun wait n = record n { ran = n.ran + 1; waited = capped (n.waited + wait); longest = max n.longest wait }

@@ -4,4 +4,5 @@ pub mod Series
 pub mod Counting
 pub mod Open
 pub mod State
+pub mod Passing
 pub mod Laws

@@ -1,6 +1,7 @@
 -- The steps of a run, and what lies in each. Steps are as many milliseconds long, and counted from the start.
-use Rattle.std.specs.Prelude.{ℕ, Bool, true, false, ◌+◌, ◌-◌, ◌/◌, ◌==◌, ◌&&◌, ◌||◌, nat_lt, max, List, [], ◌∷◌, map, take, length, sum, fold, count_by, Option, None, Some, unwrap_or, if◌then◌else◌}
+use Rattle.std.specs.Prelude.{◌≡◌, ℕ, Bool, true, false, ◌+◌, ◌-◌, ◌/◌, ◌^◌, ◌<◌, ◌==◌, ◌&&◌, ◌||◌, nat_lt, max, List, [], ◌∷◌, map, take, length, sum, fold, count_by, Option, None, Some, unwrap_or, if◌then◌else◌}
 use Rattle.std.specs.List.{filter, list_any, range_with_len}
+use Rattle.kn_event.specs.Revision.{AreInRange}
 use Rattle.kn_event.specs.declared.entry.Entry.{Entry}
 use Rattle.kn_event.specs.declared.entry.Row.{Row}
 use Rattle.kn_event.specs.declared.entry.Row.TheVariants as row
@@ -13,6 +14,7 @@ use Rattle.kn_trace.specs.Rows.{arrived_by, begun_by, decision_by, ended_by, exp
 use Rattle.kn_trace.specs.Scale.{count_ready, wanted}
 use Rattle.kn_trace.specs.Trace.{Trace, draining, each_row, held, starting_pods}
 use Rattle.kn_throttle.specs.Gauges.{count_queued, count_running}
+use Rattle.kn_core.specs.State.{RevisionState, StandsFor}
 use Rattle.kn_lives.specs.Lives.{by_row, time_of}
 use Rattle.kn_teller.specs.Run.{Run, trace}
 use Rattle.kn_show_series.specs.declared.counts.Counts.{Counts}
@@ -52,6 +54,10 @@ wait_in step start k before x = if step_of step start x.time == k then wait_of b
 unfoldable pub waits_in : ℕ → ℕ → ℕ → Trace → List ℕ
 waits_in step start k c = by_row (wait_in step start k) [] c
 
+-- of whatever trace a revision stands for, all that the requests of a step had waited comes to less than what its count holds
+abbrev pub WaitsFit : RevisionState → Type 0
+WaitsFit x = (c : Trace) (step from k : ℕ) → StandsFor x c → AreInRange x.spec → sum (waits_in step from k c) < 2 ^ 128
+
 -- ---- counts
 
 unfoldable pub counts_of : Trace → List ℕ → Counts
@@ -67,9 +73,13 @@ counts_of rows waits = record {
   longest = greatest waits;
 }
 
--- of the rows in step k
+-- of the rows of a trace that lie in step k
+abbrev pub counts_within : ℕ → ℕ → ℕ → Trace → Counts
+counts_within step start k c = counts_of (rows_in step start k c) (waits_in step start k c)
+
+-- .. of a run
 abbrev pub counts_in : ℕ → Run → ℕ → Counts
-counts_in step r k = counts_of (rows_in step r.start k (trace r)) (waits_in step r.start k (trace r))
+counts_in step r k = counts_within step r.start k (trace r)
 
 -- ---- gauges
 
@@ -81,6 +91,10 @@ pods_of kind.Kpa = 0
 abbrev pub wanted_of : Kind → Spec → Trace → ℕ
 wanted_of (kind.Fixed pods) s c = pods
 wanted_of kind.Kpa s c = wanted s c
+
+-- this holds of whatever trace a revision stands for, where by its setup a fixed one wants so many pods
+abbrev pub OnTrace : RevisionState → ℕ → (Trace → Type 0) → Type 0
+OnTrace x pods P = (c : Trace) → StandsFor x c → pods ≡ pods_of x.spec.kind → P c
 
 unfoldable pub gauges_of : Spec → Trace → Gauges
 gauges_of s c = record {

@@ -1,7 +1,7 @@
 //! What is counted within one step.
-ghost use Rattle.std.specs.Prelude.{◌≡◌, ◌+◌, ◌<◌, ◌≤◌, ◌^◌, ◌++◌, [], length, max};
+ghost use Rattle.std.specs.Prelude.{◌≡◌, ◌+◌, ◌<◌, ◌≤◌, ◌^◌, ◌++◌, [], length};
 ghost use Rattle.kn_trace.specs.Rows.{begun_by};
-ghost use Rattle.kn_show_series.specs.Counting.{capped, size_of, waits_by, with_row};
+ghost use Rattle.kn_show_series.specs.Counting.{size_of, waits_by, with_begun, with_row};
 ghost use Rattle.kn_show_series.specs.Fields.{arrivals_text, begun_text, counts_text, ends_text, field};
 ghost use Rattle.kn_show_series.specs.Steps.{counts_of};
 
@@ -82,11 +82,7 @@ impl Counts {
     /// A request begins to run. The sum never comes to the greatest that fits.
     fn run(&mut self, wait: u64)
         requires { size_of self.old < 2 ^ 127 }
-        ensures { self.new ≡ record self.old {
-          ran = self.old.ran + 1;
-          waited = capped (self.old.waited + wait);
-          longest = max self.old.longest wait;
-        } }
+        ensures { self.new ≡ with_begun wait self.old }
     {
         self.ran += 1;
         self.waited = self.waited.saturating_add(u128::from(wait));

@@ -5,10 +5,9 @@ ghost use Rattle.kn_io.specs.Prefix.{AppendsPrefix};
 ghost use Rattle.kn_report.specs.Waiting.{Adds};
 ghost use Rattle.kn_show_series.specs.Counting.{size_of};
 ghost use Rattle.kn_show_series.specs.Open.{begun_at, measured, open_text, told_text, with_entry};
-ghost use Rattle.kn_teller.specs.Run.{Run};
-ghost use Rattle.kn_show_series.specs.Series.{over_lines};
-ghost use Rattle.kn_show_series.specs.State.{IsFirst, IsStepOf, Precedes};
-ghost use Rattle.kn_show_series.specs.Steps.{is_shown, step_of};
+ghost use Rattle.kn_show_series.specs.Passing.{AddsOverSteps, CutsOverSteps, EntersStep};
+ghost use Rattle.kn_show_series.specs.State.{IsFirst};
+ghost use Rattle.kn_show_series.specs.Steps.{is_shown};
 
 use crate::counts::{Counts, put_field};
 use crate::gauges::Gauges;
@@ -134,12 +133,9 @@ impl OpenStep {
         out: &mut O,
     ) -> Result<(), Failed>
         requires { 0 < step }
-        ensures ok { (r : Run) → Precedes step r time self.old
-            → OnOk result (Adds (O.held out.old) (O.held out.new) waiting.old waiting.new (over_lines step r time)) }
-        ensures err { (r : Run) → Precedes step r time self.old
-            → OnErr result (AppendsPrefix (O.held out.old) (O.held out.new) (waiting.old ++ over_lines step r time)) }
-        ensures step { (r : Run) → Precedes step r time self.old
-            → OnOk result (IsStepOf step r (step_of step r.start time) self.new) }
+        ensures ok { AddsOverSteps O.Sink.own out.old out.new waiting.old waiting.new step time self.old result }
+        ensures err { CutsOverSteps O.Sink.own out.old out.new waiting.old step time self.old result }
+        ensures step { EntersStep step time self.old self.new result }
         ensures few { OnOk result (size_of self.new.counts ≤ size_of self.old.counts) }
         ensures cause { HasCause (O.Faulty.faults out.old) (O.Faulty.faults out.new) result }
     {

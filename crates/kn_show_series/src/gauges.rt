@@ -1,9 +1,7 @@
 //! What is counted of a revision at one time.
 ghost use Rattle.std.specs.Prelude.{◌≡◌, ◌+◌, ◌≤◌, ◌++◌, length};
-ghost use Rattle.kn_trace.specs.Trace.{Trace};
-ghost use Rattle.kn_core.specs.State.{StandsFor};
 ghost use Rattle.kn_show_series.specs.Fields.{gauges_text, pods_text, requests_text};
-ghost use Rattle.kn_show_series.specs.Steps.{gauges_of, pods_of, wanted_of};
+ghost use Rattle.kn_show_series.specs.Steps.{OnTrace, gauges_of, wanted_of};
 
 use crate::counts::put_field;
 use kn_core::Revision;
@@ -38,8 +36,7 @@ impl Gauges {
     /// Those of a revision. A fixed one wants these pods.
     #[tactic(auto, unfolding(crate::specs::Steps::gauges_of))]
     pub(crate) fn of(revision: &Revision, pods: u64) -> Gauges
-        ensures { (c : Trace) → StandsFor revision.now c → pods ≡ pods_of revision.now.spec.kind
-            → result ≡ gauges_of revision.now.spec c }
+        ensures { OnTrace revision.now pods (λ c. result ≡ gauges_of revision.now.spec c) }
     {
         Gauges {
             ready: revision.count_ready(),
@@ -89,8 +86,7 @@ impl Gauges {
 
 /// How many pods a revision wants: by its decisions, or these where it is fixed.
 fn wanted(revision: &Revision, pods: u64) -> u64
-    ensures { (c : Trace) → StandsFor revision.now c → pods ≡ pods_of revision.now.spec.kind
-        → result ≡ wanted_of revision.now.spec.kind revision.now.spec c }
+    ensures { OnTrace revision.now pods (λ c. result ≡ wanted_of revision.now.spec.kind revision.now.spec c) }
 {
     revision.wanted().unwrap_or(pods)
 }

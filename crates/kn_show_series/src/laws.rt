@@ -1,14 +1,11 @@
 //! What the lines of a whole run are and come to, and what the proofs of the teller rest on. Nothing is computed here.
-ghost use Rattle.std.specs.Prelude.{◌≡◌, ◌<◌, ◌^◌, [], ℕ, sum};
-ghost use Rattle.kn_event.specs.Revision.{AreInRange};
+ghost use Rattle.std.specs.Prelude.{◌≡◌, ◌<◌, [], ℕ};
 ghost use Rattle.kn_event.specs.declared.revision.Spec.{Spec};
 ghost use Rattle.kn_trace.specs.Events.{opening};
-ghost use Rattle.kn_trace.specs.Trace.{Trace};
-ghost use Rattle.kn_core.specs.State.{StandsFor};
 ghost use Rattle.kn_laws.specs.History.{AreInOrder};
 ghost use Rattle.kn_teller.specs.Run.{Run, now_of};
 ghost use Rattle.kn_show_series.specs.Laws.{HasLines, SumUp};
-ghost use Rattle.kn_show_series.specs.Steps.{counts_of, rows_in, waits_in};
+ghost use Rattle.kn_show_series.specs.Steps.{WaitsFit, counts_of, counts_within};
 
 use kn_core::Revision;
 use kn_laws::laws::{history_laws, step_laws, trace_laws};
@@ -18,8 +15,7 @@ use kn_sizes::sizes::entry_laws;
 
 /// All that the requests of a step had waited comes to less than what its count holds.
 pub(crate) fn wait_laws(revision: &Revision)
-    ensures { (c : Trace) (step from k : ℕ) → StandsFor revision.now c → AreInRange revision.now.spec
-        → sum (waits_in step from k c) < 2 ^ 128 }
+    ensures { WaitsFit revision.now }
 {
     history_laws();
     step_laws();
@@ -31,8 +27,7 @@ pub(crate) fn wait_laws(revision: &Revision)
 
 /// No row of an opening is counted.
 pub(crate) fn opening_laws()
-    ensures { (s : Spec) (start step from k : ℕ)
-        → counts_of (rows_in step from k (opening s start)) (waits_in step from k (opening s start)) ≡ counts_of [] [] }
+    ensures { (s : Spec) (start step from k : ℕ) → counts_within step from k (opening s start) ≡ counts_of [] [] }
 {
     part_laws();
 }
