@@ -7,7 +7,7 @@ use Rattle.std.proofs.lemmas.List.{get_or-map, length-map}
 use Rattle.std.proofs.lemmas.Simd.{map-map}
 use Rattle.clap.specs.Walk.{Text}
 use Rattle.kn_plan.specs.declared.plan_error.PlanError.{PlanError}
-use Rattle.kn_plan.specs.Plan.{AreGivenAddresses, AreGivenLists, IsAddress, is_comma, is_semicolon}
+use Rattle.kn_plan.specs.Plan.{AreGivenAddresses, AreGivenLists, IsAddress, IsAddressList, is_comma, is_semicolon}
 
 -- the addresses of a text
 abbrev pub cut : Bor (List ℕ) → List (List ℕ)
@@ -15,7 +15,7 @@ cut t = slice_split is_comma t.now
 
 -- what is asked of each text
 abbrev pub IsListed : Bor (List ℕ) → Type 0
-IsListed t = All IsAddress (cut t) × (length (cut t) ≤ 500)
+IsListed t = IsAddressList t.now
 
 -- a text of which no addresses are given
 pub not_listed : (texts : List (Bor (List ℕ))) (k : ℕ) (d : Bor (List ℕ)) → k < length texts

@@ -1,5 +1,6 @@
 -- The command line of the program, in `clap`'s own words.
-use Rattle.std.specs.Prelude.{List, [], ◌∷◌, Option, Some, codes, true}
+use Rattle.std.specs.Prelude.{List, [], ◌∷◌, Option, Some, codes, option_map, true}
+use Rattle.std.specs.Borrow.{Bor}
 use Rattle.clap.specs.Walk.{Rule, Text, first_of}
 use Rattle.clap.specs.Simple.{App, new_app, new_rule, on_top, with_rule, matches_of}
 
@@ -24,6 +25,10 @@ kactd =
     (required_rule (codes "listen"))) (required_rule (codes "pods")))
     (default_rule (codes "slots") (codes "8"))) (default_rule (codes "rounds") (codes "1")))
     (default_rule (codes "room") (codes "100000"))
+
+-- the text that is lent, where one is
+abbrev pub lent_text : Option (Bor Text) → Option Text
+lent_text value = option_map (λ s. s.now) value
 
 -- what the words give the option
 abbrev pub given : List Text → Text → Option Text

@@ -1,10 +1,12 @@
 -- What the words of the program ask for.
-use Rattle.std.specs.Prelude.{◌≡◌, ℕ, ◌≤◌, nat_le, Bool, true, false, not, ◌&&◌, ◌==◌, List, [], ◌∷◌, ◌++◌, ◌*◌, length, map, All, Option, None, Some, codes}
+use Rattle.std.specs.Prelude.{◌≡◌, ℕ, ◌≤◌, nat_le, Bool, true, false, not, ◌&&◌, ◌==◌, List, [], ◌∷◌, ◌++◌, ◌*◌, length, map, All, Option, None, Some, Result, Err, codes}
 use Rattle.std.specs.List.{list_all, slice_split}
 use Rattle.clap.specs.Walk.{Text}
 use Rattle.clap.specs.Faults.{fault_of}
 use Rattle.kn_event.specs.Numbers.{number_of}
 use Rattle.kn_plan.specs.declared.plan.Plan.{Plan}
+use Rattle.kn_plan.specs.declared.plan_error.PlanError.{PlanError}
+use Rattle.kn_plan.specs.declared.plan_error.PlanError.TheVariants as error
 use Rattle.kn_plan.specs.declared.wide_plan.WidePlan.{WidePlan}
 use Rattle.kn_plan.specs.Command.{kactd, given}
 
@@ -57,6 +59,10 @@ pub record IsGivenNumber (value : Option Text) (least most n : ℕ) : Type 0 whe
   pub above : least ≤ n
   pub below : n ≤ most
 
+-- the usage is at fault only where nothing is as said
+abbrev pub UsageMeansNone : {T : Type 0} → Result T PlanError → (T → Type 0) → Type 0
+UsageMeansNone {T} result IsAsSaid = result ≡ Err error.Usage → (x : T) → IsAsSaid x → ⊥
+
 -- `clap` accepts the words, and each value is spelled and in range as said
 pub record AsksFor (words : List Text) (plan : Plan) : Type 0 where
   pub accepted : fault_of kactd words ≡ []
@@ -65,6 +71,10 @@ pub record AsksFor (words : List Text) (plan : Plan) : Type 0 where
   pub slots : IsGivenNumber (given words (codes "slots")) 1 64 plan.slots
   pub rounds : IsGivenNumber (given words (codes "rounds")) 1 10000 plan.rounds
   pub room : IsGivenNumber (given words (codes "room")) 1 1000000 plan.room
+
+-- 1 to 500 addresses between commas
+abbrev pub IsAddressList : Text → Type 0
+IsAddressList list = All IsAddress (slice_split is_comma list) × (length (slice_split is_comma list) ≤ 500)
 
 -- 1 to 16 lists between semicolons, each of 1 to 500 addresses between commas
 pub record AreGivenLists (value : Option Text) (lists : List (List (List ℕ))) : Type 0 where

@@ -72,6 +72,10 @@ pub record AsksToStay (words : List Text) (plan : StayPlan) : Type 0 where
   pub accepted : refusals words ≡ []
   pub found : IsPlanOf (found_in words) plan
 
+-- no plan is what the words ask for
+abbrev pub AsksForNothing : List Text → Type 0
+AsksForNothing words = (plan : StayPlan) → AsksToStay words plan → ⊥
+
 abbrev pub is_number : StayOption → Bool
 is_number option.Slots = true
 is_number option.Room = true

@@ -1,11 +1,13 @@
 -- The options behind `stay`: their names and ranges, and the command line of them in `clap`'s own words.
-use Rattle.std.specs.Prelude.{ℕ, List, [], ◌∷◌, ◌++◌, Some, codes, true}
+use Rattle.std.specs.Prelude.{◌≢◌, ℕ, List, [], ◌∷◌, ◌++◌, Some, codes, true}
 use Rattle.std.specs.Fmt.{decimal}
 use Rattle.clap.specs.Walk.{Row, Rule, Text}
 use Rattle.clap.specs.Simple.{App, matches_of, new_app, on_top, with_rule}
 use Rattle.clap.specs.Faults.{fault_of}
-use Rattle.clap.specs.Kinds.{Kinds}
+use Rattle.clap.specs.Kinds.{IsAmong, Kinds}
 use Rattle.clap.specs.declared.builder.action.ArgAction.TheVariants.{Append}
+use Rattle.clap.specs.declared.error.kind.ErrorKind.{ErrorKind}
+use Rattle.clap.specs.declared.error.kind.ErrorKind.TheVariants as kind
 use Rattle.kn_plan.specs.Command.{option_rule}
 use Rattle.kn_plan.specs.declared.stay_option.StayOption.{StayOption}
 use Rattle.kn_plan.specs.declared.stay_option.StayOption.TheVariants as option
@@ -74,6 +76,10 @@ stay =
 -- the kinds of refusal by which `clap` refuses the words: none where it accepts them
 unfoldable pub refusals : List Text → Kinds
 refusals words = fault_of stay words
+
+-- one of these kinds, or else want of memory
+abbrev pub IsRefusalOf : List Text → ErrorKind → Type 0
+IsRefusalOf words k = k ≢ kind.OutOfMemory → IsAmong k (refusals words)
 
 -- what `clap` finds in words that it accepts: a row for each option, with its values
 unfoldable pub found_in : List Text → List Row

@@ -1,8 +1,8 @@
 //! The command line of five options, as `clap` reads it.
-ghost use Rattle.std.specs.Prelude.{◌≡◌, ◌≢◌, [], map, string_bytes, option_map, codes, false, IfOk, OnOk, Err};
+ghost use Rattle.std.specs.Prelude.{◌≡◌, ◌≢◌, [], map, string_bytes, codes, false, IfOk, OnOk, Err};
 ghost use Rattle.clap.specs.Faults.{fault_of};
 ghost use Rattle.clap.specs.Words.{app_of, rule_of};
-ghost use Rattle.kn_plan.specs.Command.{kactd, plain_app, option_rule, required_rule, default_rule, given};
+ghost use Rattle.kn_plan.specs.Command.{kactd, plain_app, option_rule, required_rule, default_rule, given, lent_text};
 
 use crate::plan_error::PlanError;
 use clap::error::ErrorKind;
@@ -50,7 +50,7 @@ fn command<'a>(alloc: Global) -> Result<Command<'a>, AllocError>
 }
 
 /// What the words give each option, the defaults among them.
-#[derive(Drop)]
+#[derive(Clone, Copy)]
 pub struct Given<'a> {
     pub listen: Option<&'a str>,
     pub pods: Option<&'a str>,
@@ -62,11 +62,11 @@ pub struct Given<'a> {
 /// What the words give, or `Usage` where `clap` refuses them for another cause than memory.
 pub fn options<'a>(alloc: Global, words: &'a [String]) -> Result<Given<'a>, PlanError>
     ensures accepted { OnOk result (fault_of kactd (map string_bytes words.entry.now) ≡ []) }
-    ensures listen { IfOk result (λ g. option_map (λ s. s.now) g.listen ≡ given (map string_bytes words.entry.now) (codes "listen")) }
-    ensures pods { IfOk result (λ g. option_map (λ s. s.now) g.pods ≡ given (map string_bytes words.entry.now) (codes "pods")) }
-    ensures slots { IfOk result (λ g. option_map (λ s. s.now) g.slots ≡ given (map string_bytes words.entry.now) (codes "slots")) }
-    ensures rounds { IfOk result (λ g. option_map (λ s. s.now) g.rounds ≡ given (map string_bytes words.entry.now) (codes "rounds")) }
-    ensures room { IfOk result (λ g. option_map (λ s. s.now) g.room ≡ given (map string_bytes words.entry.now) (codes "room")) }
+    ensures listen { IfOk result (λ g. lent_text g.listen ≡ given (map string_bytes words.entry.now) (codes "listen")) }
+    ensures pods { IfOk result (λ g. lent_text g.pods ≡ given (map string_bytes words.entry.now) (codes "pods")) }
+    ensures slots { IfOk result (λ g. lent_text g.slots ≡ given (map string_bytes words.entry.now) (codes "slots")) }
+    ensures rounds { IfOk result (λ g. lent_text g.rounds ≡ given (map string_bytes words.entry.now) (codes "rounds")) }
+    ensures room { IfOk result (λ g. lent_text g.room ≡ given (map string_bytes words.entry.now) (codes "room")) }
     ensures usage { result ≡ Err PlanError.Usage → fault_of kactd (map string_bytes words.entry.now) ≢ [] }
 {
     let Ok(command) = command(alloc) else {

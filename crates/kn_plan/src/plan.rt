@@ -1,7 +1,8 @@
 //! What the words of `kactd` ask for.
-ghost use Rattle.std.specs.Prelude.{◌≡◌, ℕ, List, map, option_map, string_bytes, IfOk, Err};
+ghost use Rattle.std.specs.Prelude.{◌≡◌, map, string_bytes, IfOk, Err};
 ghost use Rattle.kn_plan.specs.declared.plan.Plan.{Plan as PlanValue};
-ghost use Rattle.kn_plan.specs.Plan.{AsksFor, IsGivenAddress, AreGivenAddresses, IsGivenNumber};
+ghost use Rattle.kn_plan.specs.Command.{lent_text};
+ghost use Rattle.kn_plan.specs.Plan.{AsksFor, IsGivenAddress, AreGivenAddresses, IsGivenNumber, UsageMeansNone};
 
 use crate::address::{are_addresses, copies, copy, is_address, parts};
 use crate::command::options;
@@ -28,8 +29,8 @@ pub struct Plan {
 
 /// The address that is given.
 pub(crate) fn address(alloc: Global, given: Option<&str>) -> Result<Text, PlanError>
-    ensures ok { IfOk result (IsGivenAddress (option_map (λ s. s.now) given.entry)) }
-    ensures usage { result ≡ Err PlanError.Usage → (text : List ℕ) → IsGivenAddress (option_map (λ s. s.now) given.entry) text → ⊥ }
+    ensures ok { IfOk result (IsGivenAddress (lent_text given.entry)) }
+    ensures usage { UsageMeansNone result (IsGivenAddress (lent_text given.entry)) }
 {
     let Some(text) = given else {
         return Err(PlanError::Usage);
@@ -45,8 +46,8 @@ pub(crate) fn address(alloc: Global, given: Option<&str>) -> Result<Text, PlanEr
 
 /// The 1 to 500 addresses that are given.
 pub(crate) fn addresses(alloc: Global, given: Option<&str>) -> Result<Hosts, PlanError>
-    ensures ok { IfOk result (AreGivenAddresses (option_map (λ s. s.now) given.entry)) }
-    ensures usage { result ≡ Err PlanError.Usage → (texts : List (List ℕ)) → AreGivenAddresses (option_map (λ s. s.now) given.entry) texts → ⊥ }
+    ensures ok { IfOk result (AreGivenAddresses (lent_text given.entry)) }
+    ensures usage { UsageMeansNone result (AreGivenAddresses (lent_text given.entry)) }
 {
     let Some(text) = given else {
         return Err(PlanError::Usage);
@@ -68,8 +69,8 @@ pub(crate) fn addresses(alloc: Global, given: Option<&str>) -> Result<Hosts, Pla
 
 /// The number that is given, in this range.
 pub(crate) fn number(given: Option<&str>, least: u64, most: u64) -> Result<u64, PlanError>
-    ensures ok { IfOk result (IsGivenNumber (option_map (λ s. s.now) given.entry) least most) }
-    ensures usage { result ≡ Err PlanError.Usage → (n : ℕ) → IsGivenNumber (option_map (λ s. s.now) given.entry) least most n → ⊥ }
+    ensures ok { IfOk result (IsGivenNumber (lent_text given.entry) least most) }
+    ensures usage { UsageMeansNone result (IsGivenNumber (lent_text given.entry) least most) }
 {
     let Some(text) = given else {
         return Err(PlanError::Usage);

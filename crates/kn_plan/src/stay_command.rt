@@ -1,9 +1,8 @@
 //! The command line of `stay`, as `clap` reads it.
-ghost use Rattle.std.specs.Prelude.{◌≡◌, ◌≢◌, [], map, string_bytes, false, IfOk, IfErr, OnOk};
-ghost use Rattle.clap.specs.Kinds.{IsAmong};
+ghost use Rattle.std.specs.Prelude.{◌≡◌, [], map, string_bytes, false, IfOk, IfErr, OnOk};
 ghost use Rattle.clap.specs.Matches.{found_of};
 ghost use Rattle.clap.specs.Words.{app_of, rule_of, rows_of};
-ghost use Rattle.kn_plan.specs.StayOptions.{found_in, plain_stay, refusals, stay, stay_default, stay_rule};
+ghost use Rattle.kn_plan.specs.StayOptions.{IsRefusalOf, found_in, plain_stay, refusals, stay, stay_default, stay_rule};
 
 use clap::error::ErrorKind;
 use clap::{Arg, ArgAction, ArgMatches, Command};
@@ -52,7 +51,7 @@ fn command<'a>(alloc: Global) -> Result<Command<'a>, AllocError>
 pub fn read<'a>(alloc: Global, words: &'a [String]) -> Result<ArgMatches<'a>, ErrorKind>
     ensures accepted { OnOk result (refusals (map string_bytes words.entry.now) ≡ []) }
     ensures found { IfOk result (λ m. rows_of (found_of m) ≡ found_in (map string_bytes words.entry.now)) }
-    ensures refused { IfErr result (λ kind. kind ≢ ErrorKind.OutOfMemory → IsAmong kind (refusals (map string_bytes words.entry.now))) }
+    ensures refused { IfErr result (IsRefusalOf (map string_bytes words.entry.now)) }
 {
     let Ok(command) = command(alloc) else {
         return Err(ErrorKind::OutOfMemory);

@@ -1,10 +1,10 @@
 //! What the words of `kactd stay` ask for.
-ghost use Rattle.std.specs.Prelude.{◌≡◌, ◌≢◌, ◌⊎◌, List, [], ◌∷◌, ℕ, Err, Some, false, true, map, option_map, string_bytes, IfOk, IfErr};
+ghost use Rattle.std.specs.Prelude.{◌≡◌, ◌≢◌, ◌⊎◌, List, [], ◌∷◌, ℕ, Err, Some, false, true, map, string_bytes, IfOk, IfErr};
 ghost use Rattle.std.specs.List.{list_all};
 ghost use Rattle.clap.specs.Matches.{found_of};
 ghost use Rattle.clap.specs.Words.{rows_of};
-ghost use Rattle.kn_plan.specs.declared.stay_plan.StayPlan.{StayPlan as StayPlanValue};
-ghost use Rattle.kn_plan.specs.Stay.{AreGiven, ArePlainAddresses, AsksToStay, IsCause, IsGivenStatus, IsNumberOf, IsPlainAddress, IsPlanOf, IsUnknownIn, IsWrongIn, is_number, is_plain, may_be_absent, value_of, values_of};
+ghost use Rattle.kn_plan.specs.Command.{lent_text};
+ghost use Rattle.kn_plan.specs.Stay.{AreGiven, ArePlainAddresses, AsksForNothing, AsksToStay, IsCause, IsGivenStatus, IsNumberOf, IsPlainAddress, IsPlanOf, IsUnknownIn, IsWrongIn, is_number, is_plain, may_be_absent, value_of, values_of};
 ghost use Rattle.kn_plan.specs.StayOptions.{refusals};
 
 use crate::plan::{Hosts, address, addresses, number};
@@ -76,7 +76,7 @@ fn plain_addresses(alloc: Global, text: &str) -> Result<Hosts, PlanError>
 
 /// The value of an option that is given at most once.
 fn given<'a>(matches: &ArgMatches<'a>, option: StayOption) -> Result<Option<&'a str>, StayError<'a>>
-    ensures value { IfOk result (λ text. AreGiven (values_of (rows_of (found_of matches.now)) option) (option_map (λ s. s.now) text)) }
+    ensures value { IfOk result (λ text. AreGiven (values_of (rows_of (found_of matches.now)) option) (lent_text text)) }
     ensures wrong { IfErr result (IsWrongIn (rows_of (found_of matches.now))) }
 {
     match matches.get_strs(option.name()) {
@@ -203,7 +203,7 @@ fn first_refused<'a>(alloc: Global, words: &'a [String]) -> StayError<'a>
 pub fn stay_plan_of<'a>(alloc: Global, words: &'a [String]) -> Result<StayPlan, StayError<'a>>
     ensures plan { IfOk result (AsksToStay (map string_bytes words.entry.now)) }
     ensures cause { IfErr result (IsCause (map string_bytes words.entry.now)) }
-    ensures none { IfErr result (λ e. e ≢ StayError.Memory → (plan : StayPlanValue) → AsksToStay (map string_bytes words.entry.now) plan → ⊥) }
+    ensures none { IfErr result (λ e. e ≢ StayError.Memory → AsksForNothing (map string_bytes words.entry.now)) }
 {
     match read(alloc, words) {
         Ok(matches) => found_plan(alloc, &matches),

@@ -1,8 +1,9 @@
 //! What the words of `kactd many` ask for.
-ghost use Rattle.std.specs.Prelude.{◌≡◌, ◌≤◌, ℕ, List, length, map, option_map, string_bytes, All, IfOk, Err};
+ghost use Rattle.std.specs.Prelude.{◌≡◌, ◌≤◌, length, map, string_bytes, All, IfOk, Err};
 ghost use Rattle.std.specs.List.{slice_split};
 ghost use Rattle.kn_plan.specs.declared.wide_plan.WidePlan.{WidePlan as WideValue};
-ghost use Rattle.kn_plan.specs.Plan.{AreGivenLists, AsksForMany, IsAddress, is_comma};
+ghost use Rattle.kn_plan.specs.Command.{lent_text};
+ghost use Rattle.kn_plan.specs.Plan.{AreGivenLists, AsksForMany, IsAddress, IsAddressList, UsageMeansNone, is_comma};
 
 use crate::address::parts;
 use crate::command::options;
@@ -33,7 +34,7 @@ fn addresses_of(alloc: Global, texts: &[&str]) -> Result<HostLists, PlanError>
     ensures ok { IfOk result (λ lists. lists ≡ map (λ t. slice_split is_comma t.now) texts.now) }
     ensures each { IfOk result (All (All IsAddress)) }
     ensures fit { IfOk result (All (λ hosts. length hosts ≤ 500)) }
-    ensures usage { result ≡ Err PlanError.Usage → (All (λ t. All IsAddress (slice_split is_comma t.now) × (length (slice_split is_comma t.now) ≤ 500)) texts.now) → ⊥ }
+    ensures usage { result ≡ Err PlanError.Usage → (All (λ t. IsAddressList t.now) texts.now) → ⊥ }
 {
     let mut lists = Vec::new(alloc);
     for text in texts {
@@ -50,8 +51,8 @@ fn addresses_of(alloc: Global, texts: &[&str]) -> Result<HostLists, PlanError>
 
 /// The 1 to 16 lists of addresses that are given.
 fn lists(alloc: Global, given: Option<&str>) -> Result<HostLists, PlanError>
-    ensures ok { IfOk result (AreGivenLists (option_map (λ s. s.now) given.entry)) }
-    ensures usage { result ≡ Err PlanError.Usage → (lists : List (List (List ℕ))) → AreGivenLists (option_map (λ s. s.now) given.entry) lists → ⊥ }
+    ensures ok { IfOk result (AreGivenLists (lent_text given.entry)) }
+    ensures usage { UsageMeansNone result (AreGivenLists (lent_text given.entry)) }
 {
     let Some(text) = given else {
         return Err(PlanError::Usage);
