@@ -3,7 +3,9 @@ use Rattle.std.specs.Prelude.{◌≡◌, ℕ, ◌+◌, ◌/◌, ◌%◌, ◌≤�
 use Rattle.std.specs.List.{filter, flat_map}
 use Rattle.httparse.specs.Ascii.{crlf_bytes}
 use Rattle.httparse.specs.Grammar.{ResponseHead, print_version, print_response, reason_phrase, status_code}
-use Rattle.httparse.specs.Spans.{name_and_value}
+use Rattle.httparse.specs.Spans.{IsResponseAt, name_and_value}
+use Rattle.httparse.specs.declared.spans.HeaderSpan.{HeaderSpan}
+use Rattle.httparse.specs.declared.spans.ResponseSpans.{ResponseSpans}
 use Rattle.kn_http.specs.Names.{connection_names, is_among}
 use Rattle.kn_reply.specs.Replies.{IsWholeReply}
 use Rattle.kn_reply.specs.Ends.{most_fields, most_reply, IsReplyOf, ReadsHeads, ReadsReply}
@@ -23,6 +25,10 @@ line_start minor digits = print_version minor ++ codes " " ++ digits ++ codes " 
 -- version, status and phrase
 unfoldable pub status_line : ℕ → List ℕ → List ℕ → List ℕ
 status_line minor digits reason = line_start minor digits ++ reason ++ crlf_bytes
+
+-- the first line of an answer, by its code
+abbrev pub answer_line : ℕ → ℕ → List ℕ → List ℕ
+answer_line version code reason = status_line version (three_digits code) reason
 
 -- name and value
 unfoldable pub field_line : List ℕ × List ℕ → List ℕ
@@ -44,6 +50,10 @@ closing_head head =
 -- the head that a client is handed. After status 101 the connection goes on, in another protocol, so that one stays as it came
 unfoldable pub handed_head : ResponseHead → List ℕ
 handed_head head = if status_code head == 101 then print_response head else closing_head head
+
+-- to the old bytes is added what a client is handed of the head that the spans cover in this text
+abbrev pub AddsHead : List ℕ → List HeaderSpan → ResponseSpans → List ℕ → List ℕ → Type 0
+AddsHead text spans r old new = (head : ResponseHead) → IsResponseAt text spans r head → new ≡ old ++ handed_head head
 
 -- of a reply that is some interim heads, the head of the answer and a body, the answer is the interim heads as they came, that
 -- head as a client is handed it, and the body as it came
@@ -85,3 +95,7 @@ pub record ReadsAgain (request answer : List ℕ) (head : ResponseHead) (body : 
   pub fields : map name_and_value whole.head.fields ≡ handed_fields head
   pub same : whole.body ≡ body
   pub exact : length (handed_fields head) ≤ most_fields → ReadsReply request answer []
+
+-- where the reply to the request is whole, its answer reads as one again
+abbrev pub IsReplyAgain : List ℕ → List ℕ → List ℕ → Type 0
+IsReplyAgain request reply answer = ReadsReply request reply [] → (c : Closes reply answer) → ReadsAgain request answer c.head c.body

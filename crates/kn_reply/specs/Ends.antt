@@ -1,8 +1,8 @@
 -- Where a pod's reply to a request ends. The forms of heads, of size lines and of trailers are those that httparse reads.
-use Rattle.std.specs.Prelude.{◌≡◌, ℕ, ◌<◌, ◌≤◌, ◌+◌, Bool, true, false, not, ◌||◌, List, [], ◌++◌, length, drop, map, codes, Option, None, Some, ⊤}
+use Rattle.std.specs.Prelude.{◌≡◌, ℕ, ◌<◌, ◌≤◌, ◌+◌, Bool, true, false, not, ◌||◌, List, [], ◌++◌, length, drop, map, codes, Option, None, Some, MatchOption, ⊤}
 use Rattle.std.specs.List.{list_all, list_any}
 use Rattle.httparse.specs.Grammar.{ResponseHead, ReadsResponse, status_code}
-use Rattle.httparse.specs.Spans.{IsResponseAt, IsResponseWithin, name_and_value}
+use Rattle.httparse.specs.Spans.{IsResponseAt, IsResponseWithin, header_bytes, name_and_value}
 use Rattle.httparse.specs.declared.spans.HeaderSpan.{HeaderSpan}
 use Rattle.httparse.specs.declared.spans.ResponseSpans.{ResponseSpans}
 use Rattle.kn_http.specs.declared.parts.Bounds.{Bounds}
@@ -51,6 +51,18 @@ is_length field = is_word (codes "content-length") field.0
 -- a field is no length, or says so many
 abbrev pub agrees : ℕ → List ℕ × List ℕ → Bool
 agrees count field = not (is_length field) || says count field.1
+
+-- each length that the fields say is so many
+abbrev pub AllAgree : List (List ℕ × List ℕ) → ℕ → Type 0
+AllAgree fields count = list_all (agrees count) fields ≡ true
+
+-- something is found, just where a field is a length
+abbrev pub FindsLength : {T : Type 0} → Option T → List (List ℕ × List ℕ) → Type 0
+FindsLength found fields = MatchOption found (list_any is_length fields ≡ false) (λ _. list_any is_length fields ≡ true)
+
+-- the fields whose spans are of this text
+abbrev pub fields_in : List ℕ → List HeaderSpan → List (List ℕ × List ℕ)
+fields_in text spans = map (header_bytes text) spans
 
 -- by whether there is to be no body, a coding ends in chunks, there is a coding, and there is a length
 abbrev pub ReadsBodyAs : Bool → Bool → Bool → Bool → List (List ℕ × List ℕ) → List ℕ → List ℕ → Type 0

@@ -1,5 +1,5 @@
 -- What a client of HTTP/1.0, which knows no chunks, is sent of an answer.
-use Rattle.std.specs.Prelude.{◌≡◌, ℕ, ◌+◌, Bool, true, not, ◌&&◌, List, [], ◌∷◌, ◌++◌, drop, map, codes, Option, Result, MatchResult}
+use Rattle.std.specs.Prelude.{◌≡◌, ℕ, ◌+◌, Bool, true, not, ◌&&◌, List, [], ◌∷◌, ◌++◌, take, drop, map, codes, Option, Result, MatchResult}
 use Rattle.std.specs.List.{filter, flat_map, list_any}
 use Rattle.std.specs.Io.KnownBytes.{Appends}
 use Rattle.httparse.specs.Ascii.{crlf_bytes}
@@ -18,6 +18,14 @@ use Rattle.kn_reply.specs.Closing.{field_line, status_line}
 abbrev pub AreChunksOf : List ℕ → List ℕ → Type 0
 AreChunksOf value bytes = IsChunked reply_bounds bytes value []
 
+-- the bytes are a body in chunks, and nothing behind
+abbrev pub AreChunks : List ℕ → Type 0
+AreChunks bytes = (value : List ℕ) × AreChunksOf value bytes
+
+-- the bytes are no such body
+abbrev pub NotChunks : List ℕ → Type 0
+NotChunks bytes = (value : List ℕ) → AreChunksOf value bytes → ⊥
+
 -- a field is a coding, and another than chunks alone
 abbrev pub is_other_coding : List ℕ × List ℕ → Bool
 is_other_coding field = is_coding field && not (is_word (codes "chunked") field.1)
@@ -34,6 +42,10 @@ pub record IsInChunks (answer interim : List ℕ) (head : ResponseHead) (value :
   pub coded : are_chunks_alone (map name_and_value head.fields) ≡ true
   pub chunks : AreChunksOf value body
 
+-- an answer isn't whole, or not in chunks
+abbrev pub NotInChunks : List ℕ → Type 0
+NotInChunks answer = (interim : List ℕ) (head : ResponseHead) (value : List ℕ) → ¬ (IsInChunks answer interim head value)
+
 -- the fields that say how a body ends
 abbrev pub end_names : List (List ℕ)
 end_names = codes "transfer-encoding" ∷ codes "trailer" ∷ codes "content-length" ∷ []
@@ -46,6 +58,10 @@ is_not_of_end field = not (is_among end_names field.0)
 unfoldable pub other_lines : List (List ℕ × List ℕ) → List ℕ
 other_lines fields = flat_map field_line (filter is_not_of_end fields)
 
+-- with the empty line that ends the head
+abbrev pub plain_lines : List (List ℕ × List ℕ) → List ℕ
+plain_lines fields = other_lines fields ++ crlf_bytes
+
 -- the head of an answer whose body ends with the connection
 unfoldable pub plain_head : ResponseHead → List ℕ
 plain_head head =
@@ -56,8 +72,7 @@ plain_head head =
 pub data IsPlainOf (answer : List ℕ) : List ℕ → Type 0 where
   plain : (interim : List ℕ) (head : ResponseHead) (value : List ℕ) → IsInChunks answer interim head value
       → IsPlainOf answer (interim ++ plain_head head ++ value)
-  as_it_is : ((interim : List ℕ) (head : ResponseHead) (value : List ℕ) → ¬ (IsInChunks answer interim head value))
-      → IsPlainOf answer answer
+  as_it_is : NotInChunks answer → IsPlainOf answer answer
 
 -- ---- how it is found and written
 
@@ -71,3 +86,7 @@ pub record HeadInChunks (answer : List ℕ) (spans : List HeaderSpan) (at : ℕ)
   pub coded : are_chunks_alone (map name_and_value found.head.fields) ≡ true
   pub value : List ℕ
   pub chunks : AreChunksOf value (drop (at + r.len) answer)
+
+-- what is said of the plain form of an answer whose head begins at this place
+abbrev pub OnPlainForm : List ℕ → List HeaderSpan → ℕ → ResponseSpans → (List ℕ → Type 0) → Type 0
+OnPlainForm answer spans at r Holds = (h : HeadInChunks answer spans at r) → Holds (take at answer ++ plain_head h.found.head ++ h.value)

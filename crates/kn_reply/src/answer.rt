@@ -1,9 +1,9 @@
 //! What a client is handed of a pod's reply.
-ghost use Rattle.std.specs.Prelude.{◌≡◌, ◌≤◌, ◌<◌, ◌+◌, ◌%◌, ◌++◌, ℕ, List, length, map, All, IfOk, OnOk};
+ghost use Rattle.std.specs.Prelude.{◌≡◌, ◌≤◌, ◌<◌, ◌+◌, ◌%◌, ◌++◌, ℕ, List, length, All, IfOk, OnOk};
 ghost use Rattle.httparse.specs.Grammar.{ResponseHead};
-ghost use Rattle.httparse.specs.Spans.{IsHeaderWithin, IsResponseAt, IsResponseWithin, header_bytes};
-ghost use Rattle.kn_reply.specs.Ends.{IsHeadAt, ReadsHeads};
-ghost use Rattle.kn_reply.specs.Closing.{Closes, field_line, handed_head, kept_lines, line_start, status_line, three_digits};
+ghost use Rattle.httparse.specs.Spans.{IsHeaderWithin, IsResponseWithin};
+ghost use Rattle.kn_reply.specs.Ends.{IsHeadAt, ReadsHeads, fields_in};
+ghost use Rattle.kn_reply.specs.Closing.{AddsHead, Closes, answer_line, field_line, kept_lines, line_start, three_digits};
 
 use crate::heads::{MOST_FIELDS, answer_head};
 use httparse::Status;
@@ -73,8 +73,7 @@ fn put_head(
     spans: &[HeaderSpan],
 ) -> Result<(), LinkError>
     requires { IsResponseWithin text.now spans.now head.now }
-    ensures { OnOk result ((h : ResponseHead) → IsResponseAt text.now spans.now head.now h
-        → out.new.items ≡ out.old.items ++ handed_head h) }
+    ensures { OnOk result (AddsHead text.now spans.now head.now out.old.items out.new.items) }
 {
     if head.code == 101 {
         put(out, &text[..head.len])?;
@@ -90,7 +89,7 @@ fn put_head(
 fn put_status(out: &mut Vec<u8>, version: u8, code: u16, reason: &[u8]) -> Result<(), LinkError>
     requires version { version ≤ 1 }
     requires code { code < 1000 }
-    ensures { OnOk result (out.new.items ≡ out.old.items ++ status_line version (three_digits code) reason.now) }
+    ensures { OnOk result (out.new.items ≡ out.old.items ++ answer_line version code reason.now) }
 {
     put_start(out, version, code)?;
     put(out, reason)?;
@@ -126,7 +125,7 @@ pub(crate) fn last_digit(n: u16) -> u8
 /// Writes the fields that stay.
 fn put_kept(out: &mut Vec<u8>, text: &[u8], fields: &[HeaderSpan]) -> Result<(), LinkError>
     requires { All (IsHeaderWithin (length text.now)) fields.now }
-    ensures { OnOk result (out.new.items ≡ out.old.items ++ kept_lines (map (header_bytes text.now) fields.now)) }
+    ensures { OnOk result (out.new.items ≡ out.old.items ++ kept_lines (fields_in text.now fields.now)) }
 {
     for field in fields {
         let name = field.name.of(text);

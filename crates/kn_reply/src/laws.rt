@@ -2,7 +2,7 @@
 ghost use Rattle.std.specs.Prelude.{◌≡◌, ◌≤◌, ◌+◌, [], ℕ, List, length};
 ghost use Rattle.kn_reply.specs.Replies.{IsWholeReply};
 ghost use Rattle.kn_reply.specs.Ends.{IsReplyOf, ReadsReply};
-ghost use Rattle.kn_reply.specs.Closing.{Closes, ReadsAgain};
+ghost use Rattle.kn_reply.specs.Closing.{Closes, IsReplyAgain};
 ghost use Rattle.kn_reply.specs.Plain.{IsPlainOf};
 
 use kn_http::chunks_are_determined;
@@ -18,8 +18,7 @@ pub fn replies_are_determined()
 /// A reply has one answer, which is a whole reply to the request again, with the same status and the same body.
 pub fn answers_are_replies()
     ensures one { (reply a b : List ℕ) → Closes reply a → Closes reply b → a ≡ b }
-    ensures again { (request reply answer : List ℕ) → ReadsReply request reply [] → (c : Closes reply answer)
-        → ReadsAgain request answer c.head c.body }
+    ensures again { (request reply answer : List ℕ) → IsReplyAgain request reply answer }
     ensures longer { (reply answer : List ℕ) → Closes reply answer → length answer ≤ length reply + 534 }
 {}
 

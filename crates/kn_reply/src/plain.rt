@@ -1,14 +1,13 @@
 //! What a client of HTTP/1.0, which knows no chunks, is sent of an answer.
-ghost use Rattle.std.specs.Prelude.{◌≡◌, ◌≤◌, ◌<◌, ◌++◌, ℕ, List, length, map, take, drop, All, IsNone, IfSome, MatchBool};
+ghost use Rattle.std.specs.Prelude.{◌≡◌, ◌≤◌, ◌<◌, ◌++◌, ℕ, List, length, drop, All, IsNone, IfSome, MatchBool};
 ghost use Rattle.std.specs.List.{flat_map, list_any};
-ghost use Rattle.httparse.specs.Ascii.{crlf_bytes};
-ghost use Rattle.httparse.specs.Grammar.{ResponseHead};
-ghost use Rattle.httparse.specs.Spans.{IsHeaderWithin, header_bytes};
+ghost use Rattle.httparse.specs.Spans.{IsHeaderWithin};
 ghost use Rattle.kn_http.specs.Names.{is_among};
 ghost use Rattle.kn_io.specs.Causes.{HasCause};
-ghost use Rattle.kn_reply.specs.Closing.{status_line, three_digits};
-ghost use Rattle.kn_reply.specs.Plain.{AreChunksOf, HeadInChunks, IsInChunks, IsPlainOf, Puts, are_chunks_alone, end_names};
-ghost use Rattle.kn_reply.specs.Plain.{is_other_coding, other_lines, plain_head};
+ghost use Rattle.kn_reply.specs.Closing.{answer_line};
+ghost use Rattle.kn_reply.specs.Ends.{fields_in};
+ghost use Rattle.kn_reply.specs.Plain.{AreChunks, AreChunksOf, HeadInChunks, IsPlainOf, NotChunks, NotInChunks, OnPlainForm, Puts};
+ghost use Rattle.kn_reply.specs.Plain.{are_chunks_alone, end_names, is_other_coding, plain_lines};
 
 use crate::answer::last_digit;
 use crate::chunks::{BOUNDS, Followed, follow};
@@ -38,8 +37,7 @@ pub fn put_plain<O: Sink>(out: &mut O, answer: &[u8]) -> Result<(), Failed>
 fn head_in_chunks(answer: &[u8], spans: &mut [HeaderSpan]) -> Option<(usize, ResponseSpans)>
     requires { length spans.old ≡ 256 }
     ensures some { IfSome result (λ found. HeadInChunks answer.now spans.new found.0 found.1) }
-    ensures none { IsNone result → (interim : List ℕ) (head : ResponseHead) (value : List ℕ)
-        → IsInChunks answer.now interim head value → ⊥ }
+    ensures none { IsNone result → NotInChunks answer.now }
 {
     match answer_head(answer, spans) {
         Ok(Status::Complete((start, head))) => {
@@ -60,8 +58,7 @@ fn head_in_chunks(answer: &[u8], spans: &mut [HeaderSpan]) -> Option<(usize, Res
 /// Whether the answer is a whole body in chunks from this place on.
 fn is_in_chunks(answer: &[u8], start: usize) -> bool
     requires { start ≤ length answer.now }
-    ensures { MatchBool result ((value : List ℕ) × AreChunksOf value (drop start answer.now))
-        ((value : List ℕ) → AreChunksOf value (drop start answer.now) → ⊥) }
+    ensures { MatchBool result (AreChunks (drop start answer.now)) (NotChunks (drop start answer.now)) }
 {
     chunks_are_determined();
     match follow(answer, start) {
@@ -73,14 +70,14 @@ fn is_in_chunks(answer: &[u8], start: usize) -> bool
 
 fn are_chunks_alone(text: &[u8], fields: &[HeaderSpan]) -> bool
     requires { All (IsHeaderWithin (length text.now)) fields.now }
-    ensures { result ≡ are_chunks_alone (map (header_bytes text.now) fields.now) }
+    ensures { result ≡ are_chunks_alone (fields_in text.now fields.now) }
 {
     is_coded(text, fields) && !has_other_coding(text, fields)
 }
 
 fn has_other_coding(text: &[u8], fields: &[HeaderSpan]) -> bool
     requires { All (IsHeaderWithin (length text.now)) fields.now }
-    ensures { result ≡ list_any is_other_coding (map (header_bytes text.now) fields.now) }
+    ensures { result ≡ list_any is_other_coding (fields_in text.now fields.now) }
 {
     for field in fields {
         if is_other_coding(field.name.of(text), field.value.of(text)) {
@@ -105,8 +102,7 @@ fn put_parts<O: Sink>(
     spans: &[HeaderSpan],
 ) -> Result<(), Failed>
     requires { HeadInChunks answer.now spans.now start head.now }
-    ensures puts { (h : HeadInChunks answer.now spans.now start head.now) → Puts (O.held out.old) (O.held out.new) result
-        (take start answer.now ++ plain_head h.found.head ++ h.value) }
+    ensures puts { OnPlainForm answer.now spans.now start head.now (Puts (O.held out.old) (O.held out.new) result) }
     ensures kept_stays { O.kept out.new ≡ O.kept out.old }
     ensures cause { HasCause (O.Faulty.faults out.old) (O.Faulty.faults out.new) result }
 {
@@ -149,8 +145,7 @@ fn put_start<O: Sink>(
 ) -> Result<(), Failed>
     requires version { version ≤ 1 }
     requires code { code < 1000 }
-    ensures puts { Puts (O.held out.old) (O.held out.new) result
-        (interim.now ++ status_line version (three_digits code) reason.now) }
+    ensures puts { Puts (O.held out.old) (O.held out.new) result (interim.now ++ answer_line version code reason.now) }
     ensures kept_stays { O.kept out.new ≡ O.kept out.old }
     ensures cause { HasCause (O.Faulty.faults out.old) (O.Faulty.faults out.new) result }
 {
@@ -168,8 +163,7 @@ fn put_start<O: Sink>(
 /// Writes the fields that don't say how the body ends, and the end of the head.
 fn put_fields<O: Sink>(out: &mut O, text: &[u8], fields: &[HeaderSpan]) -> Result<(), Failed>
     requires { All (IsHeaderWithin (length text.now)) fields.now }
-    ensures puts { Puts (O.held out.old) (O.held out.new) result
-        (other_lines (map (header_bytes text.now) fields.now) ++ crlf_bytes) }
+    ensures puts { Puts (O.held out.old) (O.held out.new) result (plain_lines (fields_in text.now fields.now)) }
     ensures kept_stays { O.kept out.new ≡ O.kept out.old }
     ensures cause { HasCause (O.Faulty.faults out.old) (O.Faulty.faults out.new) result }
 {
@@ -196,7 +190,7 @@ fn is_of_end(name: &[u8]) -> bool
 
 /// Writes what a body in chunks stands for.
 fn put_value<O: Sink>(out: &mut O, body: &[u8]) -> Result<(), Failed>
-    requires { (value : List ℕ) × AreChunksOf value body.now }
+    requires { AreChunks body.now }
     ensures puts { (value : List ℕ) → AreChunksOf value body.now → Puts (O.held out.old) (O.held out.new) result value }
     ensures kept_stays { O.kept out.new ≡ O.kept out.old }
     ensures cause { HasCause (O.Faulty.faults out.old) (O.Faulty.faults out.new) result }

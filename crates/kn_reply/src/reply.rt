@@ -1,11 +1,12 @@
 //! Where a pod's reply ends.
-ghost use Rattle.std.specs.Prelude.{◌≡◌, ◌≤◌, ◌==◌, ◌||◌, ℕ, true, false, IfSome, MatchOption, All, length, map, OnErr, IsNone};
+ghost use Rattle.std.specs.Prelude.{◌≡◌, ◌≤◌, ◌==◌, ◌||◌, ℕ, true, false, IfSome, All, length, OnErr, IsNone};
 ghost use Rattle.std.specs.List.{list_all, list_any};
 ghost use Rattle.httparse.specs.Outcome.{IfComplete, OnPartial};
-ghost use Rattle.httparse.specs.Spans.{IsHeaderWithin, header_bytes};
+ghost use Rattle.httparse.specs.Spans.{IsHeaderWithin};
 ghost use Rattle.kn_http.specs.Numbers.{says};
 ghost use Rattle.kn_reply.specs.Replies.{ends_in_chunks, has_no_body, is_chunks_coding, is_coding};
-ghost use Rattle.kn_reply.specs.Ends.{IsStageOf, JudgedIs, Meets, MeetsAny, NeverReply, NoReply, NoStage, StageWithin, agrees, is_length};
+ghost use Rattle.kn_reply.specs.Ends.{AllAgree, FindsLength, IsStageOf, JudgedIs, Meets, MeetsAny, NeverReply, NoReply, NoStage, StageWithin};
+ghost use Rattle.kn_reply.specs.Ends.{agrees, fields_in};
 
 use crate::chunks::{Followed, follow};
 use crate::heads::{MOST_FIELDS, Never, answer_head};
@@ -114,9 +115,9 @@ fn has_no_body(request: &[u8], code: u16) -> bool
 fn body_of(none: bool, text: &[u8], fields: &[HeaderSpan], at: usize) -> Option<Stage>
     requires fields { All (IsHeaderWithin (length text.now)) fields.now }
     requires at { at ≤ 1122304 }
-    ensures stage { IfSome result (IsStageOf none (map (header_bytes text.now) fields.now) at) }
+    ensures stage { IfSome result (IsStageOf none (fields_in text.now fields.now) at) }
     ensures within { IfSome result (StageWithin at) }
-    ensures none { IsNone result → NoStage none (map (header_bytes text.now) fields.now) }
+    ensures none { IsNone result → NoStage none (fields_in text.now fields.now) }
 {
     if none {
         return Some(Stage::Until(at));
@@ -139,14 +140,11 @@ fn body_of(none: bool, text: &[u8], fields: &[HeaderSpan], at: usize) -> Option<
 /// How many bytes each length says, where the value is of one of them.
 fn size_of(text: &[u8], fields: &[HeaderSpan], value: &[u8]) -> Option<usize>
     requires fields { All (IsHeaderWithin (length text.now)) fields.now }
-    requires first { (n : ℕ) → list_all (agrees n) (map (header_bytes text.now) fields.now) ≡ true
-        → says n value.now ≡ true }
-    ensures all { IfSome result
-        (λ n. (n ≤ 1114112) × (list_all (agrees n) (map (header_bytes text.now) fields.now) ≡ true)) }
-    ensures only { IfSome result
-        (λ n. (m : ℕ) → list_all (agrees m) (map (header_bytes text.now) fields.now) ≡ true → m ≡ n) }
+    requires first { (n : ℕ) → AllAgree (fields_in text.now fields.now) n → says n value.now ≡ true }
+    ensures all { IfSome result (λ n. (n ≤ 1114112) × AllAgree (fields_in text.now fields.now) n) }
+    ensures only { IfSome result (λ n. (m : ℕ) → AllAgree (fields_in text.now fields.now) m → m ≡ n) }
     ensures none { IsNone result → (m : ℕ) → m ≤ 1114112
-        → list_all (agrees m) (map (header_bytes text.now) fields.now) ≡ false }
+        → list_all (agrees m) (fields_in text.now fields.now) ≡ false }
 {
     match number(value) {
         Some(n) if n <= MOST_REPLY as u64 && all_agree(text, fields, n) => Some(n as usize),
@@ -157,10 +155,8 @@ fn size_of(text: &[u8], fields: &[HeaderSpan], value: &[u8]) -> Option<usize>
 /// What the first length says.
 fn length_of<'a>(text: &'a [u8], fields: &[HeaderSpan]) -> Option<&'a [u8]>
     requires { All (IsHeaderWithin (length text.now)) fields.now }
-    ensures some { IfSome result (λ v. (n : ℕ)
-        → list_all (agrees n) (map (header_bytes text.now) fields.now) ≡ true → says n v.now ≡ true) }
-    ensures any { MatchOption result (list_any is_length (map (header_bytes text.now) fields.now) ≡ false)
-        (λ _. list_any is_length (map (header_bytes text.now) fields.now) ≡ true) }
+    ensures some { IfSome result (λ v. (n : ℕ) → AllAgree (fields_in text.now fields.now) n → says n v.now ≡ true) }
+    ensures any { FindsLength result (fields_in text.now fields.now) }
 {
     for field in fields {
         if is_word(field.name.of(text), b"content-length") {
@@ -173,7 +169,7 @@ fn length_of<'a>(text: &'a [u8], fields: &[HeaderSpan]) -> Option<&'a [u8]>
 /// Whether each length that the fields say is so many.
 fn all_agree(text: &[u8], fields: &[HeaderSpan], count: u64) -> bool
     requires { All (IsHeaderWithin (length text.now)) fields.now }
-    ensures { result ≡ list_all (agrees count) (map (header_bytes text.now) fields.now) }
+    ensures { result ≡ list_all (agrees count) (fields_in text.now fields.now) }
 {
     for field in fields {
         if !agrees(field.name.of(text), field.value.of(text), count) {
@@ -186,7 +182,7 @@ fn all_agree(text: &[u8], fields: &[HeaderSpan], count: u64) -> bool
 /// Whether there is a coding.
 pub(crate) fn is_coded(text: &[u8], fields: &[HeaderSpan]) -> bool
     requires { All (IsHeaderWithin (length text.now)) fields.now }
-    ensures { result ≡ list_any is_coding (map (header_bytes text.now) fields.now) }
+    ensures { result ≡ list_any is_coding (fields_in text.now fields.now) }
 {
     for field in fields {
         if is_word(field.name.of(text), b"transfer-encoding") {
@@ -199,7 +195,7 @@ pub(crate) fn is_coded(text: &[u8], fields: &[HeaderSpan]) -> bool
 /// Whether a coding ends in chunks.
 fn is_in_chunks(text: &[u8], fields: &[HeaderSpan]) -> bool
     requires { All (IsHeaderWithin (length text.now)) fields.now }
-    ensures { result ≡ list_any is_chunks_coding (map (header_bytes text.now) fields.now) }
+    ensures { result ≡ list_any is_chunks_coding (fields_in text.now fields.now) }
 {
     for field in fields {
         if is_chunks_coding(field.name.of(text), field.value.of(text)) {
