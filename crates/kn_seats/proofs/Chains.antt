@@ -9,7 +9,7 @@ length_requests request next place zero = refl
 length_requests request next place (suc n) = ap suc (length_requests request next (get_or next place 0) n)
 
 -- what a place avoids it does not meet
-avoided : (next : List ℕ) (other place n k : ℕ) → Avoids next other place n → k < n → after next place k ≡ other → ⊥
+pub avoided : (next : List ℕ) (other place n k : ℕ) → Avoids next other place n → k < n → after next place k ≡ other → ⊥
 unfolding Avoids after
 avoided next other place zero k apart lt is = absurd (omega arith)
 avoided next other place (suc n) zero apart lt is = apart.0 is
@@ -90,15 +90,23 @@ module _ (owner owner_after : ℕ → Option ℕ) (who : Option ℕ) (next next_
       ∙ ap (λ p. get_or request place 0 ∷ requests_in request_after next_after p n) here.1
       ∙ ap (λ l. get_or request place 0 ∷ l) (requests-kept request request_after same (get_or next place 0) n owned.1)
 
--- one more cell comes to stand behind the last of a chain
-module _ (owner owner_after : ℕ → Option ℕ) (who : Option ℕ) (next next_after : List ℕ) (last new : ℕ)
-    (stays : (x : ℕ) → owner x ≡ who → owner_after x ≡ who) (others : (x : ℕ) → (x ≡ last → ⊥) → get_or next_after x 0 ≡ get_or next x 0)
-    (behind : get_or next_after last 0 ≡ new) (fresh : owner new ≡ who → ⊥) (given : owner_after new ≡ who) where
-  -- a cell before the last leads where it led
+-- the cells before the last of a chain lead where they led, where others do
+module _ (next next_after : List ℕ) (last : ℕ) (others : (x : ℕ) → (x ≡ last → ⊥) → get_or next_after x 0 ≡ get_or next x 0) where
   leads : (place n : ℕ) → AreDistinctSteps next place (suc (suc n)) → after next place (suc n) ≡ last → get_or next_after place 0 ≡ get_or next place 0
   unfolding AreDistinctSteps after
   leads place n apart is = others place (λ e. avoided next place (get_or next place 0) (suc n) n apart.0 (omega arith) (is ∙ sym e))
 
+  pub after-before_push : (place n k : ℕ) → AreDistinctSteps next place (suc n) → after next place n ≡ last → k ≤ n → after next_after place k ≡ after next place k
+  unfolding AreDistinctSteps after
+  after-before_push place n zero apart is le = refl
+  after-before_push place zero (suc k) apart is le = absurd (omega arith)
+  after-before_push place (suc n) (suc k) apart is le =
+      ap (λ p. after next_after p k) (leads place n apart is) ∙ after-before_push (get_or next place 0) n k apart.1 is (omega arith)
+
+-- one more cell comes to stand behind the last of a chain
+module _ (owner owner_after : ℕ → Option ℕ) (who : Option ℕ) (next next_after : List ℕ) (last new : ℕ)
+    (stays : (x : ℕ) → owner x ≡ who → owner_after x ≡ who) (others : (x : ℕ) → (x ≡ last → ⊥) → get_or next_after x 0 ≡ get_or next x 0)
+    (behind : get_or next_after last 0 ≡ new) (fresh : owner new ≡ who → ⊥) (given : owner_after new ≡ who) where
   -- the last leads to the new one
   leads_on : (place : ℕ) → after next place 0 ≡ last → get_or next_after place 0 ≡ new
   unfolding after
@@ -110,7 +118,7 @@ module _ (owner owner_after : ℕ → Option ℕ) (who : Option ℕ) (next next_
   owned-push place zero apart is owned = (stays place owned.0, (ap owner_after (leads_on place is) ∙ given, tt))
   owned-push place (suc n) apart is owned = (
     stays place owned.0,
-    subst (λ p. AreOwned owner_after who next_after p (suc (suc n))) (sym (leads place n apart is)) (owned-push (get_or next place 0) n apart.1 is owned.1),
+    subst (λ p. AreOwned owner_after who next_after p (suc (suc n))) (sym (leads next next_after last others place n apart is)) (owned-push (get_or next place 0) n apart.1 is owned.1),
   )
 
   avoids-push : (other place n : ℕ) → AreDistinctSteps next place (suc n) → after next place n ≡ last → Avoids next other place (suc n) → (new ≡ other → ⊥)
@@ -119,7 +127,7 @@ module _ (owner owner_after : ℕ → Option ℕ) (who : Option ℕ) (next next_
   avoids-push other place zero apart is avoids differ = (avoids.0, (λ e. differ (sym (leads_on place is) ∙ e), tt))
   avoids-push other place (suc n) apart is avoids differ = (
     avoids.0,
-    subst (λ p. Avoids next_after other p (suc (suc n))) (sym (leads place n apart is)) (avoids-push other (get_or next place 0) n apart.1 is avoids.1 differ),
+    subst (λ p. Avoids next_after other p (suc (suc n))) (sym (leads next next_after last others place n apart is)) (avoids-push other (get_or next place 0) n apart.1 is avoids.1 differ),
   )
 
   pub apart-push : (place n : ℕ) → AreDistinctSteps next place (suc n) → after next place n ≡ last → AreOwned owner who next place (suc n)
@@ -127,16 +135,16 @@ module _ (owner owner_after : ℕ → Option ℕ) (who : Option ℕ) (next next_
   unfolding Avoids AreDistinctSteps AreOwned after
   apart-push place zero apart is owned = ((λ e. fresh (ap owner (sym (leads_on place is) ∙ e) ∙ owned.0), tt), (tt, tt))
   apart-push place (suc n) apart is owned = (
-    subst (λ p. Avoids next_after place p (suc (suc n))) (sym (leads place n apart is))
+    subst (λ p. Avoids next_after place p (suc (suc n))) (sym (leads next next_after last others place n apart is))
         (avoids-push place (get_or next place 0) n apart.1 is apart.0 (λ e. fresh (ap owner e ∙ owned.0))),
-    subst (λ p. AreDistinctSteps next_after p (suc (suc n))) (sym (leads place n apart is)) (apart-push (get_or next place 0) n apart.1 is owned.1),
+    subst (λ p. AreDistinctSteps next_after p (suc (suc n))) (sym (leads next next_after last others place n apart is)) (apart-push (get_or next place 0) n apart.1 is owned.1),
   )
 
   pub after-push : (place n : ℕ) → AreDistinctSteps next place (suc n) → after next place n ≡ last → after next_after place (suc n) ≡ new
   unfolding AreDistinctSteps after
   after-push place zero apart is = leads_on place is
   after-push place (suc n) apart is =
-      ap (λ p. after next_after p (suc n)) (leads place n apart is) ∙ after-push (get_or next place 0) n apart.1 is
+      ap (λ p. after next_after p (suc n)) (leads next next_after last others place n apart is) ∙ after-push (get_or next place 0) n apart.1 is
 
   pub requests-push : (request request_after : List ℕ) (r : ℕ) → ((x : ℕ) → owner x ≡ who → get_or request_after x 0 ≡ get_or request x 0) → get_or request_after new 0 ≡ r
       → (place n : ℕ) → AreDistinctSteps next place (suc n) → after next place n ≡ last → AreOwned owner who next place (suc n)
@@ -147,7 +155,7 @@ module _ (owner owner_after : ℕ → Option ℕ) (who : Option ℕ) (next next_
       ∙ ap (λ q. get_or request place 0 ∷ q ∷ []) (ap (λ p. get_or request_after p 0) (leads_on place is) ∙ has)
   requests-push request request_after r same has place (suc n) apart is owned =
       ap (λ q. q ∷ requests_in request_after next_after (get_or next_after place 0) (suc (suc n))) (same place owned.0)
-      ∙ ap (λ p. get_or request place 0 ∷ requests_in request_after next_after p (suc (suc n))) (leads place n apart is)
+      ∙ ap (λ p. get_or request place 0 ∷ requests_in request_after next_after p (suc (suc n))) (leads next next_after last others place n apart is)
       ∙ ap (λ l. get_or request place 0 ∷ l) (requests-push request request_after r same has (get_or next place 0) n apart.1 is owned.1)
 
 -- a cell that a chain avoids may change its owner

@@ -9,29 +9,11 @@ use Rattle.kn_seats.specs.Pods.{Pod, pod_at, requests_at_all, with_pod_changed}
 use Rattle.kn_seats.specs.Seats.{State}
 use Rattle.kn_seats.specs.Cells.{IsQueued, IsDequeued}
 use Rattle.kn_seats.specs.Chains.{after, requests_in, Avoids}
-use Rattle.kn_seats.specs.Kept.{IsHeld, IsPlaceOf, IsLine, HasQueue, AreSpare, seen}
+use Rattle.kn_seats.specs.Kept.{IsHeld, IsPlaceOf, IsLine, IsStep, HasQueue, AreSpare, seen}
 use Rattle.kn_seats.proofs.Chains.{owner_at, owned-avoids}
-use Rattle.kn_seats.proofs.Places.{is_named, not_named}
-use Rattle.kn_seats.proofs.Pushed.{Pushed, pushed, line-popped, requests-popped}
-use Rattle.kn_seats.proofs.Held.{HasChanged, here_seen, here_queue, here_queued, held-set, counted-set, changed-set}
-
--- one place has another owner
-pub with_owner : (ℕ → Option ℕ) → ℕ → Option ℕ → ℕ → Option ℕ
-with_owner owner place who x = cond (nat_eq x place) who (owner x)
-
-owner_here : (owner : ℕ → Option ℕ) (place : ℕ) (who : Option ℕ) → with_owner owner place who place ≡ who
-unfolding with_owner
-owner_here owner place who = rw (is_named place place refl) refl
-
-owner_there : (owner : ℕ → Option ℕ) (place : ℕ) (who : Option ℕ) (x : ℕ) → (x ≡ place → ⊥) → with_owner owner place who x ≡ owner x
-unfolding with_owner
-owner_there owner place who x other = rw (not_named x place other) refl
-
-not_both : (owner : ℕ → Option ℕ) (x p : ℕ) → owner x ≡ None → owner x ≡ Some p → ⊥
-not_both owner x p none some = absurd (let e : None ≡ Some p = sym none ∙ some in cc)
-
-same_owner : (owner : ℕ → Option ℕ) (x p q : ℕ) → owner x ≡ Some p → owner x ≡ Some q → q ≡ p
-same_owner owner x p q one other = let e : Some q ≡ Some p = sym other ∙ one in (cc)
+use Rattle.kn_seats.proofs.Pushed.{Pushed, pushed, step-pushed, line-popped, step-popped, requests-popped}
+use Rattle.kn_seats.proofs.Spared.{with_owner, owner_here, owner_there, not_both, same_owner, owned_before, homes_freed, inside_freed, spares_freed, keeps_freed}
+use Rattle.kn_seats.proofs.Held.{HasChanged, mine_here, here_seen, here_queue, here_queued, held-set, counted-set, changed-set}
 
 module _ (trackers : List Tracker) (cells : Cells) (pod_room request_room : ℕ) (held : IsHeld trackers cells pod_room request_room)
     (place : ℕ) (here : Tracker) (within : place < length trackers) (is : here ≡ get_or trackers place here) (y : Tracker) (number : y.number ≡ here.number) where
@@ -48,9 +30,13 @@ module _ (trackers : List Tracker) (cells : Cells) (pod_room request_room : ℕ)
     number = number;
     request = held.request;
     next = held.next;
+    home = held.home;
     spare = held.spare;
+    homes = held.homes;
     inside = held.inside;
     spares = held.spares;
+    mine = λ x owned. subst (λ (q : Queue). IsStep cells.next.items q.first q.count x) (sym queue) (mine_here trackers cells pod_room request_room held place here within is x owned);
+    gains = λ x q other owned. owned;
     queue = subst (λ n. IsLine held.owner (Some n) cells.next.items y.queue.first y.queue.last y.queue.count) (sym number)
         (subst (λ q. IsLine held.owner (Some here.number) cells.next.items q.first q.last q.count) (sym queue) line);
     keeps = λ x q other owned. (owned, refl);
@@ -73,16 +59,21 @@ module _ (trackers : List Tracker) (cells : Cells) (pod_room request_room : ℕ)
   changed-same queue = changed-set trackers cells pod_room request_room held place here within is y cells held.owner (same_cells queue)
 
   -- requests move between its cells
-  pub closed_cells : (cells_after : Cells) → y.queue ≡ here.queue → cells_after.next.items ≡ cells.next.items → cells_after.spare.items ≡ cells.spare.items
-      → cells_after.spares ≡ cells.spares → length cells_after.request.items ≡ length cells.request.items
+  pub closed_cells : (cells_after : Cells) → y.queue ≡ here.queue → cells_after.next.items ≡ cells.next.items → cells_after.home.items ≡ cells.home.items
+      → cells_after.spare.items ≡ cells.spare.items → cells_after.spares ≡ cells.spares → length cells_after.request.items ≡ length cells.request.items
       → ((x : ℕ) → Avoids cells.next.items x here.queue.first here.queue.count → get_or cells_after.request.items x 0 ≡ get_or cells.request.items x 0)
       → HasChanged cells here y cells_after held.owner held.owner request_room
-  closed_cells cells_after queue next spare spares len others = record {
+  closed_cells cells_after queue next home spare spares len others = record {
     number = number;
     request = len ∙ held.request;
     next = ap (λ (l : List ℕ). length l) next ∙ held.next;
+    home = ap (λ (l : List (Option ℕ)). length l) home ∙ held.home;
     spare = ap (λ (l : List ℕ). length l) spare ∙ held.spare;
+    homes = λ x. ap (λ (l : List (Option ℕ)). get_or l x None) home ∙ held.homes x;
     inside = held.inside;
+    mine = λ x owned. subst (λ l. IsStep l y.queue.first y.queue.count x) (sym next)
+        (subst (λ (q : Queue). IsStep cells.next.items q.first q.count x) (sym queue) (mine_here trackers cells pod_room request_room held place here within is x owned));
+    gains = λ x q other owned. owned;
     spares = subst (λ l. AreSpare held.owner l cells_after.spares request_room) (sym spare)
         (subst (λ n. AreSpare held.owner cells.spare.items n request_room) (sym spares) held.spares);
     queue = subst (λ l. HasQueue held.owner l y) (sym next)
@@ -111,7 +102,7 @@ module _ (trackers : List Tracker) (cells : Cells) (pod_room request_room : ℕ)
       (omega (arith, held.inside here.queue.first here.number at, held.next), at)
 
   -- one more is queued
-  module _ (r : ℕ) (cells_after : Cells) (queued : IsQueued r here.queue cells y.queue cells_after) where
+  module _ (r : ℕ) (cells_after : Cells) (queued : IsQueued here.number r here.queue cells y.queue cells_after) where
     abbrev pub owner_pushed : ℕ → Option ℕ
     owner_pushed = with_owner held.owner y.queue.last (Some here.number)
 
@@ -171,16 +162,43 @@ module _ (trackers : List Tracker) (cells : Cells) (pod_room request_room : ℕ)
       | inr other ↦ held.inside x p (sym (owner_there held.owner y.queue.last (Some here.number) x other) ∙ owned)
     ]
 
+    homes_pushed : (x : ℕ) → get_or (set cells.home.items y.queue.last (Some here.number)) x None ≡ owner_pushed x
+    homes_pushed x = elim (cases_eq x y.queue.last) [
+      | inl same ↦ ap (λ k. get_or (set cells.home.items y.queue.last (Some here.number)) k None) same
+          ∙ get_or-set_same cells.home.items y.queue.last (Some here.number) None (omega (arith, new_inside, held.home))
+          ∙ sym (ap owner_pushed same ∙ owner_here held.owner y.queue.last (Some here.number))
+      | inr other ↦ get_or-set_other cells.home.items y.queue.last x (Some here.number) None other ∙ held.homes x
+          ∙ sym (owner_there held.owner y.queue.last (Some here.number) x other)
+    ]
+
+    -- its cells are those that it had, and the new one
+    mine_pushed : (x : ℕ) → owner_pushed x ≡ Some here.number → IsStep cells_after.next.items y.queue.first (suc here.queue.count) x
+    mine_pushed x owned = elim (cases_eq x y.queue.last) [
+      | inl same ↦ record { steps = here.queue.count; within = omega arith; reached = pushed_line.0.ends here.queue.count (omega arith) ∙ sym same }
+      | inr other ↦ step-pushed cells.next.items cells_after.next.items here.queue.last y.queue.last held.owner (Some here.number) here.queue.first y.queue.first here.queue.count x
+          queued.behind line (mine_here trackers cells pod_room request_room held place here within is x (sym (owner_there held.owner y.queue.last (Some here.number) x other) ∙ owned))
+    ]
+
+    gains_pushed : (x q : ℕ) → (q ≡ here.number → ⊥) → owner_pushed x ≡ Some q → held.owner x ≡ Some q
+    gains_pushed x q differs owned = elim (cases_eq x y.queue.last) [
+      | inl same ↦ absurd (differs (same_owner owner_pushed x here.number q (ap owner_pushed same ∙ owner_here held.owner y.queue.last (Some here.number)) owned))
+      | inr other ↦ sym (owner_there held.owner y.queue.last (Some here.number) x other) ∙ owned
+    ]
+
     pub pushed_cells : HasChanged cells here y cells_after held.owner owner_pushed request_room
     pushed_cells = record {
       number = number;
       request = ap (λ (l : List ℕ). length l) queued.request ∙ length-set cells.request.items y.queue.last r ∙ held.request;
       next = length_next here.queue.count refl ∙ held.next;
+      home = ap (λ (l : List (Option ℕ)). length l) queued.home ∙ length-set cells.home.items y.queue.last (Some here.number) ∙ held.home;
       spare = ap (λ (l : List ℕ). length l) queued.spare ∙ held.spare;
+      homes = λ x. ap (λ (l : List (Option ℕ)). get_or l x None) queued.home ∙ homes_pushed x;
       inside = inside_pushed;
       spares = subst (λ l. AreSpare owner_pushed l cells_after.spares request_room) (sym queued.spare) spares_pushed;
       queue = subst (λ n. IsLine owner_pushed (Some n) cells_after.next.items y.queue.first y.queue.last y.queue.count) (sym number)
           (subst (λ n. IsLine owner_pushed (Some here.number) cells_after.next.items y.queue.first y.queue.last n) longer pushed_line.0);
+      mine = λ x owned. subst (λ n. IsStep cells_after.next.items y.queue.first n x) longer (mine_pushed x owned);
+      gains = gains_pushed;
       keeps = λ x q other owned. (stays x q owned, next_same x q other owned here.queue.count refl);
       same = λ x q other owned. request_same x q owned;
     }
@@ -191,79 +209,54 @@ module _ (trackers : List Tracker) (cells : Cells) (pod_room request_room : ℕ)
 
   -- the first is taken out
   module _ (cells_after : Cells) (taken : IsDequeued here.queue cells y.queue cells_after) where
-    abbrev pub owner_popped : ℕ → Option ℕ
-    owner_popped = with_owner held.owner here.queue.first None
-
     shorter : here.queue.count ≡ suc y.queue.count
     shorter = let e = taken.count in omega arith
 
     first_mine : held.owner here.queue.first ≡ Some here.number
     first_mine = (first_inside (let e = shorter in omega arith)).1
 
+    some : 0 < here.queue.count
+    some = let e = shorter in omega arith
+
+    abbrev pub owner_popped : ℕ → Option ℕ
+    owner_popped = with_owner held.owner here.queue.first None
+
+    -- what is left of its cells
+    mine_popped : (x : ℕ) → owner_popped x ≡ Some here.number → IsStep cells.next.items (get_or cells.next.items here.queue.first 0) y.queue.count x
+    mine_popped x owned =
+        let was = owned_before trackers cells pod_room request_room held place here within is here.queue.first first_mine some x here.number owned in
+        let step = subst (λ n. IsStep cells.next.items here.queue.first n x) shorter (mine_here trackers cells pod_room request_room held place here within is x was.1) in
+        step-popped cells.next.items here.queue.first y.queue.count x was.0 step.steps step.within step.reached
+
     popped_line : IsLine owner_popped (Some here.number) cells.next.items (get_or cells.next.items here.queue.first 0) here.queue.last y.queue.count
     popped_line = line-popped held.owner owner_popped (Some here.number) cells.next.items here.queue.first here.queue.last y.queue.count
         (λ x other owned. owner_there held.owner here.queue.first None x other ∙ owned)
         (subst (λ n. IsLine held.owner (Some here.number) cells.next.items here.queue.first here.queue.last n) shorter line)
-
-    room_left : cells.spares < length cells.spare.items
-    room_left =
-        let some = shorter in
-        omega (arith, held.spare, here_queued trackers cells pod_room request_room held place here within is)
-
-    abbrev spare_popped : List ℕ
-    spare_popped = set cells.spare.items cells.spares here.queue.first
-
-    spare_old : (i : ℕ) → i < cells.spares → get_or spare_popped i 0 ≡ get_or cells.spare.items i 0
-    spare_old i lt = get_or-set_other cells.spare.items cells.spares i here.queue.first 0 (λ e. omega arith)
-
-    spare_new : (i : ℕ) → i ≡ cells.spares → get_or spare_popped i 0 ≡ here.queue.first
-    spare_new i same = ap (λ k. get_or spare_popped k 0) same ∙ get_or-set_same cells.spare.items cells.spares here.queue.first 0 room_left
-
-    first_free : (x : ℕ) → held.owner x ≡ None → owner_popped x ≡ None
-    unfolding with_owner
-    first_free x free = elim (nat_eq x here.queue.first) as (λ (b : Bool). cond b None (held.owner x) ≡ None) [ true ↦ refl | false ↦ free ]
-
-    spares_popped : AreSpare owner_popped spare_popped (cells.spares + 1) request_room
-    spares_popped = record {
-      inside = λ i lt. elim (cases_eq i cells.spares) [
-        | inl same ↦ rw (spare_new i same) (held.inside here.queue.first here.number first_mine)
-        | inr other ↦ rw (spare_old i (omega arith)) (held.spares.inside i (omega arith))
-      ];
-      free = λ i lt. elim (cases_eq i cells.spares) [
-        | inl same ↦ ap owner_popped (spare_new i same) ∙ owner_here held.owner here.queue.first None
-        | inr other ↦ ap owner_popped (spare_old i (omega arith)) ∙ first_free (get_or cells.spare.items i 0) (held.spares.free i (omega arith))
-      ];
-      apart = λ i j before lt alike. elim (cases_eq j cells.spares) [
-        | inl same ↦ not_both held.owner here.queue.first here.number
-            (ap held.owner (sym (spare_new j same) ∙ sym alike ∙ spare_old i (omega arith)) ∙ held.spares.free i (omega arith)) first_mine
-        | inr other ↦ held.spares.apart i j before (omega arith) (sym (spare_old i (omega arith)) ∙ alike ∙ spare_old j (omega arith))
-      ];
-    }
-
-    inside_popped : (x p : ℕ) → owner_popped x ≡ Some p → x < request_room
-    inside_popped x p owned = elim (cases_eq x here.queue.first) [
-      | inl same ↦ absurd (not_both owner_popped x p (ap owner_popped same ∙ owner_here held.owner here.queue.first None) owned)
-      | inr other ↦ held.inside x p (sym (owner_there held.owner here.queue.first None x other) ∙ owned)
-    ]
-
-    popped_keeps : (x q : ℕ) → (q ≡ here.number → ⊥) → held.owner x ≡ Some q → owner_popped x ≡ Some q
-    popped_keeps x q other owned =
-        owner_there held.owner here.queue.first None x (λ same. other (same_owner held.owner x here.number q (ap held.owner same ∙ first_mine) owned)) ∙ owned
 
     pub popped_cells : HasChanged cells here y cells_after held.owner owner_popped request_room
     popped_cells = record {
       number = number;
       request = ap (λ (l : List ℕ). length l) taken.request ∙ held.request;
       next = ap (λ (l : List ℕ). length l) taken.next ∙ held.next;
+      home = ap (λ (l : List (Option ℕ)). length l) taken.home ∙ length-set cells.home.items here.queue.first None ∙ held.home;
       spare = ap (λ (l : List ℕ). length l) taken.spare ∙ length-set cells.spare.items cells.spares here.queue.first ∙ held.spare;
-      inside = inside_popped;
+      homes = λ x. ap (λ (l : List (Option ℕ)). get_or l x None) taken.home
+          ∙ homes_freed trackers cells pod_room request_room held place here within is here.queue.first first_mine some x;
+      inside = inside_freed trackers cells pod_room request_room held place here within is here.queue.first first_mine some;
       spares = subst (λ l. AreSpare owner_popped l cells_after.spares request_room) (sym taken.spare)
-          (subst (λ n. AreSpare owner_popped spare_popped n request_room) (sym taken.spares) spares_popped);
+          (subst (λ n. AreSpare owner_popped (set cells.spare.items cells.spares here.queue.first) n request_room) (sym taken.spares)
+          (spares_freed trackers cells pod_room request_room held place here within is here.queue.first first_mine some));
       queue = subst (λ l. HasQueue owner_popped l y) (sym taken.next)
           (subst (λ n. IsLine owner_popped (Some n) cells.next.items y.queue.first y.queue.last y.queue.count) (sym number)
           (subst (λ f. IsLine owner_popped (Some here.number) cells.next.items f y.queue.last y.queue.count) (sym taken.first)
           (subst (λ e. IsLine owner_popped (Some here.number) cells.next.items (get_or cells.next.items here.queue.first 0) e y.queue.count) (sym taken.last) popped_line)));
-      keeps = λ x q other owned. (popped_keeps x q other owned, ap (λ (l : List ℕ). get_or l x 0) taken.next);
+      mine = λ x owned. subst (λ l. IsStep l y.queue.first y.queue.count x) (sym taken.next)
+          (subst (λ f. IsStep cells.next.items f y.queue.count x) (sym taken.first) (mine_popped x owned));
+      gains = λ x q other owned. (owned_before trackers cells pod_room request_room held place here within is here.queue.first first_mine some x q owned).1;
+      keeps = λ x q other owned. (
+        keeps_freed trackers cells pod_room request_room held place here within is here.queue.first first_mine some x q other owned,
+        ap (λ (l : List ℕ). get_or l x 0) taken.next,
+      );
       same = λ x q other owned. ap (λ (l : List ℕ). get_or l x 0) taken.request;
     }
 

@@ -1,5 +1,5 @@
 -- The pods and their cells after one pod and its queue change.
-use Rattle.std.proofs.Common.{◌≡◌, ℕ, zero, suc, ◌+◌, ◌<◌, ◌≤◌, inl, inr, List, [], ◌∷◌, set, get_or, length, refl, sym, ap, subst, ◌∙◌, arith, get_or-set_other, get_or-set_same, length-set, Option, Some}
+use Rattle.std.proofs.Common.{◌≡◌, ℕ, zero, suc, ◌+◌, ◌<◌, ◌≤◌, inl, inr, List, [], ◌∷◌, set, get_or, length, refl, sym, ap, subst, ◌∙◌, arith, get_or-set_other, get_or-set_same, length-set, Option, Some, None}
 use Rattle.std.specs.Prelude.{map}
 use Rattle.std.proofs.Math.ListN.{get_or-map}
 use Rattle.std.proofs.lemmas.Bool.{cases_eq}
@@ -8,7 +8,8 @@ use Rattle.std.proofs.lemmas.List.Sums.{sum_by-set, get_or-le-sum_by}
 use Rattle.kn_seats.specs.declared.cells.Cells.{Cells}
 use Rattle.kn_seats.specs.declared.tracker.Tracker.{Tracker}
 use Rattle.kn_seats.specs.Pods.{Pod, requests_at, requests_at_all, with_pod_changed}
-use Rattle.kn_seats.specs.Kept.{IsKept, IsHeld, IsPlaceOf, HasQueue, AreSpare, seen}
+use Rattle.kn_seats.specs.Chains.{AreOwned}
+use Rattle.kn_seats.specs.Kept.{IsKept, IsHeld, IsPlaceOf, IsStep, IsFound, HasQueue, AreSpare, seen}
 use Rattle.kn_seats.proofs.Chains.{length_requests, apart-kept, owned-kept, owned-front, after-kept, requests-kept}
 use Rattle.kn_seats.proofs.Kept.{kept-set}
 
@@ -35,10 +36,14 @@ pub record HasChanged (cells : Cells) (here y : Tracker) (cells_after : Cells) (
   pub number : y.number ≡ here.number
   pub request : length cells_after.request.items ≡ room
   pub next : length cells_after.next.items ≡ room
+  pub home : length cells_after.home.items ≡ room
   pub spare : length cells_after.spare.items ≡ room
+  pub homes : (x : ℕ) → get_or cells_after.home.items x None ≡ owner_after x
   pub inside : (x p : ℕ) → owner_after x ≡ Some p → x < room
   pub spares : AreSpare owner_after cells_after.spare.items cells_after.spares room
   pub queue : HasQueue owner_after cells_after.next.items y
+  pub mine : (x : ℕ) → owner_after x ≡ Some here.number → IsStep cells_after.next.items y.queue.first y.queue.count x
+  pub gains : (x q : ℕ) → (q ≡ here.number → ⊥) → owner_after x ≡ Some q → owner x ≡ Some q
   pub keeps : (x q : ℕ) → (q ≡ here.number → ⊥) → owner x ≡ Some q → (owner_after x ≡ Some q) × (get_or cells_after.next.items x 0 ≡ get_or cells.next.items x 0)
   pub same : (x q : ℕ) → (q ≡ here.number → ⊥) → owner x ≡ Some q → get_or cells_after.request.items x 0 ≡ get_or cells.request.items x 0
 
@@ -81,6 +86,16 @@ module _ (trackers : List Tracker) (cells : Cells) (pod_room request_room : ℕ)
       let above : place < i → ⊥ = λ l. omega (arith, held.kept.ascending place i e l (omega arith), number_at i d, number_at place d) in
       other (grind (arith, below, above))
 
+  -- what belongs to it is in its queue
+  pub mine_here : (x : ℕ) → held.owner x ≡ Some here.number → IsStep cells.next.items here.queue.first here.queue.count x
+  mine_here x owned =
+      let found = held.found x here.number owned in
+      let there : here ≡ found.tracker = elim (cases_eq found.place place) [
+        | inl same ↦ is ∙ ap (λ k. get_or trackers k here) (sym same) ∙ found.stands here
+        | inr other ↦ absurd (differs found.place here found.inside other (ap (λ (t : Tracker). t.number) (found.stands here) ∙ found.number))
+      ] in
+      subst (λ (t : Tracker). IsStep cells.next.items t.queue.first t.queue.count x) (sym there) found.step
+
   module _ (y : Tracker) (cells_after : Cells) (owner_after : ℕ → Option ℕ) (changed : HasChanged cells here y cells_after held.owner owner_after request_room) where
     seen_same : (i : ℕ) (d : Tracker) → i < length trackers → (i ≡ place → ⊥) → seen cells_after (get_or trackers i d) ≡ seen cells (get_or trackers i d)
     seen_same i d lt other =
@@ -114,6 +129,42 @@ module _ (trackers : List Tracker) (cells : Cells) (pod_room request_room : ℕ)
           (sym (get_or-set_other trackers place i y d other)) (queue_kept i d (omega (arith, length-set trackers place y)) other)
     ]
 
+    found_other : (x p : ℕ) → (p ≡ here.number → ⊥) → owner_after x ≡ Some p → IsFound (set trackers place y) cells_after.next.items x p
+    found_other x p other owned =
+        let found = held.found x p (changed.gains x p other owned) in
+        let t = found.tracker in
+        let differ : t.number ≡ here.number → ⊥ = λ e. other (sym found.number ∙ e) in
+        let away : found.place ≡ place → ⊥ = λ same. differ (ap (λ (s : Tracker). s.number) (sym (found.stands here) ∙ ap (λ k. get_or trackers k here) same ∙ sym is)) in
+        let all : AreOwned held.owner (Some t.number) cells.next.items t.queue.first t.queue.count =
+        (subst (λ s. HasQueue held.owner cells.next.items s) (found.stands here) (held.queues found.place here found.inside)).owned in
+        let steps = found.step.steps in
+        record {
+          place = found.place;
+          inside = omega (arith, found.inside, length-set trackers place y);
+          tracker = t;
+          stands = λ d. get_or-set_other trackers place found.place y d away ∙ found.stands d;
+          number = found.number;
+          step = record {
+            steps = steps;
+            within = found.step.within;
+            reached = after-kept held.owner owner_after (Some t.number) cells.next.items cells_after.next.items (λ z mine. changed.keeps z t.number differ mine) t.queue.first steps
+                (owned-front held.owner (Some t.number) cells.next.items t.queue.first steps t.queue.count (let e = found.step.within in omega arith) all) ∙ found.step.reached;
+          };
+        }
+
+    found_after : (x p : ℕ) → owner_after x ≡ Some p → IsFound (set trackers place y) cells_after.next.items x p
+    found_after x p owned = elim (cases_eq p here.number) [
+      | inl same ↦ record {
+          place = place;
+          inside = omega (arith, within, length-set trackers place y);
+          tracker = y;
+          stands = λ d. get_or-set_same trackers place y d within;
+          number = changed.number ∙ sym same;
+          step = changed.mine x (owned ∙ ap (λ q. Some q) same);
+        }
+      | inr other ↦ found_other x p other owned
+    ]
+
     pub held-set : y.running + y.queue.count + requests_at_all (map (seen cells) trackers) ≤ request_room + (here.running + here.queue.count)
         → cells_after.spares + y.queue.count ≡ cells.spares + here.queue.count → IsHeld (set trackers place y) cells_after pod_room request_room
     held-set fits counts =
@@ -125,8 +176,11 @@ module _ (trackers : List Tracker) (cells : Cells) (pod_room request_room : ℕ)
               held.kept within_seen here_seen changed.number (omega arith) (omega arith));
           request = changed.request;
           next = changed.next;
+          home = changed.home;
           spare = changed.spare;
           owner = owner_after;
+          homes = changed.homes;
+          found = found_after;
           inside = changed.inside;
           spares = changed.spares;
           queues = queues_after;

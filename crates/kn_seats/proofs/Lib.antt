@@ -1,9 +1,12 @@
 pub mod Chains
 pub mod Places
 pub mod Closing
+pub mod Unlinked
 pub mod Pushed
 pub mod Kept
 pub mod Held
+pub mod Spared
 pub mod Changes
+pub mod Cut
 pub mod Unqueued
 pub mod Listed

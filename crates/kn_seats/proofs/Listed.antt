@@ -1,9 +1,10 @@
 -- Seats without pods, a pod that comes and one that goes.
-use Rattle.std.proofs.Common.{◌≡◌, ℕ, zero, suc, ◌+◌, ◌<◌, ◌≤◌, inl, inr, List, [], ◌∷◌, ◌++◌, get_or, length, refl, sym, ap, subst, ◌∙◌, arith, false, Option, Some, None}
+use Rattle.std.proofs.Common.{◌≡◌, ℕ, zero, suc, ◌+◌, ◌-◌, ◌<◌, ◌≤◌, inl, inr, List, [], ◌∷◌, ◌++◌, get_or, length, refl, sym, ap, subst, ◌∙◌, arith, false, Option, Some, None}
 use Rattle.std.specs.Prelude.{map, All}
 use Rattle.std.specs.List.{remove}
 use Rattle.std.proofs.lemmas.Bool.{cases_eq, cases_lt}
-use Rattle.std.proofs.lemmas.List.{length-map, length_push, map_push, get_or_push, get_or_append_left}
+use Rattle.std.proofs.Math.ListN.{get_or-map}
+use Rattle.std.proofs.lemmas.List.{get_or_default, length-map, length_push, map_push, get_or_push, get_or_append_left}
 use Rattle.std.proofs.lemmas.List.Edits.{length-remove, get_or-remove_below, get_or-remove_above}
 use Rattle.std.proofs.lemmas.List.Elements.{All-get_or}
 use Rattle.std.proofs.lemmas.List.Quantifiers.{all_pairs_push}
@@ -13,7 +14,8 @@ use Rattle.kn_seats.specs.declared.tracker.Tracker.{Tracker}
 use Rattle.kn_seats.specs.Pods.{Pod, idle_pod, requests_at, requests_at_all}
 use Rattle.kn_seats.specs.Cells.{IsNew}
 use Rattle.kn_seats.specs.Chains.{requests_in, AreDistinctSteps, AreOwned}
-use Rattle.kn_seats.specs.Kept.{IsKept, IsHeld, IsLine, HasQueue, seen}
+use Rattle.kn_seats.specs.Kept.{IsKept, IsHeld, IsFound, IsLine, HasQueue, seen}
+use Rattle.kn_seats.proofs.Chains.{length_requests}
 use Rattle.kn_seats.proofs.Kept.{kept-remove}
 
 pub held-new : (cells : Cells) (pod_room request_room : ℕ) → IsNew request_room cells → request_room ≤ 20000 → IsHeld [] cells pod_room request_room
@@ -27,8 +29,11 @@ held-new cells pod_room request_room new most = record {
   };
   request = new.request;
   next = new.next;
+  home = new.home;
   spare = new.spare;
   owner = λ x. None;
+  homes = new.nowhere;
+  found = λ x p e. absurd (let h : None ≡ Some p = e in cc);
   inside = λ x p e. absurd (let h : None ≡ Some p = e in cc);
   spares = record {
     inside = λ i lt. let within : i < request_room = omega (arith, new.spares) in omega (arith, new.places i within);
@@ -74,8 +79,18 @@ module _ (trackers : List Tracker) (cells : Cells) (pod_room request_room : ℕ)
         (kept-add (map (seen cells) trackers) (idle_pod p limit) cells.spares pod_room request_room held.kept (omega (arith, length-map trackers (seen cells))) below refl);
     request = held.request;
     next = held.next;
+    home = held.home;
     spare = held.spare;
     owner = held.owner;
+    homes = held.homes;
+    found = λ x q owned. let found = held.found x q owned in record {
+      place = found.place;
+      inside = omega (arith, found.inside, length_push trackers (idle p limit));
+      tracker = found.tracker;
+      stands = λ d. get_or_append_left trackers (idle p limit ∷ []) d found.place found.inside ∙ found.stands d;
+      number = found.number;
+      step = found.step;
+    };
     inside = held.inside;
     spares = held.spares;
     queues = λ i d lt. elim (cases_eq i (length trackers)) [
@@ -106,14 +121,50 @@ module _ (trackers : List Tracker) (cells : Cells) (pod_room request_room : ℕ)
       let sums = sum_by-remove requests_at (map (seen cells) trackers) place d within_seen in
       omega arith
 
+  -- a cell that is in a queue is in that of a pod that stays
+  found_left : (d : Pod) → requests_at (get_or (map (seen cells) trackers) place d) ≡ 0 → (x q : ℕ) → IsFound trackers cells.next.items x q → IsFound (remove trackers place) cells.next.items x q
+  found_left d none x q found =
+      let t = found.tracker in
+      let fewer = length-remove trackers place within in
+      let some = found.step.within in
+      let empty : t.queue.count ≡ 0 → ⊥ = λ e. omega arith in
+      let away : found.place ≡ place → ⊥ = λ same.
+          let here : seen cells t ≡ get_or (map (seen cells) trackers) place d =
+          ap (seen cells) (sym (found.stands t)) ∙ sym (get_or-map (seen cells) trackers found.place t) ∙ ap (λ k. get_or (map (seen cells) trackers) k (seen cells t)) same
+          ∙ get_or_default (map (seen cells) trackers) place (seen cells t) d within_seen in
+          let at = ap requests_at here in
+          empty (omega (arith, none, at, length_requests cells.request.items cells.next.items t.queue.first t.queue.count)) in
+      elim (cases_lt found.place place) [
+        | inl below ↦ record {
+            place = found.place;
+            inside = omega arith;
+            tracker = t;
+            stands = λ e. get_or-remove_below trackers place e found.place below within ∙ found.stands e;
+            number = found.number;
+            step = found.step;
+          }
+        | inr above ↦ let less : place < found.place = grind (arith, above, away) in
+          let same : found.place - 1 + 1 ≡ found.place = omega arith in record {
+            place = found.place - 1;
+            inside = omega (arith, found.inside);
+            tracker = t;
+            stands = λ e. get_or-remove_above trackers place e (found.place - 1) (omega arith) within ∙ ap (λ k. get_or trackers k e) same ∙ found.stands e;
+            number = found.number;
+            step = found.step;
+          }
+      ]
+
   pub held-remove : (d : Pod) → requests_at (get_or (map (seen cells) trackers) place d) ≡ 0 → IsHeld (remove trackers place) cells pod_room request_room
   held-remove d none = record {
     kept = subst (λ l. IsKept l cells.spares pod_room request_room) (sym seen-remove)
         (kept-remove (map (seen cells) trackers) place d cells.spares pod_room request_room held.kept within_seen none);
     request = held.request;
     next = held.next;
+    home = held.home;
     spare = held.spare;
     owner = held.owner;
+    homes = held.homes;
+    found = λ x q owned. found_left d none x q (held.found x q owned);
     inside = held.inside;
     spares = held.spares;
     queues = λ i e lt.

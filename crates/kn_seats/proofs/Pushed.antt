@@ -1,8 +1,8 @@
 -- A queue with one request more, and one with the first request less.
 use Rattle.std.proofs.Common.{◌≡◌, ℕ, zero, suc, ◌<◌, List, [], ◌∷◌, ◌++◌, set, get_or, length, drop, refl, sym, ap, subst, ◌∙◌, arith, get_or-set_other, get_or-set_same, Option}
 use Rattle.kn_seats.specs.Chains.{after, requests_in, Avoids, AreDistinctSteps, AreOwned}
-use Rattle.kn_seats.specs.Kept.{IsLine}
-use Rattle.kn_seats.proofs.Chains.{owned-push, apart-push, after-push, requests-push, owned-without}
+use Rattle.kn_seats.specs.Kept.{IsLine, IsStep}
+use Rattle.kn_seats.proofs.Chains.{after-before_push, owned-push, apart-push, after-push, requests-push, owned-without}
 
 -- the last of a line of so many
 line-last : (owner : ℕ → Option ℕ) (who : Option ℕ) (next : List ℕ) (first last n : ℕ) → AreDistinctSteps next first (suc n) → AreOwned owner who next first (suc n)
@@ -47,6 +47,27 @@ module _ (owner owner_after : ℕ → Option ℕ) (who : Option ℕ) (request re
   pushed first first_after (suc n) alone behind inside line =
       let some : 0 < suc n = omega arith in
       subst (λ f. Pushed first f (suc n)) (sym (behind some).0) (pushed-behind first n (inside some) (behind some).1 line)
+
+-- a cell of a queue that gets one more
+pub step-pushed : (next next_after : List ℕ) (last new : ℕ) (owner : ℕ → Option ℕ) (who : Option ℕ) (first first_after count x : ℕ)
+    → (0 < count → (first_after ≡ first) × (next_after ≡ set next last new)) → IsLine owner who next first last count → IsStep next first count x
+    → IsStep next_after first_after (suc count) x
+step-pushed next next_after last new owner who first first_after zero x behind line step = absurd (let e = step.within in omega arith)
+step-pushed next next_after last new owner who first first_after (suc n) x behind line step =
+    let some : 0 < suc n = omega arith in
+    let others : (z : ℕ) → (z ≡ last → ⊥) → get_or next_after z 0 ≡ get_or next z 0 = λ z other. ap (λ l. get_or l z 0) (behind some).1 ∙ get_or-set_other next last z new 0 other in
+    let e = step.within in record {
+      steps = step.steps;
+      within = omega arith;
+      reached = ap (λ f. after next_after f step.steps) (behind some).0
+          ∙ after-before_push next next_after last others first n step.steps line.apart (line.ends n (omega arith)) (omega arith) ∙ step.reached;
+    }
+
+-- a cell of a queue that loses its first one
+pub step-popped : (next : List ℕ) (first count x : ℕ) → (x ≡ first → ⊥) → (k : ℕ) → k < suc count → after next first k ≡ x → IsStep next (get_or next first 0) count x
+unfolding after
+step-popped next first count x other zero lt reached = absurd (other (sym reached))
+step-popped next first count x other (suc k) lt reached = record { steps = k; within = omega arith; reached = reached }
 
 -- a line without its first cell
 pub line-popped : (owner owner_after : ℕ → Option ℕ) (who : Option ℕ) (next : List ℕ) (first last count : ℕ) → ((x : ℕ) → (x ≡ first → ⊥) → owner x ≡ who → owner_after x ≡ who)

@@ -48,13 +48,31 @@ pub record AreSpare (owner : ℕ → Option ℕ) (spare : List ℕ) (spares room
   pub free : (i : ℕ) → i < spares → owner (slice_index spare i) ≡ None
   pub apart : (i j : ℕ) → i < j → j < spares → slice_index spare i ≡ slice_index spare j → ⊥
 
+-- so many steps from a place on, one leads to this one
+pub record IsStep (next : List ℕ) (first count x : ℕ) : Type 0 where
+  pub steps : ℕ
+  pub within : steps < count
+  pub reached : after next first steps ≡ x
+
+-- a pod of this number is there, and in its queue this cell
+pub record IsFound (trackers : List Tracker) (next : List ℕ) (x p : ℕ) : Type 0 where
+  pub place : ℕ
+  pub inside : place < length trackers
+  pub tracker : Tracker
+  pub stands : (d : Tracker) → slice_index_or trackers place d ≡ tracker
+  pub number : tracker.number ≡ p
+  pub step : IsStep next tracker.queue.first tracker.queue.count x
+
 -- the pods as callers see them are kept, and each cell is spare or belongs to one pod, in whose queue it stands once
 pub record IsHeld (trackers : List Tracker) (cells : Cells) (pod_room request_room : ℕ) : Type 0 where
   pub kept : IsKept (map (seen cells) trackers) cells.spares pod_room request_room
   pub request : length cells.request.items ≡ request_room
   pub next : length cells.next.items ≡ request_room
+  pub home : length cells.home.items ≡ request_room
   pub spare : length cells.spare.items ≡ request_room
   pub owner : ℕ → Option ℕ
+  pub homes : (x : ℕ) → slice_index_or cells.home.items x None ≡ owner x
+  pub found : (x p : ℕ) → owner x ≡ Some p → IsFound trackers cells.next.items x p
   pub inside : (x p : ℕ) → owner x ≡ Some p → x < request_room
   pub spares : AreSpare owner cells.spare.items cells.spares request_room
   pub queues : (i : ℕ) (d : Tracker) → i < length trackers → HasQueue owner cells.next.items (slice_index_or trackers i d)

@@ -1,5 +1,5 @@
 -- Pods as their trackers know them: the requests that run at each, and those that are queued there in order.
-use Rattle.std.specs.Prelude.{ℕ, Bool, false, not, ◌+◌, ◌*◌, ◌&&◌, ◌||◌, ◌==◌, nat_lt, nat_le, List, [], ◌∷◌, length, map, filter, find, sum_by, unwrap_or, if◌then◌else◌}
+use Rattle.std.specs.Prelude.{◌≡◌, ℕ, Bool, false, not, ◌+◌, ◌*◌, ◌&&◌, ◌||◌, ◌==◌, nat_lt, nat_le, List, [], ◌∷◌, length, map, filter, find, sum_by, unwrap_or, if◌then◌else◌}
 use Rattle.std.specs.List.{list_any}
 
 -- a pod: its limit, how many run there, and the requests that are queued there in order
@@ -50,3 +50,7 @@ without_pod p pods = filter (λ pod. not (pod.number == p)) pods
 abbrev pub without_request : ℕ → List ℕ → List ℕ
 without_request r [] = []
 without_request r (q ∷ queued) = if q == r then queued else q ∷ without_request r queued
+
+-- one of the requests is r, and only one
+abbrev pub StandsOnce : ℕ → List ℕ → Type 0
+StandsOnce r queued = length (filter (λ q. not (r == q)) queued) + 1 ≡ length queued

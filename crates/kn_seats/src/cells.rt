@@ -1,23 +1,25 @@
 //! Queues whose cells were made before, so that no change of one takes memory.
-ghost use Rattle.std.specs.Prelude.{◌≡◌, ℕ, ◌+◌, ◌-◌, ◌^◌, ◌<◌, ◌≤◌, drop, length, slice_index, Contains, IfOk};
+ghost use Rattle.std.specs.Prelude.{◌≡◌, ℕ, ◌+◌, ◌-◌, ◌^◌, ◌<◌, ◌≤◌, drop, length, slice_index, slice_index_or, Contains, IfOk, IsTrue, None};
 ghost use Rattle.kn_seats.specs.Pods.{without_request};
 ghost use Rattle.kn_seats.specs.Chains.{after, requests_in, Avoids, AreDistinctSteps};
 
 use std::alloc::{AllocError, Global};
 use std::mem;
 
-/// Cells for requests. What stands at one place of `request` and `next` is one cell: its request, and the place of
-/// the cell behind it. The first `spares` of `spare` are the places of the cells that are in no queue.
+/// Cells for requests. What stands at one place of `request`, `next` and `home` is one cell: its request, the place of the
+/// cell behind it, and the pod in whose queue it is, if it is in one. The first `spares` of `spare` are the places of the cells
+/// that are in no queue.
 #[derive(Drop)]
 pub struct Cells {
     pub request: Vec<u64>,
     pub next: Vec<usize>,
+    pub home: Vec<Option<u64>>,
     pub spare: Vec<usize>,
     pub spares: usize,
 }
 
 impl Cells {
-    ghost use Rattle.kn_seats.specs.Cells.{IsNew};
+    ghost use Rattle.kn_seats.specs.Cells.{IsNew, Leads};
 
     /// So many spare cells.
     pub fn new(alloc: Global, count: usize) -> Result<Cells, AllocError>
@@ -26,10 +28,37 @@ impl Cells {
         Ok(Cells {
             request: vec![in alloc; 0; count]?,
             next: vec![in alloc; 0; count]?,
+            home: no_homes(alloc, count)?,
             spare: (0..count).collect(alloc)?,
             spares: count,
         })
     }
+
+    /// Whether the cell at this place is in a pod's queue, and leads to one with this request.
+    pub fn leads(&self, place: usize, p: u64, r: u64) -> bool
+        ensures { IsTrue result → Leads self.now place p r }
+    {
+        if place >= self.home.len() || place >= self.next.len() {
+            return false;
+        }
+        let behind = self.next[place];
+        if behind >= self.request.len() || self.request[behind] != r {
+            return false;
+        }
+        match self.home[place] {
+            Some(home) => home == p,
+            None => false,
+        }
+    }
+}
+
+/// Cells of no pod.
+fn no_homes(alloc: Global, count: usize) -> Result<Vec<Option<u64>>, AllocError>
+    ensures len { IfOk result (λ homes. length homes.items ≡ count) }
+    ensures none { IfOk result (λ homes. (x : ℕ) → slice_index_or homes.items x None ≡ None) }
+{
+    let homes = vec![in alloc; None; count]?;
+    Ok(homes)
 }
 
 /// A queue: the places of its first and last cells, and how many it has. Without any, both places mean nothing.
@@ -41,7 +70,7 @@ pub struct Queue {
 }
 
 impl Queue {
-    ghost use Rattle.kn_seats.specs.Cells.{IsQueued, IsDequeued};
+    ghost use Rattle.kn_seats.specs.Cells.{IsQueued, IsDequeued, IsUnlinked};
 
     /// A queue without requests.
     pub fn empty() -> Queue
@@ -54,18 +83,20 @@ impl Queue {
         }
     }
 
-    /// Queues a request last, in a spare cell.
-    pub fn push(&mut self, r: u64, cells: &mut Cells)
+    /// Queues a request last at a pod whose queue this is, in a spare cell.
+    pub fn push(&mut self, p: u64, r: u64, cells: &mut Cells)
         requires some { 0 < cells.old.spares }
         requires spares { cells.old.spares ≤ length cells.old.spare.items }
         requires place { slice_index cells.old.spare.items (cells.old.spares - 1) < length cells.old.request.items }
+        requires home { slice_index cells.old.spare.items (cells.old.spares - 1) < length cells.old.home.items }
         requires last { 0 < self.old.count → self.old.last < length cells.old.next.items }
         requires fits { self.old.count < 2 ^ 63 }
-        ensures { IsQueued r self.old cells.old self.new cells.new }
+        ensures { IsQueued p r self.old cells.old self.new cells.new }
     {
         cells.spares -= 1;
         let place = cells.spare[cells.spares];
         cells.request[place] = r;
+        cells.home[place] = Some(p);
         if self.count == 0 {
             self.first = place;
         } else {
@@ -80,6 +111,7 @@ impl Queue {
         requires some { 0 < self.old.count }
         requires request { self.old.first < length cells.old.request.items }
         requires next { self.old.first < length cells.old.next.items }
+        requires home { self.old.first < length cells.old.home.items }
         requires spares { cells.old.spares < length cells.old.spare.items }
         requires fits { cells.old.spares < 2 ^ 63 }
         ensures first { result ≡ slice_index cells.old.request.items self.old.first }
@@ -88,9 +120,31 @@ impl Queue {
         let place = self.first;
         self.first = cells.next[place];
         self.count -= 1;
+        cells.home[place] = None;
         cells.spare[cells.spares] = place;
         cells.spares += 1;
         cells.request[place]
+    }
+
+    /// Takes the request behind this place from the queue. Its cell is spare then.
+    pub fn unlink(&mut self, before: usize, cells: &mut Cells)
+        requires some { 0 < self.old.count }
+        requires before { before < length cells.old.next.items }
+        requires next { slice_index cells.old.next.items before < length cells.old.next.items }
+        requires home { slice_index cells.old.next.items before < length cells.old.home.items }
+        requires spares { cells.old.spares < length cells.old.spare.items }
+        requires fits { cells.old.spares < 2 ^ 63 }
+        ensures { IsUnlinked before self.old cells.old self.new cells.new }
+    {
+        let place = cells.next[before];
+        cells.next[before] = cells.next[place];
+        if self.last == place {
+            self.last = before;
+        }
+        self.count -= 1;
+        cells.home[place] = None;
+        cells.spare[cells.spares] = place;
+        cells.spares += 1;
     }
 }
 

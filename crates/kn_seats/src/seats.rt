@@ -2,7 +2,7 @@
 ghost use Rattle.std.specs.Prelude.{true, ◌≡◌, ◌+◌, ◌-◌, ◌<◌, ◌≤◌, [], ◌∷◌, ◌++◌, None, drop, length, slice_get, IsTrue, IfOk, OnSome, IfNone, Contains, All, not, nat_lt, ◌&&◌, if◌then◌else◌};
 ghost use Rattle.std.specs.Bool.{OnFalse, OnTrue};
 
-use crate::cells::{Cells, close_up};
+use crate::cells::{Cells, Queue, close_up};
 use crate::tracker::Tracker;
 use kn_event::{Memory, PlaceHints};
 use std::alloc::Global;
@@ -24,6 +24,8 @@ pub struct Seats {
     pods: Vec<Tracker>,
     hints: PlaceHints,
     cells: Cells,
+    // where the cell before that of a request may be
+    before: PlaceHints,
     pod_room: u64,
     request_room: u64,
 }
@@ -34,6 +36,7 @@ impl Drop for Seats {
             pods: _,
             hints: _,
             cells: _,
+            before: _,
             pod_room: _,
             request_room: _,
         } = self;
@@ -56,7 +59,7 @@ impl Model for Seats {
 }
 
 impl Seats {
-    ghost use Rattle.kn_seats.specs.Pods.{idle_pod, requests_at, requests_at_all, has_free_seat, is_full, has_pod, pod_at, without_pod, without_request};
+    ghost use Rattle.kn_seats.specs.Pods.{idle_pod, requests_at, requests_at_all, has_free_seat, is_full, has_pod, pod_at, without_pod, without_request, StandsOnce};
     ghost use Rattle.kn_seats.specs.Seats.{change};
     ghost use Rattle.kn_seats.specs.Kept.{IsPlaceOf, queued_at_all};
 
@@ -73,10 +76,12 @@ impl Seats {
             return Err(Memory);
         };
         let hints = PlaceHints::new(alloc)?;
+        let before = PlaceHints::new(alloc)?;
         Ok(Seats {
             pods: held,
             hints,
             cells,
+            before,
             pod_room: pods,
             request_room: requests,
         })
@@ -160,7 +165,8 @@ impl Seats {
         if pod.is_full() {
             return false;
         }
-        pod.queue.push(r, &mut self.cells);
+        self.before.set(r, pod.queue.last);
+        pod.queue.push(pod.number, r, &mut self.cells);
         true
     }
 
@@ -197,6 +203,26 @@ impl Seats {
         let queue = &mut self.pods[place].queue;
         close_up(*queue, r, &mut self.cells.request, &self.cells.next);
         let _ = queue.pop(&mut self.cells);
+    }
+
+    /// As `unqueue`, for a request that stands in the queue once. It is unlinked where it lies, and looked for along the queue
+    /// only where numbers of requests that are queued lie 32,768 apart or more.
+    pub fn unlink(&mut self, p: u64, r: u64)
+        requires there { IsTrue (has_pod p self.old.pods) }
+        requires once { StandsOnce r (pod_at p self.old.pods).queued }
+        ensures changed { self.new ≡ change p (λ pod. record pod { queued = without_request r pod.queued }) self.old }
+        ensures counted { requests_at_all self.new.pods + 1 ≡ requests_at_all self.old.pods }
+    {
+        let place = self.place_of(p);
+        let pod = self.pods[place];
+        let before = self.before.get(r);
+        if before == pod.queue.last || !self.cells.leads(before, pod.number, r) {
+            self.unqueue(p, r);
+            return;
+        }
+        let queue = &mut self.pods[place].queue;
+        queue.unlink(before, &mut self.cells);
+        hint_behind(before, *queue, &self.cells, &mut self.before);
     }
 
     /// Ends one that is running at a pod, and answers what may follow there.
@@ -287,5 +313,15 @@ impl Seats {
 fn hint_from(pods: &[Tracker], place: usize, hints: &mut PlaceHints) {
     for i in place..pods.len() {
         hints.set(pods[i].number, i);
+    }
+}
+
+/// Whoever stands behind this cell in a queue stands behind it from now on.
+fn hint_behind(before: usize, queue: Queue, cells: &Cells, hints: &mut PlaceHints)
+    requires { before < length cells.now.next.items }
+{
+    let place = cells.next[before];
+    if before != queue.last && place < cells.request.len() {
+        hints.set(cells.request[place], before);
     }
 }

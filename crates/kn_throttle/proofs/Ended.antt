@@ -10,7 +10,7 @@ use Rattle.kn_trace.specs.declared.candidate.Cand.{Cand}
 use Rattle.kn_trace.specs.Trace.{is_empty}
 use Rattle.kn_breaker.specs.Breaker as breaker
 use Rattle.kn_seats.specs.Seats as seats
-use Rattle.kn_seats.specs.Pods.{has_pod, pod_at, requests_at_all, without_request}
+use Rattle.kn_seats.specs.Pods.{has_pod, pod_at, requests_at_all, without_request, StandsOnce}
 use Rattle.kn_seats.specs.Pods as seat
 use Rattle.kn_policy.specs.Policy as policy
 use Rattle.kn_record.specs.declared.admission.Place.{Place}
@@ -197,11 +197,12 @@ assigned_runs s a b t k p run leave r n false new h l e = absurd (cc)
 pub pod_there : (s : Spec) (a : Admission) (b : breaker.State) (t : seats.State) (k : List Cand) (p : policy.State) (run leave : Touched) (n : ℕ) → IsKept s a b t k p run leave → contains n (pod_numbers a.pods) ≡ true → has_pod n t.pods ≡ true
 pod_there s a b t k p run leave n h there = rw (h.seats, seats-has a.live n a.pods) there
 
-pub queued_there : (s : Spec) (a : Admission) (b : breaker.State) (t : seats.State) (k : List Cand) (p : policy.State) (run leave : Touched) (r n : ℕ) (new : List Request) → IsKept s a b t k p run leave → contains n (pod_numbers a.pods) ≡ true → Leaves r (place.Queued n) a.live new → Contains (pod_at n t.pods).queued r
-queued_there s a b t k p run leave r n new h there l =
+pub queued_once : (s : Spec) (a : Admission) (b : breaker.State) (t : seats.State) (k : List Cand) (p : policy.State) (run leave : Touched) (r n : ℕ) (new : List Request) → IsKept s a b t k p run leave → contains n (pod_numbers a.pods) ≡ true → Leaves r (place.Queued n) a.live new → StandsOnce r (pod_at n t.pods).queued
+queued_once s a b t k p run leave r n new h there l =
     let pod = pod_of a.live n a.pods there in
     let here : (n == pod.pod.number) ≡ true = eq-eqb n pod.pod.number (sym pod.number) in
-    rw (h.seats, pod.seat) (Contains-there r (placed_in (queues_at pod.pod.number) a.live) (ended_there r (place.Queued n) a.live new (queues_at pod.pod.number) l here))
+    let count : length (placed_in (queues_at pod.pod.number) new) + 1 ≡ length (placed_in (queues_at pod.pod.number) a.live) = rw here at (l.counts (queues_at pod.pod.number)) in
+    rw (h.seats, pod.seat) (rw (l.left (queues_at pod.pod.number)) at count)
 
 pub runs_there : (s : Spec) (a : Admission) (b : breaker.State) (t : seats.State) (k : List Cand) (p : policy.State) (run leave : Touched) (r n : ℕ) (x : Bool) (new : List Request) → IsKept s a b t k p run leave → contains n (pod_numbers a.pods) ≡ true → Leaves r (place.Running n x) a.live new → 0 < (pod_at n t.pods).running
 runs_there s a b t k p run leave r n x new h there l =

@@ -92,7 +92,7 @@ impl Throttle {
         match take_out(&mut self.table, r, is_lost).place {
             Place::Held => self.breaker.leave(),
             Place::Queued(p) => {
-                self.seats.unqueue(p, r);
+                self.seats.unlink(p, r);
                 self.to_leave = self.to_leave.with(p);
             }
             Place::Running(p, assigned) => {

@@ -124,6 +124,22 @@ pop-r-requires-clause-next c =
     let some : 0 < here.queue.count = omega arith in
     (first_inside inside.pods.items inside.cells inside.pod_room inside.request_room held place here within is here refl some).0
 
+pub pop-r-requires-clause-home : goal.pop-r-requires-clause-home
+pop-r-requires-clause-home c =
+    let inside = c.self.inside in
+    let held = c.self.invariant.held in
+    let place : ℕ = c.place_of-place.result in
+    let here : Tracker = c.index_mut-tracker.result.now in
+    let within : place < length inside.pods.items = grind (arith, common_steps) in
+    let is : here ≡ get_or inside.pods.items place here = c.index_mut-tracker.ensures.value in
+    let pods_are : map (seen inside.cells) inside.pods.items ≡ c.args.self.now.pods = ap (λ (s : State). s.pods) c.self.view_is in
+    let stands : IsPlaceOf c.args.p (map (seen inside.cells) inside.pods.items) place = rw pods_are c.place_of-place.ensures in
+    let pod_is : pod_at c.args.p (map (seen inside.cells) inside.pods.items) ≡ seen inside.cells here =
+    pod_here inside.pods.items inside.cells inside.pod_room inside.request_room held place here within is here refl c.args.p stands in
+    let now_is : pod_at c.args.p c.args.self.now.pods ≡ seen inside.cells here = ap (pod_at c.args.p) (sym pods_are) ∙ pod_is in
+    let some : 0 < here.queue.count = omega arith in
+    omega (arith, (first_inside inside.pods.items inside.cells inside.pod_room inside.request_room held place here within is here refl some).0, held.next, held.home)
+
 pub pop-r-requires-clause-spares : goal.pop-r-requires-clause-spares
 pop-r-requires-clause-spares c =
     let inside = c.self.inside in

@@ -95,6 +95,26 @@ push-requires-clause-place c =
     let top = held.spares.inside (inside.cells.spares - 1) (omega arith) in
     omega (arith, held.request)
 
+pub push-requires-clause-home : goal.push-requires-clause-home
+push-requires-clause-home c =
+    let inside = c.self.inside in
+    let held = c.self.invariant.held in
+    let place : ℕ = c.place_of-place.result in
+    let here : Tracker = c.index_mut-pod.result.now in
+    let within : place < length inside.pods.items = grind (arith, common_steps) in
+    let is : here ≡ get_or inside.pods.items place here = c.index_mut-pod.ensures.value in
+    let pods_are : map (seen inside.cells) inside.pods.items ≡ c.args.self.now.pods = ap (λ (s : State). s.pods) c.self.view_is in
+    let stands : IsPlaceOf c.args.p (map (seen inside.cells) inside.pods.items) place = rw pods_are c.place_of-place.ensures in
+    let pod_is : pod_at c.args.p (map (seen inside.cells) inside.pods.items) ≡ seen inside.cells here =
+    pod_here inside.pods.items inside.cells inside.pod_room inside.request_room held place here within is here refl c.args.p stands in
+    let now_is : pod_at c.args.p c.args.self.now.pods ≡ seen inside.cells here = ap (pod_at c.args.p) (sym pods_are) ∙ pod_is in
+    let room : inside.request_room ≡ c.args.self.now.request_room = ap (λ (s : State). s.request_room) c.self.view_is in
+    let requests : requests_at_all (map (seen inside.cells) inside.pods.items) ≡ requests_at_all c.args.self.now.pods = ap requests_at_all pods_are in
+    let left = c.requires.room in
+    let some : 0 < inside.cells.spares = omega (arith, queued_at_most (map (seen inside.cells) inside.pods.items), held.kept.cells) in
+    let top = held.spares.inside (inside.cells.spares - 1) (omega arith) in
+    omega (arith, held.home)
+
 pub push-requires-clause-last : goal.push-requires-clause-last
 push-requires-clause-last c =
     let inside = c.self.inside in

@@ -2,7 +2,7 @@ use Rattle.kn_event.specs.declared.entry.Row.TheVariants as row
 use Rattle.kn_record.specs.declared.admission.Place.TheVariants as place
 use Rattle.kn_record.specs.Admission.{stepped}
 use Rattle.kn_throttle.proofs.Parts.{cands_ascend}
-use Rattle.kn_throttle.proofs.Ended.{assigned_runs, home_of, kept_left, kept_unqueued, leaves_from, left_running, pod_there, queued_there, runs_there}
+use Rattle.kn_throttle.proofs.Ended.{assigned_runs, home_of, kept_left, kept_unqueued, leaves_from, left_running, pod_there, queued_once, runs_there}
 use Rattle.kn_throttle.proofs.Freed.{kept_freed}
 use Rattle.kn_throttle.proofs.throttle.Throttle.end.Goals as goal
 
@@ -15,22 +15,22 @@ invariant_of-self c =
     let k = c.self.invariant in
     rw c.leave.ensures (kept_left _ _ _ _ _ _ _ _ c.args.r c.take_out.new.table k (rw c.take_out.ensures.removed (c.order_laws.ensures.step _ 0 (row.Expire c.args.r) k.sound.order tt)) c.take_out.ensures.len (leaves_from _ _ _ _ _ c.take_out.ensures.leaves c.in-Held.is))
 
-pub unqueue-requires-clause-there : goal.unqueue-requires-clause-there
-unqueue-requires-clause-there c =
+pub unlink-requires-clause-there : goal.unlink-requires-clause-there
+unlink-requires-clause-there c =
     let k = c.self.invariant in
     pod_there _ _ _ _ _ _ _ _ c.in-Queued.p k (home_of _ c.args.r c.take_out.result (place.Queued c.in-Queued.p) k.sound.order c.take_out.ensures.request c.in-Queued.is)
 
-pub unqueue-requires-clause-queued : goal.unqueue-requires-clause-queued
-unqueue-requires-clause-queued c =
+pub unlink-requires-clause-once : goal.unlink-requires-clause-once
+unlink-requires-clause-once c =
     let k = c.self.invariant in
-    queued_there _ _ _ _ _ _ _ _ c.args.r c.in-Queued.p c.take_out.new.table k (home_of _ c.args.r c.take_out.result (place.Queued c.in-Queued.p) k.sound.order c.take_out.ensures.request c.in-Queued.is) (leaves_from _ _ _ _ _ c.take_out.ensures.leaves c.in-Queued.is)
+    queued_once _ _ _ _ _ _ _ _ c.args.r c.in-Queued.p c.take_out.new.table k (home_of _ c.args.r c.take_out.result (place.Queued c.in-Queued.p) k.sound.order c.take_out.ensures.request c.in-Queued.is) (leaves_from _ _ _ _ _ c.take_out.ensures.leaves c.in-Queued.is)
 
 pub invariant_of-self-in-Queued : goal.invariant_of-self-in-Queued
 unfolding stepped
 invariant_of-self-in-Queued c =
     let k = c.self.invariant in
     rw c.with-self-inside.ensures (kept_unqueued _ _ _ _ _ _ _ _ _ c.args.r c.in-Queued.p c.take_out.new.table k (rw c.take_out.ensures.removed (c.order_laws.ensures.step _ 0 (row.Expire c.args.r) k.sound.order tt)) c.take_out.ensures.len
-    (leaves_from _ _ _ _ _ c.take_out.ensures.leaves c.in-Queued.is) (home_of _ c.args.r c.take_out.result (place.Queued c.in-Queued.p) k.sound.order c.take_out.ensures.request c.in-Queued.is) c.unqueue.ensures.changed c.unqueue.ensures.counted)
+    (leaves_from _ _ _ _ _ c.take_out.ensures.leaves c.in-Queued.is) (home_of _ c.args.r c.take_out.result (place.Queued c.in-Queued.p) k.sound.order c.take_out.ensures.request c.in-Queued.is) c.unlink.ensures.changed c.unlink.ensures.counted)
 
 pub release-requires : goal.release-requires
 release-requires c = assigned_runs _ _ _ _ _ _ _ _ c.args.r c.in-Running.p c.in-Running.assigned c.take_out.new.table c.self.invariant (leaves_from _ _ _ _ _ c.take_out.ensures.leaves c.in-Running.is)
