@@ -130,7 +130,7 @@ module _ (trackers : List Tracker) (cells : Cells) (pod_room request_room : ℕ)
               ∙ step.reached ∙ sym (cut_out.end end)
           | inr other ↦
               let stays : here.queue.last ≢ get_or cells.next.items before 0 = λ at. steps_apart cells.next.items here.queue.first (suc y.queue.count) (suc step.steps) y.queue.count apart
-                  (grind (arith, less, other)) (omega arith) (there ∙ sym at ∙ sym last) in
+              (grind (arith, less, other)) (omega arith) (there ∙ sym at ∙ sym last) in
               after_back cells.next.items cells_after.next.items before others leads here.queue.first step.steps y.queue.count m less apart step.reached (grind (arith, less, other, e)) (omega arith)
               ∙ ap (λ n. after cells.next.items here.queue.first n) (let n : suc m ≡ y.queue.count = omega arith in n) ∙ last ∙ sym (cut_out.inner stays)
         ]
@@ -157,10 +157,10 @@ module _ (trackers : List Tracker) (cells : Cells) (pod_room request_room : ℕ)
         let differs : j ≡ suc step.steps → ⊥ = λ e. was.0 (sym at.reached ∙ ap (λ i. after cells.next.items here.queue.first i) e ∙ there) in
         elim (cases_lt j (suc step.steps)) [
           | inl front ↦ record {
-              steps = j;
-              within = omega arith;
-              reached = after_front cells.next.items cells_after.next.items before others leads here.queue.first step.steps y.queue.count j less apart step.reached (omega arith) ∙ at.reached;
-            }
+            steps = j;
+            within = omega arith;
+            reached = after_front cells.next.items cells_after.next.items before others leads here.queue.first step.steps y.queue.count j less apart step.reached (omega arith) ∙ at.reached;
+          }
           | inr back ↦
               let over : suc step.steps < j = grind (arith, back, differs) in
               let same : suc (j - 1) ≡ j = omega arith in record {

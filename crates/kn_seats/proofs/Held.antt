@@ -155,13 +155,13 @@ module _ (trackers : List Tracker) (cells : Cells) (pod_room request_room : ℕ)
     found_after : (x p : ℕ) → owner_after x ≡ Some p → IsFound (set trackers place y) cells_after.next.items x p
     found_after x p owned = elim (cases_eq p here.number) [
       | inl same ↦ record {
-          place = place;
-          inside = omega (arith, within, length-set trackers place y);
-          tracker = y;
-          stands = λ d. get_or-set_same trackers place y d within;
-          number = changed.number ∙ sym same;
-          step = changed.mine x (owned ∙ ap (λ q. Some q) same);
-        }
+        place = place;
+        inside = omega (arith, within, length-set trackers place y);
+        tracker = y;
+        stands = λ d. get_or-set_same trackers place y d within;
+        number = changed.number ∙ sym same;
+        step = changed.mine x (owned ∙ ap (λ q. Some q) same);
+      }
       | inr other ↦ found_other x p other owned
     ]
 

@@ -129,29 +129,29 @@ module _ (trackers : List Tracker) (cells : Cells) (pod_room request_room : ℕ)
       let some = found.step.within in
       let empty : t.queue.count ≡ 0 → ⊥ = λ e. omega arith in
       let away : found.place ≡ place → ⊥ = λ same.
-          let here : seen cells t ≡ get_or (map (seen cells) trackers) place d =
-          ap (seen cells) (sym (found.stands t)) ∙ sym (get_or-map (seen cells) trackers found.place t) ∙ ap (λ k. get_or (map (seen cells) trackers) k (seen cells t)) same
-          ∙ get_or_default (map (seen cells) trackers) place (seen cells t) d within_seen in
-          let at = ap requests_at here in
-          empty (omega (arith, none, at, length_requests cells.request.items cells.next.items t.queue.first t.queue.count)) in
+      let here : seen cells t ≡ get_or (map (seen cells) trackers) place d =
+      ap (seen cells) (sym (found.stands t)) ∙ sym (get_or-map (seen cells) trackers found.place t) ∙ ap (λ k. get_or (map (seen cells) trackers) k (seen cells t)) same
+      ∙ get_or_default (map (seen cells) trackers) place (seen cells t) d within_seen in
+      let at = ap requests_at here in
+      empty (omega (arith, none, at, length_requests cells.request.items cells.next.items t.queue.first t.queue.count)) in
       elim (cases_lt found.place place) [
         | inl below ↦ record {
-            place = found.place;
-            inside = omega arith;
-            tracker = t;
-            stands = λ e. get_or-remove_below trackers place e found.place below within ∙ found.stands e;
-            number = found.number;
-            step = found.step;
-          }
+          place = found.place;
+          inside = omega arith;
+          tracker = t;
+          stands = λ e. get_or-remove_below trackers place e found.place below within ∙ found.stands e;
+          number = found.number;
+          step = found.step;
+        }
         | inr above ↦ let less : place < found.place = grind (arith, above, away) in
-          let same : found.place - 1 + 1 ≡ found.place = omega arith in record {
-            place = found.place - 1;
-            inside = omega (arith, found.inside);
-            tracker = t;
-            stands = λ e. get_or-remove_above trackers place e (found.place - 1) (omega arith) within ∙ ap (λ k. get_or trackers k e) same ∙ found.stands e;
-            number = found.number;
-            step = found.step;
-          }
+            let same : found.place - 1 + 1 ≡ found.place = omega arith in record {
+              place = found.place - 1;
+              inside = omega (arith, found.inside);
+              tracker = t;
+              stands = λ e. get_or-remove_above trackers place e (found.place - 1) (omega arith) within ∙ ap (λ k. get_or trackers k e) same ∙ found.stands e;
+              number = found.number;
+              step = found.step;
+            }
       ]
 
   pub held-remove : (d : Pod) → requests_at (get_or (map (seen cells) trackers) place d) ≡ 0 → IsHeld (remove trackers place) cells pod_room request_room
