@@ -8,14 +8,14 @@ use std::alloc::Global;
 /// A place for each number by its low 16 bits. The slot there may have another number, so whoever reads it looks.
 #[derive(Drop)]
 pub struct Hints {
-    places: Vec<u32>,
+    places: Vec<u16>,
     ghost full: { vec_len places ≡ 65536 },
 }
 
 impl Hints {
     /// The first place for each.
     pub fn new(alloc: Global) -> Result<Hints, Memory> {
-        match vec![in alloc; 0u32; 65_536] {
+        match vec![in alloc; 0u16; 65_536] {
             Ok(places) => Ok(Hints { places }),
             Err(_) => Err(Memory),
         }
@@ -32,10 +32,10 @@ impl Hints {
     /// Its slot stands here.
     #[inline]
     pub fn set(&mut self, r: u64, place: usize)
-        requires { place < 2 ^ 32 }
+        requires { place < 2 ^ 16 }
         ensures { self.new.places.items ≡ slice_set self.old.places.items (r % 65536) place }
     {
-        self.places[(r % 65_536) as usize] = place as u32;
+        self.places[(r % 65_536) as usize] = place as u16;
     }
 
     /// All slots stand where they stand now.

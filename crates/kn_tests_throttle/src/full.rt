@@ -21,6 +21,21 @@ const fn three_pods(limit: u64, depth: u64) -> Setting {
     }
 }
 
+/// One Ready pod, at which one may run.
+const fn one_pod() -> Setting {
+    Setting {
+        pods: 1,
+        limit: 1,
+        drains: 0,
+        cc: 1,
+        slots: Slots {
+            depth: 1,
+            max: 1,
+            seed: 7,
+        },
+    }
+}
+
 /// How many of so many requests run at the pods by turns, one after the other.
 fn run_by_turns(driver: &mut Driver, count: u64) -> u64 {
     for r in 0..count {
@@ -158,5 +173,90 @@ pub fn cursors_pass_who_gave_up(rt: &HostRuntime, driver: &mut Driver) -> io::Re
         tell(rt, &pass(driver))
     } else {
         tell(rt, &[("cursors, no memory", false)])
+    }
+}
+
+/// How many of so many requests find the pod full, one after the other.
+fn refused(driver: &mut Driver, count: u64) -> u64
+    requires { count < 100000 }
+{
+    for k in 0..count {
+        if !driver.makes(Call::Direct, Row::QueueFull(11 + k, Some(0))) {
+            return k;
+        }
+    }
+    count
+}
+
+/// How many of so many requests go straight to the pod, one after the other.
+fn sent(driver: &mut Driver, count: u64) -> u64 {
+    for r in 0..count {
+        if !driver.makes(Call::Direct, Row::Direct(r, 0)) {
+            return r;
+        }
+        let _ = driver.settle();
+    }
+    count
+}
+
+/// Whether each of these runs when the one before it ends.
+fn run_in_turn(driver: &mut Driver, turns: &[(u64, u64)]) -> bool {
+    for (ends, next) in turns {
+        if !driver.makes(Call::Finish(*ends), Row::Finish(*ends, true)) || !driver.follows_one() {
+            return false;
+        }
+        if driver.stand(*next) != Stand::Running(0) {
+            return false;
+        }
+    }
+    true
+}
+
+fn give_up_far_apart(driver: &mut Driver) -> [Outcome; 6] {
+    [
+        ("far apart, ten are queued", sent(driver, 11) == 11),
+        (
+            "far apart, 32762 are refused",
+            refused(driver, 32_762) == 32_762,
+        ),
+        (
+            "far apart, the last one gives up, and one more is queued",
+            driver.makes(Call::Cancel(10), Row::Cancel(10))
+                && driver.makes(Call::Direct, Row::Direct(32_773, 0)),
+        ),
+        (
+            "far apart, the earlier gives up",
+            driver.makes(Call::Cancel(5), Row::Cancel(5)),
+        ),
+        (
+            "far apart, the later gives up",
+            driver.makes(Call::Cancel(32_773), Row::Cancel(32_773)),
+        ),
+        (
+            "far apart, the others run in turn",
+            run_in_turn(
+                driver,
+                &[
+                    (0, 1),
+                    (1, 2),
+                    (2, 3),
+                    (3, 4),
+                    (4, 6),
+                    (6, 7),
+                    (7, 8),
+                    (8, 9),
+                ],
+            ),
+        ),
+    ]
+}
+
+/// Two requests whose numbers lie 32,768 apart are queued at one pod, where they share a hint. Both give up, and the others
+/// run in their order.
+pub fn far_apart_give_up(rt: &HostRuntime, driver: &mut Driver) -> io::Result<()> {
+    if driver.reopen(rt.alloc(), &one_pod()) {
+        tell(rt, &give_up_far_apart(driver))
+    } else {
+        tell(rt, &[("far apart, no memory", false)])
     }
 }

@@ -44,7 +44,8 @@ fn say_all(rt: &HostRuntime, driver: &mut Driver) -> io::Result<()> {
 fn say_and_run(rt: &HostRuntime, driver: &mut Driver) -> io::Result<()> {
     say_all(rt, driver)?;
     full::full_and_swept(rt, driver)?;
-    full::cursors_pass_who_gave_up(rt, driver)
+    full::cursors_pass_who_gave_up(rt, driver)?;
+    full::far_apart_give_up(rt, driver)
 }
 
 fn driven(rt: &HostRuntime) -> io::Result<()> {

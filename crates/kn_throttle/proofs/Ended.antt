@@ -1,6 +1,6 @@
 -- What is kept when a request ends.
 use Rattle.std.proofs.Common.{◌≡◌, ℕ, ◌+◌, ◌-◌, ◌<◌, ◌≤◌, Bool, true, false, not, ◌&&◌, List, [], ◌∷◌, length, refl, sym, ap, ◌∙◌, arith}
-use Rattle.std.specs.Prelude.{◌==◌, Some, Contains, find, if◌then◌else◌}
+use Rattle.std.specs.Prelude.{◌==◌, Some, find, if◌then◌else◌}
 use Rattle.std.specs.List.{All}
 use Rattle.std.proofs.lemmas.Bool.{eq-eqb}
 use Rattle.std.proofs.lemmas.List.Elements.{All-head, All-tail}
@@ -26,7 +26,7 @@ use Rattle.kn_throttle.specs.Touched.{one_more}
 use Rattle.kn_throttle.specs.Breaker.{released}
 use Rattle.kn_throttle.specs.Candidates.{ended, with_changed}
 use Rattle.kn_throttle.specs.Kept.{IsKept, IsSound, breaker_in, can_leave, can_run, seat_of}
-use Rattle.kn_throttle.proofs.Once.{Contains-there, lost-there, others, without_once}
+use Rattle.kn_throttle.proofs.Once.{others, without_once}
 use Rattle.kn_throttle.proofs.Same.{SameAt, eq-sym, same_can_leave, same_can_run, same_ended, through-parts}
 use Rattle.kn_throttle.proofs.Parts.{cands_at, cands_same, covers_less, covers_more, pod_of, seats-has, seats_at, seats_same}
 
@@ -47,11 +47,6 @@ home_of a r q x order f e =
 
 pub leaves_from : (r : ℕ) (x y : Place) (old new : List Request) → Leaves r x old new → x ≡ y → Leaves r y old new
 leaves_from r x y old new l e = rw e at l
-
--- who ended at a place was among those whose place passes there
-pub ended_there : (r : ℕ) (x : Place) (old new : List Request) (test : Place → Bool) → Leaves r x old new → test x ≡ true → contains r (placed_in test old) ≡ true
-ended_there r x old new test l h =
-    lost-there r (placed_in test old) (rw (l.left test, h) at (l.counts test))
 
 -- ---- the breaker
 

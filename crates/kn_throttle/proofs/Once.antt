@@ -1,9 +1,8 @@
 -- A number that a list has once.
 use Rattle.std.proofs.Common.{◌≡◌, ℕ, suc, ◌+◌, ◌<◌, Bool, true, false, not, cond, ◌||◌, List, [], ◌∷◌, length, drop, refl, sym, ap, arith}
-use Rattle.std.specs.Prelude.{◌==◌, Some, Contains, if◌then◌else◌}
+use Rattle.std.specs.Prelude.{◌==◌, Some, if◌then◌else◌}
 use Rattle.std.specs.List.{filter}
-use Rattle.std.proofs.lemmas.Bool.{eqb-true, eq-eqb}
-use Rattle.kn_event.specs.Lists.{contains}
+use Rattle.std.proofs.lemmas.Bool.{eq-eqb}
 use Rattle.kn_trace.specs.Trace.{first_of}
 use Rattle.kn_seats.specs.Pods.{without_request}
 use Rattle.kn_throttle.proofs.Same.{eq-sym}
@@ -47,20 +46,3 @@ first_once r (x ∷ xs) f h = let same : x ≡ r = cc in by (r == x) refl h
     by : (b : Bool) → (r == x) ≡ b → length (cond (not b) (x ∷ others r xs) (others r xs)) + 1 ≡ length (x ∷ xs) → cond (not b) (x ∷ others r xs) (others r xs) ≡ xs
     by true e g = all_stay r xs (omega arith)
     by false e g = absurd (let same : x ≡ r = cc in let here : (r == x) ≡ true = eq-eqb r x (sym same) in cc)
-
--- it is there
-pub lost-there : (r : ℕ) (xs : List ℕ) → length (others r xs) + 1 ≡ length xs → contains r xs ≡ true
-lost-there r [] h = absurd (omega arith)
-lost-there r (x ∷ xs) h = rw (eq-sym x r) (by (r == x) h (λ e. lost-there r xs e))
-  where
-    by : (b : Bool) → length (cond (not b) (x ∷ others r xs) (others r xs)) + 1 ≡ length (x ∷ xs) → (length (others r xs) + 1 ≡ length xs → contains r xs ≡ true) → (b || contains r xs) ≡ true
-    by true e rest = refl
-    by false e rest = rest (omega arith)
-
-pub Contains-there : (r : ℕ) (xs : List ℕ) → contains r xs ≡ true → Contains xs r
-Contains-there r [] h = absurd (cc)
-Contains-there r (x ∷ xs) h = by (x == r) refl h (λ e. Contains-there r xs e)
-  where
-    by : (b : Bool) → (x == r) ≡ b → (b || contains r xs) ≡ true → (contains r xs ≡ true → Contains xs r) → Contains (x ∷ xs) r
-    by true e g rest = (0, omega arith, eqb-true x r e)
-    by false e g rest = let more = rest g in (suc more.0, let lt = more.1 in omega arith, more.2)
