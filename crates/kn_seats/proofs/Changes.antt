@@ -1,5 +1,5 @@
 -- What each change of a pod and its queue leaves.
-use Rattle.std.proofs.Common.{◌≡◌, ℕ, zero, suc, ◌+◌, ◌-◌, ◌<◌, ◌≤◌, inl, inr, Bool, true, false, cond, List, [], ◌∷◌, ◌++◌, set, get_or, length, drop, refl, sym, ap, subst, ◌∙◌, arith, nat_eq, get_or-set_other, get_or-set_same, length-set, Option, Some, None}
+use Rattle.std.proofs.Common.{◌≡◌, ℕ, zero, suc, ◌+◌, ◌-◌, ◌<◌, ◌≤◌, inl, inr, List, [], ◌∷◌, ◌++◌, set, get_or, length, drop, refl, sym, ap, subst, ◌∙◌, arith, get_or-set_other, get_or-set_same, length-set, Option, Some, None}
 use Rattle.std.specs.Prelude.{map}
 use Rattle.std.proofs.lemmas.Bool.{cases_eq}
 use Rattle.kn_seats.specs.declared.cells.Cells.{Cells}
@@ -13,7 +13,7 @@ use Rattle.kn_seats.specs.Kept.{IsHeld, IsPlaceOf, IsLine, IsStep, HasQueue, Are
 use Rattle.kn_seats.proofs.Chains.{owner_at, owned-avoids}
 use Rattle.kn_seats.proofs.Pushed.{Pushed, pushed, step-pushed, line-popped, step-popped, requests-popped}
 use Rattle.kn_seats.proofs.Spared.{with_owner, owner_here, owner_there, not_both, same_owner, owned_before, homes_freed, inside_freed, spares_freed, keeps_freed}
-use Rattle.kn_seats.proofs.Held.{HasChanged, mine_here, here_seen, here_queue, here_queued, held-set, counted-set, changed-set}
+use Rattle.kn_seats.proofs.Held.{HasChanged, mine_here, here_seen, here_queue, held-set, counted-set, changed-set}
 
 module _ (trackers : List Tracker) (cells : Cells) (pod_room request_room : ℕ) (held : IsHeld trackers cells pod_room request_room)
     (place : ℕ) (here : Tracker) (within : place < length trackers) (is : here ≡ get_or trackers place here) (y : Tracker) (number : y.number ≡ here.number) where

@@ -1,5 +1,5 @@
 -- A cell is taken out of a queue, and the one before it leads on.
-use Rattle.std.proofs.Common.{◌≡◌, ◌≢◌, ℕ, zero, suc, ◌+◌, ◌-◌, ◌<◌, ◌≤◌, inl, inr, true, false, List, [], ◌∷◌, ◌++◌, set, get_or, take, drop, length, refl, sym, ap, subst, ◌∙◌, arith, nat_eq, get_or-set_other, get_or-set_same, length-set, Option, Some, None}
+use Rattle.std.proofs.Common.{◌≡◌, ◌≢◌, ℕ, zero, suc, ◌+◌, ◌-◌, ◌<◌, ◌≤◌, inl, inr, List, [], ◌∷◌, ◌++◌, set, get_or, take, drop, length, refl, sym, ap, subst, ◌∙◌, arith, nat_eq, get_or-set_other, get_or-set_same, length-set, Option, Some, None}
 use Rattle.std.specs.Prelude.{filter, not, Contains}
 use Rattle.std.proofs.lemmas.Bool.{cases_eq, cases_lt}
 use Rattle.kn_seats.specs.declared.cells.Cells.{Cells}
@@ -8,7 +8,7 @@ use Rattle.kn_seats.specs.Pods.{without_request, StandsOnce}
 use Rattle.kn_seats.specs.Cells.{IsUnlinked}
 use Rattle.kn_seats.specs.Chains.{after, requests_in, AreDistinctSteps, AreOwned}
 use Rattle.kn_seats.specs.Kept.{IsHeld, IsLine, IsStep, HasQueue, AreSpare}
-use Rattle.kn_seats.proofs.Chains.{after_more, length_requests, owned-avoids, request_at}
+use Rattle.kn_seats.proofs.Chains.{after_more, length_requests, request_at}
 use Rattle.kn_seats.proofs.Closing.{cut}
 use Rattle.kn_seats.proofs.Places.{is_named, not_named}
 use Rattle.kn_seats.proofs.Unlinked.{steps_apart, requests_unlinked, apart_unlinked, owned_unlinked, after_front, after_back}
