@@ -8,9 +8,9 @@ use Rattle.kn_seats.specs.declared.cells.Queue.{Queue}
 use Rattle.kn_seats.specs.Pods.{Pod, pod_at, requests_at_all, with_pod_changed}
 use Rattle.kn_seats.specs.Seats.{State}
 use Rattle.kn_seats.specs.Cells.{IsQueued, IsDequeued}
-use Rattle.kn_seats.specs.Chains.{after, requests_in, Avoids}
+use Rattle.kn_seats.specs.Chains.{after, requests_in}
 use Rattle.kn_seats.specs.Kept.{IsHeld, IsPlaceOf, IsLine, IsStep, HasQueue, AreSpare, seen}
-use Rattle.kn_seats.proofs.Chains.{owner_at, owned-avoids}
+use Rattle.kn_seats.proofs.Chains.{owner_at}
 use Rattle.kn_seats.proofs.Pushed.{Pushed, pushed, step-pushed, line-popped, step-popped, requests-popped}
 use Rattle.kn_seats.proofs.Spared.{with_owner, owner_here, owner_there, not_both, same_owner, owned_before, homes_freed, inside_freed, spares_freed, keeps_freed}
 use Rattle.kn_seats.proofs.Held.{HasChanged, mine_here, here_seen, here_queue, held-set, counted-set, changed-set}
@@ -57,32 +57,6 @@ module _ (trackers : List Tracker) (cells : Cells) (pod_room request_room : ℕ)
   pub changed-same : y.queue ≡ here.queue → (p : ℕ) (by : Pod → Pod) → IsPlaceOf p (map (seen cells) trackers) place → by (seen cells here) ≡ seen cells y
       → map (seen cells) (set trackers place y) ≡ with_pod_changed p by (map (seen cells) trackers)
   changed-same queue = changed-set trackers cells pod_room request_room held place here within is y cells held.owner (same_cells queue)
-
-  -- requests move between its cells
-  pub closed_cells : (cells_after : Cells) → y.queue ≡ here.queue → cells_after.next.items ≡ cells.next.items → cells_after.home.items ≡ cells.home.items
-      → cells_after.spare.items ≡ cells.spare.items → cells_after.spares ≡ cells.spares → length cells_after.request.items ≡ length cells.request.items
-      → ((x : ℕ) → Avoids cells.next.items x here.queue.first here.queue.count → get_or cells_after.request.items x 0 ≡ get_or cells.request.items x 0)
-      → HasChanged cells here y cells_after held.owner held.owner request_room
-  closed_cells cells_after queue next home spare spares len others = record {
-    number = number;
-    request = len ∙ held.request;
-    next = ap (λ (l : List ℕ). length l) next ∙ held.next;
-    home = ap (λ (l : List (Option ℕ)). length l) home ∙ held.home;
-    spare = ap (λ (l : List ℕ). length l) spare ∙ held.spare;
-    homes = λ x. ap (λ (l : List (Option ℕ)). get_or l x None) home ∙ held.homes x;
-    inside = held.inside;
-    mine = λ x owned. subst (λ l. IsStep l y.queue.first y.queue.count x) (sym next)
-        (subst (λ (q : Queue). IsStep cells.next.items q.first q.count x) (sym queue) (mine_here trackers cells pod_room request_room held place here within is x owned));
-    gains = λ x q other owned. owned;
-    spares = subst (λ l. AreSpare held.owner l cells_after.spares request_room) (sym spare)
-        (subst (λ n. AreSpare held.owner cells.spare.items n request_room) (sym spares) held.spares);
-    queue = subst (λ l. HasQueue held.owner l y) (sym next)
-        (subst (λ n. IsLine held.owner (Some n) cells.next.items y.queue.first y.queue.last y.queue.count) (sym number)
-        (subst (λ q. IsLine held.owner (Some here.number) cells.next.items q.first q.last q.count) (sym queue) line));
-    keeps = λ x q other owned. (owned, ap (λ (l : List ℕ). get_or l x 0) next);
-    same = λ x q other owned. others x (owned-avoids held.owner (Some here.number) cells.next.items x here.queue.first here.queue.count
-        (λ mine. other (same_owner held.owner x here.number q mine owned)) line.owned);
-  }
 
   -- a cell of its queue is there
   pub cell_inside : (n : ℕ) → n < here.queue.count → held.owner (after cells.next.items here.queue.first n) ≡ Some here.number

@@ -5,11 +5,11 @@ use Rattle.std.proofs.lemmas.Bool.{cases_eq, cases_lt}
 use Rattle.kn_seats.specs.declared.cells.Cells.{Cells}
 use Rattle.kn_seats.specs.declared.tracker.Tracker.{Tracker}
 use Rattle.kn_seats.specs.Pods.{without_request, StandsOnce}
-use Rattle.kn_seats.specs.Cells.{IsUnlinked}
+use Rattle.kn_seats.specs.Cells.{IsBefore, IsUnlinked}
 use Rattle.kn_seats.specs.Chains.{after, requests_in, AreDistinctSteps, AreOwned}
 use Rattle.kn_seats.specs.Kept.{IsHeld, IsLine, IsStep, HasQueue, AreSpare}
 use Rattle.kn_seats.proofs.Chains.{after_more, length_requests, request_at}
-use Rattle.kn_seats.proofs.Closing.{cut}
+use Rattle.kn_seats.proofs.Sought.{cut}
 use Rattle.kn_seats.proofs.Places.{is_named, not_named}
 use Rattle.kn_seats.proofs.Unlinked.{steps_apart, requests_unlinked, apart_unlinked, owned_unlinked, after_front, after_back}
 use Rattle.kn_seats.proofs.Spared.{with_owner, owner_there, same_owner, owned_before, homes_freed, inside_freed, spares_freed, keeps_freed}
@@ -198,16 +198,45 @@ module _ (trackers : List Tracker) (cells : Cells) (pod_room request_room : ℕ)
       same = λ x q other mine. ap (λ (l : List ℕ). get_or l x 0) cut_out.request;
     }
 
-    pub cut_list : (r : ℕ) → get_or cells.request.items (get_or cells.next.items before 0) 0 ≡ r → StandsOnce r (requests_in cells.request.items cells.next.items here.queue.first here.queue.count)
+    pub cut_list : (r k : ℕ) → suc k < here.queue.count → after cells.next.items here.queue.first k ≡ before → get_or cells.request.items (get_or cells.next.items before 0) 0 ≡ r
+        → ((i : ℕ) → i < suc k → get_or (requests_in cells.request.items cells.next.items here.queue.first here.queue.count) i 0 ≡ r → ⊥)
+        → requests_in cells_after.request.items cells_after.next.items y.queue.first y.queue.count ≡ without_request r (requests_in cells.request.items cells.next.items here.queue.first here.queue.count)
+    cut_list r k deep at has earlier =
+        let all = requests_in cells.request.items cells.next.items here.queue.first here.queue.count in
+        let n = count in
+        let many = length_requests cells.request.items cells.next.items here.queue.first here.queue.count in
+        let inside : suc k < length all = omega arith in
+        let behind : after cells.next.items here.queue.first (suc k) ≡ get_or cells.next.items before 0 =
+        sym (after_more cells.next.items here.queue.first k) ∙ ap (λ b. get_or cells.next.items b 0) at in
+        let value : get_or all (suc k) 0 ≡ r = request_at cells.request.items cells.next.items here.queue.first here.queue.count (suc k) deep ∙ ap (λ x. get_or cells.request.items x 0) behind ∙ has in
+        ap (λ l. requests_in l cells_after.next.items y.queue.first y.queue.count) cut_out.request
+        ∙ ap (λ f. requests_in cells.request.items cells_after.next.items f y.queue.count) cut_out.first
+        ∙ requests_unlinked cells.next.items cells_after.next.items before others leads cells.request.items here.queue.first k y.queue.count (omega arith) apart at
+        ∙ ap (λ n. take (suc k) (requests_in cells.request.items cells.next.items here.queue.first n) ++ drop (suc (suc k)) (requests_in cells.request.items cells.next.items here.queue.first n)) (sym count)
+        ∙ sym (cut r all (suc k) inside value earlier)
+
+    -- where it stands there once
+    pub cut_once : (r : ℕ) → get_or cells.request.items (get_or cells.next.items before 0) 0 ≡ r → StandsOnce r (requests_in cells.request.items cells.next.items here.queue.first here.queue.count)
         → requests_in cells_after.request.items cells_after.next.items y.queue.first y.queue.count ≡ without_request r (requests_in cells.request.items cells.next.items here.queue.first here.queue.count)
     unfolding gone
-    cut_list r has stands =
+    cut_once r has stands =
         let all = requests_in cells.request.items cells.next.items here.queue.first here.queue.count in
         let many = length_requests cells.request.items cells.next.items here.queue.first here.queue.count in
         let inside : suc step.steps < length all = omega (arith, deeper, many) in
         let value : get_or all (suc step.steps) 0 ≡ r = request_at cells.request.items cells.next.items here.queue.first here.queue.count (suc step.steps) deeper ∙ ap (λ x. get_or cells.request.items x 0) there ∙ has in
-        ap (λ l. requests_in l cells_after.next.items y.queue.first y.queue.count) cut_out.request
-        ∙ ap (λ f. requests_in cells.request.items cells_after.next.items f y.queue.count) cut_out.first
-        ∙ requests_unlinked cells.next.items cells_after.next.items before others leads cells.request.items here.queue.first step.steps y.queue.count lt apart step.reached
-        ∙ ap (λ n. take (suc step.steps) (requests_in cells.request.items cells.next.items here.queue.first n) ++ drop (suc (suc step.steps)) (requests_in cells.request.items cells.next.items here.queue.first n)) (sym count)
-        ∙ sym (cut r all (suc step.steps) inside value (λ i below at. once r all i (suc step.steps) stands below inside at value))
+        cut_list r step.steps deeper step.reached has (λ i below at. once r all i (suc step.steps) stands below inside at value)
+
+-- the cell that leads to the first one with the request is the pod's, and not the last
+module _ (trackers : List Tracker) (cells : Cells) (pod_room request_room : ℕ) (held : IsHeld trackers cells pod_room request_room)
+    (place : ℕ) (here : Tracker) (within : place < length trackers) (is : here ≡ get_or trackers place here)
+    (r before : ℕ) (found : IsBefore r here.queue cells before) where
+  pub before_owned : held.owner before ≡ Some here.number
+  before_owned = let lt = found.within in
+      ap held.owner (sym found.reached) ∙ cell_inside trackers cells pod_room request_room held place here within is here refl found.steps (omega arith)
+
+  pub before_inner : before ≡ here.queue.last → ⊥
+  before_inner e =
+      let lt = found.within in
+      let queue = here_queue trackers cells pod_room request_room held place here within is in
+      let last : after cells.next.items here.queue.first (here.queue.count - 1) ≡ here.queue.last = queue.ends (here.queue.count - 1) (omega arith) in
+      steps_apart cells.next.items here.queue.first here.queue.count found.steps (here.queue.count - 1) queue.apart (omega arith) (omega arith) (found.reached ∙ e ∙ sym last)

@@ -1,6 +1,6 @@
 pub mod Chains
 pub mod Places
-pub mod Closing
+pub mod Sought
 pub mod Unlinked
 pub mod Pushed
 pub mod Kept
@@ -8,5 +8,4 @@ pub mod Held
 pub mod Spared
 pub mod Changes
 pub mod Cut
-pub mod Unqueued
 pub mod Listed

@@ -1,7 +1,8 @@
 -- What changes of a queue do to it and to the cells.
-use Rattle.std.specs.Prelude.{◌≡◌, ◌≢◌, ℕ, ◌+◌, ◌<◌, None, Some, length, slice_index, slice_index_or, slice_set}
+use Rattle.std.specs.Prelude.{◌≡◌, ◌≢◌, ℕ, suc, ◌+◌, ◌^◌, ◌<◌, None, Some, length, slice_index, slice_index_or, slice_set}
 use Rattle.kn_seats.specs.declared.cells.Cells.{Cells}
 use Rattle.kn_seats.specs.declared.cells.Queue.{Queue}
+use Rattle.kn_seats.specs.Chains.{after, requests_in}
 
 -- so many cells, all of them spare
 pub record IsNew (count : ℕ) (cells : Cells) : Type 0 where
@@ -40,6 +41,15 @@ pub record IsDequeued (queue : Queue) (cells : Cells) (queue_after : Queue) (cel
   pub last : queue_after.last ≡ queue.last
   pub count : queue_after.count + 1 ≡ queue.count
 
+-- a cell that leads to another one of the queue, and room for a spare one more
+pub record CanUnlink (before : ℕ) (queue : Queue) (cells : Cells) : Type 0 where
+  pub some : 0 < queue.count
+  pub inside : before < length cells.next.items
+  pub next : slice_index cells.next.items before < length cells.next.items
+  pub home : slice_index cells.next.items before < length cells.home.items
+  pub spares : cells.spares < length cells.spare.items
+  pub fits : cells.spares < 2 ^ 63
+
 -- the cell behind this place is spare, and what stood behind it stands here
 pub record IsUnlinked (before : ℕ) (queue : Queue) (cells : Cells) (queue_after : Queue) (cells_after : Cells) : Type 0 where
   pub spares : cells_after.spares ≡ cells.spares + 1
@@ -51,3 +61,17 @@ pub record IsUnlinked (before : ℕ) (queue : Queue) (cells : Cells) (queue_afte
   pub end : queue.last ≡ slice_index cells.next.items before → queue_after.last ≡ before
   pub inner : queue.last ≢ slice_index cells.next.items before → queue_after.last ≡ queue.last
   pub count : queue_after.count + 1 ≡ queue.count
+
+-- the cells of a queue are there
+pub record AreInside (queue : Queue) (cells : Cells) : Type 0 where
+  pub request : (k : ℕ) → k < queue.count → after cells.next.items queue.first k < length cells.request.items
+  pub next : (k : ℕ) → k < queue.count → after cells.next.items queue.first k < length cells.next.items
+  pub few : (length cells.request.items < 2 ^ 32) × (length cells.next.items < 2 ^ 32)
+
+-- the cell at this place of a queue leads to the first one that has the request
+pub record IsBefore (r : ℕ) (queue : Queue) (cells : Cells) (place : ℕ) : Type 0 where
+  pub steps : ℕ
+  pub within : suc steps < queue.count
+  pub reached : after cells.next.items queue.first steps ≡ place
+  pub has : slice_index cells.request.items (slice_index cells.next.items place) ≡ r
+  pub earlier : (i : ℕ) → i < suc steps → slice_index (requests_in cells.request.items cells.next.items queue.first queue.count) i ≡ r → ⊥

@@ -1,10 +1,9 @@
 //! Queues whose cells were made before, so that no change of one takes memory.
-ghost use Rattle.std.specs.Prelude.{◌≡◌, ℕ, ◌+◌, ◌-◌, ◌^◌, ◌<◌, ◌≤◌, drop, length, slice_index, slice_index_or, Contains, IfOk, IsTrue, None};
-ghost use Rattle.kn_seats.specs.Pods.{without_request};
-ghost use Rattle.kn_seats.specs.Chains.{after, requests_in, Avoids, AreDistinctSteps};
+ghost use Rattle.std.specs.Prelude.{◌≡◌, ℕ, ◌-◌, ◌^◌, ◌<◌, ◌≤◌, length, slice_index, slice_index_or, Contains, IfOk, IsTrue, MatchOption, None};
+ghost use Rattle.kn_seats.specs.Cells.{AreInside, IsBefore};
+ghost use Rattle.kn_seats.specs.Chains.{requests_in};
 
 use std::alloc::{AllocError, Global};
-use std::mem;
 
 /// Cells for requests. What stands at one place of `request`, `next` and `home` is one cell: its request, the place of the
 /// cell behind it, and the pod in whose queue it is, if it is in one. The first `spares` of `spare` are the places of the cells
@@ -70,7 +69,7 @@ pub struct Queue {
 }
 
 impl Queue {
-    ghost use Rattle.kn_seats.specs.Cells.{IsQueued, IsDequeued, IsUnlinked};
+    ghost use Rattle.kn_seats.specs.Cells.{CanUnlink, IsQueued, IsDequeued, IsUnlinked};
 
     /// A queue without requests.
     pub fn empty() -> Queue
@@ -128,12 +127,7 @@ impl Queue {
 
     /// Takes the request behind this place from the queue. Its cell is spare then.
     pub fn unlink(&mut self, before: usize, cells: &mut Cells)
-        requires some { 0 < self.old.count }
-        requires before { before < length cells.old.next.items }
-        requires next { slice_index cells.old.next.items before < length cells.old.next.items }
-        requires home { slice_index cells.old.next.items before < length cells.old.home.items }
-        requires spares { cells.old.spares < length cells.old.spare.items }
-        requires fits { cells.old.spares < 2 ^ 63 }
+        requires { CanUnlink before self.old cells.old }
         ensures { IsUnlinked before self.old cells.old self.new cells.new }
     {
         let place = cells.next[before];
@@ -148,25 +142,23 @@ impl Queue {
     }
 }
 
-/// Moves the requests before this one, the first of them if it stands there twice, one cell on each. What the first
-/// cell has means nothing then.
-pub fn close_up(queue: Queue, r: u64, request: &mut [u64], next: &[usize])
-    requires queued { Contains (requests_in request.old next.now queue.first queue.count) r }
-    requires apart { AreDistinctSteps next.now queue.first queue.count }
-    requires few { (length request.old < 2 ^ 32) × (length next.now < 2 ^ 32) }
-    requires request { (k : ℕ) → k < queue.count → after next.now queue.first k < length request.old }
-    requires next { (k : ℕ) → k < queue.count → after next.now queue.first k < length next.now }
-    ensures closed { drop 1 (requests_in request.new next.now queue.first queue.count)
-        ≡ without_request r (requests_in request.old next.now queue.first queue.count) }
-    ensures others { (x : ℕ) → Avoids next.now x queue.first queue.count → slice_index request.new x ≡ slice_index request.old x }
+/// The place of the cell that leads to this request, to the first of them if it stands there twice. None where the first cell
+/// has it.
+pub fn leading_to(queue: Queue, r: u64, cells: &Cells) -> Option<usize>
+    requires queued { Contains (requests_in cells.now.request.items cells.now.next.items queue.first queue.count) r }
+    requires inside { AreInside queue cells.now }
+    ensures { MatchOption result (slice_index cells.now.request.items queue.first ≡ r) (IsBefore r queue cells.now) }
 {
-    let mut place = queue.first;
-    let mut held = request[place];
-    for _ in 1..queue.count {
-        if held == r {
-            return;
-        }
-        place = next[place];
-        held = mem::replace(&mut request[place], held);
+    if cells.request[queue.first] == r {
+        return None;
     }
+    let mut place = queue.first;
+    for _ in 1..queue.count {
+        let behind = cells.next[place];
+        if cells.request[behind] == r {
+            return Some(place);
+        }
+        place = behind;
+    }
+    unreachable!()
 }

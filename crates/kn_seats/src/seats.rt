@@ -1,8 +1,9 @@
 //! The seats at all pods. A pod is found by a hint, or else by a binary search over the numbers, which rise.
 ghost use Rattle.std.specs.Prelude.{true, ◌≡◌, ◌+◌, ◌-◌, ◌<◌, ◌≤◌, [], ◌∷◌, ◌++◌, None, drop, length, slice_get, IsTrue, IfOk, OnSome, IfNone, Contains, All, not, nat_lt, ◌&&◌, if◌then◌else◌};
 ghost use Rattle.std.specs.Bool.{OnFalse, OnTrue};
+ghost use Rattle.kn_seats.specs.Cells.{CanUnlink, IsUnlinked};
 
-use crate::cells::{Cells, Queue, close_up};
+use crate::cells::{Cells, Queue, leading_to};
 use crate::tracker::Tracker;
 use kn_event::{Memory, PlaceHints};
 use std::alloc::Global;
@@ -201,12 +202,16 @@ impl Seats {
     {
         let place = self.place_of(p);
         let queue = &mut self.pods[place].queue;
-        close_up(*queue, r, &mut self.cells.request, &self.cells.next);
-        let _ = queue.pop(&mut self.cells);
+        match leading_to(*queue, r, &self.cells) {
+            None => {
+                let _ = queue.pop(&mut self.cells);
+            }
+            Some(before) => cut_out(before, queue, &mut self.cells, &mut self.before),
+        }
     }
 
     /// As `unqueue`, for a request that stands in the queue once. It is unlinked where it lies, and looked for along the queue
-    /// only where numbers of requests that are queued lie 32,768 apart or more.
+    /// only where its hint was lost to a later one whose number lies a multiple of 32,768 above.
     pub fn unlink(&mut self, p: u64, r: u64)
         requires there { IsTrue (has_pod p self.old.pods) }
         requires once { StandsOnce r (pod_at p self.old.pods).queued }
@@ -221,8 +226,7 @@ impl Seats {
             return;
         }
         let queue = &mut self.pods[place].queue;
-        queue.unlink(before, &mut self.cells);
-        hint_behind(before, *queue, &self.cells, &mut self.before);
+        cut_out(before, queue, &mut self.cells, &mut self.before);
     }
 
     /// Ends one that is running at a pod, and answers what may follow there.
@@ -316,10 +320,12 @@ fn hint_from(pods: &[Tracker], place: usize, hints: &mut PlaceHints) {
     }
 }
 
-/// Whoever stands behind this cell in a queue stands behind it from now on.
-fn hint_behind(before: usize, queue: Queue, cells: &Cells, hints: &mut PlaceHints)
-    requires { before < length cells.now.next.items }
+/// Takes the request behind this cell from its queue. Whoever stood behind it stands behind this cell from now on.
+fn cut_out(before: usize, queue: &mut Queue, cells: &mut Cells, hints: &mut PlaceHints)
+    requires { CanUnlink before queue.old cells.old }
+    ensures { IsUnlinked before queue.old cells.old queue.new cells.new }
 {
+    queue.unlink(before, cells);
     let place = cells.next[before];
     if before != queue.last && place < cells.request.len() {
         hints.set(cells.request[place], before);
