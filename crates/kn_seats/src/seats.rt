@@ -211,7 +211,7 @@ impl Seats {
     }
 
     /// As `unqueue`, for a request that stands in the queue once. It is unlinked where it lies, and looked for along the queue
-    /// only where its hint was lost to a later one whose number lies a multiple of 32,768 above.
+    /// only where another one, whose number lies a multiple of 32,768 away, has had its hint since.
     pub fn unlink(&mut self, p: u64, r: u64)
         requires there { IsTrue (has_pod p self.old.pods) }
         requires once { StandsOnce r (pod_at p self.old.pods).queued }
