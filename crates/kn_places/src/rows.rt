@@ -7,6 +7,7 @@ use kn_event::{Row, Stand};
 use kn_stats::Change;
 
 /// The end of a request that stands there, and that the activator handed to its pod or not.
+#[inline(always)]
 fn end_of(stand: Stand, through: bool) -> Change
     ensures { result ≡ end_of stand through }
 {
@@ -18,6 +19,7 @@ fn end_of(stand: Stand, through: bool) -> Change
 
 /// What a row changes of live requests. Where a request ends with it, `stand` and `through` say where that stands before it,
 /// and whether the activator handed it to its pod; of other rows they say nothing.
+#[inline(always)]
 pub fn change_of(added: Row, stand: Stand, through: bool) -> Option<Change>
     ensures { result ≡ change_in added stand through }
 {
@@ -33,6 +35,7 @@ pub fn change_of(added: Row, stand: Stand, through: bool) -> Option<Change>
 }
 
 /// The pod that goes with a row, removed or lost.
+#[inline(always)]
 pub fn gone_of(added: Row) -> Option<u64>
     ensures { result ≡ gone_by added }
 {

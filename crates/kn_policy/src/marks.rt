@@ -51,6 +51,7 @@ pub fn place_by(
 }
 
 /// The place of the first one with a free seat from this place on, once round. A place past the end is read as 0.
+#[inline(always)]
 fn round_place(place: u64, ready: &[Cand], marks: &[u8], first: usize) -> usize
     requires marks { marks.now ≡ marks_of ready.now }
     requires some { 0 < count_by has_seat ready.now }

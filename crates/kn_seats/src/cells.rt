@@ -83,6 +83,7 @@ impl Queue {
     }
 
     /// Queues a request last at a pod whose queue this is, in a spare cell.
+    #[inline(always)]
     pub fn push(&mut self, p: u64, r: u64, cells: &mut Cells)
         requires some { 0 < cells.old.spares }
         requires spares { cells.old.spares ≤ length cells.old.spare.items }
@@ -106,6 +107,7 @@ impl Queue {
     }
 
     /// Takes the first request from the queue. Its cell is spare then.
+    #[inline(always)]
     pub fn pop(&mut self, cells: &mut Cells) -> u64
         requires some { 0 < self.old.count }
         requires request { self.old.first < length cells.old.request.items }

@@ -171,6 +171,7 @@ impl Table {
     }
 
     /// Lets a held request run at a pod that it is assigned to.
+    #[inline(always)]
     pub fn assign(&mut self, r: u64, p: u64)
         requires { contains r (placed_in is_held_place self.old) ≡ true }
         ensures moved { self.new ≡ moved r (place.Running p true) self.old }
@@ -184,6 +185,7 @@ impl Table {
     }
 
     /// Lets a request run at the pod where it is queued.
+    #[inline(always)]
     pub fn run(&mut self, r: u64)
         requires { (p : ℕ) × (contains r (placed_in (queues_at p) self.old) ≡ true) }
         ensures begun { self.new ≡ begins r self.old }
@@ -232,6 +234,7 @@ impl Table {
     }
 
     /// The first request that is held.
+    #[inline(always)]
     pub fn first_held(&self) -> Option<u64>
         ensures first { result ≡ first_of (placed_in is_held_place self.now) }
         ensures held { IfSome result (λ r. contains r (placed_in is_held_place self.now) ≡ true) }
@@ -248,6 +251,7 @@ impl Table {
     }
 
     /// The first request that has waited at least so many milliseconds at this time.
+    #[inline(always)]
     pub fn first_due(&self, timeout_ms: u64, time: u64) -> Option<u64>
         ensures first { result ≡ first_of (due_in timeout_ms time self.now) }
         ensures live { IfSome result (λ r. contains r (numbers_in self.now) ≡ true) }
