@@ -14,3 +14,4 @@ pub mod Walking
 pub mod Freed
 pub mod Running
 pub mod Steps
+pub mod Dispatched

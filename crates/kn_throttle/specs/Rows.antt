@@ -6,6 +6,8 @@ use Rattle.kn_record.specs.declared.admission.Place.{Place}
 use Rattle.kn_record.specs.Admission.{runs_somewhere, waits}
 use Rattle.kn_throttle.specs.declared.throttle.arriving.Arrival.{Arrival}
 use Rattle.kn_throttle.specs.declared.throttle.arriving.Arrival.TheVariants as arrival
+use Rattle.kn_throttle.specs.declared.throttle.dispatching.Dispatch.{Dispatch}
+use Rattle.kn_throttle.specs.declared.throttle.dispatching.Dispatch.TheVariants as dispatch
 
 abbrev pub arrival_row : ℕ → ℕ → Arrival → Row
 arrival_row r tag arrival.Overload = row.Overload r
@@ -25,3 +27,7 @@ finish_row r ok false = row.NotRunning r
 abbrev pub cancel_row : ℕ → Bool → Row
 cancel_row r true = row.Cancel r
 cancel_row r false = row.NotWaiting r
+
+abbrev pub dispatch_row : Dispatch → Row
+dispatch_row (dispatch.Run r) = row.Run r
+dispatch_row (dispatch.Assign r p) = row.Assign r p

@@ -1,11 +1,14 @@
 -- What follows without a further act, of the record.
-use Rattle.std.specs.Prelude.{◌≡◌, ℕ, Bool, ◌+◌, ◌++◌, List, length}
+use Rattle.std.specs.Prelude.{◌≡◌, ℕ, Bool, ◌+◌, ◌++◌, List, [], None, length}
 use Rattle.kn_event.specs.declared.entry.Entry.{Entry}
+use Rattle.kn_trace.specs.Trace.{Trace, first_of}
 use Rattle.kn_record.specs.Admission.{Admission, placed_in, waits}
+use Rattle.kn_record.specs.Made.{IsRecordOf}
 use Rattle.kn_record.specs.Order.{AreTimed}
-use Rattle.kn_record.specs.Views.{is_pod_where, pod_numbered}
-use Rattle.kn_record.specs.Walks.{stepped_by}
+use Rattle.kn_record.specs.Views.{is_pod_where, pod_numbered, pod_numbers}
+use Rattle.kn_record.specs.Walks.{promoting, stepped_by}
 use Rattle.kn_throttle.specs.Kept.{can_leave, can_run}
+use Rattle.kn_throttle.specs.Pods.{pods_where}
 
 -- whether the first queued request of pod p may run, and whether the pod drains with nothing at it
 abbrev pub can_run_at : Admission → ℕ → Bool
@@ -13,6 +16,11 @@ can_run_at a p = is_pod_where (can_run a.live) (pod_numbered p a.pods)
 
 abbrev pub can_leave_at : Admission → ℕ → Bool
 can_leave_at a p = is_pod_where (can_leave a.live) (pod_numbered p a.pods)
+
+-- no queued request may run: at no pod, and in no trace that the record stands for
+pub record IsCalm (a : Admission) : Type 0 where
+  pub pods : first_of (pods_where (can_run a.live) a.pods) ≡ None
+  pub rows : (c : Trace) (time : ℕ) → IsRecordOf a c → promoting time (pod_numbers a.pods) c ≡ []
 
 -- how many rows may follow at most: each is of a request that waits, or of a pod
 abbrev pub rows_left : Admission → ℕ

@@ -149,6 +149,7 @@ impl Candidates {
     }
 
     /// One more request runs at pod `p`.
+    #[inline(always)]
     pub fn begin(&mut self, p: u64)
         requires order { AreAscending self.old }
         requires fits { All (λ (k : Cand). k.running < 2 ^ 63) self.old }
@@ -162,6 +163,7 @@ impl Candidates {
     }
 
     /// One less runs at pod `p`.
+    #[inline(always)]
     pub fn end(&mut self, p: u64)
         requires { AreAscending self.old }
         ensures { self.new ≡ with_changed p ended self.old }
@@ -192,6 +194,7 @@ impl Candidates {
     }
 
     /// Another one of the same limit at this place.
+    #[inline(always)]
     fn replace(&mut self, i: usize, cand: Cand)
         requires inside { i < length self.old }
         requires limit { HoldsAt (λ (k : Cand). k.limit ≡ cand.limit) self.old i }
@@ -258,6 +261,7 @@ impl Candidates {
 }
 
 /// 1 where it has a free seat, and else 0.
+#[inline(always)]
 fn mark_of(cand: &Cand) -> u8
     ensures { result ≡ mark_of cand.now }
 {

@@ -6,4 +6,4 @@ mod pods;
 mod throttle;
 mod touched;
 
-pub use throttle::{Arrival, Throttle};
+pub use throttle::{Arrival, Dispatch, Throttle};

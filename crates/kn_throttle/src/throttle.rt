@@ -9,6 +9,7 @@ ghost use Rattle.kn_record.specs.Made.{IsRecordOf};
 ghost use Rattle.kn_record.specs.Views.{due_in, pod_numbers, stand_in, stand_of_place};
 
 mod arriving;
+mod dispatching;
 mod ending;
 mod gauges;
 mod lifecycle;
@@ -18,6 +19,7 @@ use crate::candidates::Candidates;
 use crate::pods::Pods;
 use crate::touched::Touched;
 pub use arriving::Arrival;
+pub use dispatching::Dispatch;
 use kn_breaker::Breaker;
 use kn_event::{Memory, Spec, Stand};
 use kn_policy::Policy;

@@ -35,6 +35,7 @@ impl Throttle {
 
     /// Takes the next request, in the mode in force. It is refused with 20,000 live ones. In serve mode with Ready pods it goes
     /// straight to the pod in turn, unless that one is full; else it is admitted, unless the breaker is full.
+    #[inline(always)]
     pub fn arrive(&mut self, r: u64, time: u64, mode: Mode) -> Arrival
         requires number { r ≡ self.old.admission.arrivals }
         requires few { r < 2 ^ 54 }
@@ -48,6 +49,7 @@ impl Throttle {
         self.enter(time, mode)
     }
 
+    #[inline(always)]
     #[tactic(auto, unfolding(kn_record::specs::Admission::stepped, kn_record::specs::Acting::row_in))]
     fn enter(&mut self, time: u64, mode: Mode) -> Arrival
         requires few { self.old.admission.arrivals < 2 ^ 54 }

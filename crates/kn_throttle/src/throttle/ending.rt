@@ -26,6 +26,7 @@ impl Throttle {
     ghost use Rattle.kn_throttle.specs.State.{with_row};
 
     /// Ends a running request, well or not. False where it isn't running, and then nothing changes.
+    #[inline(always)]
     pub fn finish(&mut self, r: u64) -> bool
         ensures value { result ≡ contains r (placed_in runs_somewhere self.old.admission.live) }
         ensures after { (time : ℕ) (ok : Bool) → self.new ≡ with_row time (finish_row r ok result) self.old }
@@ -68,6 +69,7 @@ impl Throttle {
     }
 
     /// Ends a request that waits, or one that runs. False where it is not live, or not so.
+    #[inline(always)]
     fn end_where(&mut self, r: u64, waiting: bool) -> bool
         ensures value { result ≡ contains r (placed_in (waits_or_runs waiting) self.old.admission.live) }
         ensures ended { OnTrue result (self.new ≡ record self.old { admission = record self.old.admission { live = without r self.old.admission.live } }) }
@@ -84,6 +86,7 @@ impl Throttle {
     }
 
     /// Ends a live request, lost with its pod or not.
+    #[inline(always)]
     pub(super) fn end(&mut self, r: u64, is_lost: bool)
         requires { contains r (numbers_in self.old.admission.live) ≡ true }
         ensures { self.new ≡ record self.old { admission = record self.old.admission { live = without r self.old.admission.live } } }
@@ -107,6 +110,7 @@ impl Throttle {
 }
 
 /// Takes a request out of the table; one that is lost so that the next at its pod is found from there on.
+#[inline(always)]
 fn take_out(table: &mut Table, r: u64, is_lost: bool) -> Request
     requires { contains r (numbers_in table.old) ≡ true }
     ensures removed { table.new ≡ without r table.old }
@@ -122,6 +126,7 @@ fn take_out(table: &mut Table, r: u64, is_lost: bool) -> Request
 }
 
 /// A running request ends. One that was assigned gives its slot back.
+#[inline(always)]
 fn release(breaker: &mut Breaker, assigned: bool)
     requires { assigned ≡ true → 0 < breaker.old.running }
     ensures { breaker.new ≡ released assigned breaker.old }

@@ -9,7 +9,7 @@ ghost use Rattle.kn_record.specs.Views.{pod_numbers};
 ghost use Rattle.kn_record.specs.Walks.{BeginsWith, promoting};
 ghost use Rattle.kn_throttle.specs.Kept.{can_leave, can_run};
 ghost use Rattle.kn_throttle.specs.Pods.{pods_where};
-ghost use Rattle.kn_throttle.specs.Settling.{AddsNobody, LogsSteps, can_leave_at, can_run_at, rows_left};
+ghost use Rattle.kn_throttle.specs.Settling.{AddsNobody, IsCalm, LogsSteps, can_leave_at, can_run_at, rows_left};
 
 use super::Throttle;
 use super::arriving::LIVE_MOST;
@@ -101,12 +101,14 @@ impl Throttle {
     }
 
     /// Lets the next queued request run, and answers it.
-    fn run_next(&mut self) -> Option<u64>
+    #[inline(always)]
+    pub(super) fn run_next(&mut self) -> Option<u64>
         ensures after { (time : ℕ) → IfSome result (λ r. self.new ≡ with_row time (row.Run r) self.old) }
         ensures unchanged { IfNone result (self.new ≡ self.old) }
         ensures fewer { IfSome result (λ r. rows_left self.new.admission + 1 ≡ rows_left self.old.admission) }
         ensures begins { (c : Trace) (time : ℕ) → IsRecordOf self.old.admission c → IfSome result (λ r. BeginsWith (promoting time (pod_numbers self.old.admission.pods)) time (row.Run r) self.old.admission c) }
         ensures ends { (c : Trace) (time : ℕ) → IsRecordOf self.old.admission c → IfNone result (promoting time (pod_numbers self.old.admission.pods) c ≡ []) }
+        ensures calm { IfNone result (IsCalm self.old.admission) }
     {
         order_laws();
         walk_laws();
@@ -128,12 +130,14 @@ impl Throttle {
     }
 
     /// Assigns the next held request, and answers it and its pod.
-    fn assign_next(&mut self) -> Option<(u64, u64)>
+    #[inline(always)]
+    pub(super) fn assign_next(&mut self) -> Option<(u64, u64)>
         ensures after { (time : ℕ) → IfSome result (λ x. self.new ≡ with_row time (row.Assign x.0 x.1) self.old) }
         ensures unchanged { IfNone result (self.new ≡ self.old) }
         ensures fewer { IfSome result (λ x. rows_left self.new.admission + 1 ≡ rows_left self.old.admission) }
         ensures begins { (c : Trace) (time : ℕ) → IsRecordOf self.old.admission c → IfSome result (λ x. BeginsWith (held_assignments self.old.spec time) time (row.Assign x.0 x.1) self.old.admission c) }
         ensures ends { (c : Trace) (time : ℕ) → IsRecordOf self.old.admission c → IfNone result (held_assignments self.old.spec time c ≡ []) }
+        ensures calm { IsCalm self.old.admission → IfSome result (λ x. IsCalm self.new.admission) }
     {
         order_laws();
         walk_laws();
@@ -187,6 +191,7 @@ impl Throttle {
     }
 
     /// The pod at which a queued request may run next, if one may at all.
+    #[inline(always)]
     fn pod_to_run(&self) -> Option<u64>
         ensures there { IfSome result (λ p. contains p (pod_numbers self.now.admission.pods) ≡ true) }
         ensures first { IfSome result (λ p. first_of (pods_where (can_run self.now.admission.live) self.now.admission.pods) ≡ (if can_run_at self.now.admission p then Some p else None)) }
@@ -199,6 +204,7 @@ impl Throttle {
         }
     }
 
+    #[inline(never)]
     fn first_to_run(&self) -> Option<u64>
         ensures { result ≡ first_of (pods_where (can_run self.now.admission.live) self.now.admission.pods) }
     {

@@ -5,6 +5,7 @@ use Rattle.kn_record.specs.Admission.{is_held_place, placed_in, stepped}
 use Rattle.kn_throttle.proofs.Parts.{cands_ascend}
 use Rattle.kn_throttle.proofs.Ended.{pod_there}
 use Rattle.kn_throttle.proofs.Dispatching.{cands_fit, kept_assigned}
+use Rattle.kn_throttle.proofs.Dispatched.{calm_where, still_none}
 use Rattle.kn_throttle.proofs.Walking.{chosen_at, free-seat, held_runs, next_some, none_free, none_room, picked_at, policy_after, robin-after, seat_found}
 use Rattle.kn_throttle.proofs.throttle.Throttle.assign_next.Goals as goal
 
@@ -93,3 +94,9 @@ returns-clause-begins c = λ d t h.
     let chosen = chosen_at _ _ _ _ _ _ _ _ p c.unwrap-place.result c.as_slice.result.now c.pick_place.result k same c.unwrap-place.ensures c.pick_place.ensures.chosen pod in
     let next = next_some _ _ _ _ _ _ _ _ p k (λ e. absurd (let no = c.if-not-acquire.ensures.full.1 e in cc)) chosen in
     rw (← c.self.view_is) (c.walk_laws.ensures.assign c.self.inside.spec _ d t c.in-Some.r p (rw (← c.self.view_is) at h) (sym c.in-Some.ensures.first) next)
+
+pub returns-clause-calm : goal.returns-clause-calm
+returns-clause-calm c = λ calm.
+    let k = c.self.invariant in
+    let still = still_none c.in-Some.r c.begin_at-p.result _ _ c.self.inside.pods c.assign.ensures.moves (rw (← c.self.view_is) at calm.pods) in
+    calm_where c.walk_laws.ensures.promoted c.self.inside.spec _ k.sound.order.pods still

@@ -5,6 +5,7 @@ use Rattle.kn_throttle.specs.Kept.{can_run}
 use Rattle.kn_throttle.proofs.Parts.{cands_ascend}
 use Rattle.kn_throttle.proofs.Ended.{pod_there}
 use Rattle.kn_throttle.proofs.Dispatching.{cands_fit, first_there, found_where, kept_begun, runs_next}
+use Rattle.kn_throttle.proofs.Dispatched.{calm_where}
 use Rattle.kn_throttle.proofs.Running.{none_runs, one_runs}
 use Rattle.kn_throttle.proofs.Walking.{each_found, kept_ran, none_where, walk_none, walk_run}
 use Rattle.kn_throttle.proofs.throttle.Throttle.run_next.Goals as goal
@@ -91,3 +92,14 @@ returns-in-Some-promote-clause-begins c = λ d t h.
     let moves = c.run.ensures.moves c.in-Some.p (first_there c.in-Some-promote.r _ first) in
     rw (← c.self.view_is) (walk_run c.walk_laws.ensures.promote c.walk_laws.ensures.promoted c.self.inside.spec _ d t c.in-Some.p c.in-Some-promote.r c.self.inside.pods (rw (← c.self.view_is) at h) (each_found c.self.inside.pods k.sound.order.pods)
     (rw c.run.ensures.begun at moves) here first)
+
+pub returns-in_default-clause-calm : goal.returns-in_default-clause-calm
+returns-in_default-clause-calm c =
+    let k = c.self.invariant in
+    rw (← c.self.view_is) (calm_where c.walk_laws.ensures.promoted c.self.inside.spec _ k.sound.order.pods (rw (← c.self.view_is) at c.in_default.ensures.none))
+
+pub returns-in-None-clause-calm : goal.returns-in-None-clause-calm
+returns-in-None-clause-calm c =
+    let k = c.self.invariant in
+    let none = none_runs _ _ _ _ _ _ _ _ c.in-Some.p k (rw (← c.self.view_is) at c.in-Some.ensures.there) (rw (← c.self.view_is) at c.in-Some.ensures.first) c.in-None.ensures.answer in
+    rw (← c.self.view_is) (calm_where c.walk_laws.ensures.promoted c.self.inside.spec _ k.sound.order.pods none)
