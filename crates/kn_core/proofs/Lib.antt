@@ -8,6 +8,7 @@ mod Measured
 mod Losses
 mod Live
 mod Acts
+mod Usual
 mod Waking
 mod Created
 mod Openings

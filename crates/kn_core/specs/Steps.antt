@@ -35,3 +35,14 @@ pub record Steps (old : RevisionState) (e : Event) (entries : List Entry) (answe
   pub start : new.start ≡ old.start
   pub clock : new.clock ≡ e.time
   pub events : new.events ≡ old.events + 1
+
+-- the revision took the event, and these are the entries that it adds to the trace
+pub record Takes (old : RevisionState) (e : Event) (entries : List Entry) (new : RevisionState) : Type 0 where
+  pub logged : (c : Trace) → StandsFor old c → entries ≡ react old.spec c e
+  pub stands : (c : Trace) → StandsFor old c → StandsFor new (c ++ react old.spec c e)
+  pub at : EachAt e.time entries
+  pub few : length entries ≤ 41005
+  pub spec : new.spec ≡ old.spec
+  pub start : new.start ≡ old.start
+  pub clock : new.clock ≡ e.time
+  pub events : new.events ≡ old.events + 1

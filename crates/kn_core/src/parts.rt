@@ -19,6 +19,7 @@ mod event;
 mod gauges;
 mod opening;
 mod scale;
+mod usual;
 mod views;
 
 use crate::rows::{follow_behind, remove_behind};

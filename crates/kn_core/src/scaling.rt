@@ -4,11 +4,16 @@ ghost use Rattle.kn_event.specs.declared.revision.Spec.{Spec as SpecValue};
 ghost use Rattle.kn_trace.specs.Events.{opening};
 ghost use Rattle.kn_trace.specs.Scale.{mode_of};
 ghost use Rattle.kn_trace.specs.Trace.{Trace};
+ghost use Rattle.kn_event.specs.declared.event.Stand.TheVariants as stand;
+ghost use Rattle.kn_throttle.specs.Rows.{dispatch_row};
+ghost use Rattle.kn_core.specs.Firsts.{own_row};
 ghost use Rattle.kn_core.specs.Scaling.{AreNextInSome, IsAtZero, IsNextInSome, IsWokenBy, KeepsScaler, RulesTick, RulesWake, TakesReady, TakesRow, TakesRows, WakesNone, is_waiting_for_pod};
 ghost use Rattle.kn_core.specs.State.{IsFixed, IsMeasuredAt, IsMeasuredBy, IsScalerOf, IsScalerOfSome};
 
+use crate::first::OwnRow;
 use kn_event::{Entry, EntryLog, Kind, Memory, Mode, Row, Spec, Stand};
 use kn_scaler::{Ruled, Scaler};
+use kn_throttle::Dispatch;
 use std::alloc::Global;
 
 /// The autoscaler of a revision that opens, if that scales.
@@ -26,6 +31,7 @@ pub(crate) fn open(alloc: Global, spec: &Spec, start: u64) -> Result<Option<Scal
 }
 
 /// Before the rows of an event, the seconds that are over count.
+#[inline(always)]
 pub(crate) fn advance(scaler: &mut Option<Scaler>, time: u64, ready: bool)
     requires some { IsScalerOfSome scaler.old }
     requires order { IsMeasuredBy time scaler.old }
@@ -50,6 +56,49 @@ pub(crate) fn row(scaler: &mut Option<Scaler>, added: Row, at: Stand, through: b
     match scaler {
         None => {}
         Some(scaler) => scaler.row(added, at, through),
+    }
+}
+
+/// The own row of an arrival or a finish; of each kind apart, so that no row needs memory of its own. `at` and `through` as of
+/// `row`.
+#[inline(always)]
+pub(crate) fn own(scaler: &mut Option<Scaler>, own: OwnRow, at: Stand, through: bool)
+    requires { IsNextInSome scaler.old (own_row own) at through }
+    ensures stands { TakesRow (own_row own) at through scaler.old scaler.new }
+    ensures measured { (t : ℕ) → IsMeasuredAt t scaler.old → IsMeasuredAt t scaler.new }
+{
+    match own {
+        OwnRow::Admit(r, tag) => row(scaler, Row::Admit(r, tag), at, through),
+        OwnRow::Direct(r, p) => row(scaler, Row::Direct(r, p), at, through),
+        OwnRow::QueueFull(r) => row(scaler, Row::QueueFull(r, None), at, through),
+        OwnRow::PodFull(r, p) => row(scaler, Row::QueueFull(r, Some(p)), at, through),
+        OwnRow::Overload(r) => row(scaler, Row::Overload(r), at, through),
+        OwnRow::Finish(r, ok) => row(scaler, Row::Finish(r, ok), at, through),
+        OwnRow::NotRunning(r) => row(scaler, Row::NotRunning(r), at, through),
+    }
+}
+
+/// The row with which a request is dispatched.
+#[inline(always)]
+pub(crate) fn dispatched(scaler: &mut Option<Scaler>, dispatch: Dispatch)
+    requires { IsNextInSome scaler.old (dispatch_row dispatch) stand.Held false }
+    ensures stands { TakesRow (dispatch_row dispatch) stand.Held false scaler.old scaler.new }
+    ensures measured { (t : ℕ) → IsMeasuredAt t scaler.old → IsMeasuredAt t scaler.new }
+{
+    match dispatch {
+        Dispatch::Run(r) => row(scaler, Row::Run(r), Stand::Held, false),
+        Dispatch::Assign(r, p) => row(scaler, Row::Assign(r, p), Stand::Held, false),
+    }
+}
+
+/// Whether no pod is wanted of a revision that scales.
+#[inline(always)]
+pub(crate) fn wants_none(scaler: &Option<Scaler>) -> bool
+    ensures { result ≡ false → (t : ℕ) → WakesNone t scaler.now }
+{
+    match scaler {
+        None => false,
+        Some(scaler) => scaler.want() == 0,
     }
 }
 

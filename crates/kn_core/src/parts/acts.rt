@@ -7,10 +7,12 @@ ghost use Rattle.kn_trace.specs.Trace.{Trace, entry};
 ghost use Rattle.kn_record.specs.declared.admission.Request.{Request};
 ghost use Rattle.kn_throttle.specs.Rows.{arrival_row, cancel_row, finish_row};
 ghost use Rattle.kn_core.specs.Changes.{AddsRow, IsAlone};
+ghost use Rattle.kn_core.specs.Firsts.{own_row};
 ghost use Rattle.kn_core.specs.State.{ArePartsOf, ArePartsOfSome};
 ghost use Rattle.kn_core.specs.Steps.{IsWithinRange};
 
 use super::Parts;
+use crate::first::OwnRow;
 use crate::scaling;
 use kn_event::{Act, Entry, EntryLog, Event, Row};
 use kn_pods::PodAnswer;
@@ -21,26 +23,26 @@ use kn_throttle::Arrival;
 impl Parts {
     /// A request arrives.
     #[inline(always)]
-    fn arrive(&mut self, time: u64, tag: u64) -> Row
+    pub(super) fn arrive(&mut self, time: u64, tag: u64) -> OwnRow
         requires few { self.old.throttle.admission.arrivals < 2 ^ 54 }
         requires order { All (λ (q : Request). q.time ≤ time) self.old.throttle.admission.live }
-        ensures row { (s : SpecValue) (c : Trace) → ArePartsOf s self.old c → act_row s c (act.Arrive tag) ≡ Some result }
-        ensures adds { AddsRow time result self.old self.new }
+        ensures row { (s : SpecValue) (c : Trace) → ArePartsOf s self.old c → act_row s c (act.Arrive tag) ≡ Some (own_row result) }
+        ensures adds { AddsRow time (own_row result) self.old self.new }
     {
         let r = self.throttle.arrivals();
         let mode = scaling::mode(&self.scaler);
         let answer = self.throttle.arrive(r, time, mode);
-        row_of_arrival(r, tag, answer)
+        own_of_arrival(r, tag, answer)
     }
 
     /// A request ends, well or not, if it runs.
     #[inline(always)]
-    fn finish(&mut self, r: u64, ok: bool) -> Row
-        ensures row { (s : SpecValue) (c : Trace) → ArePartsOf s self.old c → act_row s c (act.Finish r ok) ≡ Some result }
-        ensures adds { (t : ℕ) → AddsRow t result self.old self.new }
+    pub(super) fn finish(&mut self, r: u64, ok: bool) -> OwnRow
+        ensures row { (s : SpecValue) (c : Trace) → ArePartsOf s self.old c → act_row s c (act.Finish r ok) ≡ Some (own_row result) }
+        ensures adds { (t : ℕ) → AddsRow t (own_row result) self.old self.new }
     {
         let ran = self.throttle.finish(r);
-        row_of_finish(r, ok, ran)
+        own_of_finish(r, ok, ran)
     }
 
     /// A request is given up, if it waits.
@@ -121,8 +123,8 @@ impl Parts {
         ensures logged { log.new ≡ log.old ++ entries_of e.now.time result }
     {
         match e.act {
-            Act::Arrive(tag) => said(self.arrive(e.time, tag), e.time, log),
-            Act::Finish(r, ok) => said(self.finish(r, ok), e.time, log),
+            Act::Arrive(tag) => said(self.arrive(e.time, tag).row(), e.time, log),
+            Act::Finish(r, ok) => said(self.finish(r, ok).row(), e.time, log),
             Act::Cancel(r) => said(self.cancel(r), e.time, log),
             Act::Ready(p) => said(self.ready(p), e.time, log),
             Act::Limit(p, n) => said(self.limit(p, n), e.time, log),
@@ -142,24 +144,25 @@ fn said(row: Row, time: u64, log: &mut EntryLog) -> Option<Row>
     Some(row)
 }
 
-fn row_of_arrival(r: u64, tag: u64, answer: Arrival) -> Row
-    ensures { result ≡ arrival_row r tag answer }
+fn own_of_arrival(r: u64, tag: u64, answer: Arrival) -> OwnRow
+    ensures { own_row result ≡ arrival_row r tag answer }
 {
     match answer {
-        Arrival::Overload => Row::Overload(r),
-        Arrival::QueueFull(p) => Row::QueueFull(r, p),
-        Arrival::Direct(p) => Row::Direct(r, p),
-        Arrival::Admit => Row::Admit(r, tag),
+        Arrival::Overload => OwnRow::Overload(r),
+        Arrival::QueueFull(None) => OwnRow::QueueFull(r),
+        Arrival::QueueFull(Some(p)) => OwnRow::PodFull(r, p),
+        Arrival::Direct(p) => OwnRow::Direct(r, p),
+        Arrival::Admit => OwnRow::Admit(r, tag),
     }
 }
 
-fn row_of_finish(r: u64, ok: bool, ran: bool) -> Row
-    ensures { result ≡ finish_row r ok ran }
+fn own_of_finish(r: u64, ok: bool, ran: bool) -> OwnRow
+    ensures { own_row result ≡ finish_row r ok ran }
 {
     if ran {
-        Row::Finish(r, ok)
+        OwnRow::Finish(r, ok)
     } else {
-        Row::NotRunning(r)
+        OwnRow::NotRunning(r)
     }
 }
 

@@ -118,7 +118,7 @@ impl Parts {
     }
 
     /// The decision of an arrival that was admitted, where no pod is wanted.
-    fn wake(&mut self, limit: u64, time: u64, log: &mut EntryLog)
+    pub(super) fn wake(&mut self, limit: u64, time: u64, log: &mut EntryLog)
         requires some { IsReadyFor (decided_rows time (act.Arrive 0) (Some (row.Admit 0 0))) self.old }
         requires ranges { AreInRange self.old.throttle.spec }
         requires can { CanScale limit time self.old }

@@ -3,7 +3,7 @@ use Rattle.kn_trace.specs.Events.{act_row}
 use Rattle.kn_core.proofs.parts.Parts.act.Goals as goal
 
 pub returns-in-Finish-clause-adds : goal.returns-in-Finish-clause-adds
-returns-in-Finish-clause-adds c = rw c.said-in-Finish.ensures.row (c.finish.ensures.adds c.args.e.now.time)
+returns-in-Finish-clause-adds c = rw (c.said-in-Finish.ensures.row, c.row-in-Finish.ensures) (c.finish.ensures.adds c.args.e.now.time)
 
 pub returns-in-Cancel-clause-adds : goal.returns-in-Cancel-clause-adds
 returns-in-Cancel-clause-adds c = rw c.said-in-Cancel.ensures.row (c.cancel.ensures.adds c.args.e.now.time)
