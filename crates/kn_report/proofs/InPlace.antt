@@ -5,8 +5,9 @@ use Rattle.std.specs.Fmt.{decimal}
 use Rattle.std.proofs.lemmas.List.{drop-take, take-take, take_at, take_more_set, length-take-le}
 use Rattle.std.proofs.Math.Seq.{drop-append_seam, take-append-add}
 use Rattle.itoa.proofs.Decimal.{decimal_four, pair}
+use Rattle.kn_event.specs.declared.entry.Entry.{Entry}
 use Rattle.kn_event.specs.declared.entry.Row.{Row}
-use Rattle.kn_event.specs.EntryLine.{row_text}
+use Rattle.kn_event.specs.EntryLine.{entry_text, row_text}
 use Rattle.kn_report.specs.declared.digits.TheConstants.{PAIRS}
 use lib.Ieee.Fits.{and_l, and_r}
 
@@ -84,3 +85,9 @@ row_is start new text r s is said h = h ∙ ap (λ (m : List ℕ). start ++ m) (
 pub on_some : {X : Type 0} {P Q : X → Type 0} (r : Option X) → ((x : X) → P x → Q x) → IfSome r P → IfSome r Q
 on_some None f h = tt
 on_some (Some x) f h = f x h
+
+-- a time and what stands after it are the text of an entry
+pub behind_time : (start one two : List ℕ) (e : Entry) → one ≡ start ++ decimal e.time → two ≡ one ++ (row_text e.row ++ 10 ∷ []) → two ≡ start ++ entry_text e
+unfolding entry_text
+behind_time start one two e p q =
+    two_in_a_row start (decimal e.time) (row_text e.row ++ 10 ∷ []) one two ((decimal e.time ++ row_text e.row) ++ 10 ∷ []) p q (append_assoc (decimal e.time) (row_text e.row) (10 ∷ []))

@@ -7,7 +7,8 @@ use Rattle.kn_event.specs.declared.entry.Row.{Row}
 use Rattle.kn_event.specs.declared.entry.Row.TheVariants as row
 use Rattle.kn_trace.specs.Trace.{Trace}
 use Rattle.kn_trace.specs.Report.{Totals, totals, rows_with, is_admit, is_direct, is_assign, is_finish, is_failure, is_expire, is_cancel, is_queue_full, is_overload, is_decision, is_loss}
-use Rattle.kn_report.specs.Tally.{with_row}
+use Rattle.kn_report.specs.Frequent.{CountsEntry}
+use Rattle.kn_report.specs.Tally.{Counted, CountsRow, with_row}
 
 more_where : Bool → ℕ → ℕ
 more_where true n = n + 1
@@ -62,3 +63,10 @@ totals_more c xs i d h =
     ap (λ (m : Trace). totals (c ++ m)) (take_more xs i d h)
     ∙ ap totals (sym (append_assoc c (take i xs) (get_or xs i d ∷ [])))
     ∙ totals-push (c ++ take i xs) (get_or xs i d)
+
+-- an entry that was counted, and the trace with it
+pub counts_entry : (e : Entry) (old new : Counted) → CountsRow e.row old new → CountsEntry e old new
+counts_entry e old new h = record {
+  rows = h.rows;
+  totals = λ c is. h.totals ∙ ap (with_row e.row) is ∙ sym (totals-push c e);
+}

@@ -1,3 +1,4 @@
 pub mod AddingLaws
+pub mod Frequent
 pub mod Tally
 pub mod Waiting

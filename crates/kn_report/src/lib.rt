@@ -3,6 +3,7 @@
 
 mod decision;
 mod digits;
+mod frequent;
 pub mod laws;
 mod own;
 mod rows;
@@ -10,6 +11,7 @@ mod stamp;
 mod tally;
 mod waiting;
 
+pub use frequent::{add_admit, add_assign, add_direct, add_entry, add_finish, add_run};
 pub use own::add_own_rows;
 pub use tally::Tally;
 pub use waiting::{Waiting, add_rows};

@@ -35,6 +35,59 @@ fn put_two(room: &mut [u8], at: usize, word: &[u8], m: u64, n: u64) -> usize
     put_one(room, at, b"", n, b"\n")
 }
 
+/// What stands after the time of an `admit` row, with its LF.
+#[inline(always)]
+pub fn put_admit(room: &mut [u8], at: usize, request: u64, tag: u64) -> usize
+    requires { at + 100 ≤ length room.old }
+    ensures text { take result room.new ≡ take at room.old ++ (row_text (Row.Admit request tag) ++ 10 ∷ []) }
+    ensures end { result ≤ at + 100 }
+{
+    put_two(room, at, b" admit ", request, tag)
+}
+
+/// What stands after the time of an `assign` row, with its LF.
+#[inline(always)]
+pub fn put_assign(room: &mut [u8], at: usize, request: u64, pod: u64) -> usize
+    requires { at + 100 ≤ length room.old }
+    ensures text { take result room.new ≡ take at room.old ++ (row_text (Row.Assign request pod) ++ 10 ∷ []) }
+    ensures end { result ≤ at + 100 }
+{
+    put_two(room, at, b" assign ", request, pod)
+}
+
+/// What stands after the time of a `direct` row, with its LF.
+#[inline(always)]
+pub fn put_direct(room: &mut [u8], at: usize, request: u64, pod: u64) -> usize
+    requires { at + 100 ≤ length room.old }
+    ensures text { take result room.new ≡ take at room.old ++ (row_text (Row.Direct request pod) ++ 10 ∷ []) }
+    ensures end { result ≤ at + 100 }
+{
+    put_two(room, at, b" direct ", request, pod)
+}
+
+/// What stands after the time of a `run` row, with its LF.
+#[inline(always)]
+pub fn put_run(room: &mut [u8], at: usize, request: u64) -> usize
+    requires { at + 100 ≤ length room.old }
+    ensures text { take result room.new ≡ take at room.old ++ (row_text (Row.Run request) ++ 10 ∷ []) }
+    ensures end { result ≤ at + 100 }
+{
+    put_one(room, at, b" run ", request, b"\n")
+}
+
+/// What stands after the time of a `finish` row, with its LF.
+#[inline(always)]
+pub fn put_finish(room: &mut [u8], at: usize, request: u64, ok: bool) -> usize
+    requires { at + 100 ≤ length room.old }
+    ensures text { take result room.new ≡ take at room.old ++ (row_text (Row.Finish request ok) ++ 10 ∷ []) }
+    ensures end { result ≤ at + 100 }
+{
+    if ok {
+        return put_one(room, at, b" finish ", request, b" ok\n");
+    }
+    put_one(room, at, b" finish ", request, b" fail\n")
+}
+
 fn put_queue_full(room: &mut [u8], at: usize, request: u64, pod: Option<u64>) -> usize
     requires { at + 100 ≤ length room.old }
     ensures text { take result room.new ≡ take at room.old ++ (row_text (Row.QueueFull request pod) ++ 10 ∷ []) }
@@ -61,7 +114,7 @@ fn put_row(room: &mut [u8], at: usize, row: &Row, tally: &mut Tally) -> Option<u
     Some(match *row {
         Row::Admit(request, tag) => {
             tally.add(row);
-            put_two(room, at, b" admit ", request, tag)
+            put_admit(room, at, request, tag)
         }
         Row::QueueFull(request, pod) => {
             tally.add(row);
@@ -69,23 +122,23 @@ fn put_row(room: &mut [u8], at: usize, row: &Row, tally: &mut Tally) -> Option<u
         }
         Row::Assign(request, pod) => {
             tally.add(row);
-            put_two(room, at, b" assign ", request, pod)
+            put_assign(room, at, request, pod)
         }
         Row::Direct(request, pod) => {
             tally.add(row);
-            put_two(room, at, b" direct ", request, pod)
+            put_direct(room, at, request, pod)
         }
         Row::Run(request) => {
             tally.add(row);
-            put_one(room, at, b" run ", request, b"\n")
+            put_run(room, at, request)
         }
         Row::Finish(request, true) => {
             tally.add(row);
-            put_one(room, at, b" finish ", request, b" ok\n")
+            put_finish(room, at, request, true)
         }
         Row::Finish(request, false) => {
             tally.add(row);
-            put_one(room, at, b" finish ", request, b" fail\n")
+            put_finish(room, at, request, false)
         }
         Row::Expire(request) => {
             tally.add(row);

@@ -1,5 +1,5 @@
 //! The counts of a report, and its last line.
-ghost use Rattle.std.specs.Prelude.{◌≡◌, ◌+◌, ◌<◌, ◌≤◌, ◌^◌, ◌++◌, [], length};
+ghost use Rattle.std.specs.Prelude.{◌≡◌, ℕ, ◌+◌, ◌<◌, ◌≤◌, ◌^◌, ◌++◌, [], length};
 ghost use Rattle.kn_trace.specs.Trace.{Trace};
 ghost use Rattle.kn_trace.specs.Report.{totals, named, taken_text, ended_text, refused_text, lost_text, last_line};
 ghost use Rattle.kn_report.specs.Tally.{CountsRow};
@@ -75,6 +75,55 @@ impl Tally {
             Row::LostRequest(_) => self.lost += 1,
             Row::Decided(_) => self.decisions += 1,
             _ => self.others += 1,
+        }
+    }
+
+    /// Counts one `admit` row more.
+    #[inline(always)]
+    pub(crate) fn count_admit(&mut self)
+        requires { self.old.rows < 2 ^ 127 }
+        ensures counted { (request tag : ℕ) → CountsRow (Row.Admit request tag) self.old self.new }
+    {
+        self.admitted += 1;
+    }
+
+    /// Counts one `direct` row more.
+    #[inline(always)]
+    pub(crate) fn count_direct(&mut self)
+        requires { self.old.rows < 2 ^ 127 }
+        ensures counted { (request pod : ℕ) → CountsRow (Row.Direct request pod) self.old self.new }
+    {
+        self.direct += 1;
+    }
+
+    /// Counts one `assign` row more.
+    #[inline(always)]
+    pub(crate) fn count_assign(&mut self)
+        requires { self.old.rows < 2 ^ 127 }
+        ensures counted { (request pod : ℕ) → CountsRow (Row.Assign request pod) self.old self.new }
+    {
+        self.assigned += 1;
+    }
+
+    /// Counts one `run` row more.
+    #[inline(always)]
+    pub(crate) fn count_run(&mut self)
+        requires { self.old.rows < 2 ^ 127 }
+        ensures counted { (request : ℕ) → CountsRow (Row.Run request) self.old self.new }
+    {
+        self.others += 1;
+    }
+
+    /// Counts one `finish` row more.
+    #[inline(always)]
+    pub(crate) fn count_finish(&mut self, ok: bool)
+        requires { self.old.rows < 2 ^ 127 }
+        ensures counted { (request : ℕ) → CountsRow (Row.Finish request ok) self.old self.new }
+    {
+        if ok {
+            self.finished += 1;
+        } else {
+            self.failed += 1;
         }
     }
 

@@ -4,13 +4,13 @@ ghost use Rattle.kn_event.specs.EntryLine.{entry_text};
 ghost use Rattle.kn_io.specs.Causes.{HasCause};
 ghost use Rattle.kn_io.specs.Prefix.{AppendsPrefix};
 ghost use Rattle.kn_trace.specs.Report.{rows_text, totals};
-ghost use Rattle.kn_trace.specs.Trace.{Trace};
+ghost use Rattle.kn_trace.specs.Trace.{Trace, entry};
 ghost use Rattle.kn_report.specs.Tally.{CountsRow};
 ghost use Rattle.kn_report.specs.Waiting.{Adds, own_row};
 
 use crate::decision::put_decision;
 use crate::digits::{put_number, put_word};
-use crate::rows::{ROW_ROOM, put_entry};
+use crate::rows::{ROW_ROOM, put_admit, put_assign, put_direct, put_entry, put_finish, put_run};
 use crate::stamp::Stamp;
 use crate::tally::Tally;
 use kn_event::{Entry, EntryLog, Line, Row, entry_line};
@@ -142,6 +142,76 @@ impl Waiting {
         }
     }
 
+    /// Adds an `admit` row behind what waits, where it has room. False says that nothing was added.
+    #[inline(always)]
+    pub(crate) fn add_admit_in_place(&mut self, time: u64, request: u64, tag: u64) -> bool
+        ensures added { result ≡ true → self.new ≡ self.old ++ entry_text (entry time (Row.Admit request tag)) }
+        ensures same { result ≡ false → self.new ≡ self.old }
+    {
+        if self.len > ROOM - ROW_ROOM {
+            return false;
+        }
+        let at = self.stamp.put(&mut self.buffer, self.len, time);
+        self.len = put_admit(&mut self.buffer, at, request, tag);
+        true
+    }
+
+    /// Adds a `direct` row behind what waits, where it has room. False says that nothing was added.
+    #[inline(always)]
+    pub(crate) fn add_direct_in_place(&mut self, time: u64, request: u64, pod: u64) -> bool
+        ensures added { result ≡ true → self.new ≡ self.old ++ entry_text (entry time (Row.Direct request pod)) }
+        ensures same { result ≡ false → self.new ≡ self.old }
+    {
+        if self.len > ROOM - ROW_ROOM {
+            return false;
+        }
+        let at = self.stamp.put(&mut self.buffer, self.len, time);
+        self.len = put_direct(&mut self.buffer, at, request, pod);
+        true
+    }
+
+    /// Adds an `assign` row behind what waits, where it has room. False says that nothing was added.
+    #[inline(always)]
+    pub(crate) fn add_assign_in_place(&mut self, time: u64, request: u64, pod: u64) -> bool
+        ensures added { result ≡ true → self.new ≡ self.old ++ entry_text (entry time (Row.Assign request pod)) }
+        ensures same { result ≡ false → self.new ≡ self.old }
+    {
+        if self.len > ROOM - ROW_ROOM {
+            return false;
+        }
+        let at = self.stamp.put(&mut self.buffer, self.len, time);
+        self.len = put_assign(&mut self.buffer, at, request, pod);
+        true
+    }
+
+    /// Adds a `run` row behind what waits, where it has room. False says that nothing was added.
+    #[inline(always)]
+    pub(crate) fn add_run_in_place(&mut self, time: u64, request: u64) -> bool
+        ensures added { result ≡ true → self.new ≡ self.old ++ entry_text (entry time (Row.Run request)) }
+        ensures same { result ≡ false → self.new ≡ self.old }
+    {
+        if self.len > ROOM - ROW_ROOM {
+            return false;
+        }
+        let at = self.stamp.put(&mut self.buffer, self.len, time);
+        self.len = put_run(&mut self.buffer, at, request);
+        true
+    }
+
+    /// Adds a `finish` row behind what waits, where it has room. False says that nothing was added.
+    #[inline(always)]
+    pub(crate) fn add_finish_in_place(&mut self, time: u64, request: u64, ok: bool) -> bool
+        ensures added { result ≡ true → self.new ≡ self.old ++ entry_text (entry time (Row.Finish request ok)) }
+        ensures same { result ≡ false → self.new ≡ self.old }
+    {
+        if self.len > ROOM - ROW_ROOM {
+            return false;
+        }
+        let at = self.stamp.put(&mut self.buffer, self.len, time);
+        self.len = put_finish(&mut self.buffer, at, request, ok);
+        true
+    }
+
     /// Writes what waits, or on `Failed` some first of it. Nothing waits then.
     pub fn flush<O: Sink>(&mut self, out: &mut O) -> Result<(), Failed>
         ensures ok { OnOk result (Adds (O.held out.old) (O.held out.new) self.old self.new []) }
@@ -176,7 +246,7 @@ impl Waiting {
 
 /// Adds the row of an entry behind what waits, and counts it.
 #[inline(always)]
-fn add_row<O: Sink>(
+pub(crate) fn add_row<O: Sink>(
     e: &Entry,
     tally: &mut Tally,
     line: &mut Line,
@@ -197,7 +267,7 @@ fn add_row<O: Sink>(
 
 /// Adds the row of an entry behind what waits by way of a line, and counts it.
 #[inline(never)]
-fn add_by_line<O: Sink>(
+pub(crate) fn add_by_line<O: Sink>(
     e: &Entry,
     tally: &mut Tally,
     line: &mut Line,
@@ -227,10 +297,11 @@ pub fn add_rows<O: Sink>(
     waiting: &mut Waiting,
     out: &mut O,
 ) -> Result<(), Failed>
-    requires few { tally.old.rows ≤ 2 ^ 126 }
+    requires few { tally.old.rows ≤ 2 ^ 126 + 2 }
     ensures ok { OnOk result (Adds (O.held out.old) (O.held out.new) waiting.old waiting.new (rows_text log.now)) }
     ensures err { OnErr result (AppendsPrefix (O.held out.old) (O.held out.new) (waiting.old ++ rows_text log.now)) }
     ensures cause { HasCause (O.Faulty.faults out.old) (O.Faulty.faults out.new) result }
+    ensures count { OnOk result (tally.new.rows ≡ tally.old.rows + length log.now) }
     ensures rows { OnOk result (tally.new.rows < tally.old.rows + 2 ^ 64) }
     ensures totals { (c : Trace) → tally.old.totals ≡ totals c → OnOk result (tally.new.totals ≡ totals (c ++ log.now)) }
 {
