@@ -99,8 +99,7 @@ pub fn follow_events<T: Teller, S: Source, O: Sink>(
             Ok(None) => return follower.end(teller, reader.version(), count, out),
             Err(error) => return follower.stop(status_of(error), out),
         };
-        follower.step(&e);
-        match follower.tell(teller, &e, out) {
+        match follower.take(teller, &e, out) {
             Ok(()) => {}
             Err(Failed) => return Status::WriteFault,
         }

@@ -3,19 +3,14 @@ use Rattle.std.proofs.Common.{◌≡◌, ℕ, List, [], ◌∷◌, ◌++◌, app
 use Rattle.std.specs.Prelude.{Some, map, unwrap_or}
 use Rattle.kn_event.specs.declared.event.Event.{Event}
 use Rattle.kn_event.specs.declared.revision.Spec.{Spec}
-use Rattle.kn_trace.specs.Events.{added, opening, react, trace_of}
-use Rattle.kn_trace.specs.Trace.{Trace, last_of}
+use Rattle.kn_trace.specs.Events.{added, opening, trace_of}
+use Rattle.kn_trace.specs.Trace.{last_of}
 use Rattle.kn_core.specs.State.{RevisionState}
-use Rattle.kn_laws.specs.History.{GoesOn}
 use Rattle.kn_teller.specs.Run.{Run, begun, later, now_of, trace}
 
 pub trace_begun : (s : Spec) (start : ℕ) → trace (begun s start) ≡ opening s start
 unfolding trace_of added
 trace_begun s start = append-nil (opening s start)
-
-pub trace_later : (run : Run) (e : Event) → GoesOn run.spec run.start run.events (e ∷ []) → trace (later run e) ≡ trace run ++ react run.spec (trace run) e
-unfolding added
-trace_later run e h = h ∙ ap (λ (t : Trace). trace run ++ t) (append-nil (react run.spec (trace run) e))
 
 last_time : (es : List Event) (e : Event) → last_of (map (λ (d : Event). d.time) (es ++ e ∷ [])) ≡ Some e.time
 last_time [] e = refl

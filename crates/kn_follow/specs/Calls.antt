@@ -7,7 +7,7 @@ use Rattle.kn_io.specs.Prefix.{AppendsPrefix}
 use Rattle.kn_io.specs.declared.traits.Source.{Ghosts}
 use Rattle.kn_io.specs.declared.traits.Faulty.{Ghosts as Counted}
 use Rattle.kn_io.specs.declared.traits.Sink.{Ghosts as Writing}
-use Rattle.kn_core.specs.State.{RevisionState, StandsFor}
+use Rattle.kn_core.specs.State.{RevisionState}
 use Rattle.kn_journal.specs.declared.error.JournalError.{JournalError}
 use Rattle.kn_journal.specs.declared.error.JournalError.TheVariants as error
 use Rattle.kn_journal.specs.declared.journal.Setup.{Setup}
@@ -19,7 +19,7 @@ use Rattle.kn_journal.specs.Telling.{Gives, IsLineFault, LeavesRest, ReaderState
 use Rattle.kn_report.specs.Waiting.{Adds}
 use Rattle.kn_teller.specs.declared.teller.Teller.{Ghosts as Telling}
 use Rattle.kn_teller.specs.Manner.{Manner}
-use Rattle.kn_teller.specs.Run.{IsOpened, IsStep, Run, begun, later, now_of, trace}
+use Rattle.kn_teller.specs.Run.{IsOpened, IsRunOf, Run, begun, later}
 use Rattle.kn_follow.specs.Account.{account_of}
 use Rattle.kn_follow.specs.Cutting.{FollowsCut, LeavesCut}
 use Rattle.kn_follow.specs.Endings.{IsBehind, IsRefusal, Stops, status_of}
@@ -125,11 +125,6 @@ FindsNext old new own faulty before now =
 abbrev pub run_from : RevisionState → Run
 run_from x = begun x.spec x.clock
 
--- of whatever run it stood for, it took one event more
-abbrev pub StepsBy : Running → Running → Event → Type 0
-StepsBy old new e =
-    (r : Run) → StandsFor old.revision (trace r) → old.revision.spec ≡ r.spec → now_of r ≡ old.revision.clock → IsStep r e new.revision new.log
-
 -- of whatever run the teller awaits, and the revision has just opened: what is told of its start came behind what waited
 abbrev pub AddsStart : {X Y T E : Type 0} → Telling X → Writing Y → X → Running → Running → Y → Y → Result T E → Type 0
 AddsStart own sink teller old new before now result = (r : Run) → own.awaits teller r → IsOpened r old.revision old.log →
@@ -145,20 +140,20 @@ abbrev pub KnowsStart : {X T E : Type 0} → Telling X → X → X → Running �
 KnowsStart own before now old result =
     (r : Run) → own.awaits before r → IsOpened r old.revision old.log → OnOk result (own.knows now r)
 
--- of whatever run the teller knows, and the revision has just taken this event behind: what is told of it came behind what waited
+-- of whatever run the teller knows, and the revision stood for before this event: what is told of it came behind what waited
 abbrev pub AddsEvent : {X Y T E : Type 0} → Telling X → Writing Y → X → Event → Running → Running → Y → Y → Result T E → Type 0
-AddsEvent own sink teller e old new before now result = (r : Run) → own.knows teller r → IsStep r e old.revision old.log →
+AddsEvent own sink teller e old new before now result = (r : Run) → own.knows teller r → IsRunOf r old.revision →
     OnOk result (Adds (sink.held before) (sink.held now) old.waiting new.waiting ((own.manner teller).tells r e))
 
 -- .. or writing failed amid both
 abbrev pub CutsEvent : {X Y T E : Type 0} → Telling X → Writing Y → X → Event → Running → Y → Y → Result T E → Type 0
-CutsEvent own sink teller e old before now result = (r : Run) → own.knows teller r → IsStep r e old.revision old.log →
+CutsEvent own sink teller e old before now result = (r : Run) → own.knows teller r → IsRunOf r old.revision →
     OnErr result (AppendsPrefix (sink.held before) (sink.held now) (old.waiting ++ (own.manner teller).tells r e))
 
 -- .. and from then on the teller knows the run with it
 abbrev pub KnowsEvent : {X T E : Type 0} → Telling X → X → X → Event → Running → Result T E → Type 0
 KnowsEvent own before now e old result =
-    (r : Run) → own.knows before r → IsStep r e old.revision old.log → OnOk result (own.knows now (later r e))
+    (r : Run) → own.knows before r → IsRunOf r old.revision → OnOk result (own.knows now (later r e))
 
 -- of whatever run of so many events the teller knows: what waits is written, and then what it tells at the end, or that failed
 abbrev pub ClosesRun : {X Y : Type 0} → Telling X → Writing Y → X → ℕ → ℕ → Running → Y → Y → Status → Type 0

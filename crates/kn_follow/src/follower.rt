@@ -5,8 +5,8 @@ ghost use Rattle.kn_io.specs.Prefix.{AppendsPrefix};
 ghost use Rattle.kn_event.specs.EventLine.{IsInJournalRange};
 ghost use Rattle.kn_core.specs.State.{StandsFor};
 ghost use Rattle.kn_report.specs.Waiting.{Adds};
-ghost use Rattle.kn_teller.specs.Run.{IsOpened, begun, trace};
-ghost use Rattle.kn_follow.specs.Calls.{AddsEvent, AddsStart, BreaksInput, ClosesRun, CutsEvent, CutsStart, DrawsInput, FindsNext, FollowsEvents, FollowsEventsCut, IsCaused, IsReady, IsSound, KnowsEvent, KnowsStart, ReadsToEnd, RestOfEvents, StepsBy, run_from};
+ghost use Rattle.kn_teller.specs.Run.{IsOpened, Takes, begun, trace};
+ghost use Rattle.kn_follow.specs.Calls.{AddsEvent, AddsStart, BreaksInput, ClosesRun, CutsEvent, CutsStart, DrawsInput, FindsNext, FollowsEvents, FollowsEventsCut, IsCaused, IsReady, IsSound, KnowsEvent, KnowsStart, ReadsToEnd, RestOfEvents, run_from};
 ghost use Rattle.kn_follow.specs.Endings.{IsFollowed, Stops};
 
 use crate::ending::status_of;
@@ -67,24 +67,6 @@ impl Follower {
         })
     }
 
-    /// Takes one event, of which is still to be told.
-    #[inline(never)]
-    pub fn step(&mut self, e: &Event)
-        requires order { self.old.revision.clock ≤ e.now.time }
-        requires times { e.now.time ≤ 2 ^ 42 }
-        requires events { self.old.revision.events < 2 ^ 54 }
-        requires range { IsInJournalRange e.now.act }
-        ensures step { StepsBy self.old self.new e.now }
-        ensures spec { self.new.revision.spec ≡ self.old.revision.spec }
-        ensures clock { self.new.revision.clock ≡ e.now.time }
-        ensures events { self.new.revision.events ≡ self.old.revision.events + 1 }
-        ensures waiting { self.new.waiting ≡ self.old.waiting }
-    {
-        trace_laws();
-        self.log.clear();
-        self.revision.take(e, &mut self.log);
-    }
-
     /// Adds what the teller tells of the start, behind what waits.
     pub fn tell_start<T: Teller, O: Sink>(
         &mut self,
@@ -109,27 +91,31 @@ impl Follower {
         )
     }
 
-    /// Adds what the teller tells of the last event, behind what waits.
+    /// Has the teller have the revision take one event, and adds what it tells of it, behind what waits.
     #[inline(always)]
-    pub fn tell<T: Teller, O: Sink>(
+    pub fn take<T: Teller, O: Sink>(
         &mut self,
         teller: &mut T,
         e: &Event,
         out: &mut O,
     ) -> Result<(), Failed>
+        requires order { self.old.revision.clock ≤ e.now.time }
+        requires times { e.now.time ≤ 2 ^ 42 }
+        requires events { self.old.revision.events < 2 ^ 54 }
+        requires range { IsInJournalRange e.now.act }
         requires few { T.load teller.old ≤ 2 ^ 126 }
         ensures ok { AddsEvent T.Teller O.Sink.own teller.old e.now self.old self.new out.old out.new result }
         ensures err { CutsEvent T.Teller O.Sink.own teller.old e.now self.old out.old out.new result }
         ensures knows { KnowsEvent T.Teller teller.old teller.new e.now self.old result }
+        ensures takes { Takes self.old.revision e.now self.new.revision }
         ensures manner { T.manner teller.new ≡ T.manner teller.old }
         ensures few { OnOk result (T.load teller.new < T.load teller.old + 2 ^ 64) }
-        ensures revision { self.new.revision ≡ self.old.revision }
         ensures cause { HasCause (O.Faulty.faults out.old) (O.Faulty.faults out.new) result }
     {
-        teller.tell(
+        teller.take(
             e,
-            &self.revision,
-            &self.log,
+            &mut self.revision,
+            &mut self.log,
             &mut self.line,
             &mut self.waiting,
             out,
@@ -263,8 +249,7 @@ impl Follower {
                 Some(e) => e,
                 None => return self.end(teller, reader.version(), count, out),
             };
-            self.step(&e);
-            match self.tell(teller, &e, out) {
+            match self.take(teller, &e, out) {
                 Ok(()) => {}
                 Err(Failed) => return Status::WriteFault,
             }

@@ -1,5 +1,5 @@
 -- A run so far, and what one more event makes of it.
-use Rattle.std.specs.Prelude.{◌≡◌, ℕ, ◌≤◌, ◌^◌, List, [], ◌∷◌, ◌++◌, map, unwrap_or}
+use Rattle.std.specs.Prelude.{◌≡◌, ℕ, ◌+◌, ◌≤◌, ◌^◌, List, [], ◌∷◌, ◌++◌, map, unwrap_or}
 use Rattle.kn_event.specs.declared.entry.Entry.{Entry}
 use Rattle.kn_event.specs.declared.event.Event.{Event}
 use Rattle.kn_event.specs.declared.revision.Spec.{Spec}
@@ -51,3 +51,16 @@ pub record IsStep (r : Run) (e : Event) (x : RevisionState) (log : List Entry) :
   pub made : IsMade r.spec (trace r)
   pub order : now_of r ≤ e.time
   pub times : e.time ≤ 2 ^ 42
+
+-- a revision that stands for this run
+pub record IsRunOf (r : Run) (x : RevisionState) : Type 0 where
+  pub stands : StandsFor x (trace r)
+  pub spec : x.spec ≡ r.spec
+  pub now : now_of r ≡ x.clock
+
+-- a revision took one more event, behind whatever run it stood for
+pub record Takes (old : RevisionState) (e : Event) (new : RevisionState) : Type 0 where
+  pub steps : (r : Run) → IsRunOf r old → IsStep r e new (react r.spec (trace r) e)
+  pub spec : new.spec ≡ old.spec
+  pub clock : new.clock ≡ e.time
+  pub events : new.events ≡ old.events + 1

@@ -2,10 +2,12 @@
 ghost use Rattle.std.specs.Prelude.{◌≡◌, ◌+◌, ◌<◌, ◌≤◌, ◌^◌, ◌++◌, ℕ, length, IfOk, OnErr, OnOk};
 ghost use Rattle.kn_io.specs.Causes.{HasCause};
 ghost use Rattle.kn_io.specs.Prefix.{AppendsPrefix};
+ghost use Rattle.kn_core.specs.Steps.{IsWithinRange};
 ghost use Rattle.kn_report.specs.Waiting.{Adds};
 ghost use Rattle.kn_teller.specs.Manner.{Manner};
-ghost use Rattle.kn_teller.specs.Run.{IsOpened, IsStep, Run, begun, later};
+ghost use Rattle.kn_teller.specs.Run.{IsOpened, IsRunOf, IsStep, Run, Takes, begun, later};
 
+use crate::taking::take_by_log;
 use kn_core::Revision;
 use kn_event::{EntryLog, Event, Line, Memory, Spec};
 use kn_io::{Failed, Sink};
@@ -60,6 +62,34 @@ pub trait Teller {
         ensures manner { manner self.new ≡ manner self.old }
         ensures few { OnOk result (load self.new < load self.old + 2 ^ 64) }
         ensures cause { HasCause (O.Faulty.faults out.old) (O.Faulty.faults out.new) result };
+
+    /// Has the revision take one more event, and adds what is told of it, behind what waits. The log is room that may be used.
+    #[inline(always)]
+    fn take<O: Sink>(
+        &mut self,
+        e: &Event,
+        revision: &mut Revision,
+        log: &mut EntryLog,
+        line: &mut Line,
+        waiting: &mut Waiting,
+        out: &mut O,
+    ) -> Result<(), Failed>
+        requires order { revision.old.clock ≤ e.now.time }
+        requires times { e.now.time ≤ 2 ^ 42 }
+        requires count { revision.old.events < 2 ^ 54 }
+        requires limit { IsWithinRange e.now.act }
+        requires few { load self.old ≤ 2 ^ 126 }
+        ensures ok { (r : Run) → knows self.old r → IsRunOf r revision.old → OnOk result (Adds (O.held out.old) (O.held out.new) waiting.old waiting.new ((manner self.old).tells r e.now)) }
+        ensures err { (r : Run) → knows self.old r → IsRunOf r revision.old → OnErr result (AppendsPrefix (O.held out.old) (O.held out.new) (waiting.old ++ (manner self.old).tells r e.now)) }
+        ensures knows { (r : Run) → knows self.old r → IsRunOf r revision.old → OnOk result (knows self.new (later r e.now)) }
+        ensures takes { Takes revision.old e.now revision.new }
+        ensures manner { manner self.new ≡ manner self.old }
+        ensures few { OnOk result (load self.new < load self.old + 2 ^ 64) }
+        ensures cause { HasCause (O.Faulty.faults out.old) (O.Faulty.faults out.new) result }
+    {
+        take_by_log(revision, e, log);
+        self.tell(e, revision, log, line, waiting, out)
+    }
 
     /// Adds what stands at the end of a good journal of this version with so many events, behind what waits.
     fn end<O: Sink>(

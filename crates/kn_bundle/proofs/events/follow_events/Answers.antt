@@ -1,11 +1,10 @@
 use Rattle.std.proofs.Common.{◌≡◌, ◌+◌, ◌++◌, ℕ, List, [], ◌∷◌, append_assoc, append-nil, length-append, refl, sym, ap, ◌∙◌, subst, arith, le_trans}
-use Rattle.std.proofs.lemmas.Grind.{common_steps}
-use Rattle.kn_core.specs.State.{RevisionState, StandsFor}
+use Rattle.kn_core.specs.State.{RevisionState}
 use Rattle.kn_journal.specs.declared.error.JournalError.TheVariants as error
 use Rattle.kn_journal.specs.declared.status.Status.TheVariants as status
 use Rattle.kn_journal.specs.Reading.{unread}
 use Rattle.kn_report.specs.Waiting.{Adds}
-use Rattle.kn_teller.specs.Run.{begun, trace}
+use Rattle.kn_teller.specs.Run.{IsRunOf, begun}
 use Rattle.kn_teller.specs.Manner.{told}
 use Rattle.kn_follow.specs.Endings.{Stops, status_of}
 use Rattle.kn_follow.specs.Following.{ran}
@@ -20,8 +19,8 @@ loop-count-init g c = record {
       let w = g.T.Teller.manner c.args.teller.now in
       let b = begun c.args.follower.now.revision.spec c.args.follower.now.revision.clock in (
         [],
-        c.requires.stands,
-        (c.requires.knows, refl {a = c.args.follower.now.revision.clock}),
+        record { stands = c.requires.stands; spec = refl; now = refl {a = c.args.follower.now.revision.clock} },
+        c.requires.knows,
         refl,
         c.adding_laws.ensures.laws.waits
             (ap (λ (z : List ℕ). c.args.follower.now.waiting ++ z) (c.telling_laws.ensures.laws.none w b) ∙ append-nil c.args.follower.now.waiting),
@@ -30,7 +29,6 @@ loop-count-init g c = record {
   along = along_begin c.args.reader.now.cut (unread c.args.reader.now.input (g.S.Source.left c.args.source.now));
   manner = refl;
   load = omega (arith, c.requires.load);
-  spec = refl;
   within = c.requires.ready.within;
   version = refl;
   last = c.requires.ready.last;
@@ -44,15 +42,15 @@ loop-count-init g c = record {
 pub next_event-requires : goal.next_event-requires
 next_event-requires g c = record { within = c.loop-count.invariant.within }
 
-pub step-requires-clause-order : goal.step-requires-clause-order
-step-requires-clause-order g c =
+pub take-requires-clause-order : goal.take-requires-clause-order
+take-requires-clause-order g c =
     omega (arith, (rw c.in-Ok-Some.field-0-is at c.in-Ok-Some.ensures.next).order, c.loop-count.invariant.last, ap (λ (x : RevisionState). x.clock) c.write_unless.ensures.revision)
 
-pub step-requires-clause-events : goal.step-requires-clause-events
-step-requires-clause-events g c = omega (arith, c.loop-count.invariant.events, c.loop-count-test.true, ap (λ (x : RevisionState). x.events) c.write_unless.ensures.revision)
+pub take-requires-clause-events : goal.take-requires-clause-events
+take-requires-clause-events g c = omega (arith, c.loop-count.invariant.events, c.loop-count-test.true, ap (λ (x : RevisionState). x.events) c.write_unless.ensures.revision)
 
-pub tell-requires : goal.tell-requires
-tell-requires g c = omega (arith, c.loop-count.invariant.load, c.loop-count-test.true)
+pub take-requires-clause-few : goal.take-requires-clause-few
+take-requires-clause-few g c = omega (arith, c.loop-count.invariant.load, c.loop-count-test.true)
 
 pub end-requires : goal.end-requires
 end-requires g c = omega (arith, c.loop-count.invariant.load, c.loop-count-test.true)
@@ -68,17 +66,15 @@ loop-count-preserved g c =
     let known = unread c.args.reader.now.input (g.S.Source.left c.args.source.now) in
     let rest = unread c.loop-count.reader.input (g.S.Source.left c.loop-count.source) in
     let left = unread c.next_event.new.reader.input (g.S.Source.left c.next_event.new.source) in
-    let stood = subst (λ (x : RevisionState). StandsFor x (trace (ran b on.0))) (sym c.write_unless.ensures.revision) on.1 in
-    let spec = ap (λ (x : RevisionState). x.spec) c.write_unless.ensures.revision ∙ kept.spec in
-    let clock = on.2.1 ∙ sym (ap (λ (x : RevisionState). x.clock) c.write_unless.ensures.revision) in
-    let step = c.step.ensures.step (ran b on.0) stood spec clock in
+    let run = subst (IsRunOf (ran b on.0)) (sym c.write_unless.ensures.revision) on.1 in
     let adds = c.adding_laws.ensures.laws.on on.4 c.in-Ok.ensures.ok in
-    let wrote = rw (c.step.ensures.waiting, kept.manner) at c.in-Ok-tell.ensures.ok (ran b on.0) on.2.0 step in
+    let step = c.take.ensures.takes.steps (ran b on.0) run in
+    let wrote = rw kept.manner at c.in-Ok-take.ensures.ok (ran b on.0) on.2 run in
     record {
       on = (
         on.0 ++ e ∷ [],
-        rw c.in-Ok-tell.ensures.revision step.stands,
-        (c.in-Ok-tell.ensures.knows (ran b on.0) on.2.0 step, c.telling_laws.ensures.laws.clock (ran b on.0) e ∙ sym (ap (λ (x : RevisionState). x.clock) c.in-Ok-tell.ensures.revision ∙ c.step.ensures.clock)),
+        record { stands = step.stands; spec = step.spec; now = c.telling_laws.ensures.laws.clock (ran b on.0) e ∙ sym step.clock },
+        c.in-Ok-take.ensures.knows (ran b on.0) on.2 run,
         length-append on.0 (e ∷ []) ∙ ap (λ (n : ℕ). n + 1) on.3,
         c.adding_laws.ensures.laws.more adds wrote (sym (c.telling_laws.ensures.laws.next w b on.0 e)),
         rw read.last (goes_more c.args.reader.now.version c.args.reader.now.last c.args.reader.now.number known on.0 c.loop-count.reader.last c.loop-count.reader.number rest e c.next_event.new.reader.number left on.5 (rw kept.version at read.gives)),
@@ -86,17 +82,16 @@ loop-count-preserved g c =
       along =
           along_text c.args.reader.now.cut c.next_event.new.reader.cut known left
           (along_more c.text_laws.ensures.laws c.args.reader.now.cut c.loop-count.reader.cut c.next_event.new.reader.cut known rest left kept.along read.text);
-      manner = c.in-Ok-tell.ensures.manner ∙ kept.manner;
-      load = omega (arith, kept.load, c.in-Ok-tell.ensures.few);
-      spec = ap (λ (x : RevisionState). x.spec) c.in-Ok-tell.ensures.revision ∙ c.step.ensures.spec ∙ spec;
+      manner = c.in-Ok-take.ensures.manner ∙ kept.manner;
+      load = omega (arith, kept.load, c.in-Ok-take.ensures.few);
       within = read.within;
       version = c.next_event.ensures.version ∙ kept.version;
-      last = grind (arith, common_steps, read.last);
-      clock = grind (arith, common_steps, read.times);
-      events = grind (arith, common_steps);
+      last = read.last ∙ sym step.clock;
+      clock = omega (arith, read.times, step.clock);
+      events = omega (arith, kept.events, c.take.ensures.takes.events, ap (λ (x : RevisionState). x.events) c.write_unless.ensures.revision);
       taken = omega (arith, kept.taken, read.bytes);
       draws = c.call_laws.ensures.laws.draws kept.draws c.next_event.ensures.draws;
-      write = omega (arith, kept.write, c.write_unless.ensures.cause.never_falls, c.tell.ensures.cause.never_falls);
+      write = omega (arith, kept.write, c.write_unless.ensures.cause.never_falls, c.take.ensures.cause.never_falls);
     }
 
 pub returns-in-Err-clause-follows : goal.returns-in-Err-clause-follows
@@ -119,7 +114,7 @@ returns-in-Ok-None-clause-follows g c over =
     let held = g.O.Sink.held c.args.out.now in
     let adds = c.adding_laws.ensures.laws.on on.4 c.in-Ok.ensures.ok in
     let version : c.version.result ≡ c.args.reader.now.version = c.version.ensures ∙ c.next_event.ensures.version ∙ kept.version in
-    let ended = rw (version, kept.manner) at c.end.ensures.stops (ran b on.0) on.2.0 (sym on.3) in
+    let ended = rw (version, kept.manner) at c.end.ensures.stops (ran b on.0) on.2 (sym on.3) in
     let mid = g.O.Sink.held c.write_unless.new.out in
     let x = told w b on.0 in
     let y = w.ends c.args.reader.now.version (ran b on.0) in
@@ -154,8 +149,8 @@ returns-in-Err-next_event-clause-followed g c =
     c.ending_laws.ensures.laws.stop_followed _ _ _ (status_of c.in-Err-next_event.error) c.stop.result (rw c.status_of.ensures.value at c.stop.ensures.stops)
     (c.ending_laws.ensures.laws.followed c.in-Err-next_event.error c.in-Err-next_event.ensures.next.memory)
 
-pub returns-in-Err-tell-clause-follows : goal.returns-in-Err-tell-clause-follows
-returns-in-Err-tell-clause-follows g c over =
+pub returns-in-Err-take-clause-follows : goal.returns-in-Err-take-clause-follows
+returns-in-Err-take-clause-follows g c over =
     let w = g.T.Teller.manner c.args.teller.now in
     let b = begun c.args.follower.now.revision.spec c.args.follower.now.revision.clock in
     let kept = c.loop-count.invariant in
@@ -167,14 +162,11 @@ returns-in-Err-tell-clause-follows g c over =
     let e = c.in-Ok-Some.e in
     let read = rw c.in-Ok-Some.field-0-is at c.in-Ok-Some.ensures.next in
     let adds = c.adding_laws.ensures.laws.on on.4 c.in-Ok.ensures.ok in
-    let stood = subst (λ (x : RevisionState). StandsFor x (trace (ran b on.0))) (sym c.write_unless.ensures.revision) on.1 in
-    let spec = ap (λ (x : RevisionState). x.spec) c.write_unless.ensures.revision ∙ kept.spec in
-    let clock = on.2.1 ∙ sym (ap (λ (x : RevisionState). x.clock) c.write_unless.ensures.revision) in
-    let step = c.step.ensures.step (ran b on.0) stood spec clock in
+    let run = subst (IsRunOf (ran b on.0)) (sym c.write_unless.ensures.revision) on.1 in
     let more = goes_more c.args.reader.now.version c.args.reader.now.last c.args.reader.now.number known on.0 c.loop-count.reader.last c.loop-count.reader.number (unread c.loop-count.reader.input (g.S.Source.left c.loop-count.source)) e c.next_event.new.reader.number left on.5 (rw kept.version at read.gives) in
-    goes_cut c.adding_laws.ensures.laws (λ es. p ++ told w b es) (λ es. w.ends c.args.reader.now.version (ran b es)) c.args.reader.now.version c.args.reader.now.last c.args.reader.now.number c.next_event.new.reader.number known left held (g.O.Sink.held c.tell.new.out) (on.0 ++ e ∷ []) e.time c.next_event.new.reader.number left
+    goes_cut c.adding_laws.ensures.laws (λ es. p ++ told w b es) (λ es. w.ends c.args.reader.now.version (ran b es)) c.args.reader.now.version c.args.reader.now.last c.args.reader.now.number c.next_event.new.reader.number known left held (g.O.Sink.held c.take.new.out) (on.0 ++ e ∷ []) e.time c.next_event.new.reader.number left
     more (told-grows c.telling_laws.ensures.laws w b p)
-    (some_told c.adding_laws.ensures.laws c.telling_laws.ensures.laws w b on.0 e held (g.O.Sink.held c.write_unless.new.out) (g.O.Sink.held c.tell.new.out) p c.write_unless.new.self.waiting adds (rw (c.step.ensures.waiting, kept.manner) at c.in-Err-tell.ensures.err (ran b on.0) on.2.0 step))
+    (some_told c.adding_laws.ensures.laws c.telling_laws.ensures.laws w b on.0 e held (g.O.Sink.held c.write_unless.new.out) (g.O.Sink.held c.take.new.out) p c.write_unless.new.self.waiting adds (rw kept.manner at c.in-Err-take.ensures.err (ran b on.0) on.2 run))
 
 -- So many events have more bytes than may be taken.
 pub returns-clause-follows : goal.returns-clause-follows
@@ -220,16 +212,16 @@ returns-in-Err-next_event-clause-cause g c =
     c.call_laws.ensures.laws.caused (le_trans c.loop-count.invariant.write c.write_unless.ensures.cause.never_falls)
     (c.stop.ensures.cause (λ is. c.ending_laws.ensures.laws.never_write_fault c.in-Err-next_event.error (sym c.status_of.ensures.value ∙ is)))
 
-pub returns-in-Err-tell-clause-draws : goal.returns-in-Err-tell-clause-draws
-returns-in-Err-tell-clause-draws g c = c.call_laws.ensures.laws.draws c.loop-count.invariant.draws c.next_event.ensures.draws
+pub returns-in-Err-take-clause-draws : goal.returns-in-Err-take-clause-draws
+returns-in-Err-take-clause-draws g c = c.call_laws.ensures.laws.draws c.loop-count.invariant.draws c.next_event.ensures.draws
 
-pub returns-in-Err-tell-clause-grows : goal.returns-in-Err-tell-clause-grows
-returns-in-Err-tell-clause-grows g c = omega (arith, c.loop-count.invariant.taken, c.next_event.ensures.grows)
+pub returns-in-Err-take-clause-grows : goal.returns-in-Err-take-clause-grows
+returns-in-Err-take-clause-grows g c = omega (arith, c.loop-count.invariant.taken, c.next_event.ensures.grows)
 
-pub returns-in-Err-tell-clause-cause : goal.returns-in-Err-tell-clause-cause
-returns-in-Err-tell-clause-cause g c =
+pub returns-in-Err-take-clause-cause : goal.returns-in-Err-take-clause-cause
+returns-in-Err-take-clause-cause g c =
     let before = le_trans c.loop-count.invariant.write c.write_unless.ensures.cause.never_falls in
-    record { never_falls = le_trans before c.tell.ensures.cause.never_falls; failed = λ is. c.call_laws.ensures.laws.rose _ _ _ before c.in-Err-tell.ensures.cause.failed }
+    record { never_falls = le_trans before c.take.ensures.cause.never_falls; failed = λ is. c.call_laws.ensures.laws.rose _ _ _ before c.in-Err-take.ensures.cause.failed }
 
 pub returns-clause-broken : goal.returns-clause-broken
 returns-clause-broken g c fault = absurd (omega (arith, c.loop-count.invariant.taken, c.loop-count.invariant.within.few, c.loop-count-test.false))

@@ -1,11 +1,10 @@
 use Rattle.std.proofs.Common.{◌≡◌, ◌+◌, ◌++◌, ℕ, [], ◌∷◌, length-append, refl, sym, ap, ◌∙◌, subst, arith, le_trans}
-use Rattle.std.proofs.lemmas.Grind.{common_steps}
-use Rattle.kn_core.specs.State.{RevisionState, StandsFor}
+use Rattle.kn_core.specs.State.{RevisionState}
 use Rattle.kn_journal.specs.declared.status.Status.TheVariants as status
 use Rattle.kn_journal.specs.Reading.{unread}
 use Rattle.kn_follow.specs.Endings.{status_of}
 use Rattle.kn_report.specs.Waiting.{Adds}
-use Rattle.kn_teller.specs.Run.{begun, trace}
+use Rattle.kn_teller.specs.Run.{IsRunOf, begun}
 use Rattle.kn_follow.specs.Following.{ran}
 use Rattle.kn_follow.proofs.Nexts.{broken_on, caused_on, draws_on}
 use Rattle.kn_follow.proofs.Runs.{now_later}
@@ -22,8 +21,8 @@ loop-count-init g c = record {
       let w = g.T.Teller.manner c.args.teller.now in
       let b = begun c.args.self.now.revision.spec c.args.self.now.revision.clock in (
         [],
-        c.requires.stands,
-        (c.requires.knows, refl {a = c.args.self.now.revision.clock}),
+        record { stands = c.requires.stands; spec = refl; now = refl {a = c.args.self.now.revision.clock} },
+        c.requires.knows,
         refl,
         subst (Adds (g.O.Sink.held c.args.out.now) (g.O.Sink.held c.args.out.now) c.args.self.now.waiting c.args.self.now.waiting) (sym (told-nil w b)) c.adding_laws.ensures.laws.nothing,
         goes_begin c.args.reader.now.version c.args.reader.now.last c.args.reader.now.number (unread c.args.reader.now.input (g.S.Source.left c.args.source.now)),
@@ -32,7 +31,6 @@ loop-count-init g c = record {
   still = still_begin _;
   manner = refl;
   load = omega (arith, c.requires.load);
-  spec = refl;
   sound = c.requires.ready.sound;
   version = refl;
   last = c.requires.ready.last;
@@ -73,7 +71,7 @@ returns-in-None-clause-follows g c over =
     let adds = c.adding_laws.ensures.laws.on on.4 c.in-Ok.ensures.adds in
     let version : c.version.result ≡ c.args.reader.now.version = c.version.ensures ∙ c.next.ensures.version ∙ kept.version in
     let gives = rw (c.in-Ok-read.is, c.in-None.is, kept.version) at c.in-Ok.ensures.next in
-    let ended = rw (version, kept.manner) at c.end.ensures.stops (ran b on.0) on.2.0 (sym on.3) in
+    let ended = rw (version, kept.manner) at c.end.ensures.stops (ran b on.0) on.2 (sym on.3) in
     goes_good c.adding_laws.ensures.laws c.args.reader.now.cut c.args.reader.now.version w b c.args.reader.now.last c.args.reader.now.number (unread c.args.reader.now.input (g.S.Source.left c.args.source.now)) c.args.self.now.waiting c.next.new.self.waiting (g.O.Sink.held c.args.out.now) (g.O.Sink.held c.next.new.out) (g.O.Sink.held c.end.new.out) on.0 c.loop-count.reader.last c.loop-count.reader.number (unread c.loop-count.reader.input (g.S.Source.left c.loop-count.source)) c.next.new.reader.number (unread c.next.new.reader.input (g.S.Source.left c.next.new.source)) c.end.result
     on.5 gives adds ended
 
@@ -88,7 +86,7 @@ returns-in-None-clause-cut g c over fault =
     let on = kept.on in
     let adds = c.adding_laws.ensures.laws.on on.4 c.in-Ok.ensures.adds in
     let gives = rw (c.in-Ok-read.is, c.in-None.is, kept.version) at c.in-Ok.ensures.next in
-    let some = stop_cut _ _ _ status.Ok c.end.result (c.end.ensures.stops (ran b on.0) on.2.0 (sym on.3)) fault (λ is. subst IsWriteFault (sym is) tt) in
+    let some = stop_cut _ _ _ status.Ok c.end.result (c.end.ensures.stops (ran b on.0) on.2 (sym on.3)) fault (λ is. subst IsWriteFault (sym is) tt) in
     cut_good c.args.reader.now.version w b c.args.reader.now.last c.args.reader.now.number (unread c.args.reader.now.input (g.S.Source.left c.args.source.now)) c.args.self.now.waiting c.next.new.self.waiting _ (g.O.Sink.held c.args.out.now) (g.O.Sink.held c.next.new.out) (g.O.Sink.held c.end.new.out) on.0 c.loop-count.reader.last c.loop-count.reader.number (unread c.loop-count.reader.input (g.S.Source.left c.loop-count.source)) c.next.new.reader.number (unread c.next.new.reader.input (g.S.Source.left c.next.new.source))
     on.5 gives adds some c.next.ensures.fits
 
@@ -140,22 +138,22 @@ returns-in-Err-read-clause-followed g c =
     stop_followed _ _ _ (status_of c.in-Err-read.error) c.stop.result (rw c.status_of.ensures.value at c.stop.ensures.stops)
     (followed_of c.in-Err-read.error (rw c.in-Err-read.is at c.in-Ok.ensures.next).memory)
 
-pub step-requires-clause-order : goal.step-requires-clause-order
-step-requires-clause-order g c =
+pub take-requires-clause-order : goal.take-requires-clause-order
+take-requires-clause-order g c =
     let read = rw (c.in-Ok-read.is, c.in-Some.is) at c.in-Ok.ensures.next in
     omega (arith, read.order, c.loop-count.invariant.last, ap (λ (x : RevisionState). x.clock) c.next.ensures.revision)
 
-pub step-requires-clause-events : goal.step-requires-clause-events
-step-requires-clause-events g c = omega (arith, c.loop-count.invariant.events, c.loop-count-test.true, ap (λ (x : RevisionState). x.events) c.next.ensures.revision)
+pub take-requires-clause-events : goal.take-requires-clause-events
+take-requires-clause-events g c = omega (arith, c.loop-count.invariant.events, c.loop-count-test.true, ap (λ (x : RevisionState). x.events) c.next.ensures.revision)
 
-pub tell-requires : goal.tell-requires
-tell-requires g c = omega (arith, c.loop-count.invariant.load, c.loop-count-test.true)
+pub take-requires-clause-few : goal.take-requires-clause-few
+take-requires-clause-few g c = omega (arith, c.loop-count.invariant.load, c.loop-count-test.true)
 
 pub end-requires : goal.end-requires
 end-requires g c = omega (arith, c.loop-count.invariant.load, c.loop-count-test.true)
 
-pub returns-in-Err-tell-clause-follows : goal.returns-in-Err-tell-clause-follows
-returns-in-Err-tell-clause-follows g c over =
+pub returns-in-Err-take-clause-follows : goal.returns-in-Err-take-clause-follows
+returns-in-Err-take-clause-follows g c over =
     let w = g.T.Teller.manner c.args.teller.now in
     let b = begun c.args.self.now.revision.spec c.args.self.now.revision.clock in
     let kept = c.loop-count.invariant in
@@ -163,30 +161,24 @@ returns-in-Err-tell-clause-follows g c over =
     let adds = c.adding_laws.ensures.laws.on on.4 c.in-Ok.ensures.adds in
     let left = (unread c.next.new.reader.input (g.S.Source.left c.next.new.source)) in
     let gives = (rw (c.in-Ok-read.is, c.in-Some.is, kept.version) at c.in-Ok.ensures.next).gives in
-    let stood = subst (λ (x : RevisionState). StandsFor x (trace (ran b on.0))) (sym c.next.ensures.revision) on.1 in
-    let spec = ap (λ (x : RevisionState). x.spec) c.next.ensures.revision ∙ kept.spec in
-    let clock = on.2.1 ∙ sym (ap (λ (x : RevisionState). x.clock) c.next.ensures.revision) in
-    let step = c.step.ensures.step (ran b on.0) stood spec clock in
-    goes_cut c.adding_laws.ensures.laws c.args.reader.now.cut c.args.reader.now.version w b c.args.reader.now.last c.args.reader.now.number (unread c.args.reader.now.input (g.S.Source.left c.args.source.now)) c.args.self.now.waiting c.next.new.self.waiting (g.O.Sink.held c.args.out.now) (g.O.Sink.held c.next.new.out) (g.O.Sink.held c.tell.new.out) on.0 c.loop-count.reader.last c.loop-count.reader.number (unread c.loop-count.reader.input (g.S.Source.left c.loop-count.source)) c.in-Some.e c.next.new.reader.number left left
-    on.5 gives adds (rw (c.step.ensures.waiting, kept.manner) at c.in-Err-tell.ensures.err (ran b on.0) on.2.0 step)
+    let run = subst (IsRunOf (ran b on.0)) (sym c.next.ensures.revision) on.1 in
+    goes_cut c.adding_laws.ensures.laws c.args.reader.now.cut c.args.reader.now.version w b c.args.reader.now.last c.args.reader.now.number (unread c.args.reader.now.input (g.S.Source.left c.args.source.now)) c.args.self.now.waiting c.next.new.self.waiting (g.O.Sink.held c.args.out.now) (g.O.Sink.held c.next.new.out) (g.O.Sink.held c.take.new.out) on.0 c.loop-count.reader.last c.loop-count.reader.number (unread c.loop-count.reader.input (g.S.Source.left c.loop-count.source)) c.in-Some.e c.next.new.reader.number left left
+    on.5 gives adds (rw kept.manner at c.in-Err-take.ensures.err (ran b on.0) on.2 run)
 
-pub returns-in-Err-tell-clause-rest : goal.returns-in-Err-tell-clause-rest
-returns-in-Err-tell-clause-rest g c refused = absurd refused
+pub returns-in-Err-take-clause-rest : goal.returns-in-Err-take-clause-rest
+returns-in-Err-take-clause-rest g c refused = absurd refused
 
-pub returns-in-Err-tell-clause-cut : goal.returns-in-Err-tell-clause-cut
-returns-in-Err-tell-clause-cut g c over fault =
+pub returns-in-Err-take-clause-cut : goal.returns-in-Err-take-clause-cut
+returns-in-Err-take-clause-cut g c over fault =
     let w = g.T.Teller.manner c.args.teller.now in
     let b = begun c.args.self.now.revision.spec c.args.self.now.revision.clock in
     let kept = c.loop-count.invariant in
     let on = kept.on in
     let adds = c.adding_laws.ensures.laws.on on.4 c.in-Ok.ensures.adds in
-    let stood = subst (λ (x : RevisionState). StandsFor x (trace (ran b on.0))) (sym c.next.ensures.revision) on.1 in
-    let spec = ap (λ (x : RevisionState). x.spec) c.next.ensures.revision ∙ kept.spec in
-    let clock = on.2.1 ∙ sym (ap (λ (x : RevisionState). x.clock) c.next.ensures.revision) in
-    let step = c.step.ensures.step (ran b on.0) stood spec clock in
+    let run = subst (IsRunOf (ran b on.0)) (sym c.next.ensures.revision) on.1 in
     let gives = (rw (c.in-Ok-read.is, c.in-Some.is, kept.version) at c.in-Ok.ensures.next).gives in
-    cut_event c.args.reader.now.version w b c.args.reader.now.last c.args.reader.now.number (unread c.args.reader.now.input (g.S.Source.left c.args.source.now)) c.args.self.now.waiting c.next.new.self.waiting _ (g.O.Sink.held c.args.out.now) (g.O.Sink.held c.next.new.out) (g.O.Sink.held c.tell.new.out) on.0 c.loop-count.reader.last c.loop-count.reader.number (unread c.loop-count.reader.input (g.S.Source.left c.loop-count.source)) c.in-Some.e c.next.new.reader.number (unread c.next.new.reader.input (g.S.Source.left c.next.new.source))
-    on.5 gives adds (rw c.step.ensures.waiting at c.in-Err-tell.ensures.err (ran b on.0) on.2.0 step) c.next.ensures.fits
+    cut_event c.args.reader.now.version w b c.args.reader.now.last c.args.reader.now.number (unread c.args.reader.now.input (g.S.Source.left c.args.source.now)) c.args.self.now.waiting c.next.new.self.waiting _ (g.O.Sink.held c.args.out.now) (g.O.Sink.held c.next.new.out) (g.O.Sink.held c.take.new.out) on.0 c.loop-count.reader.last c.loop-count.reader.number (unread c.loop-count.reader.input (g.S.Source.left c.loop-count.source)) c.in-Some.e c.next.new.reader.number (unread c.next.new.reader.input (g.S.Source.left c.next.new.source))
+    on.5 gives adds (c.in-Err-take.ensures.err (ran b on.0) on.2 run) c.next.ensures.fits
 
 pub loop-count-preserved : goal.loop-count-preserved
 loop-count-preserved g c =
@@ -197,17 +189,15 @@ loop-count-preserved g c =
     let e = c.in-Some.e in
     let read = rw (c.in-Ok-read.is, c.in-Some.is) at c.in-Ok.ensures.next in
     let last : c.next.new.reader.last ≡ e.time = read.last in
-    let stood = subst (λ (x : RevisionState). StandsFor x (trace (ran b on.0))) (sym c.next.ensures.revision) on.1 in
-    let spec = ap (λ (x : RevisionState). x.spec) c.next.ensures.revision ∙ kept.spec in
-    let clock = on.2.1 ∙ sym (ap (λ (x : RevisionState). x.clock) c.next.ensures.revision) in
-    let step = c.step.ensures.step (ran b on.0) stood spec clock in
+    let run = subst (IsRunOf (ran b on.0)) (sym c.next.ensures.revision) on.1 in
     let adds = c.adding_laws.ensures.laws.on on.4 c.in-Ok.ensures.adds in
-    let wrote = rw (c.step.ensures.waiting, kept.manner) at c.in-Ok-tell.ensures.ok (ran b on.0) on.2.0 step in
+    let step = c.take.ensures.takes.steps (ran b on.0) run in
+    let wrote = rw kept.manner at c.in-Ok-take.ensures.ok (ran b on.0) on.2 run in
     record {
       on = (
         on.0 ++ e ∷ [],
-        rw c.in-Ok-tell.ensures.revision step.stands,
-        (c.in-Ok-tell.ensures.knows (ran b on.0) on.2.0 step, now_later (ran b on.0) e ∙ sym (ap (λ (x : RevisionState). x.clock) c.in-Ok-tell.ensures.revision ∙ c.step.ensures.clock)),
+        record { stands = step.stands; spec = step.spec; now = now_later (ran b on.0) e ∙ sym step.clock },
+        c.in-Ok-take.ensures.knows (ran b on.0) on.2 run,
         length-append on.0 (e ∷ []) ∙ ap (λ (n : ℕ). n + 1) on.3,
         c.adding_laws.ensures.laws.more adds wrote (sym (told-more w b on.0 e)),
         rw last (goes_more c.args.reader.now.version c.args.reader.now.last c.args.reader.now.number _ on.0 c.loop-count.reader.last c.loop-count.reader.number _ e c.next.new.reader.number _ on.5 (rw kept.version at read.gives)),
@@ -217,17 +207,16 @@ loop-count-preserved g c =
           (kept.bytes over) read.text;
       still =
           still_more c.loop-count.reader.version c.loop-count.reader.last c.loop-count.reader.number e c.next.new.reader.number (unread c.args.reader.now.input (g.S.Source.left c.args.source.now)) (unread c.loop-count.reader.input (g.S.Source.left c.loop-count.source)) (unread c.next.new.reader.input (g.S.Source.left c.next.new.source)) kept.still read.gives;
-      spec = ap (λ (x : RevisionState). x.spec) c.in-Ok-tell.ensures.revision ∙ c.step.ensures.spec ∙ spec;
       sound = read.sound;
       version = c.next.ensures.version ∙ kept.version;
-      last = grind (arith, common_steps, last);
-      clock = grind (arith, common_steps, read.times);
-      events = grind (arith, common_steps);
-      manner = c.in-Ok-tell.ensures.manner ∙ kept.manner;
-      load = omega (arith, kept.load, c.in-Ok-tell.ensures.few);
+      last = last ∙ sym step.clock;
+      clock = omega (arith, read.times, step.clock);
+      events = omega (arith, kept.events, c.take.ensures.takes.events, ap (λ (x : RevisionState). x.events) c.next.ensures.revision);
+      manner = c.in-Ok-take.ensures.manner ∙ kept.manner;
+      load = omega (arith, kept.load, c.in-Ok-take.ensures.few);
       taken = omega (arith, kept.taken, read.bytes);
       draws = draws_on kept.draws c.next.ensures.draws;
-      write = omega (arith, kept.write, c.next.ensures.cause.never_falls, c.tell.ensures.cause.never_falls);
+      write = omega (arith, kept.write, c.next.ensures.cause.never_falls, c.take.ensures.cause.never_falls);
     }
 
 pub returns-clause-follows : goal.returns-clause-follows
@@ -272,13 +261,13 @@ returns-in-Err-read-clause-cause g c =
     caused_on (le_trans c.loop-count.invariant.write c.next.ensures.cause.never_falls)
     (c.stop.ensures.cause (λ is. no_write_fault c.in-Err-read.error (sym c.status_of.ensures.value ∙ is)))
 
-pub returns-in-Err-tell-clause-draws : goal.returns-in-Err-tell-clause-draws
-returns-in-Err-tell-clause-draws g c = draws_on c.loop-count.invariant.draws c.next.ensures.draws
+pub returns-in-Err-take-clause-draws : goal.returns-in-Err-take-clause-draws
+returns-in-Err-take-clause-draws g c = draws_on c.loop-count.invariant.draws c.next.ensures.draws
 
-pub returns-in-Err-tell-clause-cause : goal.returns-in-Err-tell-clause-cause
-returns-in-Err-tell-clause-cause g c =
+pub returns-in-Err-take-clause-cause : goal.returns-in-Err-take-clause-cause
+returns-in-Err-take-clause-cause g c =
     let before = le_trans c.loop-count.invariant.write c.next.ensures.cause.never_falls in
-    record { never_falls = le_trans before c.tell.ensures.cause.never_falls; failed = λ is. rose_on _ _ _ before c.in-Err-tell.ensures.cause.failed }
+    record { never_falls = le_trans before c.take.ensures.cause.never_falls; failed = λ is. rose_on _ _ _ before c.in-Err-take.ensures.cause.failed }
 
 pub returns-clause-broken : goal.returns-clause-broken
 returns-clause-broken g c fault = absurd (omega (arith, c.loop-count.invariant.taken, c.loop-count.invariant.sound.few, c.loop-count-test.false))

@@ -1,10 +1,9 @@
 use Rattle.std.proofs.Common.{◌≡◌, ◌≤◌, ◌<◌, ◌+◌, ◌*◌, ◌^◌, List, length}
 use Rattle.kn_event.specs.declared.event.Event.{Event}
-use Rattle.kn_core.specs.State.{StandsFor}
 use Rattle.kn_journal.specs.Reading.{IsOver, unread}
 use Rattle.kn_report.specs.Waiting.{Adds}
 use Rattle.kn_teller.specs.Manner.{told}
-use Rattle.kn_teller.specs.Run.{begun, now_of, trace}
+use Rattle.kn_teller.specs.Run.{IsRunOf, begun}
 use Rattle.kn_follow.specs.Calls.{Draws, IsSound}
 use Rattle.kn_follow.specs.Following.{ran}
 use Rattle.kn_follow.proofs.Faults.{HasRead}
@@ -15,7 +14,7 @@ abbrev pub invariant-loop-count : goal.invariant-loop-count
 invariant-loop-count g l =
     let start = begun l.fn.self.revision.spec l.fn.self.revision.clock in
     record {
-      on : (es : List Event) × StandsFor l.self.revision (trace (ran start es)) × (g.T.Teller.knows l.teller (ran start es) × (now_of (ran start es) ≡ l.self.revision.clock)) × (length es ≡ l.count)
+      on : (es : List Event) × IsRunOf (ran start es) l.self.revision × g.T.Teller.knows l.teller (ran start es) × (length es ≡ l.count)
           × Adds (g.O.Sink.held l.fn.out) (g.O.Sink.held l.out) l.fn.self.waiting l.self.waiting (told (g.T.Teller.manner l.fn.teller) start es)
           × GoesOn l.fn.reader.version l.fn.reader.last l.fn.reader.number (unread l.fn.reader.input (g.S.Source.left l.fn.source)) es l.reader.last l.reader.number (unread l.reader.input (g.S.Source.left l.source));
       bytes : IsOver l.fn.reader.cut (unread l.fn.reader.input (g.S.Source.left l.fn.source))
@@ -23,7 +22,6 @@ invariant-loop-count g l =
       still : IsStill (unread l.fn.reader.input (g.S.Source.left l.fn.source)) (unread l.reader.input (g.S.Source.left l.source));
       manner : g.T.Teller.manner l.teller ≡ g.T.Teller.manner l.fn.teller;
       load : g.T.Teller.load l.teller < 2 ^ 64 * (l.count + 1);
-      spec : l.self.revision.spec ≡ l.fn.self.revision.spec;
       sound : IsSound l.reader;
       version : l.reader.version ≡ l.fn.reader.version;
       last : l.reader.last ≡ l.self.revision.clock;
