@@ -1,9 +1,7 @@
 -- The rows that events add, one event at a time and all at once.
 use Rattle.std.proofs.Common.{◌≡◌, ℕ, List, [], ◌∷◌, ◌++◌, append_assoc, append-nil, refl, sym, ap, ◌∙◌, subst}
-use Rattle.std.proofs.lemmas.List.Concat.{flat_map-append}
 use Rattle.kn_event.specs.declared.event.Event.{Event}
 use Rattle.kn_event.specs.declared.revision.Spec.{Spec}
-use Rattle.kn_event.specs.EntryLine.{entry_text}
 use Rattle.kn_trace.specs.Trace.{Trace}
 use Rattle.kn_trace.specs.Events.{added, opening, react, trace_of}
 use Rattle.kn_trace.specs.Report.{rows_text}
@@ -15,6 +13,7 @@ use Rattle.kn_teller.specs.Run.{Run, begun, later, trace}
 use Rattle.kn_follow.specs.Account.{SaysSame, account_of}
 use Rattle.kn_replay.specs.Replaying.{IsReplayed}
 use Rattle.kn_replay.specs.Report.{journal_last_line, journal_rows, report, row_by_row}
+use Rattle.kn_replay.proofs.Firsts.{rows_text-append}
 
 -- ---- what events add
 
@@ -49,10 +48,6 @@ pub trace-more : (s : Spec) (c : Trace) (es : List Event) (e : Event) → c ++ a
 trace-more s c es e = ap (λ (t : Trace). c ++ t) (added-more s c es e) ∙ sym (append_assoc c (added s c es) (react s (c ++ added s c es) e))
 
 -- ---- their rows
-
-rows_text-append : (c d : Trace) → rows_text (c ++ d) ≡ rows_text c ++ rows_text d
-unfolding rows_text
-rows_text-append c d = flat_map-append entry_text c d
 
 -- the trace of a run with one event more
 trace_later : (run : Run) (e : Event) → trace (later run e) ≡ trace run ++ react run.spec (trace run) e

@@ -6,3 +6,4 @@ pub mod Replaying
 pub mod Simulating
 pub mod Grouped
 pub mod Bundled
+pub mod Firsts

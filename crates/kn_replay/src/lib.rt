@@ -3,6 +3,7 @@
 
 mod bundle;
 mod command;
+mod first;
 mod generate;
 mod journal;
 mod lawful;

@@ -4,11 +4,13 @@ ghost use Rattle.kn_trace.specs.Report.{totals};
 ghost use Rattle.kn_teller.specs.Run.{trace};
 ghost use Rattle.kn_replay.specs.Report.{row_by_row};
 
+use crate::first::{add_first, add_rest};
 use kn_core::Revision;
 use kn_event::{EntryLog, Event, Line, Memory, Spec};
 use kn_io::{Failed, Sink};
+use kn_report::laws::adding_laws;
 use kn_report::{Tally, Waiting, add_rows};
-use kn_teller::{Form, Teller};
+use kn_teller::{Form, Teller, take_first};
 use std::alloc::Global;
 
 /// Tells of each event its rows, and of the end how many there were of each kind.
@@ -48,6 +50,25 @@ impl Teller for Rows {
         out: &mut O,
     ) -> Result<(), Failed> {
         add_rows(log, &mut self.tally, line, waiting, out)
+    }
+
+    #[inline(always)]
+    fn take<O: Sink>(
+        &mut self,
+        e: &Event,
+        revision: &mut Revision,
+        log: &mut EntryLog,
+        line: &mut Line,
+        waiting: &mut Waiting,
+        out: &mut O,
+    ) -> Result<(), Failed> {
+        adding_laws();
+        let first = take_first(revision, e, log);
+        match add_first(first, e.time, &mut self.tally, line, waiting, out) {
+            Ok(()) => {}
+            Err(Failed) => return Err(Failed),
+        }
+        add_rest(log, &mut self.tally, line, waiting, out)
     }
 
     fn end<O: Sink>(
