@@ -9,6 +9,7 @@ mod long;
 mod run;
 mod texts;
 mod trial;
+mod twin;
 
 use std::io;
 

@@ -2,6 +2,7 @@
 ghost use Rattle.std.specs.Prelude.{◌≡◌, ◌≤◌, ◌^◌, [], true};
 ghost use Rattle.kn_core.specs.Steps.{IsWithinRange};
 
+use crate::twin::Twin;
 use kn_core::Revision;
 use kn_event::{Act, Entry, EntryLog, Event, Spec, Told};
 use std::alloc::Global;
@@ -11,28 +12,35 @@ use std::alloc::Global;
 pub struct Run {
     revision: Revision,
     log: EntryLog,
+    twin: Twin,
 }
 
 impl Run {
     /// Opens it, if memory suffices and the start is at most 2^42 milliseconds.
     pub fn open(alloc: Global, spec: Spec, start: u64) -> Option<Run> {
+        let twin = Twin::open(alloc, &spec, start)?;
         match EntryLog::new(alloc) {
-            Ok(log) if start <= 1 << 42 => Run::with_log(alloc, spec, start, log),
+            Ok(log) if start <= 1 << 42 => Run::with_log(alloc, spec, start, log, twin),
             _ => None,
         }
     }
 
-    fn with_log(alloc: Global, spec: Spec, start: u64, mut log: EntryLog) -> Option<Run>
+    fn with_log(alloc: Global, spec: Spec, start: u64, mut log: EntryLog, twin: Twin) -> Option<Run>
         requires times { start ≤ 2 ^ 42 }
         requires empty { log ≡ [] }
     {
         match Revision::new(alloc, spec, start, &mut log) {
-            Ok(revision) => Some(Run { revision, log }),
+            Ok(revision) => Some(Run {
+                revision,
+                log,
+                twin,
+            }),
             Err(_) => None,
         }
     }
 
-    /// Takes an event that may come: in the order of time, at most at 2^42 milliseconds, with a limit of at most 1,000.
+    /// Takes an event that may come: in the order of time, at most at 2^42 milliseconds, with a limit of at most 1,000. None
+    /// also where its twin makes other entries of it.
     pub fn take(&mut self, event: &Event) -> Option<Told> {
         let revision = &mut self.revision;
         let may_come = revision.now() <= event.time
@@ -43,7 +51,12 @@ impl Run {
             return None;
         }
         self.log.clear();
-        Some(revision.step(event, &mut self.log))
+        let told = revision.step(event, &mut self.log);
+        if self.twin.agrees(event, self.log.entries()) {
+            Some(told)
+        } else {
+            None
+        }
     }
 
     pub fn revision(&self) -> &Revision {
@@ -56,7 +69,7 @@ impl Run {
     }
 }
 
-fn is_within_range(act: &Act) -> bool
+pub fn is_within_range(act: &Act) -> bool
     ensures { result ≡ true → IsWithinRange act.now }
 {
     match *act {
