@@ -1,5 +1,5 @@
 //! One revision, in memory that is taken once.
-ghost use Rattle.std.specs.Prelude.{◌≡◌, ◌+◌, ◌<◌, ◌≤◌, ◌^◌, [], ◌++◌, length, IfOk, IfSome, OnOk, OnErr};
+ghost use Rattle.std.specs.Prelude.{◌≡◌, ◌+◌, ◌<◌, ◌≤◌, ◌^◌, [], ◌++◌, false, length, IfOk, IfSome, OnOk, OnErr};
 ghost use Rattle.kn_trace.specs.Events.{need_of, opening, react, told_of};
 ghost use Rattle.kn_event.specs.declared.event.Event.{Event as EventValue};
 ghost use Rattle.kn_trace.specs.Laws.{IsInert, IsLawful, IsSettled};
@@ -7,7 +7,8 @@ ghost use Rattle.kn_core.specs.Refused.{LeavesByAnswer};
 ghost use Rattle.kn_trace.specs.Trace.{Trace, arrivals, live, next_starting, proxied, stand_of};
 ghost use Rattle.kn_laws.specs.Kinds.{EachAt};
 ghost use Rattle.kn_core.specs.State.{IsAmongLive, StandsFor, StandsForSome};
-ghost use Rattle.kn_core.specs.Firsts.{IsUsual, first_rows};
+ghost use Rattle.kn_core.specs.declared.first.FirstRows.TheVariants as first;
+ghost use Rattle.kn_core.specs.Firsts.{first_rows};
 ghost use Rattle.kn_core.specs.Steps.{IsWithinRange, Steps, Takes};
 
 mod gauges;
@@ -164,7 +165,7 @@ impl Revision {
         ensures clock { self.new.clock ≡ e.now.time }
         ensures events { self.new.events ≡ self.old.events + 1 }
     {
-        let _ = self.step(e, log);
+        let _ = self.take_by(e, false, log);
     }
 
     /// Takes one event as `take` does, and answers the rows that it begins with: those, and then the log's, are what it adds to the
@@ -178,22 +179,19 @@ impl Revision {
         requires limit { IsWithinRange e.now.act }
         ensures { Takes self.old e.now (first_rows e.now.time result ++ log.new) self.new }
     {
-        if self.parts.is_usual(e) {
-            return self.take_usual(e, log);
-        }
-        self.take(e, log);
-        FirstRows::Nothing
+        self.take_by(e, true, log)
     }
 
-    /// The same of an arrival or a finish at which nobody's time is over.
+    /// Takes one event as `take` does, and answers the rows that it begins with where that is asked for: else the log has all.
     #[inline(always)]
-    fn take_usual(&mut self, e: &Event, log: &mut EntryLog) -> FirstRows
-        requires usual { IsUsual e.now self.old.parts.throttle }
+    fn take_by(&mut self, e: &Event, answers: bool, log: &mut EntryLog) -> FirstRows
         requires empty { log.old ≡ [] }
         requires order { self.old.clock ≤ e.now.time }
         requires times { e.now.time ≤ 2 ^ 42 }
         requires count { self.old.events < 2 ^ 54 }
-        ensures { Takes self.old e.now (first_rows e.now.time result ++ log.new) self.new }
+        requires limit { IsWithinRange e.now.act }
+        ensures takes { Takes self.old e.now (first_rows e.now.time result ++ log.new) self.new }
+        ensures none { answers ≡ false → result ≡ first.Nothing }
     {
         history_laws();
         step_laws();
@@ -206,7 +204,7 @@ impl Revision {
         let limit = self.limit();
         self.clock = e.time;
         self.events += 1;
-        self.parts.react_usual(e, limit, log)
+        self.parts.react_first(e, answers, limit, log)
     }
 
     /// The limit of its new pods.

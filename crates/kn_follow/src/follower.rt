@@ -92,8 +92,7 @@ impl Follower {
     }
 
     /// Has the teller have the revision take one event, and adds what it tells of it, behind what waits.
-    // (its code stands once in a program, so that what it calls is inlined into it whatever its size)
-    #[inline(never)]
+    #[inline(always)]
     pub fn take<T: Teller, O: Sink>(
         &mut self,
         teller: &mut T,

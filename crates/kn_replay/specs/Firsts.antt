@@ -1,14 +1,11 @@
 -- Rows that come behind what waits, and are counted.
-use Rattle.std.specs.Prelude.{◌≡◌, ◌++◌, ◌∷◌, [], ℕ, List, OnErr, OnOk, Option, None, Some, Result}
+use Rattle.std.specs.Prelude.{◌≡◌, ◌++◌, ℕ, List, OnErr, OnOk, Result}
 use Rattle.kn_io.specs.Prefix.{AppendsPrefix}
 use Rattle.kn_io.specs.declared.traits.Sink.{Ghosts as Writing}
 use Rattle.kn_report.specs.Tally.{Counted}
 use Rattle.kn_report.specs.Waiting.{Adds}
 use Rattle.kn_trace.specs.Report.{rows_text, totals}
-use Rattle.kn_trace.specs.Trace.{Trace, entry}
-use Rattle.kn_throttle.specs.declared.throttle.dispatching.Dispatch.{Dispatch}
-use Rattle.kn_core.specs.declared.first.OwnRow.{OwnRow}
-use Rattle.kn_core.specs.Firsts.{dispatched, own_row}
+use Rattle.kn_trace.specs.Trace.{Trace}
 
 -- a row for each of these entries came behind what waited, and the first of all was written
 abbrev pub AddsRows : {X T E : Type 0} → Writing X → X → X → List ℕ → List ℕ → Trace → Result T E → Type 0
@@ -24,8 +21,3 @@ CutsRows own out now before entries result =
 abbrev pub CountsRows : {T E : Type 0} → Trace → Counted → Counted → Result T E → Type 0
 CountsRows entries old new result =
     (c : Trace) → old.totals ≡ totals c → OnOk result (new.totals ≡ totals (c ++ entries))
-
--- an own row, and the dispatch behind it
-abbrev pub rows_of_parts : ℕ → Option (OwnRow × Option Dispatch) → Trace
-rows_of_parts t None = []
-rows_of_parts t (Some x) = entry t (own_row x.0) ∷ dispatched t x.1

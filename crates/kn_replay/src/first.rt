@@ -1,11 +1,11 @@
 //! The rows that an event begins with, in a report.
-ghost use Rattle.std.specs.Prelude.{◌≡◌, ℕ, ◌+◌, ◌<◌, ◌≤◌, ◌^◌, length, OnOk};
+ghost use Rattle.std.specs.Prelude.{◌≡◌, ◌+◌, ◌<◌, ◌≤◌, ◌^◌, length, OnOk};
 ghost use Rattle.kn_io.specs.Causes.{HasCause};
 ghost use Rattle.kn_report.specs.Frequent.{AddsRow, CountsEntry, CutsRow};
 ghost use Rattle.kn_throttle.specs.Rows.{dispatch_row};
 ghost use Rattle.kn_trace.specs.Trace.{entry};
-ghost use Rattle.kn_core.specs.Firsts.{dispatched, first_rows, own_row};
-ghost use Rattle.kn_replay.specs.Firsts.{AddsRows, CountsRows, CutsRows, rows_of_parts};
+ghost use Rattle.kn_core.specs.Firsts.{first_rows, own_row};
+ghost use Rattle.kn_replay.specs.Firsts.{AddsRows, CountsRows, CutsRows};
 
 use kn_core::{FirstRows, OwnRow};
 use kn_event::{Entry, EntryLog, Line};
@@ -85,47 +85,10 @@ fn add_dispatch<O: Sink>(
     }
 }
 
-/// The same, if one is dispatched.
-#[inline(always)]
-fn add_dispatched<O: Sink>(
-    dispatch: Option<Dispatch>,
-    time: u64,
-    tally: &mut Tally,
-    line: &mut Line,
-    waiting: &mut Waiting,
-    out: &mut O,
-) -> Result<(), Failed>
-    requires few { tally.old.rows < 2 ^ 127 }
-    ensures ok { AddsRows O.Sink.own out.old out.new waiting.old waiting.new (dispatched time dispatch) result }
-    ensures err { CutsRows O.Sink.own out.old out.new waiting.old (dispatched time dispatch) result }
-    ensures cause { HasCause (O.Faulty.faults out.old) (O.Faulty.faults out.new) result }
-    ensures rows { OnOk result (tally.new.rows ≤ tally.old.rows + 1) }
-    ensures totals { CountsRows (dispatched time dispatch) tally.old tally.new result }
-{
-    adding_laws();
-    match dispatch {
-        None => Ok(()),
-        Some(dispatch) => add_dispatch(dispatch, time, tally, line, waiting, out),
-    }
-}
-
-/// The own row and the dispatch that are answered.
-#[inline(always)]
-fn parts_of(first: &FirstRows) -> Option<(OwnRow, Option<Dispatch>)>
-    ensures { (t : ℕ) → first_rows t first.now ≡ rows_of_parts t result }
-{
-    match *first {
-        FirstRows::Nothing => None,
-        FirstRows::Own(own) => Some((own, None)),
-        FirstRows::Both(own, dispatch) => Some((own, Some(dispatch))),
-    }
-}
-
 /// Adds the rows that an event begins with behind what waits, and counts them.
-// (with one place for each row: so those are inlined there whatever their size)
 #[inline(always)]
 pub fn add_first<O: Sink>(
-    first: &FirstRows,
+    first: FirstRows,
     time: u64,
     tally: &mut Tally,
     line: &mut Line,
@@ -133,21 +96,24 @@ pub fn add_first<O: Sink>(
     out: &mut O,
 ) -> Result<(), Failed>
     requires few { tally.old.rows ≤ 2 ^ 126 }
-    ensures ok { AddsRows O.Sink.own out.old out.new waiting.old waiting.new (first_rows time first.now) result }
-    ensures err { CutsRows O.Sink.own out.old out.new waiting.old (first_rows time first.now) result }
+    ensures ok { AddsRows O.Sink.own out.old out.new waiting.old waiting.new (first_rows time first) result }
+    ensures err { CutsRows O.Sink.own out.old out.new waiting.old (first_rows time first) result }
     ensures cause { HasCause (O.Faulty.faults out.old) (O.Faulty.faults out.new) result }
     ensures rows { OnOk result (tally.new.rows ≤ tally.old.rows + 2) }
-    ensures totals { CountsRows (first_rows time first.now) tally.old tally.new result }
+    ensures totals { CountsRows (first_rows time first) tally.old tally.new result }
 {
     adding_laws();
-    let Some((own, dispatch)) = parts_of(first) else {
-        return Ok(());
-    };
-    match add_own(own, time, tally, line, waiting, out) {
-        Ok(()) => {}
-        Err(Failed) => return Err(Failed),
+    match first {
+        FirstRows::Nothing => Ok(()),
+        FirstRows::Own(own) => add_own(own, time, tally, line, waiting, out),
+        FirstRows::Both(own, dispatch) => {
+            match add_own(own, time, tally, line, waiting, out) {
+                Ok(()) => {}
+                Err(Failed) => return Err(Failed),
+            }
+            add_dispatch(dispatch, time, tally, line, waiting, out)
+        }
     }
-    add_dispatched(dispatch, time, tally, line, waiting, out)
 }
 
 /// Adds a row for each entry behind what waits, and counts them. There are seldom any.

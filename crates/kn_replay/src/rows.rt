@@ -64,7 +64,7 @@ impl Teller for Rows {
     ) -> Result<(), Failed> {
         adding_laws();
         let first = take_first(revision, e, log);
-        match add_first(&first, e.time, &mut self.tally, line, waiting, out) {
+        match add_first(first, e.time, &mut self.tally, line, waiting, out) {
             Ok(()) => {}
             Err(Failed) => return Err(Failed),
         }

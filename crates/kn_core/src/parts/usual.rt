@@ -1,6 +1,6 @@
 //! An arrival or a finish at which nobody's time is over. The rows that it begins with are answered as numbers: a row is large to
 //! put into the log.
-ghost use Rattle.std.specs.Prelude.{◌≡◌, ◌+◌, ◌<◌, ◌≤◌, ◌^◌, [], ◌∷◌, ◌++◌, All, length, Some, true};
+ghost use Rattle.std.specs.Prelude.{◌≡◌, ℕ, ◌+◌, ◌<◌, ◌≤◌, ◌^◌, [], ◌∷◌, ◌++◌, All, length, Some, true, false};
 ghost use Rattle.kn_event.specs.Revision.{AreInRange};
 ghost use Rattle.kn_event.specs.declared.revision.Spec.{Spec as SpecValue};
 ghost use Rattle.kn_trace.specs.Events.{act_row, entries_of, react};
@@ -11,15 +11,17 @@ ghost use Rattle.kn_record.specs.declared.admission.Request.{Request};
 ghost use Rattle.kn_record.specs.Order.{AreTimed};
 ghost use Rattle.kn_core.specs.Changes.{AddsNobody, AddsOwn, AddsProper, AddsRow, AddsWhere, CanReact, CanScale, HasFewPods, IsInOrderAt, IsReadyFor, OnlyScales, is_admitted, is_own_of};
 ghost use Rattle.kn_core.specs.Dispatched.{AddsFirst};
+ghost use Rattle.kn_core.specs.declared.first.FirstRows.TheVariants as first;
 ghost use Rattle.kn_core.specs.Firsts.{IsUsual, dispatched, first_rows, is_usual_act, own_row};
 ghost use Rattle.kn_core.specs.Ruled.{decided_rows};
 ghost use Rattle.kn_core.specs.State.{ArePartsOf, IsMeasuredAt};
+ghost use Rattle.kn_core.specs.Steps.{IsWithinRange};
 
 use super::Parts;
 use super::event::ending;
 use crate::first::{FirstRows, OwnRow};
 use crate::scaling;
-use kn_event::{Act, EntryLog, Event};
+use kn_event::{Act, EntryLog, Event, Stand, Told};
 use kn_laws::parts::part_laws;
 use kn_pods::laws::row_laws;
 use kn_record::append::{append_laws, time_laws, walk_laws};
@@ -31,7 +33,7 @@ use kn_throttle::Dispatch;
 impl Parts {
     /// Whether an event is an arrival or a finish at which nobody's time is over.
     #[inline(always)]
-    pub(crate) fn is_usual(&self, e: &Event) -> bool
+    fn is_usual(&self, e: &Event) -> bool
         ensures { result ≡ true → IsUsual e.now self.now.throttle }
     {
         is_usual_act(e.act) && self.throttle.due(e.time).is_none()
@@ -172,7 +174,7 @@ impl Parts {
 
     /// A usual event: its rows are those that are answered, and then those of the log.
     #[inline(always)]
-    pub(crate) fn react_usual(&mut self, e: &Event, limit: u64, log: &mut EntryLog) -> FirstRows
+    fn react_usual(&mut self, e: &Event, limit: u64, log: &mut EntryLog) -> FirstRows
         requires usual { IsUsual e.now self.old.throttle }
         requires empty { log.old ≡ [] }
         requires can { CanReact limit e.now.time self.old }
@@ -198,6 +200,50 @@ impl Parts {
             None => FirstRows::Own(own),
             Some(dispatch) => FirstRows::Both(own, dispatch),
         }
+    }
+
+    /// One event: its rows are those that are answered, and then those of the log, which has all where none is to be answered.
+    #[inline(always)]
+    pub(crate) fn react_first(
+        &mut self,
+        e: &Event,
+        answers: bool,
+        limit: u64,
+        log: &mut EntryLog,
+    ) -> FirstRows
+        requires empty { log.old ≡ [] }
+        requires can { CanReact limit e.now.time self.old }
+        requires times { e.now.time ≤ 2 ^ 42 }
+        requires range { IsWithinRange e.now.act }
+        ensures adds { AddsWhere IsSettled (λ s c. react s c e.now) self.old self.new [] (first_rows e.now.time result ++ log.new) }
+        ensures spec { self.new.throttle.spec ≡ self.old.throttle.spec }
+        ensures timed { AreTimed e.now.time self.new.throttle.admission }
+        ensures created { self.new.pods.created ≤ self.old.pods.created + 500 }
+        ensures measured { IsMeasuredAt e.now.time self.new.scaler }
+        ensures none { answers ≡ false → result ≡ first.Nothing }
+    {
+        if answers && self.is_usual(e) {
+            return self.react_usual(e, limit, log);
+        }
+        self.react_all(e, limit, log);
+        FirstRows::Nothing
+    }
+
+    /// As `react`, and answers nothing.
+    #[inline(never)]
+    fn react_all(&mut self, e: &Event, limit: u64, log: &mut EntryLog)
+        requires empty { log.old ≡ [] }
+        requires can { CanReact limit e.now.time self.old }
+        requires times { e.now.time ≤ 2 ^ 42 }
+        requires range { IsWithinRange e.now.act }
+        ensures adds { AddsWhere IsSettled (λ s c. react s c e.now) self.old self.new [] log.new }
+        ensures spec { self.new.throttle.spec ≡ self.old.throttle.spec }
+        ensures timed { AreTimed e.now.time self.new.throttle.admission }
+        ensures created { self.new.pods.created ≤ self.old.pods.created + 500 }
+        ensures measured { IsMeasuredAt e.now.time self.new.scaler }
+    {
+        let mut told = Told::Passed;
+        self.react(e, limit, log, &mut told);
     }
 }
 
