@@ -1,4 +1,4 @@
-ghost use Rattle.std.specs.Prelude.{◌≡◌, ◌↔◌, ◌+◌, ◌-◌, ◌^◌, ◌<◌, ◌≤◌, IsFalse};
+ghost use Rattle.std.specs.Prelude.{◌≡◌, ◌↔◌, ◌+◌, ◌-◌, ◌^◌, ◌<◌, ◌≤◌, IsFalse, IsTrue};
 ghost use Rattle.std.specs.Bool.{OnFalse, OnTrue};
 
 use std::marker::Model;
@@ -85,6 +85,13 @@ impl Breaker {
         ensures { self.new ≡ record self.old { in_flight = self.old.in_flight - 1 } }
     {
         self.in_flight -= 1;
+    }
+
+    /// Whether the capacity is used up, so that none may start.
+    pub fn is_used_up(&self) -> bool
+        ensures { IsTrue result ↔ (self.now.capacity ≤ self.now.running) }
+    {
+        self.running >= self.capacity
     }
 
     /// How many are in flight and not running.

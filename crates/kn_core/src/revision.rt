@@ -170,7 +170,7 @@ impl Revision {
 
     /// Takes one event as `take` does, and answers the rows that it begins with: those, and then the log's, are what it adds to the
     /// trace. Mostly the log stays empty, and no row needs memory.
-    #[inline(never)]
+    #[inline(always)]
     pub fn take_first(&mut self, e: &Event, log: &mut EntryLog) -> FirstRows
         requires empty { log.old ≡ [] }
         requires order { self.old.clock ≤ e.now.time }

@@ -47,7 +47,7 @@ pub(crate) fn advance(scaler: &mut Option<Scaler>, time: u64, ready: bool)
 
 /// One more row, of any kind but those of the scale. Where a request ends with it, `at` and `through` say where that stands
 /// before it, and whether the activator handed it to its pod.
-#[inline(always)]
+#[inline]
 pub(crate) fn row(scaler: &mut Option<Scaler>, added: Row, at: Stand, through: bool)
     requires { IsNextInSome scaler.old added at through }
     ensures stands { TakesRow added at through scaler.old scaler.new }

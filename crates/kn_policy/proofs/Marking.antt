@@ -214,6 +214,40 @@ first_placed cands i is some =
     let inside : i < length cands = rw is (first_inside cands some) in
     (inside, λ d. rw (find_at has_seat cands, ← is, slice_get-get_or cands i d inside) refl)
 
+-- ---- where one pod alone has a free seat
+
+none_available : (cands : List Cand) → count_by has_seat cands ≡ 0 → first_available cands ≡ None
+unfolding first_available
+none_available [] h = refl
+none_available (q ∷ cands) h = by (has_seat q) refl (none_available cands)
+  where
+    by : (b : Bool) → has_seat q ≡ b → (count_by has_seat cands ≡ 0 → first_available cands ≡ None) → first_available (q ∷ cands) ≡ None
+    by true e rest = absurd (let more : suc (count_by has_seat cands) ≡ 0 = rw (count-first q cands, e) at h in omega (arith, more))
+    by false e rest = rw e (rest (rw (count-first q cands, e) at h))
+
+count-parts : (n : ℕ) (cands : List Cand) → count_by has_seat cands ≡ count_by has_seat (take n cands) + count_by has_seat (drop n cands)
+count-parts zero cands = omega arith
+count-parts (suc n) [] = omega arith
+count-parts (suc n) (q ∷ cands) = by (has_seat q) refl (count-parts n cands)
+  where
+    by : (b : Bool) → has_seat q ≡ b → count_by has_seat cands ≡ count_by has_seat (take n cands) + count_by has_seat (drop n cands)
+        → count_by has_seat (q ∷ cands) ≡ count_by has_seat (q ∷ take n cands) + count_by has_seat (drop n cands)
+    by true e rest = rw (count-first q cands, count-first q (take n cands), e) (omega (arith, rest))
+    by false e rest = rw (count-first q cands, count-first q (take n cands), e) (omega (arith, rest))
+
+-- round robin takes it, wherever it goes on
+pub round_alone : (place : ℕ) (cands : List Cand) → place < length cands → count_by has_seat cands ≡ 1 → round_robin place cands ≡ first_available cands
+round_alone place cands h one = by (count_by has_seat (drop place cands)) refl
+  where
+    by : (n : ℕ) → count_by has_seat (drop place cands) ≡ n → round_robin place cands ≡ first_available cands
+    by zero none = round_wrapped place cands h (none_available (drop place cands) none)
+    by (suc n) some =
+        let front = none_available (take place cands) (omega (arith, count-parts place cands, one, some)) in
+        let all : first_available cands ≡ first_available (drop place cands) =
+        ap first_available (sym (take-append-drop place cands)) ∙ first_of_both (take place cands) (drop place cands)
+        ∙ rw front refl in
+        rw (round_parts place cands h, front) (or_none (first_available (drop place cands)) ∙ sym all)
+
 -- ---- which policy it is
 
 pub chosen_two : (cc seed place picks : ℕ) (cands : List Cand) (a b : ℕ) (r : Option ℕ) → cc ≡ 0 → a ≡ random_word seed (2 * picks)

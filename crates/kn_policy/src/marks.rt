@@ -46,19 +46,24 @@ pub fn place_by(
     match cc {
         0 => place_of_two(ready, marks, free, words),
         1..=3 => Some(first),
-        _ => Some(round_place(place, ready, marks, first)),
+        _ => Some(round_place(place, ready, marks, free, first)),
     }
 }
 
 /// The place of the first one with a free seat from this place on, once round. A place past the end is read as 0.
 #[inline(always)]
-fn round_place(place: u64, ready: &[Cand], marks: &[u8], first: usize) -> usize
+fn round_place(place: u64, ready: &[Cand], marks: &[u8], free: usize, first: usize) -> usize
     requires marks { marks.now ≡ marks_of ready.now }
-    requires some { 0 < count_by has_seat ready.now }
+    requires free { free ≡ count_by has_seat ready.now }
+    requires some { 0 < free }
     requires first { first ≡ position_or_len has_seat ready.now }
     ensures { IsPlaceOf (round_robin place ready.now) ready.now (Some result) }
 {
     if place >= ready.len() as u64 {
+        return first;
+    }
+    // (where many are busy it is often the only one, and then none is looked for)
+    if free == 1 {
         return first;
     }
     let place = place as usize;

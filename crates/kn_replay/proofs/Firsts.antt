@@ -1,5 +1,5 @@
 -- The rows that an event begins with, and the others behind them, as text.
-use Rattle.std.proofs.Common.{◌≡◌, ℕ, List, [], ◌++◌, append-nil, refl, sym, ap, ◌∙◌}
+use Rattle.std.proofs.Common.{◌≡◌, ℕ, Option, Some, [], ◌∷◌, ◌++◌, append-nil, refl, sym, ap, ◌∙◌}
 use Rattle.std.proofs.lemmas.List.Concat.{flat_map-append}
 use Rattle.kn_event.specs.EntryLine.{entry_text}
 use Rattle.kn_trace.specs.Report.{rows_text}
@@ -7,9 +7,8 @@ use Rattle.kn_trace.specs.Trace.{Trace, entry}
 use Rattle.kn_throttle.specs.declared.throttle.dispatching.Dispatch.{Dispatch}
 use Rattle.kn_throttle.specs.Rows.{dispatch_row}
 use Rattle.kn_core.specs.declared.first.FirstRows.{FirstRows}
-use Rattle.kn_core.specs.declared.first.FirstRows.TheVariants as first
 use Rattle.kn_core.specs.declared.first.OwnRow.{OwnRow}
-use Rattle.kn_core.specs.Firsts.{first_rows, own_row}
+use Rattle.kn_core.specs.Firsts.{dispatched, first_rows, own_row}
 
 pub rows_text-append : (c d : Trace) → rows_text (c ++ d) ≡ rows_text c ++ rows_text d
 unfolding rows_text
@@ -23,13 +22,11 @@ pub text_of_none : rows_text [] ≡ []
 unfolding rows_text
 text_of_none = refl
 
-pub text_of_own : (t : ℕ) (rows : FirstRows) (x : OwnRow) → rows ≡ first.Own x → rows_text (first_rows t rows) ≡ entry_text (entry t (own_row x))
+pub text_of_next : (t : ℕ) (next : Option Dispatch) (d : Dispatch) → next ≡ Some d → rows_text (dispatched t next) ≡ entry_text (entry t (dispatch_row d))
 unfolding rows_text
-text_of_own t rows x is = ap (λ (f : FirstRows). rows_text (first_rows t f)) is ∙ append-nil (entry_text (entry t (own_row x)))
+text_of_next t next d is = ap (λ (o : Option Dispatch). rows_text (dispatched t o)) is ∙ append-nil (entry_text (entry t (dispatch_row d)))
 
-pub text_of_two : (t : ℕ) (rows : FirstRows) (x : OwnRow) (d : Dispatch) → rows ≡ first.Both x d
-    → rows_text (first_rows t rows) ≡ entry_text (entry t (own_row x)) ++ entry_text (entry t (dispatch_row d))
+pub text_of_parts : (t : ℕ) (rows : FirstRows) (x : OwnRow) (next : Option Dispatch) → first_rows t rows ≡ entry t (own_row x) ∷ dispatched t next
+    → rows_text (first_rows t rows) ≡ entry_text (entry t (own_row x)) ++ rows_text (dispatched t next)
 unfolding rows_text
-text_of_two t rows x d is =
-    ap (λ (f : FirstRows). rows_text (first_rows t f)) is
-    ∙ ap (λ (z : List ℕ). entry_text (entry t (own_row x)) ++ z) (append-nil (entry_text (entry t (dispatch_row d))))
+text_of_parts t rows x next is = ap rows_text is

@@ -1,10 +1,10 @@
 //! The rows that an event begins with, in a report.
-ghost use Rattle.std.specs.Prelude.{◌≡◌, ◌+◌, ◌<◌, ◌≤◌, ◌^◌, length, OnOk};
+ghost use Rattle.std.specs.Prelude.{◌≡◌, ℕ, ◌+◌, ◌<◌, ◌≤◌, ◌^◌, [], ◌∷◌, length, IfNone, IfSome, OnOk};
 ghost use Rattle.kn_io.specs.Causes.{HasCause};
 ghost use Rattle.kn_report.specs.Frequent.{AddsRow, CountsEntry, CutsRow};
 ghost use Rattle.kn_throttle.specs.Rows.{dispatch_row};
 ghost use Rattle.kn_trace.specs.Trace.{entry};
-ghost use Rattle.kn_core.specs.Firsts.{first_rows, own_row};
+ghost use Rattle.kn_core.specs.Firsts.{dispatched, first_rows, own_row};
 ghost use Rattle.kn_replay.specs.Firsts.{AddsRows, CountsRows, CutsRows};
 
 use kn_core::{FirstRows, OwnRow};
@@ -85,6 +85,43 @@ fn add_dispatch<O: Sink>(
     }
 }
 
+/// The own row, and with which a request is dispatched behind it, if one is. None where the log has all rows.
+#[inline(always)]
+fn parts_of(first: FirstRows) -> Option<(OwnRow, Option<Dispatch>)>
+    ensures none { IfNone result ((t : ℕ) → first_rows t first ≡ []) }
+    ensures some { IfSome result (λ p. (t : ℕ) → first_rows t first ≡ entry t (own_row p.0) ∷ dispatched t p.1) }
+{
+    match first {
+        FirstRows::Nothing => None,
+        FirstRows::Own(own) => Some((own, None)),
+        FirstRows::Both(own, dispatch) => Some((own, Some(dispatch))),
+    }
+}
+
+/// Adds the row with which a request is dispatched behind what waits, and counts it, if one is.
+#[inline(always)]
+fn add_next<O: Sink>(
+    next: Option<Dispatch>,
+    time: u64,
+    tally: &mut Tally,
+    line: &mut Line,
+    waiting: &mut Waiting,
+    out: &mut O,
+) -> Result<(), Failed>
+    requires few { tally.old.rows < 2 ^ 127 }
+    ensures ok { AddsRows O.Sink.own out.old out.new waiting.old waiting.new (dispatched time next) result }
+    ensures err { CutsRows O.Sink.own out.old out.new waiting.old (dispatched time next) result }
+    ensures cause { HasCause (O.Faulty.faults out.old) (O.Faulty.faults out.new) result }
+    ensures rows { tally.new.rows ≤ tally.old.rows + 1 }
+    ensures totals { CountsRows (dispatched time next) tally.old tally.new result }
+{
+    adding_laws();
+    match next {
+        None => Ok(()),
+        Some(dispatch) => add_dispatch(dispatch, time, tally, line, waiting, out),
+    }
+}
+
 /// Adds the rows that an event begins with behind what waits, and counts them.
 #[inline(always)]
 pub fn add_first<O: Sink>(
@@ -103,17 +140,14 @@ pub fn add_first<O: Sink>(
     ensures totals { CountsRows (first_rows time first) tally.old tally.new result }
 {
     adding_laws();
-    match first {
-        FirstRows::Nothing => Ok(()),
-        FirstRows::Own(own) => add_own(own, time, tally, line, waiting, out),
-        FirstRows::Both(own, dispatch) => {
-            match add_own(own, time, tally, line, waiting, out) {
-                Ok(()) => {}
-                Err(Failed) => return Err(Failed),
-            }
-            add_dispatch(dispatch, time, tally, line, waiting, out)
-        }
+    let Some((own, next)) = parts_of(first) else {
+        return Ok(());
+    };
+    match add_own(own, time, tally, line, waiting, out) {
+        Ok(()) => {}
+        Err(Failed) => return Err(Failed),
     }
+    add_next(next, time, tally, line, waiting, out)
 }
 
 /// Adds a row for each entry behind what waits, and counts them. There are seldom any.

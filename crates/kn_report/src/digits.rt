@@ -8,7 +8,7 @@ static PAIRS: [u8; 200] =
     *b"00010203040506070809101112131415161718192021222324252627282930313233343536373839404142434445464748495051525354555657585960616263646566676869707172737475767778798081828384858687888990919293949596979899";
 
 /// Writes bytes behind the first ones of the room, and answers where they end.
-#[inline(always)]
+#[inline]
 pub fn put_word(room: &mut [u8], at: usize, word: &[u8]) -> usize
     requires { at + length word.now ≤ length room.old }
     ensures text { take result room.new ≡ take at room.old ++ word.now }
@@ -21,7 +21,7 @@ pub fn put_word(room: &mut [u8], at: usize, word: &[u8]) -> usize
 }
 
 /// Two digits.
-#[inline(always)]
+#[inline]
 fn put_pair(room: &mut [u8], at: usize, pair: u64) -> usize
     requires { (pair < 100) × (at + 2 ≤ length room.old) }
     ensures text { take result room.new ≡ take at room.old ++ (48 + pair / 10) ∷ (48 + pair % 10) ∷ [] }
@@ -35,7 +35,7 @@ fn put_pair(room: &mut [u8], at: usize, pair: u64) -> usize
 }
 
 /// A number of one digit or two.
-#[inline(always)]
+#[inline]
 fn put_few(room: &mut [u8], at: usize, n: u64) -> usize
     requires { (n < 100) × (at + 2 ≤ length room.old) }
     ensures text { take result room.new ≡ take at room.old ++ decimal n }
@@ -49,7 +49,7 @@ fn put_few(room: &mut [u8], at: usize, n: u64) -> usize
 }
 
 /// How many hundreds there are, by a multiplication.
-#[inline(always)]
+#[inline]
 fn hundreds(n: u64) -> u64
     requires { n < 10000 }
     ensures value { result ≡ n / 100 }
@@ -58,7 +58,7 @@ fn hundreds(n: u64) -> u64
 }
 
 /// How many ten thousands there are, by a multiplication.
-#[inline(always)]
+#[inline]
 fn ten_thousands(n: u64) -> u64
     requires { n < 100000000 }
     ensures value { result ≡ n / 10000 }
@@ -67,7 +67,7 @@ fn ten_thousands(n: u64) -> u64
 }
 
 /// A number of up to four digits.
-#[inline(always)]
+#[inline]
 fn put_four(room: &mut [u8], at: usize, n: u64) -> usize
     requires { (n < 10000) × (at + 4 ≤ length room.old) }
     ensures text { take result room.new ≡ take at room.old ++ decimal n }
@@ -82,7 +82,7 @@ fn put_four(room: &mut [u8], at: usize, n: u64) -> usize
 }
 
 /// Four digits.
-#[inline(always)]
+#[inline]
 fn put_pairs(room: &mut [u8], at: usize, n: u64) -> usize
     requires { (n < 10000) × (at + 4 ≤ length room.old) }
     ensures text { take result room.new ≡ take at room.old ++ (48 + n / 1000) ∷ (48 + n / 100 % 10) ∷ (48 + n % 100 / 10) ∷ (48 + n % 10) ∷ [] }
@@ -94,7 +94,7 @@ fn put_pairs(room: &mut [u8], at: usize, n: u64) -> usize
 }
 
 /// A number of five or six digits.
-#[inline(always)]
+#[inline]
 fn put_six(room: &mut [u8], at: usize, n: u64) -> usize
     requires { (10000 ≤ n) × (n < 1000000) × (at + 6 ≤ length room.old) }
     ensures text { take result room.new ≡ take at room.old ++ decimal n }
@@ -106,7 +106,7 @@ fn put_six(room: &mut [u8], at: usize, n: u64) -> usize
 }
 
 /// A number of five digits to eight.
-#[inline(always)]
+#[inline]
 fn put_eight(room: &mut [u8], at: usize, n: u64) -> usize
     requires { (10000 ≤ n) × (n < 100000000) × (at + 8 ≤ length room.old) }
     ensures text { take result room.new ≡ take at room.old ++ decimal n }

@@ -82,10 +82,11 @@ pub fn put_finish(room: &mut [u8], at: usize, request: u64, ok: bool) -> usize
     ensures text { take result room.new ≡ take at room.old ++ (row_text (Row.Finish request ok) ++ 10 ∷ []) }
     ensures end { result ≤ at + 100 }
 {
+    let at = put_one(room, at, b" finish ", request, b"");
     if ok {
-        return put_one(room, at, b" finish ", request, b" ok\n");
+        return put_word(room, at, b" ok\n");
     }
-    put_one(room, at, b" finish ", request, b" fail\n")
+    put_word(room, at, b" fail\n")
 }
 
 fn put_queue_full(room: &mut [u8], at: usize, request: u64, pod: Option<u64>) -> usize

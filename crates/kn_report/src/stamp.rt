@@ -37,7 +37,7 @@ impl Stamp {
     }
 
     /// Writes a time in decimal behind the first bytes of the room, and answers where it ends.
-    #[inline(always)]
+    #[inline]
     pub fn put(&mut self, room: &mut [u8], at: usize, time: u64) -> usize
         requires { at + 20 ≤ length room.old }
         ensures text { take result room.new ≡ take at room.old ++ decimal time }
@@ -52,7 +52,7 @@ impl Stamp {
     }
 
     /// Writes a time, and keeps its text.
-    #[inline(always)]
+    #[inline(never)]
     fn put_new(&mut self, room: &mut [u8], at: usize, time: u64) -> usize
         requires { at + 20 ≤ length room.old }
         ensures text { take result room.new ≡ take at room.old ++ decimal time }

@@ -135,7 +135,7 @@ impl Seats {
     }
 
     /// Lets one more request run at a pod, where a seat is free there.
-    #[inline(always)]
+    #[inline]
     pub fn reserve_seat(&mut self, p: u64) -> bool
         requires there { IsTrue (has_pod p self.old.pods) }
         requires room { requests_at_all self.old.pods < self.old.request_room }
@@ -154,7 +154,7 @@ impl Seats {
     }
 
     /// Queues a request last at a pod, unless the pod is full.
-    #[inline(always)]
+    #[inline]
     pub fn queue_at(&mut self, p: u64, r: u64) -> bool
         requires there { IsTrue (has_pod p self.old.pods) }
         requires room { requests_at_all self.old.pods < self.old.request_room }
@@ -174,7 +174,7 @@ impl Seats {
     }
 
     /// Lets the first request that is queued at a pod run, where a seat is free there. Answers the request.
-    #[inline(always)]
+    #[inline]
     pub fn promote(&mut self, p: u64) -> Option<u64>
         requires there { IsTrue (has_pod p self.old.pods) }
         ensures answer { result ≡ (if has_free_seat (pod_at p self.old.pods) then slice_get (pod_at p self.old.pods).queued 0 else None) }
@@ -233,7 +233,7 @@ impl Seats {
     }
 
     /// Ends one that is running at a pod, and answers what may follow there.
-    #[inline(always)]
+    #[inline]
     pub fn give_back(&mut self, p: u64) -> Freed
         requires there { IsTrue (has_pod p self.old.pods) }
         requires running { 0 < (pod_at p self.old.pods).running }

@@ -132,7 +132,7 @@ impl Table {
     }
 
     /// Takes in one more request, whose number is above all others and whose time is not before theirs.
-    #[inline(always)]
+    #[inline]
     pub fn push(&mut self, request: Request)
         requires room { length self.old < live_most }
         requires above { All (λ (q : Request). q.number < request.number) self.old }
@@ -157,7 +157,7 @@ impl Table {
     }
 
     /// The live request of this number.
-    #[inline(always)]
+    #[inline]
     pub fn get(&self, r: u64) -> Option<Request>
         ensures found { result ≡ find (λ (q : Request). q.number == r) self.now }
         ensures number { IfSome result (λ q. q.number ≡ r) }
@@ -171,21 +171,21 @@ impl Table {
     }
 
     /// Lets a held request run at a pod that it is assigned to.
-    #[inline(always)]
+    #[inline]
     pub fn assign(&mut self, r: u64, p: u64)
         requires { contains r (placed_in is_held_place self.old) ≡ true }
         ensures moved { self.new ≡ moved r (place.Running p true) self.old }
         ensures moves { Moves r place.Held (place.Running p true) self.old self.new }
         ensures len { length self.new ≡ length self.old }
     {
-        let place = place_of(&self.slots, self.hints.get(r), r).unwrap();
+        let place = place_of(&self.slots, self.cursors.held, r).unwrap();
         self.slots[place].request.place = Place::Running(p, true);
         self.cursors.from = 0;
         self.cursors.leave(place, &self.slots);
     }
 
     /// Lets a request run at the pod where it is queued.
-    #[inline(always)]
+    #[inline]
     pub fn run(&mut self, r: u64)
         requires { (p : ℕ) × (contains r (placed_in (queues_at p) self.old) ≡ true) }
         ensures begun { self.new ≡ begins r self.old }
@@ -199,7 +199,7 @@ impl Table {
     }
 
     /// Takes a request out, and answers it.
-    #[inline(always)]
+    #[inline]
     pub fn remove(&mut self, r: u64) -> Request
         requires { contains r (numbers_in self.old) ≡ true }
         ensures removed { self.new ≡ without r self.old }

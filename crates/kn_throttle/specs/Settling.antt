@@ -1,12 +1,13 @@
 -- What follows without a further act, of the record.
-use Rattle.std.specs.Prelude.{◌≡◌, ℕ, Bool, ◌+◌, ◌++◌, List, [], None, length}
+use Rattle.std.specs.Prelude.{◌≡◌, ℕ, Bool, ◌+◌, ◌++◌, List, [], Option, None, IfNone, IfSome, length}
 use Rattle.kn_event.specs.declared.entry.Entry.{Entry}
+use Rattle.kn_event.specs.declared.entry.Row.{Row}
 use Rattle.kn_trace.specs.Trace.{Trace, first_of}
 use Rattle.kn_record.specs.Admission.{Admission, placed_in, waits}
 use Rattle.kn_record.specs.Made.{IsRecordOf}
 use Rattle.kn_record.specs.Order.{AreTimed}
 use Rattle.kn_record.specs.Views.{is_pod_where, pod_numbered, pod_numbers}
-use Rattle.kn_record.specs.Walks.{promoting, stepped_by}
+use Rattle.kn_record.specs.Walks.{BeginsWith, promoting, stepped_by}
 use Rattle.kn_throttle.specs.Kept.{can_leave, can_run}
 use Rattle.kn_throttle.specs.Pods.{pods_where}
 
@@ -21,6 +22,14 @@ can_leave_at a p = is_pod_where (can_leave a.live) (pod_numbered p a.pods)
 pub record IsCalm (a : Admission) : Type 0 where
   pub pods : first_of (pods_where (can_run a.live) a.pods) ≡ None
   pub rows : (c : Trace) (time : ℕ) → IsRecordOf a c → promoting time (pod_numbers a.pods) c ≡ []
+
+-- the row that is answered begins those to come: in each trace that the record stands for, and at any time
+abbrev pub Begins : {X : Type 0} → (ℕ → Trace → List Entry) → (X → Row) → Admission → Option X → Type 0
+Begins rest row a answer = (c : Trace) (time : ℕ) → IsRecordOf a c → IfSome answer (λ x. BeginsWith (rest time) time (row x) a c)
+
+-- where none is answered, none is to come
+abbrev pub Ends : {X : Type 0} → (ℕ → Trace → List Entry) → Admission → Option X → Type 0
+Ends rest a answer = (c : Trace) (time : ℕ) → IsRecordOf a c → IfNone answer (rest time c ≡ [])
 
 -- how many rows may follow at most: each is of a request that waits, or of a pod
 abbrev pub rows_left : Admission → ℕ

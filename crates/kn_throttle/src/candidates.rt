@@ -134,7 +134,7 @@ impl Candidates {
     }
 
     /// One more request runs at the pod at this place. Answers the pod.
-    #[inline(always)]
+    #[inline]
     pub fn begin_at(&mut self, place: usize) -> u64
         requires order { AreAscending self.old }
         requires inside { place < length self.old }
@@ -149,7 +149,7 @@ impl Candidates {
     }
 
     /// One more request runs at pod `p`.
-    #[inline(always)]
+    #[inline]
     pub fn begin(&mut self, p: u64)
         requires order { AreAscending self.old }
         requires fits { All (λ (k : Cand). k.running < 2 ^ 63) self.old }
@@ -163,7 +163,7 @@ impl Candidates {
     }
 
     /// One less runs at pod `p`.
-    #[inline(always)]
+    #[inline]
     pub fn end(&mut self, p: u64)
         requires { AreAscending self.old }
         ensures { self.new ≡ with_changed p ended self.old }

@@ -1,6 +1,6 @@
 //! An arrival or a finish at which nobody's time is over. The rows that it begins with are answered as numbers: a row is large to
 //! put into the log.
-ghost use Rattle.std.specs.Prelude.{◌≡◌, ℕ, ◌+◌, ◌<◌, ◌≤◌, ◌^◌, [], ◌∷◌, ◌++◌, All, length, Some, true, false};
+ghost use Rattle.std.specs.Prelude.{◌≡◌, ◌+◌, ◌<◌, ◌≤◌, ◌^◌, [], ◌∷◌, ◌++◌, All, length, Some, true, false};
 ghost use Rattle.kn_event.specs.Revision.{AreInRange};
 ghost use Rattle.kn_event.specs.declared.revision.Spec.{Spec as SpecValue};
 ghost use Rattle.kn_trace.specs.Events.{act_row, entries_of, react};

@@ -5,9 +5,9 @@ ghost use Rattle.kn_trace.specs.Trace.{Trace};
 ghost use Rattle.kn_trace.specs.Settling.{held_assignments, removals, settling};
 ghost use Rattle.kn_record.specs.Made.{IsRecordOf};
 ghost use Rattle.kn_record.specs.Views.{pod_numbers};
-ghost use Rattle.kn_record.specs.Walks.{BeginsWith, promoting};
+ghost use Rattle.kn_record.specs.Walks.{promoting};
 ghost use Rattle.kn_throttle.specs.Rows.{dispatch_row};
-ghost use Rattle.kn_throttle.specs.Settling.{IsCalm};
+ghost use Rattle.kn_throttle.specs.Settling.{Begins, IsCalm};
 
 use super::Throttle;
 use crate::touched::Touched;
@@ -30,7 +30,7 @@ impl Throttle {
     /// where no request may be dispatched, and then nothing changes: only pods may still be removed.
     #[inline(always)]
     pub fn dispatch_next(&mut self) -> Option<Dispatch>
-        ensures begins { (c : Trace) (time : ℕ) → IsRecordOf self.old.admission c → IfSome result (λ d. BeginsWith (settling self.old.spec time) time (dispatch_row d) self.old.admission c) }
+        ensures begins { Begins (settling self.old.spec) dispatch_row self.old.admission result }
         ensures after { (time : ℕ) → IfSome result (λ d. self.new ≡ with_row time (dispatch_row d) self.old) }
         ensures unchanged { IfNone result (self.new ≡ self.old) }
         ensures ends { (c : Trace) (time : ℕ) → IsRecordOf self.old.admission c → IfNone result (settling self.old.spec time c ≡ removals time c) }
@@ -65,13 +65,27 @@ impl Throttle {
     fn run_if_any(&mut self) -> Option<u64>
         ensures after { (time : ℕ) → IfSome result (λ r. self.new ≡ with_row time (row.Run r) self.old) }
         ensures unchanged { IfNone result (self.new ≡ self.old) }
-        ensures begins { (c : Trace) (time : ℕ) → IsRecordOf self.old.admission c → IfSome result (λ r. BeginsWith (promoting time (pod_numbers self.old.admission.pods)) time (row.Run r) self.old.admission c) }
+        ensures begins { Begins (λ time. promoting time (pod_numbers self.old.admission.pods)) row.Run self.old.admission result }
         ensures calm { IfNone result (IsCalm self.old.admission) }
     {
         if self.is_calm() {
             return None;
         }
-        self.run_next()
+        let ran = self.run_next();
+        self.calm_down();
+        ran
+    }
+
+    /// Forgets the one pod that was touched, where no queued request may run there.
+    #[inline(always)]
+    fn calm_down(&mut self)
+        ensures { self.new ≡ self.old }
+    {
+        if let Touched::At(p) = self.to_run {
+            if !self.can_run(p) {
+                self.to_run = Touched::Nowhere;
+            }
+        }
     }
 
     /// Whether no pod was touched at which a queued request may run. False says nothing.
@@ -107,7 +121,7 @@ impl Throttle {
         choice_laws();
         match self.table.first_held() {
             None => false,
-            Some(_) => self.candidates.has_free_seat(),
+            Some(_) => self.candidates.has_free_seat() && !self.breaker.is_used_up(),
         }
     }
 }

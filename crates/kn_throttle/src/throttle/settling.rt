@@ -6,10 +6,10 @@ ghost use Rattle.kn_trace.specs.Trace.{Trace, first_of, live_pods};
 ghost use Rattle.kn_trace.specs.Settling.{held_assignments, promotions, removals, settling};
 ghost use Rattle.kn_record.specs.Made.{IsRecordOf};
 ghost use Rattle.kn_record.specs.Views.{pod_numbers};
-ghost use Rattle.kn_record.specs.Walks.{BeginsWith, promoting};
+ghost use Rattle.kn_record.specs.Walks.{promoting};
 ghost use Rattle.kn_throttle.specs.Kept.{can_leave, can_run};
 ghost use Rattle.kn_throttle.specs.Pods.{pods_where};
-ghost use Rattle.kn_throttle.specs.Settling.{AddsNobody, IsCalm, LogsSteps, can_leave_at, can_run_at, rows_left};
+ghost use Rattle.kn_throttle.specs.Settling.{AddsNobody, Begins, Ends, IsCalm, LogsSteps, can_leave_at, can_run_at, rows_left};
 
 use super::Throttle;
 use super::arriving::LIVE_MOST;
@@ -106,8 +106,8 @@ impl Throttle {
         ensures after { (time : ℕ) → IfSome result (λ r. self.new ≡ with_row time (row.Run r) self.old) }
         ensures unchanged { IfNone result (self.new ≡ self.old) }
         ensures fewer { IfSome result (λ r. rows_left self.new.admission + 1 ≡ rows_left self.old.admission) }
-        ensures begins { (c : Trace) (time : ℕ) → IsRecordOf self.old.admission c → IfSome result (λ r. BeginsWith (promoting time (pod_numbers self.old.admission.pods)) time (row.Run r) self.old.admission c) }
-        ensures ends { (c : Trace) (time : ℕ) → IsRecordOf self.old.admission c → IfNone result (promoting time (pod_numbers self.old.admission.pods) c ≡ []) }
+        ensures begins { Begins (λ time. promoting time (pod_numbers self.old.admission.pods)) row.Run self.old.admission result }
+        ensures ends { Ends (λ time. promoting time (pod_numbers self.old.admission.pods)) self.old.admission result }
         ensures calm { IfNone result (IsCalm self.old.admission) }
     {
         order_laws();
@@ -135,8 +135,8 @@ impl Throttle {
         ensures after { (time : ℕ) → IfSome result (λ x. self.new ≡ with_row time (row.Assign x.0 x.1) self.old) }
         ensures unchanged { IfNone result (self.new ≡ self.old) }
         ensures fewer { IfSome result (λ x. rows_left self.new.admission + 1 ≡ rows_left self.old.admission) }
-        ensures begins { (c : Trace) (time : ℕ) → IsRecordOf self.old.admission c → IfSome result (λ x. BeginsWith (held_assignments self.old.spec time) time (row.Assign x.0 x.1) self.old.admission c) }
-        ensures ends { (c : Trace) (time : ℕ) → IsRecordOf self.old.admission c → IfNone result (held_assignments self.old.spec time c ≡ []) }
+        ensures begins { Begins (held_assignments self.old.spec) (λ x. row.Assign x.0 x.1) self.old.admission result }
+        ensures ends { Ends (held_assignments self.old.spec) self.old.admission result }
         ensures calm { IsCalm self.old.admission → IfSome result (λ x. IsCalm self.new.admission) }
     {
         order_laws();
@@ -174,8 +174,8 @@ impl Throttle {
         ensures after { (time : ℕ) → IfSome result (λ p. self.new ≡ with_row time (row.Remove p) self.old) }
         ensures unchanged { IfNone result (self.new ≡ self.old) }
         ensures fewer { IfSome result (λ p. rows_left self.new.admission + 1 ≡ rows_left self.old.admission) }
-        ensures begins { (c : Trace) (time : ℕ) → IsRecordOf self.old.admission c → IfSome result (λ p. BeginsWith (removals time) time (row.Remove p) self.old.admission c) }
-        ensures ends { (c : Trace) (time : ℕ) → IsRecordOf self.old.admission c → IfNone result (removals time c ≡ []) }
+        ensures begins { Begins removals row.Remove self.old.admission result }
+        ensures ends { Ends removals self.old.admission result }
     {
         walk_laws();
         match self.pod_to_leave() {
@@ -244,7 +244,7 @@ impl Throttle {
     }
 
     /// Whether a queued request may run at a pod.
-    fn can_run(&self, p: u64) -> bool
+    pub(super) fn can_run(&self, p: u64) -> bool
         requires { contains p (pod_numbers self.now.admission.pods) ≡ true }
         ensures { result ≡ can_run_at self.now.admission p }
     {

@@ -21,9 +21,6 @@ returns-in-1-to-3-clause-found c = any_free c.args.ready.now (rw c.requires.free
 pub returns-in-1-to-3-clause-inside : goal.returns-in-1-to-3-clause-inside
 returns-in-1-to-3-clause-inside c = rw c.requires.first (first_inside c.args.ready.now (rw c.requires.free at c.requires.some))
 
-pub round_place-requires-clause-some : goal.round_place-requires-clause-some
-round_place-requires-clause-some c = rw c.requires.free at c.requires.some
-
 pub returns-in_default-clause-chosen : goal.returns-in_default-clause-chosen
 returns-in_default-clause-chosen c = λ seed picks x y.
     let low : 4 ≤ c.args.cc = search rules in
