@@ -79,7 +79,7 @@ pub(crate) fn own(scaler: &mut Option<Scaler>, own: OwnRow, at: Stand, through: 
 }
 
 /// The row with which a request is dispatched.
-#[inline(always)]
+#[inline]
 pub(crate) fn dispatched(scaler: &mut Option<Scaler>, dispatch: Dispatch)
     requires { IsNextInSome scaler.old (dispatch_row dispatch) stand.Held false }
     ensures stands { TakesRow (dispatch_row dispatch) stand.Held false scaler.old scaler.new }
@@ -92,7 +92,7 @@ pub(crate) fn dispatched(scaler: &mut Option<Scaler>, dispatch: Dispatch)
 }
 
 /// Whether no pod is wanted of a revision that scales.
-#[inline(always)]
+#[inline]
 pub(crate) fn wants_none(scaler: &Option<Scaler>) -> bool
     ensures { result ≡ false → (t : ℕ) → WakesNone t scaler.now }
 {

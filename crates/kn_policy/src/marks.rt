@@ -24,7 +24,7 @@ pub fn first_free(ready: &[Cand], marks: &[u8], from: usize) -> usize
 
 /// The place that the policy takes by the place where round robin goes on and the next two random words, of pods of which
 /// so many have a free seat, the first of them at this place.
-#[inline(always)]
+#[inline]
 pub fn place_by(
     cc: u64,
     place: u64,

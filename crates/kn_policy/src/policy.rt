@@ -121,7 +121,7 @@ impl Policy {
 }
 
 /// The two words of a pick, which only the random choice draws; the others look at neither.
-#[inline(always)]
+#[inline]
 fn draw(cc: u64, generator: &mut Pcg32) -> (u32, u32)
     ensures words { (seed picks : ℕ) → cc ≡ 0 → generator.old ≡ generator_at seed (2 * picks)
         → (result.0 ≡ random_word seed (2 * picks)) × (result.1 ≡ random_word seed (2 * picks + 1)) }

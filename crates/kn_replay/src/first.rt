@@ -86,7 +86,7 @@ fn add_dispatch<O: Sink>(
 }
 
 /// The own row, and with which a request is dispatched behind it, if one is. None where the log has all rows.
-#[inline(always)]
+#[inline]
 fn parts_of(first: FirstRows) -> Option<(OwnRow, Option<Dispatch>)>
     ensures none { IfNone result ((t : ℕ) → first_rows t first ≡ []) }
     ensures some { IfSome result (λ p. (t : ℕ) → first_rows t first ≡ entry t (own_row p.0) ∷ dispatched t p.1) }
@@ -151,7 +151,7 @@ pub fn add_first<O: Sink>(
 }
 
 /// Adds a row for each entry behind what waits, and counts them. There are seldom any.
-#[inline(always)]
+#[inline]
 pub fn add_rest<O: Sink>(
     log: &EntryLog,
     tally: &mut Tally,

@@ -32,7 +32,8 @@ fn put_two(room: &mut [u8], at: usize, word: &[u8], m: u64, n: u64) -> usize
     ensures end { result ≤ at + length word.now + 42 }
 {
     let at = put_one(room, at, word, m, b" ");
-    put_one(room, at, b"", n, b"\n")
+    let at = put_number(room, at, n);
+    put_word(room, at, b"\n")
 }
 
 /// What stands after the time of an `admit` row, with its LF.

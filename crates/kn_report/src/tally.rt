@@ -115,7 +115,7 @@ impl Tally {
     }
 
     /// Counts one `finish` row more.
-    #[inline(always)]
+    #[inline]
     pub(crate) fn count_finish(&mut self, ok: bool)
         requires { self.old.rows < 2 ^ 127 }
         ensures counted { (request : ℕ) → CountsRow (Row.Finish request ok) self.old self.new }

@@ -154,7 +154,7 @@ impl Seats {
     }
 
     /// Queues a request last at a pod, unless the pod is full.
-    #[inline]
+    #[inline(always)]
     pub fn queue_at(&mut self, p: u64, r: u64) -> bool
         requires there { IsTrue (has_pod p self.old.pods) }
         requires room { requests_at_all self.old.pods < self.old.request_room }
@@ -233,7 +233,7 @@ impl Seats {
     }
 
     /// Ends one that is running at a pod, and answers what may follow there.
-    #[inline]
+    #[inline(always)]
     pub fn give_back(&mut self, p: u64) -> Freed
         requires there { IsTrue (has_pod p self.old.pods) }
         requires running { 0 < (pod_at p self.old.pods).running }
@@ -294,7 +294,7 @@ impl Seats {
     }
 
     /// Where the pod of this number stands: where the hint says, or else where a search finds it.
-    #[inline(always)]
+    #[inline]
     fn place_of(&self, p: u64) -> usize
         requires { IsTrue (has_pod p self.now.pods) }
         ensures { IsPlaceOf p self.now.pods result }

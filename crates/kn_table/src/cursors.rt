@@ -80,7 +80,7 @@ impl Cursors {
     }
 
     /// One more slot stands at the end, of a live request at this place.
-    #[inline(always)]
+    #[inline]
     pub fn pass(&mut self, end: usize, place: Place)
         requires { end < 40000 }
         ensures { self.new ≡ record self.old { held = passed (is_held_place place) end self.old.held; waiting = passed (waits place) end self.old.waiting } }

@@ -148,7 +148,7 @@ fn search(slots: &[Slot], r: u64) -> Option<usize>
 }
 
 /// Where the slot of this number stands: at the place that is looked at first, or by a search.
-#[inline(always)]
+#[inline]
 fn slot_of(slots: &[Slot], hint: usize, r: u64) -> Option<usize>
     requires order { AreInOrder slots.now }
     requires few { length slots.now ≤ 65536 }
@@ -161,7 +161,7 @@ fn slot_of(slots: &[Slot], hint: usize, r: u64) -> Option<usize>
 }
 
 /// Where the live request of this number stands; the hint is the place that is looked at first.
-#[inline(always)]
+#[inline]
 pub fn place_of(slots: &[Slot], hint: usize, r: u64) -> Option<usize>
     requires order { AreInOrder slots.now }
     requires few { length slots.now ≤ 65536 }

@@ -67,7 +67,7 @@ fn is_over(since: u64, timeout_ms: u64, time: u64) -> bool
 }
 
 /// Sweeps out the requests that have ended, where no slot is left, or where one of them isn't before this request.
-#[inline(always)]
+#[inline]
 fn make_room(slots: &mut Vec<Slot>, hints: &mut Hints, cursors: &mut Cursors, request: &Request)
     requires order { AreInOrder slots.old.items }
     requires first { AreFirst cursors.old slots.old.items }
@@ -132,7 +132,7 @@ impl Table {
     }
 
     /// Takes in one more request, whose number is above all others and whose time is not before theirs.
-    #[inline]
+    #[inline(always)]
     pub fn push(&mut self, request: Request)
         requires room { length self.old < live_most }
         requires above { All (λ (q : Request). q.number < request.number) self.old }
@@ -157,7 +157,7 @@ impl Table {
     }
 
     /// The live request of this number.
-    #[inline]
+    #[inline(always)]
     pub fn get(&self, r: u64) -> Option<Request>
         ensures found { result ≡ find (λ (q : Request). q.number == r) self.now }
         ensures number { IfSome result (λ q. q.number ≡ r) }
@@ -234,7 +234,7 @@ impl Table {
     }
 
     /// The first request that is held.
-    #[inline(always)]
+    #[inline]
     pub fn first_held(&self) -> Option<u64>
         ensures first { result ≡ first_of (placed_in is_held_place self.now) }
         ensures held { IfSome result (λ r. contains r (placed_in is_held_place self.now) ≡ true) }

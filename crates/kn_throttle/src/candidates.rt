@@ -102,7 +102,7 @@ impl Candidates {
     }
 
     /// Where the first one with a free seat stands; behind all where none has one.
-    #[inline(always)]
+    #[inline]
     pub fn first_free(&mut self) -> usize
         ensures first { result ≡ position_or_len has_seat self.old }
         ensures unchanged { self.new ≡ self.old }
@@ -163,7 +163,7 @@ impl Candidates {
     }
 
     /// One less runs at pod `p`.
-    #[inline]
+    #[inline(always)]
     pub fn end(&mut self, p: u64)
         requires { AreAscending self.old }
         ensures { self.new ≡ with_changed p ended self.old }
@@ -273,7 +273,7 @@ fn mark_of(cand: &Cand) -> u8
 }
 
 /// Where the candidate of pod `p` stands: where the hint says, or else where a search finds it.
-#[inline(always)]
+#[inline]
 fn place_of(cands: &[Cand], hints: &PlaceHints, p: u64) -> Option<usize>
     requires { AreAscending cands.now }
     ensures inside { IfSome result (λ i. i < length cands.now) }

@@ -180,7 +180,7 @@ impl Throttle {
     }
 }
 
-#[inline(always)]
+#[inline]
 fn stand_of_place(place: Place) -> Stand
     ensures { result ≡ stand_of_place place }
 {
@@ -191,7 +191,7 @@ fn stand_of_place(place: Place) -> Stand
     }
 }
 
-#[inline(always)]
+#[inline]
 fn is_assigned(place: Place) -> bool
     ensures { result ≡ is_assigned_place place }
 {

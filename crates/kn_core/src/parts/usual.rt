@@ -32,7 +32,7 @@ use kn_throttle::Dispatch;
 
 impl Parts {
     /// Whether an event is an arrival or a finish at which nobody's time is over.
-    #[inline(always)]
+    #[inline]
     fn is_usual(&self, e: &Event) -> bool
         ensures { result ≡ true → IsUsual e.now self.now.throttle }
     {
@@ -101,7 +101,7 @@ impl Parts {
     }
 
     /// What is left of a settling.
-    #[inline(always)]
+    #[inline]
     fn settle_rest(&mut self, time: u64, log: &mut EntryLog)
         requires some { IsReadyFor (λ s c. settling s time c) self.old }
         requires few { HasFewPods self.old }

@@ -46,7 +46,7 @@ impl Throttle {
     }
 
     /// Whether nothing follows from the entries so far. False says nothing.
-    #[inline(always)]
+    #[inline]
     pub fn is_settled(&self) -> bool
         ensures { (c : Trace) (time : ℕ) → IsRecordOf self.now.admission c → result ≡ true → settling self.now.spec time c ≡ [] }
     {
@@ -77,7 +77,7 @@ impl Throttle {
     }
 
     /// Forgets the one pod that was touched, where no queued request may run there.
-    #[inline(always)]
+    #[inline]
     fn calm_down(&mut self)
         ensures { self.new ≡ self.old }
     {
@@ -89,7 +89,7 @@ impl Throttle {
     }
 
     /// Whether no pod was touched at which a queued request may run. False says nothing.
-    #[inline(always)]
+    #[inline]
     fn is_calm(&self) -> bool
         ensures { result ≡ true → IsCalm self.now.admission }
     {

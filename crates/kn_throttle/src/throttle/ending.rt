@@ -126,7 +126,7 @@ fn take_out(table: &mut Table, r: u64, is_lost: bool) -> Request
 }
 
 /// A running request ends. One that was assigned gives its slot back.
-#[inline(always)]
+#[inline]
 fn release(breaker: &mut Breaker, assigned: bool)
     requires { assigned ≡ true → 0 < breaker.old.running }
     ensures { breaker.new ≡ released assigned breaker.old }

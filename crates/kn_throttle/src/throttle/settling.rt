@@ -191,7 +191,7 @@ impl Throttle {
     }
 
     /// The pod at which a queued request may run next, if one may at all.
-    #[inline(always)]
+    #[inline]
     fn pod_to_run(&self) -> Option<u64>
         ensures there { IfSome result (λ p. contains p (pod_numbers self.now.admission.pods) ≡ true) }
         ensures first { IfSome result (λ p. first_of (pods_where (can_run self.now.admission.live) self.now.admission.pods) ≡ (if can_run_at self.now.admission p then Some p else None)) }
