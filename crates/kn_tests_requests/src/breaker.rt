@@ -14,13 +14,15 @@ fn enter_and_leave(breaker: &mut Breaker) -> &'static str
 {
     let (first, second) = (breaker.enter(), breaker.enter());
     let (one, two) = (breaker.acquire(), breaker.acquire());
+    let used_up = breaker.is_used_up();
     breaker.set_capacity(2);
+    let room = !breaker.is_used_up();
     let grown = breaker.acquire();
     let (third, fourth) = (breaker.enter(), breaker.enter());
     if !first || !second || !third || fourth {
         return "three slots are taken";
     }
-    if !one || two || !grown {
+    if !one || two || !used_up || !room || !grown {
         return "as many run as the capacity lets";
     }
     breaker.set_capacity(1);
