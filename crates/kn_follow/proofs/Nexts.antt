@@ -1,16 +1,21 @@
 -- What a reader's call for the next event says.
-use Rattle.std.proofs.Common.{◌≡◌, ◌+◌, ◌≤◌, ℕ, false, List, ap, arith, inl, inr}
+use Rattle.std.proofs.Common.{◌≡◌, ◌+◌, ◌≤◌, ◌∙◌, ℕ, Bool, false, List, [], length, ap, subst, refl, arith, inl, inr}
 use Rattle.std.specs.Prelude.{◌⊎◌, Option, None, Some, Result, Ok, Err, IfErr, OnOk}
 use Rattle.kn_event.specs.declared.event.Event.{Event}
 use Rattle.kn_io.specs.Causes.{Rose}
 use Rattle.kn_journal.specs.declared.error.JournalError.{JournalError}
 use Rattle.kn_journal.specs.declared.error.JournalError.TheVariants as error
+use Rattle.kn_core.specs.State.{RevisionState}
+use Rattle.kn_journal.specs.Bundle.{next_by}
+use Rattle.kn_journal.specs.Calls.{KeepsJournal, ReadsAhead}
 use Rattle.kn_journal.specs.Journal.{next_part}
 use Rattle.kn_journal.specs.declared.status.Status.{Status}
-use Rattle.kn_journal.specs.LineCalls.{IsNextEvent}
-use Rattle.kn_journal.specs.Reading.{Ahead, IsOver, IsSpent, TakesPart, TakesText, most_taken}
-use Rattle.kn_journal.specs.Telling.{IsLineFault, LeavesRest, OnEvent, ReaderState, Refuses, TakesEnd, Tells}
-use Rattle.kn_follow.specs.Calls.{Draws, IsBroken, IsCaused, IsNext, StopsBy}
+use Rattle.kn_journal.specs.LineCalls.{IsFromAhead, IsNextEvent}
+use Rattle.kn_journal.specs.Reading.{Ahead, IsOver, IsSpent, TakesPart, TakesText, most_taken, unread}
+use Rattle.kn_journal.specs.Telling.{Gives, IsLineFault, LeavesRest, OnEvent, ReaderState, Refuses, TakesEnd, Tells}
+use Rattle.kn_report.specs.AddingLaws.{AddingLaws}
+use Rattle.kn_report.specs.Waiting.{Adds}
+use Rattle.kn_follow.specs.Calls.{Draws, IsBroken, IsCaused, IsNext, IsSound, StopsBy, TakesEvent}
 use Rattle.kn_follow.proofs.Statuses.{rose_on}
 
 -- the clauses of the reader that speak of an event
@@ -77,3 +82,40 @@ broken_on {input} {a} {b} {d} h spent fault = record { spent = spent; fault = by
     by_fault : Rose b d ⊎ (input.taken ≡ most_taken) → Rose a d ⊎ (most_taken ≤ input.taken)
     by_fault (inl rose) = inl (rose_on a b d h rose)
     by_fault (inr all) = inr (omega (arith, all))
+
+-- ---- an event that is found
+
+-- it is found, ahead or by a read; what waited was written or waits, and the revision is as it was
+pub record FindsEvent (before after : ReaderState) (old new : Option (List ℕ)) (e : Event) (x y : RevisionState) (waiting now : List ℕ) (held held_now : Option (List ℕ))
+    (given given_now faults faults_now failed failed_now : ℕ) : Type 0 where
+  pub taken : TakesEvent before after old new e
+  pub adds : Adds held held_now waiting now []
+  pub revision : y ≡ x
+  pub version : after.version ≡ before.version
+  pub draws : Draws before.input after.input given given_now faults faults_now
+  pub cause : failed ≤ failed_now
+  pub fits : length now ≤ 65536
+
+-- one that is ahead
+pub found_ahead : AddingLaws → (before after : ReaderState) (left : Option (List ℕ)) (e : Event) (x : RevisionState) (waiting : List ℕ) (held : Option (List ℕ)) (given faults failed : ℕ)
+    → IsSound before → ((left : Option (List ℕ)) → ReadsAhead before after left e) → IsNextEvent before.version before.last e → after.last ≡ e.time → before.input.taken + 6 ≤ after.input.taken
+    → KeepsJournal before after → after.input.taken ≤ most_taken → after.failed ≡ before.failed → IsFromAhead before.input after.input → length waiting ≤ 65536
+    → FindsEvent before after (unread before.input left) (unread after.input left) e x x waiting waiting held held given given faults faults failed failed
+found_ahead laws before after left e x waiting held given faults failed sound reads event last bytes journal few still balance fits = record {
+  taken = record {
+    gives = subst (λ (b : Bool). Gives (next_by b before.version before.last before.number) (Some e) after.number (unread before.input left) (unread after.input left)) sound.alone (reads left).tells;
+    text = (reads left).text;
+    order = event.order;
+    times = event.times;
+    last = last;
+    range = event.range;
+    bytes = bytes;
+    sound = record { good = still ∙ sound.good; alone = journal.bundle ∙ sound.alone; few = few };
+  };
+  adds = laws.nothing;
+  revision = refl;
+  version = journal.version;
+  draws = record { balance = omega (arith, balance); never_falls = omega arith };
+  cause = omega arith;
+  fits = fits;
+}

@@ -139,9 +139,10 @@ impl Follower {
         self.waiting.flush(out)
     }
 
-    /// Reads the next event. What waits is written before the source may be read; `Failed` says that this failed. A source that
-    /// said its end isn't read again.
-    #[inline(always)]
+    /// Reads the next event, where none is ahead. What waits is written before the source may be read; `Failed` says that this
+    /// failed. A source that said its end isn't read again.
+    // (its code stands apart from the loop, in which an event that is ahead is taken without it)
+    #[inline(never)]
     fn next<S: Source, O: Sink>(
         &mut self,
         reader: &mut JournalReader,
@@ -163,10 +164,6 @@ impl Follower {
         adding_laws();
         text_laws();
         let _few = self.waiting.len();
-        match reader.next_ahead() {
-            Some(e) => return Ok(Ok(Some(e))),
-            None => {}
-        }
         match self.write_unless(reader.holds_line(), out) {
             Ok(()) => {}
             Err(Failed) => return Err(Failed),
@@ -237,17 +234,15 @@ impl Follower {
         text_laws();
         // Each event takes six bytes at least, so after so many 2^56 bytes were taken.
         for count in 0..1u64 << 54 {
-            let read = match self.next(reader, source, out) {
-                Ok(read) => read,
-                Err(Failed) => return Status::WriteFault,
-            };
-            let found = match read {
-                Ok(found) => found,
-                Err(error) => return self.stop(status_of(error), out),
-            };
-            let e = match found {
+            let _few = self.waiting.len();
+            let e = match reader.next_ahead() {
                 Some(e) => e,
-                None => return self.end(teller, reader.version(), count, out),
+                None => match self.next(reader, source, out) {
+                    Ok(Ok(Some(e))) => e,
+                    Ok(Ok(None)) => return self.end(teller, reader.version(), count, out),
+                    Ok(Err(error)) => return self.stop(status_of(error), out),
+                    Err(Failed) => return Status::WriteFault,
+                },
             };
             match self.take(teller, &e, out) {
                 Ok(()) => {}

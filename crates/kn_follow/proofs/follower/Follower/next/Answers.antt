@@ -1,39 +1,19 @@
 -- An event that is ahead, the end of the input, or what the reader answers over the source.
-use Rattle.std.proofs.Common.{◌≡◌, ◌∙◌, Bool, None, Some, false, true, refl, sym, ap, subst}
+use Rattle.std.proofs.Common.{◌≡◌, ◌∙◌, Bool, None, true, sym, subst}
 use Rattle.std.specs.Prelude.{Err, IfErr}
 use Rattle.kn_journal.specs.declared.error.JournalError.TheVariants as error
 use Rattle.kn_journal.specs.Bundle.{next_by}
 use Rattle.kn_journal.specs.Reading.{IsOver, unread}
-use Rattle.kn_journal.specs.Telling.{AmidNext, Gives, IsLineFault, LeavesRest, ReaderState, Tells}
-use Rattle.kn_follow.specs.Calls.{IsNext}
+use Rattle.kn_journal.specs.Telling.{AmidNext, IsLineFault, LeavesRest, Tells}
 use Rattle.kn_follow.proofs.Faults.{over_refuses}
 use Rattle.kn_follow.proofs.Nexts.{OfError, OfEvent, next_is, no_end_stops}
 use Rattle.kn_follow.proofs.follower.Follower.next.Goals as goal
 
-pub returns-in-Some-clause-adds : goal.returns-in-Some-clause-adds
-returns-in-Some-clause-adds g c = c.adding_laws.ensures.laws.nothing
-
-pub returns-in-Some-clause-next : goal.returns-in-Some-clause-next
-returns-in-Some-clause-next g c =
-    let said = c.in-Some.ensures in
-    let left = g.S.Source.left c.args.source.now in
-    let r = c.args.reader.now in
-    record {
-      gives = subst (λ (b : Bool). Gives (next_by b r.version r.last r.number) (Some c.in-Some.e) c.next_ahead.new.self.number (unread r.input left) (unread c.next_ahead.new.self.input left)) c.requires.sound.alone (said.reads left).tells;
-      text = (said.reads left).text;
-      order = said.event.order;
-      times = said.event.times;
-      last = said.last;
-      range = said.event.range;
-      bytes = said.bytes;
-      sound = record { good = said.failed ∙ c.requires.sound.good; alone = said.journal.bundle ∙ c.requires.sound.alone; few = said.few };
-    }
-
 pub returns-then-is_cut-clause-next : goal.returns-then-is_cut-clause-next
 returns-then-is_cut-clause-next g c =
     let old = unread c.args.reader.now.input (g.S.Source.left c.args.source.now) in
-    let cut : c.args.reader.now.cut ≡ true = sym (c.is_cut.ensures ∙ ap (λ (r : ReaderState). r.cut) (c.in-None.ensures.same refl)) ∙ c.if-is_cut.true in
-    no_end_stops c.args.reader.now c.next_ahead.new.self old (unread c.next_ahead.new.self.input (g.S.Source.left c.args.source.now)) (g.S.Faulty.faults c.args.source.now) (g.S.Faulty.faults c.args.source.now)
+    let cut : c.args.reader.now.cut ≡ true = sym c.is_cut.ensures ∙ c.if-is_cut.true in
+    no_end_stops c.args.reader.now c.args.reader.now old old (g.S.Faulty.faults c.args.source.now) (g.S.Faulty.faults c.args.source.now)
     (λ over. over_refuses c.text_laws.ensures.laws c.args.reader.now.version c.args.reader.now.last c.args.reader.now.number old (subst (λ (b : Bool). IsOver b old) cut over))
 
 pub returns-clause-next : goal.returns-clause-next
@@ -42,9 +22,9 @@ returns-clause-next g c =
     let new = unread c.next.new.self.input (g.S.Source.left c.next.new.source) in
     let faults = g.S.Faulty.faults c.args.source.now in
     let faults_now = g.S.Faulty.faults c.next.new.source in
-    let before = c.next_ahead.new.self in
-    let good = c.in-None.ensures.failed ∙ c.requires.sound.good in
-    let alone : before.bundle ≡ false = c.in-None.ensures.journal.bundle ∙ c.requires.sound.alone in
+    let before = c.args.reader.now in
+    let good = c.requires.sound.good in
+    let alone = c.requires.sound.alone in
     let old = unread before.input left in
     let said = c.next.ensures in
     let event : OfEvent before c.next.new.self (unread before.input left) new c.next.result = record {
@@ -64,6 +44,5 @@ returns-clause-next g c =
       spent = said.source.spent good;
       fault = said.source.fault good;
     } in
-    subst (λ (r : ReaderState). IsNext r c.next.new.self (unread r.input left) new faults faults_now c.next.result) (c.in-None.ensures.same refl)
-    (next_is before c.next.new.self (unread before.input left) new faults faults_now c.next.result
-    (subst (λ (b : Bool). Tells (next_by b before.version before.last before.number) c.next.new.self.number old new c.next.result) alone (said.reads.tells good)) event stop)
+    next_is before c.next.new.self (unread before.input left) new faults faults_now c.next.result
+    (subst (λ (b : Bool). Tells (next_by b before.version before.last before.number) c.next.new.self.number old new c.next.result) alone (said.reads.tells good)) event stop
