@@ -1,7 +1,8 @@
 -- A cell is taken out of a queue, and the one before it leads on.
-use Rattle.std.proofs.Common.{◌≡◌, ◌≢◌, ℕ, zero, suc, ◌+◌, ◌-◌, ◌<◌, ◌≤◌, inl, inr, List, [], ◌∷◌, ◌++◌, set, get_or, take, drop, length, refl, sym, ap, subst, ◌∙◌, arith, nat_eq, get_or-set_other, get_or-set_same, length-set, Option, Some, None}
+use Rattle.std.proofs.Common.{◌≡◌, ◌≢◌, ℕ, zero, suc, ◌+◌, ◌-◌, ◌<◌, ◌≤◌, inl, inr, List, [], ◌∷◌, ◌++◌, get_or, take, drop, length, refl, sym, ap, subst, ◌∙◌, arith, nat_eq, get_or-set_other, get_or-set_same, length-set, Option, Some, None}
 use Rattle.std.specs.Prelude.{filter, not, Contains}
 use Rattle.std.proofs.lemmas.Bool.{cases_eq, cases_lt}
+use Rattle.std.proofs.lemmas.List.{length_push}
 use Rattle.kn_seats.specs.declared.cells.Cells.{Cells}
 use Rattle.kn_seats.specs.declared.tracker.Tracker.{Tracker}
 use Rattle.kn_seats.specs.Pods.{without_request, StandsOnce}
@@ -90,10 +91,10 @@ module _ (trackers : List Tracker) (cells : Cells) (pod_room request_room : ℕ)
   pub cut_some : 0 < here.queue.count
   cut_some = let e = deeper in omega arith
 
-  pub before_inside : before < request_room
+  pub before_inside : before < held.made
   before_inside = held.inside before here.number owned
 
-  pub gone_inside : get_or cells.next.items before 0 < request_room
+  pub gone_inside : get_or cells.next.items before 0 < held.made
   gone_inside = held.inside (get_or cells.next.items before 0) here.number gone_mine
 
   module _ (y : Tracker) (number : y.number ≡ here.number) (cells_after : Cells) (cut_out : IsUnlinked before here.queue cells y.queue cells_after) where
@@ -148,7 +149,7 @@ module _ (trackers : List Tracker) (cells : Cells) (pod_room request_room : ℕ)
     mine_cut : (x : ℕ) → owner_cut x ≡ Some here.number → IsStep cells_after.next.items here.queue.first y.queue.count x
     unfolding gone
     mine_cut x mine =
-        let was = owned_before trackers cells pod_room request_room held place here within is (get_or cells.next.items before 0) gone_mine cut_some x here.number mine in
+        let was = owned_before trackers cells pod_room request_room held place here within is (get_or cells.next.items before 0) gone_mine x here.number mine in
         let at = mine_here trackers cells pod_room request_room held place here within is x was.1 in
         let j = at.steps in
         let n = count in
@@ -174,25 +175,26 @@ module _ (trackers : List Tracker) (cells : Cells) (pod_room request_room : ℕ)
     next_same : (x q : ℕ) → (q ≡ here.number → ⊥) → held.owner x ≡ Some q → get_or cells_after.next.items x 0 ≡ get_or cells.next.items x 0
     next_same x q other mine = others x (λ same. other (same_owner held.owner x here.number q (ap held.owner same ∙ owned) mine))
 
-    pub cut_cells : HasChanged cells here y cells_after held.owner owner_cut request_room
+    pub cut_cells : HasChanged cells here y cells_after held.owner owner_cut held.made
     cut_cells = record {
       number = number;
       request = ap (λ (l : List ℕ). length l) cut_out.request ∙ held.request;
       next = ap (λ (l : List ℕ). length l) cut_out.next ∙ length-set cells.next.items before (get_or cells.next.items (get_or cells.next.items before 0) 0) ∙ held.next;
       home = ap (λ (l : List (Option ℕ)). length l) cut_out.home ∙ length-set cells.home.items (get_or cells.next.items before 0) None ∙ held.home;
-      spare = ap (λ (l : List ℕ). length l) cut_out.spare ∙ length-set cells.spare.items cells.spares (get_or cells.next.items before 0) ∙ held.spare;
+      room = cut_out.room;
+      counts = let more = ap (λ (l : List ℕ). length l) cut_out.spare in let fewer = cut_out.count in
+          omega (arith, held.request, length_push cells.spare.items (get_or cells.next.items before 0));
       homes = λ x. ap (λ (l : List (Option ℕ)). get_or l x None) cut_out.home
-          ∙ homes_freed trackers cells pod_room request_room held place here within is (get_or cells.next.items before 0) gone_mine cut_some x;
-      inside = inside_freed trackers cells pod_room request_room held place here within is (get_or cells.next.items before 0) gone_mine cut_some;
-      spares = subst (λ l. AreSpare owner_cut l cells_after.spares request_room) (sym cut_out.spare)
-          (subst (λ n. AreSpare owner_cut (set cells.spare.items cells.spares (get_or cells.next.items before 0)) n request_room) (sym cut_out.spares)
-          (spares_freed trackers cells pod_room request_room held place here within is (get_or cells.next.items before 0) gone_mine cut_some));
+          ∙ homes_freed trackers cells pod_room request_room held place here within is (get_or cells.next.items before 0) gone_mine x;
+      inside = inside_freed trackers cells pod_room request_room held place here within is (get_or cells.next.items before 0) gone_mine;
+      spares = subst (λ l. AreSpare owner_cut l held.made) (sym cut_out.spare)
+          (spares_freed trackers cells pod_room request_room held place here within is (get_or cells.next.items before 0) gone_mine);
       queue = subst (λ n. IsLine owner_cut (Some n) cells_after.next.items y.queue.first y.queue.last y.queue.count) (sym number)
           (subst (λ f. IsLine owner_cut (Some here.number) cells_after.next.items f y.queue.last y.queue.count) (sym cut_out.first) cut_line);
       mine = λ x mine. subst (λ f. IsStep cells_after.next.items f y.queue.count x) (sym cut_out.first) (mine_cut x mine);
-      gains = λ x q other mine. (owned_before trackers cells pod_room request_room held place here within is (get_or cells.next.items before 0) gone_mine cut_some x q mine).1;
+      gains = λ x q other mine. (owned_before trackers cells pod_room request_room held place here within is (get_or cells.next.items before 0) gone_mine x q mine).1;
       keeps = λ x q other mine. (
-        keeps_freed trackers cells pod_room request_room held place here within is (get_or cells.next.items before 0) gone_mine cut_some x q other mine,
+        keeps_freed trackers cells pod_room request_room held place here within is (get_or cells.next.items before 0) gone_mine x q other mine,
         next_same x q other mine,
       );
       same = λ x q other mine. ap (λ (l : List ℕ). get_or l x 0) cut_out.request;

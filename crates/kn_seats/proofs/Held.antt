@@ -8,6 +8,7 @@ use Rattle.std.proofs.lemmas.List.Sums.{sum_by-set, get_or-le-sum_by}
 use Rattle.kn_seats.specs.declared.cells.Cells.{Cells}
 use Rattle.kn_seats.specs.declared.tracker.Tracker.{Tracker}
 use Rattle.kn_seats.specs.Pods.{Pod, requests_at, requests_at_all, with_pod_changed}
+use Rattle.kn_seats.specs.Cells.{HasRoom, KeepsRoom}
 use Rattle.kn_seats.specs.Chains.{AreOwned}
 use Rattle.kn_seats.specs.Kept.{IsKept, IsHeld, IsPlaceOf, IsStep, IsFound, HasQueue, AreSpare, seen}
 use Rattle.kn_seats.proofs.Chains.{length_requests, apart-kept, owned-kept, owned-front, after-kept, requests-kept}
@@ -31,16 +32,25 @@ map-changed f g y (x ∷ xs) (suc place) same inside =
 abbrev with_queue : Tracker → List ℕ → Pod
 with_queue t requests = record { number = t.number; limit = t.limit; running = t.running; queued = requests; draining = t.draining }
 
--- one pod's tracker gives way to another of the same number, and no cell of the others changes
-pub record HasChanged (cells : Cells) (here y : Tracker) (cells_after : Cells) (owner owner_after : ℕ → Option ℕ) (room : ℕ) : Type 0 where
+pub room_kept : (count : ℕ) (cells cells_after : Cells) → KeepsRoom cells cells_after → HasRoom count cells → HasRoom count cells_after
+room_kept count cells cells_after keeps room = record {
+  request = omega (arith, keeps.request, room.request);
+  next = omega (arith, keeps.next, room.next);
+  home = omega (arith, keeps.home, room.home);
+  spare = omega (arith, keeps.spare, room.spare);
+}
+
+-- one pod's tracker gives way to another of the same number, so many cells are made then, and none of the others changes
+pub record HasChanged (cells : Cells) (here y : Tracker) (cells_after : Cells) (owner owner_after : ℕ → Option ℕ) (made : ℕ) : Type 0 where
   pub number : y.number ≡ here.number
-  pub request : length cells_after.request.items ≡ room
-  pub next : length cells_after.next.items ≡ room
-  pub home : length cells_after.home.items ≡ room
-  pub spare : length cells_after.spare.items ≡ room
+  pub request : length cells_after.request.items ≡ made
+  pub next : length cells_after.next.items ≡ made
+  pub home : length cells_after.home.items ≡ made
+  pub room : KeepsRoom cells cells_after
+  pub counts : length cells_after.spare.items + y.queue.count + length cells.request.items ≡ length cells.spare.items + here.queue.count + made
   pub homes : (x : ℕ) → get_or cells_after.home.items x None ≡ owner_after x
-  pub inside : (x p : ℕ) → owner_after x ≡ Some p → x < room
-  pub spares : AreSpare owner_after cells_after.spare.items cells_after.spares room
+  pub inside : (x p : ℕ) → owner_after x ≡ Some p → x < made
+  pub spares : AreSpare owner_after cells_after.spare.items made
   pub queue : HasQueue owner_after cells_after.next.items y
   pub mine : (x : ℕ) → owner_after x ≡ Some here.number → IsStep cells_after.next.items y.queue.first y.queue.count x
   pub gains : (x q : ℕ) → (q ≡ here.number → ⊥) → owner_after x ≡ Some q → owner x ≡ Some q
@@ -59,7 +69,7 @@ module _ (trackers : List Tracker) (cells : Cells) (pod_room request_room : ℕ)
   here_queue = subst (λ t. HasQueue held.owner cells.next.items t) (sym is) (held.queues place here within)
 
   -- no more are queued than there are cells
-  pub here_queued : cells.spares + here.queue.count ≤ request_room
+  pub here_queued : length cells.spare.items + here.queue.count ≤ held.made
   here_queued =
       let all = get_or-le-sum_by (λ (pod : Pod). length pod.queued) (map (seen cells) trackers) place (seen cells here) within_seen in
       let at : length (get_or (map (seen cells) trackers) place (seen cells here)).queued ≡ length (seen cells here).queued = ap (λ (p : Pod). length p.queued) (sym here_seen) in
@@ -96,7 +106,7 @@ module _ (trackers : List Tracker) (cells : Cells) (pod_room request_room : ℕ)
       ] in
       subst (λ (t : Tracker). IsStep cells.next.items t.queue.first t.queue.count x) (sym there) found.step
 
-  module _ (y : Tracker) (cells_after : Cells) (owner_after : ℕ → Option ℕ) (changed : HasChanged cells here y cells_after held.owner owner_after request_room) where
+  module _ (y : Tracker) (cells_after : Cells) (owner_after : ℕ → Option ℕ) {made : ℕ} (changed : HasChanged cells here y cells_after held.owner owner_after made) where
     seen_same : (i : ℕ) (d : Tracker) → i < length trackers → (i ≡ place → ⊥) → seen cells_after (get_or trackers i d) ≡ seen cells (get_or trackers i d)
     seen_same i d lt other =
         let t = get_or trackers i d in
@@ -166,18 +176,20 @@ module _ (trackers : List Tracker) (cells : Cells) (pod_room request_room : ℕ)
     ]
 
     pub held-set : y.running + y.queue.count + requests_at_all (map (seen cells) trackers) ≤ request_room + (here.running + here.queue.count)
-        → cells_after.spares + y.queue.count ≡ cells.spares + here.queue.count → IsHeld (set trackers place y) cells_after pod_room request_room
-    held-set fits counts =
+        → made ≤ request_room → IsHeld (set trackers place y) cells_after pod_room request_room
+    held-set fits cells_fit =
         let many = length_requests cells_after.request.items cells_after.next.items y.queue.first y.queue.count in
         let were = length_requests cells.request.items cells.next.items here.queue.first here.queue.count in
+        let counts = changed.counts in
         record {
-          kept = subst (λ l. IsKept l cells_after.spares pod_room request_room) (sym view)
-              (kept-set (map (seen cells) trackers) place (seen cells here) (seen cells_after y) cells.spares cells_after.spares pod_room request_room
-              held.kept within_seen here_seen changed.number (omega arith) (omega arith));
+          made = made;
+          kept = subst (λ l. IsKept l (length cells_after.spare.items) made pod_room request_room) (sym view)
+              (kept-set (map (seen cells) trackers) place (seen cells here) (seen cells_after y) (length cells.spare.items) (length cells_after.spare.items) held.made made
+              pod_room request_room held.kept within_seen here_seen changed.number (omega arith) cells_fit (omega (arith, held.request)));
           request = changed.request;
           next = changed.next;
           home = changed.home;
-          spare = changed.spare;
+          room = room_kept request_room cells cells_after changed.room held.room;
           owner = owner_after;
           homes = changed.homes;
           found = found_after;

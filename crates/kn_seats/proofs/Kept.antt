@@ -15,12 +15,13 @@ ascending-set xs place d y rise inside same i j e lt within =
     let same_at : y.number ≡ (get_or xs place e).number = same ∙ ap (λ (q : Pod). q.number) (get_or_default xs place d e inside) in
     grind (arith, common_steps, rise i j e, rise i place e, rise place j e)
 
--- one pod gives way to another of the same number, with as many more requests as there is room for, and the cells of its queue
-pub kept-set : (pods : List Pod) (place : ℕ) (here y : Pod) (spare after pod_room request_room : ℕ) → IsKept pods spare pod_room request_room
+-- one pod gives way to another of the same number, with as many more requests as there is room for, and with the cells of its queue
+pub kept-set : (pods : List Pod) (place : ℕ) (here y : Pod) (spare spare_after made made_after pod_room request_room : ℕ) → IsKept pods spare made pod_room request_room
     → place < length pods → here ≡ get_or pods place here → y.number ≡ here.number
-    → requests_at y + requests_at_all pods ≤ request_room + requests_at here → after + length y.queued ≡ spare + length here.queued
-    → IsKept (set pods place y) after pod_room request_room
-kept-set pods place here y spare after pod_room request_room kept inside is same fits cells =
+    → requests_at y + requests_at_all pods ≤ request_room + requests_at here → made_after ≤ request_room
+    → spare_after + length y.queued + made ≡ spare + length here.queued + made_after
+    → IsKept (set pods place y) spare_after made_after pod_room request_room
+kept-set pods place here y spare spare_after made made_after pod_room request_room kept inside is same fits cells_fit cells =
     let requests = sum_by-set requests_at pods place y here inside in
     let queued = sum_by-set (λ pod. length pod.queued) pods place y here inside in
     let at_here : requests_at here ≡ requests_at (get_or pods place here) = ap requests_at is in
@@ -32,13 +33,14 @@ kept-set pods place here y spare after pod_room request_room kept inside is same
       pods_fit = let fit = kept.pods_fit in omega (arith, length-set pods place y);
       requests_fit = omega arith;
       cells = omega arith;
+      cells_fit = cells_fit;
       most_requests = kept.most_requests;
     }
 
 -- a pod without requests goes
-pub kept-remove : (pods : List Pod) (place : ℕ) (d : Pod) (spare pod_room request_room : ℕ) → IsKept pods spare pod_room request_room
-    → place < length pods → requests_at (get_or pods place d) ≡ 0 → IsKept (remove pods place) spare pod_room request_room
-kept-remove pods place d spare pod_room request_room kept inside none =
+pub kept-remove : (pods : List Pod) (place : ℕ) (d : Pod) (spare made pod_room request_room : ℕ) → IsKept pods spare made pod_room request_room
+    → place < length pods → requests_at (get_or pods place d) ≡ 0 → IsKept (remove pods place) spare made pod_room request_room
+kept-remove pods place d spare made pod_room request_room kept inside none =
     let requests = sum_by-remove requests_at pods place d inside in
     let queued = sum_by-remove (λ pod. length pod.queued) pods place d inside in
     let all = kept.requests_fit in
@@ -48,6 +50,7 @@ kept-remove pods place d spare pod_room request_room kept inside none =
       pods_fit = let fit = kept.pods_fit in omega (arith, length-remove pods place inside);
       requests_fit = omega arith;
       cells = omega arith;
+      cells_fit = kept.cells_fit;
       most_requests = kept.most_requests;
     }
 

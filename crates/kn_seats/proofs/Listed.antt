@@ -19,34 +19,35 @@ use Rattle.kn_seats.proofs.Chains.{length_requests}
 use Rattle.kn_seats.proofs.Kept.{kept-remove}
 
 pub held-new : (cells : Cells) (pod_room request_room : ℕ) → IsNew request_room cells → request_room ≤ 20000 → IsHeld [] cells pod_room request_room
-held-new cells pod_room request_room new most = record {
+held-new cells pod_room request_room new most = let none : length cells.spare.items ≡ 0 = ap (λ (l : List ℕ). length l) new.spare in record {
+  made = 0;
   kept = record {
     ascending = λ i j d lt inside. absurd (omega arith);
     pods_fit = omega arith;
     requests_fit = omega arith;
-    cells = omega (arith, new.spares);
+    cells = omega arith;
+    cells_fit = omega arith;
     most_requests = most;
   };
-  request = new.request;
-  next = new.next;
-  home = new.home;
-  spare = new.spare;
+  request = ap (λ (l : List ℕ). length l) new.request;
+  next = ap (λ (l : List ℕ). length l) new.next;
+  home = ap (λ (l : List (Option ℕ)). length l) new.home;
+  room = new.room;
   owner = λ x. None;
-  homes = new.nowhere;
+  homes = λ x. ap (λ (l : List (Option ℕ)). get_or l x None) new.home;
   found = λ x p e. absurd (let h : None ≡ Some p = e in cc);
   inside = λ x p e. absurd (let h : None ≡ Some p = e in cc);
   spares = record {
-    inside = λ i lt. let within : i < request_room = omega (arith, new.spares) in omega (arith, new.places i within);
+    inside = λ i lt. absurd (omega arith);
     free = λ i lt. refl;
-    apart = λ i j before lt same. let within : j < request_room = omega (arith, new.spares) in
-        omega (arith, new.places i (omega arith), new.places j within, same);
+    apart = λ i j before lt same. absurd (omega arith);
   };
   queues = λ i d lt. absurd (omega arith);
 }
 
-kept-add : (pods : List Pod) (pod : Pod) (spare pod_room request_room : ℕ) → IsKept pods spare pod_room request_room → length pods < pod_room
-    → All (λ q. q.number < pod.number) pods → requests_at pod ≡ 0 → IsKept (pods ++ pod ∷ []) spare pod_room request_room
-kept-add pods pod spare pod_room request_room kept room below none =
+kept-add : (pods : List Pod) (pod : Pod) (spare made pod_room request_room : ℕ) → IsKept pods spare made pod_room request_room → length pods < pod_room
+    → All (λ q. q.number < pod.number) pods → requests_at pod ≡ 0 → IsKept (pods ++ pod ∷ []) spare made pod_room request_room
+kept-add pods pod spare made pod_room request_room kept room below none =
     let requests = kept.requests_fit in
     let total = kept.cells in
     record {
@@ -54,6 +55,7 @@ kept-add pods pod spare pod_room request_room kept room below none =
       pods_fit = omega (arith, length_push pods pod);
       requests_fit = omega (arith, sum_by_push requests_at pods pod);
       cells = omega (arith, sum_by_push (λ (q : Pod). length q.queued) pods pod);
+      cells_fit = kept.cells_fit;
       most_requests = kept.most_requests;
     }
 
@@ -75,12 +77,13 @@ module _ (trackers : List Tracker) (cells : Cells) (pod_room request_room : ℕ)
 
   pub held-add : (p limit : ℕ) → length trackers < pod_room → All (λ q. q.number < p) (map (seen cells) trackers) → IsHeld (trackers ++ idle p limit ∷ []) cells pod_room request_room
   held-add p limit room below = record {
-    kept = subst (λ l. IsKept l cells.spares pod_room request_room) (sym (seen-add p limit))
-        (kept-add (map (seen cells) trackers) (idle_pod p limit) cells.spares pod_room request_room held.kept (omega (arith, length-map trackers (seen cells))) below refl);
+    made = held.made;
+    kept = subst (λ l. IsKept l (length cells.spare.items) held.made pod_room request_room) (sym (seen-add p limit))
+        (kept-add (map (seen cells) trackers) (idle_pod p limit) (length cells.spare.items) held.made pod_room request_room held.kept (omega (arith, length-map trackers (seen cells))) below refl);
     request = held.request;
     next = held.next;
     home = held.home;
-    spare = held.spare;
+    room = held.room;
     owner = held.owner;
     homes = held.homes;
     found = λ x q owned. let found = held.found x q owned in record {
@@ -156,12 +159,13 @@ module _ (trackers : List Tracker) (cells : Cells) (pod_room request_room : ℕ)
 
   pub held-remove : (d : Pod) → requests_at (get_or (map (seen cells) trackers) place d) ≡ 0 → IsHeld (remove trackers place) cells pod_room request_room
   held-remove d none = record {
-    kept = subst (λ l. IsKept l cells.spares pod_room request_room) (sym seen-remove)
-        (kept-remove (map (seen cells) trackers) place d cells.spares pod_room request_room held.kept within_seen none);
+    made = held.made;
+    kept = subst (λ l. IsKept l (length cells.spare.items) held.made pod_room request_room) (sym seen-remove)
+        (kept-remove (map (seen cells) trackers) place d (length cells.spare.items) held.made pod_room request_room held.kept within_seen none);
     request = held.request;
     next = held.next;
     home = held.home;
-    spare = held.spare;
+    room = held.room;
     owner = held.owner;
     homes = held.homes;
     found = λ x q owned. found_left d none x q (held.found x q owned);

@@ -1,5 +1,6 @@
 -- A queue with one request more, and one with the first request less.
-use Rattle.std.proofs.Common.{◌≡◌, ℕ, zero, suc, ◌<◌, List, [], ◌∷◌, ◌++◌, set, get_or, length, drop, refl, sym, ap, subst, ◌∙◌, arith, get_or-set_other, get_or-set_same, Option}
+use Rattle.std.proofs.Common.{◌≡◌, ℕ, zero, suc, ◌<◌, List, [], ◌∷◌, ◌++◌, get_or, drop, refl, sym, ap, subst, ◌∙◌, arith, Option}
+use Rattle.kn_seats.specs.Cells.{IsPut}
 use Rattle.kn_seats.specs.Chains.{after, requests_in, Avoids, AreDistinctSteps, AreOwned}
 use Rattle.kn_seats.specs.Kept.{IsLine, IsStep}
 use Rattle.kn_seats.proofs.Chains.{after-before_push, owned-push, apart-push, after-push, requests-push, owned-without}
@@ -28,11 +29,11 @@ module _ (owner owner_after : ℕ → Option ℕ) (who : Option ℕ) (request re
     ap (λ q. q ∷ []) (ap (λ p. get_or request_after p 0) is ∙ has),
   )
 
-  pushed-behind : (first n : ℕ) → last < length next → next_after ≡ set next last new → IsLine owner who next first last (suc n) → Pushed first first (suc n)
+  pushed-behind : (first n : ℕ) → IsPut 0 last new next next_after → IsLine owner who next first last (suc n) → Pushed first first (suc n)
   unfolding Pushed
-  pushed-behind first n inside is line =
-      let others : (x : ℕ) → (x ≡ last → ⊥) → get_or next_after x 0 ≡ get_or next x 0 = λ x other. ap (λ l. get_or l x 0) is ∙ get_or-set_other next last x new 0 other in
-      let behind : get_or next_after last 0 ≡ new = ap (λ l. get_or l last 0) is ∙ get_or-set_same next last new 0 inside in
+  pushed-behind first n put line =
+      let others = put.others in
+      let behind = put.here in
       let ends : after next first n ≡ last = line.ends n (omega arith) in (
         line-last owner_after who next_after first new (suc n)
             (apart-push owner owner_after who next next_after last new stays others behind fresh given first n line.apart ends line.owned)
@@ -41,21 +42,21 @@ module _ (owner owner_after : ℕ → Option ℕ) (who : Option ℕ) (request re
         requests-push owner owner_after who next next_after last new stays others behind fresh given request request_after r same has first n line.apart ends line.owned,
       )
 
-  pub pushed : (first first_after count : ℕ) → (count ≡ 0 → first_after ≡ new) → (0 < count → (first_after ≡ first) × (next_after ≡ set next last new))
-      → (0 < count → last < length next) → IsLine owner who next first last count → Pushed first first_after count
-  pushed first first_after zero alone behind inside line = pushed-alone first_after (alone refl) first
-  pushed first first_after (suc n) alone behind inside line =
+  pub pushed : (first first_after count : ℕ) → (count ≡ 0 → first_after ≡ new) → (0 < count → (first_after ≡ first) × IsPut 0 last new next next_after)
+      → IsLine owner who next first last count → Pushed first first_after count
+  pushed first first_after zero alone behind line = pushed-alone first_after (alone refl) first
+  pushed first first_after (suc n) alone behind line =
       let some : 0 < suc n = omega arith in
-      subst (λ f. Pushed first f (suc n)) (sym (behind some).0) (pushed-behind first n (inside some) (behind some).1 line)
+      subst (λ f. Pushed first f (suc n)) (sym (behind some).0) (pushed-behind first n (behind some).1 line)
 
 -- a cell of a queue that gets one more
 pub step-pushed : (next next_after : List ℕ) (last new : ℕ) (owner : ℕ → Option ℕ) (who : Option ℕ) (first first_after count x : ℕ)
-    → (0 < count → (first_after ≡ first) × (next_after ≡ set next last new)) → IsLine owner who next first last count → IsStep next first count x
+    → (0 < count → (first_after ≡ first) × IsPut 0 last new next next_after) → IsLine owner who next first last count → IsStep next first count x
     → IsStep next_after first_after (suc count) x
 step-pushed next next_after last new owner who first first_after zero x behind line step = absurd (let e = step.within in omega arith)
 step-pushed next next_after last new owner who first first_after (suc n) x behind line step =
     let some : 0 < suc n = omega arith in
-    let others : (z : ℕ) → (z ≡ last → ⊥) → get_or next_after z 0 ≡ get_or next z 0 = λ z other. ap (λ l. get_or l z 0) (behind some).1 ∙ get_or-set_other next last z new 0 other in
+    let others = (behind some).1.others in
     let e = step.within in record {
       steps = step.steps;
       within = omega arith;

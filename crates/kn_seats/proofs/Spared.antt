@@ -1,11 +1,11 @@
 -- A cell of a pod's queue that becomes spare.
-use Rattle.std.proofs.Common.{◌≡◌, ℕ, ◌+◌, ◌<◌, inl, inr, Bool, true, false, cond, List, set, get_or, length, refl, sym, ap, ◌∙◌, arith, nat_eq, get_or-set_other, get_or-set_same, Option, Some, None}
+use Rattle.std.proofs.Common.{◌≡◌, ℕ, ◌+◌, ◌<◌, inl, inr, Bool, true, false, cond, List, [], ◌∷◌, ◌++◌, set, get_or, length, refl, sym, ap, ◌∙◌, arith, nat_eq, get_or-set_other, get_or-set_same, Option, Some, None}
 use Rattle.std.proofs.lemmas.Bool.{cases_eq}
+use Rattle.std.proofs.lemmas.List.{get_or_append_left, get_or_push, length_push}
 use Rattle.kn_seats.specs.declared.cells.Cells.{Cells}
 use Rattle.kn_seats.specs.declared.tracker.Tracker.{Tracker}
 use Rattle.kn_seats.specs.Kept.{IsHeld, AreSpare}
 use Rattle.kn_seats.proofs.Places.{is_named, not_named}
-use Rattle.kn_seats.proofs.Held.{here_queued}
 
 -- one place has another owner
 pub with_owner : (ℕ → Option ℕ) → ℕ → Option ℕ → ℕ → Option ℕ
@@ -27,40 +27,40 @@ same_owner owner x p q one other = let e : Some q ≡ Some p = sym other ∙ one
 
 module _ (trackers : List Tracker) (cells : Cells) (pod_room request_room : ℕ) (held : IsHeld trackers cells pod_room request_room)
     (place : ℕ) (here : Tracker) (within : place < length trackers) (is : here ≡ get_or trackers place here)
-    (gone : ℕ) (mine : held.owner gone ≡ Some here.number) (some : 0 < here.queue.count) where
+    (gone : ℕ) (mine : held.owner gone ≡ Some here.number) where
   abbrev owner_freed : ℕ → Option ℕ
   owner_freed = with_owner held.owner gone None
 
   abbrev spare_freed : List ℕ
-  spare_freed = set cells.spare.items cells.spares gone
+  spare_freed = cells.spare.items ++ gone ∷ []
 
-  room_left : cells.spares < length cells.spare.items
-  room_left = omega (arith, some, held.spare, here_queued trackers cells pod_room request_room held place here within is)
+  spare_old : (i : ℕ) → i < length cells.spare.items → get_or spare_freed i 0 ≡ get_or cells.spare.items i 0
+  spare_old i lt = get_or_append_left cells.spare.items (gone ∷ []) 0 i lt
 
-  spare_old : (i : ℕ) → i < cells.spares → get_or spare_freed i 0 ≡ get_or cells.spare.items i 0
-  spare_old i lt = get_or-set_other cells.spare.items cells.spares i gone 0 (λ e. omega arith)
+  spare_new : (i : ℕ) → i ≡ length cells.spare.items → get_or spare_freed i 0 ≡ gone
+  spare_new i same = get_or_push cells.spare.items gone 0 i (sym same)
 
-  spare_new : (i : ℕ) → i ≡ cells.spares → get_or spare_freed i 0 ≡ gone
-  spare_new i same = ap (λ k. get_or spare_freed k 0) same ∙ get_or-set_same cells.spare.items cells.spares gone 0 room_left
+  spare_more : length spare_freed ≡ length cells.spare.items + 1
+  spare_more = length_push cells.spare.items gone
 
   still_free : (x : ℕ) → held.owner x ≡ None → owner_freed x ≡ None
   unfolding with_owner
   still_free x free = elim (nat_eq x gone) as (λ (b : Bool). cond b None (held.owner x) ≡ None) [ true ↦ refl | false ↦ free ]
 
-  pub spares_freed : AreSpare owner_freed spare_freed (cells.spares + 1) request_room
+  pub spares_freed : AreSpare owner_freed spare_freed held.made
   spares_freed = record {
-    inside = λ i lt. elim (cases_eq i cells.spares) [
+    inside = λ i lt. elim (cases_eq i (length cells.spare.items)) [
       | inl same ↦ rw (spare_new i same) (held.inside gone here.number mine)
-      | inr other ↦ rw (spare_old i (omega arith)) (held.spares.inside i (omega arith))
+      | inr other ↦ rw (spare_old i (omega (arith, spare_more))) (held.spares.inside i (omega (arith, spare_more)))
     ];
-    free = λ i lt. elim (cases_eq i cells.spares) [
+    free = λ i lt. elim (cases_eq i (length cells.spare.items)) [
       | inl same ↦ ap owner_freed (spare_new i same) ∙ owner_here held.owner gone None
-      | inr other ↦ ap owner_freed (spare_old i (omega arith)) ∙ still_free (get_or cells.spare.items i 0) (held.spares.free i (omega arith))
+      | inr other ↦ ap owner_freed (spare_old i (omega (arith, spare_more))) ∙ still_free (get_or cells.spare.items i 0) (held.spares.free i (omega (arith, spare_more)))
     ];
-    apart = λ i j before lt alike. elim (cases_eq j cells.spares) [
+    apart = λ i j before lt alike. elim (cases_eq j (length cells.spare.items)) [
       | inl same ↦ not_both held.owner gone here.number
-          (ap held.owner (sym (spare_new j same) ∙ sym alike ∙ spare_old i (omega arith)) ∙ held.spares.free i (omega arith)) mine
-      | inr other ↦ held.spares.apart i j before (omega arith) (sym (spare_old i (omega arith)) ∙ alike ∙ spare_old j (omega arith))
+          (ap held.owner (sym (spare_new j same) ∙ sym alike ∙ spare_old i (omega (arith, spare_more))) ∙ held.spares.free i (omega (arith, spare_more))) mine
+      | inr other ↦ held.spares.apart i j before (omega (arith, spare_more)) (sym (spare_old i (omega (arith, spare_more))) ∙ alike ∙ spare_old j (omega (arith, spare_more)))
     ];
   }
 
@@ -71,7 +71,7 @@ module _ (trackers : List Tracker) (cells : Cells) (pod_room request_room : ℕ)
     | inr other ↦ (other, sym (owner_there held.owner gone None x other) ∙ owned)
   ]
 
-  pub inside_freed : (x q : ℕ) → owner_freed x ≡ Some q → x < request_room
+  pub inside_freed : (x q : ℕ) → owner_freed x ≡ Some q → x < held.made
   inside_freed x q owned = held.inside x q (owned_before x q owned).1
 
   pub keeps_freed : (x q : ℕ) → (q ≡ here.number → ⊥) → held.owner x ≡ Some q → owner_freed x ≡ Some q

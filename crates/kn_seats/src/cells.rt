@@ -1,36 +1,66 @@
-//! Queues whose cells were made before, so that no change of one takes memory.
-ghost use Rattle.std.specs.Prelude.{◌≡◌, ℕ, ◌-◌, ◌^◌, ◌<◌, ◌≤◌, length, slice_index, slice_index_or, Contains, IfOk, IsTrue, MatchOption, None};
+//! Queues whose cells lie in room that was taken before, so that no change of one takes memory.
+ghost use Rattle.std.specs.Prelude.{◌≡◌, ℕ, ◌^◌, ◌<◌, length, slice_index, vec_capacity, Contains, IfOk, IsTrue, MatchOption};
 ghost use Rattle.kn_seats.specs.Cells.{AreInside, IsBefore};
 ghost use Rattle.kn_seats.specs.Chains.{requests_in};
 
 use std::alloc::{AllocError, Global};
 
 /// Cells for requests. What stands at one place of `request`, `next` and `home` is one cell: its request, the place of the
-/// cell behind it, and the pod in whose queue it is, if it is in one. The first `spares` of `spare` are the places of the cells
-/// that are in no queue.
+/// cell behind it, and the pod in whose queue it is, if it is in one. `spare` has the places of the cells that are in no
+/// queue; the last of them is taken first.
 #[derive(Drop)]
 pub struct Cells {
     pub request: Vec<u64>,
     pub next: Vec<usize>,
     pub home: Vec<Option<u64>>,
     pub spare: Vec<usize>,
-    pub spares: usize,
 }
 
 impl Cells {
-    ghost use Rattle.kn_seats.specs.Cells.{IsNew, Leads};
+    ghost use Rattle.kn_seats.specs.Cells.{CanTake, IsMade, IsNew, IsTaken, Leads, LeadsAlike};
 
-    /// So many spare cells.
+    /// No cells yet, and room for so many. Each is made when it is first wanted, so that a start writes none.
     pub fn new(alloc: Global, count: usize) -> Result<Cells, AllocError>
         ensures { IfOk result (λ cells. IsNew count cells) }
     {
         Ok(Cells {
-            request: vec![in alloc; 0; count]?,
-            next: vec![in alloc; 0; count]?,
-            home: no_homes(alloc, count)?,
-            spare: (0..count).collect(alloc)?,
-            spares: count,
+            request: Vec::with_capacity(alloc, count)?,
+            next: Vec::with_capacity(alloc, count)?,
+            home: Vec::with_capacity(alloc, count)?,
+            spare: Vec::with_capacity(alloc, count)?,
         })
+    }
+
+    /// The place of a cell for a request at a pod: the last that is spare, or else one that is made.
+    #[inline(always)]
+    fn take(&mut self, p: u64, r: u64) -> usize
+        requires { CanTake self.old }
+        ensures taken { IsTaken p r result self.old self.new }
+        ensures next { LeadsAlike self.old self.new }
+    {
+        match self.spare.pop() {
+            Some(place) => {
+                self.request[place] = r;
+                self.home[place] = Some(p);
+                place
+            }
+            None => self.make(p, r),
+        }
+    }
+
+    /// The place of one more cell. It leads nowhere yet.
+    #[inline(never)]
+    fn make(&mut self, p: u64, r: u64) -> usize
+        requires request { length self.old.request.items < vec_capacity self.old.request }
+        requires next { length self.old.next.items < vec_capacity self.old.next }
+        requires home { length self.old.home.items < vec_capacity self.old.home }
+        ensures { IsMade p r result self.old self.new }
+    {
+        let place = self.request.len();
+        self.request.push_reserved(r);
+        self.next.push_reserved(0);
+        self.home.push_reserved(Some(p));
+        place
     }
 
     /// Whether the cell at this place is in a pod's queue, and leads to one with this request.
@@ -51,15 +81,6 @@ impl Cells {
     }
 }
 
-/// Cells of no pod.
-fn no_homes(alloc: Global, count: usize) -> Result<Vec<Option<u64>>, AllocError>
-    ensures len { IfOk result (λ homes. length homes.items ≡ count) }
-    ensures none { IfOk result (λ homes. (x : ℕ) → slice_index_or homes.items x None ≡ None) }
-{
-    let homes = vec![in alloc; None; count]?;
-    Ok(homes)
-}
-
 /// A queue: the places of its first and last cells, and how many it has. Without any, both places mean nothing.
 #[derive(Clone, Copy)]
 pub struct Queue {
@@ -69,7 +90,7 @@ pub struct Queue {
 }
 
 impl Queue {
-    ghost use Rattle.kn_seats.specs.Cells.{CanUnlink, IsQueued, IsDequeued, IsUnlinked};
+    ghost use Rattle.kn_seats.specs.Cells.{CanTake, CanUnlink, IsQueued, IsDequeued, IsUnlinked};
 
     /// A queue without requests.
     pub fn empty() -> Queue
@@ -82,21 +103,15 @@ impl Queue {
         }
     }
 
-    /// Queues a request last at a pod whose queue this is, in a spare cell.
+    /// Queues a request last at a pod whose queue this is, in a cell that is spare or made now.
     #[inline(always)]
     pub fn push(&mut self, p: u64, r: u64, cells: &mut Cells)
-        requires some { 0 < cells.old.spares }
-        requires spares { cells.old.spares ≤ length cells.old.spare.items }
-        requires place { slice_index cells.old.spare.items (cells.old.spares - 1) < length cells.old.request.items }
-        requires home { slice_index cells.old.spare.items (cells.old.spares - 1) < length cells.old.home.items }
+        requires cell { CanTake cells.old }
         requires last { 0 < self.old.count → self.old.last < length cells.old.next.items }
         requires fits { self.old.count < 2 ^ 63 }
         ensures { IsQueued p r self.old cells.old self.new cells.new }
     {
-        cells.spares -= 1;
-        let place = cells.spare[cells.spares];
-        cells.request[place] = r;
-        cells.home[place] = Some(p);
+        let place = cells.take(p, r);
         if self.count == 0 {
             self.first = place;
         } else {
@@ -113,8 +128,7 @@ impl Queue {
         requires request { self.old.first < length cells.old.request.items }
         requires next { self.old.first < length cells.old.next.items }
         requires home { self.old.first < length cells.old.home.items }
-        requires spares { cells.old.spares < length cells.old.spare.items }
-        requires fits { cells.old.spares < 2 ^ 63 }
+        requires room { length cells.old.spare.items < vec_capacity cells.old.spare }
         ensures first { result ≡ slice_index cells.old.request.items self.old.first }
         ensures changed { IsDequeued self.old cells.old self.new cells.new }
     {
@@ -122,8 +136,7 @@ impl Queue {
         self.first = cells.next[place];
         self.count -= 1;
         cells.home[place] = None;
-        cells.spare[cells.spares] = place;
-        cells.spares += 1;
+        cells.spare.push_reserved(place);
         cells.request[place]
     }
 
@@ -139,8 +152,7 @@ impl Queue {
         }
         self.count -= 1;
         cells.home[place] = None;
-        cells.spare[cells.spares] = place;
-        cells.spares += 1;
+        cells.spare.push_reserved(place);
     }
 }
 

@@ -279,7 +279,7 @@ impl Seats {
     pub fn queued_at_all(&self) -> u64
         ensures { result ≡ queued_at_all self.now.pods }
     {
-        self.request_room - self.cells.spares as u64
+        (self.cells.request.len() - self.cells.spare.len()) as u64
     }
 
     /// The tracker of the pod of this number.

@@ -25,8 +25,7 @@ invariant_of-self-2 c =
     let now_is : pod_at c.args.p c.args.self.now.pods ≡ seen inside.cells here = ap (pod_at c.args.p) (sym pods_are) ∙ pod_is in
     let all = held.kept.requests_fit in
     let shorter : c.pop-r.new.self.count + 1 ≡ here.queue.count = c.pop-r.ensures.changed.count in
-    let more : c.pop-r.new.cells.spares ≡ inside.cells.spares + 1 = c.pop-r.ensures.changed.spares in
-    record { held = held-set inside.pods.items inside.cells inside.pod_room inside.request_room held place here within is (record here { queue = c.pop-r.new.self; running = here.running + 1 }) c.pop-r.new.cells (owner_popped inside.pods.items inside.cells inside.pod_room inside.request_room held place here within is (record here { queue = c.pop-r.new.self; running = here.running + 1 }) refl c.pop-r.new.cells c.pop-r.ensures.changed) (popped_cells inside.pods.items inside.cells inside.pod_room inside.request_room held place here within is (record here { queue = c.pop-r.new.self; running = here.running + 1 }) refl c.pop-r.new.cells c.pop-r.ensures.changed) (omega arith) (omega arith); reserved = c.self.invariant.reserved }
+    record { held = held-set inside.pods.items inside.cells inside.pod_room inside.request_room held place here within is (record here { queue = c.pop-r.new.self; running = here.running + 1 }) c.pop-r.new.cells (owner_popped inside.pods.items inside.cells inside.pod_room inside.request_room held place here within is (record here { queue = c.pop-r.new.self; running = here.running + 1 }) refl c.pop-r.new.cells c.pop-r.ensures.changed) (popped_cells inside.pods.items inside.cells inside.pod_room inside.request_room held place here within is (record here { queue = c.pop-r.new.self; running = here.running + 1 }) refl c.pop-r.new.cells c.pop-r.ensures.changed) (omega arith) held.kept.cells_fit; reserved = c.self.invariant.reserved }
 
 pub returns-clause-promoted : goal.returns-clause-promoted
 returns-clause-promoted c =
@@ -140,8 +139,8 @@ pop-r-requires-clause-home c =
     let some : 0 < here.queue.count = omega arith in
     omega (arith, (first_inside inside.pods.items inside.cells inside.pod_room inside.request_room held place here within is here refl some).0, held.next, held.home)
 
-pub pop-r-requires-clause-spares : goal.pop-r-requires-clause-spares
-pop-r-requires-clause-spares c =
+pub pop-r-requires-clause-room : goal.pop-r-requires-clause-room
+pop-r-requires-clause-room c =
     let inside = c.self.inside in
     let held = c.self.invariant.held in
     let place : ℕ = c.place_of-place.result in
@@ -154,23 +153,7 @@ pop-r-requires-clause-spares c =
     pod_here inside.pods.items inside.cells inside.pod_room inside.request_room held place here within is here refl c.args.p stands in
     let now_is : pod_at c.args.p c.args.self.now.pods ≡ seen inside.cells here = ap (pod_at c.args.p) (sym pods_are) ∙ pod_is in
     let some : 0 < here.queue.count = omega arith in
-    omega (arith, here_queued inside.pods.items inside.cells inside.pod_room inside.request_room held place here within is, held.spare)
-
-pub pop-r-requires-clause-fits : goal.pop-r-requires-clause-fits
-pop-r-requires-clause-fits c =
-    let inside = c.self.inside in
-    let held = c.self.invariant.held in
-    let place : ℕ = c.place_of-place.result in
-    let here : Tracker = c.index_mut-tracker.result.now in
-    let within : place < length inside.pods.items = grind (arith, common_steps) in
-    let is : here ≡ get_or inside.pods.items place here = c.index_mut-tracker.ensures.value in
-    let pods_are : map (seen inside.cells) inside.pods.items ≡ c.args.self.now.pods = ap (λ (s : State). s.pods) c.self.view_is in
-    let stands : IsPlaceOf c.args.p (map (seen inside.cells) inside.pods.items) place = rw pods_are c.place_of-place.ensures in
-    let pod_is : pod_at c.args.p (map (seen inside.cells) inside.pods.items) ≡ seen inside.cells here =
-    pod_here inside.pods.items inside.cells inside.pod_room inside.request_room held place here within is here refl c.args.p stands in
-    let now_is : pod_at c.args.p c.args.self.now.pods ≡ seen inside.cells here = ap (pod_at c.args.p) (sym pods_are) ∙ pod_is in
-    let some : 0 < here.queue.count = omega arith in
-    omega (arith, here_queued inside.pods.items inside.cells inside.pod_room inside.request_room held place here within is, held.kept.most_requests)
+    omega (arith, here_queued inside.pods.items inside.cells inside.pod_room inside.request_room held place here within is, held.kept.cells_fit, held.room.spare)
 
 pub overflow_add-tracker : goal.overflow_add-tracker
 overflow_add-tracker c =

@@ -34,8 +34,7 @@ cut_out-requires c =
       inside = omega (arith, held.next, before_inside inside.pods.items inside.cells inside.pod_room inside.request_room held place here within is before owned inner);
       next = omega (arith, held.next, gone_inside inside.pods.items inside.cells inside.pod_room inside.request_room held place here within is before owned inner);
       home = omega (arith, held.home, gone_inside inside.pods.items inside.cells inside.pod_room inside.request_room held place here within is before owned inner);
-      spares = omega (arith, held.spare, cut_some inside.pods.items inside.cells inside.pod_room inside.request_room held place here within is before owned inner, here_queued inside.pods.items inside.cells inside.pod_room inside.request_room held place here within is);
-      fits = omega (arith, cut_some inside.pods.items inside.cells inside.pod_room inside.request_room held place here within is before owned inner, here_queued inside.pods.items inside.cells inside.pod_room inside.request_room held place here within is, held.kept.most_requests);
+      room = omega (arith, cut_some inside.pods.items inside.cells inside.pod_room inside.request_room held place here within is before owned inner, here_queued inside.pods.items inside.cells inside.pod_room inside.request_room held place here within is, held.kept.cells_fit, held.room.spare);
     }
 
 pub invariant_of-self : goal.invariant_of-self
@@ -57,10 +56,9 @@ invariant_of-self c =
     let cut_out : IsUnlinked before here.queue inside.cells y.queue c.cut_out.new.cells = c.cut_out.ensures in
     let changed = cut_cells inside.pods.items inside.cells inside.pod_room inside.request_room held place here within is before owned inner y refl c.cut_out.new.cells cut_out in
     let fewer : c.cut_out.new.queue.count + 1 ≡ here.queue.count = c.cut_out.ensures.count in
-    let more : c.cut_out.new.cells.spares ≡ inside.cells.spares + 1 = c.cut_out.ensures.spares in
     let all = held.kept.requests_fit in
     record {
-      held = held-set inside.pods.items inside.cells inside.pod_room inside.request_room held place here within is y c.cut_out.new.cells (owner_cut inside.pods.items inside.cells inside.pod_room inside.request_room held place here within is before owned inner y refl c.cut_out.new.cells cut_out) changed (omega arith) (omega arith);
+      held = held-set inside.pods.items inside.cells inside.pod_room inside.request_room held place here within is y c.cut_out.new.cells (owner_cut inside.pods.items inside.cells inside.pod_room inside.request_room held place here within is before owned inner y refl c.cut_out.new.cells cut_out) changed (omega arith) held.kept.cells_fit;
       reserved = c.self.invariant.reserved;
     }
 
@@ -83,7 +81,6 @@ returns-clause-changed c =
     let cut_out : IsUnlinked before here.queue inside.cells y.queue c.cut_out.new.cells = c.cut_out.ensures in
     let changed = cut_cells inside.pods.items inside.cells inside.pod_room inside.request_room held place here within is before owned inner y refl c.cut_out.new.cells cut_out in
     let fewer : c.cut_out.new.queue.count + 1 ≡ here.queue.count = c.cut_out.ensures.count in
-    let more : c.cut_out.new.cells.spares ≡ inside.cells.spares + 1 = c.cut_out.ensures.spares in
     let now_is : pod_at c.args.p c.args.self.now.pods ≡ seen inside.cells here =
     ap (pod_at c.args.p) (sym pods_are) ∙ pod_here inside.pods.items inside.cells inside.pod_room inside.request_room held place here within is here refl c.args.p stands in
     let once : StandsOnce c.args.r (requests_in inside.cells.request.items inside.cells.next.items here.queue.first here.queue.count) =
@@ -112,5 +109,4 @@ returns-clause-counted c =
     let cut_out : IsUnlinked before here.queue inside.cells y.queue c.cut_out.new.cells = c.cut_out.ensures in
     let changed = cut_cells inside.pods.items inside.cells inside.pod_room inside.request_room held place here within is before owned inner y refl c.cut_out.new.cells cut_out in
     let fewer : c.cut_out.new.queue.count + 1 ≡ here.queue.count = c.cut_out.ensures.count in
-    let more : c.cut_out.new.cells.spares ≡ inside.cells.spares + 1 = c.cut_out.ensures.spares in
     rw (← c.self.view_is) (let e = counted-set inside.pods.items inside.cells inside.pod_room inside.request_room held place here within is y c.cut_out.new.cells (owner_cut inside.pods.items inside.cells inside.pod_room inside.request_room held place here within is before owned inner y refl c.cut_out.new.cells cut_out) changed in omega arith)

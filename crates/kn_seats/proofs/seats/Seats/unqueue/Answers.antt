@@ -40,7 +40,7 @@ leading_to-requires-clause-inside c =
     record {
       request = λ k lt. omega (arith, held.inside _ here.number (cell_inside inside.pods.items inside.cells inside.pod_room inside.request_room held place here within is here refl k lt), held.request);
       next = λ k lt. omega (arith, held.inside _ here.number (cell_inside inside.pods.items inside.cells inside.pod_room inside.request_room held place here within is here refl k lt), held.next);
-      few = (omega (arith, held.request, held.kept.most_requests), omega (arith, held.next, held.kept.most_requests));
+      few = (omega (arith, held.request, held.kept.cells_fit, held.kept.most_requests), omega (arith, held.next, held.kept.cells_fit, held.kept.most_requests));
     }
 
 pub pop-requires-clause-some : goal.pop-requires-clause-some
@@ -111,8 +111,8 @@ pop-requires-clause-home c =
     let some : 0 < here.queue.count = has_cell inside.cells.request.items inside.cells.next.items here.queue.first here.queue.count c.args.r there in
     omega (arith, (first_inside inside.pods.items inside.cells inside.pod_room inside.request_room held place here within is here refl some).0, held.next, held.home)
 
-pub pop-requires-clause-spares : goal.pop-requires-clause-spares
-pop-requires-clause-spares c =
+pub pop-requires-clause-room : goal.pop-requires-clause-room
+pop-requires-clause-room c =
     let inside = c.self.inside in
     let held = c.self.invariant.held in
     let place : ℕ = c.place_of-place.result in
@@ -126,7 +126,7 @@ pop-requires-clause-spares c =
     let there : Contains (requests_in inside.cells.request.items inside.cells.next.items here.queue.first here.queue.count) c.args.r =
     subst (λ (q : Pod). Contains q.queued c.args.r) now_is c.requires.queued in
     let some : 0 < here.queue.count = has_cell inside.cells.request.items inside.cells.next.items here.queue.first here.queue.count c.args.r there in
-    omega (arith, here_queued inside.pods.items inside.cells inside.pod_room inside.request_room held place here within is, held.spare)
+    omega (arith, here_queued inside.pods.items inside.cells inside.pod_room inside.request_room held place here within is, held.kept.cells_fit, held.room.spare)
 
 pub invariant_of-self : goal.invariant_of-self
 invariant_of-self c =
@@ -139,9 +139,8 @@ invariant_of-self c =
     let y : Tracker = record here { queue = c.pop.new.self } in
     let taken : IsDequeued here.queue inside.cells y.queue c.pop.new.cells = c.pop.ensures.changed in
     let fewer : c.pop.new.self.count + 1 ≡ here.queue.count = taken.count in
-    let more : c.pop.new.cells.spares ≡ inside.cells.spares + 1 = taken.spares in
     let all = held.kept.requests_fit in
-    record { held = held-set inside.pods.items inside.cells inside.pod_room inside.request_room held place here within is y c.pop.new.cells (owner_popped inside.pods.items inside.cells inside.pod_room inside.request_room held place here within is y refl c.pop.new.cells taken) (popped_cells inside.pods.items inside.cells inside.pod_room inside.request_room held place here within is y refl c.pop.new.cells taken) (omega arith) (omega arith); reserved = c.self.invariant.reserved }
+    record { held = held-set inside.pods.items inside.cells inside.pod_room inside.request_room held place here within is y c.pop.new.cells (owner_popped inside.pods.items inside.cells inside.pod_room inside.request_room held place here within is y refl c.pop.new.cells taken) (popped_cells inside.pods.items inside.cells inside.pod_room inside.request_room held place here within is y refl c.pop.new.cells taken) (omega arith) held.kept.cells_fit; reserved = c.self.invariant.reserved }
 
 pub cut_out-requires : goal.cut_out-requires
 cut_out-requires c =
@@ -160,8 +159,7 @@ cut_out-requires c =
       inside = omega (arith, held.next, before_inside inside.pods.items inside.cells inside.pod_room inside.request_room held place here within is before owned inner);
       next = omega (arith, held.next, gone_inside inside.pods.items inside.cells inside.pod_room inside.request_room held place here within is before owned inner);
       home = omega (arith, held.home, gone_inside inside.pods.items inside.cells inside.pod_room inside.request_room held place here within is before owned inner);
-      spares = omega (arith, held.spare, cut_some inside.pods.items inside.cells inside.pod_room inside.request_room held place here within is before owned inner, here_queued inside.pods.items inside.cells inside.pod_room inside.request_room held place here within is);
-      fits = omega (arith, cut_some inside.pods.items inside.cells inside.pod_room inside.request_room held place here within is before owned inner, here_queued inside.pods.items inside.cells inside.pod_room inside.request_room held place here within is, held.kept.most_requests);
+      room = omega (arith, cut_some inside.pods.items inside.cells inside.pod_room inside.request_room held place here within is before owned inner, here_queued inside.pods.items inside.cells inside.pod_room inside.request_room held place here within is, held.kept.cells_fit, held.room.spare);
     }
 
 pub invariant_of-self-in-Some : goal.invariant_of-self-in-Some
@@ -179,9 +177,8 @@ invariant_of-self-in-Some c =
     let y : Tracker = record here { queue = c.cut_out.new.queue } in
     let out : IsUnlinked before here.queue inside.cells y.queue c.cut_out.new.cells = c.cut_out.ensures in
     let fewer : c.cut_out.new.queue.count + 1 ≡ here.queue.count = out.count in
-    let more : c.cut_out.new.cells.spares ≡ inside.cells.spares + 1 = out.spares in
     let all = held.kept.requests_fit in
-    record { held = held-set inside.pods.items inside.cells inside.pod_room inside.request_room held place here within is y c.cut_out.new.cells (owner_cut inside.pods.items inside.cells inside.pod_room inside.request_room held place here within is before owned inner y refl c.cut_out.new.cells out) (cut_cells inside.pods.items inside.cells inside.pod_room inside.request_room held place here within is before owned inner y refl c.cut_out.new.cells out) (omega arith) (omega arith); reserved = c.self.invariant.reserved }
+    record { held = held-set inside.pods.items inside.cells inside.pod_room inside.request_room held place here within is y c.cut_out.new.cells (owner_cut inside.pods.items inside.cells inside.pod_room inside.request_room held place here within is before owned inner y refl c.cut_out.new.cells out) (cut_cells inside.pods.items inside.cells inside.pod_room inside.request_room held place here within is before owned inner y refl c.cut_out.new.cells out) (omega arith) held.kept.cells_fit; reserved = c.self.invariant.reserved }
 
 pub returns-in-None-clause-changed : goal.returns-in-None-clause-changed
 returns-in-None-clause-changed c =
@@ -200,7 +197,6 @@ returns-in-None-clause-changed c =
     let y : Tracker = record here { queue = c.pop.new.self } in
     let taken : IsDequeued here.queue inside.cells y.queue c.pop.new.cells = c.pop.ensures.changed in
     let fewer : c.pop.new.self.count + 1 ≡ here.queue.count = taken.count in
-    let more : c.pop.new.cells.spares ≡ inside.cells.spares + 1 = taken.spares in
     let list : requests_in c.pop.new.cells.request.items c.pop.new.cells.next.items c.pop.new.self.first c.pop.new.self.count
     ≡ without_request c.args.r (requests_in inside.cells.request.items inside.cells.next.items here.queue.first here.queue.count) =
     popped_list inside.pods.items inside.cells inside.pod_room inside.request_room held place here within is y refl c.pop.new.cells taken
@@ -220,7 +216,6 @@ returns-in-None-clause-counted c =
     let y : Tracker = record here { queue = c.pop.new.self } in
     let taken : IsDequeued here.queue inside.cells y.queue c.pop.new.cells = c.pop.ensures.changed in
     let fewer : c.pop.new.self.count + 1 ≡ here.queue.count = taken.count in
-    let more : c.pop.new.cells.spares ≡ inside.cells.spares + 1 = taken.spares in
     rw (← c.self.view_is) (let e = counted-set inside.pods.items inside.cells inside.pod_room inside.request_room held place here within is y c.pop.new.cells (owner_popped inside.pods.items inside.cells inside.pod_room inside.request_room held place here within is y refl c.pop.new.cells taken) (popped_cells inside.pods.items inside.cells inside.pod_room inside.request_room held place here within is y refl c.pop.new.cells taken) in omega arith)
 
 pub returns-in-Some-clause-changed : goal.returns-in-Some-clause-changed
@@ -240,7 +235,6 @@ returns-in-Some-clause-changed c =
     let y : Tracker = record here { queue = c.cut_out.new.queue } in
     let out : IsUnlinked before here.queue inside.cells y.queue c.cut_out.new.cells = c.cut_out.ensures in
     let fewer : c.cut_out.new.queue.count + 1 ≡ here.queue.count = out.count in
-    let more : c.cut_out.new.cells.spares ≡ inside.cells.spares + 1 = out.spares in
     let list = cut_list inside.pods.items inside.cells inside.pod_room inside.request_room held place here within is before owned inner y refl c.cut_out.new.cells out c.args.r found.steps found.within found.reached found.has found.earlier in
     rw (← c.self.view_is) (ap (λ (l : List Pod). with_pods l inside.pod_room inside.request_room)
     (changed-set inside.pods.items inside.cells inside.pod_room inside.request_room held place here within is y c.cut_out.new.cells (owner_cut inside.pods.items inside.cells inside.pod_room inside.request_room held place here within is before owned inner y refl c.cut_out.new.cells out) (cut_cells inside.pods.items inside.cells inside.pod_room inside.request_room held place here within is before owned inner y refl c.cut_out.new.cells out) c.args.p (λ pod. record pod { queued = without_request c.args.r pod.queued }) stands
@@ -261,5 +255,4 @@ returns-in-Some-clause-counted c =
     let y : Tracker = record here { queue = c.cut_out.new.queue } in
     let out : IsUnlinked before here.queue inside.cells y.queue c.cut_out.new.cells = c.cut_out.ensures in
     let fewer : c.cut_out.new.queue.count + 1 ≡ here.queue.count = out.count in
-    let more : c.cut_out.new.cells.spares ≡ inside.cells.spares + 1 = out.spares in
     rw (← c.self.view_is) (let e = counted-set inside.pods.items inside.cells inside.pod_room inside.request_room held place here within is y c.cut_out.new.cells (owner_cut inside.pods.items inside.cells inside.pod_room inside.request_room held place here within is before owned inner y refl c.cut_out.new.cells out) (cut_cells inside.pods.items inside.cells inside.pod_room inside.request_room held place here within is before owned inner y refl c.cut_out.new.cells out) in omega arith)
