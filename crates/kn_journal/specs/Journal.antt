@@ -1,5 +1,5 @@
 -- What the bytes of an input say: a journal, or the journal before the first refused line and the cause; and a journal's text.
-use Rattle.std.specs.Prelude.{◌≡◌, ℕ, ◌+◌, ◌++◌, ◌≤◌, nat_le, List, [], ◌∷◌, length, Option, None, Some, Result, Ok, Err, codes, if◌then◌else◌}
+use Rattle.std.specs.Prelude.{◌≡◌, ℕ, ◌++◌, ◌≤◌, nat_le, List, [], ◌∷◌, length, Option, None, Some, Result, Ok, Err, codes, if◌then◌else◌}
 use Rattle.std.specs.Fmt.{decimal}
 use Rattle.std.specs.Str.{bytes_eq}
 use Rattle.kn_event.specs.declared.event.Event.{Event}
@@ -9,7 +9,7 @@ use Rattle.kn_event.specs.EventLine.{event_of, event_text, IsInJournalRange, IsI
 use Rattle.kn_event.specs.Fields.{fields}
 use Rattle.kn_preamble.specs.declared.first.FirstLine.{FirstLine}
 use Rattle.kn_preamble.specs.declared.first.FirstLine.TheVariants.{Journal as JournalLine}
-use Rattle.kn_preamble.specs.First.{first_line, version_by, version_most}
+use Rattle.kn_preamble.specs.First.{first_line, version_by}
 use Rattle.kn_journal.specs.declared.journal.Setup.{Setup}
 use Rattle.kn_journal.specs.declared.journal.Journal.{Journal}
 use Rattle.kn_journal.specs.declared.journal.Opening.{Opening}

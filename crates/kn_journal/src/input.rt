@@ -1,46 +1,57 @@
 //! An input that is taken byte by byte, over a source that gives it in pieces.
-ghost use Rattle.std.specs.Prelude.{◌≡◌, ◌+◌, ◌<◌, ◌≤◌, [], Some, length, drop, IfOk, IsErr, OnErr};
-ghost use Rattle.std.specs.Io.KnownBytes.{Keeps};
+ghost use Rattle.std.specs.Prelude.{◌≡◌, ◌+◌, ◌<◌, ◌≤◌, [], ◌∷◌, Some, length, drop, IfOk, IsErr, OnErr, OnOk};
+ghost use Rattle.std.specs.Io.KnownBytes.{IsAtEnd, Keeps};
 ghost use Rattle.kn_journal.specs.Drawing.{Draws, byte_error};
 ghost use Rattle.kn_journal.specs.Reading.{TakesByte, most_taken, taken_with, unread};
 
+use kn_event::Memory;
 use kn_io::{Failed, Source};
+use std::alloc::Global;
 use std::marker::Model;
 
 /// How many bytes may be taken of one input.
 pub const MOST_TAKEN: u64 = 1 << 56;
 
-/// The bytes that were read ahead of what was taken, and the count of the bytes taken.
+/// The bytes that were read ahead of what was taken, and the count of the bytes taken. The buffer lies on the heap, since an
+/// input is moved before it is used.
 #[derive(Drop)]
 pub struct Input {
-    buffer: [u8; 65536],
+    buffer: Vec<u8>,
     start: usize,
     end: usize,
     taken: u64,
 }
 
 impl Model for Input {
-    ghost use Rattle.std.specs.Prelude.{◌≤◌, take, drop};
+    ghost use Rattle.std.specs.Prelude.{◌≡◌, ◌≤◌, take, drop, length};
     ghost use Rattle.kn_journal.specs.Reading.{Ahead, most_taken};
 
     ghost Value = { Ahead };
 
-    ghost view = { λ r. record { ahead = drop r.start (take r.end r.buffer); taken = r.taken } };
+    ghost view = { λ r. record { ahead = drop r.start (take r.end r.buffer.items); taken = r.taken } };
 
-    ghost invariant = { λ r. record { order : r.start ≤ r.end; inside : r.end ≤ 65536; few : r.taken ≤ most_taken } };
+    ghost invariant = { λ r. record {
+      order : r.start ≤ r.end;
+      inside : r.end ≤ 65536;
+      room : length r.buffer.items ≡ 65536;
+      few : r.taken ≤ most_taken;
+    } };
 }
 
 impl Input {
-    /// An input of which nothing was read.
-    pub fn new() -> Input
-        ensures ahead { result.ahead ≡ [] }
-        ensures taken { result.taken ≡ 0 }
+    /// An input of which nothing was read. `Memory` where there is none for the 65,536 bytes that may be ahead.
+    pub fn new(alloc: Global) -> Result<Input, Memory>
+        ensures ahead { IfOk result (λ r. r.ahead ≡ []) }
+        ensures taken { IfOk result (λ r. r.taken ≡ 0) }
     {
-        Input {
-            buffer: [0; 65536],
-            start: 0,
-            end: 0,
-            taken: 0,
+        match vec![in alloc; 0; 65536] {
+            Ok(buffer) => Ok(Input {
+                buffer,
+                start: 0,
+                end: 0,
+                taken: 0,
+            }),
+            Err(_) => Err(Memory),
         }
     }
 
@@ -80,6 +91,35 @@ impl Input {
         self.taken += n as u64;
     }
 
+    /// Takes the first byte that was read ahead.
+    #[inline(always)]
+    fn take_first(&mut self) -> u8
+        requires some { 0 < length self.old.ahead }
+        requires few { self.old.taken < most_taken }
+        ensures ahead { self.old.ahead ≡ result ∷ self.new.ahead }
+        ensures taken { self.new.taken ≡ self.old.taken + 1 }
+    {
+        let byte = self.buffer[self.start];
+        self.start += 1;
+        self.taken += 1;
+        byte
+    }
+
+    /// Reads from the source, where nothing is ahead. Afterwards nothing is ahead at the end of the source alone.
+    fn refill<S: Source>(&mut self, source: &mut S) -> Result<(), Failed>
+        requires { self.old.ahead ≡ [] }
+        ensures unread { OnOk result (Keeps (unread self.old (S.left source.old)) (unread self.new (S.left source.new))) }
+        ensures end { OnOk result (self.new.ahead ≡ [] → IsAtEnd (S.left source.new)) }
+        ensures taken { self.new.taken ≡ self.old.taken }
+        ensures failed { OnErr result (self.new ≡ self.old) }
+        ensures source { Draws Keeps (byte_error result) self.old self.new S.Source.own S.Faulty source.old source.new }
+    {
+        self.start = 0;
+        self.end = 0;
+        self.end = source.read(&mut self.buffer)?;
+        Ok(())
+    }
+
     /// The next byte, or nothing at the end. It reads from the source only where nothing is ahead,
     /// and after 2^56 bytes it takes no more.
     pub fn next<S: Source>(&mut self, source: &mut S) -> Result<Option<u8>, Failed>
@@ -100,17 +140,13 @@ impl Input {
         if self.taken == MOST_TAKEN {
             return Err(Failed);
         }
-        if self.start == self.end {
-            self.start = 0;
-            self.end = 0;
-            self.end = source.read(&mut self.buffer)?;
+        if self.start < self.end {
+            return Ok(Some(self.take_first()));
         }
+        self.refill(source)?;
         if self.start == self.end {
             return Ok(None);
         }
-        let byte = self.buffer[self.start];
-        self.start += 1;
-        self.taken += 1;
-        Ok(Some(byte))
+        Ok(Some(self.take_first()))
     }
 }

@@ -108,9 +108,10 @@ impl Lines {
         ensures number { IfOk result (λ r. r.number ≡ 0) }
         ensures cut { IfOk result (λ r. r.cut ≡ false) }
     {
+        let input = Input::new(alloc)?;
         match Vec::with_capacity(alloc, 65536) {
             Ok(line) => Ok(Lines {
-                input: Input::new(),
+                input,
                 line,
                 number: 0,
                 cut: false,
