@@ -1,53 +1,18 @@
--- Text that is written in place, and the digits of a number in pairs.
-use Rattle.std.proofs.Common.{◌≡◌, ◌+◌, ◌*◌, ◌/◌, ◌%◌, ◌-◌, ◌<◌, ◌≤◌, ◌^◌, ℕ, zero, suc, Bool, true, ◌&&◌, T, eqb, eqb→eq, List, [], ◌∷◌, ◌++◌, length, get_or, set, take, drop, append_assoc, length-append, length-set, eq-zero-or-pos, inl, inr, sym, ap, ◌∙◌, arith}
+-- Text that is written in place.
+use Rattle.std.proofs.Common.{◌≡◌, ◌+◌, ◌≤◌, ℕ, List, [], ◌∷◌, ◌++◌, length, take, drop, append_assoc, length-append, sym, ap, ◌∙◌, arith}
 use Rattle.std.specs.Prelude.{Option, None, Some, IfSome}
 use Rattle.std.specs.Fmt.{decimal}
-use Rattle.std.proofs.lemmas.List.{drop-take, take-take, take_at, take_more_set, length-take-le}
+use Rattle.std.proofs.lemmas.List.{drop-take, take-take, take_at, length-take-le}
 use Rattle.std.proofs.Math.Seq.{drop-append_seam, take-append-add}
-use Rattle.itoa.proofs.Decimal.{decimal_four, pair}
 use Rattle.kn_event.specs.declared.entry.Entry.{Entry}
 use Rattle.kn_event.specs.declared.entry.Row.{Row}
 use Rattle.kn_event.specs.EntryLine.{entry_text, row_text}
-use Rattle.kn_report.specs.declared.digits.TheConstants.{PAIRS}
-use lib.Ieee.Fits.{and_l, and_r}
-
--- ---- the table of pairs
-
-abbrev are_pairs : ℕ → Bool
-are_pairs zero = true
-are_pairs (suc p) = (eqb (get_or PAIRS (p * 2) 0) (48 + p / 10) && eqb (get_or PAIRS (p * 2 + 1) 0) (48 + p % 10)) && are_pairs p
-
-below : (n p : ℕ) → T (are_pairs n) → p < n → (get_or PAIRS (p * 2) 0 ≡ 48 + p / 10) × (get_or PAIRS (p * 2 + 1) 0 ≡ 48 + p % 10)
-below zero p t h = absurd (omega arith)
-below (suc n) p t h =
-    elim (eq-zero-or-pos (n - p)) [
-      | inl z ↦ let e : p ≡ n = omega arith in let a = and_l _ (are_pairs n) t in rw e (eqb→eq _ _ (and_l _ _ a), eqb→eq _ _ (and_r _ _ a))
-      | inr g ↦ below n p (and_r _ (are_pairs n) t) (omega arith)
-    ]
-
-pub pairs_at : (p : ℕ) → p < 100 → (get_or PAIRS (p * 2) 0 ≡ 48 + p / 10) × (get_or PAIRS (p * 2 + 1) 0 ≡ 48 + p % 10)
-pairs_at p h = below 100 p tt h
 
 -- ---- behind the first bytes
-
-pub two_set : (room : List ℕ) (at x y : ℕ) → at + 2 ≤ length room → take (at + 2) (set (set room at x) (at + 1) y) ≡ take at room ++ x ∷ y ∷ []
-two_set room at x y fits =
-    let first : take (at + 1) (set room at x) ≡ take at room ++ x ∷ [] = take_more_set room at x (omega arith) in
-    let both : take (at + 1 + 1) (set (set room at x) (at + 1) y) ≡ take (at + 1) (set room at x) ++ y ∷ [] = take_more_set (set room at x) (at + 1) y (omega (arith, length-set room at x)) in
-    let end : at + 2 ≡ at + 1 + 1 = omega arith in
-    rw end (both ∙ ap (λ (m : List ℕ). m ++ y ∷ []) first ∙ append_assoc (take at room) (x ∷ []) (y ∷ []))
 
 -- pieces in a row make one text
 pub two_in_a_row : (start a b one two text : List ℕ) → one ≡ start ++ a → two ≡ one ++ b → text ≡ a ++ b → two ≡ start ++ text
 two_in_a_row start a b one two text p q is = q ∙ ap (λ (m : List ℕ). m ++ b) p ∙ append_assoc start a b ∙ ap (λ (m : List ℕ). start ++ m) (sym is)
-
--- the digits of a number from its ten thousands on, and its last four
-pub and_four : (start one two : List ℕ) (n : ℕ) → 10000 ≤ n → n < 2 ^ 64 → one ≡ start ++ decimal (n / 10000)
-    → two ≡ one ++ (48 + n % 10000 / 1000) ∷ (48 + n % 10000 / 100 % 10) ∷ (48 + n % 10000 % 100 / 10) ∷ (48 + n % 10000 % 10) ∷ [] → two ≡ start ++ decimal n
-and_four start one two n lo hi p q =
-    let thousands : n % 10000 / 1000 ≡ n % 10000 / 100 / 10 = omega arith in
-    let ones : n % 10000 % 10 ≡ n % 10000 % 100 % 10 = omega arith in
-    two_in_a_row start (decimal (n / 10000)) (pair (n % 10000 / 100) ++ pair (n % 10000 % 100)) one two (decimal n) p (rw (thousands, ones) at q) (decimal_four n lo hi)
 
 -- where a text ends
 pub text_end : (old new text : List ℕ) (at end : ℕ) → at ≤ length old → end ≤ length new → take end new ≡ take at old ++ text → end ≡ at + length text

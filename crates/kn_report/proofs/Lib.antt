@@ -1,4 +1,5 @@
 mod Pieces
 mod InPlace
+mod Threes
 mod Waits
 mod Tallies

@@ -1,4 +1,5 @@
 pub mod AddingLaws
+pub mod Digits
 pub mod Frequent
 pub mod Tally
 pub mod Waiting
