@@ -16,7 +16,7 @@ area_small left t small le =
     let a = mul-le-mul_right left small.count in
     omega (arith, a, small.most)
 
-count-anew : (b : Bool) (t : Tally) → (anew_if b t).count ≡ t.count
+pub count-anew : (b : Bool) (t : Tally) → (anew_if b t).count ≡ t.count
 count-anew true t = refl
 count-anew false t = refl
 

@@ -9,45 +9,46 @@ use Rattle.kn_stats.specs.declared.closed.Run.{Run}
 use Rattle.kn_stats.specs.Changes.{TimedChange, after_sum, arrived_by, at, ends_admitted, ends_assigned, ends_directed, is_admitted, is_arrival_at, is_assigned, is_directed, is_end_at, load_by, pod_of, time_taken}
 use Rattle.kn_stats.specs.Closing.{closed_by, end_of_first, is_sampled, run_of}
 use Rattle.kn_stats.specs.Pods.{found, fresh, so_far}
-use Rattle.kn_stats.specs.Stands.{IsWithin, IsStatsOf, StatsState, advanced, advanced_by, closed_at, left_of, live_in}
+use Rattle.kn_stats.specs.Totals.{IsBounded, IsTotalsOf, TotalsState, closed_at, left_of, live_of, passed, passed_by}
+use Rattle.kn_stats.specs.Stands.{IsWithin, IsStatsOf, StatsState}
 use Rattle.kn_stats.proofs.Allowed.{apart_arrivals, apart_ends, apart_pod_ends, apart_starts}
 use Rattle.kn_stats.proofs.Bounds.{area_small}
 use Rattle.kn_stats.proofs.Sums.{past-arrived, so_far_is, sum-both, sum-past}
 
 -- ---- seconds
 
-open_load : (s : StatsState) (cs : List TimedChange) (gone : List ℕ) → IsStatsOf s cs gone → load_by cs (second_of s.time) ≡ s.activator.area + s.direct.area
+open_load : (t : TotalsState) (cs : List TimedChange) → IsTotalsOf t cs → load_by cs (second_of t.time) ≡ t.activator.area + t.direct.area
 unfolding time_taken
-open_load s cs gone is =
-    let from = 1000 * second_of s.time in
-    let until = 1000 * (second_of s.time + 1) in
+open_load t cs is =
+    let from = 1000 * second_of t.time in
+    let until = 1000 * (second_of t.time + 1) in
     let a = sum-both is_admitted is_directed from until cs apart_starts in
     let b = sum-both ends_admitted ends_directed from until cs apart_ends in
     omega (arith, a, b, is.activator.area, is.direct.area)
 
-pub whole_load : (s : StatsState) (cs : List TimedChange) (gone : List ℕ) (n : ℕ) → IsStatsOf s cs gone → second_of s.time < n → load_by cs n ≡ 1000 * live_in s
+pub whole_load : (t : TotalsState) (cs : List TimedChange) (n : ℕ) → IsTotalsOf t cs → second_of t.time < n → load_by cs n ≡ 1000 * live_of t
 unfolding time_taken
-whole_load s cs gone n is later =
+whole_load t cs n is later =
     let from = 1000 * n in
     let until = 1000 * (n + 1) in
     let a = sum-both is_admitted is_directed from until cs apart_starts in
     let b = sum-both ends_admitted ends_directed from until cs apart_ends in
-    let w = sum-past is_admitted n s.time cs later is.times in
-    let x = sum-past is_directed n s.time cs later is.times in
-    let y = sum-past ends_admitted n s.time cs later is.times in
-    let z = sum-past ends_directed n s.time cs later is.times in
+    let w = sum-past is_admitted n t.time cs later is.times in
+    let x = sum-past is_directed n t.time cs later is.times in
+    let y = sum-past ends_admitted n t.time cs later is.times in
+    let z = sum-past ends_directed n t.time cs later is.times in
     omega (arith, a, b, w, x, y, z, is.activator.count, is.direct.count)
 
-pub alike : (s : StatsState) (cs : List TimedChange) (gone : List ℕ) (n : ℕ) → IsStatsOf s cs gone → second_of s.time < n → load_by cs n ≡ load_by cs (second_of s.time + 1)
-alike s cs gone n is later = whole_load s cs gone n is later ∙ sym (whole_load s cs gone (second_of s.time + 1) is (omega arith))
+pub alike : (t : TotalsState) (cs : List TimedChange) (n : ℕ) → IsTotalsOf t cs → second_of t.time < n → load_by cs n ≡ load_by cs (second_of t.time + 1)
+alike t cs n is later = whole_load t cs n is later ∙ sym (whole_load t cs (second_of t.time + 1) is (omega arith))
 
-pub quiet : (s : StatsState) (cs : List TimedChange) (gone : List ℕ) (n : ℕ) → IsStatsOf s cs gone → second_of s.time < n → arrived_by cs n ≡ 0
-quiet s cs gone n is later = past-arrived n s.time cs later is.times
+pub quiet : (t : TotalsState) (cs : List TimedChange) (n : ℕ) → IsTotalsOf t cs → second_of t.time < n → arrived_by cs n ≡ 0
+quiet t cs n is later = past-arrived n t.time cs later is.times
 
-pub closed_is : (s : StatsState) (cs : List TimedChange) (gone : List ℕ) (to : ℕ) (ready : Bool) → IsStatsOf s cs gone → closed_at s to ready ≡ closed_by s.metric cs (second_of s.time) (second_of to) ready
+pub closed_is : (t : TotalsState) (cs : List TimedChange) (to : ℕ) (ready : Bool) → IsTotalsOf t cs → closed_at t to ready ≡ closed_by t.metric cs (second_of t.time) (second_of to) ready
 unfolding closed_by
-closed_is s cs gone to ready is =
-    rw (open_load s cs gone is, whole_load s cs gone (second_of s.time + 1) is (omega arith), ← is.arrived) refl
+closed_is t cs to ready is =
+    rw (open_load t cs is, whole_load t cs (second_of t.time + 1) is (omega arith), ← is.arrived) refl
 
 -- ---- within the open second nothing closes
 
@@ -68,17 +69,17 @@ end_same from to le = by (nat_lt from to) refl
     by true h = absurd (grind (arith, h, le))
     by false h = omega arith
 
-pub none_closed : (s : StatsState) (to : ℕ) (ready : Bool) → second_of s.time ≡ second_of to → closed_at s to ready ≡ record { first = None; rest = None }
-none_closed s to ready same =
-    let from = second_of s.time in
-    let first = none_from s.metric ready from (end_of_first from (second_of to)) (s.activator.area + s.direct.area) s.arrived (end_same from (second_of to) (omega (arith, same))) in
-    let rest = none_from s.metric ready (from + 1) (second_of to) (1000 * live_in s) 0 (omega (arith, same)) in
+pub none_closed : (t : TotalsState) (to : ℕ) (ready : Bool) → second_of t.time ≡ second_of to → closed_at t to ready ≡ record { first = None; rest = None }
+none_closed t to ready same =
+    let from = second_of t.time in
+    let first = none_from t.metric ready from (end_of_first from (second_of to)) (t.activator.area + t.direct.area) t.arrived (end_same from (second_of to) (omega (arith, same))) in
+    let rest = none_from t.metric ready (from + 1) (second_of to) (1000 * live_of t) 0 (omega (arith, same)) in
     cc
 
-pub advanced_within : (s : StatsState) (to : ℕ) → second_of s.time ≡ second_of to → record s { time = to } ≡ advanced to s
-advanced_within s to same = by (nat_lt (second_of s.time) (second_of to)) refl
+pub passed_within : (t : TotalsState) (to : ℕ) → second_of t.time ≡ second_of to → record t { time = to } ≡ passed to t
+passed_within t to same = by (nat_lt (second_of t.time) (second_of to)) refl
   where
-    by : (b : Bool) → nat_lt (second_of s.time) (second_of to) ≡ b → record s { time = to } ≡ advanced_by b to s
+    by : (b : Bool) → nat_lt (second_of t.time) (second_of to) ≡ b → record t { time = to } ≡ passed_by b to t
     by true h = absurd (grind (arith, h, same))
     by false h = refl
 
@@ -90,10 +91,10 @@ run_fits m ready from until load arrived few fewer = by (nat_lt from until)
     by true = (few, fewer)
     by false = tt
 
-pub load_few : (s : StatsState) → IsWithin s → s.activator.area + s.direct.area ≤ 1000000000
-load_few s within =
-    let a = area_small (left_of s.time) s.activator within.activator (omega arith) in
-    let b = area_small (left_of s.time) s.direct within.direct (omega arith) in
+pub load_few : (t : TotalsState) → IsBounded t → t.activator.area + t.direct.area ≤ 1000000000
+load_few t bounded =
+    let a = area_small (left_of t.time) t.activator bounded.activator (omega arith) in
+    let b = area_small (left_of t.time) t.direct bounded.direct (omega arith) in
     omega (arith, a, b)
 
 -- ---- the area of a pod
@@ -106,7 +107,7 @@ module _ (s : StatsState) (cs : List TimedChange) (gone : List ℕ) (p : ℕ) (w
   unfolding from
   q_proxied =
       let t = (fresh (second_of s.time) (found p s.pods)).proxied in
-      let sum = so_far_is (at is_assigned p) (at ends_assigned p) s.time t cs is.times (is.pods p there).proxied in
+      let sum = so_far_is (at is_assigned p) (at ends_assigned p) s.time t cs is.totals.times (is.pods p there).proxied in
       let least = (within.pods p).proxied.least in
       omega (arith, sum, least)
 
@@ -114,7 +115,7 @@ module _ (s : StatsState) (cs : List TimedChange) (gone : List ℕ) (p : ℕ) (w
   unfolding from
   q_direct =
       let t = (fresh (second_of s.time) (found p s.pods)).direct in
-      let sum = so_far_is (at is_directed p) (at ends_directed p) s.time t cs is.times (is.pods p there).direct in
+      let sum = so_far_is (at is_directed p) (at ends_directed p) s.time t cs is.totals.times (is.pods p there).direct in
       let least = (within.pods p).direct.least in
       omega (arith, sum, least)
 

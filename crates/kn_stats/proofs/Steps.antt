@@ -1,6 +1,6 @@
 -- One change more, a pod that leaves, and time that passes: what a Stats stands for, and its bounds.
-use Rattle.std.proofs.Common.{◌≡◌, refl, sym, ap, subst, ◌∙◌, ℕ, ◌+◌, ◌-◌, ◌≤◌, ◌<◌, Bool, true, false, cond, ◌&&◌, ◌||◌, List, [], ◌∷◌, ◌++◌, length, min, arith}
-use Rattle.std.specs.Prelude.{◌==◌, nat_lt, Option, None, Some, if◌then◌else◌}
+use Rattle.std.proofs.Common.{◌≡◌, refl, sym, ap, subst, ◌∙◌, ℕ, ◌≤◌, ◌<◌, Bool, true, false, ◌&&◌, ◌||◌, List, [], ◌∷◌, ◌++◌, length, arith, ◌+◌}
+use Rattle.std.specs.Prelude.{◌==◌, nat_lt, Option, None, Some}
 use Rattle.std.specs.List.{sum_by}
 use Rattle.std.proofs.lemmas.Bool.{eqb-true}
 use Rattle.kn_event.specs.declared.revision.Metric.{Metric}
@@ -10,27 +10,21 @@ use Rattle.kn_stats.specs.declared.change.Change.{Change}
 use Rattle.kn_stats.specs.declared.change.Change.TheVariants as change
 use Rattle.kn_stats.specs.declared.tally.Tally.{Tally}
 use Rattle.kn_stats.specs.declared.tally.PodTally.{PodTally}
-use Rattle.kn_stats.specs.Changes.{TimedChange, arrived_by, at, count_of, counted_most, ends_admitted, ends_assigned, ends_directed, ends_waiting, is_admitted, is_assigned, is_directed, is_start, pod_of, timed}
+use Rattle.kn_stats.specs.Changes.{AreBy, TimedChange, at, ends_admitted, ends_assigned, ends_directed, is_admitted, is_assigned, is_directed, pod_of, timed}
 use Rattle.kn_stats.specs.Pods.{IsSmall, IsSmallPod, IsSorted, anew, anew_if, found, fresh, idle, no_tally, pod_after, put, tally_after, without_pod}
-use Rattle.kn_stats.specs.Stands.{CanChange, IsIdle, IsPodOf, IsTally, IsWithin, IsStatsOf, StatsState, advanced, advanced_by, changed, left_of, live_in, opened, pods_by, waiting_after, without}
-use Rattle.kn_stats.proofs.Allowed.{apart_admitted, apart_assigned, apart_directed, apart_starts, apart_waiting, room_admitted, room_assigned_at, room_at, room_direct_at, room_directed, some_admitted, some_assigned_at, some_direct_at, some_directed, some_waiting}
-use Rattle.kn_stats.proofs.Bounds.{count-fresh-direct, count-fresh-proxied, left_inside, small_after, small_anew, small_later, small_none}
-use Rattle.kn_stats.proofs.Sums.{arrived-push, by-later, by-push, count-push, past-arrived, tally_anew, tally_none, tally_push}
+use Rattle.kn_stats.specs.Totals.{IsTally, left_of, waiting_after}
+use Rattle.kn_stats.specs.Stands.{CanChange, IsIdle, IsPodOf, IsWithin, IsStatsOf, StatsState, advanced, changed, opened, pods_by, totals_in, without}
+use Rattle.kn_stats.proofs.Allowed.{apart_assigned, apart_directed, can_count, room_assigned_at, room_at, room_direct_at, some_assigned_at, some_direct_at}
+use Rattle.kn_stats.proofs.Bounds.{count-anew, count-fresh-direct, count-fresh-proxied, left_inside, small_after, small_anew, small_later, small_none}
+use Rattle.kn_stats.proofs.Sums.{tally_anew, tally_none, tally_push}
 use Rattle.kn_stats.proofs.Table.{found-out, found-out-same, found-put, found-put-other, length-out, length-put, sorted-out, sorted-put, sum-out, sum-put}
-
-abbrev left_most : (t : ℕ) → left_of t ≤ 1000
-left_most t = omega arith
+use Rattle.kn_stats.proofs.Counted.{bounded_counted, bounded_none, bounded_passed, left_most, totals_counted, totals_none, totals_passed}
 
 -- ---- nothing yet
 
 pub stands_none : (m : Metric) (t : ℕ) → IsStatsOf (opened m t) [] []
-unfolding count_of arrived_by
 stands_none m t = record {
-  times = tt;
-  waiting = refl;
-  activator = tally_none is_admitted ends_admitted (second_of t);
-  direct = tally_none is_directed ends_directed (second_of t);
-  arrived = refl;
+  totals = totals_none m t;
   pods = λ p h. record { direct = idle_tally is_directed ends_directed p; proxied = idle_tally is_assigned ends_assigned p };
 }
   where
@@ -50,12 +44,9 @@ small_idle s left p le = record { second = omega arith; direct = by (nat_lt 0 s)
 
 pub within_none : (m : Metric) (t : ℕ) → IsWithin (opened m t)
 within_none m t = record {
-  live = omega arith;
+  totals = bounded_none m t;
   waiting = refl;
   directed = refl;
-  activator = small_none (left_of t) (left_most t);
-  direct = small_none (left_of t) (left_most t);
-  arrived = omega arith;
   sorted = tt;
   pods = λ p. small_idle (second_of t) (left_of t) p (left_most t);
   room = omega arith;
@@ -81,9 +72,6 @@ and-true false b h = refl
 and-false : (a b : Bool) → b ≡ false → (a && b) ≡ false
 and-false true b h = h
 and-false false b h = refl
-
-one_if : Bool → ℕ
-one_if b = cond b 1 0
 
 module _ (s : StatsState) (within : IsWithin s) (c : Change) (can : CanChange s c) where
   abbrev second : ℕ
@@ -158,32 +146,9 @@ module _ (s : StatsState) (within : IsWithin s) (c : Change) (can : CanChange s 
 
   -- ---- the whole
 
-  waiting-push : (b e : Bool) (n ends begins : ℕ) → (b ≡ true → e ≡ false) → (e ≡ true → 0 < n) → n + ends ≡ begins → (if b then n + 1 else (if e then n - 1 else n)) + (ends + cond e 1 0) ≡ begins + cond b 1 0
-  waiting-push true true n ends begins apart some is = absurd (let h = apart refl in cc)
-  waiting-push true false n ends begins apart some is = omega (arith, is)
-  waiting-push false true n ends begins apart some is = let there = some refl in omega (arith, is, there)
-  waiting-push false false n ends begins apart some is = omega (arith, is)
-
-  arrived-next : (b : Bool) (n m : ℕ) → n ≡ min counted_most m → (if b then min counted_most (n + 1) else n) ≡ min counted_most (m + cond b 1 0)
-  arrived-next true n m h = omega (arith, h)
-  arrived-next false n m h = omega (arith, h)
-
   pub stands_changed : (cs : List TimedChange) (gone : List ℕ) → IsStatsOf s cs gone → IsStatsOf (changed c s) (cs ++ timed s.time c ∷ []) gone
   stands_changed cs gone is = record {
-    times = by-push s.time cs (timed s.time c) is.times (omega arith);
-    waiting =
-        let a = count-push is_admitted cs (timed s.time c) in
-        let b = count-push ends_waiting cs (timed s.time c) in
-        let w = waiting-push (is_admitted c) (ends_waiting c) s.waiting (count_of ends_waiting cs) (count_of is_admitted cs) (apart_waiting c) (some_waiting s within c can) is.waiting in
-        omega (arith, a, b, w);
-    activator = tally_push is_admitted ends_admitted s.time c s.activator cs (is_admitted c) (ends_admitted c) refl refl (apart_admitted c)
-        (λ h. let some = some_admitted s within c can h in (some, left_inside (left_of s.time) s.activator within.activator some)) is.activator;
-    direct = tally_push is_directed ends_directed s.time c s.direct cs (is_directed c) (ends_directed c) refl refl (apart_directed c)
-        (λ h. let some = some_directed s within c can h in (some, left_inside (left_of s.time) s.direct within.direct some)) is.direct;
-    arrived =
-        let a = arrived-push cs s.time c in
-        let n = arrived-next (is_start c) s.arrived (arrived_by cs (second_of s.time)) is.arrived in
-        n ∙ ap (min counted_most) (sym a);
+    totals = totals_counted (totals_in s) within.totals c (can_count s within c can) cs is.totals;
     pods = λ p h. pod_push cs p (is.pods p h);
   }
 
@@ -232,28 +197,6 @@ module _ (s : StatsState) (within : IsWithin s) (c : Change) (can : CanChange s 
       let room = room_at s within c q can e in
       omega (arith, same, room)
 
-  arrived_few : (b : Bool) (n : ℕ) → n ≤ counted_most → (if b then min counted_most (n + 1) else n) ≤ counted_most
-  arrived_few true n h = omega arith
-  arrived_few false n h = h
-
-  count_most : (b e : Bool) (m : ℕ) (t : Tally) → (tally_after b e m t).count ≤ t.count + cond b 1 0
-  count_most true e m t = omega arith
-  count_most false true m t = omega arith
-  count_most false false m t = omega arith
-
-  live_few : (b d : Bool) (n : ℕ) → (b ≡ true → n < 20000) → (d ≡ true → n < 20000) → (b ≡ true → d ≡ false) → n ≤ 20000 → n + cond b 1 0 + cond d 1 0 ≤ 20000
-  live_few true true n f g apart h = absurd (let e = apart refl in cc)
-  live_few true false n f g apart h = let few = f refl in omega (arith, few)
-  live_few false true n f g apart h = let few = g refl in omega (arith, few)
-  live_few false false n f g apart h = omega (arith, h)
-
-  live_after : live_in (changed c s) ≤ 20000
-  live_after =
-      let a = count_most (is_admitted c) (ends_admitted c) (left_of s.time) s.activator in
-      let d = count_most (is_directed c) (ends_directed c) (left_of s.time) s.direct in
-      let few = live_few (is_admitted c) (is_directed c) (live_in s) (room_admitted s within c can) (room_directed s within c can) (apart_starts c) within.live in
-      omega (arith, a, d, few)
-
 -- ---- the counts at all pods
 
 abbrev proxied_count : PodTally → ℕ
@@ -295,12 +238,9 @@ module _ (s : StatsState) (within : IsWithin s) where
 
   pub within_changed : (c : Change) → CanChange s c → IsWithin (changed c s)
   within_changed c can = record {
-    live = live_after s within c can;
+    totals = bounded_counted (totals_in s) within.totals c (can_count s within c can);
     waiting = waiting_kept c can;
     directed = directed_kept c can;
-    activator = small_after (is_admitted c) (ends_admitted c) (left_of s.time) s.activator (λ h. let few = room_admitted s within c can h in omega (arith, few)) (some_admitted s within c can) within.activator;
-    direct = small_after (is_directed c) (ends_directed c) (left_of s.time) s.direct (λ h. let few = room_directed s within c can h in omega (arith, few)) (some_directed s within c can) within.direct;
-    arrived = arrived_few s within c can (is_start c) s.arrived within.arrived;
     sorted = sorted_pods s within c can (pod_of c);
     pods = small_pods s within c can;
     room = room_pods s within c can (pod_of c) refl;
@@ -318,11 +258,7 @@ module _ (s : StatsState) (p : ℕ) where
 
   pub stands_without : (cs : List TimedChange) (gone : List ℕ) → IsStatsOf s cs gone → IsStatsOf (without p s) cs (p ∷ gone)
   stands_without cs gone is = record {
-    times = is.times;
-    waiting = is.waiting;
-    activator = is.activator;
-    direct = is.direct;
-    arrived = is.arrived;
+    totals = is.totals;
     pods = λ r h.
         let parts = not-among p r gone h in
         subst (λ q. IsPodOf r (second_of s.time) q cs) (sym (found-out p r s.pods parts.0)) (is.pods r parts.1);
@@ -330,12 +266,9 @@ module _ (s : StatsState) (p : ℕ) where
 
   pub within_without : IsWithin s → IsIdle p s → IsWithin (without p s)
   within_without within none = record {
-    live = within.live;
+    totals = within.totals;
     waiting = let out = sum-out proxied_count p s.pods refl in omega (arith, out, within.waiting, none.proxied);
     directed = let out = sum-out direct_count p s.pods refl in omega (arith, out, within.directed, none.direct);
-    activator = within.activator;
-    direct = within.direct;
-    arrived = within.arrived;
     sorted = sorted-out p s.pods within.sorted;
     pods = λ r. by r (p == r) refl;
     room = let fewer = length-out p s.pods in omega (arith, fewer, within.room);
@@ -354,97 +287,62 @@ anew-twice : (b : Bool) (t : Tally) → anew (anew_if b t) ≡ anew t
 anew-twice true t = refl
 anew-twice false t = refl
 
-module _ (s : StatsState) (to : ℕ) (later : s.time ≤ to) where
-  stands_new : (cs : List TimedChange) (gone : List ℕ) → IsWithin s → second_of s.time < second_of to → IsStatsOf s cs gone → IsStatsOf (advanced_by true to s) cs gone
-  stands_new cs gone within new is = record {
-    times = by-later s.time to cs later is.times;
-    waiting = is.waiting;
-    activator = tally_anew is_admitted ends_admitted (second_of s.time) (second_of to) s.time s.activator cs new is.times is.activator;
-    direct = tally_anew is_directed ends_directed (second_of s.time) (second_of to) s.time s.direct cs new is.times is.direct;
-    arrived = let none = past-arrived (second_of to) s.time cs new is.times in omega (arith, none);
-    pods = λ p h. pod p (is.pods p h);
+module _ (s : StatsState) (to : ℕ) (later : s.time ≤ to) (within : IsWithin s) (cs : List TimedChange) where
+  abbrev from : ℕ
+  from = second_of s.time
+
+  abbrev next : ℕ
+  next = second_of to
+
+  pods_new : AreBy s.time cs → from < next → (p : ℕ) → IsPodOf p from (found p s.pods) cs → IsPodOf p next (found p s.pods) cs
+  pods_new times new p is = record {
+    direct = one (at is_directed p) (at ends_directed p) (nat_lt (found p s.pods).second next) (found p s.pods).direct over (nat_lt (found p s.pods).second from) is.direct;
+    proxied = one (at is_assigned p) (at ends_assigned p) (nat_lt (found p s.pods).second next) (found p s.pods).proxied over (nat_lt (found p s.pods).second from) is.proxied;
   }
     where
-      over : (p : ℕ) → nat_lt (found p s.pods).second (second_of to) ≡ true
-      over p = let before = (within.pods p).second in grind (arith, before, new)
+      over : nat_lt (found p s.pods).second next ≡ true
+      over = let before = (within.pods p).second in grind (arith, before, new)
 
-      one : (begins ends : Change → Bool) (b : Bool) (t : Tally) → b ≡ true → (c : Bool) → IsTally begins ends (second_of s.time) (anew_if c t) cs → IsTally begins ends (second_of to) (anew_if b t) cs
+      one : (begins ends : Change → Bool) (b : Bool) (t : Tally) → b ≡ true → (c : Bool) → IsTally begins ends from (anew_if c t) cs → IsTally begins ends next (anew_if b t) cs
       one begins ends b t h c i =
-          subst (λ v. IsTally begins ends (second_of to) (anew_if v t) cs) (sym h)
-          (subst (λ t'. IsTally begins ends (second_of to) t' cs) (anew-twice c t) (tally_anew begins ends (second_of s.time) (second_of to) s.time (anew_if c t) cs new is.times i))
+          subst (λ v. IsTally begins ends next (anew_if v t) cs) (sym h)
+          (subst (λ t'. IsTally begins ends next t' cs) (anew-twice c t) (tally_anew begins ends from next s.time (anew_if c t) cs new times i))
 
-      pod : (p : ℕ) → IsPodOf p (second_of s.time) (found p s.pods) cs → IsPodOf p (second_of to) (found p s.pods) cs
-      pod p i = record {
-        direct = one (at is_directed p) (at ends_directed p) (nat_lt (found p s.pods).second (second_of to)) (found p s.pods).direct (over p) (nat_lt (found p s.pods).second (second_of s.time)) i.direct;
-        proxied = one (at is_assigned p) (at ends_assigned p) (nat_lt (found p s.pods).second (second_of to)) (found p s.pods).proxied (over p) (nat_lt (found p s.pods).second (second_of s.time)) i.proxied;
-      }
-
-  stands_same : (cs : List TimedChange) (gone : List ℕ) → second_of s.time ≡ second_of to → IsStatsOf s cs gone → IsStatsOf (advanced_by false to s) cs gone
-  stands_same cs gone same is = record {
-    times = by-later s.time to cs later is.times;
-    waiting = is.waiting;
-    activator = subst (λ n. IsTally is_admitted ends_admitted n s.activator cs) same is.activator;
-    direct = subst (λ n. IsTally is_directed ends_directed n s.direct cs) same is.direct;
-    arrived = is.arrived ∙ ap (λ n. min counted_most (arrived_by cs n)) same;
-    pods = λ p h. subst (λ n. IsPodOf p n (found p s.pods) cs) same (is.pods p h);
+  pub stands_advanced : (gone : List ℕ) → IsStatsOf s cs gone → IsStatsOf (advanced to s) cs gone
+  stands_advanced gone is = record {
+    totals = totals_passed (totals_in s) to later cs is.totals;
+    pods = λ p h. by (nat_lt from next) refl p (is.pods p h);
   }
-
-  pub stands_advanced : (cs : List TimedChange) (gone : List ℕ) → IsWithin s → IsStatsOf s cs gone → IsStatsOf (advanced to s) cs gone
-  stands_advanced cs gone within is = by (nat_lt (second_of s.time) (second_of to)) refl
     where
-      by : (b : Bool) → nat_lt (second_of s.time) (second_of to) ≡ b → IsStatsOf (advanced_by b to s) cs gone
-      by true h = stands_new cs gone within (grind (arith, h)) is
-      by false h = stands_same cs gone (grind (arith, h, later)) is
+      by : (b : Bool) → nat_lt from next ≡ b → (p : ℕ) → IsPodOf p from (found p s.pods) cs → IsPodOf p next (found p s.pods) cs
+      by true h p i = pods_new is.totals.times (grind (arith, h)) p i
+      by false h p i = subst (λ n. IsPodOf p n (found p s.pods) cs) (grind (arith, h, later)) i
 
+module _ (s : StatsState) (to : ℕ) (later : s.time ≤ to) where
   pub within_advanced : IsWithin s → IsWithin (advanced to s)
-  within_advanced within = by (nat_lt (second_of s.time) (second_of to)) refl
+  within_advanced within = record {
+    totals = bounded_passed (totals_in s) to later within.totals;
+    waiting = within.waiting ∙ sym (count-anew (nat_lt (second_of s.time) (second_of to)) s.activator);
+    directed = within.directed ∙ sym (count-anew (nat_lt (second_of s.time) (second_of to)) s.direct);
+    sorted = within.sorted;
+    pods = λ p.
+        let is = within.pods p in
+        record {
+          second = let before = is.second in omega (arith, before, later);
+          direct = fresh_small (found p s.pods).second (found p s.pods).direct is.second is.direct;
+          proxied = fresh_small (found p s.pods).second (found p s.pods).proxied is.second is.proxied;
+        };
+    room = within.room;
+  }
     where
-      tally : (b : Bool) → nat_lt (second_of s.time) (second_of to) ≡ b → (t : Tally) → IsSmall (left_of s.time) t → IsSmall (left_of to) (anew_if b t)
-      tally true h t small = small_anew (left_of to) t (left_most to) small.count
-      tally false h t small =
-          let same : second_of s.time ≡ second_of to = grind (arith, h, later) in
-          small_later (left_of s.time) (left_of to) t (omega (arith, same, later)) small
-
-      counts : (b : Bool) (t : Tally) → (anew_if b t).count ≡ t.count
-      counts true t = refl
-      counts false t = refl
-
       -- what is kept of a pod is of an earlier second than the new one, or the open second is the same
       fresh_small : (n : ℕ) (t : Tally) → n ≤ second_of s.time → IsSmall (left_of s.time) (anew_if (nat_lt n (second_of s.time)) t) → IsSmall (left_of to) (anew_if (nat_lt n (second_of to)) t)
       fresh_small n t before small = go (nat_lt n (second_of to)) refl
         where
           go : (b : Bool) → nat_lt n (second_of to) ≡ b → IsSmall (left_of to) (anew_if b t)
-          go true h = small_anew (left_of to) t (left_most to) (let same = counts (nat_lt n (second_of s.time)) t in omega (arith, same, small.count))
+          go true h = small_anew (left_of to) t (left_most to) (let same = count-anew (nat_lt n (second_of s.time)) t in omega (arith, same, small.count))
           go false h =
               let at_now : second_of to ≤ n = grind (arith, h) in
               let same : second_of s.time ≡ second_of to = omega (arith, at_now, before, later) in
               let still : nat_lt n (second_of s.time) ≡ false = ap (nat_lt n) same ∙ h in
               small_later (left_of s.time) (left_of to) t (omega (arith, same, later)) (subst (λ b. IsSmall (left_of s.time) (anew_if b t)) still small)
-
-      none_few : (b : Bool) (n : ℕ) → n ≤ counted_most → (if b then 0 else n) ≤ counted_most
-      none_few true n h = omega arith
-      none_few false n h = h
-
-      by : (b : Bool) → nat_lt (second_of s.time) (second_of to) ≡ b → IsWithin (advanced_by b to s)
-      by b h = record {
-        live = let x = counts b s.activator in let y = counts b s.direct in omega (arith, x, y, within.live);
-        waiting = within.waiting ∙ sym (counts b s.activator);
-        directed = within.directed ∙ sym (counts b s.direct);
-        activator = tally b h s.activator within.activator;
-        direct = tally b h s.direct within.direct;
-        arrived = none_few b s.arrived within.arrived;
-        sorted = within.sorted;
-        pods = λ p.
-            let is = within.pods p in
-            record {
-              second = let before = is.second in omega (arith, before, later);
-              direct = fresh_small (found p s.pods).second (found p s.pods).direct is.second is.direct;
-              proxied = fresh_small (found p s.pods).second (found p s.pods).proxied is.second is.proxied;
-            };
-        room = within.room;
-      }
-
-  pub within_new : second_of s.time < second_of to → IsWithin s → IsWithin (advanced_by true to s)
-  within_new new within =
-      let new_one : nat_lt (second_of s.time) (second_of to) ≡ true = grind (arith, new) in
-      subst (λ b. IsWithin (advanced_by b to s)) new_one (within_advanced within)

@@ -8,7 +8,7 @@ use Rattle.kn_stats.specs.declared.change.Change.{Change}
 use Rattle.kn_stats.specs.declared.tally.Tally.{Tally}
 use Rattle.kn_stats.specs.Changes.{AreBy, TimedChange, after_in, after_sum, arrived_by, count_of, is_start, part, timed}
 use Rattle.kn_stats.specs.Pods.{anew, no_tally, so_far, tally_after}
-use Rattle.kn_stats.specs.Stands.{IsTally, left_of}
+use Rattle.kn_stats.specs.Totals.{IsTally, left_of}
 
 abbrev one_if : Bool → ℕ
 one_if b = cond b 1 0

@@ -1,6 +1,6 @@
 ghost use Rattle.std.specs.Prelude.{◌≡◌, ◌≤◌, ◌==◌};
 ghost use Rattle.kn_scaling.specs.Average.{second_of};
-ghost use Rattle.kn_stats.specs.Stands.{left_of};
+ghost use Rattle.kn_stats.specs.Totals.{left_of};
 
 use std::marker::Model;
 

@@ -7,7 +7,9 @@ mod closed;
 mod pods;
 mod stats;
 mod tally;
+mod totals;
 
 pub use change::Change;
 pub use closed::{Closed, Run};
 pub use stats::{PodArea, Stats};
+pub use totals::Totals;

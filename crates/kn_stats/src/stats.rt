@@ -1,14 +1,12 @@
-ghost use Rattle.std.specs.Prelude.{◌≡◌, ◌≤◌, ◌<◌, ◌+◌, ◌-◌, ◌*◌, false, min, ℕ, List, [], ◌∷◌, ◌++◌, IfOk, IfSome};
+ghost use Rattle.std.specs.Prelude.{◌≡◌, ◌≤◌, ◌<◌, ◌+◌, ◌*◌, false, ℕ, List, [], ◌∷◌, ◌++◌, IfOk, IfSome};
 ghost use Rattle.kn_event.specs.Lists.{contains};
 ghost use Rattle.kn_scaling.specs.Average.{second_of};
-ghost use Rattle.kn_stats.specs.Changes.{TimedChange, arrived_by, at, ends_assigned, is_arrival_at, is_assigned, is_end_at, load_by, time_taken, timed};
-ghost use Rattle.kn_stats.specs.Closing.{closed_by, end_of_first};
-ghost use Rattle.kn_stats.specs.Stands.{CanChange, IsIdle, IsWithin, IsStatsOf, advanced, changed, closed_at, opened, without};
+ghost use Rattle.kn_stats.specs.Changes.{TimedChange, arrived_by, at, ends_assigned, is_arrival_at, is_assigned, is_end_at, load_by, pod_of, time_taken, timed};
+ghost use Rattle.kn_stats.specs.Closing.{closed_by};
+ghost use Rattle.kn_stats.specs.Stands.{CanChange, IsIdle, IsWithin, IsStatsOf, advanced, changed, opened, without};
 
-use crate::clock::Clock;
-use crate::closed::run_of;
-use crate::tally::{PodTally, Tally};
-use crate::{Change, Closed, pods};
+use crate::tally::PodTally;
+use crate::{Change, Closed, Totals, pods};
 use kn_event::{Memory, Metric, PlaceHints};
 use std::alloc::Global;
 use std::marker::Model;
@@ -21,14 +19,10 @@ pub struct PodArea {
     pub proxied: u64,
 }
 
-/// The changes up to now, as far as later seconds need them. Contracts say for which list of changes it stands.
+/// The changes up to now, as far as later seconds need them: the totals, and the areas of each pod. Contracts say for which
+/// list of changes it stands.
 pub struct Stats {
-    metric: Metric,
-    clock: Clock,
-    waiting: u64,
-    activator: Tally,
-    direct: Tally,
-    arrived: u64,
+    totals: Totals,
     pods: Vec<PodTally>,
     hints: PlaceHints,
 }
@@ -36,12 +30,7 @@ pub struct Stats {
 impl Drop for Stats {
     fn drop(self) {
         let Stats {
-            metric: _,
-            clock: _,
-            waiting: _,
-            activator: _,
-            direct: _,
-            arrived: _,
+            totals: _,
             pods: _,
             hints: _,
         } = self;
@@ -50,32 +39,27 @@ impl Drop for Stats {
 
 impl Model for Stats {
     ghost use Rattle.std.specs.Prelude.{◌≤◌, vec_capacity};
-    ghost use Rattle.kn_stats.specs.Stands.{IsWithin, StatsState};
+    ghost use Rattle.kn_stats.specs.Stands.{IsWithin, StatsState, with_pods};
 
     ghost Value = { StatsState };
 
-    ghost view = { λ s. record { metric = s.metric; time = s.clock; waiting = s.waiting; activator = s.activator; direct = s.direct; arrived = s.arrived; pods = s.pods.items } };
+    ghost view = { λ s. with_pods s.pods.items s.totals };
 
     ghost invariant = { λ s. record {
-      within : IsWithin (record { metric = s.metric; time = s.clock; waiting = s.waiting; activator = s.activator; direct = s.direct; arrived = s.arrived; pods = s.pods.items });
+      within : IsWithin (with_pods s.pods.items s.totals);
       room : 20500 ≤ vec_capacity s.pods;
     } };
 }
 
-/// One more came in the open second.
+/// The pod that a change names.
 #[inline(always)]
-fn one_more(arrived: u64) -> u64
-    requires { arrived ≤ 1000000 }
-    ensures { result ≡ min 1000000 (arrived + 1) }
+fn pod_of(c: Change) -> Option<u64>
+    ensures { result ≡ pod_of c }
 {
-    1_000_000.min(arrived + 1)
-}
-
-/// Where the open second ends, if it closed.
-fn end_of_first(from: u64, to: u64) -> u64
-    ensures { result ≡ end_of_first from to }
-{
-    if from < to { from + 1 } else { from }
+    match c {
+        Change::Assigned(p) | Change::Directed(p) | Change::EndedAt(p, _) => Some(p),
+        Change::Admitted | Change::EndedHeld => None,
+    }
 }
 
 impl Stats {
@@ -89,12 +73,7 @@ impl Stats {
         };
         let hints = PlaceHints::new(alloc)?;
         Ok(Stats {
-            metric,
-            clock: Clock::at(start),
-            waiting: 0,
-            activator: Tally::none(),
-            direct: Tally::none(),
-            arrived: 0,
+            totals: Totals::new(start, metric),
             pods,
             hints,
         })
@@ -117,35 +96,11 @@ impl Stats {
         ensures within { IsWithin self.old }
         ensures state { self.new ≡ changed c self.old }
     {
-        let second = self.clock.second();
-        let left = self.clock.left();
-        match c {
-            Change::Admitted => {
-                self.waiting += 1;
-                self.activator.begin(left);
-                self.arrived = one_more(self.arrived);
-            }
-            Change::Assigned(p) => {
-                self.waiting -= 1;
-                pods::update(&mut self.pods, &mut self.hints, p, c, second, left);
-            }
-            Change::Directed(p) => {
-                self.direct.begin(left);
-                self.arrived = one_more(self.arrived);
-                pods::update(&mut self.pods, &mut self.hints, p, c, second, left);
-            }
-            Change::EndedHeld => {
-                self.waiting -= 1;
-                self.activator.end(left);
-            }
-            Change::EndedAt(p, true) => {
-                self.activator.end(left);
-                pods::update(&mut self.pods, &mut self.hints, p, c, second, left);
-            }
-            Change::EndedAt(p, false) => {
-                self.direct.end(left);
-                pods::update(&mut self.pods, &mut self.hints, p, c, second, left);
-            }
+        let second = self.totals.second();
+        let left = self.totals.left();
+        self.totals.change(c);
+        if let Some(p) = pod_of(c) {
+            pods::update(&mut self.pods, &mut self.hints, p, c, second, left);
         }
     }
 
@@ -170,30 +125,7 @@ impl Stats {
         ensures stands { (cs : List TimedChange) (gone : List ℕ) → IsStatsOf self.old cs gone → IsStatsOf self.new cs gone }
         ensures state { self.new ≡ advanced to self.old }
     {
-        // (so it mostly is)
-        if self.clock.has_second_of(to) {
-            self.clock.go_on(to);
-            return Closed {
-                first: None,
-                rest: None,
-            };
-        }
-        self.begin_second(to, ready)
-    }
-
-    /// Time passes into a later second.
-    #[inline(never)]
-    fn begin_second(&mut self, to: u64, ready: bool) -> Closed
-        requires { second_of self.old.time < second_of to }
-        ensures closed { result ≡ closed_at self.old to ready }
-        ensures state { self.new ≡ advanced to self.old }
-    {
-        let closed = self.closed(to, ready);
-        self.activator.renew();
-        self.direct.renew();
-        self.arrived = 0;
-        self.clock = Clock::at(to);
-        closed
+        self.totals.advance(to, ready)
     }
 
     /// What requests at the pod took of the open second, up to the last advance. A pod that left has no area.
@@ -203,28 +135,13 @@ impl Stats {
         ensures proxied { (cs : List TimedChange) (gone : List ℕ) → IsStatsOf self.now cs gone → contains p gone ≡ false
             → result.proxied ≡ time_taken (at is_assigned p) (at ends_assigned p) (1000 * second_of self.now.time) self.now.time cs }
     {
-        let left = self.clock.left();
+        let left = self.totals.left();
         let mut pod = pods::found(&self.pods, &self.hints, p);
-        pod.refresh(self.clock.second(), left);
+        pod.refresh(self.totals.second(), left);
         let proxied = pod.proxied.so_far(left);
         PodArea {
             area: pod.direct.so_far(left) + proxied,
             proxied,
-        }
-    }
-
-    /// The seconds that are over at this time.
-    fn closed(&self, to: u64, ready: bool) -> Closed
-        requires { self.now.time ≤ to }
-        ensures { result ≡ closed_at self.now to ready }
-    {
-        let (from, until) = (self.clock.second(), to / 1000);
-        let load = self.activator.area + self.direct.area;
-        let whole = 1000 * (self.activator.count + self.direct.count);
-        let first_end = end_of_first(from, until);
-        Closed {
-            first: run_of(self.metric, ready, from, first_end, load, self.arrived),
-            rest: run_of(self.metric, ready, from + 1, until, whole, 0),
         }
     }
 }

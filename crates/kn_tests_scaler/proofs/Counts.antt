@@ -10,7 +10,8 @@ use Rattle.kn_stats.specs.declared.change.Change.TheVariants as change
 use Rattle.kn_stats.specs.declared.tally.PodTally.{PodTally}
 use Rattle.kn_stats.specs.declared.tally.Tally.{Tally}
 use Rattle.kn_stats.specs.Pods.{IsSorted, anew_if, found, pod_after, put}
-use Rattle.kn_stats.specs.Stands.{StatsState, changed, left_of}
+use Rattle.kn_stats.specs.Totals.{left_of}
+use Rattle.kn_stats.specs.Stands.{StatsState, changed}
 use Rattle.kn_tests_scaler.specs.Counts.{AreCounted, AreKept, direct_count, proxied_count}
 use Rattle.kn_tests_scaler.proofs.Lists.{KeepsNumbers, found-put, found-put-other, length-put, length-there, length_put_most, sorted-put}
 
