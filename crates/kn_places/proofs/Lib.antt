@@ -1,5 +1,4 @@
 pub mod Tallies
 pub mod Places
 pub mod Counts
-pub mod Pods
 pub mod Allowed

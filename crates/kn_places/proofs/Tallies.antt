@@ -47,7 +47,7 @@ there_number r x (q ∷ qs) (inr more) = or_right (q.number == r) _ (there_numbe
     or_right true b h = refl
     or_right false b h = h
 
-pub no_both : (b : Bool) → b ≡ false → b ≡ true → ⊥
+no_both : (b : Bool) → b ≡ false → b ≡ true → ⊥
 no_both true f t = cc
 no_both false f t = cc
 
@@ -59,11 +59,8 @@ other_first r x q qs none there = by (r == q.number) refl
     by false h = refl
     by true h = absurd (no_both (contains r (numbers_in qs)) (subst (λ n. contains n (numbers_in qs) ≡ false) (sym (eqb-true r q.number h)) none) (there_number r x qs there))
 
-pub same : (p : ℕ) → (p == p) ≡ true
-same p = eq-eqb p p refl
-
 -- the other way round
-pub flip : (m n : ℕ) (b : Bool) → (m == n) ≡ b → (n == m) ≡ b
+flip : (m n : ℕ) (b : Bool) → (m == n) ≡ b → (n == m) ≡ b
 flip m n true h = eq-eqb n m (sym (eqb-true m n h))
 flip m n false h = by (n == m) refl
   where
@@ -71,7 +68,7 @@ flip m n false h = by (n == m) refl
     by false k = refl
     by true k = absurd (no_both (m == n) h (eq-eqb m n (sym (eqb-true n m k))))
 
-pub or_parts : (a b : Bool) → (a || b) ≡ false → (a ≡ false) × (b ≡ false)
+or_parts : (a b : Bool) → (a || b) ≡ false → (a ≡ false) × (b ≡ false)
 or_parts true b h = absurd (cc)
 or_parts false b h = (refl, h)
 
@@ -157,12 +154,29 @@ tally-some test r x (q ∷ qs) (inr more) pass =
     omega (arith, here, rest)
 
 -- more pass a wider test
-pub tally-wider : (test wide : Place → Bool) → ((x : Place) → bit (test x) ≤ bit (wide x)) → (qs : List Request) → tally test qs ≤ tally wide qs
+tally-wider : (test wide : Place → Bool) → ((x : Place) → bit (test x) ≤ bit (wide x)) → (qs : List Request) → tally test qs ≤ tally wide qs
 tally-wider test wide wider [] = omega arith
 tally-wider test wide wider (q ∷ qs) =
     let this = tally-cons test q qs in
     let that = tally-cons wide q qs in
     let rest = tally-wider test wide wider qs in
+    let at = wider q.place in
+    omega (arith, this, that, rest, at)
+
+-- and more still where one who is there passes the wider one alone
+pub tally-more : (test wide : Place → Bool) → ((x : Place) → bit (test x) ≤ bit (wide x)) → (r : ℕ) (x : Place) (qs : List Request) → IsThere r x qs → bit (test x) < bit (wide x) → tally test qs < tally wide qs
+tally-more test wide wider r x [] h more = absurd h
+tally-more test wide wider r x (q ∷ qs) (inl is) more =
+    let this = tally-cons test q qs in
+    let that = tally-cons wide q qs in
+    let rest = tally-wider test wide wider qs in
+    let a = ap (λ y. bit (test y)) is.1 in
+    let b = ap (λ y. bit (wide y)) is.1 in
+    omega (arith, this, that, rest, a, b, more)
+tally-more test wide wider r x (q ∷ qs) (inr there) more =
+    let this = tally-cons test q qs in
+    let that = tally-cons wide q qs in
+    let rest = tally-more test wide wider r x qs there more in
     let at = wider q.place in
     omega (arith, this, that, rest, at)
 

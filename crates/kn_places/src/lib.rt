@@ -4,4 +4,4 @@
 pub mod laws;
 mod rows;
 
-pub use rows::{change_of, gone_of};
+pub use rows::change_of;

@@ -1,6 +1,5 @@
-//! What a row changes of live requests, and which pod goes with it.
+//! What a row changes of live requests.
 ghost use Rattle.std.specs.Prelude.{◌≡◌};
-ghost use Rattle.kn_trace.specs.Rows.{gone_by};
 ghost use Rattle.kn_places.specs.Ends.{change_in, end_of};
 
 use kn_event::{Row, Stand};
@@ -30,17 +29,6 @@ pub fn change_of(added: Row, stand: Stand, through: bool) -> Option<Change>
         Row::Finish(..) | Row::Expire(_) | Row::Cancel(_) | Row::LostRequest(_) => {
             Some(end_of(stand, through))
         }
-        _ => None,
-    }
-}
-
-/// The pod that goes with a row, removed or lost.
-#[inline(always)]
-pub fn gone_of(added: Row) -> Option<u64>
-    ensures { result ≡ gone_by added }
-{
-    match added {
-        Row::Remove(p) | Row::LostPod(p) => Some(p),
         _ => None,
     }
 }
