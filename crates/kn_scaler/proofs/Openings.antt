@@ -20,10 +20,9 @@ use Rattle.kn_trace.specs.Scale.{count_ready, creations, initial_reached, mode_o
 use Rattle.kn_trace.specs.Trace.{Trace, each_row, entry, is_ready, ready_pods}
 use Rattle.kn_record.specs.Order.{AreTimesInOrder}
 use Rattle.kn_laws.specs.Kinds.{EachAt, EachIs}
-use Rattle.kn_stats.specs.Stands.{StatsState, IsStatsOf, opened}
+use Rattle.kn_stats.specs.Totals.{IsTotalsOf, TotalsState, opened_totals}
 use Rattle.kn_decider.specs.Decider.{IsDeciderOf, opening_past}
 use Rattle.kn_changes.specs.Changes.{changes_of}
-use Rattle.kn_places.specs.Pods.{AreKeptOf}
 use Rattle.kn_scaler.specs.Facts.{TraceFacts}
 use Rattle.kn_scaler.specs.Stands.{ScalerState, IsScalerOfTrace}
 use Rattle.kn_scaler.proofs.Times.{from_time, is_over}
@@ -41,7 +40,7 @@ new_at t n (p ∷ ps) = (refl, new_at t n ps)
 
 new_silent : (t n : ℕ) (ps : List ℕ) → EachIs IsSilent (map (created_at t n) ps)
 new_silent t n [] = tt
-new_silent t n (p ∷ ps) = (record { change = λ c. refl; gone = refl }, new_silent t n ps)
+new_silent t n (p ∷ ps) = (λ c. refl, new_silent t n ps)
 
 new_same : (t n : ℕ) (ps : List ℕ) (s : Spec) (c : Trace) → IsSame (past_of s c) (with_entries (map (created_at t n) ps) (past_of s c))
 new_same t n [] s c = record { decisions = refl; standing = refl }
@@ -95,23 +94,22 @@ first-same s start = record {
 -- nothing was measured yet, and nothing decided
 pub record IsNew (s : Spec) (start : ℕ) (x : ScalerState) : Type 0 where
   pub kind : s.kind ≡ kind.Kpa
-  pub state : x.stats ≡ opened s.metric start
-  pub stats : IsStatsOf x.stats [] []
+  pub state : x.stats ≡ opened_totals s.metric start
+  pub stats : IsTotalsOf x.stats []
   pub spec : x.decider.spec ≡ s
   pub decider : (until : ℕ) → IsDeciderOf x.decider (opening_past s start) until
 
 first-stands : TraceFacts → (s : Spec) (start : ℕ) (x : ScalerState) → IsNew s start x → IsScalerOfTrace s x (first s start)
 unfolding changes_of past_of standing_of phase_of
 first-stands facts s start x new =
-    let time : x.stats.time ≡ start = ap (λ (z : StatsState). z.time) new.state in
+    let time : x.stats.time ≡ start = ap (λ (z : TotalsState). z.time) new.state in
     let none = λ (n : ℕ) (lt : n < second_of start). sym (facts.seconds.later s.metric [] (first s start) n (from_time _ start (first s start) (is_over start n lt) (refl, tt)) ∙ samples-none s.metric n) in
     let decider = decider-alike facts x.decider (opening_past s start) (past_of s (first s start)) (second_of start) none (first-same s start) (sym (first-reached s start)) (new.decider (second_of start)) in
     record {
       spec = new.spec;
-      metric = ap (λ (z : StatsState). z.metric) new.state;
+      metric = ap (λ (z : TotalsState). z.metric) new.state;
       times = subst (λ t. AreTimesInOrder 0 (first s start) t) (sym time) (omega arith, omega arith);
       stats = new.stats;
-      pods = subst (λ (z : StatsState). AreKeptOf z.pods (first s start)) (sym new.state) (record { sorted = tt; live = λ p h. absurd (cc) });
       decider = subst (λ t. IsDeciderOf x.decider (past_of s (first s start)) (second_of t)) (sym time) decider;
       phase = ap Some (sym (ap (λ (st : Standing). st.phase) decider.standing));
     }
@@ -124,7 +122,7 @@ pub opening-stands : TraceFacts → (s : Spec) (start : ℕ) (x : ScalerState) �
 opening-stands facts s start x new =
     let ps = range_with_len 0 (opening_scale s) in
     let stands = first-stands facts s start x new in
-    let time : x.stats.time ≡ start = ap (λ (z : StatsState). z.time) new.state in
+    let time : x.stats.time ≡ start = ap (λ (z : TotalsState). z.time) new.state in
     subst (λ (c : Trace). IsScalerOfTrace s x c) (opening-is s start new.kind)
     (silent-stands facts s x (first s start) (map (created_at start s.cc) ps) x.decider (past_of s (first s start)) stands
     (record {

@@ -80,10 +80,10 @@ rows_leave t r false true = (refl, (refl, tt))
 rows_leave t r false false = (refl, (refl, (refl, tt)))
 
 rows_silent : (t : ℕ) (r : Ruling) (a b : Bool) → EachIs IsSilent (rows_of t r a b)
-rows_silent t r true true = (record { change = λ c. refl; gone = refl }, tt)
-rows_silent t r true false = (record { change = λ c. refl; gone = refl }, (record { change = λ c. refl; gone = refl }, tt))
-rows_silent t r false true = (record { change = λ c. refl; gone = refl }, (record { change = λ c. refl; gone = refl }, tt))
-rows_silent t r false false = (record { change = λ c. refl; gone = refl }, (record { change = λ c. refl; gone = refl }, (record { change = λ c. refl; gone = refl }, tt)))
+rows_silent t r true true = (λ c. refl, tt)
+rows_silent t r true false = (λ c. refl, (λ c. refl, tt))
+rows_silent t r false true = (λ c. refl, (λ c. refl, tt))
+rows_silent t r false false = (λ c. refl, (λ c. refl, (λ c. refl, tt)))
 
 -- the past with a decision, by whether phase and mode stay
 abbrev ruled_past : ℕ → Ruling → Past → Bool → Bool → Past
@@ -139,8 +139,8 @@ ready_at t p true = (refl, (refl, tt))
 ready_at t p false = (refl, tt)
 
 ready_silent : (t p : ℕ) (b : Bool) → EachIs IsSilent (ready_rows_of t p b)
-ready_silent t p true = (record { change = λ c. refl; gone = refl }, (record { change = λ c. refl; gone = refl }, tt))
-ready_silent t p false = (record { change = λ c. refl; gone = refl }, tt)
+ready_silent t p true = (λ c. refl, (λ c. refl, tt))
+ready_silent t p false = (λ c. refl, tt)
 
 after_leaves : (t : ℕ) (b : Bool) → Each leaves_pods (where_true b (entry t (row.Phase phase.Active) ∷ []))
 after_leaves t true = (refl, tt)
@@ -187,7 +187,7 @@ module _ (facts : TraceFacts) (s : Spec) (x : ScalerState) (c : Trace) (stands :
         same = record { decisions = refl; standing = refl };
         reached = was_reached s c ∙ sym (reached-more facts s c (entry t row.NoData ∷ []) (refl, tt));
         stands = is;
-      }) spec (record { change = λ b. refl; gone = refl }, tt)
+      }) spec (λ b. refl, tt)
   tick-stands (Some r) is = ruling-stands r is
 
   pub ready-stands : (p ready : ℕ) → count_ready (c ++ entry t (row.Ready p) ∷ []) ≡ ready → IsDeciderOf d (with_ready s t ready (past_of s c)) (second_of x.stats.time)

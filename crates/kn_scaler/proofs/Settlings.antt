@@ -1,8 +1,6 @@
 -- Rows one after the other.
-use Rattle.std.proofs.Common.{◌≡◌, ℕ, ◌+◌, ◌<◌, ◌≤◌, Bool, true, false, List, [], ◌∷◌, ◌++◌, length, refl, sym, ap, ◌∙◌, subst, append-nil, append_assoc, arith, take, drop, get_or, add-one, None, Some}
-use Rattle.std.specs.Prelude.{◌||◌, not, Option}
-use Rattle.std.specs.List.{filter}
-use Rattle.std.proofs.lemmas.List.Elements.{filter_map-append}
+use Rattle.std.proofs.Common.{◌≡◌, ℕ, ◌+◌, ◌<◌, Bool, true, false, List, [], ◌∷◌, ◌++◌, length, refl, sym, ap, ◌∙◌, subst, append-nil, append_assoc, take, drop, get_or, add-one, None, Some}
+use Rattle.std.specs.Prelude.{Option}
 use Rattle.std.proofs.lemmas.List.{take_more}
 use Rattle.std.proofs.Math.Logic.{∥∥₁_elim, ∥∥₁_map}
 use Rattle.std.proofs.Math.Seq.{drop-cons}
@@ -12,20 +10,16 @@ use Rattle.kn_event.specs.declared.entry.Row.{Row}
 use Rattle.kn_event.specs.declared.entry.Row.TheVariants as row
 use Rattle.kn_event.specs.declared.event.Stand.TheVariants as stand
 use Rattle.kn_event.specs.declared.revision.Spec.{Spec}
-use Rattle.kn_event.specs.Lists.{contains}
-use Rattle.kn_trace.specs.Rows.{created_by, ended_by, gone_by}
-use Rattle.kn_trace.specs.Trace.{Trace, each_row, entry, is_live_pod, live_pods}
+use Rattle.kn_trace.specs.Rows.{ended_by}
+use Rattle.kn_trace.specs.Trace.{Trace, entry}
 use Rattle.kn_record.specs.Made.{Holds, IsMade, IsProper}
-use Rattle.kn_record.specs.Facts.{Facts}
-use Rattle.kn_record.specs.Rows.{says}
 use Rattle.kn_laws.specs.Kinds.{Each, EachAt}
 use Rattle.kn_changes.specs.Changes.{change_by, changes_of}
-use Rattle.kn_places.specs.Pods.{HasRoomFor}
+use Rattle.kn_stats.specs.Totals.{IsTotalsOf}
 use Rattle.kn_scaler.specs.Facts.{TraceFacts}
 use Rattle.kn_scaler.specs.Rows.{IsBeside, is_quiet, says_scale, settles}
 use Rattle.kn_scaler.specs.Stands.{AreNextOfSome, AreNextRows, IsNextOfSome, IsNextRow, ScalerState, IsScalerOfTrace}
 use Rattle.kn_scaler.proofs.Others.{row-stands}
-use Rattle.kn_scaler.proofs.Steps.{stats-same}
 
 -- events made the trace with one more proper row
 abbrev pub MadeMore : Type 0
@@ -33,26 +27,28 @@ MadeMore = (s : Spec) (c : Trace) (t : ℕ) (x : Row) → IsMade s c → IsPrope
 
 -- ---- rows that leave it
 
-quiet_parts : (x : Row) (c : Trace) → is_quiet x ≡ true → (change_by c x ≡ None) × (gone_by x ≡ None) × (says_scale x ≡ false)
-quiet_parts (row.QueueFull r p) c h = (refl, refl, refl)
-quiet_parts (row.Overload r) c h = (refl, refl, refl)
-quiet_parts (row.Run r) c h = (refl, refl, refl)
-quiet_parts (row.Create p n) c h = (refl, refl, refl)
-quiet_parts (row.Limit p n) c h = (refl, refl, refl)
-quiet_parts (row.Drain p) c h = (refl, refl, refl)
-quiet_parts row.NoData c h = (refl, refl, refl)
-quiet_parts (row.NotRunning r) c h = (refl, refl, refl)
-quiet_parts (row.NotWaiting r) c h = (refl, refl, refl)
-quiet_parts (row.NotStarting p) c h = (refl, refl, refl)
-quiet_parts (row.NoPod p) c h = (refl, refl, refl)
+quiet_parts : (x : Row) (c : Trace) → is_quiet x ≡ true → (change_by c x ≡ None) × (says_scale x ≡ false)
+quiet_parts (row.QueueFull r p) c h = (refl, refl)
+quiet_parts (row.Overload r) c h = (refl, refl)
+quiet_parts (row.Run r) c h = (refl, refl)
+quiet_parts (row.Create p n) c h = (refl, refl)
+quiet_parts (row.Limit p n) c h = (refl, refl)
+quiet_parts (row.Drain p) c h = (refl, refl)
+quiet_parts (row.Remove p) c h = (refl, refl)
+quiet_parts (row.LostPod p) c h = (refl, refl)
+quiet_parts row.NoData c h = (refl, refl)
+quiet_parts (row.NotRunning r) c h = (refl, refl)
+quiet_parts (row.NotWaiting r) c h = (refl, refl)
+quiet_parts (row.NotStarting p) c h = (refl, refl)
+quiet_parts (row.NoPod p) c h = (refl, refl)
 quiet_parts _ c h = absurd (cc)
 
 module _ (facts : TraceFacts) (beside : (s : Spec) (c : Trace) (t : ℕ) (x : Row) → IsMade s c → IsProper s c x → says_scale x ≡ false → IsBeside c (entry t x)) where
   quiet_one : (s : Spec) (x : ScalerState) (c : Trace) (r : Row) → IsMade s c → IsProper s c r → is_quiet r ≡ true → IsScalerOfTrace s x c → IsScalerOfTrace s x (c ++ entry x.stats.time r ∷ [])
   quiet_one s x c r made proper quiet stands =
       let parts = quiet_parts r c quiet in
-      row-stands facts s x c r x.stats stands (beside s c x.stats.time r made proper parts.2) refl refl (facts.pods c x.stats.time r x.stats.pods parts.1 stands.pods) None parts.0 parts.1
-      (stats-same x.stats _ _ _ _ (sym (append-nil (changes_of c))) refl stands.stats)
+      row-stands facts s x c r x.stats stands (beside s c x.stats.time r made proper parts.1) refl refl None parts.0
+      (subst (IsTotalsOf x.stats) (sym (append-nil (changes_of c))) stands.stats)
 
   pub quiet_all : MadeMore → (s : Spec) (x : ScalerState) (c es : Trace) → IsMade s c → Holds (IsProper s) c es → EachAt x.stats.time es → Each is_quiet es → IsScalerOfTrace s x c → IsScalerOfTrace s x (c ++ es)
   quiet_all more s x c [] made proper at quiet stands = subst (IsScalerOfTrace s x) (sym (append-nil c)) stands
@@ -63,10 +59,10 @@ module _ (facts : TraceFacts) (beside : (s : Spec) (c : Trace) (t : ℕ) (x : Ro
 
 -- ---- rows of a settling
 
-settling_parts : (x : Row) → settles x ≡ true → (says_scale x ≡ false) × (ended_by x ≡ None) × (created_by x ≡ None)
-settling_parts (row.Run r) h = (refl, refl, refl)
-settling_parts (row.Assign r p) h = (refl, refl, refl)
-settling_parts (row.Remove p) h = (refl, refl, refl)
+settling_parts : (x : Row) → settles x ≡ true → (says_scale x ≡ false) × (ended_by x ≡ None)
+settling_parts (row.Run r) h = (refl, refl)
+settling_parts (row.Assign r p) h = (refl, refl)
+settling_parts (row.Remove p) h = (refl, refl)
 settling_parts _ h = absurd (cc)
 
 none_some : (o : Option ℕ) (r : ℕ) → o ≡ None → o ≡ Some r → ⊥
@@ -96,7 +92,7 @@ bool_prop a b = hlevel props
 pub first_settles : (x : ScalerState) (e : Entry) (es : List Entry) → AreNextOfSome x (e ∷ es) → settles e.row ≡ true
 first_settles x e es some =
     ∥∥₁_elim some (bool_prop (settles e.row) true)
-    (λ (f : (s : Spec) × (c : Trace) × AreNextRows x (e ∷ es) s c × (length (live_pods c) ≤ 20500)). f.2.kind.0)
+    (λ (f : (s : Spec) × (c : Trace) × AreNextRows x (e ∷ es) s c). f.2.kind.0)
 
 -- what the call says of the row
 abbrev pub Takes : ScalerState → ScalerState → Row → Type 0
@@ -113,42 +109,13 @@ rest_next more s x y c e es takes time next =
       kind = next.kind.1;
     }
 
-module _ (facts : Facts) where
-  open facts use {lists.{length-filter-more}, entries.{is_live_pod-push}}
-
-  lived : (a b : Bool) → not (a || b) ≡ true → not a ≡ true
-  lived true b h = absurd (cc)
-  lived false b h = refl
-
-  no_more_live : (c : Trace) (e : Entry) → created_by e.row ≡ None → length (live_pods (c ++ e ∷ [])) ≤ length (live_pods c)
-  unfolding live_pods is_live_pod
-  no_more_live c e none =
-      let same : each_row created_by (c ++ e ∷ []) ≡ each_row created_by c =
-      filter_map-append (λ (x : Entry). created_by x.row) c (e ∷ []) ∙ ap (λ (ps : List ℕ). each_row created_by c ++ ps) (one (created_by e.row) none) ∙ append-nil (each_row created_by c) in
-      subst (λ ps. length (filter (is_live_pod (c ++ e ∷ [])) ps) ≤ length (filter (is_live_pod c) (each_row created_by c))) (sym same)
-      (length-filter-more (is_live_pod (c ++ e ∷ [])) (is_live_pod c) (λ q h. lived (contains q (each_row gone_by c)) (says (gone_by e.row) q) (sym (is_live_pod-push c e q) ∙ h)) (each_row created_by c))
-    where
-      one : (o : Option ℕ) → o ≡ None → each_row (λ (x : Row). o) (e ∷ []) ≡ []
-      one None h = refl
-      one (Some p) h = absurd (cc)
-
-  pub rest_of_some : MadeMore → (x y : ScalerState) (e : Entry) (es : List Entry) → Takes x y e.row → y.stats.time ≡ x.stats.time → AreNextOfSome x (e ∷ es) → AreNextOfSome y es
-  rest_of_some more x y e es takes time some =
-      ∥∥₁_map some
-      (λ (f : (s : Spec) × (c : Trace) × AreNextRows x (e ∷ es) s c × (length (live_pods c) ≤ 20500)).
-      let fewer = no_more_live f.1 e (settling_parts e.row f.2.kind.0).2 in
-      let few = f.3 in
-      (f.0, f.1 ++ e ∷ [], rest_next more f.0 x y f.1 e es takes time f.2, omega (arith, fewer, few)))
-
-has_room : (c : Trace) (x : Row) → length (live_pods c) ≤ 20500 → HasRoomFor c x
-has_room c (row.Assign r p) few = few
-has_room c (row.Direct r p) few = few
-has_room c _ few = tt
+pub rest_of_some : MadeMore → (x y : ScalerState) (e : Entry) (es : List Entry) → Takes x y e.row → y.stats.time ≡ x.stats.time → AreNextOfSome x (e ∷ es) → AreNextOfSome y es
+rest_of_some more x y e es takes time some =
+    ∥∥₁_map some
+    (λ (f : (s : Spec) × (c : Trace) × AreNextRows x (e ∷ es) s c). (f.0, f.1 ++ e ∷ [], rest_next more f.0 x y f.1 e es takes time f.2))
 
 pub first_of_some : (x : ScalerState) (e : Entry) (es : List Entry) → AreNextOfSome x (e ∷ es) → IsNextOfSome x e.row stand.Held false
-first_of_some x e es some =
-    ∥∥₁_map some
-    (λ (f : (s : Spec) × (c : Trace) × AreNextRows x (e ∷ es) s c × (length (live_pods c) ≤ 20500)). (f.0, f.1, first_next f.0 x f.1 e es f.2, has_room f.1 e.row f.3))
+first_of_some x e es some = ∥∥₁_map some (λ (f : (s : Spec) × (c : Trace) × AreNextRows x (e ∷ es) s c). (f.0, f.1, first_next f.0 x f.1 e es f.2))
 
 -- the row at place i, and those after it
 pub rows_from : (es : List Entry) (i : ℕ) (e : Entry) → i < length es → e ≡ get_or es i e → drop i es ≡ e ∷ drop (i + 1) es

@@ -1,9 +1,7 @@
 -- What a Scaler stands for after further entries, and after time has passed.
-use Rattle.std.proofs.Common.{◌≡◌, ℕ, List, [], ◌∷◌, ◌++◌, refl, sym, ap, ◌∙◌, subst, append-nil, append_assoc, Option, None, Some}
+use Rattle.std.proofs.Common.{◌≡◌, ℕ, [], ◌∷◌, ◌++◌, refl, sym, ap, ◌∙◌, subst, append-nil, append_assoc, Option, None, Some}
 use Rattle.std.specs.Prelude.{option_map, unwrap_or}
 use Rattle.std.specs.Option.{option_to_list}
-use Rattle.std.specs.List.{cons_option}
-use Rattle.std.proofs.lemmas.List.Elements.{filter_map-append}
 use Rattle.kn_event.specs.declared.entry.Entry.{Entry}
 use Rattle.kn_event.specs.declared.entry.Phase.{Phase}
 use Rattle.kn_event.specs.declared.entry.Phase.TheVariants as phase
@@ -13,45 +11,23 @@ use Rattle.kn_scaling.specs.declared.zero.Standing.{Standing}
 use Rattle.kn_scaling.specs.Average.{second_of}
 use Rattle.kn_scaling.specs.Decide.{Past}
 use Rattle.kn_trace.specs.Load.{samples}
-use Rattle.kn_trace.specs.Rows.{gone_by}
 use Rattle.kn_trace.specs.Scale.{initial_reached, past_of, phase_of, standing_of}
 use Rattle.kn_trace.specs.Trace.{Trace}
 use Rattle.kn_record.specs.Order.{AreTimesInOrder}
 use Rattle.kn_laws.specs.Kinds.{EachAt, EachIs}
-use Rattle.kn_stats.specs.Changes.{TimedChange, timed}
-use Rattle.kn_stats.specs.Stands.{StatsState, IsStatsOf}
+use Rattle.kn_stats.specs.Changes.{timed}
+use Rattle.kn_stats.specs.Totals.{IsTotalsOf, TotalsState}
 use Rattle.kn_stats.specs.declared.change.Change.{Change}
 use Rattle.kn_decider.specs.Decider.{DeciderState, IsDeciderOf}
 use Rattle.kn_changes.specs.Changes.{change_by, changes_of}
-use Rattle.kn_stats.specs.declared.tally.PodTally.{PodTally}
-use Rattle.kn_places.specs.Pods.{AreKeptOf}
 use Rattle.kn_scaler.specs.Facts.{TraceFacts}
-use Rattle.kn_scaler.specs.Stands.{ScalerState, IsScalerOfTrace, gone_pods}
+use Rattle.kn_scaler.specs.Stands.{ScalerState, IsScalerOfTrace}
 use Rattle.kn_scaler.proofs.Times.{times-more}
 use Rattle.kn_scaler.proofs.Pasts.{IsSame, decider-more, not_empty, phase-more, with_entries}
 
--- a row that changes nothing of live requests, and with which no pod goes
-pub record IsSilent (x : Row) : Type 0 where
-  pub change : (c : Trace) → change_by c x ≡ None
-  pub gone : gone_by x ≡ None
-
-pub gone-more : (c : Trace) (e : Entry) → gone_pods (c ++ e ∷ []) ≡ gone_pods c ++ option_to_list (gone_by e.row)
-gone-more c e = filter_map-append (λ (x : Entry). gone_by x.row) c (e ∷ []) ∙ ap (λ (ps : List ℕ). gone_pods c ++ ps) (one (gone_by e.row))
-  where
-    one : (o : Option ℕ) → cons_option o [] ≡ option_to_list o
-    one None = refl
-    one (Some p) = refl
-
-pub gone-same : (c : Trace) (e : Entry) → gone_by e.row ≡ None → gone_pods (c ++ e ∷ []) ≡ gone_pods c
-gone-same c e h = gone-more c e ∙ ap (λ (o : Option ℕ). gone_pods c ++ option_to_list o) h ∙ append-nil (gone_pods c)
-
-silent-gone : (c es : Trace) → EachIs IsSilent es → gone_pods (c ++ es) ≡ gone_pods c
-silent-gone c [] each = ap gone_pods (append-nil c)
-silent-gone c (e ∷ es) each = ap gone_pods (sym (append_assoc c (e ∷ []) es)) ∙ silent-gone (c ++ e ∷ []) es each.1 ∙ gone-same c e each.0.gone
-
--- what is measured of other lists that are the same
-pub stats-same : (x : StatsState) (cs ds : List TimedChange) (gone more : List ℕ) → cs ≡ ds → gone ≡ more → IsStatsOf x cs gone → IsStatsOf x ds more
-stats-same x cs ds gone more same pods stands = subst (λ ps. IsStatsOf x ds ps) pods (subst (λ ys. IsStatsOf x ys gone) same stands)
+-- a row that changes nothing of live requests
+abbrev pub IsSilent : Row → Type 0
+IsSilent x = (c : Trace) → change_by c x ≡ None
 
 module _ (facts : TraceFacts) where
   open facts use {seconds.{more}}
@@ -63,11 +39,7 @@ module _ (facts : TraceFacts) where
   silent-changes c [] each = ap changes_of (append-nil c)
   silent-changes c (e ∷ es) each =
       ap changes_of (sym (append_assoc c (e ∷ []) es)) ∙ silent-changes (c ++ e ∷ []) es each.1
-      ∙ change-more c e None (each.0.change c) ∙ append-nil (changes_of c)
-
-  silent-pods : (pods : List PodTally) (c es : Trace) → EachIs IsSilent es → AreKeptOf pods c → AreKeptOf pods (c ++ es)
-  silent-pods pods c [] each kept = subst (AreKeptOf pods) (sym (append-nil c)) kept
-  silent-pods pods c (e ∷ es) each kept = subst (AreKeptOf pods) (append_assoc c (e ∷ []) es) (silent-pods pods (c ++ e ∷ []) es each.1 (facts.pods c e.time e.row pods each.0.gone kept))
+      ∙ change-more c e None (each.0 c) ∙ append-nil (changes_of c)
 
   -- what is decided of further entries at the time, by a past that is theirs
   pub record Decides (s : Spec) (c es : Trace) (time : ℕ) (d : DeciderState) (p : Past) : Type 0 where
@@ -82,9 +54,9 @@ module _ (facts : TraceFacts) where
   phase-stands s c d until p h stands =
       h ∙ ap Some (ap (λ (o : Option Phase). unwrap_or o phase.Inactive) (sym h) ∙ sym (ap (λ (st : Standing). st.phase) stands.standing))
 
-  pub decided-stands : (s : Spec) (x : ScalerState) (c es : Trace) (d : DeciderState) (p : Past) (y : StatsState) → IsScalerOfTrace s x c → Decides s c es x.stats.time d p → d.spec ≡ x.decider.spec
-      → y.time ≡ x.stats.time → y.metric ≡ x.stats.metric → IsStatsOf y (changes_of (c ++ es)) (gone_pods (c ++ es)) → AreKeptOf y.pods (c ++ es) → IsScalerOfTrace s (record { stats = y; decider = d }) (c ++ es)
-  decided-stands s x c es d p y stands is spec time metric stats pods =
+  pub decided-stands : (s : Spec) (x : ScalerState) (c es : Trace) (d : DeciderState) (p : Past) (y : TotalsState) → IsScalerOfTrace s x c → Decides s c es x.stats.time d p → d.spec ≡ x.decider.spec
+      → y.time ≡ x.stats.time → y.metric ≡ x.stats.metric → IsTotalsOf y (changes_of (c ++ es)) → IsScalerOfTrace s (record { stats = y; decider = d }) (c ++ es)
+  decided-stands s x c es d p y stands is spec time metric stats =
       let decider : IsDeciderOf d (past_of s (c ++ es)) (second_of x.stats.time) = decider-more facts s c es x.stats.time d p (not_empty c _ stands.phase) is.at is.samples is.same is.reached is.stands in
       let phase = phase-more facts c es _ stands.phase in
       record {
@@ -92,15 +64,13 @@ module _ (facts : TraceFacts) where
         metric = metric ∙ stands.metric;
         times = subst (λ t. AreTimesInOrder 0 (c ++ es) t) (sym time) (times-more 0 x.stats.time c es stands.times is.at);
         stats = stats;
-        pods = pods;
         decider = subst (λ t. IsDeciderOf d (past_of s (c ++ es)) (second_of t)) (sym time) decider;
         phase = phase-stands s (c ++ es) d (second_of x.stats.time) phase.0 phase.1 decider;
       }
 
-  -- entries that Stats need not know of
+  -- entries that the totals need not know of
   pub silent-stands : (s : Spec) (x : ScalerState) (c es : Trace) (d : DeciderState) (p : Past) → IsScalerOfTrace s x c → Decides s c es x.stats.time d p → d.spec ≡ x.decider.spec
       → EachIs IsSilent es → IsScalerOfTrace s (record { stats = x.stats; decider = d }) (c ++ es)
   silent-stands s x c es d p stands is spec silent =
       decided-stands s x c es d p x.stats stands is spec refl refl
-      (stats-same x.stats _ _ _ _ (sym (silent-changes c es silent)) (sym (silent-gone c es silent)) stands.stats)
-      (silent-pods x.stats.pods c es silent stands.pods)
+      (subst (IsTotalsOf x.stats) (sym (silent-changes c es silent)) stands.stats)

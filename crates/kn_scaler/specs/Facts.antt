@@ -1,17 +1,15 @@
 -- What the proofs of this crate build on, of traces and of what is kept of them: each field is one fact.
-use Rattle.std.specs.Prelude.{◌≡◌, ℕ, true, false, ◌<◌, ◌≤◌, ◌++◌, ◌||◌, nat_le, List, [], ◌∷◌, None, unwrap_or}
+use Rattle.std.specs.Prelude.{◌≡◌, ℕ, true, false, ◌<◌, ◌≤◌, ◌++◌, ◌||◌, nat_le, [], ◌∷◌, unwrap_or}
 use Rattle.std.specs.List.{filter_map}
 use Rattle.std.specs.Option.{option_or, option_to_list}
 use Rattle.kn_event.specs.declared.entry.Entry.{Entry}
-use Rattle.kn_event.specs.declared.entry.Row.{Row}
 use Rattle.kn_event.specs.declared.revision.Metric.{Metric}
 use Rattle.kn_event.specs.declared.revision.Spec.{Spec}
 use Rattle.kn_scaling.specs.Average.{Samples}
-use Rattle.kn_stats.specs.declared.tally.PodTally.{PodTally}
 use Rattle.kn_trace.specs.Load.{count_in, entries_before, has_ready_pod, load_in, samples}
-use Rattle.kn_trace.specs.Rows.{gone_by, mode_by, phase_by}
+use Rattle.kn_trace.specs.Rows.{mode_by, phase_by}
 use Rattle.kn_trace.specs.Scale.{count_ready, decided_by, initial_reached, mode_of, mode_since, phase_of, phase_since, wanted}
-use Rattle.kn_trace.specs.Trace.{Trace, entry, is_empty}
+use Rattle.kn_trace.specs.Trace.{Trace, is_empty}
 use Rattle.kn_record.specs.Made.{IsMade}
 use Rattle.kn_record.specs.Order.{AreTimesInOrder}
 use Rattle.kn_past.specs.Changes.{leaves_pods, time_by, want_by}
@@ -19,7 +17,6 @@ use Rattle.kn_past.specs.Seconds.{AreFrom, end_of_second, sample_by}
 use Rattle.kn_stats.specs.Changes.{arrived_count, load_by}
 use Rattle.kn_window.specs.Stands.{WindowState, IsWindowOf}
 use Rattle.kn_changes.specs.Changes.{change_of, changes_of}
-use Rattle.kn_places.specs.Pods.{AreKeptOf}
 
 -- what one more entry says
 pub record EntryFacts : Type 0 where
@@ -44,11 +41,6 @@ pub record SecondFacts : Type 0 where
   pub count : (c : Trace) (second : ℕ) → arrived_count (changes_of c) second ≡ count_in c second
   pub more : (c : Trace) (e : Entry) → changes_of (c ++ e ∷ []) ≡ changes_of c ++ option_to_list (change_of c e)
 
--- live pods live on while none goes
-abbrev pub PodsStay : Type 0
-PodsStay = (c : Trace) (t : ℕ) (x : Row) (pods : List PodTally) → gone_by x ≡ None → AreKeptOf pods c → AreKeptOf pods (c ++ entry t x ∷ [])
-
 pub record TraceFacts : Type 0 where
   pub entries : EntryFacts
   pub seconds : SecondFacts
-  pub pods : PodsStay

@@ -30,7 +30,7 @@ says_scale (row.Mode m) = true
 says_scale (row.Decided d) = true
 says_scale _ = false
 
--- a row that leaves live requests as they are, with which no pod goes, and that says nothing of the scale
+-- a row that leaves live requests as they are, and that says nothing of the scale
 abbrev pub is_quiet : Row → Bool
 is_quiet (row.QueueFull r pod) = true
 is_quiet (row.Overload r) = true
@@ -38,6 +38,8 @@ is_quiet (row.Run r) = true
 is_quiet (row.Create p n) = true
 is_quiet (row.Limit p n) = true
 is_quiet (row.Drain p) = true
+is_quiet (row.Remove p) = true
+is_quiet (row.LostPod p) = true
 is_quiet row.NoData = true
 is_quiet (row.NotRunning r) = true
 is_quiet (row.NotWaiting r) = true

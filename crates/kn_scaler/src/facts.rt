@@ -5,10 +5,9 @@ use kn_changes::laws::{change_laws, step_laws};
 use kn_past::changes::entry_laws;
 use kn_past::loads::{bound_laws, quiet_laws};
 use kn_past::samples::later_laws;
-use kn_places::laws::measure_laws;
 use kn_window::sample_laws;
 
-/// What one more entry says, what is known of the seconds of a trace, and which pods live.
+/// What one more entry says, and what is known of the seconds of a trace.
 pub(crate) fn trace_facts()
     ensures { TraceFacts }
 {
@@ -19,5 +18,4 @@ pub(crate) fn trace_facts()
     bound_laws();
     change_laws();
     step_laws();
-    measure_laws();
 }

@@ -1,35 +1,31 @@
-ghost use Rattle.std.specs.Prelude.{◌≡◌, ℕ, ◌^◌, ◌+◌, ◌≤◌, ◌++◌, Option, None, Some, [], ◌∷◌, true, false, not, option_map, IfOk, IfSome};
+ghost use Rattle.std.specs.Prelude.{◌≡◌, ℕ, ◌^◌, ◌+◌, ◌≤◌, ◌++◌, Some, [], ◌∷◌, true, false, not, option_map, IfOk};
 ghost use Rattle.std.specs.Bool.{then_some};
 ghost use Rattle.kn_event.specs.declared.entry.Phase.TheVariants as phase;
-ghost use Rattle.kn_event.specs.declared.entry.Row.{Row as RowValue};
 ghost use Rattle.kn_event.specs.declared.entry.Row.TheVariants as row;
 ghost use Rattle.kn_event.specs.declared.event.Stand.TheVariants as stand;
 ghost use Rattle.kn_event.specs.declared.revision.Kind.TheVariants as kind;
 ghost use Rattle.kn_event.specs.declared.revision.Spec.{Spec as SpecValue};
 ghost use Rattle.kn_scaling.specs.Decide.{Past};
 ghost use Rattle.kn_scaling.specs.Burst.{is_same_mode};
-ghost use Rattle.kn_stats.specs.Stands.{CanChange, IsIdle, advanced, without};
+ghost use Rattle.kn_stats.specs.Totals.{passed};
 ghost use Rattle.kn_decider.specs.Decider.{IsDeciderOf};
 ghost use Rattle.kn_trace.specs.Events.{opening};
 ghost use Rattle.kn_trace.specs.Load.{has_ready_pod};
-ghost use Rattle.kn_trace.specs.Rows.{gone_by};
 ghost use Rattle.kn_trace.specs.Scale.{count_ready, decision_at, is_in_phase, mode_of, phase_of, wake_decision_at, wanted};
 ghost use Rattle.kn_trace.specs.Trace.{Trace, entry};
 ghost use Rattle.kn_record.specs.Made.{IsMade};
-ghost use Rattle.kn_changes.specs.Changes.{change_by};
-ghost use Rattle.kn_places.specs.Pods.{AreKeptOf};
-ghost use Rattle.kn_scaler.specs.Rows.{IsBeside, ready_rows, ruled_by, ruled_from, ruling_rows, says_scale, settles, tick_rulings};
-ghost use Rattle.kn_scaler.specs.Stands.{AreNextOfSome, AreNextRows, IsNextOfSome, IsNextRow, IsScalerOfTrace, StandsForSome, after_row, after_rows, changed_if};
+ghost use Rattle.kn_scaler.specs.Rows.{ready_rows, ruled_by, ruled_from, ruling_rows, says_scale, settles, tick_rulings};
+ghost use Rattle.kn_scaler.specs.Stands.{AreNextOfSome, AreNextRows, IsNextOfSome, IsNextRow, IsScalerOfTrace, StandsForSome, after_row, after_rows};
 
 use crate::facts::trace_facts;
 use crate::laws::row_laws;
 use kn_decider::Decider;
 use kn_event::{Decision, Entry, Memory, Mode, Phase, Row, Spec, Stand};
+use kn_places::change_of;
 use kn_places::laws::{measure_laws, place_laws};
-use kn_places::{change_of, gone_of};
 use kn_record::append::order_laws;
 use kn_record::facts::fact_laws;
-use kn_stats::{Change, Stats};
+use kn_stats::Totals;
 use std::alloc::Global;
 use std::marker::Model;
 
@@ -73,7 +69,7 @@ fn ruling_of(decision: Decision, phase: Phase, mode: Mode, decider: &Decider) ->
 /// Contracts say for which traces it stands, up to the time of the last advance. Times are in milliseconds, at most 2^42,
 /// and never fall; at most 500 pods are Ready.
 pub struct Scaler {
-    stats: Stats,
+    stats: Totals,
     decider: Decider,
 }
 
@@ -104,7 +100,7 @@ impl Scaler {
         ensures time { IfOk result (λ x. x.stats.time ≡ start) }
     {
         trace_facts();
-        let stats = Stats::new(alloc, start, spec.metric)?;
+        let stats = Totals::new(start, spec.metric);
         let decider = Decider::new(alloc, spec, start)?;
         Ok(Scaler { stats, decider })
     }
@@ -116,7 +112,7 @@ impl Scaler {
         requires range { time ≤ 2 ^ 42 }
         requires made { StandsForSome self.old }
         ensures stands { (s : SpecValue) (c : Trace) → IsMade s c → has_ready_pod c ≡ ready → IsScalerOfTrace s self.old c → IsScalerOfTrace s self.new c }
-        ensures stats { self.new.stats ≡ advanced time self.old.stats }
+        ensures stats { self.new.stats ≡ passed time self.old.stats }
         ensures spec { self.new.decider.spec ≡ self.old.decider.spec }
     {
         trace_facts();
@@ -137,17 +133,13 @@ impl Scaler {
         ensures time { self.new.stats.time ≡ self.old.stats.time }
         ensures decider { self.new.decider ≡ self.old.decider }
     {
+        trace_facts();
         row_laws();
         place_laws();
         measure_laws();
-        let change = change_of(added, at, through);
-        match change {
-            Some(_) => self.requests_change(change),
-            // (a pod goes with no row that changes requests)
-            None => match gone_of(added) {
-                Some(p) => self.pod_leaves(p),
-                None => self.requests_change(None),
-            },
+        match change_of(added, at, through) {
+            Some(change) => self.stats.change(change),
+            None => {}
         }
     }
 
@@ -182,38 +174,6 @@ impl Scaler {
             Row::Remove(p) => self.row(Row::Remove(p), Stand::Held, false),
             _ => unreachable!(),
         }
-    }
-
-    /// A row that may change live requests, and with which no pod goes.
-    // (not inlined: a whole step would else grow too large to be inlined itself)
-    #[inline(never)]
-    fn requests_change(&mut self, change: Option<Change>)
-        requires { IfSome change (CanChange self.old.stats) }
-        ensures stands { (s : SpecValue) (c : Trace) (x : RowValue) → change_by c x ≡ change → gone_by x ≡ None → IsBeside c (entry self.old.stats.time x)
-            → AreKeptOf self.new.stats.pods (c ++ entry self.old.stats.time x ∷ []) → IsScalerOfTrace s self.old c
-            → IsScalerOfTrace s self.new (c ++ entry self.old.stats.time x ∷ []) }
-        ensures stats { self.new.stats ≡ changed_if change self.old.stats }
-        ensures decider { self.new.decider ≡ self.old.decider }
-    {
-        trace_facts();
-        match change {
-            None => {}
-            Some(change) => self.stats.change(change),
-        }
-    }
-
-    /// The row with which a pod goes, removed or lost.
-    #[inline(never)]
-    fn pod_leaves(&mut self, p: u64)
-        requires { IsIdle p self.old.stats }
-        ensures stands { (s : SpecValue) (c : Trace) (x : RowValue) → gone_by x ≡ Some p → IsBeside c (entry self.old.stats.time x)
-            → AreKeptOf self.new.stats.pods (c ++ entry self.old.stats.time x ∷ []) → IsScalerOfTrace s self.old c
-            → IsScalerOfTrace s self.new (c ++ entry self.old.stats.time x ∷ []) }
-        ensures stats { self.new.stats ≡ without p self.old.stats }
-        ensures decider { self.new.decider ≡ self.old.decider }
-    {
-        trace_facts();
-        self.stats.pod_leaves(p);
     }
 
     /// The decision of a tick at this time, with so many Ready pods, and what it changed; none where no sample lies in the

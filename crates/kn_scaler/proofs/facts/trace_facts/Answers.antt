@@ -23,5 +23,4 @@ returns c = record {
     count = c.change_laws.ensures.count;
     more = c.step_laws.ensures.more;
   };
-  pods = c.measure_laws.ensures.stays;
 }

@@ -1,6 +1,6 @@
 use Rattle.std.proofs.Common.{◌≤◌, sym, subst}
 use Rattle.kn_changes.specs.Changes.{changes_of}
-use Rattle.kn_scaler.specs.Stands.{ScalerState, StandsForSome, gone_pods}
+use Rattle.kn_scaler.specs.Stands.{ScalerState, StandsForSome}
 use Rattle.kn_scaler.proofs.Advances.{AreOver, advanced-stands, may-close, up-to-now}
 use Rattle.kn_scaler.proofs.scaler.Scaler.advance.Goals as goal
 
@@ -42,4 +42,4 @@ returns-clause-stands c =
     rw (← c.self.view_is)
     (λ s b made ready stands.
     advanced-stands c.trace_facts.ensures s old (record { stats = c.advance-closed.new.self; decider = c.closed.new.self }) b c.args.time c.args.ready c.advance-closed.result over c.advance-closed.ensures.state
-    (record { stands = c.closed.ensures.stands; kept = c.closed.ensures.kept }) (c.advance-closed.ensures.stands (changes_of b) (gone_pods b) stands.stats) made ready stands)
+    (record { stands = c.closed.ensures.stands; kept = c.closed.ensures.kept }) (c.advance-closed.ensures.stands (changes_of b) stands.stats) made ready stands)

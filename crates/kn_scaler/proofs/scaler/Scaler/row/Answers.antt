@@ -1,44 +1,31 @@
-use Rattle.std.proofs.Common.{◌++◌, [], ◌∷◌, sym, ◌∙◌, subst, None}
-use Rattle.kn_trace.specs.Trace.{entry}
-use Rattle.kn_stats.specs.Stands.{StatsState}
-use Rattle.kn_places.specs.Pods.{AreKeptOf}
-use Rattle.kn_scaler.proofs.Nexts.{kept_after, may_change, may_leave, next_change, none_goes}
+use Rattle.std.proofs.Common.{refl, sym, ap, ◌∙◌, subst, append-nil, None, Some}
+use Rattle.std.specs.Prelude.{IfSome}
+use Rattle.kn_stats.specs.Totals.{CanCount, IsTotalsOf, TotalsState}
+use Rattle.kn_changes.specs.Changes.{changes_of}
+use Rattle.kn_scaler.specs.Stands.{ScalerState}
+use Rattle.kn_scaler.proofs.Nexts.{may_change, next_change}
+use Rattle.kn_scaler.proofs.Others.{row-stands}
 use Rattle.kn_scaler.proofs.scaler.Scaler.row.Goals as goal
 
--- ---- a row that changes requests
-
-pub requests_change-requires : goal.requests_change-requires
-requests_change-requires c = may_change c.place_laws.ensures.change c.measure_laws.ensures.change c.args.self.now c.args.added c.args.at c.args.through c.change_of-change.result c.change_of-change.ensures c.requires
+pub change-requires : goal.change-requires
+change-requires c =
+    let can = may_change c.place_laws.ensures.change c.measure_laws.ensures.change c.args.self.now c.args.added c.args.at c.args.through c.change_of.result c.change_of.ensures c.requires in
+    let now = subst (λ o. IfSome o (CanCount c.args.self.now.stats)) c.in-Some.is can in
+    subst (λ (x : ScalerState). CanCount x.stats c.in-Some.change) (sym c.self.view_is) now
 
 pub returns-in-Some-clause-stands : goal.returns-in-Some-clause-stands
-returns-in-Some-clause-stands c = λ s b quiet next.
+returns-in-Some-clause-stands c =
+    rw (← c.self.view_is)
+    (λ s b quiet next.
+    let old : ScalerState = record { stats = c.self.inside.stats; decider = c.self.inside.decider } in
+    let change = next_change c.place_laws.ensures.change s old b c.args.added c.args.at c.args.through c.change_of.result c.change_of.ensures next in
+    row-stands c.trace_facts.ensures s old b c.args.added c.change.new.self next.stands (c.row_laws.ensures.beside s b old.stats.time c.args.added next.made next.proper quiet)
+    (ap (λ (t : TotalsState). t.time) c.change.ensures.state) (ap (λ (t : TotalsState). t.metric) c.change.ensures.state) (Some c.in-Some.change) (change ∙ c.in-Some.is)
+    (c.change.ensures.stands (changes_of b) next.stands.stats))
+
+pub returns-in-None-clause-stands : goal.returns-in-None-clause-stands
+returns-in-None-clause-stands c = λ s b quiet next.
     let old = c.args.self.now in
-    let stays = none_goes c.args.added c.args.at c.args.through _ (sym c.change_of-change.ensures ∙ c.in-Some.is) in
-    let change = next_change c.place_laws.ensures.change s old b c.args.added c.args.at c.args.through c.change_of-change.result c.change_of-change.ensures next in
-    c.requests_change.ensures.stands s b c.args.added change stays (c.row_laws.ensures.beside s b old.stats.time c.args.added next.made next.proper quiet)
-    (subst (λ (z : StatsState). AreKeptOf z.pods (b ++ entry old.stats.time c.args.added ∷ [])) (sym c.requests_change.ensures.stats)
-    (kept_after c.measure_laws.ensures.stays c.measure_laws.ensures.changed s b old.stats.time c.args.added old.stats c.change_of-change.result next.made next.proper change stays next.stands.pods)) next.stands
-
--- ---- one with which a pod goes
-
-pub pod_leaves-requires : goal.pod_leaves-requires
-pod_leaves-requires c = may_leave c.measure_laws.ensures.idle c.args.self.now c.args.added c.args.at c.args.through c.in-Some-gone_of.p (sym c.gone_of.ensures ∙ c.in-Some-gone_of.is) c.requires
-
-pub returns-in-Some-gone_of-clause-stands : goal.returns-in-Some-gone_of-clause-stands
-returns-in-Some-gone_of-clause-stands c = λ s b quiet next.
-    let old = c.args.self.now in
-    let gone = sym c.gone_of.ensures ∙ c.in-Some-gone_of.is in
-    c.pod_leaves.ensures.stands s b c.args.added gone (c.row_laws.ensures.beside s b old.stats.time c.args.added next.made next.proper quiet)
-    (subst (λ (z : StatsState). AreKeptOf z.pods (b ++ entry old.stats.time c.args.added ∷ [])) (sym c.pod_leaves.ensures.stats)
-    (c.measure_laws.ensures.without b old.stats.time c.args.added c.in-Some-gone_of.p old.stats.pods gone next.stands.pods)) next.stands
-
--- ---- any other
-
-pub returns-in-None-gone_of-clause-stands : goal.returns-in-None-gone_of-clause-stands
-returns-in-None-gone_of-clause-stands c = λ s b quiet next.
-    let old = c.args.self.now in
-    let stays = sym c.gone_of.ensures ∙ c.in-None-gone_of.is in
-    let change = next_change c.place_laws.ensures.change s old b c.args.added c.args.at c.args.through None (sym c.in-None.is ∙ c.change_of-change.ensures) next in
-    c.requests_change-in-None-gone_of.ensures.stands s b c.args.added change stays (c.row_laws.ensures.beside s b old.stats.time c.args.added next.made next.proper quiet)
-    (subst (λ (z : StatsState). AreKeptOf z.pods (b ++ entry old.stats.time c.args.added ∷ [])) (sym c.requests_change-in-None-gone_of.ensures.stats)
-    (kept_after c.measure_laws.ensures.stays c.measure_laws.ensures.changed s b old.stats.time c.args.added old.stats None next.made next.proper change stays next.stands.pods)) next.stands
+    let change = next_change c.place_laws.ensures.change s old b c.args.added c.args.at c.args.through c.change_of.result c.change_of.ensures next in
+    row-stands c.trace_facts.ensures s old b c.args.added old.stats next.stands (c.row_laws.ensures.beside s b old.stats.time c.args.added next.made next.proper quiet)
+    refl refl None (change ∙ c.in-None.is) (subst (IsTotalsOf old.stats) (sym (append-nil (changes_of b))) next.stands.stats)
