@@ -5,6 +5,7 @@ use Rattle.std.specs.List.{All, AllPairs, filter, find, position_or_len}
 use Rattle.std.proofs.lemmas.Bool.Decides.{nat_tests}
 use Rattle.std.proofs.lemmas.List.Elements.{All-head, All-tail}
 use Rattle.std.proofs.lemmas.List.Folds.{find_at}
+use Rattle.std.proofs.lemmas.Option.{get_or_from_slice_get, slice_get_within}
 use Rattle.std.proofs.lemmas.List.Sums.{fails_before_first, passes_at_first}
 use Rattle.kn_trace.specs.Trace.{first_of}
 use Rattle.kn_record.specs.declared.admission.Place.{Place}
@@ -12,7 +13,7 @@ use Rattle.kn_record.specs.declared.admission.Request.{Request}
 use Rattle.kn_record.specs.Admission.{placed_in, waits}
 use Rattle.kn_record.specs.Views.{due_in, is_due}
 use Rattle.kn_table.specs.declared.slot.Slot.{Slot}
-use Rattle.kn_table.specs.Slots.{first_placed, is_placed, live_of, passed}
+use Rattle.kn_table.specs.Slots.{IsPlaceOf, first_placed, is_placed, live_of, passed}
 use Rattle.kn_table.proofs.Requests.{first_of-map}
 
 pub and-false : (b : Bool) → (b && false) ≡ false
@@ -134,6 +135,25 @@ first_number test xs =
     map_map (λ (s : Slot). s.request) (λ (q : Request). q.number) (slice_get xs (first_placed test xs))
     ∙ ap (option_map (λ (q : Request). q.number)) (sym (first_live test xs))
     ∙ sym (first_of-map (λ (q : Request). q.number) (filter (λ (q : Request). test q.place) (live_of xs)))
+
+first_lives : (e t : Bool) → (not e && t) ≡ true → e ≡ false
+first_lives true t h = absurd (cc)
+first_lives false t h = refl
+
+-- it stands where the first slot of that kind does
+pub first_stands : (test : Place → Bool) (xs : List Slot) (r : ℕ) → first_of (placed_in test (live_of xs)) ≡ Some r → IsPlaceOf r xs (first_placed test xs)
+first_stands test xs r first = by (slice_get xs (first_placed test xs)) refl
+  where
+    by : (o : Option Slot) → slice_get xs (first_placed test xs) ≡ o → IsPlaceOf r xs (first_placed test xs)
+    by None e = absurd (let none : None ≡ Some r = sym (ap (option_map (λ (s : Slot). s.request.number)) e) ∙ first_number test xs ∙ first in cc)
+    by (Some s) e =
+        let inside = slice_get_within xs (first_placed test xs) s e in
+        let same : Some s.request.number ≡ Some r = sym (ap (option_map (λ (s : Slot). s.request.number)) e) ∙ first_number test xs ∙ first in
+        record {
+          inside = inside;
+          number = λ d. ap (λ (y : Slot). y.request.number) (get_or_from_slice_get xs (first_placed test xs) s d e) ∙ (cc);
+          live = λ d. first_lives _ _ (passes_at_first (is_placed test) xs d inside);
+        }
 
 -- ---- the first that is due
 

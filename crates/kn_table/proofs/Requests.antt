@@ -2,6 +2,7 @@
 use Rattle.std.proofs.Common.{◌≡◌, refl, sym, ap, subst, ◌∙◌, ℕ, suc, ◌+◌, ◌<◌, Bool, true, false, not, cond, ◌||◌, List, [], ◌∷◌, length, arith, Option, Some, None}
 use Rattle.std.specs.Prelude.{◌==◌, map, is_some, option_map}
 use Rattle.std.specs.List.{All, AllPairs, filter, find}
+use Rattle.std.proofs.Math.Bool.{beq}
 use Rattle.std.proofs.lemmas.Bool.{eq-eqb, eqb-true}
 use Rattle.std.proofs.lemmas.Bool.Decides.{nat_tests}
 use Rattle.std.proofs.lemmas.List.{length-map}
@@ -11,9 +12,9 @@ use Rattle.kn_trace.specs.Trace.{first_of}
 use Rattle.kn_record.specs.declared.admission.Place.{Place}
 use Rattle.kn_record.specs.declared.admission.Request.{Request}
 use Rattle.kn_record.specs.declared.admission.Place.TheVariants as place
-use Rattle.kn_record.specs.Admission.{is_held_place, placed_in, queues_at, without}
+use Rattle.kn_record.specs.Admission.{is_held_place, placed_in, queues_at, runs_somewhere, waits, without}
 use Rattle.kn_record.specs.Views.{numbers_in}
-use Rattle.kn_table.specs.Moves.{Leaves, Moves, one_if}
+use Rattle.kn_table.specs.Moves.{Leaves, Moves, one_if, waits_or_runs}
 
 -- ---- numbers that differ
 
@@ -116,6 +117,14 @@ placed_listed test r (x ∷ l) there = by (test x.place) (x.number == r) refl re
     by t true h e rec = rw e refl
     by true false h e rec = rw e (rec (rw (h, e) at there))
     by false false h e rec = rw e (rec (rw h at there))
+
+-- who isn't live passes no test of places
+pub not_placed : (r : ℕ) (test : Place → Bool) (l : List Request) → contains r (numbers_in l) ≡ false → contains r (placed_in test l) ≡ false
+not_placed r test l none = by (contains r (placed_in test l)) refl
+  where
+    by : (b : Bool) → contains r (placed_in test l) ≡ b → contains r (placed_in test l) ≡ false
+    by true e = absurd (let both : true ≡ false = sym (placed_listed test r l e) ∙ none in cc)
+    by false e = e
 
 -- who passes a test of places, or is live, is found
 pub placed_one : (test : Place → Bool) (r : ℕ) (l : List Request) → AreApart l → contains r (placed_in test l) ≡ true → (q : Request) × (found r l ≡ Some q) × (test q.place ≡ true)
@@ -297,3 +306,25 @@ pub is_queued : (p : ℕ) (x : Place) → queues_at p x ≡ true → x ≡ place
 is_queued p place.Held h = absurd (cc)
 is_queued p (place.Queued q) h = ap (λ n. place.Queued n) (eqb-true q p h)
 is_queued p (place.Running q a) h = absurd (cc)
+
+-- whether it waits is as asked, or is not
+module _ (x : Place) where
+  pub waits_as : (waiting said : Bool) → said ≡ waits x → not (beq said waiting) ≡ false → waits_or_runs waiting x ≡ true
+  waits_as true true e same = sym e
+  waits_as false false e same = other (runs_somewhere x) (sym e)
+    where
+      other : (b : Bool) → not b ≡ false → b ≡ true
+      other true h = refl
+      other false h = absurd (cc)
+  waits_as true false e same = absurd (cc)
+  waits_as false true e same = absurd (cc)
+
+  pub waits_else : (waiting said : Bool) → said ≡ waits x → not (beq said waiting) ≡ true → waits_or_runs waiting x ≡ false
+  waits_else true false e differs = sym e
+  waits_else false true e differs = other (runs_somewhere x) (sym e)
+    where
+      other : (b : Bool) → not b ≡ true → b ≡ false
+      other true h = absurd (cc)
+      other false h = refl
+  waits_else true true e differs = absurd (cc)
+  waits_else false false e differs = absurd (cc)

@@ -6,6 +6,7 @@ use Rattle.std.proofs.lemmas.List.{get_or-set_same, get_or_default, length-map, 
 use Rattle.std.proofs.lemmas.List.Folds.{position_or_len-set}
 use Rattle.kn_event.specs.Lists.{contains}
 use Rattle.kn_trace.specs.Events.{live_most}
+use Rattle.kn_trace.specs.Trace.{first_of}
 use Rattle.kn_record.specs.declared.admission.Place.{Place}
 use Rattle.kn_record.specs.declared.admission.Place.TheVariants as place
 use Rattle.kn_record.specs.declared.admission.Request.{Request}
@@ -14,9 +15,9 @@ use Rattle.kn_record.specs.Views.{numbers_in}
 use Rattle.kn_table.specs.Moves.{Leaves, Moves}
 use Rattle.kn_table.specs.declared.cursors.Cursors.{Cursors}
 use Rattle.kn_table.specs.declared.slot.Slot.{Slot}
-use Rattle.kn_table.specs.Slots.{AreFirst, AreInOrder, AreKept, IsLeftAt, IsNext, IsPlaceOf, first_placed, is_live, is_placed, live_of, passed}
-use Rattle.kn_table.proofs.Requests.{AreApart, apart, changed, changed_length, contains_found, found, leaves, listed_one, moves, placed_found, placed_one, without_length}
-use Rattle.kn_table.proofs.Firsts.{and-false, first-elsewhere, first-passed, first-push, first-set, first_beyond}
+use Rattle.kn_table.specs.Slots.{AreFirst, AreInOrder, AreKept, IsHeldAt, IsLeftAt, IsNext, IsPlaceOf, first_placed, is_live, is_placed, live_of, passed}
+use Rattle.kn_table.proofs.Requests.{AreApart, apart, changed, changed_length, contains_found, first_placed_there, found, leaves, listed_one, moves, placed_found, placed_one, without_length}
+use Rattle.kn_table.proofs.Firsts.{and-false, first-elsewhere, first-passed, first-push, first-set, first_beyond, first_stands}
 use Rattle.kn_table.proofs.Marks.{all_swept, found_at, live_of-changed, live_of-ended, live_of-push, order-push, order-set, order-swept, ordered}
 
 -- the live requests of slots in order have numbers that differ
@@ -100,6 +101,22 @@ pub place_found : (test : Place → Bool) (r : ℕ) (xs zs : List Slot) (l : Lis
 place_found test r xs zs l o order few view same there answer =
     let one = placed_one test r (live_of xs) (apart_live xs order few) (ap (λ k. contains r (placed_in test k)) view ∙ there) in
     is_found r zs one.0 o answer (ap (λ ys. found r (live_of ys)) same ∙ one.1)
+
+-- the first that is held stands at the cursor
+pub first_held_at : (xs : List Slot) (at r : ℕ) (l : List Request) → at ≡ first_placed is_held_place xs → live_of xs ≡ l → first_of (placed_in is_held_place l) ≡ Some r → IsHeldAt r xs at
+first_held_at xs at r l is view first =
+    let here : first_of (placed_in is_held_place (live_of xs)) ≡ Some r = ap (λ k. first_of (placed_in is_held_place k)) view ∙ first in
+    record {
+      there = subst (λ i. IsPlaceOf r xs i) (sym is) (first_stands is_held_place xs r here);
+      held = first_placed_there is_held_place (live_of xs) r here;
+    }
+
+pub some_held_at : (xs : List Slot) (at : ℕ) (l : List Request) → at ≡ first_placed is_held_place xs → live_of xs ≡ l → IsSome (first_of (placed_in is_held_place l)) → (r : ℕ) × IsHeldAt r xs at
+some_held_at xs at l is view some = by (first_of (placed_in is_held_place l)) refl some
+  where
+    by : (o : Option ℕ) → first_of (placed_in is_held_place l) ≡ o → IsSome o → (r : ℕ) × IsHeldAt r xs at
+    by None e some = absurd (cc)
+    by (Some r) e some = (r, first_held_at xs at r l is view e)
 
 pub few_live : (xs : List Slot) (live : ℕ) (cursors : Cursors) → AreKept xs live cursors → length (live_of xs) ≤ live_most
 few_live xs live cursors kept = subst (λ n. n ≤ live_most) kept.counted kept.few

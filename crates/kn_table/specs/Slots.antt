@@ -1,10 +1,11 @@
 -- The slots behind a table's view: each request that came since the last sweep, those that ended with a mark.
-use Rattle.std.specs.Prelude.{◌≡◌, ◌≢◌, ◌==◌, ℕ, Bool, false, not, ◌+◌, ◌<◌, ◌≤◌, ◌&&◌, List, map, length, slice_index_or, if◌then◌else◌}
+use Rattle.std.specs.Prelude.{◌≡◌, ◌≢◌, ◌==◌, ℕ, Bool, true, false, not, ◌+◌, ◌<◌, ◌≤◌, ◌&&◌, List, map, length, slice_index_or, if◌then◌else◌}
 use Rattle.std.specs.List.{All, AllPairs, filter, position_or_len}
+use Rattle.kn_event.specs.Lists.{contains}
 use Rattle.kn_trace.specs.Events.{live_most}
 use Rattle.kn_record.specs.declared.admission.Place.{Place}
 use Rattle.kn_record.specs.declared.admission.Request.{Request}
-use Rattle.kn_record.specs.Admission.{is_at, is_held_place, waits}
+use Rattle.kn_record.specs.Admission.{is_at, is_held_place, placed_in, waits}
 use Rattle.kn_table.specs.declared.cursors.Cursors.{Cursors}
 use Rattle.kn_table.specs.declared.slot.PlaceKind.{PlaceKind}
 use Rattle.kn_table.specs.declared.slot.PlaceKind.TheVariants as kind
@@ -61,6 +62,11 @@ pub record IsPlaceOf (r : ℕ) (slots : List Slot) (place : ℕ) : Type 0 where
   pub inside : place < length slots
   pub number : (d : Slot) → (slice_index_or slots place d).request.number ≡ r
   pub live : (d : Slot) → (slice_index_or slots place d).has_ended ≡ false
+
+-- the live request of this number stands at this place, and is held
+pub record IsHeldAt (r : ℕ) (slots : List Slot) (place : ℕ) : Type 0 where
+  pub there : IsPlaceOf r slots place
+  pub held : contains r (placed_in is_held_place (live_of slots)) ≡ true
 
 -- the request may come next: it is after all slots, and one is left of those that there is room for
 pub record IsNext (request : Request) (slots : List Slot) : Type 0 where

@@ -1,4 +1,4 @@
-ghost use Rattle.std.specs.Prelude.{◌≡◌, ◌==◌, ◌+◌, ◌<◌, ◌≤◌, ℕ, Bool, true, false, List, [], ◌∷◌, ◌++◌, All, IfOk, IfSome, filter, find, is_some, length, nat_le, vec_capacity};
+ghost use Rattle.std.specs.Prelude.{◌≡◌, ◌==◌, ◌+◌, ◌<◌, ◌≤◌, ℕ, Bool, true, false, List, [], ◌∷◌, ◌++◌, All, IfNone, IfOk, IfSome, IsSome, Some, filter, find, is_some, length, nat_le, vec_capacity};
 ghost use Rattle.kn_event.specs.Lists.{contains};
 ghost use Rattle.kn_trace.specs.Events.{live_most};
 ghost use Rattle.kn_trace.specs.Trace.{first_of};
@@ -7,13 +7,13 @@ ghost use Rattle.kn_record.specs.declared.admission.Place.TheVariants as place;
 ghost use Rattle.kn_record.specs.declared.admission.Request.{Request};
 ghost use Rattle.kn_record.specs.Admission.{begins, is_at, is_held_place, moved, placed_in, queues_at, waits, without};
 ghost use Rattle.kn_record.specs.Views.{due_in, numbers_in};
-ghost use Rattle.kn_table.specs.Moves.{Leaves, Moves};
+ghost use Rattle.kn_table.specs.Moves.{IsAssigned, IsRemoved, Leaves, Moves, waits_or_runs};
 ghost use Rattle.kn_table.specs.Order.{IsOrdered};
-ghost use Rattle.kn_table.specs.Slots.{AreFirst, AreInOrder, IsNext, is_live, live_of};
+ghost use Rattle.kn_table.specs.Slots.{AreFirst, AreInOrder, AreKept, IsHeldAt, IsNext, IsPlaceOf, is_live, live_of};
 
 use crate::cursors::{Cursors, number_at, request_at};
 use crate::hints::Hints;
-use crate::slot::{Slot, begun, is_after, place_of, sweep};
+use crate::slot::{PlaceKind, Slot, begun, is_after, place_of, sweep};
 use kn_event::Memory;
 use kn_record::{Place, Request};
 use std::alloc::Global;
@@ -99,6 +99,37 @@ fn sweep_out(slots: &mut Vec<Slot>, hints: &mut Hints, cursors: &mut Cursors)
     cursors.advance(slots);
 }
 
+/// Lets the held request at a place run at a pod that it is assigned to.
+#[inline(always)]
+fn assign_at(slots: &mut Vec<Slot>, cursors: &mut Cursors, at: usize, p: u64)
+    requires kept { (live : ℕ) × AreKept slots.old.items live cursors.old }
+    requires held { (r : ℕ) × IsHeldAt r slots.old.items at }
+    ensures kept { (live : ℕ) → AreKept slots.old.items live cursors.old → AreKept slots.new.items live cursors.new }
+    ensures assigned { (r : ℕ) → IsHeldAt r slots.old.items at → IsAssigned r p (live_of slots.old.items) (live_of slots.new.items) }
+    ensures capacity { vec_capacity slots.new ≡ vec_capacity slots.old }
+{
+    slots[at].request.place = Place::Running(p, true);
+    cursors.from = 0;
+    cursors.leave(at, slots);
+}
+
+/// Takes the live request at a place out, and answers it.
+#[inline(always)]
+fn remove_at(slots: &mut Vec<Slot>, live: &mut u64, cursors: &mut Cursors, at: usize) -> Request
+    requires kept { AreKept slots.old.items live.old cursors.old }
+    requires there { (r : ℕ) × IsPlaceOf r slots.old.items at }
+    ensures kept { AreKept slots.new.items live.new cursors.new }
+    ensures removed { (r : ℕ) → IsPlaceOf r slots.old.items at → IsRemoved r result (live_of slots.old.items) (live_of slots.new.items) }
+    ensures capacity { vec_capacity slots.new ≡ vec_capacity slots.old }
+{
+    let slot = &mut slots[at];
+    slot.has_ended = true;
+    let request = slot.request;
+    *live -= 1;
+    cursors.leave(at, slots);
+    request
+}
+
 impl Table {
     /// No request yet. It takes all the memory that it will ever have.
     pub fn new(alloc: Global) -> Result<Table, Memory>
@@ -179,9 +210,19 @@ impl Table {
         ensures len { length self.new ≡ length self.old }
     {
         let place = place_of(&self.slots, self.cursors.held, r).unwrap();
-        self.slots[place].request.place = Place::Running(p, true);
-        self.cursors.from = 0;
-        self.cursors.leave(place, &self.slots);
+        assign_at(&mut self.slots, &mut self.cursors, place, p);
+    }
+
+    /// As `assign`, for the first request that is held.
+    #[inline]
+    pub fn assign_first(&mut self, p: u64)
+        requires { IsSome (first_of (placed_in is_held_place self.old)) }
+        ensures moved { (r : ℕ) → first_of (placed_in is_held_place self.old) ≡ Some r → self.new ≡ moved r (place.Running p true) self.old }
+        ensures moves { (r : ℕ) → first_of (placed_in is_held_place self.old) ≡ Some r → Moves r place.Held (place.Running p true) self.old self.new }
+        ensures len { length self.new ≡ length self.old }
+    {
+        let place = self.cursors.held;
+        assign_at(&mut self.slots, &mut self.cursors, place, p);
     }
 
     /// Lets a request run at the pod where it is queued.
@@ -208,12 +249,25 @@ impl Table {
         ensures len { length self.new + 1 ≡ length self.old }
     {
         let place = place_of(&self.slots, self.hints.get(r), r).unwrap();
-        let slot = &mut self.slots[place];
-        slot.has_ended = true;
-        let request = slot.request;
-        self.live -= 1;
-        self.cursors.leave(place, &self.slots);
-        request
+        remove_at(&mut self.slots, &mut self.live, &mut self.cursors, place)
+    }
+
+    /// Takes a request out that waits, or one that runs, and answers it. None where it is not live, or not so, and then nothing
+    /// changes.
+    #[inline(always)]
+    pub fn remove_where(&mut self, r: u64, waiting: bool) -> Option<Request>
+        ensures there { is_some result ≡ contains r (placed_in (waits_or_runs waiting) self.old) }
+        ensures request { IfSome result (λ q. find (λ (q : Request). q.number == r) self.old ≡ Some q) }
+        ensures removed { IfSome result (λ q. self.new ≡ without r self.old) }
+        ensures leaves { IfSome result (λ q. Leaves r q.place self.old self.new) }
+        ensures len { IfSome result (λ q. length self.new + 1 ≡ length self.old) }
+        ensures unchanged { IfNone result (self.new ≡ self.old) }
+    {
+        let place = place_of(&self.slots, self.hints.get(r), r)?;
+        if PlaceKind::Waiting.includes(self.slots[place].request.place) != waiting {
+            return None;
+        }
+        Some(remove_at(&mut self.slots, &mut self.live, &mut self.cursors, place))
     }
 
     /// As `remove`, for the first request at a pod that loses all of them one after the other: the next call of `first_at` for
