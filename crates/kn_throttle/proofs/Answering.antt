@@ -1,9 +1,9 @@
 -- What answers say of the record and of the row that they stand for.
-use Rattle.std.proofs.Common.{◌≡◌, ℕ, ◌<◌, Bool, true, false, cond, ◌||◌, List, [], ◌∷◌, ◌++◌, get_or, map, reverse, refl, ap, ◌∙◌, arith}
-use Rattle.std.specs.Prelude.{Some, ◌==◌}
-use Rattle.std.specs.Bool.{OnFalse, OnTrue}
+use Rattle.std.proofs.Common.{◌≡◌, ℕ, ◌<◌, Bool, true, false, cond, ◌||◌, List, [], ◌∷◌, ◌++◌, get_or, map, reverse, refl, sym, ap, ◌∙◌, arith}
+use Rattle.std.specs.Prelude.{IfNone, IfSome, Option, Some, None, find, is_some, nat_lt, ◌==◌}
 use Rattle.std.specs.List.{All, filter}
-use Rattle.std.proofs.lemmas.Bool.{eq-eqb}
+use Rattle.std.proofs.lemmas.Bool.{eq-eqb, eqb-true}
+use Rattle.std.proofs.lemmas.Bool.Decides.{nat_tests}
 use Rattle.std.proofs.lemmas.List.{reverse-append}
 use Rattle.std.proofs.lemmas.List.Folds.{list_any-append}
 use Rattle.std.proofs.lemmas.List.Elements.{All-cons, All-head, All-nil, All-tail, filter_agree}
@@ -17,26 +17,38 @@ use Rattle.kn_trace.specs.Events.{lost_with}
 use Rattle.kn_record.specs.declared.admission.Place.{Place}
 use Rattle.kn_record.specs.declared.admission.Request.{Request}
 use Rattle.kn_record.specs.Acting.{row_in}
-use Rattle.kn_record.specs.Admission.{Admission, is_at, placed_in, runs_somewhere, stepped, waits, without}
-use Rattle.kn_record.specs.Views.{numbers_in}
+use Rattle.kn_record.specs.Admission.{Admission, is_assigned_place, is_at, placed_in, runs_somewhere, stepped, waits, without}
+use Rattle.kn_record.specs.Order.{IsInOrder}
+use Rattle.kn_record.specs.Views.{numbers_in, stand_in, stand_of_place}
+use Rattle.kn_table.proofs.Requests.{apart, not_placed, placed_found}
 use Rattle.kn_throttle.specs.Rows.{cancel_row, finish_row}
 use Rattle.kn_throttle.specs.State.{State, with_row}
+use Rattle.kn_throttle.proofs.Ended.{found_has}
 use Rattle.kn_throttle.proofs.Places.{Ascends, above_first, not_named, rest_ascends}
 
--- who isn't live passes no test of places
-pub not_placed : (r : ℕ) (test : Place → Bool) (live : List Request) → contains r (numbers_in live) ≡ false → contains r (placed_in test live) ≡ false
-not_placed r test [] h = refl
-not_placed r test (q ∷ live) h = by (q.number == r) refl h (λ e. not_placed r test live e)
-  where
-    here : (b : Bool) → (q.number == r) ≡ false → contains r (placed_in test live) ≡ false
-        → contains r (map (λ (q : Request). q.number) (cond b (q ∷ filter (λ (q : Request). test q.place) live) (filter (λ (q : Request). test q.place) live))) ≡ false
-    here true e rest = rw e rest
-    here false e rest = rest
+-- ---- where a live request is
 
-    by : (m : Bool) → (q.number == r) ≡ m → (m || contains r (numbers_in live)) ≡ false → (contains r (numbers_in live) ≡ false → contains r (placed_in test live) ≡ false)
-        → contains r (placed_in test (q ∷ live)) ≡ false
-    by true f e rest = absurd (cc)
-    by false f e rest = here (test q.place) f (rest e)
+found_number : (r : ℕ) (live : List Request) (q : Request) → find (λ (q : Request). q.number == r) live ≡ Some q → q.number ≡ r
+found_number r [] q f = absurd (cc)
+found_number r (x ∷ live) q f = by (x.number == r) refl (found_number r live q)
+  where
+    by : (b : Bool) → (x.number == r) ≡ b → (find (λ (q : Request). q.number == r) live ≡ Some q → q.number ≡ r) → q.number ≡ r
+    by true e rest =
+        let same : Some x ≡ Some q = rw e at f in
+        let one : x ≡ q = cc in
+        sym (ap (λ (y : Request). y.number) one) ∙ eqb-true x.number r e
+    by false e rest = rest (rw e at f)
+
+module _ (a : Admission) (r : ℕ) (q : Request) (order : IsInOrder a) (f : find (λ (q : Request). q.number == r) a.live ≡ Some q) where
+  pub stand-place : stand_in a r ≡ stand_of_place q.place
+  stand-place =
+      let come : q.number < a.arrivals = found_has (λ (q : Request). q.number < a.arrivals) (λ (q : Request). q.number == r) a.live q f order.arrived in
+      let same = found_number r a.live q f in
+      let below : nat_lt r a.arrivals ≡ true = grind (arith, nat_tests, come, same) in
+      rw (below, f) refl
+
+  pub assigned-place : contains r (placed_in is_assigned_place a.live) ≡ is_assigned_place q.place
+  assigned-place = placed_found is_assigned_place r a.live q (apart a.live order.live) f
 
 pub finish-row : (s : Spec) (m : Mode) (a : Admission) (r : ℕ) (ok b : Bool) → b ≡ contains r (placed_in runs_somewhere a.live) → row_in s m a (act.Finish r ok) ≡ Some (finish_row r ok b)
 unfolding row_in
@@ -48,15 +60,15 @@ unfolding row_in
 cancel-row s m a r true e = rw (← e) refl
 cancel-row s m a r false e = rw (← e) refl
 
-pub finish_after : (old new : State) (t r : ℕ) (ok b : Bool) → OnTrue b (new ≡ record old { admission = record old.admission { live = without r old.admission.live } }) → OnFalse b (new ≡ old) → new ≡ with_row t (finish_row r ok b) old
+pub finish_after : (old new : State) (t r : ℕ) (ok : Bool) (o : Option Place) → IfSome o (λ x. new ≡ record old { admission = record old.admission { live = without r old.admission.live } }) → IfNone o (new ≡ old) → new ≡ with_row t (finish_row r ok (is_some o)) old
 unfolding stepped
-finish_after old new t r ok true ended kept = ended
-finish_after old new t r ok false ended kept = kept
+finish_after old new t r ok (Some x) ended kept = ended
+finish_after old new t r ok None ended kept = kept
 
-pub cancel_after : (old new : State) (t r : ℕ) (b : Bool) → OnTrue b (new ≡ record old { admission = record old.admission { live = without r old.admission.live } }) → OnFalse b (new ≡ old) → new ≡ with_row t (cancel_row r b) old
+pub cancel_after : (old new : State) (t r : ℕ) (o : Option Place) → IfSome o (λ x. new ≡ record old { admission = record old.admission { live = without r old.admission.live } }) → IfNone o (new ≡ old) → new ≡ with_row t (cancel_row r (is_some o)) old
 unfolding stepped
-cancel_after old new t r true ended kept = ended
-cancel_after old new t r false ended kept = kept
+cancel_after old new t r (Some x) ended kept = ended
+cancel_after old new t r None ended kept = kept
 
 -- ---- the requests at a pod that is lost
 

@@ -25,7 +25,7 @@ use Rattle.kn_throttle.specs.declared.touched.Touched.{Touched}
 use Rattle.kn_throttle.specs.Touched.{one_more}
 use Rattle.kn_throttle.specs.Breaker.{released}
 use Rattle.kn_throttle.specs.Candidates.{ended, with_changed}
-use Rattle.kn_throttle.specs.Kept.{IsKept, IsSound, breaker_in, can_leave, can_run, seat_of}
+use Rattle.kn_throttle.specs.Kept.{AreKeptAfter, AreKeptBefore, IsKept, IsSound, breaker_in, can_leave, can_run, seat_of}
 use Rattle.kn_throttle.proofs.Once.{others, without_once}
 use Rattle.kn_throttle.proofs.Same.{SameAt, eq-sym, same_can_leave, same_can_run, same_ended, through-parts}
 use Rattle.kn_throttle.proofs.Parts.{cands_at, cands_same, covers_less, covers_more, pod_of, seats-has, seats_at, seats_same}
@@ -39,14 +39,33 @@ found_has P test (y ∷ xs) x f h = by (test y) f (λ e. found_has P test xs x e
     by true e rest = let same : y ≡ x = cc in rw (← same) (All-head P y xs h)
     by false e rest = rest e
 
+pub home_at : (pods : List ℕ) (x y : Place) → IsAmong pods x → x ≡ y → IsAmong pods y
+home_at pods x y h e = rw e at h
+
 -- a live request's pod is there
 pub home_of : (a : Admission) (r : ℕ) (q : Request) (x : Place) → IsInOrder a → find (λ (q : Request). q.number == r) a.live ≡ Some q → q.place ≡ x → IsAmong (pod_numbers a.pods) x
-home_of a r q x order f e =
-    let here : IsAmong (pod_numbers a.pods) q.place = found_has (λ (q : Request). IsAmong (pod_numbers a.pods) q.place) (λ (q : Request). q.number == r) a.live q f order.homes in
-    rw e at here
+home_of a r q x order f e = home_at (pod_numbers a.pods) q.place x (found_has (λ (q : Request). IsAmong (pod_numbers a.pods) q.place) (λ (q : Request). q.number == r) a.live q f order.homes) e
 
 pub leaves_from : (r : ℕ) (x y : Place) (old new : List Request) → Leaves r x old new → x ≡ y → Leaves r y old new
 leaves_from r x y old new l e = rw e at l
+
+-- a live request has left its place: what is asked for to free it, and what is kept then
+module _ (s : Spec) (a : Admission) (b : breaker.State) (t : seats.State) (k : List Cand) (p : policy.State) (run leave : Touched) (r : ℕ) (q : Request) (new : List Request) (h : IsKept s a b t k p run leave)
+    (order : IsInOrder (record a { live = new })) (less : length new + 1 ≡ length a.live) (l : Leaves r q.place a.live new) (f : find (λ (q : Request). q.number == r) a.live ≡ Some q) where
+  pub before_free : AreKeptBefore r q.place b t k run leave
+  before_free = record {
+    spec = s;
+    admission = a;
+    policy = p;
+    new = new;
+    kept = h;
+    left = record { order = order; len = less; leaves = l; home = home_of a r q q.place h.sound.order f refl };
+  }
+
+  pub after_free : (d : breaker.State) (u : seats.State) (m : List Cand) (runs leaves : Touched) → ((z : AreKeptBefore r q.place b t k run leave) → AreKeptAfter z d u m runs leaves)
+      → IsKept s (record a { live = new }) d u m p runs leaves
+  unfolding before_free
+  after_free d u m runs leaves frees = frees before_free
 
 -- ---- the breaker
 

@@ -10,11 +10,13 @@ use Rattle.kn_seats.specs.Pods.{requests_at_all}
 use Rattle.kn_seats.specs.Pods as seat
 use Rattle.kn_policy.specs.Policy as policy
 use Rattle.kn_policy.specs.Policy.{policy_at}
+use Rattle.kn_record.specs.declared.admission.Place.{Place}
 use Rattle.kn_record.specs.declared.admission.Request.{Request}
 use Rattle.kn_record.specs.declared.admission.Pod.{Pod}
 use Rattle.kn_record.specs.Admission.{Admission, candidates_in, capacity_in, is_assigned_place, is_at, is_draining_now, is_held_place, is_through, placed_in, queues_at, runs_at}
-use Rattle.kn_record.specs.Order.{IsInOrder}
-use Rattle.kn_record.specs.Views.{is_free}
+use Rattle.kn_record.specs.Order.{IsAmong, IsInOrder}
+use Rattle.kn_record.specs.Views.{is_free, pod_numbers}
+use Rattle.kn_table.specs.Moves.{Leaves}
 use Rattle.kn_throttle.specs.declared.touched.Touched.{Touched}
 use Rattle.kn_throttle.specs.Touched.{Covers}
 
@@ -73,3 +75,26 @@ pub record IsKept (s : Spec) (a : Admission) (b : breaker.State) (t : seats.Stat
   pub policy : p ≡ policy_at s.cc s.slots.seed a.robin a.assignments
   pub runs : Covers (can_run a.live) a.pods run
   pub leaves : Covers (can_leave a.live) a.pods leave
+
+-- ---- a request that ends
+
+-- request r, which was at this place, is live no more
+pub record HasLeft (r : ℕ) (x : Place) (a : Admission) (new : List Request) : Type 0 where
+  pub order : IsInOrder (record a { live = new })
+  pub len : length new + 1 ≡ length a.live
+  pub leaves : Leaves r x a.live new
+  pub home : IsAmong (pod_numbers a.pods) x
+
+-- the parts are as some record has them that request r has left since, at this place
+pub record AreKeptBefore (r : ℕ) (x : Place) (b : breaker.State) (t : seats.State) (k : List Cand) (run leave : Touched) : Type 0 where
+  pub spec : Spec
+  pub admission : Admission
+  pub policy : policy.State
+  pub new : List Request
+  pub kept : IsKept spec admission b t k policy run leave
+  pub left : HasLeft r x admission new
+
+-- and these are as it has them now
+abbrev pub AreKeptAfter : {r : ℕ} {x : Place} {b : breaker.State} {t : seats.State} {k : List Cand} {run leave : Touched} → AreKeptBefore r x b t k run leave
+    → breaker.State → seats.State → List Cand → Touched → Touched → Type 0
+AreKeptAfter z b t k run leave = IsKept z.spec (record z.admission { live = z.new }) b t k z.policy run leave

@@ -2,8 +2,6 @@
 use Rattle.std.specs.Prelude.{ℕ, Bool, true, false}
 use Rattle.kn_event.specs.declared.entry.Row.{Row}
 use Rattle.kn_event.specs.declared.entry.Row.TheVariants as row
-use Rattle.kn_record.specs.declared.admission.Place.{Place}
-use Rattle.kn_record.specs.Admission.{runs_somewhere, waits}
 use Rattle.kn_throttle.specs.declared.throttle.arriving.Arrival.{Arrival}
 use Rattle.kn_throttle.specs.declared.throttle.arriving.Arrival.TheVariants as arrival
 use Rattle.kn_throttle.specs.declared.throttle.dispatching.Dispatch.{Dispatch}
@@ -14,11 +12,6 @@ arrival_row r tag arrival.Overload = row.Overload r
 arrival_row r tag (arrival.QueueFull p) = row.QueueFull r p
 arrival_row r tag (arrival.Direct p) = row.Direct r p
 arrival_row r tag arrival.Admit = row.Admit r tag
-
--- whether it waits, or whether it runs
-abbrev pub waits_or_runs : Bool → Place → Bool
-waits_or_runs true x = waits x
-waits_or_runs false x = runs_somewhere x
 
 abbrev pub finish_row : ℕ → Bool → Bool → Row
 finish_row r ok true = row.Finish r ok

@@ -112,7 +112,8 @@ impl Throttle {
         }
     }
 
-    /// Whether a request is held, and a pod has a free seat for it. True says nothing: the capacity may be in use.
+    /// Whether the next held request may be assigned: one is held, a pod has a free seat, and the capacity is not used up.
+    /// The contract speaks of false alone, after which nothing is assigned.
     #[inline(always)]
     fn has_next_held(&self) -> bool
         ensures { (c : Trace) (time : ℕ) → IsRecordOf self.now.admission c → result ≡ false → held_assignments self.now.spec time c ≡ [] }

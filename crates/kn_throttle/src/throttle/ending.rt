@@ -1,29 +1,33 @@
 //! A request ends.
-ghost use Rattle.std.specs.Prelude.{◌≡◌, ◌==◌, ◌+◌, ◌<◌, ℕ, Bool, true, [], ◌∷◌, ◌++◌, find, length, IfSome, IfNone, Some};
-ghost use Rattle.std.specs.Bool.{OnTrue, OnFalse};
+ghost use Rattle.std.specs.Prelude.{◌≡◌, ◌==◌, ◌+◌, ◌<◌, ℕ, Bool, true, [], ◌∷◌, ◌++◌, find, is_some, length, IfSome, IfNone, Some};
 ghost use Rattle.kn_event.specs.declared.entry.Row.TheVariants as row;
 ghost use Rattle.kn_event.specs.declared.event.Act.TheVariants as act;
 ghost use Rattle.kn_event.specs.declared.revision.Spec.{Spec};
 ghost use Rattle.kn_event.specs.Lists.{contains};
-ghost use Rattle.kn_trace.specs.Trace.{Trace, entry, first_of};
+ghost use Rattle.kn_trace.specs.Trace.{Trace, entry, first_of, proxied, stand_of};
 ghost use Rattle.kn_trace.specs.Events.{act_row, expiries};
 ghost use Rattle.kn_record.specs.declared.admission.Request.{Request};
-ghost use Rattle.kn_record.specs.Admission.{placed_in, runs_somewhere, waits, without};
+ghost use Rattle.kn_record.specs.Admission.{is_assigned_place, placed_in, runs_somewhere, waits, without};
 ghost use Rattle.kn_record.specs.Made.{IsRecordOf};
-ghost use Rattle.kn_record.specs.Views.{due_in, numbers_in};
+ghost use Rattle.kn_record.specs.Views.{due_in, numbers_in, stand_in, stand_of_place};
 ghost use Rattle.kn_record.specs.Walks.{BeginsWith};
 ghost use Rattle.kn_table.specs.Moves.{Leaves};
 ghost use Rattle.kn_throttle.specs.Breaker.{released};
+ghost use Rattle.kn_throttle.specs.Kept.{AreKeptAfter, AreKeptBefore};
 
 use super::Throttle;
+use crate::candidates::Candidates;
+use crate::touched::Touched;
 use kn_breaker::Breaker;
 use kn_record::append::{append_laws, order_laws, walk_laws};
 use kn_record::{Place, Request};
+use kn_seats::Seats;
 use kn_table::Table;
 
 impl Throttle {
-    ghost use Rattle.kn_throttle.specs.Rows.{cancel_row, finish_row, waits_or_runs};
-    ghost use Rattle.kn_throttle.specs.State.{with_row};
+    ghost use Rattle.kn_table.specs.Moves.{waits_or_runs};
+    ghost use Rattle.kn_throttle.specs.Rows.{cancel_row, finish_row};
+    ghost use Rattle.kn_throttle.specs.State.{place_in, with_row};
 
     /// Ends a running request, well or not. False where it isn't running, and then nothing changes.
     #[inline(always)]
@@ -32,6 +36,20 @@ impl Throttle {
         ensures after { (time : ℕ) (ok : Bool) → self.new ≡ with_row time (finish_row r ok result) self.old }
         ensures row { (s : Spec) (c : Trace) (ok : Bool) → IsRecordOf self.old.admission c → act_row s c (act.Finish r ok) ≡ Some (finish_row r ok result) }
         ensures stands { (c : Trace) (time : ℕ) (ok : Bool) → IsRecordOf self.old.admission c → IsRecordOf self.new.admission (c ++ entry time (finish_row r ok result) ∷ []) }
+    {
+        self.finish_at(r).is_some()
+    }
+
+    /// As `finish`, and answers where the request ran. None where it isn't running, and then nothing changes.
+    #[inline(always)]
+    pub fn finish_at(&mut self, r: u64) -> Option<Place>
+        ensures value { is_some result ≡ contains r (placed_in runs_somewhere self.old.admission.live) }
+        ensures place { IfSome result (λ x. place_in r self.old.admission.live ≡ Some x) }
+        ensures after { (time : ℕ) (ok : Bool) → self.new ≡ with_row time (finish_row r ok (is_some result)) self.old }
+        ensures row { (s : Spec) (c : Trace) (ok : Bool) → IsRecordOf self.old.admission c → act_row s c (act.Finish r ok) ≡ Some (finish_row r ok (is_some result)) }
+        ensures stands { (c : Trace) (time : ℕ) (ok : Bool) → IsRecordOf self.old.admission c → IsRecordOf self.new.admission (c ++ entry time (finish_row r ok (is_some result)) ∷ []) }
+        ensures stand { (c : Trace) → IsRecordOf self.old.admission c → IfSome result (λ x. stand_of c r ≡ stand_of_place x) }
+        ensures proxied { (c : Trace) → IsRecordOf self.old.admission c → IfSome result (λ x. proxied c r ≡ is_assigned_place x) }
     {
         append_laws();
         self.end_where(r, false)
@@ -45,7 +63,7 @@ impl Throttle {
         ensures stands { (c : Trace) (time : ℕ) → IsRecordOf self.old.admission c → IsRecordOf self.new.admission (c ++ entry time (cancel_row r result) ∷ []) }
     {
         append_laws();
-        self.end_where(r, true)
+        self.end_where(r, true).is_some()
     }
 
     /// Ends the request of the least number that has waited for its whole timeout, and answers it. None where there is none,
@@ -68,21 +86,28 @@ impl Throttle {
         }
     }
 
-    /// Ends a request that waits, or one that runs. False where it is not live, or not so.
+    /// Ends a request that waits, or one that runs, and answers where it was. None where it is not live, or not so.
     #[inline(always)]
-    fn end_where(&mut self, r: u64, waiting: bool) -> bool
-        ensures value { result ≡ contains r (placed_in (waits_or_runs waiting) self.old.admission.live) }
-        ensures ended { OnTrue result (self.new ≡ record self.old { admission = record self.old.admission { live = without r self.old.admission.live } }) }
-        ensures kept { OnFalse result (self.new ≡ self.old) }
+    fn end_where(&mut self, r: u64, waiting: bool) -> Option<Place>
+        ensures value { is_some result ≡ contains r (placed_in (waits_or_runs waiting) self.old.admission.live) }
+        ensures place { IfSome result (λ x. place_in r self.old.admission.live ≡ Some x) }
+        ensures stand { IfSome result (λ x. stand_in self.old.admission r ≡ stand_of_place x) }
+        ensures proxied { IfSome result (λ x. contains r (placed_in is_assigned_place self.old.admission.live) ≡ is_assigned_place x) }
+        ensures ended { IfSome result (λ x. self.new ≡ record self.old { admission = record self.old.admission { live = without r self.old.admission.live } }) }
+        ensures kept { IfNone result (self.new ≡ self.old) }
     {
-        let Some(request) = self.table.get(r) else {
-            return false;
-        };
-        if is_waiting(request.place) != waiting {
-            return false;
-        }
-        self.end(r, false);
-        true
+        order_laws();
+        let request = self.table.remove_where(r, waiting)?;
+        free(
+            &mut self.breaker,
+            &mut self.seats,
+            &mut self.candidates,
+            &mut self.to_run,
+            &mut self.to_leave,
+            r,
+            request.place,
+        );
+        Some(request.place)
     }
 
     /// Ends a live request, lost with its pod or not.
@@ -92,19 +117,45 @@ impl Throttle {
         ensures { self.new ≡ record self.old { admission = record self.old.admission { live = without r self.old.admission.live } } }
     {
         order_laws();
-        match take_out(&mut self.table, r, is_lost).place {
-            Place::Held => self.breaker.leave(),
-            Place::Queued(p) => {
-                self.seats.unlink(p, r);
-                self.to_leave = self.to_leave.with(p);
-            }
-            Place::Running(p, assigned) => {
-                release(&mut self.breaker, assigned);
-                let freed = self.seats.give_back(p);
-                self.candidates.end(p);
-                self.to_run.add_if(p, freed.next);
-                self.to_leave.add_if(p, freed.draining);
-            }
+        let request = take_out(&mut self.table, r, is_lost);
+        free(
+            &mut self.breaker,
+            &mut self.seats,
+            &mut self.candidates,
+            &mut self.to_run,
+            &mut self.to_leave,
+            r,
+            request.place,
+        );
+    }
+}
+
+/// A request has left this place: what it took there is free.
+#[inline(always)]
+fn free(
+    breaker: &mut Breaker,
+    seats: &mut Seats,
+    candidates: &mut Candidates,
+    to_run: &mut Touched,
+    to_leave: &mut Touched,
+    r: u64,
+    place: Place,
+)
+    requires { AreKeptBefore r place breaker.old seats.old candidates.old to_run.old to_leave.old }
+    ensures { (z : AreKeptBefore r place breaker.old seats.old candidates.old to_run.old to_leave.old) → AreKeptAfter z breaker.new seats.new candidates.new to_run.new to_leave.new }
+{
+    match place {
+        Place::Held => breaker.leave(),
+        Place::Queued(p) => {
+            seats.unlink(p, r);
+            *to_leave = to_leave.with(p);
+        }
+        Place::Running(p, assigned) => {
+            release(breaker, assigned);
+            let freed = seats.give_back(p);
+            candidates.end(p);
+            to_run.add_if(p, freed.next);
+            to_leave.add_if(p, freed.draining);
         }
     }
 }
@@ -134,10 +185,4 @@ fn release(breaker: &mut Breaker, assigned: bool)
     if assigned {
         breaker.release();
     }
-}
-
-fn is_waiting(place: Place) -> bool
-    ensures { result ≡ waits place }
-{
-    !matches!(place, Place::Running(_, _))
 }

@@ -164,7 +164,7 @@ impl Throttle {
             .unwrap();
         let p = self.candidates.begin_at(place);
         let _ = self.seats.reserve_seat(p);
-        self.table.assign(r, p);
+        self.table.assign_first(p);
         self.assignments += 1;
         Some((r, p))
     }

@@ -1,7 +1,7 @@
 use Rattle.std.proofs.Common.{◌≡◌, ◌<◌, ◌^◌, ◌∙◌, length, None, inl, inr, rules, refl, sym, arith}
 use Rattle.kn_event.specs.declared.entry.Row.TheVariants as row
 use Rattle.kn_trace.specs.Trace.{first_of}
-use Rattle.kn_record.specs.Admission.{is_held_place, placed_in, stepped}
+use Rattle.kn_record.specs.Admission.{is_held_place, placed_in, stepped, waits}
 use Rattle.kn_throttle.proofs.Parts.{cands_ascend}
 use Rattle.kn_throttle.proofs.Ended.{pod_there}
 use Rattle.kn_throttle.proofs.Dispatching.{cands_fit, kept_assigned}
@@ -70,9 +70,9 @@ invariant_of-self-2 c =
     let free = c.reserve_seat.ensures.free ∙ free-seat _ _ _ _ _ _ _ _ p k found in
     let order = c.order_laws.ensures.step _ 0 (row.Assign c.in-Some.r p) k.sound.order found.there in
     let picked = picked_at c.self.inside.policy c.pick_place.new.self c.self.inside.candidates c.as_slice.result.now c.pick_place.result p c.unwrap-place.result same c.unwrap-place.ensures c.pick_place.ensures.picked pod in
-    kept_assigned _ _ _ _ _ _ _ _ _ _ _ _ c.in-Some.r p c.assign.new.self k
-    (record { live = rw c.assign.ensures.moved order.live; arrived = rw c.assign.ensures.moved order.arrived; pods = order.pods; created = order.created; homes = rw c.assign.ensures.moved order.homes })
-    c.assign.ensures.len c.assign.ensures.moves c.if-not-acquire.ensures.acquired (rw free at c.reserve_seat.ensures.reserved) (rw free at c.reserve_seat.ensures.counted) (rw c.first_free-first.ensures.unchanged at c.begin_at-p.ensures.begun)
+    kept_assigned _ _ _ _ _ _ _ _ _ _ _ _ c.in-Some.r p c.assign_first.new.self k
+    (record { live = rw (c.assign_first.ensures.moved c.in-Some.r (sym c.in-Some.ensures.first)) order.live; arrived = rw (c.assign_first.ensures.moved c.in-Some.r (sym c.in-Some.ensures.first)) order.arrived; pods = order.pods; created = order.created; homes = rw (c.assign_first.ensures.moved c.in-Some.r (sym c.in-Some.ensures.first)) order.homes })
+    c.assign_first.ensures.len (c.assign_first.ensures.moves c.in-Some.r (sym c.in-Some.ensures.first)) c.if-not-acquire.ensures.acquired (rw free at c.reserve_seat.ensures.reserved) (rw free at c.reserve_seat.ensures.counted) (rw c.first_free-first.ensures.unchanged at c.begin_at-p.ensures.begun)
     (policy_after c.self.inside.spec _ c.pick_place.new.self p _ c.self.inside.assignments c.as_slice.result.now c.choice_laws.ensures.picked k.policy picked)
 
 pub returns-clause-after : goal.returns-clause-after
@@ -83,7 +83,13 @@ returns-clause-after c = λ t.
     let pod = rw c.first_free-first.ensures.unchanged at c.begin_at-p.ensures.pod in
     let picked = picked_at c.self.inside.policy c.pick_place.new.self c.self.inside.candidates c.as_slice.result.now c.pick_place.result c.begin_at-p.result c.unwrap-place.result same c.unwrap-place.ensures c.pick_place.ensures.picked pod in
     let robin = robin-after c.self.inside.table c.self.inside.pods c.as_slice.result.now c.self.inside.policy c.pick_place.new.self c.begin_at-p.result (same ∙ k.candidates) picked in
-    rw (c.assign.ensures.moved, robin, ← c.self.view_is) refl
+    rw ((c.assign_first.ensures.moved c.in-Some.r (sym c.in-Some.ensures.first)), robin, ← c.self.view_is) refl
+
+pub returns-clause-fewer : goal.returns-clause-fewer
+returns-clause-fewer c =
+    let moves = c.assign_first.ensures.moves c.in-Some.r (sym c.in-Some.ensures.first) in
+    let counts = moves.counts waits in
+    rw (← c.self.view_is) (omega (arith, counts))
 
 pub returns-clause-begins : goal.returns-clause-begins
 returns-clause-begins c = λ d t h.
@@ -98,5 +104,5 @@ returns-clause-begins c = λ d t h.
 pub returns-clause-calm : goal.returns-clause-calm
 returns-clause-calm c = λ calm.
     let k = c.self.invariant in
-    let still = still_none c.in-Some.r c.begin_at-p.result _ _ c.self.inside.pods c.assign.ensures.moves (rw (← c.self.view_is) at calm.pods) in
+    let still = still_none c.in-Some.r c.begin_at-p.result _ _ c.self.inside.pods (c.assign_first.ensures.moves c.in-Some.r (sym c.in-Some.ensures.first)) (rw (← c.self.view_is) at calm.pods) in
     calm_where c.walk_laws.ensures.promoted c.self.inside.spec _ k.sound.order.pods still
