@@ -4,7 +4,7 @@ ghost use Rattle.kn_trace.specs.Report.{totals};
 ghost use Rattle.kn_teller.specs.Run.{trace};
 ghost use Rattle.kn_replay.specs.Report.{row_by_row};
 
-use crate::first::{add_first, add_rest};
+use crate::first::{add_many, put_first};
 use kn_core::Revision;
 use kn_event::{EntryLog, Event, Line, Memory, Spec};
 use kn_io::{Failed, Sink};
@@ -64,11 +64,17 @@ impl Teller for Rows {
     ) -> Result<(), Failed> {
         adding_laws();
         let first = take_first(revision, e, log);
-        match add_first(first, e.time, &mut self.tally, line, waiting, out) {
-            Ok(()) => {}
-            Err(Failed) => return Err(Failed),
+        if !waiting.has_room() {
+            match waiting.flush(out) {
+                Ok(()) => {}
+                Err(Failed) => return Err(Failed),
+            }
         }
-        add_rest(log, &mut self.tally, line, waiting, out)
+        put_first(first, e.time, &mut self.tally, waiting);
+        if log.entries().is_empty() {
+            return Ok(());
+        }
+        add_many(log, &mut self.tally, line, waiting, out)
     }
 
     fn end<O: Sink>(

@@ -1,13 +1,14 @@
 -- One more entry, and the counts of a trace.
-use Rattle.std.proofs.Common.{◌≡◌, ◌+◌, ℕ, Bool, true, false, [], ◌∷◌, ◌++◌, refl, sym, ap, ◌∙◌, cond, add-zero, length, take, get_or, append_assoc, ◌<◌}
+use Rattle.std.proofs.Common.{◌≡◌, ◌+◌, ℕ, Bool, true, false, [], ◌∷◌, ◌++◌, refl, sym, ap, ◌∙◌, cond, add-zero, length, take, get_or, append_assoc, ◌<◌, ◌≤◌, List}
 use Rattle.std.proofs.lemmas.List.{take_more}
 use Rattle.std.proofs.lemmas.List.Sums.{sum_by_push}
 use Rattle.kn_event.specs.declared.entry.Entry.{Entry}
 use Rattle.kn_event.specs.declared.entry.Row.{Row}
 use Rattle.kn_event.specs.declared.entry.Row.TheVariants as row
-use Rattle.kn_trace.specs.Trace.{Trace}
+use Rattle.kn_event.specs.EntryLine.{entry_text}
+use Rattle.kn_trace.specs.Trace.{Trace, entry}
 use Rattle.kn_trace.specs.Report.{Totals, totals, rows_with, is_admit, is_direct, is_assign, is_finish, is_failure, is_expire, is_cancel, is_queue_full, is_overload, is_decision, is_loss}
-use Rattle.kn_report.specs.Frequent.{CountsEntry}
+use Rattle.kn_report.specs.Frequent.{CountsEntry, PutsRow}
 use Rattle.kn_report.specs.Tally.{Counted, CountsRow, with_row}
 
 more_where : Bool → ℕ → ℕ
@@ -69,4 +70,13 @@ pub counts_entry : (e : Entry) (old new : Counted) → CountsRow e.row old new �
 counts_entry e old new h = record {
   rows = h.rows;
   totals = λ c is. h.totals ∙ ap (with_row e.row) is ∙ sym (totals-push c e);
+}
+
+-- a row that was put, and counted
+pub puts_row : (time : ℕ) (row : Row) (old new : Counted) (before after : List ℕ) → after ≡ before ++ entry_text (entry time row)
+    → length after ≤ length before + 128 → CountsRow row old new → PutsRow time row old new before after
+puts_row time row old new before after said short counts = record {
+  text = said;
+  short = short;
+  counted = counts_entry (entry time row) old new counts;
 }

@@ -11,7 +11,10 @@ mod stamp;
 mod tally;
 mod waiting;
 
-pub use frequent::{add_admit, add_assign, add_direct, add_entry, add_finish, add_run};
+pub use frequent::{
+    put_admit, put_assign, put_direct, put_finish, put_not_running, put_overload, put_queue_full,
+    put_run,
+};
 pub use own::add_own_rows;
 pub use tally::Tally;
 pub use waiting::{Waiting, add_rows};

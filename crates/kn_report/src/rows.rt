@@ -90,7 +90,8 @@ pub fn put_finish(room: &mut [u8], at: usize, request: u64, ok: bool) -> usize
     put_word(room, at, b" fail\n")
 }
 
-fn put_queue_full(room: &mut [u8], at: usize, request: u64, pod: Option<u64>) -> usize
+/// What stands after the time of a `queue-full` row, with its LF.
+pub fn put_queue_full(room: &mut [u8], at: usize, request: u64, pod: Option<u64>) -> usize
     requires { at + 100 ≤ length room.old }
     ensures text { take result room.new ≡ take at room.old ++ (row_text (Row.QueueFull request pod) ++ 10 ∷ []) }
     ensures end { result ≤ at + 100 }
@@ -99,6 +100,26 @@ fn put_queue_full(room: &mut [u8], at: usize, request: u64, pod: Option<u64>) ->
         Some(pod) => put_two(room, at, b" queue-full ", request, pod),
         None => put_one(room, at, b" queue-full ", request, b" -\n"),
     }
+}
+
+/// What stands after the time of an `overload` row, with its LF.
+#[inline(always)]
+pub fn put_overload(room: &mut [u8], at: usize, request: u64) -> usize
+    requires { at + 100 ≤ length room.old }
+    ensures text { take result room.new ≡ take at room.old ++ (row_text (Row.Overload request) ++ 10 ∷ []) }
+    ensures end { result ≤ at + 100 }
+{
+    put_one(room, at, b" overload ", request, b"\n")
+}
+
+/// What stands after the time of a `not-running` row, with its LF.
+#[inline(always)]
+pub fn put_not_running(room: &mut [u8], at: usize, request: u64) -> usize
+    requires { at + 100 ≤ length room.old }
+    ensures text { take result room.new ≡ take at room.old ++ (row_text (Row.NotRunning request) ++ 10 ∷ []) }
+    ensures end { result ≤ at + 100 }
+{
+    put_one(room, at, b" not-running ", request, b"\n")
 }
 
 /// Writes what stands after the time of a frequent row, with its LF, and counts it. Each kind is counted where it is

@@ -10,7 +10,10 @@ ghost use Rattle.kn_report.specs.Waiting.{Adds, own_row};
 
 use crate::decision::put_decision;
 use crate::digits::{put_number, put_word};
-use crate::rows::{ROW_ROOM, put_admit, put_assign, put_direct, put_entry, put_finish, put_run};
+use crate::rows::{
+    ROW_ROOM, put_admit, put_assign, put_direct, put_entry, put_finish, put_not_running,
+    put_overload, put_queue_full, put_run,
+};
 use crate::stamp::Stamp;
 use crate::tally::Tally;
 use kn_event::{Entry, EntryLog, Line, Row, entry_line};
@@ -142,74 +145,101 @@ impl Waiting {
         }
     }
 
-    /// Adds an `admit` row behind what waits, where it has room. False says that nothing was added.
+    /// Whether the rows that an event begins with have room behind what waits: two, of at most 128 bytes each.
     #[inline(always)]
-    pub(crate) fn add_admit_in_place(&mut self, time: u64, request: u64, tag: u64) -> bool
-        ensures added { result ≡ true → self.new ≡ self.old ++ entry_text (entry time (Row.Admit request tag)) }
-        ensures same { result ≡ false → self.new ≡ self.old }
+    pub fn has_room(&self) -> bool
+        ensures room { result ≡ true → length self.now + 256 ≤ 16384 }
+        ensures full { result ≡ false → 16384 < length self.now + 256 }
     {
-        if self.len > ROOM - ROW_ROOM {
-            return false;
-        }
+        self.len() <= ROOM - 2 * ROW_ROOM
+    }
+
+    /// Adds an `admit` row behind what waits.
+    #[inline(always)]
+    pub(crate) fn put_admit(&mut self, time: u64, request: u64, tag: u64)
+        requires { length self.old + 128 ≤ 16384 }
+        ensures text { self.new ≡ self.old ++ entry_text (entry time (Row.Admit request tag)) }
+        ensures short { length self.new ≤ length self.old + 128 }
+    {
         let at = self.stamp.put(&mut self.buffer, self.len, time);
         self.len = put_admit(&mut self.buffer, at, request, tag);
-        true
     }
 
-    /// Adds a `direct` row behind what waits, where it has room. False says that nothing was added.
+    /// Adds a `direct` row behind what waits.
     #[inline(always)]
-    pub(crate) fn add_direct_in_place(&mut self, time: u64, request: u64, pod: u64) -> bool
-        ensures added { result ≡ true → self.new ≡ self.old ++ entry_text (entry time (Row.Direct request pod)) }
-        ensures same { result ≡ false → self.new ≡ self.old }
+    pub(crate) fn put_direct(&mut self, time: u64, request: u64, pod: u64)
+        requires { length self.old + 128 ≤ 16384 }
+        ensures text { self.new ≡ self.old ++ entry_text (entry time (Row.Direct request pod)) }
+        ensures short { length self.new ≤ length self.old + 128 }
     {
-        if self.len > ROOM - ROW_ROOM {
-            return false;
-        }
         let at = self.stamp.put(&mut self.buffer, self.len, time);
         self.len = put_direct(&mut self.buffer, at, request, pod);
-        true
     }
 
-    /// Adds an `assign` row behind what waits, where it has room. False says that nothing was added.
+    /// Adds an `assign` row behind what waits.
     #[inline(always)]
-    pub(crate) fn add_assign_in_place(&mut self, time: u64, request: u64, pod: u64) -> bool
-        ensures added { result ≡ true → self.new ≡ self.old ++ entry_text (entry time (Row.Assign request pod)) }
-        ensures same { result ≡ false → self.new ≡ self.old }
+    pub(crate) fn put_assign(&mut self, time: u64, request: u64, pod: u64)
+        requires { length self.old + 128 ≤ 16384 }
+        ensures text { self.new ≡ self.old ++ entry_text (entry time (Row.Assign request pod)) }
+        ensures short { length self.new ≤ length self.old + 128 }
     {
-        if self.len > ROOM - ROW_ROOM {
-            return false;
-        }
         let at = self.stamp.put(&mut self.buffer, self.len, time);
         self.len = put_assign(&mut self.buffer, at, request, pod);
-        true
     }
 
-    /// Adds a `run` row behind what waits, where it has room. False says that nothing was added.
+    /// Adds a `run` row behind what waits.
     #[inline(always)]
-    pub(crate) fn add_run_in_place(&mut self, time: u64, request: u64) -> bool
-        ensures added { result ≡ true → self.new ≡ self.old ++ entry_text (entry time (Row.Run request)) }
-        ensures same { result ≡ false → self.new ≡ self.old }
+    pub(crate) fn put_run(&mut self, time: u64, request: u64)
+        requires { length self.old + 128 ≤ 16384 }
+        ensures text { self.new ≡ self.old ++ entry_text (entry time (Row.Run request)) }
+        ensures short { length self.new ≤ length self.old + 128 }
     {
-        if self.len > ROOM - ROW_ROOM {
-            return false;
-        }
         let at = self.stamp.put(&mut self.buffer, self.len, time);
         self.len = put_run(&mut self.buffer, at, request);
-        true
     }
 
-    /// Adds a `finish` row behind what waits, where it has room. False says that nothing was added.
+    /// Adds a `finish` row behind what waits.
     #[inline(always)]
-    pub(crate) fn add_finish_in_place(&mut self, time: u64, request: u64, ok: bool) -> bool
-        ensures added { result ≡ true → self.new ≡ self.old ++ entry_text (entry time (Row.Finish request ok)) }
-        ensures same { result ≡ false → self.new ≡ self.old }
+    pub(crate) fn put_finish(&mut self, time: u64, request: u64, ok: bool)
+        requires { length self.old + 128 ≤ 16384 }
+        ensures text { self.new ≡ self.old ++ entry_text (entry time (Row.Finish request ok)) }
+        ensures short { length self.new ≤ length self.old + 128 }
     {
-        if self.len > ROOM - ROW_ROOM {
-            return false;
-        }
         let at = self.stamp.put(&mut self.buffer, self.len, time);
         self.len = put_finish(&mut self.buffer, at, request, ok);
-        true
+    }
+
+    /// Adds a `queue-full` row behind what waits.
+    #[inline(always)]
+    pub(crate) fn put_queue_full(&mut self, time: u64, request: u64, pod: Option<u64>)
+        requires { length self.old + 128 ≤ 16384 }
+        ensures text { self.new ≡ self.old ++ entry_text (entry time (Row.QueueFull request pod)) }
+        ensures short { length self.new ≤ length self.old + 128 }
+    {
+        let at = self.stamp.put(&mut self.buffer, self.len, time);
+        self.len = put_queue_full(&mut self.buffer, at, request, pod);
+    }
+
+    /// Adds an `overload` row behind what waits.
+    #[inline(always)]
+    pub(crate) fn put_overload(&mut self, time: u64, request: u64)
+        requires { length self.old + 128 ≤ 16384 }
+        ensures text { self.new ≡ self.old ++ entry_text (entry time (Row.Overload request)) }
+        ensures short { length self.new ≤ length self.old + 128 }
+    {
+        let at = self.stamp.put(&mut self.buffer, self.len, time);
+        self.len = put_overload(&mut self.buffer, at, request);
+    }
+
+    /// Adds a `not-running` row behind what waits.
+    #[inline(always)]
+    pub(crate) fn put_not_running(&mut self, time: u64, request: u64)
+        requires { length self.old + 128 ≤ 16384 }
+        ensures text { self.new ≡ self.old ++ entry_text (entry time (Row.NotRunning request)) }
+        ensures short { length self.new ≤ length self.old + 128 }
+    {
+        let at = self.stamp.put(&mut self.buffer, self.len, time);
+        self.len = put_not_running(&mut self.buffer, at, request);
     }
 
     /// Writes what waits, or on `Failed` some first of it. Nothing waits then.

@@ -1,0 +1,6 @@
+use Rattle.kn_event.specs.declared.entry.Row.TheVariants as row
+use Rattle.kn_report.proofs.Tallies.{puts_row}
+use Rattle.kn_report.proofs.frequent.put_queue_full.Goals as goal
+
+pub returns : goal.returns
+returns c = puts_row c.args.time (row.QueueFull c.args.request c.args.pod) _ _ _ _ c.put_queue_full.ensures.text c.put_queue_full.ensures.short c.add.ensures.counted
