@@ -1,26 +1,20 @@
 -- What comes to the autoscaler with a row.
-use Rattle.std.proofs.Common.{◌≡◌, ℕ, ◌≤◌, Bool, List, [], ◌∷◌, length, refl, sym, ap, ◌∙◌, arith, Option, None, Some}
-use Rattle.std.proofs.lemmas.List.{length-map}
+use Rattle.std.proofs.Common.{◌≡◌, ℕ, Bool, List, [], ◌∷◌, length, refl, sym, ap, ◌∙◌, arith, Option, None, Some}
 use Rattle.std.proofs.Math.Logic.{∥∥₁_map}
 use Rattle.kn_event.specs.declared.entry.Row.{Row}
-use Rattle.kn_event.specs.declared.entry.Row.TheVariants as row
-use Rattle.kn_places.specs.Pods.{HasRoomFor}
 use Rattle.kn_event.specs.declared.event.Stand.{Stand}
 use Rattle.kn_event.specs.declared.revision.Spec.{Spec}
 use Rattle.std.specs.Prelude.{IsSome, nat_lt, not}
 use Rattle.std.proofs.lemmas.Bool.{lt-ltb}
 use Rattle.kn_trace.specs.Load.{has_ready_pod}
 use Rattle.kn_trace.specs.Scale.{count_ready}
-use Rattle.kn_trace.specs.Trace.{Trace, entry, is_empty, live_pods, proxied, ready_pods, stand_of}
-use Rattle.kn_record.specs.declared.admission.Pod.{Pod}
-use Rattle.kn_record.specs.Admission.{Admission}
+use Rattle.kn_trace.specs.Trace.{Trace, entry, is_empty, proxied, ready_pods, stand_of}
 use Rattle.kn_record.specs.Made.{Holds, IsProper, IsRecordOf}
-use Rattle.kn_record.specs.Views.{AreViews}
 use Rattle.kn_places.specs.Ends.{IsToldOf}
 use Rattle.kn_scaler.specs.Stands.{ScalerState}
 use Rattle.kn_core.specs.Scaling.{IsHeardOf, IsNextIn, IsNextInSome}
 use Rattle.kn_core.specs.State.{ArePartsOf, IsScalerOfSome, PartsState, ArePartsOfSome}
-use Rattle.kn_core.specs.Changes.{EndsOnly, HasFewPods, IsReadyFor}
+use Rattle.kn_core.specs.Changes.{EndsOnly, IsReadyFor}
 
 -- only an autoscaler that is there is told
 pub heard : (o : Option ScalerState) (y : Row) (at : Stand) (through : Bool) (c : Trace) → (IsSome o → IsToldOf c y at through) → IsHeardOf o c y at through
@@ -38,21 +32,11 @@ next_in x y r at through s c ends h proper stands handed = record {
   scaler = h.scaler;
 }
 
-pub few_live_pods : ((s : Spec) (a : Admission) (c : Trace) → IsRecordOf a c → AreViews s a c) → (x : PartsState) (s : Spec) (c : Trace) → HasFewPods x → ArePartsOf s x c → length (live_pods c) ≤ 20500
-few_live_pods views x s c few h =
-    let same = ap length (views s x.throttle.admission c h.admission).pods ∙ length-map x.throttle.admission.pods (λ (q : Pod). q.number) in
-    omega (arith, same, few)
-
-pub has_room : (c : Trace) (x : Row) → length (live_pods c) ≤ 20500 → HasRoomFor c x
-has_room c (row.Assign r p) few = few
-has_room c (row.Direct r p) few = few
-has_room c _ few = tt
-
-pub next_in_some : ((s : Spec) (a : Admission) (c : Trace) → IsRecordOf a c → AreViews s a c) → (x : PartsState) (y : Row) (r : ℕ) (at : Stand) (through : Bool) → EndsOnly y r → HasFewPods x
+pub next_in_some : (x : PartsState) (y : Row) (r : ℕ) (at : Stand) (through : Bool) → EndsOnly y r
     → ((c : Trace) → IsRecordOf x.throttle.admission c → at ≡ stand_of c r) → ((c : Trace) → IsRecordOf x.throttle.admission c → through ≡ proxied c r) → IsReadyFor (λ s c. entry 0 y ∷ []) x → IsNextInSome x.scaler y at through
-next_in_some views x y r at through ends few stands handed some =
+next_in_some x y r at through ends stands handed some =
     ∥∥₁_map some (λ (h : (c : Trace) × ArePartsOf x.throttle.spec x c × Holds (IsProper x.throttle.spec) c (entry 0 y ∷ [])).
-    (x.throttle.spec, h.0, next_in x y r at through x.throttle.spec h.0 ends h.1 h.2.0 (stands h.0 h.1.admission) (handed h.0 h.1.admission), has_room h.0 y (few_live_pods views x x.throttle.spec h.0 few h.1)))
+    (x.throttle.spec, h.0, next_in x y r at through x.throttle.spec h.0 ends h.1 h.2.0 (stands h.0 h.1.admission) (handed h.0 h.1.admission)))
 
 pub scaler_of_parts : (x : PartsState) → ArePartsOfSome x → IsScalerOfSome x.scaler
 scaler_of_parts x some = ∥∥₁_map some (λ (h : (c : Trace) × ArePartsOf x.throttle.spec x c). (x.throttle.spec, h.0, h.1.made, h.1.scaler))

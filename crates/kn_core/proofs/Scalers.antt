@@ -1,5 +1,5 @@
 -- The autoscaler's place, where there is one.
-use Rattle.std.proofs.Common.{◌≡◌, ℕ, ◌≤◌, Bool, true, false, List, [], ◌∷◌, ◌++◌, length, refl, sym, ap, ◌∙◌, subst, Option, None, Some, IfNone, IfSome}
+use Rattle.std.proofs.Common.{◌≡◌, ℕ, Bool, true, false, List, [], ◌∷◌, ◌++◌, refl, sym, ap, ◌∙◌, subst, Option, None, Some, IfNone, IfSome}
 use Rattle.std.specs.Prelude.{◌==◌}
 use Rattle.std.proofs.Math.Logic.{∥∥₁_map}
 use Rattle.kn_event.specs.declared.entry.Row.{Row}
@@ -11,14 +11,13 @@ use Rattle.kn_event.specs.declared.revision.Kind.TheVariants as kind
 use Rattle.kn_event.specs.declared.revision.Spec.{Spec}
 use Rattle.kn_trace.specs.Events.{scaler_rows, wake_where}
 use Rattle.kn_trace.specs.Scale.{wanted}
-use Rattle.kn_trace.specs.Trace.{Trace, entry, live_pods}
+use Rattle.kn_trace.specs.Trace.{Trace, entry}
 use Rattle.kn_record.specs.Made.{IsMade}
 use Rattle.kn_scaler.specs.Rows.{ready_rows, says_scale, settles}
 use Rattle.kn_scaler.specs.Stands.{AreNextOfSome, AreNextRows, IsNextOfSome, ScalerState, StandsForSome, IsScalerOfTrace}
 use Rattle.kn_event.specs.declared.entry.Entry.{Entry}
 use Rattle.kn_scaler.specs.declared.scaler.Ruled.{Ruled}
 use Rattle.kn_laws.specs.Kinds.{Each}
-use Rattle.kn_places.specs.Pods.{HasRoomFor}
 use Rattle.kn_core.specs.Scaling.{AreNextIn, AreNextInSome, IsAtZero, IsNextIn, IsNextInSome, IsWokenBy, RulesWake, WakesNone}
 use Rattle.kn_core.specs.State.{IsScalerOf, IsScalerOfSome, IsUnscaled}
 use Rattle.kn_core.proofs.Traces.{is_unscaled_row, says_unscaled, unscaled_more}
@@ -30,8 +29,8 @@ scaler_of_some o y e some =
 
 pub next_of_some : (o : Option ScalerState) (y : ScalerState) (x : Row) (at : Stand) (through : Bool) → o ≡ Some y → IsNextInSome o x at through → IsNextOfSome y x at through
 next_of_some o y x at through e some =
-    ∥∥₁_map (subst (λ (z : Option ScalerState). IsNextInSome z x at through) e some) (λ (h : (s : Spec) × (c : Trace) × IsNextIn (Some y) x at through s c × HasRoomFor c x).
-    (h.0, h.1, record { stands = h.2.scaler.stands; made = h.2.made; proper = h.2.proper; told = h.2.told }, h.3))
+    ∥∥₁_map (subst (λ (z : Option ScalerState). IsNextInSome z x at through) e some) (λ (h : (s : Spec) × (c : Trace) × IsNextIn (Some y) x at through s c).
+    (h.0, h.1, record { stands = h.2.scaler.stands; made = h.2.made; proper = h.2.proper; told = h.2.told }))
 
 pub unscaled_row : (s : Spec) (c : Trace) (t : ℕ) (x : Row) → says_scale x ≡ false → IsUnscaled s c → IsUnscaled s (c ++ entry t x ∷ [])
 unscaled_row s c t x says h = unscaled_more s c (entry t x ∷ []) (says_unscaled x says, tt) h
@@ -56,7 +55,7 @@ next_rows y es s c k = record { stands = k.scaler.stands; made = k.made; proper 
 
 pub next_rows_some : (o : Option ScalerState) (y : ScalerState) (es : List Entry) → o ≡ Some y → AreNextInSome o es → AreNextOfSome y es
 next_rows_some o y es e some =
-    ∥∥₁_map (subst (λ (z : Option ScalerState). AreNextInSome z es) e some) (λ (h : (s : Spec) × (c : Trace) × AreNextIn (Some y) es s c × (length (live_pods c) ≤ 20500)). (h.0, h.1, next_rows y es h.0 h.1 h.2, h.3))
+    ∥∥₁_map (subst (λ (z : Option ScalerState). AreNextInSome z es) e some) (λ (h : (s : Spec) × (c : Trace) × AreNextIn (Some y) es s c). (h.0, h.1, next_rows y es h.0 h.1 h.2))
 
 -- ---- where a request was admitted
 

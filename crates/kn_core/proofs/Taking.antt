@@ -26,7 +26,7 @@ use Rattle.kn_throttle.specs.State as throttle
 use Rattle.kn_core.specs.Scaling.{IsNextIn, IsNextInSome}
 use Rattle.kn_core.specs.State.{ArePartsOf, ArePartsOfSome, IsScalerOf, PartsState}
 use Rattle.kn_core.specs.Changes.{AddsRow, HasFewPods, IsReadyFor, ending_of, woken}
-use Rattle.kn_core.proofs.Measured.{few_live_pods, has_room, heard}
+use Rattle.kn_core.proofs.Measured.{heard}
 
 -- who ends with an act's own row is whom the act names
 own_ends : (a : Act) (x : Row) → IsActRow a (Some x) → (q : ℕ) → ended_by x ≡ Some q → ending_of a ≡ Some q
@@ -98,7 +98,7 @@ own_next_some views acts old mid t x a at through few adds said stands handed so
     ∥∥₁_map some (λ (h : (c : Trace) × ArePartsOf old.throttle.spec old c × Holds (IsProper old.throttle.spec) c (entries_of t (act_row old.throttle.spec c a))).
     let s = old.throttle.spec in
     let proper = (subst (λ (o : Option Row). Holds (IsProper s) h.0 (entries_of t o)) (said s h.0 h.1) h.2).0 in
-    (s, h.0, own_next old mid t x a at through s h.0 (subst (IsActRow a) (said s h.0 h.1) (acts s h.0 a)) adds h.1 proper (λ one q. stands s h.0 q one h.1) (λ one q. handed s h.0 q one h.1), has_room h.0 x (few_live_pods views old s h.0 few h.1)))
+    (s, h.0, own_next old mid t x a at through s h.0 (subst (IsActRow a) (said s h.0 h.1) (acts s h.0 a)) adds h.1 proper (λ one q. stands s h.0 q one h.1) (λ one q. handed s h.0 q one h.1)))
 
 -- no more pods than before
 fewer : (p : ℕ) (all : List Pod) → length (filter (λ (q : Pod). not (p == q.number)) all) ≤ length all

@@ -16,9 +16,8 @@ use Rattle.kn_trace.specs.Rows.{arrived_by, ended_by}
 use Rattle.kn_trace.specs.Settling.{settling}
 use Rattle.kn_trace.specs.Trace.{Trace, entry, first_of}
 use Rattle.kn_record.specs.declared.admission.Pod.{Pod}
-use Rattle.kn_record.specs.Admission.{Admission, pods_after}
+use Rattle.kn_record.specs.Admission.{pods_after}
 use Rattle.kn_record.specs.Made.{Holds, IsMade, IsProper, IsRecordOf}
-use Rattle.kn_record.specs.Views.{AreViews}
 use Rattle.kn_record.specs.Walks.{BeginsWith, gone_after}
 use Rattle.kn_pods.specs.Pods.{PodsState, ArePodsOf, after_row}
 use Rattle.kn_scaler.specs.Rows.{says_scale}
@@ -28,13 +27,13 @@ use Rattle.kn_throttle.specs.Rows.{dispatch_row}
 use Rattle.kn_throttle.specs.State as throttle
 use Rattle.kn_core.specs.declared.first.OwnRow.{OwnRow}
 use Rattle.kn_core.specs.declared.first.OwnRow.TheVariants as own
-use Rattle.kn_core.specs.Changes.{AddsProper, HasFewPods, IsReadyFor, woken}
+use Rattle.kn_core.specs.Changes.{AddsProper, IsReadyFor, woken}
 use Rattle.kn_core.specs.Dispatched.{AddsFirst}
 use Rattle.kn_core.specs.Firsts.{dispatched, is_usual_act, own_row}
 use Rattle.kn_core.specs.Scaling.{IsNextIn, IsNextInSome}
 use Rattle.kn_core.specs.State.{ArePartsOf, IsScalerOf, PartsState}
 use Rattle.kn_core.proofs.After.{parts_row}
-use Rattle.kn_core.proofs.Measured.{few_live_pods, has_room, heard}
+use Rattle.kn_core.proofs.Measured.{heard}
 use Rattle.kn_core.proofs.Scaled.{holds_behind}
 
 -- ---- nobody leaves before the act
@@ -123,12 +122,12 @@ Begins t d x = (s : Spec) (c : Trace) → ArePartsOf s x c → BeginsWith (settl
 first_proper : (t : ℕ) (d : Dispatch) (x : PartsState) (s : Spec) (c : Trace) → Begins t d x → ArePartsOf s x c → Holds (IsProper s) c (settling s t c) → IsProper s c (dispatch_row d)
 first_proper t d x s c begins h proper = (subst (Holds (IsProper s) c) (begins s c h).0 proper).0
 
-pub dispatch_some : ((s : Spec) (a : Admission) (c : Trace) → IsRecordOf a c → AreViews s a c) → (x : PartsState) (t : ℕ) (d : Dispatch) → HasFewPods x → Begins t d x → IsReadyFor (λ s c. settling s t c) x
+pub dispatch_some : (x : PartsState) (t : ℕ) (d : Dispatch) → Begins t d x → IsReadyFor (λ s c. settling s t c) x
     → IsNextInSome x.scaler (dispatch_row d) stand.Held false
-dispatch_some views x t d few begins some =
+dispatch_some x t d begins some =
     ∥∥₁_map some (λ (h : (c : Trace) × ArePartsOf x.throttle.spec x c × Holds (IsProper x.throttle.spec) c (settling x.throttle.spec t c)).
     let s = x.throttle.spec in
-    (s, h.0, dispatch_next x d s h.0 h.1 (first_proper t d x s h.0 begins h.1 h.2), has_room h.0 (dispatch_row d) (few_live_pods views x s h.0 few h.1)))
+    (s, h.0, dispatch_next x d s h.0 h.1 (first_proper t d x s h.0 begins h.1 h.2)))
 
 module _ (makes : (s : Spec) (c : Trace) (t : ℕ) (x : Row) → IsMade s c → IsProper s c x → IsMade s (c ++ entry t x ∷ []))
     (goes : (s : Spec) (c : Trace) (t : ℕ) (x : Row) (pods : PodsState) → IsMade s c → IsProper s c x → ArePodsOf pods c → ArePodsOf (after_row x pods) (c ++ entry t x ∷ [])) where

@@ -1,5 +1,5 @@
 -- The rows that come to an autoscaler, and what it decides, where the revision has one.
-use Rattle.std.specs.Prelude.{◌≡◌, ◌==◌, ℕ, ◌≤◌, Bool, true, false, List, [], ◌∷◌, ◌++◌, length, option_map, IsSome, Option, None, Some, ⊤}
+use Rattle.std.specs.Prelude.{◌≡◌, ◌==◌, ℕ, Bool, true, false, List, [], ◌∷◌, ◌++◌, option_map, IsSome, Option, None, Some, ⊤}
 use Rattle.kn_event.specs.declared.entry.Entry.{Entry}
 use Rattle.kn_event.specs.declared.entry.Phase.TheVariants as phase
 use Rattle.kn_event.specs.declared.entry.Row.{Row}
@@ -11,11 +11,10 @@ use Rattle.kn_event.specs.declared.revision.Spec.{Spec}
 use Rattle.kn_trace.specs.Events.{scaler_rows}
 use Rattle.kn_trace.specs.Load.{has_ready_pod}
 use Rattle.kn_trace.specs.Scale.{count_ready, decision_at, is_in_phase, phase_of, wake_decision_at, wake_rows, wanted, where_true}
-use Rattle.kn_trace.specs.Trace.{Trace, entry, live_pods, proxied, stand_of}
+use Rattle.kn_trace.specs.Trace.{Trace, entry, proxied, stand_of}
 use Rattle.kn_record.specs.Made.{Holds, IsMade, IsProper}
 use Rattle.kn_laws.specs.Kinds.{Each, EachAt, is_act_row}
 use Rattle.kn_places.specs.Ends.{IsToldOf}
-use Rattle.kn_places.specs.Pods.{HasRoomFor}
 use Rattle.kn_pods.specs.Pods.{ArePodsOf}
 use Rattle.kn_scaler.specs.Rows.{ready_rows, ruled_by, ruling_rows, says_scale, settles, tick_rulings}
 use Rattle.kn_scaler.specs.Stands.{ScalerState, IsScalerOfTrace}
@@ -36,7 +35,7 @@ pub record IsNextIn (o : Option ScalerState) (x : Row) (at : Stand) (through : B
   pub scaler : IsScalerOf s o c
 
 abbrev pub IsNextInSome : Option ScalerState → Row → Stand → Bool → Type 0
-IsNextInSome o x at through = ∥ ((s : Spec) × (c : Trace) × IsNextIn o x at through s c × HasRoomFor c x) ∥₁
+IsNextInSome o x at through = ∥ ((s : Spec) × (c : Trace) × IsNextIn o x at through s c) ∥₁
 
 -- rows of a settling that are proper one after the other after such a trace, at the time of what is measured
 pub record AreNextIn (o : Option ScalerState) (es : List Entry) (s : Spec) (c : Trace) : Type 0 where
@@ -49,7 +48,7 @@ pub record AreNextIn (o : Option ScalerState) (es : List Entry) (s : Spec) (c : 
   pub scaler : IsScalerOf s o c
 
 abbrev pub AreNextInSome : Option ScalerState → List Entry → Type 0
-AreNextInSome o es = ∥ ((s : Spec) × (c : Trace) × AreNextIn o es s c × (length (live_pods c) ≤ 20500)) ∥₁
+AreNextInSome o es = ∥ ((s : Spec) × (c : Trace) × AreNextIn o es s c) ∥₁
 
 -- ---- the autoscaler after a row, or rows
 

@@ -47,7 +47,7 @@ pub(crate) fn advance(scaler: &mut Option<Scaler>, time: u64, ready: bool)
 
 /// One more row, of any kind but those of the scale. Where a request ends with it, `at` and `through` say where that stands
 /// before it, and whether the activator handed it to its pod.
-#[inline]
+#[inline(always)]
 pub(crate) fn row(scaler: &mut Option<Scaler>, added: Row, at: Stand, through: bool)
     requires { IsNextInSome scaler.old added at through }
     ensures stands { TakesRow added at through scaler.old scaler.new }
@@ -79,7 +79,7 @@ pub(crate) fn own(scaler: &mut Option<Scaler>, own: OwnRow, at: Stand, through: 
 }
 
 /// The row with which a request is dispatched.
-#[inline]
+#[inline(always)]
 pub(crate) fn dispatched(scaler: &mut Option<Scaler>, dispatch: Dispatch)
     requires { IsNextInSome scaler.old (dispatch_row dispatch) stand.Held false }
     ensures stands { TakesRow (dispatch_row dispatch) stand.Held false scaler.old scaler.new }

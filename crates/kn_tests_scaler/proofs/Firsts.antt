@@ -55,7 +55,7 @@ module _ (facts : Facts) (parts : PartFacts) (s : Spec) (start : ℕ) where
   }
 
   pub first_of_some : (x : ScalerState) (tag : ℕ) → 0 < s.slots.depth + s.slots.max → IsScalerOfTrace s x (opening s start) → IsNextOfSome x (row.Admit 0 tag) stand.Unknown false
-  first_of_some x tag some stands = ∣ (s, opening s start, first_next x tag some stands, tt) ∣₁
+  first_of_some x tag some stands = ∣ (s, opening s start, first_next x tag some stands) ∣₁
 
   pub first_made : (t tag : ℕ) → 0 < s.slots.depth + s.slots.max → IsMade s (opening s start ++ entry t (row.Admit 0 tag) ∷ [])
   first_made t tag some = facts.proper.made_more s (opening s start) (entry t (row.Admit 0 tag) ∷ []) opening_made (first_proper tag some, tt)

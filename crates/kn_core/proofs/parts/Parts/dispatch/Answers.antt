@@ -15,7 +15,7 @@ dispatched-requires c =
     let d = c.in-Some.dispatch in
     let x : PartsState = record { throttle = c.self.inside.throttle; pods = c.self.inside.pods; scaler = c.self.inside.scaler } in
     let begins : Begins t d x = λ s e h. subst (λ (z : Spec). BeginsWith (settling z t) t (dispatch_row d) x.throttle.admission e) h.spec (c.in-Some.ensures.begins e t h.admission) in
-    dispatch_some c.append_laws.ensures.views x t d (rw (← c.self.view_is) at c.requires.few) begins (rw (← c.self.view_is) at c.requires.some)
+    dispatch_some x t d begins (rw (← c.self.view_is) at c.requires.some)
 
 pub returns-in-Some-clause-stands : goal.returns-in-Some-clause-stands
 returns-in-Some-clause-stands c =

@@ -3,7 +3,7 @@ use Rattle.kn_core.proofs.parts.Parts.measure.Goals as goal
 
 pub row-requires : goal.row-requires
 row-requires c =
-    next_in_some c.append_laws.ensures.views _ c.args.row c.args.r c.stand-stand.result c.proxied-proxied.result c.requires.ends (rw (← c.self.view_is) at c.requires.few)
+    next_in_some _ c.args.row c.args.r c.stand-stand.result c.proxied-proxied.result c.requires.ends
     c.stand-stand.ensures.stand c.proxied-proxied.ensures.proxied (rw (← c.self.view_is) at c.requires.some)
 
 pub returns-clause-scaler : goal.returns-clause-scaler

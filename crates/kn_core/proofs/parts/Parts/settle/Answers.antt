@@ -34,8 +34,8 @@ pub rows_behind-requires-clause-next : goal.rows_behind-requires-clause-next
 rows_behind-requires-clause-next c =
     let x : PartsState = record { throttle = c.self.inside.throttle; pods = c.self.inside.pods; scaler = c.self.inside.scaler } in
     rw c.entries-before.ensures
-    (settled_next_some c.append_laws.ensures.views c.kind_laws.ensures.settling c.kind_laws.ensures.settling_at x c.args.time (drop (length c.args.log.now) c.settle.new.log)
-    (rw (← c.self.view_is) at c.requires.measured) (rw (← c.self.view_is) at c.requires.few)
+    (settled_next_some c.kind_laws.ensures.settling c.kind_laws.ensures.settling_at x c.args.time (drop (length c.args.log.now) c.settle.new.log)
+    (rw (← c.self.view_is) at c.requires.measured)
     (λ s d h. behind c.args.log.now (settling s c.args.time d) c.settle.new.log (subst (λ (z : Spec). c.settle.new.log ≡ c.args.log.now ++ settling z c.args.time d) h.spec (c.settle.ensures.logged d h.admission)))
     (rw (← c.self.view_is) at c.requires.some))
 
