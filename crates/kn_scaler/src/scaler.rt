@@ -24,7 +24,6 @@ use kn_event::{Decision, Entry, Memory, Mode, Phase, Row, Spec, Stand};
 use kn_places::change_of;
 use kn_places::laws::{measure_laws, place_laws};
 use kn_record::append::order_laws;
-use kn_record::facts::fact_laws;
 use kn_stats::Totals;
 use std::alloc::Global;
 use std::marker::Model;
@@ -151,7 +150,6 @@ impl Scaler {
         ensures time { self.new.stats.time ≡ self.old.stats.time }
         ensures decider { self.new.decider ≡ self.old.decider }
     {
-        fact_laws();
         order_laws();
         for e in added {
             self.settled(e.row);
