@@ -6,4 +6,3 @@ pub mod Replaying
 pub mod Simulating
 pub mod Grouped
 pub mod Bundled
-pub mod Firsts

@@ -1,5 +1,5 @@
 //! The rows that an event begins with, in a report.
-ghost use Rattle.std.specs.Prelude.{◌≡◌, ℕ, true, ◌+◌, ◌<◌, ◌≤◌, ◌^◌, ◌++◌, length, OnErr, OnOk};
+ghost use Rattle.std.specs.Prelude.{◌≡◌, ◌+◌, ◌<◌, ◌≤◌, ◌^◌, ◌++◌, length, OnErr, OnOk};
 ghost use Rattle.kn_io.specs.Causes.{HasCause};
 ghost use Rattle.kn_io.specs.Prefix.{AppendsPrefix};
 ghost use Rattle.kn_report.specs.Frequent.{PutsRow};
@@ -8,18 +8,17 @@ ghost use Rattle.kn_throttle.specs.Rows.{dispatch_row};
 ghost use Rattle.kn_trace.specs.Report.{rows_text, totals};
 ghost use Rattle.kn_trace.specs.Trace.{Trace};
 ghost use Rattle.kn_core.specs.Firsts.{first_rows, own_row};
-ghost use Rattle.kn_replay.specs.Firsts.{is_refusal};
 
 use kn_core::{FirstRows, OwnRow};
 use kn_event::{EntryLog, Line};
 use kn_io::{Failed, Sink};
 use kn_report::{
     Tally, Waiting, add_rows, put_admit, put_assign, put_direct, put_finish, put_not_running,
-    put_overload, put_queue_full, put_run,
+    put_overload, put_pod_full, put_queue_full, put_run,
 };
 use kn_throttle::Dispatch;
 
-/// Puts an act's own row behind what waits, and counts it.
+/// Puts an act's own row behind what waits, and counts it. Each kind is handed on as numbers: the row needs no memory.
 #[inline(always)]
 fn put_own(own: OwnRow, time: u64, tally: &mut Tally, waiting: &mut Waiting)
     requires room { length waiting.old + 128 ≤ 16384 }
@@ -30,24 +29,10 @@ fn put_own(own: OwnRow, time: u64, tally: &mut Tally, waiting: &mut Waiting)
         OwnRow::Admit(r, tag) => put_admit(time, r, tag, tally, waiting),
         OwnRow::Direct(r, p) => put_direct(time, r, p, tally, waiting),
         OwnRow::Finish(r, ok) => put_finish(time, r, ok, tally, waiting),
-        _ => put_refusal(own, time, tally, waiting),
-    }
-}
-
-/// The same, where nothing came of the act.
-#[inline(never)]
-fn put_refusal(own: OwnRow, time: u64, tally: &mut Tally, waiting: &mut Waiting)
-    requires refused { is_refusal own ≡ true }
-    requires room { length waiting.old + 128 ≤ 16384 }
-    requires few { tally.old.rows < 2 ^ 127 }
-    ensures { PutsRow time (own_row own) tally.old tally.new waiting.old waiting.new }
-{
-    match own {
-        OwnRow::QueueFull(r) => put_queue_full(time, r, None, tally, waiting),
-        OwnRow::PodFull(r, p) => put_queue_full(time, r, Some(p), tally, waiting),
+        OwnRow::QueueFull(r) => put_queue_full(time, r, tally, waiting),
+        OwnRow::PodFull(r, p) => put_pod_full(time, r, p, tally, waiting),
         OwnRow::Overload(r) => put_overload(time, r, tally, waiting),
         OwnRow::NotRunning(r) => put_not_running(time, r, tally, waiting),
-        _ => unreachable!(),
     }
 }
 

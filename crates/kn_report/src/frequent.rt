@@ -1,5 +1,5 @@
 //! Rows of the kinds that an event may begin with, each put and counted where there is room for it.
-ghost use Rattle.std.specs.Prelude.{◌+◌, ◌<◌, ◌≤◌, ◌^◌, length};
+ghost use Rattle.std.specs.Prelude.{◌+◌, ◌<◌, ◌≤◌, ◌^◌, None, Some, length};
 ghost use Rattle.kn_report.specs.Frequent.{PutsRow};
 
 use crate::tally::Tally;
@@ -61,21 +61,26 @@ pub fn put_finish(time: u64, request: u64, ok: bool, tally: &mut Tally, waiting:
     waiting.put_finish(time, request, ok);
 }
 
-/// Puts a `queue-full` row behind what waits, and counts it.
+/// Puts a `queue-full` row of a full breaker behind what waits, and counts it.
 #[inline(never)]
-pub fn put_queue_full(
-    time: u64,
-    request: u64,
-    pod: Option<u64>,
-    tally: &mut Tally,
-    waiting: &mut Waiting,
-)
+pub fn put_queue_full(time: u64, request: u64, tally: &mut Tally, waiting: &mut Waiting)
     requires room { length waiting.old + 128 ≤ 16384 }
     requires few { tally.old.rows < 2 ^ 127 }
-    ensures { PutsRow time (Row.QueueFull request pod) tally.old tally.new waiting.old waiting.new }
+    ensures { PutsRow time (Row.QueueFull request None) tally.old tally.new waiting.old waiting.new }
 {
-    tally.add(&Row::QueueFull(request, pod));
-    waiting.put_queue_full(time, request, pod);
+    tally.add(&Row::QueueFull(request, None));
+    waiting.put_queue_full(time, request, None);
+}
+
+/// Puts a `queue-full` row of a full pod behind what waits, and counts it.
+#[inline(never)]
+pub fn put_pod_full(time: u64, request: u64, pod: u64, tally: &mut Tally, waiting: &mut Waiting)
+    requires room { length waiting.old + 128 ≤ 16384 }
+    requires few { tally.old.rows < 2 ^ 127 }
+    ensures { PutsRow time (Row.QueueFull request (Some pod)) tally.old tally.new waiting.old waiting.new }
+{
+    tally.add(&Row::QueueFull(request, Some(pod)));
+    waiting.put_queue_full(time, request, Some(pod));
 }
 
 /// Puts an `overload` row behind what waits, and counts it.

@@ -12,8 +12,8 @@ mod tally;
 mod waiting;
 
 pub use frequent::{
-    put_admit, put_assign, put_direct, put_finish, put_not_running, put_overload, put_queue_full,
-    put_run,
+    put_admit, put_assign, put_direct, put_finish, put_not_running, put_overload, put_pod_full,
+    put_queue_full, put_run,
 };
 pub use own::add_own_rows;
 pub use tally::Tally;
