@@ -14,6 +14,7 @@ mod Created
 mod Openings
 mod Times
 mod Taking
+mod Telling
 mod Settled
 mod Following
 mod Scaled

@@ -29,7 +29,7 @@ use Rattle.kn_core.specs.Changes.{AddsRow, HasFewPods, IsReadyFor, ending_of, wo
 use Rattle.kn_core.proofs.Measured.{heard}
 
 -- who ends with an act's own row is whom the act names
-own_ends : (a : Act) (x : Row) → IsActRow a (Some x) → (q : ℕ) → ended_by x ≡ Some q → ending_of a ≡ Some q
+pub own_ends : (a : Act) (x : Row) → IsActRow a (Some x) → (q : ℕ) → ended_by x ≡ Some q → ending_of a ≡ Some q
 own_ends a (row.Finish r ok) h = λ q e. rw h.1 (cc)
 own_ends a (row.Cancel r) h = λ q e. rw h.1 (cc)
 own_ends a (row.Expire r) h = absurd (let g = h.0 in cc)
@@ -76,29 +76,41 @@ module _ (makes : (s : Spec) (c : Trace) (t : ℕ) (x : Row) → IsMade s c → 
         scaler = scaler pods;
       }
 
--- what the autoscaler hears
+-- what the autoscaler hears of a row, told where the request stood that ends with it
+module _ (old mid : PartsState) (t : ℕ) (x : Row) (a : Act) (at : Stand) (through : Bool) where
+  pub row_next : (s : Spec) (c : Trace) → AddsRow t x old mid → ArePartsOf s old c → IsProper s c x
+      → (IsSome old.scaler → (q : ℕ) → ended_by x ≡ Some q → at ≡ stand_of c q) → (IsSome old.scaler → (q : ℕ) → ended_by x ≡ Some q → through ≡ proxied c q) → IsNextIn mid.scaler x at through s c
+  row_next s c adds h proper stands handed =
+      subst (λ (o : Option ScalerState). IsNextIn o x at through s c) (sym adds.scaler) (record {
+        made = h.made;
+        proper = proper;
+        told = heard old.scaler x at through c (λ some. record { stands = stands some; handed = handed some });
+        scaler = h.scaler;
+      })
+
+  pub row_next_some : ((s : Spec) (a : Admission) (c : Trace) → IsRecordOf a c → AreViews s a c) → HasFewPods old → AddsRow t x old mid → ((s : Spec) (c : Trace) → ArePartsOf s old c → act_row s c a ≡ Some x)
+      → ((s : Spec) (c : Trace) (q : ℕ) → IsSome old.scaler → ArePartsOf s old c → ended_by x ≡ Some q → at ≡ stand_of c q) → ((s : Spec) (c : Trace) (q : ℕ) → IsSome old.scaler → ArePartsOf s old c → ended_by x ≡ Some q → through ≡ proxied c q)
+      → IsReadyFor (λ s c. entries_of t (act_row s c a)) old → IsNextInSome mid.scaler x at through
+  row_next_some views few adds said stands handed some =
+      ∥∥₁_map some (λ (h : (c : Trace) × ArePartsOf old.throttle.spec old c × Holds (IsProper old.throttle.spec) c (entries_of t (act_row old.throttle.spec c a))).
+      let s = old.throttle.spec in
+      let proper = (subst (λ (o : Option Row). Holds (IsProper s) h.0 (entries_of t o)) (said s h.0 h.1) h.2).0 in
+      (s, h.0, row_next s h.0 adds h.1 proper (λ one q. stands s h.0 q one h.1) (λ one q. handed s h.0 q one h.1)))
+
+-- the same, told where the request stood that may end with the act
 pub own_next : (old mid : PartsState) (t : ℕ) (x : Row) (a : Act) (at : Stand) (through : Bool) (s : Spec) (c : Trace) → IsActRow a (Some x) → AddsRow t x old mid → ArePartsOf s old c → IsProper s c x
     → (IsSome old.scaler → (q : ℕ) → ending_of a ≡ Some q → at ≡ stand_of c q) → (IsSome old.scaler → (q : ℕ) → ending_of a ≡ Some q → through ≡ proxied c q) → IsNextIn mid.scaler x at through s c
 own_next old mid t x a at through s c is_act adds h proper stands handed =
-    subst (λ (o : Option ScalerState). IsNextIn o x at through s c) (sym adds.scaler) (record {
-      made = h.made;
-      proper = proper;
-      told = heard old.scaler x at through c (λ some. record {
-        stands = λ q e. stands some q (own_ends a x is_act q e);
-        handed = λ q e. handed some q (own_ends a x is_act q e);
-      });
-      scaler = h.scaler;
-    })
+    row_next old mid t x a at through s c adds h proper (λ some q e. stands some q (own_ends a x is_act q e)) (λ some q e. handed some q (own_ends a x is_act q e))
 
 pub own_next_some : ((s : Spec) (a : Admission) (c : Trace) → IsRecordOf a c → AreViews s a c) → ((s : Spec) (c : Trace) (a : Act) → IsActRow a (act_row s c a)) → (old mid : PartsState) (t : ℕ) (x : Row) (a : Act) (at : Stand) (through : Bool)
     → HasFewPods old → AddsRow t x old mid → ((s : Spec) (c : Trace) → ArePartsOf s old c → act_row s c a ≡ Some x)
     → ((s : Spec) (c : Trace) (q : ℕ) → IsSome old.scaler → ArePartsOf s old c → ending_of a ≡ Some q → at ≡ stand_of c q) → ((s : Spec) (c : Trace) (q : ℕ) → IsSome old.scaler → ArePartsOf s old c → ending_of a ≡ Some q → through ≡ proxied c q)
     → IsReadyFor (λ s c. entries_of t (act_row s c a)) old → IsNextInSome mid.scaler x at through
 own_next_some views acts old mid t x a at through few adds said stands handed some =
-    ∥∥₁_map some (λ (h : (c : Trace) × ArePartsOf old.throttle.spec old c × Holds (IsProper old.throttle.spec) c (entries_of t (act_row old.throttle.spec c a))).
-    let s = old.throttle.spec in
-    let proper = (subst (λ (o : Option Row). Holds (IsProper s) h.0 (entries_of t o)) (said s h.0 h.1) h.2).0 in
-    (s, h.0, own_next old mid t x a at through s h.0 (subst (IsActRow a) (said s h.0 h.1) (acts s h.0 a)) adds h.1 proper (λ one q. stands s h.0 q one h.1) (λ one q. handed s h.0 q one h.1)))
+    let is_act = λ (s : Spec) (c : Trace) (h : ArePartsOf s old c). subst (IsActRow a) (said s c h) (acts s c a) in
+    row_next_some old mid t x a at through views few adds said
+    (λ s c q one h e. stands s c q one h (own_ends a x (is_act s c h) q e)) (λ s c q one h e. handed s c q one h (own_ends a x (is_act s c h) q e)) some
 
 -- no more pods than before
 fewer : (p : ℕ) (all : List Pod) → length (filter (λ (q : Pod). not (p == q.number)) all) ≤ length all

@@ -37,7 +37,7 @@ impl Parts {
 
     /// A request ends, well or not, if it runs.
     #[inline(always)]
-    pub(super) fn finish(&mut self, r: u64, ok: bool) -> OwnRow
+    fn finish(&mut self, r: u64, ok: bool) -> OwnRow
         ensures row { (s : SpecValue) (c : Trace) → ArePartsOf s self.old c → act_row s c (act.Finish r ok) ≡ Some (own_row result) }
         ensures adds { (t : ℕ) → AddsRow t (own_row result) self.old self.new }
     {

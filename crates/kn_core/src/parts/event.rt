@@ -69,7 +69,7 @@ impl Parts {
     /// Where a request stands, and whether the activator handed it to its pod. With no request, or no autoscaler that is to
     /// hear of it, it says nothing.
     #[inline(always)]
-    pub(super) fn before_end(&self, r: Option<u64>) -> (Stand, bool)
+    fn before_end(&self, r: Option<u64>) -> (Stand, bool)
         ensures { SaysBeforeEnd r self.now result.0 result.1 }
     {
         match r {
@@ -180,7 +180,7 @@ impl Parts {
 }
 
 /// The request that may end with an act's own row.
-pub(super) fn ending(act: Act) -> Option<u64>
+fn ending(act: Act) -> Option<u64>
     ensures { result ≡ ending_of act }
 {
     match act {

@@ -1,15 +1,16 @@
 //! An arrival or a finish at which nobody's time is over. The rows that it begins with are answered as numbers: a row is large to
 //! put into the log.
-ghost use Rattle.std.specs.Prelude.{◌≡◌, ◌+◌, ◌<◌, ◌≤◌, ◌^◌, [], ◌∷◌, ◌++◌, All, length, Some, true, false};
+ghost use Rattle.std.specs.Prelude.{◌≡◌, ◌+◌, ◌<◌, ◌≤◌, ◌^◌, [], ◌∷◌, ◌++◌, length, Some, true, false};
 ghost use Rattle.kn_event.specs.Revision.{AreInRange};
 ghost use Rattle.kn_event.specs.declared.revision.Spec.{Spec as SpecValue};
 ghost use Rattle.kn_trace.specs.Events.{act_row, entries_of, react};
 ghost use Rattle.kn_trace.specs.Laws.{IsSettled};
 ghost use Rattle.kn_trace.specs.Settling.{settling};
 ghost use Rattle.kn_trace.specs.Trace.{Trace, entry};
-ghost use Rattle.kn_record.specs.declared.admission.Request.{Request};
+ghost use Rattle.kn_record.specs.Admission.{is_assigned_place};
 ghost use Rattle.kn_record.specs.Order.{AreTimed};
-ghost use Rattle.kn_core.specs.Changes.{AddsNobody, AddsOwn, AddsProper, AddsRow, AddsWhere, CanReact, CanScale, HasFewPods, IsInOrderAt, IsReadyFor, OnlyScales, is_admitted, is_own_of};
+ghost use Rattle.kn_record.specs.Views.{stand_of_place};
+ghost use Rattle.kn_core.specs.Changes.{AddsNobody, AddsOwn, AddsProper, AddsWhere, CanReact, CanScale, HasFewPods, IsInOrderAt, IsReadyFor, OnlyScales, is_admitted, is_own_of};
 ghost use Rattle.kn_core.specs.Dispatched.{AddsFirst};
 ghost use Rattle.kn_core.specs.declared.first.FirstRows.TheVariants as first;
 ghost use Rattle.kn_core.specs.Firsts.{IsUsual, dispatched, first_rows, is_usual_act, own_row};
@@ -18,12 +19,12 @@ ghost use Rattle.kn_core.specs.State.{ArePartsOf, IsMeasuredAt};
 ghost use Rattle.kn_core.specs.Steps.{IsWithinRange};
 
 use super::Parts;
-use super::event::ending;
 use crate::first::{FirstRows, OwnRow};
 use crate::scaling;
-use kn_event::{Act, EntryLog, Event, Stand, Told};
+use kn_event::{Act, EntryLog, Event, Row, Stand, Told};
 use kn_laws::parts::part_laws;
 use kn_pods::laws::row_laws;
+use kn_record::Place;
 use kn_record::append::{append_laws, time_laws, walk_laws};
 use kn_record::facts::fact_laws;
 use kn_scaler::laws::kind_laws;
@@ -39,23 +40,8 @@ impl Parts {
         is_usual_act(e.act) && self.throttle.due(e.time).is_none()
     }
 
-    /// The row of an arrival or a finish.
-    #[inline(always)]
-    fn act_usual(&mut self, e: &Event) -> OwnRow
-        requires act { is_usual_act e.now.act ≡ true }
-        requires few { self.old.throttle.admission.arrivals < 2 ^ 54 }
-        requires order { All (λ (q : Request). q.time ≤ e.now.time) self.old.throttle.admission.live }
-        ensures row { (s : SpecValue) (c : Trace) → ArePartsOf s self.old c → act_row s c e.now.act ≡ Some (own_row result) }
-        ensures adds { AddsRow e.now.time (own_row result) self.old self.new }
-    {
-        match e.act {
-            Act::Arrive(tag) => self.arrive(e.time, tag),
-            Act::Finish(r, ok) => self.finish(r, ok),
-            _ => unreachable!(),
-        }
-    }
-
-    /// The act's own row, and what it changes.
+    /// The act's own row, and what it changes. The autoscaler is told of each kind apart, where it is known which row that is.
+    /// Where a request stood that has finished, its end has answered: it isn't looked up once more.
     #[inline(always)]
     fn take_usual(&mut self, e: &Event) -> OwnRow
         requires act { is_usual_act e.now.act ≡ true }
@@ -72,10 +58,25 @@ impl Parts {
         append_laws();
         time_laws();
         part_laws();
-        let (stand, proxied) = self.before_end(ending(e.act));
-        let own = self.act_usual(e);
-        scaling::own(&mut self.scaler, own, stand, proxied);
-        own
+        match e.act {
+            Act::Arrive(tag) => {
+                let own = self.arrive(e.time, tag);
+                scaling::own(&mut self.scaler, own, Stand::Held, false);
+                own
+            }
+            Act::Finish(r, ok) => match self.throttle.finish_at(r) {
+                Some(place) => {
+                    let (stand, through) = stood(place);
+                    scaling::row(&mut self.scaler, Row::Finish(r, ok), stand, through);
+                    OwnRow::Finish(r, ok)
+                }
+                None => {
+                    scaling::row(&mut self.scaler, Row::NotRunning(r), Stand::Held, false);
+                    OwnRow::NotRunning(r)
+                }
+            },
+            _ => unreachable!(),
+        }
     }
 
     /// The first row of a settling with which a request is dispatched.
@@ -225,7 +226,9 @@ impl Parts {
         if answers && self.is_usual(e) {
             return self.react_usual(e, limit, log);
         }
-        self.react_all(e, limit, log);
+        // (a copy, so that the event itself needs no memory on the usual way)
+        let copy = *e;
+        self.react_all(&copy, limit, log);
         FirstRows::Nothing
     }
 
@@ -251,6 +254,19 @@ fn is_usual_act(act: Act) -> bool
     ensures { result ≡ is_usual_act act }
 {
     matches!(act, Act::Arrive(_) | Act::Finish(_, _))
+}
+
+/// Where a request stood, and whether the activator handed it to its pod.
+#[inline(always)]
+fn stood(place: Place) -> (Stand, bool)
+    ensures stand { result.0 ≡ stand_of_place place }
+    ensures proxied { result.1 ≡ is_assigned_place place }
+{
+    match place {
+        Place::Held => (Stand::Held, false),
+        Place::Queued(p) => (Stand::Queued(p), false),
+        Place::Running(p, assigned) => (Stand::Running(p), assigned),
+    }
 }
 
 fn is_admission(own: OwnRow) -> bool
