@@ -61,7 +61,7 @@ pub(crate) fn row(scaler: &mut Option<Scaler>, added: Row, at: Stand, through: b
 
 /// The own row of an arrival or a finish; of each kind apart, so that no row needs memory of its own. `at` and `through` as of
 /// `row`.
-#[inline(always)]
+#[inline]
 pub(crate) fn own(scaler: &mut Option<Scaler>, own: OwnRow, at: Stand, through: bool)
     requires { IsNextInSome scaler.old (own_row own) at through }
     ensures stands { TakesRow (own_row own) at through scaler.old scaler.new }

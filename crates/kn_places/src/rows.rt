@@ -18,7 +18,7 @@ fn end_of(stand: Stand, through: bool) -> Change
 
 /// What a row changes of live requests. Where a request ends with it, `stand` and `through` say where that stands before it,
 /// and whether the activator handed it to its pod; of other rows they say nothing.
-#[inline(always)]
+#[inline]
 pub fn change_of(added: Row, stand: Stand, through: bool) -> Option<Change>
     ensures { result ≡ change_in added stand through }
 {

@@ -1,5 +1,5 @@
 //! The rows that an event begins with, in a report.
-ghost use Rattle.std.specs.Prelude.{◌≡◌, ◌+◌, ◌<◌, ◌≤◌, ◌^◌, ◌++◌, length, OnErr, OnOk};
+ghost use Rattle.std.specs.Prelude.{◌≡◌, ◌+◌, ◌<◌, ◌≤◌, ◌^◌, ◌++◌, length, IfNone, IfSome, MatchOption, OnErr, OnOk};
 ghost use Rattle.kn_io.specs.Causes.{HasCause};
 ghost use Rattle.kn_io.specs.Prefix.{AppendsPrefix};
 ghost use Rattle.kn_report.specs.Frequent.{PutsRow};
@@ -7,6 +7,7 @@ ghost use Rattle.kn_report.specs.Waiting.{Adds};
 ghost use Rattle.kn_throttle.specs.Rows.{dispatch_row};
 ghost use Rattle.kn_trace.specs.Report.{rows_text, totals};
 ghost use Rattle.kn_trace.specs.Trace.{Trace};
+ghost use Rattle.kn_core.specs.declared.first.FirstRows.TheVariants as first;
 ghost use Rattle.kn_core.specs.Firsts.{first_rows, own_row};
 
 use kn_core::{FirstRows, OwnRow};
@@ -49,6 +50,19 @@ fn put_dispatch(dispatch: Dispatch, time: u64, tally: &mut Tally, waiting: &mut 
     }
 }
 
+/// The own row, and with which a request is dispatched behind it, if one is. None where the log has all rows.
+#[inline]
+fn parts_of(first: FirstRows) -> Option<(OwnRow, Option<Dispatch>)>
+    ensures none { IfNone result (first ≡ first.Nothing) }
+    ensures some { IfSome result (λ p. MatchOption p.1 (first ≡ first.Own p.0) (λ d. first ≡ first.Both p.0 d)) }
+{
+    match first {
+        FirstRows::Nothing => None,
+        FirstRows::Own(own) => Some((own, None)),
+        FirstRows::Both(own, dispatch) => Some((own, Some(dispatch))),
+    }
+}
+
 /// Puts the rows that an event begins with behind what waits, and counts them.
 #[inline(always)]
 pub fn put_first(first: FirstRows, time: u64, tally: &mut Tally, waiting: &mut Waiting)
@@ -59,13 +73,13 @@ pub fn put_first(first: FirstRows, time: u64, tally: &mut Tally, waiting: &mut W
     ensures few { tally.new.rows ≤ tally.old.rows + 2 }
     ensures totals { (c : Trace) → tally.old.totals ≡ totals c → tally.new.totals ≡ totals (c ++ first_rows time first) }
 {
-    match first {
-        FirstRows::Nothing => {}
-        FirstRows::Own(own) => put_own(own, time, tally, waiting),
-        FirstRows::Both(own, dispatch) => {
-            put_own(own, time, tally, waiting);
-            put_dispatch(dispatch, time, tally, waiting);
-        }
+    let Some((own, next)) = parts_of(first) else {
+        return;
+    };
+    put_own(own, time, tally, waiting);
+    match next {
+        None => {}
+        Some(dispatch) => put_dispatch(dispatch, time, tally, waiting),
     }
 }
 

@@ -190,7 +190,7 @@ fn put_nine(room: &mut [u8], at: usize, n: u64) -> usize
 }
 
 /// A number of four digits to six.
-#[inline(always)]
+#[inline]
 fn put_thousands(room: &mut [u8], at: usize, n: u64) -> usize
     requires { (1000 ≤ n) × (n < 1000000) × (at + 7 ≤ length room.old) }
     ensures text { take result room.new ≡ take at room.old ++ decimal n }
@@ -202,7 +202,7 @@ fn put_thousands(room: &mut [u8], at: usize, n: u64) -> usize
 }
 
 /// A number of seven digits to nine.
-#[inline(always)]
+#[inline]
 fn put_millions(room: &mut [u8], at: usize, n: u64) -> usize
     requires { (1000000 ≤ n) × (n < 1000000000) × (at + 10 ≤ length room.old) }
     ensures text { take result room.new ≡ take at room.old ++ decimal n }

@@ -5,4 +5,4 @@ mod cells;
 mod seats;
 mod tracker;
 
-pub use seats::{Freed, Seats};
+pub use seats::{Freed, Load, Seats};

@@ -16,6 +16,14 @@ pub struct Freed {
     pub draining: bool,
 }
 
+/// A pod's limit, where 0 is no limit, and how many requests run and are queued there.
+#[derive(Clone, Copy)]
+pub struct Load {
+    pub limit: u64,
+    pub running: u64,
+    pub queued: u64,
+}
+
 /// Pods, and the requests that run and are queued at each. Room for pods and requests is taken once.
 ///
 /// Contracts see the list of the pods in the order of their numbers, and both rooms. A pod limit is at most 1,000.
@@ -273,6 +281,22 @@ impl Seats {
         ensures { result ≡ length (pod_at p self.now.pods).queued }
     {
         self.tracker(p).queue.count as u64
+    }
+
+    /// What a pod has to bear, looked up at once.
+    #[inline]
+    pub fn load(&self, p: u64) -> Load
+        requires { IsTrue (has_pod p self.now.pods) }
+        ensures limit { result.limit ≡ (pod_at p self.now.pods).limit }
+        ensures running { result.running ≡ (pod_at p self.now.pods).running }
+        ensures queued { result.queued ≡ length (pod_at p self.now.pods).queued }
+    {
+        let pod = self.tracker(p);
+        Load {
+            limit: pod.limit,
+            running: pod.running,
+            queued: pod.queue.count as u64,
+        }
     }
 
     /// How many are queued at all pods together.

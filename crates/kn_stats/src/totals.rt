@@ -66,7 +66,7 @@ impl Totals {
     }
 
     /// One change, at the time of the last advance, or at the start before there is one.
-    #[inline(always)]
+    #[inline]
     pub fn change(&mut self, c: Change)
         requires { CanCount self.old c }
         ensures stands { (cs : List TimedChange) → IsTotalsOf self.old cs → IsTotalsOf self.new (cs ++ timed self.old.time c ∷ []) }
@@ -76,7 +76,7 @@ impl Totals {
     }
 
     /// What it changes of the counts.
-    #[inline(always)]
+    #[inline]
     fn count(&mut self, c: Change)
         requires { CanCount self.old c }
         ensures bounded { IsBounded self.old }

@@ -149,7 +149,7 @@ fn search(slots: &[Slot], r: u64) -> Option<usize>
 
 /// Where the slot of this number stands: at the place that is looked at first, or by a search.
 #[inline]
-fn slot_of(slots: &[Slot], hint: usize, r: u64) -> Option<usize>
+pub fn slot_of(slots: &[Slot], hint: usize, r: u64) -> Option<usize>
     requires order { AreInOrder slots.now }
     requires few { length slots.now ≤ 65536 }
     ensures { MatchOption result (All (λ (s : Slot). s.request.number ≢ r) slots.now) (λ place. IsSlotOf r slots.now place) }

@@ -13,7 +13,7 @@ ghost use Rattle.kn_table.specs.Slots.{AreFirst, AreInOrder, AreKept, IsHeldAt, 
 
 use crate::cursors::{Cursors, number_at, request_at};
 use crate::hints::Hints;
-use crate::slot::{PlaceKind, Slot, begun, is_after, place_of, sweep};
+use crate::slot::{PlaceKind, Slot, begun, is_after, place_of, slot_of, sweep};
 use kn_event::Memory;
 use kn_record::{Place, Request};
 use std::alloc::Global;
@@ -263,8 +263,15 @@ impl Table {
         ensures len { IfSome result (λ q. length self.new + 1 ≡ length self.old) }
         ensures unchanged { IfNone result (self.new ≡ self.old) }
     {
-        let place = place_of(&self.slots, self.hints.get(r), r)?;
-        if PlaceKind::Waiting.includes(self.slots[place].request.place) != waiting {
+        let place = match slot_of(&self.slots, self.hints.get(r), r) {
+            Some(place) => place,
+            None => return None,
+        };
+        let slot = self.slots[place];
+        if slot.has_ended {
+            return None;
+        }
+        if PlaceKind::Waiting.includes(slot.request.place) != waiting {
             return None;
         }
         Some(remove_at(&mut self.slots, &mut self.live, &mut self.cursors, place))

@@ -248,10 +248,11 @@ impl Throttle {
         requires { contains p (pod_numbers self.now.admission.pods) ≡ true }
         ensures { result ≡ can_run_at self.now.admission p }
     {
-        if self.seats.queued(p) == 0 {
+        let load = self.seats.load(p);
+        if load.queued == 0 {
             return false;
         }
-        is_free(self.seats.limit(p), self.seats.running(p))
+        is_free(load.limit, load.running)
     }
 
     /// Whether a pod drains and no request is at it.
