@@ -7,7 +7,7 @@ ghost use Rattle.kn_report.specs.Waiting.{Adds};
 ghost use Rattle.kn_throttle.specs.Rows.{dispatch_row};
 ghost use Rattle.kn_trace.specs.Report.{rows_text, totals};
 ghost use Rattle.kn_trace.specs.Trace.{Trace};
-ghost use Rattle.kn_core.specs.declared.first.FirstRows.TheVariants as first;
+ghost use Rattle.kn_core.specs.declared.first.FirstRows.TheVariants as rows;
 ghost use Rattle.kn_core.specs.Firsts.{first_rows, own_row};
 
 use kn_core::{FirstRows, OwnRow};
@@ -53,8 +53,8 @@ fn put_dispatch(dispatch: Dispatch, time: u64, tally: &mut Tally, waiting: &mut 
 /// The own row, and with which a request is dispatched behind it, if one is. None where the log has all rows.
 #[inline]
 fn parts_of(first: FirstRows) -> Option<(OwnRow, Option<Dispatch>)>
-    ensures none { IfNone result (first ≡ first.Nothing) }
-    ensures some { IfSome result (λ p. MatchOption p.1 (first ≡ first.Own p.0) (λ d. first ≡ first.Both p.0 d)) }
+    ensures none { IfNone result (first ≡ rows.Nothing) }
+    ensures some { IfSome result (λ p. MatchOption p.1 (first ≡ rows.Own p.0) (λ d. first ≡ rows.Both p.0 d)) }
 {
     match first {
         FirstRows::Nothing => None,
