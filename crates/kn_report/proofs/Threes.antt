@@ -1,5 +1,5 @@
 -- The digits of a number three at a time, and the tables of them.
-use Rattle.std.proofs.Common.{◌≡◌, ◌+◌, ◌*◌, ◌/◌, ◌%◌, ◌-◌, ◌<◌, ◌≤◌, ◌^◌, ℕ, zero, suc, List, [], ◌∷◌, ◌++◌, length, get_or, set, take, drop, append_assoc, append-nil, length-append, length-drop, length-set, refl, sym, ap, ◌∙◌, arith}
+use Rattle.std.proofs.Common.{◌≡◌, ◌+◌, ◌*◌, ◌/◌, ◌%◌, ◌-◌, ◌<◌, ◌≤◌, ◌^◌, ℕ, zero, suc, List, [], ◌∷◌, ◌++◌, length, get_or, set, take, drop, append_assoc, append-nil, length-append, length-drop, length-set, refl, subst, sym, ap, ◌∙◌, arith}
 use Rattle.std.specs.Fmt.{decimal, digits}
 use Rattle.std.proofs.lemmas.Fmt.{decimal_step, decimal_nonempty, length-decimal-le}
 use Rattle.std.proofs.lemmas.List.{drop-drop, drop_at, get_or-drop, get_or-take, get_or_push, length-take-le, take-append-le, take-take, take_at, take_more, take_more_set}
@@ -28,7 +28,7 @@ block_at f i (suc k) (suc n) j four h is =
 
 -- four bytes of a number: its digits in three, and how many they are
 least_four : ℕ → List ℕ
-least_four n = take 3 (decimal n ++ 32 ∷ 32 ∷ []) ++ (48 + length (decimal n)) ∷ []
+least_four n = take 3 (decimal n ++ 32 ∷ 32 ∷ []) ++ length (decimal n) ∷ []
 
 -- four bytes of a number: its three digits, and one that says nothing
 three_four : ℕ → List ℕ
@@ -56,7 +56,7 @@ length_least_three n h =
 length_least : (n : ℕ) → n < 1000 → length (least_four n) ≡ 4
 unfolding least_four
 length_least n h =
-    length-append (take 3 (decimal n ++ 32 ∷ 32 ∷ [])) ((48 + length (decimal n)) ∷ []) ∙ ap (λ (k : ℕ). k + 1) (length_least_three n h)
+    length-append (take 3 (decimal n ++ 32 ∷ 32 ∷ [])) (length (decimal n) ∷ []) ∙ ap (λ (k : ℕ). k + 1) (length_least_three n h)
 
 length_three : (n : ℕ) → length (three_four n) ≡ 4
 unfolding three_four
@@ -74,7 +74,7 @@ unfolding least_four
 least_text n h =
     let few : length (decimal n) ≤ 3 = length-decimal-le 3 n (omega arith) (omega arith) (omega arith) in
     let spaced = decimal n ++ 32 ∷ 32 ∷ [] in
-    take-append-le (length (decimal n)) (take 3 spaced) ((48 + length (decimal n)) ∷ []) (omega (arith, length_least_three n h))
+    take-append-le (length (decimal n)) (take 3 spaced) (length (decimal n) ∷ []) (omega (arith, length_least_three n h))
     ∙ take-take (length (decimal n)) 3 spaced few ∙ take_at (decimal n) (32 ∷ 32 ∷ []) (length (decimal n)) refl
 
 -- ---- four bytes copied
@@ -113,22 +113,23 @@ four_text room t at from fits has =
 -- ---- a number below 1,000 that is written by a table
 
 -- how many digits there are, as the table has it
-pub least_last : (n : ℕ) → n < 1000 → get_or LEAST (n * 4 + 3) 0 ≡ 48 + length (decimal n)
+pub least_last : (n : ℕ) → n < 1000 → get_or LEAST (n * 4 + 3) 0 ≡ length (decimal n)
 unfolding least_four
 least_last n h =
     sym (get_or-drop (n * 4) LEAST 3 0) ∙ sym (get_or-take 4 (drop (n * 4) LEAST) 3 0 (omega arith)) ∙ ap (λ (m : List ℕ). get_or m 3 0) (least_at n h)
-    ∙ get_or_push (take 3 (decimal n ++ 32 ∷ 32 ∷ [])) (48 + length (decimal n)) 0 3 (length_least_three n h)
+    ∙ get_or_push (take 3 (decimal n ++ 32 ∷ 32 ∷ [])) (length (decimal n)) 0 3 (length_least_three n h)
 
 pub length_few : (n : ℕ) → n < 1000 → length (decimal n) ≤ 3
 length_few n h = length-decimal-le 3 n (omega arith) (omega arith) (omega arith)
 
 pub least_written : (room : List ℕ) (at n : ℕ) → n < 1000 → at + 4 ≤ length room
-    → take (at + (get_or LEAST (n * 4 + 3) 0 - 48)) (four_copied room LEAST at (n * 4)) ≡ take at room ++ decimal n
+    → take (at + (get_or LEAST (n * 4 + 3) 0)) (four_copied room LEAST at (n * 4)) ≡ take at room ++ decimal n
 least_written room at n h fits =
     let few = length_few n h in
-    let last : get_or LEAST (n * 4 + 3) 0 - 48 ≡ length (decimal n) = omega (arith, least_last n h) in
+    let last : get_or LEAST (n * 4 + 3) 0 ≡ length (decimal n) = omega (arith, least_last n h) in
     let four = four_text room LEAST at (n * 4) fits (omega (arith, length_LEAST)) ∙ ap (λ (m : List ℕ). take at room ++ m) (least_at n h) in
-    rw last (front_of room (four_copied room LEAST at (n * 4)) (least_four n) at (length (decimal n)) 4 (omega arith) (omega arith) four
+    subst (λ (k : ℕ). take (at + k) (four_copied room LEAST at (n * 4)) ≡ take at room ++ decimal n) (sym last)
+    (front_of room (four_copied room LEAST at (n * 4)) (least_four n) at (length (decimal n)) 4 (omega arith) (omega arith) four
     ∙ ap (λ (m : List ℕ). take at room ++ m) (least_text n h))
 
 pub three_written : (room : List ℕ) (at n : ℕ) → n < 1000 → at + 4 ≤ length room → take (at + 3) (four_copied room THREES at (n * 4)) ≡ take at room ++ three n

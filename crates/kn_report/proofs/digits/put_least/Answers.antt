@@ -2,9 +2,6 @@ use Rattle.std.proofs.Common.{arith}
 use Rattle.kn_report.proofs.Threes.{least_last, least_written, length_few}
 use Rattle.kn_report.proofs.digits.put_least.Goals as goal
 
-pub overflow_sub-result : goal.overflow_sub-result
-overflow_sub-result c = omega (arith, least_last c.args.n c.requires.0)
-
 pub returns-clause-text : goal.returns-clause-text
 returns-clause-text c = least_written c.args.room.now c.args.at c.args.n c.requires.0 c.requires.1
 
