@@ -20,7 +20,7 @@ use Rattle.kn_record.specs.Acting.{row_in}
 use Rattle.kn_record.specs.Admission.{Admission, is_assigned_place, is_at, placed_in, runs_somewhere, stepped, waits, without}
 use Rattle.kn_record.specs.Order.{IsInOrder}
 use Rattle.kn_record.specs.Views.{numbers_in, stand_in, stand_of_place}
-use Rattle.kn_table.proofs.Requests.{apart, not_placed, placed_found}
+use Rattle.kn_throttle.proofs.Placed.{apart, not_placed, placed_found}
 use Rattle.kn_throttle.specs.Rows.{cancel_row, finish_row}
 use Rattle.kn_throttle.specs.State.{State, with_row}
 use Rattle.kn_throttle.proofs.Ended.{found_has}

@@ -1,4 +1,5 @@
 pub mod Same
+pub mod Placed
 pub mod Places
 pub mod Totals
 pub mod Parts

@@ -1,6 +1,6 @@
 use Rattle.std.proofs.Common.{sym}
 use Rattle.kn_record.specs.Admission.{is_assigned_place}
-use Rattle.kn_table.proofs.Requests.{not_placed}
+use Rattle.kn_throttle.proofs.Placed.{not_placed}
 use Rattle.kn_throttle.proofs.throttle.Throttle.proxied.Goals as goal
 
 pub returns-in-None-clause-value : goal.returns-in-None-clause-value
