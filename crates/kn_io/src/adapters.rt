@@ -9,8 +9,11 @@ use std::io;
 use std::io::{ErrorKind, Read, Write};
 use std::thread::yield_now;
 
-/// How many bytes an adapter reads at once.
+/// How many bytes are read from a connection at once, and copied at once.
 pub const PIECE: usize = 8192;
+
+/// How many bytes a reader is asked for at once: as many as a journal's reader keeps ahead.
+const READ: usize = 65536;
 
 /// How often a call is made that ends in no error but those that pass.
 const TRIES: u64 = u64::MAX;
@@ -29,6 +32,36 @@ pub fn fault(faults: &mut u64) -> Failed
     Failed
 }
 
+/// Copies bytes piece by piece. (the C library copies larger pieces by one instruction that is repeated for each byte)
+fn copy(from: &[u8], to: &mut [u8])
+    requires { length to.old ≡ length from.now }
+    ensures { to.new ≡ from.now }
+{
+    let mut at = 0;
+    while at < from.len() {
+        let end = from.len().min(at + PIECE);
+        to[at..end].copy_from_slice(&from[at..end]);
+        at = end;
+    }
+}
+
+/// Reads once, through another buffer, since a reader may write past what it answers.
+fn read_through<R: Read>(reader: &mut R, own: &mut [u8], buf: &mut [u8]) -> io::Result<usize>
+    requires { 0 < length own.old }
+    ensures bound { IfOk result (λ n. n ≤ length buf.old) }
+    ensures piece { IfOk result (λ n. n ≤ length own.old) }
+    ensures moved { MatchResult result
+        (λ n. Consumes (R.remaining reader.old) (R.remaining reader.new) (take n buf.new))
+        (λ _. Keeps (R.remaining reader.old) (R.remaining reader.new)) }
+    ensures end { IfOk result (λ n. n ≡ 0 → 0 < length buf.old → IsAtEnd (R.remaining reader.new)) }
+    ensures rest_of_buffer { MatchResult result (λ n. drop n buf.new ≡ drop n buf.old) (λ _. buf.new ≡ buf.old) }
+{
+    let most = buf.len().min(own.len());
+    let n = reader.read(&mut own[..most])?;
+    copy(&own[..n], &mut buf[..n]);
+    Ok(n)
+}
+
 /// Reads once, through a buffer of its own, since a reader may write past what it answers.
 pub fn read_piece<R: Read>(
     reader: &mut R,
@@ -43,21 +76,17 @@ pub fn read_piece<R: Read>(
     ensures end { IfOk result (λ n. n ≡ 0 → 0 < length buf.old → IsAtEnd (R.remaining reader.new)) }
     ensures rest_of_buffer { MatchResult result (λ n. drop n buf.new ≡ drop n buf.old) (λ _. buf.new ≡ buf.old) }
 {
-    let own = &mut own[..];
-    let most = buf.len().min(own.len());
-    let n = reader.read(&mut own[..most])?;
-    buf[..n].copy_from_slice(&own[..n]);
-    Ok(n)
+    read_through(reader, &mut own[..], buf)
 }
 
 /// Reads once, and again as long as what ended the read passes.
 fn read_at_last<R: Read>(
     reader: &mut R,
-    own: &mut [u8; PIECE],
+    own: &mut [u8; READ],
     buf: &mut [u8],
 ) -> Result<usize, Failed>
     ensures bound { IfOk result (λ n. n ≤ length buf.old) }
-    ensures piece { IfOk result (λ n. n ≤ 8192) }
+    ensures piece { IfOk result (λ n. n ≤ 65536) }
     ensures moved { MatchResult result
         (λ n. Consumes (R.remaining reader.old) (R.remaining reader.new) (take n buf.new))
         (λ _. Keeps (R.remaining reader.old) (R.remaining reader.new)) }
@@ -65,7 +94,7 @@ fn read_at_last<R: Read>(
     ensures rest_of_buffer { MatchResult result (λ n. drop n buf.new ≡ drop n buf.old) (λ _. buf.new ≡ buf.old) }
 {
     for _ in 0..TRIES {
-        match read_piece(reader, own, buf) {
+        match read_through(reader, &mut own[..], buf) {
             Ok(n) => return Ok(n),
             Err(error) if is_passing(&error) => yield_now(),
             Err(_) => return Err(Failed),
@@ -96,7 +125,7 @@ fn write_at_last<W: Write>(writer: &mut W, bytes: &[u8]) -> Result<usize, Failed
 #[derive(Drop)]
 pub struct ReaderSource<R> {
     reader: R,
-    buffer: [u8; PIECE],
+    buffer: [u8; READ],
     given: u128,
     faults: u64,
 }
@@ -109,7 +138,7 @@ impl<R: Read> ReaderSource<R> {
     {
         ReaderSource {
             reader,
-            buffer: [0; PIECE],
+            buffer: [0; READ],
             given: 0,
             faults: 0,
         }
@@ -132,7 +161,7 @@ impl<R: Read> Source for ReaderSource<R> {
     ghost given = { λ s. s.given };
 
     fn read(&mut self, buf: &mut [u8]) -> Result<usize, Failed> {
-        if self.given > u128::MAX - PIECE as u128 {
+        if self.given > u128::MAX - READ as u128 {
             return Err(fault(&mut self.faults));
         }
         match read_at_last(&mut self.reader, &mut self.buffer, buf) {

@@ -1,5 +1,5 @@
 //! An input that is taken byte by byte, over a source that gives it in pieces.
-ghost use Rattle.std.specs.Prelude.{◌≡◌, ◌+◌, ◌<◌, ◌≤◌, [], ◌∷◌, Some, length, drop, IfOk, IsErr, OnErr, OnOk};
+ghost use Rattle.std.specs.Prelude.{◌≡◌, ◌+◌, ◌<◌, ◌≤◌, [], ◌∷◌, Some, true, length, drop, IfOk, IsErr, OnErr, OnOk};
 ghost use Rattle.std.specs.Io.KnownBytes.{IsAtEnd, Keeps};
 ghost use Rattle.kn_journal.specs.Drawing.{Draws, byte_error};
 ghost use Rattle.kn_journal.specs.Reading.{TakesByte, most_taken, taken_with, unread};
@@ -12,29 +12,32 @@ use std::marker::Model;
 /// How many bytes may be taken of one input.
 pub const MOST_TAKEN: u64 = 1 << 56;
 
-/// The bytes that were read ahead of what was taken, and the count of the bytes taken. The buffer lies on the heap, since an
-/// input is moved before it is used.
+/// How many bytes may be read ahead.
+const AHEAD_MOST: usize = 65536;
+
+/// The bytes that were read ahead of what was taken, and the count of the bytes taken: those before the buffer's, and those
+/// before its start. The buffer lies on the heap, since an input is moved before it is used.
 #[derive(Drop)]
 pub struct Input {
     buffer: Vec<u8>,
     start: usize,
     end: usize,
-    taken: u64,
+    before: u64,
 }
 
 impl Model for Input {
-    ghost use Rattle.std.specs.Prelude.{◌≡◌, ◌≤◌, take, drop, length};
+    ghost use Rattle.std.specs.Prelude.{◌≡◌, ◌+◌, ◌≤◌, take, drop, length};
     ghost use Rattle.kn_journal.specs.Reading.{Ahead, most_taken};
 
     ghost Value = { Ahead };
 
-    ghost view = { λ r. record { ahead = drop r.start (take r.end r.buffer.items); taken = r.taken } };
+    ghost view = { λ r. record { ahead = drop r.start (take r.end r.buffer.items); taken = r.before + r.start } };
 
     ghost invariant = { λ r. record {
       order : r.start ≤ r.end;
       inside : r.end ≤ 65536;
       room : length r.buffer.items ≡ 65536;
-      few : r.taken ≤ most_taken;
+      few : r.before + r.start ≤ most_taken;
     } };
 }
 
@@ -44,12 +47,12 @@ impl Input {
         ensures ahead { IfOk result (λ r. r.ahead ≡ []) }
         ensures taken { IfOk result (λ r. r.taken ≡ 0) }
     {
-        match vec![in alloc; 0; 65536] {
+        match vec![in alloc; 0; AHEAD_MOST] {
             Ok(buffer) => Ok(Input {
                 buffer,
                 start: 0,
                 end: 0,
-                taken: 0,
+                before: 0,
             }),
             Err(_) => Err(Memory),
         }
@@ -76,7 +79,15 @@ impl Input {
     pub fn may_take(&self) -> u64
         ensures { self.now.taken + result ≡ most_taken }
     {
-        MOST_TAKEN - self.taken
+        MOST_TAKEN - self.before - self.start as u64
+    }
+
+    /// Whether all bytes that are ahead may be taken. False says nothing.
+    #[inline(always)]
+    pub fn may_take_all(&self) -> bool
+        ensures { result ≡ true → self.now.taken + length self.now.ahead ≤ most_taken }
+    {
+        self.before <= MOST_TAKEN - AHEAD_MOST as u64
     }
 
     /// Takes bytes that were read ahead.
@@ -88,7 +99,6 @@ impl Input {
         ensures taken { self.new.taken ≡ self.old.taken + n }
     {
         self.start += n;
-        self.taken += n as u64;
     }
 
     /// Takes the first byte that was read ahead.
@@ -101,7 +111,6 @@ impl Input {
     {
         let byte = self.buffer[self.start];
         self.start += 1;
-        self.taken += 1;
         byte
     }
 
@@ -114,6 +123,7 @@ impl Input {
         ensures failed { OnErr result (self.new ≡ self.old) }
         ensures source { Draws Keeps (byte_error result) self.old self.new S.Source.own S.Faulty source.old source.new }
     {
+        self.before += self.start as u64;
         self.start = 0;
         self.end = 0;
         self.end = source.read(&mut self.buffer)?;
@@ -137,7 +147,7 @@ impl Input {
         ensures full { self.old.taken ≡ most_taken → IsErr result }
         ensures few { self.new.taken ≤ most_taken }
     {
-        if self.taken == MOST_TAKEN {
+        if self.may_take() == 0 {
             return Err(Failed);
         }
         if self.start < self.end {

@@ -250,7 +250,7 @@ impl Lines {
     {
         spellings_are_read();
         let (e, len) = self.time.event_ahead(self.input.ahead())?;
-        if e.time < last || e.time > TIME_MOST || self.input.may_take() <= len as u64 {
+        if e.time < last || !self.input.may_take_all() || e.time > TIME_MOST {
             return None;
         }
         Some((e, len))

@@ -95,6 +95,42 @@ fn read_from<R: Read + Drop>(
     read_twos(rt, name, &mut source, times)
 }
 
+/// Whether so many bytes come at once, which are these, and what lies behind them stays.
+fn comes<R: Read + Drop>(source: &mut ReaderSource<R>, buf: &mut [u8], wanted: &[u8]) -> bool {
+    buf.fill(255);
+    let Ok(n) = source.read(buf) else {
+        return false;
+    };
+    let (came, behind) = buf.split_at(n);
+    came == wanted && behind.iter().all(|byte| *byte == 255)
+}
+
+/// Reads more bytes than come at once.
+fn read_much(rt: &HostRuntime) -> io::Result<()> {
+    let mut bytes = vec![in rt.alloc(); 0; 70_000]?;
+    for (i, byte) in bytes.iter_mut().enumerate() {
+        *byte = (i % 251) as u8;
+    }
+    let mut buf = vec![in rt.alloc(); 0; 100_000]?;
+    let (first, second) = bytes.split_at(65_536);
+    let mut source = ReaderSource::new(Cursor::new(bytes.as_slice()));
+    say(
+        rt,
+        "reader of 70000, 65536 of them",
+        comes(&mut source, &mut buf, first),
+    )?;
+    say(
+        rt,
+        "reader of 70000, the others",
+        comes(&mut source, &mut buf, second),
+    )?;
+    say(
+        rt,
+        "reader of 70000, no more",
+        comes(&mut source, &mut buf, &[]),
+    )
+}
+
 /// Writes three bytes.
 fn write_to<W: Write + Drop>(rt: &HostRuntime, name: &str, writer: W) -> io::Result<()> {
     let mut out = WriterSink::new(writer);
@@ -111,6 +147,7 @@ pub fn all(rt: &HostRuntime) -> io::Result<()> {
     read_from(rt, "reader", Cursor::new(b"abc".as_slice()), 3)?;
     read_from(rt, "broken reader", Broken, 2)?;
     read_from(rt, "halting reader", Halting { calls: 101 }, 1)?;
+    read_much(rt)?;
     write_to(rt, "writer", Vec::<u8>::new(rt.alloc()))?;
     write_to(rt, "broken writer", Broken)?;
     write_to(rt, "halting writer", Halting { calls: 101 })?;
