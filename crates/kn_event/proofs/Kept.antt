@@ -65,6 +65,10 @@ pub few_told : (len : ℕ) (zs xs ys : List ℕ) → len < 8 → IsEightBytes xs
 few_told len zs xs ys few hx same =
     take-append-le len xs ys (omega (arith, hx.0)) ∙ sym (take-take len (len + 1) xs (omega arith)) ∙ ap (take len) same ∙ take-take len (len + 1) zs (omega arith)
 
+-- eight bytes are their first eight
+pub whole_told : (vs xs : List ℕ) → IsEightBytes vs → IsEightBytes xs → take 8 xs ≡ take 8 vs → xs ≡ vs
+whole_told vs xs hv hx same = sym (take_all 8 xs (omega (arith, hx.0))) ∙ same ∙ take_all 8 vs (omega (arith, hv.0))
+
 -- the first bytes of sixteen, of which there are eight or more
 parts : (len : ℕ) (xs ys : List ℕ) → 8 ≤ len → IsEightBytes xs → take len (xs ++ ys) ≡ xs ++ take (len - 8) ys
 parts len xs ys many hx = ap (λ k. take k (xs ++ ys)) (omega (arith, hx.0)) ∙ take-append-add xs ys (len - 8)
@@ -73,7 +77,7 @@ parts len xs ys many hx = ap (λ k. take k (xs ++ ys)) (omega (arith, hx.0)) ∙
 pub many_told : (len : ℕ) (vs ws xs ys : List ℕ) → 8 ≤ len → IsEightBytes vs → IsEightBytes xs → take 8 xs ≡ take 8 vs → take (len - 7) ys ≡ take (len - 7) ws
     → take len (xs ++ ys) ≡ take len (vs ++ ws)
 many_told len vs ws xs ys many hv hx first second =
-    let front : xs ≡ vs = sym (take_all 8 xs (omega (arith, hx.0))) ∙ first ∙ take_all 8 vs (omega (arith, hv.0)) in
+    let front = whole_told vs xs hv hx first in
     let back : take (len - 8) ys ≡ take (len - 8) ws =
     sym (take-take (len - 8) (len - 7) ys (omega arith)) ∙ ap (take (len - 8)) second ∙ take-take (len - 8) (len - 7) ws (omega arith) in
     parts len xs ys many hx ∙ ap (λ l. l ++ take (len - 8) ys) front ∙ ap (λ l. vs ++ l) back ∙ sym (parts len vs ws many hv)

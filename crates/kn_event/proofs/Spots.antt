@@ -11,9 +11,8 @@ use Rattle.std.proofs.lemmas.Slice.Eq.{starts_is}
 use Rattle.std.proofs.Math.Seq.{take-append_seam}
 use Rattle.core.specs.Float.Numeral.{digits_len}
 use Rattle.core.proofs.dec2flt.DigitsLemmas.{digits_len_short}
-use lib.Seq.{take-add, take-take}
+use lib.Seq.{drop-append_seam, take-add, take-append-le, take-take, take_all}
 use Rattle.std.proofs.lemmas.Str.Parse.{digits_value_short}
-use Rattle.std.specs.Int.{w64, to_le_bytes}
 use Rattle.kn_event.specs.declared.event.Act.{Act}
 use Rattle.kn_event.specs.declared.event.Act.TheVariants as act
 use Rattle.kn_event.specs.Numbers.{is_digit, has_no_leading_zero, number_of}
@@ -107,6 +106,19 @@ front_spelled bs room len n few inside number =
     let long : length (decimal n) ≡ len = omega (arith, sizes, length-drop len bs, inside) in
     take-take len room bs (omega arith) ∙ ap (λ (m : List ℕ). take len m) number.text ∙ ap (λ (k : ℕ). take k (decimal n ++ drop len bs)) (sym long) ∙ take-append_seam (decimal n) (drop len bs)
 
+-- eight to fifteen digits that begin sixteen bytes spell what they are worth
+pub digits_spelled : (xs ys : List ℕ) (len value : ℕ) → length xs ≡ 8 → length ys ≡ 8 → 8 ≤ len → len < 16 → len ≡ digits_len (xs ++ ys) → value ≡ digits_value 10 (take len (xs ++ ys))
+    → get_or xs 0 0 ≢ 48 → take len (xs ++ ys) ≡ decimal value
+digits_spelled xs ys len value first second many most stop is lead =
+    let both : List ℕ = xs ++ ys in
+    let front : take 8 both ≡ xs = take-append-le 8 xs ys (omega arith) ∙ take_all 8 xs (omega arith) in
+    let behind : take 8 (drop 8 both) ≡ ys = ap (λ (k : ℕ). take 8 (drop k both)) (sym first) ∙ ap (take 8) (drop-append_seam xs ys) ∙ take_all 8 ys (omega arith) in
+    let size : length both ≡ 16 = length-append xs ys ∙ omega arith in
+    let whole : take 8 both ++ take 8 (drop 8 both) ≡ both = ap (λ (m : List ℕ). m ++ take 8 (drop 8 both)) front ∙ ap (λ (m : List ℕ). xs ++ m) behind in
+    let number = many_here both 0 value len len (omega arith) (omega (arith, size)) many most (stop ∙ ap digits_len (sym whole))
+    (is ∙ ap (λ (m : List ℕ). digits_value 10 (take len m)) (sym whole)) (λ zero. lead (ap (λ (m : List ℕ). get_or m 0 0) (sym front) ∙ zero)) in
+    sym (ap (take len) (take_all 16 both (omega (arith, size)))) ∙ front_spelled both 16 len value most (omega (arith, size)) number
+
 sum_same : (n m : ℕ) → n + (m + 1) ≡ n + m + 1
 sum_same n m = omega arith
 
@@ -115,19 +127,24 @@ pub word_first : (bs : List ℕ) (at : ℕ) (word rest : List ℕ) → take at b
 word_first bs at word rest is more =
     sym (take-append-drop at bs) ∙ ap (λ (m : List ℕ). m ++ drop at bs) is ∙ ap (λ (m : List ℕ). word ++ m) more
 
-pub arrival : (bs : List ℕ) (n to : ℕ) → slice_range bs 0 8 ≡ to_le_bytes w64 0x2065_7669_7272_6120 → to < length bs → drop 8 bs ≡ decimal n ++ 10 ∷ drop (to + 1) bs → n < 2 ^ 64
-    → IsActAhead bs (act.Arrive n) to
-unfolding act_text with_number
-arrival bs n to word inside rest small =
-    record { within = inside; text = word_first bs 8 (to_le_bytes w64 0x2065_7669_7272_6120) (decimal n ++ 10 ∷ drop (to + 1) bs) word rest; range = small; act = λ version. tt }
-
 -- these bytes begin so
 pub begins : (bs word : List ℕ) → starts_with nat_eq bs word ≡ true → bs ≡ word ++ drop (length word) bs
 begins bs word h = (starts_is Decides-eqb bs word true (sym h)).0 refl
 
+pub arrival : (bs : List ℕ) (n to : ℕ) → bs ≡ codes " arrive " ++ drop 8 bs → to < length bs → drop 8 bs ≡ decimal n ++ 10 ∷ drop (to + 1) bs → n < 2 ^ 64
+    → IsActAhead bs (act.Arrive n) to
+unfolding act_text with_number
+arrival bs n to word inside rest small =
+    record { within = inside; text = word ∙ ap (λ (m : List ℕ). codes " arrive " ++ m) rest; range = small; act = λ version. tt }
+
 pub tick : (bs : List ℕ) → starts_with nat_eq bs (codes " tick\n") ≡ true → 6 ≤ length bs → IsActAhead bs act.Tick 5
 unfolding act_text
 tick bs word room = record { within = omega arith; text = begins bs (codes " tick\n") word; range = tt; act = λ version. tt }
+
+-- the same by its first bytes
+pub tick_first : (bs : List ℕ) → take 6 bs ≡ codes " tick\n" → 6 ≤ length bs → IsActAhead bs act.Tick 5
+unfolding act_text
+tick_first bs word room = record { within = omega arith; text = word_first bs 6 (codes " tick\n") (drop 6 bs) word refl; range = tt; act = λ version. tt }
 
 pub pass : (bs : List ℕ) → starts_with nat_eq bs (codes " pass\n") ≡ true → 6 ≤ length bs → IsActAhead bs act.Pass 5
 unfolding act_text
@@ -145,7 +162,7 @@ unfolding act_text with_number
 cancellation bs n to word inside rest small =
     record { within = inside; text = begins bs (codes " cancel ") word ∙ ap (λ (m : List ℕ). codes " cancel " ++ m) rest; range = small; act = λ version. tt }
 
-pub finish : (bs : List ℕ) (n end len : ℕ) (ok : Bool) → slice_range bs 0 8 ≡ to_le_bytes w64 0x2068_7369_6e69_6620 → IsNumberAt bs 8 n end → len < length (drop end bs)
+pub finish : (bs : List ℕ) (n end len : ℕ) (ok : Bool) → bs ≡ codes " finish " ++ drop 8 bs → IsNumberAt bs 8 n end → len < length (drop end bs)
     → drop end bs ≡ outcome_word ok ++ 10 ∷ drop (len + 1) (drop end bs) → IsActAhead bs (act.Finish n ok) (end + len)
 unfolding act_text with_number labelled
 finish bs n end len ok word number inside rest =
@@ -154,7 +171,7 @@ finish bs n end len ok word number inside rest =
     number.text ∙ ap (λ (m : List ℕ). decimal n ++ m) (rest ∙ ap (λ (m : List ℕ). outcome_word ok ++ 10 ∷ m) left) ∙ sym (append_assoc (decimal n) (outcome_word ok) (10 ∷ drop (end + len + 1) bs)) in
     record {
       within = grind (arith, common_steps);
-      text = word_first bs 8 (to_le_bytes w64 0x2068_7369_6e69_6620) ((decimal n ++ outcome_word ok) ++ 10 ∷ drop (end + len + 1) bs) word behind;
+      text = word ∙ ap (λ (m : List ℕ). codes " finish " ++ m) behind;
       range = number.small;
       act = λ version. tt;
     }

@@ -1,6 +1,6 @@
 -- The digits of words of eight bytes.
 use Rattle.core.specs.Prelude.{◌≡◌, ℕ, ◌+◌, ◌*◌, ◌^◌, ◌<◌, ◌≤◌, leb, List, [], ◌∷◌, ◌++◌, length, get_or, map, take, drop, bit_and}
-use mathlib.Core.Path.{sym, ap, ◌∙◌}
+use mathlib.Core.Path.{refl, sym, ap, ◌∙◌}
 use native.Mathlib.Nat.{mul-le-mul_left}
 use native.Mathlib.Omega.{arith}
 use lib.Bits.{and_mask}
@@ -33,3 +33,13 @@ ten_to_few n few = leb→le _ _ (every_below (λ k. leb (10 ^ k) 10000000) 8 tt 
 
 pub scaled_fits : (high n : ℕ) → high < 2 ^ 32 → n < 8 → high * 10 ^ n ≤ 2 ^ 32 * 10000000
 scaled_fits high n small few = omega (arith, mul-le-mul_left high (ten_to_few n few))
+
+-- eight digits with a space behind them
+pub alone : (xs ys : List ℕ) (n : ℕ) → IsEightBytes xs → IsEightBytes ys → bit_and (number_l 256 ys) 0xff ≡ 32 → digits_len xs ≡ 8 → n ≡ digits_value 10 xs
+    → (8 ≡ digits_len (xs ++ ys)) × (n ≡ digits_value 10 (take 8 (xs ++ ys)))
+alone xs [] n hx hy space all is = absurd (omega (arith, hy.0))
+alone xs (y ∷ ys) n hx hy space all is =
+    let low : y ≡ 32 = omega (arith, space, and_mask (number_l 256 (y ∷ ys)) 8, hy.1.0) in
+    let none : digits_len (y ∷ ys) ≡ 0 = rw low refl in
+    let both = joined xs (y ∷ ys) n 0 0 hx.0 hy.0 all is (omega arith) (sym none) refl in
+    (both.0, omega arith ∙ both.1)

@@ -9,9 +9,9 @@ ghost use Rattle.std.specs.Int.{w32, w64, to_le_bytes};
 ghost use Rattle.std.specs.Str.Parse.{digits_value};
 ghost use Rattle.kn_event.specs.EntryLine.{outcome_word};
 ghost use Rattle.kn_event.specs.EventLine.{Spells};
-ghost use Rattle.kn_event.specs.PlainLine.{IsNumberAt, IsActAhead};
+ghost use Rattle.kn_event.specs.PlainLine.{AreEightDigits, IsNumberAt, IsActAhead};
 
-use crate::digits::{few_digits, many_digits};
+use crate::digits::{few_digits, first_digits, further_digits};
 use crate::event::{Act, Event};
 use crate::front::Front;
 use core::dec2flt::read_digits;
@@ -22,10 +22,20 @@ const ARRIVE: u64 = 0x2065_7669_7272_6120;
 
 const FINISH: u64 = 0x2068_7369_6e69_6620;
 
+// ` tick` and the LF.
+const TICK: u64 = 0x0a6b_6369_7420;
+
+const SPACE: u64 = 0x20;
+
 // ` ok` and the LF.
 const OK: u32 = 0x0a6b_6f20;
 
-#[inline(always)]
+// In so many bytes a time of 19 digits, a word of eight bytes and one more behind it have room, so that none of them asks for it.
+const ROOM: usize = 48;
+
+// Both are hints, and not `always`: a call that is left for a while has its bytes read at once, also where one of them is looked at
+// by itself.
+#[inline]
 fn half_at(s: &[u8], i: usize) -> u32
     requires { i + 4 ≤ length s.now }
     ensures { to_le_bytes w32 result ≡ slice_range s.now i (i + 4) }
@@ -33,7 +43,7 @@ fn half_at(s: &[u8], i: usize) -> u32
     u32::from_le_bytes([s[i], s[i + 1], s[i + 2], s[i + 3]])
 }
 
-#[inline(always)]
+#[inline]
 fn word_at(s: &[u8], i: usize) -> u64
     requires { i + 8 ≤ length s.now }
     ensures bytes { to_le_bytes w64 result ≡ slice_range s.now i (i + 8) }
@@ -66,7 +76,8 @@ fn digits_at(line: &[u8], from: usize) -> (usize, u64)
 #[inline(always)]
 fn long_number_at(line: &[u8], from: usize) -> Option<(u64, usize)>
     requires { from ≤ length line.now }
-    ensures { IfSome result (λ p. IsNumberAt line.now from p.0 p.1) }
+    ensures number { IfSome result (λ p. IsNumberAt line.now from p.0 p.1) }
+    ensures end { IfSome result (λ p. p.1 < from + 20) }
 {
     let (end, value) = digits_at(line, from);
     let len = end - from;
@@ -80,35 +91,45 @@ fn long_number_at(line: &[u8], from: usize) -> Option<(u64, usize)>
 }
 
 /// The same, for those that have eight digits or more.
-#[inline(never)]
 fn many_number_at(line: &[u8], from: usize) -> Option<(u64, usize)>
     requires { from ≤ length line.now }
     ensures { IfSome result (λ p. IsNumberAt line.now from p.0 p.1) }
 {
     if line.len() - from >= 16 {
-        if let Some((len, value)) = many_digits(word_at(line, from), word_at(line, from + 8)) {
-            return Some((value, from + len));
+        if let Some(high) = first_digits(word_at(line, from)) {
+            if let Some((len, value)) = further_digits(high, word_at(line, from + 8)) {
+                return Some((value, from + len));
+            }
         }
     }
     long_number_at(line, from)
 }
 
-/// The same. Most have one to seven digits.
+/// A number of one to seven digits, as most have, and where it ends.
 #[inline(always)]
+fn few_at(line: &[u8], from: usize) -> Option<(u64, usize)>
+    requires { from + 8 ≤ length line.now }
+    ensures number { IfSome result (λ p. IsNumberAt line.now from p.0 p.1) }
+    ensures end { IfSome result (λ p. p.1 < from + 8) }
+{
+    let (len, value) = few_digits(word_at(line, from))?;
+    Some((value, from + len))
+}
+
+/// A number of at most 19 digits, and where it ends.
 fn number_at(line: &[u8], from: usize) -> Option<(u64, usize)>
     requires { from ≤ length line.now }
     ensures { IfSome result (λ p. IsNumberAt line.now from p.0 p.1) }
 {
     if line.len() - from >= 8 {
-        if let Some((len, value)) = few_digits(word_at(line, from)) {
-            return Some((value, from + len));
+        if let Some(found) = few_at(line, from) {
+            return Some(found);
         }
     }
     many_number_at(line, from)
 }
 
 /// An outcome, and where the LF behind it stands.
-#[inline(always)]
 fn outcome_ahead(text: &[u8]) -> Option<(bool, usize)>
     ensures inside { IfSome result (λ p. p.1 < length text.now) }
     ensures text { IfSome result (λ p. text.now ≡ outcome_word p.0 ++ 10 ∷ drop (p.1 + 1) text.now) }
@@ -124,7 +145,6 @@ fn outcome_ahead(text: &[u8]) -> Option<(bool, usize)>
 }
 
 /// A number at the front, and where the LF right behind it stands.
-#[inline(always)]
 fn number_ahead(text: &[u8], from: usize) -> Option<(u64, usize)>
     requires { from ≤ length text.now }
     ensures inside { IfSome result (λ p. p.1 < length text.now) }
@@ -139,32 +159,20 @@ fn number_ahead(text: &[u8], from: usize) -> Option<(u64, usize)>
     }
 }
 
-#[inline(always)]
-fn arrival_ahead(text: &[u8]) -> Option<(Act, usize)>
-    requires room { 8 ≤ length text.now }
-    requires word { slice_range text.now 0 8 ≡ to_le_bytes w64 ARRIVE }
-    ensures { IfSome result (λ p. IsActAhead text.now p.0 p.1) }
-{
-    let (n, end) = number_ahead(text, 8)?;
-    Some((Act::Arrive(n), end))
-}
-
-#[inline(always)]
-fn finish_ahead(text: &[u8]) -> Option<(Act, usize)>
-    requires room { 8 ≤ length text.now }
-    requires word { slice_range text.now 0 8 ≡ to_le_bytes w64 FINISH }
-    ensures { IfSome result (λ p. IsActAhead text.now p.0 p.1) }
-{
-    let (n, end) = number_at(text, 8)?;
-    let (ok, len) = outcome_ahead(&text[end..])?;
-    Some((Act::Finish(n, ok), end + len))
-}
-
-/// An act that is neither an arrival nor a finish, if it is a usual one.
-#[inline(always)]
+/// A usual act at the front, and where the LF behind it stands.
+#[inline(never)]
 fn other_ahead(text: &[u8]) -> Option<(Act, usize)>
     ensures { IfSome result (λ p. IsActAhead text.now p.0 p.1) }
 {
+    if text.starts_with(b" arrive ") {
+        let (n, end) = number_ahead(text, 8)?;
+        return Some((Act::Arrive(n), end));
+    }
+    if text.starts_with(b" finish ") {
+        let (n, end) = number_at(text, 8)?;
+        let (ok, len) = outcome_ahead(&text[end..])?;
+        return Some((Act::Finish(n, ok), end + len));
+    }
     if text.starts_with(b" tick\n") {
         return Some((Act::Tick, 5));
     }
@@ -182,19 +190,50 @@ fn other_ahead(text: &[u8]) -> Option<(Act, usize)>
     None
 }
 
-/// A usual act at the front, and where the LF behind it stands.
 #[inline(always)]
-fn act_ahead(text: &[u8]) -> Option<(Act, usize)>
+fn arrival_ahead(text: &[u8]) -> Option<(Act, usize)>
+    requires room { 24 ≤ length text.now }
+    requires word { slice_range text.now 0 8 ≡ to_le_bytes w64 ARRIVE }
     ensures { IfSome result (λ p. IsActAhead text.now p.0 p.1) }
 {
-    if text.len() >= 8 {
-        let word = word_at(text, 0);
-        if word == ARRIVE {
-            return arrival_ahead(text);
+    if let Some((n, end)) = few_at(text, 8) {
+        if text[end] == b'\n' {
+            return Some((Act::Arrive(n), end));
         }
-        if word == FINISH {
-            return finish_ahead(text);
+    }
+    other_ahead(text)
+}
+
+#[inline(always)]
+fn finish_ahead(text: &[u8]) -> Option<(Act, usize)>
+    requires room { 24 ≤ length text.now }
+    requires word { slice_range text.now 0 8 ≡ to_le_bytes w64 FINISH }
+    ensures { IfSome result (λ p. IsActAhead text.now p.0 p.1) }
+{
+    if let Some((n, end)) = few_at(text, 8) {
+        if half_at(text, end) == OK {
+            return Some((Act::Finish(n, true), end + 3));
         }
+    }
+    other_ahead(text)
+}
+
+/// The same, asked of `other_ahead` where the act is no arrival or tick and no finish that is ok, or its number has more than seven
+/// digits.
+#[inline(always)]
+fn act_ahead(text: &[u8]) -> Option<(Act, usize)>
+    requires { 24 ≤ length text.now }
+    ensures { IfSome result (λ p. IsActAhead text.now p.0 p.1) }
+{
+    let word = word_at(text, 0);
+    if word == ARRIVE {
+        return arrival_ahead(text);
+    }
+    if word == FINISH {
+        return finish_ahead(text);
+    }
+    if Front::of(TICK, 6).begins(word) {
+        return Some((Act::Tick, 5));
     }
     other_ahead(text)
 }
@@ -208,11 +247,14 @@ pub struct LastTime {
     // time of a line of 10.
     first: Front,
     second: Front,
+    // What the first eight digits are worth, where it has so many.
+    high: u64,
 }
 
 impl Model for LastTime {
     ghost use Rattle.core.specs.Dec2flt.Digits.{IsEightBytes};
-    ghost use Rattle.std.specs.Prelude.{⊤, ◌≡◌, ◌*◌, ◌%◌, ◌^◌, ◌<◌, ◌++◌, ℕ, List, take};
+    ghost use Rattle.kn_event.specs.PlainLine.{AreEightDigits};
+    ghost use Rattle.std.specs.Prelude.{⊤, ◌≡◌, ◌≢◌, ◌*◌, ◌%◌, ◌^◌, ◌<◌, ◌++◌, ℕ, List, take};
     ghost use Rattle.std.specs.Fmt.{decimal};
     ghost use lib.Lanes.{number_l};
 
@@ -227,6 +269,9 @@ impl Model for LastTime {
           → number_l 256 xs * r.first.scale % 2 ^ 64 ≡ r.first.moved
           → number_l 256 ys * r.second.scale % 2 ^ 64 ≡ r.second.moved
           → take r.len (xs ++ ys) ≡ decimal r.time;
+      scaled : r.high < 2 ^ 32;
+      front : (xs : List ℕ) → IsEightBytes xs → number_l 256 xs * r.first.scale % 2 ^ 64 ≡ r.first.moved
+          → (word : ℕ) → word * r.second.scale % 2 ^ 64 ≢ r.second.moved → AreEightDigits xs r.high;
     } };
 }
 
@@ -238,6 +283,7 @@ impl LastTime {
             len: 0,
             first: Front::of_none(),
             second: Front::of_any(),
+            high: 0,
         }
     }
 
@@ -252,64 +298,84 @@ impl LastTime {
             len,
             first: Front::of(word, len + 1),
             second: Front::of_any(),
+            high: self.high,
         };
     }
 
-    /// The time that these first bytes of two words spell.
+    /// The time that these first bytes of two words spell. The first word is eight digits, which are worth `high`.
     #[inline(always)]
-    fn keep_many(&mut self, time: u64, len: usize, first: u64, second: u64)
+    fn keep_many(&mut self, time: u64, len: usize, first: u64, second: u64, high: u64)
         requires many { 8 ≤ len }
         requires most { len < 16 }
+        requires scaled { high < 2 ^ 32 }
         requires spelled { (xs : List ℕ) × (ys : List ℕ) × IsEightBytes xs × IsEightBytes ys
-            × (first ≡ number_l 256 xs) × (second ≡ number_l 256 ys) × (take len (xs ++ ys) ≡ decimal time) }
+            × (first ≡ number_l 256 xs) × (second ≡ number_l 256 ys) × (take len (xs ++ ys) ≡ decimal time) × AreEightDigits xs high }
     {
         *self = LastTime {
             time,
             len,
             first: Front::of(first, 8),
             second: Front::of(second, len - 7),
+            high,
         };
     }
 
     /// The number at the front, and where it ends.
     #[inline(always)]
     fn front(&mut self, line: &[u8]) -> Option<(u64, usize)>
-        ensures { IfSome result (λ p. IsNumberAt line.now 0 p.0 p.1) }
+        requires { 16 ≤ length line.now }
+        ensures number { IfSome result (λ p. IsNumberAt line.now 0 p.0 p.1) }
+        ensures end { IfSome result (λ p. p.1 < 20) }
     {
-        if line.len() >= 16 {
-            let first = word_at(line, 0);
-            let second = word_at(line, 8);
-            if self.first.begins(first) && self.second.begins(second) {
+        let first = word_at(line, 0);
+        let second = word_at(line, 8);
+        if self.first.begins(first) {
+            if self.second.begins(second) {
                 return Some((self.time, self.len));
             }
-            if let Some((len, value)) = few_digits(first) {
-                self.keep_few(value, len, first);
+            if let Some((len, value)) = further_digits(self.high, second) {
+                self.time = value;
+                self.len = len;
+                self.second = Front::of(second, len - 7);
                 return Some((value, len));
             }
-            if let Some((len, value)) = many_digits(first, second) {
-                self.keep_many(value, len, first, second);
+        }
+        if let Some((len, value)) = few_digits(first) {
+            self.keep_few(value, len, first);
+            return Some((value, len));
+        }
+        if let Some(high) = first_digits(first) {
+            if second & 0xff == SPACE {
+                self.keep_many(high, 8, first, second, high);
+                return Some((high, 8));
+            }
+            if let Some((len, value)) = further_digits(high, second) {
+                self.keep_many(value, len, first, second, high);
                 return Some((value, len));
             }
         }
         long_number_at(line, 0)
     }
 
-    /// The event of the line at the front of these bytes, and how long that line is, where its LF is there, its word is a usual one
-    /// and its numbers have at most 19 digits. None says nothing. Its time is kept.
+    /// The event of the line at the front of these bytes, and how long that line is, where they are 48 or more and have its LF, its
+    /// word is a usual one and its numbers have at most 19 digits. None says nothing. Its time is kept.
     #[inline(always)]
     pub fn event_ahead(&mut self, bytes: &[u8]) -> Option<(Event, usize)>
         ensures inside { IfSome result (λ p. p.1 < length bytes.now) }
         ensures line { IfSome result (λ p. bytes.now ≡ take p.1 bytes.now ++ 10 ∷ drop (p.1 + 1) bytes.now) }
         ensures spells { IfSome result (λ p. (version : ℕ) → Spells version (take p.1 bytes.now) p.0) }
     {
+        if bytes.len() < ROOM {
+            return None;
+        }
         let (time, at) = self.front(bytes)?;
         let (act, len) = act_ahead(&bytes[at..])?;
         Some((Event { time, act }, at + len))
     }
 }
 
-/// The event of the line at the front of these bytes, and how long that line is, where its LF is there, its word is a usual one and
-/// its numbers have at most 19 digits. None says nothing.
+/// The event of the line at the front of these bytes, and how long that line is, where they are 48 or more and have its LF, its word
+/// is a usual one and its numbers have at most 19 digits. None says nothing.
 pub fn event_ahead(bytes: &[u8]) -> Option<(Event, usize)>
     ensures inside { IfSome result (λ p. p.1 < length bytes.now) }
     ensures line { IfSome result (λ p. bytes.now ≡ take p.1 bytes.now ++ 10 ∷ drop (p.1 + 1) bytes.now) }

@@ -10,8 +10,7 @@ ghost use lib.Lanes.{number_l};
 
 use core::dec2flt::ten_to;
 
-// A `0` in each byte. The lanes of a word are its bytes with this taken off, so that a digit's lane is its value. Lanes
-// are handed on and not the word, since the compiler reads a word at once only where nothing looks at one byte of it.
+// A `0` in each byte. The lanes of a word are its bytes with this taken off, so that a digit's lane is its value.
 const ZEROS: u64 = 0x3030_3030_3030_3030;
 
 /// The number that eight digits write, the first of them in the lowest byte.
@@ -95,20 +94,32 @@ pub fn few_digits(word: u64) -> Option<(usize, u64)>
     Some((len, value))
 }
 
-/// The same of two words, where they begin with 8 to 15 digits and the first is no 0.
+/// What eight digits and those behind them, with which the word begins, are worth, and how many they are: 8 to 15.
 #[inline(always)]
-pub fn many_digits(first: u64, second: u64) -> Option<(usize, u64)>
+pub fn further_digits(high: u64, word: u64) -> Option<(usize, u64)>
+    requires { high < 2 ^ 32 }
     ensures many { IfSome result (λ p. 8 ≤ p.0) }
     ensures most { IfSome result (λ p. p.0 < 16) }
-    ensures lead { IfSome result (λ p. (xs : List ℕ) → IsEightBytes xs → first ≡ number_l 256 xs → get_or xs 0 0 ≢ 48) }
-    ensures read { IfSome result (λ p. (xs ys : List ℕ) → IsEightBytes xs → IsEightBytes ys → first ≡ number_l 256 xs
-        → second ≡ number_l 256 ys → (p.0 ≡ digits_len (xs ++ ys)) × (p.1 ≡ digits_value 10 (take p.0 (xs ++ ys)))) }
+    ensures read { IfSome result (λ p. (xs ys : List ℕ) → IsEightBytes xs → IsEightBytes ys → digits_len xs ≡ 8
+        → high ≡ digits_value 10 xs → word ≡ number_l 256 ys
+        → (p.0 ≡ digits_len (xs ++ ys)) × (p.1 ≡ digits_value 10 (take p.0 (xs ++ ys)))) }
 {
-    let lanes = first ^ ZEROS;
+    let (len, low) = leading_digits(word ^ ZEROS)?;
+    Some((8 + len, high * ten_to(len as u64) + low))
+}
+
+/// What the eight digits are worth that a word is, where the first is no 0.
+#[inline(always)]
+pub fn first_digits(word: u64) -> Option<u64>
+    ensures small { IfSome result (λ n. n < 2 ^ 32) }
+    ensures lead { IfSome result (λ n. (xs : List ℕ) → IsEightBytes xs → word ≡ number_l 256 xs → get_or xs 0 0 ≢ 48) }
+    ensures read { IfSome result (λ n. (xs : List ℕ) → IsEightBytes xs → word ≡ number_l 256 xs
+        → (digits_len xs ≡ 8) × (n ≡ digits_value 10 xs)) }
+{
+    let lanes = word ^ ZEROS;
     if lanes & 0xff == 0 {
         return None;
     }
-    let high = eight_digits(lanes)?;
-    let (len, low) = leading_digits(second ^ ZEROS)?;
-    Some((8 + len, high * ten_to(len as u64) + low))
+    let value = eight_digits(lanes)?;
+    Some(value)
 }

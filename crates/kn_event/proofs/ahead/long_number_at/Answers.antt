@@ -6,8 +6,8 @@ use Rattle.kn_event.proofs.Spots.{number_here}
 use Rattle.kn_event.proofs.ahead.long_number_at.Goals as goal
 use Rattle.kn_event.proofs.ahead.long_number_at.Goals.{else-len-gt1-via-then-len-gt1+else-line-from-eq48, else-len-gt1-via-else-len-gt1}
 
-pub returns : goal.returns
-returns c =
+pub returns-clause-number : goal.returns-clause-number
+returns-clause-number c =
     let end = c.digits_at-end.result.0 in
     let lead : 1 < end - c.args.from → (get_or c.args.line.now c.args.from 0 == 48) ≡ false =
     elim c.else-len-gt1.branch [

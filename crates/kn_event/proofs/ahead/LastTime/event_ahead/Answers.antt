@@ -6,4 +6,4 @@ use Rattle.kn_event.proofs.ahead.LastTime.event_ahead.Goals as goal
 
 pub returns-clause-spells : goal.returns-clause-spells
 returns-clause-spells c =
-    event_here c.args.bytes.now c.in_ok-time.time c.in_ok-time.at c.in_ok-act.len c.in_ok-act.act c.in_ok-time.ensures (grind (arith, common_steps))
+    event_here c.args.bytes.now c.in_ok-time.time c.in_ok-time.at c.in_ok-act.len c.in_ok-act.act c.in_ok-time.ensures.number (grind (arith, common_steps))

@@ -10,4 +10,6 @@ invariant_of-self c = record {
   spelled = λ xs ys hx hy first second.
       let kept = c.requires.spelled in
       few_told c.args.len kept.0 xs ys c.requires.few hx (c.of.ensures xs kept.0 hx kept.1 kept.2 first) ∙ kept.3;
+  scaled = c.self.invariant.scaled;
+  front = λ xs hx first word other. absurd (other (rw (c.of_any.ensures.scale, c.of_any.ensures.moved) (omega arith)));
 }
