@@ -4,3 +4,4 @@ pub mod Marks
 pub mod Search
 pub mod Writes
 pub mod Answered
+pub mod Chains

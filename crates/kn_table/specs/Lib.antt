@@ -1,3 +1,4 @@
 pub mod Order
 pub mod Moves
 pub mod Slots
+pub mod Links

@@ -1,9 +1,11 @@
 //! The first request of a kind, looked for from where the last search ended.
-ghost use Rattle.std.specs.Prelude.{◌≡◌, ◌<◌, ◌≤◌, option_map, slice_get};
+ghost use Rattle.std.specs.Prelude.{◌≡◌, ◌<◌, ◌≤◌, length, option_map, slice_get};
 ghost use Rattle.kn_record.specs.Admission.{is_at, is_held_place, waits};
 ghost use Rattle.kn_table.specs.declared.slot.Slot.{Slot};
+ghost use Rattle.kn_table.specs.Links.{AreLinked};
 ghost use Rattle.kn_table.specs.Slots.{IsLeftAt, first_placed, is_of_kind, passed};
 
+use crate::links::Links;
 use crate::slot::{PlaceKind, Slot};
 use kn_record::{Place, Request};
 
@@ -106,11 +108,15 @@ impl Cursors {
     }
 
     /// Where the first live request at a pod stands; the end where there is none.
-    pub fn first_at(&self, p: u64, slots: &[Slot]) -> usize
-        requires { self.now.from ≤ first_placed (is_at self.now.pod) slots.now }
+    pub fn first_at(&self, p: u64, slots: &[Slot], links: &Links) -> usize
+        requires low { self.now.from ≤ first_placed (is_at self.now.pod) slots.now }
+        requires linked { AreLinked links.now slots.now }
+        requires few { length slots.now ≤ 40000 }
         ensures { result ≡ first_placed (is_at p) slots.now }
     {
-        let from = if p == self.pod { self.from } else { 0 };
-        next_placed(PlaceKind::At(p), slots, from)
+        if p == self.pod {
+            return links.next_at(p, self.from, slots);
+        }
+        links.first_at(p, slots)
     }
 }

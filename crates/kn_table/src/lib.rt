@@ -3,6 +3,7 @@
 
 mod cursors;
 mod hints;
+mod links;
 mod slot;
 mod table;
 

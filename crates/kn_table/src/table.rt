@@ -7,12 +7,14 @@ ghost use Rattle.kn_record.specs.declared.admission.Place.TheVariants as place;
 ghost use Rattle.kn_record.specs.declared.admission.Request.{Request};
 ghost use Rattle.kn_record.specs.Admission.{begins, is_at, is_held_place, moved, placed_in, queues_at, waits, without};
 ghost use Rattle.kn_record.specs.Views.{due_in, numbers_in};
+ghost use Rattle.kn_table.specs.Links.{AreLinked, AreSame};
 ghost use Rattle.kn_table.specs.Moves.{IsAssigned, IsRemoved, Leaves, Moves, waits_or_runs};
 ghost use Rattle.kn_table.specs.Order.{IsOrdered};
 ghost use Rattle.kn_table.specs.Slots.{AreFirst, AreInOrder, AreKept, IsHeldAt, IsNext, IsPlaceOf, is_live, live_of};
 
 use crate::cursors::{Cursors, number_at, request_at};
 use crate::hints::Hints;
+use crate::links::Links;
 use crate::slot::{PlaceKind, Slot, begun, is_after, place_of, slot_of, sweep};
 use kn_event::Memory;
 use kn_record::{Place, Request};
@@ -29,6 +31,7 @@ const ROOM: usize = 40_000;
 pub struct Table {
     slots: Vec<Slot>,
     hints: Hints,
+    links: Links,
     live: u64,
     cursors: Cursors,
 }
@@ -38,6 +41,7 @@ impl Drop for Table {
         let Table {
             slots: _,
             hints: _,
+            links: _,
             live: _,
             cursors: _,
         } = self;
@@ -47,6 +51,7 @@ impl Drop for Table {
 impl Model for Table {
     ghost use Rattle.std.specs.Prelude.{◌≤◌, List, vec_capacity};
     ghost use Rattle.kn_record.specs.declared.admission.Request.{Request};
+    ghost use Rattle.kn_table.specs.Links.{AreLinked};
     ghost use Rattle.kn_table.specs.Slots.{AreKept, live_of};
 
     ghost Value = { List Request };
@@ -55,6 +60,7 @@ impl Model for Table {
 
     ghost invariant = { λ t. record {
       kept : AreKept t.slots.items t.live t.cursors;
+      linked : AreLinked t.links t.slots.items;
       room : 40000 ≤ vec_capacity t.slots;
     } };
 }
@@ -68,7 +74,14 @@ fn is_over(since: u64, timeout_ms: u64, time: u64) -> bool
 
 /// Sweeps out the requests that have ended, where no slot is left, or where one of them isn't before this request.
 #[inline]
-fn make_room(slots: &mut Vec<Slot>, hints: &mut Hints, cursors: &mut Cursors, request: &Request)
+fn make_room(
+    slots: &mut Vec<Slot>,
+    hints: &mut Hints,
+    links: &mut Links,
+    cursors: &mut Cursors,
+    request: &Request,
+)
+    requires linked { AreLinked links.old slots.old.items }
     requires order { AreInOrder slots.old.items }
     requires first { AreFirst cursors.old slots.old.items }
     requires few { length (live_of slots.old.items) < live_most }
@@ -76,39 +89,45 @@ fn make_room(slots: &mut Vec<Slot>, hints: &mut Hints, cursors: &mut Cursors, re
     requires later { All (λ (q : Request). q.time ≤ request.now.time) (live_of slots.old.items) }
     ensures live { live_of slots.new.items ≡ live_of slots.old.items }
     ensures next { IsNext request.now slots.new.items }
+    ensures linked { AreLinked links.new slots.new.items }
     ensures first { AreFirst cursors.new slots.new.items }
     ensures capacity { vec_capacity slots.new ≡ vec_capacity slots.old }
 {
     if slots.len() < ROOM && is_after(request, slots) {
         return;
     }
-    sweep_out(slots, hints, cursors);
+    sweep_out(slots, hints, links, cursors);
 }
 
 /// Sweeps out the requests that have ended.
 #[inline(never)]
-fn sweep_out(slots: &mut Vec<Slot>, hints: &mut Hints, cursors: &mut Cursors)
+fn sweep_out(slots: &mut Vec<Slot>, hints: &mut Hints, links: &mut Links, cursors: &mut Cursors)
     requires { length (live_of slots.old.items) ≤ live_most }
+    ensures linked { AreLinked links.new slots.new.items }
     ensures items { slots.new.items ≡ filter is_live slots.old.items }
     ensures first { AreFirst cursors.new slots.new.items }
     ensures capacity { vec_capacity slots.new ≡ vec_capacity slots.old }
 {
     sweep(slots);
     hints.set_all(slots);
+    links.link_all(slots);
     *cursors = Cursors::new();
     cursors.advance(slots);
 }
 
 /// Lets the held request at a place run at a pod that it is assigned to.
 #[inline(always)]
-fn assign_at(slots: &mut Vec<Slot>, cursors: &mut Cursors, at: usize, p: u64)
+fn assign_at(slots: &mut Vec<Slot>, links: &mut Links, cursors: &mut Cursors, at: usize, p: u64)
+    requires linked { AreLinked links.old slots.old.items }
     requires kept { (live : ℕ) × AreKept slots.old.items live cursors.old }
     requires held { (r : ℕ) × IsHeldAt r slots.old.items at }
     ensures kept { (live : ℕ) → AreKept slots.old.items live cursors.old → AreKept slots.new.items live cursors.new }
+    ensures linked { AreLinked links.new slots.new.items }
     ensures assigned { (r : ℕ) → IsHeldAt r slots.old.items at → IsAssigned r p (live_of slots.old.items) (live_of slots.new.items) }
     ensures capacity { vec_capacity slots.new ≡ vec_capacity slots.old }
 {
     slots[at].request.place = Place::Running(p, true);
+    links.link(at, p);
     cursors.from = 0;
     cursors.leave(at, slots);
 }
@@ -119,6 +138,7 @@ fn remove_at(slots: &mut Vec<Slot>, live: &mut u64, cursors: &mut Cursors, at: u
     requires kept { AreKept slots.old.items live.old cursors.old }
     requires there { (r : ℕ) × IsPlaceOf r slots.old.items at }
     ensures kept { AreKept slots.new.items live.new cursors.new }
+    ensures same { AreSame slots.old.items slots.new.items }
     ensures removed { (r : ℕ) → IsPlaceOf r slots.old.items at → IsRemoved r result (live_of slots.old.items) (live_of slots.new.items) }
     ensures capacity { vec_capacity slots.new ≡ vec_capacity slots.old }
 {
@@ -136,10 +156,12 @@ impl Table {
         ensures { IfOk result (λ table. table ≡ []) }
     {
         let hints = Hints::new(alloc)?;
+        let links = Links::new(alloc)?;
         match Vec::with_capacity(alloc, ROOM) {
             Ok(slots) => Ok(Table {
                 slots,
                 hints,
+                links,
                 live: 0,
                 cursors: Cursors::new(),
             }),
@@ -174,6 +196,7 @@ impl Table {
         make_room(
             &mut self.slots,
             &mut self.hints,
+            &mut self.links,
             &mut self.cursors,
             &request,
         );
@@ -184,6 +207,7 @@ impl Table {
             has_ended: false,
         });
         self.live += 1;
+        self.links.link_at(end, request.place);
         self.cursors.pass(end, request.place);
     }
 
@@ -210,7 +234,13 @@ impl Table {
         ensures len { length self.new ≡ length self.old }
     {
         let place = place_of(&self.slots, self.cursors.held, r).unwrap();
-        assign_at(&mut self.slots, &mut self.cursors, place, p);
+        assign_at(
+            &mut self.slots,
+            &mut self.links,
+            &mut self.cursors,
+            place,
+            p,
+        );
     }
 
     /// As `assign`, for the first request that is held.
@@ -222,7 +252,13 @@ impl Table {
         ensures len { length self.new ≡ length self.old }
     {
         let place = self.cursors.held;
-        assign_at(&mut self.slots, &mut self.cursors, place, p);
+        assign_at(
+            &mut self.slots,
+            &mut self.links,
+            &mut self.cursors,
+            place,
+            p,
+        );
     }
 
     /// Lets a request run at the pod where it is queued.
@@ -288,7 +324,7 @@ impl Table {
     {
         let request = self.remove(r);
         if let Place::Queued(p) | Place::Running(p, _) = request.place {
-            self.cursors.from = self.cursors.first_at(p, &self.slots);
+            self.cursors.from = self.cursors.first_at(p, &self.slots, &self.links);
             self.cursors.pod = p;
         }
         request
@@ -333,7 +369,7 @@ impl Table {
         ensures first { result ≡ first_of (placed_in (is_at p) self.now) }
         ensures live { IfSome result (λ r. contains r (numbers_in self.now) ≡ true) }
     {
-        let place = self.cursors.first_at(p, &self.slots);
+        let place = self.cursors.first_at(p, &self.slots, &self.links);
         number_at(&self.slots, place)
     }
 }

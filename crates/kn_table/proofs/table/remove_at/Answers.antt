@@ -2,6 +2,7 @@ use Rattle.std.proofs.Common.{◌-◌, arith, refl, true}
 use Rattle.kn_record.specs.Admission.{is_at, is_held_place, waits}
 use Rattle.kn_table.specs.declared.slot.Slot.{Slot}
 use Rattle.kn_table.specs.Slots.{is_placed, live_of}
+use Rattle.kn_table.proofs.Chains.{same_set}
 use Rattle.kn_table.proofs.Firsts.{first-set}
 use Rattle.kn_table.proofs.Writes.{few_live, kept-set, ended_count, ended_leaves, ended_live, left_at, read_found}
 use Rattle.kn_table.proofs.table.remove_at.Goals as goal
@@ -51,3 +52,7 @@ returns-clause-removed c = λ r there.
       leaves = ended_leaves xs kept.order few r c.args.at there x read (live_of xs) refl _ refl;
       len = ended_count xs kept.order r c.args.at there x read _ refl few;
     }
+
+pub returns-clause-same : goal.returns-clause-same
+returns-clause-same c =
+    same_set c.args.slots.now.items c.args.at c.index_mut-slot.result.now (record { request = c.index_mut-slot.result.now.request; has_ended = true }) c.requires.there.1.inside c.index_mut-slot.ensures.value (λ k. refl)

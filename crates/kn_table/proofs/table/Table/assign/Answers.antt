@@ -10,4 +10,4 @@ unwrap-place-requires c =
 pub invariant_of-self : goal.invariant_of-self
 invariant_of-self c =
     let kept = c.self.invariant.kept in
-    record { kept = c.assign_at.ensures.kept c.self.inside.live kept; room = rw c.assign_at.ensures.capacity c.self.invariant.room }
+    record { kept = c.assign_at.ensures.kept c.self.inside.live kept; linked = c.assign_at.ensures.linked; room = rw c.assign_at.ensures.capacity c.self.invariant.room }

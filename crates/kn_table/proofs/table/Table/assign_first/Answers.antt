@@ -7,7 +7,7 @@ assign_at-requires-clause-held c =
 
 pub invariant_of-self : goal.invariant_of-self
 invariant_of-self c =
-    record { kept = c.assign_at.ensures.kept c.self.inside.live c.self.invariant.kept; room = rw c.assign_at.ensures.capacity c.self.invariant.room }
+    record { kept = c.assign_at.ensures.kept c.self.inside.live c.self.invariant.kept; linked = c.assign_at.ensures.linked; room = rw c.assign_at.ensures.capacity c.self.invariant.room }
 
 pub returns-clause-moved : goal.returns-clause-moved
 returns-clause-moved c = λ r first.

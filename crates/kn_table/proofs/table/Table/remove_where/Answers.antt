@@ -5,6 +5,7 @@ use Rattle.kn_table.specs.declared.slot.Slot.{Slot}
 use Rattle.kn_table.specs.Slots.{IsPlaceOf, IsSlotOf}
 use Rattle.kn_table.proofs.Requests.{found, not_placed, waits_as, waits_else}
 use Rattle.kn_table.proofs.Search.{ended_is_none, live_is_placed, none_is_found}
+use Rattle.kn_table.proofs.Chains.{linked_same}
 use Rattle.kn_table.proofs.Writes.{few_live, got_none, got_placed}
 use Rattle.kn_table.proofs.table.Table.remove_where.Goals as goal
 
@@ -53,3 +54,10 @@ pub returns-clause-len : goal.returns-clause-len
 returns-clause-len c =
     let there = alive c.args.r c.self.inside.slots.items c.deref.result.now c.in-Some.place c.index-slot.result.now c.deref.ensures.value c.in-Some.ensures c.index-slot.ensures c.if-slot.false in
     (c.remove_at.ensures.removed c.args.r there).len ∙ ap (λ (l : List Request). length l) c.self.view_is
+
+pub invariant_of-self : goal.invariant_of-self
+invariant_of-self c = record {
+  kept = c.remove_at.ensures.kept;
+  linked = linked_same _ _ _ c.remove_at.ensures.same c.self.invariant.linked;
+  room = rw c.remove_at.ensures.capacity c.self.invariant.room;
+}

@@ -3,6 +3,8 @@ use Rattle.kn_record.specs.declared.admission.Place.TheVariants as place
 use Rattle.kn_record.specs.Admission.{begins, begun, is_held_place, queues_at, waits}
 use Rattle.kn_table.specs.declared.slot.Slot.{Slot}
 use Rattle.kn_table.specs.Slots.{live_of}
+use Rattle.kn_table.specs.Links.{is_chained}
+use Rattle.kn_table.proofs.Chains.{begun_chained, linked_same, same_set}
 use Rattle.kn_table.proofs.Requests.{changed_length, is_queued}
 use Rattle.kn_table.proofs.Writes.{begun_fails, begun_low, few_live, kept-set, moved_count, moved_live, moved_moves, place_found, read_passes, stands, left_at}
 use Rattle.kn_table.proofs.table.Table.run.Goals as goal
@@ -42,6 +44,8 @@ invariant_of-self c =
           (begun_low c.self.inside.slots.items c.unwrap-place.result c.index_mut-slot.result.now _ c.self.inside.cursors.pod c.self.inside.cursors.from c.index_mut-slot.ensures.value refl c.begun-slot.ensures kept.at_pod)
           (moved_count c.self.inside.slots.items kept.order c.args.r c.unwrap-place.result there c.index_mut-slot.result.now c.index_mut-slot.ensures.value (λ s. record s { place = begun s.place }) _ c.self.inside.live kept.counted refl (ap (λ w. record c.index_mut-slot.result.now.request { place = w }) c.begun-slot.ensures))
           kept.few;
+      linked = linked_same _ _ _ (same_set c.self.inside.slots.items c.unwrap-place.result c.index_mut-slot.result.now _ there.inside c.index_mut-slot.ensures.value
+          (λ k. ap (is_chained k) c.begun-slot.ensures ∙ begun_chained k c.index_mut-slot.result.now.request.place)) c.self.invariant.linked;
       room = c.self.invariant.room;
     }
 
