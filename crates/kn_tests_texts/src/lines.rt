@@ -34,17 +34,26 @@ pub fn split(text: &[u8], out: &mut String) -> Result<(), AllocError> {
     }
 }
 
+/// So much of a text as there is room for, and behind it bytes that no event has.
+fn padded(text: &[u8]) -> [u8; 128] {
+    let mut bytes = [b'.'; 128];
+    for (there, byte) in bytes.iter_mut().zip(text) {
+        *there = *byte;
+    }
+    bytes
+}
+
 /// The event of the line at the front of the input, where its words are usual.
 pub fn ahead(text: &[u8], out: &mut String) -> Result<(), AllocError> {
-    match event_ahead(text) {
+    match event_ahead(&padded(text)) {
         Some((event, _)) => add(out, event),
         None => out.push_str("nothing"),
     }
 }
 
 /// Lines, each in its turn after the one before: of the same time, a later one, and ones that begin with the digits
-/// before.
-const TURNS: [&str; 13] = [
+/// before, or with eight of them.
+const TURNS: [&str; 27] = [
     "1 arrive 7\n",
     "1 finish 7 ok\n",
     "1 tick\n2 tick\n",
@@ -58,10 +67,24 @@ const TURNS: [&str; 13] = [
     "1234567 finish 12345678 fail\n",
     "0 cancel 3\n     ",
     "1234567 ready 0\n",
+    "1700000000210 arrive 1\n",
+    "1700000000210 tick\n",
+    "1700000000211 arrive 2\n",
+    "1700000009999 finish 1 ok\n",
+    "17000000 tick\n",
+    "17000000 tick\n",
+    "170000000000001 tick\n",
+    "1700000000000012 tick\n",
+    "170000000000002 tick\n",
+    "17000001 tick\n",
+    "1700000100001 pass\n",
+    "17000001 00001 pass\n",
+    "1700000 tick\n",
+    "17000001 tick\n",
 ];
 
 fn show_turn(rt: &HostRuntime, last: &mut LastTime, text: &str) -> io::Result<()> {
-    match last.event_ahead(text.as_bytes()) {
+    match last.event_ahead(&padded(text.as_bytes())) {
         Some((event, _)) => println!(rt; "then {text:?}: {}", event.time),
         None => println!(rt; "then {text:?}: nothing"),
     }
@@ -77,9 +100,9 @@ pub fn turns(rt: &HostRuntime) -> io::Result<()> {
 }
 
 /// Adds the bytes that make an event of a line where they stand at this place in it.
-fn add_fitting(place: usize, fitting: &mut Vec<u8>) -> Result<(), AllocError> {
+fn add_fitting(line: &str, place: usize, fitting: &mut Vec<u8>) -> Result<(), AllocError> {
     for byte in 0..=255u8 {
-        let mut text = *b"12 finish 34 ok\n       ";
+        let mut text = padded(line.as_bytes());
         if let Some(there) = text.get_mut(place) {
             *there = byte;
         }
@@ -91,9 +114,9 @@ fn add_fitting(place: usize, fitting: &mut Vec<u8>) -> Result<(), AllocError> {
 }
 
 /// Prints the bytes that make an event of a line where they stand at this place in it: behind the digits of the time and of the
-/// request a space alone.
-pub fn fitting(rt: &HostRuntime, place: usize) -> io::Result<()> {
+/// request a space alone, and in and behind a word its own.
+pub fn fitting(rt: &HostRuntime, line: &str, place: usize) -> io::Result<()> {
     let mut fitting = Vec::new(rt.alloc());
-    add_fitting(place, &mut fitting)?;
-    println!(rt; "bytes that fit at {place}: {fitting:?}")
+    add_fitting(line, place, &mut fitting)?;
+    println!(rt; "bytes that fit at {place} of {line:?}: {fitting:?}")
 }

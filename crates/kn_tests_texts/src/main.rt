@@ -131,8 +131,12 @@ fn cases(rt: &HostRuntime) -> io::Result<()> {
     keys::texts(rt)?;
     rows::report(rt)?;
     lines::turns(rt)?;
-    lines::fitting(rt, 2)?;
-    lines::fitting(rt, 12)?;
+    for place in [2, 12, 15] {
+        lines::fitting(rt, "12 finish 34 ok\n", place)?;
+    }
+    for place in [8, 9, 12, 13] {
+        lines::fitting(rt, "12345678 tick\n", place)?;
+    }
     holders::line_buffer(rt)?;
     holders::texts_and_lists(rt)?;
     holders::log(rt)?;
