@@ -48,8 +48,8 @@ pub fn number_at(slots: &[Slot], place: usize) -> Option<u64>
     slots.get(place).map(|slot| slot.request.number)
 }
 
-/// Where the first request that is held stands and the first that waits, and a place before which no live request is at one
-/// pod.
+/// Where the first request that is held stands and the first that waits, and a place before which no live request is at
+/// one pod.
 #[derive(Drop)]
 pub struct Cursors {
     pub held: usize,

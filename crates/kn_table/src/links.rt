@@ -14,12 +14,12 @@ use std::marker::Model;
 /// How many chains there are.
 const CHAINS: u64 = 1024;
 
-/// A chain of slots for the pods whose numbers are the same modulo 1,024, in the order of the slots: where its first stands, how many
-/// slots reach as far as its last, and behind each slot the next one. A request that ended stays in its chain until its
-/// slot is swept out.
+/// A chain of slots for the pods whose numbers are the same modulo 1,024, in the order of the slots: where its first
+/// stands, how many slots reach as far as its last, and behind each slot the next one. A request that ended stays in
+/// its chain until its slot is swept out.
 ///
-/// Where a slot comes into a chain that reaches beyond it, which is where a request that was held runs behind younger ones, they are whole no
-/// longer, and not used until they are made anew.
+/// Where a slot comes into a chain that reaches beyond it, which is where a request that was held runs behind younger
+/// ones, they are whole no longer, and not used until they are made anew.
 #[derive(Drop)]
 pub struct Links {
     firsts: [u16; 1024],

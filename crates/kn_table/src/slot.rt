@@ -121,8 +121,8 @@ fn sixteenth(slots: &[Slot], r: u64, part: Part) -> Part
     half(slots, r, part)
 }
 
-/// Where the slot of this number stands, by a binary search. It has no loop, so that the compiler can leave a search out
-/// whose answer nobody uses.
+/// Where the slot of this number stands, by a binary search. It has no loop, so that the compiler can leave a search
+/// out whose answer nobody uses.
 #[inline(never)]
 fn search(slots: &[Slot], r: u64) -> Option<usize>
     requires order { AreInOrder slots.now }

@@ -26,8 +26,8 @@ const ROOM: usize = 40_000;
 
 /// Live requests in the order of their numbers, at most 20,000 of them. Contracts see the list.
 ///
-/// A request that ended leaves its slot with a mark. All these are swept out once no slot is left, which happens after at
-/// least 20,000 ends.
+/// A request that ended leaves its slot with a mark. All these are swept out once no slot is left, which happens after
+/// at least 20,000 ends.
 pub struct Table {
     slots: Vec<Slot>,
     hints: Hints,
@@ -262,7 +262,7 @@ impl Table {
     }
 
     /// Lets a request run at the pod where it is queued.
-    #[inline]
+    #[inline(always)]
     pub fn run(&mut self, r: u64)
         requires { (p : ℕ) × (contains r (placed_in (queues_at p) self.old) ≡ true) }
         ensures begun { self.new ≡ begins r self.old }
@@ -288,8 +288,8 @@ impl Table {
         remove_at(&mut self.slots, &mut self.live, &mut self.cursors, place)
     }
 
-    /// Takes a request out that waits, or one that runs, and answers it. None where it is not live, or not so, and then nothing
-    /// changes.
+    /// Takes a request out that waits, or one that runs, and answers it. None where it is not live, or not so, and then
+    /// nothing changes.
     #[inline(always)]
     pub fn remove_where(&mut self, r: u64, waiting: bool) -> Option<Request>
         ensures there { is_some result ≡ contains r (placed_in (waits_or_runs waiting) self.old) }
@@ -313,8 +313,8 @@ impl Table {
         Some(remove_at(&mut self.slots, &mut self.live, &mut self.cursors, place))
     }
 
-    /// As `remove`, for the first request at a pod that loses all of them one after the other: the next call of `first_at` for
-    /// that pod looks no further back than here.
+    /// As `remove`, for the first request at a pod that loses all of them one after the other: the next call of
+    /// `first_at` for that pod looks no further back than here.
     pub fn lose(&mut self, r: u64) -> Request
         requires { contains r (numbers_in self.old) ≡ true }
         ensures removed { self.new ≡ without r self.old }
