@@ -4,7 +4,7 @@ ghost use Rattle.kn_activators.specs.Sharing.{time_of};
 use kn_event::Event;
 
 /// What happens to activators that share a revision's pods. Times are in milliseconds.
-#[derive(Clone, Copy, Debug, PartialEq, Eq)]
+#[derive(Clone, Copy)]
 pub enum GroupEvent {
     /// An event of one activator, by its number.
     One(u64, Event),

@@ -2,7 +2,7 @@ use kn_event::Slots;
 
 /// What several activators of one revision start from: how many they are, the limit of each pod that they share, the pods, and what
 /// each activator has of its own.
-#[derive(Clone, Copy, Debug, PartialEq, Eq)]
+#[derive(Clone, Copy)]
 pub struct GroupSetup {
     pub activators: u64,
     pub limit: u64,

@@ -22,7 +22,7 @@ use std::marker::Model;
 const STARTING_MOST: usize = 500;
 
 /// A starting pod, and when it was created.
-#[derive(Clone, Copy, Debug, PartialEq, Eq)]
+#[derive(Clone, Copy)]
 pub struct Start {
     pub pod: u64,
     pub time: u64,

@@ -1,5 +1,5 @@
 /// The kinds of what is due, in the order in which they come at one time.
-#[derive(Clone, Copy, Debug, PartialEq, Eq)]
+#[derive(Clone, Copy)]
 pub enum Kind {
     /// A running request finishes.
     Finishes,
@@ -14,7 +14,7 @@ pub enum Kind {
 }
 
 /// What is due: when, in milliseconds, and the number of its request, pod or tick.
-#[derive(Clone, Copy, Debug, PartialEq, Eq)]
+#[derive(Clone, Copy)]
 pub struct Item {
     pub time: u64,
     pub kind: Kind,

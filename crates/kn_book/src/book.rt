@@ -13,7 +13,7 @@ use std::alloc::Global;
 use std::marker::Model;
 
 /// A live pod and its address, which is below the number of addresses. One without waits until an address is free.
-#[derive(Clone, Copy, Debug, PartialEq, Eq)]
+#[derive(Clone, Copy)]
 pub struct Holding {
     pub pod: u64,
     pub address: Option<u64>,

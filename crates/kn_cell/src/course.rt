@@ -10,7 +10,7 @@ use crate::turn::{call_address_at, proxied_at, stand_at};
 use kn_event::{Stand, Told};
 
 /// Where a request runs.
-#[derive(Clone, Copy, Debug, PartialEq, Eq)]
+#[derive(Clone, Copy)]
 pub struct Run {
     pub pod: u64,
     /// Where a call reaches it: its address, or the number of addresses, at which there is nobody.
@@ -20,7 +20,7 @@ pub struct Run {
 }
 
 /// How a request goes on.
-#[derive(Clone, Copy, Debug, PartialEq, Eq)]
+#[derive(Clone, Copy)]
 pub enum Course {
     /// It is held, or queued at a pod.
     Waits,

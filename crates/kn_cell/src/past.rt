@@ -3,7 +3,7 @@ use kn_event::{Event, Told};
 use std::marker::Model;
 
 /// A row of a history: who brought the event, and what it was told.
-#[derive(Clone, Copy, Debug, PartialEq, Eq)]
+#[derive(Clone, Copy)]
 pub struct Past {
     pub pass: u64,
     pub event: Event,
@@ -11,14 +11,14 @@ pub struct Past {
 }
 
 /// The room is too small for the event, beside the rows and the live requests that there are.
-#[derive(Clone, Copy, Debug, PartialEq, Eq)]
+#[derive(Clone, Copy)]
 pub struct Full {
     pub room: u64,
     pub used: u64,
     pub live: u64,
 }
 
-#[derive(Clone, Copy, Debug, PartialEq, Eq)]
+#[derive(Clone, Copy)]
 pub enum TryError {
     Busy,
     Full(Full),

@@ -16,7 +16,7 @@ use serde_json::Value;
 use std::alloc::Global;
 
 /// What a ConfigMap settles. Percentages are in thousandths of a per cent, numbers of requests in thousandths.
-#[derive(Clone, Copy, Debug, PartialEq, Eq)]
+#[derive(Clone, Copy)]
 pub struct Config {
     /// The part of a pod's total that it is to bear, above 0 and at most 100 per cent.
     pub utilisation: Milli,
@@ -53,7 +53,7 @@ pub struct Config {
 }
 
 /// Why a ConfigMap is refused.
-#[derive(Clone, Copy, Debug, PartialEq, Eq)]
+#[derive(Clone, Copy)]
 pub enum ConfigError {
     NotJson,
     /// The value is no object, or its member `data` is none.

@@ -7,7 +7,7 @@ use serde_json::Value;
 use std::alloc::Global;
 
 /// Why a text gave no value.
-#[derive(Clone, Copy, Debug, PartialEq, Eq)]
+#[derive(Clone, Copy)]
 pub enum JsonError {
     NotJson,
     Memory,

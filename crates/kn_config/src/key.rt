@@ -3,7 +3,7 @@ ghost use Rattle.std.specs.Prelude.{◌≡◌, ◌≤◌};
 ghost use Rattle.kn_config.specs.Keys.{key_text, rule_of};
 
 /// A key of the ConfigMap, an annotation, or another member that a fault names.
-#[derive(Clone, Copy, Debug, PartialEq, Eq)]
+#[derive(Clone, Copy)]
 pub enum Key {
     ContainerConcurrencyTargetPercentage,
     ContainerConcurrencyTargetDefault,
@@ -39,7 +39,7 @@ pub enum Key {
 
 /// What a key's amount is where the key is missing, and its least and greatest. Numbers and percentages are in
 /// thousandths, windows and the scale-down delay in seconds, other durations in milliseconds; a boolean is 1 or 0.
-#[derive(Clone, Copy, Debug, PartialEq, Eq)]
+#[derive(Clone, Copy)]
 pub struct Rule {
     pub default: u64,
     pub least: u64,

@@ -11,7 +11,7 @@ use kn_num::{NumError, read_duration_ms, read_milli, read_whole};
 use serde_json::Value;
 
 /// Why a key's value is refused.
-#[derive(Clone, Copy, Debug, PartialEq, Eq)]
+#[derive(Clone, Copy)]
 pub enum KeyError {
     NotText(Key),
     BadValue(Key, NumError),

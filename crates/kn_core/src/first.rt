@@ -6,7 +6,7 @@ use kn_event::Row;
 use kn_throttle::Dispatch;
 
 /// The own row of an arrival or of a finish.
-#[derive(Clone, Copy, Debug, PartialEq, Eq)]
+#[derive(Clone, Copy)]
 pub enum OwnRow {
     /// The activator took in a request, with the caller's tag.
     Admit(u64, u64),
@@ -44,7 +44,7 @@ impl OwnRow {
 
 /// The rows that an event begins with, as far as a log doesn't have them: the own row of the act, and the one behind it, with
 /// which a request is dispatched. All others are in the log.
-#[derive(Clone, Copy, Debug, PartialEq, Eq)]
+#[derive(Clone, Copy)]
 pub enum FirstRows {
     /// The log has all rows.
     Nothing,

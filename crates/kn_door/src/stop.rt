@@ -7,7 +7,7 @@ pub trait Stop {
 }
 
 /// Says so at each call but the first so many.
-#[derive(Clone, Copy, Debug, PartialEq, Eq, Drop)]
+#[derive(Clone, Copy, Drop)]
 pub struct StopAfter {
     left: u64,
 }

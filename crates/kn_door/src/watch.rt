@@ -24,7 +24,7 @@ pub trait Watch<C: Caller> {
 }
 
 /// Watches nobody: no client is ever said to have left.
-#[derive(Clone, Copy, Debug, PartialEq, Eq, Drop)]
+#[derive(Clone, Copy, Drop)]
 pub struct NoWatch;
 
 impl<C: Caller> Watch<C> for NoWatch {

@@ -10,7 +10,7 @@ use std::sync::{Mutex, Wait};
 use std::time::{Clock, Instant};
 
 /// Whose fault it is.
-#[derive(Clone, Copy, Debug, PartialEq, Eq)]
+#[derive(Clone, Copy)]
 pub enum Party {
     Pod,
     Client,

@@ -6,7 +6,7 @@ ghost use Rattle.kn_faults.specs.Telling.{Stands, is_lone};
 pub const MOST_A_SECOND: u64 = 10;
 
 /// Says which faults are told one by one, and how many others are told in counts. Each fault is told once, up to 2^64 of them.
-#[derive(Clone, Copy, Debug, PartialEq, Eq)]
+#[derive(Clone, Copy)]
 pub struct Limiter {
     second: u64,
     // How many of this second were told one by one.

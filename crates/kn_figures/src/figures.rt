@@ -7,7 +7,7 @@ use crate::tally::Tally;
 use kn_core::Revision;
 
 /// How many rows, requests and pods there are.
-#[derive(Clone, Copy, Debug)]
+#[derive(Clone, Copy)]
 pub struct Figures {
     /// The rows by their kinds.
     pub tally: Tally,

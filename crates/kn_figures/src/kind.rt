@@ -5,7 +5,7 @@ ghost use Rattle.kn_figures.specs.Kinds.{all_kinds, kind_of, name_of, place_of};
 use kn_event::Row;
 
 /// The kind of a row, one for each word with which a report writes a row.
-#[derive(Clone, Copy, Debug, PartialEq, Eq)]
+#[derive(Clone, Copy)]
 pub enum Kind {
     Admit,
     QueueFull,

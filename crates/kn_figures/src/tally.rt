@@ -7,7 +7,7 @@ use crate::kind::Kind;
 use kn_event::{Decision, Entry, Row};
 
 /// How many rows there were of each kind, and the last decision.
-#[derive(Clone, Copy, Debug)]
+#[derive(Clone, Copy)]
 pub struct Tally {
     /// By the places of their kinds.
     counts: [u64; Kind::COUNT],

@@ -1,3 +1,4 @@
+pub mod Late
 pub mod Patience
 pub mod Queued
 pub mod Turns

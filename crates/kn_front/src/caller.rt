@@ -2,6 +2,7 @@
 ghost use Rattle.std.specs.Prelude.{◌≡◌, ◌≤◌, ◌<◌, IfSome, None, true};
 ghost use Rattle.kn_io.specs.Causes.{Rose};
 ghost use Rattle.std.specs.Duration.{as_nanos};
+ghost use Rattle.kn_front.specs.Late.{late_text};
 ghost use Rattle.kn_front.specs.Patience.{nanos_before, nanos_of};
 
 use kn_io::{Caller, Failed, Faulty, Sink, Source};
@@ -11,8 +12,11 @@ use std::net::TcpStream;
 use std::time::{Clock, Duration, Instant};
 
 /// What a client is answered whose request doesn't come in time.
-const LATE: &[u8] =
-    b"HTTP/1.1 408 Request Timeout\r\nContent-Type: text/plain\r\nContent-Length: 33\r\nConnection: close\r\n\r\ntimed out waiting for the request";
+fn late() -> &'static [u8]
+    ensures { result.now ≡ late_text }
+{
+    b"HTTP/1.1 408 Request Timeout\r\nContent-Type: text/plain\r\nContent-Length: 33\r\nConnection: close\r\n\r\ntimed out waiting for the request"
+}
 
 /// How much longer than what is left of its time a read waits, in milliseconds, since the system may wake it too early.
 const SLACK: u64 = 20;
@@ -119,7 +123,7 @@ impl<K: Clock> Source for FrontCaller<K> {
 
     fn read(&mut self, buf: &mut [u8]) -> Result<usize, Failed> {
         let Some(left) = self.left() else {
-            return Err(self.inner.dismiss(LATE));
+            return Err(self.inner.dismiss(late()));
         };
         // The first read finds something, so it needs no time.
         if !mem::replace(&mut self.unread, false) {
@@ -130,7 +134,7 @@ impl<K: Clock> Source for FrontCaller<K> {
             Ok(n) => Ok(n),
             Err(Failed) => {
                 if self.left().is_none() {
-                    self.inner.dismiss(LATE);
+                    self.inner.dismiss(late());
                 }
                 Err(Failed)
             }

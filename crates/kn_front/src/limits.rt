@@ -9,7 +9,7 @@ use std::time::Duration;
 pub const MOST_WAITING: usize = 4096;
 
 /// How long clients may take, and how many of them may wait.
-#[derive(Clone, Copy, Debug, PartialEq, Eq)]
+#[derive(Clone, Copy)]
 pub struct Limits {
     /// How long a connection may be silent before its request begins.
     pub idle: Duration,

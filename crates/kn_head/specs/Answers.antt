@@ -7,6 +7,19 @@ use Rattle.kn_head.specs.declared.answer.Answer.{Answer}
 use Rattle.kn_head.specs.declared.answer.Answer.TheVariants as answer
 use Rattle.kn_head.specs.Forwarding.{crlf}
 
+-- the status
+abbrev pub code_of : Answer → ℕ
+code_of answer.BadHead = 400
+code_of answer.NoSuchRevision = 404
+code_of answer.BodyTooLong = 413
+code_of answer.HeadTooLong = 431
+code_of answer.BadCoding = 501
+code_of answer.LinkFailed = 502
+code_of answer.QueueFull = 503
+code_of answer.Overload = 503
+code_of answer.Expired = 503
+code_of answer.HistoryFull = 507
+
 -- the code and the phrase of the first line
 abbrev pub status_of : Answer → List ℕ
 status_of answer.BadHead = codes "400 Bad Request"

@@ -1,13 +1,14 @@
 //! The answers that are made here, and not by a pod.
 ghost use Rattle.std.specs.Prelude.{◌≡◌, IfOk};
-ghost use Rattle.kn_head.specs.Answers.{answered, answer_for};
+ghost use Rattle.kn_head.specs.Answers.{answered, answer_for, code_of};
 
 use crate::head::HeadError;
+use http::StatusCode;
 use kn_event::{Memory, Text};
 use std::alloc::Global;
 
 /// An answer to a request that no pod answers.
-#[derive(Clone, Copy, Debug, PartialEq, Eq)]
+#[derive(Clone, Copy)]
 pub enum Answer {
     BadHead,
     NoSuchRevision,
@@ -22,6 +23,24 @@ pub enum Answer {
 }
 
 impl Answer {
+    /// The status of the answer, of whose line `statuses_are_named` speaks.
+    pub fn status(self) -> StatusCode
+        ensures { result ≡ code_of self }
+    {
+        match self {
+            Answer::BadHead => StatusCode::BAD_REQUEST,
+            Answer::NoSuchRevision => StatusCode::NOT_FOUND,
+            Answer::BodyTooLong => StatusCode::PAYLOAD_TOO_LARGE,
+            Answer::HeadTooLong => StatusCode::REQUEST_HEADER_FIELDS_TOO_LARGE,
+            Answer::BadCoding => StatusCode::NOT_IMPLEMENTED,
+            Answer::LinkFailed => StatusCode::BAD_GATEWAY,
+            Answer::QueueFull => StatusCode::SERVICE_UNAVAILABLE,
+            Answer::Overload => StatusCode::SERVICE_UNAVAILABLE,
+            Answer::Expired => StatusCode::SERVICE_UNAVAILABLE,
+            Answer::HistoryFull => StatusCode::INSUFFICIENT_STORAGE,
+        }
+    }
+
     /// The whole answer: its status line, three fields, an empty line and the text.
     pub fn bytes(self) -> &'static [u8]
         ensures { result.now ≡ answered self }

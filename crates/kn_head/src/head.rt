@@ -24,7 +24,7 @@ pub struct Head {
 }
 
 /// Why a request is refused, or wasn't read.
-#[derive(Clone, Copy, Debug, PartialEq, Eq)]
+#[derive(Clone, Copy)]
 pub enum HeadError {
     /// The source failed.
     ReadFault,

@@ -1,6 +1,9 @@
 //! What the definitions say of themselves.
-ghost use Rattle.std.specs.Prelude.{ℕ, List, Result};
+ghost use Rattle.std.specs.Prelude.{◌≡◌, ℕ, List, Result};
+ghost use Rattle.http.specs.StatusCode.{status_text};
 ghost use Rattle.httparse.specs.Grammar.{RequestHead};
+ghost use Rattle.kn_head.specs.Answers.{code_of, status_of};
+ghost use Rattle.kn_head.specs.declared.answer.Answer.{Answer};
 ghost use Rattle.kn_head.specs.declared.head.Head.{Head};
 ghost use Rattle.kn_head.specs.declared.head.HeadError.{HeadError};
 ghost use Rattle.kn_head.specs.Heads.{BeginsWithHead, HeadFails};
@@ -24,3 +27,8 @@ pub fn answers_are_determined()
 {
     chunks_are_determined();
 }
+
+/// The first line of each answer has the code and the phrase that the crate `http` gives its status.
+pub fn statuses_are_named()
+    ensures { (a : Answer) → status_of a ≡ status_text (code_of a) }
+{}

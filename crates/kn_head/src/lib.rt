@@ -17,5 +17,5 @@ mod window;
 pub use answer::{Answer, answer_bytes};
 pub use forward::{Forward, forward_bytes};
 pub use head::{Head, HeadError, Headers};
-pub use laws::answers_are_determined;
+pub use laws::{answers_are_determined, statuses_are_named};
 pub use read::read_head;

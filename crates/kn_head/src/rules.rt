@@ -1,14 +1,14 @@
 //! What the fields of a head settle: whose request it is, and how its body comes.
-ghost use Rattle.std.specs.Prelude.{◌≡◌, ◌≢◌, ◌++◌, ◌∷◌, [], ℕ, List, map, None, Some, MatchOption};
-ghost use Rattle.std.specs.Char.{to_ascii_lowercase};
+ghost use Rattle.std.specs.Prelude.{◌≡◌, ◌≢◌, ◌++◌, ◌∷◌, [], ℕ, List, None, Some, IsTrue, MatchOption};
+ghost use Rattle.http_header.specs.FieldName.{is_header_name};
 ghost use Rattle.kn_head.specs.Fields.{values_named};
 ghost use Rattle.kn_head.specs.Rules.{form_by_length, form_by_coding, form_of, owner_of, NameOwner, AreValues};
 
 use crate::head::{HeadError, Headers};
-use kn_http::{is_word, number};
+use kn_http::{is_named, is_word, number};
 
 /// How a body comes: as so many bytes, or in chunks.
-#[derive(Clone, Copy, Debug)]
+#[derive(Clone, Copy)]
 pub(crate) enum Form {
     Plain(u64),
     Chunked,
@@ -33,13 +33,13 @@ fn with_value<'a>(found: Values<'a>, value: &'a [u8]) -> Values<'a>
 }
 
 /// The values of the fields with this name, which is given in lower case.
-fn values_of<'a>(headers: &'a Headers, known: &[u8]) -> Values<'a>
-    requires { map to_ascii_lowercase known.now ≡ known.now }
+fn values_of<'a>(headers: &'a Headers, known: &'static str) -> Values<'a>
+    requires { IsTrue (is_header_name known.now) }
     ensures { AreValues (values_named known.now headers.now) result }
 {
     let mut found = Values::Absent;
     for field in headers.items() {
-        if is_word(field.0.bytes(), known) {
+        if is_named(field.0.bytes(), known) {
             found = with_value(found, field.1.bytes());
         }
     }
@@ -50,8 +50,8 @@ fn values_of<'a>(headers: &'a Headers, known: &[u8]) -> Values<'a>
 pub(crate) fn owner(headers: &Headers) -> Option<(&[u8], &[u8])>
     ensures { MatchOption result (owner_of headers.now ≡ None) (λ owner. NameOwner headers.now owner.0.now owner.1.now) }
 {
-    let namespaces = values_of(headers, b"knative-serving-namespace");
-    let revisions = values_of(headers, b"knative-serving-revision");
+    let namespaces = values_of(headers, "knative-serving-namespace");
+    let revisions = values_of(headers, "knative-serving-revision");
     match namespaces {
         Values::One(namespace) => match revisions {
             Values::One(revision) => Some((namespace, revision)),
@@ -98,8 +98,8 @@ fn form_of_codings(codings: Values) -> Result<Form, HeadError>
 pub(crate) fn body_form(headers: &Headers) -> Result<Form, HeadError>
     ensures { result ≡ form_of headers.now }
 {
-    let codings = values_of(headers, b"transfer-encoding");
-    let lengths = values_of(headers, b"content-length");
+    let codings = values_of(headers, "transfer-encoding");
+    let lengths = values_of(headers, "content-length");
     match codings {
         Values::Absent => form_of_lengths(lengths),
         Values::One(_) | Values::Several => match lengths {

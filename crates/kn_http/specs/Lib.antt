@@ -1,4 +1,5 @@
 pub mod Names
+pub mod Lines
 pub mod Numbers
 pub mod Chunks
 pub mod Parts

@@ -8,7 +8,7 @@ use kn_event::Text;
 use std::alloc::Global;
 
 /// Why a call of a pod has no reply.
-#[derive(Clone, Copy, Debug, PartialEq, Eq)]
+#[derive(Clone, Copy)]
 pub enum LinkError {
     /// Answered only where the count of faults rose in the call.
     Failed,

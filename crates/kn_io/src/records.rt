@@ -10,7 +10,7 @@ pub struct Call {
 }
 
 /// A probe of a pod, with its answer, or none where it failed.
-#[derive(Clone, Copy, Debug, PartialEq, Eq, Drop)]
+#[derive(Clone, Copy, Drop)]
 pub struct Probe {
     pub pod: u64,
     pub answer: Option<bool>,

@@ -68,7 +68,7 @@ impl Clock for ListClock {
 }
 
 /// A gate that everyone passes at once.
-#[derive(Clone, Copy, Debug, PartialEq, Eq, Drop)]
+#[derive(Clone, Copy, Drop)]
 pub struct OpenGate;
 
 impl Gate for OpenGate {

@@ -2,7 +2,7 @@ use kn_event::LineError;
 use kn_preamble::{FirstLine, SetupError};
 
 /// Why a journal, or a workload, was not read to its end. Lines are counted from 1.
-#[derive(Clone, Copy, Debug, PartialEq, Eq)]
+#[derive(Clone, Copy)]
 pub enum JournalError {
     /// The input failed, or 2^56 bytes were taken of it.
     ReadFault,

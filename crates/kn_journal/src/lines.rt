@@ -13,7 +13,7 @@ use memchr::memchr;
 const LINE_MOST: usize = 65536;
 
 /// Why no line was read.
-#[derive(Clone, Copy, Debug, PartialEq, Eq)]
+#[derive(Clone, Copy)]
 pub enum NoLine {
     /// The source failed, or 2^56 bytes were taken of it. What was read of the line is lost.
     Fault,

@@ -4,7 +4,7 @@ ghost use Rattle.kn_journal.specs.Status.{code_of};
 use crate::error::JournalError;
 
 /// How a command ended.
-#[derive(Clone, Copy, Debug, PartialEq, Eq)]
+#[derive(Clone, Copy)]
 pub enum Status {
     /// The input was read to its end, and everything was written.
     Ok,

@@ -10,7 +10,8 @@ ghost use Rattle.kn_many.specs.ManyCourse.{CourseAll};
 use crate::ending::{clear_all, end_of_all};
 use crate::setups::read_setups;
 use kn_core::Revision;
-use kn_event::{Memory, Spec};
+use kn_directory::Revisions;
+use kn_event::Memory;
 use kn_io::{Caller, Clock, Failed, Gate, PodLink, Sink, Source};
 use kn_journal::{Setup, Status};
 use kn_plan::WidePlan;
@@ -23,9 +24,9 @@ use std::alloc::Global;
 use std::sync::Wait;
 use std::thread::Threads;
 
-/// The specifications of the setups, copied.
-fn specs_of(alloc: Global, setups: &[Setup]) -> Result<Vec<Spec>, Memory>
-    ensures { IfOk result (λ specs. specs.items ≡ map (λ s. s.spec) setups.now) }
+/// The specifications of the setups, copied, each to be found by its name.
+fn specs_of(alloc: Global, setups: &[Setup]) -> Result<Revisions, Memory>
+    ensures { IfOk result (λ specs. specs ≡ map (λ s. s.spec) setups.now) }
 {
     let mut specs = Vec::new(alloc);
     for setup in setups {
@@ -34,7 +35,7 @@ fn specs_of(alloc: Global, setups: &[Setup]) -> Result<Vec<Spec>, Memory>
             return Err(Memory);
         }
     }
-    Ok(specs)
+    Revisions::new(alloc, specs)
 }
 
 /// The revision of each setup at the start, with all the memory that it will ever have.

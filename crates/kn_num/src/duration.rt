@@ -2,7 +2,7 @@
 ghost use Rattle.std.specs.Prelude.{◌≡◌, ℕ, ◌+◌, ◌^◌, ◌<◌, ◌≤◌, List, length, Ok, IfOk};
 ghost use Rattle.kn_num.specs.Spelling.{IsDuration};
 ghost use Rattle.kn_num.specs.Capped.{above};
-ghost use Rattle.kn_num.specs.Duration.{unit_at, unit_ms, unit_length, part_at, part_ms, duration_ms_of};
+ghost use Rattle.kn_num.specs.Duration.{unit_at, unit_ms, unit_length, part_at, part_of, part_ms, duration_ms_of};
 
 use crate::error::NumError;
 use crate::number::{GREATEST, Number, number_at};
@@ -93,6 +93,18 @@ fn part_at(text: &[u8], place: usize) -> Result<Part, NumError>
     let number = number_at(text, place)?;
     let place = place + number.length;
     let unit = unit_at(&text[number.length..], place)?;
+    part_of(place, number, unit)
+}
+
+/// The part of this number and this unit, which stands at `place`.
+fn part_of(place: usize, number: Number, unit: TimeUnit) -> Result<Part, NumError>
+    requires whole { number.whole ≤ above }
+    requires thousandths { number.thousandths < 10000000 }
+    requires short { number.length + 2 < 2 ^ 64 }
+    ensures value { result ≡ part_of place number unit }
+    ensures length { IfOk result (λ part. part.length ≡ number.length + unit_length unit) }
+    ensures bound { IfOk result (λ part. part.ms ≤ 2 ^ 52) }
+{
     if number.thousandths * unit.ms() % 1000 != 0 {
         return Err(NumError::TooFine(place));
     }

@@ -1,7 +1,7 @@
 //! Why a text is no number or duration.
 
 /// The first fault of a text. A place is the offset of a byte, from 0, or the text's length where its end is the fault.
-#[derive(Clone, Copy, Debug, PartialEq, Eq)]
+#[derive(Clone, Copy)]
 pub enum NumError {
     /// The text has no bytes.
     Empty,

@@ -1,5 +1,5 @@
 //! The socket that is listened on, and a slot's caller and link.
-use kn_event::{Items, Memory, Text};
+use kn_event::{Memory, Text};
 use kn_serve::{Hosts, OpenError};
 use kn_tcp::{TcpCaller, TcpLink};
 use std::alloc::Global;
@@ -16,17 +16,6 @@ pub fn listen<N: Net<Listener = TcpListener, Stream = TcpStream>>(
     TcpListener::bind(net, address).ok()
 }
 
-/// The texts, copied.
-fn copies(alloc: Global, texts: &Items<Text>) -> Result<Items<Text>, Memory> {
-    let mut copied = Vec::new(alloc);
-    for text in texts.items() {
-        if copied.push(text.copy(alloc)?).is_err() {
-            return Err(Memory);
-        }
-    }
-    Ok(Items::new(copied))
-}
-
 /// A caller that meets the clients of this socket.
 pub fn caller(listener: &TcpListener) -> Result<TcpCaller, OpenError> {
     match listener.try_clone() {
@@ -41,8 +30,8 @@ pub fn link<'a, N: Net<Listener = TcpListener, Stream = TcpStream> + Clock>(
     net: &'a N,
     pods: &Hosts,
 ) -> Result<TcpLink<&'a N>, OpenError> {
-    match copies(alloc, pods) {
-        Ok(addresses) => Ok(TcpLink::new(net, addresses)),
+    match TcpLink::new(alloc, net, pods.items()) {
+        Ok(link) => Ok(link),
         Err(Memory) => Err(OpenError::Memory),
     }
 }

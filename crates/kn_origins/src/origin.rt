@@ -10,7 +10,7 @@ use serde_json::Value;
 use std::alloc::Global;
 
 /// What gives the value of a setting.
-#[derive(Clone, Copy, Debug, PartialEq, Eq)]
+#[derive(Clone, Copy)]
 pub enum Origin {
     /// Nothing that was said.
     Default,

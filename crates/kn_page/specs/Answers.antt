@@ -5,6 +5,16 @@ use Rattle.kn_head.specs.Forwarding.{crlf}
 use Rattle.kn_page.specs.declared.reply.Reply.{Reply}
 use Rattle.kn_page.specs.declared.reply.Reply.TheVariants as reply
 
+-- the status
+abbrev pub code_of : Reply → ℕ
+code_of reply.Healthy = 200
+code_of reply.Ready = 200
+code_of reply.Stopping = 503
+code_of reply.Metrics = 200
+code_of reply.NotFound = 404
+code_of reply.NotAllowed = 405
+code_of reply.BadRequest = 400
+
 -- the code and the phrase of the first line
 abbrev pub reply_status : Reply → List ℕ
 reply_status reply.Healthy = codes "200 OK"

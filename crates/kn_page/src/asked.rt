@@ -3,7 +3,7 @@ ghost use Rattle.std.specs.Prelude.{◌≡◌, ◌||◌, bytes_eq, codes, positi
 ghost use Rattle.kn_page.specs.Asking.{asked_of, is_question, page_at, path_of, wanted_by};
 
 /// What a request asks for.
-#[derive(Clone, Copy, Debug, PartialEq, Eq)]
+#[derive(Clone, Copy)]
 pub enum Wanted {
     /// `/healthz`: whether the server lives.
     Health,
@@ -20,7 +20,7 @@ pub enum Wanted {
 }
 
 /// What a request asks for, and whether it wants the body of the answer.
-#[derive(Clone, Copy, Debug, PartialEq, Eq)]
+#[derive(Clone, Copy)]
 pub struct Asked {
     pub wanted: Wanted,
     /// It does, but by HEAD.

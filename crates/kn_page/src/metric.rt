@@ -3,7 +3,7 @@ ghost use Rattle.std.specs.Prelude.{◌≡◌, ◌≤◌, length};
 ghost use Rattle.kn_page.specs.Metric.{metric_help, metric_name, metric_type};
 
 /// A family of metrics: its name, what it says, and whether it is a counter or a gauge.
-#[derive(Clone, Copy, Debug, PartialEq, Eq)]
+#[derive(Clone, Copy)]
 pub enum Metric {
     Rows,
     Recorded,

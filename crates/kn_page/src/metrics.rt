@@ -9,7 +9,7 @@ use kn_event::Decision;
 use kn_figures::{Figures, Kind};
 
 /// What is shown beside the figures of the revision.
-#[derive(Clone, Copy, Debug, PartialEq, Eq)]
+#[derive(Clone, Copy)]
 pub struct Outer {
     /// Connections that wait for a slot.
     pub waiting: u64,

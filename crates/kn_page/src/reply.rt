@@ -1,12 +1,14 @@
 //! What requests are answered.
-ghost use Rattle.std.specs.Prelude.{◌≡◌, ◌+◌, ◌≤◌, ◌++◌, length, codes, if◌then◌else◌, []};
+ghost use Rattle.std.specs.Prelude.{◌≡◌, ◌+◌, ◌≤◌, ◌++◌, ◌∷◌, length, codes, if◌then◌else◌, []};
 ghost use Rattle.std.specs.Fmt.{decimal};
-ghost use Rattle.kn_page.specs.Answers.{allow_line, answer_head, answer_text, field_line, plain_text, ready_reply, reply_status, status_line, reply_text, reply_type};
+ghost use Rattle.http.specs.StatusCode.{code_digits};
+ghost use Rattle.kn_page.specs.Answers.{allow_line, answer_head, answer_text, code_of, field_line, plain_text, ready_reply, reply_status, status_line, reply_text, reply_type};
 
 use crate::sheet::Sheet;
+use http::StatusCode;
 
 /// What a request is answered.
-#[derive(Clone, Copy, Debug, PartialEq, Eq)]
+#[derive(Clone, Copy)]
 pub enum Reply {
     Healthy,
     Ready,
@@ -18,20 +20,26 @@ pub enum Reply {
 }
 
 impl Reply {
-    /// The code and the phrase of the first line, at most 32 bytes.
-    fn status(self) -> &'static [u8]
-        ensures value { result.now ≡ reply_status self }
-        ensures short { length result.now ≤ 32 }
+    fn status(self) -> StatusCode
+        ensures { result ≡ code_of self }
     {
         match self {
-            Reply::Healthy => b"200 OK",
-            Reply::Ready => b"200 OK",
-            Reply::Stopping => b"503 Service Unavailable",
-            Reply::Metrics => b"200 OK",
-            Reply::NotFound => b"404 Not Found",
-            Reply::NotAllowed => b"405 Method Not Allowed",
-            Reply::BadRequest => b"400 Bad Request",
+            Reply::Healthy => StatusCode::OK,
+            Reply::Ready => StatusCode::OK,
+            Reply::Stopping => StatusCode::SERVICE_UNAVAILABLE,
+            Reply::Metrics => StatusCode::OK,
+            Reply::NotFound => StatusCode::NOT_FOUND,
+            Reply::NotAllowed => StatusCode::METHOD_NOT_ALLOWED,
+            Reply::BadRequest => StatusCode::BAD_REQUEST,
         }
+    }
+
+    /// The phrase of the first line, in at most 28 bytes.
+    fn phrase(self) -> &'static str
+        ensures value { code_digits (code_of self) ++ (32 ∷ result.now) ≡ reply_status self }
+        ensures short { length result.now ≤ 28 }
+    {
+        self.status().canonical_reason().unwrap_or("")
     }
 
     /// What the text is, in at most 48 bytes.
@@ -73,14 +81,15 @@ pub fn ready_reply(stopping: bool) -> Reply
     }
 }
 
-#[tactic(auto, using(std::proofs::Common::append_assoc), unfolding(crate::specs::Answers::status_line))]
 fn put_status(sheet: &mut Sheet, reply: Reply)
     requires { length sheet.old ≤ 100 }
     ensures value { sheet.new ≡ sheet.old ++ status_line reply }
     ensures short { length sheet.new ≤ length sheet.old + 43 }
 {
     sheet.put(b"HTTP/1.1 ");
-    sheet.put(reply.status());
+    sheet.put(reply.status().as_str().as_bytes());
+    sheet.put(b" ");
+    sheet.put(reply.phrase().as_bytes());
     sheet.put(b"\r\n");
 }
 

@@ -2,24 +2,22 @@
 ghost use Rattle.std.specs.Prelude.{◌≡◌, ◌+◌, ◌≤◌, ◌++◌, [], length};
 ghost use Rattle.std.specs.Fmt.{decimal};
 
+use arrayvec::ArrayVec;
 use itoa::Buffer;
 use std::marker::Model;
 
 /// A text of at most 8,192 bytes. Contracts see the list of them.
 #[derive(Drop)]
 pub struct Sheet {
-    buffer: [u8; 8192],
-    len: usize,
+    text: ArrayVec<u8, 8192>,
 }
 
 impl Model for Sheet {
-    ghost use Rattle.std.specs.Prelude.{ℕ, ◌≤◌, List, take};
+    ghost use Rattle.std.specs.Prelude.{ℕ, List};
 
     ghost Value = { List ℕ };
 
-    ghost view = { λ s. take s.len s.buffer };
-
-    ghost invariant = { λ s. s.len ≤ 8192 };
+    ghost view = { λ s. s.text.items };
 }
 
 impl Sheet {
@@ -28,8 +26,7 @@ impl Sheet {
         ensures { result ≡ [] }
     {
         Sheet {
-            buffer: [0; 8192],
-            len: 0,
+            text: ArrayVec::new(),
         }
     }
 
@@ -38,14 +35,14 @@ impl Sheet {
         ensures value { result.now ≡ self.now }
         ensures len { length result.now ≡ length self.now }
     {
-        &self.buffer[..self.len]
+        self.text.as_slice()
     }
 
     /// Empties it.
     pub fn clear(&mut self)
         ensures { self.new ≡ [] }
     {
-        self.len = 0;
+        self.text.clear();
     }
 
     /// Adds bytes at the end.
@@ -54,9 +51,9 @@ impl Sheet {
         ensures value { self.new ≡ self.old ++ bytes.now }
         ensures len { length self.new ≡ length self.old + length bytes.now }
     {
-        let end = self.len + bytes.len();
-        self.buffer[self.len..end].copy_from_slice(bytes);
-        self.len = end;
+        let Ok(()) = self.text.try_extend_from_slice(bytes) else {
+            unreachable!();
+        };
     }
 
     /// Adds a number in decimal, of at most 39 digits.

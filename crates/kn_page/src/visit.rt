@@ -13,7 +13,7 @@ use kn_io::{Caller, caller_laws, put_all};
 use std::sync::Wait;
 
 /// What became of a connection.
-#[derive(Clone, Copy, Debug, PartialEq, Eq)]
+#[derive(Clone, Copy)]
 pub enum Visit {
     /// Nobody was met.
     Missed,

@@ -10,7 +10,7 @@ use kn_event::Counts;
 use std::marker::Model;
 
 /// What a decision asks for before the scale-down delay.
-#[derive(Clone, Copy, Debug, PartialEq, Eq)]
+#[derive(Clone, Copy)]
 pub struct Panicked {
     pub panicking: bool,
     /// Pods: in panic the greatest count of the run of panicking decisions, else the decision's stable count.
@@ -18,7 +18,7 @@ pub struct Panicked {
 }
 
 /// The decisions up to now, as far as later ones need them. Contracts say for which list of decisions it stands.
-#[derive(Debug, Drop)]
+#[derive(Drop)]
 pub struct Panic {
     moment: Option<u64>,
     greatest: u64,

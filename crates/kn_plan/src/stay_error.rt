@@ -7,7 +7,7 @@ use kn_event::{Memory, Text};
 use std::alloc::Global;
 
 /// How an option is given wrongly.
-#[derive(Clone, Copy, Debug, PartialEq, Eq)]
+#[derive(Clone, Copy)]
 pub enum Fault {
     /// It isn't given, and nothing stands for it.
     Missing,
@@ -18,7 +18,7 @@ pub enum Fault {
 }
 
 /// What is said in place of serving.
-#[derive(Clone, Copy, Debug)]
+#[derive(Clone, Copy)]
 pub enum StayError<'a> {
     /// `--help` asks what the words are.
     Help,

@@ -3,7 +3,7 @@ ghost use Rattle.std.specs.Prelude.{◌≡◌};
 ghost use Rattle.kn_plan.specs.StayOptions.{least_of, most_of, name_of, range_text};
 
 /// An option of `stay`.
-#[derive(Clone, Copy, Debug, PartialEq, Eq)]
+#[derive(Clone, Copy)]
 pub enum StayOption {
     Listen,
     Pods,

@@ -2,7 +2,7 @@ use kn_config::ConfigError;
 use kn_revision::SpecError;
 
 /// Why a setup is refused. A place is the offset of a byte in its line, from 0.
-#[derive(Clone, Copy, Debug, PartialEq, Eq)]
+#[derive(Clone, Copy)]
 pub enum SetupError {
     /// The field that begins here has another name or no number, or is one too many; or the line ends here and lacks one.
     BadField(u64),

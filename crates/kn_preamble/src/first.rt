@@ -5,7 +5,7 @@ ghost use Rattle.kn_preamble.specs.First.{activators_of, version_by, version_mos
 use kn_event::read_number;
 
 /// A first line that names a version, or a number of activators in its place.
-#[derive(Clone, Copy, Debug, PartialEq, Eq)]
+#[derive(Clone, Copy)]
 pub enum FirstLine {
     /// `kact journal 1` or `kact journal 2`.
     Journal,

@@ -150,7 +150,7 @@ const UNREAD: Placed = Placed {
 };
 
 /// What a `fixed` line says.
-#[derive(Clone, Copy, Debug, PartialEq, Eq)]
+#[derive(Clone, Copy)]
 pub struct FixedLine {
     pub limit: u64,
     pub pods: u64,

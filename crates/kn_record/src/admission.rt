@@ -1,7 +1,7 @@
 //! What a trace comes to: the live requests and the live pods.
 
 /// Where a live request is.
-#[derive(Clone, Copy, Debug, PartialEq, Eq)]
+#[derive(Clone, Copy)]
 pub enum Place {
     /// In the activator, without a pod.
     Held,
@@ -12,7 +12,7 @@ pub enum Place {
 }
 
 /// A live request.
-#[derive(Clone, Copy, Debug, PartialEq, Eq)]
+#[derive(Clone, Copy)]
 pub struct Request {
     pub number: u64,
     /// When it was taken in, in milliseconds.
@@ -21,7 +21,7 @@ pub struct Request {
 }
 
 /// How far a live pod is.
-#[derive(Clone, Copy, Debug, PartialEq, Eq)]
+#[derive(Clone, Copy)]
 pub enum Readiness {
     Starting,
     Ready,
@@ -29,7 +29,7 @@ pub enum Readiness {
 }
 
 /// A live pod.
-#[derive(Clone, Copy, Debug, PartialEq, Eq)]
+#[derive(Clone, Copy)]
 pub struct Pod {
     pub number: u64,
     /// Requests that may run there; 0 is no limit.

@@ -1,5 +1,5 @@
 -- Pieces that are written one after the other.
-use Rattle.std.proofs.Common.{◌≡◌, ◌<◌, ◌+◌, ℕ, Bool, true, false, cond, Option, Result, Ok, Err, List, [], ◌∷◌, ◌++◌, length, take, drop, map, filter, get_or, not, ap, ap₂, sym, subst, ◌∙◌, refl, arith, add-one, append_assoc, append-nil, codes, length-append, ◌/◌, ◌%◌}
+use Rattle.std.proofs.Common.{◌≡◌, ◌<◌, ◌+◌, ℕ, Bool, true, false, cond, Option, Result, Ok, Err, List, [], ◌∷◌, ◌++◌, length, take, drop, map, filter, get_or, not, ap, ap₂, sym, subst, ◌∙◌, refl, arith, add-one, append_assoc, append-nil, codes, length-append}
 use Rattle.std.specs.Prelude.{OnErr, OnOk}
 use Rattle.std.specs.List.{flat_map}
 use Rattle.std.specs.Io.KnownBytes.{Appends}
@@ -80,17 +80,14 @@ lines_are text (x ∷ xs) =
 
 -- ---- a first line and a field, in pieces
 
-abbrev start_of : ℕ → ℕ → ℕ → ℕ → List ℕ → List ℕ
-start_of version a b c reason =
-    codes "HTTP/1." ++ ((48 + version) ∷ 32 ∷ a ∷ b ∷ c ∷ 32 ∷ [] ++ (reason ++ (13 ∷ 10 ∷ [])))
+abbrev start_of : ℕ → List ℕ → List ℕ → List ℕ
+start_of version digits reason =
+    codes "HTTP/1." ++ ((48 + version) ∷ 32 ∷ [] ++ (digits ++ (32 ∷ [] ++ (reason ++ (13 ∷ 10 ∷ [])))))
 
-pub start_is : (version code a b c : ℕ) (reason : List ℕ) → a ≡ 48 + code / 100 % 10 → b ≡ 48 + code / 10 % 10 → c ≡ 48 + code % 10
-    → start_of version a b c reason ≡ status_line version (three_digits code) reason
+pub start_is : (version code : ℕ) (digits reason : List ℕ) → digits ≡ three_digits code
+    → start_of version digits reason ≡ status_line version (three_digits code) reason
 unfolding status_line line_start
-start_is version code a b c reason x y z =
-    ap (λ n. start_of version n b c reason) x
-    ∙ (ap (λ n. start_of version (48 + code / 100 % 10) n c reason) y
-    ∙ ap (λ n. start_of version (48 + code / 100 % 10) (48 + code / 10 % 10) n reason) z)
+start_is version code digits reason same = ap (λ d. start_of version d reason) same
 
 pub line_is : (name value : List ℕ) → name ++ (58 ∷ 32 ∷ (value ++ (13 ∷ 10 ∷ []))) ≡ field_line (name, value)
 unfolding field_line

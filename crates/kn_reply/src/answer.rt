@@ -104,22 +104,28 @@ fn put_start(out: &mut Vec<u8>, version: u8, code: u16) -> Result<(), LinkError>
     requires code { code < 1000 }
     ensures { OnOk result (out.new.items ≡ out.old.items ++ line_start version (three_digits code)) }
 {
-    let digits = [
-        last_digit(code / 100),
-        last_digit(code / 10),
-        last_digit(code),
-    ];
     put(out, b"HTTP/1.")?;
     put(out, &[b'0' + version, b' '])?;
-    put(out, &digits)?;
+    put(out, &three_digits(code))?;
     put(out, b" ")?;
     Ok(())
 }
 
-pub(crate) fn last_digit(n: u16) -> u8
+fn last_digit(n: u16) -> u8
     ensures { result ≡ 48 + n % 10 }
 {
     b'0' + (n % 10) as u8
+}
+
+/// The three digits of a pod's status, which may be below 100 too, as no `StatusCode` is.
+pub(crate) fn three_digits(code: u16) -> [u8; 3]
+    ensures { result ≡ three_digits code }
+{
+    [
+        last_digit(code / 100),
+        last_digit(code / 10),
+        last_digit(code),
+    ]
 }
 
 /// Writes the fields that stay.

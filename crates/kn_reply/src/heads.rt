@@ -4,6 +4,7 @@ ghost use Rattle.httparse.specs.Outcome.{IfComplete, OnPartial};
 ghost use Rattle.kn_reply.specs.Replies.{is_interim};
 ghost use Rattle.kn_reply.specs.Ends.{IsHeadAt, NeverHeads, NoHeads};
 
+use http::StatusCode;
 use httparse::Status;
 use httparse::spans::{HeaderSpan, ResponseSpans, parse_response};
 
@@ -49,5 +50,8 @@ pub(crate) fn answer_head(
 fn is_interim(code: u16) -> bool
     ensures { result ≡ is_interim code }
 {
-    100 <= code && code < 200 && code != 101
+    match StatusCode::from_u16(code) {
+        Ok(status) => status.is_informational() && status != StatusCode::SWITCHING_PROTOCOLS,
+        Err(_) => false,
+    }
 }

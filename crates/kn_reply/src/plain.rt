@@ -9,13 +9,13 @@ ghost use Rattle.kn_reply.specs.Ends.{fields_in};
 ghost use Rattle.kn_reply.specs.Plain.{AreChunks, AreChunksOf, HeadInChunks, IsPlainOf, NotChunks, NotInChunks, OnPlainForm, Puts};
 ghost use Rattle.kn_reply.specs.Plain.{are_chunks_alone, end_names, is_other_coding, plain_lines};
 
-use crate::answer::last_digit;
+use crate::answer::three_digits;
 use crate::chunks::{BOUNDS, Followed, follow};
 use crate::heads::{MOST_FIELDS, answer_head};
 use crate::reply::is_coded;
 use httparse::Status;
 use httparse::spans::{EMPTY_HEADER_SPAN, HeaderSpan, ResponseSpans};
-use kn_http::{Chunk, chunks_are_determined, is_word, next_chunk};
+use kn_http::{Chunk, chunks_are_determined, is_named, is_word, next_chunk};
 use kn_io::{Failed, Sink, put_all};
 
 /// Writes what a client of HTTP/1.0 is sent of an answer. One that is whole and in chunks goes plain: its interim heads as they
@@ -90,7 +90,7 @@ fn has_other_coding(text: &[u8], fields: &[HeaderSpan]) -> bool
 fn is_other_coding(name: &[u8], value: &[u8]) -> bool
     ensures { result ≡ is_other_coding (name.now, value.now) }
 {
-    is_word(name, b"transfer-encoding") && !is_word(value, b"chunked")
+    is_named(name, "transfer-encoding") && !is_word(value, b"chunked")
 }
 
 /// Writes the plain form of an answer whose head begins at this place.
@@ -149,15 +149,19 @@ fn put_start<O: Sink>(
     ensures kept_stays { O.kept out.new ≡ O.kept out.old }
     ensures cause { HasCause (O.Faulty.faults out.old) (O.Faulty.faults out.new) result }
 {
-    let numbers = [
-        b'0' + version,
-        b' ',
-        last_digit(code / 100),
-        last_digit(code / 10),
-        last_digit(code),
-        b' ',
-    ];
-    put_pieces(out, &[interim, b"HTTP/1.", &numbers, reason, b"\r\n"])
+    let version = [b'0' + version, b' '];
+    put_pieces(
+        out,
+        &[
+            interim,
+            b"HTTP/1.",
+            &version,
+            &three_digits(code),
+            b" ",
+            reason,
+            b"\r\n",
+        ],
+    )
 }
 
 /// Writes the fields that don't say how the body ends, and the end of the head.
@@ -183,9 +187,9 @@ fn put_fields<O: Sink>(out: &mut O, text: &[u8], fields: &[HeaderSpan]) -> Resul
 fn is_of_end(name: &[u8]) -> bool
     ensures { result ≡ is_among end_names name.now }
 {
-    is_word(name, b"transfer-encoding")
-        || is_word(name, b"trailer")
-        || is_word(name, b"content-length")
+    is_named(name, "transfer-encoding")
+        || is_named(name, "trailer")
+        || is_named(name, "content-length")
 }
 
 /// Writes what a body in chunks stands for.

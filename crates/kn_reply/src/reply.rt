@@ -10,9 +10,10 @@ ghost use Rattle.kn_reply.specs.Ends.{agrees, fields_in};
 
 use crate::chunks::{Followed, follow};
 use crate::heads::{MOST_FIELDS, Never, answer_head};
+use http::StatusCode;
 use httparse::Status;
 use httparse::spans::{EMPTY_HEADER_SPAN, HeaderSpan};
-use kn_http::{is_word, number};
+use kn_http::{is_named, is_word, number};
 
 /// How many bytes a reply may have.
 pub(crate) const MOST_REPLY: usize = 1_114_112;
@@ -101,7 +102,14 @@ fn stage_of(request: &[u8], reply: &[u8]) -> Result<Status<Stage>, Never>
 fn is_bodiless(code: u16) -> bool
     ensures { result ≡ (code == 101 || (code == 204 || code == 304)) }
 {
-    code == 101 || code == 204 || code == 304
+    match StatusCode::from_u16(code) {
+        Ok(status) => {
+            status == StatusCode::SWITCHING_PROTOCOLS
+                || status == StatusCode::NO_CONTENT
+                || status == StatusCode::NOT_MODIFIED
+        }
+        Err(_) => false,
+    }
 }
 
 /// Whether an answer to this request with this status has no body.
@@ -159,7 +167,7 @@ fn length_of<'a>(text: &'a [u8], fields: &[HeaderSpan]) -> Option<&'a [u8]>
     ensures any { FindsLength result (fields_in text.now fields.now) }
 {
     for field in fields {
-        if is_word(field.name.of(text), b"content-length") {
+        if is_named(field.name.of(text), "content-length") {
             return Some(field.value.of(text));
         }
     }
@@ -185,7 +193,7 @@ pub(crate) fn is_coded(text: &[u8], fields: &[HeaderSpan]) -> bool
     ensures { result ≡ list_any is_coding (fields_in text.now fields.now) }
 {
     for field in fields {
-        if is_word(field.name.of(text), b"transfer-encoding") {
+        if is_named(field.name.of(text), "transfer-encoding") {
             return true;
         }
     }
@@ -208,7 +216,7 @@ fn is_in_chunks(text: &[u8], fields: &[HeaderSpan]) -> bool
 fn is_chunks_coding(name: &[u8], value: &[u8]) -> bool
     ensures { result ≡ is_chunks_coding (name.now, value.now) }
 {
-    is_word(name, b"transfer-encoding") && ends_in_chunks(value)
+    is_named(name, "transfer-encoding") && ends_in_chunks(value)
 }
 
 fn ends_in_chunks(value: &[u8]) -> bool
@@ -221,7 +229,7 @@ fn ends_in_chunks(value: &[u8]) -> bool
 fn agrees(name: &[u8], value: &[u8], count: u64) -> bool
     ensures { result ≡ agrees count (name.now, value.now) }
 {
-    !is_word(name, b"content-length") || says(value, count)
+    !is_named(name, "content-length") || says(value, count)
 }
 
 /// Whether this says the number.

@@ -1,9 +1,8 @@
 -- Whose a request is.
-use Rattle.std.specs.Prelude.{◌≡◌}
 use Rattle.kn_head.specs.declared.head.Head.{Head}
 use Rattle.kn_event.specs.declared.revision.Spec.{Spec}
+use Rattle.kn_directory.specs.Names.{HasName}
 
 -- the request is one to the revision
-pub record IsFor (spec : Spec) (head : Head) : Type 0 where
-  pub namespace : head.namespace ≡ spec.namespace
-  pub name : head.revision ≡ spec.name
+abbrev pub IsFor : Spec → Head → Type 0
+IsFor spec head = HasName spec head.namespace head.revision

@@ -2,6 +2,7 @@
 use Rattle.std.specs.Prelude.{◌≡◌, ◌⊎◌, ◌≤◌, ◌<◌, ℕ, Bool, List, map, length, Option, None, Some, Result, Ok, Err, slice_index_or, slice_set}
 use Rattle.atomic_table.specs.Seated.{TableId}
 use Rattle.kn_event.specs.declared.revision.Spec.{Spec}
+use Rattle.kn_directory.specs.Names.{IsFirstNamed, NoneHasName}
 use Rattle.kn_cell.specs.Shown.{Looks, PassView}
 use Rattle.kn_io.specs.Causes.{Rose}
 use Rattle.kn_io.specs.Links.{Link}
@@ -13,7 +14,6 @@ use Rattle.kn_request.specs.declared.slot.Served.{Served}
 use Rattle.kn_request.specs.declared.slot.Served.TheVariants as served
 use Rattle.kn_request.specs.declared.slot.Work.{Work}
 use Rattle.kn_request.specs.declared.ticks.Turn.{Turn}
-use Rattle.kn_request.specs.Answers.{IsFor}
 use Rattle.kn_request.specs.One.{IsEvent, IsRefusal, IsUnread, ServesOneBy}
 use Rattle.kn_request.specs.Outside.{Said}
 use Rattle.kn_request.specs.Terms.{unwatched}
@@ -48,15 +48,11 @@ EachPass cells ps = (v : ℕ) (c : TableId) → v < length cells → (p : PassVi
 
 -- the head names none of them
 abbrev pub IsForNone : List Spec → Head → Type 0
-IsForNone specs head = (v : ℕ) (d : Spec) → v < length specs → IsFor (slice_index_or specs v d) head → ⊥
+IsForNone specs head = NoneHasName specs head.namespace head.revision
 
 -- it names revision v, and none before that
-pub record IsNamed (specs : List Spec) (v : ℕ) (head : Head) : Type 0 where
-  pub inside : v < length specs
-  pub spec : Spec
-  pub spec_is : (d : Spec) → slice_index_or specs v d ≡ spec
-  pub names : IsFor spec head
-  pub first : (u : ℕ) (d : Spec) → u < v → IsFor (slice_index_or specs u d) head → ⊥
+abbrev pub IsNamed : List Spec → ℕ → Head → Type 0
+IsNamed specs v head = IsFirstNamed specs v head.namespace head.revision
 
 -- the request was one to revision v. No other revision's pass or link was touched
 pub record ServesAt (reading : ℕ → Type 0) (specs : List Spec) (tag : ℕ) (ps ps' : List (Option PassView)) (ws ws' : List (Option Link)) (v : ℕ) (head : Head) (s : Served) (text : List ℕ) : Type 0 where

@@ -53,7 +53,7 @@ fn answer<C: Caller>(caller: &mut C, meant: Meant) -> Served
 }
 
 /// Whether the request is one to the revision.
-pub fn is_for(spec: &Spec, head: &Head) -> bool
+fn is_for(spec: &Spec, head: &Head) -> bool
     ensures { MatchBool result (IsFor spec.now head.now) (IsFor spec.now head.now → ⊥) }
 {
     head.namespace.bytes() == spec.namespace.bytes() && head.revision.bytes() == spec.name.bytes()

@@ -5,7 +5,7 @@ use kn_cell::{Full, Pass};
 use kn_head::Answer;
 
 /// How a request was answered.
-#[derive(Clone, Copy, Debug, PartialEq, Eq, Drop)]
+#[derive(Clone, Copy, Drop)]
 pub enum Served {
     /// With the pod's reply.
     Replied,
@@ -57,7 +57,7 @@ pub struct WideSlot<C, L> {
 
 /// How a request to one of several revisions was answered, and the place of the one that its head named: none where nobody was
 /// met, where the head was refused, and where it names none.
-#[derive(Clone, Copy, Debug, PartialEq, Eq, Drop)]
+#[derive(Clone, Copy, Drop)]
 pub struct Ended {
     pub revision: Option<usize>,
     pub served: Served,

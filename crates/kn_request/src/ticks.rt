@@ -42,7 +42,7 @@ impl Left {
 }
 
 /// What a turn came to.
-#[derive(Clone, Copy, Debug, PartialEq, Eq, Drop)]
+#[derive(Clone, Copy, Drop)]
 pub struct Turn {
     /// The time of the last tick that was due.
     pub last: u64,
@@ -65,7 +65,7 @@ fn act_once<R: Wait>(rt: &R, cell: &RevisionCell, pass: &mut Pass, what: Act, no
 }
 
 /// What was found of the next Starting pod that has an address: none, or its number, and whether there was no room for its Ready.
-#[derive(Clone, Copy, Debug, PartialEq, Eq, Drop)]
+#[derive(Clone, Copy, Drop)]
 pub enum Probed {
     Done,
     One(u64, bool),

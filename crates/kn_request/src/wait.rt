@@ -15,7 +15,7 @@ use kn_event::Act;
 use kn_io::{Caller, Clock};
 use std::sync::Wait;
 
-#[derive(Clone, Copy, Debug, PartialEq, Eq, Drop)]
+#[derive(Clone, Copy, Drop)]
 pub enum Waited {
     /// It runs there.
     Runs(Run),

@@ -4,9 +4,10 @@ ghost use Rattle.kn_cell.specs.Shown.{PassView};
 ghost use Rattle.kn_request.specs.Wide.{EachPass, IsForNone, IsNamed, faults_in, memories_in, passes_in};
 ghost use Rattle.kn_request.specs.Calls.{FailsByCause, FailsByCauseAt, FailsByCauseIn, KeepsLengths, ServesByWork, ServesNamed, ServesWideSlot};
 
-use crate::one::{fault_of, is_for, refuse, serve_read};
+use crate::one::{fault_of, refuse, serve_read};
 use crate::slot::{Ended, Served, WideSlot, Work};
 use kn_cell::RevisionCell;
+use kn_directory::Revisions;
 use kn_door::NoWatch;
 use kn_event::Spec;
 use kn_head::{Answer, Head, read_head};
@@ -14,18 +15,12 @@ use kn_io::{Caller, Clock, Gate, PodLink, caller_laws};
 use std::alloc::Global;
 use std::sync::Wait;
 
-/// The first revision that the head names.
-fn named(specs: &[Spec], head: &Head) -> Option<usize>
+/// The first revision that the head names. No memory is taken.
+fn named(specs: &Revisions, head: &Head) -> Option<usize>
     ensures some { IfSome result (λ v. IsNamed specs.now v head.now) }
     ensures none { IfNone result (IsForNone specs.now head.now) }
 {
-    for v in 0..specs.len() {
-        match is_for(&specs[v], head) {
-            true => return Some(v),
-            false => {}
-        }
-    }
-    None
+    specs.named(head.namespace.bytes(), head.revision.bytes())
 }
 
 /// Serves a request whose head was read, with the pass that lies in the work.
@@ -67,7 +62,7 @@ fn serve_named<R: Wait, C: Caller, L: PodLink, K: Clock, G: Gate>(
     alloc: Global,
     cells: &[RevisionCell],
     works: &mut [Work],
-    specs: &[Spec],
+    specs: &Revisions,
     caller: &mut C,
     links: &mut [L],
     tag: u64,
@@ -87,12 +82,13 @@ fn serve_named<R: Wait, C: Caller, L: PodLink, K: Clock, G: Gate>(
     match read_head(alloc, caller) {
         Ok(head) => match named(specs, &head) {
             Some(v) => {
+                let spec = &specs.as_slice()[v];
                 let served = serve_with(
                     rt,
                     alloc,
                     &cells[v],
                     &mut works[v],
-                    &specs[v],
+                    spec,
                     caller,
                     &mut links[v],
                     &head,
@@ -130,7 +126,7 @@ pub fn serve_wide<R: Wait, C: Caller, L: PodLink, K: Clock, G: Gate>(
     rt: &R,
     alloc: Global,
     cells: &[RevisionCell],
-    specs: &[Spec],
+    specs: &Revisions,
     slot: &mut WideSlot<C, L>,
     tag: u64,
     clock: &K,

@@ -6,7 +6,7 @@ use kn_config::{Key, KeyError};
 use kn_num::NumError;
 
 /// The first fault of a Revision.
-#[derive(Clone, Copy, Debug, PartialEq, Eq)]
+#[derive(Clone, Copy)]
 pub enum SpecError {
     NotJson,
     /// The member isn't there, or a member on the way is no object.
@@ -20,7 +20,7 @@ pub enum SpecError {
 }
 
 /// A member that a Revision must have.
-#[derive(Clone, Copy, Debug, PartialEq, Eq)]
+#[derive(Clone, Copy)]
 pub enum Field {
     Namespace,
     Name,

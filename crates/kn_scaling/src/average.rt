@@ -4,7 +4,7 @@ ghost use Rattle.kn_scaling.specs.Average.{load_over};
 use kn_event::Frac;
 
 /// Seconds in a row that are samples with the same load.
-#[derive(Clone, Copy, Debug, PartialEq, Eq)]
+#[derive(Clone, Copy)]
 pub struct SampleRun {
     /// The first of them.
     pub second: u64,

@@ -1,5 +1,5 @@
 /// What a decision asked for before the delay.
-#[derive(Clone, Copy, Debug, PartialEq, Eq)]
+#[derive(Clone, Copy)]
 pub struct Asked {
     /// The second of the decision.
     pub second: u64,

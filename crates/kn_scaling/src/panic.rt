@@ -1,7 +1,7 @@
 use kn_event::Counts;
 
 /// What panic mode reads of a decision.
-#[derive(Clone, Copy, Debug, PartialEq, Eq)]
+#[derive(Clone, Copy)]
 pub struct Judged {
     /// Its time in milliseconds.
     pub time: u64,

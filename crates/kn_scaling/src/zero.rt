@@ -5,7 +5,7 @@ ghost use Rattle.kn_scaling.specs.Zero.{bounded_count, lower_bound, not_above_ma
 use kn_event::{Mode, Phase, Spec};
 
 /// Where a revision stands before a decision. 'Since' is the time of the last entry of it, or the start, in milliseconds.
-#[derive(Clone, Copy, Debug, PartialEq, Eq)]
+#[derive(Clone, Copy)]
 pub struct Standing {
     pub phase: Phase,
     pub phase_since: u64,
@@ -16,7 +16,7 @@ pub struct Standing {
 }
 
 /// What the scale-to-zero rule answers.
-#[derive(Clone, Copy, Debug, PartialEq, Eq)]
+#[derive(Clone, Copy)]
 pub struct ZeroAnswer {
     /// Pods wanted from now on.
     pub want: u64,

@@ -2,7 +2,7 @@
 use thiserror::Error;
 
 /// Why an opener made nothing.
-#[derive(Clone, Copy, Debug, PartialEq, Eq, Drop, Error)]
+#[derive(Clone, Copy, Debug, Drop, Error)]
 pub enum OpenError {
     /// Answered only where the count of faults rose in the call.
     #[error("listen failed")]

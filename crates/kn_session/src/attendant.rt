@@ -24,7 +24,7 @@ pub trait Attendant {
 }
 
 /// Nobody, who is done at once.
-#[derive(Clone, Copy, Debug, PartialEq, Eq, Drop)]
+#[derive(Clone, Copy, Drop)]
 pub struct NoAttendant;
 
 impl Attendant for NoAttendant {

@@ -9,7 +9,7 @@ pub trait Notes {
 }
 
 /// Keeps nothing.
-#[derive(Clone, Copy, Debug, PartialEq, Eq, Drop)]
+#[derive(Clone, Copy, Drop)]
 pub struct NoNotes;
 
 impl Notes for NoNotes {

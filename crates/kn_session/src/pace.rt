@@ -32,7 +32,7 @@ pub trait Pace<C: Caller>: Watch<C> {
 }
 
 /// Just so many rounds, and nobody looks after the clients.
-#[derive(Clone, Copy, Debug, PartialEq, Eq, Drop)]
+#[derive(Clone, Copy, Drop)]
 pub struct Rounds {
     pub count: u32,
 }

@@ -1,13 +1,13 @@
 //! What a session over several revisions is served with.
-use kn_event::Spec;
+use kn_directory::Revisions;
 use std::alloc::Global;
 
 /// What the slots and the ticker of a session over 1 to 16 revisions share, and how much is asked of them.
 #[derive(Drop)]
 pub struct WideSetting<'a, K, G> {
     pub alloc: Global,
-    /// One for each revision, in their order.
-    pub specs: &'a [Spec],
+    /// The specification of each revision, in their order, each to be found by its name.
+    pub specs: &'a Revisions,
     pub clock: &'a K,
     pub gate: &'a G,
     /// How many rows the history of each revision has room for, at most 1,000,000.

@@ -234,7 +234,7 @@ impl Teller for Reasons {
 }
 
 /// Asks for the reasons.
-#[derive(Clone, Copy, Debug, PartialEq, Eq)]
+#[derive(Clone, Copy)]
 pub struct ReasonsForm;
 
 impl Form<Reasons> for ReasonsForm {

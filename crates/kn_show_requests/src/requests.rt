@@ -211,7 +211,7 @@ impl Teller for Requests {
 }
 
 /// Asks for a line for each request.
-#[derive(Clone, Copy, Debug, PartialEq, Eq)]
+#[derive(Clone, Copy)]
 pub struct RequestsForm;
 
 impl Form<Requests> for RequestsForm {

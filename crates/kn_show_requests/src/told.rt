@@ -9,7 +9,7 @@ use kn_event::Line;
 use kn_lives::Life;
 
 /// How a request came to a pod.
-#[derive(Clone, Copy, Debug, PartialEq, Eq)]
+#[derive(Clone, Copy)]
 pub enum Way {
     /// Through the activator.
     Proxied,
@@ -33,7 +33,7 @@ impl Way {
 }
 
 /// What has come of a request.
-#[derive(Clone, Copy, Debug, PartialEq, Eq)]
+#[derive(Clone, Copy)]
 pub enum Outcome {
     Ok,
     Failed,
@@ -64,7 +64,7 @@ impl Outcome {
 }
 
 /// What is told of a request. Times are in milliseconds.
-#[derive(Clone, Copy, Debug, PartialEq, Eq)]
+#[derive(Clone, Copy)]
 pub struct Told {
     pub request: u64,
     /// The caller's tag.

@@ -168,7 +168,7 @@ impl Teller for Series {
 }
 
 /// The series with steps of this many milliseconds, 1 to 86,400,000.
-#[derive(Clone, Copy, Debug, PartialEq, Eq)]
+#[derive(Clone, Copy)]
 pub struct SeriesForm {
     pub step: u64,
     pub ghost some: { 1 ≤ step },

@@ -17,7 +17,7 @@ use kn_report::laws::adding_laws;
 use std::alloc::Global;
 
 /// Why a journal was not written whole.
-#[derive(Clone, Copy, Debug, PartialEq, Eq)]
+#[derive(Clone, Copy)]
 pub enum SimError {
     /// The sink failed.
     Failed,

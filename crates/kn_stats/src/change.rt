@@ -1,5 +1,5 @@
 /// What happens to one live request.
-#[derive(Clone, Copy, Debug, PartialEq, Eq)]
+#[derive(Clone, Copy)]
 pub enum Change {
     /// The activator takes it in.
     Admitted,

@@ -6,7 +6,7 @@ use std::marker::Model;
 
 /// A time in milliseconds, with its second and where that begins, so that what is asked often divides nothing. Contracts see
 /// the time.
-#[derive(Debug, Drop)]
+#[derive(Drop)]
 pub(crate) struct Clock {
     time: u64,
     second: u64,

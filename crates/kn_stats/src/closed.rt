@@ -4,7 +4,7 @@ ghost use Rattle.kn_stats.specs.Closing.{is_sampled, run_of};
 use kn_event::Metric;
 
 /// Seconds in a row with the same load.
-#[derive(Clone, Copy, Debug, PartialEq, Eq)]
+#[derive(Clone, Copy)]
 pub struct Run {
     /// The first of them.
     pub second: u64,
@@ -18,7 +18,7 @@ pub struct Run {
 }
 
 /// What is over after an advance.
-#[derive(Clone, Copy, Debug, PartialEq, Eq)]
+#[derive(Clone, Copy)]
 pub struct Closed {
     /// The second that was open, if it closed.
     pub first: Option<Run>,

@@ -12,7 +12,7 @@ use std::alloc::Global;
 use std::marker::Model;
 
 /// What requests at one pod took of the open second, up to the last advance, in milliseconds.
-#[derive(Clone, Copy, Debug, PartialEq, Eq)]
+#[derive(Clone, Copy)]
 pub struct PodArea {
     pub area: u64,
     /// The part of those that came through the activator.

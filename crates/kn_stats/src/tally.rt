@@ -3,7 +3,7 @@ ghost use Rattle.std.specs.Prelude.{◌≡◌, ◌≤◌, ◌<◌, true, false};
 use crate::Change;
 
 /// Requests that are live now, and what they and earlier ones come to in the open second where nothing more changes in it.
-#[derive(Clone, Copy, Debug, PartialEq, Eq)]
+#[derive(Clone, Copy)]
 pub(crate) struct Tally {
     pub(crate) count: u64,
     /// Milliseconds.
@@ -62,7 +62,7 @@ impl Tally {
 }
 
 /// What is kept of one pod.
-#[derive(Clone, Copy, Debug, PartialEq, Eq)]
+#[derive(Clone, Copy)]
 pub(crate) struct PodTally {
     pub(crate) number: u64,
     /// The second that the areas are of; in a later one they begin anew.

@@ -5,7 +5,7 @@ ghost use Rattle.kn_stay.specs.Staying.{status_of_stayed};
 use kn_journal::Status;
 
 /// How it ended.
-#[derive(Clone, Copy, Debug, PartialEq, Eq)]
+#[derive(Clone, Copy)]
 pub enum Stayed {
     /// So.
     Ended(Status),

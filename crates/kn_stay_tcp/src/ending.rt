@@ -9,7 +9,7 @@ use kn_serve::tell;
 use kn_stay::Stayed;
 
 /// How a server ended.
-#[derive(Clone, Copy, Debug, PartialEq, Eq)]
+#[derive(Clone, Copy)]
 pub enum Ended {
     So(Status),
     /// So many threads are needed, and not all can be made.

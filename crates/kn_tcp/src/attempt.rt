@@ -9,12 +9,11 @@ use std::time::{Duration, Instant};
 /// How many seconds a connection may take.
 const WAIT: u64 = 1;
 
-/// A connection that was begun with an address of the name at a place. Nobody waits for it.
+/// A connection that was begun with an address of a pod. Nobody waits for it.
 #[derive(Drop)]
 pub(crate) struct Attempt {
-    pub(crate) place: usize,
     pub(crate) address: SocketAddr,
-    /// How many of the name's addresses were tried then.
+    /// How many of the pod's addresses were tried then.
     pub(crate) tried: usize,
     at: Instant,
     stream: TcpStream,
@@ -32,14 +31,12 @@ impl Attempt {
     /// Begins to connect.
     pub(crate) fn begin<N: Net>(
         net: &N,
-        place: usize,
         address: SocketAddr,
         tried: usize,
         at: Instant,
     ) -> io::Result<Attempt> {
         let stream = TcpStream::connect(net, address)?;
         Ok(Attempt {
-            place,
             address,
             tried,
             at,

@@ -4,7 +4,7 @@ ghost use Rattle.std.specs.Prelude.{◌≡◌, None};
 mod handed;
 
 use crate::closing::finish;
-use crate::course::{CONTINUE, Course};
+use crate::course::{Course, leave};
 use crate::line::Line;
 use handed::Origin;
 use kn_io::{Caller, Failed, Faulty, PIECE, Sink, Source, fault, read_piece};
@@ -113,7 +113,7 @@ impl Source for TcpCaller {
         let Some(stream) = &mut self.line.stream else {
             return Err(fault(&mut self.line.faults));
         };
-        if self.course.take_due() && stream.write_all(CONTINUE).is_err() {
+        if self.course.take_due() && stream.write_all(leave()).is_err() {
             return Err(fault(&mut self.line.faults));
         }
         match read_piece(stream, &mut self.line.buffer, buf) {

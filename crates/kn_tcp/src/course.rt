@@ -1,5 +1,8 @@
 //! What a client's request says of itself as its bytes come.
+ghost use Rattle.std.specs.Prelude.{◌≡◌, ◌++◌, ◌∷◌, []};
+ghost use Rattle.kn_http.specs.Lines.{status_line};
 
+use kn_http::{is_named, is_word};
 use std::str;
 
 /// How much of a line is kept: more than any spelling of a field that is looked for has.
@@ -11,10 +14,14 @@ const OLD: u64 = 0x4854_5450_2f31_2e30;
 const NEW: u64 = 0x4854_5450_2f31_2e31;
 
 /// What gives leave.
-pub(crate) const CONTINUE: &[u8] = b"HTTP/1.1 100 Continue\r\n\r\n";
+pub(crate) fn leave() -> &'static [u8]
+    ensures { result.now ≡ status_line 100 ++ 13 ∷ 10 ∷ [] }
+{
+    b"HTTP/1.1 100 Continue\r\n\r\n"
+}
 
 /// Which version of HTTP the client speaks.
-#[derive(Clone, Copy, Debug, PartialEq, Eq)]
+#[derive(Clone, Copy)]
 enum Version {
     /// 1.0, in which there are no chunks and no interim answers.
     Old,
@@ -25,7 +32,7 @@ enum Version {
 }
 
 /// What the fields say of how many bytes the body has.
-#[derive(Clone, Copy, Debug, PartialEq, Eq)]
+#[derive(Clone, Copy, PartialEq, Eq)]
 enum Size {
     /// Nothing, so there is none.
     Unsaid,
@@ -44,7 +51,7 @@ struct Said {
 }
 
 /// How far the request came.
-#[derive(Clone, Copy, Debug, PartialEq, Eq)]
+#[derive(Clone, Copy, PartialEq, Eq)]
 enum Stage {
     /// In the first line.
     First,
@@ -72,7 +79,7 @@ pub(crate) struct Course {
 }
 
 fn asks(name: &[u8], value: &[u8]) -> bool {
-    name.eq_ignore_ascii_case(b"expect") && value.eq_ignore_ascii_case(b"100-continue")
+    is_named(name, "expect") && is_word(value, b"100-continue")
 }
 
 /// The number that the value of a length says.
@@ -85,9 +92,9 @@ fn number(value: &[u8]) -> Size {
 
 /// What is known of the size with this field beside those before it.
 fn size_with(before: Size, name: &[u8], value: &[u8]) -> Size {
-    if name.eq_ignore_ascii_case(b"transfer-encoding") {
+    if is_named(name, "transfer-encoding") {
         Size::Unknown
-    } else if !name.eq_ignore_ascii_case(b"content-length") {
+    } else if !is_named(name, "content-length") {
         before
     } else if before == Size::Unsaid {
         number(value)

@@ -3,14 +3,14 @@
 #![tactic(auto)]
 
 mod attempt;
-mod attempts;
 mod caller;
 mod closing;
 mod course;
 mod line;
 mod link;
 mod looks;
-mod names;
+mod pod;
+mod probes;
 
 pub use caller::TcpCaller;
 pub use kn_reply::{

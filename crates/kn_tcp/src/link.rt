@@ -1,12 +1,11 @@
 //! Links to pods.
-ghost use Rattle.std.specs.Prelude.{◌≡◌, ◌≤◌, ◌%◌, length, None, Err, IfOk, option_map, slice_get};
+ghost use Rattle.std.specs.Prelude.{◌≡◌, ◌≤◌, ◌%◌, ◌==◌, length, map, None, Some, Err, IfOk, if◌then◌else◌};
 ghost use Rattle.kn_io.specs.Causes.{Rose};
 ghost use Rattle.kn_reply.specs.Replies.{IsWholeReply};
 ghost use Rattle.kn_reply.specs.Closing.{IsHandedOn};
 
-use crate::attempts::Attempts;
-use crate::names::{Name, Names};
-use kn_event::{Items, Text};
+use crate::pod::Pod;
+use kn_event::{Memory, Text};
 use kn_io::{Failed, Faulty, LinkError, PodLink, fault};
 use kn_reply::read_answer;
 use std::alloc::Global;
@@ -28,40 +27,48 @@ const REPLY_WAIT: u64 = 600;
 #[derive(Drop)]
 pub struct TcpLink<N> {
     net: N,
-    addresses: Items<Text>,
-    names: Names,
-    attempts: Attempts,
+    pods: Vec<Pod>,
     faults: u64,
 }
 
-impl<N: Net + Clock> TcpLink<N> {
+impl<N: Net + Clock + Drop> TcpLink<N> {
     /// A link to these addresses, without faults so far.
-    pub fn new(net: N, addresses: Items<Text>) -> TcpLink<N>
-        ensures { ⟦<TcpLink<N> as Faulty>⟧.faults result ≡ 0 }
+    pub fn new(alloc: Global, net: N, addresses: &[Text]) -> Result<TcpLink<N>, Memory>
+        ensures { IfOk result (λ link. ⟦<TcpLink<N> as Faulty>⟧.faults link ≡ 0) }
     {
-        TcpLink {
+        let pods = pods_of(alloc, addresses)?;
+        Ok(TcpLink {
             net,
-            addresses,
-            names: Names::new(),
-            attempts: Attempts::new(),
+            pods,
             faults: 0,
-        }
+        })
     }
 }
 
-/// The name of a pod.
-fn name_of(addresses: &[Text], pod: u64) -> Option<Name<'_>>
-    ensures { option_map (λ n. n.text.now) result ≡ slice_get addresses.entry.now (pod % length addresses.entry.now) }
+/// A pod for each address.
+fn pods_of(alloc: Global, addresses: &[Text]) -> Result<Vec<Pod>, Memory>
+    ensures { IfOk result (λ pods. map (λ p. p.name) pods.items ≡ addresses.now) }
 {
-    let count = addresses.len() as u64;
+    let Ok(mut pods) = Vec::with_capacity(alloc, addresses.len()) else {
+        return Err(Memory);
+    };
+    for address in addresses {
+        let name = address.copy(alloc)?;
+        if pods.push(Pod::new(name)).is_err() {
+            return Err(Memory);
+        }
+    }
+    Ok(pods)
+}
+
+/// The place of a pod among so many. None where there are none.
+fn place_of(count: usize, pod: u64) -> Option<usize>
+    ensures { result ≡ (if 0 == count then None else Some (pod % count)) }
+{
     if count == 0 {
         return None;
     }
-    let place = (pod % count) as usize;
-    Some(Name {
-        text: addresses[place].bytes(),
-        place,
-    })
+    Some((pod % count as u64) as usize)
 }
 
 /// A connection with the first address of this name that takes it, in time, and that address.
@@ -79,17 +86,17 @@ fn connect_anew<N: Net>(net: &N, text: &[u8]) -> io::Result<(N::Stream, SocketAd
     Err(last)
 }
 
-/// A connection with the address that this name had not long ago, or else with the first one that takes it.
-fn connect<N: Net + Clock>(net: &N, names: &mut Names, name: Name<'_>) -> io::Result<N::Stream> {
+/// A connection with the address that this pod had not long ago, or else with the first one that takes it.
+fn connect<N: Net + Clock>(net: &N, pod: &mut Pod) -> io::Result<N::Stream> {
     let now = Instant::now(net)?;
-    if let Some(address) = names.get(name.place, now) {
+    if let Some(address) = pod.address(now) {
         if let Ok(stream) = net.connect_timeout(address, Duration::from_secs(CONNECT_WAIT)) {
             return Ok(stream);
         }
-        names.forget(name.place);
+        pod.forget();
     }
-    let (stream, address) = connect_anew(net, name.text)?;
-    names.keep(name.place, now, address);
+    let (stream, address) = connect_anew(net, pod.name.bytes())?;
+    pod.keep(now, address);
     Ok(stream)
 }
 
@@ -107,16 +114,15 @@ fn send<S: OpenStream + Write>(stream: &mut S, request: &[u8]) -> io::Result<()>
 /// Sends a pod the request, and answers what the client is handed of its reply, which came whole.
 fn exchange<N: Net + Clock>(
     net: &N,
-    names: &mut Names,
+    pod: &mut Pod,
     alloc: Global,
-    name: Name<'_>,
     request: &[u8],
 ) -> Result<Text, LinkError>
     ensures short { IfOk result (λ answer. length answer ≤ 1114646) }
     ensures whole { IfOk result (λ answer. IsWholeReply request.now answer) }
     ensures exact { IfOk result (λ answer. IsHandedOn request.now answer) }
 {
-    let Ok(mut stream) = connect(net, names, name) else {
+    let Ok(mut stream) = connect(net, pod) else {
         return Err(LinkError::Failed);
     };
     if send(&mut stream, request).is_err() {
@@ -137,10 +143,10 @@ impl<N: Net + Clock> PodLink for TcpLink<N> {
     ghost told = { λ _. None };
 
     fn probe(&mut self, pod: u64) -> Result<bool, Failed> {
-        let Some(name) = name_of(self.addresses.items(), pod) else {
+        let Some(place) = place_of(self.pods.len(), pod) else {
             return Err(fault(&mut self.faults));
         };
-        match self.attempts.probe(&self.net, &mut self.names, name) {
+        match self.pods[place].probe(&self.net) {
             Ok(is_there) => Ok(is_there),
             Err(e) if e.kind() == ErrorKind::ConnectionRefused => Ok(false),
             Err(_) => Err(fault(&mut self.faults)),
@@ -154,8 +160,8 @@ impl<N: Net + Clock> PodLink for TcpLink<N> {
         ensures never_falls { self.old.faults ≤ self.new.faults }
         ensures cause { result ≡ Err LinkError.Failed → Rose self.old.faults self.new.faults }
     {
-        let answer = match name_of(self.addresses.items(), pod) {
-            Some(name) => exchange(&self.net, &mut self.names, alloc, name, request),
+        let answer = match place_of(self.pods.len(), pod) {
+            Some(place) => exchange(&self.net, &mut self.pods[place], alloc, request),
             None => Err(LinkError::Failed),
         };
         if let Err(LinkError::Failed) = &answer {

@@ -1,1 +1,2 @@
 mod Stills
+mod Fresh

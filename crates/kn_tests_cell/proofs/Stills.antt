@@ -1,12 +1,12 @@
 -- A pass that kept its numbers, through one call more.
-use Rattle.std.proofs.Common.{◌≡◌, ◌+◌, ◌∙◌, ap}
+use Rattle.std.proofs.Common.{◌≡◌, ◌+◌, ◌⊎◌, inl, inr, ap}
 use Rattle.std.specs.Prelude.{ℕ, List, Result, Ok, Err}
 use Rattle.kn_event.specs.declared.event.Act.{Act}
 use Rattle.kn_event.specs.declared.event.Told.{Told}
 use Rattle.kn_cell.specs.declared.past.Past.{Past}
 use Rattle.kn_cell.specs.declared.past.TryError.{TryError}
 use Rattle.kn_cell.specs.declared.past.TryError.TheVariants.{Busy, Full}
-use Rattle.kn_cell.specs.Shown.{PassView, Tries}
+use Rattle.kn_cell.specs.Shown.{IsLater, Looks, PassView, Tries}
 use Rattle.kn_tests_cell.specs.Numbers.{IsStill}
 
 -- only what it has seen, done and missed is new, and what was taken out
@@ -26,5 +26,9 @@ tries_still p q act time (Ok told) t = still_of p q q.seen q.mine q.missed q.gon
 tries_still p q act time (Err Busy) t = still_of p q p.seen p.mine (p.missed + 1) p.gone t.0
 tries_still p q act time (Err (Full full)) t = still_of p q q.seen q.mine q.missed q.gone t.0.same
 
-pub still_trans : (p q r : PassView) → IsStill p q → IsStill q r → IsStill p r
-still_trans p q r s t = record { of = t.of ∙ s.of; free = t.free ∙ s.free; back = t.back ∙ s.back; passes = t.passes ∙ s.passes; scribe = t.scribe ∙ s.scribe; room = t.room ∙ s.room }
+-- .. or nothing at all
+pub looks_still : (p q : PassView) → IsLater p q → IsStill p q
+looks_still p q e = still_of p q q.seen q.mine q.missed q.gone e
+
+pub maybe_still : (p q : PassView) → (q ≡ p) ⊎ Looks p q → IsStill p q
+maybe_still p q so = elim so [ inl e ↦ still_of p q p.seen p.mine p.missed p.gone e | inr l ↦ looks_still p q l.same ]

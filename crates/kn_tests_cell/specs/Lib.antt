@@ -1,1 +1,4 @@
 pub mod Numbers
+pub mod Workers
+pub mod Fresh
+pub mod Wide

@@ -1,5 +1,5 @@
 -- The numbers that a pass of a cell has to give away, and those that came back to it.
-use Rattle.std.specs.Prelude.{ℕ, ◌≡◌, ◌+◌, true}
+use Rattle.std.specs.Prelude.{ℕ, ◌≡◌, ◌≤◌, ◌+◌, Bool, true}
 use Rattle.atomic_table.specs.Seated.{TableId}
 use Rattle.kn_cell.specs.Shown.{PassView}
 
@@ -10,11 +10,17 @@ pub record IsFirst (cell : TableId) (n : ℕ) (p : PassView) : Type 0 where
   pub back : p.back ≡ 0
   pub passes : p.passes ≡ n
 
--- a pass that stands for itself alone
-pub record IsLeaf (cell : TableId) (p : PassView) : Type 0 where
+-- one of so many passes, which stands for itself alone
+pub record IsLeaf (cell : TableId) (n : ℕ) (p : PassView) : Type 0 where
   pub of : p.cell ≡ cell
   pub free : p.free ≡ 0
   pub back : p.back ≡ 0
+  pub passes : p.passes ≡ n
+
+-- it may take rows out where this is true, and there is room for so many
+pub record IsFor (takes : Bool) (rows : ℕ) (p : PassView) : Type 0 where
+  pub scribe : takes ≡ true → p.scribe ≡ true
+  pub room : p.room ≡ rows
 
 -- it is of the same cell, has the same numbers, and may do the same
 pub record IsStill (old new : PassView) : Type 0 where
@@ -24,9 +30,3 @@ pub record IsStill (old new : PassView) : Type 0 where
   pub passes : new.passes ≡ old.passes
   pub scribe : new.scribe ≡ old.scribe
   pub room : new.room ≡ old.room
-
--- the scribe, the first of so many passes of a cell with room for so many rows
-pub record IsScribe (cell : TableId) (rows n : ℕ) (p : PassView) : Type 0 where
-  pub first : IsFirst cell n p
-  pub scribe : p.scribe ≡ true
-  pub room : p.room ≡ rows

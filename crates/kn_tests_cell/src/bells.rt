@@ -2,32 +2,73 @@
 ghost use Rattle.std.specs.Prelude.{◌≡◌};
 ghost use Rattle.kn_tests_cell.specs.Numbers.{IsStill};
 
-use crate::meeting::Notes;
-use crate::shared::{LONG_MS, arrive, course, on};
-use crate::turns::look;
+use crate::answers::Answer;
+use crate::calls::{Call, make};
+use crate::crowd::bring;
+use crate::notes::Notes;
 use kn_cell::{Course, Pass, RevisionCell};
-use kn_event::{Act, Stand, Told};
+use kn_event::{Act, Event, Stand};
 use std::sync::Wait;
+use std::sync::atomic::Ordering;
 
-/// Waits while the request waits. Says whether it runs then.
+/// How a thread waits for its one request.
+#[derive(Clone, Copy)]
+pub struct Waiting {
+    /// By `arrive` and `course`; else by `on` and `look`.
+    pub by_course: bool,
+    /// So many others wait before a request that runs is finished.
+    pub others: u64,
+    /// And this happens before, which ends the others' waits.
+    pub end: Option<Event>,
+}
+
+/// What a request does by an answer.
+#[derive(Clone, Copy)]
+enum Way {
+    Waits,
+    Runs,
+    Over,
+}
+
+fn way_of(answer: &Answer) -> Way {
+    match *answer {
+        Answer::Stand(Stand::Held) => Way::Waits,
+        Answer::Stand(Stand::Queued(_)) => Way::Waits,
+        Answer::Stand(Stand::Running(_)) => Way::Runs,
+        Answer::Course(Course::Waits) => Way::Waits,
+        Answer::Course(Course::Runs(_)) => Way::Runs,
+        Answer::Came(_, Course::Waits) => Way::Waits,
+        Answer::Came(_, Course::Runs(_)) => Way::Runs,
+        _ => Way::Over,
+    }
+}
+
+/// Waits while the request waits, by this answer and then by those to the call. Says whether it runs then. Where there are more
+/// waits than there can be, as where nobody is rung, it gives up.
 fn await_run<R: Wait>(
     rt: &R,
     cell: &RevisionCell,
     pass: &mut Pass,
-    request: u64,
+    first: Answer,
+    ask: Call,
+    most: u64,
     notes: &Notes,
 ) -> bool
     requires { pass.old.cell ≡ cell.now }
     ensures { IsStill pass.old pass.new }
 {
+    let mut answer = first;
     for _ in 0..1000 {
-        match look(rt, cell, pass, request) {
-            Stand::Running(_) => return true,
-            Stand::Held | Stand::Queued(_) => {}
-            Stand::Unknown | Stand::Ended => return false,
+        match way_of(&answer) {
+            Way::Runs => return true,
+            Way::Over => return false,
+            Way::Waits => {}
         }
-        notes.has_wait();
-        cell.wait(rt, pass, LONG_MS);
+        if notes.waits.fetch_add(1, Ordering::SeqCst) >= most {
+            return false;
+        }
+        make(rt, cell, pass, Call::Wait);
+        answer = make(rt, cell, pass, ask);
     }
     false
 }
@@ -38,80 +79,10 @@ fn await_waits<R: Wait>(rt: &R, cell: &RevisionCell, pass: &mut Pass, count: u64
     ensures { IsStill pass.old pass.new }
 {
     for _ in 0..20_000 {
-        if notes.waits() >= count {
+        if notes.waits.load(Ordering::SeqCst) >= count {
             return;
         }
-        cell.rest(rt, pass);
-    }
-}
-
-/// A request arrives. It is finished once it runs, and so many others wait if it runs at once.
-pub fn queue<R: Wait>(rt: &R, cell: &RevisionCell, pass: &mut Pass, others: u64, notes: &Notes)
-    requires { pass.old.cell ≡ cell.now }
-    ensures { IsStill pass.old pass.new }
-{
-    match on(rt, cell, pass, Act::Arrive(0), 0) {
-        Some(Ok(Told::Run(request, _))) => {
-            await_waits(rt, cell, pass, others, notes);
-            let _ = on(rt, cell, pass, Act::Finish(request, true), 0);
-        }
-        Some(Ok(Told::Held(request))) => {
-            if await_run(rt, cell, pass, request, notes) {
-                let _ = on(rt, cell, pass, Act::Finish(request, true), 0);
-            }
-        }
-        _ => {}
-    }
-}
-
-/// Waits while the request goes on so. Says whether it runs then.
-fn await_course<R: Wait>(
-    rt: &R,
-    cell: &RevisionCell,
-    pass: &mut Pass,
-    request: u64,
-    first: Course,
-    notes: &Notes,
-) -> bool
-    requires { pass.old.cell ≡ cell.now }
-    ensures { IsStill pass.old pass.new }
-{
-    let mut now = first;
-    for _ in 0..1000 {
-        match now {
-            Course::Runs(_) => return true,
-            Course::Over => return false,
-            Course::Waits => {}
-        }
-        notes.has_wait();
-        cell.wait(rt, pass, LONG_MS);
-        now = course(rt, cell, pass, request);
-    }
-    false
-}
-
-/// The same as `queue`, in two turns of the cell where nothing hinders the request.
-pub fn queue_by_course<R: Wait>(
-    rt: &R,
-    cell: &RevisionCell,
-    pass: &mut Pass,
-    others: u64,
-    notes: &Notes,
-)
-    requires { pass.old.cell ≡ cell.now }
-    ensures { IsStill pass.old pass.new }
-{
-    match arrive(rt, cell, pass, 0, 0) {
-        Ok((Told::Run(request, _), Course::Runs(_))) => {
-            await_waits(rt, cell, pass, others, notes);
-            let _ = on(rt, cell, pass, Act::Finish(request, true), 0);
-        }
-        Ok((Told::Held(request), first)) => {
-            if await_course(rt, cell, pass, request, first, notes) {
-                let _ = on(rt, cell, pass, Act::Finish(request, true), 0);
-            }
-        }
-        _ => {}
+        make(rt, cell, pass, Call::Rest);
     }
 }
 
@@ -120,39 +91,71 @@ fn make_noise<R: Wait>(rt: &R, cell: &RevisionCell, pass: &mut Pass)
     requires { pass.old.cell ≡ cell.now }
     ensures { IsStill pass.old pass.new }
 {
-    for i in 0..50 {
-        let act = if i % 2 == 0 {
-            Act::Pass
-        } else {
-            Act::Limit(0, 1)
-        };
-        let _ = on(rt, cell, pass, act, 0);
-        cell.rest(rt, pass);
+    for _ in 0..25 {
+        bring(rt, cell, pass, 0, Act::Pass);
+        make(rt, cell, pass, Call::Rest);
+        bring(rt, cell, pass, 0, Act::Limit(0, 1));
+        make(rt, cell, pass, Call::Rest);
     }
 }
 
-/// A request arrives. Where it runs at once, the other's is ended by this act, after much else; the other waits for that.
-pub fn end_other<R: Wait>(
+/// Ends the waits of the others, where that is asked for, and then the request, which runs.
+fn end<R: Wait>(rt: &R, cell: &RevisionCell, pass: &mut Pass, request: u64, end: Option<Event>)
+    requires { pass.old.cell ≡ cell.now }
+    ensures { IsStill pass.old pass.new }
+{
+    let time = match end {
+        Some(event) => {
+            make_noise(rt, cell, pass);
+            bring(rt, cell, pass, event.time, event.act);
+            event.time
+        }
+        None => 0,
+    };
+    bring(rt, cell, pass, time, Act::Finish(request, true));
+}
+
+/// A request arrives, and is ended once it runs.
+pub fn queue<R: Wait>(
     rt: &R,
     cell: &RevisionCell,
     pass: &mut Pass,
-    act: Act,
-    time: u64,
+    waiting: &Waiting,
     notes: &Notes,
 )
     requires { pass.old.cell ≡ cell.now }
     ensures { IsStill pass.old pass.new }
 {
-    match on(rt, cell, pass, Act::Arrive(0), 0) {
-        Some(Ok(Told::Run(request, _))) => {
-            await_waits(rt, cell, pass, 1, notes);
-            make_noise(rt, cell, pass);
-            let _ = on(rt, cell, pass, act, time);
-            let _ = on(rt, cell, pass, Act::Finish(request, true), time);
-        }
-        Some(Ok(Told::Held(request))) => {
-            let _ = await_run(rt, cell, pass, request, notes);
-        }
-        _ => {}
+    let event = Event {
+        time: 0,
+        act: Act::Arrive(0),
+    };
+    let came = if waiting.by_course {
+        make(rt, cell, pass, Call::Arrive(event))
+    } else {
+        make(rt, cell, pass, Call::On(event))
+    };
+    let Some(request) = came.request() else {
+        return;
+    };
+    let (first, ask) = if waiting.by_course {
+        (came, Call::Course(request))
+    } else {
+        (
+            make(rt, cell, pass, Call::Look(request)),
+            Call::Look(request),
+        )
+    };
+    if await_run(
+        rt,
+        cell,
+        pass,
+        first,
+        ask,
+        waiting.others.saturating_add(10),
+        notes,
+    ) {
+        await_waits(rt, cell, pass, waiting.others, notes);
+        end(rt, cell, pass, request, waiting.end);
     }
 }

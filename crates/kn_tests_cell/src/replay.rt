@@ -1,9 +1,11 @@
 //! What many threads were told, told again to one.
-use crate::shared::{Left, left_of, may_come, one_pod};
+use crate::answers::Answer;
+use crate::calls::may_come;
+use crate::plan::{Plan, revision_of};
 use kn_cell::Past;
 use kn_core::Revision;
 use kn_event::{EntryLog, Event, Memory, Told};
-use std::alloc::Global;
+use std::alloc::{AllocError, Global};
 
 /// What a revision is told of the event, if it may come.
 fn step(revision: &mut Revision, log: &mut EntryLog, event: &Event) -> Option<Told> {
@@ -17,36 +19,34 @@ fn step(revision: &mut Revision, log: &mut EntryLog, event: &Event) -> Option<To
     Some(revision.step(event, log))
 }
 
-/// To how many events, one after the other, the revision says on one thread what was told.
-fn count_same(revision: &mut Revision, log: &mut EntryLog, rows: &[Past]) -> u64 {
+/// Whether both read the same.
+fn are_same(alloc: Global, one: Told, other: Told) -> Result<bool, AllocError> {
+    let one = format!(in alloc; "{}", Answer::Told(one))?;
+    let other = format!(in alloc; "{}", Answer::Told(other))?;
+    Ok(one.as_str() == other.as_str())
+}
+
+/// To how many events, one after the other, the revision says what was told.
+fn count_same(alloc: Global, revision: &mut Revision, log: &mut EntryLog, rows: &[Past]) -> u64 {
     let mut count = 0u64;
     for row in rows {
-        if step(revision, log, &row.event) != Some(row.told) {
-            return count;
+        match step(revision, log, &row.event) {
+            Some(told) if are_same(alloc, told, row.told).unwrap_or(false) => {}
+            _ => return count,
         }
         count = count.saturating_add(1);
     }
     count
 }
 
-fn replay_on(alloc: Global, revision: &mut Revision, rows: &[Past]) -> Result<u64, Memory> {
-    match EntryLog::new(alloc) {
-        Ok(mut log) => Ok(count_same(revision, &mut log, rows)),
-        Err(Memory) => Err(Memory),
-    }
-}
-
-/// To how many events a new revision says the same, and what is left of it then.
-pub fn replay(alloc: Global, rows: &[Past]) -> Result<(u64, Left), Memory> {
-    match one_pod(alloc, 2, 10) {
+/// To how many events a new revision says the same on one thread.
+pub fn replay(alloc: Global, plan: &Plan, rows: &[Past]) -> Result<u64, Memory> {
+    let mut log = EntryLog::new(alloc)?;
+    match revision_of(alloc, plan, &mut log) {
         Ok(mut revision) => {
-            let count = replay_on(alloc, &mut revision, rows);
-            let left = left_of(&revision);
+            let count = count_same(alloc, &mut revision, &mut log, rows);
             drop(revision);
-            match count {
-                Ok(count) => Ok((count, left)),
-                Err(Memory) => Err(Memory),
-            }
+            Ok(count)
         }
         Err(Memory) => Err(Memory),
     }

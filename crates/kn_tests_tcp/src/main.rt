@@ -1,67 +1,63 @@
-//! Callers and links over TCP on loopback. Each line of standard input is a request and a pod's reply with `|` between
-//! them, and below it is printed what the client is answered, or that the reply didn't come whole. Where the request is `old`,
-//! what stands behind is an answer, and below it is printed what a client of HTTP/1.0 is sent.
+//! Links, callers and fronts over loopback, std's streams, clocks, and the log of faults: what no script shows at `kactd` itself, since it needs a clock
+//! that is set by hand, more addresses than a machine has, a call that fails, or a look in between. Each line of standard input is one of these, how it
+//! is set up, and what is done then, one after another; below it stands what comes of each.
 #![tactic(auto)]
 
-mod addresses;
+mod answers;
 mod callers;
-mod endings;
-mod leave;
+mod clocks;
+mod faults;
+mod fronts;
+mod inputs;
 mod links;
-mod loopback;
-mod names;
-mod old;
-mod probes;
-mod replies;
-mod waits;
+mod shown;
+mod sockets;
+mod stage;
+mod streams;
+mod words;
 mod world;
 
-use callers::Visit;
-use links::Trial;
+use sockets::Sockets;
 use std::io;
+use std::net::{Net, TcpListener, TcpStream};
+use std::sync::Wait;
 use std::thread::Threads;
+use std::time::Clock;
 
-/// Prints whether a case is as it must be.
-fn tell(rt: &HostRuntime, name: &str, holds: bool) -> io::Result<()> {
-    let word = if holds { "ok" } else { "not so" };
-    println!(rt; "{name}: {word}")
-}
-
-fn tell_all(rt: &HostRuntime, cases: &[(&str, bool)]) -> io::Result<()> {
-    for (name, holds) in cases {
-        tell(rt, name, *holds)?;
+/// Shows a line.
+fn show<T: Net<Listener = TcpListener, Stream = TcpStream> + Threads + Wait + Clock + Sync>(
+    rt: &HostRuntime,
+    threads: &T,
+    sockets: &Sockets,
+    line: &str,
+) -> io::Result<()> {
+    println!(rt; "{line}")?;
+    let (head, rest) = words::cut(line, '|');
+    let (kind, setting) = words::cut(head, ' ');
+    match kind {
+        "link" => links::show(rt, threads, sockets, setting, rest),
+        "callers" => callers::show(rt, setting, rest),
+        "front" => fronts::show(rt, threads, sockets, setting, rest),
+        "faults" => faults::show(rt, threads, sockets, rest),
+        "input" => inputs::show(rt, rest),
+        "reader" => streams::show_reader(rt, setting, rest),
+        "writer" => streams::show_writer(rt, setting, rest),
+        "clock" => clocks::show(rt, threads, sockets, setting, rest),
+        _ => println!(rt; "  no such thing"),
     }
-    Ok(())
 }
 
-fn show_callers<T: Threads>(rt: &HostRuntime, threads: &T) -> io::Result<()> {
-    callers::come(rt, threads, Visit::Hello)?;
-    callers::shared_listener(rt)?;
-    callers::come(rt, threads, Visit::Sends)?;
-    callers::come(rt, threads, Visit::Stays)
-}
-
-fn show_links<T: Threads>(rt: &HostRuntime, threads: &T) -> io::Result<()> {
-    for trial in &[
-        Trial::Probes,
-        Trial::NoAddress,
-        Trial::Longest,
-        Trial::Early,
-        Trial::Lines,
-    ] {
-        links::try_one(rt, threads, *trial)?;
+fn show_lines<T: Net<Listener = TcpListener, Stream = TcpStream> + Threads + Wait + Clock + Sync>(
+    rt: &HostRuntime,
+    threads: &T,
+) -> io::Result<()> {
+    let sockets = Sockets::open(rt)?;
+    for line in rt.lines(rt.alloc()) {
+        show(rt, threads, &sockets, line?.as_str())?;
     }
     Ok(())
 }
 
 fn main(rt: HostRuntime) -> io::Result<()> {
-    show_callers(&rt, &rt)?;
-    waits::all(&rt, &rt)?;
-    leave::all(&rt, &rt)?;
-    endings::all(&rt)?;
-    old::all(&rt, &rt)?;
-    names::all(&rt, &rt)?;
-    addresses::all(&rt, &rt)?;
-    probes::all(&rt)?;
-    show_links(&rt, &rt)
+    show_lines(&rt, &rt)
 }

@@ -3,7 +3,7 @@ ghost use Rattle.std.specs.Prelude.{◌≡◌, if◌then◌else◌};
 ghost use Rattle.kn_throttle.specs.Touched.{one_more, one_less};
 
 /// The pods at which something changed since all was done: none, this one, or any.
-#[derive(Clone, Copy, Debug, PartialEq, Eq)]
+#[derive(Clone, Copy)]
 pub enum Touched {
     Nowhere,
     At(u64),

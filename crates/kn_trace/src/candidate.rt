@@ -1,5 +1,5 @@
 /// A Ready pod as a load-balancing policy sees it.
-#[derive(Clone, Copy, Debug, PartialEq, Eq)]
+#[derive(Clone, Copy)]
 pub struct Cand {
     pub pod: u64,
     /// Requests that may run there; 0 is no limit.

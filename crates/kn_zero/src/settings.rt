@@ -8,7 +8,7 @@ use kn_event::{Mode, Phase, Spec};
 use kn_scaling::{Standing, ZeroAnswer};
 
 /// What the zero rule reads of a specification. Times are in milliseconds.
-#[derive(Clone, Copy, Debug, PartialEq, Eq)]
+#[derive(Clone, Copy)]
 pub struct Settings {
     pub to_zero: bool,
     pub stable_ms: u64,

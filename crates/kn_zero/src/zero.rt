@@ -13,7 +13,7 @@ use std::marker::Model;
 /// Where a revision stands between its decisions: its phase and mode, since when, and the pods wanted.
 ///
 /// Contracts see what the rule reads of the specification, and the standing. Times are in milliseconds.
-#[derive(Debug, Drop)]
+#[derive(Drop)]
 pub struct Zero {
     settings: Settings,
     standing: Standing,

@@ -17,7 +17,7 @@ use kn_record::{Place, Request};
 pub const LIVE_MOST: u64 = 20_000;
 
 /// What becomes of a request that comes.
-#[derive(Clone, Copy, Debug, PartialEq, Eq)]
+#[derive(Clone, Copy)]
 pub enum Arrival {
     /// Refused: too many are live.
     Overload,

@@ -15,7 +15,7 @@ use kn_policy::choice_laws;
 use kn_record::append::{append_laws, walk_laws};
 
 /// How a request that waits is dispatched.
-#[derive(Clone, Copy, Debug, PartialEq, Eq)]
+#[derive(Clone, Copy)]
 pub enum Dispatch {
     /// A queued request begins to run at its pod.
     Run(u64),

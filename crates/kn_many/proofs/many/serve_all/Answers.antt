@@ -25,7 +25,6 @@ returns-in_default-open_revisions-clause-course g c =
 pub serve_wide_session-requires-clause-revisions : goal.serve_wide_session-requires-clause-revisions
 serve_wide_session-requires-clause-revisions g c κs within = λ v b low.
     let many = c.in-Ok-open_revisions.ensures.many in
-    let specs = c.deref.ensures.value ∙ c.in-Ok-specs_of.ensures in
     let dead = opened_dead c.start_of-start.result c.in-Ok.read c.items-3.result.now c.in-Ok-open_revisions.revisions.items c.items-3.ensures c.in-Ok-open_revisions.ensures.opened v b (omega (arith, low, many)) in
     let none = dead.1.events in
     record { live = dead.1.live; events = omega (arith, none) }
@@ -46,22 +45,22 @@ returns-in-Ok-print_journals-clause-course g c =
     let did = c.in-Ok-serve_wide_session.ensures in
     let count : length ss ≡ length c.args.plan.now.pods = c.in-Ok.ensures.many ∙ ap length c.items.ensures in
     let some : 1 ≤ length ss = omega (arith, count, c.requires.plan.lists_least) in
-    let of = c.deref.ensures.value ∙ c.in-Ok-specs_of.ensures in
+    let of = c.in-Ok-specs_of.ensures in
     let same = of ∙ ap (map (λ (s : Setup). s.spec)) c.items-2.ensures in
-    let many : length c.deref.result.now ≡ length ss = ap length same ∙ length-map ss (λ (s : Setup). s.spec) in
-    let ran = ran_of reading (length c.args.slots.now) start ss c.items-2.result.now c.items-3.result.now c.deref.result.now bs c.in-Ok-serve_wide_session.histories c.args.slots.now ts
+    let many : length c.in-Ok-specs_of.specs ≡ length ss = ap length same ∙ length-map ss (λ (s : Setup). s.spec) in
+    let ran = ran_of reading (length c.args.slots.now) start ss c.items-2.result.now c.items-3.result.now c.in-Ok-specs_of.specs bs c.in-Ok-serve_wide_session.histories c.args.slots.now ts
     c.start_of-start.ensures.start c.start_of-start.ensures.most c.in-Ok.ensures.kept some c.items-2.ensures c.items-3.ensures of c.in-Ok-open_revisions.ensures.many c.in-Ok-open_revisions.ensures.opened
     did.histories did.fine refl (rw count c.requires.slots) did.kept.slots_kept in
-    let small = subst (All (All (λ (p : Past). HasSmall p.event.act))) c.deref-2.ensures.value c.in-Ok-print_journals.ensures.small in
-    let printed = subst (λ (zs : List (List Past)). Appends (g.O.Sink.held c.args.out.now) (g.O.Sink.held c.print_journals.new.out) (journals_text (printed_journals ss start zs))) c.deref-2.ensures.value
-    (subst (λ (zs : List Setup). Appends (g.O.Sink.held c.args.out.now) (g.O.Sink.held c.print_journals.new.out) (journals_text (printed_journals zs start c.deref-2.result.now))) c.items-4.ensures c.in-Ok-print_journals.ensures.ok) in
+    let small = subst (All (All (λ (p : Past). HasSmall p.event.act))) c.deref.ensures.value c.in-Ok-print_journals.ensures.small in
+    let printed = subst (λ (zs : List (List Past)). Appends (g.O.Sink.held c.args.out.now) (g.O.Sink.held c.print_journals.new.out) (journals_text (printed_journals ss start zs))) c.deref.ensures.value
+    (subst (λ (zs : List Setup). Appends (g.O.Sink.held c.args.out.now) (g.O.Sink.held c.print_journals.new.out) (journals_text (printed_journals zs start c.deref.result.now))) c.items-4.ensures c.in-Ok-print_journals.ensures.ok) in
     inr (record {
       sessions = sessions_of start ts ss bs hs;
       many = sessions-many start (faults_of ts) (wants_of ts) 0 ss bs hs ran.many ∙ count;
       each = each_session reading c.run_laws.ensures (length c.args.slots.now) start ss bs hs ts ran;
       said = rw (sessions-setups start (faults_of ts) (wants_of ts) 0 ss bs hs ran.many) (rw c.items.ensures at c.in-Ok.ensures.says);
       whole = c.in-Ok.ensures.whole;
-      slots_did = slots_served reading (length c.args.slots.now) c.args.plan.now.room c.args.plan.now.rounds start c.deref.result.now ss bs hs
+      slots_did = slots_served reading (length c.args.slots.now) c.args.plan.now.room c.args.plan.now.rounds start c.in-Ok-specs_of.specs ss bs hs
           (λ (a : g.row.C.Denot) (l : List g.row.L.Denot). wide_sides (g.C.Sink.kept a) (g.C.Sink.held a) (g.C.Faulty.faults a) (map (λ x. g.L.PodLink.told x) l) (map (λ x. g.L.Faulty.faults x) l))
           c.args.slots.now ts c.clear_all.new.slots ran same did.slots c.clear_all.ensures;
       ticker_did = ticked reading (length c.args.slots.now) c.args.plan.now.room start ss bs hs ts _ _ _ _ ran (λ v b low. did.keepers v b (omega (arith, low, many)));
@@ -87,21 +86,21 @@ returns-clause-course g c =
     let did = c.in-Ok-serve_wide_session.ensures in
     let count : length ss ≡ length c.args.plan.now.pods = c.in-Ok.ensures.many ∙ ap length c.items.ensures in
     let some : 1 ≤ length ss = omega (arith, count, c.requires.plan.lists_least) in
-    let of = c.deref.ensures.value ∙ c.in-Ok-specs_of.ensures in
+    let of = c.in-Ok-specs_of.ensures in
     let same = of ∙ ap (map (λ (s : Setup). s.spec)) c.items-2.ensures in
-    let many : length c.deref.result.now ≡ length ss = ap length same ∙ length-map ss (λ (s : Setup). s.spec) in
-    let ran = ran_of reading (length c.args.slots.now) start ss c.items-2.result.now c.items-3.result.now c.deref.result.now bs c.in-Ok-serve_wide_session.histories c.args.slots.now ts
+    let many : length c.in-Ok-specs_of.specs ≡ length ss = ap length same ∙ length-map ss (λ (s : Setup). s.spec) in
+    let ran = ran_of reading (length c.args.slots.now) start ss c.items-2.result.now c.items-3.result.now c.in-Ok-specs_of.specs bs c.in-Ok-serve_wide_session.histories c.args.slots.now ts
     c.start_of-start.ensures.start c.start_of-start.ensures.most c.in-Ok.ensures.kept some c.items-2.ensures c.items-3.ensures of c.in-Ok-open_revisions.ensures.many c.in-Ok-open_revisions.ensures.opened
     did.histories did.fine refl (rw count c.requires.slots) did.kept.slots_kept in
-    let printed = subst (λ (zs : List (List Past)). AppendsPrefix (g.O.Sink.held c.args.out.now) (g.O.Sink.held c.print_journals.new.out) (journals_text (printed_journals ss start zs))) c.deref-2.ensures.value
-    (subst (λ (zs : List Setup). AppendsPrefix (g.O.Sink.held c.args.out.now) (g.O.Sink.held c.print_journals.new.out) (journals_text (printed_journals zs start c.deref-2.result.now))) c.items-4.ensures c.in-Err-print_journals.ensures.err) in
+    let printed = subst (λ (zs : List (List Past)). AppendsPrefix (g.O.Sink.held c.args.out.now) (g.O.Sink.held c.print_journals.new.out) (journals_text (printed_journals ss start zs))) c.deref.ensures.value
+    (subst (λ (zs : List Setup). AppendsPrefix (g.O.Sink.held c.args.out.now) (g.O.Sink.held c.print_journals.new.out) (journals_text (printed_journals zs start c.deref.result.now))) c.items-4.ensures c.in-Err-print_journals.ensures.err) in
     inr (record {
       sessions = sessions_of start ts ss bs hs;
       many = sessions-many start (faults_of ts) (wants_of ts) 0 ss bs hs ran.many ∙ count;
       each = each_session reading c.run_laws.ensures (length c.args.slots.now) start ss bs hs ts ran;
       said = rw (sessions-setups start (faults_of ts) (wants_of ts) 0 ss bs hs ran.many) (rw c.items.ensures at c.in-Ok.ensures.says);
       whole = c.in-Ok.ensures.whole;
-      slots_did = slots_served reading (length c.args.slots.now) c.args.plan.now.room c.args.plan.now.rounds start c.deref.result.now ss bs hs
+      slots_did = slots_served reading (length c.args.slots.now) c.args.plan.now.room c.args.plan.now.rounds start c.in-Ok-specs_of.specs ss bs hs
           (λ (a : g.row.C.Denot) (l : List g.row.L.Denot). wide_sides (g.C.Sink.kept a) (g.C.Sink.held a) (g.C.Faulty.faults a) (map (λ x. g.L.PodLink.told x) l) (map (λ x. g.L.Faulty.faults x) l))
           c.args.slots.now ts c.clear_all.new.slots ran same did.slots c.clear_all.ensures;
       ticker_did = ticked reading (length c.args.slots.now) c.args.plan.now.room start ss bs hs ts _ _ _ _ ran (λ v b low. did.keepers v b (omega (arith, low, many)));

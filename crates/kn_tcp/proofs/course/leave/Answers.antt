@@ -1,0 +1,8 @@
+use Rattle.std.proofs.Common.{refl}
+use Rattle.std.specs.Fmt.{digits}
+use Rattle.kn_http.specs.Lines.{status_line}
+use Rattle.kn_tcp.proofs.course.leave.Goals as goal
+
+pub returns : goal.returns
+unfolding status_line digits
+returns c = refl

@@ -1,0 +1,31 @@
+-- What a caller and a link in memory tell at first.
+use Rattle.std.proofs.Common.{◌≡◌, ℕ, List, [], refl}
+use Rattle.std.specs.Prelude.{All, Some, map}
+use Rattle.std.proofs.lemmas.List.Elements.{All-map}
+use Rattle.kn_io.specs.Callers.{every_second}
+use Rattle.kn_io.specs.Links.{unused}
+use Rattle.kn_io.specs.MemLink.{Wire}
+use Rattle.kn_request.specs.declared.slot.Work.{Work}
+use Rattle.kn_request.specs.Outside.{said}
+use Rattle.kn_serve.specs.Opening.{IsEmptyWork, IsFresh, IsSilent, IsUnused}
+use Rattle.kn_many.specs.WideOpening.{IsFreshWide}
+use Rattle.kn_tests_cell.specs.Wide.{IsUnusedLink}
+
+silent : (kept : List (List ℕ)) (held : List ℕ) → kept ≡ [] → held ≡ [] → IsSilent (said (Some kept) (Some held))
+unfolding every_second
+silent kept held none empty a is =
+    let k : a.kept ≡ [] = cc in
+    let t : a.text ≡ [] = cc in
+    rw (k, t) refl
+
+pub fresh : (kept : List (List ℕ)) (held : List ℕ) (link : Wire) (work : Work) → kept ≡ [] → held ≡ [] → link.told ≡ Some unused → IsEmptyWork work → IsFresh (said (Some kept) (Some held)) link.told work
+fresh kept held link work none empty new work_empty = record { silent = silent kept held none empty; link_unused = λ l is. cc; empty = work_empty }
+
+-- a slot over several revisions with such links and empty works
+pub fresh_wide : (kept : List (List ℕ)) (held : List ℕ) (links : List Wire) (works : List Work) → kept ≡ [] → held ≡ [] → All IsUnusedLink links → All IsEmptyWork works
+    → IsFreshWide (said (Some kept) (Some held)) (map (λ (l : Wire). l.told) links) works
+fresh_wide kept held links works none empty new works_empty = record { silent = silent kept held none empty; unused = All-map IsUnused (λ (l : Wire). l.told) links new; empty = works_empty }
+
+-- a link that tells that it did nothing did nothing
+pub unused_link : (link : Wire) → link.told ≡ Some unused → IsUnused link.told
+unused_link link new l is = cc
