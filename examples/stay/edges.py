@@ -1,35 +1,23 @@
-"""Scenarios at the edges: words and setups that are refused, clients that say nothing, pods that fail, many that wait."""
+"""Scenarios at the edges: words and setups that are refused, clients that say nothing, pods that fail, many that
+wait."""
 
 import collections
 import re
 import socket
-import subprocess
 import threading
 import time
 
-from load import Load, counted
+from held import once, stop
+from load import Load, bring_all, counted
 from server import Pod, Stay, settle
-from session import fixed, free_port, head, listens, program, wait_until, want, whole
-from status import metrics, page
+from session import PATIENCE, Scripted, begin, fixed, free_port, head, listens, refuses, rest, scaled
+from session import wait_until, want, whole
+from status import metrics
 
 GET = head(method="GET")
 PODS = ("--pods", "127.0.0.1:1")
 LISTEN = ("--listen", "127.0.0.1:0")
-USAGE, SETUP, LISTENING = 2, 4, 9
-
-
-def refuses(status, told, words, setup):
-    """kactd ends by itself with this status and text, and writes nothing. Its standard input stays open, as it would."""
-    words = [program("kactd"), "stay", *words]
-    with subprocess.Popen(words, stdin=subprocess.PIPE, stdout=subprocess.PIPE, stderr=subprocess.PIPE, text=True) as ran:
-        ran.stdin.write(setup)
-        ran.stdin.flush()
-        try:
-            ended = ran.wait(20)
-        finally:
-            ran.kill()
-        wrote, said = ran.stdout.read(), ran.stderr.read()
-        want((ended, wrote) == (status, "") and re.fullmatch(told, said), f"{words[2:]}: status {ended}, {said!r}")
+USAGE, INPUT, SETUP, LISTENING = 2, 3, 4, 9
 
 
 def refused():
@@ -44,18 +32,42 @@ def refused():
         "--status is HOST:PORT": (*LISTEN, *PODS, "--status", "http://127.0.0.1:1"),
         "unknown word '--rounds'": (*LISTEN, *PODS, "--rounds", "1"),
     }.items():
-        refuses(USAGE, re.escape(f"kactd stay: {told}\n"), words, "")
+        refuses(["stay", *words], "", USAGE, re.escape(f"kactd stay: {told}\n"), ends=False)
     with socket.create_server(("127.0.0.1", 0)) as taken:
-        port = taken.getsockname()[1]
-        refuses(LISTENING, "kactd: listen failed\n", ("--listen", f"127.0.0.1:{port}", *PODS), fixed(1))
-    anywhere = r"(kactd: listening on 127\.0\.0\.1:\d+\n)?"
-    refuses(SETUP, f"{anywhere}kactd: line 2: bad setup: .*\n", (*LISTEN, *PODS), "kact journal 1\nfixed limit=one\n")
-    # more pods than there are addresses: a line that names both numbers
-    refuses(USAGE, rf"{anywhere}kactd: [^\n]*\b3\b[^\n]*\b1\b[^\n]*\n", (*LISTEN, *PODS), fixed(3))
+        words = ["stay", "--listen", f"127.0.0.1:{taken.getsockname()[1]}", *PODS]
+        refuses(words, fixed(1), LISTENING, "kactd: listen failed\n", ends=False)
+
+
+FIRST = "kact journal 1\n"
+ANYWHERE = r"(kactd: listening on 127\.0\.0\.1:\d+\n)?"
+
+
+def refused_setups():
+    """Setups that are refused, and setups with more pods than there are addresses: each with its status and text. With
+    as many addresses it serves."""
+    for setup, status, told in (
+        ("", INPUT, "input ends without end"),
+        ("kact journal 3\n", SETUP, "line 1: not a kact journal 1 or 2"),
+        (FIRST + "kpa depth=100 max=10 seed=0\nconfig\n", INPUT, "input ends without end"),
+        (fixed(501, depth=100, most=3), SETUP, "line 2: bad setup: out of range at 30"),
+        (FIRST + "fixed limit=one\n", SETUP, "line 2: bad setup: bad field at 6"),
+    ):
+        refuses(["stay", *LISTEN, *PODS], setup, status, f"{ANYWHERE}kactd: {told}\n", ends=status == INPUT)
+    for setup, pods in (
+        (fixed(3), 3),
+        (FIRST + scaled(initial_scale=2, max_scale=5), 5),
+        (FIRST + scaled(initial_scale=2, min_scale=3), 3),
+    ):
+        fewer = ",".join(["127.0.0.1:1"] * (pods - 1))
+        told = f"kactd: the setup names {pods} pods, but --pods has {pods - 1} addresses\n"
+        refuses(["stay", *LISTEN, "--pods", fewer], setup, USAGE, ANYWHERE + re.escape(told), ends=False)
+        with Stay(setup, [1] * pods) as server:
+            want(settle(server, collections.Counter())[-1].startswith("end "), "the journal has no end")
 
 
 def silent_and_slow():
-    """With a second for each: who says nothing is closed, whose head doesn't end is answered 408, and no pod is called."""
+    """With a second for each: who says nothing is closed, whose head doesn't end is answered 408, and no pod is
+    called."""
     with Pod() as pod, Stay(fixed(1), [pod.port], idle=1, read=1) as server:
         begun = time.monotonic()
         silent, slow = (socket.create_connection(("127.0.0.1", server.port), timeout=10) for _ in range(2))
@@ -70,69 +82,55 @@ def silent_and_slow():
         want(pod.count() == 0, "the pod was called")
 
 
-def slam(door):
-    """Takes each request and closes, as a pod that breaks. A probe is closed as well."""
-    try:
-        while True:
-            with door.accept()[0] as client:
-                client.recv(65536)
-    except OSError:
-        pass
-
-
 def broken_pod(count):
-    """A pod that breaks at each request: 502 each, a line of standard error for ten of them a second, and a count of the others."""
-    with socket.create_server(("127.0.0.1", 0), backlog=1024) as door:
-        threading.Thread(target=slam, args=(door,), daemon=True).start()
-        with Stay(fixed(1), [door.getsockname()[1]]) as server:
-            begun = time.monotonic()
-            met = Load(server.port, 4, count=count // 4).met()
-            want(counted(met) == {(502, "pod call failed"): count}, f"answered {counted(met)}")
-            settle(server, counted(met))
-            seconds, lines = time.monotonic() - begun, server.told().splitlines()[1:]
-        door.shutdown(socket.SHUT_RDWR)
+    """A pod that breaks at each request: 502 each, a line of standard error for ten of them a second, and a count of
+    the others."""
+    with Scripted(lambda request: b"") as pod, Stay(fixed(1), [pod.port]) as server:
+        begun = time.monotonic()
+        met = bring_all(server.port, [GET] * count, at_once=4)
+        want(counted(met) == {(502, "pod call failed"): count}, f"answered {counted(met)}")
+        settle(server, counted(met))
+        seconds, lines = time.monotonic() - begun, server.told().splitlines()[1:]
     alone = lines.count("kactd: a pod failed")
     more = [int(one[1]) for one in map(re.compile(r"kactd: (\d+) more faults?").fullmatch, lines) if one]
     want(len(more) + alone == len(lines), f"told {lines}")
-    want(0 < alone <= 10 * (seconds + 1) and alone + sum(more) == count, f"{alone} faults were told and {more} more, of {count}")
+    known = 0 < alone <= 10 * (seconds + 1) and alone + sum(more) == count
+    want(known, f"{alone} faults were told and {more} more, of {count}")
 
 
 def many_waiting(count):
     """More connections at once than slots, each with its request: all wait in front, and all are answered."""
     with Pod() as pod, Stay(fixed(1), [pod.port], slots=4) as server:
-        clients = [socket.create_connection(("127.0.0.1", server.port), timeout=60) for _ in range(count)]
-        for client in clients:
-            client.sendall(GET)
-        came = collections.Counter()
-        for client in clients:
-            with client:
-                came[whole(b"".join(iter(lambda: client.recv(4096), b"")))] += 1
+        came = collections.Counter(whole(rest(one)) for one in [begin(server.port, GET) for _ in range(count)])
         want(came == {(200, "hello"): count}, f"answered {came}")
         settle(server, came)
         want(not listens(server.port), "somebody listens still")
 
 
 def front_shown():
-    """The page shows how many wait in front and how many slots are at work, and that the server is not ready while it stops."""
-    with Pod() as pod, Stay(fixed(1), [pod.port], slots=1, page=True) as server:
+    """The page shows how many wait in front and how many slots are at work, and that the server is not ready while it
+    stops."""
+    may = threading.Event()
+    with Scripted(once(may)) as pod, Stay(fixed(1, timeout=300), [pod.port], slots=1, page=True) as server:
 
         def shown():
             gauges = metrics(server)
             return [gauges[name].values[()] for name in ("kactd_connections_waiting", "kactd_slots_at_work")]
 
-        want(shown() == [0, 0] and page(server, "/ready")[0] == 200, f"before anybody comes: {shown()}")
-        load = Load(server.port, 3, count=1, path="/700")
-        wait_until(lambda: shown() == [2, 1], 5, f"three clients and one slot: {shown()}")
-        server.stop()
-        wait_until(lambda: page(server, "/ready")[0] == 503, 2, "ready while it stops")
-        want(page(server, "/healthz")[0] == 200, "not healthy while it stops")
-        met = load.met()
-        want(counted(met) == {(200, "hello"): 3}, f"answered {counted(met)}")
-        settle(server, counted(met))
+        want(shown() == [0, 0], f"before anybody comes: {shown()}")
+        ones = [begin(server.port, GET) for _ in range(3)]
+        wait_until(lambda: shown() == [2, 1], PATIENCE, f"three clients and one slot: {shown()}")
+        stop(server)
+        want(shown() == [2, 1], f"while it stops: {shown()}")
+        may.set()
+        came = collections.Counter(whole(rest(one)) for one in ones)
+        want(came == {(200, "hello"): 3}, f"answered {came}")
+        settle(server, came)
 
 
 def stopped_with_silent(count):
-    """Silent connections don't hold a stop up: they are closed without a byte, and the server ends soon. It can be started at the same address then."""
+    """Silent connections don't hold a stop up: they are closed without a byte, and the server ends soon. It can be
+    started at the same address then."""
     port = free_port()
     for _ in range(2):
         with Pod() as pod, Stay(fixed(1), [pod.port], listen=f"127.0.0.1:{port}") as server:

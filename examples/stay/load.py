@@ -1,6 +1,7 @@
 """Clients that bring requests one after another, each over a connection of its own, and what each of them met."""
 
 import collections
+import concurrent.futures
 import multiprocessing
 import pathlib
 import socket
@@ -16,6 +17,7 @@ from session import head, want, whole  # noqa: E402
 # seconds; the answer's status and text, or 0 and the error.
 Met = collections.namedtuple("Met", "begun sent ended status text")
 
+# that bring the clients: one more for each eight of these, and so many at most
 PROCESSES = 4
 
 
@@ -31,6 +33,12 @@ def bring(port, request, seconds=60):
         return Met(begun, sent, time.time(), status, text)
     except OSError as error:
         return Met(begun, sent, time.time(), 0, repr(error))
+
+
+def bring_all(port, requests, at_once=2):
+    """Brings each of these requests, by so many clients beside each other, in this process."""
+    with concurrent.futures.ThreadPoolExecutor(at_once) as threads:
+        return list(threads.map(lambda request: bring(port, request), requests))
 
 
 def client(port, request, count, pause, until, met):
@@ -64,7 +72,7 @@ class Load:
         self.crew, self.seconds = [], seconds
         # a process that is forked would keep the server's standard input open
         context = multiprocessing.get_context("spawn")
-        parts = min(PROCESSES, at_once)
+        parts = min(PROCESSES, 1 + at_once // 8)
         for part in range(parts):
             ours, theirs = context.Pipe()
             number = at_once // parts + (part < at_once % parts)

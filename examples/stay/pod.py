@@ -1,5 +1,5 @@
 #!/usr/bin/env -S python3 -B
-"""A pod: `./pod.py PORT` answers each request by `hello` and closes its connection.
+"""A pod: `./pod.py PORT` (0: any) answers each request by `hello` and closes its connection.
 
 `/MS` is answered after so many milliseconds, `/count` by how many other requests have come whole so far. A connection that says nothing, such as a
 probe, is no request."""

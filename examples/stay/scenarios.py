@@ -4,42 +4,38 @@
 import argparse
 import collections
 import functools
-import os
 import random
 import re
-import resource
 import shutil
-import signal
-import socket
 import subprocess
 import sys
-import threading
 import time
 
 import edges
+import held
+import outputs
 import prometheus
-from load import Load, bring, counted, told
-from server import Pod, Stay, all_known, cut_account, fast_pod, replay, settle, whole_account
-from session import field_words, fixed, free_port, head, run, wait_until, want
+from load import Load, bring, bring_all, counted, told
+from server import Pod, Stay, all_known, beginning, cut_account, fast_pod, settle, whole_account
+from session import Scripted, field_words, fixed, head, run, say, scaled, wait_until, want
 from status import gauges, metrics, page
 
 HELLO = (200, "hello")
-FULL = (507, "history full")
 GET = head(method="GET")
 
 
-def say(text):
-    print(f"  {text}", flush=True)
-
-
 def fifty():
-    """50 requests of curl, then the end of standard input: all are finished in a journal that replays."""
-    with Pod() as pod, Stay(fixed(1), [pod.port]) as server:
-        words = ["curl", "-s", "-m", "10", *field_words(), f"http://127.0.0.1:{server.port}/"]
-        for more in ([], ["-d", "some text"]) * 25:
-            want(subprocess.run(words + more, capture_output=True).stdout == b"hello", "curl was not answered")
-        rows = settle(server, collections.Counter({HELLO: 50}))
-        want(rows[-1].startswith("end ") and " finished=50 " in rows[-1], rows[-1])
+    """Two clients beside each other bring 50 requests, half of them with a body, to four slots with little room; then
+    standard input ends. All are finished in a journal that replays, and nothing is told but the address."""
+    body = head("Content-Length: 9\r\n") + b"some text"
+    with Scripted() as pod, Stay(fixed(1, limit=1, depth=100, most=1), [pod.port], slots=4, room=1000) as server:
+        met = bring_all(server.port, [GET, body] * 25)
+        want(counted(met) == {HELLO: 50}, f"answered {counted(met)}")
+        last = settle(server, counted(met))[-1]
+        want(last.startswith("end ") and " admitted=50 " in last, last)
+        want(" finished=50 failed=0 expired=0 cancelled=0 queue-full=0 overload=0 " in last, last)
+        want(len(pod.requests) == 50, f"{len(pod.requests)} requests came to the pod")
+        want(server.told() == f"kactd: listening on 127.0.0.1:{server.port}\n", f"told {server.told()!r}")
 
 
 def under_load(at_once, slots, seconds):
@@ -79,7 +75,8 @@ def by_wrk(at_once, slots, seconds):
 
 
 def settle_at_most(server, done, gone):
-    """Ends the server. As many requests are finished as a tool counts, and at most `gone` further ones, which it left."""
+    """Ends the server. As many requests are finished as a tool counts, and at most `gone` further ones, which it
+    left."""
     server.stop()
     want(server.end() == 0, f"exit status {server.end()}: {server.told()}")
     account, rows = whole_account(server.journal)
@@ -88,7 +85,8 @@ def settle_at_most(server, done, gone):
 
 
 def killed(seed, at_once=16):
-    """It is killed at a random moment under load: the journal has each request that was answered a second before, with its outcome."""
+    """It is killed at a random moment under load: the journal has each request that was answered a second before, with
+    its outcome."""
     after = random.Random(seed).uniform(1.2, 5)
     with Pod() as pod, Stay(fixed(1), [pod.port]) as server:
         load = Load(server.port, at_once)
@@ -109,7 +107,8 @@ def kills(count):
 
 
 def stopped(at_once, seconds):
-    """Standard input ends under load: who had sent a request is answered, and who comes later is refused. The journal is whole."""
+    """Standard input ends under load: who had sent a request is answered, and who comes later is refused. The journal
+    is whole."""
     with Pod() as pod, Stay(fixed(1), [pod.port]) as server:
         load = Load(server.port, at_once, path="/20")
         time.sleep(seconds)
@@ -125,145 +124,14 @@ def stopped(at_once, seconds):
         say(f"{len(met) - late} were answered, of them {sum(one.ended > at and one.status == 200 for one in met)} behind the stop")
 
 
-def stopped_with_held():
-    """Standard input ends while a request is held for a busy seat: it is answered, and /ready says that the server stops."""
-    with Pod() as pod, Stay(fixed(1, limit=1), [pod.port], page=True) as server:
-        load = Load(server.port, 2, count=1, path="/1500")
-        wait_until(lambda: gauges(server)["held"] == 1 == gauges(server)["running"], 5, "nobody is held")
-        want(page(server, "/ready")[0] == 200, "not ready while it serves")
-        server.stop()
-        wait_until(lambda: page(server, "/ready")[0] == 503, 2, "ready while it stops")
-        want(page(server, "/healthz")[0] == 200, "not healthy while it stops")
-        met = load.met()
-        want(counted(met) == {HELLO: 2}, f"answered {counted(met)}")
-        settle(server, counted(met))
-
-
-def full_disk(least):
-    """The journal's file may be no longer than this: status 6, and what was written is some first bytes of a journal."""
-
-    def limit():
-        resource.setrlimit(resource.RLIMIT_FSIZE, (least, least))
-        signal.signal(signal.SIGXFSZ, signal.SIG_IGN)
-
-    with Pod() as pod, Stay(fixed(1), [pod.port], before=limit) as server:
-        met = Load(server.port, 4).met()
-        want(server.end() == 6, f"exit status {server.process.returncode}: {server.told()}")
-        want(server.told().endswith("kactd: write failed\n"), f"told {server.told()!r}")
-        want(server.journal.stat().st_size == least, f"{server.journal.stat().st_size} bytes were written")
-        ended, _ = cut_account(server.journal)
-        account = counted(one for one in met if one.status)
-        want(set(account) == {HELLO} and account[HELLO] >= len(ended) > 0, f"answered {account}, and {len(ended)} in the journal")
-        say(f"{account[HELLO]} were answered, {len(ended)} of them are in {least} bytes")
-
-
-def no_disk():
-    """Nothing can be written: status 6, and nobody was served."""
-    with open("/dev/full", "w") as full, Pod() as pod, Stay(fixed(1), [pod.port], out=full) as server:
-        want(server.end() == 6, f"exit status {server.process.returncode}: {server.told()}")
-        want(server.told().endswith("kactd: write failed\n"), f"told {server.told()!r}")
-        want(pod.count() == 0, "the pod was called")
-
-
-def gone_reader():
-    """Who reads standard output goes away: status 6, as where a disk is full."""
-    ours, theirs = os.pipe()
-    with Pod() as pod, Stay(fixed(1), [pod.port], out=theirs) as server:
-        os.close(theirs)
-        want(bring(server.port, GET)[3:] == HELLO, "not answered")
-        os.close(ours)
-        want(server.end() == 6, f"exit status {server.process.returncode}: {server.told()}")
-
-
-class Reader:
-    """Reads a pipe to its end into the server's journal, and stands still while it is told to."""
-
-    def __init__(self):
-        self.ours, self.theirs = os.pipe()
-        self.may_read = threading.Event()
-        self.may_read.set()
-
-    def start(self, server):
-        os.close(self.theirs)
-        self.thread = threading.Thread(target=self.read, args=(server.journal,))
-        self.thread.start()
-
-    def read(self, journal):
-        with open(journal, "wb") as kept:
-            while self.may_read.wait() and (piece := os.read(self.ours, 65536)):
-                kept.write(piece)
-        os.close(self.ours)
-
-
-def stalled_reader(seconds, pause, room=100000, full=False):
-    """Who reads standard output stands still for some seconds: no row is lost, and where room is used up new requests are answered 507."""
-    reader = Reader()
-    with Pod() as pod, Stay(fixed(1), [pod.port], out=reader.theirs, room=room) as server:
-        reader.start(server)
-        load = Load(server.port, 8, seconds + 2, pause=pause)
-        time.sleep(1)
-        reader.may_read.clear()
-        time.sleep(seconds)
-        reader.may_read.set()
-        met = load.met()
-        want(met[-1][3:] == HELLO and (counted(met)[FULL] > 0) == full, f"answered {counted(met)}")
-        # a second later there is room again
-        time.sleep(1)
-        met.append(bring(server.port, GET))
-        want(met[-1][3:] == HELLO, f"answered {met[-1]}")
-        server.stop()
-        want(server.end() == 0, f"exit status {server.end()}: {server.told()}")
-        reader.thread.join()
-        settle(server, counted(met))
-        say(f"{counted(met)[HELLO]} were answered 200 and {counted(met)[FULL]} 507")
-
-
-def gone_while_held():
-    """A client that leaves while its request is held is cancelled at once, and no pod is called for it."""
-    with Pod() as pod, Stay(fixed(1, limit=1), [pod.port]) as server:
-        load = Load(server.port, 1, count=1, path="/4000")
-        wait_until(lambda: pod.count() == 1, 5, "the first request does not run")
-        left = []
-        for reset in (0, 1):
-            client = socket.create_connection(("127.0.0.1", server.port))
-            client.setsockopt(socket.SOL_SOCKET, socket.SO_LINGER, reset.to_bytes(4, "little") + bytes(4))
-            client.sendall(GET)
-            time.sleep(0.5)
-            client.close()
-            left.append(time.time() * 1000)
-        time.sleep(1)
-        met = load.met() + [bring(server.port, GET)]
-        want(counted(met) == {HELLO: 2}, f"answered {counted(met)}")
-        want(pod.count() == 2, "a pod was called for a client that had left")
-        rows = settle(server, counted(met), gone=2)
-    after = [int(row.split()[0]) - at for row, at in zip((row for row in rows if row.split()[1] == "cancel"), left)]
-    want(len(after) == 2 and all(-20 <= ms < 500 for ms in after), f"cancelled {after} ms after they left")
-    say(f"cancelled {', '.join(f'{ms:.0f}' for ms in after)} ms after they left")
-
-
-def held(count, seconds):
-    """So many requests are held, for a pod that isn't there, until their time is over: that costs less than 2 % of a processor."""
-    with Stay(fixed(1, timeout=seconds + 10), [free_port()], slots=count, page=True) as server:
-        load = Load(server.port, count, count=1)
-        wait_until(lambda: gauges(server)["held"] == count, 5, f"not all are held: {gauges(server)}")
-        before = server.spent()
-        time.sleep(seconds)
-        spent = (server.spent() - before) / seconds * 100
-        want(gauges(server)["held"] == count, "somebody is held no more")
-        met = load.met()
-        want(counted(met) == {(503, "timed out waiting for a pod"): count}, f"answered {counted(met)}")
-        settle(server, counted(met))
-        say(f"{spent:.1f} % of a processor while {count} are held")
-        want(spent < 2, f"{spent:.1f} % of a processor")
-
-
-def status_page(at_once, seconds):
-    """The status page under load: its paths, its format, counters that never fall, and in the end those of the journal's report."""
+def status_page(at_once, seconds, pause=0.0):
+    """The status page under load: its paths, its format, counters that never fall, and in the end those of the
+    journal's report."""
     with Pod() as pod, Stay(fixed(1), [pod.port], page=True) as server:
         want(page(server, "/healthz")[0] == 200 and page(server, "/ready")[0] == 200, "neither healthy nor ready")
         want(page(server, "/other")[0] == 404 and page(server, "/metrics", "POST")[0] == 405, "another path or method")
         want(page(server, "/healthz", "HEAD")[:2] == (200, ""), "HEAD")
-        load, seen = Load(server.port, at_once, seconds), [prometheus.counters(metrics(server))]
+        load, seen = Load(server.port, at_once, seconds, pause=pause), [prometheus.counters(metrics(server))]
         end = time.monotonic() + seconds
         while time.monotonic() < end:
             seen.append(prometheus.counters(metrics(server)))
@@ -274,62 +142,86 @@ def status_page(at_once, seconds):
         want(set(gauges(server).values()) == {0.0}, f"live requests: {gauges(server)}")
         shown = metrics(server)
         rows = settle(server, counted(met))
-        agree(shown, rows[opening(server.journal) : -1])
+        agree(shown, rows[len(beginning(server.journal, 0)) : -1])
     want(seen[-1] != seen[0], "no counter rose")
     say(f"{len(seen)} pages under load, {len(met)} requests")
 
 
-def opening(journal):
-    """How many rows a revision opens with: those of a journal without events."""
-    lines = journal.read_text().splitlines()
-    bare = journal.with_name("bare")
-    bare.write_text("\n".join([*lines[: [line.split(" ")[0] for line in lines].index("start") + 1], "end", ""]))
-    return len(replay(bare)[1]) - 1
-
-
 def agree(shown, rows):
-    """What a page counted, when no request was live, is what the report has behind the opening, kind by kind. (A fixed revision's ticks make no row.)"""
+    """What a page counted, when no request was live, is what the report has behind the opening, kind by kind. (A fixed
+    revision's ticks make no row.)"""
     found = collections.Counter(row.split()[1] for row in rows)
     counts = {dict(labels)["kind"]: int(number) for labels, number in shown["kactd_rows_total"].values.items()}
     want({kind: n for kind, n in counts.items() if n} == dict(found), f"the page has {counts}, the report {dict(found)}")
 
 
+def address_again():
+    """A pod that is started once two others are gone has the address of the first of them: it is probed and called
+    there. At the third address there is nobody, where it would be by its number."""
+    # (it opens with both, and goes to zero some seconds after the last request)
+    config = {"scale-to-zero-grace-period": "0s"}
+    setup = "kact journal 1\n" + scaled(config=config, initial_scale=2, max_scale=2, window="6s")
+    with Scripted() as first, Scripted() as second, Scripted(listens=False) as third:
+        pods = (first, second, third)
+        with Stay(setup, [pod.port for pod in pods], page=True) as server:
+            met = [bring(server.port, GET)]
+            counts = [len(pod.requests) for pod in pods]
+            wait_until(lambda: sum(metrics(server)["kactd_pods"].values.values()) == 0, 60, "a pod is left")
+            met.append(bring(server.port, GET))
+            want(counted(met) == {HELLO: 2}, f"answered {counted(met)}")
+            came = [len(pod.requests) for pod in pods]
+            want(came == [counts[0] + 1, *counts[1:]], f"{counts} came to the addresses, then {came}")
+            rows = [row.partition(" ")[2] for row in settle(server, counted(met))]
+    place = rows.index("create 2 1")
+    want({"remove 0", "remove 1"} <= set(rows[:place]), f"both pods are there when the third comes: {rows}")
+    want("assign 1 2" in rows[place:], f"the second request isn't the third pod's: {rows}")
+    (pod,) = [int(row.split()[2]) for row in rows if row.startswith("assign 0 ")]
+    want(counts == [pod == 0, pod == 1, 0], f"the first request was pod {pod}'s, and the addresses had {counts}")
+
+
 def cases(short, seconds):
-    if short:
-        names = {"fifty": fifty, "stopped": functools.partial(stopped, 8, 1), "gone_while_held": gone_while_held, "front_shown": edges.front_shown}
-        return names | {"status_page": functools.partial(status_page, 4, 1)}
-    found = {"fifty": fifty}
-    for at_once in (16, 256):
-        loads = {"load": under_load, "hey": by_hey, "wrk": by_wrk}
-        found |= {f"{name}_{at_once}": functools.partial(case, at_once, at_once, seconds) for name, case in loads.items()}
+    found = {"fifty": fifty, "nobody": outputs.nobody}
+    if not short:
+        for at_once in (16, 256):
+            for name, case in (("load", under_load), ("hey", by_hey), ("wrk", by_wrk)):
+                found[f"{name}_{at_once}"] = functools.partial(case, at_once, at_once, seconds)
+        found["killed"] = functools.partial(kills, 10)
+        found["stopped_with_silent"] = functools.partial(edges.stopped_with_silent, 50)
+        found["stalled_reader"] = functools.partial(outputs.stalled_reader, 10, 0.02)
+        found["stalled_reader_full"] = functools.partial(outputs.stalled_reader, 5, 0.002, room=1000, full=True)
+        found["silent_and_slow"] = edges.silent_and_slow
+        found["many_held"] = functools.partial(held.many_held, 1000, 10)
     return found | {
-        "killed": functools.partial(kills, 10),
-        "stopped": functools.partial(stopped, 64, 3),
-        "stopped_with_held": stopped_with_held,
-        "stopped_with_silent": functools.partial(edges.stopped_with_silent, 50),
-        "full_disk": functools.partial(full_disk, 50000),
-        "no_disk": no_disk,
-        "gone_reader": gone_reader,
-        "stalled_reader": functools.partial(stalled_reader, 10, 0.02),
-        "stalled_reader_full": functools.partial(stalled_reader, 5, 0.002, room=1000, full=True),
-        "gone_while_held": gone_while_held,
+        "stopped": functools.partial(stopped, *((8, 1) if short else (64, 3))),
+        "stopped_with_held": held.stopped_with_held,
+        "stopped_then_pods": held.stopped_then_pods,
+        "stopped_then_late": held.stopped_then_late,
+        "stopped_then_left": held.stopped_then_left,
+        "gone_while_held": held.gone_while_held,
+        "address_again": address_again,
+        "little_room": outputs.little_room,
+        "slow_reader": outputs.slow_reader,
+        "still_reader": outputs.still_reader,
+        "gone_reader": outputs.gone_reader,
+        "no_disk": outputs.no_disk,
+        "full_disk": functools.partial(outputs.full_disk, 5000 if short else 50000),
+        "each_size": outputs.each_size,
         "refused": edges.refused,
-        "silent_and_slow": edges.silent_and_slow,
-        "broken_pod": functools.partial(edges.broken_pod, 400),
-        "many_waiting": functools.partial(edges.many_waiting, 1000),
-        "held": functools.partial(held, 1000, 10),
+        "refused_setups": edges.refused_setups,
+        "broken_pod": functools.partial(edges.broken_pod, 40 if short else 400),
+        "many_waiting": functools.partial(edges.many_waiting, 200 if short else 1000),
         "front_shown": edges.front_shown,
-        "status_page": functools.partial(status_page, 16, 3),
+        "status_page": functools.partial(status_page, *((4, 1, 0.01) if short else (16, 3))),
     }
 
 
 def main():
     words = argparse.ArgumentParser(description=__doc__)
-    words.add_argument("--short", action="store_true", help="five of them at small size, for the gate")
+    words.add_argument("--short", action="store_true", help="those of the gate, at small size")
     words.add_argument("--seconds", type=int, default=5, help="how long the loads go on")
     words.add_argument("names", nargs="*")
     given = words.parse_args()
-    return run(cases(given.short, given.seconds), given.names)
+    return run(cases(given.short, given.seconds), given.names, limit=300 if given.short else None)
 
 
 if __name__ == "__main__":

@@ -10,12 +10,13 @@ import signal
 import subprocess
 import sys
 import tempfile
+import threading
 import time
 
 from load import bring
 
 import session
-from session import answers, endings, free_port, head, listens, outcomes, program, wait_until, want
+from session import PATIENCE, answers, endings, head, outcomes, port_of, program, replay, wait_until, want
 
 HERE = pathlib.Path(__file__).resolve().parent
 
@@ -27,9 +28,9 @@ class Pod:
     """pod.py in a process of its own. It answers `/MS` after so many ms."""
 
     def __init__(self):
-        self.port = free_port()
-        self.process = subprocess.Popen([sys.executable, "-B", str(HERE / "pod.py"), str(self.port)])
-        wait_until(lambda: listens(self.port), 20, "the pod does not listen")
+        self.process = subprocess.Popen([sys.executable, "-B", str(HERE / "pod.py"), "0"])
+        self.port = port_of(self.process.pid, lambda: self.process.poll() is not None)
+        want(self.port, "the pod does not listen")
 
     def count(self):
         """How many requests have come to it."""
@@ -57,16 +58,18 @@ class Stay:
     def __init__(self, setup, ports, out=None, before=None, page=False, **words):
         server = program("kactd")
         self.folder = pathlib.Path(tempfile.mkdtemp(prefix="kactd-stay-"))
-        self.errors = open(self.folder / "stderr", "w")
+        (self.folder / "stderr").touch()
         words = {"listen": "127.0.0.1:0", "pods": ",".join(f"127.0.0.1:{port}" for port in ports), **words}
         words |= {"status": "127.0.0.1:0"} if page else {}
         self.process = subprocess.Popen(
             [server, "stay", *(str(word) for name, value in words.items() for word in (f"--{name}", value))],
             stdin=subprocess.PIPE,
             stdout=open(self.folder / "journal", "w") if out is None else out,
-            stderr=self.errors,
+            stderr=subprocess.PIPE,
             preexec_fn=before,
         )
+        self.teller = threading.Thread(target=self.keep_errors)
+        self.teller.start()
         try:
             # (one that has ended by then reads nothing)
             with contextlib.suppress(BrokenPipeError):
@@ -80,11 +83,19 @@ class Stay:
 
     def await_address(self, word):
         """The port that it says soon, or none where it ends."""
-        wait_until(lambda: self.says(word) or self.has_ended(), 20, f"kactd does not say {word} on which address")
+        wait_until(lambda: self.says(word) or self.has_ended(), PATIENCE, f"kactd does not say {word} on which address")
         return self.says(word)
+
+    def keep_errors(self):
+        """Copies what it tells to a file, which no limit of the server's own cuts."""
+        with open(self.folder / "stderr", "wb", buffering=0) as kept:
+            while piece := os.read(self.process.stderr.fileno(), 65536):
+                kept.write(piece)
 
     def told(self):
         """What it told on standard error."""
+        if self.has_ended():
+            self.teller.join()
         return (self.folder / "stderr").read_text()
 
     def says(self, word):
@@ -133,18 +144,23 @@ class Stay:
             self.kill()
         with contextlib.suppress(BrokenPipeError):
             self.process.stdin.close()
-        self.errors.close()
+        self.teller.join()
+        self.process.stderr.close()
         if kind is None:
             shutil.rmtree(self.folder, ignore_errors=True)
         else:
             print(f"  (journal and standard error: {self.folder})")
 
 
-def replay(journal):
-    """What `kact replay` makes of the file: its exit status, the lines that it writes, and what it tells."""
-    with open(journal) as given:
-        ran = subprocess.run([program("kact"), "replay"], stdin=given, capture_output=True, text=True)
-    return ran.returncode, ran.stdout.splitlines(), ran.stderr
+def beginning(journal, events):
+    """The rows that `kact replay` makes of the journal's first so many events, behind those of the opening."""
+    lines = journal.read_text().splitlines()
+    start = [line.split(" ")[0] for line in lines].index("start") + 1
+    want(len(lines) - start >= events, f"{events} events are shown, and {len(lines) - start} are printed")
+    bare = "\n".join([*lines[: start + events], "end", ""])
+    ran = subprocess.run([program("kact"), "replay"], input=bare, capture_output=True, text=True)
+    want(ran.returncode == 0, f"replay refuses the first {events} events: {ran.stderr}")
+    return ran.stdout.splitlines()[:-1]
 
 
 def whole_account(journal):

@@ -24,6 +24,11 @@ def metrics(server):
     return prometheus.read(text)
 
 
+def rows(server, kind):
+    """How many rows of this kind are counted."""
+    return metrics(server)["kactd_rows_total"].values[(("kind", kind),)]
+
+
 def gauges(server):
     """The live requests, by where they are."""
     return {dict(labels)["state"]: number for labels, number in metrics(server)["kactd_requests"].values.items()}

@@ -1,10 +1,12 @@
 #!/usr/bin/env -S python3 -B
-"""Tests of what the scripts stand on, without a server: the reader of metrics, the book of addresses, the account of a cut journal."""
+"""Tests of what the scripts stand on, without a server: the reader of metrics and their text, the book of addresses, the
+account of a cut journal."""
 
 import pathlib
 import sys
 import unittest
 
+import exposition
 import load
 import prometheus
 from session import Failed, endings
@@ -64,6 +66,41 @@ class Metrics(unittest.TestCase):
                 prometheus.read(text)
 
 
+# Two pods, of which one is ready; three requests came, of which one was refused and one has ended; two decisions.
+# metrics.txt was written by hand.
+ROWS = """0 create 0 1
+0 create 1 1
+0 ready 0
+0 admit 0 7
+0 assign 0 0
+0 admit 1 8
+0 queue-full 2 -
+0 finish 0 ok
+0 assign 1 0
+0 decision stable=1/1 panic=0/6 ready=1 want=1
+0 decision stable=3/2 panic=2/3 ready=1 want=2""".splitlines()
+BESIDE = {
+    "kactd_rows_recorded_total": 9,
+    "kactd_rows_unprinted": 4,
+    "kactd_connections_waiting": 3,
+    "kactd_slots_at_work": 64,
+}
+
+
+class Text(unittest.TestCase):
+    def test_by_hand(self):
+        by_hand = (pathlib.Path(__file__).parent / "metrics.txt").read_text()
+        self.assertEqual(exposition.text(ROWS, 0, BESIDE, initial=1), by_hand)
+        self.assertEqual(set(prometheus.read(by_hand)), set(exposition.FAMILIES))
+
+    def test_left_out(self):
+        text = exposition.text(ROWS[:3], 2, BESIDE)
+        absent = {it for it in exposition.FAMILIES if "wanted" in it or "decision" in it}
+        self.assertEqual(set(exposition.FAMILIES) - set(prometheus.read(text)), absent)
+        self.assertEqual(text.count(" 0\n"), 23 + 1 + 3)
+        self.assertIn("kactd_pods_wanted 4\n", exposition.text(ROWS[:3], 2, BESIDE, initial=4))
+
+
 class Addresses(unittest.TestCase):
     """By hand, from the rule: the least free address at the creation, else the first that waits gets the next free one."""
 
@@ -117,4 +154,6 @@ class Accounts(unittest.TestCase):
 
 
 if __name__ == "__main__":
-    sys.exit(unittest.main())
+    ended = unittest.main(exit=False).result
+    print(f"{ended.testsRun} cases, {len(ended.failures) + len(ended.errors)} failed")
+    sys.exit(not ended.wasSuccessful())
