@@ -1,2 +1,0 @@
-mod Stills
-mod Fresh

@@ -1,4 +1,0 @@
-pub mod Numbers
-pub mod Workers
-pub mod Fresh
-pub mod Wide
