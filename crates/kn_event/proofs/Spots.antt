@@ -1,5 +1,5 @@
 -- Numbers and words in a line that is spelled plainly.
-use Rattle.std.proofs.Common.{◌≡◌, ◌≢◌, ◌+◌, ◌-◌, ◌^◌, ◌<◌, ◌≤◌, ℕ, Bool, true, false, List, [], ◌∷◌, ◌++◌, Some, length, take, drop, get_or, append_assoc, length-append, length-drop, add_comm, add-one, add-zero, refl, sym, ap, ◌∙◌, arith, cond}
+use Rattle.std.proofs.Common.{◌≡◌, ◌≢◌, ◌+◌, ◌-◌, ◌^◌, ◌<◌, ◌≤◌, ℕ, Bool, true, false, List, [], ◌∷◌, ◌++◌, Some, length, take, drop, get_or, append_assoc, length-append, length-drop, replicate, add_comm, add-one, add-zero, refl, sym, ap, ◌∙◌, arith, cond}
 use Rattle.std.specs.Prelude.{◌==◌, codes, nat_eq, slice_range}
 use Rattle.std.specs.List.{list_all, prefix_len, starts_with}
 use Rattle.std.specs.Fmt.{decimal}
@@ -16,9 +16,9 @@ use Rattle.std.proofs.lemmas.Str.Parse.{digits_value_short}
 use Rattle.kn_event.specs.declared.event.Act.{Act}
 use Rattle.kn_event.specs.declared.event.Act.TheVariants as act
 use Rattle.kn_event.specs.Numbers.{is_digit, has_no_leading_zero, number_of}
-use Rattle.kn_event.specs.EntryLine.{labelled, with_number, outcome_word}
-use Rattle.kn_event.specs.EventLine.{act_text, event_at, event_text, Spells}
-use Rattle.kn_event.specs.PlainLine.{IsNumberAt, IsActAhead}
+use Rattle.kn_event.specs.EntryLine.{labelled, with_number, with_numbers, outcome_word}
+use Rattle.kn_event.specs.EventLine.{act_text, event_at, event_text, limit_most}
+use Rattle.kn_event.specs.PlainLine.{IsNumberAt, IsActAhead, IsLfFrom, IsNumberAhead, IsOutcomeAhead, SpellsToCrs}
 use Rattle.kn_event.proofs.Numerals.{own, number_of-small, number_of-spelling}
 
 -- the digits at the front are digits
@@ -131,63 +131,117 @@ word_first bs at word rest is more =
 pub begins : (bs word : List ℕ) → starts_with nat_eq bs word ≡ true → bs ≡ word ++ drop (length word) bs
 begins bs word h = (starts_is Decides-eqb bs word true (sym h)).0 refl
 
-pub arrival : (bs : List ℕ) (n to : ℕ) → bs ≡ codes " arrive " ++ drop 8 bs → to < length bs → drop 8 bs ≡ decimal n ++ 10 ∷ drop (to + 1) bs → n < 2 ^ 64
+pub arrival : (bs : List ℕ) (n crs to : ℕ) → bs ≡ codes " arrive " ++ drop 8 bs → to < length bs → drop 8 bs ≡ decimal n ++ (replicate crs 13 ++ 10 ∷ drop (to + 1) bs) → n < 2 ^ 64
     → IsActAhead bs (act.Arrive n) to
 unfolding act_text with_number
-arrival bs n to word inside rest small =
-    record { within = inside; text = word ∙ ap (λ (m : List ℕ). codes " arrive " ++ m) rest; range = small; act = λ version. tt }
+arrival bs n crs to word inside rest small =
+    record { crs = crs; within = inside; text = word ∙ ap (λ (m : List ℕ). codes " arrive " ++ m) rest; range = small; act = λ version. tt }
 
-pub tick : (bs : List ℕ) → starts_with nat_eq bs (codes " tick\n") ≡ true → 6 ≤ length bs → IsActAhead bs act.Tick 5
+pub tick : (bs : List ℕ) (to : ℕ) → starts_with nat_eq bs (codes " tick") ≡ true → IsLfFrom bs 5 to → IsActAhead bs act.Tick to
 unfolding act_text
-tick bs word room = record { within = omega arith; text = begins bs (codes " tick\n") word; range = tt; act = λ version. tt }
+tick bs to word lf = record { crs = lf.crs; within = lf.within; text = begins bs (codes " tick") word ∙ ap (λ (m : List ℕ). codes " tick" ++ m) lf.text; range = tt; act = λ version. tt }
 
 -- the same by its first bytes
 pub tick_first : (bs : List ℕ) → take 6 bs ≡ codes " tick\n" → 6 ≤ length bs → IsActAhead bs act.Tick 5
 unfolding act_text
-tick_first bs word room = record { within = omega arith; text = word_first bs 6 (codes " tick\n") (drop 6 bs) word refl; range = tt; act = λ version. tt }
+tick_first bs word room = record { crs = 0; within = omega arith; text = word_first bs 6 (codes " tick\n") (drop 6 bs) word refl; range = tt; act = λ version. tt }
 
-pub pass : (bs : List ℕ) → starts_with nat_eq bs (codes " pass\n") ≡ true → 6 ≤ length bs → IsActAhead bs act.Pass 5
+pub pass : (bs : List ℕ) (to : ℕ) → starts_with nat_eq bs (codes " pass") ≡ true → IsLfFrom bs 5 to → IsActAhead bs act.Pass to
 unfolding act_text
-pass bs word room = record { within = omega arith; text = begins bs (codes " pass\n") word; range = tt; act = λ version. tt }
+pass bs to word lf = record { crs = lf.crs; within = lf.within; text = begins bs (codes " pass") word ∙ ap (λ (m : List ℕ). codes " pass" ++ m) lf.text; range = tt; act = λ version. tt }
 
-pub readiness : (bs : List ℕ) (n to : ℕ) → starts_with nat_eq bs (codes " ready ") ≡ true → to < length bs → drop 7 bs ≡ decimal n ++ 10 ∷ drop (to + 1) bs → n < 2 ^ 64
-    → IsActAhead bs (act.Ready n) to
+pub readiness : (bs : List ℕ) (n to : ℕ) → starts_with nat_eq bs (codes " ready ") ≡ true → IsNumberAhead bs 7 n to → IsActAhead bs (act.Ready n) to
 unfolding act_text with_number
-readiness bs n to word inside rest small =
-    record { within = inside; text = begins bs (codes " ready ") word ∙ ap (λ (m : List ℕ). codes " ready " ++ m) rest; range = small; act = λ version. tt }
+readiness bs n to word number =
+    record { crs = number.crs; within = number.within; text = begins bs (codes " ready ") word ∙ ap (λ (m : List ℕ). codes " ready " ++ m) number.text; range = number.small; act = λ version. tt }
 
-pub cancellation : (bs : List ℕ) (n to : ℕ) → starts_with nat_eq bs (codes " cancel ") ≡ true → to < length bs → drop 8 bs ≡ decimal n ++ 10 ∷ drop (to + 1) bs → n < 2 ^ 64
-    → IsActAhead bs (act.Cancel n) to
+pub cancellation : (bs : List ℕ) (n to : ℕ) → starts_with nat_eq bs (codes " cancel ") ≡ true → IsNumberAhead bs 8 n to → IsActAhead bs (act.Cancel n) to
 unfolding act_text with_number
-cancellation bs n to word inside rest small =
-    record { within = inside; text = begins bs (codes " cancel ") word ∙ ap (λ (m : List ℕ). codes " cancel " ++ m) rest; range = small; act = λ version. tt }
+cancellation bs n to word number =
+    record { crs = number.crs; within = number.within; text = begins bs (codes " cancel ") word ∙ ap (λ (m : List ℕ). codes " cancel " ++ m) number.text; range = number.small; act = λ version. tt }
 
-pub finish : (bs : List ℕ) (n end len : ℕ) (ok : Bool) → bs ≡ codes " finish " ++ drop 8 bs → IsNumberAt bs 8 n end → len < length (drop end bs)
-    → drop end bs ≡ outcome_word ok ++ 10 ∷ drop (len + 1) (drop end bs) → IsActAhead bs (act.Finish n ok) (end + len)
+-- an outcome right there, and one behind which CRs may stand
+pub outcome : (bs : List ℕ) (ok : Bool) (to : ℕ) → bs ≡ outcome_word ok ++ drop (length (outcome_word ok)) bs → IsLfFrom bs (length (outcome_word ok)) to → IsOutcomeAhead bs ok to
+outcome bs ok to word lf = record { crs = lf.crs; within = lf.within; text = word ∙ ap (λ (m : List ℕ). outcome_word ok ++ m) lf.text }
+
+pub finish : (bs : List ℕ) (n end len : ℕ) (ok : Bool) → bs ≡ codes " finish " ++ drop 8 bs → IsNumberAt bs 8 n end → IsOutcomeAhead (drop end bs) ok len → IsActAhead bs (act.Finish n ok) (end + len)
 unfolding act_text with_number labelled
-finish bs n end len ok word number inside rest =
+finish bs n end len ok word number out =
     let left : drop (len + 1) (drop end bs) ≡ drop (end + len + 1) bs = drop-drop (len + 1) end bs ∙ ap (λ (k : ℕ). drop k bs) (sum_same end len) in
-    let behind : drop 8 bs ≡ (decimal n ++ outcome_word ok) ++ 10 ∷ drop (end + len + 1) bs =
-    number.text ∙ ap (λ (m : List ℕ). decimal n ++ m) (rest ∙ ap (λ (m : List ℕ). outcome_word ok ++ 10 ∷ m) left) ∙ sym (append_assoc (decimal n) (outcome_word ok) (10 ∷ drop (end + len + 1) bs)) in
+    let tail : List ℕ = replicate out.crs 13 ++ 10 ∷ drop (end + len + 1) bs in
+    let behind : drop 8 bs ≡ (decimal n ++ outcome_word ok) ++ tail =
+    number.text ∙ ap (λ (m : List ℕ). decimal n ++ m) (out.text ∙ ap (λ (m : List ℕ). outcome_word ok ++ (replicate out.crs 13 ++ 10 ∷ m)) left) ∙ sym (append_assoc (decimal n) (outcome_word ok) tail) in
+    let low = out.within in
     record {
-      within = grind (arith, common_steps);
+      crs = out.crs;
+      within = omega (arith, low, length-drop end bs);
       text = word ∙ ap (λ (m : List ℕ). codes " finish " ++ m) behind;
       range = number.small;
       act = λ version. tt;
     }
 
+pub limitation : (bs : List ℕ) (p n end len : ℕ) → starts_with nat_eq bs (codes " limit ") ≡ true → IsNumberAt bs 7 p end → n ≤ limit_most → drop end bs ≡ 32 ∷ drop 1 (drop end bs)
+    → IsNumberAhead (drop end bs) 1 n len → IsActAhead bs (act.Limit p n) (end + len)
+unfolding act_text with_number with_numbers
+limitation bs p n end len word number most space last =
+    let left : drop (len + 1) (drop end bs) ≡ drop (end + len + 1) bs = drop-drop (len + 1) end bs ∙ ap (λ (k : ℕ). drop k bs) (sum_same end len) in
+    let tail : List ℕ = replicate last.crs 13 ++ 10 ∷ drop (end + len + 1) bs in
+    let rest : drop end bs ≡ 32 ∷ decimal n ++ tail =
+    space ∙ ap (λ (m : List ℕ). 32 ∷ m) (last.text ∙ ap (λ (m : List ℕ). decimal n ++ (replicate last.crs 13 ++ 10 ∷ m)) left) in
+    let behind : drop 7 bs ≡ (decimal p ++ 32 ∷ decimal n) ++ tail =
+    number.text ∙ ap (λ (m : List ℕ). decimal p ++ m) rest ∙ sym (append_assoc (decimal p) (32 ∷ decimal n) tail) in
+    let low = last.within in
+    record {
+      crs = last.crs;
+      within = omega (arith, low, length-drop end bs);
+      text = begins bs (codes " limit ") word ∙ ap (λ (m : List ℕ). codes " limit " ++ m) behind;
+      range = (number.small, most);
+      act = λ version. tt;
+    }
+
+-- an LF right there, and one behind a CR
+pub lf_here : (bs : List ℕ) (from : ℕ) → starts_with nat_eq (drop from bs) (codes "\n") ≡ true → from < length bs → IsLfFrom bs from from
+lf_here bs from word room =
+    let behind : drop 1 (drop from bs) ≡ drop (from + 1) bs = drop-drop 1 from bs ∙ ap (λ (k : ℕ). drop k bs) (omega arith) in
+    record { crs = 0; within = room; text = begins (drop from bs) (codes "\n") word ∙ ap (λ (m : List ℕ). 10 ∷ m) behind }
+
+pub lf_behind_cr : (bs : List ℕ) (from : ℕ) → starts_with nat_eq (drop from bs) (codes "\r\n") ≡ true → from + 1 < length bs → IsLfFrom bs from (from + 1)
+lf_behind_cr bs from word room =
+    let behind : drop 2 (drop from bs) ≡ drop (from + 1 + 1) bs = drop-drop 2 from bs ∙ ap (λ (k : ℕ). drop k bs) (omega arith) in
+    record { crs = 1; within = room; text = begins (drop from bs) (codes "\r\n") word ∙ ap (λ (m : List ℕ). 13 ∷ 10 ∷ m) behind }
+
+-- a number that ends there, with an LF from there on
+pub number_to_lf : (bs : List ℕ) (from n end to : ℕ) → IsNumberAt bs from n end → IsLfFrom bs end to → IsNumberAhead bs from n to
+number_to_lf bs from n end to number lf =
+    record { crs = lf.crs; within = lf.within; text = number.text ∙ ap (λ (m : List ℕ). decimal n ++ m) lf.text; small = number.small }
+
 -- a number and an act in front of an LF are the line of an event
-pub event_here : (bs : List ℕ) (time at len : ℕ) (a : Act) → IsNumberAt bs 0 time at → IsActAhead (drop at bs) a len → (version : ℕ) → Spells version (take (at + len) bs) (event_at time a)
+record IsLineHere (bs : List ℕ) (time at len : ℕ) (a : Act) (crs : ℕ) : Type 0 where
+  taken : take (at + len) bs ≡ event_text (event_at time a) ++ replicate crs 13
+  split : bs ≡ take (at + len) bs ++ 10 ∷ drop (at + len + 1) bs
+
+line_of : (bs : List ℕ) (time at len : ℕ) (a : Act) → IsNumberAt bs 0 time at → (text : IsActAhead (drop at bs) a len) → IsLineHere bs time at len a text.crs
 unfolding event_text
-event_here bs time at len a number text version =
+line_of bs time at len a number text =
     let left : drop (len + 1) (drop at bs) ≡ drop (at + len + 1) bs = drop-drop (len + 1) at bs ∙ ap (λ (k : ℕ). drop k bs) (sum_same at len) in
-    let whole : bs ≡ (decimal time ++ act_text a) ++ 10 ∷ drop (at + len + 1) bs =
-    number.text ∙ ap (λ (m : List ℕ). decimal time ++ m) (text.text ∙ ap (λ (m : List ℕ). act_text a ++ 10 ∷ m) left) ∙ sym (append_assoc (decimal time) (act_text a) (10 ∷ drop (at + len + 1) bs)) in
-    let within : at + len < length bs = grind (arith, common_steps, text.within) in
-    let line : List ℕ = decimal time ++ act_text a in
+    let crs : List ℕ = replicate text.crs 13 in
     let rest : List ℕ = drop (at + len + 1) bs in
+    let spelled : List ℕ = decimal time ++ act_text a in
+    let line : List ℕ = spelled ++ crs in
+    let whole : bs ≡ line ++ 10 ∷ rest =
+    number.text ∙ ap (λ (m : List ℕ). decimal time ++ m) (text.text ∙ ap (λ (m : List ℕ). act_text a ++ (crs ++ 10 ∷ m)) left)
+    ∙ sym (append_assoc (decimal time) (act_text a) (crs ++ 10 ∷ rest)) ∙ sym (append_assoc spelled crs (10 ∷ rest)) in
+    let low = text.within in
+    let within : at + len < length bs = omega (arith, low, length-drop at bs) in
     let sizes : length bs ≡ length line + (length rest + 1) = ap length whole ∙ length-append line (10 ∷ rest) ∙ ap (λ (k : ℕ). length line + k) (omega arith) in
     let long : length line ≡ at + len = omega (arith, sizes, within, length-drop (at + len + 1) bs) in
     let front : take (at + len) bs ≡ line =
     ap (λ (m : List ℕ). take (at + len) m) whole ∙ ap (λ (k : ℕ). take k (line ++ 10 ∷ rest)) (sym long) ∙ take-append_seam line (10 ∷ rest) in
-    record { text = sym front; time = number.small; range = text.range; act = text.act version }
+    record { taken = front; split = whole ∙ ap (λ (m : List ℕ). m ++ 10 ∷ rest) (sym front) }
+
+pub event_here : (bs : List ℕ) (time at len : ℕ) (a : Act) → IsNumberAt bs 0 time at → IsActAhead (drop at bs) a len → SpellsToCrs (take (at + len) bs) (event_at time a)
+event_here bs time at len a number text =
+    record { crs = text.crs; whole = (line_of bs time at len a number text).taken; spells = λ version. record { text = refl; time = number.small; range = text.range; act = text.act version } }
+
+pub line_here : (bs : List ℕ) (time at len : ℕ) (a : Act) → IsNumberAt bs 0 time at → IsActAhead (drop at bs) a len → bs ≡ take (at + len) bs ++ 10 ∷ drop (at + len + 1) bs
+line_here bs time at len a number text = (line_of bs time at len a number text).split

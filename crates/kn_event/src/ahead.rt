@@ -7,9 +7,8 @@ ghost use Rattle.std.specs.Prelude.{◌≡◌, ◌+◌, ◌%◌, ◌≤◌, ◌<
 ghost use Rattle.std.specs.Fmt.{decimal};
 ghost use Rattle.std.specs.Int.{w32, w64, to_le_bytes};
 ghost use Rattle.std.specs.Str.Parse.{digits_value};
-ghost use Rattle.kn_event.specs.EntryLine.{outcome_word};
-ghost use Rattle.kn_event.specs.EventLine.{Spells};
-ghost use Rattle.kn_event.specs.PlainLine.{AreEightDigits, IsNumberAt, IsActAhead};
+ghost use Rattle.kn_event.specs.EventLine.{limit_most};
+ghost use Rattle.kn_event.specs.PlainLine.{AreEightDigits, IsNumberAt, IsActAhead, IsLfFrom, IsNumberAhead, IsOutcomeAhead, SpellsToCrs};
 
 use crate::digits::{few_digits, first_digits, further_digits};
 use crate::event::{Act, Event};
@@ -30,11 +29,15 @@ const SPACE: u64 = 0x20;
 // ` ok` and the LF.
 const OK: u32 = 0x0a6b_6f20;
 
-// In so many bytes a time of 19 digits, a word of eight bytes and one more behind it have room, so that none of them asks for it.
+// How large a pod's limit may be.
+const LIMIT_MOST: u64 = 1000;
+
+// In so many bytes a time of 19 digits, a word of eight bytes and one more behind it have room, so that none of them
+// asks for it.
 const ROOM: usize = 48;
 
-// Both are hints, and not `always`: a call that is left for a while has its bytes read at once, also where one of them is looked at
-// by itself.
+// Both are hints, and not `always`: a call that is left for a while has its bytes read at once, also where one of them
+// is looked at by itself.
 #[inline]
 fn half_at(s: &[u8], i: usize) -> u32
     requires { i + 4 ≤ length s.now }
@@ -129,37 +132,69 @@ fn number_at(line: &[u8], from: usize) -> Option<(u64, usize)>
     many_number_at(line, from)
 }
 
-/// An outcome, and where the LF behind it stands.
+/// Where the LF stands that ends the line, right there or behind a CR.
+///
+/// More CRs aren't looked for: by a loop here LLVM no longer sees that `other_ahead` writes its answer whole, and each
+/// usual line would first clear the room for that.
+fn lf_from(text: &[u8], from: usize) -> Option<usize>
+    requires { from ≤ length text.now }
+    ensures { IfSome result (IsLfFrom text.now from) }
+{
+    let rest = &text[from..];
+    if rest.starts_with(b"\n") {
+        return Some(from);
+    }
+    if rest.starts_with(b"\r\n") {
+        return Some(from + 1);
+    }
+    None
+}
+
+/// An outcome, and where the LF behind it stands, right there or behind a CR.
 fn outcome_ahead(text: &[u8]) -> Option<(bool, usize)>
-    ensures inside { IfSome result (λ p. p.1 < length text.now) }
-    ensures text { IfSome result (λ p. text.now ≡ outcome_word p.0 ++ 10 ∷ drop (p.1 + 1) text.now) }
+    ensures { IfSome result (λ p. IsOutcomeAhead text.now p.0 p.1) }
 {
     if text.len() >= 4 && half_at(text, 0) == OK {
         return Some((true, 3));
     }
-    if text.starts_with(b" fail\n") {
-        Some((false, 5))
-    } else {
-        None
+    if text.starts_with(b" fail") {
+        let end = lf_from(text, 5)?;
+        return Some((false, end));
     }
+    if text.starts_with(b" ok") {
+        let end = lf_from(text, 3)?;
+        return Some((true, end));
+    }
+    None
 }
 
-/// A number at the front, and where the LF right behind it stands.
+/// A number at the front, and where the LF behind it stands, right there or behind a CR.
 fn number_ahead(text: &[u8], from: usize) -> Option<(u64, usize)>
     requires { from ≤ length text.now }
-    ensures inside { IfSome result (λ p. p.1 < length text.now) }
-    ensures text { IfSome result (λ p. drop from text.now ≡ decimal p.0 ++ 10 ∷ drop (p.1 + 1) text.now) }
-    ensures small { IfSome result (λ p. p.0 < 2 ^ 64) }
+    ensures { IfSome result (λ p. IsNumberAhead text.now from p.0 p.1) }
 {
     let (n, end) = number_at(text, from)?;
-    if end < text.len() && text[end] == b'\n' {
-        Some((n, end))
-    } else {
-        None
-    }
+    let lf = lf_from(text, end)?;
+    Some((n, lf))
 }
 
-/// A usual act at the front, and where the LF behind it stands.
+/// A pod's limit behind a space at the front, and where the LF behind it stands, right there or behind a CR.
+fn limit_ahead(text: &[u8]) -> Option<(u64, usize)>
+    ensures space { IfSome result (λ p. text.now ≡ 32 ∷ drop 1 text.now) }
+    ensures number { IfSome result (λ p. IsNumberAhead text.now 1 p.0 p.1) }
+    ensures most { IfSome result (λ p. p.0 ≤ limit_most) }
+{
+    if text.is_empty() || text[0] != b' ' {
+        return None;
+    }
+    let (n, end) = number_ahead(text, 1)?;
+    if n > LIMIT_MOST {
+        return None;
+    }
+    Some((n, end))
+}
+
+/// A usual act at the front, and where the LF behind it stands, right there or behind a CR.
 #[inline(never)]
 fn other_ahead(text: &[u8]) -> Option<(Act, usize)>
     ensures { IfSome result (λ p. IsActAhead text.now p.0 p.1) }
@@ -173,11 +208,13 @@ fn other_ahead(text: &[u8]) -> Option<(Act, usize)>
         let (ok, len) = outcome_ahead(&text[end..])?;
         return Some((Act::Finish(n, ok), end + len));
     }
-    if text.starts_with(b" tick\n") {
-        return Some((Act::Tick, 5));
+    if text.starts_with(b" tick") {
+        let end = lf_from(text, 5)?;
+        return Some((Act::Tick, end));
     }
-    if text.starts_with(b" pass\n") {
-        return Some((Act::Pass, 5));
+    if text.starts_with(b" pass") {
+        let end = lf_from(text, 5)?;
+        return Some((Act::Pass, end));
     }
     if text.starts_with(b" ready ") {
         let (pod, end) = number_ahead(text, 7)?;
@@ -186,6 +223,11 @@ fn other_ahead(text: &[u8]) -> Option<(Act, usize)>
     if text.starts_with(b" cancel ") {
         let (request, end) = number_ahead(text, 8)?;
         return Some((Act::Cancel(request), end));
+    }
+    if text.starts_with(b" limit ") {
+        let (pod, end) = number_at(text, 7)?;
+        let (limit, len) = limit_ahead(&text[end..])?;
+        return Some((Act::Limit(pod, limit), end + len));
     }
     None
 }
@@ -218,8 +260,8 @@ fn finish_ahead(text: &[u8]) -> Option<(Act, usize)>
     other_ahead(text)
 }
 
-/// The same, asked of `other_ahead` where the act is no arrival or tick and no finish that is ok, or its number has more than seven
-/// digits.
+/// The same, asked of `other_ahead` where the act is no arrival or tick and no finish that is ok, or its number has
+/// more than seven digits.
 #[inline(always)]
 fn act_ahead(text: &[u8]) -> Option<(Act, usize)>
     requires { 24 ≤ length text.now }
@@ -309,7 +351,8 @@ impl LastTime {
         requires most { len < 16 }
         requires scaled { high < 2 ^ 32 }
         requires spelled { (xs : List ℕ) × (ys : List ℕ) × IsEightBytes xs × IsEightBytes ys
-            × (first ≡ number_l 256 xs) × (second ≡ number_l 256 ys) × (take len (xs ++ ys) ≡ decimal time) × AreEightDigits xs high }
+            × (first ≡ number_l 256 xs) × (second ≡ number_l 256 ys) × (take len (xs ++ ys) ≡ decimal time)
+            × AreEightDigits xs high }
     {
         *self = LastTime {
             time,
@@ -357,13 +400,14 @@ impl LastTime {
         long_number_at(line, 0)
     }
 
-    /// The event of the line at the front of these bytes, and how long that line is, where they are 48 or more and have its LF, its
-    /// word is a usual one and its numbers have at most 19 digits. None says nothing. Its time is kept.
+    /// The event of the line at the front of these bytes, and how long that line is, with the CR if one stands before
+    /// its LF, where they are 48 or more and have its LF, its word is a usual one and its numbers have at most 19
+    /// digits. None says nothing. Its time is kept.
     #[inline(always)]
     pub fn event_ahead(&mut self, bytes: &[u8]) -> Option<(Event, usize)>
         ensures inside { IfSome result (λ p. p.1 < length bytes.now) }
         ensures line { IfSome result (λ p. bytes.now ≡ take p.1 bytes.now ++ 10 ∷ drop (p.1 + 1) bytes.now) }
-        ensures spells { IfSome result (λ p. (version : ℕ) → Spells version (take p.1 bytes.now) p.0) }
+        ensures spells { IfSome result (λ p. SpellsToCrs (take p.1 bytes.now) p.0) }
     {
         if bytes.len() < ROOM {
             return None;
@@ -374,12 +418,13 @@ impl LastTime {
     }
 }
 
-/// The event of the line at the front of these bytes, and how long that line is, where they are 48 or more and have its LF, its word
-/// is a usual one and its numbers have at most 19 digits. None says nothing.
+/// The event of the line at the front of these bytes, and how long that line is, with the CR if one stands before its
+/// LF, where they are 48 or more and have its LF, its word is a usual one and its numbers have at most 19 digits. None
+/// says nothing.
 pub fn event_ahead(bytes: &[u8]) -> Option<(Event, usize)>
     ensures inside { IfSome result (λ p. p.1 < length bytes.now) }
     ensures line { IfSome result (λ p. bytes.now ≡ take p.1 bytes.now ++ 10 ∷ drop (p.1 + 1) bytes.now) }
-    ensures spells { IfSome result (λ p. (version : ℕ) → Spells version (take p.1 bytes.now) p.0) }
+    ensures spells { IfSome result (λ p. SpellsToCrs (take p.1 bytes.now) p.0) }
 {
     LastTime::new().event_ahead(bytes)
 }

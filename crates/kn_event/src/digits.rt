@@ -28,7 +28,8 @@ fn value_of_eight(word: u64) -> u64
 /// The high bit of each byte that is 10 or more. No sum carries into the next byte.
 #[inline(always)]
 fn flags_from_ten(word: u64) -> u64
-    ensures { (byte : ℕ → ℕ) → ((k : ℕ) → byte k < 256) → word ≡ digits_from byte 0 8 → result ≡ flag_word (λ k. nat_le 10 (byte k)) }
+    ensures { (byte : ℕ → ℕ) → ((k : ℕ) → byte k < 256) → word ≡ digits_from byte 0 8
+        → result ≡ flag_word (λ k. nat_le 10 (byte k)) }
 {
     ((word & 0x7f7f_7f7f_7f7f_7f7f) + 0x7676_7676_7676_7676 | word) & 0x8080_8080_8080_8080
 }
@@ -73,8 +74,8 @@ fn eight_digits(lanes: u64) -> Option<u64>
     Some(value_of_eight(lanes))
 }
 
-/// How many digits the word begins with, from the lowest byte on, and the number that they write, where they are one to seven and
-/// the first is no 0.
+/// How many digits the word begins with, from the lowest byte on, and the number that they write, where they are one to
+/// seven and the first is no 0.
 #[inline(always)]
 pub fn few_digits(word: u64) -> Option<(usize, u64)>
     ensures some { IfSome result (λ p. 0 < p.0) }

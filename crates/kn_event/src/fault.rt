@@ -1,4 +1,5 @@
-/// The first fault, from left to right, of a line that spells no event. A place is the offset of a byte in the line, from 0.
+/// The first fault, from left to right, of a line that spells no event. A place is the offset of a byte in the line,
+/// from 0.
 #[derive(Clone, Copy)]
 pub enum LineError {
     /// The first field is no number.

@@ -1,26 +1,24 @@
-//! A line of text in a buffer of its own, and its parts.
+//! A line of text, and its parts.
 ghost use Rattle.std.specs.Prelude.{◌≡◌, ◌+◌, ◌≤◌, ◌++◌, [], length};
 ghost use Rattle.std.specs.Fmt.{decimal};
 ghost use Rattle.kn_event.specs.EntryLine.{labelled, with_number, with_numbers};
 
+use arrayvec::ArrayVec;
 use itoa::{Buffer, Integer};
 use std::marker::Model;
 
 /// The bytes of one line, at most 1,024. Contracts see the list of them.
 #[derive(Drop)]
 pub struct Line {
-    buffer: [u8; 1024],
-    len: usize,
+    text: ArrayVec<u8, 1024>,
 }
 
 impl Model for Line {
-    ghost use Rattle.std.specs.Prelude.{ℕ, ◌≤◌, List, take};
+    ghost use Rattle.std.specs.Prelude.{ℕ, List};
 
     ghost Value = { List ℕ };
 
-    ghost view = { λ l. take l.len l.buffer };
-
-    ghost invariant = { λ l. l.len ≤ 1024 };
+    ghost view = { λ l. l.text.items };
 }
 
 impl Line {
@@ -29,8 +27,7 @@ impl Line {
         ensures { result ≡ [] }
     {
         Line {
-            buffer: [0; 1024],
-            len: 0,
+            text: ArrayVec::new(),
         }
     }
 
@@ -38,14 +35,14 @@ impl Line {
     pub fn bytes(&self) -> &[u8]
         ensures { result.now ≡ self.now }
     {
-        &self.buffer[..self.len]
+        self.text.as_slice()
     }
 
     /// Empties the line.
     pub fn clear(&mut self)
         ensures { self.new ≡ [] }
     {
-        self.len = 0;
+        self.text.clear();
     }
 
     /// Adds bytes at the end.
@@ -53,9 +50,9 @@ impl Line {
         requires { length self.old + length bytes.now ≤ 1024 }
         ensures { self.new ≡ self.old ++ bytes.now }
     {
-        let end = self.len + bytes.len();
-        self.buffer[self.len..end].copy_from_slice(bytes);
-        self.len = end;
+        let Ok(()) = self.text.try_extend_from_slice(bytes) else {
+            unreachable!();
+        };
     }
 
     /// Adds a number in decimal, at most 40 bytes.

@@ -52,7 +52,7 @@ begins_with_lf-only_crs : (n : ℕ) → begins_with_lf (replicate n 13) ≡ fals
 begins_with_lf-only_crs zero = refl
 begins_with_lf-only_crs (suc n) = refl
 
-without_crs-lf : (n : ℕ) (zs : List ℕ) → without_crs (replicate n 13 ++ 10 ∷ zs) ≡ 10 ∷ without_crs zs
+pub without_crs-lf : (n : ℕ) (zs : List ℕ) → without_crs (replicate n 13 ++ 10 ∷ zs) ≡ 10 ∷ without_crs zs
 unfolding without_crs
 without_crs-lf zero zs = refl
 without_crs-lf (suc n) zs = rw (without_crs-lf n zs) refl

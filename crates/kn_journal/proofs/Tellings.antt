@@ -211,10 +211,10 @@ next-event true version last n number old new line e h fit is other read = event
 next-event false version last n number old new line e h fit is other read = event-with end_part version last n number old new line e h fit is other read
 
 -- a line that lies whole in what is ahead
-takes-ahead : (len : ℕ) (ahead : List ℕ) (left : Option (List ℕ)) → ((later : List ℕ) → lines (ahead ++ later) ≡ take len ahead ∷ lines (drop (len + 1) ahead ++ later))
-    → TakesLine (prepend_known ahead left) (prepend_known (drop (len + 1) ahead) left) true (take len ahead)
-takes-ahead len ahead None h = tt
-takes-ahead len ahead (Some ys) h = h ys
+takes-ahead : (len : ℕ) (ahead line : List ℕ) (left : Option (List ℕ)) → ((later : List ℕ) → lines (ahead ++ later) ≡ line ∷ lines (drop (len + 1) ahead ++ later))
+    → TakesLine (prepend_known ahead left) (prepend_known (drop (len + 1) ahead) left) true line
+takes-ahead len ahead line None h = tt
+takes-ahead len ahead line (Some ys) h = h ys
 
 pub short-fits : (line : List ℕ) → length line ≤ line_most → fits line ≡ true
 short-fits line h = grind (arith, common_steps)
@@ -225,15 +225,13 @@ not_end line h = grind (arith, common_steps)
 pub length-ahead : (len : ℕ) (ahead : List ℕ) → len < length ahead → length (take len ahead) ≡ len
 length-ahead len ahead h = grind (arith, common_steps)
 
-pub ahead-event : (bundle : Bool) (version last n number len : ℕ) (ahead : List ℕ) (left : Option (List ℕ)) (e : Event)
-    → ((later : List ℕ) → lines (ahead ++ later) ≡ take len ahead ∷ lines (drop (len + 1) ahead ++ later)) → len < length ahead → len ≤ line_most → 6 ≤ len → number ≡ n + 1
-    → in_time (n + 1) last (event_of version (take len ahead)) ≡ Ok e
+pub ahead-event : (bundle : Bool) (version last n number len : ℕ) (ahead line : List ℕ) (left : Option (List ℕ)) (e : Event)
+    → ((later : List ℕ) → lines (ahead ++ later) ≡ line ∷ lines (drop (len + 1) ahead ++ later)) → length line ≤ line_most → 6 ≤ length line → number ≡ n + 1
+    → in_time (n + 1) last (event_of version line) ≡ Ok e
     → Tells (next_by bundle version last n) number (prepend_known ahead left) (prepend_known (drop (len + 1) ahead) left) (Ok (Some e))
-ahead-event bundle version last n number len ahead left e line inside fit bytes is read =
-    let count = length-ahead len ahead inside in
-    next-event bundle version last n number (prepend_known ahead left) (prepend_known (drop (len + 1) ahead) left) (take len ahead) e (takes-ahead len ahead left line)
-    (short-fits (take len ahead) (omega (arith, count))) is (not_end (take len ahead) (omega (arith, count)))
-    (rw is read)
+ahead-event bundle version last n number len ahead line left e first fit bytes is read =
+    next-event bundle version last n number (prepend_known ahead left) (prepend_known (drop (len + 1) ahead) left) line e (takes-ahead len ahead line left first)
+    (short-fits line fit) is (not_end line bytes) (rw is read)
 
 refused-with : (ended : ℕ → List (List ℕ) → Result (Part (Option Event)) Cause) (version last n number : ℕ) (old new : Option (List ℕ)) (line : List ℕ) (e : JournalError) → TakesLine old new true line → fits line ≡ true → number ≡ n + 1
     → bytes_eq line (codes "end") ≡ false → IsCauseOf e (in_time number last (event_of version line)) → Refuses (λ ls. with_line n ls (next_with ended version last)) e old

@@ -29,6 +29,10 @@ HasLfFrom ahead from at = drop from ahead ≡ slice_range ahead from at ++ 10 �
 abbrev pub HasLineOf : List ℕ → ℕ → Type 0
 HasLineOf ahead len = (later : List ℕ) → lines (ahead ++ later) ≡ take len ahead ∷ lines (drop (len + 1) ahead ++ later)
 
+-- this line comes first, and its LF stands behind so many bytes, whatever comes behind what is ahead
+abbrev pub HasFirstLine : List ℕ → List ℕ → ℕ → Type 0
+HasFirstLine ahead line len = (later : List ℕ) → lines (ahead ++ later) ≡ line ∷ lines (drop (len + 1) ahead ++ later)
+
 -- this line was taken of what is ahead
 abbrev pub TakesAhead : Ahead → Ahead → List ℕ → Type 0
 TakesAhead old new line = (later : List ℕ) → lines (old.ahead ++ later) ≡ line ∷ lines (new.ahead ++ later)

@@ -1,9 +1,9 @@
 //! The parts of a journal, each read from the lines that come next.
 ghost use Rattle.std.specs.Prelude.{◌≡◌, ◌≢◌, ◌+◌, ◌≤◌, ◌<◌, ◌↔◌, ℕ, [], true, Err, Ok, None, Option, Some, Contains, IfOk, IfErr, IfSome, IsTrue, OnOk, drop, false, length, slice_range, take};
 ghost use Rattle.std.specs.List.{list_all};
-ghost use Rattle.kn_event.specs.EventLine.{event_of, is_printable, Spells};
+ghost use Rattle.kn_event.specs.EventLine.{event_of, event_text, is_printable, Spells};
 ghost use Rattle.kn_preamble.specs.First.{version_most};
-ghost use Rattle.kn_journal.specs.LineCalls.{DrawsBy, FindsNothing, HasLfAt, HasLfFrom, HasLineOf, IsFromAhead, IsNextEvent, RestOfFirst, RestOf, SparesSource, TakesAhead, TakesLines, TakesNext, TellsEvent, TellsPart, TextAhead};
+ghost use Rattle.kn_journal.specs.LineCalls.{DrawsBy, FindsNothing, HasLfAt, HasFirstLine, HasLfFrom, IsFromAhead, IsNextEvent, RestOfFirst, RestOf, SparesSource, TakesAhead, TakesLines, TakesNext, TellsEvent, TellsPart, TextAhead};
 ghost use Rattle.kn_journal.specs.Lines.{line_most};
 ghost use Rattle.kn_journal.specs.Reading.{TakesPart, most_taken, unread};
 ghost use Rattle.kn_journal.specs.Telling.{AmidNext, IsCauseOf, IsEventFault, IsLineFault, Judges, Lacks, OnEvent};
@@ -234,17 +234,19 @@ impl Lines {
         Ok(())
     }
 
-    /// The next event, at this time or later, and the length of its line, where the line is a usual one and ahead with its LF.
-    /// None says nothing.
+    /// The next event, at this time or later, and the place of its line's LF, where the line is a usual one and ahead
+    /// with its LF. None says nothing.
     #[inline(always)]
     fn event_ahead(&mut self, version: u64, last: u64) -> Option<(Event, usize)>
-        ensures line { IfSome result (λ p. HasLineOf self.old.input.ahead p.1) }
+        ensures line { IfSome result (λ p. HasFirstLine self.old.input.ahead (event_text p.0) p.1) }
         ensures lf { IfSome result (λ p. HasLfAt self.old.input.ahead p.1) }
-        ensures event { IfSome result (λ p. in_time (self.old.number + 1) last (event_of version (take p.1 self.old.input.ahead)) ≡ Ok p.0) }
+        ensures event { IfSome result (λ p.
+            in_time (self.old.number + 1) last (event_of version (event_text p.0)) ≡ Ok p.0) }
         ensures inside { IfSome result (λ p. p.1 < length self.old.input.ahead) }
-        ensures fits { IfSome result (λ p. p.1 ≤ line_most) }
+        ensures fits { IfSome result (λ p. length (event_text p.0) ≤ line_most) }
         ensures few { IfSome result (λ p. self.old.input.taken + p.1 < most_taken) }
-        ensures bytes { IfSome result (λ p. 6 ≤ p.1) }
+        ensures bytes { IfSome result (λ p. 6 ≤ length (event_text p.0)) }
+        ensures long { IfSome result (λ p. 6 ≤ p.1) }
         ensures next { IfSome result (λ p. IsNextEvent version last p.0) }
         ensures same { self.new ≡ self.old }
     {
@@ -279,6 +281,10 @@ impl Lines {
         spellings_are_read();
         let (e, len) = self.time.event_ahead(&self.input.ahead()[from..])?;
         if self.input.may_take() <= (from + len) as u64 {
+            return None;
+        }
+        // A line that ends with a CR is left to `next_line`.
+        if len == 0 || self.input.ahead()[from + len - 1] == b'\r' {
             return None;
         }
         Some((e, from + len))

@@ -13,5 +13,5 @@ returns-then-text-end-eq10 c =
     let end = c.in-Some.end in
     let number = c.in-Some.ensures.number in
     let behind : drop end bs ≡ 10 ∷ drop (end + 1) bs = grind (arith, common_steps) in
-    arrival bs n end (word_first bs 8 (to_le_bytes w64 0x2065_7669_7272_6120) (drop 8 bs) c.requires.word refl) (omega (arith, c.in-Some.ensures.end))
+    arrival bs n 0 end (word_first bs 8 (to_le_bytes w64 0x2065_7669_7272_6120) (drop 8 bs) c.requires.word refl) (omega (arith, c.in-Some.ensures.end))
     (number.text ∙ ap (λ m. decimal n ++ m) behind) number.small

@@ -13,4 +13,4 @@ returns-then-half_at-eq-OK c =
     let rest = drop end bs in
     let inside : 3 < length rest = grind (arith, common_steps, c.in-Some.ensures.end) in
     let said : rest ≡ outcome_word true ++ 10 ∷ drop (3 + 1) rest = grind (arith, common_steps) in
-    finish bs c.in-Some.n end 3 true (word_first bs 8 (to_le_bytes w64 0x2068_7369_6e69_6620) (drop 8 bs) c.requires.word refl) c.in-Some.ensures.number inside said
+    finish bs c.in-Some.n end 3 true (word_first bs 8 (to_le_bytes w64 0x2068_7369_6e69_6620) (drop 8 bs) c.requires.word refl) c.in-Some.ensures.number (record { crs = 0; within = inside; text = said })

@@ -2,6 +2,7 @@
 use Rattle.std.proofs.Common.{◌≡◌, ◌+◌, ◌∙◌, ℕ, List, false, drop, sym, ap, subst}
 use Rattle.std.specs.Prelude.{Ok, Some}
 use Rattle.std.specs.Io.KnownBytes.{prepend_known}
+use Rattle.kn_event.specs.EventLine.{event_text}
 use Rattle.kn_journal.specs.Bundle.{next_by}
 use Rattle.kn_journal.specs.Reading.{TakesText, unread}
 use Rattle.kn_journal.specs.Telling.{LinesState, Tells}
@@ -17,8 +18,8 @@ returns-clause-tells c bundle left =
     c.skip.ensures.ahead ∙ ap (λ (r : LinesState). drop (len + 1) r.input.ahead) view in
     subst (λ (x : List ℕ). Tells (next_by bundle c.args.version c.args.last c.args.self.now.number) (c.self.inside.number + 1) (unread c.args.self.now.input left) (prepend_known x left) (Ok (Some c.in_ok-e.e)))
     (sym rest)
-    (ahead-event bundle c.args.version c.args.last c.args.self.now.number (c.self.inside.number + 1) len c.args.self.now.input.ahead left c.in_ok-e.e
-    c.in_ok-e.ensures.line c.in_ok-e.ensures.inside c.in_ok-e.ensures.fits c.in_ok-e.ensures.bytes (ap (λ (r : LinesState). r.number + 1) view) c.in_ok-e.ensures.event)
+    (ahead-event bundle c.args.version c.args.last c.args.self.now.number (c.self.inside.number + 1) len c.args.self.now.input.ahead (event_text c.in_ok-e.e) left c.in_ok-e.e
+    c.in_ok-e.ensures.line c.in_ok-e.ensures.fits c.in_ok-e.ensures.bytes (ap (λ (r : LinesState). r.number + 1) view) c.in_ok-e.ensures.event)
 
 pub returns-clause-text : goal.returns-clause-text
 returns-clause-text c left =
