@@ -1,4 +1,5 @@
 mod Sums
+mod Quiet
 mod Due
 mod Activators
 mod Calls

@@ -1,5 +1,5 @@
 -- What a group sees of an activator: its limit at a pod, and how many of its requests run there.
-use Rattle.std.specs.Prelude.{◌≡◌, ℕ, ◌+◌, ◌<◌, ◌≤◌, max, true, List, [], map, length, slice_index_or, slice_set, ⊤}
+use Rattle.std.specs.Prelude.{◌≡◌, ℕ, ◌+◌, ◌<◌, ◌≤◌, max, Bool, true, List, [], map, length, slice_index_or, slice_set, ⊤}
 use Rattle.std.specs.List.{range_with_len}
 use Rattle.kn_event.specs.FixedSpec.{fixed_spec}
 use Rattle.kn_event.specs.declared.event.Act.{Act}
@@ -40,6 +40,8 @@ pub record Goes (pods : ℕ) (e : Event) (x y : RevisionState) : Type 0 where
   pub others : (q : ℕ) → q < pods → ((n : ℕ) → e.act ≡ act.Limit q n → ⊥) → limit_at q y ≡ limit_at q x
   pub here : (q n : ℕ) → q < pods → e.act ≡ act.Limit q n → limit_at q y ≡ n
   pub runs : (q : ℕ) → q < pods → 1 ≤ limit_at q y → running_at q y ≤ max (running_at q x) (limit_at q y)
+  -- .. nor less, where it finishes nobody
+  pub stays : ((r : ℕ) (ok : Bool) → e.act ≡ act.Finish r ok → ⊥) → (q : ℕ) → q < pods → running_at q x ≤ running_at q y
 
 -- an activator of a group: a fixed revision with these pods, each with a limit
 pub record IsActivator (pods : ℕ) (x : RevisionState) : Type 0 where

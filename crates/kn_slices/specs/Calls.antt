@@ -1,5 +1,5 @@
 -- What the calls of a group need, add and keep.
-use Rattle.std.specs.Prelude.{◌≡◌, ℕ, ◌+◌, ◌<◌, ◌≤◌, ◌^◌, ◌++◌, max, List, length, replicate, slice_index_or, slice_set, None, Some}
+use Rattle.std.specs.Prelude.{◌≡◌, ℕ, ◌+◌, ◌<◌, ◌≤◌, ◌^◌, ◌++◌, max, Bool, List, length, replicate, slice_index_or, slice_set, None, Some}
 use Rattle.kn_event.specs.Ranges.{AreSlots}
 use Rattle.kn_event.specs.declared.entry.Entry.{Entry}
 use Rattle.kn_event.specs.declared.event.Act.{Act}
@@ -82,6 +82,11 @@ pub record AddsToTrace (old new : List RevisionState) (i : ℕ) (e : Event) (row
   pub stands : (d : RevisionState) (c : Trace) → StandsFor (slice_index_or old i d) c
       → StandsFor (slice_index_or new i d) (c ++ react (slice_index_or old i d).spec c e)
   pub same : length new ≡ length old
+
+-- it neither sets a limit nor finishes a request
+pub record IsQuietAct (a : Act) : Type 0 where
+  pub limit : (q n : ℕ) → a ≡ act.Limit q n → ⊥
+  pub finish : (r : ℕ) (ok : Bool) → a ≡ act.Finish r ok → ⊥
 
 -- this is what activator i is told of the event
 abbrev pub IsToldAt : List RevisionState → ℕ → Event → Told → Type 0

@@ -9,15 +9,23 @@ use crate::change::Change;
 use crate::parts::{cut_of, force_after, raise_of};
 use kn_core::Revision;
 
-/// The limits in force after a call. Of the pods that aren't listed the wanted ones are, and stay so.
-pub(crate) fn refresh(parts: &[Revision], wanted: &[u64], force: &mut [u64], listed: &[u64])
+/// The limits in force after a call: where it is quiet, those before. Of the pods that aren't listed the wanted ones are, and stay
+/// so.
+pub(crate) fn refresh(
+    parts: &[Revision],
+    wanted: &[u64],
+    force: &mut [u64],
+    listed: &[u64],
+    quiet: bool,
+)
     requires others { HasOthersInForce wanted.now force.old listed.now }
     requires pods { (p : ℕ) → p < length wanted.now → EachIs (HasPod p) parts.now }
     requires many { length force.old ≡ length wanted.now }
     requires few { (p : ℕ) → p < length wanted.now → hold (limit_at p) (running_at p) parts.now ≤ 1000 }
+    requires quiet { quiet ≡ true → AreForcesAfter parts.now wanted.now force.old force.old }
     ensures { AreForcesAfter parts.now wanted.now force.old force.new }
 {
-    if listed.is_empty() {
+    if quiet || listed.is_empty() {
         return;
     }
     for k in 0..listed.len() {

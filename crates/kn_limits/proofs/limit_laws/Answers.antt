@@ -1,5 +1,6 @@
 use Rattle.kn_limits.proofs.Law.{seats}
 use Rattle.kn_limits.proofs.Limits.{limits, limit_set, pods_stay}
+use Rattle.kn_limits.proofs.Stays.{stay}
 use Rattle.kn_limits.proofs.limit_laws.Goals as goal
 
 pub returns : goal.returns
@@ -8,4 +9,5 @@ returns c = record {
   limits = limits c.fact_laws.ensures c.part_laws.ensures;
   set = limit_set c.fact_laws.ensures c.part_laws.ensures;
   pods = pods_stay c.fact_laws.ensures c.part_laws.ensures;
+  stay = stay c.fact_laws.ensures c.part_laws.ensures;
 }

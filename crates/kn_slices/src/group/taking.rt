@@ -1,19 +1,27 @@
 //! What a group makes of one activator's event.
-ghost use Rattle.std.specs.Prelude.{◌≡◌, [], length};
+ghost use Rattle.std.specs.Prelude.{◌≡◌, [], length, true};
 ghost use Rattle.kn_trace.specs.Events.{told_of};
 ghost use Rattle.kn_trace.specs.Trace.{Trace};
 ghost use Rattle.kn_core.specs.State.{StandsFor};
 ghost use Rattle.kn_slices.specs.Activators.{IsGroupOf, IsPlain, StaysLow, Takes};
-ghost use Rattle.kn_slices.specs.Calls.{AddsToTrace, AreForcesAfter, CanCome, CanStep, HasOthersInForce, HoldsRules, IsGroupAct, IsToldAt, IsToldBy, KeepsUnset, KeepsWanted, StepsGroup, StepsPart};
+ghost use Rattle.kn_slices.specs.Calls.{AddsToTrace, AreForcesAfter, CanCome, CanStep, HasOthersInForce, HoldsRules, IsGroupAct, IsQuietAct, IsToldAt, IsToldBy, KeepsUnset, KeepsWanted, StepsGroup, StepsPart};
 ghost use Rattle.kn_slices.specs.Traces.{IsCalm};
 
 use super::Group;
 use crate::laws::activator_laws;
 use crate::listing::refresh;
 use kn_core::Revision;
-use kn_event::{EntryLog, Event, Told};
+use kn_event::{Act, EntryLog, Event, Told};
 use kn_laws::laws::history_laws;
 use kn_record::append::append_laws;
+
+/// Whether the act leaves no less held of any pod.
+#[inline(always)]
+fn is_quiet(act: &Act) -> bool
+    ensures { result ≡ true → IsQuietAct act.now }
+{
+    !matches!(*act, Act::Finish(_, _) | Act::Limit(_, _))
+}
 
 /// An event of one activator, and what a group sees of it.
 fn step_part(part: &mut Revision, e: &Event, log: &mut EntryLog) -> Told
@@ -64,7 +72,7 @@ fn step_in(
 {
     let at = i as usize;
     let told = step_part(&mut parts[at], e, log);
-    refresh(parts, wanted, force, listed);
+    refresh(parts, wanted, force, listed, is_quiet(&e.act));
     told
 }
 
@@ -92,7 +100,7 @@ pub(super) fn take(
 {
     let at = i as usize;
     take_part(&mut parts[at], e, log);
-    refresh(parts, wanted, force, listed);
+    refresh(parts, wanted, force, listed, is_quiet(&e.act));
 }
 
 impl Group {

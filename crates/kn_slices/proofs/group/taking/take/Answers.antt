@@ -5,6 +5,7 @@ use Rattle.kn_core.specs.State.{RevisionState}
 use Rattle.kn_slices.specs.Activators.{Goes, IsActivator}
 use Rattle.kn_slices.proofs.Activators.{still_activator}
 use Rattle.kn_slices.proofs.Calls.{each_has, each_set, group_after_call}
+use Rattle.kn_slices.proofs.Quiet.{quiet_forces}
 use Rattle.kn_slices.proofs.group.taking.take.Goals as goal
 
 pub refresh-requires-clause-pods : goal.refresh-requires-clause-pods
@@ -28,6 +29,12 @@ refresh-requires-clause-few c p inside =
     let each = c.requires.group.group.each p inside in
     let most = each.most in
     omega (arith, low, most)
+
+pub refresh-requires-clause-quiet : goal.refresh-requires-clause-quiet
+refresh-requires-clause-quiet c is =
+    let x = c.index-parts-at.result in
+    let was = c.requires.group.activators c.args.i x c.requires.can.part in
+    quiet_forces c.args.parts.now c.args.wanted.now c.args.force.now c.args.i c.args.e.now c.take_part.new.part x c.requires.can.part c.requires.group (c.take_part.ensures.goes (length c.args.wanted.now) was) (c.is_quiet.ensures is)
 
 pub returns-clause-group : goal.returns-clause-group
 returns-clause-group c =
