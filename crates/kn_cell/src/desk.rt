@@ -6,6 +6,7 @@ ghost use Rattle.kn_book.specs.Book.{call_address};
 ghost use Rattle.kn_book.specs.State.{IsBookOf};
 ghost use Rattle.kn_core.specs.State.{StandsFor};
 ghost use Rattle.kn_figures.specs.Tallies.{IsTallyOf};
+ghost use Rattle.kn_sizes.specs.Course.{waits_by};
 ghost use Rattle.kn_cell.specs.History.{MayCome, past};
 ghost use Rattle.kn_cell.specs.Desk.{Applies, IsNextToProbe, IsTooSmall, emptied, new_desk};
 ghost use Rattle.kn_cell.specs.Counted.{AreFiguresIn};
@@ -167,13 +168,8 @@ impl Desk {
         ensures same { self.new ≡ self.old }
         ensures stand { (c : Trace) → StandsFor self.old.revision c → result ≡ stand_of c r }
     {
-        if let Some(before) = asked {
-            self.waiters.remove(before, pass);
-        }
         let stand = self.revision.stand(r);
-        if waits(stand) {
-            self.waiters.put(r, pass);
-        }
+        self.waiters.ask(pass, asked, r, waits(stand));
         stand
     }
 
@@ -258,7 +254,9 @@ fn put(rows: &mut Vec<Past>, pass: u64, event: Event, told: Told)
 }
 
 /// Whether a request waits where it stands.
-fn waits(stand: Stand) -> bool {
+fn waits(stand: Stand) -> bool
+    ensures { result ≡ waits_by stand }
+{
     matches!(stand, Stand::Held | Stand::Queued(_))
 }
 

@@ -1,10 +1,11 @@
 -- Who has been silent for how long, and how much time is left.
-use Rattle.std.specs.Prelude.{◌≡◌, ◌-◌, ◌<◌, ◌≤◌, ℕ, Bool, true, false, nat_le, Option, None, Some}
+use Rattle.std.specs.Prelude.{◌≡◌, ◌-◌, ◌<◌, ◌≤◌, ℕ, max, min, Bool, true, false, nat_le, Option, None, Some}
 use Rattle.std.specs.Duration.{as_nanos}
 use Rattle.std.specs.Time.{instant_nanos}
 use Rattle.std.specs.declared.time.Duration.{Duration}
 use Rattle.std.specs.declared.time.Instant.{Instant}
 use Rattle.slab.specs.Slab.{Slab, Updates, get}
+use Rattle.kn_front.specs.declared.limits.Limits.{Limits}
 use Rattle.kn_front.specs.declared.silent.Silent.{Silent}
 
 -- how many nanoseconds it has been silent at this time
@@ -56,3 +57,9 @@ nanos_before (Some until) now = instant_nanos until - instant_nanos now
 abbrev pub nanos_of : Option Duration → ℕ
 nanos_of None = 0
 nanos_of (Some time) = as_nanos time
+
+-- what a front keeps to where this is asked for: so many seconds, and from 1 to 4,096 who wait
+pub record IsAsPatient (is asked : Limits) : Type 0 where
+  pub idle : is.idle ≡ asked.idle
+  pub read : is.read ≡ asked.read
+  pub waiting : is.waiting ≡ min (max asked.waiting 1) 4096

@@ -1,4 +1,6 @@
 //! The front of a server that goes on.
+ghost use Rattle.std.specs.Prelude.{IfOk};
+ghost use Rattle.kn_front.specs.Patience.{IsAsPatient};
 
 use crate::caller::FrontCaller;
 use crate::door::TcpDoor;
@@ -11,13 +13,14 @@ use std::alloc::Global;
 use std::io;
 use std::net::{Net, SocketAddr};
 use std::sync::{Mutex, Wait};
-use std::time::{Clock, Duration};
+use std::time::Clock;
 
 /// A socket that is listened on, where connections wait until their requests begin, and the door through which they come then.
 #[derive(Drop)]
 pub struct Front {
+    /// How long clients may take, and how many may wait.
+    pub limits: Limits,
     address: SocketAddr,
-    read: Duration,
     door: TcpDoor,
     /// None once it runs.
     station: Mutex<Option<Station>>,
@@ -26,12 +29,9 @@ pub struct Front {
 impl Front {
     /// Listens on an address, `HOST:PORT`, where port 0 is any free one, with the longest backlog that the system allows. All
     /// memory that it takes is taken here.
-    pub fn open<N: Net>(
-        net: &N,
-        alloc: Global,
-        address: &str,
-        limits: Limits,
-    ) -> io::Result<Front> {
+    pub fn open<N: Net>(net: &N, alloc: Global, address: &str, limits: Limits) -> io::Result<Front>
+        ensures { IfOk result (λ front. IsAsPatient front.limits limits) }
+    {
         let limits = Limits {
             waiting: limits.waiting.max(1).min(MOST_WAITING),
             ..limits
@@ -41,8 +41,8 @@ impl Front {
         let waker = Waker::new(poll.registry(), WAKER)?;
         let queue = Queue::new(alloc, limits.waiting)?;
         Ok(Front {
+            limits,
             address: socket.address(),
-            read: limits.read,
             door: TcpDoor::new(socket, queue, waker),
             station: Mutex::new(Some(Station::new(alloc, poll, limits)?)),
         })
@@ -60,7 +60,7 @@ impl Front {
 
     /// A caller that meets clients through the door.
     pub fn caller<K: Clock>(&self, clock: K) -> FrontCaller<K> {
-        FrontCaller::new(clock, self.read)
+        FrontCaller::new(clock, self.limits.read)
     }
 
     /// Takes connections in, up to as many as may wait, and lets each through the door once its request has begun; one that is

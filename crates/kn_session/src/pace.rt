@@ -64,13 +64,15 @@ impl<C: Caller> Pace<C> for Rounds {
 /// As long as a door hands connections out, and 10^12 requests at most. The door looks after the clients.
 #[derive(Drop)]
 pub struct ByDoor<'a, D, N> {
-    door: &'a D,
+    pub door: &'a D,
     notes: &'a N,
 }
 
 impl<'a, D, N> ByDoor<'a, D, N> {
     /// What became of each request is told to the notes.
-    pub fn new(door: &'a D, notes: &'a N) -> ByDoor<'a, D, N> {
+    pub fn new(door: &'a D, notes: &'a N) -> ByDoor<'a, D, N>
+        ensures { result.door.now ≡ door.now }
+    {
         ByDoor { door, notes }
     }
 }

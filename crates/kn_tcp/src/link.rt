@@ -10,6 +10,7 @@ use kn_io::{Failed, Faulty, LinkError, PodLink, fault};
 use kn_reply::read_answer;
 use std::alloc::Global;
 use std::io::{ErrorKind, Write};
+use std::marker::Model;
 use std::net::{Net, OpenStream, SocketAddr, ToSocketAddrs};
 use std::time::{Clock, Duration, Instant};
 use std::{io, str};
@@ -31,10 +32,20 @@ pub struct TcpLink<N> {
     faults: u64,
 }
 
+impl<N> Model for TcpLink<N> {
+    ghost use Rattle.std.specs.Prelude.{map};
+    ghost use Rattle.kn_tcp.specs.Reach.{Reach};
+
+    ghost Value = { Reach };
+
+    ghost view = { λ l. record { addresses = map (λ p. p.name) l.pods.items; faults = l.faults } };
+}
+
 impl<N: Net + Clock + Drop> TcpLink<N> {
     /// A link to these addresses, without faults so far.
     pub fn new(alloc: Global, net: N, addresses: &[Text]) -> Result<TcpLink<N>, Memory>
-        ensures { IfOk result (λ link. ⟦<TcpLink<N> as Faulty>⟧.faults link ≡ 0) }
+        ensures faults { IfOk result (λ link. ⟦<TcpLink<N> as Faulty>⟧.faults link ≡ 0) }
+        ensures addresses { IfOk result (λ link. link.addresses ≡ addresses.now) }
     {
         let pods = pods_of(alloc, addresses)?;
         Ok(TcpLink {

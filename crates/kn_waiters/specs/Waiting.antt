@@ -1,5 +1,5 @@
 -- Who waits for which request, and whose wait an entry ends.
-use Rattle.std.specs.Prelude.{ℕ, ◌≡◌, ◌≤◌, ◌<◌, ◌+◌, ◌⊎◌, Option, Some, None, Bool, not, List, ◌∷◌, ◌++◌, map, length, slice_index_or}
+use Rattle.std.specs.Prelude.{ℕ, ◌≡◌, ◌≤◌, ◌<◌, ◌+◌, ◌⊎◌, Option, Some, None, Bool, true, false, not, List, ◌∷◌, ◌++◌, map, length, slice_index_or}
 use Rattle.std.specs.List.{filter, Contains}
 use Rattle.std.specs.List.Sorted.{IsNonDecreasingBy, IsPartitionPoint, IsPermutation}
 use Rattle.kn_event.specs.declared.entry.Entry.{Entry}
@@ -54,6 +54,29 @@ pub record IsRoomy (ws : List Waiter) (ps : List ℕ) (room : ℕ) : Type 0 wher
 -- the one is taken out where it is there, and all others stay
 abbrev pub TakesOut : Waiter → List Waiter → List Waiter → Type 0
 TakesOut w old new = (Contains old w × IsPermutation old (w ∷ new)) ⊎ ((Contains old w → ⊥) × (new ≡ old))
+
+-- those who are left once the pass waits no more for the request that it asked for before, if it did
+abbrev pub LeavesOut : ℕ → Option ℕ → List Waiter → List Waiter → Type 0
+LeavesOut p None old left = left ≡ old
+LeavesOut p (Some r) old left = TakesOut (waiter r p) old left
+
+-- .. and all else is as it was
+pub record Forgets (p : ℕ) (before : Option ℕ) (old left : WaitersState) : Type 0 where
+  pub waiting : LeavesOut p before old.waiting left.waiting
+  pub called : left.called ≡ old.called
+  pub room : left.room ≡ old.room
+
+-- the pass waits beside those who are left, where it is to and there is a place, and else nobody more does
+abbrev pub WaitsToo : ℕ → ℕ → Bool → WaitersState → WaitersState → Type 0
+WaitsToo p r true left new =
+    (HasFreePlace left → IsPermutation (waiter r p ∷ left.waiting) new.waiting) × (IsFull left → new ≡ left) × (new.called ≡ left.called) × (new.room ≡ left.room)
+WaitsToo p r false left new = new ≡ left
+
+-- the pass asks for a request, and for the one before no more; it waits for it where `waits` says so
+pub record Asks (p : ℕ) (before : Option ℕ) (r : ℕ) (waits : Bool) (old new : WaitersState) : Type 0 where
+  pub left : WaitersState
+  pub forgets : Forgets p before old left
+  pub waits_too : WaitsToo p r waits left new
 
 -- who waits for one of these requests is called and waits no more, and nobody else
 pub record Calls (is : ℕ → Bool) (old new : WaitersState) : Type 0 where

@@ -2,7 +2,7 @@
 //! runs or has ended by it.
 ghost use Rattle.std.specs.Prelude.{◌≡◌, ◌++◌, ◌∷◌, [], ◌==◌, IfOk, None, option_to_list};
 ghost use Rattle.std.specs.List.Sorted.{IsPermutation};
-ghost use Rattle.kn_waiters.specs.Waiting.{waiter, woken_by, rouses, AreByRequest, HasFreePlace, IsFull, IsStartOf, IsPlaceIn, TakesOut, Calls};
+ghost use Rattle.kn_waiters.specs.Waiting.{waiter, woken_by, rouses, AreByRequest, HasFreePlace, IsFull, IsStartOf, IsPlaceIn, TakesOut, Asks, Calls, Forgets};
 
 use kn_event::{Entry, Memory, Row};
 use std::alloc::Global;
@@ -90,8 +90,28 @@ impl Waiters {
         })
     }
 
+    /// The pass asks for a request: it waits no more for the one that it asked for before, and waits for this one where `waits`
+    /// says so and there is room.
+    pub fn ask(&mut self, pass: u64, before: Option<u64>, request: u64, waits: bool)
+        ensures { Asks pass before request waits self.old self.new }
+    {
+        self.forget(pass, before);
+        if waits {
+            self.put(request, pass);
+        }
+    }
+
+    /// The pass waits no more for the request that it asked for before, if it did.
+    fn forget(&mut self, pass: u64, before: Option<u64>)
+        ensures { Forgets pass before self.old self.new }
+    {
+        if let Some(before) = before {
+            self.remove(before, pass);
+        }
+    }
+
     /// The pass waits for the request, where there is room.
-    pub fn put(&mut self, request: u64, pass: u64)
+    fn put(&mut self, request: u64, pass: u64)
         ensures same { (self.new.room ≡ self.old.room) × (self.new.called ≡ self.old.called) }
         ensures put { HasFreePlace self.old → IsPermutation (waiter request pass ∷ self.old.waiting) self.new.waiting }
         ensures full { IsFull self.old → self.new ≡ self.old }
@@ -104,7 +124,7 @@ impl Waiters {
     }
 
     /// The pass waits for the request no more.
-    pub fn remove(&mut self, request: u64, pass: u64)
+    fn remove(&mut self, request: u64, pass: u64)
         ensures same { (self.new.room ≡ self.old.room) × (self.new.called ≡ self.old.called) }
         ensures out { TakesOut (waiter request pass) self.old.waiting self.new.waiting }
     {
