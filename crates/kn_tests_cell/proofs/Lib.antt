@@ -1,0 +1,2 @@
+mod Stills
+mod Fresh

@@ -1,0 +1,5 @@
+use Rattle.kn_tests_cell.specs.Numbers.{IsStill}
+use Rattle.kn_tests_cell.proofs.bells.make_noise.Given as goal
+
+abbrev pub invariant-loop : goal.invariant-loop
+invariant-loop g l = IsStill l.fn.pass l.pass
