@@ -147,15 +147,8 @@ pub fn queue<R: Wait>(
             Call::Look(request),
         )
     };
-    if await_run(
-        rt,
-        cell,
-        pass,
-        first,
-        ask,
-        waiting.others.saturating_add(10),
-        notes,
-    ) {
+    let most = waiting.others.saturating_add(10);
+    if await_run(rt, cell, pass, first, ask, most, notes) {
         await_waits(rt, cell, pass, waiting.others, notes);
         end(rt, cell, pass, request, waiting.end);
     }
