@@ -84,10 +84,10 @@ fn show_acts<T: Net<Listener = TcpListener, Stream = TcpStream> + Threads + Wait
 }
 
 /// Shows what is done with a new link.
-pub fn show<T: Net<Listener = TcpListener, Stream = TcpStream> + Threads + Wait + Clock + Sync>(
+pub fn show<'a, T: Net<Listener = TcpListener, Stream = TcpStream> + Threads + Wait + Clock + Sync>(
     rt: &HostRuntime,
-    threads: &T,
-    sockets: &Sockets,
+    threads: &'a T,
+    sockets: &'a Sockets,
     before: &str,
     rest: &str,
 ) -> io::Result<()> {
