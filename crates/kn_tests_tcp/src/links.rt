@@ -19,7 +19,7 @@ use std::time::{Clock, Duration};
 use std::{io, thread};
 
 /// A link whose pods are those of a world.
-type Link<'a, T> = TcpLink<&'a World<'a, T>>;
+type Link<'w, 'a, T> = TcpLink<&'w World<'a, T>>;
 
 fn call<L: PodLink>(alloc: Global, link: &mut L, place: u64) -> Answer {
     match link.call(alloc, place, b"ask") {
@@ -50,7 +50,7 @@ fn act<T: Net<Listener = TcpListener, Stream = TcpStream> + Threads + Wait + Clo
     rt: &HostRuntime,
     sockets: &Sockets,
     world: &World<'_, T>,
-    link: &mut Link<'_, T>,
+    link: &mut Link<'_, '_, T>,
     act: &str,
 ) -> Answer {
     let (time, rest) = cut(act, ' ');
@@ -69,7 +69,7 @@ fn show_acts<T: Net<Listener = TcpListener, Stream = TcpStream> + Threads + Wait
     rt: &HostRuntime,
     sockets: &Sockets,
     world: &World<'_, T>,
-    link: &mut Link<'_, T>,
+    link: &mut Link<'_, '_, T>,
     acts: &str,
 ) -> io::Result<()> {
     for words in acts.split(", ") {
