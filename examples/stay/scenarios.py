@@ -221,7 +221,7 @@ def main():
     words.add_argument("--seconds", type=int, default=5, help="how long the loads go on")
     words.add_argument("names", nargs="*")
     given = words.parse_args()
-    return run(cases(given.short, given.seconds), given.names, limit=300 if given.short else None)
+    return run(cases(given.short, given.seconds), given.names, limit=290 if given.short else None)
 
 
 if __name__ == "__main__":
