@@ -1,0 +1,10 @@
+pub mod Products
+pub mod Answered
+pub mod Bounded
+pub mod Panics
+pub mod Decided
+pub mod AtZero
+pub mod AtBounds
+pub mod AtCounts
+pub mod Whole
+pub mod Ranges

@@ -1,0 +1,4 @@
+pub mod Settings
+pub mod Levers
+pub mod Laws
+pub mod Worked
