@@ -16,10 +16,11 @@ use Rattle.kn_event.specs.declared.revision.Burst.TheVariants as burst
 use Rattle.kn_event.specs.declared.revision.Spec.{Spec}
 use Rattle.kn_event.specs.declared.units.Milli.{Milli}
 use Rattle.kn_scaling.specs.Demand.{count_for, max_scale_down, max_scale_up, one_or_more, within_rates}
+use Rattle.kn_levers.specs.Levers.{is_cut, is_kept, is_raised}
 use Rattle.kn_reason.specs.declared.reason.Reason.{Reason}
 use Rattle.kn_reason.specs.declared.reason.Reason.TheVariants as reason
 use Rattle.kn_show_reasons.specs.Reading.{Reading, at_count, beside, count_read, read}
-use Rattle.kn_show_reasons.specs.Sentences.{activation, at_zero, bound, burst_by, by_phase, delay, down_rate, is_cut, is_kept, is_raised, most, panic_reason, panics, reasons_of, sentences_of, up_rate}
+use Rattle.kn_show_reasons.specs.Sentences.{activation, at_zero, bound, burst_by, by_phase, delay, down_rate, most, panic_reason, panics, reasons_of, sentences_of, up_rate}
 use Rattle.kn_show_reasons.proofs.Ruled.{AreRuled}
 
 -- a sentence where it stands

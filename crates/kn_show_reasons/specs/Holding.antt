@@ -10,7 +10,7 @@ use Rattle.kn_scaling.specs.Delay.{recent_count}
 use Rattle.kn_scaling.specs.Demand.{count_for, is_over, within_rates}
 use Rattle.kn_scaling.specs.Panic.{is_panicking}
 use Rattle.kn_scaling.specs.Zero.{lower_bound}
-use Rattle.kn_show_reasons.specs.Sentences.{is_cut, is_kept, is_raised}
+use Rattle.kn_levers.specs.Levers.{is_cut, is_kept, is_raised}
 
 -- of what an average asks for: the up rate's where the rates take pods away, the down rate's where they add some, and the
 -- activation scale's where that adds some

@@ -8,25 +8,14 @@ use Rattle.kn_event.specs.declared.entry.Phase.TheVariants as phase
 use Rattle.kn_event.specs.declared.revision.Burst.{Burst}
 use Rattle.kn_event.specs.declared.revision.Burst.TheVariants as burst
 use Rattle.kn_event.specs.declared.revision.Spec.{Spec}
-use Rattle.kn_scaling.specs.Demand.{count_for, max_scale_down, max_scale_up, one_or_more, within_rates}
+use Rattle.kn_scaling.specs.Demand.{count_for, max_scale_down, max_scale_up, one_or_more}
+use Rattle.kn_levers.specs.Levers.{is_cut, is_kept, is_raised}
 use Rattle.kn_reason.specs.declared.reason.Lever.{Lever}
 use Rattle.kn_reason.specs.declared.reason.Lever.TheVariants as lever
 use Rattle.kn_reason.specs.declared.reason.Reason.{Reason}
 use Rattle.kn_reason.specs.declared.reason.Reason.TheVariants as reason
 
 -- ---- what an average asks for: so many pods, at so many ready ones
-
--- they are more than the up rate lets be asked for
-abbrev pub is_cut : Spec → ℕ → ℕ → Bool
-is_cut s ready pods = nat_lt (max_scale_up s ready) (max (max_scale_down s ready) pods)
-
--- they are fewer than the down rate lets
-abbrev pub is_kept : Spec → ℕ → ℕ → Bool
-is_kept s ready pods = nat_lt pods (max_scale_down s ready)
-
--- within the rates they are some, and fewer than the activation scale
-abbrev pub is_raised : Spec → ℕ → ℕ → Bool
-is_raised s ready pods = nat_lt 0 (within_rates s ready pods) && nat_lt (within_rates s ready pods) s.activation
 
 abbrev pub up_rate : Spec → ℕ → ℕ → Option Reason
 up_rate s ready pods = then_some (is_cut s ready pods) (reason.UpRate s.up (max_scale_up s ready))

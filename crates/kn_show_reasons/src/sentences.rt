@@ -1,79 +1,15 @@
 //! Which lines a decision has.
 ghost use Rattle.std.specs.Prelude.{◌≡◌, ◌-◌};
-ghost use Rattle.kn_scaling.specs.Demand.{count_for, max_scale_down, max_scale_up, one_or_more, within_rates};
-ghost use Rattle.kn_show_reasons.specs.Sentences.{activation, asked_lever, asked_more, at_zero, bound, bound_lever, burst_by, by_phase, capped_by, delay, demand_lever, down_rate, in_active, in_inactive, is_cut, is_kept, is_raised, lever_of, most, panic_reason, panics, phase_lever, raised_by, sentences_of, stable_reason, up_rate, wait_lever, zero_lever};
+ghost use Rattle.kn_show_reasons.specs.Sentences.{activation, asked_lever, asked_more, at_zero, bound, bound_lever, burst_by, by_phase, capped_by, delay, demand_lever, down_rate, in_active, in_inactive, lever_of, most, panic_reason, panics, phase_lever, raised_by, sentences_of, stable_reason, up_rate, wait_lever, zero_lever};
 
 use kn_event::{Burst, Decision, Phase, Spec};
+use kn_levers::{count_for, is_cut, is_kept, is_raised, max_scale_down, max_scale_up, one_or_more};
 use kn_reason::{Lever, Reason, Seats};
 
 /// How many sentences a decision may have.
 pub(crate) const SENTENCES: usize = 16;
 
 // ---- what an average asks for
-
-/// No ready pod is taken as one.
-fn one_or_more(ready: u64) -> u64
-    ensures { result ≡ one_or_more ready }
-{
-    ready.max(1)
-}
-
-/// The most pods that one decision may ask for with so many ready.
-#[tactic(auto, unfolding(kn_scaling::specs::Demand::max_scale_up))]
-fn max_scale_up(spec: &Spec, ready: u64) -> u128
-    ensures { result ≡ max_scale_up spec.now ready }
-{
-    (spec.up.0 as u128 * one_or_more(ready) as u128).div_ceil(1000)
-}
-
-/// The fewest.
-#[tactic(auto, unfolding(kn_scaling::specs::Demand::max_scale_down))]
-fn max_scale_down(spec: &Spec, ready: u64) -> u128
-    ensures { result ≡ max_scale_down spec.now ready }
-{
-    1000 * one_or_more(ready) as u128 / spec.down.0 as u128
-}
-
-/// So many pods within the rates.
-fn within_rates(spec: &Spec, ready: u64, pods: u64) -> u128
-    ensures { result ≡ within_rates spec.now ready pods }
-{
-    max_scale_up(spec, ready).min(max_scale_down(spec, ready).max(pods as u128))
-}
-
-/// The up rate holds so many pods.
-fn is_cut(spec: &Spec, ready: u64, pods: u64) -> bool
-    ensures { result ≡ is_cut spec.now ready pods }
-{
-    max_scale_up(spec, ready) < max_scale_down(spec, ready).max(pods as u128)
-}
-
-/// The down rate does.
-fn is_kept(spec: &Spec, ready: u64, pods: u64) -> bool
-    ensures { result ≡ is_kept spec.now ready pods }
-{
-    (pods as u128) < max_scale_down(spec, ready)
-}
-
-/// The activation scale raises them.
-fn is_raised(spec: &Spec, ready: u64, pods: u64) -> bool
-    ensures { result ≡ is_raised spec.now ready pods }
-{
-    let within = within_rates(spec, ready, pods);
-    0 < within && within < spec.activation as u128
-}
-
-/// Within the rates and at the activation scale.
-#[tactic(auto, unfolding(kn_scaling::specs::Demand::count_for))]
-fn count_for(spec: &Spec, ready: u64, pods: u64) -> u128
-    ensures { result ≡ count_for spec.now ready pods }
-{
-    if is_raised(spec, ready, pods) {
-        spec.activation as u128
-    } else {
-        within_rates(spec, ready, pods)
-    }
-}
 
 fn up_rate(spec: &Spec, ready: u64, pods: u64) -> Option<Reason>
     ensures { result ≡ up_rate spec.now ready pods }
