@@ -1,5 +1,5 @@
 -- Where no pod is asked for, what is named changes the decision.
-use Rattle.std.proofs.Common.{◌≡◌, refl, sym, ap, ◌∙◌, ℕ, ◌-◌, ◌*◌, ◌/◌, ◌<◌, ◌≤◌, Bool, true, false, not, cond, ◌&&◌, ◌||◌, arith, lit<}
+use Rattle.std.proofs.Common.{◌≡◌, refl, sym, ap, ◌∙◌, ℕ, ◌*◌, ◌/◌, ◌<◌, ◌≤◌, Bool, true, false, not, cond, ◌&&◌, ◌||◌, arith, lit<}
 use Rattle.std.specs.Prelude.{◌==◌, nat_lt, nat_le}
 use Rattle.std.proofs.lemmas.Bool.Decides.{nat_tests}
 use Rattle.kn_event.specs.declared.entry.Decision.{Decision}
@@ -10,32 +10,28 @@ use Rattle.kn_scaling.specs.declared.zero.ZeroAnswer.{ZeroAnswer}
 use Rattle.kn_scaling.specs.Demand.{count_for, desired_counts, is_over, max_scale_down, max_scale_up, pods_for}
 use Rattle.kn_scaling.specs.Zero.{bounded_count, has_lasted, is_proxy, lower_bound, may_go, no_pods, some_pods, zero_rule}
 use Rattle.kn_levers.specs.declared.lever.Setting.TheVariants as setting
-use Rattle.kn_levers.specs.Laws.{Changes, IsInOrder, Moment, before_of, bounded_by, delayed_by, is_other, judged_before, judged_now, undelayed_by}
+use Rattle.kn_levers.specs.Laws.{Changes, IsInOrder, Moment, before_of, bounded_by, delayed_by, is_other, judged_before, judged_now, passed_in, undelayed_by}
 use Rattle.kn_levers.specs.Levers.{at_zero, by_rule, in_active, in_phase, is_grace_over, is_young, longer, one_pod, stay}
 use Rattle.kn_levers.specs.Settings.{hour_ms, hour_s, with_setting}
 use Rattle.kn_levers.proofs.Answered.{flips_is_other, goes_by_both, goes_by_grace, goes_by_retention, kept_one, lasted, lasted_is, longer_is_other, more_differ, none_inactive, none_wanted, not_lasted, on_is_other, one_for_none, shorter_is_other, stays_by_retention, waits_is_other, zero_some}
 use Rattle.kn_levers.proofs.Bounded.{low_rises, min_least, none_asked}
 use Rattle.kn_levers.proofs.Decided.{IsDecidedIn, delayed_by_is, same_bounded, same_delayed}
-use Rattle.kn_levers.proofs.Panics.{shorter_asks}
-
--- milliseconds in the phase
-abbrev passed_in : Moment → ℕ
-passed_in m = m.time - m.past.standing.phase_since
+use Rattle.kn_levers.proofs.Panics.{fewer_ask}
 
 -- the whole seconds of a time, which are over and within a longer window
-past_it : (n : ℕ) → nat_lt n (1000 * (n / 1000)) ≡ false
+pub past_it : (n : ℕ) → nat_lt n (1000 * (n / 1000)) ≡ false
 past_it n = grind (arith, nat_tests)
 
-whole : (n k : ℕ) → nat_lt n (1000 * k) ≡ true → n / 1000 ≤ k
+pub whole : (n k : ℕ) → nat_lt n (1000 * k) ≡ true → n / 1000 ≤ k
 whole n k young = grind (arith, nat_tests)
 
 -- a window of so many whole seconds asks for no more
 shorter_window : (s : Spec) (m : Moment) (seconds : ℕ) → seconds ≤ s.stable_s → undelayed_by s (record s { stable_s = seconds }) m ≤ undelayed_by s s m
 unfolding desired_counts pods_for max_scale_up max_scale_down count_for is_over
 shorter_window s m seconds shorter =
-    shorter_asks (judged_now (record s { stable_s = seconds }) m) (judged_now s m) (judged_before s m) refl refl (omega arith)
+    fewer_ask (judged_now (record s { stable_s = seconds }) m) (judged_now s m) (judged_before s m) refl (omega arith) (λ over. over) (omega arith) (omega arith)
 
-same_within : (s : Spec) (reached : Bool) (seconds n : ℕ) → bounded_count (record s { stable_s = seconds }) reached n ≡ bounded_count s reached n
+pub same_within : (s : Spec) (reached : Bool) (seconds n : ℕ) → bounded_count (record s { stable_s = seconds }) reached n ≡ bounded_count s reached n
 unfolding bounded_count lower_bound
 same_within s reached seconds n = refl
 

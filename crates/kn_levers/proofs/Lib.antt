@@ -6,5 +6,6 @@ pub mod Decided
 pub mod AtZero
 pub mod AtBounds
 pub mod AtCounts
+pub mod Alone
 pub mod Whole
 pub mod Ranges

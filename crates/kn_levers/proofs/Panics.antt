@@ -1,10 +1,8 @@
 -- What is asked for in panic and out of it.
-use Rattle.std.proofs.Common.{◌≡◌, refl, sym, ap, ◌∙◌, ℕ, ◌+◌, ◌-◌, ◌≤◌, Bool, true, false, cond, arith, List, [], ◌∷◌, map, Option, None, Some}
+use Rattle.std.proofs.Common.{◌≡◌, refl, sym, ◌∙◌, ℕ, ◌+◌, ◌-◌, ◌≤◌, Bool, true, false, cond, arith, List, [], ◌∷◌, Option, None, Some}
 use Rattle.std.specs.Prelude.{nat_lt, nat_le, max}
 use Rattle.std.specs.List.{filter, find}
 use Rattle.std.proofs.lemmas.Bool.Decides.{nat_tests}
-use Rattle.kn_event.specs.declared.entry.Counts.{Counts}
-use Rattle.kn_event.specs.Lists.{greatest}
 use Rattle.kn_scaling.specs.declared.delay.Asked.{Asked}
 use Rattle.kn_scaling.specs.declared.panic.Judged.{Judged}
 use Rattle.kn_scaling.specs.Delay.{delayed_count, is_recent, recent_count}
@@ -46,28 +44,23 @@ panic_stays a c earlier time window over panics = by c.counts.over refl a.counts
     by false e true f h = absurd (let g : false ≡ true = sym e ∙ over f in cc)
     by false e false f h = within_stays a c (find is_over_decision earlier) time window h
 
-in_both_runs : (a c : Judged) (earlier : List Judged) → a.counts ≡ c.counts → is_panicking (a ∷ earlier) ≡ true → is_panicking (c ∷ earlier) ≡ true → undelayed_count (a ∷ earlier) ≤ undelayed_count (c ∷ earlier)
+in_both_runs : (a c : Judged) (earlier : List Judged) → a.counts.stable_count ≤ c.counts.stable_count → a.counts.panic_count ≤ c.counts.panic_count
+    → is_panicking (a ∷ earlier) ≡ true → is_panicking (c ∷ earlier) ≡ true → undelayed_count (a ∷ earlier) ≤ undelayed_count (c ∷ earlier)
 unfolding undelayed_count greatest_of_run panicking_run
-in_both_runs a c earlier counts e f = rw (e, f) (equal (ap (λ (x : Counts). x.stable_count) counts) (ap (λ (x : Counts). x.panic_count) counts))
-  where
-    equal : a.counts.stable_count ≡ c.counts.stable_count → a.counts.panic_count ≡ c.counts.panic_count
-        → greatest (map greater_count (a ∷ panicking_run earlier)) ≤ greatest (map greater_count (c ∷ panicking_run earlier))
-    equal p q = omega (arith, p, q)
+in_both_runs a c earlier stable panic e f = rw (e, f) (omega (arith, stable, panic))
 
--- the same counts with a shorter window ask for no more
-pub shorter_asks : (a c : Judged) (earlier : List Judged) → a.time ≡ c.time → a.counts ≡ c.counts → a.window_ms ≤ c.window_ms → undelayed_count (a ∷ earlier) ≤ undelayed_count (c ∷ earlier)
-shorter_asks a c earlier time counts window = by (is_panicking (a ∷ earlier)) refl (is_panicking (c ∷ earlier)) refl
+-- counts that are no more, over no more often, with a window that is no longer, ask for no more
+pub fewer_ask : (a c : Judged) (earlier : List Judged) → a.time ≡ c.time → a.window_ms ≤ c.window_ms → (a.counts.over ≡ true → c.counts.over ≡ true)
+    → a.counts.stable_count ≤ c.counts.stable_count → a.counts.panic_count ≤ c.counts.panic_count → undelayed_count (a ∷ earlier) ≤ undelayed_count (c ∷ earlier)
+fewer_ask a c earlier time window over stable panic = by (is_panicking (a ∷ earlier)) refl (is_panicking (c ∷ earlier)) refl
   where
     by : (x : Bool) → is_panicking (a ∷ earlier) ≡ x → (y : Bool) → is_panicking (c ∷ earlier) ≡ y → undelayed_count (a ∷ earlier) ≤ undelayed_count (c ∷ earlier)
-    by true e true f = in_both_runs a c earlier counts e f
-    by true e false f =
-        let panics : is_panicking (c ∷ earlier) ≡ true = panic_stays a c earlier time window (λ over. sym (ap (λ (x : Counts). x.over) counts) ∙ over) e in
-        absurd (let g : false ≡ true = sym f ∙ panics in cc)
+    by true e true f = in_both_runs a c earlier stable panic e f
+    by true e false f = let panics = panic_stays a c earlier time window over e in absurd (let g : false ≡ true = sym f ∙ panics in cc)
     by false e y f =
         let asks = calm_count a earlier e in
         let least = stable_least c earlier in
-        let equal : a.counts.stable_count ≡ c.counts.stable_count = ap (λ (x : Counts). x.stable_count) counts in
-        omega arith
+        omega (arith, asks, least, stable)
 
 -- ---- the delay
 

@@ -1,7 +1,9 @@
 -- What it is that settings change a decision.
-use Rattle.std.specs.Prelude.{◌≡◌, ℕ, Bool, true, not, ◌-◌, ◌≤◌, ◌||◌, ◌==◌, List, ◌∷◌, map, if◌then◌else◌}
+use Rattle.std.specs.Prelude.{◌≡◌, ℕ, Bool, true, false, not, ◌-◌, ◌*◌, ◌/◌, ◌≤◌, ◌||◌, ◌==◌, nat_le, nat_lt, List, ◌∷◌, map, if◌then◌else◌}
 use Rattle.std.specs.List.{find}
 use Rattle.kn_event.specs.declared.entry.Decision.{Decision}
+use Rattle.kn_event.specs.declared.entry.Phase.{Phase}
+use Rattle.kn_event.specs.declared.entry.Phase.TheVariants as phase
 use Rattle.kn_event.specs.declared.revision.Spec.{Spec}
 use Rattle.kn_event.specs.declared.units.Frac.{Frac}
 use Rattle.kn_event.specs.Revision.{AreInRange}
@@ -15,8 +17,8 @@ use Rattle.kn_scaling.specs.Demand.{desired_counts}
 use Rattle.kn_scaling.specs.Panic.{is_over_decision, is_within_window, undelayed_count}
 use Rattle.kn_scaling.specs.Zero.{bounded_count, pods_most, zero_rule}
 use Rattle.kn_levers.specs.declared.lever.Before.{Before}
-use Rattle.kn_levers.specs.Levers.{change_of}
-use Rattle.kn_levers.specs.Settings.{with_setting}
+use Rattle.kn_levers.specs.Levers.{change_of, is_grace_over}
+use Rattle.kn_levers.specs.Settings.{hour_ms, hour_s, with_setting}
 
 -- all that a decision goes by, but for the specification
 pub record Moment : Type 0 where
@@ -104,3 +106,37 @@ EachInRange = (s : Spec) (m : Moment) (recent : ℕ) → AreInRange s → AreInR
 -- those answers are the decision's
 abbrev pub EachIsRuled : Type 0
 EachIsRuled = (s : Spec) (m : Moment) → ((decision_in s m).want ≡ (answer_by s s m).want) × ((decision_in s m).applied ≡ (answer_by s s m).applied)
+
+-- ---- where no pod of a revision that scales to zero is asked for
+
+-- no pod is asked for in this phase
+pub record IsIdle (s : Spec) (m : Moment) (p : Phase) : Type 0 where
+  pub none : (decision_in s m).bounded ≡ 0
+  pub on : s.to_zero ≡ true
+  pub phase : m.past.standing.phase ≡ p
+
+abbrev pub passed_in : Moment → ℕ
+passed_in m = m.time - m.past.standing.phase_since
+
+-- by these settings and by averages over another window the decision comes out otherwise
+abbrev pub ChangesOver : Spec → Spec → Moment → Frac → Frac → Type 0
+ChangesOver s other m stable panic = is_other (answer_by s s m) (answer_by s other (record m { stable = stable; panic = panic })) ≡ true
+
+-- active, with the stable window over: one of an hour, whatever the averages over it are
+abbrev pub LongerWindow : Type 0
+LongerWindow = (s : Spec) (m : Moment) (stable panic : Frac) → IsInOrder m → IsIdle s m phase.Active
+    → nat_lt (passed_in m) (1000 * s.stable_s) ≡ false → nat_lt (passed_in m) hour_ms ≡ true → ChangesOver s (record s { stable_s = hour_s }) m stable panic
+
+-- within it: one of the whole seconds passed, without load over it
+abbrev pub ShorterWindow : Type 0
+ShorterWindow = (s : Spec) (m : Moment) (stable panic : Frac) → AreInRange s → IsInOrder m → IsIdle s m phase.Active
+    → nat_lt (passed_in m) (1000 * s.stable_s) ≡ true → stable.num ≡ 0 → panic.num ≡ 0 → ChangesOver s (record s { stable_s = passed_in m / 1000 }) m stable panic
+
+-- by these settings it comes out as it did
+abbrev pub Leaves : Spec → Spec → Moment → Type 0
+Leaves s other m = is_other (answer_by s s m) (answer_by s other m) ≡ false
+
+-- inactive, with neither period over: at whatever value neither of the two alone changes it
+abbrev pub NeitherAlone : Type 0
+NeitherAlone = (s : Spec) (m : Moment) (ms : ℕ) → IsInOrder m → IsIdle s m phase.Inactive
+    → nat_le s.retention_ms (passed_in m) ≡ false → is_grace_over s (before_of s m 0) ≡ false → Leaves s (record s { grace_ms = ms }) m × Leaves s (record s { retention_ms = ms }) m
