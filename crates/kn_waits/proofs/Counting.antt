@@ -3,8 +3,8 @@ use Rattle.std.proofs.Common.{below_more, subst, ◌≡◌, ◌≢◌, ◌+◌, 
 use Rattle.std.specs.Prelude.{None, Some, nat_le, nat_lt, ◌==◌}
 use Rattle.std.specs.List.{All, count_by, find, range_with_len, sum}
 use Rattle.std.proofs.lemmas.Bool.Decides.{nat_tests}
-use Rattle.std.proofs.lemmas.List.{get_or_default}
-use Rattle.std.proofs.lemmas.List.Elements.{All-head, All-push, All-tail}
+use Rattle.std.proofs.lemmas.Bool.{cases_lt}
+use Rattle.std.proofs.lemmas.List.Elements.{All-cons, All-head, All-nil, All-push, All-tail}
 use Rattle.std.proofs.lemmas.List.Sums.{sum_by-cons, sum_by_push, count_by-le-length}
 use Rattle.kn_event.specs.Lists.{greatest}
 use Rattle.kn_waits.specs.Waits.{AreWaits, IsLeastEnough, WaitsState, count_up_to, is_enough, percentile}
@@ -158,10 +158,14 @@ percentile_is q n (x ∷ xs) w share some is before =
         let above : greatest (x ∷ xs) < w = grind (arith, nat_tests) in
         absurd (differ (sym (before (greatest (x ∷ xs)) above) ∙ enough_at q n (x ∷ xs) (greatest (x ∷ xs)) share (omega arith)))
 
--- one is enough below any bound on them
-pub enough_below : (q n limit : ℕ) (ws : List ℕ) → q ≤ n → 0 < limit → All (λ v. v < limit) ws → ((v : ℕ) → v < limit → is_enough q n ws v ≡ false) → ⊥
+some_below : (limit : ℕ) (ws : List ℕ) → 0 < length ws → All (λ v. v < limit) ws → 0 < limit
+some_below limit [] some all = absurd (omega arith)
+some_below limit (v ∷ vs) some all = let first = All-head (λ (x : ℕ). x < limit) v vs all in omega (arith, first)
+
+-- one is enough below any bound on them, where anybody waited
+pub enough_below : (q n limit : ℕ) (ws : List ℕ) → q ≤ n → 0 < length ws → All (λ v. v < limit) ws → ((v : ℕ) → v < limit → is_enough q n ws v ≡ false) → ⊥
 enough_below q n limit ws share some all before =
-    differ (sym (before (greatest ws) (greatest_below limit ws some all)) ∙ enough_at q n ws (greatest ws) share (omega arith))
+    differ (sym (before (greatest ws) (greatest_below limit ws (some_below limit ws some all) all)) ∙ enough_at q n ws (greatest ws) share (omega arith))
 
 -- of an interval where one passes, the least that does
 least_from : (p : ℕ → Bool) (a n g : ℕ) → a ≤ g → g < a + n → p g ≡ true → ((v : ℕ) → v < a → p v ≡ false)
@@ -201,14 +205,29 @@ percentile_none q n (w ∷ ws) h = absurd (omega arith)
 
 -- ---- the counters in turn
 
+-- what holds of those whose counter isn't 0 holds of all
+of_counted : (P Q : ℕ → Type 0) (ws : List ℕ) → All P ws → ((v : ℕ) → P v → 0 < count_by (λ u. u == v) ws → Q v) → All Q ws
+of_counted P Q [] all h = All-nil Q
+of_counted P Q (v ∷ vs) all h =
+    All-cons Q v vs (h v (All-head P v vs all) (omega (arith, sum_by-cons (λ (x : ℕ). cond (x == v) 1 0) v vs, one_is v)))
+    (of_counted P Q vs (All-tail P v vs all) (λ u p some. h u p (omega (arith, sum_by-cons (λ (x : ℕ). cond (x == u) 1 0) v vs))))
+
+-- where each further counter is 0, nobody waited so long
+pub all_below : (x : WaitsState) (ws : List ℕ) (n : ℕ) → AreWaits x ws → ((w : ℕ) → n ≤ w → get_or x.counters w 0 ≡ 0) → All (λ v. v < n) ws
+all_below x ws n are zeros =
+    of_counted (λ v. v < length x.counters) (λ v. v < n) ws are.below (λ v inside some. below v (are.each v inside) some (zeros v) (cases_lt v n))
+  where
+    below : (v : ℕ) → get_or x.counters v 0 ≡ count_by (λ u. u == v) ws → 0 < count_by (λ u. u == v) ws → (n ≤ v → get_or x.counters v 0 ≡ 0) → (v < n) ⊎ (n ≤ v) → v < n
+    below v each some none (inl h) = h
+    below v each some none (inr h) = absurd (omega (arith, each, none h))
+
 -- what is counted up to one more counter is below the greatest number
-pub waited_next : (x : WaitsState) (ws : List ℕ) (w waited d : ℕ) → AreWaits x ws → w < length x.counters → waited ≡ count_by (λ v. nat_lt v w) ws
-    → (waited + get_or x.counters w d ≡ count_up_to w ws) × (waited + get_or x.counters w d < 2 ^ 64)
-waited_next x ws w waited d are inside is =
-    let each = get_or_default x.counters w d 0 inside ∙ are.each w inside in
+pub waited_next : (ws : List ℕ) (w waited m : ℕ) → length ws < 2 ^ 64 → m ≡ count_by (λ v. v == w) ws → waited ≡ count_by (λ v. nat_lt v w) ws
+    → (waited + m ≡ count_up_to w ws) × (waited + m < 2 ^ 64)
+waited_next ws w waited m few here is =
     let both = up_to w ws in (
-      omega (arith, each, both, is),
-      omega (arith, each, both, is, are.few, count_by-le-length (λ (v : ℕ). nat_le v w) ws),
+      omega (arith, here, both, is),
+      omega (arith, here, both, is, few, count_by-le-length (λ (v : ℕ). nat_le v w) ws),
     )
 
 -- the test of the loop

@@ -4,6 +4,7 @@
 ghost use Rattle.std.specs.Prelude.{ℕ, ◌<◌, ◌≤◌, List, length};
 ghost use Rattle.kn_waits.specs.Waits.{IsLeastEnough, percentile};
 
+mod counters;
 mod waits;
 
 pub use waits::Waits;

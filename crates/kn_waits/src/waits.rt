@@ -1,13 +1,15 @@
 ghost use Rattle.std.specs.Prelude.{◌≡◌, ℕ, ◌<◌, ◌≤◌, [], List, length, IfOk};
 ghost use Rattle.kn_waits.specs.Waits.{AddsWait, AreWaits, percentile};
 
+use crate::counters::Counters;
 use kn_event::Memory;
 use std::alloc::Global;
 use std::marker::Model;
 
-/// How many requests waited just so many milliseconds, for each number below a limit. Only `new` takes memory.
+/// How many requests waited just so many milliseconds, for each number below a limit. Only `new` takes memory; what it costs in
+/// time and in memory that is touched goes by the longest wait, and not by the limit.
 pub struct Waits {
-    counters: Vec<u64>,
+    counters: Counters,
     ran: u64,
     sum: u128,
     longest: u64,
@@ -30,9 +32,9 @@ impl Model for Waits {
 
     ghost Value = { WaitsState };
 
-    ghost view = { λ x. record { counters = x.counters.items; ran = x.ran; sum = x.sum; longest = x.longest } };
+    ghost view = { λ x. record { counters = x.counters; ran = x.ran; sum = x.sum; longest = x.longest } };
 
-    ghost invariant = { λ x. 0 < length x.counters.items };
+    ghost invariant = { λ x. 0 < length x.counters };
 }
 
 impl Waits {
@@ -42,15 +44,13 @@ impl Waits {
         ensures limit { IfOk result (λ x. length x.counters ≡ limit) }
         ensures waits { IfOk result (λ x. AreWaits x []) }
     {
-        match Vec::from_elem(alloc, 0, limit as usize) {
-            Ok(counters) => Ok(Waits {
-                counters,
-                ran: 0,
-                sum: 0,
-                longest: 0,
-            }),
-            Err(_) => Err(Memory),
-        }
+        let counters = Counters::new(alloc, limit as usize)?;
+        Ok(Waits {
+            counters,
+            ran: 0,
+            sum: 0,
+            longest: 0,
+        })
     }
 
     /// Each wait is below it, in milliseconds.
@@ -67,8 +67,7 @@ impl Waits {
         ensures limit { length self.new.counters ≡ length self.old.counters }
         ensures waits { AddsWait wait self.old self.new }
     {
-        let at = wait as usize;
-        self.counters[at] = self.counters[at].saturating_add(1);
+        self.counters.raise(wait as usize);
         self.ran = self.ran.saturating_add(1);
         self.sum = self.sum.saturating_add(u128::from(wait));
         self.longest = self.longest.max(wait);
@@ -104,9 +103,10 @@ impl Waits {
             return None;
         }
         let wanted = u128::from(q) * u128::from(self.ran);
+        let made = self.counters.made();
         let mut waited: u64 = 0;
-        for w in 0..self.counters.len() {
-            waited = waited.saturating_add(self.counters[w]);
+        for w in 0..made.len() {
+            waited = waited.saturating_add(made[w]);
             if wanted <= u128::from(n) * u128::from(waited) {
                 return Some(w as u64);
             }
