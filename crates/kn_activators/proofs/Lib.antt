@@ -12,3 +12,5 @@ mod Endings
 mod Faults
 mod Whole
 mod Calm
+mod Shared
+mod Ranges

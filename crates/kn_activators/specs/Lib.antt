@@ -5,3 +5,4 @@ pub mod Verdict
 pub mod Breaking
 pub mod Replaying
 pub mod Calls
+pub mod Safety

@@ -9,12 +9,14 @@ ghost use Rattle.kn_journal.specs.LineCalls.{DrawsLines, TakesLines};
 ghost use Rattle.kn_journal.specs.Reading.{most_taken};
 ghost use Rattle.kn_activators.specs.Calls.{FollowsLines, OpensLines, ReadsEvent};
 ghost use Rattle.kn_activators.specs.Replaying.{ReplaysSlices, Stops, WritesNothing, read_error};
+ghost use Rattle.kn_activators.specs.Safety.{AfterEachLine, IsLawfulSharing, IsSafeSharing, OnInputOf};
 ghost use Rattle.kn_activators.specs.Sharing.{end_line};
 ghost use Rattle.kn_activators.specs.Standing.{AreBefore, IsBelow, IsGroupSetup};
 ghost use Rattle.kn_report.specs.Waiting.{Adds};
 
 use crate::error::GroupError;
 use crate::event::GroupEvent;
+use crate::laws::sharing_laws;
 use crate::read::{next_ahead, read_next, read_setup};
 use crate::replay::Replay;
 use crate::setup::GroupSetup;
@@ -179,8 +181,12 @@ pub fn replay_slices<S: Source, O: Sink>(
     ensures read_fault { result ≡ Err (GroupError.Input JournalError.ReadFault) → Rose (S.Faulty.faults source.old) (S.Faulty.faults source.new) ⊎ (S.given source.old + most_taken ≤ S.given source.new) }
     ensures write_fault { result ≡ Err GroupError.Output → Rose (O.Faulty.faults out.old) (O.Faulty.faults out.new) }
     ensures never_falls { S.Faulty.faults source.old ≤ S.Faulty.faults source.new }
+    // After the opening and each line: of each pod no more run, over all activators, than the limit in force.
+    ensures safe { OnInputOf (S.left source.old) (λ t. AfterEachLine IsSafeSharing t.setup t.start t.read.events) }
+    ensures lawful { OnInputOf (S.left source.old) (λ t. AfterEachLine IsLawfulSharing t.setup t.start t.read.events) }
 {
     adding_laws();
+    sharing_laws();
     text_laws();
     let mut lines = match Lines::new(alloc) {
         Ok(lines) => lines,

@@ -28,7 +28,7 @@ pub fixed_kind : (limit pods timeout_s : ℕ) (slots : Slots) → (fixed_spec li
 unfolding fixed_spec
 fixed_kind limit pods timeout_s slots = refl
 
-sum_below : (f : ℕ → ℕ) (n : ℕ) → sum_by (λ x. x) (map f (range_with_len 0 n)) ≡ below f n
+pub sum_below : (f : ℕ → ℕ) (n : ℕ) → sum_by (λ x. x) (map f (range_with_len 0 n)) ≡ below f n
 sum_below f zero = refl
 sum_below f (suc n) =
     let one : suc n ≡ n + 1 = omega arith in

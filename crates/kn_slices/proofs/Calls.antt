@@ -21,7 +21,7 @@ use Rattle.kn_slices.proofs.Due.{after_change, after_step, due_is, group_within}
 pub plain_limit : (a : Act) (q n : ℕ) → IsPlain a → a ≡ act.Limit q n → ⊥
 plain_limit a q n plain e = subst IsPlain e plain
 
-plain_lost : (a : Act) (p : ℕ) → IsPlain a → a ≡ act.Lost p → ⊥
+pub plain_lost : (a : Act) (p : ℕ) → IsPlain a → a ≡ act.Lost p → ⊥
 plain_lost a p plain e = subst IsPlain e plain
 
 plain_range : (a : Act) → IsPlain a → IsWithinRange a

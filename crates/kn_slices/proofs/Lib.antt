@@ -12,3 +12,4 @@ mod Forces
 mod Begin
 mod Calm
 mod Listed
+mod Shares

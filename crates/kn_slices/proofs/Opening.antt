@@ -58,24 +58,24 @@ unfolding opening
 opening_is s start pods fixed = ap (λ k. opening_of k s start) fixed
 
 module _ (parts : PartFacts) (views : (s : Spec) (a : Admission) (c : Trace) → made.IsRecordOf a c → AreViews s a c) where
-  opening_pods : (s : Spec) (start pods : ℕ) → s.kind ≡ kind.Fixed pods → live_pods (opening s start) ≡ range_with_len 0 pods
+  pub opening_pods : (s : Spec) (start pods : ℕ) → s.kind ≡ kind.Fixed pods → live_pods (opening s start) ≡ range_with_len 0 pods
   unfolding live_pods is_live_pod
   opening_pods s start pods fixed =
       let none : each_row gone_by (opening s start) ≡ [] = parts.rows.opening_none gone_by (λ p n. refl) (λ x. refl) s start in
       let created : each_row created_by (opening s start) ≡ range_with_len 0 pods = ap (each_row created_by) (opens s start pods fixed) ∙ created_each start s.cc (range_with_len 0 pods) in
       all_pass (λ p. not (contains p (each_row gone_by (opening s start)))) (each_row created_by (opening s start)) (λ p. ap (λ l. not (contains p l)) none) ∙ created
 
-  opening_draining : (s : Spec) (start : ℕ) → draining (opening s start) ≡ []
+  pub opening_draining : (s : Spec) (start : ℕ) → draining (opening s start) ≡ []
   unfolding draining is_draining
   opening_draining s start =
       let none : each_row drained_by (opening s start) ≡ [] = parts.rows.opening_none drained_by (λ p n. refl) (λ x. refl) s start in
       none_pass (λ p. contains p (each_row drained_by (opening s start)) && is_live_pod (opening s start) p) (each_row created_by (opening s start)) (λ p. ap (λ l. contains p l && is_live_pod (opening s start) p) none)
 
-  opening_running : (s : Spec) (start p : ℕ) → running_at (opening s start) p ≡ []
+  pub opening_running : (s : Spec) (start p : ℕ) → running_at (opening s start) p ≡ []
   unfolding running_at
   opening_running s start p = ap (λ l. filter (is_running (opening s start)) l) (parts.rows.opening_none (brought_to p) (λ p n. refl) (λ x. refl) s start)
 
-  opening_limit : (s : Spec) (start pods q : ℕ) → s.kind ≡ kind.Fixed pods → q < pods → limit_of (opening s start) q ≡ s.cc
+  pub opening_limit : (s : Spec) (start pods q : ℕ) → s.kind ≡ kind.Fixed pods → q < pods → limit_of (opening s start) q ≡ s.cc
   unfolding limit_of
   opening_limit s start pods q fixed low =
       let rows = ap (λ (c : Trace). last_of (each_row (limit_by q) c)) (opens s start pods fixed) ∙ limits_each start s.cc q (range_with_len 0 pods) in

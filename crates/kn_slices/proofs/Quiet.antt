@@ -1,5 +1,5 @@
 -- What is held where an event sets no limit and finishes nobody.
-use Rattle.std.proofs.Common.{◌≡◌, ◌≤◌, ◌<◌, ◌+◌, ℕ, max, Bool, true, false, List, length, get_or, refl, sym, arith, nat_le}
+use Rattle.std.proofs.Common.{◌≡◌, ◌≤◌, ◌<◌, ℕ, Bool, true, false, List, length, get_or, refl, arith, nat_le}
 use Rattle.std.specs.Prelude.{slice_set, if◌then◌else◌}
 use Rattle.kn_event.specs.declared.event.Event.{Event}
 use Rattle.kn_core.specs.State.{RevisionState}

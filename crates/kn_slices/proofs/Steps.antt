@@ -155,7 +155,7 @@ marks_asked parts wanted marks p limit count low is marked = record {
   ];
 }
 
-asked : (n held limit force force' : ℕ) → held ≤ force → n ≤ limit → limit ≤ 1000 → force ≤ 1000 → force' ≡ force_after held limit (max force limit) → IsWithin n held limit force'
+pub asked : (n held limit force force' : ℕ) → held ≤ force → n ≤ limit → limit ≤ 1000 → force ≤ 1000 → force' ≡ force_after held limit (max force limit) → IsWithin n held limit force'
 asked n held limit force force' within least most top is = by (nat_le held limit) refl
   where
     fits : nat_le held limit ≡ true → held ≤ limit

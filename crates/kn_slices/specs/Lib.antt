@@ -3,3 +3,4 @@ pub mod Group
 pub mod Activators
 pub mod Traces
 pub mod Calls
+pub mod Shares

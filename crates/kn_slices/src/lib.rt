@@ -10,4 +10,5 @@ mod parts;
 
 pub use change::Change;
 pub use group::Group;
+pub use laws::share_laws;
 pub use parts::slice;

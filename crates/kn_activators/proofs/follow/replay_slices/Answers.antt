@@ -67,3 +67,35 @@ returns-in-Err-open-clause-never_falls g c = c.in-Err-open.ensures.source.never_
 
 pub returns-in-Err-new-clause-never_falls : goal.returns-in-Err-new-clause-never_falls
 returns-in-Err-new-clause-never_falls g c = c.in-Ok-open.ensures.source.never_falls
+
+-- ---- after each line
+
+pub returns-in-Err-clause-safe : goal.returns-in-Err-clause-safe
+returns-in-Err-clause-safe g c = c.sharing_laws.ensures.safe_input (g.S.Source.left c.args.source.now)
+
+pub returns-in-Err-clause-lawful : goal.returns-in-Err-clause-lawful
+returns-in-Err-clause-lawful g c = c.sharing_laws.ensures.lawful_input (g.S.Source.left c.args.source.now)
+
+pub returns-in-Err-open-clause-safe : goal.returns-in-Err-open-clause-safe
+returns-in-Err-open-clause-safe g c = c.sharing_laws.ensures.safe_input (g.S.Source.left c.args.source.now)
+
+pub returns-in-Err-open-clause-lawful : goal.returns-in-Err-open-clause-lawful
+returns-in-Err-open-clause-lawful g c = c.sharing_laws.ensures.lawful_input (g.S.Source.left c.args.source.now)
+
+pub returns-in-Err-new-clause-safe : goal.returns-in-Err-new-clause-safe
+returns-in-Err-new-clause-safe g c = c.sharing_laws.ensures.safe_input (g.S.Source.left c.args.source.now)
+
+pub returns-in-Err-new-clause-lawful : goal.returns-in-Err-new-clause-lawful
+returns-in-Err-new-clause-lawful g c = c.sharing_laws.ensures.lawful_input (g.S.Source.left c.args.source.now)
+
+pub returns-in-Err-open-2-clause-safe : goal.returns-in-Err-open-2-clause-safe
+returns-in-Err-open-2-clause-safe g c = c.sharing_laws.ensures.safe_input (g.S.Source.left c.args.source.now)
+
+pub returns-in-Err-open-2-clause-lawful : goal.returns-in-Err-open-2-clause-lawful
+returns-in-Err-open-2-clause-lawful g c = c.sharing_laws.ensures.lawful_input (g.S.Source.left c.args.source.now)
+
+pub returns-clause-safe : goal.returns-clause-safe
+returns-clause-safe g c = c.sharing_laws.ensures.safe_input (g.S.Source.left c.args.source.now)
+
+pub returns-clause-lawful : goal.returns-clause-lawful
+returns-clause-lawful g c = c.sharing_laws.ensures.lawful_input (g.S.Source.left c.args.source.now)
