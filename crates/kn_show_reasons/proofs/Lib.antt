@@ -8,3 +8,5 @@ pub mod Told
 pub mod Ruled
 pub mod Reading
 pub mod Holding
+pub mod Runs
+pub mod Zeros

@@ -5,3 +5,4 @@ pub mod State
 pub mod Reading
 pub mod Holding
 pub mod Adding
+pub mod Runs
