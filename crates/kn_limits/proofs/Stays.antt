@@ -1,5 +1,5 @@
 -- Who runs at a pod goes on to run, where no row ends it.
-use Rattle.std.proofs.Common.{◌≡◌, ◌≤◌, ◌+◌, ℕ, Bool, true, false, not, cond, List, [], ◌∷◌, ◌++◌, filter, length, length-append, refl, ap, ◌∙◌, sym, subst, append_assoc, arith, ◌||◌, ◌&&◌}
+use Rattle.std.proofs.Common.{◌≡◌, ◌≤◌, ℕ, Bool, true, false, not, cond, List, [], ◌∷◌, ◌++◌, filter, length, length-append, refl, ap, ◌∙◌, sym, subst, append_assoc, arith, ◌||◌, ◌&&◌, nat_lt}
 use Rattle.std.specs.Prelude.{Option, ◌==◌, ⊤}
 use Rattle.std.proofs.lemmas.Bool.{eqb-true}
 use Rattle.std.proofs.lemmas.List.{append-nil}
@@ -11,10 +11,11 @@ use Rattle.kn_event.specs.declared.entry.Row.TheVariants as row
 use Rattle.kn_event.specs.declared.event.Act.{Act}
 use Rattle.kn_event.specs.declared.event.Act.TheVariants as act
 use Rattle.kn_event.specs.declared.event.Event.{Event}
+use Rattle.kn_event.specs.declared.event.Stand.TheVariants as stand
 use Rattle.kn_event.specs.declared.revision.Spec.{Spec}
 use Rattle.kn_event.specs.Lists.{contains}
 use Rattle.kn_trace.specs.Rows.{assigned_by, brought_to, ended_by, run_by, taken_by}
-use Rattle.kn_trace.specs.Trace.{Trace, assigned, each_row, ended, entry, has_begun, has_not_begun, has_run, is_running, running_at, waiting}
+use Rattle.kn_trace.specs.Trace.{Trace, arrivals, assigned, each_row, ended, entry, has_begun, has_not_begun, has_run, is_running, running_at, stand_of, waiting}
 use Rattle.kn_trace.specs.Events.{before_settling, react}
 use Rattle.kn_trace.specs.Settling.{settling}
 use Rattle.kn_record.specs.Facts.{Facts}
@@ -142,10 +143,21 @@ module _ (facts : Facts) where
   stay_row a (row.LostRequest q) r by other lost = lost by.0 by.1
   stay_row a _ r by other lost = tt
 
+  -- who runs at a pod stands so
+  stands : (s : Spec) (c : Trace) (p r : ℕ) → IsMade s c → contains r (each_row (brought_to p) c) ≡ true → is_running c r ≡ true → stand_of c r ≡ stand.Running p
+  unfolding stand_of has_begun
+  stands s c p r made there runs =
+      let numbered = (facts.proper.made_kept s c made).requests in
+      let (begun, on) = facts.members.running_parts c r runs in
+      let taken = facts.members.begun_taken c r numbered begun in
+      let come = facts.members.taken_comes c r numbered taken in
+      let low : nat_lt r (arrivals c) ≡ true = grind (arith, come) in
+      rw (low, facts.members.is_live c r taken on, begun, facts.members.pod_is c p r numbered there) refl
+
   -- an event that loses no pod and finishes nobody who runs at a pod leaves no less run there
   pub stay : PartFacts → (s : Spec) (c : Trace) (e : Event) (p : ℕ) → IsMade s c → ((q : ℕ) → e.act ≡ act.Lost q → ⊥)
-      → ((r : ℕ) (ok : Bool) → e.act ≡ act.Finish r ok → contains r (running_at c p) ≡ false) → length (running_at c p) ≤ length (running_at (c ++ react s c e) p)
-  unfolding running_at react
+      → ((r : ℕ) (ok : Bool) → e.act ≡ act.Finish r ok → stand_of c r ≡ stand.Running p → ⊥) → length (running_at c p) ≤ length (running_at (c ++ react s c e) p)
+  unfolding react
   stay parts s c e p made lost apart =
       let first = before_settling s c e in
       let d = c ++ first in
@@ -156,4 +168,4 @@ module _ (facts : Facts) where
       no_less_run c (first ++ settling s e.time d) p (λ r there runs.
       none_ends s c (first ++ settling s e.time d) r runs all
       (each_of (IsStay r) [] (first ++ settling s e.time d) (λ before x rest is. stay_row e.act x.row r (parts.rows.are_by_act s c e before x rest is)
-      (λ ok at. absurd (false-true (sym (apart r ok at) ∙ facts.lists.in_filter (is_running c) r (each_row (brought_to p) c) there runs))) lost)))
+      (λ ok at. apart r ok at (stands s c p r made there runs)) lost)))

@@ -2,14 +2,15 @@
 //! by its clauses what is proved of the definitions.
 #![tactic(auto)]
 
-ghost use Rattle.std.specs.Prelude.{◌≡◌, ◌≤◌, ◌++◌, ℕ, Bool, [], length, max, true, false};
+ghost use Rattle.std.specs.Prelude.{◌≡◌, ◌≤◌, ◌++◌, ℕ, Bool, [], length, max, true};
 ghost use Rattle.kn_event.specs.declared.event.Act.TheVariants as act;
 ghost use Rattle.kn_event.specs.declared.event.Event.{Event};
+ghost use Rattle.kn_event.specs.declared.event.Stand.TheVariants as stand;
 ghost use Rattle.kn_event.specs.declared.revision.Kind.TheVariants as kind;
 ghost use Rattle.kn_event.specs.declared.revision.Spec.{Spec};
 ghost use Rattle.kn_event.specs.Lists.{contains};
 ghost use Rattle.kn_trace.specs.Events.{react};
-ghost use Rattle.kn_trace.specs.Trace.{Trace, draining, limit_of, live_pods, running_at};
+ghost use Rattle.kn_trace.specs.Trace.{Trace, draining, limit_of, live_pods, running_at, stand_of};
 ghost use Rattle.kn_record.specs.Made.{IsMade};
 ghost use Rattle.kn_limits.specs.Limits.{StaysPods};
 
@@ -19,8 +20,8 @@ use kn_record::facts::fact_laws;
 
 /// Of any trace that events made, over one event more: at a pod with a limit after it no more run than before, or than the
 /// limit; and on a fixed revision no event changes a limit but that of a pod whose limit it sets, and none but the loss of a
-/// pod changes which pods live, where none drains. An event that loses no pod and finishes nobody who runs at a pod leaves no less
-/// run there.
+/// pod changes which pods live, where none drains. An event that loses no pod and finishes nobody who runs at a pod leaves
+/// no less run there.
 pub fn limit_laws()
     ensures runs { (s : Spec) (c : Trace) (e : Event) (p : ℕ) → IsMade s c → 1 ≤ limit_of (c ++ react s c e) p
         → length (running_at (c ++ react s c e) p) ≤ max (length (running_at c p)) (limit_of (c ++ react s c e) p) }
@@ -31,7 +32,7 @@ pub fn limit_laws()
     ensures pods { (s : Spec) (c : Trace) (e : Event) (pods : ℕ) → s.kind ≡ kind.Fixed pods → ((p : ℕ) → e.act ≡ act.Lost p → ⊥)
         → draining c ≡ [] → StaysPods c (c ++ react s c e) }
     ensures stay { (s : Spec) (c : Trace) (e : Event) (p : ℕ) → IsMade s c → ((q : ℕ) → e.act ≡ act.Lost q → ⊥)
-        → ((r : ℕ) (ok : Bool) → e.act ≡ act.Finish r ok → contains r (running_at c p) ≡ false)
+        → ((r : ℕ) (ok : Bool) → e.act ≡ act.Finish r ok → stand_of c r ≡ stand.Running p → ⊥)
         → length (running_at c p) ≤ length (running_at (c ++ react s c e) p) }
 {
     fact_laws();

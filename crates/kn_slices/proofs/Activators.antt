@@ -10,6 +10,7 @@ use denote.Struct.Props.{props}
 use Rattle.kn_event.specs.declared.event.Act.{Act}
 use Rattle.kn_event.specs.declared.event.Act.TheVariants as act
 use Rattle.kn_event.specs.declared.event.Event.{Event}
+use Rattle.kn_event.specs.declared.event.Stand.TheVariants as stand
 use Rattle.kn_event.specs.declared.revision.Kind.TheVariants as kind
 use Rattle.kn_event.specs.declared.revision.Spec.{Spec}
 use Rattle.kn_event.specs.Lists.{contains}
@@ -33,7 +34,8 @@ pub record Laws : Type 0 where
   pub views : (s : Spec) (a : Admission) (c : Trace) → made.IsRecordOf a c → AreViews s a c
   pub runs : (s : Spec) (c : Trace) (e : Event) (p : ℕ) → IsMade s c → 1 ≤ limit_of (c ++ react s c e) p
       → length (trace.running_at (c ++ react s c e) p) ≤ max (length (trace.running_at c p)) (limit_of (c ++ react s c e) p)
-  pub stay : (s : Spec) (c : Trace) (e : Event) (p : ℕ) → IsMade s c → ((q : ℕ) → e.act ≡ act.Lost q → ⊥) → ((r : ℕ) (ok : Bool) → e.act ≡ act.Finish r ok → contains r (trace.running_at c p) ≡ false)
+  pub stay : (s : Spec) (c : Trace) (e : Event) (p : ℕ) → IsMade s c → ((q : ℕ) → e.act ≡ act.Lost q → ⊥)
+      → ((r : ℕ) (ok : Bool) → e.act ≡ act.Finish r ok → trace.stand_of c r ≡ stand.Running p → ⊥)
       → length (trace.running_at c p) ≤ length (trace.running_at (c ++ react s c e) p)
   pub limits : (s : Spec) (c : Trace) (e : Event) (q pods : ℕ) → s.kind ≡ kind.Fixed pods → ((n : ℕ) → e.act ≡ act.Limit q n → ⊥) → limit_of (c ++ react s c e) q ≡ limit_of c q
   pub set : (s : Spec) (c : Trace) (e : Event) (q n pods : ℕ) → s.kind ≡ kind.Fixed pods → e.act ≡ act.Limit q n → contains q (live_pods c) ≡ true → limit_of (c ++ react s c e) q ≡ n
@@ -82,8 +84,8 @@ goes_at laws pods e x y c by old =
           let b : running_at q x ≡ length (trace.running_at c q) = sym (vx.count_running_at q) in
           let l = ly q low in
           omega (arith, r, a, b, l);
-      stays = λ none q low.
-          let r = laws.stay x.spec c e q old.parts.made by.lost (λ k ok is. absurd (none k ok is)) in
+      stays = λ q low spares.
+          let r = laws.stay x.spec c e q old.parts.made by.lost (λ k ok is at. spares.finish c k ok old is at) in
           let a : running_at q y ≡ length (trace.running_at d q) = sym (vy.count_running_at q) in
           let b : running_at q x ≡ length (trace.running_at c q) = sym (vx.count_running_at q) in
           omega (arith, r, a, b);

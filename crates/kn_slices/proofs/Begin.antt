@@ -12,7 +12,7 @@ use Rattle.kn_event.specs.declared.revision.Slots.{Slots}
 use Rattle.kn_event.specs.declared.revision.Spec.{Spec}
 use Rattle.kn_trace.specs.Events.{opening}
 use Rattle.kn_core.specs.State.{RevisionState, StandsFor}
-use Rattle.kn_slices.specs.Activators.{AreFresh, IsActivator, IsFresh, IsKept, limit_at, openings_of, running_at, slices_of}
+use Rattle.kn_slices.specs.Activators.{AreFresh, AreListed, IsActivator, IsFresh, IsKept, limit_at, openings_of, running_at, slices_of}
 use Rattle.kn_slices.specs.Slices.{count_from, hold, slice_of, unset}
 use Rattle.kn_slices.specs.Traces.{AreTraces, clocks_of, specs_of}
 use Rattle.kn_slices.proofs.Alike.{sums_alike}
@@ -97,10 +97,11 @@ module _ (n limit pods timeout_s : ℕ) (slots : Slots) (start : ℕ) (parts : L
   equal_slice : (p k : ℕ) (a : RevisionState) (w m : ℕ) → p < pods → k < length parts → w ≡ limit → m ≡ n → differs (limit_at p (get_or parts k a)) w k m ≡ false
   equal_slice p k a w m there low e f = ap not (eq-eqb (limit_at p (get_or parts k a)) (slice_of w k m) (fresh_limit p k a there low ∙ (ap (λ w. slice_of w k n) (sym e) ∙ ap (slice_of w k) (sym f))))
 
-  pub kept : (room : ℕ) → 1 ≤ n → n ≤ 16 → n ≤ limit → limit ≤ 1000 → pods ≤ 500 → pods ≤ room
-      → IsKept limit start parts (replicate pods limit) (replicate pods limit) (replicate pods 0) [] room
-  kept room some few least most many roomy =
+  pub kept : (room more : ℕ) → 1 ≤ n → n ≤ 16 → n ≤ limit → limit ≤ 1000 → pods ≤ 500 → pods ≤ room → pods ≤ more
+      → IsKept limit start parts (replicate pods limit) (replicate pods limit) (replicate pods 0) [] [] room more
+  kept room more some few least most many roomy more_roomy =
       let len = length-replicate pods limit in
+      let nothing : AreListed (length (replicate pods limit)) [] = record { inside = λ k low. absurd (omega (arith, low)); order = λ i j less low. absurd (omega (arith, low)) } in
       record {
         group = record {
           group = record {
@@ -129,11 +130,9 @@ module _ (n limit pods timeout_s : ℕ) (slots : Slots) (start : ℕ) (parts : L
           slices = λ k d low. let x = fresh.each k d (inside k low) in ap (λ (s : Spec). s.cc) x.spec ∙ (fixed_cc (slice_of limit k n) pods timeout_s slots ∙ ap (slice_of limit k) (sym fresh.count));
           starts = λ k d low. let x = fresh.each k d (inside k low) in x.start;
         };
-        kept = record {
-          listed = record { inside = λ k low. absurd (omega (arith, low)); order = λ i j less low. absurd (omega (arith, low)) };
-          others = λ p low off. (get_or-replicate pods p 0 0 (omega (arith, low, len)), refl);
-        };
+        kept = record { listed = nothing; others = λ p low off. (get_or-replicate pods p 0 0 (omega (arith, low, len)), refl) };
         roomy = omega (arith, len, roomy);
+        holds = record { listed = nothing; others = λ p low off. get_or-replicate pods p 0 0 (omega (arith, low, len)); roomy = omega (arith, len, more_roomy) };
       }
 
   pub fresh_unset : (j : ℕ) (d : RevisionState) → j < n → unset limit_at (length parts) j (replicate pods limit) (get_or parts j d) ≡ 0

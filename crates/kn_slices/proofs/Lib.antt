@@ -1,5 +1,5 @@
 mod Sums
-mod Quiet
+mod Spares
 mod Due
 mod Activators
 mod Calls

@@ -5,12 +5,13 @@ use Rattle.kn_event.specs.FixedSpec.{fixed_spec}
 use Rattle.kn_event.specs.declared.event.Act.{Act}
 use Rattle.kn_event.specs.declared.event.Act.TheVariants as act
 use Rattle.kn_event.specs.declared.event.Event.{Event}
+use Rattle.kn_event.specs.declared.event.Stand.TheVariants as stand
 use Rattle.kn_event.specs.declared.revision.Kind.TheVariants as kind
 use Rattle.kn_event.specs.declared.revision.Slots.{Slots}
 use Rattle.kn_event.specs.declared.revision.Spec.{Spec}
 use Rattle.kn_event.specs.Lists.{EachIs, contains}
 use Rattle.kn_trace.specs.Events.{opening}
-use Rattle.kn_trace.specs.Trace.{Trace}
+use Rattle.kn_trace.specs.Trace.{Trace, stand_of}
 use Rattle.kn_record.specs.Admission.{is_draining_now, placed_in, pods_in, runs_at}
 use Rattle.kn_record.specs.Views.{pod_numbers}
 use Rattle.kn_throttle.specs.Gauges.{limit_in}
@@ -33,6 +34,11 @@ pub record HasPods (pods : ℕ) (x : RevisionState) : Type 0 where
   pub numbers : pod_numbers x.parts.throttle.admission.pods ≡ range_with_len 0 pods
   pub none : pods_in is_draining_now x.parts.throttle.admission.pods ≡ []
 
+-- the event neither sets the pod's limit nor finishes a request there
+pub record SparesPod (p : ℕ) (e : Event) (x : RevisionState) : Type 0 where
+  pub limit : (n : ℕ) → e.act ≡ act.Limit p n → ⊥
+  pub finish : (c : Trace) (r : ℕ) (ok : Bool) → StandsFor x c → e.act ≡ act.Finish r ok → stand_of c r ≡ stand.Running p → ⊥
+
 -- what an event that loses no pod does to an activator: the same pods are there, no limit changes but the one that it sets, and
 -- at no pod more run than before, or than its limit
 pub record Goes (pods : ℕ) (e : Event) (x y : RevisionState) : Type 0 where
@@ -40,8 +46,8 @@ pub record Goes (pods : ℕ) (e : Event) (x y : RevisionState) : Type 0 where
   pub others : (q : ℕ) → q < pods → ((n : ℕ) → e.act ≡ act.Limit q n → ⊥) → limit_at q y ≡ limit_at q x
   pub here : (q n : ℕ) → q < pods → e.act ≡ act.Limit q n → limit_at q y ≡ n
   pub runs : (q : ℕ) → q < pods → 1 ≤ limit_at q y → running_at q y ≤ max (running_at q x) (limit_at q y)
-  -- .. nor less, where it finishes nobody
-  pub stays : ((r : ℕ) (ok : Bool) → e.act ≡ act.Finish r ok → ⊥) → (q : ℕ) → q < pods → running_at q x ≤ running_at q y
+  -- .. nor less at one that it spares
+  pub stays : (q : ℕ) → q < pods → SparesPod q e x → running_at q x ≤ running_at q y
 
 -- an activator of a group: a fixed revision with these pods, each with a limit
 pub record IsActivator (pods : ℕ) (x : RevisionState) : Type 0 where
@@ -128,13 +134,20 @@ pub record AreOpen (wanted force marks ps : List ℕ) : Type 0 where
   pub listed : AreListed (length wanted) ps
   pub others : (p : ℕ) → p < length wanted → IsOff p ps → IsClosed wanted force marks p
 
+-- a list of the pods that may have a mark: no other of so many has one, and there is room for all
+pub record HoldMarks (pods : ℕ) (marks ps : List ℕ) (room : ℕ) : Type 0 where
+  pub listed : AreListed pods ps
+  pub others : (p : ℕ) → p < pods → IsOff p ps → slice_index_or marks p 0 ≡ 0
+  pub roomy : pods ≤ room
+
 -- what is kept of a group
-pub record IsKept (limit start : ℕ) (parts : List RevisionState) (wanted force marks ps : List ℕ) (room : ℕ) : Type 0 where
+pub record IsKept (limit start : ℕ) (parts : List RevisionState) (wanted force marks ps ms : List ℕ) (room more : ℕ) : Type 0 where
   pub group : IsGroupOf parts wanted force
   pub marked : AreMarked parts wanted marks
   pub opened : AreOpened limit start parts
   pub kept : AreOpen wanted force marks ps
   pub roomy : length wanted ≤ room
+  pub holds : HoldMarks (length wanted) marks ms more
 
 -- an activator whose pods have this specification's limit, and at which nobody runs
 pub record IsOpen (s : Spec) (pods : ℕ) (x : RevisionState) : Type 0 where

@@ -1,5 +1,5 @@
 -- What the calls of a group need, add and keep.
-use Rattle.std.specs.Prelude.{◌≡◌, ℕ, ◌+◌, ◌<◌, ◌≤◌, ◌^◌, ◌++◌, max, Bool, List, length, replicate, slice_index_or, slice_set, None, Some}
+use Rattle.std.specs.Prelude.{◌≡◌, ℕ, ◌+◌, ◌<◌, ◌≤◌, ◌^◌, ◌++◌, max, List, length, replicate, slice_index_or, slice_set, Option, None, Some}
 use Rattle.kn_event.specs.Ranges.{AreSlots}
 use Rattle.kn_event.specs.declared.entry.Entry.{Entry}
 use Rattle.kn_event.specs.declared.event.Act.{Act}
@@ -83,11 +83,6 @@ pub record AddsToTrace (old new : List RevisionState) (i : ℕ) (e : Event) (row
       → StandsFor (slice_index_or new i d) (c ++ react (slice_index_or old i d).spec c e)
   pub same : length new ≡ length old
 
--- it neither sets a limit nor finishes a request
-pub record IsQuietAct (a : Act) : Type 0 where
-  pub limit : (q n : ℕ) → a ≡ act.Limit q n → ⊥
-  pub finish : (r : ℕ) (ok : Bool) → a ≡ act.Finish r ok → ⊥
-
 -- this is what activator i is told of the event
 abbrev pub IsToldAt : List RevisionState → ℕ → Event → Told → Type 0
 IsToldAt parts i e told =
@@ -98,6 +93,11 @@ pub record AreForcesAfter (parts : List RevisionState) (wanted old new : List �
   pub many : length new ≡ length old
   pub each : (p : ℕ) → p < length wanted
       → slice_index_or new p 0 ≡ force_after (hold (limit_at p) (running_at p) parts) (slice_index_or wanted p 0) (slice_index_or old p 0)
+
+-- of all pods but this one they stay
+abbrev pub AreForcesBut : Option ℕ → List RevisionState → List ℕ → List ℕ → Type 0
+AreForcesBut changed parts wanted force = (p : ℕ) → p < length wanted → (changed ≡ Some p → ⊥)
+    → slice_index_or force p 0 ≡ force_after (hold (limit_at p) (running_at p) parts) (slice_index_or wanted p 0) (slice_index_or force p 0)
 
 -- ---- a group, whichever traces its activators stand for
 

@@ -32,6 +32,8 @@ pub struct Group {
     marks: Vec<u64>,
     // the pods that may be open, in order: of all others each activator's limit is its slice, and the wanted limit is in force
     listed: Vec<u64>,
+    // .. and those that have a mark: of all others each activator's limit is its slice
+    marked: Vec<u64>,
 }
 
 impl Model for Group {
@@ -43,7 +45,8 @@ impl Model for Group {
 
     ghost view = { λ g. record { limit = g.limit; start = g.start; parts = g.parts.items; wanted = g.wanted.items; force = g.force.items } };
 
-    ghost invariant = { λ g. IsKept g.limit g.start g.parts.items g.wanted.items g.force.items g.marks.items g.listed.items (vec_capacity g.listed) };
+    ghost invariant = { λ g. IsKept g.limit g.start g.parts.items g.wanted.items g.force.items g.marks.items g.listed.items
+        g.marked.items (vec_capacity g.listed) (vec_capacity g.marked) };
 }
 
 impl Group {
@@ -88,7 +91,9 @@ impl Group {
     fn look(&mut self)
         ensures { self.new ≡ self.old }
     {
+        // While a pod is listed for its mark, that limit is still to change: no look at the others.
         if !self.listed.is_empty()
+            && self.marked.is_empty()
             && are_settled(&self.wanted, &self.force, &self.marks, &self.listed)
         {
             self.listed.clear();

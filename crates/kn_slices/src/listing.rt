@@ -1,35 +1,26 @@
 //! The pods that may be open, and what is done at those only.
-ghost use Rattle.std.specs.Prelude.{◌≡◌, ◌<◌, ◌≤◌, ℕ, length, slice_index_or, true, vec_capacity};
+ghost use Rattle.std.specs.Prelude.{◌≡◌, ◌<◌, ◌≤◌, ℕ, length, slice_index_or, slice_set, true, vec_capacity};
 ghost use Rattle.kn_event.specs.Lists.{EachIs};
-ghost use Rattle.kn_slices.specs.Activators.{AreClosed, AreListed, AreMarked, AreOpen, HasPod, IsOff, limit_at, running_at};
-ghost use Rattle.kn_slices.specs.Calls.{AreForcesAfter, HasOthersInForce};
+ghost use Rattle.kn_slices.specs.Activators.{AreClosed, AreListed, AreMarked, AreOpen, HasPod, HoldMarks, IsOff, limit_at, running_at};
+ghost use Rattle.kn_slices.specs.Calls.{AreForcesAfter, AreForcesBut};
 ghost use Rattle.kn_slices.specs.Slices.{cut_of, first_from, hold, raise_of};
 
 use crate::change::Change;
 use crate::parts::{cut_of, force_after, raise_of};
 use kn_core::Revision;
 
-/// The limits in force after a call: where it is quiet, those before. Of the pods that aren't listed the wanted ones are, and stay
-/// so.
-pub(crate) fn refresh(
-    parts: &[Revision],
-    wanted: &[u64],
-    force: &mut [u64],
-    listed: &[u64],
-    quiet: bool,
-)
-    requires others { HasOthersInForce wanted.now force.old listed.now }
+/// The limits in force after a call, where those of all pods but this one stay.
+pub(crate) fn refresh(parts: &[Revision], wanted: &[u64], force: &mut [u64], changed: Option<u64>)
+    requires others { AreForcesBut changed parts.now wanted.now force.old }
     requires pods { (p : ℕ) → p < length wanted.now → EachIs (HasPod p) parts.now }
     requires many { length force.old ≡ length wanted.now }
     requires few { (p : ℕ) → p < length wanted.now → hold (limit_at p) (running_at p) parts.now ≤ 1000 }
-    requires quiet { quiet ≡ true → AreForcesAfter parts.now wanted.now force.old force.old }
     ensures { AreForcesAfter parts.now wanted.now force.old force.new }
 {
-    if quiet || listed.is_empty() {
+    let Some(p) = changed else {
         return;
-    }
-    for k in 0..listed.len() {
-        let p = listed[k];
+    };
+    if p < wanted.len() as u64 {
         let at = p as usize;
         force[at] = force_after(parts, p, wanted[at], force[at]);
     }
@@ -104,6 +95,34 @@ pub(crate) fn list_open(wanted: &[u64], force: &[u64], marks: &[u64], listed: &m
         if marks[p] != 0 || force[p] != wanted[p] {
             listed.push_reserved(p as u64);
         }
+    }
+}
+
+/// The list becomes the pods that have a mark, in order.
+fn list_marked(marks: &[u64], marked: &mut Vec<u64>)
+    requires room { length marks.now ≤ vec_capacity marked.old }
+    ensures { HoldMarks (length marks.now) marks.now marked.new.items (vec_capacity marked.new) }
+{
+    marked.clear();
+    for p in 0..marks.len() {
+        if marks[p] != 0 {
+            marked.push_reserved(p as u64);
+        }
+    }
+}
+
+/// A pod's mark becomes this. The list is made anew only where the pod comes into it, or leaves it.
+pub(crate) fn set_mark(marks: &mut [u64], p: u64, mark: u64, marked: &mut Vec<u64>)
+    requires pod { p < length marks.old }
+    requires known { HoldMarks (length marks.old) marks.old marked.old.items (vec_capacity marked.old) }
+    ensures marks { marks.new ≡ slice_set marks.old p mark }
+    ensures known { HoldMarks (length marks.old) marks.new marked.new.items (vec_capacity marked.new) }
+{
+    let at = p as usize;
+    let had = marks[at] != 0;
+    marks[at] = mark;
+    if had != (mark != 0) {
+        list_marked(marks, marked);
     }
 }
 

@@ -1,6 +1,6 @@
 //! How a group comes to another limit.
-ghost use Rattle.std.specs.Prelude.{◌≡◌, ◌<◌, ◌≤◌, ◌-◌, [], length, slice_index_or, slice_set};
-ghost use Rattle.kn_slices.specs.Activators.{limit_at, running_at};
+ghost use Rattle.std.specs.Prelude.{◌≡◌, ◌<◌, ◌≤◌, ◌-◌, [], length, slice_index_or, slice_set, vec_capacity};
+ghost use Rattle.kn_slices.specs.Activators.{HoldMarks, limit_at, running_at};
 ghost use Rattle.kn_slices.specs.Calls.{CanMakeDue, ForceAsked, HoldsRules, KeepsLoad, KeepsWanted, MakesDue, MayUnset};
 ghost use Rattle.kn_slices.specs.Slices.{cut_of, first_from, raise_of};
 ghost use Rattle.kn_slices.specs.Traces.{IsSameGroup};
@@ -8,19 +8,22 @@ ghost use Rattle.kn_slices.specs.Traces.{IsSameGroup};
 use super::Group;
 use super::taking::take;
 use crate::change::Change;
-use crate::listing::{first_cut, first_raise, list_open};
+use crate::listing::{first_cut, first_raise, list_open, set_mark};
 use crate::parts::{force_after, unset_at};
 use kn_event::{Act, EntryLog, Event};
 use kn_laws::laws::history_laws;
 use kn_record::append::append_laws;
 
 /// For one activator less a pod's limit isn't its slice.
-fn unmark(marks: &mut [u64], p: u64)
+fn unmark(marks: &mut [u64], p: u64, marked: &mut Vec<u64>)
     requires pod { p < length marks.old }
     requires some { 1 ≤ slice_index_or marks.old p 0 }
-    ensures { marks.new ≡ slice_set marks.old p (slice_index_or marks.old p 0 - 1) }
+    requires known { HoldMarks (length marks.old) marks.old marked.old.items (vec_capacity marked.old) }
+    ensures marks { marks.new ≡ slice_set marks.old p (slice_index_or marks.old p 0 - 1) }
+    ensures known { HoldMarks (length marks.old) marks.new marked.new.items (vec_capacity marked.new) }
 {
-    marks[p as usize] -= 1;
+    let left = marks[p as usize] - 1;
+    set_mark(marks, p, left, marked);
 }
 
 impl Group {
@@ -30,7 +33,7 @@ impl Group {
     {
         // Any part that is read brings what is kept of all.
         let _pods = self.wanted.len();
-        first_cut(&self.parts, &self.wanted, &self.marks, &self.listed)
+        first_cut(&self.parts, &self.wanted, &self.marks, &self.marked)
     }
 
     /// The first possible raise.
@@ -39,7 +42,7 @@ impl Group {
     {
         // Any part that is read brings what is kept of all.
         let _pods = self.wanted.len();
-        first_raise(&self.parts, &self.wanted, &self.marks, &self.listed)
+        first_raise(&self.parts, &self.wanted, &self.marks, &self.marked)
     }
 
     /// A new limit of a pod is wanted, at least one for each activator and at most 1,000. No activator's limit changes by it.
@@ -59,7 +62,8 @@ impl Group {
         let at = p as usize;
         let most = self.force[at].max(limit);
         self.force[at] = force_after(&self.parts, p, limit, most);
-        self.marks[at] = unset_at(&self.parts, p, limit);
+        let unset = unset_at(&self.parts, p, limit);
+        set_mark(&mut self.marks, p, unset, &mut self.marked);
         self.wanted[at] = limit;
         list_open(&self.wanted, &self.force, &self.marks, &mut self.listed);
     }
@@ -91,7 +95,7 @@ impl Group {
                     log,
                     &self.listed,
                 );
-                unmark(&mut self.marks, change.pod);
+                unmark(&mut self.marks, change.pod, &mut self.marked);
             }
         }
     }

@@ -112,6 +112,9 @@ impl Group {
         let Ok(listed) = Vec::with_capacity(alloc, pods as usize) else {
             return Err(Memory);
         };
+        let Ok(marked) = Vec::with_capacity(alloc, pods as usize) else {
+            return Err(Memory);
+        };
         Ok(Group {
             limit,
             start,
@@ -120,6 +123,7 @@ impl Group {
             force,
             marks,
             listed,
+            marked,
         })
     }
 

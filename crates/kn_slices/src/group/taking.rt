@@ -1,26 +1,37 @@
 //! What a group makes of one activator's event.
-ghost use Rattle.std.specs.Prelude.{◌≡◌, [], length, true};
+ghost use Rattle.std.specs.Prelude.{◌≡◌, ◌⊎◌, ℕ, [], length, Some};
 ghost use Rattle.kn_trace.specs.Events.{told_of};
 ghost use Rattle.kn_trace.specs.Trace.{Trace};
 ghost use Rattle.kn_core.specs.State.{StandsFor};
-ghost use Rattle.kn_slices.specs.Activators.{IsGroupOf, IsPlain, StaysLow, Takes};
-ghost use Rattle.kn_slices.specs.Calls.{AddsToTrace, AreForcesAfter, CanCome, CanStep, HasOthersInForce, HoldsRules, IsGroupAct, IsQuietAct, IsToldAt, IsToldBy, KeepsUnset, KeepsWanted, StepsGroup, StepsPart};
+ghost use Rattle.kn_slices.specs.Activators.{IsGroupOf, IsOff, IsPlain, SparesPod, StaysLow, Takes};
+ghost use Rattle.kn_slices.specs.Calls.{AddsToTrace, AreForcesAfter, CanCome, CanStep, HasOthersInForce, HoldsRules, IsGroupAct, IsToldAt, IsToldBy, KeepsUnset, KeepsWanted, StepsGroup, StepsPart};
 ghost use Rattle.kn_slices.specs.Traces.{IsCalm};
 
 use super::Group;
 use crate::laws::activator_laws;
 use crate::listing::refresh;
 use kn_core::Revision;
-use kn_event::{Act, EntryLog, Event, Told};
+use kn_event::{Act, EntryLog, Event, Stand, Told};
 use kn_laws::laws::history_laws;
 use kn_record::append::append_laws;
 
-/// Whether the act leaves no less held of any pod.
+/// The pod of which less may be held after an event, where any is listed: that whose limit it sets, or at which it
+/// finishes a request.
 #[inline(always)]
-fn is_quiet(act: &Act) -> bool
-    ensures { result ≡ true → IsQuietAct act.now }
+fn changed_pod(part: &Revision, e: &Event, listed: &[u64]) -> Option<u64>
+    ensures { (q : ℕ) → (result ≡ Some q → ⊥) → IsOff q listed.now ⊎ SparesPod q e.now part.now }
 {
-    !matches!(*act, Act::Finish(_, _) | Act::Limit(_, _))
+    if listed.is_empty() {
+        return None;
+    }
+    match e.act {
+        Act::Limit(p, _) => Some(p),
+        Act::Finish(r, _) => match part.stand(r) {
+            Stand::Running(p) => Some(p),
+            _ => None,
+        },
+        _ => None,
+    }
 }
 
 /// An event of one activator, and what a group sees of it.
@@ -71,8 +82,9 @@ fn step_in(
     ensures told { IsToldAt parts.old i e.now result }
 {
     let at = i as usize;
+    let changed = changed_pod(&parts[at], e, listed);
     let told = step_part(&mut parts[at], e, log);
-    refresh(parts, wanted, force, listed, is_quiet(&e.act));
+    refresh(parts, wanted, force, changed);
     told
 }
 
@@ -99,8 +111,9 @@ pub(super) fn take(
     ensures force { AreForcesAfter parts.new wanted.now force.old force.new }
 {
     let at = i as usize;
+    let changed = changed_pod(&parts[at], e, listed);
     take_part(&mut parts[at], e, log);
-    refresh(parts, wanted, force, listed, is_quiet(&e.act));
+    refresh(parts, wanted, force, changed);
 }
 
 impl Group {

@@ -1,11 +1,12 @@
-use Rattle.std.proofs.Common.{◌≡◌, ◌<◌, ◌∙◌, refl, ap, arith, List, length, max, get_or}
-use Rattle.std.specs.Prelude.{slice_set}
-use Rattle.std.proofs.lemmas.List.{get_or_default}
+use Rattle.std.proofs.Common.{◌≡◌, ◌<◌, ◌∙◌, ◌++◌, refl, ap, arith, sym, subst, List, length, max, get_or, take, drop}
+use Rattle.std.specs.Prelude.{slice_set, vec_capacity}
+use Rattle.std.proofs.lemmas.List.{get_or_default, length-set}
 use Rattle.kn_core.specs.State.{RevisionState}
-use Rattle.kn_slices.specs.Activators.{limit_at, running_at}
+use Rattle.kn_slices.specs.Activators.{HoldMarks, limit_at, running_at}
 use Rattle.kn_slices.specs.Slices.{force_after, hold}
 use Rattle.kn_slices.proofs.Alike.{hold_traces}
 use Rattle.kn_slices.proofs.Calls.{each_has}
+use Rattle.kn_slices.proofs.Due.{lent}
 use Rattle.kn_slices.proofs.Steps.{group_asked, marks_asked, one_more}
 use Rattle.kn_slices.proofs.Taken.{holds_rules}
 use Rattle.kn_slices.proofs.group.Group.ask.Goals as goal
@@ -16,10 +17,26 @@ force_after-requires-clause-pod c =
     let low = rw (← c.self.view_is) at c.requires.pod in
     rw c.deref.ensures.value (each_has (length c.self.inside.wanted.items) c.self.inside.parts.items c.args.p c.self.invariant.group.activators low)
 
-pub unset_at-requires-clause-pod : goal.unset_at-requires-clause-pod
-unset_at-requires-clause-pod c =
+pub unset_at-unset-requires-clause-pod : goal.unset_at-unset-requires-clause-pod
+unset_at-unset-requires-clause-pod c =
     let low = rw (← c.self.view_is) at c.requires.pod in
     rw c.deref-2.ensures.value (each_has (length c.self.inside.wanted.items) c.self.inside.parts.items c.args.p c.self.invariant.group.activators low)
+
+pub set_mark-requires-clause-pod : goal.set_mark-requires-clause-pod
+set_mark-requires-clause-pod c =
+    let low = rw (← c.self.view_is) at c.requires.pod in
+    rw c.deref_mut.ensures.value (omega (arith, low, c.self.invariant.marked.many))
+
+pub set_mark-requires-clause-known : goal.set_mark-requires-clause-known
+set_mark-requires-clause-known c =
+    let marked = c.self.inside.marked in
+    rw c.deref_mut.ensures.value (subst (λ n. HoldMarks n c.self.inside.marks.items marked.items (vec_capacity marked)) (sym c.self.invariant.marked.many) c.self.invariant.holds)
+
+-- the marks, of what is kept
+whole : (c : After-list_open) → take c.self.inside.marks.len (c.set_mark.new.marks ++ drop (length c.set_mark.new.marks) c.self.inside.marks.items) ≡ slice_set c.self.inside.marks.items c.args.p c.unset_at-unset.result
+whole c =
+    let less = c.set_mark.ensures.marks ∙ rw c.deref_mut.ensures.value refl in
+    lent c.self.inside.marks.len c.set_mark.new.marks c.self.inside.marks.items (ap length c.set_mark.ensures.marks ∙ (length-set c.deref_mut.result.now c.args.p _ ∙ c.deref_mut.ensures.len)) ∙ less
 
 -- the limit in force, of what is kept
 next : (c : After-list_open) → c.force_after.result
@@ -40,14 +57,17 @@ invariant_of-self c =
     let wanted = c.self.inside.wanted.items in
     let low = rw (← c.self.view_is) at c.requires.pod in
     let least = rw (← c.self.view_is) at c.requires.least in
-    let count = c.unset_at.ensures ∙ rw c.deref-2.ensures.value refl in
-    record {
+    let count = c.unset_at-unset.ensures ∙ rw c.deref-2.ensures.value refl in
+    let less = c.set_mark.ensures.marks ∙ rw c.deref_mut.ensures.value refl in
+    rw (whole c) (record {
       group = group_asked parts wanted c.self.inside.force.items p c.args.limit c.force_after.result low least c.requires.most (next c) c.self.invariant.group;
-      marked = marks_asked parts wanted c.self.inside.marks.items p c.args.limit c.unset_at.result low count c.self.invariant.marked;
+      marked = marks_asked parts wanted c.self.inside.marks.items p c.args.limit c.unset_at-unset.result low count c.self.invariant.marked;
       opened = c.self.invariant.opened;
-      kept = rw (c.deref-3.ensures.value, c.deref-4.ensures.value, c.deref-5.ensures.value) at c.list_open.ensures.known;
+      kept = rw (c.deref-3.ensures.value, c.deref-4.ensures.value, c.deref-5.ensures.value, whole c) at c.list_open.ensures.known;
       roomy = rw c.deref-3.ensures.value at c.list_open.ensures.room;
-    }
+      holds = subst (λ n. HoldMarks n (slice_set c.self.inside.marks.items p c.unset_at-unset.result) c.set_mark.new.marked.items (vec_capacity c.set_mark.new.marked)) (c.self.invariant.marked.many ∙ sym (length-set wanted p c.args.limit))
+          (rw (c.deref_mut.ensures.value, less) at c.set_mark.ensures.known);
+    })
 
 pub returns-clause-force : goal.returns-clause-force
 returns-clause-force c = rw (← c.self.view_is) (λ cs traces.

@@ -1,8 +1,9 @@
-use Rattle.std.proofs.Common.{◌∙◌, arith, ap, sym, refl, length}
+use Rattle.std.proofs.Common.{◌∙◌, ◌-◌, arith, ap, sym, subst, refl, length, get_or}
+use Rattle.std.specs.Prelude.{slice_set, vec_capacity}
 use Rattle.std.proofs.lemmas.List.{length-set}
 use Rattle.kn_slices.specs.Group.{IsDue}
 use Rattle.kn_core.specs.State.{RevisionState}
-use Rattle.kn_slices.specs.Activators.{limit_at, running_at}
+use Rattle.kn_slices.specs.Activators.{HoldMarks, limit_at, running_at}
 use Rattle.kn_slices.specs.Slices.{hold}
 use Rattle.kn_slices.specs.Traces.{made_at}
 use Rattle.kn_slices.proofs.Calls.{due_range_of, limit_act, low_change}
@@ -50,6 +51,11 @@ unmark-requires-clause-some c =
     let is_due : (d : RevisionState) → IsDue limit_at running_at parts wanted x d = λ d. due_is limit_at running_at parts wanted x d due in
     rw c.deref_mut-in-Some-2.ensures.value (due_marked parts c.take.new.parts wanted x c.args.time is_due low (is_due takes.part).pod takes takes.part c.self.inside.marks.items c.self.invariant.marked)
 
+pub unmark-requires-clause-known : goal.unmark-requires-clause-known
+unmark-requires-clause-known c =
+    let marked = c.self.inside.marked in
+    rw c.deref_mut-in-Some-2.ensures.value (subst (λ n. HoldMarks n c.self.inside.marks.items marked.items (vec_capacity marked)) (sym c.self.invariant.marked.many) c.self.invariant.holds)
+
 pub invariant_of-self : goal.invariant_of-self
 invariant_of-self c =
     let x = c.in-Some.change in
@@ -61,8 +67,8 @@ invariant_of-self c =
     let takes = rw (c.deref_mut.ensures.value, c.deref.ensures.value) at c.take.ensures.takes in
     let d = takes.part in
     let marks = c.self.inside.marks.items in
-    let less = c.unmark.ensures ∙ rw c.deref_mut-in-Some-2.ensures.value refl in
-    let whole-marks = lent c.self.inside.marks.len c.unmark.new.marks marks (ap length c.unmark.ensures ∙ (length-set c.deref_mut-in-Some-2.result.now x.pod _ ∙ c.deref_mut-in-Some-2.ensures.len)) in
+    let less = c.unmark.ensures.marks ∙ rw c.deref_mut-in-Some-2.ensures.value refl in
+    let whole-marks = lent c.self.inside.marks.len c.unmark.new.marks marks (ap length c.unmark.ensures.marks ∙ (length-set c.deref_mut-in-Some-2.result.now x.pod _ ∙ c.deref_mut-in-Some-2.ensures.len)) in
     let is_due : (d : RevisionState) → IsDue limit_at running_at parts wanted x d = λ d. due_is limit_at running_at parts wanted x d due in
     let whole' = lent c.self.inside.force.len c.take.new.force c.self.inside.force.items (c.take.ensures.force.many ∙ c.deref_mut-in-Some.ensures.len) in
     let some = due_marked parts c.take.new.parts wanted x c.args.time is_due low (is_due d).pod takes d marks c.self.invariant.marked in
@@ -75,6 +81,8 @@ invariant_of-self c =
           (unmarked wanted c.self.inside.force.items marks c.self.inside.listed.items x.pod _ c.self.invariant.kept some)
           (λ p inside. (hold (limit_at p) (running_at p) c.take.new.parts, force.each p inside));
       roomy = c.self.invariant.roomy;
+      holds = subst (λ n. HoldMarks n (slice_set marks x.pod (get_or marks x.pod 0 - 1)) c.unmark.new.marked.items (vec_capacity c.unmark.new.marked)) c.self.invariant.marked.many
+          (rw (c.deref_mut-in-Some-2.ensures.value, less) at c.unmark.ensures.known);
     })
 
 pub returns-clause-makes : goal.returns-clause-makes

@@ -7,8 +7,9 @@ use Rattle.kn_slices.proofs.group.Group.new.Goals as goal
 pub invariant_of-result : goal.invariant_of-result
 invariant_of-result c =
     let opens = c.requires.opens in
-    rw (c.in_ok-wanted.ensures, c.in_ok-force.ensures, c.in_ok-marks.ensures, c.in-Ok.ensures.items)
-    (kept c.args.n c.args.limit c.args.pods c.args.timeout_s c.args.slots c.args.start _ c.in_ok-parts.ensures (vec_capacity c.in-Ok.listed) c.requires.some opens.few opens.least opens.most opens.pods c.in-Ok.ensures.capacity)
+    rw (c.in_ok-wanted.ensures, c.in_ok-force.ensures, c.in_ok-marks.ensures, c.in-Ok.ensures.items, c.in-Ok-with_capacity.ensures.items)
+    (kept c.args.n c.args.limit c.args.pods c.args.timeout_s c.args.slots c.args.start _ c.in_ok-parts.ensures (vec_capacity c.in-Ok.listed) (vec_capacity c.in-Ok-with_capacity.marked) c.requires.some opens.few opens.least opens.most opens.pods
+    c.in-Ok.ensures.capacity c.in-Ok-with_capacity.ensures.capacity)
 
 pub returns-clause-opening : goal.returns-clause-opening
 returns-clause-opening c = record {

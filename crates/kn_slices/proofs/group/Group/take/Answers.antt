@@ -37,6 +37,7 @@ invariant_of-self c =
       kept = still_open wanted c.self.inside.force.items c.self.inside.marks.items c.take.new.force c.self.inside.marks.items c.self.inside.listed.items c.self.invariant.kept (λ p inside off. refl)
           (λ p inside. (hold (limit_at p) (running_at p) c.take.new.parts, force.each p inside));
       roomy = c.self.invariant.roomy;
+      holds = c.self.invariant.holds;
     })
 
 pub returns-clause-steps : goal.returns-clause-steps

@@ -5,13 +5,13 @@ use Rattle.kn_core.specs.State.{RevisionState}
 use Rattle.kn_slices.specs.Activators.{Goes, IsActivator}
 use Rattle.kn_slices.proofs.Activators.{still_activator}
 use Rattle.kn_slices.proofs.Calls.{each_has, each_set, group_after_call}
-use Rattle.kn_slices.proofs.Quiet.{quiet_forces}
+use Rattle.kn_slices.proofs.Spares.{other_forces}
 use Rattle.kn_slices.proofs.group.taking.step_in.Goals as goal
 
 pub refresh-requires-clause-pods : goal.refresh-requires-clause-pods
 refresh-requires-clause-pods c p inside =
     let pods = length c.args.wanted.now in
-    let x = c.index-parts-at.result in
+    let x = c.index-parts-at-2.result in
     let y = c.step_part-told.new.part in
     let was = c.requires.group.activators c.args.i x c.requires.can.part in
     let goes = c.step_part-told.ensures.steps.goes pods was in
@@ -21,7 +21,7 @@ refresh-requires-clause-pods c p inside =
 pub refresh-requires-clause-few : goal.refresh-requires-clause-few
 refresh-requires-clause-few c p inside =
     let pods = length c.args.wanted.now in
-    let x = c.index-parts-at.result in
+    let x = c.index-parts-at-2.result in
     let y = c.step_part-told.new.part in
     let was = c.requires.group.activators c.args.i x c.requires.can.part in
     let goes = c.step_part-told.ensures.steps.goes pods was in
@@ -30,16 +30,17 @@ refresh-requires-clause-few c p inside =
     let most = each.most in
     omega (arith, low, most)
 
-pub refresh-requires-clause-quiet : goal.refresh-requires-clause-quiet
-refresh-requires-clause-quiet c is =
-    let x = c.index-parts-at.result in
+pub refresh-requires-clause-others : goal.refresh-requires-clause-others
+refresh-requires-clause-others c =
+    let x = c.index-parts-at-2.result in
     let was = c.requires.group.activators c.args.i x c.requires.can.part in
-    quiet_forces c.args.parts.now c.args.wanted.now c.args.force.now c.args.i c.args.e.now c.step_part-told.new.part x c.requires.can.part c.requires.group (c.step_part-told.ensures.steps.goes (length c.args.wanted.now) was) (c.is_quiet.ensures is)
+    other_forces c.args.parts.now c.args.wanted.now c.args.force.now c.args.i c.args.e.now c.step_part-told.new.part x c.requires.can.part c.requires.group (c.step_part-told.ensures.steps.goes (length c.args.wanted.now) was)
+    c.index-parts-at.result c.args.listed.now c.changed_pod-changed.result c.requires.others.others c.changed_pod-changed.ensures
 
 pub returns-clause-group : goal.returns-clause-group
 returns-clause-group c =
     let pods = length c.args.wanted.now in
-    let x = c.index-parts-at.result in
+    let x = c.index-parts-at-2.result in
     let y = c.step_part-told.new.part in
     let was = c.requires.group.activators c.args.i x c.requires.can.part in
     let go = c.step_part-told.ensures.steps.goes pods was in
@@ -52,7 +53,7 @@ returns-clause-takes c =
     let pods = length c.args.wanted.now in
     let parts = c.args.parts.now in
     let i = c.args.i in
-    let x = c.index-parts-at.result in
+    let x = c.index-parts-at-2.result in
     let y = c.step_part-told.new.part in
     let was = c.requires.group.activators i x c.requires.can.part in
     let at : (d : RevisionState) → slice_index_or parts i x ≡ slice_index_or parts i d = λ d. get_or_default parts i x d c.requires.can.part in
