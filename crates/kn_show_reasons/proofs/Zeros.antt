@@ -25,7 +25,8 @@ use Rattle.kn_reason.specs.declared.reason.Reason.TheVariants as reason
 use Rattle.kn_show_reasons.specs.Holding.{BoundsTell}
 use Rattle.kn_show_reasons.specs.Reading.{count_read}
 use Rattle.kn_show_reasons.specs.Runs.{IsByPast, Wakes, ZeroTells, is_about_zero, reasons_at, zero_lines}
-use Rattle.kn_show_reasons.specs.Sentences.{activation, asked_more, at_zero, bound, burst_by, by_phase, capped_by, delay, down_rate, is_cut, is_kept, is_raised, lever_of, most, panic_reason, panics, raised_by, reasons_of, sentences_of, stable_reason, up_rate}
+use Rattle.kn_levers.specs.Levers.{is_cut, is_kept, is_raised}
+use Rattle.kn_show_reasons.specs.Sentences.{activation, asked_more, at_zero, bound, burst_by, by_phase, capped_by, delay, down_rate, lever_of, most, panic_reason, panics, raised_by, reasons_of, sentences_of, stable_reason, up_rate}
 use Rattle.kn_show_reasons.proofs.Holding.{tells}
 use Rattle.kn_show_reasons.proofs.Reading.{want_read}
 use Rattle.kn_show_reasons.proofs.Ruled.{are_ruled}
