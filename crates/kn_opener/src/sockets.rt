@@ -1,4 +1,6 @@
 //! The socket that is listened on, and a slot's caller and link.
+ghost use Rattle.std.specs.Prelude.{◌≡◌, IfOk};
+
 use kn_event::{Memory, Text};
 use kn_serve::{Hosts, OpenError};
 use kn_tcp::{TcpCaller, TcpLink};
@@ -24,12 +26,14 @@ pub fn caller(listener: &TcpListener) -> Result<TcpCaller, OpenError> {
     }
 }
 
-/// A link to these pods.
+/// A link to these pods, in their order.
 pub fn link<'a, N: Net<Listener = TcpListener, Stream = TcpStream> + Clock>(
     alloc: Global,
     net: &'a N,
     pods: &Hosts,
-) -> Result<TcpLink<&'a N>, OpenError> {
+) -> Result<TcpLink<&'a N>, OpenError>
+    ensures { IfOk result (λ link. link.addresses ≡ pods.now) }
+{
     match TcpLink::new(alloc, net, pods.items()) {
         Ok(link) => Ok(link),
         Err(Memory) => Err(OpenError::Memory),

@@ -1,5 +1,5 @@
 //! What listens for clients, and reaches pods over TCP.
-ghost use Rattle.std.specs.Prelude.{◌≡◌, [], All, OnOk, length};
+ghost use Rattle.std.specs.Prelude.{◌≡◌, [], All, IfOk, IfSome, OnOk, length};
 ghost use Rattle.kn_serve.specs.Opening.{IsEmptyWork};
 
 use crate::sockets::{caller, link, listen};
@@ -10,7 +10,8 @@ use std::alloc::Global;
 use std::net::{Net, TcpListener, TcpStream};
 use std::time::Clock;
 
-/// An opener that listens on the plan's address, with all callers on the one socket. It tells no content.
+/// An opener that listens on the plan's address, with all callers on the one socket. Its links tell no content; their addresses are
+/// the plan's.
 #[derive(Drop)]
 pub struct TcpOpener<'a, N> {
     net: &'a N,
@@ -38,7 +39,7 @@ impl<'a, N: Net<Listener = TcpListener, Stream = TcpStream> + Clock> Opener<
     TcpCaller,
     TcpLink<&'a N>,
 > for TcpOpener<'a, N> {
-    ghost gives = { λ _ _ _ _ _. Unit {0} };
+    ghost gives = { λ _ plan _ slots keeper. All (λ s. s.link.addresses ≡ plan.pods) slots × IfSome keeper (λ k. k.addresses ≡ plan.pods) };
 
     fn open(
         &mut self,
@@ -78,6 +79,8 @@ fn fill<'a, N: Net<Listener = TcpListener, Stream = TcpStream> + Clock>(
     requires { slots.old.items ≡ [] }
     ensures made { OnOk result (length slots.new.items ≡ plan.now.slots) }
     ensures works { OnOk result (All (λ s. IsEmptyWork s.work) slots.new.items) }
+    ensures reach { OnOk result (All (λ s. s.link.addresses ≡ plan.now.pods) slots.new.items) }
+    ensures keeper { IfOk result (λ k. k.addresses ≡ plan.now.pods) }
 {
     for _ in 0..plan.slots {
         let slot = Slot {

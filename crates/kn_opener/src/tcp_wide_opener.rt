@@ -1,5 +1,5 @@
 //! What listens for the clients of several revisions, and reaches their pods over TCP.
-ghost use Rattle.std.specs.Prelude.{◌≡◌, [], All, OnOk, length};
+ghost use Rattle.std.specs.Prelude.{◌≡◌, [], All, OnOk, length, map};
 ghost use Rattle.kn_many.specs.Many.{IsReadyFor};
 ghost use Rattle.kn_serve.specs.Opening.{IsEmptyWork};
 
@@ -12,7 +12,8 @@ use std::alloc::Global;
 use std::net::{Net, TcpListener, TcpStream};
 use std::time::Clock;
 
-/// An opener that listens on the plan's address, with all callers on the one socket. It tells no content.
+/// An opener that listens on the plan's address, with all callers on the one socket. Its links tell no content; their addresses are
+/// those of the plan's lists.
 #[derive(Drop)]
 pub struct TcpWideOpener<'a, N> {
     net: &'a N,
@@ -40,7 +41,7 @@ impl<'a, N: Net<Listener = TcpListener, Stream = TcpStream> + Clock> WideOpener<
     TcpCaller,
     TcpLink<&'a N>,
 > for TcpWideOpener<'a, N> {
-    ghost gives = { λ _ _ _ _ _. Unit {0} };
+    ghost gives = { λ _ plan _ slots keepers. All (λ s. map (λ l. l.addresses) s.links.items ≡ plan.pods) slots × (map (λ k. k.addresses) keepers ≡ plan.pods) };
 
     fn open(
         &mut self,
@@ -81,6 +82,8 @@ fn fill<'a, N: Net<Listener = TcpListener, Stream = TcpStream> + Clock>(
     ensures made { OnOk result (length slots.new.items ≡ plan.now.slots) }
     ensures ready { OnOk result (All (IsReadyFor (length plan.now.pods)) slots.new.items) }
     ensures kept { OnOk result (length keepers.new.items ≡ length plan.now.pods) }
+    ensures reach { OnOk result (All (λ s. map (λ l. l.addresses) s.links.items ≡ plan.now.pods) slots.new.items) }
+    ensures keepers { OnOk result (map (λ k. k.addresses) keepers.new.items ≡ plan.now.pods) }
 {
     for _ in 0..plan.slots {
         let mut slot = WideSlot {
@@ -105,7 +108,8 @@ fn links<'a, N: Net<Listener = TcpListener, Stream = TcpStream> + Clock>(
     links: &mut Vec<TcpLink<&'a N>>,
 ) -> Result<(), OpenError>
     requires { links.old.items ≡ [] }
-    ensures { OnOk result (length links.new.items ≡ length pods.now) }
+    ensures many { OnOk result (length links.new.items ≡ length pods.now) }
+    ensures reach { OnOk result (map (λ l. l.addresses) links.new.items ≡ pods.now) }
 {
     for hosts in pods.items() {
         if links.push(link(alloc, net, hosts)?).is_err() {

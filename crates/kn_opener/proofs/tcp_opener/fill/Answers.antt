@@ -6,4 +6,5 @@ pub loop-preserved : goal.loop-preserved
 loop-preserved g c = record {
   count = grind (arith, common_steps);
   works = λ k d low. grind (arith, common_steps, c.loop.invariant.works k d);
+  reach = λ k d low. grind (arith, common_steps, c.loop.invariant.reach k d);
 }

@@ -8,4 +8,5 @@ abbrev pub invariant-loop : goal.invariant-loop
 invariant-loop g l = record {
   count : vec_len l.slots ≡ l.counter;
   works : All (λ s. IsEmptyWork s.work) l.slots.items;
+  reach : All (λ s. s.link.addresses ≡ l.plan.pods) l.slots.items;
 }
