@@ -114,7 +114,8 @@ def to_the_byte():
             want(came == [answer], f"{request} is answered {came}")
         _, journal = ended(session)
         want(pod.requests == [SENT_ON[GOOD], SENT_ON[SECOND]], f"the pod was sent {pod.requests}")
-        want(events(journal) == ["ready 0", "arrive 0", "finish 0 ok", "arrive 3", "finish 1 ok"], f"{journal}")
+        found = events(journal)
+        want(sorted(found[:2]) == ["arrive 0", "ready 0"] and found[2:] == ["finish 0 ok", "arrive 3", "finish 1 ok"], f"{journal}")
 
 
 def each_its_own():
@@ -150,7 +151,9 @@ def broken_pod():
     with Scripted(lambda request: b"") as pod, Session(fixed(1), [pod.port], slots=1) as session:
         want(asked(session, GOOD) == [FAILED], "not 502")
         _, journal = ended(session, 8, "kactd: slot 0 failed\n")
-        want(events(journal) == ["ready 0", "arrive 0", "finish 0 fail"], f"{journal}")
+        # (the pod is found ready before the client comes, or while its request is held)
+        found = events(journal)
+        want(found[-1] == "finish 0 fail" and sorted(found[:-1]) == ["arrive 0", "ready 0"], f"{journal}")
         want(pod.requests == [SENT_ON[GOOD]], f"the pod was sent {pod.requests}")
 
 
